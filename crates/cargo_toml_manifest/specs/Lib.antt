@@ -1,0 +1,3 @@
+pub mod Manifests
+pub mod Packages
+pub mod Texts

@@ -1,0 +1,8 @@
+//! A manifest and its package: how they are read.
+#![tactic(auto)]
+
+pub mod manifest;
+pub mod package;
+
+pub use manifest::Manifest;
+pub use package::Package;

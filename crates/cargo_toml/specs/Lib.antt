@@ -1,0 +1,11 @@
+pub mod Action
+pub mod Reach
+pub mod Graph
+pub mod Removal
+pub mod Redirects
+pub mod Bins
+pub mod Recursive
+pub mod Admitted
+pub mod Recorded
+pub mod Resolved
+pub mod Views

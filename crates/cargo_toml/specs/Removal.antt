@@ -1,0 +1,36 @@
+-- Taking one feature after another out of a resolution: the steps that the laws of elimination speak of.
+use Rattle.std.specs.Prelude.{◌&&◌, ◌||◌, not, cond, List, [], ◌∷◌, ◌++◌, take, bytes_eq, Bool}
+use Rattle.std.specs.List.{list_any}
+use Rattle.cargo_toml.specs.Action.{Text, join_option}
+use Rattle.cargo_toml.specs.Graph.{Resolution}
+
+-- r is taken out: its parents name what it named and act as it did, and what it enabled is enabled by its parents
+abbrev pub without : Text → Resolution → Resolution
+without r m = record {
+  table = record {
+    has = λ f. m.table.has f && not (bytes_eq f r);
+    names = λ f x. cond (m.enabled_by r f) ((m.table.names f x || m.table.names r x) && not (bytes_eq x r)) (m.table.names f x);
+    action = λ f k. cond (m.enabled_by r f) (join_option (m.table.action f k) (m.table.action r k)) (m.table.action f k);
+  };
+  enabled_by = λ f e. cond (m.enabled_by f r) ((m.enabled_by f e || m.enabled_by r e) && not (bytes_eq e r)) (m.enabled_by f e);
+}
+
+abbrev pub without_all : List Text → Resolution → Resolution
+without_all [] m = m
+without_all (r ∷ rs) m = without_all rs (without r m)
+
+abbrev pub is_among : List Text → Text → Bool
+is_among xs x = list_any (bytes_eq x) xs
+
+-- each of ys is put at the end, unless it is there
+abbrev pub put_all : List Text → List Text → List Text
+put_all xs [] = xs
+put_all xs (y ∷ ys) = put_all (cond (is_among xs y) xs (xs ++ y ∷ [])) ys
+
+-- r's first ten binaries are passed on to each feature that it names
+abbrev pub pass_bins : Resolution → Text → (Text → List Text) → Text → List Text
+pass_bins m r bins f = cond (m.table.names r f) (put_all (bins f) (take 10 (bins r))) (bins f)
+
+abbrev pub pass_all : List Text → Resolution → (Text → List Text) → Text → List Text
+pass_all [] m bins = bins
+pass_all (r ∷ rs) m bins = pass_all rs (without r m) (pass_bins m r bins)

@@ -9,3 +9,4 @@ pub mod Admitted
 pub mod Recorded
 pub mod Resolved
 pub mod Views
+pub mod Reading

@@ -1,0 +1,26 @@
+//! Which features of a table count, in what order.
+ghost use Rattle.std.specs.Prelude.{◌≡◌, IfOk, map};
+ghost use Rattle.cargo_toml.specs.Reach.{IsOnce};
+ghost use Rattle.cargo_toml.specs.Reading.{listed_of};
+ghost use Rattle.cargo_toml.specs.Views.{listed_in};
+
+use std::alloc::{AllocError, Global};
+use std::collections::BTreeMap;
+
+/// A feature as a table lists it: its name and its actions.
+#[derive(Debug, Clone, Copy)]
+pub struct Listing<'m> {
+    pub name: &'m str,
+    pub actions: &'m [String],
+}
+
+// The features of a table, in byte order.
+pub fn listings<'m>(
+    _alloc: Global,
+    _table: &'m BTreeMap<String, Vec<String>>,
+) -> Result<Vec<Listing<'m>>, AllocError>
+    ensures all { IfOk result (λ v. listed_of v.items ≡ listed_in _table.now) }
+    ensures once { IfOk result (λ v. IsOnce (map (λ l. l.name.now) v.items)) }
+{
+    Err(AllocError)
+}

@@ -1,2 +1,5 @@
 pub mod Joins
 pub mod Unremoved
+pub mod Targets
+pub mod Counting
+pub mod Recording

@@ -3,3 +3,5 @@ pub mod Unremoved
 pub mod Targets
 pub mod Counting
 pub mod Recording
+pub mod Links
+pub mod Enabling

@@ -11,3 +11,4 @@ pub mod Resolved
 pub mod Views
 pub mod Reading
 pub mod Recording
+pub mod Enabling

@@ -1,5 +1,6 @@
 //! What the features of a manifest enable, and which features enable them.
 mod admit;
+mod enable;
 mod read;
 mod record;
 

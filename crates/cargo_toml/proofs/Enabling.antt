@@ -1,0 +1,73 @@
+-- Enablers gained one after another.
+use Rattle.std.proofs.Common.{◌≡◌, ◌&&◌, ◌||◌, Bool, true, false, cond, List, Option, Some, None, is_some, bytes_eq, Bor, refl, sym, ap, subst, ◌∙◌}
+use Rattle.std.proofs.lemmas.Bool.{false≢true}
+use Rattle.std.proofs.lemmas.Slice.Eq.{bytes_eq-Decides, bytes_eq-sym}
+use Rattle.std.proofs.lemmas.Map.Text.{hash_map_updates_str}
+use Rattle.std.specs.HashMap as hash
+use Rattle.std.specs.HashMap.{HashMap}
+use Rattle.cargo_toml.specs.declared.features.Feature.{Feature}
+use Rattle.cargo_toml.specs.Action.{Text}
+use Rattle.cargo_toml.specs.Enabling.{Relates, Enabled, EnabledAll}
+use Rattle.cargo_toml.specs.Views.{has_text, value_at}
+
+or_false : (a : Bool) → (a || false) ≡ a
+or_false true = refl
+or_false false = refl
+
+or_assoc : (a b c : Bool) → ((a || b) || c) ≡ (a || (b || c))
+or_assoc true b c = refl
+or_assoc false b c = refl
+
+nothing : (by : Text → Bool) → ((e : Text) → by e ≡ false) → (o : Option Feature) → Relates (Enabled by) o o
+nothing by none None = tt
+nothing by none (Some a) = record { key = refl; names = refl; actions = refl; bins = refl; explicit = refl; enabled_by = λ e. sym (ap (λ t. has_text a.enabled_by e || t) (none e) ∙ or_false _) }
+
+both : (p q r : Text → Bool) → ((e : Text) → r e ≡ (p e || q e)) → (a b c : Option Feature) → Relates (Enabled p) a b → Relates (Enabled q) b c → Relates (Enabled r) a c
+both p q r same None None None h k = tt
+both p q r same None None (Some c) h k = absurd k
+both p q r same None (Some b) c h k = absurd h
+both p q r same (Some a) None c h k = absurd h
+both p q r same (Some a) (Some b) None h k = absurd k
+both p q r same (Some a) (Some b) (Some c) h k = record {
+  key = k.key ∙ h.key;
+  names = k.names ∙ h.names;
+  actions = k.actions ∙ h.actions;
+  bins = k.bins ∙ h.bins;
+  explicit = k.explicit ∙ h.explicit;
+  enabled_by = λ e. k.enabled_by e ∙ ap (λ t. t || q e) (h.enabled_by e) ∙ or_assoc (has_text a.enabled_by e) (p e) (q e) ∙ ap (λ t. has_text a.enabled_by e || t) (sym (same e));
+}
+
+module _ {S : Type 0} where
+  pub enabled_none : (by : Text → Text → Bool) (m : HashMap (Bor Text) Feature S) → ((q e : Text) → by q e ≡ false) → EnabledAll by m m
+  enabled_none by m none = record { at = λ q. nothing (by q) (none q) (value_at m q) }
+
+  pub enabled_more : (p q r : Text → Text → Bool) (a b c : HashMap (Bor Text) Feature S) → ((x e : Text) → r x e ≡ (p x e || q x e)) → EnabledAll p a b → EnabledAll q b c → EnabledAll r a c
+  enabled_more p q r a b c same h k = record { at = λ x. both (p x) (q x) (r x) (same x) (value_at a x) (value_at b x) (value_at c x) (h.at x) (k.at x) }
+
+  pub enabled_alike : (p r : Text → Text → Bool) (a b : HashMap (Bor Text) Feature S) → ((x e : Text) → r x e ≡ p x e) → EnabledAll p a b → EnabledAll r a b
+  enabled_alike p r a b same h = enabled_more p (λ x e. false) r a b b (λ x e. same x e ∙ sym (or_false _)) h (enabled_none (λ x e. false) b (λ x e. refl))
+
+  -- one enabler at one key
+  module _ (key by : Text) (m : HashMap (Bor Text) Feature S) where
+    pub enabled_at : (n : HashMap (Bor Text) Feature S) (old w : Feature) → value_at m key ≡ Some old → hash.UpdatesBy (λ x y. bytes_eq x.now y.now) (λ q. bytes_eq key q.now) m n (Some w)
+        → Enabled (λ e. bytes_eq e by) old w → EnabledAll (λ q e. bytes_eq q key && bytes_eq e by) m n
+    enabled_at n old w was u is = record { at = λ q. go q (bytes_eq key q) refl }
+      where
+        after : (q : Text) → value_at n q ≡ cond (bytes_eq key q) (Some w) (value_at m q)
+        after q = hash_map_updates_str key m n (Some w) u q
+
+        go : (q : Text) (t : Bool) → bytes_eq key q ≡ t → Relates (Enabled (λ e. bytes_eq q key && bytes_eq e by)) (value_at m q) (value_at n q)
+        go q true on =
+            subst (λ t. Relates (Enabled (λ e. t && bytes_eq e by)) (value_at m q) (value_at n q)) (sym (bytes_eq-sym q key ∙ on))
+            (subst (λ o. Relates (Enabled (λ e. bytes_eq e by)) (value_at m q) o) (sym (after q ∙ ap (λ t. cond t (Some w) (value_at m q)) on))
+            (subst (λ o. Relates (Enabled (λ e. bytes_eq e by)) o (Some w)) (sym (ap (value_at m) (sym ((bytes_eq-Decides key q).0 on)) ∙ was)) is))
+        go q false off =
+            subst (λ o. Relates (Enabled (λ e. bytes_eq q key && bytes_eq e by)) (value_at m q) o) (sym (after q ∙ ap (λ t. cond t (Some w) (value_at m q)) off))
+            (nothing (λ e. bytes_eq q key && bytes_eq e by) (λ e. ap (λ t. t && bytes_eq e by) (bytes_eq-sym q key ∙ off)) (value_at m q))
+
+    pub enabled_nowhere : value_at m key ≡ None → EnabledAll (λ q e. bytes_eq q key && bytes_eq e by) m m
+    enabled_nowhere none = record { at = λ q. go q (bytes_eq q key) refl }
+      where
+        go : (q : Text) (t : Bool) → bytes_eq q key ≡ t → Relates (Enabled (λ e. bytes_eq q key && bytes_eq e by)) (value_at m q) (value_at m q)
+        go q true on = subst (λ o. Relates (Enabled (λ e. bytes_eq q key && bytes_eq e by)) o o) (sym (ap (value_at m) ((bytes_eq-Decides q key).0 on) ∙ none)) tt
+        go q false off = nothing (λ e. bytes_eq q key && bytes_eq e by) (λ e. ap (λ t. t && bytes_eq e by) off) (value_at m q)

@@ -1,0 +1,2 @@
+pub mod ActionTexts
+pub mod TextKeys

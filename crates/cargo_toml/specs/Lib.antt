@@ -1,4 +1,5 @@
 pub mod Action
+pub mod ActionText
 pub mod Reach
 pub mod Graph
 pub mod Removal

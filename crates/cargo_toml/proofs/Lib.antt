@@ -1,2 +1,3 @@
 pub mod ActionTexts
+pub mod Listings
 pub mod TextKeys

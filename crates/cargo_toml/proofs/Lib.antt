@@ -1,3 +1,4 @@
 pub mod ActionTexts
 pub mod Listings
+pub mod ReadOne
 pub mod TextKeys

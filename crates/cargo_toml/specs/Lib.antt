@@ -11,3 +11,4 @@ pub mod Recorded
 pub mod Resolved
 pub mod Views
 pub mod Reading
+pub mod ReadFeature

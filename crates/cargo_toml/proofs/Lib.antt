@@ -5,3 +5,9 @@ pub mod Counting
 pub mod Recording
 pub mod Links
 pub mod Enabling
+pub mod ActionTexts
+pub mod Listings
+pub mod ReadAll
+pub mod ReadOne
+pub mod TextKeys
+pub mod Within

@@ -1,4 +1,5 @@
 pub mod Action
+pub mod ActionText
 pub mod Reach
 pub mod Graph
 pub mod Removal
@@ -12,3 +13,4 @@ pub mod Views
 pub mod Reading
 pub mod Recording
 pub mod Enabling
+pub mod ReadFeature

@@ -1,4 +1,5 @@
 //! What the features of a manifest enable, and which features enable them.
+mod action;
 mod admit;
 mod enable;
 mod read;

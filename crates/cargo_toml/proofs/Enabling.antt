@@ -1,7 +1,7 @@
 -- Enablers gained one after another.
 use Rattle.std.proofs.Common.{◌≡◌, ◌&&◌, ◌||◌, Bool, true, false, cond, List, Option, Some, None, is_some, bytes_eq, Bor, refl, sym, ap, subst, ◌∙◌}
 use Rattle.std.proofs.lemmas.Bool.{false≢true}
-use Rattle.std.proofs.lemmas.Slice.Eq.{bytes_eq-Decides, bytes_eq-sym}
+use Rattle.std.proofs.lemmas.Slice.Eq.{bytes_eq-Decides}
 use Rattle.std.proofs.lemmas.Map.Text.{hash_map_updates_str}
 use Rattle.std.specs.HashMap as hash
 use Rattle.std.specs.HashMap.{HashMap}
@@ -9,6 +9,7 @@ use Rattle.cargo_toml.specs.declared.features.Feature.{Feature}
 use Rattle.cargo_toml.specs.Action.{Text}
 use Rattle.cargo_toml.specs.Enabling.{Relates, Enabled, EnabledAll}
 use Rattle.cargo_toml.specs.Views.{has_text, value_at}
+use Rattle.cargo_toml.proofs.TextKeys.{bytes_eq_sym}
 
 or_false : (a : Bool) → (a || false) ≡ a
 or_false true = refl
@@ -58,12 +59,12 @@ module _ {S : Type 0} where
 
         go : (q : Text) (t : Bool) → bytes_eq key q ≡ t → Relates (Enabled (λ e. bytes_eq q key && bytes_eq e by)) (value_at m q) (value_at n q)
         go q true on =
-            subst (λ t. Relates (Enabled (λ e. t && bytes_eq e by)) (value_at m q) (value_at n q)) (sym (bytes_eq-sym q key ∙ on))
+            subst (λ t. Relates (Enabled (λ e. t && bytes_eq e by)) (value_at m q) (value_at n q)) (sym (bytes_eq_sym q key ∙ on))
             (subst (λ o. Relates (Enabled (λ e. bytes_eq e by)) (value_at m q) o) (sym (after q ∙ ap (λ t. cond t (Some w) (value_at m q)) on))
             (subst (λ o. Relates (Enabled (λ e. bytes_eq e by)) o (Some w)) (sym (ap (value_at m) (sym ((bytes_eq-Decides key q).0 on)) ∙ was)) is))
         go q false off =
             subst (λ o. Relates (Enabled (λ e. bytes_eq q key && bytes_eq e by)) (value_at m q) o) (sym (after q ∙ ap (λ t. cond t (Some w) (value_at m q)) off))
-            (nothing (λ e. bytes_eq q key && bytes_eq e by) (λ e. ap (λ t. t && bytes_eq e by) (bytes_eq-sym q key ∙ off)) (value_at m q))
+            (nothing (λ e. bytes_eq q key && bytes_eq e by) (λ e. ap (λ t. t && bytes_eq e by) (bytes_eq_sym q key ∙ off)) (value_at m q))
 
     pub enabled_nowhere : value_at m key ≡ None → EnabledAll (λ q e. bytes_eq q key && bytes_eq e by) m m
     enabled_nowhere none = record { at = λ q. go q (bytes_eq q key) refl }

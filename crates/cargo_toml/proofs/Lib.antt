@@ -5,6 +5,7 @@ pub mod Counting
 pub mod Recording
 pub mod Links
 pub mod Enabling
+pub mod Implying
 pub mod ActionTexts
 pub mod Listings
 pub mod ReadAll

@@ -1,7 +1,7 @@
 -- Links gathered one after another.
-use Rattle.std.proofs.Common.{◌≡◌, ◌&&◌, ◌||◌, not, Bool, true, false, cond, List, [], ◌∷◌, ◌++◌, map, Option, Some, None, is_some, option_map, bytes_eq, Bor, refl, sym, ap, ap₂, subst, ◌∙◌}
+use Rattle.std.proofs.Common.{◌≡◌, ℕ, ◌+◌, ◌<◌, take, length, get_or, ◌&&◌, ◌||◌, not, Bool, true, false, cond, List, [], ◌∷◌, ◌++◌, map, Option, Some, None, is_some, option_map, bytes_eq, Bor, refl, sym, ap, ap₂, subst, ◌∙◌}
 use Rattle.std.proofs.lemmas.Bool.{false≢true, false_from_ne_true}
-use Rattle.std.proofs.lemmas.List.Folds.{list_any-append}
+use Rattle.std.proofs.lemmas.List.Folds.{list_any-append, list_any_more}
 use Rattle.std.proofs.lemmas.Slice.Eq.{bytes_eq-Decides}
 use Rattle.std.proofs.lemmas.List.{map-append}
 use Rattle.std.proofs.lemmas.Map.Text.{is_eq-slice_cmp}
@@ -157,3 +157,11 @@ module _ {S : Type 0} (m : HashMap (Bor Text) Feature S) where
       go : (o : Option Feature) → (is_some o && (option_map_or (λ v. leads v q) o false && not (bytes_eq q e))) ≡ (option_map_or (λ v. leads v q) o false && not (bytes_eq q e))
       go None = refl
       go (Some v) = refl
+
+-- what an index past the end reads
+abbrev pub blank : Link
+blank = record { target = record { ref_ptr = (0, 0); now = [] }; source = record { ref_ptr = (0, 0); now = [] } }
+
+pub linked_more : (ls : List Link) (i : ℕ) → i < length ls → (q e : Text) → is_linked (take (i + 1) ls) q e
+    ≡ (is_linked (take i ls) q e || (bytes_eq q (get_or ls i blank).target.now && bytes_eq e (get_or ls i blank).source.now))
+linked_more ls i lt q e = list_any_more (λ l. bytes_eq q l.target.now && bytes_eq e l.source.now) ls i blank lt

@@ -13,4 +13,5 @@ pub mod Views
 pub mod Reading
 pub mod Recording
 pub mod Enabling
+pub mod Implying
 pub mod ReadFeature

@@ -2,6 +2,7 @@
 mod action;
 mod admit;
 mod enable;
+mod imply;
 mod read;
 mod record;
 

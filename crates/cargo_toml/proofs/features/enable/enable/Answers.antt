@@ -2,6 +2,7 @@ use Rattle.std.proofs.Common.{◌≡◌, Some, None, is_some, refl, ap, sym, sub
 use Rattle.std.specs.Option.{option_copied_mut}
 use Rattle.cargo_toml.specs.Enabling.{EnabledAll}
 use Rattle.cargo_toml.specs.Views.{value_at}
+use Rattle.cargo_toml.proofs.TextKeys.{inserted}
 use Rattle.cargo_toml.proofs.Enabling.{enabled_at, enabled_nowhere}
 use Rattle.cargo_toml.proofs.features.enable.enable.Goals as goal
 
@@ -9,4 +10,4 @@ pub returns-in_ok-insert : goal.returns-in_ok-insert
 returns-in_ok-insert g c =
     let there : value_at c.args.features.now c.args.link.now.target.now ≡ Some c.in-Some.feature.now = sym c.get_mut.ensures.value ∙ ap option_copied_mut c.in-Some.is in
     enabled_at c.args.link.now.target.now c.args.link.now.source.now c.args.features.now _ c.in-Some.feature.now _ there ((c.get_mut.follows.holds _).3 (ap is_some there))
-    (record { key = refl; names = refl; actions = refl; bins = refl; explicit = refl; enabled_by = ? })
+    (record { key = refl; names = refl; actions = refl; bins = refl; explicit = refl; enabled_by = λ e. inserted c.args.link.now.source.now c.in-Some.feature.now.enabled_by c.insert.new.self c.in_ok-insert.ensures.updates e })

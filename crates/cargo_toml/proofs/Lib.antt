@@ -6,6 +6,7 @@ pub mod Recording
 pub mod Links
 pub mod Enabling
 pub mod Implying
+pub mod Answering
 pub mod ActionTexts
 pub mod Listings
 pub mod ReadAll

@@ -6,15 +6,22 @@ mod imply;
 mod read;
 mod record;
 
-ghost use Rattle.std.specs.Prelude.{◌≡◌, ℕ, [], true, IfOk, IfErr};
+ghost use Rattle.std.specs.Prelude.{◌≡◌, ℕ, [], true, map, IfOk, IfErr};
 ghost use Rattle.cargo_toml_parts.specs.declared.error.Error.{Memory};
 ghost use Rattle.cargo_toml.specs.Admitted.{IsWithin};
 ghost use Rattle.cargo_toml.specs.Resolved.{joined_table, IsAnswer};
-ghost use Rattle.cargo_toml.specs.Views.{listed_in, normal_entries, answer_of};
+ghost use Rattle.cargo_toml.specs.Reach.{IsOnce};
+ghost use Rattle.cargo_toml.specs.Reading.{listed_of};
+ghost use Rattle.cargo_toml.specs.Views.{entry_of, listed_in, normal_entries, answer_of};
 
+use crate::features::admit::{Listing, listings};
+use crate::features::enable::set_enabled_by;
+use crate::features::imply::imply_all;
+use crate::features::read::{Read, read_features};
+use crate::features::record::{normal_dependencies, record};
 use cargo_toml_manifest::Manifest;
 use cargo_toml_parts::{Dependency, Error};
-use std::alloc::Global;
+use std::alloc::{AllocError, Global};
 use std::collections::{BTreeMap, BTreeSet, HashMap};
 use std::hash::{BuildHasher, BuildHasherDefault, FoldHasher};
 
@@ -122,7 +129,7 @@ impl<'config, F, S: BuildHasher + Clone> Resolver<'config, F, S> {
     /// Resolves the features of a manifest.
     pub fn parse<'m, M>(
         &self,
-        _alloc: Global,
+        alloc: Global,
         manifest: &'m Manifest<M>,
     ) -> Result<Features<'m, 'm, S>, Error>
         ensures resolved { IfOk result (λ a. (limit : ℕ) → IsWithin limit (listed_in manifest.now.features) →
@@ -130,7 +137,35 @@ impl<'config, F, S: BuildHasher + Clone> Resolver<'config, F, S> {
                 (listed_in manifest.now.features) (normal_entries manifest.now.dependencies) (λ _. []) (λ _. true) (answer_of a)) }
         ensures refused { IfErr result (λ e. e ≡ Memory) }
     {
-        let _ = manifest;
-        Err(Error::Memory)
+        let listings = listings(alloc, &manifest.features)?;
+        let entries = normal_dependencies(alloc, &manifest.dependencies)?;
+        Ok(self.resolve(alloc, listings.as_slice(), entries.as_slice())?)
+    }
+
+    // Resolves features as they are listed, in whatever table the entries stand.
+    fn resolve<'m: 'd, 'd>(
+        &self,
+        alloc: Global,
+        listings: &[Listing<'m>],
+        entries: &[ParseDependency<'m, 'd>],
+    ) -> Result<Features<'m, 'd, S>, AllocError>
+        requires { IsOnce (map (λ l. l.name.now) listings.now) }
+        ensures { IfOk result (λ a. (limit : ℕ) → IsWithin limit (listed_of listings.now) →
+            IsAnswer (joined_table limit (listed_of listings.now) (map entry_of entries.now)) limit
+                (listed_of listings.now) (map entry_of entries.now) (λ _. []) (λ _. true) (answer_of a)) }
+    {
+        let Read {
+            mut features,
+            acted,
+        } = read_features(alloc, &self.state, listings)?;
+        let dependencies = record(alloc, &self.state, &features, &acted, entries)?;
+        imply_all(alloc, &mut features, &acted, entries)?;
+        set_enabled_by(alloc, &mut features)?;
+        Ok(Features {
+            features,
+            dependencies,
+            removed_hidden_features: false,
+            hidden_features: HashMap::with_hasher(alloc, self.state.clone()?),
+        })
     }
 }

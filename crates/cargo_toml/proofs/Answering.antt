@@ -1,6 +1,6 @@
 -- From the features that are read to the whole answer, where nothing is removed.
-use Rattle.std.proofs.Common.{◌≡◌, ◌≢◌, ◌⊎◌, ◌↔◌, ◌&&◌, ◌||◌, not, Bool, true, false, cond, List, [], ◌∷◌, ℕ, map, Option, Some, None, IsSome, IsTrue, IsFalse, IfSome, is_some, option_map, bytes_eq, Bor, refl, sym, ap, ap₂, subst, inl, inr, ◌∙◌}
-use Rattle.std.proofs.lemmas.Bool.{false≢true, false_from_ne_true, or_cases, or_left, or_right, and_parts, and_from, not-true}
+use Rattle.std.proofs.Common.{◌≡◌, ◌⊎◌, ◌↔◌, ◌&&◌, ◌||◌, not, Bool, true, false, cond, List, [], ℕ, map, Option, Some, None, IsTrue, IfSome, is_some, option_map, bytes_eq, Bor, refl, sym, ap, ap₂, subst, inl, inr, ◌∙◌}
+use Rattle.std.proofs.lemmas.Bool.{false≢true, false_from_ne_true, or_cases, or_left, or_right, and_parts, and_from}
 use Rattle.std.proofs.lemmas.Slice.Eq.{bytes_eq-Decides}
 use Rattle.std.specs.HashMap.{HashMap}
 use Rattle.std.specs.List.{list_any}
@@ -13,9 +13,9 @@ use Rattle.cargo_toml.specs.Admitted.{Listed, is_admitted, is_below, joined_acti
 use Rattle.cargo_toml.specs.Bins.{HasBins}
 use Rattle.cargo_toml.specs.Enabling.{is_plain, leads, leads_at, Relates, Enabled, EnabledAll}
 use Rattle.cargo_toml.specs.Graph.{Table, Resolution, Edge, IsPlain, IsUnremoved}
-use Rattle.cargo_toml.specs.Implying.{IsImplied, Becomes, ImpliesAll, is_optional_at, is_offered}
-use Rattle.cargo_toml.specs.Reading.{IsRead, IsFresh, AreFresh}
-use Rattle.cargo_toml.specs.Recorded.{Entry, Recorded, is_implied, is_mentioned, is_reserved, entries_at, recorded_of}
+use Rattle.cargo_toml.specs.Implying.{Becomes, ImpliesAll, is_optional_at, is_offered}
+use Rattle.cargo_toml.specs.Reading.{IsRead, AreFresh}
+use Rattle.cargo_toml.specs.Recorded.{Entry, Recorded, is_mentioned, is_reserved, entries_at, recorded_of}
 use Rattle.cargo_toml.specs.Recording.{recorded_at, is_mentioned_in}
 use Rattle.cargo_toml.specs.Redirects.{RedirectsTo}
 use Rattle.cargo_toml.specs.Resolved.{joined_table, plain, is_removed, SameRecorded, IsAnswer}

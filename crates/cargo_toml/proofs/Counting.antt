@@ -7,11 +7,11 @@ use Rattle.std.proofs.lemmas.Slice.Eq.{bytes_eq-Decides}
 use Rattle.std.specs.List.{list_any}
 use Rattle.std.specs.Option.{option_or}
 use Rattle.std.specs.Ordering.{is_eq}
-use Rattle.cargo_toml_parts.specs.Dependencies.{DependencyMeaning, is_optional, package_of}
+use Rattle.cargo_toml_parts.specs.Dependencies.{is_optional, package_of}
 use Rattle.cargo_toml.specs.Action.{Text}
 use Rattle.cargo_toml.specs.Admitted.{Listed}
-use Rattle.cargo_toml.specs.Recorded.{Entry, Recorded, target_cmp, is_mentioned, counting, entries_at, recorded_of}
-use Rattle.cargo_toml.specs.Recording.{recorded_first, recorded_next, recorded_with, met}
+use Rattle.cargo_toml.specs.Recorded.{Entry, target_cmp, is_mentioned, counting, entries_at, recorded_of}
+use Rattle.cargo_toml.specs.Recording.{recorded_with, met}
 
 abbrev at_key : Text → Entry → Bool
 at_key k b = bytes_eq b.key k && is_optional b.dependency

@@ -1,6 +1,6 @@
 -- Features implied one after another.
-use Rattle.std.proofs.Common.{◌≡◌, ◌≢◌, ◌&&◌, ◌||◌, not, Bool, true, false, cond, List, [], ◌∷◌, ◌++◌, Option, Some, None, is_some, option_map, bytes_eq, Bor, refl, sym, ap, subst, ◌∙◌}
-use Rattle.std.proofs.lemmas.Bool.{false≢true, false_from_ne_true, and_parts, not-true}
+use Rattle.std.proofs.Common.{◌≡◌, ◌&&◌, ◌||◌, not, Bool, true, false, cond, List, [], ◌∷◌, ◌++◌, Option, Some, None, is_some, option_map, bytes_eq, Bor, refl, sym, ap, subst, ◌∙◌}
+use Rattle.std.proofs.lemmas.Bool.{false≢true, and_parts, not-true}
 use Rattle.std.proofs.lemmas.List.Folds.{list_any-append}
 use Rattle.std.proofs.lemmas.Slice.Eq.{bytes_eq-Decides}
 use Rattle.std.proofs.lemmas.Map.Text.{hash_map_updates_str, btree_map_updates_str}
@@ -21,7 +21,7 @@ use Rattle.cargo_toml.specs.Action.{Text}
 use Rattle.cargo_toml.specs.Implying.{IsImplied, Becomes, ImpliesAll, is_optional_at, is_offered, is_reserved_in}
 use Rattle.cargo_toml.specs.Recorded.{Entry}
 use Rattle.cargo_toml.specs.Resolved.{plain}
-use Rattle.cargo_toml.specs.Views.{action_of, action_at, has_text, value_at}
+use Rattle.cargo_toml.specs.Views.{action_of, action_at, value_at}
 use Rattle.cargo_toml.proofs.TextKeys.{bytes_eq_sym, none_in}
 
 stays : (t : Bool) (q : Text) (o : Option Feature) → (t ≡ true → is_some o ≡ true) → Becomes t q o o

@@ -1,6 +1,5 @@
 -- Entries recorded one after another.
-use Rattle.std.proofs.Common.{◌≡◌, ◌&&◌, ◌||◌, Bool, true, false, cond, Option, Some, None, is_some, option_map, bytes_eq, Bor, refl, sym, ap, subst, ◌∙◌}
-use Rattle.std.proofs.lemmas.Bool.{false≢true}
+use Rattle.std.proofs.Common.{◌≡◌, ◌&&◌, ◌||◌, Bool, true, false, cond, Some, is_some, option_map, bytes_eq, Bor, refl, sym, ap, subst, ◌∙◌}
 use Rattle.std.proofs.lemmas.Slice.Eq.{bytes_eq-Decides}
 use Rattle.std.proofs.lemmas.Map.Text.{hash_map_updates_str}
 use Rattle.std.specs.HashMap as hash
@@ -8,7 +7,7 @@ use Rattle.std.specs.HashMap.{HashMap}
 use Rattle.cargo_toml_parts.specs.Dependencies.{is_optional}
 use Rattle.cargo_toml.specs.declared.features.FeatureDependency.{FeatureDependency}
 use Rattle.cargo_toml.specs.Action.{Text}
-use Rattle.cargo_toml.specs.Recorded.{Entry, Recorded}
+use Rattle.cargo_toml.specs.Recorded.{Entry}
 use Rattle.cargo_toml.specs.Recording.{recorded_at, recorded_with, met}
 use Rattle.cargo_toml.specs.Views.{recorded_in, value_at}
 

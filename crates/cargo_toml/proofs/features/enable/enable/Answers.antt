@@ -1,9 +1,8 @@
-use Rattle.std.proofs.Common.{◌≡◌, Some, None, is_some, refl, ap, sym, subst, ◌∙◌}
+use Rattle.std.proofs.Common.{◌≡◌, Some, is_some, refl, ap, sym, ◌∙◌}
 use Rattle.std.specs.Option.{option_copied_mut}
-use Rattle.cargo_toml.specs.Enabling.{EnabledAll}
 use Rattle.cargo_toml.specs.Views.{value_at}
 use Rattle.cargo_toml.proofs.TextKeys.{inserted}
-use Rattle.cargo_toml.proofs.Enabling.{enabled_at, enabled_nowhere}
+use Rattle.cargo_toml.proofs.Enabling.{enabled_at}
 use Rattle.cargo_toml.proofs.features.enable.enable.Goals as goal
 
 pub returns-in_ok-insert : goal.returns-in_ok-insert

@@ -4,7 +4,7 @@ use Rattle.std.specs.Cmp.Lexicographic.{on_texts}
 use Rattle.std.specs.Map.Iter.{deref_pair}
 use Rattle.cargo_toml.specs.Action.{Text}
 use Rattle.cargo_toml.specs.Views.{action_of, action_at}
-use Rattle.cargo_toml.proofs.Links.{none_added, action_added, all_plain, alike_added, plain_so_far}
+use Rattle.cargo_toml.proofs.Links.{action_added, all_plain, alike_added, plain_so_far}
 use Rattle.cargo_toml.proofs.features.enable.push_actions.Goals as goal
 
 pub loop-key-preserved : goal.loop-key-preserved

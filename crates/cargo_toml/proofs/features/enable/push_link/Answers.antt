@@ -1,4 +1,4 @@
-use Rattle.std.proofs.Common.{◌≡◌, ap, sym, ◌∙◌, subst, bytes_eq, not, false}
+use Rattle.std.proofs.Common.{sym, ◌∙◌, subst, bytes_eq}
 use Rattle.std.proofs.lemmas.Bool.{not-true}
 use Rattle.cargo_toml.specs.Enabling.{AddsLinks}
 use Rattle.cargo_toml.proofs.Links.{link_added}

@@ -1,6 +1,6 @@
 use Rattle.std.proofs.Common.{rules, ◌≡◌, ap, map}
 use Rattle.std.proofs.lemmas.Map.Iter.{iter_end}
-use Rattle.cargo_toml.proofs.Links.{none_added, name_added, alike_added, is_text_in}
+use Rattle.cargo_toml.proofs.Links.{name_added, alike_added, is_text_in}
 use Rattle.cargo_toml.proofs.features.enable.push_names.Goals as goal
 
 pub loop-name-preserved : goal.loop-name-preserved

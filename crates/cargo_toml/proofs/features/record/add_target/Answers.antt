@@ -1,4 +1,4 @@
-use Rattle.std.proofs.Common.{◌≡◌, ap, refl, sym, ◌∙◌, cond, Some, None}
+use Rattle.std.proofs.Common.{ap, sym, ◌∙◌, cond, Some, None}
 use Rattle.std.specs.Option.{option_or}
 use Rattle.std.specs.Ordering.{is_eq}
 use Rattle.cargo_toml_parts.specs.Dependencies.{dependency_meaning}

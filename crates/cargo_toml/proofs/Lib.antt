@@ -1,2 +1,12 @@
+pub mod Texts
 pub mod Joins
 pub mod Unremoved
+pub mod Split
+pub mod Members
+pub mod OneRemoval
+pub mod Elimination
+pub mod Closure
+pub mod NothingLost
+pub mod BinLists
+pub mod PassedBins
+pub mod RedirectsInOrder

@@ -2,6 +2,7 @@
 use Rattle.std.specs.Prelude.{◌&&◌, ◌||◌, not, cond, List, [], ◌∷◌, ◌++◌, take, bytes_eq, Bool}
 use Rattle.std.specs.List.{list_any}
 use Rattle.cargo_toml.specs.Action.{Text, join_option}
+use Rattle.cargo_toml.specs.Reach.{Among}
 use Rattle.cargo_toml.specs.Graph.{Resolution}
 
 -- r is taken out: its parents name what it named and act as it did, and what it enabled is enabled by its parents
@@ -34,3 +35,8 @@ pass_bins m r bins f = cond (m.table.names r f) (put_all (bins f) (take 10 (bins
 abbrev pub pass_all : List Text → Resolution → (Text → List Text) → Text → List Text
 pass_all [] m bins = bins
 pass_all (r ∷ rs) m bins = pass_all rs (without r m) (pass_bins m r bins)
+
+-- each element is below those after it
+abbrev pub IsAscending : (Text → Text → Type 0) → List Text → Type 0
+IsAscending Below [] = Unit {0}
+IsAscending Below (x ∷ xs) = ((y : Text) → Among xs y → Below x y) × IsAscending Below xs

@@ -1,5 +1,6 @@
 pub mod Texts
 pub mod Joins
+pub mod JoinLaws
 pub mod Unremoved
 pub mod Split
 pub mod Members

@@ -2,6 +2,7 @@ pub mod Texts
 pub mod Joins
 pub mod JoinLaws
 pub mod Unremoved
+pub mod Edges
 pub mod Split
 pub mod Members
 pub mod OneRemoval

@@ -1,9 +1,20 @@
 -- Taking one feature after another out of a resolution: the steps that the laws of elimination speak of.
-use Rattle.std.specs.Prelude.{◌&&◌, ◌||◌, not, cond, List, [], ◌∷◌, ◌++◌, take, bytes_eq, Bool}
+use Rattle.std.specs.Prelude.{◌&&◌, ◌||◌, not, cond, List, [], ◌∷◌, ◌++◌, take, bytes_eq, Bool, false, Option}
 use Rattle.std.specs.List.{list_any}
-use Rattle.cargo_toml.specs.Action.{Text, join_option}
+use Rattle.std.specs.Option.{option_map_or}
+use Rattle.cargo_toml.specs.Action.{Text, Action, join_option}
 use Rattle.cargo_toml.specs.Reach.{Among}
-use Rattle.cargo_toml.specs.Graph.{Resolution}
+use Rattle.cargo_toml.specs.Graph.{Table, Resolution}
+
+abbrev pub is_plain : Option Action → Bool
+is_plain o = option_map_or (λ a. not a.is_conditional && not a.is_dep_only) o false
+
+abbrev pub is_edge : Table → Text → Text → Bool
+is_edge t f g = t.has f && t.has g && not (bytes_eq f g) && (t.names f g || is_plain (t.action f g))
+
+-- what the removal starts with: the table, and the sources of its edges
+abbrev pub unremoved : Table → Resolution
+unremoved t = record { table = t; enabled_by = λ f e. is_edge t e f }
 
 -- r is taken out: its parents name what it named and act as it did, and what it enabled is enabled by its parents
 abbrev pub without : Text → Resolution → Resolution

@@ -7,7 +7,12 @@ ghost use Rattle.cargo_toml.specs.Graph.{EnablesAtLast, IsKept, IsResolved, IsUn
 ghost use Rattle.cargo_toml.specs.Reach.{Among, IsOnce};
 ghost use Rattle.cargo_toml.specs.Recursive.{Enables, EnablesDependency};
 ghost use Rattle.cargo_toml.specs.Redirects.{RedirectsTo};
-ghost use Rattle.cargo_toml.specs.Removal.{IsAscending, pass_all, without_all};
+ghost use Rattle.cargo_toml.specs.Removal.{IsAscending, pass_all, unremoved, without_all};
+
+/// Every table has a resolution with nothing removed.
+pub fn every_table_is_unremoved_at_first()
+    ensures { (t : Table) → IsUnremoved t (unremoved t) }
+{}
 
 /// Where nothing is removed, the table itself is resolved.
 pub fn nothing_is_removed()

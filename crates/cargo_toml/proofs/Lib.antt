@@ -12,3 +12,4 @@ pub mod NothingLost
 pub mod BinLists
 pub mod PassedBins
 pub mod RedirectsInOrder
+pub mod WorkedExamples

@@ -4,9 +4,8 @@ use Rattle.cargo_toml_parts.specs.Dependencies.{DependencyMeaning, detailed}
 use Rattle.cargo_toml.specs.declared.features.Kind.TheVariants.{Normal}
 use Rattle.cargo_toml.specs.Action.{Text}
 use Rattle.cargo_toml.specs.Admitted.{Listed}
-use Rattle.cargo_toml.specs.Graph.{Table, Resolution}
+use Rattle.cargo_toml.specs.Graph.{Table}
 use Rattle.cargo_toml.specs.Recorded.{Entry}
-use Rattle.cargo_toml.specs.Removal.{unremoved, without_all}
 use Rattle.cargo_toml.specs.Resolved.{table_of}
 
 -- a dependency that is optional or not, and nothing else
@@ -30,14 +29,18 @@ small_entries = entry (codes "log") true ∷ []
 abbrev pub small : Table
 small = table_of 2048 small_listed small_entries
 
--- a = ["_h"], _h = ["a"]
-abbrev pub hidden_cycle : Table
-hidden_cycle = table_of 2048 ((codes "_h", codes "a" ∷ []) ∷ (codes "a", codes "_h" ∷ []) ∷ []) []
+-- features alone, with no dependencies
+abbrev pub features_alone : Listed → Table
+features_alone listed = table_of 2048 listed []
 
--- _s = ["_s", "b"], b = [], k = ["_s"]
-abbrev pub hidden_names_itself : Table
-hidden_names_itself = table_of 2048 ((codes "_s", codes "_s" ∷ codes "b" ∷ []) ∷ (codes "b", []) ∷ (codes "k", codes "_s" ∷ []) ∷ []) []
+-- a = ["_h"], _h = ["a"]
+abbrev pub hidden_cycle : Listed
+hidden_cycle = (codes "_h", codes "a" ∷ []) ∷ (codes "a", codes "_h" ∷ []) ∷ []
+
+-- k = ["_s"], _s = ["_s", "b"], b = []
+abbrev pub hidden_names_itself : Listed
+hidden_names_itself = (codes "_s", codes "_s" ∷ codes "b" ∷ []) ∷ (codes "b", []) ∷ (codes "k", codes "_s" ∷ []) ∷ []
 
 -- a = ["b", "zz"], b = ["a"]
-abbrev pub ring : Table
-ring = table_of 2048 ((codes "a", codes "b" ∷ codes "zz" ∷ []) ∷ (codes "b", codes "a" ∷ []) ∷ []) []
+abbrev pub ring : Listed
+ring = (codes "a", codes "b" ∷ codes "zz" ∷ []) ∷ (codes "b", codes "a" ∷ []) ∷ []

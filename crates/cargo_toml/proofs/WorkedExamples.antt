@@ -1,11 +1,14 @@
 -- Worked examples of edges, removal and recursion.
-use Rattle.std.proofs.Common.{◌≡◌, ◌≢◌, ◌⊎◌, ◌↔◌, true, Some, Bool, false, ◌&&◌, ◌||◌, not, cond, IsTrue, List, [], ◌∷◌, map, is_some, codes, bytes_eq, refl, sym, subst, inl, inr, ◌∙◌}
+use Rattle.std.proofs.Common.{ℕ, ◌≡◌, ◌≢◌, ◌⊎◌, ◌↔◌, true, Some, Bool, false, ◌&&◌, ◌||◌, not, cond, IsTrue, List, [], ◌∷◌, map, is_some, codes, bytes_eq, refl, sym, subst, inl, inr, ◌∙◌}
 use Rattle.std.proofs.lemmas.Bool.{false≢true, or_cases, and_parts}
 use Rattle.std.proofs.lemmas.Slice.Eq.{bytes_eq-Decides}
+use Rattle.std.specs.List.{list_any}
 use Rattle.std.specs.Map.{lookup}
+use Rattle.cargo_toml_parts.specs.Dependencies.{is_optional}
+use Rattle.cargo_toml.specs.Recorded.{is_reserved}
 use Rattle.cargo_toml.specs.Action.{Text}
 use Rattle.cargo_toml.specs.Admitted.{Listed, is_admitted, is_below}
-use Rattle.cargo_toml.specs.Examples.{features_alone, hidden_cycle, hidden_names_itself, ring}
+use Rattle.cargo_toml.specs.Examples.{features_alone, hidden_cycle, hidden_names_itself, ring, small, small_entries, small_listed}
 use Rattle.cargo_toml.specs.Graph.{KeepsName, IsEnabledBy, IsResolved, IsKept, Resolution}
 use Rattle.cargo_toml.specs.Reach.{Among, IsOnce}
 use Rattle.cargo_toml.specs.Recursive.{Enables}
@@ -27,14 +30,14 @@ looked_up (l ∷ ls) f e = go (λ h. looked_up ls f h) (bytes_eq f l.0) refl e
     go later true t e = inl (same t)
     go later false t e = inr (later e)
 
-has_listed : (listed : Listed) (f : Text) → IsTrue ((features_alone listed).has f) → (f ≡ codes "default") ⊎ Among (map (λ e. e.0) listed) f
-has_listed listed f e = elim (or_cases (is_admitted 2048 listed f) false e) [
-  | inl a ↦ elim (or_cases (bytes_eq f (codes "default")) _ a) [
-    | inl i ↦ inl (same i)
-    | inr p ↦ inr (looked_up listed f (and_parts (is_some (lookup (bytes_eq f) listed)) _ p).0)
-  ]
-  | inr n ↦ absurd (false≢true n)
+listed_admitted : (limit : ℕ) (listed : Listed) (f : Text) → IsTrue (is_admitted limit listed f) → (f ≡ codes "default") ⊎ Among (map (λ e. e.0) listed) f
+listed_admitted limit listed f a = elim (or_cases (bytes_eq f (codes "default")) _ a) [
+  | inl i ↦ inl (same i)
+  | inr p ↦ inr (looked_up listed f (and_parts (is_some (lookup (bytes_eq f) listed)) _ p).0)
 ]
+
+has_listed : (listed : Listed) (f : Text) → IsTrue ((features_alone listed).has f) → (f ≡ codes "default") ⊎ Among (map (λ e. e.0) listed) f
+has_listed listed f e = elim (or_cases (is_admitted 2048 listed f) false e) [ inl a ↦ listed_admitted 2048 listed f a | inr n ↦ absurd (false≢true n) ]
 
 one : {a b : Text} → IsTrue (bytes_eq a b || false) → a ≡ b
 one {a} {b} e = elim (or_cases (bytes_eq a b) false e) [ inl i ↦ same i | inr i ↦ absurd (false≢true i) ]
@@ -162,5 +165,43 @@ ring_enables x = (
   elim [
     | inl e ↦ subst (λ v. Enables (features_alone ring) (codes "a") v) (sym e) itself
     | inr e ↦ subst (λ v. Enables (features_alone ring) (codes "a") v) (sym e) (further itself refl refl)
+  ],
+)
+
+-- ---- default = ["fast"], fast = ["log/std"], with an optional dependency log
+small_only : (f : Text) → IsTrue (small.has f) → Among (codes "default" ∷ codes "fast" ∷ codes "log" ∷ []) f
+small_only f e = elim (or_cases (is_admitted 2048 small_listed f) _ e) [
+  | inl a ↦ elim (listed_admitted 2048 small_listed f a) [ inl d ↦ inl d | inr l ↦ elim l [ inl d ↦ inl d | inr l ↦ elim l [ inl i ↦ inr (inl i) | inr i ↦ absurd i ] ] ]
+  | inr i ↦
+      let optional = and_parts (list_any (λ e. bytes_eq e.key f && is_optional e.dependency) small_entries) _ (and_parts (list_any (λ e. bytes_eq e.key f && is_optional e.dependency) small_entries && not (is_reserved 2048 small_listed f)) _ i).0 in
+      elim (or_cases (bytes_eq (codes "log") f && true) false optional.0) [
+        | inl l ↦ inr (inr (inl (sym (same (and_parts (bytes_eq (codes "log") f) true l).0))))
+        | inr n ↦ absurd (false≢true n)
+      ]
+]
+
+pub small_features : (f : Text) → IsTrue (small.has f) ↔ Among (codes "default" ∷ codes "fast" ∷ codes "log" ∷ []) f
+small_features f = (small_only f, there f)
+  where
+    there : (g : Text) → Among (codes "default" ∷ codes "fast" ∷ codes "log" ∷ []) g → IsTrue (small.has g)
+    there g (inl e) = subst (λ v. IsTrue (small.has v)) (sym e) refl
+    there g (inr (inl e)) = subst (λ v. IsTrue (small.has v)) (sym e) refl
+    there g (inr (inr (inl e))) = subst (λ v. IsTrue (small.has v)) (sym e) refl
+    there g (inr (inr (inr i))) = absurd i
+
+small_next : (g y : Text) → (g ≡ codes "default") ⊎ (g ≡ codes "fast") → IsTrue (small.names g y) → (y ≡ codes "default") ⊎ (y ≡ codes "fast")
+small_next g y (inl d) n = inr (one (subst (λ v. IsTrue (small.names v y)) d n))
+small_next g y (inr f) n = absurd (false≢true (subst (λ v. IsTrue (small.names v y)) f n))
+
+small_reached : {y : Text} → Enables small (codes "default") y → (y ≡ codes "default") ⊎ (y ≡ codes "fast")
+small_reached itself = inl refl
+small_reached (further e n h) = small_next _ _ (small_reached e) n
+
+pub small_enables : (x : Text) → Enables small (codes "default") x ↔ ((x ≡ codes "default") ⊎ (x ≡ codes "fast"))
+small_enables x = (
+  λ e. small_reached e,
+  elim [
+    | inl e ↦ subst (λ v. Enables small (codes "default") v) (sym e) itself
+    | inr e ↦ subst (λ v. Enables small (codes "default") v) (sym e) (further itself refl refl)
   ],
 )

@@ -19,7 +19,7 @@ dependency optional = detailed (record {
 abbrev pub entry : Text → Bool → Entry
 entry key optional = record { key = key; target = (Normal, None); dependency = dependency optional }
 
--- default = ["fast"], fast = ["log/std"], with an optional dependency log
+-- a manifest of the features default = ["fast"] and fast = ["log/std"], with an optional dependency log
 abbrev pub small_listed : Listed
 small_listed = (codes "default", codes "fast" ∷ []) ∷ (codes "fast", codes "log/std" ∷ []) ∷ []
 

@@ -4,4 +4,6 @@
 mod elimination;
 mod examples;
 mod joins;
+mod removed;
+mod tables;
 mod texts;

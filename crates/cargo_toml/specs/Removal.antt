@@ -1,5 +1,5 @@
 -- Taking one feature after another out of a resolution: the steps that the laws of elimination speak of.
-use Rattle.std.specs.Prelude.{◌&&◌, ◌||◌, not, cond, List, [], ◌∷◌, ◌++◌, take, bytes_eq, Bool, false, Option}
+use Rattle.std.specs.Prelude.{◌≡◌, IsTrue, ◌&&◌, ◌||◌, not, cond, List, [], ◌∷◌, ◌++◌, take, bytes_eq, Bool, false, Option}
 use Rattle.std.specs.List.{list_any}
 use Rattle.std.specs.Option.{option_map_or}
 use Rattle.cargo_toml.specs.Action.{Text, Action, join_option}
@@ -51,3 +51,10 @@ pass_all (r ∷ rs) m bins = pass_all rs (without r m) (pass_bins m r bins)
 abbrev pub IsAscending : (Text → Text → Type 0) → List Text → Type 0
 IsAscending Below [] = Unit {0}
 IsAscending Below (x ∷ xs) = ((y : Text) → Among xs y → Below x y) × IsAscending Below xs
+
+-- the same features, and each holds the same
+pub record SameKept (m n : Resolution) : Type 0 where
+  pub has : (f : Text) → m.table.has f ≡ n.table.has f
+  pub names : (f x : Text) → IsTrue (m.table.has f) → m.table.names f x ≡ n.table.names f x
+  pub action : (f k : Text) → IsTrue (m.table.has f) → m.table.action f k ≡ n.table.action f k
+  pub enabled_by : (f e : Text) → IsTrue (m.table.has f) → m.enabled_by f e ≡ n.enabled_by f e

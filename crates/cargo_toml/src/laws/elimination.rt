@@ -7,7 +7,7 @@ ghost use Rattle.cargo_toml.specs.Graph.{EnablesAtLast, IsKept, IsResolved, IsUn
 ghost use Rattle.cargo_toml.specs.Reach.{Among, IsOnce};
 ghost use Rattle.cargo_toml.specs.Recursive.{Enables, EnablesDependency};
 ghost use Rattle.cargo_toml.specs.Redirects.{RedirectsTo};
-ghost use Rattle.cargo_toml.specs.Removal.{IsAscending, pass_all, unremoved, without_all};
+ghost use Rattle.cargo_toml.specs.Removal.{IsAscending, SameKept, pass_all, unremoved, without_all};
 
 /// Every table has a resolution with nothing removed.
 pub fn every_table_is_unremoved_at_first()
@@ -24,6 +24,18 @@ pub fn nothing_is_removed()
 pub fn elimination_is_exact()
     ensures { (t : Table) (m : Resolution) (removed : List Text) → IsUnremoved t m → ((v : Text) → Among removed v → IsTrue (t.has v)) →
         IsOnce removed → IsResolved t (Among removed) (without_all removed m) }
+{}
+
+/// A table and the removed features settle what is left.
+pub fn what_is_left_is_settled()
+    ensures { (t : Table) (removed : Text → Bool) (m n : Resolution) → IsResolved t (λ v. IsTrue (removed v)) m → IsResolved t (λ v. IsTrue (removed v)) n →
+        SameKept m n }
+{}
+
+/// The order in which features are taken out makes no difference.
+pub fn any_order_leaves_the_same()
+    ensures { (t : Table) (m : Resolution) (a b : List Text) → IsUnremoved t m → ((v : Text) → Among a v → IsTrue (t.has v)) → IsOnce a → IsOnce b →
+        ((v : Text) → Among a v ↔ Among b v) → SameKept (without_all a m) (without_all b m) }
 {}
 
 /// Between kept features, what enables what at last is as if nothing had been removed.

@@ -1,5 +1,5 @@
 -- Tables of worked examples.
-use Rattle.std.specs.Prelude.{Bool, true, false, List, [], ◌∷◌, Option, Some, None, codes}
+use Rattle.std.specs.Prelude.{Bool, true, false, cond, bytes_eq, List, [], ◌∷◌, Option, Some, None, codes}
 use Rattle.cargo_toml_parts.specs.Dependencies.{DependencyMeaning, detailed, simple}
 use Rattle.cargo_toml.specs.declared.features.Kind.TheVariants.{Normal, Build, Dev}
 use Rattle.cargo_toml.specs.Action.{Text}
@@ -12,8 +12,20 @@ use Rattle.cargo_toml.specs.Resolved.{table_of}
 -- a detail with its package, its features and whether it is optional, and nothing else
 abbrev pub detail : Option Text → List Text → Bool → DependencyMeaning
 detail name features optional = detailed (record {
-  version = None; «package» = name; registry = None; registry_index = None; path = None; git = None; branch = None; tag = None;
-  rev = None; features = features; optional = optional; default_features = true; unstable = []; inherited = false;
+  version = None;
+  «package» = name;
+  registry = None;
+  registry_index = None;
+  path = None;
+  git = None;
+  branch = None;
+  tag = None;
+  rev = None;
+  features = features;
+  optional = optional;
+  default_features = true;
+  unstable = [];
+  inherited = false;
 })
 
 -- an entry of a manifest's normal dependencies
@@ -35,16 +47,16 @@ abbrev pub features_alone : Listed → Table
 features_alone listed = table_of 2048 listed []
 
 -- a = ["_h"], _h = ["a"]
-abbrev pub hidden_cycle : Listed
-hidden_cycle = (codes "_h", codes "a" ∷ []) ∷ (codes "a", codes "_h" ∷ []) ∷ []
+abbrev pub hidden_cycle : Table
+hidden_cycle = features_alone ((codes "_h", codes "a" ∷ []) ∷ (codes "a", codes "_h" ∷ []) ∷ [])
 
 -- k = ["_s"], _s = ["_s", "b"], b = []
-abbrev pub hidden_names_itself : Listed
-hidden_names_itself = (codes "_s", codes "_s" ∷ codes "b" ∷ []) ∷ (codes "b", []) ∷ (codes "k", codes "_s" ∷ []) ∷ []
+abbrev pub hidden_names_itself : Table
+hidden_names_itself = features_alone ((codes "_s", codes "_s" ∷ codes "b" ∷ []) ∷ (codes "b", []) ∷ (codes "k", codes "_s" ∷ []) ∷ [])
 
 -- a = ["b", "zz"], b = ["a"]
-abbrev pub ring : Listed
-ring = (codes "a", codes "b" ∷ codes "zz" ∷ []) ∷ (codes "b", codes "a" ∷ []) ∷ []
+abbrev pub ring : Table
+ring = features_alone ((codes "a", codes "b" ∷ codes "zz" ∷ []) ∷ (codes "b", codes "a" ∷ []) ∷ [])
 
 -- what is left of a table once features are taken out
 abbrev pub left_of : Table → List Text → Resolution
@@ -53,6 +65,14 @@ left_of t removed = without_all removed (unremoved t)
 -- k = ["_a", "_b"], _a = ["x"], _b = ["y"], x = [], y = []
 abbrev pub two_hidden : Table
 two_hidden = features_alone ((codes "_a", codes "x" ∷ []) ∷ (codes "_b", codes "y" ∷ []) ∷ (codes "k", codes "_a" ∷ codes "_b" ∷ []) ∷ (codes "x", []) ∷ (codes "y", []) ∷ [])
+
+-- f = [], _h = ["f"]
+abbrev pub hidden_parent : Table
+hidden_parent = features_alone ((codes "_h", codes "f" ∷ []) ∷ (codes "f", []) ∷ [])
+
+-- the binaries y and z require f, and x (twice) and y require _h
+abbrev pub some_bins : Text → List Text
+some_bins f = cond (bytes_eq f (codes "f")) (codes "y" ∷ codes "z" ∷ []) (cond (bytes_eq f (codes "_h")) (codes "x" ∷ codes "x" ∷ codes "y" ∷ []) [])
 
 -- k = ["_h", "d?/a"], _h = ["d/b"], with a dependency d
 abbrev pub hidden_plain : Table
@@ -85,10 +105,10 @@ twice = record { key = codes "d"; target = (Normal, None); dependency = simple [
 -- x = ["d/default", "d/f"], where d stands without target as given, and for `cfg(unix)` with the feature f
 abbrev pub redundancy : DependencyMeaning → Table
 redundancy first = table_of 2048 ((codes "x", codes "d/default" ∷ codes "d/f" ∷ []) ∷ []) (
-  record { key = codes "d"; target = (Normal, Some (codes "cfg(unix)")); dependency = detail None (codes "f" ∷ []) false }
-  ∷ record { key = codes "d"; target = (Normal, None); dependency = first }
-  ∷ []
-)
+    record { key = codes "d"; target = (Normal, Some (codes "cfg(unix)")); dependency = detail None (codes "f" ∷ []) false }
+    ∷ record { key = codes "d"; target = (Normal, None); dependency = first }
+    ∷ []
+    )
 
 -- a = ["x", "y", "z"], b = [], c = [], default = ["c"]
 abbrev pub four : Listed

@@ -3,7 +3,7 @@ ghost use Rattle.std.specs.Prelude.{◌≡◌, ◌↔◌, ◌⊎◌, ◌∷◌, 
 ghost use Rattle.std.specs.Option.{IsSomeAnd};
 ghost use Rattle.cargo_toml.specs.Action.{Text};
 ghost use Rattle.cargo_toml.specs.Admitted.{is_below};
-ghost use Rattle.cargo_toml.specs.Examples.{features_alone, hidden_cycle, hidden_names_itself, ring, small, small_entries, small_listed};
+ghost use Rattle.cargo_toml.specs.Examples.{hidden_cycle, hidden_names_itself, ring, small, small_entries, small_listed};
 ghost use Rattle.cargo_toml.specs.Graph.{Edge, KeepsName, IsEnabledBy};
 ghost use Rattle.cargo_toml.specs.Reach.{Among};
 ghost use Rattle.cargo_toml.specs.Recorded.{entries_at, is_implied, recorded_of};
@@ -38,20 +38,20 @@ pub fn a_small_table()
 
 /// `a = ["_h"]`, `_h = ["a"]` with `_h` removed: `a` names itself and is enabled by itself, and stands for `_h`.
 pub fn a_cycle_through_a_hidden_feature()
-    ensures names { (x : Text) → KeepsName (features_alone hidden_cycle) (Among (codes "_h" ∷ [])) (codes "a") x ↔ (x ≡ codes "a") }
-    ensures enabled_by { (e : Text) → IsEnabledBy (features_alone hidden_cycle) (Among (codes "_h" ∷ [])) (codes "a") e ↔ (e ≡ codes "a") }
-    ensures redirect { (x : Text) → RedirectsTo (features_alone hidden_cycle) (Among (codes "_h" ∷ [])) (λ a b. IsTrue (is_below a b)) (codes "_h") x ↔ (x ≡ codes "a") }
+    ensures names { (x : Text) → KeepsName hidden_cycle (Among (codes "_h" ∷ [])) (codes "a") x ↔ (x ≡ codes "a") }
+    ensures enabled_by { (e : Text) → IsEnabledBy hidden_cycle (Among (codes "_h" ∷ [])) (codes "a") e ↔ (e ≡ codes "a") }
+    ensures redirect { (x : Text) → RedirectsTo hidden_cycle (Among (codes "_h" ∷ [])) (λ a b. IsTrue (is_below a b)) (codes "_h") x ↔ (x ≡ codes "a") }
 {}
 
 /// `k = ["_s"]`, `_s = ["_s", "b"]`, `b = []` with `_s` removed: `k` names `b` alone, and `_s` stays in its own redirect.
 pub fn a_hidden_feature_that_names_itself()
-    ensures names { (x : Text) → KeepsName (features_alone hidden_names_itself) (Among (codes "_s" ∷ [])) (codes "k") x ↔ (x ≡ codes "b") }
-    ensures enabled_by { (e : Text) → IsEnabledBy (features_alone hidden_names_itself) (Among (codes "_s" ∷ [])) (codes "b") e ↔ (e ≡ codes "k") }
-    ensures redirect { (x : Text) → RedirectsTo (features_alone hidden_names_itself) (Among (codes "_s" ∷ [])) (λ a b. IsTrue (is_below a b)) (codes "_s") x ↔
+    ensures names { (x : Text) → KeepsName hidden_names_itself (Among (codes "_s" ∷ [])) (codes "k") x ↔ (x ≡ codes "b") }
+    ensures enabled_by { (e : Text) → IsEnabledBy hidden_names_itself (Among (codes "_s" ∷ [])) (codes "b") e ↔ (e ≡ codes "k") }
+    ensures redirect { (x : Text) → RedirectsTo hidden_names_itself (Among (codes "_s" ∷ [])) (λ a b. IsTrue (is_below a b)) (codes "_s") x ↔
         ((x ≡ codes "_s") ⊎ (x ≡ codes "b")) }
 {}
 
 /// `a = ["b", "zz"]`, `b = ["a"]`: `a` enables `a` and `b`, since no feature is called `zz`.
 pub fn a_ring_enables_itself()
-    ensures { (x : Text) → Enables (features_alone ring) (codes "a") x ↔ ((x ≡ codes "a") ⊎ (x ≡ codes "b")) }
+    ensures { (x : Text) → Enables ring (codes "a") x ↔ ((x ≡ codes "a") ⊎ (x ≡ codes "b")) }
 {}

@@ -1,8 +1,20 @@
 //! Worked examples of what is left where features are taken out.
-ghost use Rattle.std.specs.Prelude.{◌≡◌, ◌↔◌, ◌⊎◌, ◌∷◌, [], codes, false, true, IsFalse, IsTrue};
+ghost use Rattle.std.specs.Prelude.{◌≡◌, ◌↔◌, ◌⊎◌, ◌∷◌, [], bytes_eq, codes, false, true, IsFalse, IsTrue};
 ghost use Rattle.std.specs.Option.{IsSomeAnd};
 ghost use Rattle.cargo_toml.specs.Action.{Text};
-ghost use Rattle.cargo_toml.specs.Examples.{hidden_conditional, hidden_dep_only, hidden_key, hidden_plain, left_of, two_hidden};
+ghost use Rattle.cargo_toml.specs.Examples.{hidden_conditional, hidden_dep_only, hidden_key, hidden_parent, hidden_plain, left_of, some_bins, two_hidden};
+ghost use Rattle.cargo_toml.specs.Removal.{pass_all, unremoved};
+ghost use Rattle.cargo_toml.specs.Resolved.{is_removed};
+
+/// Removed are the features that begin with `_` and that the filter doesn't keep.
+pub fn features_that_are_removed()
+    ensures hidden { is_removed two_hidden (λ _. false) (codes "_a") ≡ true }
+    ensures plain { is_removed two_hidden (λ _. false) (codes "k") ≡ false }
+    ensures unknown { is_removed two_hidden (λ _. false) (codes "_c") ≡ false }
+    ensures filtered { is_removed two_hidden (λ f. bytes_eq f (codes "_a")) (codes "_a") ≡ false }
+    ensures not_filtered { is_removed two_hidden (λ f. bytes_eq f (codes "_a")) (codes "_b") ≡ true }
+    ensures none { (f : Text) → is_removed two_hidden (λ _. true) f ≡ false }
+{}
 
 /// `k = ["_a", "_b"]`, `_a = ["x"]`, `_b = ["y"]` with `_b` alone removed: `k` names `_a` and `y`.
 pub fn a_filter_keeps_one_hidden_feature()
@@ -39,4 +51,9 @@ pub fn a_join_that_turns_dep_only()
     ensures enabled_by { (left_of hidden_dep_only (codes "_a" ∷ codes "_p" ∷ [])).enabled_by (codes "d") (codes "k") ≡ true }
     ensures acts { IsSomeAnd ((left_of hidden_dep_only (codes "_a" ∷ codes "_p" ∷ [])).table.action (codes "k") (codes "d")) (λ a. IsFalse a.is_conditional × IsTrue a.is_dep_only ×
         ((x : Text) → IsTrue (a.features x) ↔ (x ≡ codes "x"))) }
+{}
+
+/// `f = []`, `_h = ["f"]`: the binaries of `_h` follow those of `f`, each once.
+pub fn binaries_of_a_hidden_feature()
+    ensures { pass_all (codes "_h" ∷ []) (unremoved hidden_parent) some_bins (codes "f") ≡ codes "y" ∷ codes "z" ∷ codes "x" ∷ [] }
 {}

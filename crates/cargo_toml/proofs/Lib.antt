@@ -1,0 +1,17 @@
+pub mod Texts
+pub mod Joins
+pub mod JoinLaws
+pub mod Unremoved
+pub mod Edges
+pub mod Lists
+pub mod Split
+pub mod Members
+pub mod OneRemoval
+pub mod Elimination
+pub mod Settled
+pub mod Closure
+pub mod NothingLost
+pub mod BinLists
+pub mod PassedBins
+pub mod RedirectsInOrder
+pub mod WorkedExamples

@@ -10,3 +10,4 @@ pub mod Recorded
 pub mod Resolved
 pub mod Views
 pub mod Reading
+pub mod Examples

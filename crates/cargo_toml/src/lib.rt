@@ -2,6 +2,7 @@
 #![tactic(auto)]
 
 pub mod features;
+mod laws;
 
 pub use cargo_toml_manifest::{Manifest, Package};
 pub use cargo_toml_parts::{

@@ -5,6 +5,6 @@ pub mod features;
 
 pub use cargo_toml_manifest::{Manifest, Package};
 pub use cargo_toml_parts::{
-    Dependency, DependencyDetail, Edition, Error, FromValue, Inheritable, InheritedDependencyDetail,
-    ParseFault,
+    Dependency, DependencyDetail, Edition, Error, FromValue, Inheritable,
+    InheritedDependencyDetail, ParseFault,
 };

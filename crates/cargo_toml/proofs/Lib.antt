@@ -15,3 +15,9 @@ pub mod BinLists
 pub mod PassedBins
 pub mod RedirectsInOrder
 pub mod WorkedExamples
+pub mod ActionTexts
+pub mod Listings
+pub mod ReadAll
+pub mod ReadOne
+pub mod TextKeys
+pub mod Within

@@ -15,6 +15,16 @@ is_below a b = is_lt (slice_cmp nat_cmp a b)
 abbrev pub Listed : Type 0
 Listed = List (Text × List Text)
 
+-- an item names x
+abbrev pub item_names : Text → Item → Bool
+item_names x (Name y) = bytes_eq x y
+item_names x (On k a) = false
+
+-- what an item does to k
+abbrev pub action_on : Text → Item → Option Action
+action_on k (Name y) = None
+action_on k (On q a) = cond (bytes_eq k q) (Some a) None
+
 -- the limit leaves nothing out
 pub record IsWithin (limit : ℕ) (listed : Listed) : Type 0 where
   pub names : length listed ≤ limit
@@ -28,14 +38,6 @@ module _ (limit : ℕ) (listed : Listed) where
   -- the first actions of an admitted feature
   abbrev pub items : Text → List Item
   items f = cond (is_admitted f) (map item_of (take limit (unwrap_or (lookup (bytes_eq f) listed) []))) []
-
-  abbrev pub item_names : Text → Item → Bool
-  item_names x (Name y) = bytes_eq x y
-  item_names x (On k a) = false
-
-  abbrev pub action_on : Text → Item → Option Action
-  action_on k (Name y) = None
-  action_on k (On q a) = cond (bytes_eq k q) (Some a) None
 
   -- the names that f names, known or not
   abbrev pub names : Text → Text → Bool

@@ -1,4 +1,5 @@
 pub mod Action
+pub mod ActionText
 pub mod Reach
 pub mod Graph
 pub mod Removal
@@ -11,3 +12,4 @@ pub mod Resolved
 pub mod Views
 pub mod Reading
 pub mod Examples
+pub mod ReadFeature

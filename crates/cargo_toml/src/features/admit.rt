@@ -14,13 +14,21 @@ pub struct Listing<'m> {
     pub actions: &'m [String],
 }
 
-// The features of a table, in byte order.
+/// The features of a table, in the byte order of their names. It fails only where memory runs out.
 pub fn listings<'m>(
-    _alloc: Global,
-    _table: &'m BTreeMap<String, Vec<String>>,
+    alloc: Global,
+    table: &'m BTreeMap<String, Vec<String>>,
 ) -> Result<Vec<Listing<'m>>, AllocError>
-    ensures all { IfOk result (λ v. listed_of v.items ≡ listed_in _table.now) }
+    ensures all { IfOk result (λ v. listed_of v.items ≡ listed_in table.now) }
     ensures once { IfOk result (λ v. IsOnce (map (λ l. l.name.now) v.items)) }
 {
-    Err(AllocError)
+    let mut listings = Vec::with_capacity(alloc, table.len())?;
+    for (name, actions) in table {
+        let listing = Listing {
+            name: name.as_str(),
+            actions: actions.as_slice(),
+        };
+        listings.push(listing)?;
+    }
+    Ok(listings)
 }

@@ -13,9 +13,9 @@ use Rattle.cargo_toml.proofs.Texts.{same}
 module _ (limit : ℕ) (listed : Listed) where
   -- some item of the list acts so on k
   abbrev Acts : Text → List Item → Action → Type 0
-  Acts k is a = (i : Item) × Among is i × (action_on limit listed k i ≡ Some a)
+  Acts k is a = (i : Item) × Among is i × (action_on k i ≡ Some a)
 
-  folded : (k : Text) (is : List Item) (P : Action → Type 0) (o : Option Action) → IsJoin P o → IsJoin (λ a. P a ⊎ Acts k is a) (fold (λ o i. join_option o (action_on limit listed k i)) o is)
+  folded : (k : Text) (is : List Item) (P : Action → Type 0) (o : Option Action) → IsJoin P o → IsJoin (λ a. P a ⊎ Acts k is a) (fold (λ o i. join_option o (action_on k i)) o is)
   folded k [] P o h = join_alike (λ a. (inl, elim [ inl p ↦ p | inr e ↦ absurd e.1 ])) o h
   folded k (i ∷ is) P o h =
       join_alike
@@ -23,11 +23,11 @@ module _ (limit : ℕ) (listed : Listed) where
         elim [ inl s ↦ elim s [ inl p ↦ inl p | inr e ↦ inr (i, inl refl, e) ] | inr e ↦ inr (e.0, inr e.1, e.2) ],
         elim [
           | inl p ↦ inl (inl p)
-          | inr e ↦ elim (e.1) [ inl s ↦ inl (inr (subst (λ j. action_on limit listed k j ≡ Some a) s e.2)) | inr m ↦ inr (e.0, m, e.2) ]
+          | inr e ↦ elim (e.1) [ inl s ↦ inl (inr (subst (λ j. action_on k j ≡ Some a) s e.2)) | inr m ↦ inr (e.0, m, e.2) ]
         ],
       ))
       _
-      (folded k is (λ a. P a ⊎ (action_on limit listed k i ≡ Some a)) (join_option o (action_on limit listed k i)) (join_halves (λ a. (λ s. s, λ s. s)) o (action_on limit listed k i) h (join_one (action_on limit listed k i))))
+      (folded k is (λ a. P a ⊎ (action_on k i ≡ Some a)) (join_option o (action_on k i)) (join_halves (λ a. (λ s. s, λ s. s)) o (action_on k i) h (join_one (action_on k i))))
 
   none : IsJoin (λ a. ⊥) None
   none = record { there = (λ e. absurd (false≢true e), λ e. absurd e.1); plain = tt; dep_only = tt; features = tt }
@@ -35,7 +35,7 @@ module _ (limit : ℕ) (listed : Listed) where
   pub joined_is_join : (f k : Text) → IsJoin (Acts k (items limit listed f)) (joined_action limit listed f k)
   joined_is_join f k = join_alike (λ a. (elim [ inl n ↦ absurd n | inr e ↦ e ], λ e. inr e)) _ (folded k (items limit listed f) (λ a. ⊥) None none)
 
-  named : (x : Text) (is : List Item) → IsTrue (list_any (item_names limit listed x) is) ↔ Among is (Name x)
+  named : (x : Text) (is : List Item) → IsTrue (list_any (item_names x) is) ↔ Among is (Name x)
   named x [] = (λ e. false≢true e, λ i. absurd i)
   named x (Name y ∷ is) = (
     λ e. elim (or_cases (bytes_eq x y) _ e) [ inl s ↦ inl (ap Name (same s)) | inr l ↦ inr ((named x is).0 l) ],

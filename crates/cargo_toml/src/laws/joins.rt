@@ -23,5 +23,5 @@ pub fn missing_actions_add_nothing()
 pub fn lists_say_what_their_items_say()
     ensures names { (limit : ℕ) (listed : Listed) (f x : Text) → IsTrue (names limit listed f x) ↔ Among (items limit listed f) (Item.Name x) }
     ensures action { (limit : ℕ) (listed : Listed) (f k : Text) →
-        IsJoin (λ a. (i : Item) × Among (items limit listed f) i × (action_on limit listed k i ≡ Some a)) (joined_action limit listed f k) }
+        IsJoin (λ a. (i : Item) × Among (items limit listed f) i × (action_on k i ≡ Some a)) (joined_action limit listed f k) }
 {}

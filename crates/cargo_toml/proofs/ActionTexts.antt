@@ -1,24 +1,21 @@
 -- The parts of an action text, and one more action on a dependency.
-use Rattle.std.proofs.Common.{◌≡◌, ◌<◌, ◌+◌, ℕ, Bool, true, false, cond, ◌&&◌, ◌||◌, not, List, [], ◌∷◌, length, take, drop, nat_eq, Option, Some, None, IsSome, is_some, IfSome, option_map, bytes_eq, codes, Bor, arith, refl, sym, ap, ◌∙◌, subst, unwrap_or}
+use Rattle.std.proofs.Common.{◌≡◌, ◌<◌, ◌+◌, ℕ, Bool, true, false, cond, ◌&&◌, ◌||◌, not, List, [], ◌∷◌, length, take, nat_eq, Option, Some, None, is_some, IfSome, option_map, bytes_eq, codes, Bor, arith, refl, sym, ap, ◌∙◌, subst, unwrap_or}
 use Rattle.std.specs.List.{starts_with, ends_with, before_first, after_first, list_any, position_or_len}
 use Rattle.std.specs.Option.{option_map_or}
-use Rattle.std.specs.BTreeMap as tree
 use Rattle.std.specs.BTreeMap.{BTreeMap, is_at}
 use Rattle.std.specs.Map.{lookup}
 use Rattle.std.specs.BTreeSet.{BTreeSet}
 use Rattle.std.specs.Cmp.Lexicographic.{slice_cmp}
 use Rattle.std.specs.Ordering.{nat_cmp}
 use Rattle.std.proofs.Math.Seq.{take-length}
-use Rattle.cargo_toml.specs.Action.{Text, Action, Item, join, join_option, item_of}
+use Rattle.cargo_toml.specs.Action.{Text, Action, join, join_option, without_start, without_end, is_slash, item_of}
 use Rattle.cargo_toml.specs.Action.Item.{Name, On}
 use Rattle.cargo_toml.specs.ActionText.{action_in, item_in}
 use Rattle.cargo_toml.specs.Views.{has_text, action_of, action_at}
 use Rattle.cargo_toml.specs.declared.features.action.ActionText.{ActionText}
 use Rattle.cargo_toml.specs.declared.features.DepAction.{DepAction}
-use Rattle.std.proofs.Common.{◌-◌}
 use Rattle.std.proofs.lemmas.Slice.Eq.{bytes_eq-Decides}
-use Rattle.cargo_toml.proofs.TextKeys.{none_in, bytes_eq_sym, bytes_eq_refl}
-use Rattle.std.proofs.lemmas.Map.Text.{btree_map_updates_str}
+use Rattle.cargo_toml.proofs.TextKeys.{none_in, bytes_eq_sym}
 
 -- where no element passes, the search runs to the end
 pub none_found : (p : ℕ → Bool) (xs : List ℕ) → position_or_len p xs ≡ length xs → list_any p xs ≡ false
@@ -40,26 +37,17 @@ one_found p (x ∷ xs) h = go (p x) (one_found p xs) h
 pub all_before : (p : ℕ → Bool) (xs : List ℕ) → position_or_len p xs ≡ length xs → xs ≡ before_first p xs
 all_before p xs e = sym (ap (λ n. take n xs) e ∙ take-length xs)
 
-abbrev is_slash : ℕ → Bool
-is_slash c = nat_eq c 47
-
 -- which features an action text asks for
 asked : (text : Text) (after : Option (Bor Text)) → is_some after ≡ list_any is_slash text → IfSome after (λ f. f.now ≡ after_first is_slash text) → (x : Text)
     → option_map_or (λ f. bytes_eq x f.now) after false ≡ (list_any is_slash text && bytes_eq x (after_first is_slash text))
 asked text None has is x = ap (λ h. h && bytes_eq x (after_first is_slash text)) has
 asked text (Some f) has is x = ap (bytes_eq x) is ∙ ap (λ h. h && bytes_eq x (after_first is_slash text)) has
 
-abbrev without_dep : Text → Text
-without_dep bs = cond (starts_with nat_eq bs (codes "dep:")) (drop (length (codes "dep:")) bs) bs
-
-abbrev without_question : Text → Text
-without_question bs = cond (ends_with nat_eq bs (codes "?")) (take (length bs - length (codes "?")) bs) bs
-
 -- the parts that the code takes are those of the definition
 pub apart : (text front marked : Text) (t : ActionText) → front ≡ before_first is_slash text
     → is_some t.dep_feature ≡ list_any is_slash text → IfSome t.dep_feature (λ f. f.now ≡ after_first is_slash text)
-    → marked ≡ without_dep front → t.is_dep_only ≡ starts_with nat_eq front (codes "dep:")
-    → t.target.now ≡ without_question marked → t.is_conditional ≡ ends_with nat_eq marked (codes "?")
+    → marked ≡ without_start (codes "dep:") front → t.is_dep_only ≡ starts_with nat_eq front (codes "dep:")
+    → t.target.now ≡ without_end (codes "?") marked → t.is_conditional ≡ ends_with nat_eq marked (codes "?")
     → item_in t ≡ item_of text
 apart text front marked t front_is has after marked_is dep_only target conditional = λ i.
     cond (only i || has i) (On (key i) (record { is_conditional = maybe i; is_dep_only = only i; features = λ x. asked text t.dep_feature has after x i })) (Name (key i))
@@ -67,14 +55,14 @@ apart text front marked t front_is has after marked_is dep_only target condition
     only : t.is_dep_only ≡ starts_with nat_eq (before_first is_slash text) (codes "dep:")
     only = dep_only ∙ ap (λ bs. starts_with nat_eq bs (codes "dep:")) front_is
 
-    whole : marked ≡ without_dep (before_first is_slash text)
-    whole = marked_is ∙ ap without_dep front_is
+    whole : marked ≡ without_start (codes "dep:") (before_first is_slash text)
+    whole = marked_is ∙ ap (without_start (codes "dep:")) front_is
 
-    maybe : t.is_conditional ≡ ends_with nat_eq (without_dep (before_first is_slash text)) (codes "?")
+    maybe : t.is_conditional ≡ ends_with nat_eq (without_start (codes "dep:") (before_first is_slash text)) (codes "?")
     maybe = conditional ∙ ap (λ bs. ends_with nat_eq bs (codes "?")) whole
 
-    key : t.target.now ≡ without_question (without_dep (before_first is_slash text))
-    key = target ∙ ap without_question whole
+    key : t.target.now ≡ without_end (codes "?") (without_start (codes "dep:") (before_first is_slash text))
+    key = target ∙ ap (without_end (codes "?")) whole
 
 -- what stands in place of no action changes nothing
 pub joined_first : (s : BTreeSet (Bor Text)) (t : ActionText) → s.keys ≡ [] → join (record { is_conditional = true; is_dep_only = false; features = has_text s }) (action_in t) ≡ action_in t

@@ -1,4 +1,6 @@
+pub mod Texts
 pub mod Joins
+pub mod JoinLaws
 pub mod Unremoved
 pub mod Targets
 pub mod Counting
@@ -7,6 +9,19 @@ pub mod Links
 pub mod Enabling
 pub mod Implying
 pub mod Answering
+pub mod Edges
+pub mod Lists
+pub mod Split
+pub mod Members
+pub mod OneRemoval
+pub mod Elimination
+pub mod Settled
+pub mod Closure
+pub mod NothingLost
+pub mod BinLists
+pub mod PassedBins
+pub mod RedirectsInOrder
+pub mod WorkedExamples
 pub mod ActionTexts
 pub mod Listings
 pub mod ReadAll

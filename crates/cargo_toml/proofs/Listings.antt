@@ -1,18 +1,15 @@
 -- The names of a table, each once.
-use Rattle.std.proofs.Common.{◌≡◌, true, Bool, List, [], ◌∷◌, map, bytes_eq, string_bytes, String, Vec, refl, sym, ap, ◌∙◌, inl, inr}
+use Rattle.std.proofs.Common.{◌≡◌, List, [], ◌∷◌, map, bytes_eq, string_bytes, String, Vec, refl, sym, ap, ◌∙◌, inl, inr}
 use Rattle.std.specs.List.{AllByRecursion}
 use Rattle.std.specs.List.Sorted.{IsStrictlySortedBy}
-use Rattle.std.specs.Ordering.{is_eq, nat_cmp}
-use Rattle.std.specs.Cmp.Lexicographic.{slice_cmp}
+use Rattle.std.specs.Ordering.{is_eq}
 use Rattle.std.specs.String.{string_cmp}
 use Rattle.std.specs.declared.alloc.Global.{Global}
-use Rattle.std.specs.declared.cmp.Ordering.{Ordering}
 use Rattle.std.specs.declared.cmp.Ordering.TheVariants.{Less}
 use Rattle.std.proofs.lemmas.Bool.{false≢true}
 use Rattle.std.proofs.lemmas.Map.Keys.{sorted_head, sorted_tail}
 use Rattle.std.proofs.lemmas.Map.Text.{is_eq-slice_cmp}
 use Rattle.cargo_toml.specs.Action.{Text}
-use Rattle.cargo_toml.specs.Admitted.{Listed}
 use Rattle.cargo_toml.specs.Reach.{Among, IsOnce}
 use Rattle.cargo_toml.specs.Reading.{listed_of}
 use Rattle.cargo_toml.specs.declared.features.admit.Listing.{Listing}
@@ -34,7 +31,7 @@ pub once_sorted : (ks : List (String Global)) → IsStrictlySortedBy string_cmp 
 once_sorted [] h = tt
 once_sorted (k ∷ ks) h = (not_among k ks (sorted_head string_cmp k ks h), once_sorted ks (sorted_tail string_cmp k ks h))
 
-names_listed : (ls : List Listing) → map (λ e. e.0) (listed_of ls) ≡ map (λ l. l.name.now) ls
+pub names_listed : (ls : List Listing) → map (λ e. e.0) (listed_of ls) ≡ map (λ l. l.name.now) ls
 names_listed [] = refl
 names_listed (l ∷ ls) = ap (λ xs. l.name.now ∷ xs) (names_listed ls)
 

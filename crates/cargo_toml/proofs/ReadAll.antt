@@ -1,11 +1,11 @@
 -- The lists of all features, read one after another.
-use Rattle.std.proofs.Common.{◌≡◌, ◌≢◌, ◌+◌, ◌<◌, ℕ, Bool, true, false, cond, ◌&&◌, ◌||◌, List, [], ◌∷◌, ◌++◌, map, fold, take, drop, length, get_or, is_some, IfSome, MatchOption, Option, Some, None, unwrap_or, codes, bytes_eq, string_bytes, Bor, All, refl, sym, ap, subst, ◌∙◌, inl, inr, suc, add-one, rules}
+use Rattle.std.proofs.Common.{◌≡◌, ◌≢◌, ◌+◌, ◌<◌, ℕ, Bool, true, false, cond, ◌||◌, List, [], ◌∷◌, ◌++◌, map, fold, take, drop, length, get_or, is_some, MatchOption, Option, Some, None, unwrap_or, codes, bytes_eq, string_bytes, Bor, refl, sym, ap, subst, ◌∙◌, inl, inr, suc, add-one}
 use Rattle.std.specs.List.{list_any}
 use Rattle.std.specs.Map.{lookup}
 use Rattle.std.specs.Option.{option_map_or, option_or, IsSomeAnd}
 use Rattle.std.specs.HashMap.{HashMap}
-use Rattle.std.proofs.lemmas.Bool.{false≢true, false_from_ne_true}
-use Rattle.std.proofs.lemmas.List.{map_push, take_more, take-append-drop}
+use Rattle.std.proofs.lemmas.Bool.{false_from_ne_true}
+use Rattle.std.proofs.lemmas.List.{map_push, map-append, take_more, take-append-drop}
 use Rattle.std.specs.List.{AllByRecursion}
 use Rattle.std.proofs.Common.{ap₂}
 use Rattle.std.proofs.lemmas.List.Sums.{fold_push}
@@ -14,14 +14,14 @@ use Rattle.std.proofs.Math.Seq.{drop-cons}
 use Rattle.cargo_toml.specs.declared.features.Feature.{Feature}
 use Rattle.cargo_toml.specs.declared.features.admit.Listing.{Listing}
 use Rattle.cargo_toml.specs.Action.{Text, Action, item_of}
-use Rattle.cargo_toml.specs.Admitted.{Listed, IsWithin, is_admitted, items, item_names, joined_action}
-use Rattle.cargo_toml.specs.Admitted as admitted
+use Rattle.cargo_toml.specs.Admitted.{Listed, IsWithin, items, item_names, joined_action}
 use Rattle.cargo_toml.specs.Reach.{Among, IsOnce}
 use Rattle.cargo_toml.specs.ReadFeature.{joined_in, noted, IsListed}
-use Rattle.cargo_toml.specs.Reading.{listed_of, IsFresh, AreFresh, IsRead}
+use Rattle.cargo_toml.specs.Reading.{listed_of, IsRead}
 use Rattle.cargo_toml.specs.Recorded.{is_reserved}
 use Rattle.cargo_toml.specs.Views.{value_at, table_in, has_text, action_at}
-use Rattle.cargo_toml.proofs.TextKeys.{bytes_eq_sym, bytes_eq_refl}
+use Rattle.cargo_toml.proofs.Listings.{names_listed}
+use Rattle.cargo_toml.proofs.TextKeys.{bytes_eq_refl}
 use Rattle.cargo_toml.proofs.Within.{admitted_is, items_are}
 
 -- what stands under f, where the table lists these actions for it, if any
@@ -69,14 +69,6 @@ new_name (e ∷ es) after n once =
     ap (λ b. cond b (Some e.1) (lookup (bytes_eq n) es)) (apart n e.0 (λ same. once.0 (subst (Among (map (λ d. d.0) es ++ n ∷ after)) same (among_later (map (λ d. d.0) es) after n))))
     ∙ new_name es after n once.1
 
-pub names_of : (ls : List Listing) → map (λ e. e.0) (listed_of ls) ≡ map (λ l. l.name.now) ls
-names_of [] = refl
-names_of (l ∷ ls) = ap (λ xs. l.name.now ∷ xs) (names_of ls)
-
-map_append : {A B : Type 0} (f : A → B) (xs ys : List A) → map f (xs ++ ys) ≡ map f xs ++ map f ys
-map_append f [] ys = refl
-map_append f (x ∷ xs) ys = ap (λ zs. f x ∷ zs) (map_append f xs ys)
-
 abbrev listed_one : Listing → Text × List Text
 listed_one l = (l.name.now, map string_bytes l.actions.now)
 
@@ -89,7 +81,7 @@ module _ (ls : List Listing) (i : ℕ) (l : Listing) (below : i < length ls) (is
 
   not_before : lookup (bytes_eq l.name.now) (listed_of (take i ls)) ≡ None
   not_before = new_name (listed_of (take i ls)) (map (λ l. l.name.now) (drop (i + 1) ls)) l.name.now
-      (subst IsOnce (ap (map (λ l. l.name.now)) split ∙ map_append (λ l. l.name.now) (take i ls) (l ∷ drop (i + 1) ls) ∙ ap (λ ns. ns ++ l.name.now ∷ map (λ l. l.name.now) (drop (i + 1) ls)) (sym (names_of (take i ls)))) once)
+      (subst IsOnce (ap (map (λ l. l.name.now)) split ∙ map-append (λ l. l.name.now) (take i ls) (l ∷ drop (i + 1) ls) ∙ ap (λ ns. ns ++ l.name.now ∷ map (λ l. l.name.now) (drop (i + 1) ls)) (sym (names_listed (take i ls)))) once)
 
   -- one more feature is read
   pub read_more : {S : Type 0} (m m' : HashMap (Bor Text) Feature S) (v : Feature) → HasRead (listed_of (take i ls)) m
@@ -166,7 +158,7 @@ found_each : (es : Listed) → IsOnce (map (λ e. e.0) es) → AllByRecursion (�
 found_each [] once = tt
 found_each (e ∷ es) once = (
   ap (λ b. cond b (Some e.1) (lookup (bytes_eq e.0) es)) (bytes_eq_refl e.0),
-  weaken _ _ (λ d h. ap (λ b. cond b (Some e.1) (lookup (bytes_eq d.0) es)) h.1 ∙ h.0) es (both _ _ es (found_each es once.1) (later_apart e.0 es once.0))
+  weaken _ _ (λ d h. ap (λ b. cond b (Some e.1) (lookup (bytes_eq d.0) es)) h.1 ∙ h.0) es (both _ _ es (found_each es once.1) (later_apart e.0 es once.0)),
 )
 
 module _ (k : Text) where

@@ -1,18 +1,16 @@
 -- One more text of a feature's list.
-use Rattle.std.proofs.Common.{◌≡◌, Bool, true, false, cond, ◌||◌, List, [], ◌∷◌, ◌++◌, map, fold, Option, Some, None, is_some, unwrap_or, bytes_eq, Bor, ℕ, ◌+◌, ◌<◌, take, length, get_or, String, string_bytes, refl, sym, ap, subst, ◌∙◌}
+use Rattle.std.proofs.Common.{◌≡◌, Bool, true, false, cond, ◌||◌, List, [], ◌∷◌, ◌++◌, map, Option, Some, None, unwrap_or, bytes_eq, Bor, ℕ, ◌+◌, ◌<◌, take, length, get_or, String, string_bytes, refl, sym, ap, subst, ◌∙◌}
 use Rattle.std.specs.declared.alloc.Global.{Global}
-use Rattle.std.proofs.lemmas.List.{take_more}
+use Rattle.std.proofs.lemmas.List.{map_push, take_more}
+use Rattle.std.proofs.lemmas.List.Sums.{fold_push}
 use Rattle.std.specs.Map.{lookup}
-use Rattle.std.specs.List.{list_any}
 use Rattle.std.specs.HashMap.{HashMap}
 use Rattle.std.proofs.lemmas.Slice.Eq.{bytes_eq-Decides}
-use Rattle.std.proofs.lemmas.List.Folds.{list_any-append}
-use Rattle.cargo_toml.specs.Action.{Text, Action, Item, join, join_option, item_of}
-use Rattle.cargo_toml.specs.Action.Item.{Name, On}
-use Rattle.cargo_toml.specs.ActionText.{action_in, item_in}
-use Rattle.cargo_toml.specs.Admitted.{item_names, action_on}
-use Rattle.cargo_toml.specs.ReadFeature.{joined_in, noted, IsListed}
-use Rattle.cargo_toml.specs.Views.{value_at, has_text, action_at}
+use Rattle.cargo_toml.specs.Action.{Text, Action, Item, join_option, item_of}
+use Rattle.cargo_toml.specs.ActionText.{action_in}
+use Rattle.cargo_toml.specs.Admitted.{action_on}
+use Rattle.cargo_toml.specs.ReadFeature.{joined_in, noted}
+use Rattle.cargo_toml.specs.Views.{value_at}
 use Rattle.cargo_toml.specs.declared.features.action.ActionText.{ActionText}
 use Rattle.cargo_toml.proofs.TextKeys.{bytes_eq_sym}
 
@@ -35,14 +33,6 @@ noted_at old new t held made others there held_is made_is k = go (bytes_eq k t.t
     go : (b : Bool) → bytes_eq k t.target.now ≡ b → entry_at new k ≡ noted (value_at old k) (cond b (Some (action_in t)) None)
     go true e = subst (λ q. entry_at new q ≡ noted (value_at old q) (Some (action_in t))) (sym ((bytes_eq-Decides k t.target.now).0 e)) (there ∙ here (entry_at old.entries t.target.now) held_is)
     go false e = others k (bytes_eq_sym t.target.now k ∙ e)
-
-map_push : {A B : Type 0} (f : A → B) (xs : List A) (y : A) → map f (xs ++ y ∷ []) ≡ map f xs ++ f y ∷ []
-map_push f [] y = refl
-map_push f (x ∷ xs) y = ap (λ zs. f x ∷ zs) (map_push f xs y)
-
-pub fold_push : {A B : Type 0} (f : B → A → B) (b : B) (xs : List A) (y : A) → fold f b (xs ++ y ∷ []) ≡ f (fold f b xs) y
-fold_push f b [] y = refl
-fold_push f b (x ∷ xs) y = fold_push f (f b x) xs y
 
 noted_both : (o : Option Bool) (a b : Option Action) → noted (noted o a) b ≡ noted o (join_option a b)
 noted_both o None b = refl

@@ -1,8 +1,8 @@
 -- What an action text says, from its parts.
-use Rattle.std.specs.Prelude.{Bool, false, cond, ◌||◌, is_some, bytes_eq}
+use Rattle.std.specs.Prelude.{false, cond, ◌||◌, is_some, bytes_eq}
 use Rattle.std.specs.Option.{option_map_or}
 use Rattle.cargo_toml.specs.declared.features.action.ActionText.{ActionText}
-use Rattle.cargo_toml.specs.Action.{Text, Action, Item}
+use Rattle.cargo_toml.specs.Action.{Action, Item}
 use Rattle.cargo_toml.specs.Action.Item.{Name, On}
 
 abbrev pub action_in : ActionText → Action

@@ -14,4 +14,5 @@ pub mod Reading
 pub mod Recording
 pub mod Enabling
 pub mod Implying
+pub mod Examples
 pub mod ReadFeature

@@ -1,8 +1,20 @@
 -- Taking one feature after another out of a resolution: the steps that the laws of elimination speak of.
-use Rattle.std.specs.Prelude.{◌&&◌, ◌||◌, not, cond, List, [], ◌∷◌, ◌++◌, take, bytes_eq, Bool}
+use Rattle.std.specs.Prelude.{◌≡◌, IsTrue, ◌&&◌, ◌||◌, not, cond, List, [], ◌∷◌, ◌++◌, take, bytes_eq, Bool, false, Option}
 use Rattle.std.specs.List.{list_any}
-use Rattle.cargo_toml.specs.Action.{Text, join_option}
-use Rattle.cargo_toml.specs.Graph.{Resolution}
+use Rattle.std.specs.Option.{option_map_or}
+use Rattle.cargo_toml.specs.Action.{Text, Action, join_option}
+use Rattle.cargo_toml.specs.Reach.{Among}
+use Rattle.cargo_toml.specs.Graph.{Table, Resolution}
+
+abbrev pub is_plain : Option Action → Bool
+is_plain o = option_map_or (λ a. not a.is_conditional && not a.is_dep_only) o false
+
+abbrev pub is_edge : Table → Text → Text → Bool
+is_edge t f g = t.has f && t.has g && not (bytes_eq f g) && (t.names f g || is_plain (t.action f g))
+
+-- what the removal starts with: the table, and the sources of its edges
+abbrev pub unremoved : Table → Resolution
+unremoved t = record { table = t; enabled_by = λ f e. is_edge t e f }
 
 -- r is taken out: its parents name what it named and act as it did, and what it enabled is enabled by its parents
 abbrev pub without : Text → Resolution → Resolution
@@ -34,3 +46,15 @@ pass_bins m r bins f = cond (m.table.names r f) (put_all (bins f) (take 10 (bins
 abbrev pub pass_all : List Text → Resolution → (Text → List Text) → Text → List Text
 pass_all [] m bins = bins
 pass_all (r ∷ rs) m bins = pass_all rs (without r m) (pass_bins m r bins)
+
+-- each element is below those after it
+abbrev pub IsAscending : (Text → Text → Type 0) → List Text → Type 0
+IsAscending Below [] = Unit {0}
+IsAscending Below (x ∷ xs) = ((y : Text) → Among xs y → Below x y) × IsAscending Below xs
+
+-- the same features, and each holds the same
+pub record SameKept (m n : Resolution) : Type 0 where
+  pub has : (f : Text) → m.table.has f ≡ n.table.has f
+  pub names : (f x : Text) → IsTrue (m.table.has f) → m.table.names f x ≡ n.table.names f x
+  pub action : (f k : Text) → IsTrue (m.table.has f) → m.table.action f k ≡ n.table.action f k
+  pub enabled_by : (f e : Text) → IsTrue (m.table.has f) → m.enabled_by f e ≡ n.enabled_by f e

@@ -25,7 +25,7 @@ module _ (limit : ℕ) (listed : Listed) (entries : List Entry) where
   -- the table that the removal starts from
   abbrev pub table_of : Table
   table_of = record joined_table {
-    action = λ f k. option_map (without_redundant (first_target (entries_at limit listed entries k))) (joined_table.action f k)
+    action = λ f k. option_map (without_redundant (first_target (entries_at limit listed entries k))) (joined_table.action f k);
   }
 
 -- the removed features; `keep` is what the filter answers

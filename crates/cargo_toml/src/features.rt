@@ -134,7 +134,7 @@ impl<'config, F, S: BuildHasher + Clone> Resolver<'config, F, S> {
     ) -> Result<Features<'m, 'm, S>, Error>
         ensures resolved { IfOk result (λ a. (limit : ℕ) → IsWithin limit (listed_in manifest.now.features) →
             IsAnswer (joined_table limit (listed_in manifest.now.features) (normal_entries manifest.now.dependencies)) limit
-                (listed_in manifest.now.features) (normal_entries manifest.now.dependencies) (λ _. []) (λ _. true) (answer_of a)) }
+            (listed_in manifest.now.features) (normal_entries manifest.now.dependencies) (λ _. []) (λ _. true) (answer_of a)) }
         ensures refused { IfErr result (λ e. e ≡ Memory) }
     {
         let listings = listings(alloc, &manifest.features)?;

@@ -6,6 +6,6 @@ mod laws;
 
 pub use cargo_toml_manifest::{Manifest, Package};
 pub use cargo_toml_parts::{
-    Dependency, DependencyDetail, Edition, Error, FromValue, Inheritable, InheritedDependencyDetail,
-    ParseFault,
+    Dependency, DependencyDetail, Edition, Error, FromValue, Inheritable,
+    InheritedDependencyDetail, ParseFault,
 };

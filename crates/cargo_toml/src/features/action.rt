@@ -1,7 +1,7 @@
 //! One text of a feature's list, and what it does to a dependency.
-ghost use Rattle.std.specs.Prelude.{◌≡◌, ◌-◌, ◌||◌, cond, length, take, drop, nat_eq, codes, bytes_eq, is_some, Some, None, IfSome, OnOk};
+ghost use Rattle.std.specs.Prelude.{◌≡◌, ◌||◌, cond, nat_eq, codes, bytes_eq, is_some, Some, None, IfSome, OnOk};
 ghost use Rattle.std.specs.List.{starts_with, ends_with, before_first, after_first, list_any};
-ghost use Rattle.cargo_toml.specs.Action.{Text, join, join_option, item_of};
+ghost use Rattle.cargo_toml.specs.Action.{Text, join, join_option, without_start, without_end, is_slash, item_of};
 ghost use Rattle.cargo_toml.specs.ActionText.{action_in, item_in};
 ghost use Rattle.cargo_toml.specs.Views.{has_text, action_of, action_at};
 
@@ -9,7 +9,10 @@ use crate::features::DepAction;
 use std::alloc::{AllocError, Global};
 use std::collections::{BTreeMap, BTreeSet};
 
-/// One text of a feature's list, taken apart: `target`, `dep:target`, `target/feature`, `target?/feature` and their mixtures.
+/// One text of a feature's list, taken apart.
+///
+/// Cargo knows the forms `feature`, `dep:dependency`, `dependency/feature` and `dependency?/feature`. Other mixtures are read
+/// alike: what stands before the first slash loses one `dep:` and then one `?`.
 #[derive(Debug, Clone, Copy)]
 pub struct ActionText<'a> {
     /// The name of a feature, or the key of a dependency.
@@ -33,7 +36,7 @@ impl ActionText<'_> {
 
 // The text without `dep:` at its front, and whether that stood there.
 fn strip_dep(text: &str) -> (&str, bool)
-    ensures rest { result.0.now ≡ cond (starts_with nat_eq text.now (codes "dep:")) (drop (length (codes "dep:")) text.now) text.now }
+    ensures rest { result.0.now ≡ without_start (codes "dep:") text.now }
     ensures found { result.1 ≡ starts_with nat_eq text.now (codes "dep:") }
 {
     match text.strip_prefix("dep:") {
@@ -44,7 +47,7 @@ fn strip_dep(text: &str) -> (&str, bool)
 
 // The text without `?` at its end, and whether that stood there.
 fn strip_question(text: &str) -> (&str, bool)
-    ensures rest { result.0.now ≡ cond (ends_with nat_eq text.now (codes "?")) (take (length text.now - length (codes "?")) text.now) text.now }
+    ensures rest { result.0.now ≡ without_end (codes "?") text.now }
     ensures found { result.1 ≡ ends_with nat_eq text.now (codes "?") }
 {
     match text.strip_suffix('?') {
@@ -55,9 +58,9 @@ fn strip_question(text: &str) -> (&str, bool)
 
 // The text up to its first slash, and what follows that.
 fn split_slash(text: &str) -> (&str, Option<&str>)
-    ensures front { result.0.now ≡ before_first (λ c. nat_eq c 47) text.now }
-    ensures found { is_some result.1 ≡ list_any (λ c. nat_eq c 47) text.now }
-    ensures after { IfSome result.1 (λ rest. rest.now ≡ after_first (λ c. nat_eq c 47) text.now) }
+    ensures front { result.0.now ≡ before_first is_slash text.now }
+    ensures found { is_some result.1 ≡ list_any is_slash text.now }
+    ensures after { IfSome result.1 (λ rest. rest.now ≡ after_first is_slash text.now) }
 {
     match text.split_once('/') {
         Some((front, feature)) => (front, Some(feature)),
@@ -80,7 +83,7 @@ pub fn read_action(text: &str) -> ActionText<'_>
     }
 }
 
-/// Puts a text into a set.
+/// Puts a text into a set. It fails only where memory runs out.
 pub fn add_text<'a>(set: &mut BTreeSet<&'a str>, text: &'a str) -> Result<(), AllocError>
     ensures { OnOk result ((x : Text) → has_text set.new x ≡ (has_text set.old x || bytes_eq x text.now)) }
 {
@@ -96,13 +99,14 @@ impl<'a> DepAction<'a> {
         if let Some(feature) = action.dep_feature {
             add_text(&mut self.dep_features, feature)?;
         }
-        self.is_conditional = self.is_conditional && action.is_conditional;
-        self.is_dep_only = self.is_dep_only || action.is_dep_only;
+        self.is_conditional &= action.is_conditional;
+        self.is_dep_only |= action.is_dep_only;
         Ok(())
     }
 }
 
-/// Joins an action into those on its target.
+/// Joins an action into the one that its target has, if any: the two are conditional only where both are, and dep-only where
+/// one is. It fails only where memory runs out.
 pub fn join_action<'a>(
     alloc: Global,
     deps: &mut BTreeMap<&'a str, DepAction<'a>>,

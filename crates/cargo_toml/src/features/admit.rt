@@ -14,7 +14,7 @@ pub struct Listing<'m> {
     pub actions: &'m [String],
 }
 
-/// The features of a table, in byte order.
+/// The features of a table, in the byte order of their names. It fails only where memory runs out.
 pub fn listings<'m>(
     alloc: Global,
     table: &'m BTreeMap<String, Vec<String>>,

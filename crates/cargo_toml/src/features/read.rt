@@ -10,15 +10,17 @@ ghost use Rattle.cargo_toml.specs.ReadFeature.{joined_in, noted, IsListed};
 ghost use Rattle.cargo_toml.specs.Views.{table_in, value_at};
 
 use crate::features::Feature;
-use crate::features::action::{add_text, join_action, read_action, ActionText};
+use crate::features::action::{ActionText, add_text, join_action, read_action};
 use crate::features::admit::Listing;
 use std::alloc::{AllocError, Global};
 use std::collections::{BTreeMap, BTreeSet, HashMap};
 use std::hash::BuildHasher;
 
-/// The features that are read, and for each key that one of them acts on whether some action is dep-only.
+/// What the lists of features say, before dependencies are looked at.
 pub struct Read<'m, S: BuildHasher> {
+    /// The features by name.
     pub features: HashMap<&'m str, Feature<'m>, S>,
+    /// For each key that a feature acts on, whether some action on it is dep-only (`dep:key`).
     pub acted: HashMap<&'m str, bool, S>,
 }
 
@@ -110,7 +112,9 @@ fn add_default<'m, S: BuildHasher>(
     Ok(())
 }
 
-/// Reads the lists of all features, and adds `default` where it isn't listed.
+/// Reads the lists of all features, of which each name is listed once, and adds `default` where it isn't listed.
+///
+/// Each map gets a clone of `state`. It fails only where memory runs out, or the clone does.
 pub fn read_features<'m, S: BuildHasher + Clone>(
     alloc: Global,
     state: &S,
@@ -120,7 +124,11 @@ pub fn read_features<'m, S: BuildHasher + Clone>(
     ensures read { IfOk result (λ r. (limit : ℕ) → IsWithin limit (listed_of listings.now) → IsRead limit (listed_of listings.now) (table_in r.features) (value_at r.acted)) }
     ensures fresh { IfOk result (λ r. AreFresh r.features) }
 {
-    let mut features = HashMap::with_capacity_and_hasher(alloc, listings.len() + 1, state.clone()?)?;
+    let mut features = HashMap::with_capacity_and_hasher(
+        alloc,
+        listings.len() + 1,
+        state.clone()?,
+    )?;
     let mut acted = HashMap::with_hasher(alloc, state.clone()?);
     for listing in listings {
         let feature = read_list(alloc, &mut acted, *listing)?;
@@ -129,3 +137,6 @@ pub fn read_features<'m, S: BuildHasher + Clone>(
     add_default(alloc, &mut features)?;
     Ok(Read { features, acted })
 }
+
+#[cfg(test)]
+mod tests;

@@ -1,5 +1,4 @@
-use Rattle.std.proofs.Common.{◌≡◌, arith, map, subst, rules}
-use Rattle.std.proofs.lemmas.Grind.{common_steps}
+use Rattle.std.proofs.Common.{◌≡◌, subst, rules}
 use Rattle.cargo_toml.specs.Reach.{IsOnce}
 use Rattle.cargo_toml.specs.Reading.{listed_of}
 use Rattle.cargo_toml.specs.Views.{listed_in}

@@ -1,9 +1,10 @@
-use Rattle.std.proofs.Common.{◌≡◌, take, map, sym, subst, ap, ◌∙◌, arith}
+use Rattle.std.proofs.Common.{◌≡◌, take, sym, subst, ap, ◌∙◌, arith}
 use Rattle.std.proofs.lemmas.List.{take_all}
 use Rattle.cargo_toml.specs.Reach.{IsOnce}
 use Rattle.cargo_toml.specs.Reading.{listed_of}
 use Rattle.cargo_toml.specs.Views.{value_at}
-use Rattle.cargo_toml.proofs.ReadAll.{HasRead, noted_in, read_more, noted_next, all_read, names_of}
+use Rattle.cargo_toml.proofs.Listings.{names_listed}
+use Rattle.cargo_toml.proofs.ReadAll.{HasRead, noted_in, read_more, noted_next, all_read}
 use Rattle.cargo_toml.proofs.features.read.read_features.Goals as goal
 
 pub loop-listing-preserved : goal.loop-listing-preserved
@@ -24,4 +25,4 @@ returns-clause-read g c = λ limit within.
     (subst (λ xs. HasRead (listed_of xs) c.loop-listing.features) all c.loop-listing.invariant.features)
     c.in_ok-add_default.ensures.others c.in_ok-add_default.ensures.default limit (value_at c.loop-listing.acted)
     (λ k. c.loop-listing.invariant.acted k ∙ ap (λ xs. noted_in (listed_of xs) k) all)
-    (subst IsOnce (sym (names_of ls)) c.requires) within
+    (subst IsOnce (sym (names_listed ls)) c.requires) within

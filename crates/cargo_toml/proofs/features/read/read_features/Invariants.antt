@@ -3,7 +3,6 @@ use Rattle.cargo_toml.specs.Action.{Text}
 use Rattle.cargo_toml.specs.Reading.{listed_of}
 use Rattle.cargo_toml.specs.Views.{value_at}
 use Rattle.cargo_toml.proofs.ReadAll.{HasRead, noted_in}
-use Rattle.cargo_toml.proofs.Within.{items_are}
 use Rattle.cargo_toml.proofs.features.read.read_features.Given as goal
 
 abbrev pub invariant-loop-listing : goal.invariant-loop-listing

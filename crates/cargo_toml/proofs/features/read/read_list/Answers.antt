@@ -1,4 +1,4 @@
-use Rattle.std.proofs.Common.{◌≡◌, ◌++◌, ◌∷◌, [], map, take, string_bytes, sym, subst, ap, ◌∙◌}
+use Rattle.std.proofs.Common.{map, take, string_bytes, sym, subst, ap, ◌∙◌}
 use Rattle.cargo_toml.specs.Action.{item_of}
 use Rattle.cargo_toml.specs.ReadFeature.{joined_in, noted, IsListed}
 use Rattle.cargo_toml.specs.Views.{value_at}

@@ -1,0 +1,83 @@
+//! `cargo-toml features FILE`: prints what the features of a manifest enable.
+#![tactic(auto)]
+
+ghost use Rattle.std.specs.Prelude.{◌≡◌, IfSome, IfNone, map, string_bytes};
+ghost use Rattle.cargo_toml_cli.specs.Words.{words_of};
+ghost use Rattle.cargo_toml_cli.specs.declared.arguments.Command.{Command};
+
+mod arguments;
+mod print;
+
+use arguments::Command;
+use cargo_toml::Error;
+use print::print_features;
+use std::process::ExitCode;
+use std::rt::{Env, Files};
+use std::{env, fs, io};
+
+const USAGE: &str = "usage: cargo-toml features FILE | complete FILE";
+
+/// What the words, without the program's own name, ask for; `None` where they are no command.
+pub fn command(words: &[String]) -> Option<Command<'_>>
+    ensures some { IfSome result (λ c. map string_bytes words.now ≡ words_of c) }
+    ensures none { IfNone result ((c : Command) → ¬ (map string_bytes words.now ≡ words_of c)) }
+{
+    match words {
+        [verb, file] => match verb.as_str() {
+            "features" => Some(Command::Features(file.as_str())),
+            "complete" => Some(Command::Complete(file.as_str())),
+            _ => None,
+        },
+        _ => None,
+    }
+}
+
+/// Prints the features of the manifest in a file.
+fn features<R: Files + Print + AllocGlobal>(rt: &R, file: &str) -> Result<(), Error> {
+    let mut input = fs::open(rt, file)?;
+    let mut output = io::writer(rt);
+    print_features(rt.alloc(), &mut input, &mut output)
+}
+
+/// The words of the command line without the program's own name.
+fn words<R: Env + AllocGlobal>(rt: &R) -> io::Result<Vec<String>> {
+    let mut all = Vec::new(rt.alloc());
+    for (i, word) in env::args(rt)?.enumerate() {
+        if i > 0 {
+            all.push(word)?;
+        }
+    }
+    Ok(all)
+}
+
+/// Says how the program is called.
+fn usage<R: Eprint>(rt: &R) -> ExitCode {
+    let _ = eprintln!(rt; "{USAGE}");
+    ExitCode::from(2)
+}
+
+/// Tells the fault that stopped the program.
+fn failure<R: Eprint>(rt: &R, fault: &Error) -> ExitCode {
+    let _ = eprintln!(rt; "error: {fault}");
+    ExitCode::from(1)
+}
+
+fn main(rt: HostRuntime) -> ExitCode {
+    let words = match words(&rt) {
+        Ok(words) => words,
+        Err(fault) => {
+            return match Error::from(fault) {
+                Error::Memory => failure(&rt, &Error::Memory),
+                // a word that isn't UTF-8
+                _ => usage(&rt),
+            };
+        }
+    };
+    let Some(Command::Features(file)) = command(words.as_slice()) else {
+        return usage(&rt);
+    };
+    match features(&rt, file) {
+        Ok(()) => ExitCode::SUCCESS,
+        Err(fault) => failure(&rt, &fault),
+    }
+}

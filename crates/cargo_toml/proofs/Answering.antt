@@ -1,5 +1,6 @@
 -- From the features that are read to the whole answer, where nothing is removed.
 use Rattle.std.proofs.Common.{◌≡◌, ◌⊎◌, ◌↔◌, ◌&&◌, ◌||◌, not, Bool, true, false, cond, List, [], ℕ, map, Option, Some, None, IsTrue, IfSome, is_some, option_map, bytes_eq, Bor, refl, sym, ap, ap₂, subst, inl, inr, ◌∙◌}
+use Rattle.std.proofs.Math.Bool.{and-false}
 use Rattle.std.proofs.lemmas.Bool.{false≢true, false_from_ne_true, or_cases, or_left, or_right, and_parts, and_from}
 use Rattle.std.proofs.lemmas.Slice.Eq.{bytes_eq-Decides}
 use Rattle.std.specs.HashMap.{HashMap}
@@ -192,12 +193,8 @@ module _ (t : Table) where
   abbrev Removed : Text → Type 0
   Removed f = IsTrue (is_removed t (λ _. true) f)
 
-  and_false : (a : Bool) → (a && false) ≡ false
-  and_false true = refl
-  and_false false = refl
-
   kept_all : (f : Text) → is_removed t (λ _. true) f ≡ false
-  kept_all f = and_false _
+  kept_all f = and-false _
 
   none_removed : (f : Text) → ¬ Removed f
   none_removed f r = false≢true (sym (kept_all f) ∙ r)

@@ -1,5 +1,6 @@
 -- One more entry of those that count.
 use Rattle.std.proofs.Common.{◌≡◌, ◌&&◌, ◌||◌, Bool, true, false, cond, List, [], ◌∷◌, ◌++◌, filter, find, ℕ, Option, Some, None, is_some, option_map, unwrap_or, bytes_eq, refl, sym, ap, ap₂, subst, ◌∙◌}
+use Rattle.std.proofs.Math.Bool.{or-false, or-true}
 use Rattle.std.proofs.lemmas.List.{append-nil}
 use Rattle.std.proofs.lemmas.List.Elements.{filter-append}
 use Rattle.std.proofs.lemmas.List.Folds.{find-append}
@@ -10,8 +11,8 @@ use Rattle.std.specs.Ordering.{is_eq}
 use Rattle.cargo_toml_parts.specs.Dependencies.{is_optional, package_of}
 use Rattle.cargo_toml.specs.Action.{Text}
 use Rattle.cargo_toml.specs.Admitted.{Listed}
-use Rattle.cargo_toml.specs.Recorded.{Entry, target_cmp, is_mentioned, counting, entries_at, recorded_of}
-use Rattle.cargo_toml.specs.Recording.{recorded_with, met}
+use Rattle.cargo_toml.specs.Recorded.{Entry, Recorded, target_cmp, is_mentioned, counting, entries_at, recorded_of}
+use Rattle.cargo_toml.specs.Recording.{recorded_with, recorded_after}
 
 abbrev at_key : Text → Entry → Bool
 at_key k b = bytes_eq b.key k && is_optional b.dependency
@@ -22,14 +23,6 @@ shuffle false true x b e = refl
 shuffle false false true true e = refl
 shuffle false false true false e = refl
 shuffle false false false b e = refl
-
-or_false : (a : Bool) → (a || false) ≡ a
-or_false true = refl
-or_false false = refl
-
-or_true : (a : Bool) → (a || true) ≡ true
-or_true true = refl
-or_true false = refl
 
 -- one more entry records its target after the others
 with_next : (xs : List Entry) (e : Entry) → recorded_of (xs ++ e ∷ []) ≡ Some (recorded_with (recorded_of xs) e)
@@ -70,7 +63,7 @@ module _ (limit : ℕ) (listed : Listed) where
   split_cond false x es es' tail h = h
 
   counting_more : (earlier es : List Entry) (e : Entry) → counting limit listed earlier (es ++ e ∷ []) ≡ counting limit listed earlier es ++ cond (counts earlier es e) (e ∷ []) []
-  counting_more earlier [] e = ap (λ t. cond (is_mentioned limit listed e.key || (at_key e.key e || t)) (e ∷ []) []) (sym (or_false _))
+  counting_more earlier [] e = ap (λ t. cond (is_mentioned limit listed e.key || (at_key e.key e || t)) (e ∷ []) []) (sym (or-false _))
   counting_more earlier (x ∷ es) e =
       split_cond (is_mentioned limit listed x.key || list_any (λ b. bytes_eq b.key x.key && is_optional b.dependency) (x ∷ earlier)) x (counting limit listed (x ∷ earlier) es) (counting limit listed (x ∷ earlier) (es ++ e ∷ [])) (cond (counts earlier (x ∷ es) e) (e ∷ []) [])
       (counting_more (x ∷ earlier) es e ∙ ap (λ t. counting limit listed (x ∷ earlier) es ++ cond t (e ∷ []) []) (shuffle (is_mentioned limit listed e.key) (at_key e.key e) (at_key e.key x) (list_any (at_key e.key) earlier) (list_any (at_key e.key) es)))
@@ -90,7 +83,7 @@ module _ (limit : ℕ) (listed : Listed) where
       self = (bytes_eq-Decides x.key x.key).1 refl
 
       optional_counts : is_optional x.dependency ≡ true → counts_alone earlier x ≡ true
-      optional_counts p = ap₂ (λ a b. is_mentioned limit listed x.key || ((a && b) || list_any (at_key x.key) earlier)) self p ∙ or_true _
+      optional_counts p = ap₂ (λ a b. is_mentioned limit listed x.key || ((a && b) || list_any (at_key x.key) earlier)) self p ∙ or-true _
 
       plain_passes : bytes_eq x.key k ≡ true → is_optional x.dependency ≡ false → counts_alone earlier x ≡ false
       plain_passes s p =
@@ -113,7 +106,7 @@ module _ (limit : ℕ) (listed : Listed) where
           ∙ sym (ap (λ a. (a && is_optional x.dependency) || list_any (at_key k) es) s)
 
   -- what is recorded of k once e is read
-  pub recorded_more : (es : List Entry) (e : Entry) (k : Text) → recorded_of (entries_at limit listed (es ++ e ∷ []) k) ≡ met (is_mentioned limit listed) e k (recorded_of (entries_at limit listed es k))
+  recorded_more : (es : List Entry) (e : Entry) (k : Text) → recorded_of (entries_at limit listed (es ++ e ∷ []) k) ≡ recorded_after (is_mentioned limit listed) e k (recorded_of (entries_at limit listed es k))
   recorded_more es e k =
       ap (λ xs. recorded_of (filter (λ b. bytes_eq b.key k) xs)) (counting_more [] es e)
       ∙ ap recorded_of (filter-append (λ b. bytes_eq b.key k) (counting limit listed [] es) (cond (counts [] es e) (e ∷ []) []))
@@ -126,11 +119,11 @@ module _ (limit : ℕ) (listed : Listed) where
           ∙ either (is_mentioned limit listed k) refl (is_optional e.dependency))
         where
           either : (m : Bool) → is_mentioned limit listed k ≡ m → (o : Bool) → (is_mentioned limit listed k || (o || list_any (at_key k) es)) ≡ (is_some (recorded_of (entries_at limit listed es k)) || (o || is_mentioned limit listed k))
-          either true h o = ap (λ m. m || (o || list_any (at_key k) es)) h ∙ sym (ap (λ m. is_some (recorded_of (entries_at limit listed es k)) || (o || m)) h ∙ ap (λ t. is_some (recorded_of (entries_at limit listed es k)) || t) (or_true o) ∙ or_true _)
-          either false h true = or_true _ ∙ sym (or_true _)
-          either false h false = ap (λ m. m || list_any (at_key k) es) h ∙ sym (counted k h [] es refl) ∙ sym (ap (λ m. is_some (recorded_of (entries_at limit listed es k)) || m) h ∙ or_false _)
+          either true h o = ap (λ m. m || (o || list_any (at_key k) es)) h ∙ sym (ap (λ m. is_some (recorded_of (entries_at limit listed es k)) || (o || m)) h ∙ ap (λ t. is_some (recorded_of (entries_at limit listed es k)) || t) (or-true o) ∙ or-true _)
+          either false h true = or-true _ ∙ sym (or-true _)
+          either false h false = ap (λ m. m || list_any (at_key k) es) h ∙ sym (counted k h [] es refl) ∙ sym (ap (λ m. is_some (recorded_of (entries_at limit listed es k)) || m) h ∙ or-false _)
 
-      go : (b : Bool) → bytes_eq e.key k ≡ b → recorded_of (entries_at limit listed es k ++ filter (λ b. bytes_eq b.key k) (cond (counts [] es e) (e ∷ []) [])) ≡ met (is_mentioned limit listed) e k (recorded_of (entries_at limit listed es k))
+      go : (b : Bool) → bytes_eq e.key k ≡ b → recorded_of (entries_at limit listed es k ++ filter (λ b. bytes_eq b.key k) (cond (counts [] es e) (e ∷ []) [])) ≡ recorded_after (is_mentioned limit listed) e k (recorded_of (entries_at limit listed es k))
       go true s = ends (counts [] es e) ∙ ap (λ c. cond c (Some (recorded_with (recorded_of (entries_at limit listed es k)) e)) (recorded_of (entries_at limit listed es k)))
           (same s ∙ sym (ap (λ b. b && (is_some (recorded_of (entries_at limit listed es k)) || (is_optional e.dependency || is_mentioned limit listed k))) s))
         where
@@ -143,3 +136,10 @@ module _ (limit : ℕ) (listed : Listed) where
           skipped : (c : Bool) → entries_at limit listed es k ++ filter (λ b. bytes_eq b.key k) (cond c (e ∷ []) []) ≡ entries_at limit listed es k
           skipped true = ap (λ b. entries_at limit listed es k ++ cond b (e ∷ []) []) s ∙ append-nil (entries_at limit listed es k)
           skipped false = append-nil (entries_at limit listed es k)
+
+  -- the same of a map, where `mentioned` says which keys are
+  pub recorded_then : (mentioned : Text → Bool) → ((k : Text) → mentioned k ≡ is_mentioned limit listed k) → (es : List Entry) (e : Entry) (k : Text) (before after : Option Recorded)
+      → before ≡ recorded_of (entries_at limit listed es k) → after ≡ recorded_after mentioned e k before → after ≡ recorded_of (entries_at limit listed (es ++ e ∷ []) k)
+  recorded_then mentioned same es e k before after was is =
+      is ∙ ap (λ t. cond (bytes_eq e.key k && (is_some before || (is_optional e.dependency || t))) (Some (recorded_with before e)) before) (same k)
+      ∙ ap (recorded_after (is_mentioned limit listed) e k) was ∙ sym (recorded_more es e k)

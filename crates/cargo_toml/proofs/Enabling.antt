@@ -1,5 +1,6 @@
 -- Enablers gained one after another.
 use Rattle.std.proofs.Common.{◌≡◌, ◌&&◌, ◌||◌, Bool, true, false, cond, Option, Some, None, bytes_eq, Bor, refl, sym, ap, subst, ◌∙◌}
+use Rattle.std.proofs.Math.Bool.{or-false, or_assoc}
 use Rattle.std.proofs.lemmas.Slice.Eq.{bytes_eq-Decides}
 use Rattle.std.proofs.lemmas.Map.Text.{hash_map_updates_str}
 use Rattle.std.specs.HashMap as hash
@@ -10,17 +11,9 @@ use Rattle.cargo_toml.specs.Enabling.{Relates, Enabled, EnabledAll}
 use Rattle.cargo_toml.specs.Views.{has_text, value_at}
 use Rattle.cargo_toml.proofs.TextKeys.{bytes_eq_sym}
 
-or_false : (a : Bool) → (a || false) ≡ a
-or_false true = refl
-or_false false = refl
-
-or_assoc : (a b c : Bool) → ((a || b) || c) ≡ (a || (b || c))
-or_assoc true b c = refl
-or_assoc false b c = refl
-
 nothing : (by : Text → Bool) → ((e : Text) → by e ≡ false) → (o : Option Feature) → Relates (Enabled by) o o
 nothing by none None = tt
-nothing by none (Some a) = record { key = refl; names = refl; actions = refl; bins = refl; explicit = refl; enabled_by = λ e. sym (ap (λ t. has_text a.enabled_by e || t) (none e) ∙ or_false _) }
+nothing by none (Some a) = record { key = refl; names = refl; actions = refl; bins = refl; explicit = refl; enabled_by = λ e. sym (ap (λ t. has_text a.enabled_by e || t) (none e) ∙ or-false _) }
 
 both : (p q r : Text → Bool) → ((e : Text) → r e ≡ (p e || q e)) → (a b c : Option Feature) → Relates (Enabled p) a b → Relates (Enabled q) b c → Relates (Enabled r) a c
 both p q r same None None None h k = tt
@@ -45,7 +38,7 @@ module _ {S : Type 0} where
   enabled_more p q r a b c same h k = record { at = λ x. both (p x) (q x) (r x) (same x) (value_at a x) (value_at b x) (value_at c x) (h.at x) (k.at x) }
 
   pub enabled_alike : (p r : Text → Text → Bool) (a b : HashMap (Bor Text) Feature S) → ((x e : Text) → r x e ≡ p x e) → EnabledAll p a b → EnabledAll r a b
-  enabled_alike p r a b same h = enabled_more p (λ x e. false) r a b b (λ x e. same x e ∙ sym (or_false _)) h (enabled_none (λ x e. false) b (λ x e. refl))
+  enabled_alike p r a b same h = enabled_more p (λ x e. false) r a b b (λ x e. same x e ∙ sym (or-false _)) h (enabled_none (λ x e. false) b (λ x e. refl))
 
   -- one enabler at one key
   module _ (key by : Text) (m : HashMap (Bor Text) Feature S) where

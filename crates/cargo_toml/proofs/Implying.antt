@@ -1,5 +1,6 @@
 -- Features implied one after another.
 use Rattle.std.proofs.Common.{◌≡◌, ◌&&◌, ◌||◌, not, Bool, true, false, cond, List, [], ◌∷◌, ◌++◌, Option, Some, None, is_some, option_map, bytes_eq, Bor, refl, sym, ap, subst, ◌∙◌}
+use Rattle.std.proofs.Math.Bool.{and-or_distrib_right}
 use Rattle.std.proofs.lemmas.Bool.{false≢true, and_parts, not-true}
 use Rattle.std.proofs.lemmas.List.Folds.{list_any-append}
 use Rattle.std.proofs.lemmas.Slice.Eq.{bytes_eq-Decides}
@@ -47,13 +48,6 @@ twice true s q (Some v) b c h k = kept s q b c v h k
 twice false true q (Some v) b c h k = kept true q b c v h k
 twice false false q (Some v) b c h k = kept false q b c v h k
 
-or_and : (a b n : Bool) → ((a || b) && n) ≡ ((a && n) || (b && n))
-or_and true true true = refl
-or_and true true false = refl
-or_and true false true = refl
-or_and true false false = refl
-or_and false b n = refl
-
 module _ {S : Type 0} where
   pub implied_none : (p : Text → Bool) (m : HashMap (Bor Text) Feature S) → ((q : Text) → p q ≡ true → is_some (value_at m q) ≡ true) → ImpliesAll p m m
   implied_none p m h = record { at = λ q. stays (p q) q (value_at m q) (h q) }
@@ -65,7 +59,7 @@ module _ {S : Type 0} where
   pub implied_next : (acted : HashMap (Bor Text) Bool S) (es : List Entry) (e : Entry) (a b c : HashMap (Bor Text) Feature S)
       → ImpliesAll (is_offered acted es) a b → ImpliesAll (is_offered acted (e ∷ [])) b c → ImpliesAll (is_offered acted (es ++ e ∷ [])) a c
   implied_next acted es e a b c = implied_more (is_offered acted es) (is_offered acted (e ∷ [])) (is_offered acted (es ++ e ∷ [])) a b c
-      (λ q. ap (λ t. t && not (is_reserved_in acted q)) (list_any-append (is_optional_at q) es (e ∷ [])) ∙ or_and (list_any (is_optional_at q) es) (list_any (is_optional_at q) (e ∷ [])) (not (is_reserved_in acted q)))
+      (λ q. ap (λ t. t && not (is_reserved_in acted q)) (list_any-append (is_optional_at q) es (e ∷ [])) ∙ and-or_distrib_right (list_any (is_optional_at q) es) (list_any (is_optional_at q) (e ∷ [])) (not (is_reserved_in acted q)))
 
   -- the entry e implies a feature w
   pub implied_here : (e : Entry) (acted : HashMap (Bor Text) Bool S) (m n : HashMap (Bor Text) Feature S) (w : Feature) → hash.UpdatesBy (λ x y. bytes_eq x.now y.now) (λ q. bytes_eq e.key q.now) m n (Some w)

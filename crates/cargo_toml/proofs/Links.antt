@@ -1,5 +1,6 @@
 -- Links gathered one after another.
 use Rattle.std.proofs.Common.{◌≡◌, ℕ, ◌+◌, ◌<◌, take, length, get_or, ◌&&◌, ◌||◌, not, Bool, true, false, List, [], ◌∷◌, ◌++◌, map, Option, Some, None, is_some, option_map, bytes_eq, Bor, refl, sym, ap, ap₂, ◌∙◌}
+use Rattle.std.proofs.Math.Bool.{or-false, or_assoc, and-false, and-or_distrib_right}
 use Rattle.std.proofs.lemmas.List.Folds.{list_any-append, list_any_more}
 use Rattle.std.proofs.lemmas.Slice.Eq.{bytes_eq-Decides}
 use Rattle.std.proofs.lemmas.List.{map-append}
@@ -20,25 +21,11 @@ use Rattle.cargo_toml.specs.Action.{Text, Action}
 use Rattle.cargo_toml.specs.Enabling.{is_plain, leads, leads_at, is_linked, AddsLinks}
 use Rattle.cargo_toml.specs.Views.{action_of, action_at, value_at}
 
-or_false : (a : Bool) → (a || false) ≡ a
-or_false true = refl
-or_false false = refl
-
-or_assoc : (a b c : Bool) → ((a || b) || c) ≡ (a || (b || c))
-or_assoc true b c = refl
-or_assoc false b c = refl
-
-and_or : (a b c : Bool) → ((a && c) || (b && c)) ≡ ((a || b) && c)
-and_or true true true = refl
-and_or true true false = refl
-and_or true false c = or_false c
-and_or false b c = refl
-
 -- a link between two texts
 pub link_added : (ls : List Link) (l : Link) → bytes_eq l.target.now l.source.now ≡ false → AddsLinks (λ q. bytes_eq q l.target.now) l.source.now ls (ls ++ l ∷ [])
 link_added ls l apart q e =
     list_any-append (λ l. bytes_eq q l.target.now && bytes_eq e l.source.now) ls (l ∷ [])
-    ∙ ap (λ t. is_linked ls q e || t) (or_false _ ∙ go (bytes_eq q l.target.now) refl (bytes_eq e l.source.now) refl)
+    ∙ ap (λ t. is_linked ls q e || t) (or-false _ ∙ go (bytes_eq q l.target.now) refl (bytes_eq e l.source.now) refl)
   where
     go : (a : Bool) → bytes_eq q l.target.now ≡ a → (b : Bool) → bytes_eq e l.source.now ≡ b → (bytes_eq q l.target.now && bytes_eq e l.source.now) ≡ (bytes_eq q l.target.now && (bytes_eq e l.source.now && not (bytes_eq q e)))
     go true s true t =
@@ -48,20 +35,20 @@ link_added ls l apart q e =
     go false s b t = ap (λ a. a && bytes_eq e l.source.now) s ∙ sym (ap (λ a. a && (bytes_eq e l.source.now && not (bytes_eq q e))) s)
 
 pub none_added : (test : Text → Bool) (source : Text) (ls : List Link) → ((q : Text) → test q ≡ false) → AddsLinks test source ls ls
-none_added test source ls none q e = sym (ap (λ t. is_linked ls q e || (t && (bytes_eq e source && not (bytes_eq q e)))) (none q) ∙ or_false _)
+none_added test source ls none q e = sym (ap (λ t. is_linked ls q e || (t && (bytes_eq e source && not (bytes_eq q e)))) (none q) ∙ or-false _)
 
 -- first those of one test, then those of another
 pub more_added : (p r s : Text → Bool) (source : Text) (a b c : List Link) → ((q : Text) → s q ≡ (p q || r q)) → AddsLinks p source a b → AddsLinks r source b c → AddsLinks s source a c
 more_added p r s source a b c same h k q e =
     k q e ∙ ap (λ t. t || (r q && (bytes_eq e source && not (bytes_eq q e)))) (h q e) ∙ or_assoc (is_linked a q e) _ _
-    ∙ ap (λ t. is_linked a q e || t) (and_or (p q) (r q) (bytes_eq e source && not (bytes_eq q e)) ∙ ap (λ t. t && (bytes_eq e source && not (bytes_eq q e))) (sym (same q)))
+    ∙ ap (λ t. is_linked a q e || t) (sym (and-or_distrib_right (p q) (r q) (bytes_eq e source && not (bytes_eq q e))) ∙ ap (λ t. t && (bytes_eq e source && not (bytes_eq q e))) (sym (same q)))
 
 -- a key of the list is the text x
 abbrev pub is_text_in : List (Bor Text) → Text → Bool
 is_text_in ks x = list_any (is_at (λ k. slice_cmp nat_cmp x k.now)) ks
 
 pub text_in_more : (ks : List (Bor Text)) (k : Bor Text) (x : Text) → is_text_in (ks ++ k ∷ []) x ≡ (is_text_in ks x || bytes_eq x k.now)
-text_in_more ks k x = list_any-append _ ks (k ∷ []) ∙ ap (λ t. is_text_in ks x || t) (or_false _ ∙ is_eq-slice_cmp x k.now)
+text_in_more ks k x = list_any-append _ ks (k ∷ []) ∙ ap (λ t. is_text_in ks x || t) (or-false _ ∙ is_eq-slice_cmp x k.now)
 
 -- one more name of a set
 pub name_added : (source : Text) (yielded : List (Bor (Bor Text))) (k : Bor (Bor Text)) (a b c : List Link) → AddsLinks (is_text_in (map (λ k. k.now) yielded)) source a b
@@ -91,7 +78,7 @@ pub action_added : (source : Text) (m : BTreeMap (Bor Text) DepAction) (yielded 
 action_added source m yielded k v a b c there = more_added (plain_so_far m yielded) (λ q. bytes_eq q k.now.now && is_plain (Some (action_of v.now))) (plain_so_far m (yielded ++ (k, v) ∷ [])) source a b c
     (λ q. ap (λ ks. is_text_in ks q && is_plain (action_at m q)) (map-append (λ (e : Bor (Bor Text) × Bor DepAction). e.0.now) yielded ((k, v) ∷ []))
     ∙ ap (λ t. t && is_plain (action_at m q)) (text_in_more (map (λ e. e.0.now) yielded) k.now q)
-    ∙ sym (and_or (is_text_in (map (λ e. e.0.now) yielded) q) (bytes_eq q k.now.now) (is_plain (action_at m q)))
+    ∙ and-or_distrib_right (is_text_in (map (λ e. e.0.now) yielded) q) (bytes_eq q k.now.now) (is_plain (action_at m q))
     ∙ ap (λ t. plain_so_far m yielded q || t) (go q (bytes_eq q k.now.now) refl))
   where
     go : (q : Text) (t : Bool) → bytes_eq q k.now.now ≡ t → (bytes_eq q k.now.now && is_plain (action_at m q)) ≡ (bytes_eq q k.now.now && is_plain (Some (action_of v.now)))
@@ -133,18 +120,14 @@ module _ {S : Type 0} (m : HashMap (Bor Text) Feature S) where
       tests true false n = refl
       tests false l n = refl
 
-      none : (l : Bool) → (l && false) ≡ false
-      none true = refl
-      none false = refl
-
       go : (s : Bool) → bytes_eq e k.now.now ≡ s → (t : Bool) → ((t && (leads_at m e q && not (bytes_eq q e))) || (leads v.now q && (bytes_eq e k.now.now && not (bytes_eq q e)))) ≡ ((t || bytes_eq e k.now.now) && (leads_at m e q && not (bytes_eq q e)))
       go true s t =
           ap₂ (λ l i. (t && (leads_at m e q && not (bytes_eq q e))) || (l && (i && not (bytes_eq q e)))) (mine s) s
           ∙ tests t (leads_at m e q) (not (bytes_eq q e)) ∙ sym (ap (λ i. (t || i) && (leads_at m e q && not (bytes_eq q e))) s)
       go false s t =
           ap (λ i. (t && (leads_at m e q && not (bytes_eq q e))) || (leads v.now q && (i && not (bytes_eq q e)))) s
-          ∙ ap (λ i. (t && (leads_at m e q && not (bytes_eq q e))) || i) (none (leads v.now q)) ∙ or_false _
-          ∙ sym (ap (λ i. (t || i) && (leads_at m e q && not (bytes_eq q e))) s ∙ ap (λ i. i && (leads_at m e q && not (bytes_eq q e))) (or_false t))
+          ∙ ap (λ i. (t && (leads_at m e q && not (bytes_eq q e))) || i) (and-false (leads v.now q)) ∙ or-false _
+          ∙ sym (ap (λ i. (t || i) && (leads_at m e q && not (bytes_eq q e))) s ∙ ap (λ i. i && (leads_at m e q && not (bytes_eq q e))) (or-false t))
 
   -- once all features have had their turn
   pub all_linked : (yielded : List (Bor (Bor Text) × Bor Feature)) → map deref_pair yielded ≡ m.entries → (q e : Text) → linked_so_far yielded q e ≡ (leads_at m e q && not (bytes_eq q e))

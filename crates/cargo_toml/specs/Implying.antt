@@ -1,4 +1,4 @@
--- Features that optional dependencies imply.
+-- Features that optional dependencies imply: words of a step of resolving, on which no public contract rests.
 use Rattle.std.specs.Prelude.{◌≡◌, ◌&&◌, not, Bool, true, false, List, [], Option, Some, None, bytes_eq, cond, unwrap_or}
 use Rattle.std.specs.Option.{IsSomeAnd}
 use Rattle.std.specs.List.{list_any}

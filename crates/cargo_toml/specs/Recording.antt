@@ -1,4 +1,4 @@
--- Entries of dependency tables, recorded one after another.
+-- Entries of dependency tables, recorded one after another: words of a step of resolving, on which no public contract rests.
 use Rattle.std.specs.Prelude.{Bool, ◌&&◌, ◌||◌, cond, Option, Some, None, is_some, option_map, unwrap_or, bytes_eq}
 use Rattle.std.specs.Option.{option_or}
 use Rattle.std.specs.Ordering.{is_eq}
@@ -37,7 +37,7 @@ recorded_with (Some r) e = recorded_next r e
 abbrev pub is_mentioned_in : {S : Type 0} → HashMap (Bor Text) Feature S → HashMap (Bor Text) Bool S → Text → Bool
 is_mentioned_in features acted k = is_some (value_at features k) || is_some (value_at acted k)
 
--- what is recorded of q once e is met, where o was recorded of q before: e counts if its key is mentioned, or recorded
--- already, or e is optional
-abbrev pub met : (Text → Bool) → Entry → Text → Option Recorded → Option Recorded
-met mentioned e q o = cond (bytes_eq e.key q && (is_some o || (is_optional e.dependency || mentioned q))) (Some (recorded_with o e)) o
+-- what is recorded of q after e, where o was recorded of q before: e counts if its key is recorded already or mentioned, or e
+-- is optional
+abbrev pub recorded_after : (Text → Bool) → Entry → Text → Option Recorded → Option Recorded
+recorded_after mentioned e q o = cond (bytes_eq e.key q && (is_some o || (is_optional e.dependency || mentioned q))) (Some (recorded_with o e)) o

@@ -5,6 +5,8 @@ mod enable;
 mod imply;
 mod read;
 mod record;
+#[cfg(test)]
+mod tests;
 
 ghost use Rattle.std.specs.Prelude.{◌≡◌, ℕ, [], true, map, IfOk, IfErr};
 ghost use Rattle.cargo_toml_parts.specs.declared.error.Error.{Memory};
@@ -18,7 +20,7 @@ use crate::features::admit::{Listing, listings};
 use crate::features::enable::set_enabled_by;
 use crate::features::imply::imply_all;
 use crate::features::read::{Read, read_features};
-use crate::features::record::{normal_dependencies, record};
+use crate::features::record::{normal_dependencies, record_dependencies};
 use cargo_toml_manifest::Manifest;
 use cargo_toml_parts::{Dependency, Error};
 use std::alloc::{AllocError, Global};
@@ -126,7 +128,19 @@ impl Resolver<'static, fn(&str) -> bool, BuildHasherDefault<FoldHasher>> {
 }
 
 impl<'config, F, S: BuildHasher + Clone> Resolver<'config, F, S> {
-    /// Resolves the features of a manifest.
+    /// Resolves the features of a manifest, as Cargo understands `[features]` and optional `[dependencies]`.
+    ///
+    /// The answer has the features that the manifest lists, and `default`, each with what its list names and what it does
+    /// to dependencies. It has a feature for each optional dependency whose key no feature has and no `dep:` keeps for
+    /// itself. It has the dependencies that are optional, that a feature acts on, or whose key a feature has. And each
+    /// feature tells which others enable it: those that name it, and those that act on the dependency of its name neither
+    /// conditionally nor by `dep:`.
+    ///
+    /// All features and all texts of their lists count, however many there are. None is removed, whatever its name:
+    /// `removed_hidden_features` is false and `hidden_features` empty. Nothing is told of binaries yet: each
+    /// `required_by_bins` is empty. Every text is borrowed from the manifest.
+    ///
+    /// The one refusal is [`Error::Memory`], where there was no room for the answer.
     pub fn parse<'m, M>(
         &self,
         alloc: Global,
@@ -142,7 +156,7 @@ impl<'config, F, S: BuildHasher + Clone> Resolver<'config, F, S> {
         Ok(self.resolve(alloc, listings.as_slice(), entries.as_slice())?)
     }
 
-    // Resolves features as they are listed, in whatever table the entries stand.
+    // Resolves features as they are listed, with entries of whatever dependency tables.
     fn resolve<'m: 'd, 'd>(
         &self,
         alloc: Global,
@@ -152,13 +166,13 @@ impl<'config, F, S: BuildHasher + Clone> Resolver<'config, F, S> {
         requires { IsOnce (map (λ l. l.name.now) listings.now) }
         ensures { IfOk result (λ a. (limit : ℕ) → IsWithin limit (listed_of listings.now) →
             IsAnswer (joined_table limit (listed_of listings.now) (map entry_of entries.now)) limit
-                (listed_of listings.now) (map entry_of entries.now) (λ _. []) (λ _. true) (answer_of a)) }
+            (listed_of listings.now) (map entry_of entries.now) (λ _. []) (λ _. true) (answer_of a)) }
     {
         let Read {
             mut features,
             acted,
         } = read_features(alloc, &self.state, listings)?;
-        let dependencies = record(alloc, &self.state, &features, &acted, entries)?;
+        let dependencies = record_dependencies(alloc, &self.state, &features, &acted, entries)?;
         imply_all(alloc, &mut features, &acted, entries)?;
         set_enabled_by(alloc, &mut features)?;
         Ok(Features {

@@ -4,7 +4,7 @@ ghost use Rattle.cargo_toml_parts.specs.Dependencies.{dependency_meaning, is_opt
 ghost use Rattle.cargo_toml.specs.Action.{Text};
 ghost use Rattle.cargo_toml.specs.Admitted.{Listed};
 ghost use Rattle.cargo_toml.specs.Recorded.{is_mentioned, entries_at, recorded_of};
-ghost use Rattle.cargo_toml.specs.Recording.{recorded_at, recorded_first, recorded_next, is_mentioned_in, met};
+ghost use Rattle.cargo_toml.specs.Recording.{recorded_at, recorded_first, recorded_next, is_mentioned_in, recorded_after};
 ghost use Rattle.cargo_toml.specs.Views.{entry_of, normal_entries, recorded_in, target_of};
 
 use crate::features::{Feature, FeatureDependency, Kind, ParseDependency, TargetKey};
@@ -81,14 +81,14 @@ fn counts<'m, S: BuildHasher>(
     entry.dep.optional() || features.contains_key(entry.key) || acted.contains_key(entry.key)
 }
 
-fn meet<'m: 'd, 'd, S: BuildHasher>(
+fn record_entry<'m: 'd, 'd, S: BuildHasher>(
     alloc: Global,
     dependencies: &mut HashMap<&'d str, FeatureDependency<'d>, S>,
     features: &HashMap<&'m str, Feature<'m>, S>,
     acted: &HashMap<&'m str, bool, S>,
     entry: &ParseDependency<'m, 'd>,
 ) -> Result<(), AllocError>
-    ensures { OnOk result ((q : Text) → recorded_at dependencies.new q ≡ met (is_mentioned_in features.now acted.now) (entry_of entry.now) q (recorded_at dependencies.old q)) }
+    ensures { OnOk result ((q : Text) → recorded_at dependencies.new q ≡ recorded_after (is_mentioned_in features.now acted.now) (entry_of entry.now) q (recorded_at dependencies.old q)) }
 {
     if let Some(dependency) = dependencies.get_mut(entry.key) {
         return add_target(dependency, entry);
@@ -101,7 +101,7 @@ fn meet<'m: 'd, 'd, S: BuildHasher>(
 }
 
 // The dependencies of the entries that count.
-pub fn record<'m: 'd, 'd, S: BuildHasher + Clone>(
+pub fn record_dependencies<'m: 'd, 'd, S: BuildHasher + Clone>(
     alloc: Global,
     state: &S,
     features: &HashMap<&'m str, Feature<'m>, S>,
@@ -111,13 +111,9 @@ pub fn record<'m: 'd, 'd, S: BuildHasher + Clone>(
     ensures { IfOk result (λ m. (limit : ℕ) (listed : Listed) → ((k : Text) → is_mentioned_in features.now acted.now k ≡ is_mentioned limit listed k) →
         (k : Text) → recorded_at m k ≡ recorded_of (entries_at limit listed (map entry_of entries.now) k)) }
 {
-    let mut dependencies = HashMap::with_capacity_and_hasher(
-        alloc,
-        entries.len(),
-        state.clone()?,
-    )?;
+    let mut dependencies = HashMap::with_capacity_and_hasher(alloc, entries.len(), state.clone()?)?;
     for entry in entries {
-        meet(alloc, &mut dependencies, features, acted, entry)?;
+        record_entry(alloc, &mut dependencies, features, acted, entry)?;
     }
     Ok(dependencies)
 }

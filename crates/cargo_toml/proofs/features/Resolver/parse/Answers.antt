@@ -11,6 +11,6 @@ returns-clause-resolved g c =
     let listed : listed_of c.as_slice.result.now ≡ listed_in c.args.manifest.now.features = ap listed_of c.as_slice.ensures.value ∙ c.in_ok-listings.ensures.all in
     let entries : map entry_of c.as_slice-2.result.now ≡ normal_entries c.args.manifest.now.dependencies = ap (map entry_of) c.as_slice-2.ensures.value ∙ c.in_ok-entries.ensures in
     subst (λ (es : List Entry). (limit : ℕ) → IsWithin limit (listed_in c.args.manifest.now.features) →
-        IsAnswer (joined_table limit (listed_in c.args.manifest.now.features) es) limit (listed_in c.args.manifest.now.features) es (λ _. []) (λ _. true) (answer_of c.in_ok-resolve.field-0)) entries
+    IsAnswer (joined_table limit (listed_in c.args.manifest.now.features) es) limit (listed_in c.args.manifest.now.features) es (λ _. []) (λ _. true) (answer_of c.in_ok-resolve.field-0)) entries
     (subst (λ (fs : Listed). (limit : ℕ) → IsWithin limit fs → IsAnswer (joined_table limit fs (map entry_of c.as_slice-2.result.now)) limit fs (map entry_of c.as_slice-2.result.now) (λ _. []) (λ _. true) (answer_of c.in_ok-resolve.field-0)) listed
     c.in_ok-resolve.ensures)

@@ -11,6 +11,6 @@ loop-entry-preserved g c =
     let es : List ParseDependency = take c.loop-entry.entry-index c.args.entries.now in
     let p : ParseDependency = c.entry-item.result in
     let more : map entry_of (take (c.loop-entry.entry-index + 1) c.args.entries.now) ≡ map entry_of (take c.loop-entry.entry-index c.args.entries.now) ++ entry_of c.entry-item.result ∷ [] =
-        ap (map entry_of) (take_more c.args.entries.now c.loop-entry.entry-index p c.loop-entry-test.true ∙ ap (λ x. es ++ x ∷ []) (sym c.entry-item.is)) ∙ map-append entry_of es (p ∷ []) in
+    ap (map entry_of) (take_more c.args.entries.now c.loop-entry.entry-index p c.loop-entry-test.true ∙ ap (λ x. es ++ x ∷ []) (sym c.entry-item.is)) ∙ map-append entry_of es (p ∷ []) in
     subst (λ xs. ImpliesAll (is_offered c.args.acted.now xs) c.args.features.now c.imply.new.features) (sym more)
     (implied_next c.args.acted.now (map entry_of es) (entry_of p) c.args.features.now c.loop-entry.features c.imply.new.features c.loop-entry.invariant c.in_ok-imply.ensures)

@@ -4,7 +4,7 @@ use Rattle.cargo_toml.specs.Admitted.{Listed}
 use Rattle.cargo_toml.specs.Recorded.{is_mentioned, entries_at, recorded_of}
 use Rattle.cargo_toml.specs.Recording.{recorded_at, is_mentioned_in}
 use Rattle.cargo_toml.specs.Views.{entry_of}
-use Rattle.cargo_toml.proofs.features.record.record.Given as goal
+use Rattle.cargo_toml.proofs.features.record.record_dependencies.Given as goal
 
 abbrev pub invariant-loop-entry : goal.invariant-loop-entry
 invariant-loop-entry g l = (limit : ℕ) (listed : Listed) → ((k : Text) → is_mentioned_in l.features l.acted k ≡ is_mentioned limit listed k) →

@@ -5,6 +5,8 @@ pub mod Removal
 pub mod Redirects
 pub mod Bins
 pub mod Recursive
+pub mod Reached
+pub mod Visits
 pub mod Admitted
 pub mod Recorded
 pub mod Resolved

@@ -1,6 +1,7 @@
 //! What the features of a manifest enable, and which features enable them.
 mod admit;
 mod read;
+mod recursive;
 
 ghost use Rattle.std.specs.Prelude.{◌≡◌, ℕ, [], true, IfOk, IfErr};
 ghost use Rattle.cargo_toml_parts.specs.declared.error.Error.{Memory};

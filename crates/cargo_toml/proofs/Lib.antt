@@ -1,2 +1,4 @@
 pub mod Pairs
 pub mod Left
+pub mod Work
+pub mod Walks

@@ -87,9 +87,7 @@ impl<'a> Feature<'a> {
         let mut found = HashMap::with_hasher(alloc, features.hasher().clone()?);
         let mut lists = HashMap::with_hasher(alloc, features.hasher().clone()?);
         let mut left = Vec::new(alloc);
-        if let Some(start) = features.get(self.key) {
-            left.push(start)?;
-        }
+        left.push(&features[self.key])?;
         while let Some(feature) = left.pop() {
             if !found.contains_key(feature.key) {
                 found.insert(feature.key, feature)?;

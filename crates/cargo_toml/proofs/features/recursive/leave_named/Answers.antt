@@ -1,4 +1,4 @@
-use Rattle.std.proofs.Common.{rules, ◌≡◌, Some, None, sym, ap, ◌∙◌}
+use Rattle.std.proofs.Common.{rules, ◌≡◌, Some, sym, ap, ◌∙◌}
 use Rattle.std.specs.Option.{option_copied}
 use Rattle.cargo_toml.specs.Views.{value_at}
 use Rattle.cargo_toml.proofs.Left.{key_of, leaves_begun, leaves_none, leaves_one, leaves_all}

@@ -1,9 +1,6 @@
-use Rattle.std.proofs.Common.{rules, ◌≡◌, ◌++◌, List, Bor, map, ap, ◌∙◌}
+use Rattle.std.proofs.Common.{rules, ◌≡◌, map}
 use Rattle.std.proofs.lemmas.Map.Iter.{iter_end}
 use Rattle.std.specs.Map.Iter.{deref_pair}
-use Rattle.cargo_toml.specs.declared.features.DepAction.{DepAction}
-use Rattle.cargo_toml.specs.Action.{Text, Action}
-use Rattle.cargo_toml.specs.Reached.{pairs_at}
 use Rattle.cargo_toml.proofs.Pairs.{listed_one, listed_none, pairs_more, still_no_empty, all_listed}
 use Rattle.cargo_toml.proofs.features.recursive.list_actions.Goals as goal
 

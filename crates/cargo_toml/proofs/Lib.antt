@@ -1,4 +1,5 @@
 pub mod Pairs
-pub mod Left
+pub mod Pending
 pub mod Work
 pub mod Walks
+pub mod NextName

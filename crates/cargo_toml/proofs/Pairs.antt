@@ -21,7 +21,7 @@ use Rattle.std.specs.Option.{option_map_or}
 use Rattle.cargo_toml.specs.declared.features.DepAction.{DepAction}
 use Rattle.cargo_toml.specs.Action.{Text, Action}
 use Rattle.cargo_toml.specs.Reached.{Lists, pairs_at, HaveNoEmpty}
-use Rattle.cargo_toml.specs.Visits.{ListsPair, items_at, unconditional}
+use Rattle.cargo_toml.specs.Visits.{AddsPair, items_at, unconditional}
 use Rattle.cargo_toml.specs.Views.{value_at, action_of, action_at}
 
 module _ {X S : Type 0} (k : Text) (m n : HashMap (Bor Text) X S) (w : Option X) (h : hash.UpdatesBy (λ x y. bytes_eq x.now y.now) (λ q. bytes_eq k q.now) m n w) where
@@ -37,7 +37,7 @@ bytes_eq_sym a b = nat_list_eq_equiv.symm a b
 -- the list `held` that stood at k, or an empty one, became `longer`
 pub pair_listed : {S : Type 0} (k : Text) (pair : Bor Text × Bor DepAction) (old new : Lists S) (empty held longer : Vec (Bor Text × Bor DepAction) Global)
     → hash.UpdatesBy (λ x y. bytes_eq x.now y.now) (λ q. bytes_eq k q.now) old new (Some longer)
-    → empty.items ≡ [] → held ≡ unwrap_or (value_at old k) empty → longer.items ≡ held.items ++ pair ∷ [] → ListsPair k pair old new
+    → empty.items ≡ [] → held ≡ unwrap_or (value_at old k) empty → longer.items ≡ held.items ++ pair ∷ [] → AddsPair k pair old new
 pair_listed k pair old new empty held longer u none here more = record {
   here = ap (λ o. option_map_or (λ v. v.items) o []) (at_key k old new (Some longer) u) ∙ more ∙ ap (λ l. l ++ pair ∷ []) (ap (λ v. v.items) here ∙ was (value_at old k));
   others = elsewhere k old new (Some longer) u;
@@ -48,7 +48,7 @@ pair_listed k pair old new empty held longer u none here more = record {
     was (Some v) = refl
 
 -- the pairs under any key, once one more pair stands under k
-pub pairs_more : {S : Type 0} (k : Text) (pair : Bor Text × Bor DepAction) (old new : Lists S) → ListsPair k pair old new
+pub pairs_more : {S : Type 0} (k : Text) (pair : Bor Text × Bor DepAction) (old new : Lists S) → AddsPair k pair old new
     → (q : Text) → pairs_at new q ≡ pairs_at old q ++ cond (bytes_eq k q) ((pair.0.now, action_of pair.1.now) ∷ []) []
 pairs_more k pair old new h q = go (bytes_eq k q) refl
   where
@@ -60,7 +60,7 @@ pairs_more k pair old new h q = go (bytes_eq k q) refl
     go false e = ap (λ o. map (λ p. (p.0.now, action_of p.1.now)) (option_map_or (λ v. v.items) o [])) (h.others q e) ∙ sym (append-nil _)
 
 -- no list becomes empty
-pub still_no_empty : {S : Type 0} (k : Text) (pair : Bor Text × Bor DepAction) (old new : Lists S) → ListsPair k pair old new → HaveNoEmpty old → HaveNoEmpty new
+pub still_no_empty : {S : Type 0} (k : Text) (pair : Bor Text × Bor DepAction) (old new : Lists S) → AddsPair k pair old new → HaveNoEmpty old → HaveNoEmpty new
 still_no_empty k pair old new h none q = go (bytes_eq k q) refl
   where
     not_empty : (o : Option (Vec (Bor Text × Bor DepAction) Global)) (l : List (Bor Text × Bor DepAction)) → option_map_or (λ v. v.items) o [] ≡ l ++ pair ∷ [] → IfSome o (λ v. v.items ≢ [])

@@ -13,11 +13,11 @@ use Rattle.cargo_toml.specs.Reach.{Among, IsOnce}
 use Rattle.cargo_toml.specs.Graph.{Table}
 use Rattle.cargo_toml.specs.Recursive.{Enables, ArePairs}
 use Rattle.cargo_toml.specs.Recursive.Enables.{itself, further}
-use Rattle.cargo_toml.specs.Reached.{Found, Lists, AreEnabled, HoldSame, HaveNoEmpty, pairs_at}
+use Rattle.cargo_toml.specs.Reached.{Found, Lists, AreEnabled, ComeFrom, HaveNoEmpty, pairs_at}
 use Rattle.cargo_toml.specs.Views.{value_at, has_text, action_of, action_at, table_in}
-use Rattle.cargo_toml.specs.Visits.{unconditional, is_left, AreHeld, LeavesNamed, ListsActions}
+use Rattle.cargo_toml.specs.Visits.{unconditional, is_pending, AreHeld, PushesNamed, AddsActions}
 use Rattle.cargo_toml.proofs.Pairs.{at_key, elsewhere}
-use Rattle.cargo_toml.proofs.Left.{is_left-push}
+use Rattle.cargo_toml.proofs.Pending.{is_pending-push}
 use Rattle.cargo_toml.proofs.Work.{work, work_drops}
 
 -- a feature of this name is found
@@ -30,14 +30,14 @@ pub record ArePairsOf (t : Table) (found : Text → Type 0) (k : Text) (pairs : 
   pub complete : (g : Text) (a : Action) → found g → t.action g k ≡ Some a → IsFalse a.is_conditional → Among pairs (g, a)
   pub once : IsOnce (map (λ p. p.0) pairs)
 
--- what is found or left is enabled, and what a found feature names is found or left
+-- what is found or pending is enabled, and what a found feature names is found or pending
 pub record Walks {S : Type 0} (m : HashMap (Bor Text) Feature S) (s : Text) (F : Found S) (E : Lists S) (L : List (Bor Feature)) : Type 0 where
-  pub begun : IsTrue (is_found F s) ⊎ IsTrue (is_left L s)
+  pub begun : IsTrue (is_found F s) ⊎ IsTrue (is_pending L s)
   pub found : (x : Text) → IsTrue (is_found F x) → Enables (table_in m) s x
-  pub left : (x : Text) → IsTrue (is_left L x) → Enables (table_in m) s x
+  pub pending : (x : Text) → IsTrue (is_pending L x) → Enables (table_in m) s x
   pub held : AreHeld m L
-  pub same : HoldSame m F
-  pub closed : (x y : Text) → IsTrue (is_found F x) → IsTrue ((table_in m).names x y) → IsTrue ((table_in m).has y) → IsTrue (is_found F y) ⊎ IsTrue (is_left L y)
+  pub same : ComeFrom m F
+  pub closed : (x y : Text) → IsTrue (is_found F x) → IsTrue ((table_in m).names x y) → IsTrue ((table_in m).has y) → IsTrue (is_found F y) ⊎ IsTrue (is_pending L y)
   pub pairs : (k : Text) → ArePairsOf (table_in m) (λ g. IsTrue (is_found F g)) k (pairs_at E k)
   pub no_empty : HaveNoEmpty E
 
@@ -123,34 +123,34 @@ module _ {S : Type 0} (m : HashMap (Bor Text) Feature S) (s : Text) where
   held_parts [] v a = (tt, a.0)
   held_parts (x ∷ L) v a = let r = held_parts L v a.1 in ((a.0, r.0), r.1)
 
-  split_left : (L : List (Bor Feature)) (v : Bor Feature) (x : Text) → IsTrue (is_left (L ++ v ∷ []) x) → IsTrue (is_left L x) ⊎ (x ≡ v.now.key.now)
-  split_left L v x e = elim (or_cases (is_left L x) (bytes_eq x v.now.key.now) (sym (is_left-push L v x) ∙ e)) [ inl a ↦ inl a | inr b ↦ inr ((bytes_eq-Decides x v.now.key.now).0 b) ]
+  split_pending : (L : List (Bor Feature)) (v : Bor Feature) (x : Text) → IsTrue (is_pending (L ++ v ∷ []) x) → IsTrue (is_pending L x) ⊎ (x ≡ v.now.key.now)
+  split_pending L v x e = elim (or_cases (is_pending L x) (bytes_eq x v.now.key.now) (sym (is_pending-push L v x) ∙ e)) [ inl a ↦ inl a | inr b ↦ inr ((bytes_eq-Decides x v.now.key.now).0 b) ]
 
-  was_left : (L : List (Bor Feature)) (v : Bor Feature) (x : Text) → IsTrue (is_left L x) → IsTrue (is_left (L ++ v ∷ []) x)
-  was_left L v x e = is_left-push L v x ∙ or_left _ _ e
+  was_pending : (L : List (Bor Feature)) (v : Bor Feature) (x : Text) → IsTrue (is_pending L x) → IsTrue (is_pending (L ++ v ∷ []) x)
+  was_pending L v x e = is_pending-push L v x ∙ or_left _ _ e
 
-  last_left : (L : List (Bor Feature)) (v : Bor Feature) → IsTrue (is_left (L ++ v ∷ []) v.now.key.now)
-  last_left L v = is_left-push L v v.now.key.now ∙ or_right _ _ ((bytes_eq-Decides v.now.key.now v.now.key.now).1 refl)
+  last_pending : (L : List (Bor Feature)) (v : Bor Feature) → IsTrue (is_pending (L ++ v ∷ []) v.now.key.now)
+  last_pending L v = is_pending-push L v v.now.key.now ∙ or_right _ _ ((bytes_eq-Decides v.now.key.now v.now.key.now).1 refl)
 
   -- a feature that was found before
   pub walks_on : (F : Found S) (E : Lists S) (L : List (Bor Feature)) (v : Bor Feature) → Walks m s F E (L ++ v ∷ []) → IsTrue (is_found F v.now.key.now) → Walks m s F E L
   walks_on F E L v w old = record {
-    begun = elim w.begun [ inl f ↦ inl f | inr l ↦ left_or_found s l ];
+    begun = elim w.begun [ inl f ↦ inl f | inr l ↦ pending_or_found s l ];
     found = w.found;
-    left = λ x e. w.left x (was_left L v x e);
+    pending = λ x e. w.pending x (was_pending L v x e);
     held = (held_parts L v w.held).0;
     same = w.same;
-    closed = λ x y f n h. elim (w.closed x y f n h) [ inl g ↦ inl g | inr l ↦ left_or_found y l ];
+    closed = λ x y f n h. elim (w.closed x y f n h) [ inl g ↦ inl g | inr l ↦ pending_or_found y l ];
     pairs = w.pairs;
     no_empty = w.no_empty;
   }
     where
-      left_or_found : (x : Text) → IsTrue (is_left (L ++ v ∷ []) x) → IsTrue (is_found F x) ⊎ IsTrue (is_left L x)
-      left_or_found x l = elim (split_left L v x l) [ inl a ↦ inr a | inr e ↦ inl (ap (is_found F) e ∙ old) ]
+      pending_or_found : (x : Text) → IsTrue (is_pending (L ++ v ∷ []) x) → IsTrue (is_found F x) ⊎ IsTrue (is_pending L x)
+      pending_or_found x l = elim (split_pending L v x l) [ inl a ↦ inr a | inr e ↦ inl (ap (is_found F) e ∙ old) ]
 
   -- a feature that is visited now
   module _ (F F' : Found S) (E E' : Lists S) (L L' : List (Bor Feature)) (v : Bor Feature) (w : Walks m s F E (L ++ v ∷ [])) (new : is_found F v.now.key.now ≡ false)
-      (u : hash.UpdatesBy (λ x y. bytes_eq x.now y.now) (λ q. bytes_eq v.now.key.now q.now) F F' (Some v)) (listed : ListsActions v.now E E') (kept : HaveNoEmpty E → HaveNoEmpty E') (leaves : LeavesNamed m v.now L L') where
+      (u : hash.UpdatesBy (λ x y. bytes_eq x.now y.now) (λ q. bytes_eq v.now.key.now q.now) F F' (Some v)) (listed : AddsActions v.now E E') (kept : HaveNoEmpty E → HaveNoEmpty E') (pushed : PushesNamed m v.now L L') where
     here : value_at m v.now.key.now ≡ Some v.now
     here = (held_parts L v w.held).1
 
@@ -176,10 +176,10 @@ module _ {S : Type 0} (m : HashMap (Bor Text) Feature S) (s : Text) where
     ]
 
     enabled : Enables (table_in m) s v.now.key.now
-    enabled = w.left v.now.key.now (last_left L v)
+    enabled = w.pending v.now.key.now (last_pending L v)
 
-    found_or_left : (x : Text) → IsTrue (is_left (L ++ v ∷ []) x) → IsTrue (is_found F' x) ⊎ IsTrue (is_left L' x)
-    found_or_left x l = elim (split_left L v x l) [ inl a ↦ inr (leaves.left x ∙ or_left _ _ a) | inr e ↦ inl (ap (is_found F') e ∙ at_new) ]
+    found_or_pending : (x : Text) → IsTrue (is_pending (L ++ v ∷ []) x) → IsTrue (is_found F' x) ⊎ IsTrue (is_pending L' x)
+    found_or_pending x l = elim (split_pending L v x l) [ inl a ↦ inr (pushed.pending x ∙ or_left _ _ a) | inr e ↦ inl (ap (is_found F') e ∙ at_new) ]
 
     by_name : (x : Text) (a b : Bool) → (a && b) ≡ true → (a ≡ true) × (b ≡ true)
     by_name x true b e = (refl, e)
@@ -190,40 +190,40 @@ module _ {S : Type 0} (m : HashMap (Bor Text) Feature S) (s : Text) where
 
     pub visited : Walks m s F' E' L'
     visited = record {
-      begun = elim w.begun [ inl f ↦ inl (grows s f) | inr l ↦ found_or_left s l ];
+      begun = elim w.begun [ inl f ↦ inl (grows s f) | inr l ↦ found_or_pending s l ];
       found = λ x e. elim (only x e) [ inl i ↦ subst (Enables (table_in m) s) (sym i) enabled | inr f ↦ w.found x f ];
-      left = λ x e. elim (or_cases (is_left L x) (has_text v.now.enables_features x && is_some (value_at m x)) (sym (leaves.left x) ∙ e)) [
-        | inl a ↦ w.left x (was_left L v x a)
+      pending = λ x e. elim (or_cases (is_pending L x) (has_text v.now.enables_features x && is_some (value_at m x)) (sym (pushed.pending x) ∙ e)) [
+        | inl a ↦ w.pending x (was_pending L v x a)
         | inr b ↦ let p = by_name x _ _ b in further enabled (named x ∙ p.0) p.1
       ];
-      held = leaves.held (held_parts L v w.held).0;
+      held = pushed.held (held_parts L v w.held).0;
       same = λ x. elim (cases_Bool (bytes_eq v.now.key.now x)) [
         | inl i ↦ subst (λ y. IfSome (value_at F' y) (λ z. value_at m y ≡ Some z.now)) ((bytes_eq-Decides v.now.key.now x).0 i) (subst (λ o. IfSome o (λ z. value_at m v.now.key.now ≡ Some z.now)) (sym (at_key v.now.key.now F F' (Some v) u)) here)
         | inr i ↦ subst (λ o. IfSome o (λ z. value_at m x ≡ Some z.now)) (sym (elsewhere v.now.key.now F F' (Some v) u x i)) (w.same x)
       ];
       closed = λ x y f n h. elim (only x f) [
-        | inl i ↦ inr (leaves.left y ∙ or_right _ _ (both _ _ (sym (named y) ∙ subst (λ z. IsTrue ((table_in m).names z y)) i n) h))
-        | inr f ↦ elim (w.closed x y f n h) [ inl g ↦ inl (grows y g) | inr l ↦ found_or_left y l ]
+        | inl i ↦ inr (pushed.pending y ∙ or_right _ _ (both _ _ (sym (named y) ∙ subst (λ z. IsTrue ((table_in m).names z y)) i n) h))
+        | inr f ↦ elim (w.closed x y f n h) [ inl g ↦ inl (grows y g) | inr l ↦ found_or_pending y l ]
       ];
       pairs = λ k. subst (ArePairsOf (table_in m) (λ g. IsTrue (is_found F' g)) k) (sym (listed k))
           (pairs_joined (table_in m) (λ g. IsTrue (is_found F g)) (λ g. IsTrue (is_found F' g)) v.now.key.now k (pairs_at E k) (w.pairs k) (λ i. false≢true (sym new ∙ i)) grows at_new only (action_at v.now.enables_deps k) (acts k));
       no_empty = kept w.no_empty;
     }
 
-    -- of the features that are found and the names that are looked up, fewer are left
+    -- less is left to do
     pub visited_less : work (is_found F') m.entries + length L' < work (is_found F) m.entries + length (L ++ v ∷ [])
     visited_less =
         let drops = work_drops (is_found F) (is_found F') grows v.now.key.now v.now new at_new m.entries here in
-        let more = leaves.count in
+        let more = pushed.count in
         let last = length-append L (v ∷ []) in
         omega (arith, drops, more, last)
 
-  -- the start is left, and nothing else is known
+  -- the start is pending, and nothing is found
   pub begins : (F : Found S) (E : Lists S) (L : List (Bor Feature)) (v : Bor Feature) → F.entries ≡ [] → E.entries ≡ [] → L ≡ v ∷ [] → value_at m s ≡ Some v.now → v.now.key.now ≡ s → Walks m s F E L
   begins F E L v no_found no_lists one here own = record {
-    begun = inr (ap (λ l. is_left l s) one ∙ or_left _ _ ((bytes_eq-Decides s v.now.key.now).1 (sym own)));
+    begun = inr (ap (λ l. is_pending l s) one ∙ or_left _ _ ((bytes_eq-Decides s v.now.key.now).1 (sym own)));
     found = λ x e. absurd (false≢true (sym (not_found x) ∙ e));
-    left = λ x e. elim (or_cases (bytes_eq x v.now.key.now) false (sym (ap (λ l. is_left l x) one) ∙ e)) [ inl i ↦ subst (Enables (table_in m) s) (sym ((bytes_eq-Decides x v.now.key.now).0 i ∙ own)) itself | inr i ↦ absurd (false≢true i) ];
+    pending = λ x e. elim (or_cases (bytes_eq x v.now.key.now) false (sym (ap (λ l. is_pending l x) one) ∙ e)) [ inl i ↦ subst (Enables (table_in m) s) (sym ((bytes_eq-Decides x v.now.key.now).0 i ∙ own)) itself | inr i ↦ absurd (false≢true i) ];
     held = subst (AreHeld m) (sym one) (ap (value_at m) own ∙ here, tt);
     same = λ x. subst (λ o. IfSome o (λ z. value_at m x ≡ Some z.now)) (sym (nothing_at F no_found x)) tt;
     closed = λ x y e n t. absurd (false≢true (sym (not_found x) ∙ e));
@@ -240,7 +240,7 @@ module _ {S : Type 0} (m : HashMap (Bor Text) Feature S) (s : Text) where
       no_pairs : (k : Text) → pairs_at E k ≡ []
       no_pairs k = ap (λ o. map (λ p. (p.0.now, action_of p.1.now)) (option_map_or (λ v. v.items) o [])) (nothing_at E no_lists k)
 
-  -- nothing is left
+  -- nothing is pending
   module _ (F : Found S) (E : Lists S) (w : Walks m s F E []) where
     all_found : {y : Text} → Enables (table_in m) s y → IsTrue (is_found F y)
     all_found itself = elim w.begun [ inl f ↦ f | inr l ↦ absurd (false≢true l) ]

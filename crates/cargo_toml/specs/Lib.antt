@@ -7,6 +7,7 @@ pub mod Bins
 pub mod Recursive
 pub mod Reached
 pub mod Visits
+pub mod NonDefault
 pub mod Admitted
 pub mod Recorded
 pub mod Resolved

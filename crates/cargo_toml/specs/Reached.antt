@@ -23,8 +23,8 @@ abbrev pub AreEnabled : {S : Type 0} → HashMap (Bor Text) Feature S → Text �
 AreEnabled m f found = (x : Text) → IsTrue (is_some (value_at found x)) ↔ Enables (table_in m) f x
 
 -- each that is found is the one of m
-abbrev pub HoldSame : {S : Type 0} → HashMap (Bor Text) Feature S → Found S → Type 0
-HoldSame m found = (x : Text) → IfSome (value_at found x) (λ v. value_at m x ≡ Some v.now)
+abbrev pub ComeFrom : {S : Type 0} → HashMap (Bor Text) Feature S → Found S → Type 0
+ComeFrom m found = (x : Text) → IfSome (value_at found x) (λ v. value_at m x ≡ Some v.now)
 
 -- for each key of a dependency the names of features, each with its action
 abbrev pub Lists : Type 0 → Type 0

@@ -1,5 +1,6 @@
 //! What the features of a manifest enable, and which features enable them.
 mod admit;
+mod questions;
 mod read;
 mod recursive;
 
@@ -8,6 +9,9 @@ ghost use Rattle.cargo_toml_parts.specs.declared.error.Error.{Memory};
 ghost use Rattle.cargo_toml.specs.Admitted.{IsWithin};
 ghost use Rattle.cargo_toml.specs.Resolved.{joined_table, IsAnswer};
 ghost use Rattle.cargo_toml.specs.Views.{listed_in, normal_entries, answer_of};
+
+pub use questions::NonDefaultEnabledBy;
+pub use recursive::DependenciesEnabledByFeatures;
 
 use cargo_toml_manifest::Manifest;
 use cargo_toml_parts::{Dependency, Error};

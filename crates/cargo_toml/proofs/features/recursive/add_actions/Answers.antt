@@ -2,12 +2,12 @@ use Rattle.std.proofs.Common.{rules, ◌≡◌, map}
 use Rattle.std.proofs.lemmas.Map.Iter.{iter_end}
 use Rattle.std.specs.Map.Iter.{deref_pair}
 use Rattle.cargo_toml.proofs.Pairs.{listed_one, listed_none, pairs_more, still_no_empty, all_listed}
-use Rattle.cargo_toml.proofs.features.recursive.list_actions.Goals as goal
+use Rattle.cargo_toml.proofs.features.recursive.add_actions.Goals as goal
 
 pub loop-key-preserved-in-Continue-1 : goal.loop-key-preserved-in-Continue-1
 loop-key-preserved-in-Continue-1 g c = record {
-  pairs = λ k. listed_one c.args.feature.now.key.now k c.loop-key.yielded (c.in-Some.key, c.in-Some.action) _ _ _ (search rules) (pairs_more _ _ _ _ c.in_ok-list_pair.ensures k) (c.loop-key.invariant.pairs k);
-  no_empty = λ none. still_no_empty _ _ _ _ c.in_ok-list_pair.ensures (c.loop-key.invariant.no_empty none);
+  pairs = λ k. listed_one c.args.feature.now.key.now k c.loop-key.yielded (c.in-Some.key, c.in-Some.action) _ _ _ (search rules) (pairs_more _ _ _ _ c.in_ok-add_pair.ensures k) (c.loop-key.invariant.pairs k);
+  no_empty = λ none. still_no_empty _ _ _ _ c.in_ok-add_pair.ensures (c.loop-key.invariant.no_empty none);
 }
 
 pub loop-key-preserved : goal.loop-key-preserved

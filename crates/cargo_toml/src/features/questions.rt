@@ -64,3 +64,60 @@ impl<'a> Feature<'a> {
         }
     }
 }
+
+#[cfg(test)]
+mod tests {
+    use super::*;
+    use std::alloc::{AllocError, Global};
+    use std::collections::{BTreeMap, BTreeSet};
+    use std::test::Fail;
+
+    // An implied feature with these enablers.
+    fn feature<'a>(
+        alloc: Global,
+        key: &'a str,
+        enablers: &[&'a str],
+    ) -> Result<Feature<'a>, AllocError> {
+        let mut enabled_by = BTreeSet::new(alloc);
+        for name in enablers {
+            enabled_by.insert(*name)?;
+        }
+        Ok(Feature {
+            key,
+            enables_deps: BTreeMap::new(alloc),
+            enables_features: BTreeSet::new(alloc),
+            enabled_by,
+            required_by_bins: Vec::new(alloc),
+            explicit: false,
+        })
+    }
+
+    #[test]
+    fn non_default_enablers(rt: HostRuntime) -> Result<(), Fail> {
+        let alloc = rt.alloc();
+        let feature = feature(alloc, "fast", &["simd", "default", "async"])?;
+        let names: Vec<&str> = feature.non_default_enabled_by().collect(alloc)?;
+        assert_eq!(rt; names.as_slice(), ["async", "simd"].as_slice());
+        let mut count = 0;
+        for name in feature.non_default_enabled_by() {
+            assert!(rt; name != "default");
+            count += 1;
+        }
+        assert_eq!(rt; count, 2);
+        Ok(())
+    }
+
+    #[test]
+    fn referenced_and_user_facing(rt: HostRuntime) -> Result<(), Fail> {
+        let alloc = rt.alloc();
+        let referenced = feature(alloc, "fast", &["default"])?;
+        assert!(rt; referenced.is_referenced());
+        assert!(rt; !referenced.is_user_facing());
+        let alone = feature(alloc, "fast", &[])?;
+        assert!(rt; !alone.is_referenced());
+        assert!(rt; alone.is_user_facing());
+        let hidden = feature(alloc, "_fast", &[])?;
+        assert!(rt; !hidden.is_user_facing());
+        Ok(())
+    }
+}

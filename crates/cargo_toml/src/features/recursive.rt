@@ -115,3 +115,6 @@ impl<'a> Feature<'a> {
         Ok((found, dependencies))
     }
 }
+
+#[cfg(test)]
+mod tests;

@@ -28,3 +28,8 @@ pub mod ReadAll
 pub mod ReadOne
 pub mod TextKeys
 pub mod Within
+pub mod Pairs
+pub mod Pending
+pub mod Work
+pub mod Walks
+pub mod NextName

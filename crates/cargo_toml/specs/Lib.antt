@@ -6,6 +6,9 @@ pub mod Removal
 pub mod Redirects
 pub mod Bins
 pub mod Recursive
+pub mod Reached
+pub mod Visits
+pub mod NonDefault
 pub mod Admitted
 pub mod Recorded
 pub mod Resolved

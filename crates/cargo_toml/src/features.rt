@@ -3,8 +3,10 @@ mod action;
 mod admit;
 mod enable;
 mod imply;
+mod questions;
 mod read;
 mod record;
+mod recursive;
 #[cfg(test)]
 mod tests;
 
@@ -15,6 +17,9 @@ ghost use Rattle.cargo_toml.specs.Resolved.{joined_table, IsAnswer};
 ghost use Rattle.cargo_toml.specs.Reach.{IsOnce};
 ghost use Rattle.cargo_toml.specs.Reading.{listed_of};
 ghost use Rattle.cargo_toml.specs.Views.{entry_of, listed_in, normal_entries, answer_of};
+
+pub use questions::NonDefaultEnabledBy;
+pub use recursive::DependenciesEnabledByFeatures;
 
 use crate::features::admit::{Listing, listings};
 use crate::features::enable::set_enabled_by;

@@ -1,8 +1,18 @@
 -- The enums that stand for one value of a tree.
-use Rattle.std.specs.Prelude.{ℕ, List, codes, if◌then◌else◌, Option, Some, None}
+use Rattle.std.specs.Prelude.{ℕ, List, codes, map, if◌then◌else◌, Bool, Option, Some, None, option_map, string_bytes}
 use Rattle.std.specs.Str.{bytes_eq}
+use Rattle.toml.specs.Data.{Data, string, boolean, array, as_str}
+use Rattle.cargo_toml_parts.specs.declared.error.Error.{Error}
 use Rattle.cargo_toml_parts.specs.declared.settings.Edition.{Edition}
 use Rattle.cargo_toml_parts.specs.declared.settings.Edition.TheVariants.{E2015, E2018, E2021, E2024}
+use Rattle.cargo_toml_parts.specs.declared.settings.Resolver.{Resolver}
+use Rattle.cargo_toml_parts.specs.declared.settings.Resolver.TheVariants.{V1, V2, V3}
+use Rattle.cargo_toml_parts.specs.declared.settings.OptionalFile.{OptionalFile}
+use Rattle.cargo_toml_parts.specs.declared.settings.OptionalFile.TheVariants as file
+use Rattle.cargo_toml_parts.specs.declared.settings.Publish.{Publish}
+use Rattle.cargo_toml_parts.specs.declared.settings.Publish.TheVariants as whether
+use Rattle.cargo_toml_parts.specs.Faults.{IsShape, wrong_shape}
+use Rattle.cargo_toml_parts.specs.Reads.{items_reads, items_refuse, plain}
 
 abbrev pub edition_of : List ℕ → Option Edition
 edition_of text =
@@ -11,3 +21,42 @@ edition_of text =
     else if bytes_eq text (codes "2021") then Some E2021
     else if bytes_eq text (codes "2024") then Some E2024
     else None
+
+abbrev pub resolver_of : List ℕ → Option Resolver
+resolver_of text =
+    if bytes_eq text (codes "1") then Some V1
+    else if bytes_eq text (codes "2") then Some V2
+    else if bytes_eq text (codes "3") then Some V3
+    else None
+
+-- a file that is on or off, or that has a path
+pub data File : Type 0 where
+  flag : Bool → File
+  path : List ℕ → File
+
+abbrev pub file_meaning : OptionalFile → File
+file_meaning (file.Flag b) = flag b
+file_meaning (file.Path p) = path (string_bytes p)
+
+abbrev pub file_of : Data → Option File
+file_of (boolean b) = Some (flag b)
+file_of (string s) = Some (path s)
+file_of _ = None
+
+-- everywhere or nowhere, or the registries
+pub data Registries : Type 0 where
+  everywhere : Bool → Registries
+  among : List (List ℕ) → Registries
+
+abbrev pub publish_meaning : Publish → Registries
+publish_meaning (whether.Flag b) = everywhere b
+publish_meaning (whether.Registry v) = among (map string_bytes v.items)
+
+abbrev pub publish_of : Data → Option Registries
+publish_of (boolean b) = Some (everywhere b)
+publish_of (array ds) = option_map among (items_reads as_str ds)
+publish_of _ = None
+
+abbrev pub publish_refuses : Data → Error → Type 0
+publish_refuses (array ds) e = items_refuse plain ds e
+publish_refuses _ e = IsShape wrong_shape e

@@ -14,5 +14,5 @@ pub mod versions;
 pub use dependency::{Dependency, DependencyDetail, InheritedDependencyDetail};
 pub use error::{Error, ParseFault};
 pub use inheritable::Inheritable;
-pub use settings::Edition;
+pub use settings::{Edition, OptionalFile, Publish, Resolver};
 pub use value::FromValue;

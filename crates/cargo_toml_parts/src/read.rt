@@ -210,7 +210,11 @@ impl<T: Read> ReadAs for T {
 }
 
 // The members of a table beside those whose keys are known.
-pub fn others_as<R: ReadAs>(alloc: Global, table: &Table, known: &[&str]) -> Result<BTreeMap<String, R::Out>, Error>
+pub fn others_as<R: ReadAs>(
+    alloc: Global,
+    table: &Table,
+    known: &[&str],
+) -> Result<BTreeMap<String, R::Out>, Error>
     ensures { IsReading (map_meaning R.as_meaning) (others_read (map (λ x. x.now) known.now) R.as_reads (table_view table.now)) (others_refuse (map (λ x. x.now) known.now) R.as_refuses (table_view table.now)) result }
 {
     let mut all = BTreeMap::new(alloc);
@@ -223,7 +227,11 @@ pub fn others_as<R: ReadAs>(alloc: Global, table: &Table, known: &[&str]) -> Res
     Ok(all)
 }
 
-pub fn others<T: Read>(alloc: Global, table: &Table, known: &[&str]) -> Result<BTreeMap<String, T>, Error>
+pub fn others<T: Read>(
+    alloc: Global,
+    table: &Table,
+    known: &[&str],
+) -> Result<BTreeMap<String, T>, Error>
     ensures { IsReading (map_meaning T.meaning) (others_read (map (λ x. x.now) known.now) T.reads (table_view table.now)) (others_refuse (map (λ x. x.now) known.now) T.refuses (table_view table.now)) result }
 {
     others_as::<T>(alloc, table, known)

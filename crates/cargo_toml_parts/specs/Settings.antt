@@ -1,5 +1,5 @@
 -- The enums that stand for one value of a tree.
-use Rattle.std.specs.Prelude.{ℕ, List, codes, map, if◌then◌else◌, Bool, Option, Some, None, option_map, string_bytes}
+use Rattle.std.specs.Prelude.{ℕ, List, [], ◌∷◌, codes, map, if◌then◌else◌, Bool, Option, Some, None, option_map, string_bytes}
 use Rattle.std.specs.Str.{bytes_eq}
 use Rattle.toml.specs.Data.{Data, string, boolean, array, as_str}
 use Rattle.cargo_toml_parts.specs.declared.error.Error.{Error}
@@ -14,20 +14,16 @@ use Rattle.cargo_toml_parts.specs.declared.settings.Publish.TheVariants as wheth
 use Rattle.cargo_toml_parts.specs.Faults.{IsShape, wrong_shape}
 use Rattle.cargo_toml_parts.specs.Reads.{items_reads, items_refuse, plain}
 
+-- what stands beside the text in a table
+abbrev pub named : {X : Type 0} → List (List ℕ × X) → List ℕ → Option X
+named [] text = None
+named (row ∷ rows) text = if bytes_eq text row.0 then Some row.1 else named rows text
+
 abbrev pub edition_of : List ℕ → Option Edition
-edition_of text =
-    if bytes_eq text (codes "2015") then Some E2015
-    else if bytes_eq text (codes "2018") then Some E2018
-    else if bytes_eq text (codes "2021") then Some E2021
-    else if bytes_eq text (codes "2024") then Some E2024
-    else None
+edition_of text = named ((codes "2015", E2015) ∷ (codes "2018", E2018) ∷ (codes "2021", E2021) ∷ (codes "2024", E2024) ∷ []) text
 
 abbrev pub resolver_of : List ℕ → Option Resolver
-resolver_of text =
-    if bytes_eq text (codes "1") then Some V1
-    else if bytes_eq text (codes "2") then Some V2
-    else if bytes_eq text (codes "3") then Some V3
-    else None
+resolver_of text = named ((codes "1", V1) ∷ (codes "2", V2) ∷ (codes "3", V3) ∷ []) text
 
 -- a file that is on or off, or that has a path
 pub data File : Type 0 where

@@ -1,9 +1,10 @@
 -- What a reader answers, and readers made of readers.
-use Rattle.std.specs.Prelude.{◌≡◌, ◌⊎◌, ℕ, List, [], ◌∷◌, Result, Ok, Err, Option, Some, None, option_map, option_and_then, Bool, true, false, if◌then◌else◌, MatchBool, map, String, string_bytes}
+use Prim.Native.String.{String as Words}
+use Rattle.std.specs.Prelude.{◌≡◌, ◌⊎◌, ℕ, List, [], ◌∷◌, codes, Result, Ok, Err, Option, Some, None, option_map, option_and_then, Bool, true, false, if◌then◌else◌, MatchBool, map, String, string_bytes}
 use Rattle.std.specs.Str.{bytes_eq}
 use Rattle.std.specs.BTreeMap.{BTreeMap}
 use Rattle.std.specs.declared.alloc.Global.{Global}
-use Rattle.toml.specs.Data.{Data, Items, no_items, item, Members, no_members, member, as_array, as_table, as_str}
+use Rattle.toml.specs.Data.{Data, Items, no_items, item, Members, no_members, member, as_array, as_table, as_str, as_bool, get_member}
 use Rattle.cargo_toml_parts.specs.declared.error.Error.{Error, Memory}
 use Rattle.cargo_toml_parts.specs.Faults.{IsShape, wrong_shape}
 
@@ -103,3 +104,26 @@ plain d e = IsShape wrong_shape e
 infixl 10 ◌>>=◌
 abbrev pub ◌>>=◌ : {A B : Type 0} → Option A → (A → Option B) → Option B
 o >>= f = option_and_then f o
+
+-- the same at a key of a table: a value that must be there, one that may be missing, a text, a truth value and a list
+abbrev pub required_at : {M : Type 0} → Words → (Data → Option M) → Members → Option M
+required_at key reads ms = required_of reads (get_member (codes key) ms)
+
+abbrev pub optional_at : {M : Type 0} → Words → (Data → Option M) → Members → Option (Option M)
+optional_at key reads ms = optional_of reads (get_member (codes key) ms)
+
+abbrev pub text_at : Words → Members → Option (Option (List ℕ))
+text_at key ms = optional_at key as_str ms
+
+abbrev pub flag_at : Words → Bool → Members → Option Bool
+flag_at key missing ms = given_of as_bool missing (get_member (codes key) ms)
+
+abbrev pub list_at : Words → Members → Option (List (List ℕ))
+list_at key ms = given_of list_of [] (get_member (codes key) ms)
+
+abbrev pub map_at : {M : Type 0} → Words → (Data → Option M) → Members → Option (List (List ℕ × M))
+map_at key reads ms = given_of (map_of reads) [] (get_member (codes key) ms)
+
+-- the value at a key is there and does not read, and the error is its fault
+abbrev pub fault_at : {M : Type 0} → Words → (Data → Option M) → (Data → Error → Type 0) → Members → Error → Type 0
+fault_at key reads refuses ms e = (optional_at key reads ms ≡ None) × optional_refuses refuses (get_member (codes key) ms) e

@@ -3,6 +3,8 @@ pub mod Faults
 pub mod Floats
 pub mod InheritableLaws
 pub mod Inherits
+pub mod Numbers
+pub mod Products
 pub mod ProfileSettings
 pub mod Reads
 pub mod Settings

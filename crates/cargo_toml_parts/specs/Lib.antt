@@ -6,6 +6,7 @@ pub mod Inherits
 pub mod Numbers
 pub mod Products
 pub mod ProfileSettings
+pub mod Profiles
 pub mod Reads
 pub mod Settings
 pub mod Versions

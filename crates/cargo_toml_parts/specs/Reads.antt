@@ -124,6 +124,10 @@ list_at key ms = given_of list_of [] (get_member (codes key) ms)
 abbrev pub map_at : {M : Type 0} → Words → (Data → Option M) → Members → Option (List (List ℕ × M))
 map_at key reads ms = given_of (map_of reads) [] (get_member (codes key) ms)
 
--- the value at a key is there and does not read, and the error is its fault
+-- the value is there and does not read, and the error is its fault; the same at a key of a table
+abbrev pub Faulty : {M : Type 0} → (Data → Option M) → (Data → Error → Type 0) → Option Data → Error → Type 0
+Faulty reads refuses None e = ⊥
+Faulty reads refuses (Some d) e = (reads d ≡ None) × refuses d e
+
 abbrev pub fault_at : {M : Type 0} → Words → (Data → Option M) → (Data → Error → Type 0) → Members → Error → Type 0
-fault_at key reads refuses ms e = (optional_at key reads ms ≡ None) × optional_refuses refuses (get_member (codes key) ms) e
+fault_at key reads refuses ms e = Faulty reads refuses (get_member (codes key) ms) e

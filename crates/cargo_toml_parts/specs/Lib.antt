@@ -1,3 +1,4 @@
+pub mod Badges
 pub mod Dependencies
 pub mod Faults
 pub mod Floats

@@ -2,6 +2,7 @@
 //! trees that all types share.
 #![tactic(auto)]
 
+pub mod badge;
 pub mod dependency;
 pub mod error;
 pub mod floats;
@@ -15,6 +16,7 @@ pub mod settings;
 pub mod value;
 pub mod versions;
 
+pub use badge::{Badge, Badges, Maintenance, MaintenanceStatus};
 pub use dependency::{Dependency, DependencyDetail, InheritedDependencyDetail};
 pub use error::{Error, ParseFault};
 pub use inheritable::Inheritable;

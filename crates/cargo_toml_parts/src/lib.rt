@@ -27,6 +27,8 @@ pub use lint::{Lint, LintGroups, LintLevel, LintSet};
 pub use product::Product;
 pub use profile::{Profile, Profiles};
 pub use profile_settings::{DebugSetting, LtoSetting, StripSetting};
+pub use semver::{Version as SemVer, VersionReq};
 pub use settings::{Edition, OptionalFile, Publish, Resolver};
 pub use target::{DepsSet, FeatureSet, PatchSet, Target, TargetDepsSet};
+pub use toml::Value;
 pub use value::FromValue;

@@ -8,6 +8,7 @@ pub mod error;
 pub mod feature;
 pub mod floats;
 pub mod inheritable;
+mod laws;
 pub mod lint;
 pub mod numbers;
 pub mod product;

@@ -32,4 +32,8 @@ pub use semver::{Version as SemVer, VersionReq};
 pub use settings::{Edition, OptionalFile, Publish, Resolver};
 pub use target::{DepsSet, FeatureSet, PatchSet, Target, TargetDepsSet};
 pub use toml::Value;
+
+#[cfg(test)]
+mod tests;
+
 pub use value::FromValue;

@@ -12,7 +12,7 @@ use std::alloc::Global;
 use std::collections::BTreeMap;
 use toml::{Table, Value};
 
-/// A feature, which reads as a list of texts.
+/// The way to read a feature: as the list of what it enables.
 pub struct FeatureList;
 
 fn of_table(alloc: Global, table: &Table) -> Result<Vec<String>, Error>

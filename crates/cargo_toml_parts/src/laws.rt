@@ -1,7 +1,10 @@
-// Laws of the settings' comparisons, each as the contract of a function that does nothing.
-ghost use Rattle.cargo_toml_parts.specs.SettingsLaws.{IsOrderedBy, IsSameness, edition_number, resolver_number, debug_worth, strip_place, lto_place};
+// Laws of the settings' comparisons and defaults, each as the contract of a function that does nothing.
+ghost use Rattle.cargo_toml_parts.specs.declared.badge.MaintenanceStatus.TheVariants as status;
+ghost use Rattle.cargo_toml_parts.specs.declared.settings.Edition.TheVariants.{E2015};
+ghost use Rattle.cargo_toml_parts.specs.declared.settings.Resolver.TheVariants.{V1};
+ghost use Rattle.cargo_toml_parts.specs.SettingsLaws.{HasDefault, IsOrderedBy, IsSameness, edition_number, resolver_number, debug_worth, strip_place, lto_place};
 
-use crate::badge::MaintenanceStatus;
+use crate::badge::{Maintenance, MaintenanceStatus};
 use crate::lint::LintLevel;
 use crate::profile_settings::{DebugSetting, LtoSetting, StripSetting};
 use crate::settings::{Edition, Resolver};
@@ -37,4 +40,11 @@ fn maintenance_statuses()
 
 fn lint_levels()
     ensures { IsSameness ⟦<LintLevel as PartialEq>⟧.eq }
+{}
+
+fn defaults()
+    ensures edition { HasDefault ⟦<Edition as Default>⟧.is_default E2015 }
+    ensures resolver { HasDefault ⟦<Resolver as Default>⟧.is_default V1 }
+    ensures status { HasDefault ⟦<MaintenanceStatus as Default>⟧.is_default status.None }
+    ensures maintenance { HasDefault ⟦<Maintenance as Default>⟧.is_default (record { status = status.None }) }
 {}

@@ -1,5 +1,7 @@
-//! The parts that a Cargo manifest is made of: faults, values that a workspace may give, dependencies, and the readers of
-//! trees that all types share.
+//! The parts that a Cargo manifest is made of: faults, values that a workspace may give, settings, products, profiles,
+//! badges, lints, dependencies and features, and the readers of trees that all types share.
+//!
+//! Each type is read as it says of its keys. Unknown keys are passed over at every level, unless the type collects them.
 #![tactic(auto)]
 
 pub mod badge;
@@ -32,8 +34,7 @@ pub use semver::{Version as SemVer, VersionReq};
 pub use settings::{Edition, OptionalFile, Publish, Resolver};
 pub use target::{DepsSet, FeatureSet, PatchSet, Target, TargetDepsSet};
 pub use toml::Value;
+pub use value::FromValue;
 
 #[cfg(test)]
 mod tests;
-
-pub use value::FromValue;

@@ -1,7 +1,4 @@
 //! Faults: what they print, and which one a fault from below becomes.
-ghost use Rattle.std.specs.Prelude.{Some};
-ghost use Rattle.toml.specs.Data.{Data};
-
 use super::{at, refused};
 use crate::error::{Error, ParseFault};
 use crate::value::FromValue;
@@ -85,7 +82,7 @@ fn floats_are_refused_at_any_depth(rt: HostRuntime) -> Result<(), Fail> {
 struct Teapots(i64);
 
 impl FromValue for Teapots {
-    ghost use Rattle.std.specs.Prelude.{◌≡◌, ℤ};
+    ghost use Rattle.std.specs.Prelude.{ℤ, codes};
     ghost use Rattle.toml.specs.Data.{as_integer};
     ghost use Rattle.cargo_toml_parts.specs.Faults.{IsOther};
 

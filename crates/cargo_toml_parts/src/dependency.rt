@@ -1,9 +1,10 @@
-// Dependencies.
-ghost use Rattle.std.specs.Prelude.{◌≡◌, option_and_then, option_map};
-ghost use Rattle.toml.specs.Data.{as_table};
+//! Dependencies.
+ghost use Rattle.std.specs.Prelude.{◌≡◌, Some, option_and_then, option_map};
+ghost use Rattle.toml.specs.Data.{as_table, no_members};
 ghost use Rattle.toml.specs.View.{view, table_view};
-ghost use Rattle.cargo_toml_parts.specs.Reads.{IsReading, table_refuses};
-ghost use Rattle.cargo_toml_parts.specs.Dependencies.{InheritedMeaning, inherited_meaning, inherited_of, inherited_refuses, strict_of, DetailMeaning, detail_meaning, detail_of, detail_refuses, DependencyMeaning, dependency_meaning, dependency_of, dependency_refuses};
+ghost use Rattle.cargo_toml_parts.specs.Faults.{IsShape, wrong_shape};
+ghost use Rattle.cargo_toml_parts.specs.Reads.{IsReading, plain};
+ghost use Rattle.cargo_toml_parts.specs.Dependencies.{InheritedMeaning, inherited_meaning, inherited_of, strict_of, DetailMeaning, detail_meaning, detail_of, DependencyMeaning, dependency_meaning, dependency_of, dependency_refuses};
 
 use crate::error::Error;
 use crate::read::{Read, as_table, given, list, optional, others, required, wrong_shape};
@@ -12,36 +13,109 @@ use std::alloc::Global;
 use std::collections::BTreeMap;
 use toml::{Table, Value};
 
+/// What a dependency adds to the one of its key that the workspace has.
 #[derive(Clone, Debug, PartialEq, Eq, Drop)]
 pub struct InheritedDependencyDetail {
+    /// Features that are added: the list `features`.
     pub features: Vec<String>,
+    /// Whether it is made optional: the key `optional`, false where it is missing.
     pub optional: bool,
+    /// The key `workspace`, false where it is missing.
     pub workspace: bool,
 }
 
+/// A dependency that is told by a table.
 #[derive(Clone, Debug, PartialEq, Drop)]
 pub struct DependencyDetail {
+    /// The versions that may be taken: the key `version`; any version where it is missing.
     pub version: Option<VersionReq>,
+    /// The name of the crate, where that is not the dependency's key: the key `package`.
     pub package: Option<String>,
+    /// The name of the registry that it comes from: the key `registry`.
     pub registry: Option<String>,
+    /// The address of the index of that registry: the key `registry-index`.
     pub registry_index: Option<String>,
+    /// The folder that it comes from: the key `path`.
     pub path: Option<String>,
+    /// The address of the repository that it comes from: the key `git`.
     pub git: Option<String>,
+    /// The branch of that repository: the key `branch`.
     pub branch: Option<String>,
+    /// The tag of that repository: the key `tag`.
     pub tag: Option<String>,
+    /// The revision of that repository: the key `rev`.
     pub rev: Option<String>,
+    /// The features of it that are switched on: the list `features`.
     pub features: Vec<String>,
+    /// Whether it is left out until a feature enables it: the key `optional`, false where it is missing.
     pub optional: bool,
+    /// Whether its feature `default` is switched on: the key `default-features`, true where it is missing.
     pub default_features: bool,
+    /// All other keys.
     pub unstable: BTreeMap<String, Value>,
+    /// Whether it came from the workspace; false after reading.
     pub inherited: bool,
 }
 
+/// A dependency: a requirement alone, or a table, which may leave the rest to the workspace.
 #[derive(Clone, Debug, PartialEq, Drop)]
 pub enum Dependency {
+    /// A text that `semver` reads as a requirement.
     Simple(VersionReq),
+    /// A table with a boolean `workspace`, true or false, whose `features` and `optional` read, where they are there.
     Inherited(InheritedDependencyDetail),
+    /// Any other table.
     Detailed(Box<DependencyDetail>),
+}
+
+impl InheritedDependencyDetail {
+    /// A detail of which no key is given. It takes no memory.
+    pub fn default(alloc: Global) -> InheritedDependencyDetail
+        ensures { inherited_of no_members ≡ Some (inherited_meaning result) }
+    {
+        InheritedDependencyDetail {
+            features: Vec::new(alloc),
+            optional: false,
+            workspace: false,
+        }
+    }
+}
+
+impl DependencyDetail {
+    /// A detail of which no key is given: of any version, with its default features. It takes no memory.
+    pub fn default(alloc: Global) -> DependencyDetail
+        ensures { detail_of no_members ≡ Some (detail_meaning result) }
+    {
+        DependencyDetail {
+            version: None,
+            package: None,
+            registry: None,
+            registry_index: None,
+            path: None,
+            git: None,
+            branch: None,
+            tag: None,
+            rev: None,
+            features: Vec::new(alloc),
+            optional: false,
+            default_features: true,
+            unstable: BTreeMap::new(alloc),
+            inherited: false,
+        }
+    }
+}
+
+fn inherited_detail(alloc: Global, table: &Table) -> Result<InheritedDependencyDetail, Error>
+    ensures { IsReading inherited_meaning (inherited_of (table_view table.now)) (IsShape wrong_shape) result }
+{
+    let features = list(alloc, table, "features")?;
+    let optional = given(alloc, table, "optional", false)?;
+    let workspace = given(alloc, table, "workspace", false)?;
+    Ok(InheritedDependencyDetail {
+        features,
+        optional,
+        workspace,
+    })
 }
 
 impl Read for InheritedDependencyDetail {
@@ -51,18 +125,10 @@ impl Read for InheritedDependencyDetail {
 
     ghost reads = { λ d. option_and_then inherited_of (as_table d) };
 
-    ghost refuses = { λ d e. table_refuses inherited_refuses (as_table d) e };
+    ghost refuses = { plain };
 
     fn read(alloc: Global, value: &Value) -> Result<InheritedDependencyDetail, Error> {
-        let table = as_table(value)?;
-        let features = list(alloc, table, "features")?;
-        let optional = given(alloc, table, "optional", false)?;
-        let workspace = given(alloc, table, "workspace", false)?;
-        Ok(InheritedDependencyDetail {
-            features,
-            optional,
-            workspace,
-        })
+        inherited_detail(alloc, as_table(value)?)
     }
 }
 
@@ -81,7 +147,7 @@ fn inherited(alloc: Global, table: &Table) -> Result<InheritedDependencyDetail, 
 }
 
 fn detailed(alloc: Global, table: &Table) -> Result<DependencyDetail, Error>
-    ensures { IsReading detail_meaning (detail_of (table_view table.now)) (detail_refuses (table_view table.now)) result }
+    ensures { IsReading detail_meaning (detail_of (table_view table.now)) (IsShape wrong_shape) result }
 {
     let version = optional(alloc, table, "version")?;
     let package = optional(alloc, table, "package")?;
@@ -138,7 +204,7 @@ impl Read for DependencyDetail {
 
     ghost reads = { λ d. option_and_then detail_of (as_table d) };
 
-    ghost refuses = { λ d e. table_refuses detail_refuses (as_table d) e };
+    ghost refuses = { plain };
 
     fn read(alloc: Global, value: &Value) -> Result<DependencyDetail, Error> {
         detailed(alloc, as_table(value)?)
@@ -170,7 +236,7 @@ impl Dependency {
     }
 }
 
-#[tactic(auto, unfolding(crate::specs::Dependencies::dependency_of, crate::specs::Dependencies::dependency_refuses))]
+#[tactic(auto, unfolding(crate::specs::Dependencies::dependency_of))]
 impl Read for Dependency {
     ghost Meaning = { DependencyMeaning };
 

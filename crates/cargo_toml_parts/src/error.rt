@@ -1,26 +1,38 @@
-// The faults.
+//! Faults of reading and completing a manifest.
 ghost use Rattle.std.specs.Prelude.{◌≡◌, IfOk};
 
 use std::alloc::{AllocError, AllocFailed};
 use std::{fmt, io};
 
+/// What is wrong with a document.
 #[derive(Debug, Drop)]
 pub enum ParseFault {
+    /// The text is no TOML.
     Toml(toml::de::Error),
+    /// A value is not what its key asks for; the text says in which way.
     Shape(&'static str),
 }
 
+/// Why a manifest could not be read, completed or written.
 #[derive(Debug, Drop)]
 pub enum Error {
+    /// The document is faulty.
     Parse(ParseFault),
+    /// A file could not be read or written.
     Io(io::Error),
+    /// Completing failed, with the fault and, where it is known, the path of the workspace.
     Workspace(Box<(Error, Option<String>)>),
+    /// A value was asked for that comes from the workspace and has not been filled in.
     InheritedUnknownValue,
+    /// The workspace lacks what a member inherits, or is none.
     WorkspaceIntegrity(String),
+    /// Another fault, told by the text.
     Other(&'static str),
+    /// There is not enough memory.
     Memory,
 }
 
+/// Want of memory.
 impl From<AllocError> for Error {
     ghost use Rattle.cargo_toml_parts.specs.declared.error.Error.{Memory};
 
@@ -31,6 +43,7 @@ impl From<AllocError> for Error {
     }
 }
 
+/// Want of memory; the value that was not stored is dropped.
 impl<T: Drop> From<AllocFailed<T>> for Error {
     ghost use Rattle.cargo_toml_parts.specs.declared.error.Error.{Memory};
 
@@ -41,6 +54,7 @@ impl<T: Drop> From<AllocFailed<T>> for Error {
     }
 }
 
+/// A fault of the text, or want of memory where that is what it was.
 impl From<toml::de::Error> for Error {
     ghost use Rattle.cargo_toml_parts.specs.Faults.{IsFromToml};
 
@@ -54,6 +68,7 @@ impl From<toml::de::Error> for Error {
     }
 }
 
+/// A fault of a file, or want of memory where that is what it was.
 impl From<io::Error> for Error {
     ghost use Rattle.cargo_toml_parts.specs.Faults.{IsFromIo};
 
@@ -67,6 +82,7 @@ impl From<io::Error> for Error {
     }
 }
 
+/// What `toml` says of its text, or the text of the fault of shape.
 impl fmt::Display for ParseFault {
     ghost use Rattle.cargo_toml_parts.specs.Faults.{fault_text};
 
@@ -80,6 +96,8 @@ impl fmt::Display for ParseFault {
     }
 }
 
+/// One line. A fault of a workspace is `can't load root workspace`, then ` at PATH` where there is a path, then `: ` and the
+/// fault inside.
 impl fmt::Display for Error {
     ghost use Rattle.cargo_toml_parts.specs.Faults.{text_of};
 

@@ -1,4 +1,4 @@
-// A value that is set, or that comes from the workspace.
+//! A value that is set, or that comes from the workspace.
 ghost use Rattle.std.specs.Prelude.{◌≡◌};
 ghost use Rattle.toml.specs.View.{view};
 ghost use Rattle.cargo_toml_parts.specs.Faults.{IsShape, workspace_false};
@@ -9,9 +9,15 @@ use crate::read::{Read, wrong_shape};
 use std::alloc::Global;
 use toml::Value;
 
+/// A value of a package, or word that the workspace's is to be taken.
+///
+/// What reads as the value is set; else a table with `workspace = true` is inherited, whatever its other keys are. With
+/// `workspace = false`, and as any other value, it is refused.
 #[derive(Clone, Copy, Debug, Drop)]
 pub enum Inheritable<T> {
+    /// The value itself.
     Set(T),
+    /// The workspace has the value.
     Inherited,
 }
 
@@ -54,6 +60,7 @@ impl<T: Read> Read for Inheritable<T> {
     }
 }
 
+/// Set values compare as they do alone. What is inherited equals nothing, not even itself.
 impl<T: PartialEq> PartialEq for Inheritable<T> {
     ghost use Rattle.cargo_toml_parts.specs.InheritableLaws.{inheritable_eq, inheritable_per};
 

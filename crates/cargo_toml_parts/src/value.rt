@@ -1,4 +1,4 @@
-// The public readers.
+//! Reading values of a tree from outside the crate.
 ghost use Rattle.std.specs.Prelude.{◌≡◌, Option, option_map};
 ghost use Rattle.toml.specs.Data.{Data, get_member};
 ghost use Rattle.toml.specs.View.{view, table_view};
@@ -13,12 +13,16 @@ use crate::read::{Read, member};
 use std::alloc::Global;
 use toml::{Table, Value};
 
+/// The fault of a tree that holds a float.
 pub fn floats_unsupported() -> Error
     ensures { IsShape floats_unsupported result }
 {
     Error::Parse(ParseFault::Shape("floats are not supported"))
 }
 
+/// What can be read from a value of TOML. Each type of a manifest is; the type of a package's metadata is any such type.
+///
+/// A type tells what its values mean, which trees give which meaning, and which faults a tree that gives none may have.
 pub trait FromValue: Drop {
     ghost Meaning: { Type 0 };
 
@@ -28,6 +32,10 @@ pub trait FromValue: Drop {
 
     ghost from_refuses: { Data → Error → Type 0 };
 
+    /// The value that the tree gives. A tree that gives none is refused with a fault that it has, and any tree may be refused
+    /// as [`Error::Memory`] where there is not enough memory. The types of a manifest refuse a tree that holds a float at any
+    /// depth as [`Error::Parse`] with the text `floats are not supported`. Their other faults have the text `value has the
+    /// wrong shape`, save those of a profile's settings and of an inherited value with `workspace = false`.
     fn from_value(alloc: Global, value: Value) -> Result<Self, Error>
         ensures { IsReading meaning (from_tree (view value)) (from_refuses (view value)) result };
 }
@@ -49,7 +57,8 @@ impl<T: Read> FromValue for T {
     }
 }
 
-// The metadata at a key.
+/// The metadata at a key of a table, which is `None` where the key is missing. A fault of the metadata's type is handed on as
+/// it is.
 pub fn metadata<M: FromValue>(alloc: Global, table: &Table, key: &str) -> Result<Option<M>, Error>
     ensures { IsReading (option_map M.meaning) (optional_of M.from_tree (get_member key.now (table_view table.now))) (optional_refuses M.from_refuses (get_member key.now (table_view table.now))) result }
 {

@@ -1,3 +1,4 @@
+pub mod Keys
 pub mod Manifests
 pub mod Packages
 pub mod Texts

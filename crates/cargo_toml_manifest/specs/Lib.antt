@@ -1,4 +1,5 @@
 pub mod Keys
 pub mod Manifests
 pub mod Packages
+pub mod Templates
 pub mod Texts

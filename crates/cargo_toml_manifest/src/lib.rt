@@ -3,6 +3,8 @@
 
 pub mod manifest;
 pub mod package;
+pub mod template;
 
 pub use manifest::Manifest;
 pub use package::Package;
+pub use template::PackageTemplate;

@@ -19,4 +19,4 @@ returns-in_err-features g c =
     rw (p.1, p.2) (blames c.in_err-features.ensures (λ none. goes_on _ _ _ c.in_ok-package.ensures (goes_on _ _ _ c.in_ok-dependencies.ensures (stops _ _ none))) (λ fault. inr (inr fault)))
 
 pub returns : goal.returns
-returns g c = then _ _ _ _ c.in_ok-package.ensures (then _ _ _ _ c.in_ok-dependencies.ensures (then _ _ _ _ c.in_ok-features.ensures refl))
+returns g c = then _ _ _ _ c.in_ok-package.ensures (then _ _ _ _ c.in_ok-dependencies.ensures (then _ _ _ _ c.in_ok-features.ensures (rw c.settled_option.ensures refl)))

@@ -13,6 +13,11 @@ pub blames : {P Q R S : Type 0} → P ⊎ (Q × R) → (Q → S) → {T : Type 0
 blames (inl p) f g = inl p
 blames (inr w) f g = inr (f w.0, g w.1)
 
+-- the same, where the fault is told with where it is
+pub blames_with : {P Q R S : Type 0} → P ⊎ (Q × R) → (Q → S) → {T : Type 0} → (Q × R → T) → P ⊎ (S × T)
+blames_with (inl p) f g = inl p
+blames_with (inr w) f g = inr (f w.0, g w)
+
 -- where what follows fails, so does the whole
 pub fails : {A B : Type 0} (o : Option A) → option_and_then {T = A} {U = B} (λ _. None) o ≡ None
 fails None = refl

@@ -3,6 +3,7 @@ pub mod Faults
 pub mod Floats
 pub mod InheritableLaws
 pub mod Inherits
+pub mod ProfileSettings
 pub mod Reads
 pub mod Settings
 pub mod Versions

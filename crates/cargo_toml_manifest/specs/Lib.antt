@@ -3,3 +3,4 @@ pub mod Manifests
 pub mod Packages
 pub mod Templates
 pub mod Texts
+pub mod Workspaces

@@ -1,11 +1,11 @@
 -- What a manifest holds, and which trees are manifests.
-use Rattle.std.specs.Prelude.{◌⊎◌, ℕ, List, [], codes, map, Bool, true, false, ◌&&◌, ◌==◌, if◌then◌else◌, length, Option, Some, option_map, option_and_then, string_bytes}
-use Rattle.toml.specs.Data.{Data, Members, as_table, get_member}
+use Rattle.std.specs.Prelude.{◌⊎◌, ℕ, List, map, Bool, true, false, ◌&&◌, ◌==◌, if◌then◌else◌, length, Option, Some, option_map, option_and_then, string_bytes}
+use Rattle.toml.specs.Data.{Data, Members, as_table}
 use Rattle.cargo_toml_parts.specs.declared.error.Error.{Error}
 use Rattle.cargo_toml_parts.specs.declared.inheritable.Inheritable.{Inheritable}
 use Rattle.cargo_toml_parts.specs.declared.inheritable.Inheritable.TheVariants.{Set, Inherited}
-use Rattle.cargo_toml_parts.specs.Dependencies.{DependencyMeaning, dependency_meaning, dependency_of, dependency_refuses}
-use Rattle.cargo_toml_parts.specs.Reads.{◌>>=◌, optional_of, given_of, optional_refuses, table_refuses, map_meaning, map_of, map_refuses, list_of, list_refuses}
+use Rattle.cargo_toml_parts.specs.Dependencies.{DependencyMeaning, dependency_meaning, dependency_of}
+use Rattle.cargo_toml_parts.specs.Reads.{◌>>=◌, list_of, map_of, map_meaning, optional_at, map_at, fault_at, table_refuses, plain}
 use Rattle.cargo_toml_parts.specs.Settings.{Registries, everywhere, among}
 use Rattle.cargo_toml_parts.specs.Versions.{Parts}
 use Rattle.cargo_toml_manifest.specs.declared.manifest.Manifest.{Manifest}
@@ -45,9 +45,9 @@ settled p = if is_unpublished p then record p { publish = Set (everywhere false)
 -- the manifest of a table, whose metadata is read as `metadata_of` says
 abbrev pub manifest_of : {M : Type 0} → (Data → Option M) → Members → Option (ManifestMeaning M)
 manifest_of metadata_of ms = do
-  found ← optional_of (package_tree metadata_of) (get_member (codes "package") ms)
-  dependencies ← given_of (map_of dependency_of) [] (get_member (codes "dependencies") ms)
-  features ← given_of (map_of list_of) [] (get_member (codes "features") ms)
+  found ← optional_at "package" (package_tree metadata_of) ms
+  dependencies ← map_at "dependencies" dependency_of ms
+  features ← map_at "features" list_of ms
   Some (record {
     «package» = option_map settled found;
     dependencies = dependencies;
@@ -55,15 +55,15 @@ manifest_of metadata_of ms = do
   })
 
 -- what may be wrong with a manifest
-abbrev pub manifest_refuses : (Data → Error → Type 0) → Members → Error → Type 0
-manifest_refuses metadata_refuses ms e =
-    optional_refuses (package_tree_refuses metadata_refuses) (get_member (codes "package") ms) e
-    ⊎ optional_refuses (map_refuses dependency_refuses) (get_member (codes "dependencies") ms) e
-    ⊎ optional_refuses (map_refuses list_refuses) (get_member (codes "features") ms) e
+abbrev pub manifest_refuses : {M : Type 0} → (Data → Option M) → (Data → Error → Type 0) → Members → Error → Type 0
+manifest_refuses metadata_of metadata_refuses ms e =
+    fault_at "package" (package_tree metadata_of) (package_tree_refuses metadata_of metadata_refuses) ms e
+    ⊎ fault_at "dependencies" (map_of dependency_of) plain ms e
+    ⊎ fault_at "features" (map_of list_of) plain ms e
 
 -- the manifest of a tree
 abbrev pub manifest_tree : {M : Type 0} → (Data → Option M) → Data → Option (ManifestMeaning M)
 manifest_tree metadata_of d = option_and_then (manifest_of metadata_of) (as_table d)
 
-abbrev pub manifest_tree_refuses : (Data → Error → Type 0) → Data → Error → Type 0
-manifest_tree_refuses metadata_refuses d e = table_refuses (manifest_refuses metadata_refuses) (as_table d) e
+abbrev pub manifest_tree_refuses : {M : Type 0} → (Data → Option M) → (Data → Error → Type 0) → Data → Error → Type 0
+manifest_tree_refuses metadata_of metadata_refuses d e = table_refuses (manifest_refuses metadata_of metadata_refuses) (as_table d) e

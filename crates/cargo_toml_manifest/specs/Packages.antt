@@ -1,7 +1,7 @@
 -- What a package holds, and which trees are packages.
-use Rattle.std.specs.Prelude.{◌⊎◌, ℕ, List, [], ◌∷◌, codes, map, Bool, true, Option, Some, None, option_map, option_and_then, string_bytes}
+use Rattle.std.specs.Prelude.{◌≡◌, ◌⊎◌, ℕ, List, [], ◌∷◌, map, Bool, true, Option, Some, None, option_map, option_and_then, string_bytes}
 use Rattle.semver.specs.Identifiers.{parts_of}
-use Rattle.toml.specs.Data.{Data, Members, as_bool, as_str, as_table, get_member}
+use Rattle.toml.specs.Data.{Data, Members, as_bool, as_str, as_table}
 use Rattle.cargo_toml_parts.specs.declared.error.Error.{Error}
 use Rattle.cargo_toml_parts.specs.declared.inheritable.Inheritable.{Inheritable}
 use Rattle.cargo_toml_parts.specs.declared.inheritable.Inheritable.TheVariants.{Set}
@@ -9,11 +9,12 @@ use Rattle.cargo_toml_parts.specs.declared.settings.Edition.{Edition}
 use Rattle.cargo_toml_parts.specs.declared.settings.Edition.TheVariants.{E2015, E2021}
 use Rattle.cargo_toml_parts.specs.declared.settings.Resolver.{Resolver}
 use Rattle.cargo_toml_parts.specs.Inherits.{inheritable_map, inheritable_of, inheritable_refuses}
-use Rattle.cargo_toml_parts.specs.Reads.{◌>>=◌, optional_of, required_of, given_of, list_of, required_refuses, optional_refuses, table_refuses, plain}
+use Rattle.cargo_toml_parts.specs.Faults.{IsShape, wrong_shape}
+use Rattle.cargo_toml_parts.specs.Reads.{◌>>=◌, list_of, required_at, optional_at, text_at, flag_at, fault_at, table_refuses, plain}
 use Rattle.cargo_toml_parts.specs.Settings.{edition_of, resolver_of, File, flag, file_of, file_meaning, Registries, everywhere, publish_of, publish_meaning}
 use Rattle.cargo_toml_parts.specs.Versions.{Parts, version_of}
 use Rattle.cargo_toml_manifest.specs.declared.package.Package.{Package}
-use Rattle.cargo_toml_manifest.specs.Keys.{some_refuses}
+use Rattle.cargo_toml_manifest.specs.Keys.{inherited_at, inherited_text_at, inherited_list_at, faults_at}
 
 -- what a package holds, whose metadata are M
 pub record PackageMeaning (M : Type 0) : Type 0 where
@@ -78,37 +79,44 @@ package_meaning f p = record {
   metadata = option_map f p.metadata;
 }
 
+-- the edition and the resolver that a text names
+abbrev pub edition_tree : Data → Option Edition
+edition_tree d = option_and_then edition_of (as_str d)
+
+abbrev pub resolver_tree : Data → Option Resolver
+resolver_tree d = option_and_then resolver_of (as_str d)
+
 -- the package of a table, whose metadata is read as `metadata_of` says
 abbrev pub package_of : {M : Type 0} → (Data → Option M) → Members → Option (PackageMeaning M)
 package_of metadata_of ms = do
-  name ← required_of as_str (get_member (codes "name") ms)
-  version ← given_of (inheritable_of version_of) (Set (0, 0, 0, [], [])) (get_member (codes "version") ms)
-  edition ← given_of (inheritable_of (λ d. option_and_then edition_of (as_str d))) (Set E2015) (get_member (codes "edition") ms)
-  rust_version ← optional_of (inheritable_of as_str) (get_member (codes "rust-version") ms)
-  build ← optional_of file_of (get_member (codes "build") ms)
-  workspace ← optional_of as_str (get_member (codes "workspace") ms)
-  authors ← given_of (inheritable_of list_of) (Set []) (get_member (codes "authors") ms)
-  links ← optional_of as_str (get_member (codes "links") ms)
-  description ← optional_of (inheritable_of as_str) (get_member (codes "description") ms)
-  homepage ← optional_of (inheritable_of as_str) (get_member (codes "homepage") ms)
-  documentation ← optional_of (inheritable_of as_str) (get_member (codes "documentation") ms)
-  readme ← given_of (inheritable_of file_of) (Set (flag true)) (get_member (codes "readme") ms)
-  keywords ← given_of (inheritable_of list_of) (Set []) (get_member (codes "keywords") ms)
-  categories ← given_of (inheritable_of list_of) (Set []) (get_member (codes "categories") ms)
-  exclude ← given_of (inheritable_of list_of) (Set []) (get_member (codes "exclude") ms)
-  include ← given_of (inheritable_of list_of) (Set []) (get_member (codes "include") ms)
-  license ← optional_of (inheritable_of as_str) (get_member (codes "license") ms)
-  license_file ← optional_of (inheritable_of as_str) (get_member (codes "license-file") ms)
-  repository ← optional_of (inheritable_of as_str) (get_member (codes "repository") ms)
-  default_run ← optional_of as_str (get_member (codes "default-run") ms)
-  autobins ← given_of as_bool true (get_member (codes "autobins") ms)
-  autolib ← given_of as_bool true (get_member (codes "autolib") ms)
-  autoexamples ← given_of as_bool true (get_member (codes "autoexamples") ms)
-  autotests ← given_of as_bool true (get_member (codes "autotests") ms)
-  autobenches ← given_of as_bool true (get_member (codes "autobenches") ms)
-  publish ← given_of (inheritable_of publish_of) (Set (everywhere true)) (get_member (codes "publish") ms)
-  resolver ← optional_of (λ d. option_and_then resolver_of (as_str d)) (get_member (codes "resolver") ms)
-  metadata ← optional_of metadata_of (get_member (codes "metadata") ms)
+  name ← required_at "name" as_str ms
+  version ← inherited_at "version" version_of (0, 0, 0, [], []) ms
+  edition ← inherited_at "edition" edition_tree E2015 ms
+  rust_version ← inherited_text_at "rust-version" ms
+  build ← optional_at "build" file_of ms
+  workspace ← text_at "workspace" ms
+  authors ← inherited_list_at "authors" ms
+  links ← text_at "links" ms
+  description ← inherited_text_at "description" ms
+  homepage ← inherited_text_at "homepage" ms
+  documentation ← inherited_text_at "documentation" ms
+  readme ← inherited_at "readme" file_of (flag true) ms
+  keywords ← inherited_list_at "keywords" ms
+  categories ← inherited_list_at "categories" ms
+  exclude ← inherited_list_at "exclude" ms
+  include ← inherited_list_at "include" ms
+  license ← inherited_text_at "license" ms
+  license_file ← inherited_text_at "license-file" ms
+  repository ← inherited_text_at "repository" ms
+  default_run ← text_at "default-run" ms
+  autobins ← flag_at "autobins" true ms
+  autolib ← flag_at "autolib" true ms
+  autoexamples ← flag_at "autoexamples" true ms
+  autotests ← flag_at "autotests" true ms
+  autobenches ← flag_at "autobenches" true ms
+  publish ← inherited_at "publish" publish_of (everywhere true) ms
+  resolver ← optional_at "resolver" resolver_tree ms
+  metadata ← optional_at "metadata" metadata_of ms
   Some (record {
     name = name;
     version = version;
@@ -140,33 +148,28 @@ package_of metadata_of ms = do
     metadata = metadata;
   })
 
--- the keys whose value a workspace may give
-abbrev pub inheritable_keys : List (List ℕ)
-inheritable_keys =
-    codes "version" ∷ codes "edition" ∷ codes "rust-version" ∷ codes "authors" ∷ codes "description" ∷ codes "homepage"
-    ∷ codes "documentation" ∷ codes "readme" ∷ codes "keywords" ∷ codes "categories" ∷ codes "exclude" ∷ codes "include"
-    ∷ codes "license" ∷ codes "license-file" ∷ codes "repository" ∷ codes "publish" ∷ []
-
--- the others that may be missing, beside the metadata
-abbrev pub own_keys : List (List ℕ)
-own_keys =
-    codes "build" ∷ codes "workspace" ∷ codes "links" ∷ codes "default-run" ∷ codes "autobins" ∷ codes "autolib"
-    ∷ codes "autoexamples" ∷ codes "autotests" ∷ codes "autobenches" ∷ codes "resolver" ∷ []
-
 -- what may be wrong with a package
-abbrev pub package_refuses : (Data → Error → Type 0) → Members → Error → Type 0
-package_refuses metadata_refuses ms e =
-    required_refuses plain (get_member (codes "name") ms) e
-    ⊎ some_refuses inheritable_refuses inheritable_keys ms e
-    ⊎ some_refuses plain own_keys ms e
-    ⊎ optional_refuses metadata_refuses (get_member (codes "metadata") ms) e
+abbrev pub package_refuses : {M : Type 0} → (Data → Option M) → (Data → Error → Type 0) → Members → Error → Type 0
+package_refuses metadata_of metadata_refuses ms e =
+    ((required_at "name" as_str ms ≡ None) × IsShape wrong_shape e)
+    ⊎ fault_at "version" (inheritable_of version_of) inheritable_refuses ms e
+    ⊎ fault_at "edition" (inheritable_of edition_tree) inheritable_refuses ms e
+    ⊎ faults_at ("rust-version" ∷ "description" ∷ "homepage" ∷ "documentation" ∷ "license" ∷ "license-file" ∷ "repository" ∷ []) (inheritable_of as_str) inheritable_refuses ms e
+    ⊎ faults_at ("authors" ∷ "keywords" ∷ "categories" ∷ "exclude" ∷ "include" ∷ []) (inheritable_of list_of) inheritable_refuses ms e
+    ⊎ fault_at "readme" (inheritable_of file_of) inheritable_refuses ms e
+    ⊎ fault_at "publish" (inheritable_of publish_of) inheritable_refuses ms e
+    ⊎ fault_at "build" file_of plain ms e
+    ⊎ faults_at ("workspace" ∷ "links" ∷ "default-run" ∷ []) as_str plain ms e
+    ⊎ faults_at ("autobins" ∷ "autolib" ∷ "autoexamples" ∷ "autotests" ∷ "autobenches" ∷ []) as_bool plain ms e
+    ⊎ fault_at "resolver" resolver_tree plain ms e
+    ⊎ fault_at "metadata" metadata_of metadata_refuses ms e
 
 -- the package of a tree
 abbrev pub package_tree : {M : Type 0} → (Data → Option M) → Data → Option (PackageMeaning M)
 package_tree metadata_of d = option_and_then (package_of metadata_of) (as_table d)
 
-abbrev pub package_tree_refuses : (Data → Error → Type 0) → Data → Error → Type 0
-package_tree_refuses metadata_refuses d e = table_refuses (package_refuses metadata_refuses) (as_table d) e
+abbrev pub package_tree_refuses : {M : Type 0} → (Data → Option M) → (Data → Error → Type 0) → Data → Error → Type 0
+package_tree_refuses metadata_of metadata_refuses d e = table_refuses (package_refuses metadata_of metadata_refuses) (as_table d) e
 
 -- a package that was just made: edition 2021, and every other key as where it is missing
 abbrev pub new_package : {M : Type 0} → List ℕ → Parts → PackageMeaning M

@@ -1,14 +1,14 @@
 -- What a workspace gives to its packages, and which trees say so.
-use Rattle.std.specs.Prelude.{◌⊎◌, ℕ, List, [], ◌∷◌, codes, map, true, Option, Some, option_map, option_and_then, string_bytes}
+use Rattle.std.specs.Prelude.{ℕ, List, map, true, Option, Some, option_map, option_and_then, string_bytes}
 use Rattle.semver.specs.Identifiers.{parts_of}
-use Rattle.toml.specs.Data.{Data, Members, as_str, as_table, get_member}
-use Rattle.cargo_toml_parts.specs.declared.error.Error.{Error}
+use Rattle.toml.specs.Data.{Data, Members, as_table}
 use Rattle.cargo_toml_parts.specs.declared.settings.Edition.{Edition}
-use Rattle.cargo_toml_parts.specs.Reads.{◌>>=◌, optional_of, given_of, list_of, list_refuses, optional_refuses, table_refuses, plain}
-use Rattle.cargo_toml_parts.specs.Settings.{edition_of, File, flag, file_of, file_meaning, Registries, everywhere, publish_of, publish_meaning, publish_refuses}
+use Rattle.cargo_toml_parts.specs.Reads.{◌>>=◌, list_of, optional_at, text_at}
+use Rattle.cargo_toml_parts.specs.Settings.{File, flag, file_of, file_meaning, Registries, everywhere, publish_of, publish_meaning}
 use Rattle.cargo_toml_parts.specs.Versions.{Parts, version_of}
 use Rattle.cargo_toml_manifest.specs.declared.template.PackageTemplate.{PackageTemplate}
-use Rattle.cargo_toml_manifest.specs.Keys.{some_refuses}
+use Rattle.cargo_toml_manifest.specs.Keys.{given_at}
+use Rattle.cargo_toml_manifest.specs.Packages.{edition_tree}
 
 -- what a template holds
 pub record TemplateMeaning : Type 0 where
@@ -52,22 +52,22 @@ template_meaning t = record {
 -- the template of a table
 abbrev pub template_of : Members → Option TemplateMeaning
 template_of ms = do
-  authors ← optional_of list_of (get_member (codes "authors") ms)
-  categories ← optional_of list_of (get_member (codes "categories") ms)
-  description ← optional_of as_str (get_member (codes "description") ms)
-  documentation ← optional_of as_str (get_member (codes "documentation") ms)
-  edition ← optional_of (λ d. option_and_then edition_of (as_str d)) (get_member (codes "edition") ms)
-  exclude ← optional_of list_of (get_member (codes "exclude") ms)
-  homepage ← optional_of as_str (get_member (codes "homepage") ms)
-  include ← optional_of list_of (get_member (codes "include") ms)
-  keywords ← optional_of list_of (get_member (codes "keywords") ms)
-  license ← optional_of as_str (get_member (codes "license") ms)
-  license_file ← optional_of as_str (get_member (codes "license-file") ms)
-  publish ← given_of publish_of (everywhere true) (get_member (codes "publish") ms)
-  readme ← given_of file_of (flag true) (get_member (codes "readme") ms)
-  repository ← optional_of as_str (get_member (codes "repository") ms)
-  rust_version ← optional_of as_str (get_member (codes "rust-version") ms)
-  version ← optional_of version_of (get_member (codes "version") ms)
+  authors ← optional_at "authors" list_of ms
+  categories ← optional_at "categories" list_of ms
+  description ← text_at "description" ms
+  documentation ← text_at "documentation" ms
+  edition ← optional_at "edition" edition_tree ms
+  exclude ← optional_at "exclude" list_of ms
+  homepage ← text_at "homepage" ms
+  include ← optional_at "include" list_of ms
+  keywords ← optional_at "keywords" list_of ms
+  license ← text_at "license" ms
+  license_file ← text_at "license-file" ms
+  publish ← given_at "publish" publish_of (everywhere true) ms
+  readme ← given_at "readme" file_of (flag true) ms
+  repository ← text_at "repository" ms
+  rust_version ← text_at "rust-version" ms
+  version ← optional_at "version" version_of ms
   Some (record {
     authors = authors;
     categories = categories;
@@ -87,26 +87,7 @@ template_of ms = do
     version = version;
   })
 
--- the keys with a list of texts
-abbrev pub list_keys : List (List ℕ)
-list_keys = codes "authors" ∷ codes "categories" ∷ codes "exclude" ∷ codes "include" ∷ codes "keywords" ∷ []
-
--- the keys with one value
-abbrev pub value_keys : List (List ℕ)
-value_keys =
-    codes "description" ∷ codes "documentation" ∷ codes "edition" ∷ codes "homepage" ∷ codes "license"
-    ∷ codes "license-file" ∷ codes "readme" ∷ codes "repository" ∷ codes "rust-version" ∷ codes "version" ∷ []
-
--- what may be wrong with a template
-abbrev pub template_refuses : Members → Error → Type 0
-template_refuses ms e =
-    some_refuses list_refuses list_keys ms e
-    ⊎ some_refuses plain value_keys ms e
-    ⊎ optional_refuses publish_refuses (get_member (codes "publish") ms) e
-
--- the template of a tree
+-- the template of a tree; what may be wrong is a shape
 abbrev pub template_tree : Data → Option TemplateMeaning
 template_tree d = option_and_then template_of (as_table d)
 
-abbrev pub template_tree_refuses : Data → Error → Type 0
-template_tree_refuses d e = table_refuses template_refuses (as_table d) e

@@ -4,7 +4,9 @@
 pub mod manifest;
 pub mod package;
 pub mod template;
+pub mod workspace;
 
 pub use manifest::Manifest;
 pub use package::Package;
 pub use template::PackageTemplate;
+pub use workspace::Workspace;

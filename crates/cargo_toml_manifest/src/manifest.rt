@@ -70,7 +70,7 @@ fn read_table<Metadata: FromValue>(
     alloc: Global,
     table: &Table,
 ) -> Result<Manifest<Metadata>, Error>
-    ensures { IsReading (manifest_meaning Metadata.meaning) (manifest_of Metadata.from_tree (table_view table.now)) (manifest_refuses Metadata.from_refuses (table_view table.now)) result }
+    ensures { IsReading (manifest_meaning Metadata.meaning) (manifest_of Metadata.from_tree (table_view table.now)) (manifest_refuses Metadata.from_tree Metadata.from_refuses (table_view table.now)) result }
 {
     let package = optional(alloc, table, "package")?;
     let dependencies = map(alloc, table, "dependencies")?;
@@ -89,7 +89,7 @@ impl<Metadata: FromValue> Read for Manifest<Metadata> {
 
     ghost reads = { manifest_tree Metadata.from_tree };
 
-    ghost refuses = { manifest_tree_refuses Metadata.from_refuses };
+    ghost refuses = { manifest_tree_refuses Metadata.from_tree Metadata.from_refuses };
 
     fn read(alloc: Global, value: &Value) -> Result<Manifest<Metadata>, Error> {
         read_table(alloc, as_table(value)?)
@@ -111,7 +111,7 @@ impl<Metadata> Manifest<Metadata> {
 
 impl<Metadata: FromValue> Manifest<Metadata> {
     pub fn from_slice_with_metadata(alloc: Global, bytes: &[u8]) -> Result<Manifest<Metadata>, Error>
-        ensures { IsFromBytes (manifest_meaning Metadata.meaning) (manifest_tree Metadata.from_tree) (manifest_tree_refuses Metadata.from_refuses) bytes.now result }
+        ensures { IsFromBytes (manifest_meaning Metadata.meaning) (manifest_tree Metadata.from_tree) (manifest_tree_refuses Metadata.from_tree Metadata.from_refuses) bytes.now result }
     {
         match str::from_utf8(bytes) {
             Ok(text) => Manifest::from_text(alloc, text),
@@ -120,7 +120,7 @@ impl<Metadata: FromValue> Manifest<Metadata> {
     }
 
     fn from_text(alloc: Global, text: &str) -> Result<Manifest<Metadata>, Error>
-        ensures { IsFromText (manifest_meaning Metadata.meaning) (manifest_tree Metadata.from_tree) (manifest_tree_refuses Metadata.from_refuses) (parse_document text.now) result }
+        ensures { IsFromText (manifest_meaning Metadata.meaning) (manifest_tree Metadata.from_tree) (manifest_tree_refuses Metadata.from_tree Metadata.from_refuses) (parse_document text.now) result }
     {
         let table = toml::table_from_str(alloc, text)?;
         if !table_has_no_float(&table) {
@@ -132,13 +132,13 @@ impl<Metadata: FromValue> Manifest<Metadata> {
 
 impl Manifest {
     pub fn from_slice(alloc: Global, bytes: &[u8]) -> Result<Manifest, Error>
-        ensures { IsFromBytes (manifest_meaning view) (manifest_tree any_tree) (manifest_tree_refuses any_refuses) bytes.now result }
+        ensures { IsFromBytes (manifest_meaning view) (manifest_tree any_tree) (manifest_tree_refuses any_tree any_refuses) bytes.now result }
     {
         Manifest::from_slice_with_metadata(alloc, bytes)
     }
 
     pub fn from_str(alloc: Global, text: &str) -> Result<Manifest, Error>
-        ensures { IsFromText (manifest_meaning view) (manifest_tree any_tree) (manifest_tree_refuses any_refuses) (parse_document text.now) result }
+        ensures { IsFromText (manifest_meaning view) (manifest_tree any_tree) (manifest_tree_refuses any_tree any_refuses) (parse_document text.now) result }
     {
         Manifest::from_text(alloc, text)
     }

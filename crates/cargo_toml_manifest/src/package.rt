@@ -179,7 +179,7 @@ fn read_table<Metadata: FromValue>(
     alloc: Global,
     table: &Table,
 ) -> Result<Package<Metadata>, Error>
-    ensures { IsReading (package_meaning Metadata.meaning) (package_of Metadata.from_tree (table_view table.now)) (package_refuses Metadata.from_refuses (table_view table.now)) result }
+    ensures { IsReading (package_meaning Metadata.meaning) (package_of Metadata.from_tree (table_view table.now)) (package_refuses Metadata.from_tree Metadata.from_refuses (table_view table.now)) result }
 {
     let name = required(alloc, table, "name")?;
     let version = version(alloc, table)?;
@@ -248,7 +248,7 @@ impl<Metadata: FromValue> Read for Package<Metadata> {
 
     ghost reads = { package_tree Metadata.from_tree };
 
-    ghost refuses = { package_tree_refuses Metadata.from_refuses };
+    ghost refuses = { package_tree_refuses Metadata.from_tree Metadata.from_refuses };
 
     fn read(alloc: Global, value: &Value) -> Result<Package<Metadata>, Error> {
         read_table(alloc, as_table(value)?)

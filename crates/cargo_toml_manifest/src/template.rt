@@ -2,8 +2,9 @@
 ghost use Rattle.std.specs.Prelude.{◌≡◌, Some, None};
 ghost use Rattle.toml.specs.Data.{no_members};
 ghost use Rattle.toml.specs.View.{table_view};
-ghost use Rattle.cargo_toml_parts.specs.Reads.{IsReading};
-ghost use Rattle.cargo_toml_manifest.specs.Templates.{TemplateMeaning, template_meaning, template_of, template_refuses, template_tree, template_tree_refuses};
+ghost use Rattle.cargo_toml_parts.specs.Faults.{IsShape, wrong_shape};
+ghost use Rattle.cargo_toml_parts.specs.Reads.{IsReading, plain};
+ghost use Rattle.cargo_toml_manifest.specs.Templates.{TemplateMeaning, template_meaning, template_of, template_tree};
 
 use cargo_toml_parts::read::{Read, as_table, given, optional};
 use cargo_toml_parts::{Edition, Error, OptionalFile, Publish};
@@ -93,7 +94,7 @@ impl PackageTemplate {
 }
 
 fn read_table(alloc: Global, table: &Table) -> Result<PackageTemplate, Error>
-    ensures { IsReading template_meaning (template_of (table_view table.now)) (template_refuses (table_view table.now)) result }
+    ensures { IsReading template_meaning (template_of (table_view table.now)) (IsShape wrong_shape) result }
 {
     let authors = optional(alloc, table, "authors")?;
     let categories = optional(alloc, table, "categories")?;
@@ -138,7 +139,7 @@ impl Read for PackageTemplate {
 
     ghost reads = { template_tree };
 
-    ghost refuses = { template_tree_refuses };
+    ghost refuses = { plain };
 
     fn read(alloc: Global, value: &Value) -> Result<PackageTemplate, Error> {
         read_table(alloc, as_table(value)?)

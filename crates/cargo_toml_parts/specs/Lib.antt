@@ -1,9 +1,13 @@
+pub mod Badges
 pub mod Dependencies
 pub mod Faults
 pub mod Floats
 pub mod InheritableLaws
 pub mod Inherits
+pub mod Numbers
+pub mod Products
 pub mod ProfileSettings
+pub mod Profiles
 pub mod Reads
 pub mod Settings
 pub mod Versions

@@ -1,5 +1,7 @@
 -- Steps that may fail, one after the other.
-use Rattle.std.proofs.Common.{◌≡◌, ◌⊎◌, inl, inr, Option, Some, None, option_and_then, option_map, refl}
+use Rattle.std.proofs.Common.{Result, Ok, Err, ◌≡◌, ◌⊎◌, inl, inr, Option, Some, None, option_and_then, option_map, refl}
+use Rattle.cargo_toml_parts.specs.declared.error.Error.{Error}
+use Rattle.cargo_toml_parts.specs.Reads.{IsReading}
 
 -- a step that fails, and one that goes on to a step that fails
 pub stops : {A B : Type 0} (o : Option A) (f : A → Option B) → o ≡ None → option_and_then f o ≡ None
@@ -34,3 +36,9 @@ same (Some x) = refl
 
 pub then_same : {A B : Type 0} (o : Option (Option A)) (f : Option A → Option B) (x : Option A) (r : Option B) → o ≡ Some (option_map (λ (y : A). y) x) → f x ≡ r → option_and_then f o ≡ r
 then_same o f x r e h = rw (e, same x) h
+
+-- a fault that is told by fewer words
+pub retold : {X M : Type 0} (meaning : X → M) (given : Option M) (told again : Error → Type 0) (r : Result X Error) → ((e : Error) → told e → again e) → IsReading meaning given told r → IsReading meaning given again r
+retold meaning given told again (Ok x) f h = h
+retold meaning given told again (Err e) f (inl memory) = inl memory
+retold meaning given told again (Err e) f (inr (none, fault)) = inr (none, f e fault)

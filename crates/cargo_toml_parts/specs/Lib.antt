@@ -1,13 +1,16 @@
 pub mod Badges
 pub mod Dependencies
 pub mod Faults
+pub mod Features
 pub mod Floats
 pub mod InheritableLaws
 pub mod Inherits
+pub mod Lints
 pub mod Numbers
 pub mod Products
 pub mod ProfileSettings
 pub mod Profiles
 pub mod Reads
 pub mod Settings
+pub mod Targets
 pub mod Versions

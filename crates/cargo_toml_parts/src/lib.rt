@@ -5,14 +5,17 @@
 pub mod badge;
 pub mod dependency;
 pub mod error;
+pub mod feature;
 pub mod floats;
 pub mod inheritable;
+pub mod lint;
 pub mod numbers;
 pub mod product;
 pub mod profile;
 pub mod profile_settings;
 pub mod read;
 pub mod settings;
+pub mod target;
 pub mod value;
 pub mod versions;
 
@@ -20,8 +23,10 @@ pub use badge::{Badge, Badges, Maintenance, MaintenanceStatus};
 pub use dependency::{Dependency, DependencyDetail, InheritedDependencyDetail};
 pub use error::{Error, ParseFault};
 pub use inheritable::Inheritable;
+pub use lint::{Lint, LintGroups, LintLevel, LintSet};
 pub use product::Product;
 pub use profile::{Profile, Profiles};
 pub use profile_settings::{DebugSetting, LtoSetting, StripSetting};
 pub use settings::{Edition, OptionalFile, Publish, Resolver};
+pub use target::{DepsSet, FeatureSet, PatchSet, Target, TargetDepsSet};
 pub use value::FromValue;

@@ -17,6 +17,10 @@ pub at_given_shape : {M : Type 0} (reads : Data → Option M) (refuses : Data �
 at_given_shape reads refuses missing None e shape (none, fault) = fault
 at_given_shape reads refuses missing (Some d) e shape (none, fault) = (none, shape d fault)
 
+pub at_given_plain : {M : Type 0} (reads : Data → Option M) (missing : M) (o : Option Data) (e : Error) → (given_of reads missing o ≡ None) × IsShape wrong_shape e → Faulty reads plain o e
+at_given_plain reads missing None e (none, fault) = absurd cc
+at_given_plain reads missing (Some d) e (none, fault) = (none, fault)
+
 -- a map of such values
 of_table : (refuses : Data → Error → Type 0) (t : Option Members) (e : Error) → ((d : Data) → refuses d e → IsShape wrong_shape e) → table_refuses (members_refuse refuses) t e → IsShape wrong_shape e
 of_table refuses None e shape fault = fault

@@ -80,18 +80,18 @@ package_meaning f p = record {
 }
 
 -- the edition and the resolver that a text names
-abbrev pub edition_tree : Data → Option Edition
-edition_tree d = option_and_then edition_of (as_str d)
+abbrev pub edition_reads : Data → Option Edition
+edition_reads d = option_and_then edition_of (as_str d)
 
-abbrev pub resolver_tree : Data → Option Resolver
-resolver_tree d = option_and_then resolver_of (as_str d)
+abbrev pub resolver_reads : Data → Option Resolver
+resolver_reads d = option_and_then resolver_of (as_str d)
 
 -- the package of a table, whose metadata is read as `metadata_of` says
 abbrev pub package_of : {M : Type 0} → (Data → Option M) → Members → Option (PackageMeaning M)
 package_of metadata_of ms = do
   name ← required_at "name" as_str ms
-  version ← inherited_at "version" version_of (0, 0, 0, [], []) ms
-  edition ← inherited_at "edition" edition_tree E2015 ms
+  version ← inherited_at "version" (0, 0, 0, [], []) version_of ms
+  edition ← inherited_at "edition" E2015 edition_reads ms
   rust_version ← inherited_text_at "rust-version" ms
   build ← optional_at "build" file_of ms
   workspace ← text_at "workspace" ms
@@ -100,7 +100,7 @@ package_of metadata_of ms = do
   description ← inherited_text_at "description" ms
   homepage ← inherited_text_at "homepage" ms
   documentation ← inherited_text_at "documentation" ms
-  readme ← inherited_at "readme" file_of (flag true) ms
+  readme ← inherited_at "readme" (flag true) file_of ms
   keywords ← inherited_list_at "keywords" ms
   categories ← inherited_list_at "categories" ms
   exclude ← inherited_list_at "exclude" ms
@@ -114,8 +114,8 @@ package_of metadata_of ms = do
   autoexamples ← flag_at "autoexamples" true ms
   autotests ← flag_at "autotests" true ms
   autobenches ← flag_at "autobenches" true ms
-  publish ← inherited_at "publish" publish_of (everywhere true) ms
-  resolver ← optional_at "resolver" resolver_tree ms
+  publish ← inherited_at "publish" (everywhere true) publish_of ms
+  resolver ← optional_at "resolver" resolver_reads ms
   metadata ← optional_at "metadata" metadata_of ms
   Some (record {
     name = name;
@@ -149,11 +149,11 @@ package_of metadata_of ms = do
   })
 
 -- what may be wrong with a package
-abbrev pub package_refuses : {M : Type 0} → (Data → Option M) → (Data → Error → Type 0) → Members → Error → Type 0
-package_refuses metadata_of metadata_refuses ms e =
+abbrev pub package_faults : {M : Type 0} → (Data → Option M) → (Data → Error → Type 0) → Members → Error → Type 0
+package_faults metadata_of metadata_refuses ms e =
     ((required_at "name" as_str ms ≡ None) × IsShape wrong_shape e)
     ⊎ fault_at "version" (inheritable_of version_of) inheritable_refuses ms e
-    ⊎ fault_at "edition" (inheritable_of edition_tree) inheritable_refuses ms e
+    ⊎ fault_at "edition" (inheritable_of edition_reads) inheritable_refuses ms e
     ⊎ faults_at ("rust-version" ∷ "description" ∷ "homepage" ∷ "documentation" ∷ "license" ∷ "license-file" ∷ "repository" ∷ []) (inheritable_of as_str) inheritable_refuses ms e
     ⊎ faults_at ("authors" ∷ "keywords" ∷ "categories" ∷ "exclude" ∷ "include" ∷ []) (inheritable_of list_of) inheritable_refuses ms e
     ⊎ fault_at "readme" (inheritable_of file_of) inheritable_refuses ms e
@@ -161,15 +161,15 @@ package_refuses metadata_of metadata_refuses ms e =
     ⊎ fault_at "build" file_of plain ms e
     ⊎ faults_at ("workspace" ∷ "links" ∷ "default-run" ∷ []) as_str plain ms e
     ⊎ faults_at ("autobins" ∷ "autolib" ∷ "autoexamples" ∷ "autotests" ∷ "autobenches" ∷ []) as_bool plain ms e
-    ⊎ fault_at "resolver" resolver_tree plain ms e
+    ⊎ fault_at "resolver" resolver_reads plain ms e
     ⊎ fault_at "metadata" metadata_of metadata_refuses ms e
 
 -- the package of a tree
-abbrev pub package_tree : {M : Type 0} → (Data → Option M) → Data → Option (PackageMeaning M)
-package_tree metadata_of d = option_and_then (package_of metadata_of) (as_table d)
+abbrev pub package_reads : {M : Type 0} → (Data → Option M) → Data → Option (PackageMeaning M)
+package_reads metadata_of d = option_and_then (package_of metadata_of) (as_table d)
 
-abbrev pub package_tree_refuses : {M : Type 0} → (Data → Option M) → (Data → Error → Type 0) → Data → Error → Type 0
-package_tree_refuses metadata_of metadata_refuses d e = table_refuses (package_refuses metadata_of metadata_refuses) (as_table d) e
+abbrev pub package_refuses : {M : Type 0} → (Data → Option M) → (Data → Error → Type 0) → Data → Error → Type 0
+package_refuses metadata_of metadata_refuses d e = table_refuses (package_faults metadata_of metadata_refuses) (as_table d) e
 
 -- a package that was just made: edition 2021, and every other key as where it is missing
 abbrev pub new_package : {M : Type 0} → List ℕ → Parts → PackageMeaning M

@@ -3,12 +3,11 @@ use Rattle.std.specs.Prelude.{ℕ, List, map, true, Option, Some, option_map, op
 use Rattle.semver.specs.Identifiers.{parts_of}
 use Rattle.toml.specs.Data.{Data, Members, as_table}
 use Rattle.cargo_toml_parts.specs.declared.settings.Edition.{Edition}
-use Rattle.cargo_toml_parts.specs.Reads.{◌>>=◌, list_of, optional_at, text_at}
+use Rattle.cargo_toml_parts.specs.Reads.{◌>>=◌, list_of, optional_at, given_at, text_at}
 use Rattle.cargo_toml_parts.specs.Settings.{File, flag, file_of, file_meaning, Registries, everywhere, publish_of, publish_meaning}
 use Rattle.cargo_toml_parts.specs.Versions.{Parts, version_of}
 use Rattle.cargo_toml_manifest.specs.declared.template.PackageTemplate.{PackageTemplate}
-use Rattle.cargo_toml_manifest.specs.Keys.{given_at}
-use Rattle.cargo_toml_manifest.specs.Packages.{edition_tree}
+use Rattle.cargo_toml_manifest.specs.Packages.{edition_reads}
 
 -- what a template holds
 pub record TemplateMeaning : Type 0 where
@@ -56,15 +55,15 @@ template_of ms = do
   categories ← optional_at "categories" list_of ms
   description ← text_at "description" ms
   documentation ← text_at "documentation" ms
-  edition ← optional_at "edition" edition_tree ms
+  edition ← optional_at "edition" edition_reads ms
   exclude ← optional_at "exclude" list_of ms
   homepage ← text_at "homepage" ms
   include ← optional_at "include" list_of ms
   keywords ← optional_at "keywords" list_of ms
   license ← text_at "license" ms
   license_file ← text_at "license-file" ms
-  publish ← given_at "publish" publish_of (everywhere true) ms
-  readme ← given_at "readme" file_of (flag true) ms
+  publish ← given_at "publish" (everywhere true) publish_of ms
+  readme ← given_at "readme" (flag true) file_of ms
   repository ← text_at "repository" ms
   rust_version ← text_at "rust-version" ms
   version ← optional_at "version" version_of ms
@@ -88,6 +87,6 @@ template_of ms = do
   })
 
 -- the template of a tree; what may be wrong is a shape
-abbrev pub template_tree : Data → Option TemplateMeaning
-template_tree d = option_and_then template_of (as_table d)
+abbrev pub template_reads : Data → Option TemplateMeaning
+template_reads d = option_and_then template_of (as_table d)
 

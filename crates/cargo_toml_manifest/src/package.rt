@@ -7,7 +7,7 @@ ghost use Rattle.cargo_toml_parts.specs.declared.inheritable.Inheritable.TheVari
 ghost use Rattle.cargo_toml_parts.specs.Inherits.{inheritable_map, inheritable_of, inheritable_refuses};
 ghost use Rattle.cargo_toml_parts.specs.Reads.{IsReading, given_of, list_of, optional_refuses};
 ghost use Rattle.cargo_toml_parts.specs.Versions.{version_of};
-ghost use Rattle.cargo_toml_manifest.specs.Packages.{PackageMeaning, package_meaning, package_of, package_refuses, package_tree, package_tree_refuses, new_package};
+ghost use Rattle.cargo_toml_manifest.specs.Packages.{PackageMeaning, package_meaning, package_of, package_faults, package_reads, package_refuses, new_package};
 
 use cargo_toml_parts::read::{Read, as_table, given, optional, required};
 use cargo_toml_parts::value::metadata;
@@ -179,7 +179,7 @@ fn read_table<Metadata: FromValue>(
     alloc: Global,
     table: &Table,
 ) -> Result<Package<Metadata>, Error>
-    ensures { IsReading (package_meaning Metadata.meaning) (package_of Metadata.from_tree (table_view table.now)) (package_refuses Metadata.from_tree Metadata.from_refuses (table_view table.now)) result }
+    ensures { IsReading (package_meaning Metadata.meaning) (package_of Metadata.from_tree (table_view table.now)) (package_faults Metadata.from_tree Metadata.from_refuses (table_view table.now)) result }
 {
     let name = required(alloc, table, "name")?;
     let version = version(alloc, table)?;
@@ -246,9 +246,9 @@ impl<Metadata: FromValue> Read for Package<Metadata> {
 
     ghost meaning = { package_meaning Metadata.meaning };
 
-    ghost reads = { package_tree Metadata.from_tree };
+    ghost reads = { package_reads Metadata.from_tree };
 
-    ghost refuses = { package_tree_refuses Metadata.from_tree Metadata.from_refuses };
+    ghost refuses = { package_refuses Metadata.from_tree Metadata.from_refuses };
 
     fn read(alloc: Global, value: &Value) -> Result<Package<Metadata>, Error> {
         read_table(alloc, as_table(value)?)

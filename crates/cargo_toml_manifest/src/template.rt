@@ -4,7 +4,7 @@ ghost use Rattle.toml.specs.Data.{no_members};
 ghost use Rattle.toml.specs.View.{table_view};
 ghost use Rattle.cargo_toml_parts.specs.Faults.{IsShape, wrong_shape};
 ghost use Rattle.cargo_toml_parts.specs.Reads.{IsReading, plain};
-ghost use Rattle.cargo_toml_manifest.specs.Templates.{TemplateMeaning, template_meaning, template_of, template_tree};
+ghost use Rattle.cargo_toml_manifest.specs.Templates.{TemplateMeaning, template_meaning, template_of, template_reads};
 
 use cargo_toml_parts::read::{Read, as_table, given, optional};
 use cargo_toml_parts::{Edition, Error, OptionalFile, Publish};
@@ -137,7 +137,7 @@ impl Read for PackageTemplate {
 
     ghost meaning = { template_meaning };
 
-    ghost reads = { template_tree };
+    ghost reads = { template_reads };
 
     ghost refuses = { plain };
 

@@ -3,12 +3,12 @@ ghost use Rattle.std.specs.Prelude.{◌≡◌, Option, Some};
 ghost use Rattle.toml.specs.Data.{Data, no_members};
 ghost use Rattle.toml.specs.View.{table_view};
 ghost use Rattle.cargo_toml_parts.specs.Reads.{IsReading};
-ghost use Rattle.cargo_toml_manifest.specs.Workspaces.{WorkspaceMeaning, workspace_meaning, workspace_of, workspace_refuses, workspace_tree, workspace_tree_refuses};
+ghost use Rattle.cargo_toml_manifest.specs.Workspaces.{WorkspaceMeaning, workspace_meaning, workspace_of, workspace_faults, workspace_reads, workspace_refuses};
 
 use crate::template::PackageTemplate;
 use cargo_toml_parts::read::{Read, as_table, list, map, optional};
 use cargo_toml_parts::value::metadata;
-use cargo_toml_parts::{Dependency, Error, FromValue, Resolver};
+use cargo_toml_parts::{DepsSet, Error, FromValue, LintGroups, Resolver};
 use std::alloc::Global;
 use std::collections::BTreeMap;
 use toml::{Table, Value};
@@ -38,7 +38,10 @@ pub struct Workspace<Metadata = Value> {
     pub resolver: Option<Resolver>,
 
     /// The dependencies that members may take from the workspace.
-    pub dependencies: BTreeMap<String, Dependency>,
+    pub dependencies: DepsSet,
+
+    /// The lints that members may take from the workspace.
+    pub lints: LintGroups,
 }
 
 impl<Metadata> Workspace<Metadata> {
@@ -54,6 +57,7 @@ impl<Metadata> Workspace<Metadata> {
             metadata: None,
             resolver: None,
             dependencies: BTreeMap::new(alloc),
+            lints: BTreeMap::new(alloc),
         }
     }
 }
@@ -62,7 +66,7 @@ fn read_table<Metadata: FromValue>(
     alloc: Global,
     table: &Table,
 ) -> Result<Workspace<Metadata>, Error>
-    ensures { IsReading (workspace_meaning Metadata.meaning) (workspace_of Metadata.from_tree (table_view table.now)) (workspace_refuses Metadata.from_tree Metadata.from_refuses (table_view table.now)) result }
+    ensures { IsReading (workspace_meaning Metadata.meaning) (workspace_of Metadata.from_tree (table_view table.now)) (workspace_faults Metadata.from_tree Metadata.from_refuses (table_view table.now)) result }
 {
     let members = list(alloc, table, "members")?;
     let default_members = list(alloc, table, "default-members")?;
@@ -71,6 +75,7 @@ fn read_table<Metadata: FromValue>(
     let metadata = metadata(alloc, table, "metadata")?;
     let resolver = optional(alloc, table, "resolver")?;
     let dependencies = map(alloc, table, "dependencies")?;
+    let lints = map(alloc, table, "lints")?;
     Ok(Workspace {
         members,
         default_members,
@@ -79,6 +84,7 @@ fn read_table<Metadata: FromValue>(
         metadata,
         resolver,
         dependencies,
+        lints,
     })
 }
 
@@ -87,9 +93,9 @@ impl<Metadata: FromValue> Read for Workspace<Metadata> {
 
     ghost meaning = { workspace_meaning Metadata.meaning };
 
-    ghost reads = { workspace_tree Metadata.from_tree };
+    ghost reads = { workspace_reads Metadata.from_tree };
 
-    ghost refuses = { workspace_tree_refuses Metadata.from_tree Metadata.from_refuses };
+    ghost refuses = { workspace_refuses Metadata.from_tree Metadata.from_refuses };
 
     fn read(alloc: Global, value: &Value) -> Result<Workspace<Metadata>, Error> {
         read_table(alloc, as_table(value)?)

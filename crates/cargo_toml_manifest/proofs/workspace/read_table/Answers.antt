@@ -40,7 +40,12 @@ returns-in_err-resolver g c =
 pub returns-in_err-dependencies : goal.returns-in_err-dependencies
 returns-in_err-dependencies g c =
     let p = err_from_is_err_and c.from_residual-in_err-dependencies.result c.from_residual-in_err-dependencies.ensures.1 in
-    rw (p.1, p.2) (blames_with c.in_err-dependencies.ensures (λ none. goes_on _ _ _ c.in_ok-members.ensures (goes_on _ _ _ c.in_ok-default_members.ensures (goes_on _ _ _ c.in_ok-package.ensures (goes_on _ _ _ c.in_ok-exclude.ensures (goes_on _ _ _ c.in_ok-metadata.ensures (goes_on _ _ _ c.in_ok-resolver.ensures (stops _ _ none))))))) (λ fault. inr (inr (inr (inr ((at_given_shape _ (map_refuses plain) _ _ _ (of_map plain _ (λ d shape. shape)) fault)))))))
+    rw (p.1, p.2) (blames_with c.in_err-dependencies.ensures (λ none. goes_on _ _ _ c.in_ok-members.ensures (goes_on _ _ _ c.in_ok-default_members.ensures (goes_on _ _ _ c.in_ok-package.ensures (goes_on _ _ _ c.in_ok-exclude.ensures (goes_on _ _ _ c.in_ok-metadata.ensures (goes_on _ _ _ c.in_ok-resolver.ensures (stops _ _ none))))))) (λ fault. inr (inr (inr (inr (inl ((at_given_shape _ (map_refuses plain) _ _ _ (of_map plain _ (λ d shape. shape)) fault))))))))
+
+pub returns-in_err-lints : goal.returns-in_err-lints
+returns-in_err-lints g c =
+    let p = err_from_is_err_and c.from_residual-in_err-lints.result c.from_residual-in_err-lints.ensures.1 in
+    rw (p.1, p.2) (blames_with c.in_err-lints.ensures (λ none. goes_on _ _ _ c.in_ok-members.ensures (goes_on _ _ _ c.in_ok-default_members.ensures (goes_on _ _ _ c.in_ok-package.ensures (goes_on _ _ _ c.in_ok-exclude.ensures (goes_on _ _ _ c.in_ok-metadata.ensures (goes_on _ _ _ c.in_ok-resolver.ensures (goes_on _ _ _ c.in_ok-dependencies.ensures (stops _ _ none)))))))) (λ fault. inr (inr (inr (inr (inr ((at_given_shape _ (map_refuses (map_refuses plain)) _ _ _ (of_map (map_refuses plain) _ (of_map plain _ (λ d shape. shape))) fault))))))))
 
 pub returns : goal.returns
-returns g c = then _ _ _ _ c.in_ok-members.ensures (then _ _ _ _ c.in_ok-default_members.ensures (then _ _ _ _ c.in_ok-package.ensures (then _ _ _ _ c.in_ok-exclude.ensures (then _ _ _ _ c.in_ok-metadata.ensures (then _ _ _ _ c.in_ok-resolver.ensures (then _ _ _ _ c.in_ok-dependencies.ensures refl))))))
+returns g c = then _ _ _ _ c.in_ok-members.ensures (then _ _ _ _ c.in_ok-default_members.ensures (then _ _ _ _ c.in_ok-package.ensures (then _ _ _ _ c.in_ok-exclude.ensures (then _ _ _ _ c.in_ok-metadata.ensures (then _ _ _ _ c.in_ok-resolver.ensures (then _ _ _ _ c.in_ok-dependencies.ensures (then _ _ _ _ c.in_ok-lints.ensures refl)))))))

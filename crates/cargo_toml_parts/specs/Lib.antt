@@ -12,5 +12,6 @@ pub mod ProfileSettings
 pub mod Profiles
 pub mod Reads
 pub mod Settings
+pub mod SettingsLaws
 pub mod Targets
 pub mod Versions

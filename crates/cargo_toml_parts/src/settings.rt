@@ -6,6 +6,7 @@ ghost use Rattle.cargo_toml_parts.specs.Faults.{IsShape, wrong_shape};
 use crate::error::Error;
 use crate::read::{Read, wrong_shape};
 use std::alloc::Global;
+use std::fmt;
 use toml::Value;
 
 /// The edition of the Rust language that a package is written in: the key `edition`, a text. It is ordered by year, and a
@@ -164,5 +165,36 @@ impl Read for Publish {
             Some(flag) => Ok(Publish::Flag(flag)),
             None => Ok(Publish::Registry(Vec::read(alloc, value)?)),
         }
+    }
+}
+
+impl fmt::Display for Edition {
+    ghost use Rattle.std.specs.Prelude.{Some};
+    ghost use Rattle.cargo_toml_parts.specs.Settings.{edition_text};
+
+    ghost output = { λ x. Some (edition_text x) };
+
+    fn fmt<W: fmt::Write>(&self, f: &mut fmt::Formatter<W>) -> fmt::Result {
+        f.write_str(match self {
+            Edition::E2015 => "2015",
+            Edition::E2018 => "2018",
+            Edition::E2021 => "2021",
+            Edition::E2024 => "2024",
+        })
+    }
+}
+
+impl fmt::Display for Resolver {
+    ghost use Rattle.std.specs.Prelude.{Some};
+    ghost use Rattle.cargo_toml_parts.specs.Settings.{resolver_text};
+
+    ghost output = { λ x. Some (resolver_text x) };
+
+    fn fmt<W: fmt::Write>(&self, f: &mut fmt::Formatter<W>) -> fmt::Result {
+        f.write_str(match self {
+            Resolver::V1 => "1",
+            Resolver::V2 => "2",
+            Resolver::V3 => "3",
+        })
     }
 }

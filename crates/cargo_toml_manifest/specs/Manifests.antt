@@ -66,18 +66,18 @@ abbrev pub is_zero : Inheritable Parts → Bool
 is_zero (Set p) = (p.0 == 0) && ((p.1 == 0) && ((p.2 == 0) && ((length p.3 == 0) && (length p.4 == 0))))
 is_zero Inherited = false
 
+-- nothing says where the package may be published, or `true` does
 abbrev pub is_everywhere : Inheritable Registries → Bool
 is_everywhere (Set (everywhere b)) = b
 is_everywhere (Set (among names)) = false
 is_everywhere Inherited = false
 
--- a package without a version of its own, which nothing else keeps from being published
-abbrev pub is_unpublished : {M : Type 0} → PackageMeaning M → Bool
-is_unpublished p = is_zero p.version && is_everywhere p.publish
+-- the rule of version 0.0.0: such a package that could be published everywhere is published nowhere
+abbrev pub zero_rule_applies : {M : Type 0} → PackageMeaning M → Bool
+zero_rule_applies p = is_zero p.version && is_everywhere p.publish
 
--- such a package is published nowhere
-abbrev pub settled : {M : Type 0} → PackageMeaning M → PackageMeaning M
-settled p = if is_unpublished p then record p { publish = Set (everywhere false) } else p
+abbrev pub by_zero_rule : {M : Type 0} → PackageMeaning M → PackageMeaning M
+by_zero_rule p = if zero_rule_applies p then record p { publish = Set (everywhere false) } else p
 
 -- the parts of a tree
 abbrev pub target_reads : Data → Option TargetMeaning
@@ -123,7 +123,7 @@ manifest_of metadata_of ms = do
   example ← given_at "example" [] (array_of product_reads) ms
   lints ← inherited_at "lints" [] (map_of (map_of lint_of)) ms
   Some (record {
-    «package» = option_map settled found;
+    «package» = option_map by_zero_rule found;
     workspace = workspace;
     dependencies = dependencies;
     dev_dependencies = dev_dependencies;

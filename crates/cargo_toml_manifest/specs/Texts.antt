@@ -1,8 +1,8 @@
 -- What is read of a text and of bytes.
-use Rattle.std.specs.Prelude.{◌≡◌, ◌⊎◌, ℕ, List, codes, Option, Some, None, Result, Ok, Err, IsUtf8}
+use Rattle.std.specs.Prelude.{◌⊎◌, ℕ, List, codes, Option, Some, None, Result, IsErrAnd, IsUtf8}
 use Rattle.toml.specs.Data.{Data, Members, table}
 use Rattle.toml.specs.Parse.{parse_document}
-use Rattle.cargo_toml_parts.specs.declared.error.Error.{Error, Memory}
+use Rattle.cargo_toml_parts.specs.declared.error.Error.{Error}
 use Rattle.cargo_toml_parts.specs.Faults.{IsOther, IsToml}
 use Rattle.cargo_toml_parts.specs.Floats.{without_floats, floats_or}
 use Rattle.cargo_toml_parts.specs.Reads.{IsReading}
@@ -19,14 +19,14 @@ document_refuses refuses (Some ms) e = floats_or refuses (table ms) e
 
 -- the answer to a text in which `toml` finds this document
 abbrev pub IsFromText : {X M : Type 0} → (X → M) → (Data → Option M) → (Data → Error → Type 0) → Option Members → Result X Error → Type 0
-IsFromText meaning reads refuses document result = IsReading meaning (document_reads reads document) (document_refuses refuses document) result
+IsFromText meaning reads refuses document result =
+    IsReading meaning (document_reads reads document) (document_refuses refuses document) result
 
--- the answer to bytes: those that are no text are refused before anything else
+-- the answer to bytes: those that are no text are refused as such, others are answered as the text that they spell
 abbrev pub IsFromBytes : {X M : Type 0} → (X → M) → (Data → Option M) → (Data → Error → Type 0) → List ℕ → Result X Error → Type 0
-IsFromBytes meaning reads refuses bytes (Ok x) = IsUtf8 bytes × (document_reads reads (parse_document bytes) ≡ Some (meaning x))
-IsFromBytes meaning reads refuses bytes (Err e) =
-    ((¬ IsUtf8 bytes) × IsOther (codes "utf8") e)
-    ⊎ (IsUtf8 bytes × ((e ≡ Memory) ⊎ ((document_reads reads (parse_document bytes) ≡ None) × document_refuses refuses (parse_document bytes) e)))
+IsFromBytes meaning reads refuses bytes result =
+    ((¬ IsUtf8 bytes) × IsErrAnd result (IsOther (codes "utf8")))
+    ⊎ (IsUtf8 bytes × IsFromText meaning reads refuses (parse_document bytes) result)
 
 -- the metadata of type `Value`: any tree that holds no float
 abbrev pub any_tree : Data → Option Data

@@ -7,6 +7,7 @@ ghost use Rattle.cargo_toml_parts.specs.declared.inheritable.Inheritable.TheVari
 ghost use Rattle.cargo_toml_parts.specs.Inherits.{inheritable_map, inheritable_of, inheritable_refuses};
 ghost use Rattle.cargo_toml_parts.specs.Reads.{IsReading, given_of, list_of, optional_refuses};
 ghost use Rattle.cargo_toml_parts.specs.Versions.{version_of};
+ghost use Rattle.cargo_toml_manifest.specs.Keys.{inherited_at};
 ghost use Rattle.cargo_toml_manifest.specs.Packages.{PackageMeaning, package_meaning, package_of, package_faults, package_reads, package_refuses, new_package};
 
 use cargo_toml_parts::read::{Read, as_table, given, optional, required};
@@ -158,7 +159,11 @@ impl<Metadata> Package<Metadata> {
 
 // A version that is 0.0.0 where its key is missing.
 fn version(alloc: Global, table: &Table) -> Result<Inheritable<Version>, Error>
-    ensures { IsReading (inheritable_map parts_of) (given_of (inheritable_of version_of) (Set (0, 0, 0, [], [])) (get_member (codes "version") (table_view table.now))) (optional_refuses inheritable_refuses (get_member (codes "version") (table_view table.now))) result }
+    ensures {
+        IsReading (inheritable_map parts_of)
+            (inherited_at "version" (0, 0, 0, [], []) version_of (table_view table.now))
+            (optional_refuses inheritable_refuses (get_member (codes "version") (table_view table.now))) result
+    }
 {
     given(
         alloc,
@@ -170,7 +175,11 @@ fn version(alloc: Global, table: &Table) -> Result<Inheritable<Version>, Error>
 
 // A list that is empty where its key is missing.
 fn texts(alloc: Global, table: &Table, key: &str) -> Result<Inheritable<Vec<String>>, Error>
-    ensures { IsReading (inheritable_map (λ v. map string_bytes v.items)) (given_of (inheritable_of list_of) (Set []) (get_member key.now (table_view table.now))) (optional_refuses inheritable_refuses (get_member key.now (table_view table.now))) result }
+    ensures {
+        IsReading (inheritable_map (λ v. map string_bytes v.items))
+            (given_of (inheritable_of list_of) (Set []) (get_member key.now (table_view table.now)))
+            (optional_refuses inheritable_refuses (get_member key.now (table_view table.now))) result
+    }
 {
     given(alloc, table, key, Inheritable::Set(Vec::new(alloc)))
 }
@@ -179,7 +188,10 @@ fn read_table<Metadata: FromValue>(
     alloc: Global,
     table: &Table,
 ) -> Result<Package<Metadata>, Error>
-    ensures { IsReading (package_meaning Metadata.meaning) (package_of Metadata.from_tree (table_view table.now)) (package_faults Metadata.from_tree Metadata.from_refuses (table_view table.now)) result }
+    ensures {
+        IsReading (package_meaning Metadata.meaning) (package_of Metadata.from_tree (table_view table.now))
+            (package_faults Metadata.from_tree Metadata.from_refuses (table_view table.now)) result
+    }
 {
     let name = required(alloc, table, "name")?;
     let version = version(alloc, table)?;

@@ -93,4 +93,4 @@ returns-in_err-lints g c =
     rw (p.1, p.2) (blames_with c.in_err-lints.ensures (λ none. goes_on _ _ _ c.in_ok-package.ensures (goes_on _ _ _ c.in_ok-workspace.ensures (goes_on _ _ _ c.in_ok-dependencies.ensures (goes_on _ _ _ c.in_ok-dev_dependencies.ensures (goes_on _ _ _ c.in_ok-build_dependencies.ensures (goes_on _ _ _ c.in_ok-target.ensures (goes_on _ _ _ c.in_ok-features.ensures (goes_on _ _ _ c.in_ok-replace.ensures (goes_on _ _ _ c.in_ok-patch.ensures (goes_on _ _ _ c.in_ok-lib.ensures (goes_on _ _ _ c.in_ok-profile.ensures (goes_on _ _ _ c.in_ok-badges.ensures (goes_on _ _ _ c.in_ok-bin.ensures (goes_on _ _ _ c.in_ok-bench.ensures (goes_on _ _ _ c.in_ok-test.ensures (goes_on _ _ _ c.in_ok-example.ensures (stops _ _ none))))))))))))))))) (λ fault. inr (inr (inr (inr (inr (inr (inr (inr (inr (inr (at_given _ _ _ _ _ fault))))))))))))
 
 pub returns : goal.returns
-returns g c = then _ _ _ _ c.in_ok-package.ensures (then _ _ _ _ c.in_ok-workspace.ensures (then _ _ _ _ c.in_ok-dependencies.ensures (then _ _ _ _ c.in_ok-dev_dependencies.ensures (then _ _ _ _ c.in_ok-build_dependencies.ensures (then _ _ _ _ c.in_ok-target.ensures (then _ _ _ _ c.in_ok-features.ensures (then _ _ _ _ c.in_ok-replace.ensures (then _ _ _ _ c.in_ok-patch.ensures (then _ _ _ _ c.in_ok-lib.ensures (then _ _ _ _ c.in_ok-profile.ensures (then _ _ _ _ c.in_ok-badges.ensures (then _ _ _ _ c.in_ok-bin.ensures (then _ _ _ _ c.in_ok-bench.ensures (then _ _ _ _ c.in_ok-test.ensures (then _ _ _ _ c.in_ok-example.ensures (then _ _ _ _ c.in_ok-lints.ensures (rw c.settled_option.ensures refl)))))))))))))))))
+returns g c = then _ _ _ _ c.in_ok-package.ensures (then _ _ _ _ c.in_ok-workspace.ensures (then _ _ _ _ c.in_ok-dependencies.ensures (then _ _ _ _ c.in_ok-dev_dependencies.ensures (then _ _ _ _ c.in_ok-build_dependencies.ensures (then _ _ _ _ c.in_ok-target.ensures (then _ _ _ _ c.in_ok-features.ensures (then _ _ _ _ c.in_ok-replace.ensures (then _ _ _ _ c.in_ok-patch.ensures (then _ _ _ _ c.in_ok-lib.ensures (then _ _ _ _ c.in_ok-profile.ensures (then _ _ _ _ c.in_ok-badges.ensures (then _ _ _ _ c.in_ok-bin.ensures (then _ _ _ _ c.in_ok-bench.ensures (then _ _ _ _ c.in_ok-test.ensures (then _ _ _ _ c.in_ok-example.ensures (then _ _ _ _ c.in_ok-lints.ensures (rw c.option_by_zero_rule.ensures refl)))))))))))))))))

@@ -4,6 +4,8 @@
 pub mod manifest;
 pub mod package;
 pub mod template;
+#[cfg(test)]
+mod tests;
 pub mod workspace;
 
 pub use manifest::Manifest;

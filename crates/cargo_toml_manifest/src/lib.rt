@@ -3,6 +3,12 @@
 
 pub mod manifest;
 pub mod package;
+pub mod template;
+#[cfg(test)]
+mod tests;
+pub mod workspace;
 
 pub use manifest::Manifest;
 pub use package::Package;
+pub use template::PackageTemplate;
+pub use workspace::Workspace;

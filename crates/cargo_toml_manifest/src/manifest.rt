@@ -1,59 +1,163 @@
-//! A manifest.
-ghost use Rattle.std.specs.Prelude.{◌≡◌, option_and_then};
-ghost use Rattle.toml.specs.Data.{as_table};
+//! A manifest, and how it is read of a text.
+ghost use Rattle.std.specs.Prelude.{◌≡◌, [], codes, Option, Some, option_map};
+ghost use Rattle.toml.specs.Data.{Data, get_member, no_members};
 ghost use Rattle.toml.specs.View.{view, table_view};
 ghost use Rattle.toml.specs.Parse.{parse_document};
-ghost use Rattle.cargo_toml_manifest.specs.Texts.{IsFromText, IsFromBytes, manifest_tree, manifest_tree_refuses};
-ghost use Rattle.cargo_toml_parts.specs.Reads.{IsReading, table_refuses};
-ghost use Rattle.cargo_toml_manifest.specs.Manifests.{ManifestMeaning, manifest_meaning, manifest_of, manifest_refuses};
+ghost use Rattle.cargo_toml_parts.specs.Badges.{badges_meaning};
+ghost use Rattle.cargo_toml_parts.specs.Faults.{IsShape, wrong_shape};
+ghost use Rattle.cargo_toml_parts.specs.Inherits.{inheritable_map, inheritable_refuses};
+ghost use Rattle.cargo_toml_parts.specs.Lints.{lint_meaning, lint_of};
+ghost use Rattle.cargo_toml_parts.specs.Profiles.{profiles_meaning};
+ghost use Rattle.cargo_toml_parts.specs.Reads.{IsReading, given_at, map_of, map_meaning, optional_refuses, plain};
+ghost use Rattle.cargo_toml_manifest.specs.Keys.{inherited_at};
+ghost use Rattle.cargo_toml_manifest.specs.Manifests.{ManifestMeaning, manifest_meaning, manifest_of, manifest_faults, manifest_reads, manifest_refuses, zero_rule_applies, by_zero_rule, no_profiles, profiles_reads, profiles_refuse, no_badges, badges_reads};
+ghost use Rattle.cargo_toml_manifest.specs.Packages.{package_meaning};
+ghost use Rattle.cargo_toml_manifest.specs.Texts.{IsFromText, IsFromBytes, any_tree, any_refuses};
 
 use crate::package::Package;
+use crate::workspace::Workspace;
+use cargo_toml_parts::feature::features;
 use cargo_toml_parts::floats::table_has_no_float;
-use cargo_toml_parts::read::{Read, as_table, map, optional};
+use cargo_toml_parts::read::{Read, as_table, given, list, map, optional};
 use cargo_toml_parts::value::floats_unsupported;
-use cargo_toml_parts::{Dependency, Error, FromValue};
+use cargo_toml_parts::{
+    Badges, DepsSet, Error, FeatureSet, FromValue, Inheritable, LintGroups, PatchSet, Product,
+    Profiles, Publish, TargetDepsSet,
+};
 use std::alloc::Global;
 use std::collections::BTreeMap;
 use std::str;
 use toml::{Table, Value};
 
+/// A `Cargo.toml`: a package, a workspace or both, with what they depend on and what is built of them.
+///
+/// `Metadata` is what the free tables `package.metadata` and `workspace.metadata` are read as: any tree, where no type is
+/// named. A key's `_` is written `-` in a manifest. A list or a map whose key is missing is empty, and any other field is
+/// then `None`, unless another value is named at the field; keys that are not listed here are ignored, such as those of
+/// Cargo's unstable features.
+///
+/// What is read is what stands in the text alone: libraries and binaries that Cargo finds by their place among the files
+/// are not in it, nor is what a package leaves to its workspace.
 #[derive(Clone, Debug, PartialEq, Drop)]
 pub struct Manifest<Metadata = Value> {
+    /// The package. One that would have the version 0.0.0 and be published everywhere is read as published nowhere.
     pub package: Option<Package<Metadata>>,
-    pub dependencies: BTreeMap<String, Dependency>,
-    pub features: BTreeMap<String, Vec<String>>,
+
+    /// What the manifest says of its workspace, where it is the workspace's root.
+    pub workspace: Option<Workspace<Metadata>>,
+
+    /// What the package depends on.
+    pub dependencies: DepsSet,
+
+    /// What its tests, examples and benchmarks depend on besides.
+    pub dev_dependencies: DepsSet,
+
+    /// What its build script depends on.
+    pub build_dependencies: DepsSet,
+
+    /// What it depends on besides on some platforms alone.
+    pub target: TargetDepsSet,
+
+    /// The features that are written down, with what each enables. Optional dependencies make further ones.
+    pub features: FeatureSet,
+
+    /// Packages that stand for others. Cargo has `patch` in its place.
+    pub replace: DepsSet,
+
+    /// Packages that stand for others, by the source of those.
+    pub patch: PatchSet,
+
+    /// The library.
+    pub lib: Option<Product>,
+
+    /// How the code is compiled. Missing: no profile.
+    pub profile: Profiles,
+
+    /// Signs of how the project fares. Missing: no badge, and the maintenance status `none`.
+    pub badges: Badges,
+
+    /// The binaries that are written down.
+    pub bin: Vec<Product>,
+
+    /// The benchmarks that are written down.
+    pub bench: Vec<Product>,
+
+    /// The tests that are written down.
+    pub test: Vec<Product>,
+
+    /// The examples that are written down.
+    pub example: Vec<Product>,
+
+    /// The lints, by tool and then by name, which may be left to the workspace. Missing: `Set` of none.
+    pub lints: Inheritable<LintGroups>,
 }
 
-fn read_table<M: FromValue>(alloc: Global, table: &Table) -> Result<Manifest<M>, Error>
-    ensures { IsReading (manifest_meaning M.meaning) (manifest_of M.from_tree (table_view table.now)) (manifest_refuses M.from_refuses (table_view table.now)) result }
-{
-    let package = optional(alloc, table, "package")?;
-    let dependencies = map(alloc, table, "dependencies")?;
-    let features = map(alloc, table, "features")?;
-    Ok(Manifest {
-        package,
-        dependencies,
-        features,
-    })
-}
-
-impl<M: FromValue> Read for Manifest<M> {
-    ghost Meaning = { ManifestMeaning M.Meaning };
-
-    ghost meaning = { manifest_meaning M.meaning };
-
-    ghost reads = { λ d. option_and_then (manifest_of M.from_tree) (as_table d) };
-
-    ghost refuses = { λ d e. table_refuses (manifest_refuses M.from_refuses) (as_table d) e };
-
-    fn read(alloc: Global, value: &Value) -> Result<Manifest<M>, Error> {
-        read_table(alloc, as_table(value)?)
+impl<Metadata> Manifest<Metadata> {
+    /// The manifest of the empty text. It takes no memory.
+    pub fn default(alloc: Global) -> Manifest<Metadata>
+        ensures {
+            (reads : Data → Option Metadata)
+                → manifest_of reads no_members ≡ Some (manifest_meaning (λ x. x) result)
+        }
+    {
+        Manifest {
+            package: None,
+            workspace: None,
+            dependencies: BTreeMap::new(alloc),
+            dev_dependencies: BTreeMap::new(alloc),
+            build_dependencies: BTreeMap::new(alloc),
+            target: BTreeMap::new(alloc),
+            features: BTreeMap::new(alloc),
+            replace: BTreeMap::new(alloc),
+            patch: BTreeMap::new(alloc),
+            lib: None,
+            profile: Profiles::default(alloc),
+            badges: Badges::default(alloc),
+            bin: Vec::new(alloc),
+            bench: Vec::new(alloc),
+            test: Vec::new(alloc),
+            example: Vec::new(alloc),
+            lints: Inheritable::Set(BTreeMap::new(alloc)),
+        }
     }
 }
 
-impl<M: FromValue> Manifest<M> {
-    pub fn from_slice_with_metadata(alloc: Global, bytes: &[u8]) -> Result<Manifest<M>, Error>
-        ensures { IsFromBytes (manifest_meaning M.meaning) (λ d. option_and_then (manifest_of M.from_tree) (as_table d)) (λ d e. table_refuses (manifest_refuses M.from_refuses) (as_table d) e) bytes.now result }
+impl Manifest {
+    /// The manifest that these bytes spell.
+    ///
+    /// Bytes that are not UTF-8 are `Error::Other("utf8")`. A text that `toml` refuses is `Error::Parse` of its fault. A
+    /// document that holds a float at any depth is `Error::Parse` of the shape `floats are not supported`; one that has
+    /// another fault is `Error::Parse` of the shape that names it, one of several. Want of memory is `Error::Memory`.
+    pub fn from_slice(alloc: Global, bytes: &[u8]) -> Result<Manifest, Error>
+        ensures {
+            IsFromBytes (manifest_meaning view) (manifest_reads any_tree)
+                (manifest_refuses any_tree any_refuses) bytes.now result
+        }
+    {
+        Manifest::from_slice_with_metadata(alloc, bytes)
+    }
+
+    /// The manifest that this text spells. It refuses as `from_slice` does a text's bytes.
+    pub fn from_str(alloc: Global, text: &str) -> Result<Manifest, Error>
+        ensures {
+            IsFromText (manifest_meaning view) (manifest_reads any_tree)
+                (manifest_refuses any_tree any_refuses) (parse_document text.now) result
+        }
+    {
+        Manifest::from_text(alloc, text)
+    }
+}
+
+impl<Metadata: FromValue> Manifest<Metadata> {
+    /// The manifest that these bytes spell, whose free tables `metadata` are read as the type says.
+    ///
+    /// It refuses as `from_slice` does; a fault that the metadata type tells is handed on as it is. A float is refused in
+    /// every manifest, whatever that type would make of it.
+    pub fn from_slice_with_metadata(alloc: Global, bytes: &[u8]) -> Result<Manifest<Metadata>, Error>
+        ensures {
+            IsFromBytes (manifest_meaning Metadata.meaning) (manifest_reads Metadata.from_tree)
+                (manifest_refuses Metadata.from_tree Metadata.from_refuses) bytes.now result
+        }
     {
         match str::from_utf8(bytes) {
             Ok(text) => Manifest::from_text(alloc, text),
@@ -61,8 +165,11 @@ impl<M: FromValue> Manifest<M> {
         }
     }
 
-    fn from_text(alloc: Global, text: &str) -> Result<Manifest<M>, Error>
-        ensures { IsFromText (manifest_meaning M.meaning) (λ d. option_and_then (manifest_of M.from_tree) (as_table d)) (λ d e. table_refuses (manifest_refuses M.from_refuses) (as_table d) e) (parse_document text.now) result }
+    fn from_text(alloc: Global, text: &str) -> Result<Manifest<Metadata>, Error>
+        ensures {
+            IsFromText (manifest_meaning Metadata.meaning) (manifest_reads Metadata.from_tree)
+                (manifest_refuses Metadata.from_tree Metadata.from_refuses) (parse_document text.now) result
+        }
     {
         let table = toml::table_from_str(alloc, text)?;
         if !table_has_no_float(&table) {
@@ -72,16 +179,143 @@ impl<M: FromValue> Manifest<M> {
     }
 }
 
-impl Manifest {
-    pub fn from_slice(alloc: Global, bytes: &[u8]) -> Result<Manifest, Error>
-        ensures { IsFromBytes (manifest_meaning view) manifest_tree manifest_tree_refuses bytes.now result }
-    {
-        Manifest::from_slice_with_metadata(alloc, bytes)
-    }
+impl<Metadata: FromValue> Read for Manifest<Metadata> {
+    ghost Meaning = { ManifestMeaning Metadata.Meaning };
 
-    pub fn from_str(alloc: Global, text: &str) -> Result<Manifest, Error>
-        ensures { IsFromText (manifest_meaning view) manifest_tree manifest_tree_refuses (parse_document text.now) result }
-    {
-        Manifest::from_text(alloc, text)
+    ghost meaning = { manifest_meaning Metadata.meaning };
+
+    ghost reads = { manifest_reads Metadata.from_tree };
+
+    ghost refuses = { manifest_refuses Metadata.from_tree Metadata.from_refuses };
+
+    fn read(alloc: Global, value: &Value) -> Result<Manifest<Metadata>, Error> {
+        read_table(alloc, as_table(value)?)
+    }
+}
+
+fn read_table<Metadata: FromValue>(
+    alloc: Global,
+    table: &Table,
+) -> Result<Manifest<Metadata>, Error>
+    ensures {
+        IsReading (manifest_meaning Metadata.meaning) (manifest_of Metadata.from_tree (table_view table.now))
+            (manifest_faults Metadata.from_tree Metadata.from_refuses (table_view table.now)) result
+    }
+{
+    let package = optional(alloc, table, "package")?;
+    let workspace = optional(alloc, table, "workspace")?;
+    let dependencies = map(alloc, table, "dependencies")?;
+    let dev_dependencies = map(alloc, table, "dev-dependencies")?;
+    let build_dependencies = map(alloc, table, "build-dependencies")?;
+    let target = map(alloc, table, "target")?;
+    let features = features(alloc, table)?;
+    let replace = map(alloc, table, "replace")?;
+    let patch = map(alloc, table, "patch")?;
+    let lib = optional(alloc, table, "lib")?;
+    let profile = profiles(alloc, table)?;
+    let badges = badges(alloc, table)?;
+    let bin = list(alloc, table, "bin")?;
+    let bench = list(alloc, table, "bench")?;
+    let test = list(alloc, table, "test")?;
+    let example = list(alloc, table, "example")?;
+    let lints = lints(alloc, table)?;
+    Ok(Manifest {
+        package: option_by_zero_rule(package),
+        workspace,
+        dependencies,
+        dev_dependencies,
+        build_dependencies,
+        target,
+        features,
+        replace,
+        patch,
+        lib,
+        profile,
+        badges,
+        bin,
+        bench,
+        test,
+        example,
+        lints,
+    })
+}
+
+// The profiles, none where their key is missing.
+fn profiles(alloc: Global, table: &Table) -> Result<Profiles, Error>
+    ensures {
+        IsReading profiles_meaning (given_at "profile" no_profiles profiles_reads (table_view table.now))
+            (optional_refuses profiles_refuse (get_member (codes "profile") (table_view table.now))) result
+    }
+{
+    given(alloc, table, "profile", Profiles::default(alloc))
+}
+
+// The badges, none where their key is missing.
+fn badges(alloc: Global, table: &Table) -> Result<Badges, Error>
+    ensures {
+        IsReading badges_meaning (given_at "badges" no_badges badges_reads (table_view table.now))
+            (optional_refuses plain (get_member (codes "badges") (table_view table.now))) result
+    }
+{
+    given(alloc, table, "badges", Badges::default(alloc))
+}
+
+// The lints, none where their key is missing.
+fn lints(alloc: Global, table: &Table) -> Result<Inheritable<LintGroups>, Error>
+    ensures {
+        IsReading (inheritable_map (map_meaning (map_meaning lint_meaning)))
+            (inherited_at "lints" [] (map_of (map_of lint_of)) (table_view table.now))
+            (optional_refuses inheritable_refuses (get_member (codes "lints") (table_view table.now))) result
+    }
+{
+    given(
+        alloc,
+        table,
+        "lints",
+        Inheritable::Set(BTreeMap::new(alloc)),
+    )
+}
+
+// Whether the version is 0.0.0, without pre-release and build metadata, and the package could be published everywhere.
+fn zero_rule_applies<Metadata>(found: &Package<Metadata>) -> bool
+    ensures { result ≡ zero_rule_applies (package_meaning (λ x. x) found.now) }
+{
+    let Inheritable::Set(version) = &found.version else {
+        return false;
+    };
+    let Inheritable::Set(Publish::Flag(publish)) = &found.publish else {
+        return false;
+    };
+    version.major == 0
+        && version.minor == 0
+        && version.patch == 0
+        && version.pre.is_empty()
+        && version.build.is_empty()
+        && *publish
+}
+
+// A package of version 0.0.0 is not published.
+fn by_zero_rule<Metadata: FromValue>(found: Package<Metadata>) -> Package<Metadata>
+    ensures { package_meaning Metadata.meaning result ≡ by_zero_rule (package_meaning Metadata.meaning found) }
+{
+    let mut ruled = found;
+    if zero_rule_applies(&ruled) {
+        ruled.publish = Inheritable::Set(Publish::Flag(false));
+    }
+    ruled
+}
+
+// The same, where there is a package.
+fn option_by_zero_rule<Metadata: FromValue>(
+    found: Option<Package<Metadata>>,
+) -> Option<Package<Metadata>>
+    ensures {
+        option_map (package_meaning Metadata.meaning) result
+            ≡ option_map by_zero_rule (option_map (package_meaning Metadata.meaning) found)
+    }
+{
+    match found {
+        Some(package) => Some(by_zero_rule(package)),
+        None => None,
     }
 }

@@ -2,6 +2,7 @@ pub mod Dependencies
 pub mod Faults
 pub mod Floats
 pub mod InheritableLaws
+pub mod InheritableValues
 pub mod Inherits
 pub mod ProfileSettings
 pub mod Reads

@@ -4,6 +4,7 @@ pub mod Floats
 pub mod InheritableLaws
 pub mod InheritableValues
 pub mod Inherits
+pub mod Lending
 pub mod ProfileSettings
 pub mod Reads
 pub mod Settings

@@ -1,5 +1,6 @@
 pub mod Dependencies
 pub mod Faults
+pub mod FaultValues
 pub mod Floats
 pub mod InheritableLaws
 pub mod InheritableValues

@@ -4,7 +4,7 @@ ghost use Rattle.std.specs.Prelude.{◌≡◌, IfOk};
 use std::alloc::{AllocError, AllocFailed};
 use std::{fmt, io};
 
-#[derive(Debug, Drop)]
+#[derive(Clone, Copy, Debug)]
 pub enum ParseFault {
     Toml(toml::de::Error),
     Shape(&'static str),
@@ -19,6 +19,30 @@ pub enum Error {
     WorkspaceIntegrity(String),
     Other(&'static str),
     Memory,
+}
+
+/// A copy that holds the same: the variant, its texts, the path and the fault inside. A fault of input keeps its kind.
+impl Clone for Error {
+    ghost use Rattle.cargo_toml_parts.specs.FaultValues.{fault_of};
+
+    ghost is_clone = { λ e copy. fault_of copy ≡ fault_of e };
+
+    fn clone(&self) -> Result<Error, AllocError> {
+        match self {
+            Error::Parse(fault) => Ok(Error::Parse(*fault)),
+            Error::Io(fault) => Ok(Error::Io(*fault)),
+            Error::Workspace(inner) => {
+                let fault = inner.0.clone()?;
+                let path = inner.1.clone()?;
+                let alloc = *Box::allocator(inner);
+                Ok(Error::Workspace(Box::new(alloc, (fault, path))?))
+            }
+            Error::InheritedUnknownValue => Ok(Error::InheritedUnknownValue),
+            Error::WorkspaceIntegrity(text) => Ok(Error::WorkspaceIntegrity(text.clone()?)),
+            Error::Other(text) => Ok(Error::Other(text)),
+            Error::Memory => Ok(Error::Memory),
+        }
+    }
 }
 
 impl From<AllocError> for Error {

@@ -1,16 +1,15 @@
 -- What a dependency holds, and which trees are dependencies.
-use Rattle.std.specs.Prelude.{◌⊎◌, ℕ, List, [], ◌∷◌, codes, map, Bool, true, false, Option, Some, None, option_map, string_bytes}
+use Rattle.std.specs.Prelude.{ℕ, List, [], ◌∷◌, codes, map, Bool, true, false, Option, Some, None, option_map, string_bytes}
 use Rattle.std.specs.Result.{result_ok}
 use Rattle.semver.specs.Parse.{req_of, Held}
-use Rattle.toml.specs.Data.{Data, string, table, Members, as_str, as_bool, get_member}
+use Rattle.toml.specs.Data.{Data, string, table, Members, as_bool}
 use Rattle.toml.specs.View.{view}
 use Rattle.cargo_toml_parts.specs.declared.error.Error.{Error}
 use Rattle.cargo_toml_parts.specs.declared.dependency.Dependency.{Dependency}
 use Rattle.cargo_toml_parts.specs.declared.dependency.Dependency.TheVariants as kind
 use Rattle.cargo_toml_parts.specs.declared.dependency.DependencyDetail.{DependencyDetail}
 use Rattle.cargo_toml_parts.specs.declared.dependency.InheritedDependencyDetail.{InheritedDependencyDetail}
-use Rattle.cargo_toml_parts.specs.Faults.{IsShape, wrong_shape}
-use Rattle.cargo_toml_parts.specs.Reads.{◌>>=◌, optional_of, required_of, given_of, optional_refuses, others_read, others_refuse, map_meaning, list_of, list_refuses, plain}
+use Rattle.cargo_toml_parts.specs.Reads.{◌>>=◌, required_at, optional_at, text_at, flag_at, list_at, others_read, map_meaning, plain}
 use Rattle.cargo_toml_parts.specs.Versions.{requirement_of, requirement_meaning}
 
 -- what an inherited dependency holds
@@ -24,23 +23,17 @@ inherited_meaning i = record { features = map string_bytes i.features.items; opt
 
 abbrev pub inherited_of : Members → Option InheritedMeaning
 inherited_of ms = do
-  features ← given_of list_of [] (get_member (codes "features") ms)
-  optional ← given_of as_bool false (get_member (codes "optional") ms)
-  workspace ← given_of as_bool false (get_member (codes "workspace") ms)
+  features ← list_at "features" ms
+  optional ← flag_at "optional" false ms
+  workspace ← flag_at "workspace" false ms
   Some (record { features = features; optional = optional; workspace = workspace })
-
-abbrev pub inherited_refuses : Members → Error → Type 0
-inherited_refuses ms e =
-    optional_refuses list_refuses (get_member (codes "features") ms) e
-    ⊎ (optional_refuses plain (get_member (codes "optional") ms) e
-    ⊎ optional_refuses plain (get_member (codes "workspace") ms) e)
 
 -- the same, where the table says whether it is inherited
 abbrev pub strict_of : Members → Option InheritedMeaning
 strict_of ms = do
-  workspace ← required_of as_bool (get_member (codes "workspace") ms)
-  features ← given_of list_of [] (get_member (codes "features") ms)
-  optional ← given_of as_bool false (get_member (codes "optional") ms)
+  workspace ← required_at "workspace" as_bool ms
+  features ← list_at "features" ms
+  optional ← flag_at "optional" false ms
   Some (record { features = features; optional = optional; workspace = workspace })
 
 -- what the detail of a dependency holds
@@ -85,36 +78,20 @@ detail_keys =
 
 abbrev pub detail_of : Members → Option DetailMeaning
 detail_of ms = do
-  version ← optional_of requirement_of (get_member (codes "version") ms)
-  «package» ← optional_of as_str (get_member (codes "package") ms)
-  registry ← optional_of as_str (get_member (codes "registry") ms)
-  registry_index ← optional_of as_str (get_member (codes "registry-index") ms)
-  path ← optional_of as_str (get_member (codes "path") ms)
-  git ← optional_of as_str (get_member (codes "git") ms)
-  branch ← optional_of as_str (get_member (codes "branch") ms)
-  tag ← optional_of as_str (get_member (codes "tag") ms)
-  rev ← optional_of as_str (get_member (codes "rev") ms)
-  features ← given_of list_of [] (get_member (codes "features") ms)
-  optional ← given_of as_bool false (get_member (codes "optional") ms)
-  default_features ← given_of as_bool true (get_member (codes "default-features") ms)
+  version ← optional_at "version" requirement_of ms
+  «package» ← text_at "package" ms
+  registry ← text_at "registry" ms
+  registry_index ← text_at "registry-index" ms
+  path ← text_at "path" ms
+  git ← text_at "git" ms
+  branch ← text_at "branch" ms
+  tag ← text_at "tag" ms
+  rev ← text_at "rev" ms
+  features ← list_at "features" ms
+  optional ← flag_at "optional" false ms
+  default_features ← flag_at "default-features" true ms
   unstable ← others_read detail_keys (λ d. Some d) ms
   Some (record { version = version; «package» = «package»; registry = registry; registry_index = registry_index; path = path; git = git; branch = branch; tag = tag; rev = rev; features = features; optional = optional; default_features = default_features; unstable = unstable; inherited = false })
-
-abbrev pub detail_refuses : Members → Error → Type 0
-detail_refuses ms e =
-    optional_refuses plain (get_member (codes "version") ms) e
-    ⊎ (optional_refuses plain (get_member (codes "package") ms) e
-    ⊎ (optional_refuses plain (get_member (codes "registry") ms) e
-    ⊎ (optional_refuses plain (get_member (codes "registry-index") ms) e
-    ⊎ (optional_refuses plain (get_member (codes "path") ms) e
-    ⊎ (optional_refuses plain (get_member (codes "git") ms) e
-    ⊎ (optional_refuses plain (get_member (codes "branch") ms) e
-    ⊎ (optional_refuses plain (get_member (codes "tag") ms) e
-    ⊎ (optional_refuses plain (get_member (codes "rev") ms) e
-    ⊎ (optional_refuses list_refuses (get_member (codes "features") ms) e
-    ⊎ (optional_refuses plain (get_member (codes "optional") ms) e
-    ⊎ (optional_refuses plain (get_member (codes "default-features") ms) e
-    ⊎ others_refuse detail_keys (λ d f. ⊥) ms e)))))))))))
 
 -- what a dependency holds
 pub data DependencyMeaning : Type 0 where
@@ -137,9 +114,9 @@ dependency_of (string s) = option_map simple (result_ok (req_of s))
 dependency_of (table ms) = inherited_or (strict_of ms) (detail_of ms)
 dependency_of _ = None
 
-unfoldable pub dependency_refuses : Data → Error → Type 0
-dependency_refuses (table ms) e = detail_refuses ms e
-dependency_refuses _ e = IsShape wrong_shape e
+-- what is wrong is a shape
+abbrev pub dependency_refuses : Data → Error → Type 0
+dependency_refuses d e = plain d e
 
 -- whether a dependency is optional, and the name of its crate where that is not its key
 abbrev pub is_optional : DependencyMeaning → Bool

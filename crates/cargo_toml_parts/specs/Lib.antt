@@ -1,3 +1,4 @@
+pub mod Badges
 pub mod Dependencies
 pub mod Faults
 pub mod FaultValues
@@ -6,7 +7,10 @@ pub mod InheritableLaws
 pub mod InheritableValues
 pub mod Inherits
 pub mod Lending
+pub mod Numbers
+pub mod Products
 pub mod ProfileSettings
+pub mod Profiles
 pub mod Reads
 pub mod Settings
 pub mod Versions

@@ -2,8 +2,9 @@
 ghost use Rattle.std.specs.Prelude.{◌≡◌, option_and_then, option_map};
 ghost use Rattle.toml.specs.Data.{as_table};
 ghost use Rattle.toml.specs.View.{view, table_view};
-ghost use Rattle.cargo_toml_parts.specs.Reads.{IsReading, table_refuses};
-ghost use Rattle.cargo_toml_parts.specs.Dependencies.{InheritedMeaning, inherited_meaning, inherited_of, inherited_refuses, strict_of, DetailMeaning, detail_meaning, detail_of, detail_refuses, DependencyMeaning, dependency_meaning, dependency_of, dependency_refuses};
+ghost use Rattle.cargo_toml_parts.specs.Faults.{IsShape, wrong_shape};
+ghost use Rattle.cargo_toml_parts.specs.Reads.{IsReading, plain};
+ghost use Rattle.cargo_toml_parts.specs.Dependencies.{InheritedMeaning, inherited_meaning, inherited_of, strict_of, DetailMeaning, detail_meaning, detail_of, DependencyMeaning, dependency_meaning, dependency_of, dependency_refuses};
 
 use crate::error::Error;
 use crate::read::{Read, as_table, given, list, optional, others, required, wrong_shape};
@@ -44,6 +45,19 @@ pub enum Dependency {
     Detailed(Box<DependencyDetail>),
 }
 
+fn inherited_detail(alloc: Global, table: &Table) -> Result<InheritedDependencyDetail, Error>
+    ensures { IsReading inherited_meaning (inherited_of (table_view table.now)) (IsShape wrong_shape) result }
+{
+    let features = list(alloc, table, "features")?;
+    let optional = given(alloc, table, "optional", false)?;
+    let workspace = given(alloc, table, "workspace", false)?;
+    Ok(InheritedDependencyDetail {
+        features,
+        optional,
+        workspace,
+    })
+}
+
 impl Read for InheritedDependencyDetail {
     ghost Meaning = { InheritedMeaning };
 
@@ -51,18 +65,10 @@ impl Read for InheritedDependencyDetail {
 
     ghost reads = { λ d. option_and_then inherited_of (as_table d) };
 
-    ghost refuses = { λ d e. table_refuses inherited_refuses (as_table d) e };
+    ghost refuses = { plain };
 
     fn read(alloc: Global, value: &Value) -> Result<InheritedDependencyDetail, Error> {
-        let table = as_table(value)?;
-        let features = list(alloc, table, "features")?;
-        let optional = given(alloc, table, "optional", false)?;
-        let workspace = given(alloc, table, "workspace", false)?;
-        Ok(InheritedDependencyDetail {
-            features,
-            optional,
-            workspace,
-        })
+        inherited_detail(alloc, as_table(value)?)
     }
 }
 
@@ -81,7 +87,7 @@ fn inherited(alloc: Global, table: &Table) -> Result<InheritedDependencyDetail, 
 }
 
 fn detailed(alloc: Global, table: &Table) -> Result<DependencyDetail, Error>
-    ensures { IsReading detail_meaning (detail_of (table_view table.now)) (detail_refuses (table_view table.now)) result }
+    ensures { IsReading detail_meaning (detail_of (table_view table.now)) (IsShape wrong_shape) result }
 {
     let version = optional(alloc, table, "version")?;
     let package = optional(alloc, table, "package")?;
@@ -138,7 +144,7 @@ impl Read for DependencyDetail {
 
     ghost reads = { λ d. option_and_then detail_of (as_table d) };
 
-    ghost refuses = { λ d e. table_refuses detail_refuses (as_table d) e };
+    ghost refuses = { plain };
 
     fn read(alloc: Global, value: &Value) -> Result<DependencyDetail, Error> {
         detailed(alloc, as_table(value)?)
@@ -170,7 +176,7 @@ impl Dependency {
     }
 }
 
-#[tactic(auto, unfolding(crate::specs::Dependencies::dependency_of, crate::specs::Dependencies::dependency_refuses))]
+#[tactic(auto, unfolding(crate::specs::Dependencies::dependency_of))]
 impl Read for Dependency {
     ghost Meaning = { DependencyMeaning };
 

@@ -1,5 +1,6 @@
 pub mod Badges
 pub mod Dependencies
+pub mod DependencyAnswers
 pub mod Faults
 pub mod FaultValues
 pub mod Floats
@@ -12,5 +13,6 @@ pub mod Products
 pub mod ProfileSettings
 pub mod Profiles
 pub mod Reads
+pub mod SettingAnswers
 pub mod Settings
 pub mod Versions

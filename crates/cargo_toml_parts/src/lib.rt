@@ -16,6 +16,9 @@ pub mod settings;
 pub mod value;
 pub mod versions;
 
+#[cfg(test)]
+mod tests;
+
 pub use badge::{Badge, Badges, Maintenance, MaintenanceStatus};
 pub use dependency::{Dependency, DependencyDetail, InheritedDependencyDetail};
 pub use error::{Error, ParseFault};

@@ -1,0 +1,2 @@
+// What no contract says: worked examples, and each public call once.
+mod questions;

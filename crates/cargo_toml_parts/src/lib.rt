@@ -13,11 +13,10 @@ pub mod profile;
 pub mod profile_settings;
 pub mod read;
 pub mod settings;
-pub mod value;
-pub mod versions;
-
 #[cfg(test)]
 mod tests;
+pub mod value;
+pub mod versions;
 
 pub use badge::{Badge, Badges, Maintenance, MaintenanceStatus};
 pub use dependency::{Dependency, DependencyDetail, InheritedDependencyDetail};

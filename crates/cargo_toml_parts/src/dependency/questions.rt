@@ -93,11 +93,10 @@ impl Dependency {
         ensures fault { IfErr result (λ e. e ≡ Error.InheritedUnknownValue) }
         ensures only_inherited { OnErr result (is_inherited self.now ≡ true) }
     {
-        match self {
-            Dependency::Simple(req) => Ok(Some(req)),
-            Dependency::Inherited(_) => Err(Error::InheritedUnknownValue),
-            Dependency::Detailed(detail) => Ok(detail.version.as_ref()),
+        if let Dependency::Inherited(_) = self {
+            return Err(Error::InheritedUnknownValue);
         }
+        Ok(self.req())
     }
 
     /// The features that are asked for beside the default ones: none for a mere requirement.

@@ -1,5 +1,8 @@
 // What is asked of the parts of a manifest, and what faults print.
-use crate::{Dependency, Edition, Error, Inheritable, InheritedDependencyDetail, OptionalFile, ParseFault, Publish, Resolver};
+use crate::{
+    Dependency, Edition, Error, Inheritable, InheritedDependencyDetail, OptionalFile, ParseFault,
+    Publish, Resolver,
+};
 use semver::VersionReq;
 use std::alloc::{AllocError, AllocFailed, Global};
 use std::collections::BTreeMap;
@@ -60,7 +63,12 @@ fn try_req_without_version(rt: HostRuntime) -> Result<(), Fail> {
 fn questions_to_inherited(rt: HostRuntime) {
     let mut dependency = inherited(rt.alloc());
     assert!(rt; matches!(dependency.try_req(), Err(Error::InheritedUnknownValue)));
-    assert!(rt; matches!(dependency.try_detail_mut(rt.alloc()), Err(Error::InheritedUnknownValue)));
+    assert!(rt;
+        matches!(
+            dependency.try_detail_mut(rt.alloc()),
+            Err(Error::InheritedUnknownValue)
+        )
+    );
     assert!(rt; dependency.optional());
     assert!(rt; dependency.detail().is_none());
     assert!(rt; dependency.package().is_none());
@@ -118,7 +126,10 @@ fn inherited_equals_nothing(rt: HostRuntime) {
 fn display_without_path(rt: HostRuntime) -> Result<(), Fail> {
     let fault = wrapped(rt.alloc(), Error::InheritedUnknownValue, None)?;
     let shown = format!(in rt.alloc(); "{fault}")?;
-    assert_eq!(rt; shown.as_str(), "can't load root workspace: value from workspace hasn't been set");
+    assert_eq!(rt;
+        shown.as_str(),
+        "can't load root workspace: value from workspace hasn't been set"
+    );
     Ok(())
 }
 
@@ -128,7 +139,10 @@ fn display_nested(rt: HostRuntime) -> Result<(), Fail> {
     let inner = wrapped(rt.alloc(), Error::Other("utf8"), Some(path))?;
     let fault = wrapped(rt.alloc(), inner, None)?;
     let shown = format!(in rt.alloc(); "{fault}")?;
-    assert_eq!(rt; shown.as_str(), "can't load root workspace: can't load root workspace at /w: utf8");
+    assert_eq!(rt;
+        shown.as_str(),
+        "can't load root workspace: can't load root workspace at /w: utf8"
+    );
     let copy = fault.clone()?;
     let again = format!(in rt.alloc(); "{copy}")?;
     assert_eq!(rt; again.as_str(), shown.as_str());
@@ -139,16 +153,41 @@ fn display_nested(rt: HostRuntime) -> Result<(), Fail> {
 fn want_of_memory_is_memory(rt: HostRuntime) {
     assert!(rt; matches!(Error::from(AllocError), Error::Memory));
     assert!(rt; matches!(Error::from(AllocFailed { value: 1u8 }), Error::Memory));
-    assert!(rt; matches!(Error::from(io::Error::from(io::ErrorKind::OutOfMemory)), Error::Memory));
-    assert!(rt; matches!(Error::from(io::Error::from(io::ErrorKind::NotFound)), Error::Io(_)));
+    assert!(rt;
+        matches!(
+            Error::from(io::Error::from(io::ErrorKind::OutOfMemory)),
+            Error::Memory
+        )
+    );
+    assert!(rt;
+        matches!(
+            Error::from(io::Error::from(io::ErrorKind::NotFound)),
+            Error::Io(_)
+        )
+    );
 }
 
 #[test]
-fn faults_of_toml_are_parse_faults(rt: HostRuntime) {
-    match toml::table_from_str(rt.alloc(), "[package") {
-        Ok(_table) => panic!(rt; "the text is no table"),
-        Err(fault) => assert!(rt; matches!(Error::from(fault), Error::Parse(ParseFault::Toml(_)))),
-    }
+fn faults_of_toml_are_parse_faults(rt: HostRuntime) -> Result<(), Fail> {
+    let Err(inner) = toml::table_from_str(rt.alloc(), "[package") else {
+        panic!(rt; "the text is no table");
+    };
+    let words = format!(in rt.alloc(); "{inner}")?;
+    let fault = Error::from(inner);
+    let shown = format!(in rt.alloc(); "{fault}")?;
+    assert!(rt; matches!(fault, Error::Parse(ParseFault::Toml(_))));
+    assert_eq!(rt; shown.as_str(), words.as_str());
+    Ok(())
+}
+
+#[test]
+fn faults_of_input_print_their_words(rt: HostRuntime) -> Result<(), Fail> {
+    let inner = io::Error::from(io::ErrorKind::NotFound);
+    let words = format!(in rt.alloc(); "{inner}")?;
+    let copy = Error::from(inner).clone()?;
+    let shown = format!(in rt.alloc(); "{copy}")?;
+    assert_eq!(rt; shown.as_str(), words.as_str());
+    Ok(())
 }
 
 #[test]

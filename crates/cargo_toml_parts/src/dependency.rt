@@ -6,6 +6,8 @@ ghost use Rattle.cargo_toml_parts.specs.Faults.{IsShape, wrong_shape};
 ghost use Rattle.cargo_toml_parts.specs.Reads.{IsReading, plain};
 ghost use Rattle.cargo_toml_parts.specs.Dependencies.{InheritedMeaning, inherited_meaning, inherited_of, strict_of, DetailMeaning, detail_meaning, detail_of, DependencyMeaning, dependency_meaning, dependency_of, dependency_refuses};
 
+mod questions;
+
 use crate::error::Error;
 use crate::read::{Read, as_table, given, list, optional, others, required, wrong_shape};
 use semver::VersionReq;
@@ -208,31 +210,6 @@ impl Read for DependencyDetail {
 
     fn read(alloc: Global, value: &Value) -> Result<DependencyDetail, Error> {
         detailed(alloc, as_table(value)?)
-    }
-}
-
-impl Dependency {
-    ghost use Rattle.cargo_toml_parts.specs.Dependencies.{is_optional, package_of};
-
-    /// Whether the dependency is optional: what its table says, and false for a mere requirement.
-    pub fn optional(&self) -> bool
-        ensures { result ≡ is_optional (dependency_meaning self.now) }
-    {
-        match self {
-            Dependency::Simple(_) => false,
-            Dependency::Inherited(detail) => detail.optional,
-            Dependency::Detailed(detail) => detail.optional,
-        }
-    }
-
-    /// The name of the dependency's crate where a detail says it; its key is the name elsewhere.
-    pub fn package(&self) -> Option<&str>
-        ensures { option_map (λ t. t.now) result ≡ package_of (dependency_meaning self.now) }
-    {
-        match self {
-            Dependency::Detailed(detail) => detail.package.as_deref(),
-            _ => None,
-        }
     }
 }
 

@@ -4,6 +4,7 @@ use crate::value::FromValue;
 use std::alloc::Global;
 
 mod faults;
+mod questions;
 mod settings;
 mod types;
 

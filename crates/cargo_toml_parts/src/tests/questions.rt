@@ -1,0 +1,237 @@
+// What is asked of the parts of a manifest, and what faults print.
+use crate::{
+    Dependency, Edition, Error, Inheritable, InheritedDependencyDetail, OptionalFile, ParseFault,
+    Publish, Resolver,
+};
+use semver::VersionReq;
+use std::alloc::{AllocError, AllocFailed, Global};
+use std::collections::BTreeMap;
+use std::io;
+use std::test::Fail;
+
+fn simple(alloc: Global) -> Result<Dependency, Fail> {
+    Ok(Dependency::Simple(VersionReq::parse(alloc, "1.2")?))
+}
+
+fn inherited(alloc: Global) -> Dependency {
+    Dependency::Inherited(InheritedDependencyDetail {
+        features: Vec::new(alloc),
+        optional: true,
+        workspace: true,
+    })
+}
+
+fn text(alloc: Global, text: &str) -> Result<String, AllocError> {
+    String::from_str(alloc, text)
+}
+
+fn texts(alloc: Global, item: &str) -> Result<Vec<String>, AllocError> {
+    let mut all = Vec::new(alloc);
+    all.push(String::from_str(alloc, item)?)?;
+    Ok(all)
+}
+
+fn wrapped(alloc: Global, fault: Error, path: Option<String>) -> Result<Error, AllocError> {
+    Ok(Error::Workspace(Box::new(alloc, (fault, path))?))
+}
+
+#[test]
+fn eq_bool_of_lists_and_flags(rt: HostRuntime) -> Result<(), Fail> {
+    let named = Publish::Registry(texts(rt.alloc(), "x")?);
+    assert!(rt; named.eq_bool(true));
+    assert!(rt; Publish::Flag(false).eq_bool(false));
+    Ok(())
+}
+
+#[test]
+fn written_small_values(rt: HostRuntime) {
+    assert!(rt; Publish::Registry(Vec::new(rt.alloc())).eq_bool(false));
+    assert_eq!(rt; Edition::E2024.min_rust_version_minor(), 85);
+    assert_eq!(rt; Edition::E2021.min_rust_version_minor(), 56);
+}
+
+#[test]
+fn try_req_without_version(rt: HostRuntime) -> Result<(), Fail> {
+    let mut dependency = simple(rt.alloc())?;
+    dependency.try_detail_mut(rt.alloc())?.version = None;
+    assert!(rt; dependency.detail().is_some());
+    assert!(rt; dependency.try_req()?.is_none());
+    Ok(())
+}
+
+#[test]
+fn questions_to_inherited(rt: HostRuntime) {
+    let mut dependency = inherited(rt.alloc());
+    assert!(rt; matches!(dependency.try_req(), Err(Error::InheritedUnknownValue)));
+    assert!(rt;
+        matches!(
+            dependency.try_detail_mut(rt.alloc()),
+            Err(Error::InheritedUnknownValue)
+        )
+    );
+    assert!(rt; dependency.optional());
+    assert!(rt; dependency.detail().is_none());
+    assert!(rt; dependency.package().is_none());
+}
+
+#[test]
+fn simple_becomes_detailed(rt: HostRuntime) -> Result<(), Fail> {
+    let version = VersionReq::parse(rt.alloc(), "1.2")?;
+    let mut tried = simple(rt.alloc())?;
+    let mut known = Dependency::Simple(VersionReq::parse(rt.alloc(), "1.2")?);
+    let _tried = tried.try_detail_mut(rt.alloc())?;
+    let detail = known.detail_mut(rt.alloc())?;
+    assert!(rt; detail.version == Some(version));
+    assert!(rt; detail.default_features);
+    assert!(rt; !detail.inherited);
+    assert!(rt; !detail.optional);
+    assert!(rt; detail.package.is_none());
+    assert!(rt; detail.registry.is_none());
+    assert!(rt; detail.registry_index.is_none());
+    assert!(rt; detail.path.is_none());
+    assert!(rt; detail.git.is_none());
+    assert!(rt; detail.branch.is_none());
+    assert!(rt; detail.tag.is_none());
+    assert!(rt; detail.rev.is_none());
+    assert!(rt; detail.features.is_empty());
+    assert!(rt; detail.unstable.is_empty());
+    assert!(rt; tried == known);
+    assert!(rt; known.is_crates_io());
+    Ok(())
+}
+
+#[test]
+fn rev_is_not_crates_io(rt: HostRuntime) -> Result<(), Fail> {
+    let mut dependency = simple(rt.alloc())?;
+    assert!(rt; dependency.try_req()?.is_some());
+    dependency.try_detail_mut(rt.alloc())?.rev = Some(text(rt.alloc(), "4c59b707")?);
+    assert!(rt; matches!(dependency, Dependency::Detailed(_)));
+    assert!(rt; !dependency.is_crates_io());
+    assert!(rt; dependency.req().is_some());
+    assert_eq!(rt; dependency.git_rev(), Some("4c59b707"));
+    assert_eq!(rt; dependency.git(), None);
+    assert!(rt; dependency.req_features().is_empty());
+    Ok(())
+}
+
+#[test]
+fn inherited_equals_nothing(rt: HostRuntime) {
+    let left: Inheritable<bool> = Inheritable::Inherited;
+    let right: Inheritable<bool> = Inheritable::Inherited;
+    assert!(rt; !(left == right));
+    assert!(rt; Inheritable::Set(true) == Inheritable::Set(true));
+}
+
+#[test]
+fn display_without_path(rt: HostRuntime) -> Result<(), Fail> {
+    let fault = wrapped(rt.alloc(), Error::InheritedUnknownValue, None)?;
+    let shown = format!(in rt.alloc(); "{fault}")?;
+    assert_eq!(rt;
+        shown.as_str(),
+        "can't load root workspace: value from workspace hasn't been set"
+    );
+    Ok(())
+}
+
+#[test]
+fn display_nested(rt: HostRuntime) -> Result<(), Fail> {
+    let path = text(rt.alloc(), "/w")?;
+    let inner = wrapped(rt.alloc(), Error::Other("utf8"), Some(path))?;
+    let fault = wrapped(rt.alloc(), inner, None)?;
+    let shown = format!(in rt.alloc(); "{fault}")?;
+    assert_eq!(rt;
+        shown.as_str(),
+        "can't load root workspace: can't load root workspace at /w: utf8"
+    );
+    let copy = fault.clone()?;
+    let again = format!(in rt.alloc(); "{copy}")?;
+    assert_eq!(rt; again.as_str(), shown.as_str());
+    Ok(())
+}
+
+#[test]
+fn want_of_memory_is_memory(rt: HostRuntime) {
+    assert!(rt; matches!(Error::from(AllocError), Error::Memory));
+    assert!(rt; matches!(Error::from(AllocFailed { value: 1u8 }), Error::Memory));
+    assert!(rt;
+        matches!(
+            Error::from(io::Error::from(io::ErrorKind::OutOfMemory)),
+            Error::Memory
+        )
+    );
+    assert!(rt;
+        matches!(
+            Error::from(io::Error::from(io::ErrorKind::NotFound)),
+            Error::Io(_)
+        )
+    );
+}
+
+#[test]
+fn faults_of_toml_are_parse_faults(rt: HostRuntime) -> Result<(), Fail> {
+    let Err(inner) = toml::table_from_str(rt.alloc(), "[package") else {
+        panic!(rt; "the text is no table");
+    };
+    let words = format!(in rt.alloc(); "{inner}")?;
+    let fault = Error::from(inner);
+    let shown = format!(in rt.alloc(); "{fault}")?;
+    assert!(rt; matches!(fault, Error::Parse(ParseFault::Toml(_))));
+    assert_eq!(rt; shown.as_str(), words.as_str());
+    Ok(())
+}
+
+#[test]
+fn faults_of_input_print_their_words(rt: HostRuntime) -> Result<(), Fail> {
+    let inner = io::Error::from(io::ErrorKind::NotFound);
+    let words = format!(in rt.alloc(); "{inner}")?;
+    let copy = Error::from(inner).clone()?;
+    let shown = format!(in rt.alloc(); "{copy}")?;
+    assert_eq!(rt; shown.as_str(), words.as_str());
+    Ok(())
+}
+
+#[test]
+fn values_set_and_inherited(rt: HostRuntime) -> Result<(), Fail> {
+    let mut edition: Inheritable<Edition> = Inheritable::Inherited;
+    assert!(rt; !edition.is_set());
+    edition.inherit(&Edition::E2018)?;
+    assert!(rt; *edition.get()? == Edition::E2018);
+    *edition.get_mut()? = Edition::E2021;
+    if let Inheritable::Set(lent) = edition.as_mut() {
+        *lent = Edition::E2015;
+    }
+    assert!(rt; edition.is_default());
+    assert!(rt; edition.as_ref().is_set());
+    edition.set(Edition::E2024);
+    assert!(rt; edition.is_set());
+    assert!(rt; edition.unwrap() == Edition::E2024);
+    assert!(rt; Inheritable::<Edition>::default().is_default());
+    assert!(rt; Option::from(Inheritable::from(Some(7u8))) == Some(7u8));
+    Ok(())
+}
+
+#[test]
+fn empty_lists_and_maps(rt: HostRuntime) {
+    let list: Inheritable<Vec<bool>> = Inheritable::Set(Vec::new(rt.alloc()));
+    let map: Inheritable<BTreeMap<u8, bool>> = Inheritable::Inherited;
+    assert!(rt; list.is_empty());
+    assert!(rt; !map.is_empty());
+}
+
+#[test]
+fn optional_files(rt: HostRuntime) -> Result<(), Fail> {
+    let named = OptionalFile::Path(text(rt.alloc(), "R.md")?);
+    assert_eq!(rt; named.display(), "R.md");
+    assert_eq!(rt; named.as_path(), Some("R.md"));
+    assert!(rt; named.is_some());
+    assert_eq!(rt; OptionalFile::Flag(true).display(), "<default>");
+    assert_eq!(rt; OptionalFile::Flag(false).display(), "<disabled>");
+    Ok(())
+}
+
+#[test]
+fn editions_and_resolvers_print(rt: HostRuntime) -> Result<(), Fail> {
+    let shown = format!(in rt.alloc(); "{} {} {}", Edition::E2015, Edition::E2024, Resolver::V3)?;
+    assert_eq!(rt; shown.as_str(), "2015 2024 3");
+    Ok(())
+}

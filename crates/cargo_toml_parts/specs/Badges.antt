@@ -3,10 +3,9 @@ use Rattle.std.specs.Prelude.{ℕ, List, [], ◌∷◌, codes, Option, Some, Non
 use Rattle.toml.specs.Data.{Data, Members, as_str, as_table, get_member}
 use Rattle.cargo_toml_parts.specs.declared.badge.Badge.{Badge}
 use Rattle.cargo_toml_parts.specs.declared.badge.Badges.{Badges}
-use Rattle.cargo_toml_parts.specs.declared.badge.Maintenance.{Maintenance}
 use Rattle.cargo_toml_parts.specs.declared.badge.MaintenanceStatus.{MaintenanceStatus}
 use Rattle.cargo_toml_parts.specs.declared.badge.MaintenanceStatus.TheVariants as status
-use Rattle.cargo_toml_parts.specs.Reads.{◌>>=◌, required_at, optional_at, text_at, given_of}
+use Rattle.cargo_toml_parts.specs.Reads.{◌>>=◌, required_at, text_at, given_of}
 use Rattle.cargo_toml_parts.specs.Settings.{named}
 
 abbrev pub status_of : Data → Option MaintenanceStatus

@@ -1,6 +1,6 @@
 -- What a lint holds, and which trees are lints.
-use Rattle.std.specs.Prelude.{ℕ, ℤ, pos, List, [], ◌∷◌, codes, Option, Some, None, option_map, option_and_then}
-use Rattle.toml.specs.Data.{Data, string, table, Members, as_str, get_member}
+use Rattle.std.specs.Prelude.{ℕ, ℤ, pos, List, [], ◌∷◌, codes, Option, Some, option_map, option_and_then}
+use Rattle.toml.specs.Data.{Data, table, Members, as_str}
 use Rattle.toml.specs.View.{view}
 use Rattle.cargo_toml_parts.specs.declared.lint.Lint.{Lint}
 use Rattle.cargo_toml_parts.specs.declared.lint.LintLevel.{LintLevel}

@@ -1,4 +1,3 @@
-use Rattle.std.proofs.Common.{refl}
 use Rattle.toml.specs.View.{table_view}
 use Rattle.cargo_toml_parts.specs.Lints.{lint_keys}
 use Rattle.std.proofs.lemmas.Result.{err_from_is_err_and}

@@ -31,14 +31,8 @@ both p q r same (Some a) (Some b) (Some c) h k = record {
 }
 
 module _ {S : Type 0} where
-  pub enabled_none : (by : Text → Text → Bool) (m : HashMap (Bor Text) Feature S) → ((q e : Text) → by q e ≡ false) → EnabledAll by m m
-  enabled_none by m none = record { at = λ q. nothing (by q) (none q) (value_at m q) }
-
   pub enabled_more : (p q r : Text → Text → Bool) (a b c : HashMap (Bor Text) Feature S) → ((x e : Text) → r x e ≡ (p x e || q x e)) → EnabledAll p a b → EnabledAll q b c → EnabledAll r a c
   enabled_more p q r a b c same h k = record { at = λ x. both (p x) (q x) (r x) (same x) (value_at a x) (value_at b x) (value_at c x) (h.at x) (k.at x) }
-
-  pub enabled_alike : (p r : Text → Text → Bool) (a b : HashMap (Bor Text) Feature S) → ((x e : Text) → r x e ≡ p x e) → EnabledAll p a b → EnabledAll r a b
-  enabled_alike p r a b same h = enabled_more p (λ x e. false) r a b b (λ x e. same x e ∙ sym (or-false _)) h (enabled_none (λ x e. false) b (λ x e. refl))
 
   -- one enabler at one key
   module _ (key by : Text) (m : HashMap (Bor Text) Feature S) where
@@ -57,10 +51,3 @@ module _ {S : Type 0} where
         go q false off =
             subst (λ o. Relates (Enabled (λ e. bytes_eq q key && bytes_eq e by)) (value_at m q) o) (sym (after q ∙ ap (λ t. cond t (Some w) (value_at m q)) off))
             (nothing (λ e. bytes_eq q key && bytes_eq e by) (λ e. ap (λ t. t && bytes_eq e by) (bytes_eq_sym q key ∙ off)) (value_at m q))
-
-    pub enabled_nowhere : value_at m key ≡ None → EnabledAll (λ q e. bytes_eq q key && bytes_eq e by) m m
-    enabled_nowhere none = record { at = λ q. go q (bytes_eq q key) refl }
-      where
-        go : (q : Text) (t : Bool) → bytes_eq q key ≡ t → Relates (Enabled (λ e. bytes_eq q key && bytes_eq e by)) (value_at m q) (value_at m q)
-        go q true on = subst (λ o. Relates (Enabled (λ e. bytes_eq q key && bytes_eq e by)) o o) (sym (ap (value_at m) ((bytes_eq-Decides q key).0 on) ∙ none)) tt
-        go q false off = nothing (λ e. bytes_eq q key && bytes_eq e by) (λ e. ap (λ t. t && bytes_eq e by) off) (value_at m q)

@@ -49,9 +49,6 @@ twice false true q (Some v) b c h k = kept true q b c v h k
 twice false false q (Some v) b c h k = kept false q b c v h k
 
 module _ {S : Type 0} where
-  pub implied_none : (p : Text → Bool) (m : HashMap (Bor Text) Feature S) → ((q : Text) → p q ≡ true → is_some (value_at m q) ≡ true) → ImpliesAll p m m
-  implied_none p m h = record { at = λ q. stays (p q) q (value_at m q) (h q) }
-
   implied_more : (p r s : Text → Bool) (a b c : HashMap (Bor Text) Feature S) → ((q : Text) → s q ≡ (p q || r q)) → ImpliesAll p a b → ImpliesAll r b c → ImpliesAll s a c
   implied_more p r s a b c same h k = record { at = λ q. subst (λ t. Becomes t q (value_at a q) (value_at c q)) (sym (same q)) (twice (p q) (r q) q (value_at a q) (value_at b q) (value_at c q) (h.at q) (k.at q)) }
 

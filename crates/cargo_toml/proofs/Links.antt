@@ -34,11 +34,8 @@ link_added ls l apart q e =
     go true s false t = ap (λ b. bytes_eq q l.target.now && b) t ∙ sym (ap (λ b. bytes_eq q l.target.now && (b && not (bytes_eq q e))) t)
     go false s b t = ap (λ a. a && bytes_eq e l.source.now) s ∙ sym (ap (λ a. a && (bytes_eq e l.source.now && not (bytes_eq q e))) s)
 
-pub none_added : (test : Text → Bool) (source : Text) (ls : List Link) → ((q : Text) → test q ≡ false) → AddsLinks test source ls ls
-none_added test source ls none q e = sym (ap (λ t. is_linked ls q e || (t && (bytes_eq e source && not (bytes_eq q e)))) (none q) ∙ or-false _)
-
 -- first those of one test, then those of another
-pub more_added : (p r s : Text → Bool) (source : Text) (a b c : List Link) → ((q : Text) → s q ≡ (p q || r q)) → AddsLinks p source a b → AddsLinks r source b c → AddsLinks s source a c
+more_added : (p r s : Text → Bool) (source : Text) (a b c : List Link) → ((q : Text) → s q ≡ (p q || r q)) → AddsLinks p source a b → AddsLinks r source b c → AddsLinks s source a c
 more_added p r s source a b c same h k q e =
     k q e ∙ ap (λ t. t || (r q && (bytes_eq e source && not (bytes_eq q e)))) (h q e) ∙ or_assoc (is_linked a q e) _ _
     ∙ ap (λ t. is_linked a q e || t) (sym (and-or_distrib_right (p q) (r q) (bytes_eq e source && not (bytes_eq q e))) ∙ ap (λ t. t && (bytes_eq e source && not (bytes_eq q e))) (sym (same q)))
@@ -47,7 +44,7 @@ more_added p r s source a b c same h k q e =
 abbrev pub is_text_in : List (Bor Text) → Text → Bool
 is_text_in ks x = list_any (is_at (λ k. slice_cmp nat_cmp x k.now)) ks
 
-pub text_in_more : (ks : List (Bor Text)) (k : Bor Text) (x : Text) → is_text_in (ks ++ k ∷ []) x ≡ (is_text_in ks x || bytes_eq x k.now)
+text_in_more : (ks : List (Bor Text)) (k : Bor Text) (x : Text) → is_text_in (ks ++ k ∷ []) x ≡ (is_text_in ks x || bytes_eq x k.now)
 text_in_more ks k x = list_any-append _ ks (k ∷ []) ∙ ap (λ t. is_text_in ks x || t) (or-false _ ∙ is_eq-slice_cmp x k.now)
 
 -- one more name of a set

@@ -46,7 +46,7 @@ parts_cmp Dev Build s t = refl
 parts_cmp Dev Dev s t = targets_cmp Dev s t
 
 -- the derived order of keys is that of targets
-pub cmp_is : (a b : TargetKey) → (key_order.cmp-value).it a b ≡ target_cmp (target_of a) (target_of b)
+cmp_is : (a b : TargetKey) → (key_order.cmp-value).it a b ≡ target_cmp (target_of a) (target_of b)
 cmp_is a b = parts_cmp a.kind b.kind a.target b.target
 
 target_of-key_of : (t : Target) → target_of (key_of t) ≡ t
@@ -66,15 +66,11 @@ by_key : {X : Type 0} (m : BTreeMap TargetKey X) (t : Target) → tree.get_by (�
 by_key m t = ap (λ f. tree.get_by f m) (λ i k. (ap (λ x. target_cmp x (target_of k)) (sym (target_of-key_of t)) ∙ sym (cmp_is (key_of t) k)) i)
 
 -- a target once the map has w at a key
-pub target_updated : {X : Type 0} (key : TargetKey) (m n : BTreeMap TargetKey X) (w : Option X) → tree.Updates (key_order.cmp-value).it m n key w
+target_updated : {X : Type 0} (key : TargetKey) (m n : BTreeMap TargetKey X) (w : Option X) → tree.Updates (key_order.cmp-value).it m n key w
     → (t : Target) → tree.get_by (λ k. target_cmp t (target_of k)) n ≡ cond (is_eq (target_cmp t (target_of key))) w (tree.get_by (λ k. target_cmp t (target_of k)) m)
 target_updated key m n w u t =
     by_key n t ∙ u.0 (key_of t)
     ∙ ap₂ (λ b o. cond b w o) (ap is_eq (laws.total-law.antisymm key (key_of t)) ∙ is_eq-reverse _ ∙ ap is_eq (cmp_is (key_of t) key ∙ ap (λ x. target_cmp x (target_of key)) (target_of-key_of t))) (sym (by_key m t))
-
--- whether a target is there
-pub target_known : {X : Type 0} (key : TargetKey) (m : BTreeMap TargetKey X) → tree.get (key_order.cmp-value).it m key ≡ tree.get_by (λ k. target_cmp (target_of key) (target_of k)) m
-target_known key m = ap (λ f. tree.get_by f m) (λ i k. cmp_is key k i)
 
 -- equal targets find the same
 target_same : {X : Type 0} (key : TargetKey) (m : BTreeMap TargetKey X) (t : Target) → is_eq (target_cmp t (target_of key)) ≡ true

@@ -1,7 +1,7 @@
 use Rattle.std.proofs.Common.{◌≡◌, ◌+◌, ◌++◌, ◌∷◌, [], List, take, take_all, map, ap, sym, subst, ◌∙◌}
 use Rattle.std.proofs.lemmas.List.{map-append, take_more}
 use Rattle.cargo_toml.specs.declared.features.ParseDependency.{ParseDependency}
-use Rattle.cargo_toml.specs.Recorded.{Entry, entries_at, recorded_of}
+use Rattle.cargo_toml.specs.Recorded.{entries_at, recorded_of}
 use Rattle.cargo_toml.specs.Recording.{recorded_at, is_mentioned_in}
 use Rattle.cargo_toml.specs.Views.{entry_of}
 use Rattle.cargo_toml.proofs.Counting.{recorded_then}

@@ -1,5 +1,5 @@
 -- The faults of the values at keys.
-use Rattle.std.proofs.Common.{◌≡◌, List, [], Option, Some, None}
+use Rattle.std.proofs.Common.{◌≡◌, [], Option, Some, None}
 use Rattle.toml.specs.Data.{Data, Members, array, as_str, as_table}
 use Rattle.cargo_toml_parts.specs.declared.error.Error.{Error}
 use Rattle.cargo_toml_parts.specs.Faults.{IsShape, wrong_shape}

@@ -1,0 +1,36 @@
+// What is asked of a manifest.
+ghost use Rattle.std.specs.Prelude.{◌≡◌, IsSome, Some};
+ghost use Rattle.cargo_toml_parts.specs.InheritableValues.{value_of};
+
+use super::Manifest;
+use crate::package::Package;
+use cargo_toml_parts::{Inheritable, LintGroups};
+
+impl<Metadata> Manifest<Metadata> {
+    /// The package.
+    ///
+    /// There must be one, as there is not in a manifest of a workspace alone: ask `self.package.is_some()`, or match on the
+    /// field, where that isn't known.
+    pub fn package(&self) -> &Package<Metadata>
+        requires { IsSome self.now.package }
+        ensures { self.now.package ≡ Some result.now }
+    {
+        match &self.package {
+            Some(package) => package,
+            None => unreachable!(),
+        }
+    }
+
+    /// The lints, by tool and then by name.
+    ///
+    /// They must be set: ask `self.lints.is_set()`, or call `self.lints.get()`, where that isn't known.
+    pub fn lints(&self) -> &LintGroups
+        requires { IsSome (value_of self.now.lints) }
+        ensures { value_of self.now.lints ≡ Some result.now }
+    {
+        match &self.lints {
+            Inheritable::Set(lints) => lints,
+            Inheritable::Inherited => unreachable!(),
+        }
+    }
+}

@@ -14,6 +14,8 @@ ghost use Rattle.cargo_toml_manifest.specs.Manifests.{ManifestMeaning, manifest_
 ghost use Rattle.cargo_toml_manifest.specs.Packages.{package_meaning};
 ghost use Rattle.cargo_toml_manifest.specs.Texts.{IsFromText, IsFromBytes, any_tree, any_refuses};
 
+mod questions;
+
 use crate::package::Package;
 use crate::workspace::Workspace;
 use cargo_toml_parts::feature::features;

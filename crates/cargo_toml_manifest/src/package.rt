@@ -10,6 +10,8 @@ ghost use Rattle.cargo_toml_parts.specs.Versions.{version_of};
 ghost use Rattle.cargo_toml_manifest.specs.Keys.{inherited_at};
 ghost use Rattle.cargo_toml_manifest.specs.Packages.{PackageMeaning, package_meaning, package_of, package_faults, package_reads, package_refuses, new_package};
 
+mod questions;
+
 use cargo_toml_parts::read::{Read, as_table, given, optional, required};
 use cargo_toml_parts::value::metadata;
 use cargo_toml_parts::{Edition, Error, FromValue, Inheritable, OptionalFile, Publish, Resolver};

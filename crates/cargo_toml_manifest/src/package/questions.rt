@@ -4,6 +4,7 @@ ghost use Rattle.std.specs.Borrow.{sem};
 ghost use Rattle.cargo_toml_parts.specs.declared.inheritable.Inheritable.TheVariants.{Set};
 ghost use Rattle.cargo_toml_parts.specs.InheritableValues.{value_of};
 ghost use Rattle.cargo_toml_manifest.specs.PackageAnswers.{is_known, text_of, texts_of};
+ghost use Rattle.cargo_toml_manifest.specs.PackageLending.{LendsKnown, LendsCategories};
 
 use super::Package;
 use cargo_toml_parts::{Edition, Inheritable, OptionalFile, Publish, SemVer};
@@ -12,6 +13,18 @@ use cargo_toml_parts::{Edition, Inheritable, OptionalFile, Publish, SemVer};
 fn known<T>(field: &Inheritable<T>) -> &T
     requires { IsSome (value_of field.now) }
     ensures { value_of field.now ≡ Some result.now }
+{
+    match field {
+        Inheritable::Set(value) => value,
+        Inheritable::Inherited => unreachable!(),
+    }
+}
+
+// The value of a field that is set, to be written.
+fn known_mut<T>(field: &mut Inheritable<T>) -> &mut T
+    requires { IsSome (value_of field.old) }
+    ensures* writes_back { sem 𝓛 (LendsKnown T.row field.entry result) }
+    ensures value { value_of field.old ≡ Some result.now }
 {
     match field {
         Inheritable::Set(value) => value,

@@ -1,5 +1,5 @@
 //! Recursive enabling of features that are made by hand.
-ghost use Rattle.std.specs.Prelude.{IfOk, OnOk};
+ghost use Rattle.std.specs.Prelude.{OnOk};
 ghost use Rattle.cargo_toml.specs.Reached.{IsKeyed};
 
 use crate::features::recursive::DependenciesEnabledByFeatures;
@@ -11,16 +11,12 @@ use std::test::Fail;
 
 type State = BuildHasherDefault<FoldHasher>;
 
-// A feature's name, the names that it lists, and its actions: on which dependency, whether conditional, on which feature.
-type Row<'r, 'a> = (
-    &'a str,
-    &'r [&'a str],
-    &'r [(&'a str, bool, &'a str)],
-);
-
+// An action lists a dependency, whether it is conditional, and a feature of the dependency.
 fn feature<'a>(
     alloc: Global,
-    (key, names, actions): Row<'_, 'a>,
+    key: &'a str,
+    names: &[&'a str],
+    actions: &[(&'a str, bool, &'a str)],
 ) -> Result<Feature<'a>, AllocError> {
     let mut enables_features = BTreeSet::new(alloc);
     for name in names {
@@ -58,19 +54,6 @@ fn put<'a>(
     Ok(())
 }
 
-fn features_of<'a>(
-    alloc: Global,
-    rows: &[Row<'_, 'a>],
-) -> Result<HashMap<&'a str, Feature<'a>, State>, AllocError>
-    ensures { IfOk result IsKeyed }
-{
-    let mut features = HashMap::new(alloc);
-    for row in rows {
-        put(&mut features, feature(alloc, *row)?)?;
-    }
-    Ok(features)
-}
-
 // What the feature `start` enables.
 fn enabled_from<'f, 'a>(
     alloc: Global,
@@ -106,12 +89,10 @@ fn acting_on<'a>(
 #[test]
 fn small_manifest_recursion(rt: HostRuntime) -> Result<(), Fail> {
     let alloc = rt.alloc();
-    let rows: [Row; 3] = [
-        ("default", &["fast"], &[]),
-        ("fast", &[], &[("log", false, "std")]),
-        ("log", &[], &[]),
-    ];
-    let features = features_of(alloc, &rows)?;
+    let mut features = HashMap::new(alloc);
+    put(&mut features, feature(alloc, "default", &["fast"], &[])?)?;
+    put(&mut features, feature(alloc, "fast", &[], &[("log", false, "std")])?)?;
+    put(&mut features, feature(alloc, "log", &[], &[])?)?;
     let (found, dependencies) = enabled_from(alloc, &features, "default")?;
     assert_eq!(rt; found.len(), 2);
     assert!(rt; found.contains_key("default"));
@@ -124,12 +105,10 @@ fn small_manifest_recursion(rt: HostRuntime) -> Result<(), Fail> {
 #[test]
 fn recursion_on_cycle_and_unknown(rt: HostRuntime) -> Result<(), Fail> {
     let alloc = rt.alloc();
-    let rows: [Row; 3] = [
-        ("a", &["b", "zz"], &[]),
-        ("b", &["a"], &[]),
-        ("default", &[], &[]),
-    ];
-    let features = features_of(alloc, &rows)?;
+    let mut features = HashMap::new(alloc);
+    put(&mut features, feature(alloc, "a", &["b", "zz"], &[])?)?;
+    put(&mut features, feature(alloc, "b", &["a"], &[])?)?;
+    put(&mut features, feature(alloc, "default", &[], &[])?)?;
     let (found, dependencies) = enabled_from(alloc, &features, "a")?;
     assert_eq!(rt; found.len(), 2);
     assert!(rt; found.contains_key("a"));
@@ -141,13 +120,11 @@ fn recursion_on_cycle_and_unknown(rt: HostRuntime) -> Result<(), Fail> {
 #[test]
 fn recursion_order(rt: HostRuntime) -> Result<(), Fail> {
     let alloc = rt.alloc();
-    let rows: [Row; 4] = [
-        ("a", &["b", "c"], &[("d", false, "x")]),
-        ("b", &["c"], &[("d", true, "y")]),
-        ("c", &[], &[("d", false, "z")]),
-        ("default", &[], &[]),
-    ];
-    let features = features_of(alloc, &rows)?;
+    let mut features = HashMap::new(alloc);
+    put(&mut features, feature(alloc, "a", &["b", "c"], &[("d", false, "x")])?)?;
+    put(&mut features, feature(alloc, "b", &["c"], &[("d", true, "y")])?)?;
+    put(&mut features, feature(alloc, "c", &[], &[("d", false, "z")])?)?;
+    put(&mut features, feature(alloc, "default", &[], &[])?)?;
     let (found, dependencies) = enabled_from(alloc, &features, "a")?;
     assert_eq!(rt; found.len(), 3);
     assert!(rt; found.contains_key("a"));
@@ -168,8 +145,7 @@ fn ring_of_features(rt: HostRuntime) -> Result<(), Fail> {
     let mut features = HashMap::new(alloc);
     for (place, name) in names.iter().enumerate() {
         if let Some(next) = names.get((place + 1) % 2047) {
-            let named = [next.as_str()];
-            put(&mut features, feature(alloc, (name.as_str(), &named, &[]))?)?;
+            put(&mut features, feature(alloc, name.as_str(), &[next.as_str()], &[])?)?;
         }
     }
     let (found, dependencies) = enabled_from(alloc, &features, "r0000")?;

@@ -1,4 +1,6 @@
 //! What is read of whole manifests.
+mod questions;
+
 use crate::{Manifest, Package, PackageTemplate, Workspace};
 use cargo_toml_parts::{
     DebugSetting, Dependency, Edition, Error, FromValue, Inheritable, LintLevel, MaintenanceStatus,

@@ -18,9 +18,6 @@ ghost use Rattle.cargo_toml.specs.Reach.{IsOnce};
 ghost use Rattle.cargo_toml.specs.Reading.{listed_of};
 ghost use Rattle.cargo_toml.specs.Views.{entry_of, listed_in, normal_entries, answer_of};
 
-pub use questions::NonDefaultEnabledBy;
-pub use recursive::DependenciesEnabledByFeatures;
-
 use crate::features::admit::{Listing, listings};
 use crate::features::enable::set_enabled_by;
 use crate::features::imply::imply_all;
@@ -28,6 +25,8 @@ use crate::features::read::{Read, read_features};
 use crate::features::record::{normal_dependencies, record_dependencies};
 use cargo_toml_manifest::Manifest;
 use cargo_toml_parts::{Dependency, Error};
+pub use questions::NonDefaultEnabledBy;
+pub use recursive::DependenciesEnabledByFeatures;
 use std::alloc::{AllocError, Global};
 use std::collections::{BTreeMap, BTreeSet, HashMap};
 use std::hash::{BuildHasher, BuildHasherDefault, FoldHasher};

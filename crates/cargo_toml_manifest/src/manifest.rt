@@ -97,10 +97,8 @@ pub struct Manifest<Metadata = Value> {
 impl<Metadata> Manifest<Metadata> {
     /// The manifest of the empty text. It takes no memory.
     pub fn default(alloc: Global) -> Manifest<Metadata>
-        ensures {
-            (reads : Data → Option Metadata)
-                → manifest_of reads no_members ≡ Some (manifest_meaning (λ x. x) result)
-        }
+        ensures { (reads : Data → Option Metadata)
+            → manifest_of reads no_members ≡ Some (manifest_meaning (λ x. x) result) }
     {
         Manifest {
             package: None,
@@ -131,20 +129,16 @@ impl Manifest {
     /// document that holds a float at any depth is `Error::Parse` of the shape `floats are not supported`; one that has
     /// another fault is `Error::Parse` of the shape that names it, one of several. Want of memory is `Error::Memory`.
     pub fn from_slice(alloc: Global, bytes: &[u8]) -> Result<Manifest, Error>
-        ensures {
-            IsFromBytes (manifest_meaning view) (manifest_reads any_tree)
-                (manifest_refuses any_tree any_refuses) bytes.now result
-        }
+        ensures { IsFromBytes (manifest_meaning view) (manifest_reads any_tree)
+            (manifest_refuses any_tree any_refuses) bytes.now result }
     {
         Manifest::from_slice_with_metadata(alloc, bytes)
     }
 
     /// The manifest that this text spells. It refuses as `from_slice` does a text's bytes.
     pub fn from_str(alloc: Global, text: &str) -> Result<Manifest, Error>
-        ensures {
-            IsFromText (manifest_meaning view) (manifest_reads any_tree)
-                (manifest_refuses any_tree any_refuses) (parse_document text.now) result
-        }
+        ensures { IsFromText (manifest_meaning view) (manifest_reads any_tree)
+            (manifest_refuses any_tree any_refuses) (parse_document text.now) result }
     {
         Manifest::from_text(alloc, text)
     }
@@ -155,11 +149,12 @@ impl<Metadata: FromValue> Manifest<Metadata> {
     ///
     /// It refuses as `from_slice` does; a fault that the metadata type tells is handed on as it is. A float is refused in
     /// every manifest, whatever that type would make of it.
-    pub fn from_slice_with_metadata(alloc: Global, bytes: &[u8]) -> Result<Manifest<Metadata>, Error>
-        ensures {
-            IsFromBytes (manifest_meaning Metadata.meaning) (manifest_reads Metadata.from_tree)
-                (manifest_refuses Metadata.from_tree Metadata.from_refuses) bytes.now result
-        }
+    pub fn from_slice_with_metadata(
+        alloc: Global,
+        bytes: &[u8],
+    ) -> Result<Manifest<Metadata>, Error>
+        ensures { IsFromBytes (manifest_meaning Metadata.meaning) (manifest_reads Metadata.from_tree)
+            (manifest_refuses Metadata.from_tree Metadata.from_refuses) bytes.now result }
     {
         match str::from_utf8(bytes) {
             Ok(text) => Manifest::from_text(alloc, text),
@@ -168,10 +163,8 @@ impl<Metadata: FromValue> Manifest<Metadata> {
     }
 
     fn from_text(alloc: Global, text: &str) -> Result<Manifest<Metadata>, Error>
-        ensures {
-            IsFromText (manifest_meaning Metadata.meaning) (manifest_reads Metadata.from_tree)
-                (manifest_refuses Metadata.from_tree Metadata.from_refuses) (parse_document text.now) result
-        }
+        ensures { IsFromText (manifest_meaning Metadata.meaning) (manifest_reads Metadata.from_tree)
+            (manifest_refuses Metadata.from_tree Metadata.from_refuses) (parse_document text.now) result }
     {
         let table = toml::table_from_str(alloc, text)?;
         if !table_has_no_float(&table) {
@@ -199,10 +192,8 @@ fn read_table<Metadata: FromValue>(
     alloc: Global,
     table: &Table,
 ) -> Result<Manifest<Metadata>, Error>
-    ensures {
-        IsReading (manifest_meaning Metadata.meaning) (manifest_of Metadata.from_tree (table_view table.now))
-            (manifest_faults Metadata.from_tree Metadata.from_refuses (table_view table.now)) result
-    }
+    ensures { IsReading (manifest_meaning Metadata.meaning) (manifest_of Metadata.from_tree (table_view table.now))
+        (manifest_faults Metadata.from_tree Metadata.from_refuses (table_view table.now)) result }
 {
     let package = optional(alloc, table, "package")?;
     let workspace = optional(alloc, table, "workspace")?;
@@ -244,31 +235,25 @@ fn read_table<Metadata: FromValue>(
 
 // The profiles, none where their key is missing.
 fn profiles(alloc: Global, table: &Table) -> Result<Profiles, Error>
-    ensures {
-        IsReading profiles_meaning (given_at "profile" no_profiles profiles_reads (table_view table.now))
-            (optional_refuses profiles_refuse (get_member (codes "profile") (table_view table.now))) result
-    }
+    ensures { IsReading profiles_meaning (given_at "profile" no_profiles profiles_reads (table_view table.now))
+        (optional_refuses profiles_refuse (get_member (codes "profile") (table_view table.now))) result }
 {
     given(alloc, table, "profile", Profiles::default(alloc))
 }
 
 // The badges, none where their key is missing.
 fn badges(alloc: Global, table: &Table) -> Result<Badges, Error>
-    ensures {
-        IsReading badges_meaning (given_at "badges" no_badges badges_reads (table_view table.now))
-            (optional_refuses plain (get_member (codes "badges") (table_view table.now))) result
-    }
+    ensures { IsReading badges_meaning (given_at "badges" no_badges badges_reads (table_view table.now))
+        (optional_refuses plain (get_member (codes "badges") (table_view table.now))) result }
 {
     given(alloc, table, "badges", Badges::default(alloc))
 }
 
 // The lints, none where their key is missing.
 fn lints(alloc: Global, table: &Table) -> Result<Inheritable<LintGroups>, Error>
-    ensures {
-        IsReading (inheritable_map (map_meaning (map_meaning lint_meaning)))
-            (inherited_at "lints" [] (map_of (map_of lint_of)) (table_view table.now))
-            (optional_refuses inheritable_refuses (get_member (codes "lints") (table_view table.now))) result
-    }
+    ensures { IsReading (inheritable_map (map_meaning (map_meaning lint_meaning)))
+        (inherited_at "lints" [] (map_of (map_of lint_of)) (table_view table.now))
+        (optional_refuses inheritable_refuses (get_member (codes "lints") (table_view table.now))) result }
 {
     given(
         alloc,
@@ -311,10 +296,8 @@ fn by_zero_rule<Metadata: FromValue>(found: Package<Metadata>) -> Package<Metada
 fn option_by_zero_rule<Metadata: FromValue>(
     found: Option<Package<Metadata>>,
 ) -> Option<Package<Metadata>>
-    ensures {
-        option_map (package_meaning Metadata.meaning) result
-            ≡ option_map by_zero_rule (option_map (package_meaning Metadata.meaning) found)
-    }
+    ensures { option_map (package_meaning Metadata.meaning) result
+        ≡ option_map by_zero_rule (option_map (package_meaning Metadata.meaning) found) }
 {
     match found {
         Some(package) => Some(by_zero_rule(package)),

@@ -161,11 +161,9 @@ impl<Metadata> Package<Metadata> {
 
 // A version that is 0.0.0 where its key is missing.
 fn version(alloc: Global, table: &Table) -> Result<Inheritable<Version>, Error>
-    ensures {
-        IsReading (inheritable_map parts_of)
-            (inherited_at "version" (0, 0, 0, [], []) version_of (table_view table.now))
-            (optional_refuses inheritable_refuses (get_member (codes "version") (table_view table.now))) result
-    }
+    ensures { IsReading (inheritable_map parts_of)
+        (inherited_at "version" (0, 0, 0, [], []) version_of (table_view table.now))
+        (optional_refuses inheritable_refuses (get_member (codes "version") (table_view table.now))) result }
 {
     given(
         alloc,
@@ -177,23 +175,16 @@ fn version(alloc: Global, table: &Table) -> Result<Inheritable<Version>, Error>
 
 // A list that is empty where its key is missing.
 fn texts(alloc: Global, table: &Table, key: &str) -> Result<Inheritable<Vec<String>>, Error>
-    ensures {
-        IsReading (inheritable_map (λ v. map string_bytes v.items))
-            (given_of (inheritable_of list_of) (Set []) (get_member key.now (table_view table.now)))
-            (optional_refuses inheritable_refuses (get_member key.now (table_view table.now))) result
-    }
+    ensures { IsReading (inheritable_map (λ v. map string_bytes v.items))
+        (given_of (inheritable_of list_of) (Set []) (get_member key.now (table_view table.now)))
+        (optional_refuses inheritable_refuses (get_member key.now (table_view table.now))) result }
 {
     given(alloc, table, key, Inheritable::Set(Vec::new(alloc)))
 }
 
-fn read_table<Metadata: FromValue>(
-    alloc: Global,
-    table: &Table,
-) -> Result<Package<Metadata>, Error>
-    ensures {
-        IsReading (package_meaning Metadata.meaning) (package_of Metadata.from_tree (table_view table.now))
-            (package_faults Metadata.from_tree Metadata.from_refuses (table_view table.now)) result
-    }
+fn read_table<Metadata: FromValue>(alloc: Global, table: &Table) -> Result<Package<Metadata>, Error>
+    ensures { IsReading (package_meaning Metadata.meaning) (package_of Metadata.from_tree (table_view table.now))
+        (package_faults Metadata.from_tree Metadata.from_refuses (table_view table.now)) result }
 {
     let name = required(alloc, table, "name")?;
     let version = version(alloc, table)?;
@@ -206,7 +197,12 @@ fn read_table<Metadata: FromValue>(
     let description = optional(alloc, table, "description")?;
     let homepage = optional(alloc, table, "homepage")?;
     let documentation = optional(alloc, table, "documentation")?;
-    let readme = given(alloc, table, "readme", Inheritable::Set(OptionalFile::Flag(true)))?;
+    let readme = given(
+        alloc,
+        table,
+        "readme",
+        Inheritable::Set(OptionalFile::Flag(true)),
+    )?;
     let keywords = texts(alloc, table, "keywords")?;
     let categories = texts(alloc, table, "categories")?;
     let exclude = texts(alloc, table, "exclude")?;
@@ -220,7 +216,12 @@ fn read_table<Metadata: FromValue>(
     let autoexamples = given(alloc, table, "autoexamples", true)?;
     let autotests = given(alloc, table, "autotests", true)?;
     let autobenches = given(alloc, table, "autobenches", true)?;
-    let publish = given(alloc, table, "publish", Inheritable::Set(Publish::Flag(true)))?;
+    let publish = given(
+        alloc,
+        table,
+        "publish",
+        Inheritable::Set(Publish::Flag(true)),
+    )?;
     let resolver = optional(alloc, table, "resolver")?;
     let metadata = metadata(alloc, table, "metadata")?;
     Ok(Package {

@@ -67,7 +67,8 @@ fn first<'a>(value: &'a Inheritable<Vec<String>>) -> Option<&'a str> {
     }
 }
 
-const SMALL: &str = "[package]\nname = \"dunce\"\nversion = \"0.1.0\"\n[dependencies]\nlog = { version = \"0.4\", optional = true }\n[features]\ndefault = [\"fast\"]\nfast = [\"log/std\"]\n";
+const SMALL: &str =
+    "[package]\nname = \"dunce\"\nversion = \"0.1.0\"\n[dependencies]\nlog = { version = \"0.4\", optional = true }\n[features]\ndefault = [\"fast\"]\nfast = [\"log/std\"]\n";
 
 // The manifest is the one of the small text.
 fn assert_small(rt: &impl Abort, manifest: &Manifest) -> Result<(), Fail> {
@@ -97,7 +98,10 @@ fn assert_small(rt: &impl Abort, manifest: &Manifest) -> Result<(), Fail> {
 fn small_manifest_other_calls(rt: HostRuntime) -> Result<(), Fail> {
     assert_small(&rt, &Manifest::from_slice(rt.alloc(), SMALL.as_bytes())?)?;
     assert_small(&rt, &Manifest::from_str(rt.alloc(), SMALL)?)?;
-    assert_small(&rt, &Manifest::from_slice_with_metadata(rt.alloc(), SMALL.as_bytes())?)?;
+    assert_small(
+        &rt,
+        &Manifest::from_slice_with_metadata(rt.alloc(), SMALL.as_bytes())?,
+    )?;
     Ok(())
 }
 
@@ -105,14 +109,18 @@ fn small_manifest_other_calls(rt: HostRuntime) -> Result<(), Fail> {
 fn unknown_keys_ignored(rt: HostRuntime) -> Result<(), Fail> {
     let alloc = rt.alloc();
     let known = SMALL.strip_prefix("[package]\n").ok_or("no package")?;
-    let more = format!(in alloc; "cargo-features = [\"x\"]\n[package]\nim-a-teapot = true\n{known}")?;
+    let more = format!(in alloc;
+        "cargo-features = [\"x\"]\n[package]\nim-a-teapot = true\n{known}"
+    )?;
     assert_small(&rt, &Manifest::from_str(alloc, more.as_str())?)
 }
 
 #[test]
 fn virtual_manifest(rt: HostRuntime) -> Result<(), Fail> {
-    let manifest =
-        Manifest::from_str(rt.alloc(), "[workspace]\nmembers = [\"autobin\", \"autolib\"]\n")?;
+    let manifest = Manifest::from_str(
+        rt.alloc(),
+        "[workspace]\nmembers = [\"autobin\", \"autolib\"]\n",
+    )?;
     assert!(rt; manifest.package.is_none());
     let workspace = manifest.workspace.as_ref().ok_or("no workspace")?;
     assert_eq!(rt; workspace.members.len(), 2);
@@ -142,11 +150,23 @@ fn publish(alloc: Global, text: &str) -> Result<Option<bool>, Error> {
 fn version_zero_rule(rt: HostRuntime) -> Result<(), Fail> {
     let rows: [(&str, Option<bool>); 7] = [
         ("[package]\nname = \"p\"\n", Some(false)),
-        ("[package]\nname = \"p\"\nversion = \"0.0.0\"\npublish = true\n", Some(false)),
-        ("[package]\nname = \"p\"\nversion = \"0.0.0-a\"\n", Some(true)),
-        ("[package]\nname = \"p\"\nversion = \"0.0.0+a\"\n", Some(true)),
+        (
+            "[package]\nname = \"p\"\nversion = \"0.0.0\"\npublish = true\n",
+            Some(false),
+        ),
+        (
+            "[package]\nname = \"p\"\nversion = \"0.0.0-a\"\n",
+            Some(true),
+        ),
+        (
+            "[package]\nname = \"p\"\nversion = \"0.0.0+a\"\n",
+            Some(true),
+        ),
         ("[package]\nname = \"p\"\nversion = \"0.0.1\"\n", Some(true)),
-        ("[package]\nname = \"p\"\nversion = { workspace = true }\n", Some(true)),
+        (
+            "[package]\nname = \"p\"\nversion = { workspace = true }\n",
+            Some(true),
+        ),
         ("[package]\nname = \"p\"\npublish = []\n", None),
     ];
     for (text, want) in rows {
@@ -165,7 +185,11 @@ fn version_zero_rule(rt: HostRuntime) -> Result<(), Fail> {
 fn refused_inputs(rt: HostRuntime) -> Result<(), Fail> {
     let refused = Manifest::from_str(rt.alloc(), "[package");
     assert!(rt; matches!(refused, Err(Error::Parse(ParseFault::Toml(_)))));
-    assert_shape(&rt, "[profile.dev]\ndebug = 3\n", "wrong number for debug setting");
+    assert_shape(
+        &rt,
+        "[profile.dev]\ndebug = 3\n",
+        "wrong number for debug setting",
+    );
     assert_shape(
         &rt,
         "[package]\nname = \"p\"\n[package.metadata]\nx = 1.5\n",
@@ -190,12 +214,20 @@ fn badges_no_table(rt: HostRuntime) {
 
 #[test]
 fn proc_macro_both_spellings(rt: HostRuntime) {
-    assert_shape(&rt, "[lib]\nproc_macro = true\nproc-macro = true\n", WRONG_SHAPE);
+    assert_shape(
+        &rt,
+        "[lib]\nproc_macro = true\nproc-macro = true\n",
+        WRONG_SHAPE,
+    );
 }
 
 #[test]
 fn lint_priority_too_large(rt: HostRuntime) {
-    assert_shape(&rt, "[lints.rust]\nx = { level = \"warn\", priority = 200 }\n", WRONG_SHAPE);
+    assert_shape(
+        &rt,
+        "[lints.rust]\nx = { level = \"warn\", priority = 200 }\n",
+        WRONG_SHAPE,
+    );
 }
 
 #[test]
@@ -261,7 +293,8 @@ fn inherited_lints(rt: HostRuntime) -> Result<(), Fail> {
 
 #[test]
 fn workspace_false_dependency(rt: HostRuntime) -> Result<(), Fail> {
-    let text = "[package]\nname = \"p\"\n[dependencies]\nd = { workspace = false, optional = true }\n";
+    let text =
+        "[package]\nname = \"p\"\n[dependencies]\nd = { workspace = false, optional = true }\n";
     let manifest = Manifest::from_str(rt.alloc(), text)?;
     let Some(Dependency::Inherited(d)) = manifest.dependencies.get("d") else {
         return Err("not inherited")?;
@@ -287,7 +320,8 @@ fn metadata_of_another_crate(rt: HostRuntime) -> Result<(), Fail> {
     Ok(())
 }
 
-const LARGE: &str = "[package]\nname = \"foo\"\n\n[[bin]]\nname = \"thebin\"\nrequired-features = [\"__hidden2\", \"loop3\"]\n\n[dependencies]\nnot_optional = { path = \"..\", package = \"actual_pkg\", features = [\"f1\", \"f2\"] }\ndepend = { version = \"1.0.0\", package = \"actual_pkg\", optional = true, default-features = false }\nimplied_standalone = { version = \"1.0.0\", optional = true }\nimplied_referenced = { version = \"1.0.0\", optional = true }\nnot_relevant = \"2\"\nfeature_for_hidden = { version = \"2\", optional = true }\n__hidden_dep = { version = \"2\", optional = true }\n\n[build-dependencies]\na_dep = { version = \"1.0.0\", optional = true }\n\n[features]\ndefault = [\"x\"]\na = []\nb = [\"a\", \"implied_referenced/with_feature\", \"depend/default\", \"depend/default\"]\nc = [\"__hidden\"]\nx = [\"__hidden\", \"c\", \"not_optional/f2\", \"not_optional/f3\", \"not_optional/default\"]\n__hidden = [\"__hidden2\"]\n__hidden2 = [\"dep:depend\", \"depend/with_x\", \"depend?/with_y\", \"__hidden0\"]\n__hidden0 = [\"a\"]\nenables_hidden = [\"__hidden0\"]\n__feature_for_hidden = [\"feature_for_hidden\"]\n\nloop1 = [\"loop2\"]\nloop2 = [\"loop3\", \"a_dep?/maybe\", \"a_dep?/maybe_too\", \"depend/with_loop\"]\nloop3 = [\"loop1\", \"implied_referenced/from_loop_3\"]\n";
+const LARGE: &str =
+    "[package]\nname = \"foo\"\n\n[[bin]]\nname = \"thebin\"\nrequired-features = [\"__hidden2\", \"loop3\"]\n\n[dependencies]\nnot_optional = { path = \"..\", package = \"actual_pkg\", features = [\"f1\", \"f2\"] }\ndepend = { version = \"1.0.0\", package = \"actual_pkg\", optional = true, default-features = false }\nimplied_standalone = { version = \"1.0.0\", optional = true }\nimplied_referenced = { version = \"1.0.0\", optional = true }\nnot_relevant = \"2\"\nfeature_for_hidden = { version = \"2\", optional = true }\n__hidden_dep = { version = \"2\", optional = true }\n\n[build-dependencies]\na_dep = { version = \"1.0.0\", optional = true }\n\n[features]\ndefault = [\"x\"]\na = []\nb = [\"a\", \"implied_referenced/with_feature\", \"depend/default\", \"depend/default\"]\nc = [\"__hidden\"]\nx = [\"__hidden\", \"c\", \"not_optional/f2\", \"not_optional/f3\", \"not_optional/default\"]\n__hidden = [\"__hidden2\"]\n__hidden2 = [\"dep:depend\", \"depend/with_x\", \"depend?/with_y\", \"__hidden0\"]\n__hidden0 = [\"a\"]\nenables_hidden = [\"__hidden0\"]\n__feature_for_hidden = [\"feature_for_hidden\"]\n\nloop1 = [\"loop2\"]\nloop2 = [\"loop3\", \"a_dep?/maybe\", \"a_dep?/maybe_too\", \"depend/with_loop\"]\nloop3 = [\"loop1\", \"implied_referenced/from_loop_3\"]\n";
 
 fn assert_list(rt: &impl Abort, list: &[String], want: &[&str]) {
     assert_eq!(rt; list.len(), want.len());
@@ -305,7 +339,11 @@ fn large_manifest_is_read(rt: HostRuntime) -> Result<(), Fail> {
     assert_eq!(rt; manifest.bin.len(), 1);
     assert!(rt; text(&manifest.bin[0].name) == Some("thebin"));
     assert!(rt; manifest.bin[0].path.is_none());
-    assert_list(&rt, manifest.bin[0].required_features.as_slice(), &["__hidden2", "loop3"]);
+    assert_list(
+        &rt,
+        manifest.bin[0].required_features.as_slice(),
+        &["__hidden2", "loop3"],
+    );
 
     assert_eq!(rt; manifest.dependencies.len(), 7);
     let Some(Dependency::Detailed(not_optional)) = manifest.dependencies.get("not_optional") else {
@@ -325,28 +363,77 @@ fn large_manifest_is_read(rt: HostRuntime) -> Result<(), Fail> {
     assert!(rt; depend.features.is_empty());
     assert!(rt; depend.optional);
     assert!(rt; !depend.default_features);
-    assert!(rt; matches!(manifest.dependencies.get("not_relevant"), Some(Dependency::Simple(_))));
-    for name in ["implied_standalone", "implied_referenced", "feature_for_hidden", "__hidden_dep"] {
-        assert!(rt; matches!(manifest.dependencies.get(name), Some(Dependency::Detailed(_))), "{name}");
+    assert!(rt;
+        matches!(
+            manifest.dependencies.get("not_relevant"),
+            Some(Dependency::Simple(_))
+        )
+    );
+    for name in [
+        "implied_standalone",
+        "implied_referenced",
+        "feature_for_hidden",
+        "__hidden_dep",
+    ] {
+        assert!(rt;
+            matches!(
+                manifest.dependencies.get(name),
+                Some(Dependency::Detailed(_))
+            ),
+            "{name}"
+        );
     }
     assert_eq!(rt; manifest.build_dependencies.len(), 1);
-    assert!(rt; matches!(manifest.build_dependencies.get("a_dep"), Some(Dependency::Detailed(_))));
+    assert!(rt;
+        matches!(
+            manifest.build_dependencies.get("a_dep"),
+            Some(Dependency::Detailed(_))
+        )
+    );
     assert!(rt; manifest.dev_dependencies.is_empty());
 
     assert_eq!(rt; manifest.features.len(), 13);
     let rows: [(&str, &[&str]); 13] = [
         ("default", &["x"]),
         ("a", &[]),
-        ("b", &["a", "implied_referenced/with_feature", "depend/default", "depend/default"]),
+        (
+            "b",
+            &[
+                "a",
+                "implied_referenced/with_feature",
+                "depend/default",
+                "depend/default",
+            ],
+        ),
         ("c", &["__hidden"]),
-        ("x", &["__hidden", "c", "not_optional/f2", "not_optional/f3", "not_optional/default"]),
+        (
+            "x",
+            &[
+                "__hidden",
+                "c",
+                "not_optional/f2",
+                "not_optional/f3",
+                "not_optional/default",
+            ],
+        ),
         ("__hidden", &["__hidden2"]),
-        ("__hidden2", &["dep:depend", "depend/with_x", "depend?/with_y", "__hidden0"]),
+        (
+            "__hidden2",
+            &["dep:depend", "depend/with_x", "depend?/with_y", "__hidden0"],
+        ),
         ("__hidden0", &["a"]),
         ("enables_hidden", &["__hidden0"]),
         ("__feature_for_hidden", &["feature_for_hidden"]),
         ("loop1", &["loop2"]),
-        ("loop2", &["loop3", "a_dep?/maybe", "a_dep?/maybe_too", "depend/with_loop"]),
+        (
+            "loop2",
+            &[
+                "loop3",
+                "a_dep?/maybe",
+                "a_dep?/maybe_too",
+                "depend/with_loop",
+            ],
+        ),
         ("loop3", &["loop1", "implied_referenced/from_loop_3"]),
     ];
     for (name, want) in rows {
@@ -356,7 +443,8 @@ fn large_manifest_is_read(rt: HostRuntime) -> Result<(), Fail> {
     Ok(())
 }
 
-const PACKAGE: &str = "[package]\nname = \"name\"\nversion = \"1.2.3\"\nedition = \"2018\"\nrust-version = \"rust-version\"\nbuild = \"build\"\nworkspace = \"workspace\"\nauthors = [\"authors\"]\nlinks = \"links\"\ndescription = \"description\"\nhomepage = \"homepage\"\ndocumentation = \"documentation\"\nreadme = \"readme\"\nkeywords = [\"keywords\"]\ncategories = [\"categories\"]\nexclude = [\"exclude\"]\ninclude = [\"include\"]\nlicense = \"license\"\nlicense-file = \"license-file\"\nrepository = \"repository\"\ndefault-run = \"default-run\"\nautobins = false\nautolib = false\nautoexamples = false\nautotests = false\nautobenches = false\npublish = [\"publish\"]\nresolver = \"2\"\nmetadata = 1\n";
+const PACKAGE: &str =
+    "[package]\nname = \"name\"\nversion = \"1.2.3\"\nedition = \"2018\"\nrust-version = \"rust-version\"\nbuild = \"build\"\nworkspace = \"workspace\"\nauthors = [\"authors\"]\nlinks = \"links\"\ndescription = \"description\"\nhomepage = \"homepage\"\ndocumentation = \"documentation\"\nreadme = \"readme\"\nkeywords = [\"keywords\"]\ncategories = [\"categories\"]\nexclude = [\"exclude\"]\ninclude = [\"include\"]\nlicense = \"license\"\nlicense-file = \"license-file\"\nrepository = \"repository\"\ndefault-run = \"default-run\"\nautobins = false\nautolib = false\nautoexamples = false\nautotests = false\nautobenches = false\npublish = [\"publish\"]\nresolver = \"2\"\nmetadata = 1\n";
 
 #[test]
 fn every_key_of_a_package(rt: HostRuntime) -> Result<(), Fail> {
@@ -369,7 +457,9 @@ fn every_key_of_a_package(rt: HostRuntime) -> Result<(), Fail> {
     assert!(rt; *version == Version::new(1, 2, 3));
     assert!(rt; matches!(package.edition, Inheritable::Set(Edition::E2018)));
     assert!(rt; set_text(&package.rust_version) == Some("rust-version"));
-    assert!(rt; matches!(&package.build, Some(OptionalFile::Path(path)) if path.as_str() == "build"));
+    assert!(rt;
+        matches!(&package.build, Some(OptionalFile::Path(path)) if path.as_str() == "build")
+    );
     assert!(rt; text(&package.workspace) == Some("workspace"));
     assert!(rt; first(&package.authors) == Some("authors"));
     assert!(rt; text(&package.links) == Some("links"));
@@ -399,14 +489,19 @@ fn every_key_of_a_package(rt: HostRuntime) -> Result<(), Fail> {
     Ok(())
 }
 
-const WORKSPACE: &str = "[workspace]\nmembers = [\"members\"]\ndefault-members = [\"default-members\"]\nexclude = [\"exclude\"]\nmetadata = 1\nresolver = \"3\"\n[workspace.dependencies]\nd = \"1\"\n[workspace.lints.rust]\nx = \"warn\"\n[workspace.package]\nauthors = [\"authors\"]\ncategories = [\"categories\"]\ndescription = \"description\"\ndocumentation = \"documentation\"\nedition = \"2021\"\nexclude = [\"exclude\"]\nhomepage = \"homepage\"\ninclude = [\"include\"]\nkeywords = [\"keywords\"]\nlicense = \"license\"\nlicense-file = \"license-file\"\npublish = false\nreadme = false\nrepository = \"repository\"\nrust-version = \"rust-version\"\nversion = \"1.2.3\"\n";
+const WORKSPACE: &str =
+    "[workspace]\nmembers = [\"members\"]\ndefault-members = [\"default-members\"]\nexclude = [\"exclude\"]\nmetadata = 1\nresolver = \"3\"\n[workspace.dependencies]\nd = \"1\"\n[workspace.lints.rust]\nx = \"warn\"\n[workspace.package]\nauthors = [\"authors\"]\ncategories = [\"categories\"]\ndescription = \"description\"\ndocumentation = \"documentation\"\nedition = \"2021\"\nexclude = [\"exclude\"]\nhomepage = \"homepage\"\ninclude = [\"include\"]\nkeywords = [\"keywords\"]\nlicense = \"license\"\nlicense-file = \"license-file\"\npublish = false\nreadme = false\nrepository = \"repository\"\nrust-version = \"rust-version\"\nversion = \"1.2.3\"\n";
 
 #[test]
 fn every_key_of_a_workspace(rt: HostRuntime) -> Result<(), Fail> {
     let manifest = Manifest::from_str(rt.alloc(), WORKSPACE)?;
     let workspace = manifest.workspace.as_ref().ok_or("no workspace")?;
     assert_list(&rt, workspace.members.as_slice(), &["members"]);
-    assert_list(&rt, workspace.default_members.as_slice(), &["default-members"]);
+    assert_list(
+        &rt,
+        workspace.default_members.as_slice(),
+        &["default-members"],
+    );
     assert_list(&rt, workspace.exclude.as_slice(), &["exclude"]);
     assert!(rt; matches!(workspace.metadata, Some(Value::Integer(1))));
     assert!(rt; workspace.resolver == Some(Resolver::V3));
@@ -446,7 +541,8 @@ fn every_key_of_a_template(rt: HostRuntime) -> Result<(), Fail> {
     Ok(())
 }
 
-const OTHERS: &str = "[dev-dependencies]\na = \"1\"\n[build-dependencies]\nb = \"1\"\n[target.unix.dependencies]\nc = \"1\"\n[replace]\nd = \"1\"\n[patch.crates-io]\ne = \"1\"\n[lib]\nname = \"f\"\n[profile.doc]\n[badges.gitlab]\nrepository = \"g\"\n[[bin]]\nname = \"h\"\n[[bench]]\nname = \"i\"\n[[test]]\nname = \"j\"\n[[example]]\nname = \"k\"\n[lints.rust]\nl = \"deny\"\n";
+const OTHERS: &str =
+    "[dev-dependencies]\na = \"1\"\n[build-dependencies]\nb = \"1\"\n[target.unix.dependencies]\nc = \"1\"\n[replace]\nd = \"1\"\n[patch.crates-io]\ne = \"1\"\n[lib]\nname = \"f\"\n[profile.doc]\n[badges.gitlab]\nrepository = \"g\"\n[[bin]]\nname = \"h\"\n[[bench]]\nname = \"i\"\n[[test]]\nname = \"j\"\n[[example]]\nname = \"k\"\n[lints.rust]\nl = \"deny\"\n";
 
 // The one product of a list has this name.
 fn assert_product(rt: &impl Abort, products: &[Product], want: &str) {
@@ -457,8 +553,18 @@ fn assert_product(rt: &impl Abort, products: &[Product], want: &str) {
 #[test]
 fn every_other_key_of_a_manifest(rt: HostRuntime) -> Result<(), Fail> {
     let manifest = Manifest::from_str(rt.alloc(), OTHERS)?;
-    assert!(rt; matches!(manifest.dev_dependencies.get("a"), Some(Dependency::Simple(_))));
-    assert!(rt; matches!(manifest.build_dependencies.get("b"), Some(Dependency::Simple(_))));
+    assert!(rt;
+        matches!(
+            manifest.dev_dependencies.get("a"),
+            Some(Dependency::Simple(_))
+        )
+    );
+    assert!(rt;
+        matches!(
+            manifest.build_dependencies.get("b"),
+            Some(Dependency::Simple(_))
+        )
+    );
     let unix = manifest.target.get("unix").ok_or("no target")?;
     assert!(rt; matches!(unix.dependencies.get("c"), Some(Dependency::Simple(_))));
     assert!(rt; matches!(manifest.replace.get("d"), Some(Dependency::Simple(_))));

@@ -47,10 +47,8 @@ pub struct Workspace<Metadata = Value> {
 impl<Metadata> Workspace<Metadata> {
     /// The workspace of an empty table: the lists and maps are empty, and the rest is `None`. It takes no memory.
     pub fn default(alloc: Global) -> Workspace<Metadata>
-        ensures {
-            (reads : Data → Option Metadata)
-                → workspace_of reads no_members ≡ Some (workspace_meaning (λ x. x) result)
-        }
+        ensures { (reads : Data → Option Metadata)
+            → workspace_of reads no_members ≡ Some (workspace_meaning (λ x. x) result) }
     {
         Workspace {
             members: Vec::new(alloc),
@@ -69,10 +67,8 @@ fn read_table<Metadata: FromValue>(
     alloc: Global,
     table: &Table,
 ) -> Result<Workspace<Metadata>, Error>
-    ensures {
-        IsReading (workspace_meaning Metadata.meaning) (workspace_of Metadata.from_tree (table_view table.now))
-            (workspace_faults Metadata.from_tree Metadata.from_refuses (table_view table.now)) result
-    }
+    ensures { IsReading (workspace_meaning Metadata.meaning) (workspace_of Metadata.from_tree (table_view table.now))
+        (workspace_faults Metadata.from_tree Metadata.from_refuses (table_view table.now)) result }
 {
     let members = list(alloc, table, "members")?;
     let default_members = list(alloc, table, "default-members")?;

@@ -14,8 +14,11 @@ use std::collections::HashMap;
 use std::hash::BuildHasher;
 
 /// For each dependency's key, the names of the features that act on it, each with its action.
-pub type DependenciesEnabledByFeatures<'f, 'a, S> =
-    HashMap<&'a str, Vec<(&'a str, &'f DepAction<'a>)>, S>;
+pub type DependenciesEnabledByFeatures<'f, 'a, S> = HashMap<
+    &'a str,
+    Vec<(&'a str, &'f DepAction<'a>)>,
+    S,
+>;
 
 // Adds a pair at the end of the list under `key`.
 fn add_pair<'f, 'a, S: BuildHasher>(

@@ -91,14 +91,20 @@ fn small_manifest_recursion(rt: HostRuntime) -> Result<(), Fail> {
     let alloc = rt.alloc();
     let mut features = HashMap::new(alloc);
     put(&mut features, feature(alloc, "default", &["fast"], &[])?)?;
-    put(&mut features, feature(alloc, "fast", &[], &[("log", false, "std")])?)?;
+    put(
+        &mut features,
+        feature(alloc, "fast", &[], &[("log", false, "std")])?,
+    )?;
     put(&mut features, feature(alloc, "log", &[], &[])?)?;
     let (found, dependencies) = enabled_from(alloc, &features, "default")?;
     assert_eq!(rt; found.len(), 2);
     assert!(rt; found.contains_key("default"));
     assert!(rt; found.contains_key("fast"));
     assert_eq!(rt; dependencies.len(), 1);
-    assert_eq!(rt; acting_on(alloc, &dependencies, "log")?.as_slice(), ["fast"].as_slice());
+    assert_eq!(rt;
+        acting_on(alloc, &dependencies, "log")?.as_slice(),
+        ["fast"].as_slice()
+    );
     Ok(())
 }
 
@@ -121,9 +127,18 @@ fn recursion_on_cycle_and_unknown(rt: HostRuntime) -> Result<(), Fail> {
 fn recursion_order(rt: HostRuntime) -> Result<(), Fail> {
     let alloc = rt.alloc();
     let mut features = HashMap::new(alloc);
-    put(&mut features, feature(alloc, "a", &["b", "c"], &[("d", false, "x")])?)?;
-    put(&mut features, feature(alloc, "b", &["c"], &[("d", true, "y")])?)?;
-    put(&mut features, feature(alloc, "c", &[], &[("d", false, "z")])?)?;
+    put(
+        &mut features,
+        feature(alloc, "a", &["b", "c"], &[("d", false, "x")])?,
+    )?;
+    put(
+        &mut features,
+        feature(alloc, "b", &["c"], &[("d", true, "y")])?,
+    )?;
+    put(
+        &mut features,
+        feature(alloc, "c", &[], &[("d", false, "z")])?,
+    )?;
     put(&mut features, feature(alloc, "default", &[], &[])?)?;
     let (found, dependencies) = enabled_from(alloc, &features, "a")?;
     assert_eq!(rt; found.len(), 3);
@@ -131,7 +146,10 @@ fn recursion_order(rt: HostRuntime) -> Result<(), Fail> {
     assert!(rt; found.contains_key("b"));
     assert!(rt; found.contains_key("c"));
     assert_eq!(rt; dependencies.len(), 1);
-    assert_eq!(rt; acting_on(alloc, &dependencies, "d")?.as_slice(), ["a", "c"].as_slice());
+    assert_eq!(rt;
+        acting_on(alloc, &dependencies, "d")?.as_slice(),
+        ["a", "c"].as_slice()
+    );
     Ok(())
 }
 
@@ -145,7 +163,10 @@ fn ring_of_features(rt: HostRuntime) -> Result<(), Fail> {
     let mut features = HashMap::new(alloc);
     for (place, name) in names.iter().enumerate() {
         if let Some(next) = names.get((place + 1) % 2047) {
-            put(&mut features, feature(alloc, name.as_str(), &[next.as_str()], &[])?)?;
+            put(
+                &mut features,
+                feature(alloc, name.as_str(), &[next.as_str()], &[])?,
+            )?;
         }
     }
     let (found, dependencies) = enabled_from(alloc, &features, "r0000")?;

@@ -22,9 +22,9 @@ loop-feature-preserved g c =
 pub loop-feature-smaller-in_ok-push_named : goal.loop-feature-smaller-in_ok-push_named
 loop-feature-smaller-in_ok-push_named g c =
     let less =
-        visited_less c.args.features.now c.args.self.now.key.now c.loop-feature.found c.insert.new.self c.loop-feature.dependencies c.add_actions.new.dependencies c.pop.new.self.items c.push_named.new.pending.items c.in-Some.feature
-        (subst (Walks c.args.features.now c.args.self.now.key.now c.loop-feature.found c.loop-feature.dependencies) c.in-Some.ensures.items c.loop-feature.invariant)
-        (search rules) c.in_ok-insert.ensures.updates c.in_ok-add_actions.ensures.pairs c.in_ok-add_actions.ensures.no_empty c.in_ok-push_named.ensures in
+    visited_less c.args.features.now c.args.self.now.key.now c.loop-feature.found c.insert.new.self c.loop-feature.dependencies c.add_actions.new.dependencies c.pop.new.self.items c.push_named.new.pending.items c.in-Some.feature
+    (subst (Walks c.args.features.now c.args.self.now.key.now c.loop-feature.found c.loop-feature.dependencies) c.in-Some.ensures.items c.loop-feature.invariant)
+    (search rules) c.in_ok-insert.ensures.updates c.in_ok-add_actions.ensures.pairs c.in_ok-add_actions.ensures.no_empty c.in_ok-push_named.ensures in
     let long = ap length c.in-Some.ensures.items in
     omega (arith, less, long)
 

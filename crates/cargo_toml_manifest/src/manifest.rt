@@ -144,7 +144,7 @@ impl Manifest {
                 (manifest_refuses any_tree any_refuses) (parse_document text.now) result
         }
     {
-        Manifest::from_text(alloc, text)
+        Self::from_text(alloc, text)
     }
 }
 
@@ -272,7 +272,7 @@ fn lints(alloc: Global, table: &Table) -> Result<Inheritable<LintGroups>, Error>
         alloc,
         table,
         "lints",
-        Inheritable::Set(BTreeMap::new(alloc)),
+        Inheritable::Set(LintGroups::new(alloc)),
     )
 }
 

@@ -165,10 +165,10 @@ package_faults metadata_of metadata_refuses ms e =
     ⊎ fault_at "metadata" metadata_of metadata_refuses ms e
 
 -- the package of a tree
-abbrev pub package_reads : {M : Type 0} → (Data → Option M) → Data → Option (PackageMeaning M)
+unfoldable pub package_reads : {M : Type 0} → (Data → Option M) → Data → Option (PackageMeaning M)
 package_reads metadata_of d = option_and_then (package_of metadata_of) (as_table d)
 
-abbrev pub package_refuses : {M : Type 0} → (Data → Option M) → (Data → Error → Type 0) → Data → Error → Type 0
+unfoldable pub package_refuses : {M : Type 0} → (Data → Option M) → (Data → Error → Type 0) → Data → Error → Type 0
 package_refuses metadata_of metadata_refuses d e = table_refuses (package_faults metadata_of metadata_refuses) (as_table d) e
 
 -- a package that was just made: edition 2021, and every other key as where it is missing

@@ -87,5 +87,5 @@ template_of ms = do
   })
 
 -- the template of a tree; what may be wrong is a shape
-abbrev pub template_reads : Data → Option TemplateMeaning
+unfoldable pub template_reads : Data → Option TemplateMeaning
 template_reads d = option_and_then template_of (as_table d)

@@ -140,7 +140,7 @@ impl Manifest {
         ensures { IsFromText (manifest_meaning view) (manifest_reads any_tree)
             (manifest_refuses any_tree any_refuses) (parse_document text.now) result }
     {
-        Manifest::from_text(alloc, text)
+        Self::from_text(alloc, text)
     }
 }
 
@@ -259,7 +259,7 @@ fn lints(alloc: Global, table: &Table) -> Result<Inheritable<LintGroups>, Error>
         alloc,
         table,
         "lints",
-        Inheritable::Set(BTreeMap::new(alloc)),
+        Inheritable::Set(LintGroups::new(alloc)),
     )
 }
 

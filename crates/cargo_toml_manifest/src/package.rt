@@ -265,6 +265,7 @@ impl<Metadata: FromValue> Read for Package<Metadata> {
 
     ghost refuses = { package_refuses Metadata.from_tree Metadata.from_refuses };
 
+    #[tactic(auto, unfolding(crate::specs::Packages::package_reads, crate::specs::Packages::package_refuses))]
     fn read(alloc: Global, value: &Value) -> Result<Package<Metadata>, Error> {
         read_table(alloc, as_table(value)?)
     }

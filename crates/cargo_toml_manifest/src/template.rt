@@ -141,6 +141,7 @@ impl Read for PackageTemplate {
 
     ghost refuses = { plain };
 
+    #[tactic(auto, unfolding(crate::specs::Templates::template_reads))]
     fn read(alloc: Global, value: &Value) -> Result<PackageTemplate, Error> {
         read_table(alloc, as_table(value)?)
     }

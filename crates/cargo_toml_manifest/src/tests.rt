@@ -3,8 +3,8 @@ mod questions;
 
 use crate::{Manifest, Package, PackageTemplate, Workspace};
 use cargo_toml_parts::{
-    DebugSetting, Dependency, Edition, Error, FromValue, Inheritable, LintLevel, MaintenanceStatus,
-    OptionalFile, ParseFault, Product, Publish, Resolver,
+    DebugSetting, Dependency, DepsSet, Edition, Error, FeatureSet, FromValue, Inheritable,
+    LintLevel, MaintenanceStatus, OptionalFile, ParseFault, Product, Publish, Resolver,
 };
 use semver::Version;
 use std::alloc::Global;
@@ -67,8 +67,15 @@ fn first<'a>(value: &'a Inheritable<Vec<String>>) -> Option<&'a str> {
     }
 }
 
-const SMALL: &str =
-    "[package]\nname = \"dunce\"\nversion = \"0.1.0\"\n[dependencies]\nlog = { version = \"0.4\", optional = true }\n[features]\ndefault = [\"fast\"]\nfast = [\"log/std\"]\n";
+const SMALL: &str = r#"[package]
+name = "dunce"
+version = "0.1.0"
+[dependencies]
+log = { version = "0.4", optional = true }
+[features]
+default = ["fast"]
+fast = ["log/std"]
+"#;
 
 // The manifest is the one of the small text.
 fn assert_small(rt: &impl Abort, manifest: &Manifest) -> Result<(), Fail> {
@@ -320,8 +327,41 @@ fn metadata_of_another_crate(rt: HostRuntime) -> Result<(), Fail> {
     Ok(())
 }
 
-const LARGE: &str =
-    "[package]\nname = \"foo\"\n\n[[bin]]\nname = \"thebin\"\nrequired-features = [\"__hidden2\", \"loop3\"]\n\n[dependencies]\nnot_optional = { path = \"..\", package = \"actual_pkg\", features = [\"f1\", \"f2\"] }\ndepend = { version = \"1.0.0\", package = \"actual_pkg\", optional = true, default-features = false }\nimplied_standalone = { version = \"1.0.0\", optional = true }\nimplied_referenced = { version = \"1.0.0\", optional = true }\nnot_relevant = \"2\"\nfeature_for_hidden = { version = \"2\", optional = true }\n__hidden_dep = { version = \"2\", optional = true }\n\n[build-dependencies]\na_dep = { version = \"1.0.0\", optional = true }\n\n[features]\ndefault = [\"x\"]\na = []\nb = [\"a\", \"implied_referenced/with_feature\", \"depend/default\", \"depend/default\"]\nc = [\"__hidden\"]\nx = [\"__hidden\", \"c\", \"not_optional/f2\", \"not_optional/f3\", \"not_optional/default\"]\n__hidden = [\"__hidden2\"]\n__hidden2 = [\"dep:depend\", \"depend/with_x\", \"depend?/with_y\", \"__hidden0\"]\n__hidden0 = [\"a\"]\nenables_hidden = [\"__hidden0\"]\n__feature_for_hidden = [\"feature_for_hidden\"]\n\nloop1 = [\"loop2\"]\nloop2 = [\"loop3\", \"a_dep?/maybe\", \"a_dep?/maybe_too\", \"depend/with_loop\"]\nloop3 = [\"loop1\", \"implied_referenced/from_loop_3\"]\n";
+const LARGE: &str = r#"[package]
+name = "foo"
+
+[[bin]]
+name = "thebin"
+required-features = ["__hidden2", "loop3"]
+
+[dependencies]
+not_optional = { path = "..", package = "actual_pkg", features = ["f1", "f2"] }
+depend = { version = "1.0.0", package = "actual_pkg", optional = true, default-features = false }
+implied_standalone = { version = "1.0.0", optional = true }
+implied_referenced = { version = "1.0.0", optional = true }
+not_relevant = "2"
+feature_for_hidden = { version = "2", optional = true }
+__hidden_dep = { version = "2", optional = true }
+
+[build-dependencies]
+a_dep = { version = "1.0.0", optional = true }
+
+[features]
+default = ["x"]
+a = []
+b = ["a", "implied_referenced/with_feature", "depend/default", "depend/default"]
+c = ["__hidden"]
+x = ["__hidden", "c", "not_optional/f2", "not_optional/f3", "not_optional/default"]
+__hidden = ["__hidden2"]
+__hidden2 = ["dep:depend", "depend/with_x", "depend?/with_y", "__hidden0"]
+__hidden0 = ["a"]
+enables_hidden = ["__hidden0"]
+__feature_for_hidden = ["feature_for_hidden"]
+
+loop1 = ["loop2"]
+loop2 = ["loop3", "a_dep?/maybe", "a_dep?/maybe_too", "depend/with_loop"]
+loop3 = ["loop1", "implied_referenced/from_loop_3"]
+"#;
 
 fn assert_list(rt: &impl Abort, list: &[String], want: &[&str]) {
     assert_eq!(rt; list.len(), want.len());
@@ -330,32 +370,19 @@ fn assert_list(rt: &impl Abort, list: &[String], want: &[&str]) {
     }
 }
 
-#[test]
-fn large_manifest_is_read(rt: HostRuntime) -> Result<(), Fail> {
-    let manifest = Manifest::from_str(rt.alloc(), LARGE)?;
-    let package = manifest.package.as_ref().ok_or("no package")?;
-    assert_eq!(rt; package.name.as_str(), "foo");
-    assert!(rt; matches!(package.publish, Inheritable::Set(Publish::Flag(false))));
-    assert_eq!(rt; manifest.bin.len(), 1);
-    assert!(rt; text(&manifest.bin[0].name) == Some("thebin"));
-    assert!(rt; manifest.bin[0].path.is_none());
-    assert_list(
-        &rt,
-        manifest.bin[0].required_features.as_slice(),
-        &["__hidden2", "loop3"],
-    );
-
-    assert_eq!(rt; manifest.dependencies.len(), 7);
-    let Some(Dependency::Detailed(not_optional)) = manifest.dependencies.get("not_optional") else {
+// The dependencies of the large text.
+fn assert_large_dependencies(rt: &impl Abort, dependencies: &DepsSet) -> Result<(), Fail> {
+    assert_eq!(rt; dependencies.len(), 7);
+    let Some(Dependency::Detailed(not_optional)) = dependencies.get("not_optional") else {
         return Err("not_optional")?;
     };
     assert!(rt; not_optional.version.is_none());
     assert!(rt; text(&not_optional.path) == Some(".."));
     assert!(rt; text(&not_optional.package) == Some("actual_pkg"));
-    assert_list(&rt, not_optional.features.as_slice(), &["f1", "f2"]);
+    assert_list(rt, not_optional.features.as_slice(), &["f1", "f2"]);
     assert!(rt; !not_optional.optional);
     assert!(rt; not_optional.default_features);
-    let Some(Dependency::Detailed(depend)) = manifest.dependencies.get("depend") else {
+    let Some(Dependency::Detailed(depend)) = dependencies.get("depend") else {
         return Err("depend")?;
     };
     assert!(rt; depend.version.is_some());
@@ -363,36 +390,16 @@ fn large_manifest_is_read(rt: HostRuntime) -> Result<(), Fail> {
     assert!(rt; depend.features.is_empty());
     assert!(rt; depend.optional);
     assert!(rt; !depend.default_features);
-    assert!(rt;
-        matches!(
-            manifest.dependencies.get("not_relevant"),
-            Some(Dependency::Simple(_))
-        )
-    );
-    for name in [
-        "implied_standalone",
-        "implied_referenced",
-        "feature_for_hidden",
-        "__hidden_dep",
-    ] {
-        assert!(rt;
-            matches!(
-                manifest.dependencies.get(name),
-                Some(Dependency::Detailed(_))
-            ),
-            "{name}"
-        );
+    assert!(rt; matches!(dependencies.get("not_relevant"), Some(Dependency::Simple(_))));
+    for name in ["implied_standalone", "implied_referenced", "feature_for_hidden", "__hidden_dep"] {
+        assert!(rt; matches!(dependencies.get(name), Some(Dependency::Detailed(_))), "{name}");
     }
-    assert_eq!(rt; manifest.build_dependencies.len(), 1);
-    assert!(rt;
-        matches!(
-            manifest.build_dependencies.get("a_dep"),
-            Some(Dependency::Detailed(_))
-        )
-    );
-    assert!(rt; manifest.dev_dependencies.is_empty());
+    Ok(())
+}
 
-    assert_eq!(rt; manifest.features.len(), 13);
+// The features of the large text.
+fn assert_large_features(rt: &impl Abort, features: &FeatureSet) -> Result<(), Fail> {
+    assert_eq!(rt; features.len(), 13);
     let rows: [(&str, &[&str]); 13] = [
         ("default", &["x"]),
         ("a", &[]),
@@ -437,19 +444,62 @@ fn large_manifest_is_read(rt: HostRuntime) -> Result<(), Fail> {
         ("loop3", &["loop1", "implied_referenced/from_loop_3"]),
     ];
     for (name, want) in rows {
-        let feature = manifest.features.get(name).ok_or("no feature")?;
-        assert_list(&rt, feature.as_slice(), want);
+        let feature = features.get(name).ok_or("no feature")?;
+        assert_list(rt, feature.as_slice(), want);
     }
     Ok(())
 }
 
-const PACKAGE: &str =
-    "[package]\nname = \"name\"\nversion = \"1.2.3\"\nedition = \"2018\"\nrust-version = \"rust-version\"\nbuild = \"build\"\nworkspace = \"workspace\"\nauthors = [\"authors\"]\nlinks = \"links\"\ndescription = \"description\"\nhomepage = \"homepage\"\ndocumentation = \"documentation\"\nreadme = \"readme\"\nkeywords = [\"keywords\"]\ncategories = [\"categories\"]\nexclude = [\"exclude\"]\ninclude = [\"include\"]\nlicense = \"license\"\nlicense-file = \"license-file\"\nrepository = \"repository\"\ndefault-run = \"default-run\"\nautobins = false\nautolib = false\nautoexamples = false\nautotests = false\nautobenches = false\npublish = [\"publish\"]\nresolver = \"2\"\nmetadata = 1\n";
-
 #[test]
-fn every_key_of_a_package(rt: HostRuntime) -> Result<(), Fail> {
-    let manifest = Manifest::from_str(rt.alloc(), PACKAGE)?;
+fn large_manifest_is_read(rt: HostRuntime) -> Result<(), Fail> {
+    let manifest = Manifest::from_str(rt.alloc(), LARGE)?;
     let package = manifest.package.as_ref().ok_or("no package")?;
+    assert_eq!(rt; package.name.as_str(), "foo");
+    assert!(rt; matches!(package.publish, Inheritable::Set(Publish::Flag(false))));
+    assert_eq!(rt; manifest.bin.len(), 1);
+    assert!(rt; text(&manifest.bin[0].name) == Some("thebin"));
+    assert!(rt; manifest.bin[0].path.is_none());
+    assert_list(&rt, manifest.bin[0].required_features.as_slice(), &["__hidden2", "loop3"]);
+    assert_large_dependencies(&rt, &manifest.dependencies)?;
+    assert_eq!(rt; manifest.build_dependencies.len(), 1);
+    assert!(rt; matches!(manifest.build_dependencies.get("a_dep"), Some(Dependency::Detailed(_))));
+    assert!(rt; manifest.dev_dependencies.is_empty());
+    assert_large_features(&rt, &manifest.features)
+}
+
+const PACKAGE: &str = r#"[package]
+name = "name"
+version = "1.2.3"
+edition = "2018"
+rust-version = "rust-version"
+build = "build"
+workspace = "workspace"
+authors = ["authors"]
+links = "links"
+description = "description"
+homepage = "homepage"
+documentation = "documentation"
+readme = "readme"
+keywords = ["keywords"]
+categories = ["categories"]
+exclude = ["exclude"]
+include = ["include"]
+license = "license"
+license-file = "license-file"
+repository = "repository"
+default-run = "default-run"
+autobins = false
+autolib = false
+autoexamples = false
+autotests = false
+autobenches = false
+publish = ["publish"]
+resolver = "2"
+metadata = 1
+"#;
+
+// The package of the text `PACKAGE`.
+fn assert_every_package_key(rt: &impl Abort, package: &Package) -> Result<(), Fail> {
     assert_eq!(rt; package.name.as_str(), "name");
     let Inheritable::Set(version) = &package.version else {
         return Err("no version")?;
@@ -483,26 +533,53 @@ fn every_key_of_a_package(rt: HostRuntime) -> Result<(), Fail> {
     let Inheritable::Set(Publish::Registry(registries)) = &package.publish else {
         return Err("no registries")?;
     };
-    assert_list(&rt, registries.as_slice(), &["publish"]);
+    assert_list(rt, registries.as_slice(), &["publish"]);
     assert!(rt; package.resolver == Some(Resolver::V2));
     assert!(rt; matches!(package.metadata, Some(Value::Integer(1))));
     Ok(())
 }
 
-const WORKSPACE: &str =
-    "[workspace]\nmembers = [\"members\"]\ndefault-members = [\"default-members\"]\nexclude = [\"exclude\"]\nmetadata = 1\nresolver = \"3\"\n[workspace.dependencies]\nd = \"1\"\n[workspace.lints.rust]\nx = \"warn\"\n[workspace.package]\nauthors = [\"authors\"]\ncategories = [\"categories\"]\ndescription = \"description\"\ndocumentation = \"documentation\"\nedition = \"2021\"\nexclude = [\"exclude\"]\nhomepage = \"homepage\"\ninclude = [\"include\"]\nkeywords = [\"keywords\"]\nlicense = \"license\"\nlicense-file = \"license-file\"\npublish = false\nreadme = false\nrepository = \"repository\"\nrust-version = \"rust-version\"\nversion = \"1.2.3\"\n";
-
 #[test]
-fn every_key_of_a_workspace(rt: HostRuntime) -> Result<(), Fail> {
-    let manifest = Manifest::from_str(rt.alloc(), WORKSPACE)?;
-    let workspace = manifest.workspace.as_ref().ok_or("no workspace")?;
-    assert_list(&rt, workspace.members.as_slice(), &["members"]);
-    assert_list(
-        &rt,
-        workspace.default_members.as_slice(),
-        &["default-members"],
-    );
-    assert_list(&rt, workspace.exclude.as_slice(), &["exclude"]);
+fn every_key_of_a_package(rt: HostRuntime) -> Result<(), Fail> {
+    let manifest = Manifest::from_str(rt.alloc(), PACKAGE)?;
+    let package = manifest.package.as_ref().ok_or("no package")?;
+    assert_every_package_key(&rt, package)
+}
+
+const WORKSPACE: &str = r#"[workspace]
+members = ["members"]
+default-members = ["default-members"]
+exclude = ["exclude"]
+metadata = 1
+resolver = "3"
+[workspace.dependencies]
+d = "1"
+[workspace.lints.rust]
+x = "warn"
+[workspace.package]
+authors = ["authors"]
+categories = ["categories"]
+description = "description"
+documentation = "documentation"
+edition = "2021"
+exclude = ["exclude"]
+homepage = "homepage"
+include = ["include"]
+keywords = ["keywords"]
+license = "license"
+license-file = "license-file"
+publish = false
+readme = false
+repository = "repository"
+rust-version = "rust-version"
+version = "1.2.3"
+"#;
+
+// The workspace of the text `WORKSPACE`.
+fn assert_every_workspace_key(rt: &impl Abort, workspace: &Workspace) -> Result<(), Fail> {
+    assert_list(rt, workspace.members.as_slice(), &["members"]);
+    assert_list(rt, workspace.default_members.as_slice(), &["default-members"]);
+    assert_list(rt, workspace.exclude.as_slice(), &["exclude"]);
     assert!(rt; matches!(workspace.metadata, Some(Value::Integer(1))));
     assert!(rt; workspace.resolver == Some(Resolver::V3));
     assert!(rt; matches!(workspace.dependencies.get("d"), Some(Dependency::Simple(_))));
@@ -513,10 +590,14 @@ fn every_key_of_a_workspace(rt: HostRuntime) -> Result<(), Fail> {
 }
 
 #[test]
-fn every_key_of_a_template(rt: HostRuntime) -> Result<(), Fail> {
+fn every_key_of_a_workspace(rt: HostRuntime) -> Result<(), Fail> {
     let manifest = Manifest::from_str(rt.alloc(), WORKSPACE)?;
     let workspace = manifest.workspace.as_ref().ok_or("no workspace")?;
-    let template = workspace.package.as_ref().ok_or("no template")?;
+    assert_every_workspace_key(&rt, workspace)
+}
+
+// The template in the text `WORKSPACE`.
+fn assert_every_template_key(rt: &impl Abort, template: &PackageTemplate) -> Result<(), Fail> {
     let lists = [
         (&template.authors, "authors"),
         (&template.categories, "categories"),
@@ -525,7 +606,7 @@ fn every_key_of_a_template(rt: HostRuntime) -> Result<(), Fail> {
         (&template.keywords, "keywords"),
     ];
     for (list, name) in lists {
-        assert_list(&rt, list.as_ref().ok_or("no list")?.as_slice(), &[name]);
+        assert_list(rt, list.as_ref().ok_or("no list")?.as_slice(), &[name]);
     }
     assert!(rt; text(&template.description) == Some("description"));
     assert!(rt; text(&template.documentation) == Some("documentation"));
@@ -541,8 +622,40 @@ fn every_key_of_a_template(rt: HostRuntime) -> Result<(), Fail> {
     Ok(())
 }
 
-const OTHERS: &str =
-    "[dev-dependencies]\na = \"1\"\n[build-dependencies]\nb = \"1\"\n[target.unix.dependencies]\nc = \"1\"\n[replace]\nd = \"1\"\n[patch.crates-io]\ne = \"1\"\n[lib]\nname = \"f\"\n[profile.doc]\n[badges.gitlab]\nrepository = \"g\"\n[[bin]]\nname = \"h\"\n[[bench]]\nname = \"i\"\n[[test]]\nname = \"j\"\n[[example]]\nname = \"k\"\n[lints.rust]\nl = \"deny\"\n";
+#[test]
+fn every_key_of_a_template(rt: HostRuntime) -> Result<(), Fail> {
+    let manifest = Manifest::from_str(rt.alloc(), WORKSPACE)?;
+    let workspace = manifest.workspace.as_ref().ok_or("no workspace")?;
+    let template = workspace.package.as_ref().ok_or("no template")?;
+    assert_every_template_key(&rt, template)
+}
+
+const OTHERS: &str = r#"[dev-dependencies]
+a = "1"
+[build-dependencies]
+b = "1"
+[target.unix.dependencies]
+c = "1"
+[replace]
+d = "1"
+[patch.crates-io]
+e = "1"
+[lib]
+name = "f"
+[profile.doc]
+[badges.gitlab]
+repository = "g"
+[[bin]]
+name = "h"
+[[bench]]
+name = "i"
+[[test]]
+name = "j"
+[[example]]
+name = "k"
+[lints.rust]
+l = "deny"
+"#;
 
 // The one product of a list has this name.
 fn assert_product(rt: &impl Abort, products: &[Product], want: &str) {
@@ -550,21 +663,10 @@ fn assert_product(rt: &impl Abort, products: &[Product], want: &str) {
     assert!(rt; text(&products[0].name) == Some(want));
 }
 
-#[test]
-fn every_other_key_of_a_manifest(rt: HostRuntime) -> Result<(), Fail> {
-    let manifest = Manifest::from_str(rt.alloc(), OTHERS)?;
-    assert!(rt;
-        matches!(
-            manifest.dev_dependencies.get("a"),
-            Some(Dependency::Simple(_))
-        )
-    );
-    assert!(rt;
-        matches!(
-            manifest.build_dependencies.get("b"),
-            Some(Dependency::Simple(_))
-        )
-    );
+// The manifest of the text `OTHERS`.
+fn assert_every_other_key(rt: &impl Abort, manifest: &Manifest) -> Result<(), Fail> {
+    assert!(rt; matches!(manifest.dev_dependencies.get("a"), Some(Dependency::Simple(_))));
+    assert!(rt; matches!(manifest.build_dependencies.get("b"), Some(Dependency::Simple(_))));
     let unix = manifest.target.get("unix").ok_or("no target")?;
     assert!(rt; matches!(unix.dependencies.get("c"), Some(Dependency::Simple(_))));
     assert!(rt; matches!(manifest.replace.get("d"), Some(Dependency::Simple(_))));
@@ -575,15 +677,21 @@ fn every_other_key_of_a_manifest(rt: HostRuntime) -> Result<(), Fail> {
     assert!(rt; manifest.profile.doc.is_some());
     let gitlab = manifest.badges.gitlab.as_ref().ok_or("no badge")?;
     assert_eq!(rt; gitlab.repository.as_str(), "g");
-    assert_product(&rt, manifest.bin.as_slice(), "h");
-    assert_product(&rt, manifest.bench.as_slice(), "i");
-    assert_product(&rt, manifest.test.as_slice(), "j");
-    assert_product(&rt, manifest.example.as_slice(), "k");
+    assert_product(rt, manifest.bin.as_slice(), "h");
+    assert_product(rt, manifest.bench.as_slice(), "i");
+    assert_product(rt, manifest.test.as_slice(), "j");
+    assert_product(rt, manifest.example.as_slice(), "k");
     let Inheritable::Set(lints) = &manifest.lints else {
         return Err("inherited lints")?;
     };
     assert!(rt; lints.contains_key("rust"));
     Ok(())
+}
+
+#[test]
+fn every_other_key_of_a_manifest(rt: HostRuntime) -> Result<(), Fail> {
+    let manifest = Manifest::from_str(rt.alloc(), OTHERS)?;
+    assert_every_other_key(&rt, &manifest)
 }
 
 #[test]

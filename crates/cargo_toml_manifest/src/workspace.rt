@@ -99,6 +99,7 @@ impl<Metadata: FromValue> Read for Workspace<Metadata> {
 
     ghost refuses = { workspace_refuses Metadata.from_tree Metadata.from_refuses };
 
+    #[tactic(auto, unfolding(crate::specs::Workspaces::workspace_reads, crate::specs::Workspaces::workspace_refuses))]
     fn read(alloc: Global, value: &Value) -> Result<Workspace<Metadata>, Error> {
         read_table(alloc, as_table(value)?)
     }

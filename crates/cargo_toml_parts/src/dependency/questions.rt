@@ -7,7 +7,6 @@ use super::{Dependency, DependencyDetail};
 use crate::error::Error;
 use semver::VersionReq;
 use std::alloc::Global;
-use std::collections::BTreeMap;
 
 impl Dependency {
     ghost use Rattle.cargo_toml_parts.specs.Dependencies.{is_optional, package_of};
@@ -34,7 +33,7 @@ impl Dependency {
             Dependency::Inherited(_) => Err(Error::InheritedUnknownValue),
             Dependency::Detailed(_) => Ok(()),
             Dependency::Simple(req) => {
-                let mut detail = Box::new(alloc, DependencyDetail::blank(alloc))?;
+                let mut detail = Box::new(alloc, DependencyDetail::default(alloc))?;
                 detail.version = Some(std::mem::replace(req, VersionReq::star(alloc)));
                 *self = Dependency::Detailed(detail);
                 Ok(())
@@ -160,29 +159,7 @@ impl Dependency {
 }
 
 impl DependencyDetail {
-    ghost use Rattle.cargo_toml_parts.specs.DependencyAnswers.{blank, names_no_source};
-
-    // Nothing but the default features.
-    fn blank(alloc: Global) -> DependencyDetail
-        ensures { detail_meaning result ≡ blank }
-    {
-        DependencyDetail {
-            version: None,
-            package: None,
-            registry: None,
-            registry_index: None,
-            path: None,
-            git: None,
-            branch: None,
-            tag: None,
-            rev: None,
-            features: Vec::new(alloc),
-            optional: false,
-            default_features: true,
-            unstable: BTreeMap::new(alloc),
-            inherited: false,
-        }
-    }
+    ghost use Rattle.cargo_toml_parts.specs.DependencyAnswers.{names_no_source};
 
     // Whether nothing says that the crate comes from elsewhere than crates.io.
     fn is_from_crates_io(&self) -> bool

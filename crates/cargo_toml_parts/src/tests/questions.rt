@@ -1,7 +1,6 @@
 // What is asked of the parts of a manifest, and what faults print.
 use crate::{
-    Dependency, Edition, Error, Inheritable, InheritedDependencyDetail, OptionalFile, ParseFault,
-    Publish, Resolver,
+    Dependency, Edition, Error, Inheritable, InheritedDependencyDetail, OptionalFile, Publish,
 };
 use semver::VersionReq;
 use std::alloc::{AllocError, AllocFailed, Global};
@@ -123,74 +122,6 @@ fn inherited_equals_nothing(rt: HostRuntime) {
 }
 
 #[test]
-fn display_without_path(rt: HostRuntime) -> Result<(), Fail> {
-    let fault = wrapped(rt.alloc(), Error::InheritedUnknownValue, None)?;
-    let shown = format!(in rt.alloc(); "{fault}")?;
-    assert_eq!(rt;
-        shown.as_str(),
-        "can't load root workspace: value from workspace hasn't been set"
-    );
-    Ok(())
-}
-
-#[test]
-fn display_nested(rt: HostRuntime) -> Result<(), Fail> {
-    let path = text(rt.alloc(), "/w")?;
-    let inner = wrapped(rt.alloc(), Error::Other("utf8"), Some(path))?;
-    let fault = wrapped(rt.alloc(), inner, None)?;
-    let shown = format!(in rt.alloc(); "{fault}")?;
-    assert_eq!(rt;
-        shown.as_str(),
-        "can't load root workspace: can't load root workspace at /w: utf8"
-    );
-    let copy = fault.clone()?;
-    let again = format!(in rt.alloc(); "{copy}")?;
-    assert_eq!(rt; again.as_str(), shown.as_str());
-    Ok(())
-}
-
-#[test]
-fn want_of_memory_is_memory(rt: HostRuntime) {
-    assert!(rt; matches!(Error::from(AllocError), Error::Memory));
-    assert!(rt; matches!(Error::from(AllocFailed { value: 1u8 }), Error::Memory));
-    assert!(rt;
-        matches!(
-            Error::from(io::Error::from(io::ErrorKind::OutOfMemory)),
-            Error::Memory
-        )
-    );
-    assert!(rt;
-        matches!(
-            Error::from(io::Error::from(io::ErrorKind::NotFound)),
-            Error::Io(_)
-        )
-    );
-}
-
-#[test]
-fn faults_of_toml_are_parse_faults(rt: HostRuntime) -> Result<(), Fail> {
-    let Err(inner) = toml::table_from_str(rt.alloc(), "[package") else {
-        panic!(rt; "the text is no table");
-    };
-    let words = format!(in rt.alloc(); "{inner}")?;
-    let fault = Error::from(inner);
-    let shown = format!(in rt.alloc(); "{fault}")?;
-    assert!(rt; matches!(fault, Error::Parse(ParseFault::Toml(_))));
-    assert_eq!(rt; shown.as_str(), words.as_str());
-    Ok(())
-}
-
-#[test]
-fn faults_of_input_print_their_words(rt: HostRuntime) -> Result<(), Fail> {
-    let inner = io::Error::from(io::ErrorKind::NotFound);
-    let words = format!(in rt.alloc(); "{inner}")?;
-    let copy = Error::from(inner).clone()?;
-    let shown = format!(in rt.alloc(); "{copy}")?;
-    assert_eq!(rt; shown.as_str(), words.as_str());
-    Ok(())
-}
-
-#[test]
 fn values_set_and_inherited(rt: HostRuntime) -> Result<(), Fail> {
     let mut edition: Inheritable<Edition> = Inheritable::Inherited;
     assert!(rt; !edition.is_set());
@@ -230,8 +161,38 @@ fn optional_files(rt: HostRuntime) -> Result<(), Fail> {
 }
 
 #[test]
-fn editions_and_resolvers_print(rt: HostRuntime) -> Result<(), Fail> {
-    let shown = format!(in rt.alloc(); "{} {} {}", Edition::E2015, Edition::E2024, Resolver::V3)?;
-    assert_eq!(rt; shown.as_str(), "2015 2024 3");
+fn clones_of_faults(rt: HostRuntime) -> Result<(), Fail> {
+    let alloc = rt.alloc();
+    let text = String::from_str(alloc, "Not a Workspace.")?;
+    let path = Some(String::from_str(alloc, "/w")?);
+    let fault = wrapped(
+        alloc,
+        wrapped(alloc, Error::WorkspaceIntegrity(text), path)?,
+        None,
+    )?;
+    assert_eq!(rt;
+        format!(in alloc; "{}", fault.clone()?)?.as_str(),
+        "can't load root workspace: can't load root workspace at /w: Not a Workspace."
+    );
+    let Err(inner) = toml::table_from_str(alloc, "[package") else {
+        return Err("read")?;
+    };
+    let words = format!(in alloc; "{inner}")?;
+    assert_eq!(rt;
+        format!(in alloc; "{}", Error::from(inner).clone()?)?.as_str(),
+        words.as_str()
+    );
+    let inner = io::Error::from(io::ErrorKind::NotFound);
+    let words = format!(in alloc; "{inner}")?;
+    assert_eq!(rt;
+        format!(in alloc; "{}", Error::from(inner).clone()?)?.as_str(),
+        words.as_str()
+    );
     Ok(())
+}
+
+#[test]
+fn want_of_memory_from_below(rt: HostRuntime) {
+    assert!(rt; matches!(Error::from(AllocError), Error::Memory));
+    assert!(rt; matches!(Error::from(AllocFailed { value: 1u8 }), Error::Memory));
 }

@@ -390,9 +390,22 @@ fn assert_large_dependencies(rt: &impl Abort, dependencies: &DepsSet) -> Result<
     assert!(rt; depend.features.is_empty());
     assert!(rt; depend.optional);
     assert!(rt; !depend.default_features);
-    assert!(rt; matches!(dependencies.get("not_relevant"), Some(Dependency::Simple(_))));
-    for name in ["implied_standalone", "implied_referenced", "feature_for_hidden", "__hidden_dep"] {
-        assert!(rt; matches!(dependencies.get(name), Some(Dependency::Detailed(_))), "{name}");
+    assert!(rt;
+        matches!(
+            dependencies.get("not_relevant"),
+            Some(Dependency::Simple(_))
+        )
+    );
+    for name in [
+        "implied_standalone",
+        "implied_referenced",
+        "feature_for_hidden",
+        "__hidden_dep",
+    ] {
+        assert!(rt;
+            matches!(dependencies.get(name), Some(Dependency::Detailed(_))),
+            "{name}"
+        );
     }
     Ok(())
 }
@@ -459,10 +472,19 @@ fn large_manifest_is_read(rt: HostRuntime) -> Result<(), Fail> {
     assert_eq!(rt; manifest.bin.len(), 1);
     assert!(rt; text(&manifest.bin[0].name) == Some("thebin"));
     assert!(rt; manifest.bin[0].path.is_none());
-    assert_list(&rt, manifest.bin[0].required_features.as_slice(), &["__hidden2", "loop3"]);
+    assert_list(
+        &rt,
+        manifest.bin[0].required_features.as_slice(),
+        &["__hidden2", "loop3"],
+    );
     assert_large_dependencies(&rt, &manifest.dependencies)?;
     assert_eq!(rt; manifest.build_dependencies.len(), 1);
-    assert!(rt; matches!(manifest.build_dependencies.get("a_dep"), Some(Dependency::Detailed(_))));
+    assert!(rt;
+        matches!(
+            manifest.build_dependencies.get("a_dep"),
+            Some(Dependency::Detailed(_))
+        )
+    );
     assert!(rt; manifest.dev_dependencies.is_empty());
     assert_large_features(&rt, &manifest.features)
 }
@@ -578,7 +600,11 @@ version = "1.2.3"
 // The workspace of the text `WORKSPACE`.
 fn assert_every_workspace_key(rt: &impl Abort, workspace: &Workspace) -> Result<(), Fail> {
     assert_list(rt, workspace.members.as_slice(), &["members"]);
-    assert_list(rt, workspace.default_members.as_slice(), &["default-members"]);
+    assert_list(
+        rt,
+        workspace.default_members.as_slice(),
+        &["default-members"],
+    );
     assert_list(rt, workspace.exclude.as_slice(), &["exclude"]);
     assert!(rt; matches!(workspace.metadata, Some(Value::Integer(1))));
     assert!(rt; workspace.resolver == Some(Resolver::V3));
@@ -665,8 +691,18 @@ fn assert_product(rt: &impl Abort, products: &[Product], want: &str) {
 
 // The manifest of the text `OTHERS`.
 fn assert_every_other_key(rt: &impl Abort, manifest: &Manifest) -> Result<(), Fail> {
-    assert!(rt; matches!(manifest.dev_dependencies.get("a"), Some(Dependency::Simple(_))));
-    assert!(rt; matches!(manifest.build_dependencies.get("b"), Some(Dependency::Simple(_))));
+    assert!(rt;
+        matches!(
+            manifest.dev_dependencies.get("a"),
+            Some(Dependency::Simple(_))
+        )
+    );
+    assert!(rt;
+        matches!(
+            manifest.build_dependencies.get("b"),
+            Some(Dependency::Simple(_))
+        )
+    );
     let unix = manifest.target.get("unix").ok_or("no target")?;
     assert!(rt; matches!(unix.dependencies.get("c"), Some(Dependency::Simple(_))));
     assert!(rt; matches!(manifest.replace.get("d"), Some(Dependency::Simple(_))));

@@ -212,3 +212,22 @@ fast = ["log/std"]
     assert!(rt; hidden_features.is_empty() && !removed_hidden_features);
     Ok(())
 }
+
+#[test]
+fn virtual_manifest(rt: HostRuntime) -> Result<(), Fail> {
+    let alloc = rt.alloc();
+    for text in ["[workspace]\nmembers = [\"autobin\", \"autolib\"]\n", ""] {
+        let manifest = Manifest::from_str(alloc, text)?;
+        assert!(rt; manifest.package.is_none());
+        let resolved = Resolver::new().parse(alloc, &manifest)?;
+        assert_eq!(rt; resolved.features.len(), 1);
+        let default = feature(&resolved.features, "default")?;
+        assert!(rt;
+            default.explicit
+                && default.enables_features.is_empty()
+                && default.enables_deps.is_empty()
+        );
+        assert!(rt; resolved.dependencies.is_empty());
+    }
+    Ok(())
+}

@@ -8,10 +8,5 @@ pub mod features;
 mod laws;
 
 pub use cargo_toml_manifest::{Manifest, Package, PackageTemplate, Workspace};
-pub use cargo_toml_parts::{
-    Badge, Badges, DebugSetting, Dependency, DependencyDetail, DepsSet, Edition, Error, FeatureSet,
-    FromValue, Inheritable, InheritedDependencyDetail, Lint, LintGroups, LintLevel, LintSet,
-    LtoSetting, Maintenance, MaintenanceStatus, OptionalFile, ParseFault, PatchSet, Product,
-    Profile, Profiles, Publish, Resolver, SemVer, StripSetting, Target, TargetDepsSet, Value,
-    VersionReq,
-};
+pub use cargo_toml_parts::{DebugSetting, Edition, Error, FromValue, Inheritable, LtoSetting, OptionalFile, ParseFault, Publish, Resolver, SemVer, StripSetting, Value, VersionReq};
+pub use cargo_toml_tables::{Badge, Badges, Dependency, DependencyDetail, DepsSet, FeatureSet, InheritedDependencyDetail, Lint, LintGroups, LintLevel, LintSet, Maintenance, MaintenanceStatus, PatchSet, Product, Profile, Profiles, Target, TargetDepsSet};

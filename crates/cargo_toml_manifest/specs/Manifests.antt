@@ -4,16 +4,16 @@ use Rattle.toml.specs.Data.{Data, Members, no_members, as_table}
 use Rattle.cargo_toml_parts.specs.declared.error.Error.{Error}
 use Rattle.cargo_toml_parts.specs.declared.inheritable.Inheritable.{Inheritable}
 use Rattle.cargo_toml_parts.specs.declared.inheritable.Inheritable.TheVariants.{Set, Inherited}
-use Rattle.cargo_toml_parts.specs.Badges.{BadgesMeaning, badges_meaning, badges_of}
-use Rattle.cargo_toml_parts.specs.Dependencies.{DependencyMeaning, dependency_meaning, dependency_of}
-use Rattle.cargo_toml_parts.specs.Features.{feature_of}
+use Rattle.cargo_toml_tables.specs.Badges.{BadgesMeaning, badges_meaning, badges_of}
+use Rattle.cargo_toml_tables.specs.Dependencies.{DependencyMeaning, dependency_meaning, dependency_of}
+use Rattle.cargo_toml_tables.specs.Features.{feature_of}
 use Rattle.cargo_toml_parts.specs.Inherits.{inheritable_map, inheritable_of, inheritable_refuses}
-use Rattle.cargo_toml_parts.specs.Lints.{LintMeaning, lint_meaning, lint_of}
-use Rattle.cargo_toml_parts.specs.Products.{ProductMeaning, product_meaning, product_of}
-use Rattle.cargo_toml_parts.specs.Profiles.{ProfilesMeaning, profiles_meaning, profiles_of, profiles_faults}
+use Rattle.cargo_toml_tables.specs.Lints.{LintMeaning, lint_meaning, lint_of}
+use Rattle.cargo_toml_tables.specs.Products.{ProductMeaning, product_meaning, product_of}
+use Rattle.cargo_toml_tables.specs.Profiles.{ProfilesMeaning, profiles_meaning, profiles_of, profiles_faults}
 use Rattle.cargo_toml_parts.specs.Reads.{◌>>=◌, array_of, map_of, map_meaning, optional_at, given_at, map_at, fault_at, table_refuses, plain}
 use Rattle.cargo_toml_parts.specs.Settings.{Registries, everywhere, among}
-use Rattle.cargo_toml_parts.specs.Targets.{TargetMeaning, target_meaning, target_of}
+use Rattle.cargo_toml_tables.specs.Targets.{TargetMeaning, target_meaning, target_of}
 use Rattle.cargo_toml_parts.specs.Versions.{Parts}
 use Rattle.cargo_toml_manifest.specs.declared.manifest.Manifest.{Manifest}
 use Rattle.cargo_toml_manifest.specs.Keys.{inherited_at, faults_at}

@@ -3,11 +3,11 @@ ghost use Rattle.std.specs.Prelude.{◌≡◌, [], codes, Option, Some, option_m
 ghost use Rattle.toml.specs.Data.{Data, get_member, no_members};
 ghost use Rattle.toml.specs.View.{view, table_view};
 ghost use Rattle.toml.specs.Parse.{parse_document};
-ghost use Rattle.cargo_toml_parts.specs.Badges.{badges_meaning};
+ghost use Rattle.cargo_toml_tables.specs.Badges.{badges_meaning};
 ghost use Rattle.cargo_toml_parts.specs.Faults.{IsShape, wrong_shape};
 ghost use Rattle.cargo_toml_parts.specs.Inherits.{inheritable_map, inheritable_refuses};
-ghost use Rattle.cargo_toml_parts.specs.Lints.{lint_meaning, lint_of};
-ghost use Rattle.cargo_toml_parts.specs.Profiles.{profiles_meaning};
+ghost use Rattle.cargo_toml_tables.specs.Lints.{lint_meaning, lint_of};
+ghost use Rattle.cargo_toml_tables.specs.Profiles.{profiles_meaning};
 ghost use Rattle.cargo_toml_parts.specs.Reads.{IsReading, given_at, map_of, map_meaning, optional_refuses, plain};
 ghost use Rattle.cargo_toml_manifest.specs.Keys.{inherited_at};
 ghost use Rattle.cargo_toml_manifest.specs.Manifests.{ManifestMeaning, manifest_meaning, manifest_of, manifest_faults, manifest_reads, manifest_refuses, zero_rule_applies, by_zero_rule, no_profiles, profiles_reads, profiles_refuse, no_badges, badges_reads};
@@ -18,14 +18,12 @@ mod questions;
 
 use crate::package::Package;
 use crate::workspace::Workspace;
-use cargo_toml_parts::feature::features;
+use cargo_toml_tables::feature::features;
 use cargo_toml_parts::floats::table_has_no_float;
 use cargo_toml_parts::read::{Read, as_table, given, list, map, optional};
 use cargo_toml_parts::value::floats_unsupported;
-use cargo_toml_parts::{
-    Badges, DepsSet, Error, FeatureSet, FromValue, Inheritable, LintGroups, PatchSet, Product,
-    Profiles, Publish, TargetDepsSet,
-};
+use cargo_toml_parts::{Error, FromValue, Inheritable, Publish};
+use cargo_toml_tables::{Badges, DepsSet, FeatureSet, LintGroups, PatchSet, Product, Profiles, TargetDepsSet};
 use std::alloc::Global;
 use std::collections::BTreeMap;
 use std::str;

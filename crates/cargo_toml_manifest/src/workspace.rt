@@ -8,7 +8,8 @@ ghost use Rattle.cargo_toml_manifest.specs.Workspaces.{WorkspaceMeaning, workspa
 use crate::template::PackageTemplate;
 use cargo_toml_parts::read::{Read, as_table, list, map, optional};
 use cargo_toml_parts::value::metadata;
-use cargo_toml_parts::{DepsSet, Error, FromValue, LintGroups, Resolver};
+use cargo_toml_parts::{Error, FromValue, Resolver};
+use cargo_toml_tables::{DepsSet, LintGroups};
 use std::alloc::Global;
 use std::collections::BTreeMap;
 use toml::{Table, Value};

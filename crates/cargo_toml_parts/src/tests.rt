@@ -6,7 +6,6 @@ use std::alloc::Global;
 mod faults;
 mod questions;
 mod settings;
-mod types;
 
 // What reads at a key of a document.
 fn at<T: FromValue>(alloc: Global, document: &str, key: &str) -> Result<T, Error> {

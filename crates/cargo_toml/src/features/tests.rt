@@ -1,6 +1,6 @@
 use crate::features::{DepAction, Feature, Features, Resolver};
 use cargo_toml_manifest::Manifest;
-use cargo_toml_parts::Dependency;
+use cargo_toml_tables::Dependency;
 use std::alloc::{AllocError, Global};
 use std::collections::{BTreeSet, HashMap};
 use std::hash::BuildHasher;

@@ -4,7 +4,8 @@ ghost use Rattle.cargo_toml_parts.specs.InheritableValues.{value_of};
 
 use super::Manifest;
 use crate::package::Package;
-use cargo_toml_parts::{Inheritable, LintGroups};
+use cargo_toml_parts::Inheritable;
+use cargo_toml_tables::LintGroups;
 
 impl<Metadata> Manifest<Metadata> {
     /// The package.

@@ -1,8 +1,6 @@
 //! Each text and each value of the enums that stand for one value of a tree.
 use super::{read, refused};
-use crate::badge::MaintenanceStatus;
 use crate::error::Error;
-use crate::lint::LintLevel;
 use crate::profile_settings::{DebugSetting, LtoSetting, StripSetting};
 use crate::settings::{Edition, OptionalFile, Publish, Resolver};
 use std::test::Fail;
@@ -184,56 +182,6 @@ fn resolvers(rt: HostRuntime) -> Result<(), Fail> {
     assert_eq!(rt; Resolver::default(), Resolver::V1);
     assert_eq!(rt; Resolver::V3 as u8, 3);
     assert!(rt; Resolver::V1 < Resolver::V2);
-    Ok(())
-}
-
-#[test]
-fn lint_levels(rt: HostRuntime) -> Result<(), Fail> {
-    for (text, want) in [
-        ("'allow'", LintLevel::Allow),
-        ("'warn'", LintLevel::Warn),
-        ("'force-warn'", LintLevel::ForceWarn),
-        ("'deny'", LintLevel::Deny),
-        ("'forbid'", LintLevel::Forbid),
-    ] {
-        assert_eq!(rt; read::<LintLevel>(rt.alloc(), text)?, want, "{text}");
-    }
-    for text in ["'Warn'", "'none'", "0"] {
-        assert_eq!(rt;
-            refused(&read::<LintLevel>(rt.alloc(), text)),
-            "value has the wrong shape",
-            "{text}"
-        );
-    }
-    Ok(())
-}
-
-#[test]
-fn maintenance_statuses(rt: HostRuntime) -> Result<(), Fail> {
-    for (text, want) in [
-        ("'none'", MaintenanceStatus::None),
-        ("'actively-developed'", MaintenanceStatus::ActivelyDeveloped),
-        (
-            "'passively-maintained'",
-            MaintenanceStatus::PassivelyMaintained,
-        ),
-        ("'as-is'", MaintenanceStatus::AsIs),
-        ("'experimental'", MaintenanceStatus::Experimental),
-        (
-            "'looking-for-maintainer'",
-            MaintenanceStatus::LookingForMaintainer,
-        ),
-        ("'deprecated'", MaintenanceStatus::Deprecated),
-    ] {
-        assert_eq!(rt;
-            read::<MaintenanceStatus>(rt.alloc(), text)?,
-            want,
-            "{text}"
-        );
-    }
-    let answer = read::<MaintenanceStatus>(rt.alloc(), "'gone'");
-    assert_eq!(rt; refused(&answer), "value has the wrong shape");
-    assert_eq!(rt; MaintenanceStatus::default(), MaintenanceStatus::None);
     Ok(())
 }
 

@@ -1,0 +1,9 @@
+pub mod Badges
+pub mod Dependencies
+pub mod DependencyAnswers
+pub mod DependencyLending
+pub mod Features
+pub mod Lints
+pub mod Products
+pub mod Profiles
+pub mod Targets

@@ -1,10 +1,10 @@
 //! A report as text.
-ghost use Rattle.std.specs.Prelude.{◌≡◌, ◌++◌, IfOk, OnOk, string_bytes};
+ghost use Rattle.std.specs.Prelude.{◌≡◌, ◌++◌, IfErr, IfOk, OnOk, string_bytes};
 ghost use Rattle.std.specs.Io.KnownBytes.{Appends, Keeps};
 ghost use Rattle.toml.specs.View.{view};
 ghost use Rattle.cargo_toml.specs.Action.{Text};
 ghost use Rattle.cargo_toml_manifest.specs.Manifests.{manifest_meaning};
-ghost use Rattle.cargo_toml_bench.specs.Printing.{Spells, IsManifest, IsReport, line, lines, report_text};
+ghost use Rattle.cargo_toml_bench.specs.Printing.{Spells, IsManifest, IsReport, Refuses, RefusesToPrint, line, lines, report_text};
 ghost use Rattle.cargo_toml_bench.specs.Reports.{texts, texts_of};
 
 use crate::report::{Report, make_report};
@@ -21,6 +21,7 @@ pub fn print_report<W: Write>(alloc: Global, bytes: &[u8], output: &mut W) -> Re
     ensures printed { OnOk result ((text : Text) × IsReport bytes.now text
         × Appends (W.contents output.old) (W.contents output.new) text) }
     ensures unwritten { ¬ IsManifest bytes.now → Keeps (W.contents output.old) (W.contents output.new) }
+    ensures refused { IfErr result (RefusesToPrint bytes.now) }
 {
     let text = report_of(alloc, bytes)?;
     output.write_all(text.as_bytes())?;
@@ -30,7 +31,8 @@ pub fn print_report<W: Write>(alloc: Global, bytes: &[u8], output: &mut W) -> Re
 
 // The report of the manifest that the bytes spell, as text.
 fn report_of(alloc: Global, bytes: &[u8]) -> Result<String, Error>
-    ensures { IfOk result (λ s. IsReport bytes.now (string_bytes s)) }
+    ensures text { IfOk result (λ s. IsReport bytes.now (string_bytes s)) }
+    ensures refused { IfErr result (Refuses bytes.now) }
 {
     let manifest = read(alloc, bytes)?;
     let report = make_report(alloc, &manifest)?;
@@ -38,7 +40,8 @@ fn report_of(alloc: Global, bytes: &[u8]) -> Result<String, Error>
 }
 
 fn read(alloc: Global, bytes: &[u8]) -> Result<Manifest, Error>
-    ensures { IfOk result (λ m. Spells bytes.now (manifest_meaning view m)) }
+    ensures manifest { IfOk result (λ m. Spells bytes.now (manifest_meaning view m)) }
+    ensures refused { IfErr result (Refuses bytes.now) }
 {
     Manifest::from_slice(alloc, bytes)
 }

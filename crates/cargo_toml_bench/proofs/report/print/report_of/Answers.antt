@@ -7,12 +7,12 @@ use Rattle.cargo_toml_bench.specs.Reports.{AreUnreferenced, texts}
 use Rattle.cargo_toml_bench.proofs.Entries.{entries_shown}
 use Rattle.cargo_toml_bench.proofs.report.print.report_of.Goals as goal
 
-pub returns : goal.returns
-returns c =
+pub returns-clause-text : goal.returns-clause-text
+returns-clause-text c =
     let found = c.in_ok-manifest.manifest in
     let names = texts c.in_ok-report.report.unreferenced in record {
       manifest = manifest_meaning view found;
-      spelled = c.in_ok-manifest.ensures;
+      spelled = c.in_ok-manifest.ensures.manifest;
       unreferenced = names;
       exact = subst (λ es. AreUnreferenced (listed_in found.features) es names) (entries_shown found.dependencies.entries) c.in_ok-report.ensures.unreferenced;
       whole = c.in_ok-report_text.ensures ∙ ap (λ keys. report_text keys names) c.in_ok-report.ensures.optional;

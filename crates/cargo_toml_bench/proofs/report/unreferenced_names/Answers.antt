@@ -8,7 +8,7 @@ use Rattle.cargo_toml_bench.proofs.report.unreferenced_names.Goals as goal
 
 pub loop-name-preserved-then-ne : goal.loop-name-preserved-then-ne
 loop-name-preserved-then-ne g c = λ f.
-    let alone : is_alone c.in-Some.name.now.now c.in-Some.feature.now ≡ true = alone_from _ c.in-Some.name.now.now c.in-Some.feature.now c.if-not-is_referenced.true c.is_referenced.ensures (search (rules, tests)) in
+    let alone : is_alone c.in-Some.name.now.now c.in-Some.feature.now ≡ true = alone_from c.is_referenced.result c.in-Some.name.now.now c.in-Some.feature.now (search (rules, tests)) c.is_referenced.ensures (search (rules, tests)) in
     gathered f c.loop-name.names c.insert.new.self c.in-Some.name.now c.in-Some.feature.now c.loop-name.name-iterator c.next.new.self _
     (rest_more deref_pair _ _ _ (c.in-Some.name, c.in-Some.feature) c.in-Some.is c.next.ensures.steps) alone
     (inserted c.in-Some.name.now.now c.loop-name.names c.insert.new.self c.in_ok-insert.ensures.updates) (c.loop-name.invariant f)

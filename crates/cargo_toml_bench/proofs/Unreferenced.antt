@@ -1,0 +1,110 @@
+-- The features that no feature enables, from what a resolution with nothing removed tells.
+use Rattle.std.proofs.Common.{◌≡◌, ◌↔◌, ◌==◌, true, false, List, [], ◌∷◌, length, map, Option, Some, None, IsTrue, is_some, Result, Ok, Err, IfOk, Vec, Global, subst, Bor, codes, refl, sym, ap, inl, inr, ◌∙◌, arith}
+use Rattle.std.proofs.lemmas.Bool.{false≢true, eqb-true, not-true, not_from_false, false_from_ne_true, and_parts, and_from, or_left, or_right, or_cases}
+use Rattle.std.proofs.lemmas.Bool.Decides.{Decides-eqb}
+use Rattle.std.proofs.lemmas.Map.Text.{is_eq-slice_cmp}
+use Rattle.std.proofs.lemmas.Slice.Eq.{bytes_eq-Decides}
+use Rattle.std.specs.BTreeSet.{BTreeSet, btree_set_len}
+use Rattle.std.specs.BTreeMap.{is_at}
+use Rattle.std.specs.Cmp.Lexicographic.{slice_cmp}
+use Rattle.std.specs.Ordering.{nat_cmp}
+use Rattle.std.specs.HashMap.{HashMap}
+use Rattle.std.specs.List.{AllByRecursion, list_any}
+use Rattle.std.specs.List.Sorted.{IsStrictlySortedBy}
+use Rattle.std.specs.Option.{option_map_or}
+use Rattle.std.specs.declared.cmp.Ordering.TheVariants.{Less}
+use Rattle.cargo_toml.specs.declared.features.Feature.{Feature}
+use Rattle.cargo_toml.specs.Action.{Text}
+use Rattle.cargo_toml.specs.Graph.{Table, Edge, IsKept, IsResolved}
+use Rattle.cargo_toml.specs.Reach.{Among, Reaches}
+use Rattle.cargo_toml.specs.Reach.Reaches.{edge, through}
+use Rattle.cargo_toml.specs.Resolved.{is_removed}
+use Rattle.cargo_toml.specs.Views.{has_text, resolution_of, value_at}
+use Rattle.cargo_toml.proofs.TextKeys.{bytes_eq_refl, none_in}
+use Rattle.cargo_toml_bench.specs.Alone.{is_alone, is_alone_at}
+use Rattle.cargo_toml_bench.specs.Reports.{texts, texts_of, IsUnreferenced}
+
+-- a filter that keeps each feature removes none
+pub nothing_removed : (t : Table) (f : Text) → ¬ IsTrue (is_removed t (λ _. true) f)
+nothing_removed t f removed = false≢true (and_parts _ _ removed).1
+
+-- a set without texts, and one with a text
+no_keys : (s : BTreeSet (Bor Text)) → IsTrue (btree_set_len s == 0) → s.keys ≡ []
+no_keys s e = go s.keys (eqb-true _ _ e)
+  where
+    go : (ks : List (Bor Text)) → length ks ≡ 0 → ks ≡ []
+    go [] none = refl
+    go (k ∷ ks) none = absurd (omega arith)
+
+no_texts : (s : BTreeSet (Bor Text)) → ((e : Text) → ¬ IsTrue (has_text s e)) → IsTrue (btree_set_len s == 0)
+no_texts s none = (Decides-eqb (btree_set_len s) 0).1 (go s.keys refl)
+  where
+    go : (ks : List (Bor Text)) → s.keys ≡ ks → length s.keys ≡ 0
+    go [] is = ap length is
+    go (k ∷ ks) is = absurd (none k.now (ap (λ (xs : List (Bor Text)). has_text (record s { keys = xs }) k.now) is ∙ or_left _ _ (is_eq-slice_cmp k.now k.now ∙ bytes_eq_refl k.now)))
+
+-- the texts of a set
+pub texts_in : (s : BTreeSet (Bor Text)) (f : Text) → Among (map (λ t. t.now) s.keys) f ↔ IsTrue (has_text s f)
+texts_in s f = (into s.keys, out s.keys)
+  where
+    into : (ks : List (Bor Text)) → Among (map (λ t. t.now) ks) f → IsTrue (list_any (is_at (λ k. slice_cmp nat_cmp f k.now)) ks)
+    into [] i = absurd i
+    into (k ∷ ks) (inl e) = or_left _ _ (is_eq-slice_cmp f k.now ∙ (bytes_eq-Decides f k.now).1 e)
+    into (k ∷ ks) (inr i) = or_right _ _ (into ks i)
+
+    out : (ks : List (Bor Text)) → IsTrue (list_any (is_at (λ k. slice_cmp nat_cmp f k.now)) ks) → Among (map (λ t. t.now) ks) f
+    out [] e = absurd (false≢true e)
+    out (k ∷ ks) e = elim (or_cases _ _ e) [ inl h ↦ inl ((bytes_eq-Decides f k.now).0 (sym (is_eq-slice_cmp f k.now) ∙ h)) | inr i ↦ inr (out ks i) ]
+
+-- a list of the keys of a set
+pub all_taken : {E : Type 0} (r : Result (Vec (Bor Text) Global) E) (s : BTreeSet (Bor Text)) → IfOk r (λ v. v.items ≡ s.keys) → IfOk r (λ v. (f : Text) → Among (texts v) f ↔ IsTrue (has_text s f))
+all_taken (Ok v) s e = λ f. subst (λ (ks : List (Bor Text)). Among (map (λ t. t.now) ks) f ↔ IsTrue (has_text s f)) (sym e) (texts_in s f)
+all_taken (Err _) s e = tt
+
+-- texts by their bytes
+below_each : (k : Bor Text) (ks : List (Bor Text)) → AllByRecursion (λ x. slice_cmp nat_cmp k.now x.now ≡ Less) ks → AllByRecursion (λ x. slice_cmp nat_cmp k.now x ≡ Less) (texts_of ks)
+below_each k [] all = tt
+below_each k (x ∷ xs) all = (all.0, below_each k xs all.1)
+
+texts_in_order : (ks : List (Bor Text)) → IsStrictlySortedBy (λ (x : Bor Text) (y : Bor Text). slice_cmp nat_cmp x.now y.now) ks → IsStrictlySortedBy (slice_cmp nat_cmp) (texts_of ks)
+unfolding IsStrictlySortedBy
+texts_in_order [] ordered = tt
+texts_in_order (k ∷ ks) ordered = (below_each k ks ordered.0, texts_in_order ks ordered.1)
+
+pub taken_in_order : {E : Type 0} (r : Result (Vec (Bor Text) Global) E) (ks : List (Bor Text)) → IsStrictlySortedBy (λ (x : Bor Text) (y : Bor Text). slice_cmp nat_cmp x.now y.now) ks → IfOk r (λ v. v.items ≡ ks)
+    → IfOk r (λ v. IsStrictlySortedBy (slice_cmp nat_cmp) (texts v))
+taken_in_order (Ok v) ks ordered e = subst (λ xs. IsStrictlySortedBy (slice_cmp nat_cmp) (texts_of xs)) (sym e) (texts_in_order ks ordered)
+taken_in_order (Err _) ks ordered e = tt
+
+module _ {S : Type 0} (m : HashMap (Bor Text) Feature S) (t : Table) (Removed : Text → Type 0) (none : (f : Text) → ¬ Removed f) (resolved : IsResolved t Removed (resolution_of m)) where
+  kept : (f : Text) → IsTrue (t.has f) → IsKept t Removed f
+  kept f known = (known, none f)
+
+  only : {a b : Text} → Reaches (Edge t) Removed a b → Edge t a b
+  only (edge e) = e
+  only (through e s p) = absurd (none _ s)
+
+  -- the enablers of a feature are the sources of its edges
+  enablers : (f e : Text) → IsTrue (t.has f) → IsTrue ((resolution_of m).enabled_by f e) ↔ Edge t e f
+  enablers f e known = (
+    λ y. only ((resolved.enabled_by f e (kept f known)).0 y).1,
+    λ d. (resolved.enabled_by f e (kept f known)).1 (kept e d.source, edge d),
+  )
+
+  pub alone_is : (f : Text) → IsTrue (is_alone_at m f) ↔ IsUnreferenced t f
+  alone_is f = go (value_at m f) refl
+    where
+      go : (o : Option Feature) → value_at m f ≡ o → IsTrue (option_map_or (is_alone f) o false) ↔ IsUnreferenced t f
+      go None is = (λ y. absurd (false≢true y), λ u. absurd (false≢true (sym (ap is_some is) ∙ (resolved.kept f).1 (kept f u.known))))
+      go (Some v) is =
+          let known : IsTrue (t.has f) = ((resolved.kept f).0 (ap is_some is)).0 in
+          let told : (e : Text) → option_map_or (λ v. has_text v.enabled_by e) (value_at m f) false ≡ has_text v.enabled_by e = λ e. ap (λ o. option_map_or (λ v. has_text v.enabled_by e) o false) is in (
+            λ y. record {
+              known = known;
+              named = λ e. false≢true (sym (not-true _ (and_parts _ _ y).1) ∙ (bytes_eq-Decides f (codes "default")).1 e);
+              alone = λ e d. false≢true (sym (none_in v.enabled_by (no_keys v.enabled_by (and_parts _ _ y).0) e) ∙ sym (told e) ∙ (enablers f e known).1 d);
+            },
+            λ u. and_from _ _
+                (no_texts v.enabled_by (λ e h. u.alone e ((enablers f e known).0 (told e ∙ h))))
+                (not_from_false _ (false_from_ne_true _ (λ e. u.named ((bytes_eq-Decides f (codes "default")).0 e)))),
+          )

@@ -1,0 +1,3 @@
+pub mod Alone
+pub mod Printing
+pub mod Reports

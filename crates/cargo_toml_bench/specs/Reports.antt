@@ -1,0 +1,36 @@
+-- What a report tells of a manifest.
+use Rattle.std.specs.Prelude.{◌≢◌, ◌↔◌, ℕ, IsTrue, List, map, filter, Vec, codes}
+use Rattle.std.specs.Borrow.{Bor}
+use Rattle.std.specs.Cmp.Lexicographic.{slice_cmp}
+use Rattle.std.specs.List.Sorted.{IsStrictlySortedBy}
+use Rattle.std.specs.Ordering.{nat_cmp}
+use Rattle.std.specs.declared.alloc.Global.{Global}
+use Rattle.cargo_toml_tables.specs.Dependencies.{DependencyMeaning, is_optional}
+use Rattle.cargo_toml.specs.Action.{Text}
+use Rattle.cargo_toml.specs.Admitted.{Listed, IsWithin}
+use Rattle.cargo_toml.specs.Graph.{Table, Edge}
+use Rattle.cargo_toml.specs.Reach.{Among}
+use Rattle.cargo_toml.specs.Recorded.{Entry}
+use Rattle.cargo_toml.specs.Resolved.{joined_table}
+
+-- borrowed texts, read
+abbrev pub texts_of : List (Bor Text) → List Text
+texts_of ts = map (λ t. t.now) ts
+
+abbrev pub texts : Vec (Bor Text) Global → List Text
+texts v = texts_of v.items
+
+-- the keys of the optional dependencies, in their order
+abbrev pub optional_keys : List (Text × DependencyMeaning) → List Text
+optional_keys entries = map (λ e. e.0) (filter (λ e. is_optional e.1) entries)
+
+-- a feature other than `default` that no feature enables
+pub record IsUnreferenced (t : Table) (f : Text) : Type 0 where
+  pub known : IsTrue (t.has f)
+  pub named : f ≢ codes "default"
+  pub alone : (e : Text) → ¬ Edge t e f
+
+-- the names are those of the unreferenced features, where the limit leaves nothing out, in byte order and each once
+pub record AreUnreferenced (listed : Listed) (entries : List Entry) (names : List Text) : Type 0 where
+  pub exact : (limit : ℕ) → IsWithin limit listed → (f : Text) → Among names f ↔ IsUnreferenced (joined_table limit listed entries) f
+  pub in_order : IsStrictlySortedBy (slice_cmp nat_cmp) names

@@ -1,0 +1,4 @@
+//! Callers of `cargo_toml` that are proved, written as a user of the crate writes them.
+#![tactic(auto)]
+
+pub mod report;

@@ -1,0 +1,103 @@
+//! A report of a manifest: its optional dependencies, and its features that nothing enables.
+mod print;
+#[cfg(test)]
+mod tests;
+
+ghost use Rattle.std.specs.Prelude.{◌≡◌, ◌↔◌, IsTrue, IfErr, IfOk};
+ghost use Rattle.std.specs.Cmp.Lexicographic.{slice_cmp};
+ghost use Rattle.std.specs.List.Sorted.{IsStrictlySortedBy};
+ghost use Rattle.std.specs.Ordering.{nat_cmp};
+ghost use Rattle.cargo_toml_parts.specs.declared.error.Error.{Memory};
+ghost use Rattle.cargo_toml_tables.specs.Dependencies.{dependency_meaning};
+ghost use Rattle.cargo_toml_parts.specs.Reads.{map_meaning};
+ghost use Rattle.cargo_toml.specs.Action.{Text};
+ghost use Rattle.cargo_toml.specs.Reach.{Among};
+ghost use Rattle.cargo_toml.specs.Views.{has_text, listed_in, normal_entries};
+ghost use Rattle.cargo_toml_bench.specs.Alone.{is_alone_at};
+ghost use Rattle.cargo_toml_bench.specs.Reports.{texts, optional_keys, AreUnreferenced};
+
+use cargo_toml::features::{Feature, Resolver};
+use cargo_toml::{DepsSet, Error, Manifest};
+pub use print::print_report;
+use std::alloc::{AllocError, Global};
+use std::collections::{BTreeSet, HashMap};
+use std::hash::BuildHasher;
+
+/// What is told of a manifest. The texts are borrowed from it.
+#[derive(Debug, Drop)]
+pub struct Report<'m> {
+    /// The keys of the optional dependencies, in byte order.
+    pub optional: Vec<&'m str>,
+    /// The names of the features that nothing in the manifest enables, but for `default`, in byte order.
+    pub unreferenced: Vec<&'m str>,
+}
+
+/// The report of a manifest. The one refusal is [`Error::Memory`], where there was no room for it.
+pub fn make_report<'m, M>(alloc: Global, manifest: &'m Manifest<M>) -> Result<Report<'m>, Error>
+    ensures optional { IfOk result (λ r. texts r.optional
+        ≡ optional_keys (map_meaning dependency_meaning manifest.now.dependencies)) }
+    ensures unreferenced { IfOk result (λ r. AreUnreferenced (listed_in manifest.now.features)
+        (normal_entries manifest.now.dependencies) (texts r.unreferenced)) }
+    ensures refused { IfErr result (λ e. e ≡ Memory) }
+{
+    Ok(Report {
+        optional: optional_dependencies(alloc, &manifest.dependencies)?,
+        unreferenced: unreferenced_features(alloc, manifest)?,
+    })
+}
+
+/// The keys of the optional dependencies of a table, in byte order. The one refusal is [`Error::Memory`].
+pub fn optional_dependencies<'m>(
+    alloc: Global,
+    dependencies: &'m DepsSet,
+) -> Result<Vec<&'m str>, Error>
+    ensures keys { IfOk result (λ v. texts v
+        ≡ optional_keys (map_meaning dependency_meaning dependencies.now)) }
+    ensures refused { IfErr result (λ e. e ≡ Memory) }
+{
+    let mut optional = Vec::new(alloc);
+    for (key, dependency) in dependencies {
+        if dependency.optional() {
+            optional.push(key.as_str())?;
+        }
+    }
+    Ok(optional)
+}
+
+/// The names of the features that nothing in the manifest enables, but for `default`, in byte order. The one refusal is
+/// [`Error::Memory`].
+pub fn unreferenced_features<'m, M>(
+    alloc: Global,
+    manifest: &'m Manifest<M>,
+) -> Result<Vec<&'m str>, Error>
+    ensures names { IfOk result (λ v. AreUnreferenced (listed_in manifest.now.features)
+        (normal_entries manifest.now.dependencies) (texts v)) }
+    ensures refused { IfErr result (λ e. e ≡ Memory) }
+{
+    let resolved = Resolver::new().parse(alloc, manifest)?;
+    let names = unreferenced_names(alloc, &resolved.features)?;
+    Ok(in_order(alloc, &names)?)
+}
+
+// The names of the features of a map that tell of no feature that enables them, but for `default`.
+fn unreferenced_names<'m, S: BuildHasher>(
+    alloc: Global,
+    features: &HashMap<&'m str, Feature<'m>, S>,
+) -> Result<BTreeSet<&'m str>, AllocError>
+    ensures { IfOk result (λ s. (f : Text) → has_text s f ≡ is_alone_at features.now f) }
+{
+    let mut names = BTreeSet::new(alloc);
+    for (name, feature) in features {
+        if !feature.is_referenced() && *name != "default" {
+            names.insert(*name)?;
+        }
+    }
+    Ok(names)
+}
+
+fn in_order<'m>(alloc: Global, names: &BTreeSet<&'m str>) -> Result<Vec<&'m str>, AllocError>
+    ensures all { IfOk result (λ v. (f : Text) → Among (texts v) f ↔ IsTrue (has_text names.now f)) }
+    ensures in_order { IfOk result (λ v. IsStrictlySortedBy (slice_cmp nat_cmp) (texts v)) }
+{
+    names.iter().copied().collect(alloc)
+}

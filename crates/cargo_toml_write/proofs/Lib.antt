@@ -1,0 +1,6 @@
+pub mod Entries
+pub mod Items
+pub mod Puts
+pub mod Rows
+pub mod Tables
+pub mod TextItems

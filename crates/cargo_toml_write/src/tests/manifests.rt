@@ -1,0 +1,1 @@
+//! Worked rows of manifests, and each call once with ample memory.

@@ -1,0 +1,1 @@
+//! Worked rows of parts, and each call once with ample memory.

@@ -1,0 +1,1 @@
+//! Worked rows of settings, and each call once with ample memory.

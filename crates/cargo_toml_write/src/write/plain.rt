@@ -120,8 +120,13 @@ pub fn texts_value(alloc: Global, texts: &[String]) -> Result<Value, Error>
 }
 
 /// Writes a list of texts at a key, unless it is empty.
-pub fn put_texts(table: &mut Table, alloc: Global, key: &str, texts: &[String]) -> Result<(), Error>
-    ensures { AddsRow (told key.now (texts_unless_empty (map string_bytes texts.now))) (table_view table.old) (table_view table.new) result }
+pub fn put_texts(
+    table: &mut Table,
+    alloc: Global,
+    key: &str,
+    texts: &Vec<String>,
+) -> Result<(), Error>
+    ensures { AddsRow (told key.now (texts_unless_empty (map string_bytes texts.now.items))) (table_view table.old) (table_view table.new) result }
 {
     if texts.is_empty() {
         return Ok(());

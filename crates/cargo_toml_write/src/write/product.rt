@@ -30,8 +30,13 @@ fn put_edition(
 }
 
 /// Writes a list of texts at a key, an empty one too.
-fn put_all_texts(table: &mut Table, alloc: Global, key: &str, texts: &[String]) -> Result<(), Error>
-    ensures { AddsRow (told key.now (Some (texts_tree (map string_bytes texts.now)))) (table_view table.old) (table_view table.new) result }
+fn put_all_texts(
+    table: &mut Table,
+    alloc: Global,
+    key: &str,
+    texts: &Vec<String>,
+) -> Result<(), Error>
+    ensures { AddsRow (told key.now (Some (texts_tree (map string_bytes texts.now.items)))) (table_view table.old) (table_view table.new) result }
 {
     put(table, alloc, key, texts_value(alloc, texts)?)
 }

@@ -45,7 +45,8 @@ impl<T: ToValue> ToValue for BTreeMap<String, T> {
     }
 }
 
-fn inherited_value(alloc: Global) -> Result<Value, Error>
+/// The table `{ workspace = true }`, which says that the workspace gives a value.
+pub fn inherited_value(alloc: Global) -> Result<Value, Error>
     ensures { IsWriting view (λ d. d ≡ inherited_tree) (λ e. ⊥) result }
 {
     let mut table = Table::new(alloc);

@@ -1,1 +1,100 @@
-//! Writers of manifests.
+//! The writer of manifests.
+ghost use Rattle.std.specs.Prelude.{◌≡◌};
+ghost use Rattle.toml.specs.View.{table_view};
+ghost use Rattle.cargo_toml_write.specs.WrittenManifests.{list_unless_empty, has_no_profile, has_no_badge, has_no_lint, manifest_rows};
+ghost use Rattle.cargo_toml_write.specs.Writes.{AddsRow, AddsRows, RefuseRows, TableOf};
+
+use crate::write::workspace::put_map;
+use crate::write::{ToValue, WriteRows, put_if, put_unless, table_value};
+use cargo_toml_manifest::Manifest;
+use cargo_toml_parts::{
+    Badges, Error, FromValue, Inheritable, LintGroups, MaintenanceStatus, Profiles,
+};
+use std::alloc::Global;
+use toml::{Table, Value};
+
+// Writes a list at a key, unless it is empty.
+fn put_list<T: ToValue>(
+    table: &mut Table,
+    alloc: Global,
+    key: &str,
+    xs: &Vec<T>,
+) -> Result<(), Error>
+    ensures { AddsRow (list_unless_empty key.now T.Written T.write_refuses xs.now) (table_view table.old) (table_view table.new) result }
+{
+    put_unless(table, alloc, xs.is_empty(), key, xs)
+}
+
+fn has_no_profile(profiles: &Profiles) -> bool
+    ensures { result ≡ has_no_profile profiles.now }
+{
+    profiles.release.is_none()
+        && profiles.dev.is_none()
+        && profiles.test.is_none()
+        && profiles.bench.is_none()
+        && profiles.doc.is_none()
+        && profiles.custom.is_empty()
+}
+
+fn has_no_badge(badges: &Badges) -> bool
+    ensures { result ≡ has_no_badge badges.now }
+{
+    badges.appveyor.is_none()
+        && badges.circle_ci.is_none()
+        && badges.gitlab.is_none()
+        && badges.travis_ci.is_none()
+        && badges.codecov.is_none()
+        && badges.coveralls.is_none()
+        && badges.is_it_maintained_issue_resolution.is_none()
+        && badges.is_it_maintained_open_issues.is_none()
+        && matches!(badges.maintenance.status, MaintenanceStatus::None)
+}
+
+// Whether the manifest says of its lints no more than a missing key does.
+fn has_no_lint(lints: &Inheritable<LintGroups>) -> bool
+    ensures { result ≡ has_no_lint lints.now }
+{
+    match lints {
+        Inheritable::Set(groups) => groups.is_empty(),
+        Inheritable::Inherited => false,
+    }
+}
+
+impl<Metadata: FromValue + ToValue> WriteRows for Manifest<Metadata> {
+    ghost rows = { manifest_rows Metadata.Written Metadata.write_refuses };
+
+    fn write_rows(&self, table: &mut Table, alloc: Global) -> Result<(), Error> {
+        let no_profile = has_no_profile(&self.profile);
+        let no_badge = has_no_badge(&self.badges);
+        let no_lint = has_no_lint(&self.lints);
+        put_if(table, alloc, "package", &self.package)?;
+        put_if(table, alloc, "workspace", &self.workspace)?;
+        put_map(table, alloc, "dependencies", &self.dependencies)?;
+        put_map(table, alloc, "dev-dependencies", &self.dev_dependencies)?;
+        put_map(table, alloc, "build-dependencies", &self.build_dependencies)?;
+        put_map(table, alloc, "target", &self.target)?;
+        put_map(table, alloc, "features", &self.features)?;
+        put_map(table, alloc, "replace", &self.replace)?;
+        put_map(table, alloc, "patch", &self.patch)?;
+        put_if(table, alloc, "lib", &self.lib)?;
+        put_unless(table, alloc, no_profile, "profile", &self.profile)?;
+        put_unless(table, alloc, no_badge, "badges", &self.badges)?;
+        put_list(table, alloc, "bin", &self.bin)?;
+        put_list(table, alloc, "bench", &self.bench)?;
+        put_list(table, alloc, "test", &self.test)?;
+        put_list(table, alloc, "example", &self.example)?;
+        put_unless(table, alloc, no_lint, "lints", &self.lints)?;
+        Ok(())
+    }
+}
+
+/// What is as where its key is missing is left out: the default manifest is written as the empty table.
+impl<Metadata: FromValue + ToValue> ToValue for Manifest<Metadata> {
+    ghost Written = { λ m. TableOf (manifest_rows Metadata.Written Metadata.write_refuses m) };
+
+    ghost write_refuses = { λ m. RefuseRows (manifest_rows Metadata.Written Metadata.write_refuses m) };
+
+    fn to_value(&self, alloc: Global) -> Result<Value, Error> {
+        table_value(self, alloc)
+    }
+}

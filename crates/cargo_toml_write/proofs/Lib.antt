@@ -3,6 +3,9 @@ pub mod Entries
 pub mod Items
 pub mod PackageAgain
 pub mod Puts
+pub mod ReadAgainBadges
+pub mod ReadAgainProducts
+pub mod ReadAgainRows
 pub mod Rows
 pub mod Tables
 pub mod TextItems

@@ -1,12 +1,12 @@
 //! The writer of products.
-ghost use Rattle.std.specs.Prelude.{[], ◌∷◌, Some, option_map, map, string_bytes};
-ghost use Rattle.toml.specs.Data.{string};
-ghost use Rattle.toml.specs.View.{table_view};
-ghost use Rattle.cargo_toml_parts.specs.Products.{product_meaning};
+ghost use Rattle.std.specs.Prelude.{◌≡◌, [], ◌∷◌, Some, IfOk, option_map, option_and_then, map, string_bytes};
+ghost use Rattle.toml.specs.Data.{string, as_table};
+ghost use Rattle.toml.specs.View.{view, table_view};
+ghost use Rattle.cargo_toml_parts.specs.Products.{product_meaning, product_of};
 ghost use Rattle.cargo_toml_parts.specs.Settings.{edition_text};
 ghost use Rattle.cargo_toml_write.specs.Trees.{texts_tree};
 ghost use Rattle.cargo_toml_write.specs.WrittenProducts.{product_rows};
-ghost use Rattle.cargo_toml_write.specs.Writes.{AddsRow, AddsRows, RefuseRows, TableOf, told};
+ghost use Rattle.cargo_toml_write.specs.Writes.{IsWriting, AddsRow, AddsRows, RefuseRows, TableOf, told};
 
 use crate::write::plain::{put_flag, put_text_if, put_texts, texts_value};
 use crate::write::{ToValue, WriteRows, put, table_value};
@@ -15,7 +15,7 @@ use std::alloc::Global;
 use toml::{Table, Value};
 
 /// Writes an edition at a key, where it is there.
-fn put_edition(
+pub fn put_edition(
     table: &mut Table,
     alloc: Global,
     key: &str,
@@ -30,7 +30,7 @@ fn put_edition(
 }
 
 /// Writes a list of texts at a key, an empty one too.
-fn put_all_texts(
+pub fn put_all_texts(
     table: &mut Table,
     alloc: Global,
     key: &str,
@@ -66,7 +66,10 @@ impl ToValue for Product {
 
     ghost write_refuses = { λ p. RefuseRows (product_rows (product_meaning p)) };
 
-    fn to_value(&self, alloc: Global) -> Result<Value, Error> {
+    fn to_value(&self, alloc: Global) -> Result<Value, Error>
+        ensures written { IsWriting view (TableOf (product_rows (product_meaning self.now))) (RefuseRows (product_rows (product_meaning self.now))) result }
+        ensures read_again { IfOk result (λ v. option_and_then product_of (as_table (view v)) ≡ Some (product_meaning self.now)) }
+    {
         table_value(self, alloc)
     }
 }

@@ -6,6 +6,7 @@ pub mod Puts
 pub mod ReadAgainBadges
 pub mod ReadAgainProducts
 pub mod ReadAgainRows
+pub mod RowLists
 pub mod Rows
 pub mod Tables
 pub mod TextItems

@@ -1,9 +1,11 @@
 -- What is written at a key is read again.
-use Rattle.std.proofs.Common.{Result, Err, IfOk, ◌≡◌, ℕ, List, [], ◌∷◌, Bool, true, false, Ok, Option, Some, None, option_map, refl, ap, ◌∙◌}
+use Rattle.std.proofs.Common.{◌≡◌, ℕ, List, [], ◌∷◌, Bool, true, false, Ok, Option, Some, None, option_map, if◌then◌else◌, refl, ap, ◌∙◌}
 use Rattle.std.specs.Result.{result_ok}
 use Rattle.semver.specs.Identifiers.{parts_text}
 use Rattle.toml.specs.Data.{Data, string, Members, no_members, get_member, as_str, as_bool}
 use Rattle.cargo_toml_parts.specs.declared.error.Error.{Error}
+use Rattle.toml.specs.View.{view}
+use Rattle.toml.specs.declared.value.Value.{Value}
 use Rattle.cargo_toml_parts.specs.declared.inheritable.Inheritable.{Inheritable}
 use Rattle.cargo_toml_parts.specs.declared.inheritable.Inheritable.TheVariants.{Set, Inherited}
 use Rattle.cargo_toml_parts.specs.declared.settings.Edition.{Edition}
@@ -11,19 +13,16 @@ use Rattle.cargo_toml_parts.specs.declared.settings.Edition.TheVariants.{E2015, 
 use Rattle.cargo_toml_parts.specs.declared.settings.Resolver.{Resolver}
 use Rattle.cargo_toml_parts.specs.declared.settings.Resolver.TheVariants.{V1, V2, V3}
 use Rattle.cargo_toml_parts.specs.Inherits.{inheritable_of, set_or, workspace_flag}
-use Rattle.cargo_toml_parts.specs.Reads.{optional_of, given_of, items_reads, list_of}
+use Rattle.cargo_toml_parts.specs.Reads.{optional_of, given_of, list_of}
 use Rattle.cargo_toml_parts.specs.Settings.{edition_text, resolver_text, File, flag, path, file_of, Registries, everywhere, among, publish_of}
 use Rattle.cargo_toml_parts.specs.Versions.{Parts, version_of}
 use Rattle.cargo_toml_manifest.specs.Packages.{edition_reads, resolver_reads}
-use Rattle.cargo_toml_write.specs.Trees.{flag_unless, text_items, texts_tree, texts_unless_empty}
-use Rattle.cargo_toml_write.specs.Writes.{IsWriting, Row, told, if_there, AreWritten, put_some}
+use Rattle.cargo_toml_manifest.specs.Texts.{any_tree}
+use Rattle.cargo_toml_write.specs.Trees.{FreeTree, flag_unless, texts_tree, texts_unless_empty}
+use Rattle.cargo_toml_write.specs.Writes.{Row, told, if_there, AreWritten, put_some}
 use Rattle.cargo_toml_write.specs.WrittenPackages.{set_or_inherited, text_or_inherited, tree_of_file, file_unless_on, registries_unless_everywhere, VersionAgain, MetadataAgain}
 use Rattle.cargo_toml_write.proofs.Puts.{puts, got, get_puts, or_else}
-
--- what holds of each tree of a value holds of the one that was written
-pub written_then : {V : Type 0} (view : V → Data) (written : Data → Type 0) (refuses : Error → Type 0) (P : Data → Type 0) (r : Result V Error) → IsWriting view written refuses r → ((d : Data) → written d → P d) → IfOk r (λ v. P (view v))
-written_then view written refuses P (Ok v) w h = h (view v) w
-written_then view written refuses P (Err e) w h = tt
+use Rattle.cargo_toml_write.proofs.ReadAgainRows.{items_again}
 
 -- rows that are told, before others
 abbrev pub rows_then : List (List ℕ × Option Data) → List Row → List Row
@@ -49,10 +48,6 @@ pub known_text_again : (t : Option (Inheritable (List ℕ))) → optional_of (in
 known_text_again None = refl
 known_text_again (Some (Set t)) = refl
 known_text_again (Some Inherited) = refl
-
-items_again : (ts : List (List ℕ)) → items_reads as_str (text_items ts) ≡ Some ts
-items_again [] = refl
-items_again (t ∷ ts) = rw (items_again ts) refl
 
 pub known_texts_again : (ts : Inheritable (List (List ℕ))) → given_of (inheritable_of list_of) (Set []) (or_else (set_or_inherited texts_unless_empty ts) None) ≡ Some ts
 known_texts_again (Set []) = refl
@@ -111,3 +106,8 @@ pub metadata_again : {X M : Type 0} (key : List ℕ) (written : X → Data → T
 metadata_again key written refuses meaning reads None o again is = ap (λ p. optional_of reads (or_else p None)) is
 metadata_again key written refuses meaning reads (Some x) None again is = absurd is
 metadata_again key written refuses meaning reads (Some x) (Some d) again is = ap (λ m. option_map Some m) (again d is)
+
+-- free metadata
+pub value_again : (o : Option Value) → MetadataAgain FreeTree view any_tree o
+value_again None = tt
+value_again (Some v) = λ d tree. ap any_tree tree.1 ∙ ap (λ (b : Bool). if b then Some (view v) else None) tree.0

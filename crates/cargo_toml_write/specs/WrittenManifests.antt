@@ -91,8 +91,17 @@ has_no_badge b =
     is_none b.appveyor && is_none b.circle_ci && is_none b.gitlab && is_none b.travis_ci && is_none b.codecov && is_none b.coveralls
     && is_none b.is_it_maintained_issue_resolution && is_none b.is_it_maintained_open_issues && is_unstated b.maintenance.status
 
--- no lint that the manifest gives itself
-abbrev pub has_no_lint : Inheritable (BTreeMap (String Global) (BTreeMap (String Global) Lint)) → Bool
+-- the lints by tool, which the workspace may give, and that there is none that the manifest gives itself
+abbrev pub Lints : Type 0
+Lints = Inheritable (BTreeMap (String Global) (BTreeMap (String Global) Lint))
+
+abbrev pub LintsTree : Lints → Data → Type 0
+LintsTree = InheritableTree (MapTree LintSetTree refuses_lint_set)
+
+abbrev pub refuses_lints : Lints → Error → Type 0
+refuses_lints = refuses_inheritable (refuses_map LintSetTree refuses_lint_set)
+
+abbrev pub has_no_lint : Lints → Bool
 has_no_lint (Set m) = nat_eq (length m.entries) 0
 has_no_lint Inherited = false
 
@@ -115,5 +124,5 @@ manifest_rows written refuses m =
     ∷ list_unless_empty (codes "bench") ProductTree refuses_product m.bench
     ∷ list_unless_empty (codes "test") ProductTree refuses_product m.test
     ∷ list_unless_empty (codes "example") ProductTree refuses_product m.example
-    ∷ unless (has_no_lint m.lints) (codes "lints") (InheritableTree (MapTree LintSetTree refuses_lint_set)) (refuses_inheritable (refuses_map LintSetTree refuses_lint_set)) m.lints
+    ∷ unless (has_no_lint m.lints) (codes "lints") LintsTree refuses_lints m.lints
     ∷ []

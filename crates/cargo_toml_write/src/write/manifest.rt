@@ -1,8 +1,8 @@
 //! The writer of manifests.
 ghost use Rattle.std.specs.Prelude.{◌≡◌};
 ghost use Rattle.toml.specs.View.{table_view};
-ghost use Rattle.cargo_toml_write.specs.WrittenManifests.{list_unless_empty, has_no_profile, has_no_badge, has_no_lint, manifest_rows};
-ghost use Rattle.cargo_toml_write.specs.Writes.{AddsRow, AddsRows, RefuseRows, TableOf};
+ghost use Rattle.cargo_toml_write.specs.WrittenManifests.{list_unless_empty, has_no_profile, ProfilesTree, refuses_profiles, is_unstated, has_no_badge, BadgesTree, refuses_badges, has_no_lint, LintsTree, refuses_lints, manifest_rows};
+ghost use Rattle.cargo_toml_write.specs.Writes.{AddsRow, AddsRows, RefuseRows, TableOf, unless};
 
 use crate::write::workspace::put_map;
 use crate::write::{ToValue, WriteRows, put_if, put_unless, table_value};
@@ -36,6 +36,28 @@ fn has_no_profile(profiles: &Profiles) -> bool
         && profiles.custom.is_empty()
 }
 
+// Writes the profiles, unless there is none.
+fn put_profiles(
+    table: &mut Table,
+    alloc: Global,
+    key: &str,
+    profiles: &Profiles,
+) -> Result<(), Error>
+    ensures { AddsRow (unless (has_no_profile profiles.now) key.now ProfilesTree refuses_profiles profiles.now)
+        (table_view table.old) (table_view table.new) result }
+{
+    put_unless(table, alloc, has_no_profile(profiles), key, profiles)
+}
+
+fn is_unstated(status: MaintenanceStatus) -> bool
+    ensures { result ≡ is_unstated status }
+{
+    match status {
+        MaintenanceStatus::None => true,
+        _ => false,
+    }
+}
+
 fn has_no_badge(badges: &Badges) -> bool
     ensures { result ≡ has_no_badge badges.now }
 {
@@ -47,7 +69,15 @@ fn has_no_badge(badges: &Badges) -> bool
         && badges.coveralls.is_none()
         && badges.is_it_maintained_issue_resolution.is_none()
         && badges.is_it_maintained_open_issues.is_none()
-        && matches!(badges.maintenance.status, MaintenanceStatus::None)
+        && is_unstated(badges.maintenance.status)
+}
+
+// Writes the badges, unless there is none and the status says nothing.
+fn put_badges(table: &mut Table, alloc: Global, key: &str, badges: &Badges) -> Result<(), Error>
+    ensures { AddsRow (unless (has_no_badge badges.now) key.now BadgesTree refuses_badges badges.now)
+        (table_view table.old) (table_view table.new) result }
+{
+    put_unless(table, alloc, has_no_badge(badges), key, badges)
 }
 
 // Whether the manifest says of its lints no more than a missing key does.
@@ -60,13 +90,23 @@ fn has_no_lint(lints: &Inheritable<LintGroups>) -> bool
     }
 }
 
+// Writes the lints, unless they are set and empty.
+fn put_lints(
+    table: &mut Table,
+    alloc: Global,
+    key: &str,
+    lints: &Inheritable<LintGroups>,
+) -> Result<(), Error>
+    ensures { AddsRow (unless (has_no_lint lints.now) key.now LintsTree refuses_lints lints.now)
+        (table_view table.old) (table_view table.new) result }
+{
+    put_unless(table, alloc, has_no_lint(lints), key, lints)
+}
+
 impl<Metadata: FromValue + ToValue> WriteRows for Manifest<Metadata> {
     ghost rows = { manifest_rows Metadata.Written Metadata.write_refuses };
 
     fn write_rows(&self, table: &mut Table, alloc: Global) -> Result<(), Error> {
-        let no_profile = has_no_profile(&self.profile);
-        let no_badge = has_no_badge(&self.badges);
-        let no_lint = has_no_lint(&self.lints);
         put_if(table, alloc, "package", &self.package)?;
         put_if(table, alloc, "workspace", &self.workspace)?;
         put_map(table, alloc, "dependencies", &self.dependencies)?;
@@ -77,13 +117,13 @@ impl<Metadata: FromValue + ToValue> WriteRows for Manifest<Metadata> {
         put_map(table, alloc, "replace", &self.replace)?;
         put_map(table, alloc, "patch", &self.patch)?;
         put_if(table, alloc, "lib", &self.lib)?;
-        put_unless(table, alloc, no_profile, "profile", &self.profile)?;
-        put_unless(table, alloc, no_badge, "badges", &self.badges)?;
+        put_profiles(table, alloc, "profile", &self.profile)?;
+        put_badges(table, alloc, "badges", &self.badges)?;
         put_list(table, alloc, "bin", &self.bin)?;
         put_list(table, alloc, "bench", &self.bench)?;
         put_list(table, alloc, "test", &self.test)?;
         put_list(table, alloc, "example", &self.example)?;
-        put_unless(table, alloc, no_lint, "lints", &self.lints)?;
+        put_lints(table, alloc, "lints", &self.lints)?;
         Ok(())
     }
 }

@@ -6,7 +6,8 @@ ghost use Rattle.toml.specs.View.{view, table_view};
 ghost use Rattle.cargo_toml_parts.specs.Inherits.{inheritable_map};
 ghost use Rattle.cargo_toml_parts.specs.Settings.{edition_text, resolver_text, file_meaning, publish_meaning};
 ghost use Rattle.cargo_toml_manifest.specs.Packages.{package_meaning, package_reads};
-ghost use Rattle.cargo_toml_write.specs.Trees.{texts_unless_empty, inherited_tree};
+ghost use Rattle.cargo_toml_manifest.specs.Texts.{any_tree};
+ghost use Rattle.cargo_toml_write.specs.Trees.{FreeTree, texts_unless_empty, inherited_tree};
 ghost use Rattle.cargo_toml_write.specs.WrittenPackages.{package_rows, set_or_inherited, text_or_inherited, tree_of_file, file_unless_on, registries_unless_everywhere, VersionAgain, MetadataAgain};
 ghost use Rattle.cargo_toml_write.specs.Writes.{IsWriting, AddsRow, AddsRows, RefuseRows, TableOf, told, if_there};
 
@@ -235,3 +236,8 @@ impl<Metadata: FromValue + ToValue> ToValue for Package<Metadata> {
         table_value(self, alloc)
     }
 }
+
+// A law: metadata of the type `Value` are read again as they were.
+fn value_metadata(metadata: &Option<Value>)
+    ensures { MetadataAgain FreeTree view any_tree metadata.now }
+{}

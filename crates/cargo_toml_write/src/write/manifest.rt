@@ -25,6 +25,7 @@ fn put_list<T: ToValue>(
     put_unless(table, alloc, xs.is_empty(), key, xs)
 }
 
+// Whether there is no profile.
 fn has_no_profile(profiles: &Profiles) -> bool
     ensures { result ≡ has_no_profile profiles.now }
 {
@@ -49,6 +50,7 @@ fn put_profiles(
     put_unless(table, alloc, has_no_profile(profiles), key, profiles)
 }
 
+// Whether the status says nothing of the maintenance.
 fn is_unstated(status: MaintenanceStatus) -> bool
     ensures { result ≡ is_unstated status }
 {
@@ -58,6 +60,7 @@ fn is_unstated(status: MaintenanceStatus) -> bool
     }
 }
 
+// Whether there is no badge, and the status says nothing.
 fn has_no_badge(badges: &Badges) -> bool
     ensures { result ≡ has_no_badge badges.now }
 {

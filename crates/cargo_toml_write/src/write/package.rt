@@ -28,12 +28,14 @@ fn put_inherited(table: &mut Table, alloc: Global, key: &str) -> Result<(), Erro
     put(table, alloc, key, inherited_value(alloc)?)
 }
 
+// Writes the name, which is always written.
 fn put_name(table: &mut Table, alloc: Global, key: &str, name: &String) -> Result<(), Error>
     ensures { AddsRow (told key.now (Some (string (string_bytes name.now)))) (table_view table.old) (table_view table.new) result }
 {
     put_text(table, alloc, key, name.as_str())
 }
 
+// Writes a version that the workspace may give.
 fn put_version(
     table: &mut Table,
     alloc: Global,
@@ -49,6 +51,7 @@ fn put_version(
     }
 }
 
+// Writes an edition that the workspace may give.
 fn put_edition(
     table: &mut Table,
     alloc: Global,

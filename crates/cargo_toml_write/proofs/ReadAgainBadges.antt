@@ -1,5 +1,5 @@
 -- A written badge, and how a package is cared for, read as themselves.
-use Rattle.std.proofs.Common.{◌≡◌, refl, ℕ, List, [], ◌∷◌, codes, Some, option_and_then}
+use Rattle.std.proofs.Common.{◌≡◌, refl, ℕ, List, codes, Some}
 use Rattle.toml.specs.Data.{Data, string, as_str, Members, no_members, get_member}
 use Rattle.cargo_toml_parts.specs.declared.badge.MaintenanceStatus.{MaintenanceStatus}
 use Rattle.cargo_toml_parts.specs.declared.badge.MaintenanceStatus.TheVariants as status

@@ -1,5 +1,5 @@
 -- The rows of a package template.
-use Rattle.std.specs.Prelude.{ℕ, List, [], ◌∷◌, codes, map, Bool, true, false, Option, option_map, String, Vec, string_bytes}
+use Rattle.std.specs.Prelude.{ℕ, List, [], ◌∷◌, codes, map, Bool, false, Option, option_map, String, Vec, string_bytes}
 use Rattle.std.specs.declared.alloc.Global.{Global}
 use Rattle.toml.specs.Data.{string}
 use Rattle.cargo_toml_parts.specs.declared.settings.OptionalFile.{OptionalFile}

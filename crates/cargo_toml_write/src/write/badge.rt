@@ -1,5 +1,5 @@
 //! Writers of badges.
-ghost use Rattle.std.specs.Prelude.{◌≡◌, [], ◌∷◌, Some, IfOk};
+ghost use Rattle.std.specs.Prelude.{◌≡◌, Some, IfOk};
 ghost use Rattle.toml.specs.Data.{string};
 ghost use Rattle.toml.specs.View.{view, table_view};
 ghost use Rattle.cargo_toml_parts.specs.Badges.{badge_meaning, badge_reads, maintenance_reads};

@@ -1,8 +1,7 @@
 //! The writer of package templates.
-ghost use Rattle.std.specs.Prelude.{◌≡◌, [], ◌∷◌, map, option_map, string_bytes};
+ghost use Rattle.std.specs.Prelude.{◌≡◌};
 ghost use Rattle.toml.specs.View.{table_view};
 ghost use Rattle.cargo_toml_parts.specs.Settings.{file_meaning, publish_meaning};
-ghost use Rattle.cargo_toml_write.specs.Trees.{texts_tree};
 ghost use Rattle.cargo_toml_write.specs.WrittenTemplates.{list_row, publish_row, file_row, is_everywhere, is_usual, template_rows};
 ghost use Rattle.cargo_toml_write.specs.Writes.{AddsRow, AddsRows, RefuseRows, TableOf};
 

@@ -1,5 +1,5 @@
 -- What is written at a key is read again.
-use Rattle.std.proofs.Common.{◌≡◌, ℕ, List, [], ◌∷◌, Bool, true, false, Ok, Option, Some, None, option_map, if◌then◌else◌, refl, ap, ◌∙◌}
+use Rattle.std.proofs.Common.{◌≡◌, ℕ, List, [], ◌∷◌, Bool, true, false, Option, Some, None, option_map, if◌then◌else◌, refl, ap, ◌∙◌}
 use Rattle.std.specs.Result.{result_ok}
 use Rattle.semver.specs.Identifiers.{parts_text}
 use Rattle.toml.specs.Data.{Data, string, Members, no_members, get_member, as_str, as_bool}

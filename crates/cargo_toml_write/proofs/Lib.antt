@@ -1,6 +1,7 @@
 pub mod Again
 pub mod Entries
 pub mod Items
+pub mod MapAgain
 pub mod PackageAgain
 pub mod Puts
 pub mod ReadAgainBadges

@@ -1,5 +1,5 @@
 -- The rows of a workspace.
-use Rattle.std.specs.Prelude.{ℕ, List, [], ◌∷◌, codes, Some, length, nat_eq, option_map, String}
+use Rattle.std.specs.Prelude.{◌≡◌, Option, ℕ, List, [], ◌∷◌, codes, Some, length, nat_eq, option_map, String}
 use Rattle.std.specs.BTreeMap.{BTreeMap}
 use Rattle.std.specs.declared.alloc.Global.{Global}
 use Rattle.toml.specs.Data.{Data, string}
@@ -25,6 +25,11 @@ refuses_map written refuses m = RefuseRows (map_rows written refuses m)
 -- a map that is left out where it is empty
 abbrev pub map_unless_empty : {X : Type 0} → List ℕ → (X → Data → Type 0) → (X → Error → Type 0) → BTreeMap (String Global) X → Row
 map_unless_empty key written refuses m = unless (nat_eq (length m.entries) 0) key (MapTree written refuses) (refuses_map written refuses) m
+
+-- every value of the entries is read again from each of its trees
+abbrev pub EachAgain : {X M : Type 0} → (X → Data → Type 0) → (X → M) → (Data → Option M) → List (String Global × X) → Type 0
+EachAgain written meaning reads [] = Unit {0}
+EachAgain written meaning reads (e ∷ es) = ((d : Data) → written e.1 d → reads d ≡ Some (meaning e.1)) × EachAgain written meaning reads es
 
 -- the lints of a tool, by name
 abbrev pub LintSetTree : BTreeMap (String Global) Lint → Data → Type 0

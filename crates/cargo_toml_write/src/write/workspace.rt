@@ -1,15 +1,17 @@
 //! The writer of workspaces.
-ghost use Rattle.std.specs.Prelude.{map, string_bytes};
+ghost use Rattle.std.specs.Prelude.{◌≡◌, map, string_bytes};
+ghost use Rattle.toml.specs.Data.{Data};
+ghost use Rattle.cargo_toml_parts.specs.Reads.{map_of, map_meaning};
 ghost use Rattle.toml.specs.View.{table_view};
 ghost use Rattle.cargo_toml_write.specs.Trees.{texts_tree};
-ghost use Rattle.cargo_toml_write.specs.WrittenWorkspaces.{map_unless_empty, workspace_rows};
+ghost use Rattle.cargo_toml_write.specs.WrittenWorkspaces.{EachAgain, MapTree, map_unless_empty, workspace_rows};
 ghost use Rattle.cargo_toml_write.specs.Writes.{AddsRow, AddsRows, RefuseRows, TableOf, told};
 
 use crate::write::package::put_resolver;
 use crate::write::plain::{put_texts, texts_value};
 use crate::write::{ToValue, WriteRows, put, put_if, put_unless, table_value};
 use cargo_toml_manifest::Workspace;
-use cargo_toml_parts::Error;
+use cargo_toml_parts::{Error, FromValue};
 use std::alloc::Global;
 use std::collections::BTreeMap;
 use toml::{Table, Value};
@@ -63,4 +65,12 @@ impl<Metadata: ToValue> ToValue for Workspace<Metadata> {
     fn to_value(&self, alloc: Global) -> Result<Value, Error> {
         table_value(self, alloc)
     }
+}
+
+// A law: a map is read again from its tables, where each of its values is read again from its trees.
+fn map_again<T: FromValue + ToValue>(x: &BTreeMap<String, T>)
+    ensures { EachAgain T.Written T.meaning T.from_tree x.now.entries → (d : Data)
+        → MapTree T.Written T.write_refuses x.now d → map_of T.from_tree d ≡ Some (map_meaning T.meaning x.now) }
+{
+    drop(x.iter());
 }

@@ -1,0 +1,13 @@
+pub mod Again
+pub mod Entries
+pub mod Items
+pub mod MapAgain
+pub mod PackageAgain
+pub mod Puts
+pub mod ReadAgainBadges
+pub mod ReadAgainProducts
+pub mod ReadAgainRows
+pub mod RowLists
+pub mod Rows
+pub mod Tables
+pub mod TextItems

@@ -1,0 +1,5 @@
+use Rattle.cargo_toml_write.proofs.Items.{ItemsWritten}
+use Rattle.cargo_toml_write.proofs.write.collections.VecToValue.to_value.Given as goal
+
+abbrev pub invariant-loop-x : goal.invariant-loop-x
+invariant-loop-x g l = ItemsWritten _ g.T.ToValue.Written g.T.ToValue.write_refuses l.x-items l.x-index l.values.items

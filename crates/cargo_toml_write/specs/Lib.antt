@@ -1,0 +1,13 @@
+pub mod Trees
+pub mod WrittenBadges
+pub mod WrittenDependencies
+pub mod WrittenLints
+pub mod WrittenManifests
+pub mod WrittenPackages
+pub mod WrittenProducts
+pub mod WrittenProfiles
+pub mod WrittenSettings
+pub mod WrittenTargets
+pub mod WrittenTemplates
+pub mod WrittenWorkspaces
+pub mod Writes

@@ -1,0 +1,8 @@
+//! How a manifest and its parts are written to a tree of TOML.
+#![tactic(auto)]
+
+#[cfg(test)]
+mod tests;
+pub mod write;
+
+pub use write::ToValue;

@@ -1,0 +1,4 @@
+mod manifests;
+mod parts;
+mod settings;
+mod tables;

@@ -1,0 +1,1 @@
+//! Worked rows of tables, and each call once with ample memory.

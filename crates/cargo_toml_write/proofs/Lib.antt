@@ -1,5 +1,7 @@
 pub mod Entries
 pub mod Items
+pub mod LintAgain
+pub mod Others
 pub mod Puts
 pub mod RowLists
 pub mod Rows

@@ -1,9 +1,9 @@
 -- A written badge, and how a package is cared for, read as themselves.
 use Rattle.std.proofs.Common.{◌≡◌, refl, ℕ, List, codes, Some}
 use Rattle.toml.specs.Data.{Data, string, as_str, Members, no_members, get_member}
-use Rattle.cargo_toml_parts.specs.declared.badge.MaintenanceStatus.{MaintenanceStatus}
-use Rattle.cargo_toml_parts.specs.declared.badge.MaintenanceStatus.TheVariants as status
-use Rattle.cargo_toml_parts.specs.Badges.{BadgeMeaning, badge_of, badge_reads, branch_of, status_of, maintenance_of, maintenance_reads}
+use Rattle.cargo_toml_tables.specs.declared.badge.MaintenanceStatus.{MaintenanceStatus}
+use Rattle.cargo_toml_tables.specs.declared.badge.MaintenanceStatus.TheVariants as status
+use Rattle.cargo_toml_tables.specs.Badges.{BadgeMeaning, badge_of, badge_reads, branch_of, status_of, maintenance_of, maintenance_reads}
 use Rattle.cargo_toml_parts.proofs.Steps.{then}
 use Rattle.cargo_toml_write.specs.WrittenBadges.{badge_rows, maintenance_rows}
 use Rattle.cargo_toml_write.specs.WrittenSettings.{status_text}

@@ -1,12 +1,12 @@
 -- The rows of badges.
 use Rattle.std.specs.Prelude.{List, [], ◌∷◌, codes, Some, option_map}
 use Rattle.toml.specs.Data.{Data, string}
-use Rattle.cargo_toml_parts.specs.declared.badge.Badge.{Badge}
-use Rattle.cargo_toml_parts.specs.declared.badge.Badges.{Badges}
-use Rattle.cargo_toml_parts.specs.declared.badge.Maintenance.{Maintenance}
-use Rattle.cargo_toml_parts.specs.declared.badge.MaintenanceStatus.{MaintenanceStatus}
+use Rattle.cargo_toml_tables.specs.declared.badge.Badge.{Badge}
+use Rattle.cargo_toml_tables.specs.declared.badge.Badges.{Badges}
+use Rattle.cargo_toml_tables.specs.declared.badge.Maintenance.{Maintenance}
+use Rattle.cargo_toml_tables.specs.declared.badge.MaintenanceStatus.{MaintenanceStatus}
 use Rattle.cargo_toml_parts.specs.declared.error.Error.{Error}
-use Rattle.cargo_toml_parts.specs.Badges.{BadgeMeaning, badge_meaning}
+use Rattle.cargo_toml_tables.specs.Badges.{BadgeMeaning, badge_meaning}
 use Rattle.cargo_toml_write.specs.WrittenSettings.{status_text}
 use Rattle.cargo_toml_write.specs.Writes.{Row, told, always, if_there, RefuseRows, TableOf}
 

@@ -3,17 +3,17 @@ use Rattle.std.specs.Prelude.{ℕ, List, [], ◌∷◌, Bool, true, false, ◌&&
 use Rattle.std.specs.BTreeMap.{BTreeMap}
 use Rattle.std.specs.declared.alloc.Global.{Global}
 use Rattle.toml.specs.Data.{Data}
-use Rattle.cargo_toml_parts.specs.declared.badge.Badges.{Badges}
-use Rattle.cargo_toml_parts.specs.declared.badge.MaintenanceStatus.{MaintenanceStatus}
-use Rattle.cargo_toml_parts.specs.declared.badge.MaintenanceStatus.TheVariants as status
+use Rattle.cargo_toml_tables.specs.declared.badge.Badges.{Badges}
+use Rattle.cargo_toml_tables.specs.declared.badge.MaintenanceStatus.{MaintenanceStatus}
+use Rattle.cargo_toml_tables.specs.declared.badge.MaintenanceStatus.TheVariants as status
 use Rattle.cargo_toml_parts.specs.declared.error.Error.{Error}
 use Rattle.cargo_toml_parts.specs.declared.inheritable.Inheritable.{Inheritable}
 use Rattle.cargo_toml_parts.specs.declared.inheritable.Inheritable.TheVariants.{Set, Inherited}
-use Rattle.cargo_toml_parts.specs.declared.lint.Lint.{Lint}
-use Rattle.cargo_toml_parts.specs.declared.product.Product.{Product}
-use Rattle.cargo_toml_parts.specs.declared.profile.Profiles.{Profiles}
-use Rattle.cargo_toml_parts.specs.declared.target.Target.{Target}
-use Rattle.cargo_toml_parts.specs.Products.{product_meaning}
+use Rattle.cargo_toml_tables.specs.declared.lint.Lint.{Lint}
+use Rattle.cargo_toml_tables.specs.declared.product.Product.{Product}
+use Rattle.cargo_toml_tables.specs.declared.profile.Profiles.{Profiles}
+use Rattle.cargo_toml_tables.specs.declared.target.Target.{Target}
+use Rattle.cargo_toml_tables.specs.Products.{product_meaning}
 use Rattle.cargo_toml_manifest.specs.declared.manifest.Manifest.{Manifest}
 use Rattle.cargo_toml_manifest.specs.declared.package.Package.{Package}
 use Rattle.cargo_toml_manifest.specs.declared.workspace.Workspace.{Workspace}

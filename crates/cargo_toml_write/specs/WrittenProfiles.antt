@@ -5,9 +5,9 @@ use Rattle.std.specs.declared.alloc.Global.{Global}
 use Rattle.toml.specs.Data.{Data, string, boolean, integer}
 use Rattle.toml.specs.declared.value.Value.{Value}
 use Rattle.cargo_toml_parts.specs.declared.error.Error.{Error}
-use Rattle.cargo_toml_parts.specs.declared.profile.Profile.{Profile}
-use Rattle.cargo_toml_parts.specs.declared.profile.Profiles.{Profiles}
-use Rattle.cargo_toml_parts.specs.Profiles.{profile_meaning}
+use Rattle.cargo_toml_tables.specs.declared.profile.Profile.{Profile}
+use Rattle.cargo_toml_tables.specs.declared.profile.Profiles.{Profiles}
+use Rattle.cargo_toml_tables.specs.Profiles.{profile_meaning}
 use Rattle.cargo_toml_write.specs.Trees.{FreeTree, refuses_float, never, map_rows}
 use Rattle.cargo_toml_write.specs.WrittenSettings.{DebugTree, LtoTree, StripTree}
 use Rattle.cargo_toml_write.specs.Writes.{Row, told, if_there, unless, TableOf, RefuseRows}

@@ -1,10 +1,10 @@
 -- The trees of the enums and settings that stand for one value.
 use Rattle.std.specs.Prelude.{◌≡◌, ℕ, List, codes, pos, map, true, false, string_bytes}
 use Rattle.toml.specs.Data.{Data, string, integer, boolean}
-use Rattle.cargo_toml_parts.specs.declared.badge.MaintenanceStatus.{MaintenanceStatus}
-use Rattle.cargo_toml_parts.specs.declared.badge.MaintenanceStatus.TheVariants as status
-use Rattle.cargo_toml_parts.specs.declared.lint.LintLevel.{LintLevel}
-use Rattle.cargo_toml_parts.specs.declared.lint.LintLevel.TheVariants.{Allow, Warn, ForceWarn, Deny, Forbid}
+use Rattle.cargo_toml_tables.specs.declared.badge.MaintenanceStatus.{MaintenanceStatus}
+use Rattle.cargo_toml_tables.specs.declared.badge.MaintenanceStatus.TheVariants as status
+use Rattle.cargo_toml_tables.specs.declared.lint.LintLevel.{LintLevel}
+use Rattle.cargo_toml_tables.specs.declared.lint.LintLevel.TheVariants.{Allow, Warn, ForceWarn, Deny, Forbid}
 use Rattle.cargo_toml_parts.specs.declared.profile_settings.DebugSetting.{DebugSetting}
 use Rattle.cargo_toml_parts.specs.declared.profile_settings.DebugSetting.TheVariants as debug
 use Rattle.cargo_toml_parts.specs.declared.profile_settings.LtoSetting.{LtoSetting}

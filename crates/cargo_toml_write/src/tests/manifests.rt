@@ -1,7 +1,8 @@
 //! Worked rows of manifests, and each call once with ample memory.
 use crate::ToValue;
 use cargo_toml_manifest::{Manifest, Package, Workspace};
-use cargo_toml_parts::{Error, FromValue, Inheritable, Profile, SemVer};
+use cargo_toml_parts::{Error, FromValue, Inheritable, SemVer};
+use cargo_toml_tables::Profile;
 use std::alloc::Global;
 use std::test::Fail;
 use toml::Value;

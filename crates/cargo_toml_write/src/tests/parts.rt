@@ -1,9 +1,8 @@
 //! Worked rows of parts, and each call once with ample memory.
 use super::settings::is_written_as;
 use cargo_toml_manifest::PackageTemplate;
-use cargo_toml_parts::{
-    Badge, Badges, Edition, Maintenance, MaintenanceStatus, OptionalFile, Product, Publish, SemVer,
-};
+use cargo_toml_parts::{Edition, OptionalFile, Publish, SemVer};
+use cargo_toml_tables::{Badge, Badges, Maintenance, MaintenanceStatus, Product};
 use std::alloc::{AllocError, Global};
 use std::test::Fail;
 

@@ -1,9 +1,10 @@
 //! Worked rows of settings, and each call once with ample memory.
 use crate::ToValue;
 use cargo_toml_parts::{
-    DebugSetting, Edition, Error, FromValue, LintLevel, LtoSetting, MaintenanceStatus,
-    OptionalFile, Publish, Resolver, StripSetting,
+    DebugSetting, Edition, Error, FromValue, LtoSetting, OptionalFile, Publish, Resolver,
+    StripSetting,
 };
+use cargo_toml_tables::{LintLevel, MaintenanceStatus};
 use std::alloc::Global;
 use std::test::Fail;
 use toml::Value;

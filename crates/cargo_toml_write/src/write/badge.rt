@@ -2,14 +2,15 @@
 ghost use Rattle.std.specs.Prelude.{◌≡◌, Some, IfOk};
 ghost use Rattle.toml.specs.Data.{string};
 ghost use Rattle.toml.specs.View.{view, table_view};
-ghost use Rattle.cargo_toml_parts.specs.Badges.{badge_meaning, badge_reads, maintenance_reads};
+ghost use Rattle.cargo_toml_tables.specs.Badges.{badge_meaning, badge_reads, maintenance_reads};
 ghost use Rattle.cargo_toml_write.specs.WrittenBadges.{badge_rows, maintenance_rows, badges_rows, BadgeTree, refuses_badge, MaintenanceTree, refuses_maintenance};
 ghost use Rattle.cargo_toml_write.specs.WrittenSettings.{status_text};
 ghost use Rattle.cargo_toml_write.specs.Writes.{IsWriting, AddsRow, AddsRows, RefuseRows, TableOf, told};
 
 use crate::write::plain::{put_text, put_text_if};
 use crate::write::{ToValue, WriteRows, put, put_if, put_value, table_value};
-use cargo_toml_parts::{Badge, Badges, Error, Maintenance, MaintenanceStatus};
+use cargo_toml_parts::Error;
+use cargo_toml_tables::{Badge, Badges, Maintenance, MaintenanceStatus};
 use std::alloc::Global;
 use toml::{Table, Value};
 

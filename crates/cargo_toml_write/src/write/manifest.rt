@@ -7,9 +7,8 @@ ghost use Rattle.cargo_toml_write.specs.Writes.{AddsRow, AddsRows, RefuseRows, T
 use crate::write::workspace::put_map;
 use crate::write::{ToValue, WriteRows, put_if, put_unless, table_value};
 use cargo_toml_manifest::Manifest;
-use cargo_toml_parts::{
-    Badges, Error, FromValue, Inheritable, LintGroups, MaintenanceStatus, Profiles,
-};
+use cargo_toml_parts::{Error, FromValue, Inheritable};
+use cargo_toml_tables::{Badges, LintGroups, MaintenanceStatus, Profiles};
 use std::alloc::Global;
 use toml::{Table, Value};
 

@@ -7,7 +7,8 @@ ghost use Rattle.cargo_toml_write.specs.Writes.{AddsRow, AddsRows, RefuseRows, T
 
 use crate::write::plain::put_text_if;
 use crate::write::{ToValue, WriteRows, put, put_if, put_unless, table_value};
-use cargo_toml_parts::{Error, Profile, Profiles};
+use cargo_toml_parts::Error;
+use cargo_toml_tables::{Profile, Profiles};
 use std::alloc::Global;
 use std::collections::BTreeMap;
 use toml::{Table, Value};

@@ -1,4 +1,4 @@
-use Rattle.cargo_toml_parts.specs.Badges.{badge_meaning}
+use Rattle.cargo_toml_tables.specs.Badges.{badge_meaning}
 use Rattle.cargo_toml_write.proofs.ReadAgainBadges.{badge_again}
 use Rattle.cargo_toml_write.proofs.ReadAgainRows.{written_then}
 use Rattle.cargo_toml_write.proofs.write.badge.BadgeToValue.to_value.Goals as goal

@@ -1,4 +1,4 @@
-use Rattle.cargo_toml_parts.specs.Products.{product_meaning}
+use Rattle.cargo_toml_tables.specs.Products.{product_meaning}
 use Rattle.cargo_toml_write.proofs.ReadAgainProducts.{product_again}
 use Rattle.cargo_toml_write.proofs.ReadAgainRows.{written_then}
 use Rattle.cargo_toml_write.proofs.write.product.ProductToValue.to_value.Goals as goal

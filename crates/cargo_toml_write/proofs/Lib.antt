@@ -1,7 +1,9 @@
 pub mod Again
 pub mod Entries
 pub mod Items
+pub mod LintAgain
 pub mod MapAgain
+pub mod Others
 pub mod PackageAgain
 pub mod Puts
 pub mod ReadAgainBadges

@@ -1,5 +1,5 @@
 -- A lint that was written is read again.
-use Rattle.std.proofs.Common.{◌≡◌, Bool, true, false, ◌&&◌, nat_eq, Option, Some, None, option_map, option_and_then, sym, ap, refl, ◌∙◌, ℕ, ℤ, pos, List, [], ◌∷◌, map, length, codes, string_bytes, String, Global, arith, negsuc, int_le, w8, FitsSigned}
+use Rattle.std.proofs.Common.{◌≡◌, Bool, true, false, ◌&&◌, nat_eq, Some, ap, refl, ◌∙◌, ℕ, ℤ, pos, List, [], ◌∷◌, map, length, codes, string_bytes, String, Global, arith, negsuc, int_le, w8, FitsSigned}
 use Rattle.std.specs.Ordering.{int_eq}
 use Rattle.std.proofs.lemmas.Bool.{false≢true, eqb-true}
 use Rattle.std.proofs.lemmas.List.Elements.{recursion_from_All}
@@ -11,8 +11,7 @@ use Rattle.std.specs.List.{AllZip}
 use Rattle.toml.specs.declared.value.Value.{Value, Table}
 use Rattle.toml.specs.Data.{Data, Members, string, integer, table, get_member}
 use Rattle.toml.specs.View.{view, table_view, members_view}
-use Rattle.toml.proofs.Views.{Entry, view-Table, view-Integer}
-use Rattle.cargo_toml_parts.specs.declared.error.Error.{Error}
+use Rattle.toml.proofs.Views.{Entry, view-Table}
 use Rattle.cargo_toml_parts.proofs.Steps.{then}
 use Rattle.cargo_toml_tables.specs.declared.lint.Lint.{Lint}
 use Rattle.cargo_toml_tables.specs.declared.lint.LintLevel.{LintLevel}
@@ -20,8 +19,8 @@ use Rattle.cargo_toml_tables.specs.declared.lint.LintLevel.TheVariants.{Allow, W
 use Rattle.cargo_toml_tables.specs.Lints.{LintMeaning, lint_meaning, lint_keys, level_of, level_alone, table_lint, lint_of}
 use Rattle.cargo_toml_parts.specs.Numbers.{i8_of}
 use Rattle.cargo_toml_parts.specs.Reads.{required_at, given_at, others_read}
-use Rattle.cargo_toml_write.specs.Writes.{put, IsWriting}
-use Rattle.cargo_toml_write.specs.WrittenLints.{is_level_alone, lint_table, LintTable, refuses_lint, IsApart}
+use Rattle.cargo_toml_write.specs.Writes.{put}
+use Rattle.cargo_toml_write.specs.WrittenLints.{is_level_alone, lint_table, IsApart}
 use Rattle.cargo_toml_write.specs.WrittenSettings.{level_text, LevelTree}
 use Rattle.cargo_toml_write.proofs.Others.{others_put, others_all}
 use Rattle.cargo_toml_write.proofs.Tables.{get_put-same, get_put-other}

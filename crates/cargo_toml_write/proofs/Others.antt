@@ -1,9 +1,8 @@
 -- Which other keys a table has after a named key was put into it.
-use Rattle.std.proofs.Common.{◌≡◌, Bool, true, false, Option, Some, None, option_map, option_and_then, if◌then◌else◌, sym, ap, subst, refl, ◌∙◌, ℕ, List, [], ◌∷◌, map, is_eq, Ordering, Less, Equal, Greater, string_bytes, nat_cmp}
+use Rattle.std.proofs.Common.{◌≡◌, true, false, Option, Some, sym, ap, subst, refl, ◌∙◌, ℕ, List, [], ◌∷◌, map, is_eq, Ordering, Less, Equal, Greater, string_bytes, nat_cmp}
 use Rattle.std.specs.Cmp.Lexicographic.{slice_cmp}
 use Rattle.std.specs.Ordering.{match_ordering}
 use Rattle.std.specs.List.{AllByRecursion}
-use Rattle.std.specs.Str.{bytes_eq}
 use Rattle.std.proofs.lemmas.Map.Text.{is_eq-slice_cmp}
 use Rattle.std.proofs.lemmas.Slice.Eq.{bytes_eq-Decides}
 use Rattle.toml.specs.Data.{Data, Members, no_members, member}

@@ -2,7 +2,6 @@ use Rattle.std.proofs.Common.{◌≡◌, rules, subst, Some}
 use Rattle.toml.specs.Data.{integer}
 use Rattle.toml.specs.View.{view}
 use Rattle.cargo_toml_parts.specs.Numbers.{i8_of}
-use Rattle.cargo_toml_write.specs.WrittenLints.{lint_table}
 use Rattle.cargo_toml_write.proofs.LintAgain.{is_table, table_read}
 use Rattle.cargo_toml_write.proofs.write.lint.lint_table.Goals as goal
 

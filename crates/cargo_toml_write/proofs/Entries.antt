@@ -1,5 +1,5 @@
 -- A map that is written entry by entry.
-use Rattle.std.proofs.Common.{◌≡◌, ◌⊎◌, inl, inr, List, [], ◌∷◌, Result, Ok, Err, String, Global, string_bytes, refl}
+use Rattle.std.proofs.Common.{◌≡◌, ◌⊎◌, inl, inr, List, [], ◌∷◌, Ok, String, Global, string_bytes, refl}
 use Rattle.toml.specs.Data.{Data, Members}
 use Rattle.cargo_toml_parts.specs.declared.error.Error.{Error, Memory}
 use Rattle.cargo_toml_write.specs.Trees.{entry_rows}

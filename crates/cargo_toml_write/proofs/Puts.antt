@@ -1,10 +1,9 @@
 -- What each key of a table holds that was written key by key.
 use Rattle.std.proofs.Common.{◌≡◌, Bool, true, false, cond, Option, Some, None, is_eq, sym, ap, ℕ, List, [], ◌∷◌, nat_cmp, refl, ◌∙◌}
 use Rattle.std.specs.Cmp.Lexicographic.{slice_cmp}
-use Rattle.std.specs.Str.{bytes_eq}
 use Rattle.std.proofs.lemmas.Map.Text.{is_eq-slice_cmp}
 use Rattle.std.proofs.lemmas.Slice.Eq.{bytes_eq-Decides}
-use Rattle.toml.specs.Data.{Data, Members, no_members, get_member}
+use Rattle.toml.specs.Data.{Data, Members, get_member}
 use Rattle.cargo_toml_write.specs.Writes.{put, put_some}
 use Rattle.cargo_toml_write.proofs.Tables.{get_put-same, get_put-other}
 

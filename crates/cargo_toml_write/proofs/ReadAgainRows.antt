@@ -3,7 +3,7 @@ use Prim.Native.String.{String as Words}
 use Rattle.std.proofs.Common.{◌≡◌, ◌∙◌, refl, ap, Bool, true, false, cond, ℕ, List, [], ◌∷◌, codes, nat_cmp, is_eq, Option, Some, None, option_map, Result, Ok, Err, IfOk}
 use Rattle.std.specs.Bool.{MatchBool}
 use Rattle.std.specs.Cmp.Lexicographic.{slice_cmp}
-use Rattle.toml.specs.Data.{Data, string, table, Members, get_member, as_str}
+use Rattle.toml.specs.Data.{Data, string, Members, get_member, as_str}
 use Rattle.cargo_toml_parts.specs.declared.error.Error.{Error}
 use Rattle.cargo_toml_parts.specs.Reads.{items_reads, list_at, flag_at, optional_at, required_at, text_at}
 use Rattle.cargo_toml_write.specs.Trees.{flag_unless, text_items, texts_tree, texts_unless_empty}

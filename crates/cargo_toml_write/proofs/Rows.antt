@@ -1,6 +1,6 @@
 -- Rows that are written one after the other.
 use Rattle.std.proofs.Common.{◌≡◌, ◌⊎◌, inl, inr, ℕ, List, [], ◌∷◌, Result, Ok, Err, OnOk, IfErr, Option, Some, None}
-use Rattle.toml.specs.Data.{Data, table, Members, no_members}
+use Rattle.toml.specs.Data.{Data, Members, no_members}
 use Rattle.cargo_toml_parts.specs.declared.error.Error.{Error, Memory}
 use Rattle.cargo_toml_write.specs.Writes.{Row, AreWritten, RefuseRow, RefuseRows, AddsRow, TableOf, put, always, OfSome}
 

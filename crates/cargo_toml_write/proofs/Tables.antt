@@ -1,5 +1,5 @@
 -- What an insert into the map of a table does to its members.
-use Rattle.std.proofs.Common.{◌≡◌, Bool, true, false, Option, Some, None, is_eq, sym, ap, ℕ, List, [], ◌∷◌, String, Global, Ordering, Less, Equal, Greater, string_bytes, nat_cmp, refl, ◌∙◌}
+use Rattle.std.proofs.Common.{◌≡◌, true, false, Option, Some, is_eq, sym, ap, ℕ, List, [], ◌∷◌, String, Global, Ordering, Less, Equal, Greater, string_bytes, nat_cmp, refl, ◌∙◌}
 use Rattle.std.specs.Cmp.Lexicographic.{slice_cmp}
 use Rattle.std.specs.Ordering.{match_ordering, ordering_reverse}
 use Rattle.std.specs.Cmp.{tied_itself}

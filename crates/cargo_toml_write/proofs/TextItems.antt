@@ -1,6 +1,6 @@
 -- A list of texts that is written text by text.
 use Rattle.std.proofs.Common.{◌≡◌, ℕ, ◌+◌, ◌<◌, get_or, List, [], ◌∷◌, ◌++◌, map, length, drop, String, Global, string_bytes, sym, ap, ◌∙◌, append_assoc}
-use Rattle.toml.specs.Data.{Data, string, array, Items}
+use Rattle.toml.specs.Data.{string}
 use Rattle.toml.specs.View.{view, items_view}
 use Rattle.toml.specs.declared.value.Value.{Value}
 use Rattle.cargo_toml_write.specs.Trees.{text_items}

@@ -13,7 +13,7 @@ use Rattle.cargo_toml_parts.specs.declared.inheritable.Inheritable.{Inheritable}
 use Rattle.cargo_toml_parts.specs.declared.inheritable.Inheritable.TheVariants.{Set, Inherited}
 use Rattle.cargo_toml_parts.specs.Faults.{IsOther, floats_unsupported}
 use Rattle.cargo_toml_parts.specs.Floats.{has_no_float}
-use Rattle.cargo_toml_write.specs.Writes.{Row, always, TableOf, RefuseRows}
+use Rattle.cargo_toml_write.specs.Writes.{Row, always}
 
 -- a value that always has a tree
 abbrev pub never : {X : Type 0} → X → Error → Type 0

@@ -1,9 +1,10 @@
 //! Worked rows of tables, and each call once with ample memory.
 use super::settings::is_written_as;
 use crate::ToValue;
-use cargo_toml_parts::{
-    DebugSetting, Dependency, DependencyDetail, Error, InheritedDependencyDetail, Lint, LintLevel,
-    LtoSetting, Profile, Profiles, StripSetting, Target, VersionReq,
+use cargo_toml_parts::{DebugSetting, Error, LtoSetting, StripSetting, VersionReq};
+use cargo_toml_tables::{
+    Dependency, DependencyDetail, InheritedDependencyDetail, Lint, LintLevel, Profile, Profiles,
+    Target,
 };
 use std::alloc::{AllocError, Global};
 use std::collections::BTreeMap;

@@ -1,4 +1,4 @@
-use Rattle.toml.specs.View.{view, table_view}
+use Rattle.toml.specs.View.{view}
 use Rattle.std.proofs.lemmas.Result.{err_from_is_err_and}
 use Rattle.cargo_toml_write.proofs.Rows.{is_put, is_refused}
 use Rattle.cargo_toml_write.proofs.write.put_value.Goals as goal

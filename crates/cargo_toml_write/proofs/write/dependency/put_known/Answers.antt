@@ -1,6 +1,4 @@
 use Rattle.std.proofs.Common.{refl}
-use Rattle.std.proofs.lemmas.Result.{err_from_is_err_and}
-use Rattle.cargo_toml_write.proofs.Rows.{stop, later}
 use Rattle.cargo_toml_write.proofs.write.dependency.put_known.Goals as goal
 
 pub returns : goal.returns

@@ -1,7 +1,7 @@
 use Rattle.std.proofs.Common.{ap, arith, ◌∙◌}
 use Rattle.toml.proofs.Views.{view-Array}
 use Rattle.toml.specs.Data.{array}
-use Rattle.cargo_toml_write.proofs.TextItems.{texts_end, texts_step}
+use Rattle.cargo_toml_write.proofs.TextItems.{texts_end}
 use Rattle.cargo_toml_write.proofs.write.plain.texts_value.Goals as goal
 
 pub returns : goal.returns

@@ -2,3 +2,5 @@
 #![tactic(auto)]
 
 pub mod report;
+#[cfg(test)]
+mod written;

@@ -18,12 +18,14 @@ mod questions;
 
 use crate::package::Package;
 use crate::workspace::Workspace;
-use cargo_toml_tables::feature::features;
 use cargo_toml_parts::floats::table_has_no_float;
 use cargo_toml_parts::read::{Read, as_table, given, list, map, optional};
 use cargo_toml_parts::value::floats_unsupported;
 use cargo_toml_parts::{Error, FromValue, Inheritable, Publish};
-use cargo_toml_tables::{Badges, DepsSet, FeatureSet, LintGroups, PatchSet, Product, Profiles, TargetDepsSet};
+use cargo_toml_tables::feature::features;
+use cargo_toml_tables::{
+    Badges, DepsSet, FeatureSet, LintGroups, PatchSet, Product, Profiles, TargetDepsSet,
+};
 use std::alloc::Global;
 use std::collections::BTreeMap;
 use std::str;

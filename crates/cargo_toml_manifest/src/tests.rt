@@ -2,7 +2,10 @@
 mod questions;
 
 use crate::{Manifest, Package, PackageTemplate, Workspace};
-use cargo_toml_parts::{DebugSetting, Edition, Error, FromValue, Inheritable, OptionalFile, ParseFault, Publish, Resolver};
+use cargo_toml_parts::{
+    DebugSetting, Edition, Error, FromValue, Inheritable, OptionalFile, ParseFault, Publish,
+    Resolver,
+};
 use cargo_toml_tables::{Dependency, DepsSet, FeatureSet, LintLevel, MaintenanceStatus, Product};
 use semver::Version;
 use std::alloc::Global;

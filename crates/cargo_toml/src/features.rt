@@ -7,8 +7,6 @@ mod questions;
 mod read;
 mod record;
 mod recursive;
-#[cfg(test)]
-mod tests;
 
 ghost use Rattle.std.specs.Prelude.{◌≡◌, ℕ, [], true, map, IfOk, IfErr};
 ghost use Rattle.cargo_toml_parts.specs.declared.error.Error.{Memory};

@@ -3,4 +3,4 @@
 
 pub mod report;
 #[cfg(test)]
-mod written;
+mod tests;

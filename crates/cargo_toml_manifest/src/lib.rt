@@ -4,8 +4,6 @@
 pub mod manifest;
 pub mod package;
 pub mod template;
-#[cfg(test)]
-mod tests;
 pub mod workspace;
 
 pub use manifest::Manifest;

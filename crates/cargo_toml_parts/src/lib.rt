@@ -20,6 +20,3 @@ pub use semver::{Version as SemVer, VersionReq};
 pub use settings::{Edition, OptionalFile, Publish, Resolver};
 pub use toml::Value;
 pub use value::FromValue;
-
-#[cfg(test)]
-mod tests;

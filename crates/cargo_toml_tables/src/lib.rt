@@ -18,6 +18,3 @@ pub use lint::{Lint, LintGroups, LintLevel, LintSet};
 pub use product::Product;
 pub use profile::{Profile, Profiles};
 pub use target::{DepsSet, FeatureSet, PatchSet, Target, TargetDepsSet};
-
-#[cfg(test)]
-mod tests;

@@ -1,8 +1,6 @@
 //! How a manifest and its parts are written to a tree of TOML.
 #![tactic(auto)]
 
-#[cfg(test)]
-mod tests;
 pub mod write;
 
 pub use write::ToValue;

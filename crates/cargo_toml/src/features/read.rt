@@ -137,6 +137,3 @@ pub fn read_features<'m, S: BuildHasher + Clone>(
     add_default(alloc, &mut features)?;
     Ok(Read { features, acted })
 }
-
-#[cfg(test)]
-mod tests;

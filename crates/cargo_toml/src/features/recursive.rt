@@ -118,6 +118,3 @@ impl<'a> Feature<'a> {
         Ok((found, dependencies))
     }
 }
-
-#[cfg(test)]
-mod tests;

@@ -1,8 +1,6 @@
-// Each text of a lint's level and of a maintenance status.
+//! Each text of a lint's level and of a maintenance status.
 use super::{read, refused};
-use crate::badge::MaintenanceStatus;
-use crate::lint::LintLevel;
-use cargo_toml_parts::Error;
+use cargo_toml::{LintLevel, MaintenanceStatus};
 use std::test::Fail;
 
 #[test]

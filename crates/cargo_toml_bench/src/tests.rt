@@ -1,11 +1,28 @@
-//! Tests: what no clause says, and values from the formats of Cargo.
-use crate::error::{Error, ParseFault};
-use crate::value::FromValue;
-use std::alloc::Global;
-
+//! Tests over the public crate: worked rows, printed texts, and each call once with ample memory at a concrete type. They stand
+//! together here, since a crate with tests is proved twice.
+mod dependencies;
 mod faults;
-mod questions;
+mod features;
+mod keys;
+mod levels;
+mod manifests;
+mod packages;
+mod recursion;
 mod settings;
+mod types;
+mod values;
+mod written;
+
+use cargo_toml::{Error, FromValue, ParseFault};
+use std::alloc::{AllocError, Global};
+use std::process::Abort;
+
+// A list of one text.
+fn texts(alloc: Global, item: &str) -> Result<Vec<String>, AllocError> {
+    let mut all = Vec::new(alloc);
+    all.push(String::from_str(alloc, item)?)?;
+    Ok(all)
+}
 
 // What reads at a key of a document.
 fn at<T: FromValue>(alloc: Global, document: &str, key: &str) -> Result<T, Error> {
@@ -35,5 +52,12 @@ fn refused<T: Drop>(answer: &Result<T, Error>) -> &'static str {
     match answer {
         Ok(_) => "no fault",
         Err(fault) => shape(fault),
+    }
+}
+
+fn assert_list(rt: &impl Abort, list: &[String], want: &[&str]) {
+    assert_eq!(rt; list.len(), want.len());
+    for (text, name) in list.iter().zip(want.iter()) {
+        assert_eq!(rt; text.as_str(), *name);
     }
 }

@@ -1,6 +1,6 @@
-use crate::features::{DepAction, Feature, Features, Resolver};
-use cargo_toml_manifest::Manifest;
-use cargo_toml_tables::Dependency;
+//! Worked rows of `parse`.
+use cargo_toml::features::{DepAction, Feature, Features, Resolver};
+use cargo_toml::{Dependency, Manifest};
 use std::alloc::{AllocError, Global};
 use std::collections::{BTreeSet, HashMap};
 use std::hash::BuildHasher;

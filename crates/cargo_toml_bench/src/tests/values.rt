@@ -1,23 +1,8 @@
-// What is asked of values and settings, and what faults print.
-use crate::{Edition, Error, Inheritable, OptionalFile, Publish};
-use std::alloc::{AllocError, AllocFailed, Global};
+//! What is asked of values that may be inherited, of optional files and of publishing.
+use super::texts;
+use cargo_toml::{Edition, Inheritable, OptionalFile, Publish};
 use std::collections::BTreeMap;
-use std::io;
 use std::test::Fail;
-
-fn text(alloc: Global, text: &str) -> Result<String, AllocError> {
-    String::from_str(alloc, text)
-}
-
-fn texts(alloc: Global, item: &str) -> Result<Vec<String>, AllocError> {
-    let mut all = Vec::new(alloc);
-    all.push(String::from_str(alloc, item)?)?;
-    Ok(all)
-}
-
-fn wrapped(alloc: Global, fault: Error, path: Option<String>) -> Result<Error, AllocError> {
-    Ok(Error::Workspace(Box::new(alloc, (fault, path))?))
-}
 
 #[test]
 fn eq_bool_of_lists_and_flags(rt: HostRuntime) -> Result<(), Fail> {
@@ -72,48 +57,11 @@ fn empty_lists_and_maps(rt: HostRuntime) {
 
 #[test]
 fn optional_files(rt: HostRuntime) -> Result<(), Fail> {
-    let named = OptionalFile::Path(text(rt.alloc(), "R.md")?);
+    let named = OptionalFile::Path(String::from_str(rt.alloc(), "R.md")?);
     assert_eq!(rt; named.display(), "R.md");
     assert_eq!(rt; named.as_path(), Some("R.md"));
     assert!(rt; named.is_some());
     assert_eq!(rt; OptionalFile::Flag(true).display(), "<default>");
     assert_eq!(rt; OptionalFile::Flag(false).display(), "<disabled>");
     Ok(())
-}
-
-#[test]
-fn clones_of_faults(rt: HostRuntime) -> Result<(), Fail> {
-    let alloc = rt.alloc();
-    let text = String::from_str(alloc, "Not a Workspace.")?;
-    let path = Some(String::from_str(alloc, "/w")?);
-    let fault = wrapped(
-        alloc,
-        wrapped(alloc, Error::WorkspaceIntegrity(text), path)?,
-        None,
-    )?;
-    assert_eq!(rt;
-        format!(in alloc; "{}", fault.clone()?)?.as_str(),
-        "can't load root workspace: can't load root workspace at /w: Not a Workspace."
-    );
-    let Err(inner) = toml::table_from_str(alloc, "[package") else {
-        return Err("read")?;
-    };
-    let words = format!(in alloc; "{inner}")?;
-    assert_eq!(rt;
-        format!(in alloc; "{}", Error::from(inner).clone()?)?.as_str(),
-        words.as_str()
-    );
-    let inner = io::Error::from(io::ErrorKind::NotFound);
-    let words = format!(in alloc; "{inner}")?;
-    assert_eq!(rt;
-        format!(in alloc; "{}", Error::from(inner).clone()?)?.as_str(),
-        words.as_str()
-    );
-    Ok(())
-}
-
-#[test]
-fn want_of_memory_from_below(rt: HostRuntime) {
-    assert!(rt; matches!(Error::from(AllocError), Error::Memory));
-    assert!(rt; matches!(Error::from(AllocFailed { value: 1u8 }), Error::Memory));
 }

@@ -1,26 +1,10 @@
 //! Worked rows of settings, and each call once with ample memory.
-use crate::ToValue;
-use cargo_toml_parts::{
-    DebugSetting, Edition, Error, FromValue, LtoSetting, OptionalFile, Publish, Resolver,
+use super::is_written_as;
+use cargo_toml::{
+    DebugSetting, Edition, LintLevel, LtoSetting, MaintenanceStatus, OptionalFile, Publish, Resolver,
     StripSetting,
 };
-use cargo_toml_tables::{LintLevel, MaintenanceStatus};
-use std::alloc::Global;
 use std::test::Fail;
-use toml::Value;
-
-// Whether the value is written as this tree, which reads as the value again.
-pub fn is_written_as<T: ToValue + FromValue + PartialEq>(
-    alloc: Global,
-    x: &T,
-    tree: &str,
-) -> Result<bool, Error> {
-    let written = x.to_value(alloc)?;
-    if written != Value::from_str(alloc, tree)? {
-        return Ok(false);
-    }
-    Ok(T::from_value(alloc, written)? == *x)
-}
 
 #[test]
 fn editions_and_resolvers(rt: HostRuntime) -> Result<(), Fail> {

@@ -1,32 +1,11 @@
 //! Each type read once from a document, and what it is where nothing is given.
 use super::{at, refused};
-use crate::badge::{Badge, Badges, Maintenance, MaintenanceStatus};
-use crate::dependency::{Dependency, DependencyDetail, InheritedDependencyDetail};
-use crate::feature::features;
-use crate::lint::{LintGroups, LintLevel, LintSet};
-use crate::product::Product;
-use crate::profile::{Profile, Profiles};
-use crate::target::{DepsSet, FeatureSet, PatchSet, Target, TargetDepsSet};
-use cargo_toml_parts::{DebugSetting, Edition, Error, Inheritable};
-use semver::{Version, VersionReq};
-use std::alloc::Global;
+use cargo_toml::{
+    Badge, Badges, Dependency, DependencyDetail, Edition, Error, Inheritable,
+    InheritedDependencyDetail, LintGroups, LintLevel, LintSet, Maintenance, MaintenanceStatus, PatchSet,
+    Product, Profile, Profiles, SemVer, Target, TargetDepsSet, VersionReq,
+};
 use std::test::Fail;
-use toml::Value;
-
-#[test]
-fn badges_that_do_not_read(rt: HostRuntime) -> Result<(), Fail> {
-    let document = "[badges]\nappveyor = { branch = \"x\" }\nmaintenance = { status = \"gone\" }\n";
-    let badges: Badges = at(rt.alloc(), document, "badges")?;
-    assert!(rt; badges.appveyor.is_none());
-    assert_eq!(rt; badges.maintenance.status, MaintenanceStatus::None);
-    Ok(())
-}
-
-#[test]
-fn badges_no_table(rt: HostRuntime) {
-    let answer: Result<Badges, Error> = at(rt.alloc(), "badges = 1", "badges");
-    assert_eq!(rt; refused(&answer), "value has the wrong shape");
-}
 
 #[test]
 fn badges_that_read(rt: HostRuntime) -> Result<(), Fail> {
@@ -53,20 +32,6 @@ maintenance = { status = 'as-is' }
     let answer: Result<Maintenance, Error> = at(rt.alloc(), "x = {}", "x");
     assert_eq!(rt; refused(&answer), "value has the wrong shape");
     Ok(())
-}
-
-#[test]
-fn proc_macro_underscore(rt: HostRuntime) -> Result<(), Fail> {
-    let library: Product = at(rt.alloc(), "[lib]\nproc_macro = true\n", "lib")?;
-    assert!(rt; library.proc_macro);
-    Ok(())
-}
-
-#[test]
-fn proc_macro_both_spellings(rt: HostRuntime) {
-    let document = "[lib]\nproc_macro = true\nproc-macro = true\n";
-    let answer: Result<Product, Error> = at(rt.alloc(), document, "lib");
-    assert_eq!(rt; refused(&answer), "value has the wrong shape");
 }
 
 #[test]
@@ -102,13 +67,6 @@ im-a-teapot = true
 }
 
 #[test]
-fn lint_priority_too_large(rt: HostRuntime) {
-    let document = "[lints.rust]\nx = { level = \"warn\", priority = 200 }\n";
-    let answer: Result<LintGroups, Error> = at(rt.alloc(), document, "lints");
-    assert_eq!(rt; refused(&answer), "value has the wrong shape");
-}
-
-#[test]
 fn lints_read(rt: HostRuntime) -> Result<(), Fail> {
     let document = "[lints.rust]
 a = 'force-warn'
@@ -125,31 +83,6 @@ b = { level = 'deny', priority = -128, check-cfg = [] }
     assert_eq!(rt; b.priority, -128);
     assert!(rt; b.config.contains_key("check-cfg"));
     assert_eq!(rt; b.config.len(), 1);
-    Ok(())
-}
-
-#[test]
-fn custom_profile_codegen_units(rt: HostRuntime) -> Result<(), Fail> {
-    let document = "[profile.fast]\ncodegen-units = 65535\n";
-    let profiles: Profiles = at(rt.alloc(), document, "profile")?;
-    let fast = profiles.custom.get("fast").ok_or("no profile")?;
-    assert_eq!(rt; fast.codegen_units, Some(65535));
-    Ok(())
-}
-
-#[test]
-fn codegen_units_too_large(rt: HostRuntime) {
-    let document = "[profile.fast]\ncodegen-units = 65536\n";
-    let answer: Result<Profiles, Error> = at(rt.alloc(), document, "profile");
-    assert_eq!(rt; refused(&answer), "value has the wrong shape");
-}
-
-#[test]
-fn debug_line_tables_only(rt: HostRuntime) -> Result<(), Fail> {
-    let document = "[profile.dev]\ndebug = \"line-tables-only\"\n";
-    let profiles: Profiles = at(rt.alloc(), document, "profile")?;
-    let dev = profiles.dev.as_ref().ok_or("no profile")?;
-    assert_eq!(rt; dev.debug, Some(DebugSetting::Lines));
     Ok(())
 }
 
@@ -193,39 +126,6 @@ build-override = { opt-level = 0 }
 }
 
 #[test]
-fn feature_table_read(rt: HostRuntime) -> Result<(), Fail> {
-    let document =
-        "[features]\nf = { enables = [\"a\"], public = false }\ng = [\"f\", \"dep:b\"]\n";
-    let table = toml::table_from_str(rt.alloc(), document)?;
-    let read: FeatureSet = features(rt.alloc(), &table)?;
-    let f = read.get("f").ok_or("no feature")?;
-    assert_eq!(rt; f.len(), 1);
-    assert_eq!(rt; f[0].as_str(), "a");
-    let g = read.get("g").ok_or("no feature")?;
-    assert_eq!(rt; g.len(), 2);
-    Ok(())
-}
-
-#[test]
-fn feature_table_wrong_public(rt: HostRuntime) -> Result<(), Fail> {
-    let table = toml::table_from_str(rt.alloc(), "[features]\nf = { public = 1 }\n")?;
-    let answer = features(rt.alloc(), &table);
-    assert_eq!(rt; refused(&answer), "value has the wrong shape");
-    Ok(())
-}
-
-#[test]
-fn workspace_false_dependency(rt: HostRuntime) -> Result<(), Fail> {
-    let document = "[dependencies]\nd = { workspace = false, optional = true }\n";
-    let dependencies: DepsSet = at(rt.alloc(), document, "dependencies")?;
-    let Dependency::Inherited(d) = dependencies.get("d").ok_or("no dependency")? else {
-        return Err("not inherited")?;
-    };
-    assert!(rt; d.optional && !d.workspace && d.features.is_empty());
-    Ok(())
-}
-
-#[test]
 fn dependencies_of_each_kind(rt: HostRuntime) -> Result<(), Fail> {
     let document = "[target.'cfg(unix)'.dependencies]
 a = '1.2'
@@ -262,7 +162,7 @@ c = { version = '2', package = 'q', default-features = false, public = true, wor
 
 #[test]
 fn inherited_values(rt: HostRuntime) -> Result<(), Fail> {
-    let version: Inheritable<Version> = at(rt.alloc(), "version = '1.2.3'", "version")?;
+    let version: Inheritable<SemVer> = at(rt.alloc(), "version = '1.2.3'", "version")?;
     let Inheritable::Set(version) = &version else {
         return Err("not set")?;
     };
@@ -273,7 +173,7 @@ fn inherited_values(rt: HostRuntime) -> Result<(), Fail> {
         "edition",
     )?;
     assert!(rt; matches!(edition, Inheritable::Inherited));
-    let answer: Result<Inheritable<Version>, Error> = at(
+    let answer: Result<Inheritable<SemVer>, Error> = at(
         rt.alloc(),
         "version = { workspace = false }",
         "version",
@@ -282,7 +182,7 @@ fn inherited_values(rt: HostRuntime) -> Result<(), Fail> {
         refused(&answer),
         "inherited field with `workspace = false` is not allowed"
     );
-    let answer: Result<Inheritable<Version>, Error> = at(rt.alloc(), "version = 1", "version");
+    let answer: Result<Inheritable<SemVer>, Error> = at(rt.alloc(), "version = 1", "version");
     assert_eq!(rt; refused(&answer), "value has the wrong shape");
     let requirement: VersionReq = at(rt.alloc(), "version = '>=1, <2'", "version")?;
     assert_eq!(rt; requirement.comparators.len(), 2);

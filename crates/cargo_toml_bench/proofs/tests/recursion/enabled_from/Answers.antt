@@ -2,7 +2,7 @@ use Rattle.std.proofs.Common.{◌≡◌, Some, is_some, sym, ap, ◌∙◌}
 use Rattle.std.specs.Option.{option_copied}
 use Rattle.cargo_toml.specs.Views.{value_at}
 use Rattle.cargo_toml.proofs.Pending.{key_of}
-use Rattle.cargo_toml.proofs.features.recursive.tests.enabled_from.Goals as goal
+use Rattle.cargo_toml_bench.proofs.tests.recursion.enabled_from.Goals as goal
 
 pub enables_recursive-requires-clause-start : goal.enables_recursive-requires-clause-start
 enables_recursive-requires-clause-start c =

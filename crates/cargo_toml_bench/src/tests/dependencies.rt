@@ -1,13 +1,7 @@
-// What is asked of dependencies.
-use crate::{Dependency, InheritedDependencyDetail};
-use cargo_toml_parts::Error;
-use semver::VersionReq;
-use std::alloc::{AllocError, Global};
+//! What is asked of dependencies.
+use cargo_toml::{Dependency, Error, InheritedDependencyDetail, VersionReq};
+use std::alloc::Global;
 use std::test::Fail;
-
-fn text(alloc: Global, text: &str) -> Result<String, AllocError> {
-    String::from_str(alloc, text)
-}
 
 fn simple(alloc: Global) -> Result<Dependency, Fail> {
     Ok(Dependency::Simple(VersionReq::parse(alloc, "1.2")?))
@@ -75,7 +69,7 @@ fn simple_becomes_detailed(rt: HostRuntime) -> Result<(), Fail> {
 fn rev_is_not_crates_io(rt: HostRuntime) -> Result<(), Fail> {
     let mut dependency = simple(rt.alloc())?;
     assert!(rt; dependency.try_req()?.is_some());
-    dependency.try_detail_mut(rt.alloc())?.rev = Some(text(rt.alloc(), "4c59b707")?);
+    dependency.try_detail_mut(rt.alloc())?.rev = Some(String::from_str(rt.alloc(), "4c59b707")?);
     assert!(rt; matches!(dependency, Dependency::Detailed(_)));
     assert!(rt; !dependency.is_crates_io());
     assert!(rt; dependency.req().is_some());

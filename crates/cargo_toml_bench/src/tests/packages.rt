@@ -1,10 +1,9 @@
-// What is asked of a manifest and its package, and what is written to it.
+//! What is asked of a manifest and its package, and what is written to it.
 ghost use Rattle.std.specs.Prelude.{◌≡◌};
 ghost use Rattle.cargo_toml_manifest.specs.PackageAnswers.{is_known};
 
 use super::assert_list;
-use crate::{Manifest, Package};
-use cargo_toml_parts::{Edition, Inheritable, OptionalFile, Publish, SemVer};
+use cargo_toml::{Edition, Inheritable, Manifest, OptionalFile, Package, Publish, SemVer};
 use std::process::Abort;
 use std::test::Fail;
 

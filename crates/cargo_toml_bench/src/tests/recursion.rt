@@ -1,9 +1,8 @@
-//! Recursive enabling of features that are made by hand.
+//! Recursive enabling and questions of features that are made by hand.
 ghost use Rattle.std.specs.Prelude.{OnOk};
 ghost use Rattle.cargo_toml.specs.Reached.{IsKeyed};
 
-use crate::features::recursive::DependenciesEnabledByFeatures;
-use crate::features::{DepAction, Feature};
+use cargo_toml::features::{DepAction, DependenciesEnabledByFeatures, Feature};
 use std::alloc::{AllocError, Global};
 use std::collections::{BTreeMap, BTreeSet, HashMap};
 use std::hash::{BuildHasherDefault, FoldHasher};
@@ -175,5 +174,53 @@ fn ring_of_features(rt: HostRuntime) -> Result<(), Fail> {
         assert!(rt; found.contains_key(name.as_str()));
     }
     assert_eq!(rt; dependencies.len(), 0);
+    Ok(())
+}
+
+// An implied feature with these enablers.
+fn implied<'a>(
+    alloc: Global,
+    key: &'a str,
+    enablers: &[&'a str],
+) -> Result<Feature<'a>, AllocError> {
+    let mut enabled_by = BTreeSet::new(alloc);
+    for name in enablers {
+        enabled_by.insert(*name)?;
+    }
+    Ok(Feature {
+        key,
+        enables_deps: BTreeMap::new(alloc),
+        enables_features: BTreeSet::new(alloc),
+        enabled_by,
+        required_by_bins: Vec::new(alloc),
+        explicit: false,
+    })
+}
+
+#[test]
+fn non_default_enablers(rt: HostRuntime) -> Result<(), Fail> {
+    let alloc = rt.alloc();
+    let feature = implied(alloc, "fast", &["simd", "default", "async"])?;
+    let names: Vec<&str> = feature.non_default_enabled_by().collect(alloc)?;
+    assert_eq!(rt; names.as_slice(), ["async", "simd"].as_slice());
+    let mut walked = Vec::new(alloc);
+    for name in feature.non_default_enabled_by() {
+        walked.push(name)?;
+    }
+    assert_eq!(rt; walked.as_slice(), ["async", "simd"].as_slice());
+    Ok(())
+}
+
+#[test]
+fn referenced_and_user_facing(rt: HostRuntime) -> Result<(), Fail> {
+    let alloc = rt.alloc();
+    let referenced = implied(alloc, "fast", &["default"])?;
+    assert!(rt; referenced.is_referenced());
+    assert!(rt; !referenced.is_user_facing());
+    let alone = implied(alloc, "fast", &[])?;
+    assert!(rt; !alone.is_referenced());
+    assert!(rt; alone.is_user_facing());
+    let hidden = implied(alloc, "_fast", &[])?;
+    assert!(rt; !hidden.is_user_facing());
     Ok(())
 }

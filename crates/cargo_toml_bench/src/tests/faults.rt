@@ -1,11 +1,9 @@
 //! Faults: what they print, and which one a fault from below becomes.
 use super::{at, refused};
-use crate::error::{Error, ParseFault};
-use crate::value::FromValue;
-use std::alloc::Global;
+use cargo_toml::{Error, FromValue, ParseFault, Value};
+use std::alloc::{AllocError, AllocFailed, Global};
 use std::io;
 use std::test::Fail;
-use toml::Value;
 
 #[test]
 fn display_without_path(rt: HostRuntime) -> Result<(), Fail> {
@@ -110,4 +108,45 @@ fn metadata_of_its_own(rt: HostRuntime) -> Result<(), Fail> {
     let answer: Result<Teapots, Error> = at(alloc, "metadata = true", "metadata");
     assert!(rt; matches!(answer, Err(Error::Other("no teapots"))));
     Ok(())
+}
+
+fn wrapped(alloc: Global, fault: Error, path: Option<String>) -> Result<Error, AllocError> {
+    Ok(Error::Workspace(Box::new(alloc, (fault, path))?))
+}
+
+#[test]
+fn clones_of_faults(rt: HostRuntime) -> Result<(), Fail> {
+    let alloc = rt.alloc();
+    let text = String::from_str(alloc, "Not a Workspace.")?;
+    let path = Some(String::from_str(alloc, "/w")?);
+    let fault = wrapped(
+        alloc,
+        wrapped(alloc, Error::WorkspaceIntegrity(text), path)?,
+        None,
+    )?;
+    assert_eq!(rt;
+        format!(in alloc; "{}", fault.clone()?)?.as_str(),
+        "can't load root workspace: can't load root workspace at /w: Not a Workspace."
+    );
+    let Err(inner) = toml::table_from_str(alloc, "[package") else {
+        return Err("read")?;
+    };
+    let words = format!(in alloc; "{inner}")?;
+    assert_eq!(rt;
+        format!(in alloc; "{}", Error::from(inner).clone()?)?.as_str(),
+        words.as_str()
+    );
+    let inner = io::Error::from(io::ErrorKind::NotFound);
+    let words = format!(in alloc; "{inner}")?;
+    assert_eq!(rt;
+        format!(in alloc; "{}", Error::from(inner).clone()?)?.as_str(),
+        words.as_str()
+    );
+    Ok(())
+}
+
+#[test]
+fn want_of_memory_from_below(rt: HostRuntime) {
+    assert!(rt; matches!(Error::from(AllocError), Error::Memory));
+    assert!(rt; matches!(Error::from(AllocFailed { value: 1u8 }), Error::Memory));
 }

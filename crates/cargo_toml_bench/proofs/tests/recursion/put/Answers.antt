@@ -8,7 +8,7 @@ use Rattle.cargo_toml.specs.Action.{Text}
 use Rattle.cargo_toml.specs.Reached.{IsKeyed}
 use Rattle.cargo_toml.specs.Views.{value_at}
 use Rattle.cargo_toml.proofs.Pairs.{at_key, elsewhere}
-use Rattle.cargo_toml.proofs.features.recursive.tests.put.Goals as goal
+use Rattle.cargo_toml_bench.proofs.tests.recursion.put.Goals as goal
 
 -- one more feature under its own key
 keyed-insert : {S : Type 0} (m n : HashMap (Bor Text) Feature S) (v : Feature) → IsKeyed m → hash.UpdatesBy (λ x y. bytes_eq x.now y.now) (λ q. bytes_eq v.key.now q.now) m n (Some v) → IsKeyed n

@@ -1,10 +1,9 @@
 //! Each text and each value of the enums that stand for one value of a tree.
-use super::{read, refused};
-use crate::error::Error;
-use crate::profile_settings::{DebugSetting, LtoSetting, StripSetting};
-use crate::settings::{Edition, OptionalFile, Publish, Resolver};
+use super::{read, refused, texts};
+use cargo_toml::{
+    DebugSetting, Edition, Error, LtoSetting, OptionalFile, Publish, Resolver, StripSetting, Value,
+};
 use std::test::Fail;
-use toml::Value;
 
 // The text of the fault with which a value is no setting.
 fn other<T: Drop>(answer: &Result<T, Error>) -> &'static str {
@@ -203,11 +202,9 @@ fn files_and_registries(rt: HostRuntime) -> Result<(), Fail> {
     );
     assert_eq!(rt; OptionalFile::default(), OptionalFile::Flag(true));
     assert_eq!(rt; read::<Publish>(alloc, "false")?, Publish::Flag(false));
-    let mut names = Vec::new(alloc);
-    names.push(String::from_str(alloc, "mine")?)?;
     assert_eq!(rt;
         read::<Publish>(alloc, "['mine']")?,
-        Publish::Registry(names)
+        Publish::Registry(texts(alloc, "mine")?)
     );
     assert_eq!(rt;
         refused(&read::<Publish>(alloc, "['mine', 1]")),

@@ -1,20 +1,12 @@
 //! Worked rows of parts, and each call once with ample memory.
-use super::settings::is_written_as;
-use cargo_toml_manifest::PackageTemplate;
-use cargo_toml_parts::{Edition, OptionalFile, Publish, SemVer};
-use cargo_toml_tables::{Badge, Badges, Maintenance, MaintenanceStatus, Product};
+use super::{is_written_as, text};
+use crate::tests::texts;
+use cargo_toml::{
+    Badge, Badges, Edition, Maintenance, MaintenanceStatus, OptionalFile, PackageTemplate, Product,
+    Publish, SemVer,
+};
 use std::alloc::{AllocError, Global};
 use std::test::Fail;
-
-fn text(alloc: Global, text: &str) -> Result<Option<String>, AllocError> {
-    Ok(Some(String::from_str(alloc, text)?))
-}
-
-fn texts(alloc: Global, text: &str) -> Result<Vec<String>, AllocError> {
-    let mut all = Vec::new(alloc);
-    all.push(String::from_str(alloc, text)?)?;
-    Ok(all)
-}
 
 fn bare_badge(alloc: Global) -> Result<Badge, AllocError> {
     Ok(Badge {

@@ -1,35 +1,18 @@
 //! Worked rows of tables, and each call once with ample memory.
-use super::settings::is_written_as;
-use crate::ToValue;
-use cargo_toml_parts::{DebugSetting, Error, LtoSetting, StripSetting, VersionReq};
-use cargo_toml_tables::{
-    Dependency, DependencyDetail, InheritedDependencyDetail, Lint, LintLevel, Profile, Profiles,
-    Target,
+use super::{is_tree, is_written_as, text};
+use crate::tests::texts;
+use cargo_toml::{
+    DebugSetting, Dependency, DependencyDetail, Error, InheritedDependencyDetail, Lint, LintLevel,
+    LtoSetting, Profile, Profiles, StripSetting, Target, ToValue, Value, VersionReq,
 };
 use std::alloc::{AllocError, Global};
 use std::collections::BTreeMap;
 use std::test::Fail;
-use toml::Value;
-
-fn text(alloc: Global, text: &str) -> Result<Option<String>, AllocError> {
-    Ok(Some(String::from_str(alloc, text)?))
-}
-
-fn texts(alloc: Global, text: &str) -> Result<Vec<String>, AllocError> {
-    let mut all = Vec::new(alloc);
-    all.push(String::from_str(alloc, text)?)?;
-    Ok(all)
-}
 
 fn values(alloc: Global, key: &str, value: Value) -> Result<BTreeMap<String, Value>, AllocError> {
     let mut all = BTreeMap::new(alloc);
     drop(all.insert(String::from_str(alloc, key)?, value)?);
     Ok(all)
-}
-
-// Whether the value is written as this tree, whatever is read of that.
-fn is_tree<T: ToValue>(alloc: Global, x: &T, tree: &str) -> Result<bool, Error> {
-    Ok(x.to_value(alloc)? == Value::from_str(alloc, tree)?)
 }
 
 // Whether the value is refused for a float.

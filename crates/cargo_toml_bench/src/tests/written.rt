@@ -1,14 +1,39 @@
-//! Tests of what is written, over the public crate: each table printed by `toml` is read again to the same table.
+//! What is written, and that each table printed by `toml` is read again to the same table.
+mod manifests;
+mod parts;
+mod settings;
+mod tables;
+
+use super::manifests::LARGE;
 use cargo_toml::{
     Dependency, Error, FromValue, Inheritable, InheritedDependencyDetail, Manifest, Package,
     Profile, SemVer, Target, ToValue, Value,
 };
-use std::alloc::Global;
+use std::alloc::{AllocError, Global};
 use std::test::Fail;
 use toml::Table;
 
-const LARGE: &str =
-    "[package]\nname = \"foo\"\n\n[[bin]]\nname = \"thebin\"\nrequired-features = [\"__hidden2\", \"loop3\"]\n\n[dependencies]\nnot_optional = { path = \"..\", package = \"actual_pkg\", features = [\"f1\", \"f2\"] }\ndepend = { version = \"1.0.0\", package = \"actual_pkg\", optional = true, default-features = false }\nimplied_standalone = { version = \"1.0.0\", optional = true }\nimplied_referenced = { version = \"1.0.0\", optional = true }\nnot_relevant = \"2\"\nfeature_for_hidden = { version = \"2\", optional = true }\n__hidden_dep = { version = \"2\", optional = true }\n\n[build-dependencies]\na_dep = { version = \"1.0.0\", optional = true }\n\n[features]\ndefault = [\"x\"]\na = []\nb = [\"a\", \"implied_referenced/with_feature\", \"depend/default\", \"depend/default\"]\nc = [\"__hidden\"]\nx = [\"__hidden\", \"c\", \"not_optional/f2\", \"not_optional/f3\", \"not_optional/default\"]\n__hidden = [\"__hidden2\"]\n__hidden2 = [\"dep:depend\", \"depend/with_x\", \"depend?/with_y\", \"__hidden0\"]\n__hidden0 = [\"a\"]\nenables_hidden = [\"__hidden0\"]\n__feature_for_hidden = [\"feature_for_hidden\"]\n\nloop1 = [\"loop2\"]\nloop2 = [\"loop3\", \"a_dep?/maybe\", \"a_dep?/maybe_too\", \"depend/with_loop\"]\nloop3 = [\"loop1\", \"implied_referenced/from_loop_3\"]\n";
+fn text(alloc: Global, text: &str) -> Result<Option<String>, AllocError> {
+    Ok(Some(String::from_str(alloc, text)?))
+}
+
+// Whether the value is written as this tree, which reads as the value again.
+fn is_written_as<T: ToValue + FromValue + PartialEq>(
+    alloc: Global,
+    x: &T,
+    tree: &str,
+) -> Result<bool, Error> {
+    let written = x.to_value(alloc)?;
+    if written != Value::from_str(alloc, tree)? {
+        return Ok(false);
+    }
+    Ok(T::from_value(alloc, written)? == *x)
+}
+
+// Whether the value is written as this tree, whatever is read of that.
+fn is_tree<T: ToValue>(alloc: Global, x: &T, tree: &str) -> Result<bool, Error> {
+    Ok(x.to_value(alloc)? == Value::from_str(alloc, tree)?)
+}
 
 // The table of a value.
 fn table<T: ToValue>(alloc: Global, x: &T) -> Result<Table, Fail> {

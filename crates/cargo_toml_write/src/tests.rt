@@ -1,4 +1,0 @@
-mod manifests;
-mod parts;
-mod settings;
-mod tables;

@@ -217,21 +217,25 @@ fn maintenance_or_none(alloc: Global, table: &Table) -> Result<Maintenance, Erro
 fn read_badges(alloc: Global, table: &Table) -> Result<Badges, Error>
     ensures { MatchResult result (λ b. badges_meaning b ≡ badges_of (table_view table.now)) (λ e. e ≡ Memory) }
 {
-    Ok(Badges {
-        appveyor: passing_over(alloc, table, "appveyor")?,
-        circle_ci: passing_over(alloc, table, "circle-ci")?,
-        gitlab: passing_over(alloc, table, "gitlab")?,
-        travis_ci: passing_over(alloc, table, "travis-ci")?,
-        codecov: passing_over(alloc, table, "codecov")?,
-        coveralls: passing_over(alloc, table, "coveralls")?,
-        is_it_maintained_issue_resolution: passing_over(
-            alloc,
-            table,
-            "is-it-maintained-issue-resolution",
-        )?,
-        is_it_maintained_open_issues: passing_over(alloc, table, "is-it-maintained-open-issues")?,
-        maintenance: maintenance_or_none(alloc, table)?,
-    })
+    let mut badges = Badges::default(alloc);
+    badges.appveyor = passing_over(alloc, table, "appveyor")?;
+    badges.circle_ci = passing_over(alloc, table, "circle-ci")?;
+    badges.gitlab = passing_over(alloc, table, "gitlab")?;
+    badges.travis_ci = passing_over(alloc, table, "travis-ci")?;
+    badges.codecov = passing_over(alloc, table, "codecov")?;
+    badges.coveralls = passing_over(alloc, table, "coveralls")?;
+    badges.is_it_maintained_issue_resolution = passing_over(
+        alloc,
+        table,
+        "is-it-maintained-issue-resolution",
+    )?;
+    badges.is_it_maintained_open_issues = passing_over(
+        alloc,
+        table,
+        "is-it-maintained-open-issues",
+    )?;
+    badges.maintenance = maintenance_or_none(alloc, table)?;
+    Ok(badges)
 }
 
 impl Read for Badges {

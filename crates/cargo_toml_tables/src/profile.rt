@@ -154,20 +154,14 @@ impl Read for Profile {
 fn read_profiles(alloc: Global, table: &Table) -> Result<Profiles, Error>
     ensures { IsReading profiles_meaning (profiles_of (table_view table.now)) (profiles_faults (table_view table.now)) result }
 {
-    let release = optional(alloc, table, "release")?;
-    let dev = optional(alloc, table, "dev")?;
-    let test = optional(alloc, table, "test")?;
-    let bench = optional(alloc, table, "bench")?;
-    let doc = optional(alloc, table, "doc")?;
-    let custom = others(alloc, table, &["release", "dev", "test", "bench", "doc"])?;
-    Ok(Profiles {
-        release,
-        dev,
-        test,
-        bench,
-        doc,
-        custom,
-    })
+    let mut profiles = Profiles::default(alloc);
+    profiles.release = optional(alloc, table, "release")?;
+    profiles.dev = optional(alloc, table, "dev")?;
+    profiles.test = optional(alloc, table, "test")?;
+    profiles.bench = optional(alloc, table, "bench")?;
+    profiles.doc = optional(alloc, table, "doc")?;
+    profiles.custom = others(alloc, table, &["release", "dev", "test", "bench", "doc"])?;
+    Ok(profiles)
 }
 
 impl Read for Profiles {

@@ -2,7 +2,8 @@
 use super::{assert_list, refused};
 use cargo_toml::{
     DebugSetting, Dependency, DepsSet, Edition, Error, FeatureSet, FromValue, Inheritable,
-    MaintenanceStatus, Manifest, Package, PackageTemplate, ParseFault, Publish, SemVer, Value, Workspace,
+    MaintenanceStatus, Manifest, Package, PackageTemplate, ParseFault, Publish, SemVer, Value,
+    Workspace,
 };
 use std::alloc::Global;
 use std::process::Abort;
@@ -35,7 +36,11 @@ impl FromValue for Level {
 
 // The manifest of the text is refused by a fault of shape with these words.
 fn assert_shape(rt: &(impl Abort + AllocGlobal), text: &str, want: &str) {
-    assert_eq!(rt; refused(&Manifest::from_str(rt.alloc(), text)), want, "{text}");
+    assert_eq!(rt;
+        refused(&Manifest::from_str(rt.alloc(), text)),
+        want,
+        "{text}"
+    );
 }
 
 const SMALL: &str = r#"[package]

@@ -2,8 +2,8 @@
 use super::{at, refused};
 use cargo_toml::{
     Badge, Badges, Dependency, DependencyDetail, Edition, Error, Inheritable,
-    InheritedDependencyDetail, LintGroups, LintLevel, LintSet, Maintenance, MaintenanceStatus, PatchSet,
-    Product, Profile, Profiles, SemVer, Target, TargetDepsSet, VersionReq,
+    InheritedDependencyDetail, LintGroups, LintLevel, LintSet, Maintenance, MaintenanceStatus,
+    PatchSet, Product, Profile, Profiles, SemVer, Target, TargetDepsSet, VersionReq,
 };
 use std::test::Fail;
 

@@ -1,8 +1,8 @@
 //! Worked rows of settings, and each call once with ample memory.
 use super::is_written_as;
 use cargo_toml::{
-    DebugSetting, Edition, LintLevel, LtoSetting, MaintenanceStatus, OptionalFile, Publish, Resolver,
-    StripSetting,
+    DebugSetting, Edition, LintLevel, LtoSetting, MaintenanceStatus, OptionalFile, Publish,
+    Resolver, StripSetting,
 };
 use std::test::Fail;
 

@@ -8,7 +8,7 @@ use Rattle.std.proofs.lemmas.Slice.Eq.{bytes_eq-Decides}
 use Rattle.std.specs.List.{list_any}
 use Rattle.std.specs.Option.{option_or}
 use Rattle.std.specs.Ordering.{is_eq}
-use Rattle.cargo_toml_tables.specs.Dependencies.{is_optional, package_of}
+use Rattle.cargo_toml_dependencies.specs.Dependencies.{is_optional, package_of}
 use Rattle.cargo_toml.specs.Action.{Text}
 use Rattle.cargo_toml.specs.Admitted.{Listed}
 use Rattle.cargo_toml.specs.Recorded.{Entry, Recorded, target_cmp, is_mentioned, counting, entries_at, recorded_of}

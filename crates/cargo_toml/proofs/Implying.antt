@@ -15,7 +15,7 @@ use Rattle.std.specs.List.{list_any}
 use Rattle.std.specs.Map.{lookup}
 use Rattle.std.specs.Option.{IsSomeAnd}
 use Rattle.std.specs.Ordering.{nat_cmp}
-use Rattle.cargo_toml_tables.specs.Dependencies.{is_optional}
+use Rattle.cargo_toml_dependencies.specs.Dependencies.{is_optional}
 use Rattle.cargo_toml.specs.declared.features.DepAction.{DepAction}
 use Rattle.cargo_toml.specs.declared.features.Feature.{Feature}
 use Rattle.cargo_toml.specs.Action.{Text}

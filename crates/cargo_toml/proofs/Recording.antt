@@ -4,7 +4,7 @@ use Rattle.std.proofs.lemmas.Slice.Eq.{bytes_eq-Decides}
 use Rattle.std.proofs.lemmas.Map.Text.{hash_map_updates_str}
 use Rattle.std.specs.HashMap as hash
 use Rattle.std.specs.HashMap.{HashMap}
-use Rattle.cargo_toml_tables.specs.Dependencies.{is_optional}
+use Rattle.cargo_toml_dependencies.specs.Dependencies.{is_optional}
 use Rattle.cargo_toml.specs.declared.features.FeatureDependency.{FeatureDependency}
 use Rattle.cargo_toml.specs.Action.{Text}
 use Rattle.cargo_toml.specs.Recorded.{Entry}

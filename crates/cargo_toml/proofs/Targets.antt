@@ -6,8 +6,8 @@ use Rattle.std.specs.Option.{option_or, option_copied}
 use Rattle.std.specs.Ordering.{is_eq, ordering_reverse}
 use Rattle.std.specs.BTreeMap as tree
 use Rattle.std.specs.BTreeMap.{BTreeMap}
-use Rattle.cargo_toml_tables.specs.declared.dependency.Dependency.{Dependency}
-use Rattle.cargo_toml_tables.specs.Dependencies.{DependencyMeaning, dependency_meaning}
+use Rattle.cargo_toml_dependencies.specs.declared.dependency.Dependency.{Dependency}
+use Rattle.cargo_toml_dependencies.specs.Dependencies.{DependencyMeaning, dependency_meaning}
 use Rattle.cargo_toml.specs.contracts.features.TargetKeyOrd.TheImpl as key_order
 use Rattle.cargo_toml.specs.contracts.features.TargetKeyOrd.TheImpl.Laws as laws
 use Rattle.cargo_toml.specs.declared.features.Kind.{Kind}

@@ -4,7 +4,7 @@ use Rattle.std.proofs.lemmas.Bool.{false≢true, or_cases, and_parts}
 use Rattle.std.proofs.lemmas.Slice.Eq.{bytes_eq-Decides}
 use Rattle.std.specs.List.{list_any}
 use Rattle.std.specs.Map.{lookup}
-use Rattle.cargo_toml_tables.specs.Dependencies.{is_optional}
+use Rattle.cargo_toml_dependencies.specs.Dependencies.{is_optional}
 use Rattle.cargo_toml.specs.Recorded.{is_reserved}
 use Rattle.cargo_toml.specs.Action.{Text}
 use Rattle.cargo_toml.specs.Admitted.{Listed, is_admitted, is_below}

@@ -1,6 +1,6 @@
 -- Tables of worked examples.
 use Rattle.std.specs.Prelude.{Bool, true, false, cond, bytes_eq, List, [], ◌∷◌, Option, Some, None, codes}
-use Rattle.cargo_toml_tables.specs.Dependencies.{DependencyMeaning, detailed, simple}
+use Rattle.cargo_toml_dependencies.specs.Dependencies.{DependencyMeaning, detailed, simple}
 use Rattle.cargo_toml.specs.declared.features.Kind.TheVariants.{Normal, Build, Dev}
 use Rattle.cargo_toml.specs.Action.{Text}
 use Rattle.cargo_toml.specs.Admitted.{Listed}

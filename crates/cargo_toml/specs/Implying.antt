@@ -4,7 +4,7 @@ use Rattle.std.specs.Option.{IsSomeAnd}
 use Rattle.std.specs.List.{list_any}
 use Rattle.std.specs.Borrow.{Bor}
 use Rattle.std.specs.HashMap.{HashMap}
-use Rattle.cargo_toml_tables.specs.Dependencies.{is_optional}
+use Rattle.cargo_toml_dependencies.specs.Dependencies.{is_optional}
 use Rattle.cargo_toml.specs.declared.features.Feature.{Feature}
 use Rattle.cargo_toml.specs.Action.{Text}
 use Rattle.cargo_toml.specs.Recorded.{Entry}

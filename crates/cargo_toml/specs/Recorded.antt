@@ -5,7 +5,7 @@ use Rattle.std.specs.List.{list_any}
 use Rattle.std.specs.Cmp.Lexicographic.{slice_cmp}
 use Rattle.std.specs.Ordering.{nat_cmp, is_lt, is_eq, ordering_then}
 use Rattle.std.specs.declared.cmp.Ordering.{Ordering}
-use Rattle.cargo_toml_tables.specs.Dependencies.{DependencyMeaning, detailed, is_optional, package_of}
+use Rattle.cargo_toml_dependencies.specs.Dependencies.{DependencyMeaning, detailed, is_optional, package_of}
 use Rattle.cargo_toml.specs.declared.features.Kind.{Kind}
 use Rattle.cargo_toml.specs.declared.features.Kind.TheVariants.{Normal, Build, Dev}
 use Rattle.cargo_toml.specs.Action.{Text, Action}

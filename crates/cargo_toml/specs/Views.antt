@@ -11,8 +11,8 @@ use Rattle.std.specs.BTreeMap as tree
 use Rattle.std.specs.BTreeMap.{BTreeMap}
 use Rattle.std.specs.BTreeSet as sorted
 use Rattle.std.specs.BTreeSet.{BTreeSet}
-use Rattle.cargo_toml_tables.specs.declared.dependency.Dependency.{Dependency}
-use Rattle.cargo_toml_tables.specs.Dependencies.{dependency_meaning}
+use Rattle.cargo_toml_dependencies.specs.declared.dependency.Dependency.{Dependency}
+use Rattle.cargo_toml_dependencies.specs.Dependencies.{dependency_meaning}
 use Rattle.cargo_toml.specs.declared.features.DepAction.{DepAction}
 use Rattle.cargo_toml.specs.declared.features.Feature.{Feature}
 use Rattle.cargo_toml.specs.declared.features.FeatureDependency.{FeatureDependency}

@@ -23,7 +23,7 @@ use crate::features::read::{Read, read_features};
 use crate::features::record::{normal_dependencies, record_dependencies};
 use cargo_toml_manifest::Manifest;
 use cargo_toml_parts::Error;
-use cargo_toml_tables::Dependency;
+use cargo_toml_dependencies::Dependency;
 pub use questions::NonDefaultEnabledBy;
 pub use recursive::DependenciesEnabledByFeatures;
 use std::alloc::{AllocError, Global};

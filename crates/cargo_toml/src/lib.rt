@@ -7,14 +7,18 @@
 pub mod features;
 mod laws;
 
-pub use cargo_toml_manifest::{Manifest, Package, PackageTemplate, Workspace};
+pub use cargo_toml_dependencies::{
+    Dependency, DependencyDetail, DepsSet, FeatureSet, InheritedDependencyDetail, PatchSet, Target,
+    TargetDepsSet,
+};
+pub use cargo_toml_manifest::{Manifest, Workspace};
+pub use cargo_toml_package::{Package, PackageTemplate};
 pub use cargo_toml_parts::{
     DebugSetting, Edition, Error, FromValue, Inheritable, LtoSetting, OptionalFile, ParseFault,
     Publish, Resolver, SemVer, StripSetting, Value, VersionReq,
 };
 pub use cargo_toml_tables::{
-    Badge, Badges, Dependency, DependencyDetail, DepsSet, FeatureSet, InheritedDependencyDetail,
-    Lint, LintGroups, LintLevel, LintSet, Maintenance, MaintenanceStatus, PatchSet, Product,
-    Profile, Profiles, Target, TargetDepsSet,
+    Badge, Badges, Lint, LintGroups, LintLevel, LintSet, Maintenance, MaintenanceStatus, Product,
+    Profile, Profiles,
 };
 pub use cargo_toml_write::ToValue;

@@ -6,7 +6,7 @@ use Rattle.toml.specs.Data.{Data}
 use Rattle.toml.specs.Parse.{parse_document}
 use Rattle.cargo_toml_parts.specs.declared.error.Error.{Error, Io, Memory}
 use Rattle.cargo_toml_parts.specs.Faults.{IsOther}
-use Rattle.cargo_toml_tables.specs.Dependencies.{DependencyMeaning}
+use Rattle.cargo_toml_dependencies.specs.Dependencies.{DependencyMeaning}
 use Rattle.cargo_toml_manifest.specs.Manifests.{ManifestMeaning, manifest_reads, manifest_refuses}
 use Rattle.cargo_toml_manifest.specs.Texts.{any_tree, any_refuses, document_reads, document_refuses}
 use Rattle.cargo_toml.specs.declared.features.Kind.TheVariants.{Normal}

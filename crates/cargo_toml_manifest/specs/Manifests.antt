@@ -5,19 +5,19 @@ use Rattle.cargo_toml_parts.specs.declared.error.Error.{Error}
 use Rattle.cargo_toml_parts.specs.declared.inheritable.Inheritable.{Inheritable}
 use Rattle.cargo_toml_parts.specs.declared.inheritable.Inheritable.TheVariants.{Set, Inherited}
 use Rattle.cargo_toml_tables.specs.Badges.{BadgesMeaning, badges_meaning, badges_of}
-use Rattle.cargo_toml_tables.specs.Dependencies.{DependencyMeaning, dependency_meaning, dependency_of}
-use Rattle.cargo_toml_tables.specs.Features.{feature_of}
+use Rattle.cargo_toml_dependencies.specs.Dependencies.{DependencyMeaning, dependency_meaning, dependency_of}
+use Rattle.cargo_toml_dependencies.specs.Features.{feature_of}
 use Rattle.cargo_toml_parts.specs.Inherits.{inheritable_map, inheritable_of, inheritable_refuses}
 use Rattle.cargo_toml_tables.specs.Lints.{LintMeaning, lint_meaning, lint_of}
 use Rattle.cargo_toml_tables.specs.Products.{ProductMeaning, product_meaning, product_of}
 use Rattle.cargo_toml_tables.specs.Profiles.{ProfilesMeaning, profiles_meaning, profiles_of, profiles_faults}
 use Rattle.cargo_toml_parts.specs.Reads.{◌>>=◌, array_of, map_of, map_meaning, optional_at, given_at, map_at, fault_at, table_refuses, plain}
 use Rattle.cargo_toml_parts.specs.Settings.{Registries, everywhere, among}
-use Rattle.cargo_toml_tables.specs.Targets.{TargetMeaning, target_meaning, target_of}
+use Rattle.cargo_toml_dependencies.specs.Targets.{TargetMeaning, target_meaning, target_of}
 use Rattle.cargo_toml_parts.specs.Versions.{Parts}
 use Rattle.cargo_toml_manifest.specs.declared.manifest.Manifest.{Manifest}
-use Rattle.cargo_toml_manifest.specs.Keys.{inherited_at, faults_at}
-use Rattle.cargo_toml_manifest.specs.Packages.{PackageMeaning, package_meaning, package_reads, package_refuses}
+use Rattle.cargo_toml_package.specs.Keys.{inherited_at, faults_at}
+use Rattle.cargo_toml_package.specs.Packages.{PackageMeaning, package_meaning, package_reads, package_refuses}
 use Rattle.cargo_toml_manifest.specs.Workspaces.{WorkspaceMeaning, workspace_meaning, workspace_reads, workspace_refuses}
 
 -- what a manifest holds, whose metadata are M

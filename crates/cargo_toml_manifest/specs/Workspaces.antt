@@ -3,13 +3,13 @@ use Rattle.std.specs.Prelude.{◌⊎◌, ℕ, List, [], ◌∷◌, map, Option, 
 use Rattle.toml.specs.Data.{Data, Members, as_table}
 use Rattle.cargo_toml_parts.specs.declared.error.Error.{Error}
 use Rattle.cargo_toml_parts.specs.declared.settings.Resolver.{Resolver}
-use Rattle.cargo_toml_tables.specs.Dependencies.{DependencyMeaning, dependency_meaning, dependency_of}
+use Rattle.cargo_toml_dependencies.specs.Dependencies.{DependencyMeaning, dependency_meaning, dependency_of}
 use Rattle.cargo_toml_tables.specs.Lints.{LintMeaning, lint_meaning, lint_of}
 use Rattle.cargo_toml_parts.specs.Reads.{◌>>=◌, list_of, map_of, map_meaning, optional_at, list_at, map_at, fault_at, table_refuses, plain}
 use Rattle.cargo_toml_manifest.specs.declared.workspace.Workspace.{Workspace}
-use Rattle.cargo_toml_manifest.specs.Keys.{faults_at}
-use Rattle.cargo_toml_manifest.specs.Packages.{resolver_reads}
-use Rattle.cargo_toml_manifest.specs.Templates.{TemplateMeaning, template_meaning, template_reads}
+use Rattle.cargo_toml_package.specs.Keys.{faults_at}
+use Rattle.cargo_toml_package.specs.Packages.{resolver_reads}
+use Rattle.cargo_toml_package.specs.Templates.{TemplateMeaning, template_meaning, template_reads}
 
 -- what a workspace holds, whose metadata are M
 pub record WorkspaceMeaning (M : Type 0) : Type 0 where

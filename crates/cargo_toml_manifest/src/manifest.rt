@@ -9,23 +9,22 @@ ghost use Rattle.cargo_toml_parts.specs.Inherits.{inheritable_map, inheritable_r
 ghost use Rattle.cargo_toml_tables.specs.Lints.{lint_meaning, lint_of};
 ghost use Rattle.cargo_toml_tables.specs.Profiles.{profiles_meaning};
 ghost use Rattle.cargo_toml_parts.specs.Reads.{IsReading, given_at, map_of, map_meaning, optional_refuses, plain};
-ghost use Rattle.cargo_toml_manifest.specs.Keys.{inherited_at};
+ghost use Rattle.cargo_toml_package.specs.Keys.{inherited_at};
 ghost use Rattle.cargo_toml_manifest.specs.Manifests.{ManifestMeaning, manifest_meaning, manifest_of, manifest_faults, manifest_reads, manifest_refuses, zero_rule_applies, by_zero_rule, no_profiles, profiles_reads, profiles_refuse, no_badges, badges_reads};
-ghost use Rattle.cargo_toml_manifest.specs.Packages.{package_meaning};
+ghost use Rattle.cargo_toml_package.specs.Packages.{package_meaning};
 ghost use Rattle.cargo_toml_manifest.specs.Texts.{IsFromText, IsFromBytes, any_tree, any_refuses};
 
 mod questions;
 
-use crate::package::Package;
 use crate::workspace::Workspace;
 use cargo_toml_parts::floats::table_has_no_float;
 use cargo_toml_parts::read::{Read, as_table, given, list, map, optional};
 use cargo_toml_parts::value::floats_unsupported;
 use cargo_toml_parts::{Error, FromValue, Inheritable, Publish};
-use cargo_toml_tables::feature::features;
-use cargo_toml_tables::{
-    Badges, DepsSet, FeatureSet, LintGroups, PatchSet, Product, Profiles, TargetDepsSet,
-};
+use cargo_toml_dependencies::feature::features;
+use cargo_toml_dependencies::{DepsSet, FeatureSet, PatchSet, TargetDepsSet};
+use cargo_toml_package::Package;
+use cargo_toml_tables::{Badges, LintGroups, Product, Profiles};
 use std::alloc::Global;
 use std::collections::BTreeMap;
 use std::str;

@@ -16,7 +16,7 @@ use Rattle.cargo_toml_parts.specs.Inherits.{inheritable_of, set_or, workspace_fl
 use Rattle.cargo_toml_parts.specs.Reads.{optional_of, given_of, list_of}
 use Rattle.cargo_toml_parts.specs.Settings.{edition_text, resolver_text, File, flag, path, file_of, Registries, everywhere, among, publish_of}
 use Rattle.cargo_toml_parts.specs.Versions.{Parts, version_of}
-use Rattle.cargo_toml_manifest.specs.Packages.{edition_reads, resolver_reads}
+use Rattle.cargo_toml_package.specs.Packages.{edition_reads, resolver_reads}
 use Rattle.cargo_toml_manifest.specs.Texts.{any_tree}
 use Rattle.cargo_toml_write.specs.Trees.{FreeTree, flag_unless, texts_tree, texts_unless_empty}
 use Rattle.cargo_toml_write.specs.Writes.{Row, told, if_there, AreWritten, put_some}

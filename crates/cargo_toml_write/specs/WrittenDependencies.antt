@@ -2,10 +2,10 @@
 use Rattle.std.specs.Prelude.{List, [], ◌∷◌, ◌++◌, codes, true, false, option_map}
 use Rattle.toml.specs.Data.{Data, string}
 use Rattle.cargo_toml_parts.specs.declared.error.Error.{Error}
-use Rattle.cargo_toml_tables.specs.declared.dependency.Dependency.{Dependency}
-use Rattle.cargo_toml_tables.specs.declared.dependency.Dependency.TheVariants as kind
-use Rattle.cargo_toml_tables.specs.declared.dependency.DependencyDetail.{DependencyDetail}
-use Rattle.cargo_toml_tables.specs.Dependencies.{InheritedMeaning, inherited_meaning, detail_meaning}
+use Rattle.cargo_toml_dependencies.specs.declared.dependency.Dependency.{Dependency}
+use Rattle.cargo_toml_dependencies.specs.declared.dependency.Dependency.TheVariants as kind
+use Rattle.cargo_toml_dependencies.specs.declared.dependency.DependencyDetail.{DependencyDetail}
+use Rattle.cargo_toml_dependencies.specs.Dependencies.{InheritedMeaning, inherited_meaning, detail_meaning}
 use Rattle.cargo_toml_write.specs.Trees.{RequirementTree, FreeTree, refuses_float, never, flag_unless, texts_unless_empty, map_rows}
 use Rattle.cargo_toml_write.specs.Writes.{Row, told, if_there, TableOf, RefuseRows}
 

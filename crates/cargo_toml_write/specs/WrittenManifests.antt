@@ -12,12 +12,12 @@ use Rattle.cargo_toml_parts.specs.declared.inheritable.Inheritable.TheVariants.{
 use Rattle.cargo_toml_tables.specs.declared.lint.Lint.{Lint}
 use Rattle.cargo_toml_tables.specs.declared.product.Product.{Product}
 use Rattle.cargo_toml_tables.specs.declared.profile.Profiles.{Profiles}
-use Rattle.cargo_toml_tables.specs.declared.target.Target.{Target}
+use Rattle.cargo_toml_dependencies.specs.declared.target.Target.{Target}
 use Rattle.cargo_toml_tables.specs.Products.{product_meaning}
 use Rattle.cargo_toml_manifest.specs.declared.manifest.Manifest.{Manifest}
-use Rattle.cargo_toml_manifest.specs.declared.package.Package.{Package}
+use Rattle.cargo_toml_package.specs.declared.package.Package.{Package}
 use Rattle.cargo_toml_manifest.specs.declared.workspace.Workspace.{Workspace}
-use Rattle.cargo_toml_manifest.specs.Packages.{package_meaning}
+use Rattle.cargo_toml_package.specs.Packages.{package_meaning}
 use Rattle.cargo_toml_write.specs.Trees.{never, TextTree, ListOf, refuse_items, InheritableTree, refuses_inheritable}
 use Rattle.cargo_toml_write.specs.WrittenBadges.{badges_rows}
 use Rattle.cargo_toml_write.specs.WrittenDependencies.{DependencyTree, refuses_dependency}

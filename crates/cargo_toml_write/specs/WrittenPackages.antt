@@ -8,7 +8,7 @@ use Rattle.cargo_toml_parts.specs.declared.inheritable.Inheritable.{Inheritable}
 use Rattle.cargo_toml_parts.specs.declared.inheritable.Inheritable.TheVariants.{Set, Inherited}
 use Rattle.cargo_toml_parts.specs.Settings.{edition_text, resolver_text, File, flag, path, Registries, everywhere, among}
 use Rattle.cargo_toml_parts.specs.Versions.{Parts}
-use Rattle.cargo_toml_manifest.specs.Packages.{PackageMeaning}
+use Rattle.cargo_toml_package.specs.Packages.{PackageMeaning}
 use Rattle.cargo_toml_write.specs.Trees.{flag_unless, texts_tree, texts_unless_empty, inherited_tree}
 use Rattle.cargo_toml_write.specs.Writes.{Row, told, if_there}
 

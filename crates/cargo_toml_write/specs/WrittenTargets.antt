@@ -3,9 +3,9 @@ use Rattle.std.specs.Prelude.{List, [], ◌∷◌, codes, String}
 use Rattle.std.specs.BTreeMap.{BTreeMap}
 use Rattle.std.specs.declared.alloc.Global.{Global}
 use Rattle.toml.specs.Data.{Data}
-use Rattle.cargo_toml_tables.specs.declared.dependency.Dependency.{Dependency}
+use Rattle.cargo_toml_dependencies.specs.declared.dependency.Dependency.{Dependency}
 use Rattle.cargo_toml_parts.specs.declared.error.Error.{Error}
-use Rattle.cargo_toml_tables.specs.declared.target.Target.{Target}
+use Rattle.cargo_toml_dependencies.specs.declared.target.Target.{Target}
 use Rattle.cargo_toml_write.specs.Trees.{map_rows}
 use Rattle.cargo_toml_write.specs.WrittenDependencies.{DependencyTree, refuses_dependency}
 use Rattle.cargo_toml_write.specs.Writes.{Row, always, TableOf, RefuseRows}

@@ -5,7 +5,7 @@ use Rattle.toml.specs.Data.{string}
 use Rattle.cargo_toml_parts.specs.declared.settings.OptionalFile.{OptionalFile}
 use Rattle.cargo_toml_parts.specs.declared.settings.Publish.{Publish}
 use Rattle.cargo_toml_parts.specs.Settings.{File, flag, file_meaning, Registries, everywhere, publish_meaning, edition_text}
-use Rattle.cargo_toml_manifest.specs.declared.template.PackageTemplate.{PackageTemplate}
+use Rattle.cargo_toml_package.specs.declared.template.PackageTemplate.{PackageTemplate}
 use Rattle.cargo_toml_write.specs.Trees.{VersionTree, never, texts_tree}
 use Rattle.cargo_toml_write.specs.WrittenSettings.{FileTree, PublishTree}
 use Rattle.cargo_toml_write.specs.Writes.{Row, told, if_there, unless}

@@ -6,7 +6,7 @@ use Rattle.toml.specs.Data.{Data, string}
 use Rattle.cargo_toml_parts.specs.declared.error.Error.{Error}
 use Rattle.cargo_toml_tables.specs.declared.lint.Lint.{Lint}
 use Rattle.cargo_toml_parts.specs.Settings.{resolver_text}
-use Rattle.cargo_toml_manifest.specs.declared.template.PackageTemplate.{PackageTemplate}
+use Rattle.cargo_toml_package.specs.declared.template.PackageTemplate.{PackageTemplate}
 use Rattle.cargo_toml_manifest.specs.declared.workspace.Workspace.{Workspace}
 use Rattle.cargo_toml_manifest.specs.Workspaces.{WorkspaceMeaning, workspace_meaning}
 use Rattle.cargo_toml_write.specs.Trees.{texts_tree, texts_unless_empty, map_rows}

@@ -1,6 +1,6 @@
 //! Which features optional dependencies imply.
 ghost use Rattle.std.specs.Prelude.{◌≡◌, ◌&&◌, ◌∷◌, [], not, is_some, map, IfOk, OnOk};
-ghost use Rattle.cargo_toml_tables.specs.Dependencies.{dependency_meaning, is_optional};
+ghost use Rattle.cargo_toml_dependencies.specs.Dependencies.{dependency_meaning, is_optional};
 ghost use Rattle.cargo_toml.specs.Implying.{IsImplied, ImpliesAll, is_offered, is_reserved_in};
 ghost use Rattle.cargo_toml.specs.Views.{entry_of, value_at};
 

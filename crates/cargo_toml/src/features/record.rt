@@ -1,6 +1,6 @@
 //! Which dependencies features can speak of.
 ghost use Rattle.std.specs.Prelude.{◌≡◌, ◌||◌, ℕ, IfOk, OnOk, Option, Some, map};
-ghost use Rattle.cargo_toml_tables.specs.Dependencies.{dependency_meaning, is_optional};
+ghost use Rattle.cargo_toml_dependencies.specs.Dependencies.{dependency_meaning, is_optional};
 ghost use Rattle.cargo_toml.specs.Action.{Text};
 ghost use Rattle.cargo_toml.specs.Admitted.{Listed};
 ghost use Rattle.cargo_toml.specs.Recorded.{is_mentioned, entries_at, recorded_of};
@@ -8,7 +8,7 @@ ghost use Rattle.cargo_toml.specs.Recording.{recorded_at, recorded_first, record
 ghost use Rattle.cargo_toml.specs.Views.{entry_of, normal_entries, recorded_in, target_of};
 
 use crate::features::{Feature, FeatureDependency, Kind, ParseDependency, TargetKey};
-use cargo_toml_tables::Dependency;
+use cargo_toml_dependencies::Dependency;
 use std::alloc::{AllocError, Global};
 use std::collections::{BTreeMap, HashMap};
 use std::hash::BuildHasher;

@@ -1,7 +1,7 @@
 //! Worked examples of what listed features and entries of dependencies say.
 ghost use Rattle.std.specs.Prelude.{◌≡◌, ◌↔◌, ◌⊎◌, ◌∷◌, [], None, Some, codes, false, true, IsFalse, IsSome, IsTrue};
 ghost use Rattle.std.specs.Option.{IsSomeAnd};
-ghost use Rattle.cargo_toml_tables.specs.Dependencies.{simple};
+ghost use Rattle.cargo_toml_dependencies.specs.Dependencies.{simple};
 ghost use Rattle.cargo_toml.specs.declared.features.Kind.TheVariants.{Build, Dev, Normal};
 ghost use Rattle.cargo_toml.specs.Action.{Text};
 ghost use Rattle.cargo_toml.specs.Admitted.{is_admitted, names};

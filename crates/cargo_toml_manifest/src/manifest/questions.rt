@@ -3,7 +3,7 @@ ghost use Rattle.std.specs.Prelude.{◌≡◌, IsSome, Some};
 ghost use Rattle.cargo_toml_parts.specs.InheritableValues.{value_of};
 
 use super::Manifest;
-use crate::package::Package;
+use cargo_toml_package::Package;
 use cargo_toml_parts::Inheritable;
 use cargo_toml_tables::LintGroups;
 

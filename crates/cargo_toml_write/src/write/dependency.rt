@@ -1,13 +1,13 @@
 //! Writers of dependencies.
 ghost use Rattle.toml.specs.View.{table_view};
-ghost use Rattle.cargo_toml_tables.specs.Dependencies.{inherited_meaning};
+ghost use Rattle.cargo_toml_dependencies.specs.Dependencies.{inherited_meaning};
 ghost use Rattle.cargo_toml_write.specs.WrittenDependencies.{inherited_rows, known_rows, detail_rows, DependencyTree, refuses_dependency};
 ghost use Rattle.cargo_toml_write.specs.Writes.{AddsRows, RefuseRows, TableOf};
 
 use crate::write::plain::{put_flag, put_text_if, put_texts};
 use crate::write::{ToValue, WriteRows, put_if, table_value};
 use cargo_toml_parts::Error;
-use cargo_toml_tables::{Dependency, DependencyDetail, InheritedDependencyDetail};
+use cargo_toml_dependencies::{Dependency, DependencyDetail, InheritedDependencyDetail};
 use std::alloc::Global;
 use toml::{Table, Value};
 

@@ -5,7 +5,7 @@ ghost use Rattle.toml.specs.Data.{string};
 ghost use Rattle.toml.specs.View.{view, table_view};
 ghost use Rattle.cargo_toml_parts.specs.Inherits.{inheritable_map};
 ghost use Rattle.cargo_toml_parts.specs.Settings.{edition_text, resolver_text, file_meaning, publish_meaning};
-ghost use Rattle.cargo_toml_manifest.specs.Packages.{package_meaning, package_reads};
+ghost use Rattle.cargo_toml_package.specs.Packages.{package_meaning, package_reads};
 ghost use Rattle.cargo_toml_manifest.specs.Texts.{any_tree};
 ghost use Rattle.cargo_toml_write.specs.Trees.{FreeTree, texts_unless_empty, inherited_tree};
 ghost use Rattle.cargo_toml_write.specs.WrittenPackages.{package_rows, set_or_inherited, text_or_inherited, tree_of_file, file_unless_on, registries_unless_everywhere, VersionAgain, MetadataAgain};
@@ -14,7 +14,7 @@ ghost use Rattle.cargo_toml_write.specs.Writes.{IsWriting, AddsRow, AddsRows, Re
 use crate::write::collections::inherited_value;
 use crate::write::plain::{put_flag, put_text, put_text_if, put_texts, texts_value};
 use crate::write::{ToValue, WriteRows, put, put_value, table_value};
-use cargo_toml_manifest::Package;
+use cargo_toml_package::Package;
 use cargo_toml_parts::{
     Edition, Error, FromValue, Inheritable, OptionalFile, Publish, Resolver, SemVer,
 };

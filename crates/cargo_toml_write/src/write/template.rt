@@ -8,7 +8,7 @@ ghost use Rattle.cargo_toml_write.specs.Writes.{AddsRow, AddsRows, RefuseRows, T
 use crate::write::plain::put_text_if;
 use crate::write::product::{put_all_texts, put_edition};
 use crate::write::{ToValue, WriteRows, put_if, put_unless, table_value};
-use cargo_toml_manifest::PackageTemplate;
+use cargo_toml_package::PackageTemplate;
 use cargo_toml_parts::{Error, OptionalFile, Publish};
 use std::alloc::Global;
 use toml::{Table, Value};

@@ -4,7 +4,7 @@ use Rattle.cargo_toml_parts.proofs.Steps.{stops, goes_on, then, blames_with}
 use Rattle.std.specs.Prelude.{Some}
 use Rattle.cargo_toml_parts.specs.Reads.{list_refuses, map_refuses, plain}
 use Rattle.cargo_toml_parts.proofs.Shapes.{at_optional, of_list}
-use Rattle.cargo_toml_manifest.proofs.Faults.{at_given_shape, of_map}
+use Rattle.cargo_toml_package.proofs.Faults.{at_given_shape, of_map}
 use Rattle.cargo_toml_manifest.proofs.workspace.read_table.Goals as goal
 
 pub returns-in_err-members : goal.returns-in_err-members

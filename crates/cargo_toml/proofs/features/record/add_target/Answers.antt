@@ -1,7 +1,7 @@
 use Rattle.std.proofs.Common.{ap, sym, ◌∙◌, cond, Some, None}
 use Rattle.std.specs.Option.{option_or}
 use Rattle.std.specs.Ordering.{is_eq}
-use Rattle.cargo_toml_tables.specs.Dependencies.{dependency_meaning}
+use Rattle.cargo_toml_dependencies.specs.Dependencies.{dependency_meaning}
 use Rattle.cargo_toml.specs.Recorded.{target_cmp}
 use Rattle.cargo_toml.proofs.Targets.{at, target_added, target_kept}
 use Rattle.cargo_toml.proofs.features.record.add_target.Goals as goal

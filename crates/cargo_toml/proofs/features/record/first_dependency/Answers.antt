@@ -1,6 +1,6 @@
 use Rattle.std.proofs.Common.{ap, ◌∙◌, cond, Some, None, unwrap_or}
 use Rattle.std.specs.Ordering.{is_eq}
-use Rattle.cargo_toml_tables.specs.Dependencies.{dependency_meaning}
+use Rattle.cargo_toml_dependencies.specs.Dependencies.{dependency_meaning}
 use Rattle.cargo_toml.specs.Recorded.{target_cmp}
 use Rattle.cargo_toml.proofs.Targets.{target_first, text_or}
 use Rattle.cargo_toml.proofs.features.record.first_dependency.Goals as goal

@@ -2,8 +2,8 @@ use Rattle.std.proofs.Common.{◌≡◌, refl, List, ◌∷◌, ◌++◌, [], Bo
 use Rattle.std.proofs.lemmas.List.{map-append}
 use Rattle.std.proofs.lemmas.Map.Iter.{iter_end}
 use Rattle.std.specs.Map.Iter.{deref_pair}
-use Rattle.cargo_toml_tables.specs.declared.dependency.Dependency.{Dependency}
-use Rattle.cargo_toml_tables.specs.Dependencies.{dependency_meaning}
+use Rattle.cargo_toml_dependencies.specs.declared.dependency.Dependency.{Dependency}
+use Rattle.cargo_toml_dependencies.specs.Dependencies.{dependency_meaning}
 use Rattle.cargo_toml.specs.declared.features.Kind.TheVariants.{Normal}
 use Rattle.cargo_toml.specs.Recorded.{Entry}
 use Rattle.cargo_toml.specs.Views.{entry_of}

@@ -1,5 +1,5 @@
 use Rattle.std.proofs.Common.{◌≡◌, map, string_bytes, None}
-use Rattle.cargo_toml_tables.specs.Dependencies.{dependency_meaning}
+use Rattle.cargo_toml_dependencies.specs.Dependencies.{dependency_meaning}
 use Rattle.cargo_toml.specs.declared.features.Kind.TheVariants.{Normal}
 use Rattle.cargo_toml.specs.Views.{entry_of}
 use Rattle.cargo_toml.proofs.features.record.normal_dependencies.Given as goal

@@ -1,7 +1,7 @@
 use Rattle.std.proofs.Common.{◌≡◌, ◌||◌, true, false, Some, None, is_some, option_map, ap, sym, subst, ◌∙◌}
 use Rattle.std.proofs.lemmas.Result.{on_ok_weaker}
 use Rattle.std.specs.Option.{option_copied_mut}
-use Rattle.cargo_toml_tables.specs.Dependencies.{dependency_meaning, is_optional}
+use Rattle.cargo_toml_dependencies.specs.Dependencies.{dependency_meaning, is_optional}
 use Rattle.cargo_toml.specs.Action.{Text}
 use Rattle.cargo_toml.specs.Recording.{recorded_at, recorded_with, is_mentioned_in, recorded_after}
 use Rattle.cargo_toml.specs.Views.{entry_of, recorded_in, value_at}

@@ -13,7 +13,7 @@ mod types;
 mod values;
 mod written;
 
-use cargo_toml::{Error, FromValue, ParseFault};
+use cargo_toml::{Error, FromValue, Manifest, ParseFault};
 use std::alloc::{AllocError, Global};
 use std::process::Abort;
 
@@ -22,6 +22,12 @@ fn texts(alloc: Global, item: &str) -> Result<Vec<String>, AllocError> {
     let mut all = Vec::new(alloc);
     all.push(String::from_str(alloc, item)?)?;
     Ok(all)
+}
+
+// The manifest of a text, behind a pointer: of what a function owns itself each field is looked at where it is proved, and a
+// manifest has some hundred.
+fn manifest(alloc: Global, text: &str) -> Result<Box<Manifest>, Error> {
+    Ok(Box::new(alloc, Manifest::from_str(alloc, text)?)?)
 }
 
 // What reads at a key of a document.

@@ -1,6 +1,7 @@
 //! Worked rows of `parse`.
+use super::manifest;
+use cargo_toml::Dependency;
 use cargo_toml::features::{DepAction, Feature, Features, Resolver};
-use cargo_toml::{Dependency, Manifest};
 use std::alloc::{AllocError, Global};
 use std::collections::{BTreeSet, HashMap};
 use std::hash::BuildHasher;
@@ -42,7 +43,7 @@ name = "p"
 a = ["b?", "a"]
 b = []
 "#;
-    let manifest = Manifest::from_slice(alloc, text.as_bytes())?;
+    let manifest = manifest(alloc, text)?;
     let Features {
         features,
         dependencies,
@@ -90,7 +91,7 @@ d = { version = "1", optional = true }
 [features]
 f = ["dep:d"]
 "#;
-    let manifest = Manifest::from_slice(alloc, text.as_bytes())?;
+    let manifest = manifest(alloc, text)?;
     let Features {
         features,
         dependencies,
@@ -118,7 +119,7 @@ name = "p"
 [features]
 f = ["a?", "dep:a?/b/c", "dep:dep:x", "/", ""]
 "#;
-    let manifest = Manifest::from_slice(alloc, text.as_bytes())?;
+    let manifest = manifest(alloc, text)?;
     let Features { features, .. } = Resolver::new().parse(alloc, &manifest)?;
 
     assert_eq!(rt; features.len(), 2);
@@ -145,7 +146,7 @@ name = "p"
 [dependencies]
 d = { workspace = false, optional = true }
 "#;
-    let manifest = Manifest::from_slice(alloc, text.as_bytes())?;
+    let manifest = manifest(alloc, text)?;
     let Some(Dependency::Inherited(detail)) = manifest.dependencies.get("d") else {
         return Err(Fail::from("d is not inherited"));
     };
@@ -181,7 +182,7 @@ log = { version = "0.4", optional = true }
 default = ["fast"]
 fast = ["log/std"]
 "#;
-    let manifest = Manifest::from_slice(alloc, text.as_bytes())?;
+    let manifest = manifest(alloc, text)?;
     let Features {
         features,
         dependencies,
@@ -217,7 +218,7 @@ fast = ["log/std"]
 fn virtual_manifest(rt: HostRuntime) -> Result<(), Fail> {
     let alloc = rt.alloc();
     for text in ["[workspace]\nmembers = [\"autobin\", \"autolib\"]\n", ""] {
-        let manifest = Manifest::from_str(alloc, text)?;
+        let manifest = manifest(alloc, text)?;
         assert!(rt; manifest.package.is_none());
         let resolved = Resolver::new().parse(alloc, &manifest)?;
         assert_eq!(rt; resolved.features.len(), 1);

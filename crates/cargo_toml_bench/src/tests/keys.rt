@@ -1,9 +1,10 @@
 //! Each key of a package, a workspace, a template and a manifest, read once.
-use super::assert_list;
+use super::{assert_list, manifest};
 use cargo_toml::{
-    Dependency, Edition, FromValue, Inheritable, LintLevel, Manifest, OptionalFile, Package,
+    Dependency, Edition, Error, FromValue, Inheritable, LintLevel, Manifest, OptionalFile, Package,
     PackageTemplate, Product, Publish, Resolver, SemVer, Value, Workspace,
 };
+use std::alloc::Global;
 use std::process::Abort;
 use std::test::Fail;
 
@@ -95,7 +96,7 @@ fn assert_every_package_key(rt: &impl Abort, package: &Package) -> Result<(), Fa
 
 #[test]
 fn every_key_of_a_package(rt: HostRuntime) -> Result<(), Fail> {
-    let manifest = Manifest::from_str(rt.alloc(), PACKAGE)?;
+    let manifest = manifest(rt.alloc(), PACKAGE)?;
     let package = manifest.package.as_ref().ok_or("no package")?;
     assert_every_package_key(&rt, package)
 }
@@ -149,7 +150,7 @@ fn assert_every_workspace_key(rt: &impl Abort, workspace: &Workspace) -> Result<
 
 #[test]
 fn every_key_of_a_workspace(rt: HostRuntime) -> Result<(), Fail> {
-    let manifest = Manifest::from_str(rt.alloc(), WORKSPACE)?;
+    let manifest = manifest(rt.alloc(), WORKSPACE)?;
     let workspace = manifest.workspace.as_ref().ok_or("no workspace")?;
     assert_every_workspace_key(&rt, workspace)
 }
@@ -182,7 +183,7 @@ fn assert_every_template_key(rt: &impl Abort, template: &PackageTemplate) -> Res
 
 #[test]
 fn every_key_of_a_template(rt: HostRuntime) -> Result<(), Fail> {
-    let manifest = Manifest::from_str(rt.alloc(), WORKSPACE)?;
+    let manifest = manifest(rt.alloc(), WORKSPACE)?;
     let workspace = manifest.workspace.as_ref().ok_or("no workspace")?;
     let template = workspace.package.as_ref().ok_or("no template")?;
     assert_every_template_key(&rt, template)
@@ -258,8 +259,13 @@ fn assert_every_other_key(rt: &impl Abort, manifest: &Manifest) -> Result<(), Fa
 
 #[test]
 fn every_other_key_of_a_manifest(rt: HostRuntime) -> Result<(), Fail> {
-    let manifest = Manifest::from_str(rt.alloc(), OTHERS)?;
+    let manifest = manifest(rt.alloc(), OTHERS)?;
     assert_every_other_key(&rt, &manifest)
+}
+
+// What a tree reads as, behind a pointer.
+fn of_tree<T: FromValue>(alloc: Global, tree: &Value) -> Result<Box<T>, Error> {
+    Ok(Box::new(alloc, T::from_value(alloc, tree.clone()?)?)?)
 }
 
 #[test]
@@ -267,16 +273,16 @@ fn trees_are_read(rt: HostRuntime) -> Result<(), Fail> {
     let alloc = rt.alloc();
     let document = Value::Table(toml::table_from_str(alloc, WORKSPACE)?);
     let table = document.get("workspace").ok_or("no workspace")?;
-    let workspace: Workspace = FromValue::from_value(alloc, table.clone()?)?;
+    let workspace: Box<Workspace> = of_tree(alloc, table)?;
     assert_list(&rt, workspace.members.as_slice(), &["members"]);
     let template_table = table.get("package").ok_or("no template")?;
-    let template: PackageTemplate = FromValue::from_value(alloc, template_table.clone()?)?;
+    let template: Box<PackageTemplate> = of_tree(alloc, template_table)?;
     assert!(rt; template.license.as_deref() == Some("license"));
-    let manifest: Manifest = FromValue::from_value(alloc, document)?;
+    let manifest: Box<Manifest> = of_tree(alloc, &document)?;
     assert!(rt; manifest.workspace.is_some());
     let document = Value::Table(toml::table_from_str(alloc, PACKAGE)?);
     let table = document.get("package").ok_or("no package")?;
-    let package: Package = FromValue::from_value(alloc, table.clone()?)?;
+    let package: Box<Package> = of_tree(alloc, table)?;
     assert_eq!(rt; package.name.as_str(), "name");
     Ok(())
 }

@@ -1,5 +1,5 @@
 //! Worked rows of whole manifests, and what they are where nothing is given.
-use super::{assert_list, refused};
+use super::{assert_list, manifest, refused};
 use cargo_toml::{
     DebugSetting, Dependency, DepsSet, Edition, Error, FeatureSet, FromValue, Inheritable,
     MaintenanceStatus, Manifest, Package, PackageTemplate, ParseFault, Publish, SemVer, Value,
@@ -36,11 +36,7 @@ impl FromValue for Level {
 
 // The manifest of the text is refused by a fault of shape with these words.
 fn assert_shape(rt: &(impl Abort + AllocGlobal), text: &str, want: &str) {
-    assert_eq!(rt;
-        refused(&Manifest::from_str(rt.alloc(), text)),
-        want,
-        "{text}"
-    );
+    assert_eq!(rt; refused(&manifest(rt.alloc(), text)), want, "{text}");
 }
 
 const SMALL: &str = r#"[package]
@@ -77,15 +73,19 @@ fn assert_small(rt: &impl Abort, manifest: &Manifest) -> Result<(), Fail> {
     Ok(())
 }
 
+fn of_bytes(alloc: Global, bytes: &[u8]) -> Result<Box<Manifest>, Error> {
+    Ok(Box::new(alloc, Manifest::from_slice(alloc, bytes)?)?)
+}
+
+fn with_metadata<M: FromValue>(alloc: Global, bytes: &[u8]) -> Result<Box<Manifest<M>>, Error> {
+    Ok(Box::new(alloc, Manifest::from_slice_with_metadata(alloc, bytes)?)?)
+}
+
 #[test]
 fn small_manifest_other_calls(rt: HostRuntime) -> Result<(), Fail> {
-    assert_small(&rt, &Manifest::from_slice(rt.alloc(), SMALL.as_bytes())?)?;
-    assert_small(&rt, &Manifest::from_str(rt.alloc(), SMALL)?)?;
-    assert_small(
-        &rt,
-        &Manifest::from_slice_with_metadata(rt.alloc(), SMALL.as_bytes())?,
-    )?;
-    Ok(())
+    assert_small(&rt, &*of_bytes(rt.alloc(), SMALL.as_bytes())?)?;
+    assert_small(&rt, &*manifest(rt.alloc(), SMALL)?)?;
+    assert_small(&rt, &*with_metadata(rt.alloc(), SMALL.as_bytes())?)
 }
 
 #[test]
@@ -95,12 +95,12 @@ fn unknown_keys_ignored(rt: HostRuntime) -> Result<(), Fail> {
     let more = format!(in alloc;
         "cargo-features = [\"x\"]\n[package]\nim-a-teapot = true\n{known}"
     )?;
-    assert_small(&rt, &Manifest::from_str(alloc, more.as_str())?)
+    assert_small(&rt, &*manifest(alloc, more.as_str())?)
 }
 
 // Where the package of this text may be published.
 fn publish(alloc: Global, text: &str) -> Result<Option<bool>, Error> {
-    let manifest = Manifest::from_str(alloc, text)?;
+    let manifest = manifest(alloc, text)?;
     match &manifest.package {
         Some(package) => match &package.publish {
             Inheritable::Set(Publish::Flag(publish)) => Ok(Some(*publish)),
@@ -136,7 +136,7 @@ fn version_zero_rule(rt: HostRuntime) -> Result<(), Fail> {
     for (text, want) in rows {
         assert!(rt; publish(rt.alloc(), text)? == want, "{text}");
     }
-    let manifest = Manifest::from_str(rt.alloc(), "[package]\nname = \"p\"\n")?;
+    let manifest = manifest(rt.alloc(), "[package]\nname = \"p\"\n")?;
     let package = manifest.package.as_ref().ok_or("no package")?;
     let Inheritable::Set(version) = &package.version else {
         return Err("no version")?;
@@ -147,7 +147,7 @@ fn version_zero_rule(rt: HostRuntime) -> Result<(), Fail> {
 
 #[test]
 fn refused_inputs(rt: HostRuntime) -> Result<(), Fail> {
-    let refused = Manifest::from_str(rt.alloc(), "[package");
+    let refused = manifest(rt.alloc(), "[package");
     assert!(rt; matches!(refused, Err(Error::Parse(ParseFault::Toml(_)))));
     assert_shape(
         &rt,
@@ -164,7 +164,7 @@ fn refused_inputs(rt: HostRuntime) -> Result<(), Fail> {
         "[package]\nname = \"p\"\nversion = { workspace = false }\n",
         "inherited field with `workspace = false` is not allowed",
     );
-    let refused = Manifest::from_slice(rt.alloc(), b"\xff");
+    let refused = of_bytes(rt.alloc(), b"\xff");
     assert!(rt; matches!(refused, Err(Error::Other("utf8"))));
     Ok(())
 }
@@ -187,7 +187,7 @@ fn parts_of_the_wrong_shape(rt: HostRuntime) {
 #[test]
 fn feature_table_read(rt: HostRuntime) -> Result<(), Fail> {
     let text = "[features]\nf = { enables = [\"a\"], public = false }\n";
-    let manifest = Manifest::from_str(rt.alloc(), text)?;
+    let manifest = manifest(rt.alloc(), text)?;
     let feature = manifest.features.get("f").ok_or("no f")?;
     assert_eq!(rt; feature.len(), 1);
     assert_eq!(rt; feature[0].as_str(), "a");
@@ -197,7 +197,7 @@ fn feature_table_read(rt: HostRuntime) -> Result<(), Fail> {
 #[test]
 fn badges_that_do_not_read(rt: HostRuntime) -> Result<(), Fail> {
     let text = "[badges]\nappveyor = { branch = \"x\" }\nmaintenance = { status = \"gone\" }\n";
-    let manifest = Manifest::from_str(rt.alloc(), text)?;
+    let manifest = manifest(rt.alloc(), text)?;
     assert!(rt; manifest.badges.appveyor.is_none());
     assert!(rt; manifest.badges.maintenance.status == MaintenanceStatus::None);
     Ok(())
@@ -205,7 +205,7 @@ fn badges_that_do_not_read(rt: HostRuntime) -> Result<(), Fail> {
 
 #[test]
 fn proc_macro_underscore(rt: HostRuntime) -> Result<(), Fail> {
-    let manifest = Manifest::from_str(rt.alloc(), "[lib]\nproc_macro = true\n")?;
+    let manifest = manifest(rt.alloc(), "[lib]\nproc_macro = true\n")?;
     let library = manifest.lib.as_ref().ok_or("no library")?;
     assert!(rt; library.proc_macro);
     Ok(())
@@ -213,7 +213,7 @@ fn proc_macro_underscore(rt: HostRuntime) -> Result<(), Fail> {
 
 #[test]
 fn custom_profile_codegen_units(rt: HostRuntime) -> Result<(), Fail> {
-    let manifest = Manifest::from_str(rt.alloc(), "[profile.fast]\ncodegen-units = 65535\n")?;
+    let manifest = manifest(rt.alloc(), "[profile.fast]\ncodegen-units = 65535\n")?;
     let fast = manifest.profile.custom.get("fast").ok_or("no profile")?;
     assert!(rt; fast.codegen_units == Some(65535));
     Ok(())
@@ -222,7 +222,7 @@ fn custom_profile_codegen_units(rt: HostRuntime) -> Result<(), Fail> {
 #[test]
 fn debug_line_tables_only(rt: HostRuntime) -> Result<(), Fail> {
     let text = "[profile.dev]\ndebug = \"line-tables-only\"\n";
-    let manifest = Manifest::from_str(rt.alloc(), text)?;
+    let manifest = manifest(rt.alloc(), text)?;
     let dev = manifest.profile.dev.as_ref().ok_or("no profile")?;
     assert!(rt; dev.debug == Some(DebugSetting::Lines));
     Ok(())
@@ -230,7 +230,7 @@ fn debug_line_tables_only(rt: HostRuntime) -> Result<(), Fail> {
 
 #[test]
 fn inherited_lints(rt: HostRuntime) -> Result<(), Fail> {
-    let manifest = Manifest::from_str(rt.alloc(), "[lints]\nworkspace = true\n")?;
+    let manifest = manifest(rt.alloc(), "[lints]\nworkspace = true\n")?;
     assert!(rt; matches!(manifest.lints, Inheritable::Inherited));
     Ok(())
 }
@@ -239,13 +239,13 @@ fn inherited_lints(rt: HostRuntime) -> Result<(), Fail> {
 fn metadata_of_another_crate(rt: HostRuntime) -> Result<(), Fail> {
     let alloc = rt.alloc();
     let text = b"[package]\nname = \"p\"\nmetadata = 3\n[workspace]\nmetadata = 4\n";
-    let manifest: Manifest<Level> = Manifest::from_slice_with_metadata(alloc, text)?;
+    let manifest: Box<Manifest<Level>> = with_metadata(alloc, text)?;
     let package = manifest.package.as_ref().ok_or("no package")?;
     assert!(rt; matches!(package.metadata, Some(Level(3))));
     let workspace = manifest.workspace.as_ref().ok_or("no workspace")?;
     assert!(rt; matches!(workspace.metadata, Some(Level(4))));
     let text = b"[package]\nname = \"p\"\nmetadata = \"high\"\n";
-    let refused: Result<Manifest<Level>, Error> = Manifest::from_slice_with_metadata(alloc, text);
+    let refused: Result<Box<Manifest<Level>>, Error> = with_metadata(alloc, text);
     assert!(rt; matches!(refused, Err(Error::Other("no level"))));
     Ok(())
 }
@@ -381,7 +381,7 @@ fn assert_large_features(rt: &impl Abort, features: &FeatureSet) -> Result<(), F
 
 #[test]
 fn large_manifest_is_read(rt: HostRuntime) -> Result<(), Fail> {
-    let manifest = Manifest::from_str(rt.alloc(), LARGE)?;
+    let manifest = manifest(rt.alloc(), LARGE)?;
     let package = manifest.package.as_ref().ok_or("no package")?;
     assert_eq!(rt; package.name.as_str(), "foo");
     assert!(rt; matches!(package.publish, Inheritable::Set(Publish::Flag(false))));
@@ -408,19 +408,22 @@ fn large_manifest_is_read(rt: HostRuntime) -> Result<(), Fail> {
 #[test]
 fn defaults(rt: HostRuntime) -> Result<(), Fail> {
     let alloc = rt.alloc();
-    let manifest: Manifest = Manifest::default(alloc);
+    let manifest: Box<Manifest> = Box::new(alloc, Manifest::default(alloc))?;
     assert!(rt; manifest.package.is_none());
     assert!(rt; matches!(&manifest.lints, Inheritable::Set(lints) if lints.is_empty()));
-    let workspace: Workspace<Level> = Workspace::default(alloc);
+    let workspace: Box<Workspace<Level>> = Box::new(alloc, Workspace::default(alloc))?;
     assert!(rt; workspace.members.is_empty());
-    let template = PackageTemplate::default(alloc);
+    let template = Box::new(alloc, PackageTemplate::default(alloc))?;
     assert!(rt; matches!(template.publish, Publish::Flag(true)));
-    let package: Package = Package::default(alloc);
+    let package: Box<Package> = Box::new(alloc, Package::default(alloc))?;
     assert_eq!(rt; package.name.as_str(), "");
     assert!(rt; matches!(package.edition, Inheritable::Set(Edition::E2021)));
     assert!(rt; package.autobins);
     let name = String::from_str(alloc, "p")?;
-    let package: Package<Level> = Package::new(alloc, name, SemVer::new(1, 2, 3));
+    let package: Box<Package<Level>> = Box::new(
+        alloc,
+        Package::new(alloc, name, SemVer::new(1, 2, 3)),
+    )?;
     assert_eq!(rt; package.name.as_str(), "p");
     assert!(rt; matches!(package.publish, Inheritable::Set(Publish::Flag(true))));
     Ok(())

@@ -2,8 +2,8 @@
 ghost use Rattle.std.specs.Prelude.{◌≡◌};
 ghost use Rattle.cargo_toml_package.specs.PackageAnswers.{is_known};
 
-use super::assert_list;
-use cargo_toml::{Edition, Inheritable, Manifest, OptionalFile, Package, Publish, SemVer};
+use super::{assert_list, manifest};
+use cargo_toml::{Edition, Inheritable, OptionalFile, Package, Publish, SemVer};
 use std::process::Abort;
 use std::test::Fail;
 
@@ -54,7 +54,7 @@ fn assert_lists(rt: &impl Abort, package: &Package) {
 
 #[test]
 fn every_question(rt: HostRuntime) -> Result<(), Fail> {
-    let manifest = Manifest::from_str(rt.alloc(), ASKED)?;
+    let manifest = manifest(rt.alloc(), ASKED)?;
     assert!(rt; manifest.package.is_some());
     let package = manifest.package();
     assert_texts(&rt, package);
@@ -76,7 +76,10 @@ fn every_question(rt: HostRuntime) -> Result<(), Fail> {
 fn every_change(rt: HostRuntime) -> Result<(), Fail> {
     let alloc = rt.alloc();
     let name = String::from_str(alloc, "p")?;
-    let mut package: Package = Package::new(alloc, name, SemVer::new(1, 2, 3));
+    let mut package: Box<Package> = Box::new(
+        alloc,
+        Package::new(alloc, name, SemVer::new(1, 2, 3)),
+    )?;
     package.set_description(Some(String::from_str(alloc, "d")?));
     package.set_documentation(Some(String::from_str(alloc, "e")?));
     package.set_homepage(Some(String::from_str(alloc, "f")?));

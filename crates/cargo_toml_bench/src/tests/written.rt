@@ -4,6 +4,7 @@ mod parts;
 mod settings;
 mod tables;
 
+use super::manifest;
 use super::manifests::LARGE;
 use cargo_toml::{
     Dependency, Error, FromValue, Inheritable, InheritedDependencyDetail, Manifest, Package,
@@ -53,15 +54,15 @@ fn prints_and_reads<T: ToValue>(alloc: Global, x: &T) -> Result<bool, Fail> {
 #[test]
 fn written_tables_read_again(rt: HostRuntime) -> Result<(), Fail> {
     let alloc = rt.alloc();
-    let mut manifest: Manifest = Manifest::default(alloc);
-    assert!(rt; prints_and_reads(alloc, &manifest)?);
+    let mut manifest: Box<Manifest> = Box::new(alloc, Manifest::default(alloc))?;
+    assert!(rt; prints_and_reads(alloc, &*manifest)?);
     let mut doc = Profile::default(alloc);
     doc.opt_level = Some(Value::Integer(1));
     manifest.profile.doc = Some(doc);
-    assert!(rt; prints_and_reads(alloc, &manifest)?);
+    assert!(rt; prints_and_reads(alloc, &*manifest)?);
     let name = String::from_str(alloc, "p")?;
-    let package: Package = Package::new(alloc, name, SemVer::new(1, 2, 3));
-    assert!(rt; prints_and_reads(alloc, &package)?);
+    let package: Box<Package> = Box::new(alloc, Package::new(alloc, name, SemVer::new(1, 2, 3)))?;
+    assert!(rt; prints_and_reads(alloc, &*package)?);
     let mut detail = InheritedDependencyDetail::default(alloc);
     detail.optional = true;
     assert!(rt; prints_and_reads(alloc, &Dependency::Inherited(detail))?);
@@ -74,11 +75,11 @@ fn written_tables_read_again(rt: HostRuntime) -> Result<(), Fail> {
 #[test]
 fn large_manifest_written(rt: HostRuntime) -> Result<(), Fail> {
     let alloc = rt.alloc();
-    let manifest = Manifest::from_slice(alloc, LARGE.as_bytes())?;
-    let written = table(alloc, &manifest)?;
+    let large = manifest(alloc, LARGE)?;
+    let written = table(alloc, &*large)?;
     let text = toml::table_to_string(alloc, &written)?;
-    let again = Manifest::from_str(alloc, text.as_str())?;
-    assert!(rt; table(alloc, &again)? == written);
+    let again = manifest(alloc, text.as_str())?;
+    assert!(rt; table(alloc, &*again)? == written);
     Ok(())
 }
 
@@ -87,9 +88,10 @@ fn written_metadata_read_again(rt: HostRuntime) -> Result<(), Fail> {
     let alloc = rt.alloc();
     let document = "name = 'p'\nmetadata = { a = [1, 'b'] }\n";
     let tree = Value::Table(toml::table_from_str(alloc, document)?);
-    let package: Package = Package::from_value(alloc, tree)?;
-    assert!(rt; prints_and_reads(alloc, &package)?);
-    let again: Result<Package, Error> = Package::from_value(alloc, package.to_value(alloc)?);
-    assert!(rt; again? == package);
+    let package: Box<Package> = Box::new(alloc, Package::from_value(alloc, tree)?)?;
+    assert!(rt; prints_and_reads(alloc, &*package)?);
+    let written = package.to_value(alloc)?;
+    let again: Box<Package> = Box::new(alloc, Package::from_value(alloc, written)?)?;
+    assert!(rt; *again == *package);
     Ok(())
 }

@@ -1,0 +1,2 @@
+mod NoProduct
+mod NoProfile

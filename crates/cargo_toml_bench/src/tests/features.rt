@@ -1,10 +1,10 @@
 //! Worked rows of `parse`.
 use super::manifest;
-use cargo_toml::Dependency;
 use cargo_toml::features::{DepAction, Feature, Features, Resolver};
+use cargo_toml::{Dependency, Error, Manifest};
 use std::alloc::{AllocError, Global};
 use std::collections::{BTreeSet, HashMap};
-use std::hash::BuildHasher;
+use std::hash::{BuildHasher, BuildHasherDefault, FoldHasher};
 use std::test::Fail;
 
 // The texts of a set in their order, each followed by a comma.
@@ -15,6 +15,16 @@ fn joined(alloc: Global, texts: &BTreeSet<&str>) -> Result<String, AllocError> {
         all.push(',')?;
     }
     Ok(all)
+}
+
+type State = BuildHasherDefault<FoldHasher>;
+
+// What is resolved, behind a pointer as the manifest is.
+fn resolved<'m>(
+    alloc: Global,
+    manifest: &'m Manifest,
+) -> Result<Box<Features<'m, 'm, State>>, Error> {
+    Ok(Box::new(alloc, Resolver::new().parse(alloc, manifest)?)?)
 }
 
 fn feature<'f, 'm, S: BuildHasher>(
@@ -44,15 +54,10 @@ a = ["b?", "a"]
 b = []
 "#;
     let manifest = manifest(alloc, text)?;
-    let Features {
-        features,
-        dependencies,
-        removed_hidden_features,
-        hidden_features,
-    } = Resolver::new().parse(alloc, &manifest)?;
+    let resolved = resolved(alloc, &*manifest)?;
 
-    assert_eq!(rt; features.len(), 3);
-    let a = feature(&features, "a")?;
+    assert_eq!(rt; resolved.features.len(), 3);
+    let a = feature(&resolved.features, "a")?;
     assert_eq!(rt; a.key, "a");
     assert!(rt;
         a.explicit
@@ -61,7 +66,7 @@ b = []
             && a.required_by_bins.is_empty()
     );
     assert_eq!(rt; joined(alloc, &a.enables_features)?.as_str(), "a,b,");
-    let b = feature(&features, "b")?;
+    let b = feature(&resolved.features, "b")?;
     assert_eq!(rt; b.key, "b");
     assert!(rt;
         b.explicit
@@ -70,13 +75,17 @@ b = []
             && b.required_by_bins.is_empty()
     );
     assert_eq!(rt; joined(alloc, &b.enabled_by)?.as_str(), "a,");
-    let default = feature(&features, "default")?;
+    let default = feature(&resolved.features, "default")?;
     assert_eq!(rt; default.key, "default");
     assert!(rt;
         default.explicit && default.enables_features.is_empty() && default.enables_deps.is_empty()
     );
     assert!(rt; default.enabled_by.is_empty() && default.required_by_bins.is_empty());
-    assert!(rt; dependencies.is_empty() && hidden_features.is_empty() && !removed_hidden_features);
+    assert!(rt;
+        resolved.dependencies.is_empty()
+            && resolved.hidden_features.is_empty()
+            && !resolved.removed_hidden_features
+    );
     Ok(())
 }
 
@@ -92,21 +101,17 @@ d = { version = "1", optional = true }
 f = ["dep:d"]
 "#;
     let manifest = manifest(alloc, text)?;
-    let Features {
-        features,
-        dependencies,
-        ..
-    } = Resolver::new().parse(alloc, &manifest)?;
+    let resolved = resolved(alloc, &*manifest)?;
 
-    assert_eq!(rt; features.len(), 2);
-    assert!(rt; features.contains_key("default"));
-    let f = feature(&features, "f")?;
+    assert_eq!(rt; resolved.features.len(), 2);
+    assert!(rt; resolved.features.contains_key("default"));
+    let f = feature(&resolved.features, "f")?;
     assert!(rt; f.explicit && f.enables_features.is_empty() && f.enabled_by.is_empty());
     assert_eq!(rt; f.enables_deps.len(), 1);
     let d = action(f, "d")?;
     assert!(rt; d.is_dep_only && !d.is_conditional && d.dep_features.is_empty());
-    assert_eq!(rt; dependencies.len(), 1);
-    assert!(rt; dependencies.contains_key("d"));
+    assert_eq!(rt; resolved.dependencies.len(), 1);
+    assert!(rt; resolved.dependencies.contains_key("d"));
     Ok(())
 }
 
@@ -120,10 +125,10 @@ name = "p"
 f = ["a?", "dep:a?/b/c", "dep:dep:x", "/", ""]
 "#;
     let manifest = manifest(alloc, text)?;
-    let Features { features, .. } = Resolver::new().parse(alloc, &manifest)?;
+    let resolved = resolved(alloc, &*manifest)?;
 
-    assert_eq!(rt; features.len(), 2);
-    let f = feature(&features, "f")?;
+    assert_eq!(rt; resolved.features.len(), 2);
+    let f = feature(&resolved.features, "f")?;
     assert_eq!(rt; joined(alloc, &f.enables_features)?.as_str(), ",a,");
     assert_eq!(rt; f.enables_deps.len(), 3);
     let a = action(f, "a")?;
@@ -151,19 +156,15 @@ d = { workspace = false, optional = true }
         return Err(Fail::from("d is not inherited"));
     };
     assert!(rt; detail.optional && !detail.workspace);
-    let Features {
-        features,
-        dependencies,
-        ..
-    } = Resolver::new().parse(alloc, &manifest)?;
+    let resolved = resolved(alloc, &*manifest)?;
 
-    assert_eq!(rt; features.len(), 2);
-    let d = feature(&features, "d")?;
+    assert_eq!(rt; resolved.features.len(), 2);
+    let d = feature(&resolved.features, "d")?;
     assert_eq!(rt; d.key, "d");
     assert!(rt; !d.explicit && d.enables_features.is_empty() && d.enabled_by.is_empty());
     assert_eq!(rt; d.enables_deps.len(), 1);
     assert!(rt; is_plain(action(d, "d")?));
-    let recorded = dependencies.get("d").ok_or("no dependency d")?;
+    let recorded = resolved.dependencies.get("d").ok_or("no dependency d")?;
     assert_eq!(rt; recorded.crate_name, "d");
     assert_eq!(rt; recorded.targets.len(), 1);
     Ok(())
@@ -183,34 +184,29 @@ default = ["fast"]
 fast = ["log/std"]
 "#;
     let manifest = manifest(alloc, text)?;
-    let Features {
-        features,
-        dependencies,
-        removed_hidden_features,
-        hidden_features,
-    } = Resolver::new().parse(alloc, &manifest)?;
+    let resolved = resolved(alloc, &*manifest)?;
 
-    assert_eq!(rt; features.len(), 3);
-    let default = feature(&features, "default")?;
+    assert_eq!(rt; resolved.features.len(), 3);
+    let default = feature(&resolved.features, "default")?;
     assert!(rt;
         default.explicit && default.enables_deps.is_empty() && default.enabled_by.is_empty()
     );
     assert_eq!(rt; joined(alloc, &default.enables_features)?.as_str(), "fast,");
-    let fast = feature(&features, "fast")?;
+    let fast = feature(&resolved.features, "fast")?;
     assert!(rt; fast.explicit && fast.enables_features.is_empty());
     assert_eq!(rt; joined(alloc, &fast.enabled_by)?.as_str(), "default,");
     assert_eq!(rt; fast.enables_deps.len(), 1);
     let std = action(fast, "log")?;
     assert!(rt; !std.is_conditional && !std.is_dep_only);
     assert_eq!(rt; joined(alloc, &std.dep_features)?.as_str(), "std,");
-    let log = feature(&features, "log")?;
+    let log = feature(&resolved.features, "log")?;
     assert!(rt; !log.explicit && log.enables_features.is_empty());
     assert_eq!(rt; joined(alloc, &log.enabled_by)?.as_str(), "fast,");
     assert_eq!(rt; log.enables_deps.len(), 1);
     assert!(rt; is_plain(action(log, "log")?));
-    assert_eq!(rt; dependencies.len(), 1);
-    assert!(rt; dependencies.contains_key("log"));
-    assert!(rt; hidden_features.is_empty() && !removed_hidden_features);
+    assert_eq!(rt; resolved.dependencies.len(), 1);
+    assert!(rt; resolved.dependencies.contains_key("log"));
+    assert!(rt; resolved.hidden_features.is_empty() && !resolved.removed_hidden_features);
     Ok(())
 }
 
@@ -220,7 +216,7 @@ fn virtual_manifest(rt: HostRuntime) -> Result<(), Fail> {
     for text in ["[workspace]\nmembers = [\"autobin\", \"autolib\"]\n", ""] {
         let manifest = manifest(alloc, text)?;
         assert!(rt; manifest.package.is_none());
-        let resolved = Resolver::new().parse(alloc, &manifest)?;
+        let resolved = resolved(alloc, &*manifest)?;
         assert_eq!(rt; resolved.features.len(), 1);
         let default = feature(&resolved.features, "default")?;
         assert!(rt;

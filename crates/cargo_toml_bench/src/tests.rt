@@ -24,10 +24,15 @@ fn texts(alloc: Global, item: &str) -> Result<Vec<String>, AllocError> {
     Ok(all)
 }
 
-// The manifest of a text, behind a pointer: of what a function owns itself each field is looked at where it is proved, and a
-// manifest has some hundred.
+// A value behind a pointer. Of what a function owns itself each field is looked at wherever the function may end, when it is
+// proved, and a manifest has some hundred.
+fn boxed<T: Drop>(alloc: Global, value: T) -> Result<Box<T>, AllocError> {
+    Ok(Box::new(alloc, value)?)
+}
+
+// The manifest of a text.
 fn manifest(alloc: Global, text: &str) -> Result<Box<Manifest>, Error> {
-    Ok(Box::new(alloc, Manifest::from_str(alloc, text)?)?)
+    Ok(boxed(alloc, Manifest::from_str(alloc, text)?)?)
 }
 
 // What reads at a key of a document.

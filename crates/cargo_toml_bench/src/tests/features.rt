@@ -1,5 +1,5 @@
 //! Worked rows of `parse`.
-use super::manifest;
+use super::{boxed, manifest};
 use cargo_toml::features::{DepAction, Feature, Features, Resolver};
 use cargo_toml::{Dependency, Error, Manifest};
 use std::alloc::{AllocError, Global};
@@ -24,7 +24,7 @@ fn resolved<'m>(
     alloc: Global,
     manifest: &'m Manifest,
 ) -> Result<Box<Features<'m, 'm, State>>, Error> {
-    Ok(Box::new(alloc, Resolver::new().parse(alloc, manifest)?)?)
+    Ok(boxed(alloc, Resolver::new().parse(alloc, manifest)?)?)
 }
 
 fn feature<'f, 'm, S: BuildHasher>(

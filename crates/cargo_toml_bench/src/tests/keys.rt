@@ -1,5 +1,5 @@
 //! Each key of a package, a workspace, a template and a manifest, read once.
-use super::{assert_list, manifest};
+use super::{assert_list, boxed, manifest};
 use cargo_toml::{
     Dependency, Edition, Error, FromValue, Inheritable, LintLevel, Manifest, OptionalFile, Package,
     PackageTemplate, Product, Publish, Resolver, SemVer, Value, Workspace,
@@ -265,7 +265,7 @@ fn every_other_key_of_a_manifest(rt: HostRuntime) -> Result<(), Fail> {
 
 // What a tree reads as, behind a pointer.
 fn of_tree<T: FromValue>(alloc: Global, tree: &Value) -> Result<Box<T>, Error> {
-    Ok(Box::new(alloc, T::from_value(alloc, tree.clone()?)?)?)
+    Ok(boxed(alloc, T::from_value(alloc, tree.clone()?)?)?)
 }
 
 #[test]

@@ -1,5 +1,5 @@
 //! Worked rows of whole manifests, and what they are where nothing is given.
-use super::{assert_list, manifest, refused};
+use super::{assert_list, boxed, manifest, refused};
 use cargo_toml::{
     DebugSetting, Dependency, DepsSet, Edition, Error, FeatureSet, FromValue, Inheritable,
     MaintenanceStatus, Manifest, Package, PackageTemplate, ParseFault, Publish, SemVer, Value,
@@ -74,11 +74,11 @@ fn assert_small(rt: &impl Abort, manifest: &Manifest) -> Result<(), Fail> {
 }
 
 fn of_bytes(alloc: Global, bytes: &[u8]) -> Result<Box<Manifest>, Error> {
-    Ok(Box::new(alloc, Manifest::from_slice(alloc, bytes)?)?)
+    Ok(boxed(alloc, Manifest::from_slice(alloc, bytes)?)?)
 }
 
 fn with_metadata<M: FromValue>(alloc: Global, bytes: &[u8]) -> Result<Box<Manifest<M>>, Error> {
-    Ok(Box::new(alloc, Manifest::from_slice_with_metadata(alloc, bytes)?)?)
+    Ok(boxed(alloc, Manifest::from_slice_with_metadata(alloc, bytes)?)?)
 }
 
 #[test]
@@ -408,19 +408,19 @@ fn large_manifest_is_read(rt: HostRuntime) -> Result<(), Fail> {
 #[test]
 fn defaults(rt: HostRuntime) -> Result<(), Fail> {
     let alloc = rt.alloc();
-    let manifest: Box<Manifest> = Box::new(alloc, Manifest::default(alloc))?;
+    let manifest: Box<Manifest> = boxed(alloc, Manifest::default(alloc))?;
     assert!(rt; manifest.package.is_none());
     assert!(rt; matches!(&manifest.lints, Inheritable::Set(lints) if lints.is_empty()));
-    let workspace: Box<Workspace<Level>> = Box::new(alloc, Workspace::default(alloc))?;
+    let workspace: Box<Workspace<Level>> = boxed(alloc, Workspace::default(alloc))?;
     assert!(rt; workspace.members.is_empty());
-    let template = Box::new(alloc, PackageTemplate::default(alloc))?;
+    let template = boxed(alloc, PackageTemplate::default(alloc))?;
     assert!(rt; matches!(template.publish, Publish::Flag(true)));
-    let package: Box<Package> = Box::new(alloc, Package::default(alloc))?;
+    let package: Box<Package> = boxed(alloc, Package::default(alloc))?;
     assert_eq!(rt; package.name.as_str(), "");
     assert!(rt; matches!(package.edition, Inheritable::Set(Edition::E2021)));
     assert!(rt; package.autobins);
     let name = String::from_str(alloc, "p")?;
-    let package: Box<Package<Level>> = Box::new(
+    let package: Box<Package<Level>> = boxed(
         alloc,
         Package::new(alloc, name, SemVer::new(1, 2, 3)),
     )?;

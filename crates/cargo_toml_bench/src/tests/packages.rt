@@ -2,7 +2,7 @@
 ghost use Rattle.std.specs.Prelude.{◌≡◌};
 ghost use Rattle.cargo_toml_package.specs.PackageAnswers.{is_known};
 
-use super::{assert_list, manifest};
+use super::{assert_list, boxed, manifest};
 use cargo_toml::{Edition, Inheritable, OptionalFile, Package, Publish, SemVer};
 use std::process::Abort;
 use std::test::Fail;
@@ -76,10 +76,7 @@ fn every_question(rt: HostRuntime) -> Result<(), Fail> {
 fn every_change(rt: HostRuntime) -> Result<(), Fail> {
     let alloc = rt.alloc();
     let name = String::from_str(alloc, "p")?;
-    let mut package: Box<Package> = Box::new(
-        alloc,
-        Package::new(alloc, name, SemVer::new(1, 2, 3)),
-    )?;
+    let mut package: Box<Package> = boxed(alloc, Package::new(alloc, name, SemVer::new(1, 2, 3)))?;
     package.set_description(Some(String::from_str(alloc, "d")?));
     package.set_documentation(Some(String::from_str(alloc, "e")?));
     package.set_homepage(Some(String::from_str(alloc, "f")?));

@@ -4,8 +4,8 @@ mod parts;
 mod settings;
 mod tables;
 
-use super::manifest;
 use super::manifests::LARGE;
+use super::{boxed, manifest};
 use cargo_toml::{
     Dependency, Error, FromValue, Inheritable, InheritedDependencyDetail, Manifest, Package,
     Profile, SemVer, Target, ToValue, Value,
@@ -54,14 +54,14 @@ fn prints_and_reads<T: ToValue>(alloc: Global, x: &T) -> Result<bool, Fail> {
 #[test]
 fn written_tables_read_again(rt: HostRuntime) -> Result<(), Fail> {
     let alloc = rt.alloc();
-    let mut manifest: Box<Manifest> = Box::new(alloc, Manifest::default(alloc))?;
+    let mut manifest: Box<Manifest> = boxed(alloc, Manifest::default(alloc))?;
     assert!(rt; prints_and_reads(alloc, &*manifest)?);
     let mut doc = Profile::default(alloc);
     doc.opt_level = Some(Value::Integer(1));
     manifest.profile.doc = Some(doc);
     assert!(rt; prints_and_reads(alloc, &*manifest)?);
     let name = String::from_str(alloc, "p")?;
-    let package: Box<Package> = Box::new(alloc, Package::new(alloc, name, SemVer::new(1, 2, 3)))?;
+    let package: Box<Package> = boxed(alloc, Package::new(alloc, name, SemVer::new(1, 2, 3)))?;
     assert!(rt; prints_and_reads(alloc, &*package)?);
     let mut detail = InheritedDependencyDetail::default(alloc);
     detail.optional = true;
@@ -88,10 +88,10 @@ fn written_metadata_read_again(rt: HostRuntime) -> Result<(), Fail> {
     let alloc = rt.alloc();
     let document = "name = 'p'\nmetadata = { a = [1, 'b'] }\n";
     let tree = Value::Table(toml::table_from_str(alloc, document)?);
-    let package: Box<Package> = Box::new(alloc, Package::from_value(alloc, tree)?)?;
+    let package: Box<Package> = boxed(alloc, Package::from_value(alloc, tree)?)?;
     assert!(rt; prints_and_reads(alloc, &*package)?);
     let written = package.to_value(alloc)?;
-    let again: Box<Package> = Box::new(alloc, Package::from_value(alloc, written)?)?;
+    let again: Box<Package> = boxed(alloc, Package::from_value(alloc, written)?)?;
     assert!(rt; *again == *package);
     Ok(())
 }

@@ -1,5 +1,5 @@
 //! Worked rows of manifests, and each call once with ample memory.
-use super::super::manifest;
+use super::super::{boxed, manifest};
 use super::is_tree;
 use cargo_toml::{
     FromValue, Inheritable, Manifest, Package, Profile, SemVer, ToValue, Value, Workspace,
@@ -12,9 +12,9 @@ const FULL: &str =
 #[test]
 fn default_manifest_written(rt: HostRuntime) -> Result<(), Fail> {
     let alloc = rt.alloc();
-    let manifest: Box<Manifest> = Box::new(alloc, Manifest::default(alloc))?;
+    let manifest: Box<Manifest> = boxed(alloc, Manifest::default(alloc))?;
     assert!(rt; is_tree(alloc, &*manifest, "{}")?);
-    let workspace: Box<Workspace> = Box::new(alloc, Workspace::default(alloc))?;
+    let workspace: Box<Workspace> = boxed(alloc, Workspace::default(alloc))?;
     assert!(rt; is_tree(alloc, &*workspace, "{ members = [] }")?);
     Ok(())
 }
@@ -23,7 +23,7 @@ fn default_manifest_written(rt: HostRuntime) -> Result<(), Fail> {
 fn new_package_written(rt: HostRuntime) -> Result<(), Fail> {
     let alloc = rt.alloc();
     let name = String::from_str(alloc, "p")?;
-    let package: Box<Package> = Box::new(alloc, Package::new(alloc, name, SemVer::new(1, 2, 3)))?;
+    let package: Box<Package> = boxed(alloc, Package::new(alloc, name, SemVer::new(1, 2, 3)))?;
     let tree = "{ name = 'p', version = '1.2.3', edition = '2021' }";
     assert!(rt; is_tree(alloc, &*package, tree)?);
     Ok(())
@@ -34,7 +34,7 @@ fn doc_profile_written(rt: HostRuntime) -> Result<(), Fail> {
     let alloc = rt.alloc();
     let mut doc = Profile::default(alloc);
     doc.opt_level = Some(Value::Integer(1));
-    let mut manifest: Box<Manifest> = Box::new(alloc, Manifest::default(alloc))?;
+    let mut manifest: Box<Manifest> = boxed(alloc, Manifest::default(alloc))?;
     manifest.profile.doc = Some(doc);
     let tree = "{ profile = { doc = { opt-level = 1 } } }";
     assert!(rt; is_tree(alloc, &*manifest, tree)?);
@@ -58,7 +58,7 @@ fn full_manifest_written(rt: HostRuntime) -> Result<(), Fail> {
     let document = Value::Table(toml::table_from_str(alloc, FULL)?);
     let written = manifest(alloc, FULL)?.to_value(alloc)?;
     assert!(rt; written == document);
-    let again: Box<Manifest> = Box::new(alloc, Manifest::from_value(alloc, written)?)?;
+    let again: Box<Manifest> = boxed(alloc, Manifest::from_value(alloc, written)?)?;
     assert!(rt; again.to_value(alloc)? == document);
     Ok(())
 }

@@ -1,6 +1,6 @@
 //! Worked rows of parts, and each call once with ample memory.
 use super::{is_written_as, text};
-use crate::tests::texts;
+use crate::tests::{boxed, texts};
 use cargo_toml::{
     Badge, Badges, Edition, Maintenance, MaintenanceStatus, OptionalFile, PackageTemplate, Product,
     Publish, SemVer,
@@ -85,28 +85,26 @@ fn products_written(rt: HostRuntime) -> Result<(), Fail> {
 #[test]
 fn templates_written(rt: HostRuntime) -> Result<(), Fail> {
     let alloc = rt.alloc();
-    let template = PackageTemplate::default(alloc);
-    assert!(rt; is_written_as(alloc, &template, "{}")?);
-    let template = PackageTemplate {
-        authors: Some(texts(alloc, "a")?),
-        categories: Some(texts(alloc, "c")?),
-        description: text(alloc, "d")?,
-        documentation: text(alloc, "doc")?,
-        edition: Some(Edition::E2024),
-        exclude: Some(Vec::new(alloc)),
-        homepage: text(alloc, "h")?,
-        include: Some(texts(alloc, "i")?),
-        keywords: Some(texts(alloc, "k")?),
-        license: text(alloc, "MIT")?,
-        license_file: text(alloc, "L")?,
-        publish: Publish::Flag(false),
-        readme: OptionalFile::Path(String::from_str(alloc, "R.md")?),
-        repository: text(alloc, "r")?,
-        rust_version: text(alloc, "1.85")?,
-        version: Some(SemVer::parse(alloc, "1.2.3-rc.1+x")?),
-    };
+    let mut template = boxed(alloc, PackageTemplate::default(alloc))?;
+    assert!(rt; is_written_as(alloc, &*template, "{}")?);
+    template.authors = Some(texts(alloc, "a")?);
+    template.categories = Some(texts(alloc, "c")?);
+    template.description = text(alloc, "d")?;
+    template.documentation = text(alloc, "doc")?;
+    template.edition = Some(Edition::E2024);
+    template.exclude = Some(Vec::new(alloc));
+    template.homepage = text(alloc, "h")?;
+    template.include = Some(texts(alloc, "i")?);
+    template.keywords = Some(texts(alloc, "k")?);
+    template.license = text(alloc, "MIT")?;
+    template.license_file = text(alloc, "L")?;
+    template.publish = Publish::Flag(false);
+    template.readme = OptionalFile::Path(String::from_str(alloc, "R.md")?);
+    template.repository = text(alloc, "r")?;
+    template.rust_version = text(alloc, "1.85")?;
+    template.version = Some(SemVer::parse(alloc, "1.2.3-rc.1+x")?);
     let tree =
         "{ authors = ['a'], categories = ['c'], description = 'd', documentation = 'doc', edition = '2024', exclude = [], homepage = 'h', include = ['i'], keywords = ['k'], license = 'MIT', license-file = 'L', publish = false, readme = 'R.md', repository = 'r', rust-version = '1.85', version = '1.2.3-rc.1+x' }";
-    assert!(rt; is_written_as(alloc, &template, tree)?);
+    assert!(rt; is_written_as(alloc, &*template, tree)?);
     Ok(())
 }

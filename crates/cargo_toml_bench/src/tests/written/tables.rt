@@ -1,6 +1,6 @@
 //! Worked rows of tables, and each call once with ample memory.
 use super::{is_tree, is_written_as, text};
-use crate::tests::texts;
+use crate::tests::{boxed, texts};
 use cargo_toml::{
     DebugSetting, Dependency, DependencyDetail, Error, InheritedDependencyDetail, Lint, LintLevel,
     LtoSetting, Profile, Profiles, StripSetting, Target, ToValue, Value, VersionReq,
@@ -65,29 +65,27 @@ fn dependencies_written(rt: HostRuntime) -> Result<(), Fail> {
     let alloc = rt.alloc();
     let simple = Dependency::Simple(VersionReq::parse(alloc, "^1.2")?);
     assert!(rt; is_written_as(alloc, &simple, "'^1.2'")?);
-    let mut detail = DependencyDetail::default(alloc);
-    assert!(rt; is_written_as(alloc, &detail, "{}")?);
+    let mut detail = boxed(alloc, DependencyDetail::default(alloc))?;
+    assert!(rt; is_written_as(alloc, &*detail, "{}")?);
     detail.inherited = true;
-    assert!(rt; is_tree(alloc, &detail, "{}")?);
-    let detail = DependencyDetail {
-        version: Some(VersionReq::parse(alloc, "=2.0.0")?),
-        package: text(alloc, "a")?,
-        registry: text(alloc, "b")?,
-        registry_index: text(alloc, "c")?,
-        path: text(alloc, "d")?,
-        git: text(alloc, "e")?,
-        branch: text(alloc, "f")?,
-        tag: text(alloc, "g")?,
-        rev: text(alloc, "h")?,
-        features: texts(alloc, "i")?,
-        optional: true,
-        default_features: false,
-        unstable: values(alloc, "artifact", Value::Boolean(true))?,
-        inherited: false,
-    };
+    assert!(rt; is_tree(alloc, &*detail, "{}")?);
+    detail.version = Some(VersionReq::parse(alloc, "=2.0.0")?);
+    detail.package = text(alloc, "a")?;
+    detail.registry = text(alloc, "b")?;
+    detail.registry_index = text(alloc, "c")?;
+    detail.path = text(alloc, "d")?;
+    detail.git = text(alloc, "e")?;
+    detail.branch = text(alloc, "f")?;
+    detail.tag = text(alloc, "g")?;
+    detail.rev = text(alloc, "h")?;
+    detail.features = texts(alloc, "i")?;
+    detail.optional = true;
+    detail.default_features = false;
+    detail.unstable = values(alloc, "artifact", Value::Boolean(true))?;
+    detail.inherited = false;
     let tree =
         "{ artifact = true, version = '=2.0.0', package = 'a', registry = 'b', registry-index = 'c', path = 'd', git = 'e', branch = 'f', tag = 'g', rev = 'h', features = ['i'], optional = true, default-features = false }";
-    let dependency = Dependency::Detailed(Box::new(alloc, detail)?);
+    let dependency = Dependency::Detailed(detail);
     assert!(rt; is_written_as(alloc, &dependency, tree)?);
     Ok(())
 }

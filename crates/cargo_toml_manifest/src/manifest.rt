@@ -17,13 +17,13 @@ ghost use Rattle.cargo_toml_manifest.specs.Texts.{IsFromText, IsFromBytes, any_t
 mod questions;
 
 use crate::workspace::Workspace;
+use cargo_toml_dependencies::feature::features;
+use cargo_toml_dependencies::{DepsSet, FeatureSet, PatchSet, TargetDepsSet};
+use cargo_toml_package::Package;
 use cargo_toml_parts::floats::table_has_no_float;
 use cargo_toml_parts::read::{Read, as_table, given, list, map, optional};
 use cargo_toml_parts::value::floats_unsupported;
 use cargo_toml_parts::{Error, FromValue, Inheritable, Publish};
-use cargo_toml_dependencies::feature::features;
-use cargo_toml_dependencies::{DepsSet, FeatureSet, PatchSet, TargetDepsSet};
-use cargo_toml_package::Package;
 use cargo_toml_tables::{Badges, LintGroups, Product, Profiles};
 use std::alloc::Global;
 use std::collections::BTreeMap;

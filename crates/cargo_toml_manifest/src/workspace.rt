@@ -5,11 +5,11 @@ ghost use Rattle.toml.specs.View.{table_view};
 ghost use Rattle.cargo_toml_parts.specs.Reads.{IsReading};
 ghost use Rattle.cargo_toml_manifest.specs.Workspaces.{WorkspaceMeaning, workspace_meaning, workspace_of, workspace_faults, workspace_reads, workspace_refuses};
 
+use cargo_toml_dependencies::DepsSet;
+use cargo_toml_package::PackageTemplate;
 use cargo_toml_parts::read::{Read, as_table, list, map, optional};
 use cargo_toml_parts::value::metadata;
 use cargo_toml_parts::{Error, FromValue, Resolver};
-use cargo_toml_dependencies::DepsSet;
-use cargo_toml_package::PackageTemplate;
 use cargo_toml_tables::LintGroups;
 use std::alloc::Global;
 use std::collections::BTreeMap;

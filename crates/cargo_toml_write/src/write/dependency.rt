@@ -6,8 +6,8 @@ ghost use Rattle.cargo_toml_write.specs.Writes.{AddsRows, RefuseRows, TableOf};
 
 use crate::write::plain::{put_flag, put_text_if, put_texts};
 use crate::write::{ToValue, WriteRows, put_if, table_value};
-use cargo_toml_parts::Error;
 use cargo_toml_dependencies::{Dependency, DependencyDetail, InheritedDependencyDetail};
+use cargo_toml_parts::Error;
 use std::alloc::Global;
 use toml::{Table, Value};
 

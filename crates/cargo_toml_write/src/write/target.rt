@@ -4,8 +4,8 @@ ghost use Rattle.cargo_toml_write.specs.WrittenTargets.{target_rows};
 ghost use Rattle.cargo_toml_write.specs.Writes.{AddsRows, RefuseRows, TableOf};
 
 use crate::write::{ToValue, WriteRows, put_value, table_value};
-use cargo_toml_parts::Error;
 use cargo_toml_dependencies::Target;
+use cargo_toml_parts::Error;
 use std::alloc::Global;
 use toml::{Table, Value};
 

@@ -1,2 +1,0 @@
-mod NoProduct
-mod NoProfile

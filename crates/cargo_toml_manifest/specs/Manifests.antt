@@ -12,11 +12,11 @@ use Rattle.cargo_toml_tables.specs.Lints.{LintMeaning, lint_meaning, lint_of}
 use Rattle.cargo_toml_tables.specs.Products.{ProductMeaning, product_meaning, product_of}
 use Rattle.cargo_toml_tables.specs.Profiles.{ProfilesMeaning, profiles_meaning, profiles_of, profiles_faults}
 use Rattle.cargo_toml_parts.specs.Reads.{◌>>=◌, array_of, map_of, map_meaning, optional_at, given_at, map_at, fault_at, table_refuses, plain}
-use Rattle.cargo_toml_parts.specs.Settings.{Registries, everywhere, among}
+use Rattle.cargo_toml_settings.specs.Settings.{Registries, everywhere, among}
 use Rattle.cargo_toml_dependencies.specs.Targets.{TargetMeaning, target_meaning, target_of}
 use Rattle.cargo_toml_parts.specs.Versions.{Parts}
 use Rattle.cargo_toml_manifest.specs.declared.manifest.Manifest.{Manifest}
-use Rattle.cargo_toml_package.specs.Keys.{inherited_at, faults_at}
+use Rattle.cargo_toml_parts.specs.Keys.{inherited_at}
 use Rattle.cargo_toml_package.specs.Packages.{PackageMeaning, package_meaning, package_reads, package_refuses}
 use Rattle.cargo_toml_manifest.specs.Workspaces.{WorkspaceMeaning, workspace_meaning, workspace_reads, workspace_refuses}
 
@@ -147,14 +147,20 @@ abbrev pub manifest_faults : {M : Type 0} → (Data → Option M) → (Data → 
 manifest_faults metadata_of metadata_refuses ms e =
     fault_at "package" (package_reads metadata_of) (package_refuses metadata_of metadata_refuses) ms e
     ⊎ fault_at "workspace" (workspace_reads metadata_of) (workspace_refuses metadata_of metadata_refuses) ms e
-    ⊎ faults_at ("dependencies" ∷ "dev-dependencies" ∷ "build-dependencies" ∷ "replace" ∷ []) (map_of dependency_of) plain ms e
+    ⊎ fault_at "dependencies" (map_of dependency_of) plain ms e
+    ⊎ fault_at "dev-dependencies" (map_of dependency_of) plain ms e
+    ⊎ fault_at "build-dependencies" (map_of dependency_of) plain ms e
     ⊎ fault_at "target" (map_of target_reads) plain ms e
     ⊎ fault_at "features" (map_of feature_of) plain ms e
+    ⊎ fault_at "replace" (map_of dependency_of) plain ms e
     ⊎ fault_at "patch" (map_of (map_of dependency_of)) plain ms e
     ⊎ fault_at "lib" product_reads plain ms e
     ⊎ fault_at "profile" profiles_reads profiles_refuse ms e
     ⊎ fault_at "badges" badges_reads plain ms e
-    ⊎ faults_at ("bin" ∷ "bench" ∷ "test" ∷ "example" ∷ []) (array_of product_reads) plain ms e
+    ⊎ fault_at "bin" (array_of product_reads) plain ms e
+    ⊎ fault_at "bench" (array_of product_reads) plain ms e
+    ⊎ fault_at "test" (array_of product_reads) plain ms e
+    ⊎ fault_at "example" (array_of product_reads) plain ms e
     ⊎ fault_at "lints" (inheritable_of (map_of (map_of lint_of))) inheritable_refuses ms e
 
 -- the manifest of a tree

@@ -2,13 +2,12 @@
 use Rattle.std.specs.Prelude.{◌⊎◌, ℕ, List, [], ◌∷◌, map, Option, Some, option_map, option_and_then, string_bytes}
 use Rattle.toml.specs.Data.{Data, Members, as_table}
 use Rattle.cargo_toml_parts.specs.declared.error.Error.{Error}
-use Rattle.cargo_toml_parts.specs.declared.settings.Resolver.{Resolver}
+use Rattle.cargo_toml_settings.specs.declared.settings.Resolver.{Resolver}
 use Rattle.cargo_toml_dependencies.specs.Dependencies.{DependencyMeaning, dependency_meaning, dependency_of}
 use Rattle.cargo_toml_tables.specs.Lints.{LintMeaning, lint_meaning, lint_of}
 use Rattle.cargo_toml_parts.specs.Reads.{◌>>=◌, list_of, map_of, map_meaning, optional_at, list_at, map_at, fault_at, table_refuses, plain}
 use Rattle.cargo_toml_manifest.specs.declared.workspace.Workspace.{Workspace}
-use Rattle.cargo_toml_package.specs.Keys.{faults_at}
-use Rattle.cargo_toml_package.specs.Packages.{resolver_reads}
+use Rattle.cargo_toml_settings.specs.Settings.{resolver_reads}
 use Rattle.cargo_toml_package.specs.Templates.{TemplateMeaning, template_meaning, template_reads}
 
 -- what a workspace holds, whose metadata are M
@@ -59,8 +58,10 @@ workspace_of metadata_of ms = do
 -- what may be wrong with a workspace
 abbrev pub workspace_faults : {M : Type 0} → (Data → Option M) → (Data → Error → Type 0) → Members → Error → Type 0
 workspace_faults metadata_of metadata_refuses ms e =
-    faults_at ("members" ∷ "default-members" ∷ "exclude" ∷ []) list_of plain ms e
+    fault_at "members" list_of plain ms e
+    ⊎ fault_at "default-members" list_of plain ms e
     ⊎ fault_at "package" template_reads plain ms e
+    ⊎ fault_at "exclude" list_of plain ms e
     ⊎ fault_at "metadata" metadata_of metadata_refuses ms e
     ⊎ fault_at "resolver" resolver_reads plain ms e
     ⊎ fault_at "dependencies" (map_of dependency_of) plain ms e

@@ -1,15 +1,16 @@
 //! A manifest, and how it is read of a text.
-ghost use Rattle.std.specs.Prelude.{◌≡◌, [], codes, Option, Some, option_map};
-ghost use Rattle.toml.specs.Data.{Data, get_member, no_members};
+ghost use Rattle.std.specs.Prelude.{◌≡◌, [], Option, Some, option_map};
+ghost use Rattle.toml.specs.Data.{Data, no_members};
 ghost use Rattle.toml.specs.View.{view, table_view};
 ghost use Rattle.toml.specs.Parse.{parse_document};
 ghost use Rattle.cargo_toml_tables.specs.Badges.{badges_meaning};
 ghost use Rattle.cargo_toml_parts.specs.Faults.{IsShape, wrong_shape};
-ghost use Rattle.cargo_toml_parts.specs.Inherits.{inheritable_map, inheritable_refuses};
+ghost use Rattle.cargo_toml_parts.specs.Inherits.{inheritable_map, inheritable_of, inheritable_refuses};
 ghost use Rattle.cargo_toml_tables.specs.Lints.{lint_meaning, lint_of};
 ghost use Rattle.cargo_toml_tables.specs.Profiles.{profiles_meaning};
-ghost use Rattle.cargo_toml_parts.specs.Reads.{IsReading, given_at, map_of, map_meaning, optional_refuses, plain};
-ghost use Rattle.cargo_toml_package.specs.Keys.{inherited_at};
+ghost use Rattle.cargo_toml_parts.specs.Reads.{IsReading, fault_at, given_at, map_of, map_meaning, plain};
+ghost use Rattle.cargo_toml_parts.specs.Readings.{Goes};
+ghost use Rattle.cargo_toml_parts.specs.Keys.{inherited_at};
 ghost use Rattle.cargo_toml_manifest.specs.Manifests.{ManifestMeaning, manifest_meaning, manifest_of, manifest_faults, manifest_reads, manifest_refuses, zero_rule_applies, by_zero_rule, no_profiles, profiles_reads, profiles_refuse, no_badges, badges_reads};
 ghost use Rattle.cargo_toml_package.specs.Packages.{package_meaning};
 ghost use Rattle.cargo_toml_manifest.specs.Texts.{IsFromText, IsFromBytes, any_tree, any_refuses};
@@ -20,12 +21,15 @@ use crate::workspace::Workspace;
 use cargo_toml_dependencies::feature::features;
 use cargo_toml_dependencies::{DepsSet, FeatureSet, PatchSet, TargetDepsSet};
 use cargo_toml_package::Package;
+use cargo_toml_parts::copying::Copying;
 use cargo_toml_parts::floats::table_has_no_float;
-use cargo_toml_parts::read::{Read, as_table, given, list, map, optional};
+use cargo_toml_parts::read::{Read, as_table};
+use cargo_toml_parts::reading::Reading;
 use cargo_toml_parts::value::floats_unsupported;
-use cargo_toml_parts::{Error, FromValue, Inheritable, Publish};
+use cargo_toml_parts::{Error, FromValue, Inheritable};
+use cargo_toml_settings::Publish;
 use cargo_toml_tables::{Badges, LintGroups, Product, Profiles};
-use std::alloc::Global;
+use std::alloc::{AllocError, Global};
 use std::collections::BTreeMap;
 use std::str;
 use toml::{Table, Value};
@@ -39,7 +43,7 @@ use toml::{Table, Value};
 ///
 /// What is read is what stands in the text alone: libraries and binaries that Cargo finds by their place among the files
 /// are not in it, nor is what a package leaves to its workspace.
-#[derive(Clone, Debug, PartialEq, Drop)]
+#[derive(Debug, PartialEq, Drop)]
 pub struct Manifest<Metadata = Value> {
     /// The package. One that would have the version 0.0.0 and be published everywhere is read as published nowhere.
     pub package: Option<Package<Metadata>>,
@@ -91,6 +95,87 @@ pub struct Manifest<Metadata = Value> {
 
     /// The lints, by tool and then by name, which may be left to the workspace. Missing: `Set` of none.
     pub lints: Inheritable<LintGroups>,
+}
+
+impl<Metadata: Clone> Clone for Manifest<Metadata> {
+    ghost is_clone = { λ x copy.
+        ⟦<Option<Package<Metadata>> as Clone>⟧.is_clone x.package copy.package
+        × (⟦<Option<Workspace<Metadata>> as Clone>⟧.is_clone x.workspace copy.workspace
+        × (⟦<DepsSet as Clone>⟧.is_clone x.dependencies copy.dependencies
+        × (⟦<DepsSet as Clone>⟧.is_clone x.dev_dependencies copy.dev_dependencies
+        × (⟦<DepsSet as Clone>⟧.is_clone x.build_dependencies copy.build_dependencies
+        × (⟦<TargetDepsSet as Clone>⟧.is_clone x.target copy.target
+        × (⟦<FeatureSet as Clone>⟧.is_clone x.features copy.features
+        × (⟦<DepsSet as Clone>⟧.is_clone x.replace copy.replace
+        × (⟦<PatchSet as Clone>⟧.is_clone x.patch copy.patch
+        × (⟦<Option<Product> as Clone>⟧.is_clone x.lib copy.lib
+        × (⟦<Profiles as Clone>⟧.is_clone x.profile copy.profile
+        × (⟦<Badges as Clone>⟧.is_clone x.badges copy.badges
+        × (⟦<Vec<Product> as Clone>⟧.is_clone x.bin copy.bin
+        × (⟦<Vec<Product> as Clone>⟧.is_clone x.bench copy.bench
+        × (⟦<Vec<Product> as Clone>⟧.is_clone x.test copy.test
+        × (⟦<Vec<Product> as Clone>⟧.is_clone x.example copy.example
+        × ⟦<Inheritable<LintGroups> as Clone>⟧.is_clone x.lints copy.lints))))))))))))))) };
+
+    ghost is_infallible = { λ x.
+        ⟦<Option<Package<Metadata>> as Clone>⟧.is_infallible x.package
+        × (⟦<Option<Workspace<Metadata>> as Clone>⟧.is_infallible x.workspace
+        × (⟦<DepsSet as Clone>⟧.is_infallible x.dependencies
+        × (⟦<DepsSet as Clone>⟧.is_infallible x.dev_dependencies
+        × (⟦<DepsSet as Clone>⟧.is_infallible x.build_dependencies
+        × (⟦<TargetDepsSet as Clone>⟧.is_infallible x.target
+        × (⟦<FeatureSet as Clone>⟧.is_infallible x.features
+        × (⟦<DepsSet as Clone>⟧.is_infallible x.replace
+        × (⟦<PatchSet as Clone>⟧.is_infallible x.patch
+        × (⟦<Option<Product> as Clone>⟧.is_infallible x.lib
+        × (⟦<Profiles as Clone>⟧.is_infallible x.profile
+        × (⟦<Badges as Clone>⟧.is_infallible x.badges
+        × (⟦<Vec<Product> as Clone>⟧.is_infallible x.bin
+        × (⟦<Vec<Product> as Clone>⟧.is_infallible x.bench
+        × (⟦<Vec<Product> as Clone>⟧.is_infallible x.test
+        × (⟦<Vec<Product> as Clone>⟧.is_infallible x.example
+        × ⟦<Inheritable<LintGroups> as Clone>⟧.is_infallible x.lints))))))))))))))) };
+
+    fn clone(&self) -> Result<Manifest<Metadata>, AllocError> {
+        let alloc = *self.bin.allocator();
+        let mut copying = Copying::new();
+        let package = copying.of(&self.package, None);
+        let workspace = copying.of(&self.workspace, None);
+        let dependencies = copying.of(&self.dependencies, BTreeMap::new(alloc));
+        let dev_dependencies = copying.of(&self.dev_dependencies, BTreeMap::new(alloc));
+        let build_dependencies = copying.of(&self.build_dependencies, BTreeMap::new(alloc));
+        let target = copying.of(&self.target, BTreeMap::new(alloc));
+        let features = copying.of(&self.features, BTreeMap::new(alloc));
+        let replace = copying.of(&self.replace, BTreeMap::new(alloc));
+        let patch = copying.of(&self.patch, BTreeMap::new(alloc));
+        let lib = copying.of(&self.lib, None);
+        let profile = copying.of(&self.profile, Profiles::default(alloc));
+        let badges = copying.of(&self.badges, Badges::default(alloc));
+        let bin = copying.of(&self.bin, Vec::new(alloc));
+        let bench = copying.of(&self.bench, Vec::new(alloc));
+        let test = copying.of(&self.test, Vec::new(alloc));
+        let example = copying.of(&self.example, Vec::new(alloc));
+        let lints = copying.of(&self.lints, Inheritable::Inherited);
+        copying.finish(Manifest {
+            package,
+            workspace,
+            dependencies,
+            dev_dependencies,
+            build_dependencies,
+            target,
+            features,
+            replace,
+            patch,
+            lib,
+            profile,
+            badges,
+            bin,
+            bench,
+            test,
+            example,
+            lints,
+        })
+    }
 }
 
 impl<Metadata> Manifest<Metadata> {
@@ -194,24 +279,25 @@ fn read_table<Metadata: FromValue>(
     ensures { IsReading (manifest_meaning Metadata.meaning) (manifest_of Metadata.from_tree (table_view table.now))
         (manifest_faults Metadata.from_tree Metadata.from_refuses (table_view table.now)) result }
 {
-    let package = optional(alloc, table, "package")?;
-    let workspace = optional(alloc, table, "workspace")?;
-    let dependencies = map(alloc, table, "dependencies")?;
-    let dev_dependencies = map(alloc, table, "dev-dependencies")?;
-    let build_dependencies = map(alloc, table, "build-dependencies")?;
-    let target = map(alloc, table, "target")?;
-    let features = features(alloc, table)?;
-    let replace = map(alloc, table, "replace")?;
-    let patch = map(alloc, table, "patch")?;
-    let lib = optional(alloc, table, "lib")?;
-    let profile = profiles(alloc, table)?;
-    let badges = badges(alloc, table)?;
-    let bin = list(alloc, table, "bin")?;
-    let bench = list(alloc, table, "bench")?;
-    let test = list(alloc, table, "test")?;
-    let example = list(alloc, table, "example")?;
-    let lints = lints(alloc, table)?;
-    Ok(Manifest {
+    let mut reading = Reading::new(alloc);
+    let package = reading.optional(table, "package");
+    let workspace = reading.optional(table, "workspace");
+    let dependencies = reading.map(table, "dependencies");
+    let dev_dependencies = reading.map(table, "dev-dependencies");
+    let build_dependencies = reading.map(table, "build-dependencies");
+    let target = reading.map(table, "target");
+    let features = features(&mut reading, table);
+    let replace = reading.map(table, "replace");
+    let patch = reading.map(table, "patch");
+    let lib = reading.optional(table, "lib");
+    let profile = profiles(&mut reading, table);
+    let badges = badges(&mut reading, table);
+    let bin = reading.list(table, "bin");
+    let bench = reading.list(table, "bench");
+    let test = reading.list(table, "test");
+    let example = reading.list(table, "example");
+    let lints = lints(&mut reading, table);
+    reading.finish(Manifest {
         package: option_by_zero_rule(package),
         workspace,
         dependencies,
@@ -233,33 +319,36 @@ fn read_table<Metadata: FromValue>(
 }
 
 // The profiles, none where their key is missing.
-fn profiles(alloc: Global, table: &Table) -> Result<Profiles, Error>
-    ensures { IsReading profiles_meaning (given_at "profile" no_profiles profiles_reads (table_view table.now))
-        (optional_refuses profiles_refuse (get_member (codes "profile") (table_view table.now))) result }
+fn profiles(reading: &mut Reading, table: &Table) -> Profiles
+    ensures { Goes reading.old.fault reading.new.fault
+        (given_at "profile" no_profiles profiles_reads (table_view table.now))
+        (profiles_meaning result)
+        (fault_at "profile" profiles_reads profiles_refuse (table_view table.now)) }
 {
-    given(alloc, table, "profile", Profiles::default(alloc))
+    let none = Profiles::default(reading.alloc);
+    reading.given(table, "profile", none)
 }
 
 // The badges, none where their key is missing.
-fn badges(alloc: Global, table: &Table) -> Result<Badges, Error>
-    ensures { IsReading badges_meaning (given_at "badges" no_badges badges_reads (table_view table.now))
-        (optional_refuses plain (get_member (codes "badges") (table_view table.now))) result }
+fn badges(reading: &mut Reading, table: &Table) -> Badges
+    ensures { Goes reading.old.fault reading.new.fault
+        (given_at "badges" no_badges badges_reads (table_view table.now))
+        (badges_meaning result)
+        (fault_at "badges" badges_reads plain (table_view table.now)) }
 {
-    given(alloc, table, "badges", Badges::default(alloc))
+    let none = Badges::default(reading.alloc);
+    reading.given(table, "badges", none)
 }
 
 // The lints, none where their key is missing.
-fn lints(alloc: Global, table: &Table) -> Result<Inheritable<LintGroups>, Error>
-    ensures { IsReading (inheritable_map (map_meaning (map_meaning lint_meaning)))
+fn lints(reading: &mut Reading, table: &Table) -> Inheritable<LintGroups>
+    ensures { Goes reading.old.fault reading.new.fault
         (inherited_at "lints" [] (map_of (map_of lint_of)) (table_view table.now))
-        (optional_refuses inheritable_refuses (get_member (codes "lints") (table_view table.now))) result }
+        (inheritable_map (map_meaning (map_meaning lint_meaning)) result)
+        (fault_at "lints" (inheritable_of (map_of (map_of lint_of))) inheritable_refuses (table_view table.now)) }
 {
-    given(
-        alloc,
-        table,
-        "lints",
-        Inheritable::Set(LintGroups::new(alloc)),
-    )
+    let none = Inheritable::Set(LintGroups::new(reading.alloc));
+    reading.given(table, "lints", none)
 }
 
 // Whether the version is 0.0.0, without pre-release and build metadata, and the package could be published everywhere.

@@ -7,11 +7,13 @@ ghost use Rattle.cargo_toml_manifest.specs.Workspaces.{WorkspaceMeaning, workspa
 
 use cargo_toml_dependencies::DepsSet;
 use cargo_toml_package::PackageTemplate;
-use cargo_toml_parts::read::{Read, as_table, list, map, optional};
-use cargo_toml_parts::value::metadata;
-use cargo_toml_parts::{Error, FromValue, Resolver};
+use cargo_toml_parts::copying::Copying;
+use cargo_toml_parts::read::{Read, as_table};
+use cargo_toml_parts::reading::Reading;
+use cargo_toml_parts::{Error, FromValue};
+use cargo_toml_settings::Resolver;
 use cargo_toml_tables::LintGroups;
-use std::alloc::Global;
+use std::alloc::{AllocError, Global};
 use std::collections::BTreeMap;
 use toml::{Table, Value};
 
@@ -19,7 +21,7 @@ use toml::{Table, Value};
 ///
 /// A manifest may have it beside a package, or without one. A key's `_` is written `-` in a manifest. A list or a map whose
 /// key is missing is empty, and any other field is then `None`; keys that are not listed here are ignored.
-#[derive(Clone, Debug, PartialEq, Drop)]
+#[derive(Debug, PartialEq, Drop)]
 pub struct Workspace<Metadata = Value> {
     /// The paths of the members' folders, relative to the workspace. Patterns among them stay as they are written.
     pub members: Vec<String>,
@@ -44,6 +46,51 @@ pub struct Workspace<Metadata = Value> {
 
     /// The lints that members may take from the workspace.
     pub lints: LintGroups,
+}
+
+impl<Metadata: Clone> Clone for Workspace<Metadata> {
+    ghost is_clone = { λ x copy.
+        ⟦<Vec<String> as Clone>⟧.is_clone x.members copy.members
+        × (⟦<Vec<String> as Clone>⟧.is_clone x.default_members copy.default_members
+        × (⟦<Option<PackageTemplate> as Clone>⟧.is_clone x.package copy.package
+        × (⟦<Vec<String> as Clone>⟧.is_clone x.exclude copy.exclude
+        × (⟦<Option<Metadata> as Clone>⟧.is_clone x.metadata copy.metadata
+        × (⟦<Option<Resolver> as Clone>⟧.is_clone x.resolver copy.resolver
+        × (⟦<DepsSet as Clone>⟧.is_clone x.dependencies copy.dependencies
+        × ⟦<LintGroups as Clone>⟧.is_clone x.lints copy.lints)))))) };
+
+    ghost is_infallible = { λ x.
+        ⟦<Vec<String> as Clone>⟧.is_infallible x.members
+        × (⟦<Vec<String> as Clone>⟧.is_infallible x.default_members
+        × (⟦<Option<PackageTemplate> as Clone>⟧.is_infallible x.package
+        × (⟦<Vec<String> as Clone>⟧.is_infallible x.exclude
+        × (⟦<Option<Metadata> as Clone>⟧.is_infallible x.metadata
+        × (⟦<Option<Resolver> as Clone>⟧.is_infallible x.resolver
+        × (⟦<DepsSet as Clone>⟧.is_infallible x.dependencies
+        × ⟦<LintGroups as Clone>⟧.is_infallible x.lints)))))) };
+
+    fn clone(&self) -> Result<Workspace<Metadata>, AllocError> {
+        let alloc = *self.members.allocator();
+        let mut copying = Copying::new();
+        let members = copying.of(&self.members, Vec::new(alloc));
+        let default_members = copying.of(&self.default_members, Vec::new(alloc));
+        let package = copying.of(&self.package, None);
+        let exclude = copying.of(&self.exclude, Vec::new(alloc));
+        let metadata = copying.of(&self.metadata, None);
+        let resolver = copying.of(&self.resolver, None);
+        let dependencies = copying.of(&self.dependencies, BTreeMap::new(alloc));
+        let lints = copying.of(&self.lints, BTreeMap::new(alloc));
+        copying.finish(Workspace {
+            members,
+            default_members,
+            package,
+            exclude,
+            metadata,
+            resolver,
+            dependencies,
+            lints,
+        })
+    }
 }
 
 impl<Metadata> Workspace<Metadata> {
@@ -72,15 +119,16 @@ fn read_table<Metadata: FromValue>(
     ensures { IsReading (workspace_meaning Metadata.meaning) (workspace_of Metadata.from_tree (table_view table.now))
         (workspace_faults Metadata.from_tree Metadata.from_refuses (table_view table.now)) result }
 {
-    let members = list(alloc, table, "members")?;
-    let default_members = list(alloc, table, "default-members")?;
-    let package = optional(alloc, table, "package")?;
-    let exclude = list(alloc, table, "exclude")?;
-    let metadata = metadata(alloc, table, "metadata")?;
-    let resolver = optional(alloc, table, "resolver")?;
-    let dependencies = map(alloc, table, "dependencies")?;
-    let lints = map(alloc, table, "lints")?;
-    Ok(Workspace {
+    let mut reading = Reading::new(alloc);
+    let members = reading.list(table, "members");
+    let default_members = reading.list(table, "default-members");
+    let package = reading.optional(table, "package");
+    let exclude = reading.list(table, "exclude");
+    let metadata = reading.metadata(table, "metadata");
+    let resolver = reading.optional(table, "resolver");
+    let dependencies = reading.map(table, "dependencies");
+    let lints = reading.map(table, "lints");
+    reading.finish(Workspace {
         members,
         default_members,
         package,

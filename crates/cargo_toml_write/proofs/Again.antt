@@ -8,15 +8,15 @@ use Rattle.toml.specs.View.{view}
 use Rattle.toml.specs.declared.value.Value.{Value}
 use Rattle.cargo_toml_parts.specs.declared.inheritable.Inheritable.{Inheritable}
 use Rattle.cargo_toml_parts.specs.declared.inheritable.Inheritable.TheVariants.{Set, Inherited}
-use Rattle.cargo_toml_parts.specs.declared.settings.Edition.{Edition}
-use Rattle.cargo_toml_parts.specs.declared.settings.Edition.TheVariants.{E2015, E2018, E2021, E2024}
-use Rattle.cargo_toml_parts.specs.declared.settings.Resolver.{Resolver}
-use Rattle.cargo_toml_parts.specs.declared.settings.Resolver.TheVariants.{V1, V2, V3}
+use Rattle.cargo_toml_settings.specs.declared.settings.Edition.{Edition}
+use Rattle.cargo_toml_settings.specs.declared.settings.Edition.TheVariants.{E2015, E2018, E2021, E2024}
+use Rattle.cargo_toml_settings.specs.declared.settings.Resolver.{Resolver}
+use Rattle.cargo_toml_settings.specs.declared.settings.Resolver.TheVariants.{V1, V2, V3}
 use Rattle.cargo_toml_parts.specs.Inherits.{inheritable_of, set_or, workspace_flag}
 use Rattle.cargo_toml_parts.specs.Reads.{optional_of, given_of, list_of}
-use Rattle.cargo_toml_parts.specs.Settings.{edition_text, resolver_text, File, flag, path, file_of, Registries, everywhere, among, publish_of}
+use Rattle.cargo_toml_settings.specs.Settings.{edition_text, resolver_text, File, flag, path, file_of, Registries, everywhere, among, publish_of}
 use Rattle.cargo_toml_parts.specs.Versions.{Parts, version_of}
-use Rattle.cargo_toml_package.specs.Packages.{edition_reads, resolver_reads}
+use Rattle.cargo_toml_settings.specs.Settings.{edition_reads, resolver_reads}
 use Rattle.cargo_toml_manifest.specs.Texts.{any_tree}
 use Rattle.cargo_toml_write.specs.Trees.{FreeTree, flag_unless, texts_tree, texts_unless_empty}
 use Rattle.cargo_toml_write.specs.Writes.{Row, told, if_there, AreWritten, put_some}

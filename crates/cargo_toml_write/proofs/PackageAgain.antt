@@ -4,14 +4,15 @@ use Rattle.semver.specs.Identifiers.{parts_of, parts_text}
 use Rattle.toml.specs.Data.{Data, string, Members, no_members, get_member, as_str, as_bool, as_table}
 use Rattle.cargo_toml_parts.specs.declared.error.Error.{Error}
 use Rattle.cargo_toml_parts.specs.declared.inheritable.Inheritable.TheVariants.{Set}
-use Rattle.cargo_toml_parts.specs.declared.settings.Edition.TheVariants.{E2015}
+use Rattle.cargo_toml_settings.specs.declared.settings.Edition.TheVariants.{E2015}
 use Rattle.cargo_toml_parts.specs.Inherits.{inheritable_map, inheritable_of}
 use Rattle.cargo_toml_parts.specs.Reads.{optional_of, required_of, given_of, list_of}
-use Rattle.cargo_toml_parts.specs.Settings.{edition_text, resolver_text, flag, file_of, everywhere, publish_of}
+use Rattle.cargo_toml_settings.specs.Settings.{edition_text, resolver_text, flag, file_of, everywhere, publish_of}
 use Rattle.cargo_toml_parts.specs.Versions.{version_of}
 use Rattle.cargo_toml_parts.proofs.Steps.{then}
 use Rattle.cargo_toml_package.specs.declared.package.Package.{Package}
-use Rattle.cargo_toml_package.specs.Packages.{PackageMeaning, package_meaning, package_of, package_reads, edition_reads, resolver_reads}
+use Rattle.cargo_toml_package.specs.Packages.{PackageMeaning, package_meaning, package_of, package_reads}
+use Rattle.cargo_toml_settings.specs.Settings.{edition_reads, resolver_reads}
 use Rattle.cargo_toml_write.specs.Trees.{flag_unless, texts_unless_empty}
 use Rattle.cargo_toml_write.specs.Writes.{Row, if_there, AreWritten, TableOf}
 use Rattle.cargo_toml_write.specs.WrittenPackages.{package_rows, set_or_inherited, text_or_inherited, tree_of_file, file_unless_on, registries_unless_everywhere, VersionAgain, MetadataAgain}

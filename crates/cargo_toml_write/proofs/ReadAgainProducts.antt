@@ -1,10 +1,10 @@
 -- A written product reads as itself.
 use Rattle.std.proofs.Common.{◌≡◌, refl, ℕ, List, codes, Bool, true, false, Some, None, option_and_then}
 use Rattle.toml.specs.Data.{Data, string, as_str, as_table, Members, no_members, get_member}
-use Rattle.cargo_toml_parts.specs.declared.settings.Edition.{Edition}
-use Rattle.cargo_toml_parts.specs.declared.settings.Edition.TheVariants.{E2015, E2018, E2021, E2024}
+use Rattle.cargo_toml_settings.specs.declared.settings.Edition.{Edition}
+use Rattle.cargo_toml_settings.specs.declared.settings.Edition.TheVariants.{E2015, E2018, E2021, E2024}
 use Rattle.cargo_toml_tables.specs.Products.{ProductMeaning, proc_macro_of, product_of}
-use Rattle.cargo_toml_parts.specs.Settings.{edition_of, edition_text}
+use Rattle.cargo_toml_settings.specs.Settings.{edition_of, edition_text}
 use Rattle.cargo_toml_parts.proofs.Steps.{then}
 use Rattle.cargo_toml_write.specs.Trees.{flag_unless}
 use Rattle.cargo_toml_write.specs.WrittenProducts.{product_rows}

@@ -6,7 +6,7 @@ use Rattle.toml.specs.Data.{Data, string, boolean}
 use Rattle.cargo_toml_parts.specs.declared.error.Error.{Error}
 use Rattle.cargo_toml_parts.specs.declared.inheritable.Inheritable.{Inheritable}
 use Rattle.cargo_toml_parts.specs.declared.inheritable.Inheritable.TheVariants.{Set, Inherited}
-use Rattle.cargo_toml_parts.specs.Settings.{edition_text, resolver_text, File, flag, path, Registries, everywhere, among}
+use Rattle.cargo_toml_settings.specs.Settings.{edition_text, resolver_text, File, flag, path, Registries, everywhere, among}
 use Rattle.cargo_toml_parts.specs.Versions.{Parts}
 use Rattle.cargo_toml_package.specs.Packages.{PackageMeaning}
 use Rattle.cargo_toml_write.specs.Trees.{flag_unless, texts_tree, texts_unless_empty, inherited_tree}

@@ -2,7 +2,7 @@
 use Rattle.std.specs.Prelude.{List, [], ◌∷◌, codes, true, false, Some, option_map}
 use Rattle.toml.specs.Data.{string}
 use Rattle.cargo_toml_tables.specs.Products.{ProductMeaning}
-use Rattle.cargo_toml_parts.specs.Settings.{edition_text}
+use Rattle.cargo_toml_settings.specs.Settings.{edition_text}
 use Rattle.cargo_toml_write.specs.Trees.{flag_unless, texts_tree, texts_unless_empty}
 use Rattle.cargo_toml_write.specs.Writes.{Row, told}
 

@@ -5,19 +5,19 @@ use Rattle.cargo_toml_tables.specs.declared.badge.MaintenanceStatus.{Maintenance
 use Rattle.cargo_toml_tables.specs.declared.badge.MaintenanceStatus.TheVariants as status
 use Rattle.cargo_toml_tables.specs.declared.lint.LintLevel.{LintLevel}
 use Rattle.cargo_toml_tables.specs.declared.lint.LintLevel.TheVariants.{Allow, Warn, ForceWarn, Deny, Forbid}
-use Rattle.cargo_toml_parts.specs.declared.profile_settings.DebugSetting.{DebugSetting}
-use Rattle.cargo_toml_parts.specs.declared.profile_settings.DebugSetting.TheVariants as debug
-use Rattle.cargo_toml_parts.specs.declared.profile_settings.LtoSetting.{LtoSetting}
-use Rattle.cargo_toml_parts.specs.declared.profile_settings.LtoSetting.TheVariants as lto
-use Rattle.cargo_toml_parts.specs.declared.profile_settings.StripSetting.{StripSetting}
-use Rattle.cargo_toml_parts.specs.declared.profile_settings.StripSetting.TheVariants as strip
-use Rattle.cargo_toml_parts.specs.declared.settings.Edition.{Edition}
-use Rattle.cargo_toml_parts.specs.declared.settings.OptionalFile.{OptionalFile}
-use Rattle.cargo_toml_parts.specs.declared.settings.OptionalFile.TheVariants as file
-use Rattle.cargo_toml_parts.specs.declared.settings.Publish.{Publish}
-use Rattle.cargo_toml_parts.specs.declared.settings.Publish.TheVariants as whether
-use Rattle.cargo_toml_parts.specs.declared.settings.Resolver.{Resolver}
-use Rattle.cargo_toml_parts.specs.Settings.{edition_text, resolver_text}
+use Rattle.cargo_toml_settings.specs.declared.profile_settings.DebugSetting.{DebugSetting}
+use Rattle.cargo_toml_settings.specs.declared.profile_settings.DebugSetting.TheVariants as debug
+use Rattle.cargo_toml_settings.specs.declared.profile_settings.LtoSetting.{LtoSetting}
+use Rattle.cargo_toml_settings.specs.declared.profile_settings.LtoSetting.TheVariants as lto
+use Rattle.cargo_toml_settings.specs.declared.profile_settings.StripSetting.{StripSetting}
+use Rattle.cargo_toml_settings.specs.declared.profile_settings.StripSetting.TheVariants as strip
+use Rattle.cargo_toml_settings.specs.declared.settings.Edition.{Edition}
+use Rattle.cargo_toml_settings.specs.declared.settings.OptionalFile.{OptionalFile}
+use Rattle.cargo_toml_settings.specs.declared.settings.OptionalFile.TheVariants as file
+use Rattle.cargo_toml_settings.specs.declared.settings.Publish.{Publish}
+use Rattle.cargo_toml_settings.specs.declared.settings.Publish.TheVariants as whether
+use Rattle.cargo_toml_settings.specs.declared.settings.Resolver.{Resolver}
+use Rattle.cargo_toml_settings.specs.Settings.{edition_text, resolver_text}
 use Rattle.cargo_toml_write.specs.Trees.{texts_tree}
 
 abbrev pub EditionTree : Edition → Data → Type 0

@@ -2,9 +2,9 @@
 use Rattle.std.specs.Prelude.{ℕ, List, [], ◌∷◌, codes, map, Bool, false, Option, option_map, String, Vec, string_bytes}
 use Rattle.std.specs.declared.alloc.Global.{Global}
 use Rattle.toml.specs.Data.{string}
-use Rattle.cargo_toml_parts.specs.declared.settings.OptionalFile.{OptionalFile}
-use Rattle.cargo_toml_parts.specs.declared.settings.Publish.{Publish}
-use Rattle.cargo_toml_parts.specs.Settings.{File, flag, file_meaning, Registries, everywhere, publish_meaning, edition_text}
+use Rattle.cargo_toml_settings.specs.declared.settings.OptionalFile.{OptionalFile}
+use Rattle.cargo_toml_settings.specs.declared.settings.Publish.{Publish}
+use Rattle.cargo_toml_settings.specs.Settings.{File, flag, file_meaning, Registries, everywhere, publish_meaning, edition_text}
 use Rattle.cargo_toml_package.specs.declared.template.PackageTemplate.{PackageTemplate}
 use Rattle.cargo_toml_write.specs.Trees.{VersionTree, never, texts_tree}
 use Rattle.cargo_toml_write.specs.WrittenSettings.{FileTree, PublishTree}

@@ -5,7 +5,7 @@ use Rattle.std.specs.declared.alloc.Global.{Global}
 use Rattle.toml.specs.Data.{Data, string}
 use Rattle.cargo_toml_parts.specs.declared.error.Error.{Error}
 use Rattle.cargo_toml_tables.specs.declared.lint.Lint.{Lint}
-use Rattle.cargo_toml_parts.specs.Settings.{resolver_text}
+use Rattle.cargo_toml_settings.specs.Settings.{resolver_text}
 use Rattle.cargo_toml_package.specs.declared.template.PackageTemplate.{PackageTemplate}
 use Rattle.cargo_toml_manifest.specs.declared.workspace.Workspace.{Workspace}
 use Rattle.cargo_toml_manifest.specs.Workspaces.{WorkspaceMeaning, workspace_meaning}

@@ -4,7 +4,7 @@ ghost use Rattle.semver.specs.Identifiers.{parts_of, parts_text};
 ghost use Rattle.toml.specs.Data.{string};
 ghost use Rattle.toml.specs.View.{view, table_view};
 ghost use Rattle.cargo_toml_parts.specs.Inherits.{inheritable_map};
-ghost use Rattle.cargo_toml_parts.specs.Settings.{edition_text, resolver_text, file_meaning, publish_meaning};
+ghost use Rattle.cargo_toml_settings.specs.Settings.{edition_text, resolver_text, file_meaning, publish_meaning};
 ghost use Rattle.cargo_toml_package.specs.Packages.{package_meaning, package_reads};
 ghost use Rattle.cargo_toml_manifest.specs.Texts.{any_tree};
 ghost use Rattle.cargo_toml_write.specs.Trees.{FreeTree, texts_unless_empty, inherited_tree};
@@ -15,9 +15,8 @@ use crate::write::collections::inherited_value;
 use crate::write::plain::{put_flag, put_text, put_text_if, put_texts, texts_value};
 use crate::write::{ToValue, WriteRows, put, put_value, table_value};
 use cargo_toml_package::Package;
-use cargo_toml_parts::{
-    Edition, Error, FromValue, Inheritable, OptionalFile, Publish, Resolver, SemVer,
-};
+use cargo_toml_parts::{Error, FromValue, Inheritable, SemVer};
+use cargo_toml_settings::{Edition, OptionalFile, Publish, Resolver};
 use std::alloc::Global;
 use toml::{Table, Value};
 

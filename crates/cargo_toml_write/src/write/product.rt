@@ -3,14 +3,15 @@ ghost use Rattle.std.specs.Prelude.{◌≡◌, [], ◌∷◌, Some, IfOk, option
 ghost use Rattle.toml.specs.Data.{string, as_table};
 ghost use Rattle.toml.specs.View.{view, table_view};
 ghost use Rattle.cargo_toml_tables.specs.Products.{product_meaning, product_of};
-ghost use Rattle.cargo_toml_parts.specs.Settings.{edition_text};
+ghost use Rattle.cargo_toml_settings.specs.Settings.{edition_text};
 ghost use Rattle.cargo_toml_write.specs.Trees.{texts_tree};
 ghost use Rattle.cargo_toml_write.specs.WrittenProducts.{product_rows};
 ghost use Rattle.cargo_toml_write.specs.Writes.{IsWriting, AddsRow, AddsRows, RefuseRows, TableOf, told};
 
 use crate::write::plain::{put_flag, put_text_if, put_texts, texts_value};
 use crate::write::{ToValue, WriteRows, put, table_value};
-use cargo_toml_parts::{Edition, Error};
+use cargo_toml_parts::Error;
+use cargo_toml_settings::Edition;
 use cargo_toml_tables::Product;
 use std::alloc::Global;
 use toml::{Table, Value};

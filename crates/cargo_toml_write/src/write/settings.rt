@@ -4,17 +4,16 @@ ghost use Rattle.toml.specs.Data.{as_str};
 ghost use Rattle.toml.specs.View.{view};
 ghost use Rattle.cargo_toml_tables.specs.Badges.{status_of};
 ghost use Rattle.cargo_toml_tables.specs.Lints.{level_of};
-ghost use Rattle.cargo_toml_parts.specs.ProfileSettings.{debug_of, strip_of, lto_of};
-ghost use Rattle.cargo_toml_parts.specs.Settings.{edition_of, resolver_of, file_of, file_meaning, publish_of, publish_meaning};
+ghost use Rattle.cargo_toml_settings.specs.ProfileSettings.{debug_of, strip_of, lto_of};
+ghost use Rattle.cargo_toml_settings.specs.Settings.{edition_of, resolver_of, file_of, file_meaning, publish_of, publish_meaning};
 ghost use Rattle.cargo_toml_write.specs.Trees.{never};
 ghost use Rattle.cargo_toml_write.specs.WrittenSettings.{EditionTree, ResolverTree, LevelTree, StatusTree, FileTree, PublishTree, DebugTree, StripTree, LtoTree};
 ghost use Rattle.cargo_toml_write.specs.Writes.{IsWriting};
 
 use crate::write::ToValue;
 use crate::write::plain::texts_value;
-use cargo_toml_parts::{
-    DebugSetting, Edition, Error, LtoSetting, OptionalFile, Publish, Resolver, StripSetting,
-};
+use cargo_toml_parts::Error;
+use cargo_toml_settings::{DebugSetting, Edition, LtoSetting, OptionalFile, Publish, Resolver, StripSetting};
 use cargo_toml_tables::{LintLevel, MaintenanceStatus};
 use std::alloc::Global;
 use toml::Value;

@@ -1,7 +1,7 @@
 //! The writer of package templates.
 ghost use Rattle.std.specs.Prelude.{◌≡◌};
 ghost use Rattle.toml.specs.View.{table_view};
-ghost use Rattle.cargo_toml_parts.specs.Settings.{file_meaning, publish_meaning};
+ghost use Rattle.cargo_toml_settings.specs.Settings.{file_meaning, publish_meaning};
 ghost use Rattle.cargo_toml_write.specs.WrittenTemplates.{list_row, publish_row, file_row, is_everywhere, is_usual, template_rows};
 ghost use Rattle.cargo_toml_write.specs.Writes.{AddsRow, AddsRows, RefuseRows, TableOf};
 
@@ -9,7 +9,8 @@ use crate::write::plain::put_text_if;
 use crate::write::product::{put_all_texts, put_edition};
 use crate::write::{ToValue, WriteRows, put_if, put_unless, table_value};
 use cargo_toml_package::PackageTemplate;
-use cargo_toml_parts::{Error, OptionalFile, Publish};
+use cargo_toml_parts::Error;
+use cargo_toml_settings::{OptionalFile, Publish};
 use std::alloc::Global;
 use toml::{Table, Value};
 

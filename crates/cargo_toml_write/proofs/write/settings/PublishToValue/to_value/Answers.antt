@@ -1,6 +1,6 @@
 use Rattle.std.proofs.Common.{◌≡◌, ap, ℕ, List, map, Some, option_map, string_bytes}
 use Rattle.toml.specs.Data.{Data}
-use Rattle.cargo_toml_parts.specs.Settings.{among, publish_of}
+use Rattle.cargo_toml_settings.specs.Settings.{among, publish_of}
 use Rattle.cargo_toml_write.specs.Trees.{texts_tree}
 use Rattle.cargo_toml_write.proofs.ReadAgainRows.{items_again, written_then}
 use Rattle.cargo_toml_write.proofs.write.settings.PublishToValue.to_value.Goals as goal

@@ -1,0 +1,4 @@
+pub mod ProfileSettings
+pub mod SettingAnswers
+pub mod Settings
+pub mod SettingsLaws

@@ -1,0 +1,37 @@
+// Laws of the settings' comparisons and defaults, each as the contract of a function that does nothing.
+ghost use Rattle.cargo_toml_settings.specs.declared.settings.Edition.TheVariants.{E2015};
+ghost use Rattle.cargo_toml_settings.specs.declared.settings.Resolver.TheVariants.{V1};
+ghost use Rattle.cargo_toml_settings.specs.SettingsLaws.{HasDefault, IsOrderedBy, IsSameness, edition_number, resolver_number, debug_worth, strip_place, lto_place};
+
+use crate::profile_settings::{DebugSetting, LtoSetting, StripSetting};
+use crate::settings::{Edition, Resolver};
+
+fn editions()
+    ensures order { IsOrderedBy edition_number ⟦<Edition as Ord>⟧.cmp }
+    ensures equality { IsSameness ⟦<Edition as PartialEq>⟧.eq }
+{}
+
+fn resolvers()
+    ensures order { IsOrderedBy resolver_number ⟦<Resolver as Ord>⟧.cmp }
+    ensures equality { IsSameness ⟦<Resolver as PartialEq>⟧.eq }
+{}
+
+fn debug_settings()
+    ensures order { IsOrderedBy debug_worth ⟦<DebugSetting as Ord>⟧.cmp }
+    ensures equality { IsSameness ⟦<DebugSetting as PartialEq>⟧.eq }
+{}
+
+fn strip_settings()
+    ensures order { IsOrderedBy strip_place ⟦<StripSetting as Ord>⟧.cmp }
+    ensures equality { IsSameness ⟦<StripSetting as PartialEq>⟧.eq }
+{}
+
+fn lto_settings()
+    ensures order { IsOrderedBy lto_place ⟦<LtoSetting as Ord>⟧.cmp }
+    ensures equality { IsSameness ⟦<LtoSetting as PartialEq>⟧.eq }
+{}
+
+fn defaults()
+    ensures edition { HasDefault ⟦<Edition as Default>⟧.is_default E2015 }
+    ensures resolver { HasDefault ⟦<Resolver as Default>⟧.is_default V1 }
+{}

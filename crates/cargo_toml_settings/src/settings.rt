@@ -1,0 +1,168 @@
+//! The enums that stand for one value of a tree.
+ghost use Rattle.cargo_toml_parts.specs.Faults.{IsShape, wrong_shape};
+
+mod questions;
+
+use cargo_toml_parts::Error;
+use cargo_toml_parts::read::{Read, wrong_shape};
+use std::alloc::Global;
+use toml::Value;
+
+/// The edition of the Rust language that a package is written in: the key `edition`, a text. It is ordered by year, and a
+/// package that names none has the first.
+#[derive(Clone, Copy, Debug, Default, PartialEq, Eq, PartialOrd, Ord, Hash)]
+pub enum Edition {
+    /// The text `2015`, where no edition is named.
+    #[default]
+    E2015 = 2015,
+    /// The text `2018`.
+    E2018 = 2018,
+    /// The text `2021`.
+    E2021 = 2021,
+    /// The text `2024`.
+    E2024 = 2024,
+}
+
+/// The version of Cargo's resolver of dependencies: the key `resolver`, a text. It is ordered by number.
+#[derive(Clone, Copy, Debug, Default, PartialEq, Eq, PartialOrd, Ord, Hash)]
+pub enum Resolver {
+    /// The text `1`.
+    #[default]
+    V1 = 1,
+    /// The text `2`.
+    V2 = 2,
+    /// The text `3`.
+    V3 = 3,
+}
+
+/// A file that is switched on or off, or named: the keys `readme` and `build`.
+#[derive(Clone, Debug, PartialEq, Eq, Drop)]
+pub enum OptionalFile {
+    /// A truth value: whether the file of the usual name is meant.
+    Flag(bool),
+    /// A text: the path of the file.
+    Path(String),
+}
+
+/// Where a package may be published: the key `publish`.
+#[derive(Clone, Debug, PartialEq, Eq, Drop)]
+pub enum Publish {
+    /// A truth value: everywhere or nowhere.
+    Flag(bool),
+    /// A list: only at the registries of these names.
+    Registry(Vec<String>),
+}
+
+/// Of the usual name.
+impl Default for OptionalFile {
+    ghost use Rattle.std.specs.Prelude.{◌≡◌, true};
+    ghost use Rattle.cargo_toml_settings.specs.Settings.{file_meaning, flag};
+
+    ghost is_default = { λ file. file_meaning file ≡ flag true };
+
+    fn default() -> OptionalFile {
+        OptionalFile::Flag(true)
+    }
+}
+
+/// Everywhere.
+impl Default for Publish {
+    ghost use Rattle.std.specs.Prelude.{◌≡◌, true};
+    ghost use Rattle.cargo_toml_settings.specs.Settings.{publish_meaning, everywhere};
+
+    ghost is_default = { λ publish. publish_meaning publish ≡ everywhere true };
+
+    fn default() -> Publish {
+        Publish::Flag(true)
+    }
+}
+
+impl Read for Edition {
+    ghost use Rattle.cargo_toml_settings.specs.declared.settings.Edition.{Edition};
+    ghost use Rattle.cargo_toml_settings.specs.Settings.{edition_reads};
+
+    ghost Meaning = { Edition };
+
+    ghost meaning = { λ x. x };
+
+    ghost reads = { edition_reads };
+
+    ghost refuses = { λ d e. IsShape wrong_shape e };
+
+    fn read(_alloc: Global, value: &Value) -> Result<Edition, Error> {
+        let Some(text) = value.as_str() else {
+            return Err(wrong_shape());
+        };
+        match text {
+            "2015" => Ok(Edition::E2015),
+            "2018" => Ok(Edition::E2018),
+            "2021" => Ok(Edition::E2021),
+            "2024" => Ok(Edition::E2024),
+            _ => Err(wrong_shape()),
+        }
+    }
+}
+
+impl Read for Resolver {
+    ghost use Rattle.cargo_toml_settings.specs.declared.settings.Resolver.{Resolver};
+    ghost use Rattle.cargo_toml_settings.specs.Settings.{resolver_reads};
+
+    ghost Meaning = { Resolver };
+
+    ghost meaning = { λ x. x };
+
+    ghost reads = { resolver_reads };
+
+    ghost refuses = { λ d e. IsShape wrong_shape e };
+
+    fn read(_alloc: Global, value: &Value) -> Result<Resolver, Error> {
+        let Some(text) = value.as_str() else {
+            return Err(wrong_shape());
+        };
+        match text {
+            "1" => Ok(Resolver::V1),
+            "2" => Ok(Resolver::V2),
+            "3" => Ok(Resolver::V3),
+            _ => Err(wrong_shape()),
+        }
+    }
+}
+
+impl Read for OptionalFile {
+    ghost use Rattle.cargo_toml_settings.specs.Settings.{File, file_of, file_meaning};
+
+    ghost Meaning = { File };
+
+    ghost meaning = { file_meaning };
+
+    ghost reads = { file_of };
+
+    ghost refuses = { λ d e. IsShape wrong_shape e };
+
+    fn read(alloc: Global, value: &Value) -> Result<OptionalFile, Error> {
+        match value {
+            Value::Boolean(flag) => Ok(OptionalFile::Flag(*flag)),
+            Value::String(path) => Ok(OptionalFile::Path(String::from_str(alloc, path.as_str())?)),
+            _ => Err(wrong_shape()),
+        }
+    }
+}
+
+impl Read for Publish {
+    ghost use Rattle.cargo_toml_settings.specs.Settings.{Registries, publish_of, publish_meaning, publish_refuses};
+
+    ghost Meaning = { Registries };
+
+    ghost meaning = { publish_meaning };
+
+    ghost reads = { publish_of };
+
+    ghost refuses = { publish_refuses };
+
+    fn read(alloc: Global, value: &Value) -> Result<Publish, Error> {
+        match value.as_bool() {
+            Some(flag) => Ok(Publish::Flag(flag)),
+            None => Ok(Publish::Registry(Vec::read(alloc, value)?)),
+        }
+    }
+}

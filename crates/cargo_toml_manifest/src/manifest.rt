@@ -150,7 +150,7 @@ impl<Metadata: Clone> Clone for Manifest<Metadata> {
         let patch = copying.of(&self.patch, BTreeMap::new(alloc));
         let lib = copying.of(&self.lib, None);
         let profile = copying.of(&self.profile, Profiles::default(alloc));
-        let badges = copying.of(&self.badges, Badges::default(alloc));
+        let badges = copying.of(&self.badges, Badges::default());
         let bin = copying.of(&self.bin, Vec::new(alloc));
         let bench = copying.of(&self.bench, Vec::new(alloc));
         let test = copying.of(&self.test, Vec::new(alloc));
@@ -196,7 +196,7 @@ impl<Metadata> Manifest<Metadata> {
             patch: BTreeMap::new(alloc),
             lib: None,
             profile: Profiles::default(alloc),
-            badges: Badges::default(alloc),
+            badges: Badges::default(),
             bin: Vec::new(alloc),
             bench: Vec::new(alloc),
             test: Vec::new(alloc),
@@ -336,7 +336,7 @@ fn badges(reading: &mut Reading, table: &Table) -> Badges
         (badges_meaning result)
         (fault_at "badges" badges_reads plain (table_view table.now)) }
 {
-    let none = Badges::default(reading.alloc);
+    let none = Badges::default();
     reading.given(table, "badges", none)
 }
 

@@ -1,4 +1,5 @@
-// Laws of the settings' comparisons and defaults, each as the contract of a function that does nothing.
+// Laws of the settings' comparisons, defaults and numbers, each as the contract of a function.
+ghost use Rattle.std.specs.Prelude.{◌≡◌};
 ghost use Rattle.cargo_toml_settings.specs.declared.settings.Edition.TheVariants.{E2015};
 ghost use Rattle.cargo_toml_settings.specs.declared.settings.Resolver.TheVariants.{V1};
 ghost use Rattle.cargo_toml_settings.specs.SettingsLaws.{HasDefault, IsOrderedBy, IsSameness, edition_number, resolver_number, debug_worth, strip_place, lto_place};
@@ -35,3 +36,21 @@ fn defaults()
     ensures edition { HasDefault ⟦<Edition as Default>⟧.is_default E2015 }
     ensures resolver { HasDefault ⟦<Resolver as Default>⟧.is_default V1 }
 {}
+
+fn edition_worth(edition: Edition) -> u16
+    ensures { result ≡ edition_number edition }
+{
+    edition as u16
+}
+
+fn resolver_worth(resolver: Resolver) -> u8
+    ensures { result ≡ resolver_number resolver }
+{
+    resolver as u8
+}
+
+fn debug_setting_worth(setting: DebugSetting) -> u8
+    ensures { result ≡ debug_worth setting }
+{
+    setting as u8
+}

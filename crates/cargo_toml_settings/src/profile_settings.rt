@@ -110,6 +110,8 @@ impl Read for DebugSetting {
 
     ghost refuses = { debug_refuses };
 
+    ghost takes_memory = { ⊥ };
+
     fn read(_alloc: Global, value: &Value) -> Result<DebugSetting, Error> {
         match debug_setting(value) {
             Ok(setting) => Ok(setting),
@@ -146,6 +148,8 @@ impl Read for StripSetting {
 
     ghost refuses = { strip_refuses };
 
+    ghost takes_memory = { ⊥ };
+
     fn read(_alloc: Global, value: &Value) -> Result<StripSetting, Error> {
         match strip_setting(value) {
             Ok(setting) => Ok(setting),
@@ -181,6 +185,8 @@ impl Read for LtoSetting {
     ghost reads = { lto_of };
 
     ghost refuses = { lto_refuses };
+
+    ghost takes_memory = { ⊥ };
 
     fn read(_alloc: Global, value: &Value) -> Result<LtoSetting, Error> {
         match lto_setting(value) {

@@ -89,6 +89,8 @@ impl Read for Edition {
 
     ghost refuses = { λ d e. IsShape wrong_shape e };
 
+    ghost takes_memory = { ⊥ };
+
     fn read(_alloc: Global, value: &Value) -> Result<Edition, Error> {
         let Some(text) = value.as_str() else {
             return Err(wrong_shape());
@@ -114,6 +116,8 @@ impl Read for Resolver {
     ghost reads = { resolver_reads };
 
     ghost refuses = { λ d e. IsShape wrong_shape e };
+
+    ghost takes_memory = { ⊥ };
 
     fn read(_alloc: Global, value: &Value) -> Result<Resolver, Error> {
         let Some(text) = value.as_str() else {

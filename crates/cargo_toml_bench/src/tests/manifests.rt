@@ -413,7 +413,7 @@ fn defaults(rt: HostRuntime) -> Result<(), Fail> {
     assert!(rt; matches!(&manifest.lints, Inheritable::Set(lints) if lints.is_empty()));
     let workspace: Box<Workspace<Level>> = boxed(alloc, Workspace::default(alloc))?;
     assert!(rt; workspace.members.is_empty());
-    let template = boxed(alloc, PackageTemplate::default(alloc))?;
+    let template = boxed(alloc, PackageTemplate::default())?;
     assert!(rt; matches!(template.publish, Publish::Flag(true)));
     let package: Box<Package> = boxed(alloc, Package::default(alloc))?;
     assert_eq!(rt; package.name.as_str(), "");

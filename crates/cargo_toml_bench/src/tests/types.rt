@@ -196,7 +196,7 @@ fn where_nothing_is_given(rt: HostRuntime) -> Result<(), Fail> {
         Product::default(alloc),
         at::<Product>(alloc, "x = {}", "x")?
     );
-    assert_eq!(rt; Badges::default(alloc), at::<Badges>(alloc, "x = {}", "x")?);
+    assert_eq!(rt; Badges::default(), at::<Badges>(alloc, "x = {}", "x")?);
     assert_eq!(rt; Maintenance::default().status, MaintenanceStatus::None);
     assert_eq!(rt;
         InheritedDependencyDetail::default(alloc),

@@ -38,7 +38,7 @@ fn badges_written(rt: HostRuntime) -> Result<(), Fail> {
     };
     assert!(rt; is_written_as(alloc, &maintenance, "{ status = 'as-is' }")?);
     let none = "{ maintenance = { status = 'none' } }";
-    assert!(rt; is_written_as(alloc, &Badges::default(alloc), none)?);
+    assert!(rt; is_written_as(alloc, &Badges::default(), none)?);
     let badges = Badges {
         appveyor: Some(bare_badge(alloc)?),
         circle_ci: Some(bare_badge(alloc)?),
@@ -85,7 +85,7 @@ fn products_written(rt: HostRuntime) -> Result<(), Fail> {
 #[test]
 fn templates_written(rt: HostRuntime) -> Result<(), Fail> {
     let alloc = rt.alloc();
-    let mut template = boxed(alloc, PackageTemplate::default(alloc))?;
+    let mut template = boxed(alloc, PackageTemplate::default())?;
     assert!(rt; is_written_as(alloc, &*template, "{}")?);
     template.authors = Some(texts(alloc, "a")?);
     template.categories = Some(texts(alloc, "c")?);

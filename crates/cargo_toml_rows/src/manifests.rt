@@ -2,6 +2,7 @@
 use cargo_toml::{Error, Manifest, ParseFault, ToValue, Value};
 use cargo_toml_print::print_features;
 use std::alloc::Global;
+use toml::Table;
 
 /// The manifest behind a pointer: of what a function owns itself each field is looked at when it is proved.
 pub fn read(alloc: Global, bytes: &[u8]) -> Result<Box<Manifest>, Error> {
@@ -11,12 +12,20 @@ pub fn read(alloc: Global, bytes: &[u8]) -> Result<Box<Manifest>, Error> {
 /// The text that a manifest is written as.
 fn print(alloc: Global, manifest: &Manifest) -> Result<String, Error> {
     match manifest.to_value(alloc)? {
-        Value::Table(table) => match toml::table_to_string(alloc, &table) {
-            Ok(text) => Ok(text),
-            Err(_) => Err(Error::Other("a table that can't be printed")),
-        },
+        Value::Table(table) => print_table(alloc, &table),
         _ => Err(Error::Other("a manifest that is no table")),
     }
+}
+
+/// The text of a table. The text has to read as the same table.
+fn print_table(alloc: Global, table: &Table) -> Result<String, Error> {
+    let Ok(text) = toml::table_to_string(alloc, table) else {
+        return Err(Error::Other("a table that can't be printed"));
+    };
+    if toml::table_from_str(alloc, text.as_str())? == *table {
+        return Ok(text);
+    }
+    Err(Error::Other("a text that reads as another table"))
 }
 
 /// How the manifest is written. What is written has to be written alike where it is read again.

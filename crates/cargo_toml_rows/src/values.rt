@@ -2,9 +2,9 @@
 use cargo_toml::{
     Badge, Badges, DebugSetting, Dependency, DependencyDetail, Edition, Error, FromValue,
     Inheritable, InheritedDependencyDetail, Lint, LintGroups, LintLevel, LtoSetting, Maintenance,
-    MaintenanceStatus, OptionalFile, PackageTemplate, ParseFault, PatchSet, Product, Profile,
-    Profiles, Publish, Resolver, SemVer, StripSetting, Target, TargetDepsSet, ToValue, Value,
-    VersionReq,
+    MaintenanceStatus, Manifest, OptionalFile, Package, PackageTemplate, ParseFault, PatchSet,
+    Product, Profile, Profiles, Publish, Resolver, SemVer, StripSetting, Target, TargetDepsSet,
+    ToValue, Value, VersionReq, Workspace,
 };
 use std::alloc::Global;
 use std::fmt::Debug;
@@ -56,6 +56,11 @@ fn table_answer(alloc: Global, row: &str, value: &Value) -> Result<String, Error
         "values/product" => answer_of::<Product>(alloc, value),
         "values/profile" => answer_of::<Profile>(alloc, value),
         "values/profiles" => answer_of::<Profiles>(alloc, value),
+        "values/template" => answer_of::<PackageTemplate>(alloc, value),
+        "values/package" => answer_of::<Package>(alloc, value),
+        "values/workspace" => answer_of::<Workspace>(alloc, value),
+        "values/manifest" => answer_of::<Manifest>(alloc, value),
+        "values/value" => answer_of::<Value>(alloc, value),
         _ => dependency_answer(alloc, row, value),
     }
 }
@@ -68,7 +73,6 @@ fn dependency_answer(alloc: Global, row: &str, value: &Value) -> Result<String, 
         "values/target" => answer_of::<Target>(alloc, value),
         "values/targets" => answer_of::<TargetDepsSet>(alloc, value),
         "values/patches" => answer_of::<PatchSet>(alloc, value),
-        "values/template" => answer_of::<PackageTemplate>(alloc, value),
         _ => Err(Error::Other("no such type")),
     }
 }

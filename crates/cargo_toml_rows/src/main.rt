@@ -25,6 +25,8 @@ enum Kind {
     Features,
     /// What is recorded of its dependencies.
     Dependencies,
+    /// What one of its features enables at last. The file `start` names the feature.
+    Recursion,
     /// What values of one type read as, and how these are written.
     Values,
 }
@@ -36,6 +38,7 @@ fn kind_of(word: &str) -> Option<Kind> {
         "refuse" => Some(Kind::Refuse),
         "features" => Some(Kind::Features),
         "dependencies" => Some(Kind::Dependencies),
+        "recursion" => Some(Kind::Recursion),
         "values" => Some(Kind::Values),
         _ => None,
     }
@@ -49,6 +52,7 @@ fn expected_file(kind: Kind) -> &'static str {
         Kind::Refuse => "/fault",
         Kind::Features => "/lines",
         Kind::Dependencies => "/recorded",
+        Kind::Recursion => "/enabled",
         Kind::Values => "",
     }
 }
@@ -71,8 +75,15 @@ fn answer<R: Files + AllocGlobal>(
         Kind::Fields => manifests::fields(alloc, manifest.as_slice(), expected),
         Kind::Refuse => manifests::fault(alloc, manifest.as_slice()),
         Kind::Features => manifests::features(alloc, manifest.as_slice()),
+        Kind::Recursion => enabled(rt, folder, manifest.as_slice()),
         _ => resolved::recorded(alloc, manifest.as_slice()),
     }
+}
+
+fn enabled<R: Files + AllocGlobal>(rt: &R, folder: &str, manifest: &[u8]) -> Result<String, Error> {
+    let path = format!(in rt.alloc(); "{folder}/start")?;
+    let start = fs::read_to_string(rt, path.as_str())?;
+    resolved::enabled(rt.alloc(), manifest, start.as_str().trim_end_matches('\n'))
 }
 
 /// What is said of a row.

@@ -47,6 +47,7 @@ fn table_answer(alloc: Global, row: &str, value: &Value) -> Result<String, Error
     match row {
         "values/requirement" => answer_of::<VersionReq>(alloc, value),
         "values/inheritable-version" => answer_of::<Inheritable<SemVer>>(alloc, value),
+        "values/inheritable-text" => answer_of::<Inheritable<String>>(alloc, value),
         "values/inheritable-edition" => answer_of::<Inheritable<Edition>>(alloc, value),
         "values/lint" => answer_of::<Lint>(alloc, value),
         "values/lint-groups" => answer_of::<LintGroups>(alloc, value),

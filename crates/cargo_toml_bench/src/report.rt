@@ -1,7 +1,5 @@
 //! A report of a manifest: its optional dependencies, and its features that nothing enables.
 mod print;
-#[cfg(test)]
-mod tests;
 
 ghost use Rattle.std.specs.Prelude.{◌≡◌, ◌↔◌, IsTrue, IfErr, IfOk};
 ghost use Rattle.std.specs.Cmp.Lexicographic.{slice_cmp};

@@ -1,26 +1,31 @@
-//! Tests over the public crate: worked rows, printed texts, and each call once with ample memory at a concrete type. They stand
-//! together here, since a crate with tests is proved twice.
+//! Tests of what goes not from text to text: values that a caller makes, asks and changes, and code of a caller's own. What a text
+//! reads as, is written as and is resolved to stands in the rows of `cargo_toml_rows`, which cost no proof.
 mod dependencies;
 mod faults;
 mod features;
-mod keys;
-mod levels;
 mod manifests;
 mod packages;
-mod recursion;
-mod settings;
-mod types;
+mod printing;
 mod values;
 mod written;
 
-use cargo_toml::{Error, FromValue, Manifest, ParseFault};
+use cargo_toml::{Error, Manifest};
 use std::alloc::{AllocError, Global};
-use std::process::Abort;
 
 // A list of one text.
 fn texts(alloc: Global, item: &str) -> Result<Vec<String>, AllocError> {
     let mut all = Vec::new(alloc);
     all.push(String::from_str(alloc, item)?)?;
+    Ok(all)
+}
+
+// The texts of a list, each followed by a comma.
+fn joined(alloc: Global, list: &[String]) -> Result<String, AllocError> {
+    let mut all = String::new(alloc);
+    for text in list {
+        all.push_str(text.as_str())?;
+        all.push_str(",")?;
+    }
     Ok(all)
 }
 
@@ -33,42 +38,4 @@ fn boxed<T: Drop>(alloc: Global, value: T) -> Result<Box<T>, AllocError> {
 // The manifest of a text.
 fn manifest(alloc: Global, text: &str) -> Result<Box<Manifest>, Error> {
     Ok(boxed(alloc, Manifest::from_str(alloc, text)?)?)
-}
-
-// What reads at a key of a document.
-fn at<T: FromValue>(alloc: Global, document: &str, key: &str) -> Result<T, Error> {
-    let mut table = toml::table_from_str(alloc, document)?;
-    match table.remove(key) {
-        Some(value) => T::from_value(alloc, value),
-        None => Err(Error::Other("no such key")),
-    }
-}
-
-// What reads of a value as it is written.
-fn read<T: FromValue>(alloc: Global, value: &str) -> Result<T, Error> {
-    let document = format!(in alloc; "x = {value}")?;
-    at(alloc, document.as_str(), "x")
-}
-
-// The text of a fault of shape.
-fn shape(fault: &Error) -> &'static str {
-    match fault {
-        Error::Parse(ParseFault::Shape(text)) => text,
-        _ => "another fault",
-    }
-}
-
-// The text of the fault where nothing is read.
-fn refused<T: Drop>(answer: &Result<T, Error>) -> &'static str {
-    match answer {
-        Ok(_) => "no fault",
-        Err(fault) => shape(fault),
-    }
-}
-
-fn assert_list(rt: &impl Abort, list: &[String], want: &[&str]) {
-    assert_eq!(rt; list.len(), want.len());
-    for (text, name) in list.iter().zip(want.iter()) {
-        assert_eq!(rt; text.as_str(), *name);
-    }
 }

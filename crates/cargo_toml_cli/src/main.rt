@@ -6,11 +6,12 @@ ghost use Rattle.cargo_toml_cli.specs.Words.{words_of};
 ghost use Rattle.cargo_toml_cli.specs.declared.arguments.Command.{Command};
 
 mod arguments;
-mod print;
+#[cfg(test)]
+mod tests;
 
 use arguments::Command;
 use cargo_toml::Error;
-use print::print_features;
+use cargo_toml_print::print_features;
 use std::process::ExitCode;
 use std::rt::{Env, Files};
 use std::{env, fs, io};

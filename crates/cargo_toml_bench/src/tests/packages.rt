@@ -2,8 +2,9 @@
 ghost use Rattle.std.specs.Prelude.{◌≡◌};
 ghost use Rattle.cargo_toml_package.specs.PackageAnswers.{is_known};
 
-use super::{assert_list, boxed, manifest};
+use super::{boxed, joined, manifest};
 use cargo_toml::{Edition, Inheritable, OptionalFile, Package, Publish, SemVer};
+use std::alloc::{AllocError, Global};
 use std::process::Abort;
 use std::test::Fail;
 
@@ -39,17 +40,21 @@ fn assert_texts(rt: &impl Abort, package: &Package) {
     assert_eq!(rt; package.name(), "anvil");
 }
 
-fn assert_lists(rt: &impl Abort, package: &Package) {
+fn assert_lists(rt: &impl Abort, alloc: Global, package: &Package) -> Result<(), AllocError> {
     assert!(rt; package.authors.is_set());
-    assert_list(rt, package.authors(), &["Ann", "Ben"]);
+    assert_eq!(rt; joined(alloc, package.authors())?.as_str(), "Ann,Ben,");
     assert!(rt; package.keywords.is_set());
-    assert_list(rt, package.keywords(), &["cargo"]);
+    assert_eq!(rt; joined(alloc, package.keywords())?.as_str(), "cargo,");
     assert!(rt; package.categories.is_set());
-    assert_list(rt, package.categories(), &["parsing", "encoding"]);
+    assert_eq!(rt;
+        joined(alloc, package.categories())?.as_str(),
+        "parsing,encoding,"
+    );
     assert!(rt; package.exclude.is_set());
-    assert_list(rt, package.exclude(), &["out"]);
+    assert_eq!(rt; joined(alloc, package.exclude())?.as_str(), "out,");
     assert!(rt; package.include.is_set());
-    assert_list(rt, package.include(), &["src", "LICENSE"]);
+    assert_eq!(rt; joined(alloc, package.include())?.as_str(), "src,LICENSE,");
+    Ok(())
 }
 
 #[test]
@@ -58,7 +63,7 @@ fn every_question(rt: HostRuntime) -> Result<(), Fail> {
     assert!(rt; manifest.package.is_some());
     let package = manifest.package();
     assert_texts(&rt, package);
-    assert_lists(&rt, package);
+    assert_lists(&rt, rt.alloc(), package)?;
     assert!(rt; package.version.is_set());
     assert!(rt; *package.version() == SemVer::new(1, 2, 3));
     assert!(rt; package.edition.is_set());
@@ -94,6 +99,6 @@ fn every_change(rt: HostRuntime) -> Result<(), Fail> {
     package
         .categories_mut()
         .push(String::from_str(alloc, "c")?)?;
-    assert_list(&rt, package.categories(), &["c"]);
+    assert_eq!(rt; joined(alloc, package.categories())?.as_str(), "c,");
     Ok(())
 }

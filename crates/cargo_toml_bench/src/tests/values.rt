@@ -1,6 +1,6 @@
-//! What is asked of values that may be inherited, of optional files and of publishing.
+//! What is asked of values that may be inherited, of settings, of optional files and of publishing.
 use super::texts;
-use cargo_toml::{Edition, Inheritable, OptionalFile, Publish};
+use cargo_toml::{Edition, Inheritable, OptionalFile, Publish, Resolver};
 use std::collections::BTreeMap;
 use std::test::Fail;
 
@@ -17,6 +17,23 @@ fn written_small_values(rt: HostRuntime) {
     assert!(rt; Publish::Registry(Vec::new(rt.alloc())).eq_bool(false));
     assert_eq!(rt; Edition::E2024.min_rust_version_minor(), 85);
     assert_eq!(rt; Edition::E2021.min_rust_version_minor(), 56);
+}
+
+#[test]
+fn editions_and_resolvers(rt: HostRuntime) -> Result<(), Fail> {
+    let alloc = rt.alloc();
+    let printed = format!(in alloc;
+        "{} {} {}",
+        Edition::E2018,
+        Edition::default(),
+        Resolver::V3
+    )?;
+    assert_eq!(rt; printed.as_str(), "2018 2015 3");
+    assert_eq!(rt; Edition::E2021 as u16, 2021);
+    assert_eq!(rt; Resolver::V2 as u8, 2);
+    assert!(rt; Edition::E2018 < Edition::E2024);
+    assert!(rt; Resolver::default() < Resolver::V2);
+    Ok(())
 }
 
 #[test]
@@ -61,7 +78,8 @@ fn optional_files(rt: HostRuntime) -> Result<(), Fail> {
     assert_eq!(rt; named.display(), "R.md");
     assert_eq!(rt; named.as_path(), Some("R.md"));
     assert!(rt; named.is_some());
-    assert_eq!(rt; OptionalFile::Flag(true).display(), "<default>");
+    assert_eq!(rt; OptionalFile::default().display(), "<default>");
     assert_eq!(rt; OptionalFile::Flag(false).display(), "<disabled>");
+    assert!(rt; Publish::default().eq_bool(true));
     Ok(())
 }

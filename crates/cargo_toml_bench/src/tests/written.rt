@@ -1,97 +1,137 @@
-//! What is written, and that each table printed by `toml` is read again to the same table.
-mod manifests;
-mod parts;
-mod settings;
-mod tables;
-
-use super::manifests::LARGE;
-use super::{boxed, manifest};
+//! What is written of values that no text reads as.
+use super::boxed;
 use cargo_toml::{
-    Dependency, Error, FromValue, Inheritable, InheritedDependencyDetail, Manifest, Package,
-    Profile, SemVer, Target, ToValue, Value,
+    DependencyDetail, Error, Lint, LintLevel, Manifest, Package, PackageTemplate, Profile,
+    Profiles, SemVer, ToValue, Value, Workspace,
 };
 use std::alloc::{AllocError, Global};
+use std::collections::BTreeMap;
 use std::test::Fail;
-use toml::Table;
 
-fn text(alloc: Global, text: &str) -> Result<Option<String>, AllocError> {
-    Ok(Some(String::from_str(alloc, text)?))
+fn values(alloc: Global, key: &str, value: Value) -> Result<BTreeMap<String, Value>, AllocError> {
+    let mut all = BTreeMap::new(alloc);
+    drop(all.insert(String::from_str(alloc, key)?, value)?);
+    Ok(all)
 }
 
-// Whether the value is written as this tree, which reads as the value again.
-fn is_written_as<T: ToValue + FromValue + PartialEq>(
-    alloc: Global,
-    x: &T,
-    tree: &str,
-) -> Result<bool, Error> {
-    let written = x.to_value(alloc)?;
-    if written != Value::from_str(alloc, tree)? {
-        return Ok(false);
-    }
-    Ok(T::from_value(alloc, written)? == *x)
+// The text of the tree that a value is written as.
+fn tree<T: ToValue>(alloc: Global, value: &T) -> Result<String, Error> {
+    let tree = value.to_value(alloc)?;
+    Ok(format!(in alloc; "{tree}")?)
 }
 
-// Whether the value is written as this tree, whatever is read of that.
-fn is_tree<T: ToValue>(alloc: Global, x: &T, tree: &str) -> Result<bool, Error> {
-    Ok(x.to_value(alloc)? == Value::from_str(alloc, tree)?)
+// Whether the value is refused for a float.
+fn refuses_float<T: ToValue>(alloc: Global, value: &T) -> bool {
+    matches!(
+        value.to_value(alloc),
+        Err(Error::Other("floats are not supported"))
+    )
 }
 
-// The table of a value.
-fn table<T: ToValue>(alloc: Global, x: &T) -> Result<Table, Fail> {
-    match x.to_value(alloc)? {
-        Value::Table(table) => Ok(table),
-        _ => Err("no table")?,
-    }
+#[test]
+fn default_manifest_written(rt: HostRuntime) -> Result<(), Fail> {
+    let alloc = rt.alloc();
+    let manifest: Box<Manifest> = boxed(alloc, Manifest::default(alloc))?;
+    assert_eq!(rt; tree(alloc, &*manifest)?.as_str(), "{}");
+    let workspace: Box<Workspace> = boxed(alloc, Workspace::default(alloc))?;
+    assert_eq!(rt; tree(alloc, &*workspace)?.as_str(), "{ members = [] }");
+    let template = boxed(alloc, PackageTemplate::default(alloc))?;
+    assert_eq!(rt; tree(alloc, &*template)?.as_str(), "{}");
+    Ok(())
 }
 
-// Whether the table that is written of a value, printed, is read again to the same table.
-fn prints_and_reads<T: ToValue>(alloc: Global, x: &T) -> Result<bool, Fail> {
-    let written = table(alloc, x)?;
-    let text = toml::table_to_string(alloc, &written)?;
-    Ok(toml::table_from_str(alloc, text.as_str())? == written)
+#[test]
+fn new_package_written(rt: HostRuntime) -> Result<(), Fail> {
+    let alloc = rt.alloc();
+    let name = String::from_str(alloc, "p")?;
+    let package: Box<Package> = boxed(alloc, Package::new(alloc, name, SemVer::new(1, 2, 3)))?;
+    assert_eq!(rt;
+        tree(alloc, &*package)?.as_str(),
+        "{ edition = \"2021\", name = \"p\", version = \"1.2.3\" }"
+    );
+    let package: Box<Package> = boxed(alloc, Package::default(alloc))?;
+    assert_eq!(rt;
+        tree(alloc, &*package)?.as_str(),
+        "{ edition = \"2021\", name = \"\", version = \"0.0.0\" }"
+    );
+    Ok(())
 }
 
 #[test]
 fn written_tables_read_again(rt: HostRuntime) -> Result<(), Fail> {
     let alloc = rt.alloc();
-    let mut manifest: Box<Manifest> = boxed(alloc, Manifest::default(alloc))?;
-    assert!(rt; prints_and_reads(alloc, &*manifest)?);
-    let mut doc = Profile::default(alloc);
-    doc.opt_level = Some(Value::Integer(1));
-    manifest.profile.doc = Some(doc);
-    assert!(rt; prints_and_reads(alloc, &*manifest)?);
     let name = String::from_str(alloc, "p")?;
     let package: Box<Package> = boxed(alloc, Package::new(alloc, name, SemVer::new(1, 2, 3)))?;
-    assert!(rt; prints_and_reads(alloc, &*package)?);
-    let mut detail = InheritedDependencyDetail::default(alloc);
-    detail.optional = true;
-    assert!(rt; prints_and_reads(alloc, &Dependency::Inherited(detail))?);
-    assert!(rt; prints_and_reads(alloc, &Target::default(alloc))?);
-    let inherited: Inheritable<String> = Inheritable::Inherited;
-    assert!(rt; prints_and_reads(alloc, &inherited)?);
-    Ok(())
-}
-
-#[test]
-fn large_manifest_written(rt: HostRuntime) -> Result<(), Fail> {
-    let alloc = rt.alloc();
-    let large = manifest(alloc, LARGE)?;
-    let written = table(alloc, &*large)?;
+    let Value::Table(written) = package.to_value(alloc)? else {
+        return Err("no table")?;
+    };
     let text = toml::table_to_string(alloc, &written)?;
-    let again = manifest(alloc, text.as_str())?;
-    assert!(rt; table(alloc, &*again)? == written);
+    assert!(rt; toml::table_from_str(alloc, text.as_str())? == written);
     Ok(())
 }
 
 #[test]
-fn written_metadata_read_again(rt: HostRuntime) -> Result<(), Fail> {
+fn collected_keys_give_way(rt: HostRuntime) -> Result<(), Fail> {
     let alloc = rt.alloc();
-    let document = "name = 'p'\nmetadata = { a = [1, 'b'] }\n";
-    let tree = Value::Table(toml::table_from_str(alloc, document)?);
-    let package: Box<Package> = boxed(alloc, Package::from_value(alloc, tree)?)?;
-    assert!(rt; prints_and_reads(alloc, &*package)?);
-    let written = package.to_value(alloc)?;
-    let again: Box<Package> = boxed(alloc, Package::from_value(alloc, written)?)?;
-    assert!(rt; *again == *package);
+    let mut detail = boxed(alloc, DependencyDetail::default(alloc))?;
+    detail.inherited = true;
+    detail.unstable = values(alloc, "optional", Value::Integer(1))?;
+    assert_eq!(rt; tree(alloc, &*detail)?.as_str(), "{ optional = 1 }");
+    detail.optional = true;
+    assert_eq!(rt; tree(alloc, &*detail)?.as_str(), "{ optional = true }");
+    let lint = Lint {
+        level: LintLevel::Warn,
+        priority: 0,
+        config: values(alloc, "level", Value::Integer(3))?,
+    };
+    assert_eq!(rt;
+        tree(alloc, &lint)?.as_str(),
+        "{ level = \"warn\", priority = 0 }"
+    );
+    Ok(())
+}
+
+#[test]
+fn known_profiles_are_put_over_others(rt: HostRuntime) -> Result<(), Fail> {
+    let alloc = rt.alloc();
+    let mut profiles = boxed(alloc, Profiles::default(alloc))?;
+    let mut other = Profile::default(alloc);
+    other.rpath = Some(false);
+    drop(
+        profiles
+            .custom
+            .insert(String::from_str(alloc, "dev")?, other)?,
+    );
+    assert_eq!(rt;
+        tree(alloc, &*profiles)?.as_str(),
+        "{ dev = { rpath = false } }"
+    );
+    profiles.dev = Some(Profile::default(alloc));
+    profiles.release = Some(Profile::default(alloc));
+    assert_eq!(rt;
+        tree(alloc, &*profiles)?.as_str(),
+        "{ dev = {}, release = {} }"
+    );
+    Ok(())
+}
+
+#[test]
+fn floats_are_not_written(rt: HostRuntime) -> Result<(), Fail> {
+    let alloc = rt.alloc();
+    let mut detail = boxed(alloc, DependencyDetail::default(alloc))?;
+    detail.unstable = values(alloc, "x", Value::Float(0.5))?;
+    assert!(rt; refuses_float(alloc, &*detail));
+    let mut profile = boxed(alloc, Profile::default(alloc))?;
+    profile.package = values(alloc, "b", Value::Float(1.5))?;
+    assert!(rt; refuses_float(alloc, &*profile));
+    profile.package = BTreeMap::new(alloc);
+    profile.opt_level = Some(Value::Float(1.5));
+    assert!(rt; refuses_float(alloc, &*profile));
+    let lint = Lint {
+        level: LintLevel::Warn,
+        priority: 0,
+        config: values(alloc, "x", Value::Float(1.5))?,
+    };
+    assert!(rt; refuses_float(alloc, &lint));
     Ok(())
 }

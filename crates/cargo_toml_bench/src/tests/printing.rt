@@ -1,0 +1,89 @@
+//! What is printed of a report, and what a refusal of a printing call leaves.
+use crate::report::print_report;
+use cargo_toml::{Error, ParseFault};
+use cargo_toml_print::print_features;
+use std::io;
+use std::io::{Read, Write};
+use std::test::Fail;
+
+// Two dependencies, of which one is optional; `fast` is enabled by `default` and `extra`, and `log` by `fast`.
+const SMALL: &str =
+    "[package]\nname = \"p\"\n[dependencies]\nlog = { version = \"0.4\", optional = true }\nserde = \"1\"\n[features]\ndefault = [\"fast\"]\nextra = [\"fast\"]\nfast = [\"log/std\"]\nalone = []\n";
+
+#[test]
+fn printed_of_a_small_manifest(rt: HostRuntime) -> Result<(), Fail> {
+    let mut output = Vec::new(rt.alloc());
+    print_report(rt.alloc(), b"", &mut output)?;
+    assert!(rt; output.is_empty());
+    print_report(rt.alloc(), SMALL.as_bytes(), &mut output)?;
+    let lines = "optional log\nunreferenced alone\nunreferenced extra\n";
+    assert_eq!(rt; output.as_slice(), lines.as_bytes());
+    Ok(())
+}
+
+#[test]
+fn nothing_is_printed_of_what_is_no_manifest(rt: HostRuntime) -> Result<(), Fail> {
+    let alloc = rt.alloc();
+    let mut output = Vec::new(alloc);
+    output.push(b'#')?;
+    let refused = print_report(alloc, b"\xff", &mut output);
+    assert!(rt; matches!(refused, Err(Error::Other("utf8"))));
+    let refused = print_features(alloc, &mut b"\xff".as_slice(), &mut output);
+    assert!(rt; matches!(refused, Err(Error::Other("utf8"))));
+    let refused = print_features(alloc, &mut b"[package".as_slice(), &mut output);
+    assert!(rt; matches!(refused, Err(Error::Parse(ParseFault::Toml(_)))));
+    let refused = print_features(alloc, &mut b"[package]\n".as_slice(), &mut output);
+    assert!(rt; matches!(refused, Err(Error::Parse(ParseFault::Shape(_)))));
+    assert_eq!(rt; output.as_slice(), b"#".as_slice());
+    Ok(())
+}
+
+/// Gives one byte, then fails.
+#[derive(Drop)]
+struct Broken {
+    given: bool,
+}
+
+impl Read for Broken {
+    fn read(&mut self, buf: &mut [u8]) -> io::Result<usize> {
+        match buf.first_mut() {
+            Some(place) if !self.given => {
+                self.given = true;
+                *place = b'#';
+                Ok(1)
+            }
+            _ => Err(io::Error::from(io::ErrorKind::BrokenPipe)),
+        }
+    }
+}
+
+/// Takes nothing.
+#[derive(Drop)]
+struct Full;
+
+impl Write for Full {
+    fn write(&mut self, _buf: &[u8]) -> io::Result<usize> {
+        Err(io::Error::from(io::ErrorKind::BrokenPipe))
+    }
+
+    fn flush(&mut self) -> io::Result<()> {
+        Ok(())
+    }
+}
+
+fn is_broken(outcome: Result<(), Error>) -> bool {
+    match outcome {
+        Err(Error::Io(fault)) => fault.kind() == io::ErrorKind::BrokenPipe,
+        _ => false,
+    }
+}
+
+#[test]
+fn input_and_output_that_fail(rt: HostRuntime) {
+    let alloc = rt.alloc();
+    let mut output = Vec::new(alloc);
+    assert!(rt; is_broken(print_features(alloc, &mut Broken { given: false }, &mut output)));
+    assert!(rt; output.is_empty());
+    assert!(rt; is_broken(print_features(alloc, &mut b"".as_slice(), &mut Full)));
+    assert!(rt; is_broken(print_report(alloc, SMALL.as_bytes(), &mut Full)));
+}

@@ -1,0 +1,135 @@
+//! What the program `cargo-toml` writes, as a library: what checks it against stored lines writes by the same code.
+#![tactic(auto)]
+
+ghost use Rattle.std.specs.Prelude.{IfErr};
+ghost use Rattle.std.specs.Io.KnownBytes.{Keeps};
+ghost use Rattle.cargo_toml_print.specs.Printing.{IsOfManifest};
+
+use cargo_toml::features::{DepAction, Feature, Features, Resolver};
+use cargo_toml::{Error, Manifest};
+use std::alloc::Global;
+use std::collections::{BTreeMap, BTreeSet};
+use std::hash::BuildHasher;
+use std::io::{Read, Write};
+
+/// Reads a manifest from `input` and writes a line for each of its features to `output`.
+///
+/// Refuses as `Manifest::from_slice` does, with `Io` where `input` can't be read or `output` can't be written, and with `Memory`
+/// for want of memory. Nothing is written before all lines stand, so that a fault of the manifest leaves `output` as it was.
+pub fn print_features<R: Read, W: Write>(
+    alloc: Global,
+    input: &mut R,
+    output: &mut W,
+) -> Result<(), Error>
+    ensures unwritten { IfErr result (λ e. IsOfManifest e → Keeps (W.contents output.old) (W.contents output.new)) }
+{
+    let mut bytes = Vec::new(alloc);
+    input.read_to_end(&mut bytes)?;
+    let lines = lines_of(alloc, bytes.as_slice())?;
+    output.write_all(lines.as_bytes())?;
+    output.flush()?;
+    Ok(())
+}
+
+/// The lines of the manifest that the bytes spell.
+fn lines_of(alloc: Global, bytes: &[u8]) -> Result<String, Error> {
+    let manifest = Manifest::from_slice(alloc, bytes)?;
+    let features = Resolver::new().parse(alloc, &manifest)?;
+    feature_lines(alloc, &features)
+}
+
+/// A line for each feature, in byte order of their names.
+fn feature_lines<S: BuildHasher>(
+    alloc: Global,
+    features: &Features<'_, '_, S>,
+) -> Result<String, Error> {
+    let mut names: Vec<&str> = features.features.keys().copied().collect(alloc)?;
+    names.sort()?;
+    let mut text = String::new(alloc);
+    for name in names {
+        if let Some(feature) = features.features.get(name) {
+            write_feature(&mut text, feature)?;
+        }
+    }
+    Ok(text)
+}
+
+fn write_feature(text: &mut String, feature: &Feature<'_>) -> Result<(), Error> {
+    text.push_str("feature ")?;
+    text.push_str(feature.key)?;
+    text.push_str(" | ")?;
+    text.push_str(if feature.explicit {
+        "explicit"
+    } else {
+        "implied"
+    })?;
+    text.push_str(" | names: ")?;
+    write_set(text, &feature.enables_features)?;
+    text.push_str(" | deps: ")?;
+    write_actions(text, &feature.enables_deps)?;
+    text.push_str(" | by: ")?;
+    write_set(text, &feature.enabled_by)?;
+    text.push_str(" | bins: ")?;
+    write_list(text, feature.required_by_bins.as_slice())?;
+    text.push_str("\n")?;
+    Ok(())
+}
+
+/// Writes what stands before an item: nothing before the first one.
+fn separate(text: &mut String, is_first: bool) -> Result<(), Error> {
+    if !is_first {
+        text.push_str(", ")?;
+    }
+    Ok(())
+}
+
+/// Writes what stands for no item at all.
+fn write_none(text: &mut String, is_empty: bool) -> Result<(), Error> {
+    if is_empty {
+        text.push_str("-")?;
+    }
+    Ok(())
+}
+
+fn write_list(text: &mut String, items: &[&str]) -> Result<(), Error> {
+    write_none(text, items.is_empty())?;
+    for (i, item) in items.iter().enumerate() {
+        separate(text, i == 0)?;
+        text.push_str(*item)?;
+    }
+    Ok(())
+}
+
+fn write_set(text: &mut String, items: &BTreeSet<&str>) -> Result<(), Error> {
+    write_none(text, items.is_empty())?;
+    for (i, item) in items.iter().enumerate() {
+        separate(text, i == 0)?;
+        text.push_str(*item)?;
+    }
+    Ok(())
+}
+
+fn write_actions(text: &mut String, actions: &BTreeMap<&str, DepAction<'_>>) -> Result<(), Error> {
+    write_none(text, actions.is_empty())?;
+    for (i, (key, action)) in actions.iter().enumerate() {
+        separate(text, i == 0)?;
+        write_action(text, *key, action)?;
+    }
+    Ok(())
+}
+
+/// The dependency's key, `?` if the action is conditional, `!` if it is dep-only, then each of its features after a slash.
+fn write_action(text: &mut String, key: &str, action: &DepAction<'_>) -> Result<(), Error> {
+    text.push_str(key)?;
+    if action.is_conditional {
+        text.push_str("?")?;
+    }
+    if action.is_dep_only {
+        text.push_str("!")?;
+    }
+    for feature in &action.dep_features {
+        text.push_str("/")?;
+        text.push_str(*feature)?;
+    }
+    Ok(())
+}

@@ -1,0 +1,119 @@
+//! Holds `cargo_toml` to rows that are kept as data: each is a folder with a manifest and, beside it, what has to come of it.
+//!
+//! The words of the command line name the rows, as KIND/NAME. A line for each says that all is as expected, or what came instead.
+#![tactic(auto)]
+
+mod manifests;
+mod resolved;
+mod values;
+
+use cargo_toml::Error;
+use std::alloc::Global;
+use std::rt::Files;
+use std::{env, fs};
+
+/// What is asked of a row.
+#[derive(Clone, Copy)]
+enum Kind {
+    /// How the manifest is written again.
+    Read,
+    /// What the fields of the manifest hold.
+    Fields,
+    /// Why the manifest is refused.
+    Refuse,
+    /// What is printed of its features.
+    Features,
+    /// What is recorded of its dependencies.
+    Dependencies,
+    /// What one of its features enables at last. The file `start` names the feature.
+    Recursion,
+    /// What values of one type read as, and how these are written.
+    Values,
+}
+
+fn kind_of(word: &str) -> Option<Kind> {
+    match word {
+        "read" => Some(Kind::Read),
+        "fields" => Some(Kind::Fields),
+        "refuse" => Some(Kind::Refuse),
+        "features" => Some(Kind::Features),
+        "dependencies" => Some(Kind::Dependencies),
+        "recursion" => Some(Kind::Recursion),
+        "values" => Some(Kind::Values),
+        _ => None,
+    }
+}
+
+/// The file of a row's folder that holds what is expected. The values of a type are one file with their answers.
+fn expected_file(kind: Kind) -> &'static str {
+    match kind {
+        Kind::Read => "/written.toml",
+        Kind::Fields => "/fields",
+        Kind::Refuse => "/fault",
+        Kind::Features => "/lines",
+        Kind::Dependencies => "/recorded",
+        Kind::Recursion => "/enabled",
+        Kind::Values => "",
+    }
+}
+
+/// What came of a row whose manifest is in `folder`, to be held against what is expected.
+fn answer<R: Files + AllocGlobal>(
+    rt: &R,
+    kind: Kind,
+    folder: &str,
+    expected: &str,
+) -> Result<String, Error> {
+    let alloc = rt.alloc();
+    if let Kind::Values = kind {
+        return values::lines(alloc, folder, expected);
+    }
+    let path = format!(in alloc; "{folder}/Cargo.toml")?;
+    let manifest = fs::read(rt, path.as_str())?;
+    match kind {
+        Kind::Read => manifests::written(alloc, manifest.as_slice()),
+        Kind::Fields => manifests::fields(alloc, manifest.as_slice(), expected),
+        Kind::Refuse => manifests::fault(alloc, manifest.as_slice()),
+        Kind::Features => manifests::features(alloc, manifest.as_slice()),
+        Kind::Recursion => enabled(rt, folder, manifest.as_slice()),
+        _ => resolved::recorded(alloc, manifest.as_slice()),
+    }
+}
+
+fn enabled<R: Files + AllocGlobal>(rt: &R, folder: &str, manifest: &[u8]) -> Result<String, Error> {
+    let path = format!(in rt.alloc(); "{folder}/start")?;
+    let start = fs::read_to_string(rt, path.as_str())?;
+    resolved::enabled(rt.alloc(), manifest, start.as_str().trim_end_matches('\n'))
+}
+
+/// What is said of a row.
+fn verdict<R: Files + AllocGlobal>(rt: &R, kind: Kind, row: &str) -> Result<String, Error> {
+    let alloc = rt.alloc();
+    let path = format!(in alloc; "{row}{}", expected_file(kind))?;
+    let expected = fs::read_to_string(rt, path.as_str())?;
+    match answer(rt, kind, row, expected.as_str()) {
+        Ok(got) if got == expected => Ok(String::from_str(alloc, "as expected")?),
+        Ok(got) => Ok(got),
+        Err(fault) => Ok(format!(in alloc; "refused, {fault}")?),
+    }
+}
+
+/// The line of a row.
+fn line<R: Files + AllocGlobal>(rt: &R, row: &str) -> Result<String, Error> {
+    let Some((word, name)) = row.split_once('/') else {
+        return Err(Error::Other("a row is named as KIND/NAME"));
+    };
+    let Some(kind) = kind_of(word) else {
+        return Err(Error::Other("no such kind of row"));
+    };
+    let verdict = verdict(rt, kind, row)?;
+    Ok(format!(in rt.alloc(); "{word} {name}: {verdict}\n")?)
+}
+
+fn main(rt: HostRuntime) -> Result<(), Error> {
+    for row in env::args(&rt)?.skip(1) {
+        let line = line(&rt, row.as_str())?;
+        print!(rt; "{line}")?;
+    }
+    Ok(())
+}

@@ -1,0 +1,82 @@
+//! What comes of a manifest, as text.
+use cargo_toml::{Error, Manifest, ParseFault, ToValue, Value};
+use cargo_toml_print::print_features;
+use std::alloc::Global;
+use toml::Table;
+
+/// The manifest behind a pointer: of what a function owns itself each field is looked at when it is proved.
+pub fn read(alloc: Global, bytes: &[u8]) -> Result<Box<Manifest>, Error> {
+    Ok(Box::new(alloc, Manifest::from_slice(alloc, bytes)?)?)
+}
+
+/// The text that a manifest is written as.
+fn print(alloc: Global, manifest: &Manifest) -> Result<String, Error> {
+    match manifest.to_value(alloc)? {
+        Value::Table(table) => print_table(alloc, &table),
+        _ => Err(Error::Other("a manifest that is no table")),
+    }
+}
+
+/// The text of a table. The text has to read as the same table.
+fn print_table(alloc: Global, table: &Table) -> Result<String, Error> {
+    let Ok(text) = toml::table_to_string(alloc, table) else {
+        return Err(Error::Other("a table that can't be printed"));
+    };
+    if toml::table_from_str(alloc, text.as_str())? == *table {
+        return Ok(text);
+    }
+    Err(Error::Other("a text that reads as another table"))
+}
+
+/// How the manifest is written. What is written has to be written alike where it is read again.
+pub fn written(alloc: Global, bytes: &[u8]) -> Result<String, Error> {
+    let text = print(alloc, &*read(alloc, bytes)?)?;
+    let again = print(alloc, &*read(alloc, text.as_bytes())?)?;
+    if again == text {
+        return Ok(text);
+    }
+    Ok(format!(in alloc; "{text}, and read again {again}")?)
+}
+
+/// The expected lines where each stands in the text of the manifest's fields, and that text otherwise.
+pub fn fields(alloc: Global, bytes: &[u8], expected: &str) -> Result<String, Error> {
+    let manifest = read(alloc, bytes)?;
+    let text = format!(in alloc; "{manifest:?}")?;
+    for line in expected.split_terminator('\n') {
+        if !text.contains(line) {
+            return Ok(format!(in alloc; "no {line} in {text}")?);
+        }
+    }
+    Ok(String::from_str(alloc, expected)?)
+}
+
+fn variant(fault: &Error) -> &'static str {
+    match fault {
+        Error::Parse(ParseFault::Toml(_)) => "Parse(Toml)",
+        Error::Parse(ParseFault::Shape(_)) => "Parse(Shape)",
+        Error::Other(_) => "Other",
+        _ => "another fault",
+    }
+}
+
+/// Why the manifest is refused: the variant of the fault and its words. The words of `toml` are its own and are left out.
+pub fn fault(alloc: Global, bytes: &[u8]) -> Result<String, Error> {
+    match read(alloc, bytes) {
+        Ok(_) => Ok(String::from_str(alloc, "nothing is refused")?),
+        Err(fault) => match variant(&fault) {
+            "Parse(Toml)" => Ok(String::from_str(alloc, "Parse(Toml)\n")?),
+            variant => Ok(format!(in alloc; "{variant}: {fault}\n")?),
+        },
+    }
+}
+
+/// What the program `cargo-toml` prints of the manifest's features.
+pub fn features(alloc: Global, bytes: &[u8]) -> Result<String, Error> {
+    let mut input = bytes;
+    let mut output = Vec::new(alloc);
+    print_features(alloc, &mut input, &mut output)?;
+    match str::from_utf8(output.as_slice()) {
+        Ok(text) => Ok(String::from_str(alloc, text)?),
+        Err(_) => Err(Error::Other("lines that aren't UTF-8")),
+    }
+}

@@ -2,7 +2,7 @@
 use super::{boxed, manifest};
 use cargo_toml::{
     Badges, DependencyDetail, Error, FromValue, Inheritable, InheritedDependencyDetail,
-    Maintenance, MaintenanceStatus, Manifest, Package, Product, Profile, Profiles, Publish, SemVer,
+    Maintenance, MaintenanceStatus, Manifest, Package, PackageTemplate, Product, Profile, Profiles, Publish, SemVer,
     Target, Value, Workspace,
 };
 use std::alloc::Global;
@@ -76,7 +76,8 @@ fn is_empty_table<T: FromValue + PartialEq>(alloc: Global, value: &T) -> Result<
 fn defaults(rt: HostRuntime) -> Result<(), Fail> {
     let alloc = rt.alloc();
     assert!(rt; is_empty_table(alloc, &*boxed(alloc, Product::default(alloc))?)?);
-    assert!(rt; is_empty_table(alloc, &*boxed(alloc, Badges::default(alloc))?)?);
+    assert!(rt; is_empty_table(alloc, &Badges::default())?);
+    assert!(rt; is_empty_table(alloc, &PackageTemplate::default())?);
     assert!(rt; is_empty_table(alloc, &*boxed(alloc, Profile::default(alloc))?)?);
     assert!(rt; is_empty_table(alloc, &*boxed(alloc, Profiles::default(alloc))?)?);
     assert!(rt; is_empty_table(alloc, &*boxed(alloc, Target::default(alloc))?)?);

@@ -10,9 +10,9 @@ mod recursive;
 
 ghost use Rattle.std.specs.Prelude.{◌≡◌, ℕ, [], true, map, IfOk, IfErr};
 ghost use Rattle.cargo_toml_parts.specs.declared.error.Error.{Memory};
-ghost use Rattle.cargo_toml.specs.Admitted.{IsWithin};
+ghost use Rattle.cargo_toml_graph.specs.Admitted.{IsWithin};
 ghost use Rattle.cargo_toml.specs.Resolved.{joined_table, IsAnswer};
-ghost use Rattle.cargo_toml.specs.Reach.{IsOnce};
+ghost use Rattle.cargo_toml_graph.specs.Reach.{IsOnce};
 ghost use Rattle.cargo_toml.specs.Reading.{listed_of};
 ghost use Rattle.cargo_toml.specs.Views.{entry_of, listed_in, normal_entries, answer_of};
 

@@ -1,5 +1,5 @@
 use Rattle.std.proofs.Common.{◌≡◌, ℕ, [], true, List, map, ap, subst, ◌∙◌}
-use Rattle.cargo_toml.specs.Admitted.{Listed, IsWithin}
+use Rattle.cargo_toml_graph.specs.Admitted.{Listed, IsWithin}
 use Rattle.cargo_toml.specs.Reading.{listed_of}
 use Rattle.cargo_toml.specs.Recorded.{Entry}
 use Rattle.cargo_toml.specs.Resolved.{joined_table, IsAnswer}

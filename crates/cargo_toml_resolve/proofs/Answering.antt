@@ -9,6 +9,7 @@ use Rattle.std.specs.Map.{lookup}
 use Rattle.std.specs.Option.{option_map_or}
 use Rattle.cargo_toml_resolve.specs.declared.features.Feature.{Feature}
 use Rattle.cargo_toml_resolve.specs.declared.features.Features.{Features}
+use Rattle.cargo_toml_resolve.specs.declared.read.Mentions.{Mentions}
 use Rattle.cargo_toml_graph.specs.Action.{Text, Action}
 use Rattle.cargo_toml_graph.specs.Admitted.{Listed, is_admitted, is_below, joined_action}
 use Rattle.cargo_toml_graph.specs.Bins.{HasBins}
@@ -19,7 +20,9 @@ use Rattle.cargo_toml_resolve.specs.Reading.{IsRead, AreFresh}
 use Rattle.cargo_toml_resolve.specs.Recorded.{Entry, Recorded, is_mentioned, is_reserved, entries_at, recorded_of}
 use Rattle.cargo_toml_resolve.specs.Recording.{recorded_at, is_mentioned_in}
 use Rattle.cargo_toml_graph.specs.Redirects.{RedirectsTo}
-use Rattle.cargo_toml_resolve.specs.Resolved.{joined_table, plain, is_removed, SameRecorded, IsAnswer}
+use Rattle.cargo_toml_graph.specs.Removal.{is_removed}
+use Rattle.cargo_toml_resolve.specs.Reached.{IsKeyed}
+use Rattle.cargo_toml_resolve.specs.Resolved.{joined_table, plain, SameRecorded, IsAnswer}
 use Rattle.cargo_toml_resolve.specs.Views.{has_text, action_at, value_at, table_in, resolution_of, answer_of}
 use Rattle.cargo_toml_resolve.proofs.TextKeys.{none_in}
 use Rattle.cargo_toml_graph.proofs.Unremoved.{resolved_unremoved}
@@ -212,24 +215,41 @@ same_recorded a b e = subst (SameRecorded a) e (own a)
     own None = tt
     own (Some r) = (refl, λ t. refl)
 
-module _ {S H : Type 0} (limit : ℕ) (listed : Listed) (entries : List Entry) (read implied : HashMap (Bor Text) Feature S) (acted : HashMap (Bor Text) Bool S) (a : Features S H)
-    (r : IsRead limit listed (table_in read) (value_at acted)) (fresh : AreFresh read) (i : ImpliesAll (is_offered acted entries) read implied)
+-- each feature stands under its own key from the reading of lists on
+pub keyed_from : {S : Type 0} (implied : Text → Bool) (by : Text → Text → Bool) (read middle last : HashMap (Bor Text) Feature S) → AreFresh read → ImpliesAll implied read middle → EnabledAll by middle last → IsKeyed last
+keyed_from implied by read middle last fresh i e f = enabled_one (value_at middle f) (value_at last f) (e.at f) (implied_one (implied f) (value_at read f) (value_at middle f) refl (i.at f))
+  where
+    implied_one : (b : Bool) (o o' : Option Feature) → value_at read f ≡ o → Becomes b f o o' → IfSome o' (λ v. v.key.now ≡ f)
+    implied_one true None None s b = tt
+    implied_one true None (Some v) s b = b.key
+    implied_one false None o' s b = subst (λ o. IfSome o (λ v. v.key.now ≡ f)) (sym b) tt
+    implied_one true (Some v) o' s b = subst (λ o. IfSome o (λ w. w.key.now ≡ f)) (sym b) (fresh f v s).key
+    implied_one false (Some v) o' s b = subst (λ o. IfSome o (λ w. w.key.now ≡ f)) (sym b) (fresh f v s).key
+
+    enabled_one : (o o' : Option Feature) → Relates (Enabled (by f)) o o' → IfSome o (λ v. v.key.now ≡ f) → IfSome o' (λ v. v.key.now ≡ f)
+    enabled_one None None r k = tt
+    enabled_one None (Some w) r k = absurd r
+    enabled_one (Some v) None r k = absurd r
+    enabled_one (Some v) (Some w) r k = ap (λ q. q.now) r.key ∙ k
+
+module _ {S H : Type 0} (limit : ℕ) (listed : Listed) (entries : List Entry) (mentions : Mentions S H) (implied : HashMap (Bor Text) Feature S) (a : Features S H)
+    (r : IsRead limit listed (table_in mentions.features) (value_at mentions.acted)) (fresh : AreFresh mentions.features) (i : ImpliesAll (is_offered mentions.acted entries) mentions.features implied)
     (e : EnabledAll (λ q e. leads_at implied e q && not (bytes_eq q e)) implied a.features)
-    (recorded : ((k : Text) → is_mentioned_in read acted k ≡ is_mentioned limit listed k) → (k : Text) → recorded_at a.dependencies k ≡ recorded_of (entries_at limit listed entries k))
+    (recorded : ((k : Text) → is_mentioned_in mentions k ≡ is_mentioned limit listed k) → (k : Text) → recorded_at a.dependencies k ≡ recorded_of (entries_at limit listed entries k))
     (hidden : a.hidden_features.entries ≡ []) (removed : a.removed_hidden_features ≡ false) where
   abbrev t : Table
   t = joined_table limit listed entries
 
-  offered_is : (f : Text) → is_offered acted entries f ≡ (list_any (is_optional_at f) entries && not (is_reserved limit listed f))
+  offered_is : (f : Text) → is_offered mentions.acted entries f ≡ (list_any (is_optional_at f) entries && not (is_reserved limit listed f))
   offered_is f = ap (λ b. list_any (is_optional_at f) entries && not b) (r.reserved f)
 
   same : Same (table_in implied) t
   same = record {
-    has = λ f. has_after (is_offered acted entries) read implied i f ∙ ap (λ b. b || is_offered acted entries f) (r.has f) ∙ ap (λ b. is_admitted limit listed f || b) (offered_is f) ∙ or_not (is_admitted limit listed f) _;
-    names = λ f x. names_after (is_offered acted entries) read implied i f x ∙ r.names f x;
+    has = λ f. has_after (is_offered mentions.acted entries) mentions.features implied i f ∙ ap (λ b. b || is_offered mentions.acted entries f) (r.has f) ∙ ap (λ b. is_admitted limit listed f || b) (offered_is f) ∙ or_not (is_admitted limit listed f) _;
+    names = λ f x. names_after (is_offered mentions.acted entries) mentions.features implied i f x ∙ r.names f x;
     action = λ f k.
-        action_after (is_offered acted entries) read implied i f k ∙ ap (λ b. cond b ((table_in read).action f k) (cond (is_offered acted entries f && bytes_eq k f) (Some plain) None)) (r.has f)
-        ∙ ap (λ o. cond (is_admitted limit listed f) o (cond (is_offered acted entries f && bytes_eq k f) (Some plain) None)) (r.action f k)
+        action_after (is_offered mentions.acted entries) mentions.features implied i f k ∙ ap (λ b. cond b ((table_in mentions.features).action f k) (cond (is_offered mentions.acted entries f && bytes_eq k f) (Some plain) None)) (r.has f)
+        ∙ ap (λ o. cond (is_admitted limit listed f) o (cond (is_offered mentions.acted entries f && bytes_eq k f) (Some plain) None)) (r.action f k)
         ∙ ap (λ b. cond (is_admitted limit listed f) (joined_action limit listed f k) (cond (b && bytes_eq k f) (Some plain) None)) (offered_is f)
         ∙ go (is_admitted limit listed f) (joined_action limit listed f k) (list_any (is_optional_at f) entries && not (is_reserved limit listed f)) (bytes_eq k f);
   }
@@ -239,26 +259,26 @@ module _ {S H : Type 0} (limit : ℕ) (listed : Listed) (entries : List Entry) (
       go false o true b = refl
       go false o false b = refl
 
-  no_enablers : (f e : Text) → (resolution_of read).enabled_by f e ≡ false
-  no_enablers f e = go (value_at read f) refl
+  no_enablers : (f e : Text) → (resolution_of mentions.features).enabled_by f e ≡ false
+  no_enablers f e = go (value_at mentions.features f) refl
     where
-      go : (o : Option Feature) → value_at read f ≡ o → option_map_or (λ v. has_text v.enabled_by e) o false ≡ false
+      go : (o : Option Feature) → value_at mentions.features f ≡ o → option_map_or (λ v. has_text v.enabled_by e) o false ≡ false
       go None s = refl
       go (Some v) s = none_in v.enabled_by (fresh f v s).enabled_by e
 
   whole : IsUnremoved t (resolution_of a.features)
   whole = unremoved_alike (table_in implied) t (resolution_of a.features) same
-      (unremoved implied a.features (enablers_after (is_offered acted entries) read implied i no_enablers) e)
+      (unremoved implied a.features (enablers_after (is_offered mentions.acted entries) mentions.features implied i no_enablers) e)
 
   marked : (f : Text) → IfSome (value_at a.features f) (IsMarked f (is_admitted limit listed f))
-  marked f = later (value_at implied f) (value_at a.features f) (e.at f) (middle (is_offered acted entries f) (value_at read f) (value_at implied f) refl (i.at f))
+  marked f = later (value_at implied f) (value_at a.features f) (e.at f) (middle (is_offered mentions.acted entries f) (value_at mentions.features f) (value_at implied f) refl (i.at f))
     where
-      listed_one : (v : Feature) → value_at read f ≡ Some v → IsMarked f (is_admitted limit listed f) v
+      listed_one : (v : Feature) → value_at mentions.features f ≡ Some v → IsMarked f (is_admitted limit listed f) v
       listed_one v s =
           let k = fresh f v s in
           record { key = k.key; bins = k.bins; explicit = k.explicit ∙ sym (ap is_some s) ∙ r.has f }
 
-      middle : (b : Bool) (o o' : Option Feature) → value_at read f ≡ o → Becomes b f o o' → IfSome o' (IsMarked f (is_admitted limit listed f))
+      middle : (b : Bool) (o o' : Option Feature) → value_at mentions.features f ≡ o → Becomes b f o o' → IfSome o' (IsMarked f (is_admitted limit listed f))
       middle true None None s b = absurd b
       middle true None (Some v) s b = record { key = b.key; bins = b.bins; explicit = b.explicit ∙ sym (ap is_some s) ∙ r.has f }
       middle false None o' s b = subst (λ o. IfSome o (IsMarked f (is_admitted limit listed f))) (sym b) tt
@@ -271,7 +291,7 @@ module _ {S H : Type 0} (limit : ℕ) (listed : Listed) (entries : List Entry) (
       later (Some v) None k m = absurd k
       later (Some v) (Some w) k m = record { key = ap (λ q. q.now) k.key ∙ m.key; bins = ap (λ q. q.items) k.bins ∙ m.bins; explicit = k.explicit ∙ m.explicit }
 
-  mentioned : (k : Text) → is_mentioned_in read acted k ≡ is_mentioned limit listed k
+  mentioned : (k : Text) → is_mentioned_in mentions k ≡ is_mentioned limit listed k
   mentioned k = ap₂ (λ x y. x || y) (r.has k) (r.acted_on k)
 
   pub answers : IsAnswer t limit listed entries (λ _. []) (λ _. true) (answer_of a)

@@ -5,8 +5,8 @@ use Rattle.std.specs.Ordering.{is_eq}
 use Rattle.std.specs.Borrow.{Bor}
 use Rattle.std.specs.HashMap.{HashMap}
 use Rattle.cargo_toml_dependencies.specs.Dependencies.{is_optional, package_of}
-use Rattle.cargo_toml_resolve.specs.declared.features.Feature.{Feature}
 use Rattle.cargo_toml_resolve.specs.declared.features.FeatureDependency.{FeatureDependency}
+use Rattle.cargo_toml_resolve.specs.declared.read.Mentions.{Mentions}
 use Rattle.cargo_toml_graph.specs.Action.{Text}
 use Rattle.cargo_toml_resolve.specs.Recorded.{Entry, Recorded, target_cmp}
 use Rattle.cargo_toml_resolve.specs.Views.{recorded_in, value_at}
@@ -34,8 +34,8 @@ recorded_with None e = recorded_first e
 recorded_with (Some r) e = recorded_next r e
 
 -- k is a feature, or one acts on it
-abbrev pub is_mentioned_in : {S : Type 0} → HashMap (Bor Text) Feature S → HashMap (Bor Text) Bool S → Text → Bool
-is_mentioned_in features acted k = is_some (value_at features k) || is_some (value_at acted k)
+abbrev pub is_mentioned_in : {S H : Type 0} → Mentions S H → Text → Bool
+is_mentioned_in m k = is_some (value_at m.features k) || is_some (value_at m.acted k)
 
 -- what is recorded of q after e, where o was recorded of q before: e counts if its key is recorded already or mentioned, or e
 -- is optional

@@ -17,7 +17,8 @@ use std::collections::{BTreeMap, BTreeSet, HashMap};
 use std::hash::BuildHasher;
 
 /// What the lists of features say, before dependencies are looked at.
-pub struct Read<'m, S: BuildHasher> {
+#[derive(Drop)]
+pub struct Mentions<'m, S: BuildHasher> {
     /// The features by name.
     pub features: HashMap<&'m str, Feature<'m>, S>,
     /// For each key that a feature acts on, whether some action on it is dep-only (`dep:key`).
@@ -119,7 +120,7 @@ pub fn read_features<'m, S: BuildHasher + Clone>(
     alloc: Global,
     state: &S,
     listings: &[Listing<'m>],
-) -> Result<Read<'m, S>, AllocError>
+) -> Result<Mentions<'m, S>, AllocError>
     requires { IsOnce (map (λ l. l.name.now) listings.now) }
     ensures read { IfOk result (λ r. (limit : ℕ) → IsWithin limit (listed_of listings.now) → IsRead limit (listed_of listings.now) (table_in r.features) (value_at r.acted)) }
     ensures fresh { IfOk result (λ r. AreFresh r.features) }
@@ -135,5 +136,5 @@ pub fn read_features<'m, S: BuildHasher + Clone>(
         put_feature(&mut features, listing.name, feature)?;
     }
     add_default(alloc, &mut features)?;
-    Ok(Read { features, acted })
+    Ok(Mentions { features, acted })
 }

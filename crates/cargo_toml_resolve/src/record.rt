@@ -7,13 +7,14 @@ ghost use Rattle.cargo_toml_resolve.specs.Recorded.{is_mentioned, entries_at, re
 ghost use Rattle.cargo_toml_resolve.specs.Recording.{recorded_at, recorded_first, recorded_next, is_mentioned_in, recorded_after};
 ghost use Rattle.cargo_toml_resolve.specs.Views.{entry_of, normal_entries, recorded_in, target_of};
 
-use crate::features::{Feature, FeatureDependency, Kind, ParseDependency, TargetKey};
+use crate::features::{FeatureDependency, Kind, ParseDependency, TargetKey};
+use crate::read::Mentions;
 use cargo_toml_dependencies::Dependency;
 use std::alloc::{AllocError, Global};
 use std::collections::{BTreeMap, HashMap};
 use std::hash::BuildHasher;
 
-// The entries of a table of normal dependencies.
+/// The entries of a table of normal dependencies. It fails only where memory runs out.
 pub fn normal_dependencies<'m>(
     alloc: Global,
     table: &'m BTreeMap<String, Dependency>,
@@ -72,48 +73,47 @@ fn add_target<'m: 'd, 'd>(
 
 // Whether an entry counts by itself.
 fn counts<'m, S: BuildHasher>(
-    features: &HashMap<&'m str, Feature<'m>, S>,
-    acted: &HashMap<&'m str, bool, S>,
+    mentions: &Mentions<'m, S>,
     entry: &ParseDependency<'m, '_>,
 ) -> bool
-    ensures { result ≡ (is_optional (dependency_meaning entry.now.dep.now) || is_mentioned_in features.now acted.now entry.now.key.now) }
+    ensures { result ≡ (is_optional (dependency_meaning entry.now.dep.now) || is_mentioned_in mentions.now entry.now.key.now) }
 {
-    entry.dep.optional() || features.contains_key(entry.key) || acted.contains_key(entry.key)
+    entry.dep.optional()
+        || mentions.features.contains_key(entry.key)
+        || mentions.acted.contains_key(entry.key)
 }
 
 fn record_entry<'m: 'd, 'd, S: BuildHasher>(
     alloc: Global,
     dependencies: &mut HashMap<&'d str, FeatureDependency<'d>, S>,
-    features: &HashMap<&'m str, Feature<'m>, S>,
-    acted: &HashMap<&'m str, bool, S>,
+    mentions: &Mentions<'m, S>,
     entry: &ParseDependency<'m, 'd>,
 ) -> Result<(), AllocError>
-    ensures { OnOk result ((q : Text) → recorded_at dependencies.new q ≡ recorded_after (is_mentioned_in features.now acted.now) (entry_of entry.now) q (recorded_at dependencies.old q)) }
+    ensures { OnOk result ((q : Text) → recorded_at dependencies.new q ≡ recorded_after (is_mentioned_in mentions.now) (entry_of entry.now) q (recorded_at dependencies.old q)) }
 {
     if let Some(dependency) = dependencies.get_mut(entry.key) {
         return add_target(dependency, entry);
     }
-    if counts(features, acted, entry) {
+    if counts(mentions, entry) {
         let dependency = first_dependency(alloc, entry)?;
         dependencies.insert(entry.key, dependency)?;
     }
     Ok(())
 }
 
-// The dependencies of the entries that count.
+/// The dependencies of the entries that count. It fails only where memory runs out, or the clone of `state` does.
 pub fn record_dependencies<'m: 'd, 'd, S: BuildHasher + Clone>(
     alloc: Global,
     state: &S,
-    features: &HashMap<&'m str, Feature<'m>, S>,
-    acted: &HashMap<&'m str, bool, S>,
+    mentions: &Mentions<'m, S>,
     entries: &[ParseDependency<'m, 'd>],
 ) -> Result<HashMap<&'d str, FeatureDependency<'d>, S>, AllocError>
-    ensures { IfOk result (λ m. (limit : ℕ) (listed : Listed) → ((k : Text) → is_mentioned_in features.now acted.now k ≡ is_mentioned limit listed k) →
+    ensures { IfOk result (λ m. (limit : ℕ) (listed : Listed) → ((k : Text) → is_mentioned_in mentions.now k ≡ is_mentioned limit listed k) →
         (k : Text) → recorded_at m k ≡ recorded_of (entries_at limit listed (map entry_of entries.now) k)) }
 {
     let mut dependencies = HashMap::with_capacity_and_hasher(alloc, entries.len(), state.clone()?)?;
     for entry in entries {
-        record_entry(alloc, &mut dependencies, features, acted, entry)?;
+        record_entry(alloc, &mut dependencies, mentions, entry)?;
     }
     Ok(dependencies)
 }

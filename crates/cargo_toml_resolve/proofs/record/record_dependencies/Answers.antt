@@ -15,7 +15,7 @@ loop-entry-preserved g c =
     ap (map entry_of) (take_more c.args.entries.now c.loop-entry.entry-index p c.loop-entry-test.true ∙ ap (λ x. es ++ x ∷ []) (sym c.entry-item.is)) ∙ map-append entry_of es (p ∷ []) in
     λ limit listed same k.
     subst (λ xs. recorded_at c.record_entry.new.dependencies k ≡ recorded_of (entries_at limit listed xs k)) (sym more)
-    (recorded_then limit listed (is_mentioned_in c.args.features.now c.args.acted.now) same (map entry_of es) (entry_of p) k
+    (recorded_then limit listed (is_mentioned_in c.args.mentions.now) same (map entry_of es) (entry_of p) k
     (recorded_at c.loop-entry.dependencies k) (recorded_at c.record_entry.new.dependencies k) (c.loop-entry.invariant limit listed same k) (c.in_ok-record_entry.ensures k))
 
 pub returns : goal.returns

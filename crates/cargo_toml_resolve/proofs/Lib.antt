@@ -13,6 +13,7 @@ pub mod ReadOne
 pub mod TextKeys
 pub mod Pairs
 pub mod Pending
+pub mod Held
 pub mod Work
 pub mod Walks
 pub mod NextName

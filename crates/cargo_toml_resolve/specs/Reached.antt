@@ -1,9 +1,10 @@
 -- What recursive enabling asks of a map of features, and what the maps that it answers hold.
-use Rattle.std.specs.Prelude.{◌≡◌, ◌≢◌, ◌↔◌, IsTrue, List, [], Some, IfSome, Vec, is_some, map}
+use Rattle.std.specs.Prelude.{◌≡◌, ◌≢◌, ◌⊎◌, ◌↔◌, IsTrue, List, [], Some, IfSome, IsSome, Vec, is_some, map}
+use Rattle.std.specs.List.{IsAmong}
 use Rattle.std.specs.Option.{option_map_or}
 use Rattle.std.specs.Borrow.{Bor}
 use Rattle.std.specs.declared.alloc.Global.{Global}
-use Rattle.std.specs.HashMap.{HashMap}
+use Rattle.std.specs.HashMap.{HashMap, values}
 use Rattle.cargo_toml_resolve.specs.declared.features.DepAction.{DepAction}
 use Rattle.cargo_toml_resolve.specs.declared.features.Feature.{Feature}
 use Rattle.cargo_toml_graph.specs.Action.{Text, Action}
@@ -13,6 +14,10 @@ use Rattle.cargo_toml_resolve.specs.Views.{value_at, action_of, table_in}
 -- each feature stands under its own key
 abbrev pub IsKeyed : {S : Type 0} → HashMap (Bor Text) Feature S → Type 0
 IsKeyed m = (f : Text) → IfSome (value_at m f) (λ v. v.key.now ≡ f)
+
+-- the feature is one of the map's, or the map has one under its key
+abbrev pub IsHeldBy : {S : Type 0} → HashMap (Bor Text) Feature S → Feature → Type 0
+IsHeldBy m v = IsAmong (values m) v ⊎ IsSome (value_at m v.key.now)
 
 -- the features that are found
 abbrev pub Found : Type 0 → Type 0

@@ -9,9 +9,9 @@ ghost use Rattle.cargo_toml_resolve.specs.Reading.{listed_of, IsRead, AreFresh};
 ghost use Rattle.cargo_toml_resolve.specs.ReadFeature.{joined_in, noted, IsListed};
 ghost use Rattle.cargo_toml_resolve.specs.Views.{table_in, value_at};
 
-use crate::features::Feature;
 use crate::action::{ActionText, add_text, join_action, read_action};
 use crate::admit::Listing;
+use crate::features::Feature;
 use std::alloc::{AllocError, Global};
 use std::collections::{BTreeMap, BTreeSet, HashMap};
 use std::hash::BuildHasher;

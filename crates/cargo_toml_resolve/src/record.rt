@@ -72,10 +72,7 @@ fn add_target<'m: 'd, 'd>(
 }
 
 // Whether an entry counts by itself.
-fn counts<'m, S: BuildHasher>(
-    mentions: &Mentions<'m, S>,
-    entry: &ParseDependency<'m, '_>,
-) -> bool
+fn counts<'m, S: BuildHasher>(mentions: &Mentions<'m, S>, entry: &ParseDependency<'m, '_>) -> bool
     ensures { result ≡ (is_optional (dependency_meaning entry.now.dep.now) || is_mentioned_in mentions.now entry.now.key.now) }
 {
     entry.dep.optional()

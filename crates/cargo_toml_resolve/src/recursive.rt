@@ -1,9 +1,9 @@
 //! What a feature enables by any number of names.
-ghost use Rattle.std.specs.Prelude.{◌≡◌, IfErr, IfOk, IsSome, OnOk};
+ghost use Rattle.std.specs.Prelude.{◌≡◌, IfErr, IfOk, OnOk, Some};
 ghost use Rattle.cargo_toml_parts.specs.declared.error.Error.{Memory};
 ghost use Rattle.cargo_toml_graph.specs.Action.{Text};
 ghost use Rattle.cargo_toml_graph.specs.Recursive.{ArePairs};
-ghost use Rattle.cargo_toml_resolve.specs.Reached.{AreEnabled, HaveNoEmpty, ComeFrom, IsKeyed, pairs_at};
+ghost use Rattle.cargo_toml_resolve.specs.Reached.{AreEnabled, HaveNoEmpty, ComeFrom, IsHeldBy, IsKeyed, pairs_at};
 ghost use Rattle.cargo_toml_resolve.specs.Views.{table_in, value_at};
 ghost use Rattle.cargo_toml_resolve.specs.Visits.{AddsPair, AddsActions, PushesNamed};
 
@@ -71,6 +71,20 @@ fn push_named<'f, 'a, S: BuildHasher>(
 }
 
 impl<'a> Feature<'a> {
+    // What the map has under this feature's key.
+    fn held<'f, S: BuildHasher>(
+        &self,
+        features: &'f HashMap<&'a str, Feature<'a>, S>,
+    ) -> &'f Feature<'a>
+        requires keyed { IsKeyed features.now }
+        requires start { IsHeldBy features.now self.now }
+        ensures { value_at features.now self.now.key.now ≡ Some result.now }
+    {
+        // tells that no key of the map stands there twice
+        let _count = features.len();
+        &features[self.key]
+    }
+
     /// What Cargo enables where this feature is asked for: the features that it enables, and what they do to dependencies.
     ///
     /// The first map has this feature, those that it names, those that they name, and so on, each once and under its name. A
@@ -78,8 +92,8 @@ impl<'a> Feature<'a> {
     /// of these features that acts on it unconditionally: the feature's name and its action. It has no empty list. A
     /// conditional action, as `dependency?/feature`, isn't listed, since it doesn't enable the dependency.
     ///
-    /// Each feature of `features` must stand under its own key, and `features` must have one under this feature's key. That one
-    /// counts where it differs from this feature.
+    /// Each feature of `features` must stand under its own key, and this feature must be one of them, or `features` must have one
+    /// under its key. That one counts where it differs from this feature.
     ///
     /// The only refusal is [`Error::Memory`]. A feature is visited once, and each of its names is then looked up once; a feature
     /// may wait for its visit once for each feature that names it. The features are visited depth first, and those that one
@@ -97,7 +111,7 @@ impl<'a> Feature<'a> {
         Error,
     >
         requires keyed { IsKeyed features.now }
-        requires start { IsSome (value_at features.now self.now.key.now) }
+        requires start { IsHeldBy features.now self.now }
         ensures features { IfOk result (λ r. AreEnabled features.now self.now.key.now r.0) }
         ensures values { IfOk result (λ r. ComeFrom features.now r.0) }
         ensures dependencies { IfOk result (λ r. (k : Text) → ArePairs (table_in features.now) self.now.key.now k (pairs_at r.1 k)) }
@@ -107,7 +121,7 @@ impl<'a> Feature<'a> {
         let mut found = HashMap::with_hasher(alloc, features.hasher().clone()?);
         let mut dependencies = HashMap::with_hasher(alloc, features.hasher().clone()?);
         let mut pending = Vec::new(alloc);
-        pending.push(&features[self.key])?;
+        pending.push(self.held(features))?;
         while let Some(feature) = pending.pop() {
             if !found.contains_key(feature.key) {
                 found.insert(feature.key, feature)?;

@@ -37,7 +37,10 @@ pub fn resolve<'m: 'd, 'd, S: BuildHasher + Clone>(
     // Before features are implied: an entry that isn't optional would count as mentioned, if an optional entry of its key
     // that comes later had made a feature of that name.
     let dependencies = record_dependencies(alloc, state, &mentions, entries)?;
-    let Mentions { mut features, acted } = mentions;
+    let Mentions {
+        mut features,
+        acted,
+    } = mentions;
     imply_all(alloc, &mut features, &acted, entries)?;
     set_enabled_by(alloc, &mut features)?;
     Ok(Features {

@@ -5,8 +5,8 @@ use Rattle.cargo_toml_resolve.proofs.features.Feature.enables_recursive.Goals as
 
 pub loop-feature-init : goal.loop-feature-init
 loop-feature-init g c =
-    begins c.args.features.now c.args.self.now.key.now c.with_hasher-found.result c.with_hasher-dependencies.result c.push.new.self.items c.index.result c.with_hasher-found.ensures.empty c.with_hasher-dependencies.ensures.empty
-    (c.in_ok-push.ensures.items ∙ ap (λ l. l ++ c.index.result ∷ []) c.new-pending.ensures.items) c.index.ensures (key_of c.args.features.now c.requires.keyed c.args.self.now.key.now c.index.result.now c.index.ensures)
+    begins c.args.features.now c.args.self.now.key.now c.with_hasher-found.result c.with_hasher-dependencies.result c.push.new.self.items c.held.result c.with_hasher-found.ensures.empty c.with_hasher-dependencies.ensures.empty
+    (c.in_ok-push.ensures.items ∙ ap (λ l. l ++ c.held.result ∷ []) c.new-pending.ensures.items) c.held.ensures (key_of c.args.features.now c.requires.keyed c.args.self.now.key.now c.held.result.now c.held.ensures)
 
 pub loop-feature-preserved-in_ok-push_named : goal.loop-feature-preserved-in_ok-push_named
 loop-feature-preserved-in_ok-push_named g c =

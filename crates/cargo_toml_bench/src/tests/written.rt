@@ -35,7 +35,7 @@ fn default_manifest_written(rt: HostRuntime) -> Result<(), Fail> {
     assert_eq!(rt; tree(alloc, &*manifest)?.as_str(), "{}");
     let workspace: Box<Workspace> = boxed(alloc, Workspace::default(alloc))?;
     assert_eq!(rt; tree(alloc, &*workspace)?.as_str(), "{ members = [] }");
-    let template = boxed(alloc, PackageTemplate::default(alloc))?;
+    let template = boxed(alloc, PackageTemplate::default())?;
     assert_eq!(rt; tree(alloc, &*template)?.as_str(), "{}");
     Ok(())
 }

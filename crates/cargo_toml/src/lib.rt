@@ -5,7 +5,6 @@
 #![tactic(auto)]
 
 pub mod features;
-mod laws;
 
 pub use cargo_toml_dependencies::{
     Dependency, DependencyDetail, DepsSet, FeatureSet, InheritedDependencyDetail, PatchSet, Target,

@@ -1,9 +1,9 @@
 use Rattle.std.proofs.Common.{◌≡◌, ℕ, [], true, List, map, ap, subst, ◌∙◌}
-use Rattle.cargo_toml.specs.Admitted.{Listed, IsWithin}
-use Rattle.cargo_toml.specs.Reading.{listed_of}
-use Rattle.cargo_toml.specs.Recorded.{Entry}
-use Rattle.cargo_toml.specs.Resolved.{joined_table, IsAnswer}
-use Rattle.cargo_toml.specs.Views.{answer_of, entry_of, listed_in, normal_entries}
+use Rattle.cargo_toml_graph.specs.Admitted.{Listed, IsWithin}
+use Rattle.cargo_toml_resolve.specs.Reading.{listed_of}
+use Rattle.cargo_toml_resolve.specs.Recorded.{Entry}
+use Rattle.cargo_toml_resolve.specs.Resolved.{joined_table, IsAnswer}
+use Rattle.cargo_toml_resolve.specs.Views.{answer_of, entry_of, listed_in, normal_entries}
 use Rattle.cargo_toml.proofs.features.Resolver.parse.Goals as goal
 
 pub returns-clause-resolved : goal.returns-clause-resolved
@@ -13,4 +13,4 @@ returns-clause-resolved g c =
     subst (λ (es : List Entry). (limit : ℕ) → IsWithin limit (listed_in c.args.manifest.now.features) →
     IsAnswer (joined_table limit (listed_in c.args.manifest.now.features) es) limit (listed_in c.args.manifest.now.features) es (λ _. []) (λ _. true) (answer_of c.in_ok-resolve.field-0)) entries
     (subst (λ (fs : Listed). (limit : ℕ) → IsWithin limit fs → IsAnswer (joined_table limit fs (map entry_of c.as_slice-2.result.now)) limit fs (map entry_of c.as_slice-2.result.now) (λ _. []) (λ _. true) (answer_of c.in_ok-resolve.field-0)) listed
-    c.in_ok-resolve.ensures)
+    c.in_ok-resolve.ensures.resolved)

@@ -1,6 +1,0 @@
-use Rattle.std.proofs.Common.{take}
-use Rattle.cargo_toml.specs.Enabling.{is_linked, EnabledAll}
-use Rattle.cargo_toml.proofs.features.enable.enable_all.Given as goal
-
-abbrev pub invariant-loop-link : goal.invariant-loop-link
-invariant-loop-link g l = EnabledAll (is_linked (take l.link-index l.links)) l.initial.features l.features

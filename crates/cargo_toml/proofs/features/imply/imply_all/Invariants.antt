@@ -1,7 +1,0 @@
-use Rattle.std.proofs.Common.{map, take}
-use Rattle.cargo_toml.specs.Implying.{ImpliesAll, is_offered}
-use Rattle.cargo_toml.specs.Views.{entry_of}
-use Rattle.cargo_toml.proofs.features.imply.imply_all.Given as goal
-
-abbrev pub invariant-loop-entry : goal.invariant-loop-entry
-invariant-loop-entry g l = ImpliesAll (is_offered l.acted (map entry_of (take l.entry-index l.entries))) l.initial.features l.features

@@ -1,0 +1,154 @@
+-- Lists of binaries.
+use Rattle.std.proofs.Common.{◌≡◌, ◌≢◌, ◌⊎◌, ◌≤◌, ◌+◌, ℕ, zero, suc, Bool, true, false, cond, List, [], ◌∷◌, ◌++◌, take, length, bytes_eq, refl, sym, ap, subst, inl, inr, ◌∙◌, arith, append_assoc, length-append}
+use Rattle.std.proofs.lemmas.Bool.{false≢true, or_cases, or_left, or_right}
+use Rattle.std.proofs.lemmas.Slice.Eq.{bytes_eq-Decides}
+use Rattle.cargo_toml_graph.specs.Action.{Text}
+use Rattle.cargo_toml_graph.specs.Reach.{Among, IsOnce}
+use Rattle.cargo_toml_graph.specs.Removal.{is_among, put_all}
+use Rattle.cargo_toml_graph.specs.Bins.{mentions, Grown}
+
+pub is_among-true : (xs : List Text) (x : Text) → is_among xs x ≡ true → Among xs x
+is_among-true [] x e = absurd (false≢true e)
+is_among-true (y ∷ ys) x e = elim (or_cases (bytes_eq x y) (is_among ys x) e) [ inl i ↦ inl ((bytes_eq-Decides x y).0 i) | inr i ↦ inr (is_among-true ys x i) ]
+
+pub among-true : (xs : List Text) (x : Text) → Among xs x → is_among xs x ≡ true
+among-true [] x e = absurd e
+among-true (y ∷ ys) x (inl i) = or_left (bytes_eq x y) _ ((bytes_eq-Decides x y).1 i)
+among-true (y ∷ ys) x (inr i) = or_right (bytes_eq x y) _ (among-true ys x i)
+
+pub among-first : (xs ys : List Text) (x : Text) → Among xs x → Among (xs ++ ys) x
+among-first [] ys x i = absurd i
+among-first (z ∷ xs) ys x (inl i) = inl i
+among-first (z ∷ xs) ys x (inr i) = inr (among-first xs ys x i)
+
+pub among-second : (xs ys : List Text) (x : Text) → Among ys x → Among (xs ++ ys) x
+among-second [] ys x i = i
+among-second (z ∷ xs) ys x i = inr (among-second xs ys x i)
+
+pub among-either : (xs ys : List Text) (x : Text) → Among (xs ++ ys) x → Among xs x ⊎ Among ys x
+among-either [] ys x i = inr i
+among-either (z ∷ xs) ys x (inl i) = inl (inl i)
+among-either (z ∷ xs) ys x (inr i) = elim (among-either xs ys x i) [ inl j ↦ inl (inr j) | inr j ↦ inr j ]
+
+pub among-take : (n : ℕ) (xs ys : List Text) (x : Text) → Among (take n xs) x → Among (take n (xs ++ ys)) x
+among-take zero xs ys x i = absurd i
+among-take (suc n) [] ys x i = absurd i
+among-take (suc n) (z ∷ xs) ys x (inl i) = inl i
+among-take (suc n) (z ∷ xs) ys x (inr i) = inr (among-take n xs ys x i)
+
+pub among-taken : (n : ℕ) (xs : List Text) (x : Text) → Among (take n xs) x → Among xs x
+among-taken zero xs x i = absurd i
+among-taken (suc n) [] x i = absurd i
+among-taken (suc n) (z ∷ xs) x (inl i) = inl i
+among-taken (suc n) (z ∷ xs) x (inr i) = inr (among-taken n xs x i)
+
+pub once-push : (xs : List Text) (y : Text) → IsOnce xs → ¬ Among xs y → IsOnce (xs ++ y ∷ [])
+once-push [] y o n = ((λ i. i), tt)
+once-push (x ∷ xs) y o n = (
+  λ i. elim (among-either xs (y ∷ []) x i) [ inl i ↦ o.0 i | inr i ↦ elim i [ inl e ↦ n (inl (sym e)) | inr i ↦ i ] ],
+  once-push xs y o.1 (λ i. n (inr i)),
+)
+
+-- what is put is there, and what was there stays
+pub put_keeps : (xs ys : List Text) (x : Text) → Among xs x → Among (put_all xs ys) x
+put_keeps xs [] x i = i
+put_keeps xs (y ∷ ys) x i = put_keeps (cond (is_among xs y) xs (xs ++ y ∷ [])) ys x (go (is_among xs y))
+  where
+    go : (b : Bool) → Among (cond b xs (xs ++ y ∷ [])) x
+    go true = i
+    go false = among-first xs (y ∷ []) x i
+
+pub put_puts : (xs ys : List Text) (x : Text) → Among ys x → Among (put_all xs ys) x
+put_puts xs [] x i = absurd i
+put_puts xs (y ∷ ys) x (inr i) = put_puts (cond (is_among xs y) xs (xs ++ y ∷ [])) ys x i
+put_puts xs (y ∷ ys) x (inl e) = put_keeps (cond (is_among xs y) xs (xs ++ y ∷ [])) ys x (go (is_among xs y) refl)
+  where
+    go : (b : Bool) → is_among xs y ≡ b → Among (cond b xs (xs ++ y ∷ [])) x
+    go true t = subst (Among xs) (sym e) (is_among-true xs y t)
+    go false t = among-second xs (y ∷ []) x (inl e)
+
+pub put_grows : (own : List Text) (P : Text → Type 0) (xs ys : List Text) → Grown own P xs → ((y : Text) → Among ys y → P y) → Grown own P (put_all xs ys)
+put_grows own P xs [] g p = g
+put_grows own P xs (y ∷ ys) g p = put_grows own P (cond (is_among xs y) xs (xs ++ y ∷ [])) ys (go (is_among xs y) refl) (λ z i. p z (inr i))
+  where
+    go : (b : Bool) → is_among xs y ≡ b → Grown own P (cond b xs (xs ++ y ∷ []))
+    go true t = g
+    go false t =
+        let absent : (i : Among (own ++ g.passed) y) → ⊥ = λ i. false≢true (sym t ∙ among-true xs y (subst (λ zs. Among zs y) (sym g.whole) i)) in
+        record {
+          passed = g.passed ++ y ∷ [];
+          whole = ap (λ zs. zs ++ y ∷ []) g.whole ∙ append_assoc own g.passed (y ∷ []);
+          once = once-push g.passed y g.once (λ i. absent (among-second own g.passed y i));
+          fresh = λ x i. elim (among-either g.passed (y ∷ []) x i) [ inl i ↦ g.fresh x i | inr i ↦ elim i [ inl e ↦ λ o. absent (among-first own g.passed y (subst (Among own) e o)) | inr i ↦ absurd i ] ];
+          cause = λ x i. elim (among-either g.passed (y ∷ []) x i) [ inl i ↦ g.cause x i | inr i ↦ elim i [ inl e ↦ subst P (sym e) (p y (inl refl)) | inr i ↦ absurd i ] ];
+        }
+
+-- ---- counting
+
+-- ys without one of its x
+pub record Apart (x : Text) (ys : List Text) : Type 0 where
+  rest : List Text
+  shorter : length ys ≡ suc (length rest)
+  others : (z : Text) → z ≢ x → Among ys z → Among rest z
+
+apart : (x : Text) (ys : List Text) → Among ys x → Apart x ys
+apart x [] i = absurd i
+apart x (y ∷ ys) (inl e) = record { rest = ys; shorter = refl; others = λ z n. elim [ inl i ↦ absurd (n (i ∙ sym e)) | inr i ↦ i ] }
+apart x (y ∷ ys) (inr i) =
+    let a : Apart x ys = apart x ys i in
+    record { rest = y ∷ a.rest; shorter = ap suc a.shorter; others = λ z n. elim [ inl i ↦ inl i | inr i ↦ inr (a.others z n i) ] }
+
+pub length-le_from_among : (xs ys : List Text) → IsOnce xs → ((x : Text) → Among xs x → Among ys x) → length xs ≤ length ys
+length-le_from_among [] ys o sub = omega arith
+length-le_from_among (x ∷ xs) ys o sub =
+    let a : Apart x ys = apart x ys (sub x (inl refl)) in
+    let below : length xs ≤ length a.rest = length-le_from_among xs a.rest o.1 (λ z i. a.others z (λ e. o.0 (subst (Among xs) e i)) (sub z (inr i))) in
+    let long : length ys ≡ suc (length a.rest) = a.shorter in
+    omega (arith, below, long)
+
+-- what the features of a list but r own
+others_own : (Text → List Text) → Text → List Text → List Text
+others_own own r [] = []
+others_own own r (s ∷ rs) = cond (bytes_eq s r) (others_own own r rs) (own s ++ others_own own r rs)
+
+others_hold : (own : Text → List Text) (r : Text) (rs : List Text) (s x : Text) → s ≢ r → Among rs s → Among (own s) x → Among (others_own own r rs) x
+unfolding others_own
+others_hold own r [] s x n i j = absurd i
+others_hold own r (q ∷ rs) s x n (inl e) j = go (bytes_eq q r) refl
+  where
+    go : (b : Bool) → bytes_eq q r ≡ b → Among (cond b (others_own own r rs) (own q ++ others_own own r rs)) x
+    go true t = absurd (n (e ∙ (bytes_eq-Decides q r).0 t))
+    go false t = among-first (own q) _ x (subst (λ v. Among (own v) x) e j)
+others_hold own r (q ∷ rs) s x n (inr i) j = go (bytes_eq q r) (others_hold own r rs s x n i j)
+  where
+    go : (b : Bool) → Among (others_own own r rs) x → Among (cond b (others_own own r rs) (own q ++ others_own own r rs)) x
+    go true h = h
+    go false h = among-second (own q) _ x h
+
+others_below : (own : Text → List Text) (r : Text) (rs : List Text) → length (others_own own r rs) ≤ mentions own rs
+unfolding others_own
+others_below own r [] = omega arith
+others_below own r (q ∷ rs) = go (bytes_eq q r) (others_below own r rs)
+  where
+    go : (b : Bool) → length (others_own own r rs) ≤ mentions own rs → length (cond b (others_own own r rs) (own q ++ others_own own r rs)) ≤ length (own q) + mentions own rs
+    go true h = omega (arith, h)
+    go false h = omega (arith, h, length-append (own q) (others_own own r rs))
+
+own_and_others : (own : Text → List Text) (r : Text) (rs : List Text) → Among rs r → length (own r) + length (others_own own r rs) ≤ mentions own rs
+unfolding others_own
+own_and_others own r [] i = absurd i
+own_and_others own r (q ∷ rs) i = go (own_and_others own r rs) (bytes_eq q r) refl i
+  where
+    go : (Among rs r → length (own r) + length (others_own own r rs) ≤ mentions own rs) → (b : Bool) → bytes_eq q r ≡ b → Among (q ∷ rs) r → length (own r) + length (cond b (others_own own r rs) (own q ++ others_own own r rs)) ≤ length (own q) + mentions own rs
+    go below true t i = subst (λ v. length (own r) + length (others_own own r rs) ≤ length (own v) + mentions own rs) (sym ((bytes_eq-Decides q r).0 t)) (let h = others_below own r rs in omega (arith, h))
+    go below false t (inl e) = absurd (false≢true (sym t ∙ (bytes_eq-Decides q r).1 (sym e)))
+    go below false t (inr i) = let h = below i in omega (arith, h, length-append (own q) (others_own own r rs))
+
+-- with few mentions, a removed feature never has more binaries than there are mentions
+pub few : (own : Text → List Text) (r : Text) (rs : List Text) (bins : List Text) → Among rs r → Grown (own r) (λ x. (s : Text) × Among rs s × Among (own s) x) bins → length bins ≤ mentions own rs
+few own r rs bins i g =
+    let all : length g.passed ≤ length (others_own own r rs) = length-le_from_among g.passed (others_own own r rs) g.once (λ x j.
+    let c = g.cause x j in others_hold own r rs c.0 x (λ e. g.fresh x j (subst (λ v. Among (own v) x) e c.2)) c.1 c.2) in
+    let most = own_and_others own r rs i in
+    let long : length bins ≡ length (own r) + length g.passed = ap length g.whole ∙ length-append (own r) g.passed in
+    omega (arith, all, most, long)

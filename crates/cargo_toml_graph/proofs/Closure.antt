@@ -1,0 +1,67 @@
+-- Between kept features, what enables what at last is as it was before anything was removed.
+use Rattle.std.proofs.Common.{◌≡◌, ◌⊎◌, Bool, false, IsTrue, IsFalse, refl, sym, subst, inl, inr, ◌∙◌}
+use Rattle.std.proofs.lemmas.Bool.{false≢true, cases_Bool, false_from_ne_true}
+use Rattle.cargo_toml_graph.specs.Action.{Text}
+use Rattle.cargo_toml_graph.specs.Reach.{Reaches}
+use Rattle.cargo_toml_graph.specs.Reach.Reaches.{edge, through}
+use Rattle.cargo_toml_graph.specs.Graph.{Table, Edge, Resolution, IsKept, IsResolved, IsUnremoved, EnablesAtLast}
+
+pub chained : {K : Type 0} {E : K → K → Type 0} (S : K → Type 0) {a b c : K} → Reaches E S a b → S b → Reaches E S b c → Reaches E S a c
+chained S (edge e) s q = through e s q
+chained S (through e s p) s' q = through e s (chained S p s' q)
+
+module _ (t : Table) (removed : Text → Bool) (full m : Resolution) (u : IsUnremoved t full) (h : IsResolved t (λ v. IsTrue (removed v)) m) where
+  abbrev R : Text → Type 0
+  R v = IsTrue (removed v)
+
+  is_kept : (v : Text) → removed v ≡ false → IsTrue (t.has v) → IsKept t R v
+  is_kept v e there = (there, λ s. false≢true (sym e ∙ s))
+
+  -- closure, one way: a path through removed features is a path
+  forget : {a b : Text} → IsKept t R b → Reaches (Edge t) R a b → EnablesAtLast full a b
+  forget k (edge e) = edge ((u.enabled_by _ _).1 e)
+  forget k (through e s p) = through ((u.enabled_by _ _).1 e) (subst IsTrue (sym (u.has _)) e.target) (forget k p)
+
+  pub at_last_before : {a b : Text} → IsKept t (λ v. IsTrue (removed v)) b → EnablesAtLast m a b → EnablesAtLast full a b
+  at_last_before k (edge e) = forget k ((h.enabled_by _ _ k).0 e).1
+  at_last_before k (through e s p) =
+      let k' = (h.kept _).0 s in
+      chained _ (forget k' ((h.enabled_by _ _ k').0 e).1) (subst IsTrue (sym (u.has _)) k'.0) (at_last_before k p)
+
+  -- the first kept feature on a path, and the rest of it
+  abbrev FirstKept : Text → Text → Type 0
+  FirstKept a b = (c : Text) × IsKept t R c × Reaches (Edge t) R a c × ((c ≡ b) ⊎ EnablesAtLast m c b)
+
+  first_kept : {a b : Text} → IsKept t R b → EnablesAtLast full a b → FirstKept a b
+  first_kept {b = b} k (edge e) = (b, k, edge ((u.enabled_by _ _).0 e), inl refl)
+  first_kept {b = z} k (through {a} {b} {c} e s p) =
+      let next : FirstKept b z = first_kept k p in
+      elim (cases_Bool (removed b)) [
+        | inl gone ↦ (next.0, next.1, through ((u.enabled_by _ _).0 e) gone next.2, next.3)
+        | inr stays ↦
+            let k' : IsKept t R b = is_kept b stays (subst IsTrue (u.has b) s) in
+            let first : IsTrue (m.enabled_by next.0 b) = (h.enabled_by next.0 b next.1).1 (k', next.2) in (
+              b,
+              k',
+              edge ((u.enabled_by _ _).0 e),
+              inr (elim (next.3) [
+                | inl i ↦ subst (λ v. EnablesAtLast m b v) i (edge first)
+                | inr q ↦ through first ((h.kept next.0).1 next.1) q
+              ]),
+            )
+      ]
+
+  pub at_last_after : {a b : Text} → IsKept t (λ v. IsTrue (removed v)) a → IsKept t (λ v. IsTrue (removed v)) b → EnablesAtLast full a b → EnablesAtLast m a b
+  at_last_after {a} {b} ka kb p =
+      let f = first_kept kb p in
+      let first : IsTrue (m.enabled_by f.0 a) = (h.enabled_by f.0 a f.1).1 (ka, f.2) in
+      elim (f.3) [ inl i ↦ subst (λ v. EnablesAtLast m a v) i (edge first) | inr q ↦ through first ((h.kept f.0).1 f.1) q ]
+
+pub none_left : (t : Table) (removed : Text → Bool) (m : Resolution) → IsResolved t (λ v. IsTrue (removed v)) m → (f r : Text) → IsTrue (m.table.has f) → IsTrue (removed r)
+    → IsFalse (m.table.has r) × IsFalse (m.table.names f r) × IsFalse (m.enabled_by f r)
+none_left t removed m h f r there gone =
+    let k = (h.kept f).0 there in (
+      false_from_ne_true _ (λ y. ((h.kept r).0 y).1 gone),
+      false_from_ne_true _ (λ y. ((h.names f r k).0 y).1 gone),
+      false_from_ne_true _ (λ y. ((h.enabled_by f r k).0 y).0.1 gone),
+    )

@@ -1,0 +1,56 @@
+-- What the items of a feature's list say together.
+use Rattle.std.proofs.Common.{ap, ◌≡◌, ◌⊎◌, ◌↔◌, ℕ, IsTrue, List, [], ◌∷◌, Option, Some, None, bytes_eq, fold, refl, subst, inl, inr}
+use Rattle.std.proofs.lemmas.Bool.{false≢true, or_cases, or_left, or_right}
+use Rattle.std.specs.List.{list_any}
+use Rattle.std.proofs.lemmas.Slice.Eq.{bytes_eq-Decides}
+use Rattle.cargo_toml_graph.specs.Action.{Text, Action, Item, IsJoin, join_option}
+use Rattle.cargo_toml_graph.specs.Action.Item.{Name, On}
+use Rattle.cargo_toml_graph.specs.Admitted.{Listed, items, item_names, action_on, names, joined_action}
+use Rattle.cargo_toml_graph.specs.Reach.{Among}
+use Rattle.cargo_toml_graph.proofs.Joins.{join_alike, join_halves, join_one}
+use Rattle.cargo_toml_graph.proofs.Texts.{same}
+
+module _ (limit : ℕ) (listed : Listed) where
+  -- some item of the list acts so on k
+  abbrev Acts : Text → List Item → Action → Type 0
+  Acts k is a = (i : Item) × Among is i × (action_on k i ≡ Some a)
+
+  folded : (k : Text) (is : List Item) (P : Action → Type 0) (o : Option Action) → IsJoin P o → IsJoin (λ a. P a ⊎ Acts k is a) (fold (λ o i. join_option o (action_on k i)) o is)
+  folded k [] P o h = join_alike (λ a. (inl, elim [ inl p ↦ p | inr e ↦ absurd e.1 ])) o h
+  folded k (i ∷ is) P o h =
+      join_alike
+      (λ a. (
+        elim [ inl s ↦ elim s [ inl p ↦ inl p | inr e ↦ inr (i, inl refl, e) ] | inr e ↦ inr (e.0, inr e.1, e.2) ],
+        elim [
+          | inl p ↦ inl (inl p)
+          | inr e ↦ elim (e.1) [ inl s ↦ inl (inr (subst (λ j. action_on k j ≡ Some a) s e.2)) | inr m ↦ inr (e.0, m, e.2) ]
+        ],
+      ))
+      _
+      (folded k is (λ a. P a ⊎ (action_on k i ≡ Some a)) (join_option o (action_on k i)) (join_halves (λ a. (λ s. s, λ s. s)) o (action_on k i) h (join_one (action_on k i))))
+
+  none : IsJoin (λ a. ⊥) None
+  none = record { there = (λ e. absurd (false≢true e), λ e. absurd e.1); plain = tt; dep_only = tt; features = tt }
+
+  pub joined_is_join : (f k : Text) → IsJoin (Acts k (items limit listed f)) (joined_action limit listed f k)
+  joined_is_join f k = join_alike (λ a. (elim [ inl n ↦ absurd n | inr e ↦ e ], λ e. inr e)) _ (folded k (items limit listed f) (λ a. ⊥) None none)
+
+  named : (x : Text) (is : List Item) → IsTrue (list_any (item_names x) is) ↔ Among is (Name x)
+  named x [] = (λ e. false≢true e, λ i. absurd i)
+  named x (Name y ∷ is) = (
+    λ e. elim (or_cases (bytes_eq x y) _ e) [ inl s ↦ inl (ap Name (same s)) | inr l ↦ inr ((named x is).0 l) ],
+    elim [ inl s ↦ or_left (bytes_eq x y) _ ((bytes_eq-Decides x y).1 (inner s)) | inr i ↦ or_right (bytes_eq x y) _ ((named x is).1 i) ],
+  )
+    where
+      inner : Name x ≡ Name y → x ≡ y
+      inner e = cc
+  named x (On k a ∷ is) = (
+    λ e. inr ((named x is).0 e),
+    elim [ inl s ↦ absurd (other s) | inr i ↦ (named x is).1 i ],
+  )
+    where
+      other : Name x ≡ On k a → ⊥
+      other e = cc
+
+  pub names_are_named : (f x : Text) → IsTrue (names limit listed f x) ↔ Among (items limit listed f) (Name x)
+  names_are_named f x = named x (items limit listed f)

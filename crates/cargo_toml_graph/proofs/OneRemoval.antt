@@ -1,0 +1,143 @@
+-- Taking one more feature out of a resolution with S removed leaves one with S and that feature removed.
+use Rattle.std.proofs.Common.{◌≡◌, ◌≢◌, ◌↔◌, Bool, true, false, not, cond, ◌&&◌, ◌||◌, IsTrue, Some, bytes_eq, refl, sym, subst, inl, inr, ◌∙◌}
+use Rattle.std.proofs.lemmas.Bool.{false≢true, or_cases, or_left, or_right, and_parts, and_from}
+use Rattle.cargo_toml_graph.specs.Action.{Text, join_option, IsJoin}
+use Rattle.cargo_toml_graph.specs.Reach.{With, Reaches, Gathers, GathersLabel}
+use Rattle.cargo_toml_graph.specs.Reach.Reaches.{edge, through}
+use Rattle.cargo_toml_graph.specs.Graph.{Table, Edge, Resolution, IsKept, KeepsName, IsEnabledBy, Says, IsResolved}
+use Rattle.cargo_toml_graph.specs.Removal.{without}
+use Rattle.cargo_toml_graph.proofs.Texts.{apart_false, apart_from}
+use Rattle.cargo_toml_graph.proofs.Split.{widen, joined, split, label_split}
+use Rattle.cargo_toml_graph.proofs.Joins.{join_alike, join_halves}
+
+-- the end of a path is there
+pub target : {t : Table} {S : Text → Type 0} {a b : Text} → Reaches (Edge t) S a b → IsTrue (t.has b)
+target (edge e) = e.target
+target (through e s p) = target p
+
+-- one more edge at the end of a path
+pub further : {t : Table} {S : Text → Type 0} {a b c : Text} → Reaches (Edge t) S a b → S b → Edge t b c → Reaches (Edge t) S a c
+further (edge e) s e' = through e s (edge e')
+further (through e s p) s' e' = through e s (further p s' e')
+
+module _ (t : Table) (S : Text → Type 0) (m : Resolution) (h : IsResolved t S m) (r : Text) (there : IsTrue (t.has r)) (new : ¬ S r) where
+  kept_r : IsKept t S r
+  kept_r = (there, new)
+
+  -- the name of a kept feature that stands where r does: that feature is a parent of r
+  parent_by_name : (f : Text) → IsKept t S f → f ≢ r → GathersLabel (Edge t) S (λ b y. IsTrue (t.names b y)) f r → Reaches (Edge t) S f r
+  parent_by_name f k ne l = go l.0 l.1 l.2
+    where
+      go : (b : Text) → Gathers (Edge t) S f b → IsTrue (t.names b r) → Reaches (Edge t) S f r
+      go b (inl i) n = edge (record { source = k.0; target = there; apart = ne; leads = inl (subst (λ v. IsTrue (t.names v r)) i n) })
+      go b (inr g) n = further g.1 g.0 (record { source = target g.1; target = there; apart = λ i. new (subst S i g.0); leads = inl n })
+
+  reaches_r : (f : Text) → IsTrue (m.enabled_by r f) → IsKept t S f × Reaches (Edge t) S f r
+  reaches_r f e = (h.enabled_by r f kept_r).0 e
+
+  parent_true : (f : Text) → IsKept t S f → Reaches (Edge t) S f r → IsTrue (m.enabled_by r f)
+  parent_true f k p = (h.enabled_by r f kept_r).1 (k, p)
+
+  child_true : (f : Text) → IsKept t S f → Reaches (Edge t) S r f → IsTrue (m.enabled_by f r)
+  child_true f k p = (h.enabled_by f r k).1 (kept_r, p)
+
+  older : (f : Text) → IsKept t (With S r) f → IsKept t S f × (f ≢ r)
+  older f k = ((k.0, λ s. k.1 (inl s)), λ i. k.1 (inr i))
+
+  newer : (f : Text) → IsKept t S f → f ≢ r → IsKept t (With S r) f
+  newer f k ne = (k.0, elim [ inl s ↦ k.1 s | inr i ↦ ne i ])
+
+  has_step : (f : Text) → IsTrue ((without r m).table.has f) ↔ IsKept t (With S r) f
+  has_step f = (
+    λ e. let p = and_parts (m.table.has f) _ e in newer f ((h.kept f).0 p.0) (apart_from f r p.1),
+    λ k. let o = older f k in and_from _ _ ((h.kept f).1 o.0) (apart_false f r o.1),
+  )
+
+  names_step : (f x : Text) → IsKept t (With S r) f → IsTrue ((without r m).table.names f x) ↔ KeepsName t (With S r) f x
+  names_step f x k' = go (m.enabled_by r f) refl
+    where
+      k : IsKept t S f
+      k = (older f k').0
+
+      go : (b : Bool) → m.enabled_by r f ≡ b → IsTrue (cond b ((m.table.names f x || m.table.names r x) && not (bytes_eq x r)) (m.table.names f x)) ↔ KeepsName t (With S r) f x
+      go true e = (
+        λ y. let p = and_parts (m.table.names f x || m.table.names r x) _ y in
+            let ne = apart_from x r p.1 in
+            elim (or_cases (m.table.names f x) _ p.0) [
+              | inl y ↦ let n = (h.names f x k).0 y in ((label_split (Edge t) S r (λ b y. IsTrue (t.names b y)) f x).1 (inl n.0), elim [ inl s ↦ n.1 s | inr i ↦ ne i ])
+              | inr y ↦ let n = (h.names r x kept_r).0 y in ((label_split (Edge t) S r (λ b y. IsTrue (t.names b y)) f x).1 (inr ((reaches_r f e).1, n.0)), elim [ inl s ↦ n.1 s | inr i ↦ ne i ])
+            ],
+        λ n. and_from _ _
+            (elim ((label_split (Edge t) S r (λ b y. IsTrue (t.names b y)) f x).0 n.0) [
+              | inl l ↦ or_left _ _ ((h.names f x k).1 (l, λ s. n.1 (inl s)))
+              | inr pl ↦ or_right _ _ ((h.names r x kept_r).1 (pl.1, λ s. n.1 (inl s)))
+            ])
+            (apart_false x r (λ i. n.1 (inr i))),
+      )
+      go false e = (
+        λ y. let n = (h.names f x k).0 y in (
+          (label_split (Edge t) S r (λ b y. IsTrue (t.names b y)) f x).1 (inl n.0),
+          elim [
+            | inl s ↦ n.1 s
+            | inr i ↦
+                false≢true (sym e ∙ parent_true f k (parent_by_name f k (older f k').1 (subst (λ v. GathersLabel (Edge t) S (λ b y. IsTrue (t.names b y)) f v) i n.0)))
+          ],
+        ),
+        λ n. elim ((label_split (Edge t) S r (λ b y. IsTrue (t.names b y)) f x).0 n.0) [
+          | inl l ↦ (h.names f x k).1 (l, λ s. n.1 (inl s))
+          | inr pl ↦ absurd (false≢true (sym e ∙ parent_true f k pl.0))
+        ],
+      )
+
+  action_step : (f d : Text) → IsKept t (With S r) f → IsJoin (Says t (With S r) f d) ((without r m).table.action f d)
+  action_step f d k' = go (m.enabled_by r f) refl
+    where
+      k : IsKept t S f
+      k = (older f k').0
+
+      go : (b : Bool) → m.enabled_by r f ≡ b → IsJoin (Says t (With S r) f d) (cond b (join_option (m.table.action f d) (m.table.action r d)) (m.table.action f d))
+      go true e = join_halves
+          (λ a. (
+            λ s. elim ((label_split (Edge t) S r (λ b x. t.action b d ≡ Some x) f a).0 s) [ inl l ↦ inl l | inr pl ↦ inr pl.1 ],
+            elim [ inl l ↦ (label_split (Edge t) S r (λ b x. t.action b d ≡ Some x) f a).1 (inl l) | inr l ↦ (label_split (Edge t) S r (λ b x. t.action b d ≡ Some x) f a).1 (inr ((reaches_r f e).1, l)) ],
+          ))
+          _ _ (h.action f d k) (h.action r d kept_r)
+      go false e = join_alike
+          (λ a. (
+            λ l. (label_split (Edge t) S r (λ b x. t.action b d ≡ Some x) f a).1 (inl l),
+            λ s. elim ((label_split (Edge t) S r (λ b x. t.action b d ≡ Some x) f a).0 s) [ inl l ↦ l | inr pl ↦ absurd (false≢true (sym e ∙ parent_true f k pl.0)) ],
+          ))
+          _ (h.action f d k)
+
+  enabled_step : (f e : Text) → IsKept t (With S r) f → IsTrue ((without r m).enabled_by f e) ↔ IsEnabledBy t (With S r) f e
+  enabled_step f e k' = go (m.enabled_by f r) refl
+    where
+      k : IsKept t S f
+      k = (older f k').0
+
+      go : (b : Bool) → m.enabled_by f r ≡ b → IsTrue (cond b ((m.enabled_by f e || m.enabled_by r e) && not (bytes_eq e r)) (m.enabled_by f e)) ↔ IsEnabledBy t (With S r) f e
+      go true c = (
+        λ y. let p = and_parts (m.enabled_by f e || m.enabled_by r e) _ y in
+            let ne = apart_from e r p.1 in
+            elim (or_cases (m.enabled_by f e) _ p.0) [
+              | inl y ↦ let n = (h.enabled_by f e k).0 y in (newer e n.0 ne, widen _ S r n.1)
+              | inr y ↦ let n = (h.enabled_by r e kept_r).0 y in (newer e n.0 ne, joined _ S r n.1 ((h.enabled_by f r k).0 c).1)
+            ],
+        λ n. let o = older e n.0 in and_from _ _
+            (elim (split _ S r n.1) [
+              | inl p ↦ or_left _ _ ((h.enabled_by f e k).1 (o.0, p))
+              | inr pq ↦ or_right _ _ ((h.enabled_by r e kept_r).1 (o.0, pq.0))
+            ])
+            (apart_false e r o.1),
+      )
+      go false c = (
+        λ y. let n = (h.enabled_by f e k).0 y in
+            (newer e n.0 (λ i. false≢true (sym c ∙ subst (λ v. IsTrue (m.enabled_by f v)) i y)), widen _ S r n.1),
+        λ n. elim (split _ S r n.1) [
+          | inl p ↦ (h.enabled_by f e k).1 ((older e n.0).0, p)
+          | inr pq ↦ absurd (false≢true (sym c ∙ child_true f k pq.1))
+        ],
+      )
+
+  pub step : IsResolved t (With S r) (without r m)
+  step = record { kept = has_step; names = names_step; enabled_by = enabled_step; action = action_step }

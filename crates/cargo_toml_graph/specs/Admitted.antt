@@ -1,0 +1,48 @@
+-- The features that a table lists, within a limit, and what each says.
+use Rattle.std.specs.Prelude.{◌≤◌, ℕ, Bool, false, cond, ◌&&◌, ◌||◌, List, [], map, take, length, nat_lt, is_some, Option, Some, None, unwrap_or, codes, bytes_eq, fold, count_by, All}
+use Rattle.std.specs.List.{list_any}
+use Rattle.std.specs.Map.{lookup}
+use Rattle.std.specs.Cmp.Lexicographic.{slice_cmp}
+use Rattle.std.specs.Ordering.{nat_cmp, is_lt}
+use Rattle.cargo_toml_graph.specs.Action.{Text, Action, Item, join_option, item_of}
+use Rattle.cargo_toml_graph.specs.Action.Item.{Name, On}
+
+-- the byte order of texts
+abbrev pub is_below : Text → Text → Bool
+is_below a b = is_lt (slice_cmp nat_cmp a b)
+
+-- a table of features as it is listed: each name with its actions, in any order
+abbrev pub Listed : Type 0
+Listed = List (Text × List Text)
+
+-- an item names x
+abbrev pub item_names : Text → Item → Bool
+item_names x (Name y) = bytes_eq x y
+item_names x (On k a) = false
+
+-- what an item does to k
+abbrev pub action_on : Text → Item → Option Action
+action_on k (Name y) = None
+action_on k (On q a) = cond (bytes_eq k q) (Some a) None
+
+-- the limit leaves nothing out
+pub record IsWithin (limit : ℕ) (listed : Listed) : Type 0 where
+  pub names : length listed ≤ limit
+  pub actions : All (λ e. length e.1 ≤ limit) listed
+
+module _ (limit : ℕ) (listed : Listed) where
+  -- the first names in byte order, and always `default`
+  abbrev pub is_admitted : Text → Bool
+  is_admitted f = bytes_eq f (codes "default") || (is_some (lookup (bytes_eq f) listed) && nat_lt (count_by (λ e. is_below e.0 f) listed) limit)
+
+  -- the first actions of an admitted feature
+  abbrev pub items : Text → List Item
+  items f = cond (is_admitted f) (map item_of (take limit (unwrap_or (lookup (bytes_eq f) listed) []))) []
+
+  -- the names that f names, known or not
+  abbrev pub names : Text → Text → Bool
+  names f x = list_any (item_names x) (items f)
+
+  -- f's actions on k, joined
+  abbrev pub joined_action : Text → Text → Option Action
+  joined_action f k = fold (λ o i. join_option o (action_on k i)) None (items f)

@@ -1,0 +1,9 @@
+pub mod Action
+pub mod Reach
+pub mod Graph
+pub mod Removal
+pub mod Redirects
+pub mod Bins
+pub mod Recursive
+pub mod Admitted
+pub mod Examples

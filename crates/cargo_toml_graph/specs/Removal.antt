@@ -1,0 +1,64 @@
+-- Taking one feature after another out of a resolution: the steps that the laws of elimination speak of.
+use Rattle.std.specs.Prelude.{◌≡◌, IsTrue, ◌&&◌, ◌||◌, not, cond, List, [], ◌∷◌, ◌++◌, take, bytes_eq, nat_eq, codes, Bool, false, Option}
+use Rattle.std.specs.List.{list_any, starts_with}
+use Rattle.std.specs.Option.{option_map_or}
+use Rattle.cargo_toml_graph.specs.Action.{Text, Action, join_option}
+use Rattle.cargo_toml_graph.specs.Reach.{Among}
+use Rattle.cargo_toml_graph.specs.Graph.{Table, Resolution}
+
+-- the removed features; `keep` is what the filter answers
+abbrev pub is_removed : Table → (Text → Bool) → Text → Bool
+is_removed t keep f = t.has f && starts_with nat_eq f (codes "_") && not (keep f)
+
+abbrev pub is_plain : Option Action → Bool
+is_plain o = option_map_or (λ a. not a.is_conditional && not a.is_dep_only) o false
+
+abbrev pub is_edge : Table → Text → Text → Bool
+is_edge t f g = t.has f && t.has g && not (bytes_eq f g) && (t.names f g || is_plain (t.action f g))
+
+-- what the removal starts with: the table, and the sources of its edges
+abbrev pub unremoved : Table → Resolution
+unremoved t = record { table = t; enabled_by = λ f e. is_edge t e f }
+
+-- r is taken out: its parents name what it named and act as it did, and what it enabled is enabled by its parents
+abbrev pub without : Text → Resolution → Resolution
+without r m = record {
+  table = record {
+    has = λ f. m.table.has f && not (bytes_eq f r);
+    names = λ f x. cond (m.enabled_by r f) ((m.table.names f x || m.table.names r x) && not (bytes_eq x r)) (m.table.names f x);
+    action = λ f k. cond (m.enabled_by r f) (join_option (m.table.action f k) (m.table.action r k)) (m.table.action f k);
+  };
+  enabled_by = λ f e. cond (m.enabled_by f r) ((m.enabled_by f e || m.enabled_by r e) && not (bytes_eq e r)) (m.enabled_by f e);
+}
+
+abbrev pub without_all : List Text → Resolution → Resolution
+without_all [] m = m
+without_all (r ∷ rs) m = without_all rs (without r m)
+
+abbrev pub is_among : List Text → Text → Bool
+is_among xs x = list_any (bytes_eq x) xs
+
+-- each of ys is put at the end, unless it is there
+abbrev pub put_all : List Text → List Text → List Text
+put_all xs [] = xs
+put_all xs (y ∷ ys) = put_all (cond (is_among xs y) xs (xs ++ y ∷ [])) ys
+
+-- r's first ten binaries are passed on to each feature that it names
+abbrev pub pass_bins : Resolution → Text → (Text → List Text) → Text → List Text
+pass_bins m r bins f = cond (m.table.names r f) (put_all (bins f) (take 10 (bins r))) (bins f)
+
+abbrev pub pass_all : List Text → Resolution → (Text → List Text) → Text → List Text
+pass_all [] m bins = bins
+pass_all (r ∷ rs) m bins = pass_all rs (without r m) (pass_bins m r bins)
+
+-- each element is below those after it
+abbrev pub IsAscending : (Text → Text → Type 0) → List Text → Type 0
+IsAscending Below [] = Unit {0}
+IsAscending Below (x ∷ xs) = ((y : Text) → Among xs y → Below x y) × IsAscending Below xs
+
+-- the same features, and each holds the same
+pub record SameKept (m n : Resolution) : Type 0 where
+  pub has : (f : Text) → m.table.has f ≡ n.table.has f
+  pub names : (f x : Text) → IsTrue (m.table.has f) → m.table.names f x ≡ n.table.names f x
+  pub action : (f k : Text) → IsTrue (m.table.has f) → m.table.action f k ≡ n.table.action f k
+  pub enabled_by : (f e : Text) → IsTrue (m.table.has f) → m.enabled_by f e ≡ n.enabled_by f e

@@ -1,0 +1,27 @@
+//! What several actions on one dependency say together.
+ghost use Rattle.std.specs.Prelude.{◌≡◌, ◌↔◌, ℕ, IsTrue, None, Option, Some};
+ghost use Rattle.cargo_toml_graph.specs.Action.{Action, IsJoin, Item, Text, join, join_option};
+ghost use Rattle.cargo_toml_graph.specs.Admitted.{Listed, action_on, items, joined_action, names};
+ghost use Rattle.cargo_toml_graph.specs.Reach.{Among};
+
+/// The order and the grouping of actions make no difference, nor does an action that is there twice.
+pub fn actions_join_in_any_order()
+    ensures associative { (a b c : Action) → join (join a b) c ≡ join a (join b c) }
+    ensures commutative { (a b : Action) → join a b ≡ join b a }
+    ensures idempotent { (a : Action) → join a a ≡ a }
+{}
+
+/// The same where an action may be missing, and a missing one adds nothing.
+pub fn missing_actions_add_nothing()
+    ensures associative { (a b c : Option Action) → join_option (join_option a b) c ≡ join_option a (join_option b c) }
+    ensures commutative { (a b : Option Action) → join_option a b ≡ join_option b a }
+    ensures idempotent { (a : Option Action) → join_option a a ≡ a }
+    ensures unit { (a : Option Action) → join_option a None ≡ a }
+{}
+
+/// What a feature names and how it acts on a dependency is what the items of its list say.
+pub fn lists_say_what_their_items_say()
+    ensures names { (limit : ℕ) (listed : Listed) (f x : Text) → IsTrue (names limit listed f x) ↔ Among (items limit listed f) (Item.Name x) }
+    ensures action { (limit : ℕ) (listed : Listed) (f k : Text) →
+        IsJoin (λ a. (i : Item) × Among (items limit listed f) i × (action_on k i ≡ Some a)) (joined_action limit listed f k) }
+{}

@@ -1,0 +1,319 @@
+-- From the features that are read to the whole answer, where nothing is removed.
+use Rattle.std.proofs.Common.{◌≡◌, ◌⊎◌, ◌↔◌, ◌&&◌, ◌||◌, not, Bool, true, false, cond, List, [], ℕ, map, Option, Some, None, IsTrue, IfSome, is_some, option_map, bytes_eq, Bor, refl, sym, ap, ap₂, subst, inl, inr, ◌∙◌}
+use Rattle.std.proofs.Math.Bool.{and-false}
+use Rattle.std.proofs.lemmas.Bool.{false≢true, false_from_ne_true, or_cases, or_left, or_right, and_parts, and_from}
+use Rattle.std.proofs.lemmas.Slice.Eq.{bytes_eq-Decides}
+use Rattle.std.specs.HashMap.{HashMap}
+use Rattle.std.specs.List.{list_any}
+use Rattle.std.specs.Map.{lookup}
+use Rattle.std.specs.Option.{option_map_or}
+use Rattle.cargo_toml_resolve.specs.declared.features.Feature.{Feature}
+use Rattle.cargo_toml_resolve.specs.declared.features.Features.{Features}
+use Rattle.cargo_toml_resolve.specs.declared.read.Mentions.{Mentions}
+use Rattle.cargo_toml_graph.specs.Action.{Text, Action}
+use Rattle.cargo_toml_graph.specs.Admitted.{Listed, is_admitted, is_below, joined_action}
+use Rattle.cargo_toml_graph.specs.Bins.{HasBins}
+use Rattle.cargo_toml_resolve.specs.Enabling.{is_plain, leads, leads_at, Relates, Enabled, EnabledAll}
+use Rattle.cargo_toml_graph.specs.Graph.{Table, Resolution, Edge, IsPlain, IsUnremoved}
+use Rattle.cargo_toml_resolve.specs.Implying.{Becomes, ImpliesAll, is_optional_at, is_offered}
+use Rattle.cargo_toml_resolve.specs.Reading.{IsRead, AreFresh}
+use Rattle.cargo_toml_resolve.specs.Recorded.{Entry, Recorded, is_mentioned, is_reserved, entries_at, recorded_of}
+use Rattle.cargo_toml_resolve.specs.Recording.{recorded_at, is_mentioned_in}
+use Rattle.cargo_toml_graph.specs.Redirects.{RedirectsTo}
+use Rattle.cargo_toml_graph.specs.Removal.{is_removed}
+use Rattle.cargo_toml_resolve.specs.Reached.{IsKeyed}
+use Rattle.cargo_toml_resolve.specs.Resolved.{joined_table, plain, SameRecorded, IsAnswer}
+use Rattle.cargo_toml_resolve.specs.Views.{has_text, action_at, value_at, table_in, resolution_of, answer_of}
+use Rattle.cargo_toml_resolve.proofs.TextKeys.{none_in}
+use Rattle.cargo_toml_graph.proofs.Unremoved.{resolved_unremoved}
+
+-- tables that say the same
+record Same (t u : Table) : Type 0 where
+  has : (f : Text) → t.has f ≡ u.has f
+  names : (f x : Text) → t.names f x ≡ u.names f x
+  action : (f k : Text) → t.action f k ≡ u.action f k
+
+edge_alike : (t u : Table) → Same t u → (f g : Text) → Edge t f g → Edge u f g
+edge_alike t u s f g e = record {
+  source = sym (s.has f) ∙ e.source;
+  target = sym (s.has g) ∙ e.target;
+  apart = e.apart;
+  leads = elim (e.leads) [ inl n ↦ inl (sym (s.names f g) ∙ n) | inr p ↦ inr (subst IsPlain (s.action f g) p) ];
+}
+
+unremoved_alike : (t u : Table) (m : Resolution) → Same t u → IsUnremoved t m → IsUnremoved u m
+unremoved_alike t u m s h = record {
+  has = λ f. h.has f ∙ s.has f;
+  names = λ f x. h.names f x ∙ s.names f x;
+  action = λ f k. h.action f k ∙ s.action f k;
+  enabled_by = λ f e. (λ y. edge_alike t u s e f ((h.enabled_by f e).0 y), λ d. (h.enabled_by f e).1 (edge_alike u t (record { has = λ f. sym (s.has f); names = λ f x. sym (s.names f x); action = λ f k. sym (s.action f k) }) e f d));
+}
+
+nots : (x y : Bool) → (not x && not y) ≡ true → (x ≡ false) × (y ≡ false)
+nots true y e = absurd (false≢true e)
+nots false true e = absurd (false≢true e)
+nots false false e = (refl, refl)
+
+plain_is : (o : Option Action) → is_plain o ≡ true → IsPlain o
+plain_is None e = absurd (false≢true e)
+plain_is (Some a) e = nots a.is_conditional a.is_dep_only e
+
+is_plain-true : (o : Option Action) → IsPlain o → is_plain o ≡ true
+is_plain-true None e = absurd e
+is_plain-true (Some a) e = rw (e.0, e.1)
+
+or_not : (a i : Bool) → (a || i) ≡ (a || (i && not a))
+or_not true i = refl
+or_not false true = refl
+or_not false false = refl
+
+-- the enablers that are set are the sources of edges
+module _ {S : Type 0} (old new : HashMap (Bor Text) Feature S) (none : (f e : Text) → (resolution_of old).enabled_by f e ≡ false) (h : EnabledAll (λ q e. leads_at old e q && not (bytes_eq q e)) old new) where
+  abbrev by : Text → Text → Bool
+  by q e = leads_at old e q && not (bytes_eq q e)
+
+  has_now : (f : Text) → is_some (value_at new f) ≡ is_some (value_at old f)
+  has_now f = go (value_at old f) (value_at new f) (h.at f)
+    where
+      go : (o o' : Option Feature) → Relates (Enabled (by f)) o o' → is_some o' ≡ is_some o
+      go None None r = refl
+      go None (Some b) r = absurd r
+      go (Some a) None r = absurd r
+      go (Some a) (Some b) r = refl
+
+  names_now : (f x : Text) → (table_in new).names f x ≡ (table_in old).names f x
+  names_now f x = go (value_at old f) (value_at new f) (h.at f)
+    where
+      go : (o o' : Option Feature) → Relates (Enabled (by f)) o o' → option_map_or (λ v. has_text v.enables_features x) o' false ≡ option_map_or (λ v. has_text v.enables_features x) o false
+      go None None r = refl
+      go None (Some b) r = absurd r
+      go (Some a) None r = absurd r
+      go (Some a) (Some b) r = rw r.names
+
+  action_now : (f k : Text) → (table_in new).action f k ≡ (table_in old).action f k
+  action_now f k = go (value_at old f) (value_at new f) (h.at f)
+    where
+      go : (o o' : Option Feature) → Relates (Enabled (by f)) o o' → option_map_or (λ v. action_at v.enables_deps k) o' None ≡ option_map_or (λ v. action_at v.enables_deps k) o None
+      go None None r = refl
+      go None (Some b) r = absurd r
+      go (Some a) None r = absurd r
+      go (Some a) (Some b) r = rw r.actions
+
+  enablers_now : (f e : Text) → (resolution_of new).enabled_by f e ≡ (is_some (value_at old f) && by f e)
+  enablers_now f e = go (value_at old f) (value_at new f) (h.at f) (none f e)
+    where
+      go : (o o' : Option Feature) → Relates (Enabled (by f)) o o' → option_map_or (λ v. has_text v.enabled_by e) o false ≡ false → option_map_or (λ v. has_text v.enabled_by e) o' false ≡ (is_some o && by f e)
+      go None None r n = refl
+      go None (Some b) r n = absurd r
+      go (Some a) None r n = absurd r
+      go (Some a) (Some b) r n = r.enabled_by e ∙ ap (λ t. t || by f e) n
+
+  abbrev Leads : Option Feature → Text → Type 0
+  Leads o f = IsTrue (is_some o) × (IsTrue (option_map_or (λ v. has_text v.enables_features f) o false) ⊎ IsPlain (option_map_or (λ v. action_at v.enables_deps f) o None))
+
+  leads_is : (o : Option Feature) (f : Text) → option_map_or (λ v. leads v f) o false ≡ true → Leads o f
+  leads_is None f e = absurd (false≢true e)
+  leads_is (Some v) f e = (refl, elim (or_cases _ _ e) [ inl n ↦ inl n | inr p ↦ inr (plain_is _ p) ])
+
+  leads-true : (o : Option Feature) (f : Text) → Leads o f → option_map_or (λ v. leads v f) o false ≡ true
+  leads-true None f l = absurd (false≢true l.0)
+  leads-true (Some v) f l = elim (l.1) [ inl n ↦ or_left _ _ n | inr p ↦ or_right _ _ (is_plain-true _ p) ]
+
+  edge_is : (f e : Text) → (is_some (value_at old f) && by f e) ≡ true → Edge (table_in old) e f
+  edge_is f e w =
+      let a = and_parts (is_some (value_at old f)) (by f e) w in
+      let b = and_parts (leads_at old e f) (not (bytes_eq f e)) a.1 in
+      let l = leads_is (value_at old e) f b.0 in
+      record {
+        source = l.0;
+        target = a.0;
+        apart = λ same. false≢true (ap not (sym ((bytes_eq-Decides f e).1 (sym same))) ∙ b.1);
+        leads = l.1;
+      }
+
+  edge-true : (f e : Text) → Edge (table_in old) e f → (is_some (value_at old f) && by f e) ≡ true
+  edge-true f e d = and_from _ _ d.target (and_from _ _ (leads-true (value_at old e) f (d.source, d.leads))
+      (ap not (false_from_ne_true _ (λ on. d.apart (sym ((bytes_eq-Decides f e).0 on))))))
+
+  unremoved : IsUnremoved (table_in old) (resolution_of new)
+  unremoved = record {
+    has = has_now;
+    names = names_now;
+    action = action_now;
+    enabled_by = λ f e. (λ y. edge_is f e (sym (enablers_now f e) ∙ y), λ d. enablers_now f e ∙ edge-true f e d);
+  }
+
+-- the table with the implied features
+module _ {S : Type 0} (implied : Text → Bool) (old new : HashMap (Bor Text) Feature S) (h : ImpliesAll implied old new) where
+  has_after : (f : Text) → is_some (value_at new f) ≡ (is_some (value_at old f) || implied f)
+  has_after f = go (implied f) (value_at old f) (value_at new f) (h.at f)
+    where
+      go : (t : Bool) (o o' : Option Feature) → Becomes t f o o' → is_some o' ≡ (is_some o || t)
+      go true None None b = absurd b
+      go true None (Some v) b = refl
+      go false None o' b = ap is_some b
+      go true (Some v) o' b = ap is_some b
+      go false (Some v) o' b = ap is_some b
+
+  names_after : (f x : Text) → (table_in new).names f x ≡ (table_in old).names f x
+  names_after f x = go (implied f) (value_at old f) (value_at new f) (h.at f)
+    where
+      go : (t : Bool) (o o' : Option Feature) → Becomes t f o o' → option_map_or (λ v. has_text v.enables_features x) o' false ≡ option_map_or (λ v. has_text v.enables_features x) o false
+      go true None None b = absurd b
+      go true None (Some v) b = b.names x
+      go false None o' b = rw b
+      go true (Some v) o' b = rw b
+      go false (Some v) o' b = rw b
+
+  action_after : (f k : Text) → (table_in new).action f k ≡ cond (is_some (value_at old f)) ((table_in old).action f k) (cond (implied f && bytes_eq k f) (Some plain) None)
+  action_after f k = go (implied f) (value_at old f) (value_at new f) (h.at f)
+    where
+      go : (t : Bool) (o o' : Option Feature) → Becomes t f o o' → option_map_or (λ v. action_at v.enables_deps k) o' None ≡ cond (is_some o) (option_map_or (λ v. action_at v.enables_deps k) o None) (cond (t && bytes_eq k f) (Some plain) None)
+      go true None None b = absurd b
+      go true None (Some v) b = b.action k
+      go false None o' b = rw b
+      go true (Some v) o' b = rw b
+      go false (Some v) o' b = rw b
+
+  enablers_after : ((f e : Text) → (resolution_of old).enabled_by f e ≡ false) → (f e : Text) → (resolution_of new).enabled_by f e ≡ false
+  enablers_after none f e = go (implied f) (value_at old f) (value_at new f) (h.at f) (none f e)
+    where
+      go : (t : Bool) (o o' : Option Feature) → Becomes t f o o' → option_map_or (λ v. has_text v.enabled_by e) o false ≡ false → option_map_or (λ v. has_text v.enabled_by e) o' false ≡ false
+      go true None None b n = absurd b
+      go true None (Some v) b n = none_in v.enabled_by b.enabled_by e
+      go false None o' b n = rw b
+      go true (Some v) o' b n = rw b n
+      go false (Some v) o' b n = rw b n
+
+-- a feature that sits under its key, with this mark and no binaries
+record IsMarked (f : Text) (mark : Bool) (v : Feature) : Type 0 where
+  key : v.key.now ≡ f
+  bins : v.required_by_bins.items ≡ []
+  explicit : v.explicit ≡ mark
+
+-- nothing is removed, and no binary is known
+module _ (t : Table) where
+  abbrev Removed : Text → Type 0
+  Removed f = IsTrue (is_removed t (λ _. true) f)
+
+  kept_all : (f : Text) → is_removed t (λ _. true) f ≡ false
+  kept_all f = and-false _
+
+  none_removed : (f : Text) → ¬ Removed f
+  none_removed f r = false≢true (sym (kept_all f) ∙ r)
+
+  no_bins : (f : Text) (bins : List Text) → bins ≡ [] → HasBins t Removed (λ _. []) f bins
+  no_bins f bins e = record {
+    lists = record { passed = []; whole = e; once = tt; fresh = λ x a. absurd a; cause = λ x a. absurd a };
+    direct = λ r x removed. absurd (none_removed r removed);
+  }
+
+same_recorded : (a b : Option Recorded) → a ≡ b → SameRecorded a b
+same_recorded a b e = subst (SameRecorded a) e (own a)
+  where
+    own : (o : Option Recorded) → SameRecorded o o
+    own None = tt
+    own (Some r) = (refl, λ t. refl)
+
+-- each feature stands under its own key from the reading of lists on
+pub keyed_from : {S : Type 0} (implied : Text → Bool) (by : Text → Text → Bool) (read middle last : HashMap (Bor Text) Feature S) → AreFresh read → ImpliesAll implied read middle → EnabledAll by middle last → IsKeyed last
+keyed_from implied by read middle last fresh i e f = enabled_one (value_at middle f) (value_at last f) (e.at f) (implied_one (implied f) (value_at read f) (value_at middle f) refl (i.at f))
+  where
+    implied_one : (b : Bool) (o o' : Option Feature) → value_at read f ≡ o → Becomes b f o o' → IfSome o' (λ v. v.key.now ≡ f)
+    implied_one true None None s b = tt
+    implied_one true None (Some v) s b = b.key
+    implied_one false None o' s b = subst (λ o. IfSome o (λ v. v.key.now ≡ f)) (sym b) tt
+    implied_one true (Some v) o' s b = subst (λ o. IfSome o (λ w. w.key.now ≡ f)) (sym b) (fresh f v s).key
+    implied_one false (Some v) o' s b = subst (λ o. IfSome o (λ w. w.key.now ≡ f)) (sym b) (fresh f v s).key
+
+    enabled_one : (o o' : Option Feature) → Relates (Enabled (by f)) o o' → IfSome o (λ v. v.key.now ≡ f) → IfSome o' (λ v. v.key.now ≡ f)
+    enabled_one None None r k = tt
+    enabled_one None (Some w) r k = absurd r
+    enabled_one (Some v) None r k = absurd r
+    enabled_one (Some v) (Some w) r k = ap (λ q. q.now) r.key ∙ k
+
+module _ {S H : Type 0} (limit : ℕ) (listed : Listed) (entries : List Entry) (mentions : Mentions S H) (implied : HashMap (Bor Text) Feature S) (a : Features S H)
+    (r : IsRead limit listed (table_in mentions.features) (value_at mentions.acted)) (fresh : AreFresh mentions.features) (i : ImpliesAll (is_offered mentions.acted entries) mentions.features implied)
+    (e : EnabledAll (λ q e. leads_at implied e q && not (bytes_eq q e)) implied a.features)
+    (recorded : ((k : Text) → is_mentioned_in mentions k ≡ is_mentioned limit listed k) → (k : Text) → recorded_at a.dependencies k ≡ recorded_of (entries_at limit listed entries k))
+    (hidden : a.hidden_features.entries ≡ []) (removed : a.removed_hidden_features ≡ false) where
+  abbrev t : Table
+  t = joined_table limit listed entries
+
+  offered_is : (f : Text) → is_offered mentions.acted entries f ≡ (list_any (is_optional_at f) entries && not (is_reserved limit listed f))
+  offered_is f = ap (λ b. list_any (is_optional_at f) entries && not b) (r.reserved f)
+
+  same : Same (table_in implied) t
+  same = record {
+    has = λ f. has_after (is_offered mentions.acted entries) mentions.features implied i f ∙ ap (λ b. b || is_offered mentions.acted entries f) (r.has f) ∙ ap (λ b. is_admitted limit listed f || b) (offered_is f) ∙ or_not (is_admitted limit listed f) _;
+    names = λ f x. names_after (is_offered mentions.acted entries) mentions.features implied i f x ∙ r.names f x;
+    action = λ f k.
+        action_after (is_offered mentions.acted entries) mentions.features implied i f k ∙ ap (λ b. cond b ((table_in mentions.features).action f k) (cond (is_offered mentions.acted entries f && bytes_eq k f) (Some plain) None)) (r.has f)
+        ∙ ap (λ o. cond (is_admitted limit listed f) o (cond (is_offered mentions.acted entries f && bytes_eq k f) (Some plain) None)) (r.action f k)
+        ∙ ap (λ b. cond (is_admitted limit listed f) (joined_action limit listed f k) (cond (b && bytes_eq k f) (Some plain) None)) (offered_is f)
+        ∙ go (is_admitted limit listed f) (joined_action limit listed f k) (list_any (is_optional_at f) entries && not (is_reserved limit listed f)) (bytes_eq k f);
+  }
+    where
+      go : (a : Bool) (o : Option Action) (i b : Bool) → cond a o (cond (i && b) (Some plain) None) ≡ cond a o (cond ((i && not a) && b) (Some plain) None)
+      go true o i b = refl
+      go false o true b = refl
+      go false o false b = refl
+
+  no_enablers : (f e : Text) → (resolution_of mentions.features).enabled_by f e ≡ false
+  no_enablers f e = go (value_at mentions.features f) refl
+    where
+      go : (o : Option Feature) → value_at mentions.features f ≡ o → option_map_or (λ v. has_text v.enabled_by e) o false ≡ false
+      go None s = refl
+      go (Some v) s = none_in v.enabled_by (fresh f v s).enabled_by e
+
+  whole : IsUnremoved t (resolution_of a.features)
+  whole = unremoved_alike (table_in implied) t (resolution_of a.features) same
+      (unremoved implied a.features (enablers_after (is_offered mentions.acted entries) mentions.features implied i no_enablers) e)
+
+  marked : (f : Text) → IfSome (value_at a.features f) (IsMarked f (is_admitted limit listed f))
+  marked f = later (value_at implied f) (value_at a.features f) (e.at f) (middle (is_offered mentions.acted entries f) (value_at mentions.features f) (value_at implied f) refl (i.at f))
+    where
+      listed_one : (v : Feature) → value_at mentions.features f ≡ Some v → IsMarked f (is_admitted limit listed f) v
+      listed_one v s =
+          let k = fresh f v s in
+          record { key = k.key; bins = k.bins; explicit = k.explicit ∙ sym (ap is_some s) ∙ r.has f }
+
+      middle : (b : Bool) (o o' : Option Feature) → value_at mentions.features f ≡ o → Becomes b f o o' → IfSome o' (IsMarked f (is_admitted limit listed f))
+      middle true None None s b = absurd b
+      middle true None (Some v) s b = record { key = b.key; bins = b.bins; explicit = b.explicit ∙ sym (ap is_some s) ∙ r.has f }
+      middle false None o' s b = subst (λ o. IfSome o (IsMarked f (is_admitted limit listed f))) (sym b) tt
+      middle true (Some v) o' s b = subst (λ o. IfSome o (IsMarked f (is_admitted limit listed f))) (sym b) (listed_one v s)
+      middle false (Some v) o' s b = subst (λ o. IfSome o (IsMarked f (is_admitted limit listed f))) (sym b) (listed_one v s)
+
+      later : (o o' : Option Feature) → Relates (Enabled (λ q. leads_at implied q f && not (bytes_eq f q))) o o' → IfSome o (IsMarked f (is_admitted limit listed f)) → IfSome o' (IsMarked f (is_admitted limit listed f))
+      later None None k m = tt
+      later None (Some w) k m = absurd k
+      later (Some v) None k m = absurd k
+      later (Some v) (Some w) k m = record { key = ap (λ q. q.now) k.key ∙ m.key; bins = ap (λ q. q.items) k.bins ∙ m.bins; explicit = k.explicit ∙ m.explicit }
+
+  mentioned : (k : Text) → is_mentioned_in mentions k ≡ is_mentioned limit listed k
+  mentioned k = ap₂ (λ x y. x || y) (r.has k) (r.acted_on k)
+
+  pub answers : IsAnswer t limit listed entries (λ _. []) (λ _. true) (answer_of a)
+  answers = record {
+    resolved = resolved_unremoved t (resolution_of a.features) (Removed t) (none_removed t) whole;
+    keyed = λ f. keyed_at f (value_at a.features f) (marked f);
+    explicit = λ f. explicit_at f (value_at a.features f) (marked f);
+    bins = λ f has. no_bins t f _ (bins_at f (value_at a.features f) (marked f));
+    dependencies = λ k. same_recorded (recorded_at a.dependencies k) (recorded_of (entries_at limit listed entries k)) (recorded mentioned k);
+    redirected = λ f. ap (λ es. is_some (option_map has_text (lookup (λ (k : Bor Text). bytes_eq f k.now) es))) hidden ∙ sym (kept_all t f);
+    redirects = λ f. subst (λ es. IfSome (option_map has_text (lookup (λ (k : Bor Text). bytes_eq f k.now) es)) (λ names. (x : Text) → IsTrue (names x) ↔ RedirectsTo t (Removed t) (λ s b. IsTrue (is_below s b)) f x)) (sym hidden) tt;
+    some = (λ y. absurd (false≢true (sym removed ∙ y)), λ f. absurd (none_removed t f.0 f.1));
+  }
+    where
+      keyed_at : (f : Text) (o : Option Feature) → IfSome o (IsMarked f (is_admitted limit listed f)) → IfSome (option_map (λ v. v.key.now) o) (λ k. k ≡ f)
+      keyed_at f None m = tt
+      keyed_at f (Some v) m = m.key
+
+      explicit_at : (f : Text) (o : Option Feature) → IfSome o (IsMarked f (is_admitted limit listed f)) → IsTrue (is_some o) → option_map_or (λ v. v.explicit) o false ≡ is_admitted limit listed f
+      explicit_at f None m has = absurd (false≢true has)
+      explicit_at f (Some v) m has = m.explicit
+
+      bins_at : (f : Text) (o : Option Feature) → IfSome o (IsMarked f (is_admitted limit listed f)) → option_map_or (λ v. map (λ t. t.now) v.required_by_bins.items) o [] ≡ []
+      bins_at f None m = refl
+      bins_at f (Some v) m = ap (map (λ (t : Bor Text). t.now)) m.bins

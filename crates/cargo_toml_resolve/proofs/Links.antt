@@ -1,0 +1,146 @@
+-- Links gathered one after another.
+use Rattle.std.proofs.Common.{◌≡◌, ℕ, ◌+◌, ◌<◌, take, length, get_or, ◌&&◌, ◌||◌, not, Bool, true, false, List, [], ◌∷◌, ◌++◌, map, Option, Some, None, is_some, option_map, bytes_eq, Bor, refl, sym, ap, ap₂, ◌∙◌}
+use Rattle.std.proofs.Math.Bool.{or-false, or_assoc, and-false, and-or_distrib_right}
+use Rattle.std.proofs.lemmas.List.Folds.{list_any-append, list_any_more}
+use Rattle.std.proofs.lemmas.Slice.Eq.{bytes_eq-Decides}
+use Rattle.std.proofs.lemmas.List.{map-append}
+use Rattle.std.proofs.lemmas.Map.Text.{is_eq-slice_cmp}
+use Rattle.std.proofs.lemmas.Map.Made.{is_some-lookup}
+use Rattle.std.specs.BTreeMap.{BTreeMap, is_at}
+use Rattle.std.specs.HashMap.{HashMap}
+use Rattle.std.specs.Option.{option_map_or}
+use Rattle.std.specs.Cmp.Lexicographic.{slice_cmp}
+use Rattle.std.specs.List.{list_any}
+use Rattle.std.specs.Map.{lookup}
+use Rattle.std.specs.Map.Iter.{deref_pair}
+use Rattle.std.specs.Ordering.{nat_cmp}
+use Rattle.cargo_toml_resolve.specs.declared.features.DepAction.{DepAction}
+use Rattle.cargo_toml_resolve.specs.declared.features.Feature.{Feature}
+use Rattle.cargo_toml_resolve.specs.declared.enable.Link.{Link}
+use Rattle.cargo_toml_graph.specs.Action.{Text, Action}
+use Rattle.cargo_toml_resolve.specs.Enabling.{is_plain, leads, leads_at, is_linked, AddsLinks}
+use Rattle.cargo_toml_resolve.specs.Views.{action_of, action_at, value_at}
+
+-- a link between two texts
+pub link_added : (ls : List Link) (l : Link) → bytes_eq l.target.now l.source.now ≡ false → AddsLinks (λ q. bytes_eq q l.target.now) l.source.now ls (ls ++ l ∷ [])
+link_added ls l apart q e =
+    list_any-append (λ l. bytes_eq q l.target.now && bytes_eq e l.source.now) ls (l ∷ [])
+    ∙ ap (λ t. is_linked ls q e || t) (or-false _ ∙ go (bytes_eq q l.target.now) refl (bytes_eq e l.source.now) refl)
+  where
+    go : (a : Bool) → bytes_eq q l.target.now ≡ a → (b : Bool) → bytes_eq e l.source.now ≡ b → (bytes_eq q l.target.now && bytes_eq e l.source.now) ≡ (bytes_eq q l.target.now && (bytes_eq e l.source.now && not (bytes_eq q e)))
+    go true s true t =
+        ap₂ (λ a b. a && b) s t
+        ∙ sym (ap₂ (λ a b. a && (b && not (bytes_eq q e))) s t ∙ ap not (ap₂ bytes_eq ((bytes_eq-Decides q l.target.now).0 s) ((bytes_eq-Decides e l.source.now).0 t) ∙ apart))
+    go true s false t = ap (λ b. bytes_eq q l.target.now && b) t ∙ sym (ap (λ b. bytes_eq q l.target.now && (b && not (bytes_eq q e))) t)
+    go false s b t = ap (λ a. a && bytes_eq e l.source.now) s ∙ sym (ap (λ a. a && (bytes_eq e l.source.now && not (bytes_eq q e))) s)
+
+-- first those of one test, then those of another
+more_added : (p r s : Text → Bool) (source : Text) (a b c : List Link) → ((q : Text) → s q ≡ (p q || r q)) → AddsLinks p source a b → AddsLinks r source b c → AddsLinks s source a c
+more_added p r s source a b c same h k q e =
+    k q e ∙ ap (λ t. t || (r q && (bytes_eq e source && not (bytes_eq q e)))) (h q e) ∙ or_assoc (is_linked a q e) _ _
+    ∙ ap (λ t. is_linked a q e || t) (sym (and-or_distrib_right (p q) (r q) (bytes_eq e source && not (bytes_eq q e))) ∙ ap (λ t. t && (bytes_eq e source && not (bytes_eq q e))) (sym (same q)))
+
+-- a key of the list is the text x
+abbrev pub is_text_in : List (Bor Text) → Text → Bool
+is_text_in ks x = list_any (is_at (λ k. slice_cmp nat_cmp x k.now)) ks
+
+text_in_more : (ks : List (Bor Text)) (k : Bor Text) (x : Text) → is_text_in (ks ++ k ∷ []) x ≡ (is_text_in ks x || bytes_eq x k.now)
+text_in_more ks k x = list_any-append _ ks (k ∷ []) ∙ ap (λ t. is_text_in ks x || t) (or-false _ ∙ is_eq-slice_cmp x k.now)
+
+-- one more name of a set
+pub name_added : (source : Text) (yielded : List (Bor (Bor Text))) (k : Bor (Bor Text)) (a b c : List Link) → AddsLinks (is_text_in (map (λ k. k.now) yielded)) source a b
+    → AddsLinks (λ q. bytes_eq q k.now.now) source b c → AddsLinks (is_text_in (map (λ k. k.now) (yielded ++ k ∷ []))) source a c
+name_added source yielded k a b c = more_added (is_text_in (map (λ k. k.now) yielded)) (λ q. bytes_eq q k.now.now) (is_text_in (map (λ k. k.now) (yielded ++ k ∷ []))) source a b c
+    (λ q. ap (λ ks. is_text_in ks q) (map-append (λ (k : Bor (Bor Text)). k.now) yielded (k ∷ [])) ∙ text_in_more (map (λ k. k.now) yielded) k.now q)
+
+-- the keys of a map of actions
+keys_read : (es : List (Bor Text × DepAction)) (q : Text) → is_text_in (map (λ e. e.0) es) q ≡ is_some (option_map action_of (lookup (is_at (λ k. slice_cmp nat_cmp q k.now)) es))
+keys_read es q = sym (is_some-lookup (is_at (λ (k : Bor Text). slice_cmp nat_cmp q k.now)) es) ∙ go (lookup (is_at (λ k. slice_cmp nat_cmp q k.now)) es)
+  where
+    go : (o : Option DepAction) → is_some o ≡ is_some (option_map action_of o)
+    go None = refl
+    go (Some a) = refl
+
+keys_shown : {X : Type 0} (xs : List (Bor (Bor Text) × Bor X)) → map (λ e. e.0.now) xs ≡ map (λ (e : Bor Text × X). e.0) (map deref_pair xs)
+keys_shown [] = refl
+keys_shown (x ∷ xs) = ap (λ ys. x.0.now ∷ ys) (keys_shown xs)
+
+-- of the keys so far those that are acted on plainly
+abbrev pub plain_so_far : BTreeMap (Bor Text) DepAction → List (Bor (Bor Text) × Bor DepAction) → Text → Bool
+plain_so_far m yielded q = is_text_in (map (λ e. e.0.now) yielded) q && is_plain (action_at m q)
+
+pub action_added : (source : Text) (m : BTreeMap (Bor Text) DepAction) (yielded : List (Bor (Bor Text) × Bor DepAction)) (k : Bor (Bor Text)) (v : Bor DepAction) (a b c : List Link)
+    → action_at m k.now.now ≡ Some (action_of v.now) → AddsLinks (plain_so_far m yielded) source a b
+    → AddsLinks (λ q. bytes_eq q k.now.now && is_plain (Some (action_of v.now))) source b c → AddsLinks (plain_so_far m (yielded ++ (k, v) ∷ [])) source a c
+action_added source m yielded k v a b c there = more_added (plain_so_far m yielded) (λ q. bytes_eq q k.now.now && is_plain (Some (action_of v.now))) (plain_so_far m (yielded ++ (k, v) ∷ [])) source a b c
+    (λ q. ap (λ ks. is_text_in ks q && is_plain (action_at m q)) (map-append (λ (e : Bor (Bor Text) × Bor DepAction). e.0.now) yielded ((k, v) ∷ []))
+    ∙ ap (λ t. t && is_plain (action_at m q)) (text_in_more (map (λ e. e.0.now) yielded) k.now q)
+    ∙ and-or_distrib_right (is_text_in (map (λ e. e.0.now) yielded) q) (bytes_eq q k.now.now) (is_plain (action_at m q))
+    ∙ ap (λ t. plain_so_far m yielded q || t) (go q (bytes_eq q k.now.now) refl))
+  where
+    go : (q : Text) (t : Bool) → bytes_eq q k.now.now ≡ t → (bytes_eq q k.now.now && is_plain (action_at m q)) ≡ (bytes_eq q k.now.now && is_plain (Some (action_of v.now)))
+    go q true s = ap (λ o. bytes_eq q k.now.now && is_plain o) (ap (action_at m) ((bytes_eq-Decides q k.now.now).0 s) ∙ there)
+    go q false s = ap (λ t. t && is_plain (action_at m q)) s ∙ sym (ap (λ t. t && is_plain (Some (action_of v.now))) s)
+
+plain_there : (o : Option Action) → (is_some o && is_plain o) ≡ is_plain o
+plain_there None = refl
+plain_there (Some a) = refl
+
+-- once all keys have had their turn
+pub all_plain : (m : BTreeMap (Bor Text) DepAction) (yielded : List (Bor (Bor Text) × Bor DepAction)) → map deref_pair yielded ≡ m.entries → (q : Text) → plain_so_far m yielded q ≡ is_plain (action_at m q)
+all_plain m yielded all q =
+    ap (λ ks. is_text_in ks q && is_plain (action_at m q)) (keys_shown yielded ∙ ap (map (λ (e : Bor Text × DepAction). e.0)) all)
+    ∙ ap (λ t. t && is_plain (action_at m q)) (keys_read m.entries q) ∙ plain_there (action_at m q)
+
+pub alike_added : (p r : Text → Bool) (source : Text) (a b : List Link) → ((q : Text) → p q ≡ r q) → AddsLinks p source a b → AddsLinks r source a b
+alike_added p r source a b same h q e = h q e ∙ ap (λ t. is_linked a q e || (t && (bytes_eq e source && not (bytes_eq q e)))) (same q)
+
+module _ {S : Type 0} (m : HashMap (Bor Text) Feature S) where
+  -- the links of the features so far
+  abbrev pub linked_so_far : List (Bor (Bor Text) × Bor Feature) → Text → Text → Bool
+  linked_so_far yielded q e = is_text_in (map (λ x. x.0.now) yielded) e && (leads_at m e q && not (bytes_eq q e))
+
+  -- one more feature
+  pub feature_linked : (yielded : List (Bor (Bor Text) × Bor Feature)) (k : Bor (Bor Text)) (v : Bor Feature) (a b : List Link) → value_at m k.now.now ≡ Some v.now
+      → ((q e : Text) → is_linked a q e ≡ linked_so_far yielded q e) → AddsLinks (leads v.now) k.now.now a b → (q e : Text) → is_linked b q e ≡ linked_so_far (yielded ++ (k, v) ∷ []) q e
+  feature_linked yielded k v a b there h more q e =
+      more q e ∙ ap (λ t. t || (leads v.now q && (bytes_eq e k.now.now && not (bytes_eq q e)))) (h q e)
+      ∙ go (bytes_eq e k.now.now) refl (is_text_in (map (λ x. x.0.now) yielded) e)
+      ∙ sym (ap (λ t. t && (leads_at m e q && not (bytes_eq q e))) (ap (λ ks. is_text_in ks e) (map-append (λ (x : Bor (Bor Text) × Bor Feature). x.0.now) yielded ((k, v) ∷ [])) ∙ text_in_more (map (λ x. x.0.now) yielded) k.now e))
+    where
+      mine : bytes_eq e k.now.now ≡ true → leads v.now q ≡ leads_at m e q
+      mine s = sym (ap (λ f. leads_at m f q) ((bytes_eq-Decides e k.now.now).0 s) ∙ ap (λ o. option_map_or (λ w. leads w q) o false) there)
+
+      tests : (t l n : Bool) → ((t && (l && n)) || (l && n)) ≡ ((t || true) && (l && n))
+      tests true true true = refl
+      tests true true false = refl
+      tests true false n = refl
+      tests false l n = refl
+
+      go : (s : Bool) → bytes_eq e k.now.now ≡ s → (t : Bool) → ((t && (leads_at m e q && not (bytes_eq q e))) || (leads v.now q && (bytes_eq e k.now.now && not (bytes_eq q e)))) ≡ ((t || bytes_eq e k.now.now) && (leads_at m e q && not (bytes_eq q e)))
+      go true s t =
+          ap₂ (λ l i. (t && (leads_at m e q && not (bytes_eq q e))) || (l && (i && not (bytes_eq q e)))) (mine s) s
+          ∙ tests t (leads_at m e q) (not (bytes_eq q e)) ∙ sym (ap (λ i. (t || i) && (leads_at m e q && not (bytes_eq q e))) s)
+      go false s t =
+          ap (λ i. (t && (leads_at m e q && not (bytes_eq q e))) || (leads v.now q && (i && not (bytes_eq q e)))) s
+          ∙ ap (λ i. (t && (leads_at m e q && not (bytes_eq q e))) || i) (and-false (leads v.now q)) ∙ or-false _
+          ∙ sym (ap (λ i. (t || i) && (leads_at m e q && not (bytes_eq q e))) s ∙ ap (λ i. i && (leads_at m e q && not (bytes_eq q e))) (or-false t))
+
+  -- once all features have had their turn
+  pub all_linked : (yielded : List (Bor (Bor Text) × Bor Feature)) → map deref_pair yielded ≡ m.entries → (q e : Text) → linked_so_far yielded q e ≡ (leads_at m e q && not (bytes_eq q e))
+  all_linked yielded all q e =
+      ap (λ ks. is_text_in ks e && (leads_at m e q && not (bytes_eq q e))) (keys_shown yielded ∙ ap (map (λ (x : Bor Text × Feature). x.0)) all)
+      ∙ ap (λ t. t && (leads_at m e q && not (bytes_eq q e))) (ap (λ f. list_any f (map (λ x. x.0) m.entries)) (λ i k. is_eq-slice_cmp e k.now i) ∙ sym (is_some-lookup (λ (k : Bor Text). bytes_eq e k.now) m.entries))
+      ∙ go (value_at m e)
+    where
+      go : (o : Option Feature) → (is_some o && (option_map_or (λ v. leads v q) o false && not (bytes_eq q e))) ≡ (option_map_or (λ v. leads v q) o false && not (bytes_eq q e))
+      go None = refl
+      go (Some v) = refl
+
+-- what an index past the end reads
+abbrev pub blank : Link
+blank = record { target = record { ref_ptr = (0, 0); now = [] }; source = record { ref_ptr = (0, 0); now = [] } }
+
+pub linked_more : (ls : List Link) (i : ℕ) → i < length ls → (q e : Text) → is_linked (take (i + 1) ls) q e
+    ≡ (is_linked (take i ls) q e || (bytes_eq q (get_or ls i blank).target.now && bytes_eq e (get_or ls i blank).source.now))
+linked_more ls i lt q e = list_any_more (λ l. bytes_eq q l.target.now && bytes_eq e l.source.now) ls i blank lt

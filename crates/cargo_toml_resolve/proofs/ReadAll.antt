@@ -1,0 +1,232 @@
+-- The lists of all features, read one after another.
+use Rattle.std.proofs.Common.{◌≡◌, ◌≢◌, ◌+◌, ◌<◌, ℕ, Bool, true, false, cond, ◌||◌, List, [], ◌∷◌, ◌++◌, map, fold, take, drop, length, get_or, is_some, MatchOption, Option, Some, None, unwrap_or, codes, bytes_eq, string_bytes, Bor, refl, sym, ap, subst, ◌∙◌, inl, inr, suc, add-one}
+use Rattle.std.specs.List.{list_any}
+use Rattle.std.specs.Map.{lookup}
+use Rattle.std.specs.Option.{option_map_or, option_or, IsSomeAnd}
+use Rattle.std.specs.HashMap.{HashMap}
+use Rattle.std.proofs.lemmas.Bool.{false_from_ne_true}
+use Rattle.std.proofs.lemmas.List.{map_push, map-append, take_more, take-append-drop}
+use Rattle.std.specs.List.{AllByRecursion}
+use Rattle.std.proofs.Common.{ap₂}
+use Rattle.std.proofs.lemmas.List.Sums.{fold_push}
+use Rattle.std.proofs.lemmas.Slice.Eq.{bytes_eq-Decides}
+use Rattle.std.proofs.Math.Seq.{drop-cons}
+use Rattle.cargo_toml_resolve.specs.declared.features.Feature.{Feature}
+use Rattle.cargo_toml_resolve.specs.declared.admit.Listing.{Listing}
+use Rattle.cargo_toml_graph.specs.Action.{Text, Action, item_of}
+use Rattle.cargo_toml_graph.specs.Admitted.{Listed, IsWithin, items, item_names, joined_action}
+use Rattle.cargo_toml_graph.specs.Reach.{Among, IsOnce}
+use Rattle.cargo_toml_resolve.specs.ReadFeature.{joined_in, noted, IsListed}
+use Rattle.cargo_toml_resolve.specs.Reading.{listed_of, IsRead}
+use Rattle.cargo_toml_resolve.specs.Recorded.{is_reserved}
+use Rattle.cargo_toml_resolve.specs.Views.{value_at, table_in, has_text, action_at}
+use Rattle.cargo_toml_resolve.proofs.Listings.{names_listed}
+use Rattle.cargo_toml_graph.proofs.Texts.{bytes_eq_refl}
+use Rattle.cargo_toml_graph.proofs.Within.{admitted_is, items_are}
+
+-- what stands under f, where the table lists these actions for it, if any
+abbrev Holds : Text → Option (List Text) → Option Feature → Type 0
+Holds f None None = Unit {0}
+Holds f None (Some v) = ⊥
+Holds f (Some actions) None = ⊥
+Holds f (Some actions) (Some v) = IsListed f (map item_of actions) v
+
+pub record HasRead {S : Type 0} (listed : Listed) (m : HashMap (Bor Text) Feature S) : Type 0 where
+  pub at : (f : Text) → Holds f (lookup (bytes_eq f) listed) (value_at m f)
+
+-- what all actions on k come to
+abbrev pub noted_in : Listed → Text → Option Bool
+noted_in listed k = fold (λ o e. noted o (joined_in (map item_of e.1) k)) None listed
+
+or-false : (a : Bool) → (a || false) ≡ a
+or-false true = refl
+or-false false = refl
+
+or-assoc : (a b c : Bool) → ((a || b) || c) ≡ (a || (b || c))
+or-assoc true b c = refl
+or-assoc false b c = refl
+
+lookup_push : (f : Text) (es : Listed) (e : Text × List Text) → lookup (bytes_eq f) (es ++ e ∷ []) ≡ option_or (lookup (bytes_eq f) es) (cond (bytes_eq f e.0) (Some e.1) None)
+lookup_push f [] e = refl
+lookup_push f (x ∷ xs) e = go (bytes_eq f x.0) (lookup_push f xs e)
+  where
+    go : (b : Bool) → lookup (bytes_eq f) (xs ++ e ∷ []) ≡ option_or (lookup (bytes_eq f) xs) (cond (bytes_eq f e.0) (Some e.1) None)
+        → cond b (Some x.1) (lookup (bytes_eq f) (xs ++ e ∷ [])) ≡ option_or (cond b (Some x.1) (lookup (bytes_eq f) xs)) (cond (bytes_eq f e.0) (Some e.1) None)
+    go true h = refl
+    go false h = h
+
+among_later : (xs ys : List Text) (y : Text) → Among (xs ++ y ∷ ys) y
+among_later [] ys y = inl refl
+among_later (x ∷ xs) ys y = inr (among_later xs ys y)
+
+apart : (x y : Text) → x ≢ y → bytes_eq x y ≡ false
+apart x y ne = false_from_ne_true _ (λ e. ne ((bytes_eq-Decides x y).0 e))
+
+-- a name is not listed before
+new_name : (before : Listed) (after : List Text) (n : Text) → IsOnce (map (λ e. e.0) before ++ n ∷ after) → lookup (bytes_eq n) before ≡ None
+new_name [] after n once = refl
+new_name (e ∷ es) after n once =
+    ap (λ b. cond b (Some e.1) (lookup (bytes_eq n) es)) (apart n e.0 (λ same. once.0 (subst (Among (map (λ d. d.0) es ++ n ∷ after)) same (among_later (map (λ d. d.0) es) after n))))
+    ∙ new_name es after n once.1
+
+abbrev listed_one : Listing → Text × List Text
+listed_one l = (l.name.now, map string_bytes l.actions.now)
+
+module _ (ls : List Listing) (i : ℕ) (l : Listing) (below : i < length ls) (is : l ≡ get_or ls i l) (once : IsOnce (map (λ l. l.name.now) ls)) where
+  split : ls ≡ take i ls ++ l ∷ drop (i + 1) ls
+  split = sym (take-append-drop i ls) ∙ ap (λ xs. take i ls ++ xs) (drop-cons ls i l below ∙ ap (λ x. x ∷ drop (suc i) ls) (sym is) ∙ ap (λ n. l ∷ drop n ls) (sym (add-one i)))
+
+  pub one_more : listed_of (take (i + 1) ls) ≡ listed_of (take i ls) ++ listed_one l ∷ []
+  one_more = ap listed_of (take_more ls i l below ∙ ap (λ x. take i ls ++ x ∷ []) (sym is)) ∙ map_push listed_one (take i ls) l
+
+  not_before : lookup (bytes_eq l.name.now) (listed_of (take i ls)) ≡ None
+  not_before = new_name (listed_of (take i ls)) (map (λ l. l.name.now) (drop (i + 1) ls)) l.name.now
+      (subst IsOnce (ap (map (λ l. l.name.now)) split ∙ map-append (λ l. l.name.now) (take i ls) (l ∷ drop (i + 1) ls) ∙ ap (λ ns. ns ++ l.name.now ∷ map (λ l. l.name.now) (drop (i + 1) ls)) (sym (names_listed (take i ls)))) once)
+
+  -- one more feature is read
+  pub read_more : {S : Type 0} (m m' : HashMap (Bor Text) Feature S) (v : Feature) → HasRead (listed_of (take i ls)) m
+      → IsListed l.name.now (map item_of (map string_bytes l.actions.now)) v → ((f : Text) → value_at m' f ≡ cond (bytes_eq f l.name.now) (Some v) (value_at m f)) → HasRead (listed_of (take (i + 1) ls)) m'
+  read_more m m' v before listed put = record { at = λ f. subst (λ es. Holds f (lookup (bytes_eq f) es) (value_at m' f)) (sym one_more) (subst (λ o. Holds f o (value_at m' f)) (sym (lookup_push f (listed_of (take i ls)) (listed_one l))) (subst (Holds f _) (sym (put f)) (go f (bytes_eq f l.name.now) refl))) }
+    where
+      or_none : (o : Option (List Text)) → option_or o None ≡ o
+      or_none None = refl
+      or_none (Some ts) = refl
+
+      go : (f : Text) (b : Bool) → bytes_eq f l.name.now ≡ b → Holds f (option_or (lookup (bytes_eq f) (listed_of (take i ls))) (cond b (Some (map string_bytes l.actions.now)) None)) (cond b (Some v) (value_at m f))
+      go f true e = subst (λ n. Holds n (option_or (lookup (bytes_eq n) (listed_of (take i ls))) (Some (map string_bytes l.actions.now))) (Some v)) (sym ((bytes_eq-Decides f l.name.now).0 e))
+          (subst (λ o. Holds l.name.now (option_or o (Some (map string_bytes l.actions.now))) (Some v)) (sym not_before) listed)
+      go f false e = subst (λ o. Holds f o (value_at m f)) (sym (or_none (lookup (bytes_eq f) (listed_of (take i ls))))) (before.at f)
+
+  pub noted_next : (k : Text) (before now : Option Bool) → before ≡ noted_in (listed_of (take i ls)) k → now ≡ noted before (joined_in (map item_of (map string_bytes l.actions.now)) k) → now ≡ noted_in (listed_of (take (i + 1) ls)) k
+  noted_next k before now before_is now_is =
+      now_is ∙ ap (λ o. noted o (joined_in (map item_of (map string_bytes l.actions.now)) k)) before_is
+      ∙ sym (ap (λ es. noted_in es k) one_more ∙ fold_push (λ o e. noted o (joined_in (map item_of e.1) k)) None (listed_of (take i ls)) (listed_one l))
+
+-- what one list holds, by its look-up
+holds_some : (f : Text) (o : Option (List Text)) (v : Option Feature) → Holds f o v → is_some v ≡ is_some o
+holds_some f None None h = refl
+holds_some f None (Some v) h = absurd h
+holds_some f (Some ts) None h = absurd h
+holds_some f (Some ts) (Some v) h = refl
+
+holds_names : (f x : Text) (o : Option (List Text)) (v : Option Feature) → Holds f o v → option_map_or (λ w. has_text w.enables_features x) v false ≡ list_any (item_names x) (map item_of (unwrap_or o []))
+holds_names f x None None h = refl
+holds_names f x None (Some v) h = absurd h
+holds_names f x (Some ts) None h = absurd h
+holds_names f x (Some ts) (Some v) h = h.names x
+
+holds_action : (f k : Text) (o : Option (List Text)) (v : Option Feature) → Holds f o v → option_map_or (λ w. action_at w.enables_deps k) v None ≡ joined_in (map item_of (unwrap_or o [])) k
+holds_action f k None None h = refl
+holds_action f k None (Some v) h = absurd h
+holds_action f k (Some ts) None h = absurd h
+holds_action f k (Some ts) (Some v) h = h.action k
+
+-- the default feature lists nothing where it isn't listed
+abbrev with_default : Listed → Text → Option (List Text)
+with_default listed f = option_or (lookup (bytes_eq f) listed) (cond (bytes_eq f (codes "default")) (Some []) None)
+
+default_some : (b : Bool) (o : Option (List Text)) → is_some (option_or o (cond b (Some []) None)) ≡ (b || is_some o)
+default_some true None = refl
+default_some false None = refl
+default_some true (Some ts) = refl
+default_some false (Some ts) = refl
+
+default_list : (b : Bool) (o : Option (List Text)) → unwrap_or (option_or o (cond b (Some []) None)) [] ≡ unwrap_or o []
+default_list true None = refl
+default_list false None = refl
+default_list b (Some ts) = refl
+
+-- equal tests on each element
+list_any_same : {X : Type 0} (p q : X → Bool) (xs : List X) → AllByRecursion (λ x. p x ≡ q x) xs → list_any p xs ≡ list_any q xs
+list_any_same p q [] h = refl
+list_any_same p q (x ∷ xs) h = ap₂ (λ a b. a || b) h.0 (list_any_same p q xs h.1)
+
+weaken : {X : Type 0} (P Q : X → Type 0) → ((x : X) → P x → Q x) → (xs : List X) → AllByRecursion P xs → AllByRecursion Q xs
+weaken P Q f [] h = tt
+weaken P Q f (x ∷ xs) h = (f x h.0, weaken P Q f xs h.1)
+
+both : {X : Type 0} (P Q : X → Type 0) (xs : List X) → AllByRecursion P xs → AllByRecursion Q xs → AllByRecursion (λ x. P x × Q x) xs
+both P Q [] g h = tt
+both P Q (x ∷ xs) g h = ((g.0, h.0), both P Q xs g.1 h.1)
+
+later_apart : (n : Text) (es : Listed) → (Among (map (λ e. e.0) es) n → ⊥) → AllByRecursion (λ e. bytes_eq e.0 n ≡ false) es
+later_apart n [] not = tt
+later_apart n (e ∷ es) not = (apart e.0 n (λ same. not (inl (sym same))), later_apart n es (λ a. not (inr a)))
+
+-- each entry is found under its name
+found_each : (es : Listed) → IsOnce (map (λ e. e.0) es) → AllByRecursion (λ e. lookup (bytes_eq e.0) es ≡ Some e.1) es
+found_each [] once = tt
+found_each (e ∷ es) once = (
+  ap (λ b. cond b (Some e.1) (lookup (bytes_eq e.0) es)) (bytes_eq_refl e.0),
+  weaken _ _ (λ d h. ap (λ b. cond b (Some e.1) (lookup (bytes_eq d.0) es)) h.1 ∙ h.0) es (both _ _ es (found_each es once.1) (later_apart e.0 es once.0)),
+)
+
+module _ (k : Text) where
+  abbrev said : Text × List Text → Option Action
+  said e = joined_in (map item_of e.1) k
+
+  abbrev is_said_dep_only : Text × List Text → Bool
+  is_said_dep_only e = option_map_or (λ a. a.is_dep_only) (said e) false
+
+  noted_some : (o : Option Bool) (es : Listed) → is_some (fold (λ n e. noted n (said e)) o es) ≡ (is_some o || list_any (λ e. is_some (said e)) es)
+  noted_some o [] = sym (or-false (is_some o))
+  noted_some o (e ∷ es) = noted_some (noted o (said e)) es ∙ ap (λ b. b || list_any (λ e. is_some (said e)) es) (one o (said e)) ∙ or-assoc (is_some o) (is_some (said e)) _
+    where
+      one : (o : Option Bool) (a : Option Action) → is_some (noted o a) ≡ (is_some o || is_some a)
+      one o None = sym (or-false (is_some o))
+      one None (Some a) = refl
+      one (Some b) (Some a) = refl
+
+  noted_dep_only : (o : Option Bool) (es : Listed) → unwrap_or (fold (λ n e. noted n (said e)) o es) false ≡ (unwrap_or o false || list_any is_said_dep_only es)
+  noted_dep_only o [] = sym (or-false (unwrap_or o false))
+  noted_dep_only o (e ∷ es) = noted_dep_only (noted o (said e)) es ∙ ap (λ b. b || list_any is_said_dep_only es) (one o (said e)) ∙ or-assoc (unwrap_or o false) (is_said_dep_only e) _
+    where
+      one : (o : Option Bool) (a : Option Action) → unwrap_or (noted o a) false ≡ (unwrap_or o false || option_map_or (λ b. b.is_dep_only) a false)
+      one o None = sym (or-false (unwrap_or o false))
+      one None (Some a) = refl
+      one (Some b) (Some a) = refl
+
+module _ (limit : ℕ) (listed : Listed) (within : IsWithin limit listed) (once : IsOnce (map (λ e. e.0) listed)) (k : Text) where
+  -- what the table's actions on k come to, of each entry
+  joined_each : AllByRecursion (λ e. joined_action limit listed e.0 k ≡ said k e) listed
+  joined_each = weaken _ _ (λ e found. ap (λ is. joined_in is k) (items_are limit listed within e.0) ∙ ap (λ o. joined_in (map item_of (unwrap_or o [])) k) found) listed (found_each listed once)
+
+  noted_is_some : is_some (noted_in listed k) ≡ list_any (λ e. is_some (joined_action limit listed e.0 k)) listed
+  noted_is_some = noted_some k None listed ∙ sym (list_any_same _ _ listed (weaken _ _ (λ e same. ap is_some same) listed joined_each))
+
+  noted_is_dep_only : unwrap_or (noted_in listed k) false ≡ is_reserved limit listed k
+  noted_is_dep_only = noted_dep_only k None listed ∙ sym (list_any_same _ _ listed (weaken _ _ (λ e same. ap (λ o. option_map_or (λ a. a.is_dep_only) o false) same) listed joined_each))
+
+module _ {S : Type 0} (listed : Listed) (m m' : HashMap (Bor Text) Feature S) (read : HasRead listed m)
+    (others : (f : Text) → bytes_eq f (codes "default") ≡ false → value_at m' f ≡ value_at m f)
+    (default : MatchOption (value_at m (codes "default")) (IsSomeAnd (value_at m' (codes "default")) (IsListed (codes "default") [])) (λ v. value_at m' (codes "default") ≡ Some v)) where
+  holds_all : (f : Text) → Holds f (with_default listed f) (value_at m' f)
+  holds_all f = go (bytes_eq f (codes "default")) refl
+    where
+      or_none : (o : Option (List Text)) → option_or o None ≡ o
+      or_none None = refl
+      or_none (Some ts) = refl
+
+      here : (o : Option (List Text)) (v v' : Option Feature) → Holds (codes "default") o v → MatchOption v (IsSomeAnd v' (IsListed (codes "default") [])) (λ w. v' ≡ Some w) → Holds (codes "default") (option_or o (Some [])) v'
+      here None None None h d = absurd d
+      here None None (Some v) h d = d
+      here None (Some v) v' h d = absurd h
+      here (Some ts) None v' h d = absurd h
+      here (Some ts) (Some v) v' h d = subst (Holds (codes "default") (Some ts)) (sym d) h
+
+      go : (b : Bool) → bytes_eq f (codes "default") ≡ b → Holds f (option_or (lookup (bytes_eq f) listed) (cond b (Some []) None)) (value_at m' f)
+      go true e = subst (λ q. Holds q (option_or (lookup (bytes_eq q) listed) (Some [])) (value_at m' q)) (sym ((bytes_eq-Decides f (codes "default")).0 e))
+          (here (lookup (bytes_eq (codes "default")) listed) (value_at m (codes "default")) (value_at m' (codes "default")) (read.at (codes "default")) default)
+      go false e = subst (λ o. Holds f o (value_at m' f)) (sym (or_none (lookup (bytes_eq f) listed))) (subst (Holds f (lookup (bytes_eq f) listed)) (sym (others f e)) (read.at f))
+
+  pub all_read : (limit : ℕ) (acted : Text → Option Bool) → ((k : Text) → acted k ≡ noted_in listed k) → IsOnce (map (λ e. e.0) listed) → IsWithin limit listed → IsRead limit listed (table_in m') acted
+  all_read limit acted acted_is once within = record {
+    has = λ f. holds_some f (with_default listed f) (value_at m' f) (holds_all f) ∙ default_some (bytes_eq f (codes "default")) (lookup (bytes_eq f) listed) ∙ sym (admitted_is limit listed within f);
+    names = λ f x. holds_names f x (with_default listed f) (value_at m' f) (holds_all f) ∙ ap (λ is. list_any (item_names x) is) (lists f);
+    action = λ f k. holds_action f k (with_default listed f) (value_at m' f) (holds_all f) ∙ ap (λ is. joined_in is k) (lists f);
+    acted_on = λ k. ap is_some (acted_is k) ∙ noted_is_some limit listed within once k;
+    reserved = λ k. ap (λ o. unwrap_or o false) (acted_is k) ∙ noted_is_dep_only limit listed within once k;
+  }
+    where
+      lists : (f : Text) → map item_of (unwrap_or (with_default listed f) []) ≡ items limit listed f
+      lists f = ap (map item_of) (default_list (bytes_eq f (codes "default")) (lookup (bytes_eq f) listed)) ∙ sym (items_are limit listed within f)

@@ -1,0 +1,16 @@
+use Rattle.std.proofs.Common.{◌≡◌, ◌+◌, ◌++◌, ◌∷◌, [], List, take, map, ap, sym, subst, ◌∙◌}
+use Rattle.std.proofs.lemmas.List.{map-append, take_more}
+use Rattle.cargo_toml_resolve.specs.declared.features.ParseDependency.{ParseDependency}
+use Rattle.cargo_toml_resolve.specs.Implying.{ImpliesAll, is_offered}
+use Rattle.cargo_toml_resolve.specs.Views.{entry_of}
+use Rattle.cargo_toml_resolve.proofs.Implying.{implied_next}
+use Rattle.cargo_toml_resolve.proofs.imply.imply_all.Goals as goal
+
+pub loop-entry-preserved : goal.loop-entry-preserved
+loop-entry-preserved g c =
+    let es : List ParseDependency = take c.loop-entry.entry-index c.args.entries.now in
+    let p : ParseDependency = c.entry-item.result in
+    let more : map entry_of (take (c.loop-entry.entry-index + 1) c.args.entries.now) ≡ map entry_of (take c.loop-entry.entry-index c.args.entries.now) ++ entry_of c.entry-item.result ∷ [] =
+    ap (map entry_of) (take_more c.args.entries.now c.loop-entry.entry-index p c.loop-entry-test.true ∙ ap (λ x. es ++ x ∷ []) (sym c.entry-item.is)) ∙ map-append entry_of es (p ∷ []) in
+    subst (λ xs. ImpliesAll (is_offered c.args.acted.now xs) c.args.features.now c.imply.new.features) (sym more)
+    (implied_next c.args.acted.now (map entry_of es) (entry_of p) c.args.features.now c.loop-entry.features c.imply.new.features c.loop-entry.invariant c.in_ok-imply.ensures)

@@ -1,0 +1,43 @@
+-- Features that optional dependencies imply: words of a step of resolving, on which no public contract rests.
+use Rattle.std.specs.Prelude.{◌≡◌, ◌&&◌, not, Bool, true, false, List, [], Option, Some, None, bytes_eq, cond, unwrap_or}
+use Rattle.std.specs.Option.{IsSomeAnd}
+use Rattle.std.specs.List.{list_any}
+use Rattle.std.specs.Borrow.{Bor}
+use Rattle.std.specs.HashMap.{HashMap}
+use Rattle.cargo_toml_dependencies.specs.Dependencies.{is_optional}
+use Rattle.cargo_toml_resolve.specs.declared.features.Feature.{Feature}
+use Rattle.cargo_toml_graph.specs.Action.{Text}
+use Rattle.cargo_toml_resolve.specs.Recorded.{Entry}
+use Rattle.cargo_toml_resolve.specs.Resolved.{plain}
+use Rattle.cargo_toml_resolve.specs.Views.{has_text, action_at, value_at}
+
+-- the implied feature of the key q: it names nothing, and has one plain action on itself
+pub record IsImplied (q : Text) (v : Feature) : Type 0 where
+  pub key : v.key.now ≡ q
+  pub names : (x : Text) → has_text v.enables_features x ≡ false
+  pub action : (k : Text) → action_at v.enables_deps k ≡ cond (bytes_eq k q) (Some plain) None
+  pub enabled_by : v.enabled_by.keys ≡ []
+  pub bins : v.required_by_bins.items ≡ []
+  pub explicit : v.explicit ≡ false
+
+-- what stands at q once it was implied, if it was: where a feature had the name, it stays
+abbrev pub Becomes : Bool → Text → Option Feature → Option Feature → Type 0
+Becomes true q None o = IsSomeAnd o (IsImplied q)
+Becomes false q None o = o ≡ None
+Becomes true q (Some v) o = o ≡ Some v
+Becomes false q (Some v) o = o ≡ Some v
+
+-- an optional entry of the key q
+abbrev pub is_optional_at : Text → Entry → Bool
+is_optional_at q e = bytes_eq e.key q && is_optional e.dependency
+
+-- some action on k is dep-only
+abbrev pub is_reserved_in : {S : Type 0} → HashMap (Bor Text) Bool S → Text → Bool
+is_reserved_in acted k = unwrap_or (value_at acted k) false
+
+-- some entry is optional, and its key is not reserved
+abbrev pub is_offered : {S : Type 0} → HashMap (Bor Text) Bool S → List Entry → Text → Bool
+is_offered acted entries q = list_any (is_optional_at q) entries && not (is_reserved_in acted q)
+
+pub record ImpliesAll {S : Type 0} (implied : Text → Bool) (old new : HashMap (Bor Text) Feature S) : Type 0 where
+  pub at : (q : Text) → Becomes (implied q) q (value_at old q) (value_at new q)

@@ -1,0 +1,13 @@
+pub mod ActionText
+pub mod Reached
+pub mod Visits
+pub mod NonDefault
+pub mod Recorded
+pub mod Resolved
+pub mod Views
+pub mod Reading
+pub mod Recording
+pub mod Enabling
+pub mod Implying
+pub mod Examples
+pub mod ReadFeature

@@ -1,0 +1,43 @@
+-- Entries of dependency tables, recorded one after another: words of a step of resolving, on which no public contract rests.
+use Rattle.std.specs.Prelude.{Bool, ◌&&◌, ◌||◌, cond, Option, Some, None, is_some, option_map, unwrap_or, bytes_eq}
+use Rattle.std.specs.Option.{option_or}
+use Rattle.std.specs.Ordering.{is_eq}
+use Rattle.std.specs.Borrow.{Bor}
+use Rattle.std.specs.HashMap.{HashMap}
+use Rattle.cargo_toml_dependencies.specs.Dependencies.{is_optional, package_of}
+use Rattle.cargo_toml_resolve.specs.declared.features.FeatureDependency.{FeatureDependency}
+use Rattle.cargo_toml_resolve.specs.declared.read.Mentions.{Mentions}
+use Rattle.cargo_toml_graph.specs.Action.{Text}
+use Rattle.cargo_toml_resolve.specs.Recorded.{Entry, Recorded, target_cmp}
+use Rattle.cargo_toml_resolve.specs.Views.{recorded_in, value_at}
+
+-- what a map of dependencies records of a key
+abbrev pub recorded_at : {S : Type 0} → HashMap (Bor Text) FeatureDependency S → Text → Option Recorded
+recorded_at m k = option_map recorded_in (value_at m k)
+
+-- what e alone records
+abbrev pub recorded_first : Entry → Recorded
+recorded_first e = record {
+  crate_name = unwrap_or (package_of e.dependency) e.key;
+  targets = λ t. cond (is_eq (target_cmp t e.target)) (Some e.dependency) None;
+}
+
+-- e comes after what is recorded: only a target of its own counts
+abbrev pub recorded_next : Recorded → Entry → Recorded
+recorded_next r e = record {
+  crate_name = r.crate_name;
+  targets = λ t. option_or (r.targets t) (cond (is_eq (target_cmp t e.target)) (Some e.dependency) None);
+}
+
+abbrev pub recorded_with : Option Recorded → Entry → Recorded
+recorded_with None e = recorded_first e
+recorded_with (Some r) e = recorded_next r e
+
+-- k is a feature, or one acts on it
+abbrev pub is_mentioned_in : {S H : Type 0} → Mentions S H → Text → Bool
+is_mentioned_in m k = is_some (value_at m.features k) || is_some (value_at m.acted k)
+
+-- what is recorded of q after e, where o was recorded of q before: e counts if its key is recorded already or mentioned, or e
+-- is optional
+abbrev pub recorded_after : (Text → Bool) → Entry → Text → Option Recorded → Option Recorded
+recorded_after mentioned e q o = cond (bytes_eq e.key q && (is_some o || (is_optional e.dependency || mentioned q))) (Some (recorded_with o e)) o

@@ -1,0 +1,85 @@
+//! The features of a manifest, and the dependencies that they speak of.
+use cargo_toml_dependencies::Dependency;
+use std::collections::{BTreeMap, BTreeSet, HashMap};
+use std::hash::BuildHasher;
+
+/// The features of a manifest, resolved.
+#[derive(Debug, Drop)]
+pub struct Features<'m, 'd, S: BuildHasher> {
+    /// The features by name, those that optional dependencies imply included.
+    pub features: HashMap<&'m str, Feature<'m>, S>,
+    /// The dependencies that features can speak of, by key.
+    pub dependencies: HashMap<&'d str, FeatureDependency<'d>, S>,
+    /// Whether some feature was hidden and removed.
+    pub removed_hidden_features: bool,
+    /// What stands for each removed feature, by its name.
+    pub hidden_features: HashMap<&'m str, BTreeSet<&'m str>, S>,
+}
+
+/// A feature, and what it enables.
+#[derive(Debug, Clone, Drop)]
+pub struct Feature<'a> {
+    /// The feature's name.
+    pub key: &'a str,
+    /// What the feature does to dependencies, by their keys.
+    pub enables_deps: BTreeMap<&'a str, DepAction<'a>>,
+    /// The names that the feature's list has, whether features have them or not.
+    pub enables_features: BTreeSet<&'a str>,
+    /// The names of the features that enable this one directly.
+    pub enabled_by: BTreeSet<&'a str>,
+    /// The names of the binaries that require this feature.
+    pub required_by_bins: Vec<&'a str>,
+    /// Whether the manifest lists the feature; `default` always counts as listed.
+    pub explicit: bool,
+}
+
+/// What a feature does to one dependency.
+#[derive(Debug, Clone, PartialEq, Drop)]
+pub struct DepAction<'a> {
+    /// The action counts only where something else enables the dependency (`dependency?/feature`).
+    pub is_conditional: bool,
+    /// The action enables no feature of the dependency's name (`dep:dependency`).
+    pub is_dep_only: bool,
+    /// The features of the dependency that are enabled.
+    pub dep_features: BTreeSet<&'a str>,
+}
+
+/// A dependency that features can speak of.
+#[derive(Debug, Drop)]
+pub struct FeatureDependency<'d> {
+    /// The name of the dependency's crate.
+    pub crate_name: &'d str,
+    /// The dependency by where it stands.
+    pub targets: BTreeMap<TargetKey<'d>, &'d Dependency>,
+}
+
+/// Where a dependency stands; ordered by kind, then no target before a named one.
+#[derive(Debug, Copy, Clone, PartialEq, Eq, PartialOrd, Ord, Hash)]
+pub struct TargetKey<'a> {
+    pub kind: Kind,
+    /// The platform that the dependency's table is for, if any.
+    pub target: Option<&'a str>,
+}
+
+/// One entry of a dependency table.
+#[derive(Debug, Clone, Drop)]
+pub struct ParseDependency<'a, 't> {
+    /// The entry's key in its table.
+    pub key: &'a str,
+    pub kind: Kind,
+    /// The platform that the table is for, if any.
+    pub target: Option<&'a str>,
+    pub dep: &'t Dependency,
+}
+
+/// Which of its tables a dependency stands in.
+#[derive(Debug, Copy, Clone, PartialEq, Eq, PartialOrd, Ord, Hash, Default)]
+pub enum Kind {
+    /// `[dependencies]`
+    #[default]
+    Normal,
+    /// `[build-dependencies]`
+    Build,
+    /// `[dev-dependencies]`
+    Dev,
+}

@@ -1,0 +1,78 @@
+//! Which features optional dependencies imply.
+ghost use Rattle.std.specs.Prelude.{◌≡◌, ◌&&◌, ◌∷◌, [], not, is_some, map, IfOk, OnOk};
+ghost use Rattle.cargo_toml_dependencies.specs.Dependencies.{dependency_meaning, is_optional};
+ghost use Rattle.cargo_toml_resolve.specs.Implying.{IsImplied, ImpliesAll, is_offered, is_reserved_in};
+ghost use Rattle.cargo_toml_resolve.specs.Views.{entry_of, value_at};
+
+use crate::features::{DepAction, Feature, ParseDependency};
+use std::alloc::{AllocError, Global};
+use std::collections::{BTreeMap, BTreeSet, HashMap};
+use std::hash::BuildHasher;
+
+fn implied_feature(alloc: Global, key: &str) -> Result<Feature<'_>, AllocError>
+    ensures { IfOk result (IsImplied key.now) }
+{
+    let action = DepAction {
+        is_conditional: false,
+        is_dep_only: false,
+        dep_features: BTreeSet::new(alloc),
+    };
+    let mut enables_deps = BTreeMap::new(alloc);
+    enables_deps.insert(key, action)?;
+    Ok(Feature {
+        key,
+        enables_deps,
+        enables_features: BTreeSet::new(alloc),
+        enabled_by: BTreeSet::new(alloc),
+        required_by_bins: Vec::new(alloc),
+        explicit: false,
+    })
+}
+
+// Whether some action on the key is dep-only.
+fn is_reserved<'m, S: BuildHasher>(acted: &HashMap<&'m str, bool, S>, key: &str) -> bool
+    ensures { result ≡ is_reserved_in acted.now key.now }
+{
+    acted.get(key).copied().unwrap_or(false)
+}
+
+// Whether the entry implies a feature that isn't there yet.
+fn is_free<'m, S: BuildHasher>(
+    features: &HashMap<&'m str, Feature<'m>, S>,
+    acted: &HashMap<&'m str, bool, S>,
+    entry: &ParseDependency<'m, '_>,
+) -> bool
+    ensures { result ≡ (is_optional (dependency_meaning entry.now.dep.now) && not (is_reserved_in acted.now entry.now.key.now) && not (is_some (value_at features.now entry.now.key.now))) }
+{
+    entry.dep.optional() && !is_reserved(acted, entry.key) && !features.contains_key(entry.key)
+}
+
+fn imply<'m, S: BuildHasher>(
+    alloc: Global,
+    features: &mut HashMap<&'m str, Feature<'m>, S>,
+    acted: &HashMap<&'m str, bool, S>,
+    entry: &ParseDependency<'m, '_>,
+) -> Result<(), AllocError>
+    ensures { OnOk result (ImpliesAll (is_offered acted.now (entry_of entry.now ∷ [])) features.old features.new) }
+{
+    if is_free(features, acted, entry) {
+        let feature = implied_feature(alloc, entry.key)?;
+        features.insert(entry.key, feature)?;
+    }
+    Ok(())
+}
+
+// Adds the features that optional dependencies imply.
+pub fn imply_all<'m, S: BuildHasher>(
+    alloc: Global,
+    features: &mut HashMap<&'m str, Feature<'m>, S>,
+    acted: &HashMap<&'m str, bool, S>,
+    entries: &[ParseDependency<'m, '_>],
+) -> Result<(), AllocError>
+    ensures { OnOk result (ImpliesAll (is_offered acted.now (map entry_of entries.now)) features.old features.new) }
+{
+    for entry in entries {
+        imply(alloc, features, acted, entry)?;
+    }
+    Ok(())
+}

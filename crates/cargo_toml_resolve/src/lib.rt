@@ -1,0 +1,18 @@
+//! Features are resolved: from the lists of a manifest and entries of dependency tables to what each feature enables.
+//!
+//! [`resolve`] is the whole of it. Callers use it by `cargo_toml::features::Resolver`.
+#![tactic(auto)]
+
+mod action;
+pub mod admit;
+mod enable;
+pub mod examples;
+pub mod features;
+mod imply;
+pub mod questions;
+mod read;
+pub mod record;
+pub mod recursive;
+pub mod resolution;
+
+pub use resolution::resolve;

@@ -1,0 +1,134 @@
+//! What a feature enables by any number of names.
+ghost use Rattle.std.specs.Prelude.{◌≡◌, IfErr, IfOk, OnOk, Some};
+ghost use Rattle.cargo_toml_parts.specs.declared.error.Error.{Memory};
+ghost use Rattle.cargo_toml_graph.specs.Action.{Text};
+ghost use Rattle.cargo_toml_graph.specs.Recursive.{ArePairs};
+ghost use Rattle.cargo_toml_resolve.specs.Reached.{AreEnabled, HaveNoEmpty, ComeFrom, IsHeldBy, IsKeyed, pairs_at};
+ghost use Rattle.cargo_toml_resolve.specs.Views.{table_in, value_at};
+ghost use Rattle.cargo_toml_resolve.specs.Visits.{AddsPair, AddsActions, PushesNamed};
+
+use crate::features::{DepAction, Feature};
+use cargo_toml_parts::Error;
+use std::alloc::{AllocError, Global};
+use std::collections::HashMap;
+use std::hash::BuildHasher;
+
+/// For each dependency's key, the names of the features that act on it, each with its action.
+pub type DependenciesEnabledByFeatures<'f, 'a, S> = HashMap<
+    &'a str,
+    Vec<(&'a str, &'f DepAction<'a>)>,
+    S,
+>;
+
+// Adds a pair at the end of the list under `key`.
+fn add_pair<'f, 'a, S: BuildHasher>(
+    alloc: Global,
+    dependencies: &mut DependenciesEnabledByFeatures<'f, 'a, S>,
+    key: &'a str,
+    pair: (&'a str, &'f DepAction<'a>),
+) -> Result<(), AllocError>
+    ensures { OnOk result (AddsPair key.now pair.entry dependencies.old dependencies.new) }
+{
+    dependencies
+        .entry(key)?
+        .or_insert(Vec::new(alloc))
+        .push(pair)?;
+    Ok(())
+}
+
+// Adds what the feature does to dependencies, but for what it does only conditionally.
+fn add_actions<'f, 'a, S: BuildHasher>(
+    alloc: Global,
+    feature: &'f Feature<'a>,
+    dependencies: &mut DependenciesEnabledByFeatures<'f, 'a, S>,
+) -> Result<(), AllocError>
+    ensures pairs { OnOk result (AddsActions feature.now dependencies.old dependencies.new) }
+    ensures no_empty { OnOk result (HaveNoEmpty dependencies.old → HaveNoEmpty dependencies.new) }
+{
+    for (key, action) in &feature.enables_deps {
+        if !action.is_conditional {
+            add_pair(alloc, dependencies, *key, (feature.key, action))?;
+        }
+    }
+    Ok(())
+}
+
+// Pushes the features that the feature names. The first in byte order comes last, so that it is popped first.
+fn push_named<'f, 'a, S: BuildHasher>(
+    feature: &'f Feature<'a>,
+    features: &'f HashMap<&'a str, Feature<'a>, S>,
+    pending: &mut Vec<&'f Feature<'a>>,
+) -> Result<(), AllocError>
+    requires { IsKeyed features.now }
+    ensures { OnOk result (PushesNamed features.now feature.now pending.old.items pending.new.items) }
+{
+    for name in feature.enables_features.iter().rev() {
+        if let Some(named) = features.get(*name) {
+            pending.push(named)?;
+        }
+    }
+    Ok(())
+}
+
+impl<'a> Feature<'a> {
+    // What the map has under this feature's key.
+    fn held<'f, S: BuildHasher>(
+        &self,
+        features: &'f HashMap<&'a str, Feature<'a>, S>,
+    ) -> &'f Feature<'a>
+        requires keyed { IsKeyed features.now }
+        requires start { IsHeldBy features.now self.now }
+        ensures { value_at features.now self.now.key.now ≡ Some result.now }
+    {
+        // tells that no key of the map stands there twice
+        let _count = features.len();
+        &features[self.key]
+    }
+
+    /// What Cargo enables where this feature is asked for: the features that it enables, and what they do to dependencies.
+    ///
+    /// The first map has this feature, those that it names, those that they name, and so on, each once and under its name. A
+    /// name that no feature of `features` has is passed over. The second map has under each dependency's key one pair for each
+    /// of these features that acts on it unconditionally: the feature's name and its action. It has no empty list. A
+    /// conditional action, as `dependency?/feature`, isn't listed, since it doesn't enable the dependency.
+    ///
+    /// Each feature of `features` must stand under its own key, and this feature must be one of them, or `features` must have one
+    /// under its key. That one counts where it differs from this feature.
+    ///
+    /// The only refusal is [`Error::Memory`]. A feature is visited once, and each of its names is then looked up once; a feature
+    /// may wait for its visit once for each feature that names it. The features are visited depth first, and those that one
+    /// names in byte order; the lists are in this order. Nothing is called in itself, so a long chain of features needs memory
+    /// and no stack.
+    pub fn enables_recursive<'f, S: BuildHasher + Clone>(
+        &'f self,
+        alloc: Global,
+        features: &'f HashMap<&'a str, Feature<'a>, S>,
+    ) -> Result<
+        (
+            HashMap<&'a str, &'f Feature<'a>, S>,
+            DependenciesEnabledByFeatures<'f, 'a, S>,
+        ),
+        Error,
+    >
+        requires keyed { IsKeyed features.now }
+        requires start { IsHeldBy features.now self.now }
+        ensures features { IfOk result (λ r. AreEnabled features.now self.now.key.now r.0) }
+        ensures values { IfOk result (λ r. ComeFrom features.now r.0) }
+        ensures dependencies { IfOk result (λ r. (k : Text) → ArePairs (table_in features.now) self.now.key.now k (pairs_at r.1 k)) }
+        ensures no_empty { IfOk result (λ r. HaveNoEmpty r.1) }
+        ensures refused { IfErr result (λ e. e ≡ Memory) }
+    {
+        let mut found = HashMap::with_hasher(alloc, features.hasher().clone()?);
+        let mut dependencies = HashMap::with_hasher(alloc, features.hasher().clone()?);
+        let mut pending = Vec::new(alloc);
+        pending.push(self.held(features))?;
+        while let Some(feature) = pending.pop() {
+            if !found.contains_key(feature.key) {
+                found.insert(feature.key, feature)?;
+                add_actions(alloc, feature, &mut dependencies)?;
+                push_named(feature, features, &mut pending)?;
+            }
+        }
+        Ok((found, dependencies))
+    }
+}

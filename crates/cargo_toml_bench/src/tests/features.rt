@@ -27,25 +27,17 @@ fn non_default<'a>(alloc: Global, feature: &Feature<'a>) -> Result<String, Alloc
 }
 
 #[test]
-fn non_default_enablers(rt: HostRuntime) -> Result<(), Fail> {
-    let alloc = rt.alloc();
-    let mut feature = implied(alloc, "fast");
-    feature.enabled_by.insert("simd")?;
-    feature.enabled_by.insert("default")?;
-    feature.enabled_by.insert("async")?;
-    assert_eq!(rt; non_default(alloc, &feature)?.as_str(), "async,simd,");
-    Ok(())
-}
-
-#[test]
-fn referenced_and_user_facing(rt: HostRuntime) -> Result<(), Fail> {
+fn questions_to_features(rt: HostRuntime) -> Result<(), Fail> {
     let alloc = rt.alloc();
     let mut feature = implied(alloc, "fast");
     assert!(rt; !feature.is_referenced());
     assert!(rt; feature.is_user_facing());
+    feature.enabled_by.insert("simd")?;
     feature.enabled_by.insert("default")?;
+    feature.enabled_by.insert("async")?;
     assert!(rt; feature.is_referenced());
     assert!(rt; !feature.is_user_facing());
+    assert_eq!(rt; non_default(alloc, &feature)?.as_str(), "async,simd,");
     assert!(rt; !implied(alloc, "_fast").is_user_facing());
     Ok(())
 }

@@ -22,16 +22,11 @@ fn written_small_values(rt: HostRuntime) {
 #[test]
 fn editions_and_resolvers(rt: HostRuntime) -> Result<(), Fail> {
     let alloc = rt.alloc();
-    let printed = format!(in alloc;
-        "{} {} {}",
-        Edition::E2018,
-        Edition::default(),
-        Resolver::V3
-    )?;
-    assert_eq!(rt; printed.as_str(), "2018 2015 3");
+    assert_eq!(rt; format!(in alloc; "{}", Edition::E2018)?.as_str(), "2018");
+    assert_eq!(rt; format!(in alloc; "{}", Resolver::V3)?.as_str(), "3");
     assert_eq!(rt; Edition::E2021 as u16, 2021);
     assert_eq!(rt; Resolver::V2 as u8, 2);
-    assert!(rt; Edition::E2018 < Edition::E2024);
+    assert!(rt; Edition::default() < Edition::E2018);
     assert!(rt; Resolver::default() < Resolver::V2);
     Ok(())
 }
@@ -61,15 +56,10 @@ fn values_set_and_inherited(rt: HostRuntime) -> Result<(), Fail> {
     assert!(rt; edition.unwrap() == Edition::E2024);
     assert!(rt; Inheritable::<Edition>::default().is_default());
     assert!(rt; Option::from(Inheritable::from(Some(7u8))) == Some(7u8));
-    Ok(())
-}
-
-#[test]
-fn empty_lists_and_maps(rt: HostRuntime) {
     let list: Inheritable<Vec<bool>> = Inheritable::Set(Vec::new(rt.alloc()));
-    let map: Inheritable<BTreeMap<u8, bool>> = Inheritable::Inherited;
     assert!(rt; list.is_empty());
-    assert!(rt; !map.is_empty());
+    assert!(rt; !Inheritable::<BTreeMap<u8, bool>>::Inherited.is_empty());
+    Ok(())
 }
 
 #[test]

@@ -58,19 +58,6 @@ fn new_package_written(rt: HostRuntime) -> Result<(), Fail> {
 }
 
 #[test]
-fn written_tables_read_again(rt: HostRuntime) -> Result<(), Fail> {
-    let alloc = rt.alloc();
-    let name = String::from_str(alloc, "p")?;
-    let package: Box<Package> = boxed(alloc, Package::new(alloc, name, SemVer::new(1, 2, 3)))?;
-    let Value::Table(written) = package.to_value(alloc)? else {
-        return Err("no table")?;
-    };
-    let text = toml::table_to_string(alloc, &written)?;
-    assert!(rt; toml::table_from_str(alloc, text.as_str())? == written);
-    Ok(())
-}
-
-#[test]
 fn collected_keys_give_way(rt: HostRuntime) -> Result<(), Fail> {
     let alloc = rt.alloc();
     let mut detail = boxed(alloc, DependencyDetail::default(alloc))?;

@@ -3,11 +3,11 @@ use Rattle.std.proofs.lemmas.Bool.{cases_Bool}
 use Rattle.std.proofs.lemmas.Slice.Eq.{bytes_eq-Decides}
 use Rattle.std.specs.HashMap as hash
 use Rattle.std.specs.HashMap.{HashMap}
-use Rattle.cargo_toml.specs.declared.features.Feature.{Feature}
+use Rattle.cargo_toml_resolve.specs.declared.features.Feature.{Feature}
 use Rattle.cargo_toml.specs.Action.{Text}
 use Rattle.cargo_toml.specs.Reached.{IsKeyed}
 use Rattle.cargo_toml.specs.Views.{value_at}
-use Rattle.cargo_toml.proofs.Pairs.{at_key, elsewhere}
+use Rattle.cargo_toml_resolve.proofs.Pairs.{at_key, elsewhere}
 use Rattle.cargo_toml_bench.proofs.tests.recursion.put.Goals as goal
 
 -- one more feature under its own key

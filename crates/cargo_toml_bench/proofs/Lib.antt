@@ -1,3 +1,4 @@
 pub mod Gathering
 pub mod Entries
 pub mod Unreferenced
+pub mod Enabling

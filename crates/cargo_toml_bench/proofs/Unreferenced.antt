@@ -13,14 +13,15 @@ use Rattle.std.specs.List.{AllByRecursion, list_any}
 use Rattle.std.specs.List.Sorted.{IsStrictlySortedBy}
 use Rattle.std.specs.Option.{option_map_or}
 use Rattle.std.specs.declared.cmp.Ordering.TheVariants.{Less}
-use Rattle.cargo_toml.specs.declared.features.Feature.{Feature}
+use Rattle.cargo_toml_resolve.specs.declared.features.Feature.{Feature}
 use Rattle.cargo_toml.specs.Action.{Text}
 use Rattle.cargo_toml.specs.Graph.{Table, Edge, IsKept, IsResolved}
 use Rattle.cargo_toml.specs.Reach.{Among, Reaches}
 use Rattle.cargo_toml.specs.Reach.Reaches.{edge, through}
-use Rattle.cargo_toml.specs.Resolved.{is_removed}
+use Rattle.cargo_toml.specs.Removal.{is_removed}
 use Rattle.cargo_toml.specs.Views.{has_text, resolution_of, value_at}
-use Rattle.cargo_toml.proofs.TextKeys.{bytes_eq_refl, none_in}
+use Rattle.cargo_toml_graph.proofs.Texts.{bytes_eq_refl}
+use Rattle.cargo_toml_resolve.proofs.TextKeys.{none_in}
 use Rattle.cargo_toml_bench.specs.Alone.{is_alone, is_alone_at}
 use Rattle.cargo_toml_bench.specs.Reports.{texts, texts_of, IsUnreferenced}
 

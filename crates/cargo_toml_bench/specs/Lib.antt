@@ -1,3 +1,4 @@
 pub mod Alone
 pub mod Printing
 pub mod Reports
+pub mod Enabled

@@ -9,7 +9,7 @@ use Rattle.cargo_toml_parts.specs.Faults.{IsOther}
 use Rattle.cargo_toml_dependencies.specs.Dependencies.{DependencyMeaning}
 use Rattle.cargo_toml_manifest.specs.Manifests.{ManifestMeaning, manifest_reads, manifest_refuses}
 use Rattle.cargo_toml_manifest.specs.Texts.{any_tree, any_refuses, document_reads, document_refuses}
-use Rattle.cargo_toml.specs.declared.features.Kind.TheVariants.{Normal}
+use Rattle.cargo_toml_resolve.specs.declared.features.Kind.TheVariants.{Normal}
 use Rattle.cargo_toml.specs.Action.{Text}
 use Rattle.cargo_toml.specs.Recorded.{Entry}
 use Rattle.cargo_toml_bench.specs.Reports.{optional_keys, AreUnreferenced}

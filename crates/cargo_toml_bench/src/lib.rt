@@ -1,6 +1,7 @@
 //! Callers of `cargo_toml` that are proved, written as a user of the crate writes them.
 #![tactic(auto)]
 
+pub mod enabled;
 pub mod report;
 #[cfg(test)]
 mod tests;

@@ -1,5 +1,6 @@
 use Rattle.std.proofs.Common.{◌∙◌, sym, IsTrue, true}
-use Rattle.cargo_toml.specs.Resolved.{joined_table, is_removed}
+use Rattle.cargo_toml.specs.Removal.{is_removed}
+use Rattle.cargo_toml.specs.Resolved.{joined_table}
 use Rattle.cargo_toml.specs.Views.{listed_in, normal_entries}
 use Rattle.cargo_toml_bench.proofs.Unreferenced.{alone_is, nothing_removed}
 use Rattle.cargo_toml_bench.proofs.report.unreferenced_features.Goals as goal

@@ -32,7 +32,7 @@ pub use Rattle.cargo_toml_package.specs.Templates
 pub use Rattle.cargo_toml_manifest.specs.Manifests
 pub use Rattle.cargo_toml_manifest.specs.Texts
 pub use Rattle.cargo_toml_manifest.specs.Workspaces
-pub use Rattle.cargo_toml_write.specs.Trees
+pub use Rattle.cargo_toml_write.specs.Ways
 pub use Rattle.cargo_toml_write.specs.WrittenBadges
 pub use Rattle.cargo_toml_write.specs.WrittenDependencies
 pub use Rattle.cargo_toml_write.specs.WrittenLints
@@ -41,7 +41,6 @@ pub use Rattle.cargo_toml_write.specs.WrittenPackages
 pub use Rattle.cargo_toml_write.specs.WrittenProducts
 pub use Rattle.cargo_toml_write.specs.WrittenProfiles
 pub use Rattle.cargo_toml_write.specs.WrittenSettings
-pub use Rattle.cargo_toml_write.specs.WrittenTargets
 pub use Rattle.cargo_toml_write.specs.WrittenTemplates
 pub use Rattle.cargo_toml_write.specs.WrittenWorkspaces
 pub use Rattle.cargo_toml_write.specs.Writes

@@ -1,14 +1,13 @@
 -- Which other keys a table has after a named key was put into it.
-use Rattle.std.proofs.Common.{◌≡◌, true, false, Option, Some, sym, ap, subst, refl, ◌∙◌, ℕ, List, [], ◌∷◌, map, is_eq, Ordering, Less, Equal, Greater, string_bytes, nat_cmp}
+use Rattle.std.proofs.Common.{◌≡◌, true, false, Option, Some, sym, ap, subst, refl, ◌∙◌, ℕ, List, [], ◌∷◌, is_eq, Ordering, Less, Equal, Greater, nat_cmp}
 use Rattle.std.specs.Cmp.Lexicographic.{slice_cmp}
 use Rattle.std.specs.Ordering.{match_ordering}
 use Rattle.std.specs.List.{AllByRecursion}
 use Rattle.std.proofs.lemmas.Map.Text.{is_eq-slice_cmp}
 use Rattle.std.proofs.lemmas.Slice.Eq.{bytes_eq-Decides}
 use Rattle.toml.specs.Data.{Data, Members, no_members, member}
-use Rattle.toml.specs.View.{view, members_view}
-use Rattle.toml.proofs.Views.{Entry}
 use Rattle.cargo_toml_parts.specs.Reads.{is_among, others_read}
+use Rattle.cargo_toml_write.specs.WrittenLints.{members_of}
 use Rattle.cargo_toml_write.specs.Writes.{put}
 
 abbrev others : List (List ℕ) → Members → Option (List (List ℕ × Data))
@@ -31,10 +30,7 @@ others_put names k d no_members among = rw among refl
 others_put names k d (member l e ms) among = put_at (slice_cmp nat_cmp k l) names k l d e ms refl among (others_put names k d ms among)
 
 -- a map of which no key is named
-pub others_all : (names : List (List ℕ)) (es : List Entry) → AllByRecursion (λ (m : List ℕ × Data). is_among names m.0 ≡ false) (map {B = List ℕ × Data} (λ (e : Entry). (string_bytes e.0, view e.1)) es)
-    → others_read names (λ x. Some x) (members_view es) ≡ Some (map {B = List ℕ × Data} (λ (e : Entry). (string_bytes e.0, view e.1)) es)
+pub others_all : (names : List (List ℕ)) (es : List (List ℕ × Data)) → AllByRecursion (λ (m : List ℕ × Data). is_among names m.0 ≡ false) es
+    → others_read names (λ x. Some x) (members_of es) ≡ Some es
 others_all names [] apart = refl
-others_all names (e ∷ es) apart =
-    let here : is_among names (string_bytes e.0) ≡ false = apart.0 in
-    let rest : others_read names (λ x. Some x) (members_view es) ≡ Some (map {B = List ℕ × Data} (λ (e : Entry). (string_bytes e.0, view e.1)) es) = others_all names es apart.1 in
-    rw (here, rest) refl
+others_all names (e ∷ es) apart = rw (apart.0, others_all names es apart.1) refl

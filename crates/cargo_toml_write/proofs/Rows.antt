@@ -1,42 +1,90 @@
 -- Rows that are written one after the other.
-use Rattle.std.proofs.Common.{◌≡◌, ◌⊎◌, inl, inr, ℕ, List, [], ◌∷◌, Result, Ok, Err, OnOk, IfErr, Option, Some, None}
-use Rattle.toml.specs.Data.{Data, Members, no_members}
+use Rattle.std.proofs.Common.{◌≡◌, ◌⊎◌, inl, inr, sym, ◌∙◌, refl, subst, Bool, true, false, is_some, option_map, ℕ, List, [], ◌∷◌, ◌++◌, Result, Ok, Err, Option, Some, None}
+use Rattle.toml.specs.Data.{Data, table, Members, no_members}
+use Rattle.toml.specs.View.{view}
+use Rattle.toml.specs.declared.value.Value.{Value}
 use Rattle.cargo_toml_parts.specs.declared.error.Error.{Error, Memory}
-use Rattle.cargo_toml_write.specs.Writes.{Row, AreWritten, RefuseRow, RefuseRows, AddsRow, TableOf, put, always, OfSome}
+use Rattle.cargo_toml_write.specs.Writes.{Way, IsWriting, Row, required_row, optional_row, AreWritten, RowRefused, AreRefused, Goes, Ends, put, table_way}
 
--- a row that is refused, and one that is refused after others were written
-pub stop : (r : Row) (rs : List Row) (e : Error) → (e ≡ Memory) ⊎ RefuseRow r e → (e ≡ Memory) ⊎ RefuseRows (r ∷ rs) e
-stop r rs e (inl memory) = inl memory
-stop r rs e (inr fault) = inr (inl fault)
+-- some rows and then others
+are_both : (rs qs : List Row) (old mid new : Members) → AreWritten rs old mid → AreWritten qs mid new → AreWritten (rs ++ qs) old new
+are_both [] qs old mid new first rest = rw (sym first) rest
+are_both (r ∷ rs) qs old mid new (one, row, first) rest = (one, row, are_both rs qs one mid new first rest)
 
-pub later : (r : Row) (rs : List Row) (e : Error) → (e ≡ Memory) ⊎ RefuseRows rs e → (e ≡ Memory) ⊎ RefuseRows (r ∷ rs) e
-later r rs e (inl memory) = inl memory
-later r rs e (inr fault) = inr (inr fault)
+refused_first : (rs qs : List Row) (e : Error) → AreRefused rs e → AreRefused (rs ++ qs) e
+refused_first [] qs e h = elim h [ ]
+refused_first (r ∷ rs) qs e (inl h) = inl h
+refused_first (r ∷ rs) qs e (inr h) = inr (refused_first rs qs e h)
+
+refused_then : (rs qs : List Row) (e : Error) → AreRefused qs e → AreRefused (rs ++ qs) e
+refused_then [] qs e h = h
+refused_then (r ∷ rs) qs e h = inr (refused_then rs qs e h)
+
+first_stops : (rs qs : List Row) (e : Error) → (e ≡ Memory) ⊎ AreRefused rs e → (e ≡ Memory) ⊎ AreRefused (rs ++ qs) e
+first_stops rs qs e (inl memory) = inl memory
+first_stops rs qs e (inr h) = inr (refused_first rs qs e h)
+
+then_stops : (rs qs : List Row) (e : Error) → (e ≡ Memory) ⊎ AreRefused qs e → (e ≡ Memory) ⊎ AreRefused (rs ++ qs) e
+then_stops rs qs e (inl memory) = inl memory
+then_stops rs qs e (inr h) = inr (refused_then rs qs e h)
+
+pub both : (rs qs : List Row) (a b c : Option Error) (old mid new : Members) → Goes rs a old b mid → Goes qs b mid c new → Goes (rs ++ qs) a old c new
+unfolding Goes
+both rs qs (Some d) None c old mid new first rest = absurd cc
+both rs qs (Some d) (Some e) c old mid new first rest = rest ∙ first
+both rs qs None None None old mid new first rest = are_both rs qs old mid new first rest
+both rs qs None None (Some e) old mid new first rest = then_stops rs qs e rest
+both rs qs None (Some d) None old mid new first rest = absurd cc
+both rs qs None (Some d) (Some e) old mid new first rest =
+    first_stops rs qs e (subst (λ (x : Option Error). Goes rs None old x mid) (sym rest) first)
+
+-- a row, and then others; and no more rows
+pub then : (row : Row) (rows : List Row) (a b c : Option Error) (old mid new : Members)
+    → Goes (row ∷ []) a old b mid → Goes rows b mid c new → Goes (row ∷ rows) a old c new
+then row rows a b c old mid new first rest = both (row ∷ []) rows a b c old mid new first rest
+
+pub done : (a : Option Error) (ms : Members) → Goes [] a ms a ms
+unfolding Goes
+done None ms = refl
+done (Some e) ms = refl
+
+-- a tree that was put at a key
+pub is_put : {X : Type 0} (key : List ℕ) (way : Way X) (x : X) (d : Data) (fault : Option Error) (old new : Members)
+    → is_some fault ≡ false → way.trees x d → new ≡ put key d old → Goes (required_row key way x ∷ []) fault old fault new
+unfolding Goes
+is_put key way x d None old new no_fault tree is = (new, (Some d, tree, is), refl)
+is_put key way x d (Some e) old new no_fault tree is = absurd cc
 
 -- rows of which one is refused are in no table
-no_rows : (rows : List Row) (old new : Members) (e : Error) → RefuseRows rows e → ¬ (AreWritten rows old new)
+no_rows : (rows : List Row) (old new : Members) (e : Error) → AreRefused rows e → ¬ (AreWritten rows old new)
 no_rows [] old new e h w = h
 no_rows (r ∷ rs) old new e (inl h) (mid, row, rest) = h.0 row.0 row.1
 no_rows (r ∷ rs) old new e (inr h) (mid, row, rest) = no_rows rs mid new e h rest
 
-pub no_table : (rows : List Row) (e : Error) → RefuseRows rows e → (d : Data) → ¬ (TableOf rows d)
-no_table rows e h d (ms, is, written) = no_rows rows no_members ms e h written
+-- the answer of a writing from its start to its end
+refuses : {X : Type 0} (rows : X → List Row) (x : X) (e : Error) → (e ≡ Memory) ⊎ AreRefused (rows x) e
+    → (e ≡ Memory) ⊎ (((d : Data) → ¬ ((table_way rows).trees x d)) × AreRefused (rows x) e)
+refuses rows x e (inl memory) = inl memory
+refuses rows x e (inr h) = inr (λ d (ms, is, written). no_rows (rows x) no_members ms e h written, h)
 
-pub refuses : (rows : List Row) (e : Error) → (e ≡ Memory) ⊎ RefuseRows rows e → (e ≡ Memory) ⊎ (((d : Data) → ¬ (TableOf rows d)) × RefuseRows rows e)
-refuses rows e (inl memory) = inl memory
-refuses rows e (inr h) = inr (no_table rows e h, h)
+from_start : {X : Type 0} (rows : X → List Row) (x : X) (fault : Option Error) (ms : Members) (answer : Result Value Error)
+    → Goes (rows x) None no_members fault ms → Ends fault ms answer → IsWriting (table_way rows) x answer
+unfolding Goes
+from_start rows x None ms (Ok v) goes (no_fault, is) = (ms, is, goes)
+from_start rows x (Some d) ms (Ok v) goes (no_fault, is) = absurd cc
+from_start rows x fault ms (Err e) goes end =
+    refuses rows x e (subst (λ (f : Option Error). Goes (rows x) None no_members f ms) end goes)
 
--- a value that was put at a key
-pub is_put : {X V : Type 0} (key : List ℕ) (written : X → Data → Type 0) (refuses : X → Error → Type 0) (x : X) (d : Data) (old new : Members) (answer : Result V Error)
-    → written x d → OnOk answer (new ≡ put key d old) → IfErr answer (λ e. e ≡ Memory) → AddsRow (always key written refuses x) old new answer
-is_put key written refuses x d old new (Ok u) tree ok memory = (Some d, tree, ok)
-is_put key written refuses x d old new (Err e) tree ok memory = inl memory
+pub ends : {X : Type 0} (rows : X → List Row) (x : X) (a b : Option Error) (old new : Members) (answer : Result Value Error)
+    → a ≡ None → old ≡ no_members → Goes (rows x) a old b new → Ends b new answer → IsWriting (table_way rows) x answer
+ends rows x a b old new answer no_fault no_key goes end = from_start rows x b new answer (rw (no_fault, no_key) at goes) end
 
-pub is_refused : {X : Type 0} (key : List ℕ) (written : X → Data → Type 0) (refuses : X → Error → Type 0) (x : X) (e : Error)
-    → (e ≡ Memory) ⊎ (((d : Data) → ¬ (written x d)) × refuses x e) → (e ≡ Memory) ⊎ RefuseRow (always key written refuses x) e
-is_refused key written refuses x e (inl memory) = inl memory
-is_refused key written refuses x e (inr fault) = inr (no_tree, fault.1)
-  where
-    no_tree : (o : Option Data) → ¬ (OfSome (written x) o)
-    no_tree None h = h
-    no_tree (Some d) h = fault.0 d h
+-- a row of a value that means itself
+plain-map : {X : Type 0} (x : Option X) → option_map (λ (y : X). y) x ≡ x
+plain-map None = refl
+plain-map (Some x) = refl
+
+pub then_same : {X : Type 0} (way : Way X) (key : List ℕ) (x : Option X) (rows : List Row) (a b c : Option Error) (old mid new : Members)
+    → Goes (optional_row key way (option_map (λ (y : X). y) x) ∷ []) a old b mid → Goes rows b mid c new → Goes (optional_row key way x ∷ rows) a old c new
+then_same {X = X} way key x rows a b c old mid new first rest =
+    then (optional_row key way x) rows a b c old mid new (subst (λ (y : Option X). Goes (optional_row key way y ∷ []) a old b mid) (plain-map x) first) rest

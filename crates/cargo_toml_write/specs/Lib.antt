@@ -1,4 +1,4 @@
-pub mod Trees
+pub mod Ways
 pub mod WrittenBadges
 pub mod WrittenDependencies
 pub mod WrittenLints
@@ -7,7 +7,6 @@ pub mod WrittenPackages
 pub mod WrittenProducts
 pub mod WrittenProfiles
 pub mod WrittenSettings
-pub mod WrittenTargets
 pub mod WrittenTemplates
 pub mod WrittenWorkspaces
 pub mod Writes

@@ -1,77 +1,107 @@
 -- What a writer answers, and how a table is written key by key.
 use Rattle.std.specs.Prelude.{◌≡◌, ◌⊎◌, ℕ, List, [], ◌∷◌, Bool, true, false, Result, Ok, Err, Option, Some, None}
-use Rattle.std.specs.Ordering.{nat_cmp, match_ordering}
 use Rattle.std.specs.Cmp.Lexicographic.{slice_cmp}
+use Rattle.std.specs.Ordering.{nat_cmp, match_ordering}
 use Rattle.toml.specs.Data.{Data, table, Members, no_members, member}
+use Rattle.toml.specs.View.{view, table_view}
+use Rattle.toml.specs.declared.value.Value.{Value}
 use Rattle.cargo_toml_parts.specs.declared.error.Error.{Error, Memory}
+use Rattle.cargo_toml_write.specs.declared.write.writing.Writing.{Writing}
 
--- the answer is a tree of the value; where there is none, it is a fault that says why; or there was no memory
-abbrev pub IsWriting : {V : Type 0} → (V → Data) → (Data → Type 0) → (Error → Type 0) → Result V Error → Type 0
-IsWriting view written refuses (Ok v) = written (view v)
-IsWriting view written refuses (Err e) = (e ≡ Memory) ⊎ (((d : Data) → ¬ (written d)) × refuses e)
+-- how what values hold is written: the trees of each, and the faults of one that has no tree; and which value is left out of a
+-- table, since a missing key stands for it
+pub record Way (X : Type 0) : Type 1 where
+  pub trees : X → Data → Type 0
+  pub refuses : X → Error → Type 0
+  pub left_out : X → Bool
+
+abbrev pub never : {X : Type 0} → X → Bool
+never x = false
+
+-- the answer is a tree of what is held; where there is none, it is a fault that says why; or there was no memory
+abbrev pub IsWriting : {X : Type 0} → Way X → X → Result Value Error → Type 0
+IsWriting way x (Ok v) = way.trees x (view v)
+IsWriting way x (Err e) = (e ≡ Memory) ⊎ (((d : Data) → ¬ (way.trees x d)) × way.refuses x e)
 
 -- the members, with d at the key k
 abbrev pub put : List ℕ → Data → Members → Members
 put k d no_members = member k d no_members
-put k d (member l e ms) = match_ordering (slice_cmp nat_cmp k l) (member k d (member l e ms)) (member l d ms) (member l e (put k d ms))
+put k d (member l e ms) =
+    match_ordering (slice_cmp nat_cmp k l) (member k d (member l e ms)) (member l d ms) (member l e (put k d ms))
 
 -- the same, where there may be nothing to put
 abbrev pub put_some : List ℕ → Option Data → Members → Members
 put_some k None ms = ms
 put_some k (Some d) ms = put k d ms
 
--- what is written at a key: the trees of which one stands there (or nothing, where that holds), and the faults where none can
+-- a row of a table: what its key may hold, and the faults where that is nothing
 pub record Row : Type 1 where
   pub key : List ℕ
   pub holds : Option Data → Type 0
   pub refuses : Error → Type 0
 
--- this tree, or nothing
-abbrev pub told : List ℕ → Option Data → Row
-told key tree = record { key = key; holds = λ o. o ≡ tree; refuses = λ e. ⊥ }
+-- a tree of what is there, and nothing where nothing is
+abbrev pub IsHeld : {X : Type 0} → Way X → Option X → Option Data → Type 0
+IsHeld way None d = d ≡ None
+IsHeld way (Some x) None = ⊥
+IsHeld way (Some x) (Some d) = way.trees x d
 
--- a tree of a value, which is always written
-abbrev pub OfSome : (Data → Type 0) → Option Data → Type 0
-OfSome written None = ⊥
-OfSome written (Some d) = written d
+abbrev pub refused : {X : Type 0} → Way X → Option X → Error → Type 0
+refused way None e = ⊥
+refused way (Some x) e = way.refuses x e
 
-abbrev pub always : {X : Type 0} → List ℕ → (X → Data → Type 0) → (X → Error → Type 0) → X → Row
-always key written refuses x = record { key = key; holds = OfSome (written x); refuses = refuses x }
+-- the row of what may be there, of what is there, and of what is written unless it is left out
+abbrev pub optional_row : {X : Type 0} → List ℕ → Way X → Option X → Row
+optional_row key way x = record {
+  key = key;
+  holds = IsHeld way x;
+  refuses = refused way x;
+}
 
--- a tree of a value where it is there, and one that is left out where the truth value says so
-abbrev pub if_there : {X : Type 0} → List ℕ → (X → Data → Type 0) → (X → Error → Type 0) → Option X → Row
-if_there key written refuses None = told key None
-if_there key written refuses (Some x) = always key written refuses x
+abbrev pub required_row : {X : Type 0} → List ℕ → Way X → X → Row
+required_row key way x = optional_row key way (Some x)
 
-abbrev pub unless : {X : Type 0} → Bool → List ℕ → (X → Data → Type 0) → (X → Error → Type 0) → X → Row
-unless true key written refuses x = told key None
-unless false key written refuses x = always key written refuses x
+abbrev pub unless : {X : Type 0} → Bool → X → Option X
+unless true x = None
+unless false x = Some x
+
+abbrev pub given_row : {X : Type 0} → List ℕ → Way X → X → Row
+given_row key way x = optional_row key way (unless (way.left_out x) x)
 
 -- what a table holds after a row was written, and after rows were, one after the other
 abbrev pub RowWritten : Row → Members → Members → Type 0
-RowWritten r old new = (o : Option Data) × r.holds o × (new ≡ put_some r.key o old)
+RowWritten row old new = (d : Option Data) × row.holds d × (new ≡ put_some row.key d old)
 
 abbrev pub AreWritten : List Row → Members → Members → Type 0
 AreWritten [] old new = new ≡ old
-AreWritten (r ∷ rs) old new = (mid : Members) × RowWritten r old mid × AreWritten rs mid new
+AreWritten (row ∷ rows) old new = (mid : Members) × RowWritten row old mid × AreWritten rows mid new
 
 -- the fault of a row for which there is no tree
-abbrev pub RefuseRow : Row → Error → Type 0
-RefuseRow r e = ((o : Option Data) → ¬ (r.holds o)) × r.refuses e
+abbrev pub RowRefused : Row → Error → Type 0
+RowRefused row e = ((d : Option Data) → ¬ (row.holds d)) × row.refuses e
 
-abbrev pub RefuseRows : List Row → Error → Type 0
-RefuseRows [] e = ⊥
-RefuseRows (r ∷ rs) e = RefuseRow r e ⊎ RefuseRows rs e
+abbrev pub AreRefused : List Row → Error → Type 0
+AreRefused [] e = ⊥
+AreRefused (row ∷ rows) e = RowRefused row e ⊎ AreRefused rows e
 
--- the answer of what writes a row into a table, and of what writes rows
-abbrev pub AddsRow : {V : Type 0} → Row → Members → Members → Result V Error → Type 0
-AddsRow row old new (Ok _) = RowWritten row old new
-AddsRow row old new (Err e) = (e ≡ Memory) ⊎ RefuseRow row e
+-- from the fault and the members before some rows to those after them: a fault stands, and nothing else is said once there is one
+unfoldable pub Goes : List Row → Option Error → Members → Option Error → Members → Type 0
+Goes rows (Some e) old after new = after ≡ Some e
+Goes rows None old None new = AreWritten rows old new
+Goes rows None old (Some e) new = (e ≡ Memory) ⊎ AreRefused rows e
 
-abbrev pub AddsRows : {V : Type 0} → List Row → Members → Members → Result V Error → Type 0
-AddsRows rows old new (Ok _) = AreWritten rows old new
-AddsRows rows old new (Err e) = (e ≡ Memory) ⊎ RefuseRows rows e
+abbrev pub Writes : List Row → Writing → Writing → Type 0
+Writes rows old new = Goes rows old.fault (table_view old.table) new.fault (table_view new.table)
 
--- the tree is a table of these rows
-abbrev pub TableOf : List Row → Data → Type 0
-TableOf rows d = (ms : Members) × (d ≡ table ms) × AreWritten rows no_members ms
+-- the end of a writing: its table, or its fault
+abbrev pub Ends : Option Error → Members → Result Value Error → Type 0
+Ends fault ms (Ok v) = (fault ≡ None) × (view v ≡ table ms)
+Ends fault ms (Err e) = fault ≡ Some e
+
+-- a table of rows
+abbrev pub table_way : {X : Type 0} → (X → List Row) → Way X
+table_way rows = record {
+  trees = λ x d. (ms : Members) × (d ≡ table ms) × AreWritten (rows x) no_members ms;
+  refuses = λ x e. AreRefused (rows x) e;
+  left_out = never;
+}

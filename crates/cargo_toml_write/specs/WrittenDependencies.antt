@@ -1,49 +1,75 @@
--- The trees of dependencies.
-use Rattle.std.specs.Prelude.{List, [], ◌∷◌, ◌++◌, codes, true, false, option_map}
-use Rattle.toml.specs.Data.{Data, string}
+-- How dependencies are written.
+use Rattle.std.specs.Prelude.{ℕ, List, [], ◌∷◌, ◌++◌, codes, true, false}
+use Rattle.toml.specs.Data.{Data}
+use Rattle.cargo_toml_dependencies.specs.Dependencies.{InheritedMeaning, DetailMeaning, DependencyMeaning}
+use Rattle.cargo_toml_dependencies.specs.Dependencies as kind
+use Rattle.cargo_toml_dependencies.specs.Targets.{TargetMeaning}
 use Rattle.cargo_toml_parts.specs.declared.error.Error.{Error}
-use Rattle.cargo_toml_dependencies.specs.declared.dependency.Dependency.{Dependency}
-use Rattle.cargo_toml_dependencies.specs.declared.dependency.Dependency.TheVariants as kind
-use Rattle.cargo_toml_dependencies.specs.declared.dependency.DependencyDetail.{DependencyDetail}
-use Rattle.cargo_toml_dependencies.specs.Dependencies.{InheritedMeaning, inherited_meaning, detail_meaning}
-use Rattle.cargo_toml_write.specs.Trees.{RequirementTree, FreeTree, refuses_float, never, flag_unless, texts_unless_empty, map_rows}
-use Rattle.cargo_toml_write.specs.Writes.{Row, told, if_there, TableOf, RefuseRows}
+use Rattle.cargo_toml_write.specs.Ways.{text_way, texts_way, requirement_way, free_way, map_way, entry_rows, flag_row}
+use Rattle.cargo_toml_write.specs.Writes.{Way, Row, required_row, optional_row, given_row, table_way, never}
 
 abbrev pub inherited_rows : InheritedMeaning → List Row
 inherited_rows i =
-    told (codes "features") (texts_unless_empty i.features)
-    ∷ told (codes "optional") (flag_unless false i.optional)
-    ∷ told (codes "workspace") (flag_unless false i.workspace)
+    given_row (codes "features") texts_way i.features
+    ∷ flag_row (codes "optional") false i.optional
+    ∷ flag_row (codes "workspace") false i.workspace
     ∷ []
 
+abbrev pub inherited_way : Way InheritedMeaning
+inherited_way = table_way inherited_rows
+
 -- the keys that a detail knows
-abbrev pub known_rows : DependencyDetail → List Row
+abbrev pub known_rows : DetailMeaning → List Row
 known_rows d =
-    if_there (codes "version") RequirementTree never d.version
-    ∷ told (codes "package") (option_map string (detail_meaning d).package)
-    ∷ told (codes "registry") (option_map string (detail_meaning d).registry)
-    ∷ told (codes "registry-index") (option_map string (detail_meaning d).registry_index)
-    ∷ told (codes "path") (option_map string (detail_meaning d).path)
-    ∷ told (codes "git") (option_map string (detail_meaning d).git)
-    ∷ told (codes "branch") (option_map string (detail_meaning d).branch)
-    ∷ told (codes "tag") (option_map string (detail_meaning d).tag)
-    ∷ told (codes "rev") (option_map string (detail_meaning d).rev)
-    ∷ told (codes "features") (texts_unless_empty (detail_meaning d).features)
-    ∷ told (codes "optional") (flag_unless false d.optional)
-    ∷ told (codes "default-features") (flag_unless true d.default_features)
+    optional_row (codes "version") requirement_way d.version
+    ∷ optional_row (codes "package") text_way d.«package»
+    ∷ optional_row (codes "registry") text_way d.registry
+    ∷ optional_row (codes "registry-index") text_way d.registry_index
+    ∷ optional_row (codes "path") text_way d.path
+    ∷ optional_row (codes "git") text_way d.git
+    ∷ optional_row (codes "branch") text_way d.branch
+    ∷ optional_row (codes "tag") text_way d.tag
+    ∷ optional_row (codes "rev") text_way d.rev
+    ∷ given_row (codes "features") texts_way d.features
+    ∷ flag_row (codes "optional") false d.optional
+    ∷ flag_row (codes "default-features") true d.default_features
     ∷ []
 
 -- first the keys that it collected, then those that it knows, which are put over them
-abbrev pub detail_rows : DependencyDetail → List Row
-detail_rows d = map_rows FreeTree refuses_float d.unstable ++ known_rows d
+abbrev pub detail_rows : DetailMeaning → List Row
+detail_rows d = entry_rows free_way d.unstable ++ known_rows d
+
+abbrev pub detail_way : Way DetailMeaning
+detail_way = table_way detail_rows
 
 -- a requirement, or a table
-abbrev pub DependencyTree : Dependency → Data → Type 0
-DependencyTree (kind.Simple r) d = RequirementTree r d
-DependencyTree (kind.Inherited i) d = TableOf (inherited_rows (inherited_meaning i)) d
-DependencyTree (kind.Detailed b) d = TableOf (detail_rows b.value) d
+abbrev pub DependencyTree : DependencyMeaning → Data → Type 0
+DependencyTree (kind.simple r) d = requirement_way.trees r d
+DependencyTree (kind.inherited i) d = inherited_way.trees i d
+DependencyTree (kind.detailed x) d = detail_way.trees x d
 
-abbrev pub refuses_dependency : Dependency → Error → Type 0
-refuses_dependency (kind.Simple r) e = ⊥
-refuses_dependency (kind.Inherited i) e = RefuseRows (inherited_rows (inherited_meaning i)) e
-refuses_dependency (kind.Detailed b) e = RefuseRows (detail_rows b.value) e
+abbrev pub dependency_refused : DependencyMeaning → Error → Type 0
+dependency_refused (kind.simple r) e = requirement_way.refuses r e
+dependency_refused (kind.inherited i) e = inherited_way.refuses i e
+dependency_refused (kind.detailed x) e = detail_way.refuses x e
+
+abbrev pub dependency_way : Way DependencyMeaning
+dependency_way = record {
+  trees = DependencyTree;
+  refuses = dependency_refused;
+  left_out = never;
+}
+
+-- the dependencies by key, and those of some targets: all three tables are written, empty ones too
+abbrev pub dependencies_way : Way (List (List ℕ × DependencyMeaning))
+dependencies_way = map_way dependency_way
+
+abbrev pub target_rows : TargetMeaning → List Row
+target_rows t =
+    required_row (codes "dependencies") dependencies_way t.dependencies
+    ∷ required_row (codes "dev-dependencies") dependencies_way t.dev_dependencies
+    ∷ required_row (codes "build-dependencies") dependencies_way t.build_dependencies
+    ∷ []
+
+abbrev pub target_way : Way TargetMeaning
+target_way = table_way target_rows

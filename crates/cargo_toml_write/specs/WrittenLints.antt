@@ -1,35 +1,52 @@
--- The trees of lints, and which lints are read again as they were.
-use Rattle.std.specs.Prelude.{◌≡◌, Bool, false, pos, codes, ◌&&◌, nat_eq, length, MatchBool, IsTrue, All}
+-- How lints are written, and which lints are read again as they were.
+use Rattle.std.specs.Prelude.{◌≡◌, ℕ, List, [], ◌∷◌, Bool, false, pos, codes, ◌&&◌, MatchBool, IsTrue, All}
 use Rattle.std.specs.Ordering.{int_eq}
-use Rattle.toml.specs.Data.{Data, integer, string, table}
-use Rattle.toml.specs.View.{table_view}
+use Rattle.toml.specs.Data.{Data, integer, string, table, Members, no_members, member}
 use Rattle.cargo_toml_parts.specs.declared.error.Error.{Error}
-use Rattle.cargo_toml_tables.specs.declared.lint.Lint.{Lint}
 use Rattle.cargo_toml_parts.specs.Faults.{IsOther, floats_unsupported}
 use Rattle.cargo_toml_parts.specs.Floats.{members_have_no_float}
-use Rattle.cargo_toml_tables.specs.Lints.{lint_keys, lint_meaning}
 use Rattle.cargo_toml_parts.specs.Reads.{is_among}
-use Rattle.cargo_toml_write.specs.Writes.{put}
-use Rattle.cargo_toml_write.specs.WrittenSettings.{level_text, LevelTree}
+use Rattle.cargo_toml_tables.specs.Lints.{LintMeaning, lint_keys}
+use Rattle.cargo_toml_write.specs.Ways.{map_way, is_nil}
+use Rattle.cargo_toml_write.specs.Writes.{Way, put, never}
+use Rattle.cargo_toml_write.specs.WrittenSettings.{level_way, level_text}
 
 -- the level says all of the lint
-abbrev pub is_level_alone : Lint → Bool
-is_level_alone l = int_eq l.priority (pos 0) && nat_eq (length l.config.entries) 0
+abbrev pub is_level_alone : LintMeaning → Bool
+is_level_alone l = int_eq l.priority (pos 0) && is_nil l.config
 
 -- what else is said of the lint, and the level and the priority put over it
-abbrev pub lint_table : Lint → Data
-lint_table l = table (put (codes "priority") (integer l.priority) (put (codes "level") (string (level_text l.level)) (table_view l.config)))
+abbrev pub members_of : List (List ℕ × Data) → Members
+members_of [] = no_members
+members_of (e ∷ es) = member e.0 e.1 (members_of es)
 
-abbrev pub LintTable : Lint → Data → Type 0
-LintTable l d = IsTrue (members_have_no_float (table_view l.config)) × (d ≡ lint_table l)
+abbrev pub lint_table : LintMeaning → Data
+lint_table l =
+    let levelled : Members = put (codes "level") (string (level_text l.level)) (members_of l.config) in
+    table (put (codes "priority") (integer l.priority) levelled)
+
+abbrev pub table_lint_way : Way LintMeaning
+table_lint_way = record {
+  trees = λ l d. IsTrue (members_have_no_float (members_of l.config)) × (d ≡ lint_table l);
+  refuses = λ l e. IsOther floats_unsupported e;
+  left_out = never;
+}
 
 -- a level, or a table that holds no float
-abbrev pub LintTree : Lint → Data → Type 0
-LintTree l d = MatchBool (is_level_alone l) (LevelTree l.level d) (LintTable l d)
+abbrev pub LintTree : LintMeaning → Data → Type 0
+LintTree l d = MatchBool (is_level_alone l) (level_way.trees l.level d) (table_lint_way.trees l d)
 
-abbrev pub refuses_lint : Lint → Error → Type 0
-refuses_lint l e = IsOther floats_unsupported e
+abbrev pub lint_way : Way LintMeaning
+lint_way = record {
+  trees = LintTree;
+  refuses = λ l e. IsOther floats_unsupported e;
+  left_out = never;
+}
+
+-- the lints by tool
+abbrev pub lint_groups_way : Way (List (List ℕ × List (List ℕ × LintMeaning)))
+lint_groups_way = map_way (map_way lint_way)
 
 -- the lint collected no key that is named otherwise
-abbrev pub IsApart : Lint → Type 0
-IsApart l = All (λ m. is_among lint_keys m.0 ≡ false) (lint_meaning l).config
+abbrev pub IsApart : LintMeaning → Type 0
+IsApart l = All (λ m. is_among lint_keys m.0 ≡ false) l.config

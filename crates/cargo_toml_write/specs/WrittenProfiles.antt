@@ -1,62 +1,54 @@
--- The rows of profiles.
-use Rattle.std.specs.Prelude.{ℕ, List, [], ◌∷◌, ◌++◌, codes, pos, option_map, nat_eq, length, String}
-use Rattle.std.specs.BTreeMap.{BTreeMap}
-use Rattle.std.specs.declared.alloc.Global.{Global}
-use Rattle.toml.specs.Data.{Data, string, boolean, integer}
-use Rattle.toml.specs.declared.value.Value.{Value}
-use Rattle.cargo_toml_parts.specs.declared.error.Error.{Error}
-use Rattle.cargo_toml_tables.specs.declared.profile.Profile.{Profile}
-use Rattle.cargo_toml_tables.specs.declared.profile.Profiles.{Profiles}
-use Rattle.cargo_toml_tables.specs.Profiles.{profile_meaning}
-use Rattle.cargo_toml_write.specs.Trees.{FreeTree, refuses_float, never, map_rows}
-use Rattle.cargo_toml_write.specs.WrittenSettings.{DebugTree, LtoTree, StripTree}
-use Rattle.cargo_toml_write.specs.Writes.{Row, told, if_there, unless, TableOf, RefuseRows}
+-- How profiles are written.
+use Rattle.std.specs.Prelude.{List, [], ◌∷◌, ◌++◌, codes, Bool, ◌&&◌, is_none}
+use Rattle.cargo_toml_tables.specs.Profiles.{ProfileMeaning, ProfilesMeaning}
+use Rattle.cargo_toml_write.specs.Ways.{text_way, truth_way, number_way, free_way, map_way, entry_rows, is_nil}
+use Rattle.cargo_toml_write.specs.WrittenSettings.{debug_way, lto_way, strip_way}
+use Rattle.cargo_toml_write.specs.Writes.{Way, Row, optional_row, given_row, table_way}
 
--- a table of free values
-abbrev pub FreeTable : BTreeMap (String Global) Value → Data → Type 0
-FreeTable m d = TableOf (map_rows FreeTree refuses_float m) d
-
-abbrev pub refuses_floats : BTreeMap (String Global) Value → Error → Type 0
-refuses_floats m e = RefuseRows (map_rows FreeTree refuses_float m) e
-
--- what a key holds of a map of free values, which is left out where it is empty
-abbrev pub free_table : List ℕ → BTreeMap (String Global) Value → Row
-free_table key m = unless (nat_eq (length m.entries) 0) key FreeTable refuses_floats m
-
-abbrev pub profile_rows : Profile → List Row
+abbrev pub profile_rows : ProfileMeaning → List Row
 profile_rows p =
-    if_there (codes "opt-level") FreeTree refuses_float p.opt_level
-    ∷ if_there (codes "debug") DebugTree never p.debug
-    ∷ told (codes "split-debuginfo") (option_map string (profile_meaning p).split_debuginfo)
-    ∷ told (codes "rpath") (option_map boolean p.rpath)
-    ∷ if_there (codes "lto") LtoTree never p.lto
-    ∷ told (codes "debug-assertions") (option_map boolean p.debug_assertions)
-    ∷ told (codes "codegen-units") (option_map (λ n. integer (pos n)) p.codegen_units)
-    ∷ told (codes "panic") (option_map string (profile_meaning p).panic)
-    ∷ told (codes "incremental") (option_map boolean p.incremental)
-    ∷ told (codes "overflow-checks") (option_map boolean p.overflow_checks)
-    ∷ if_there (codes "strip") StripTree never p.strip
-    ∷ free_table (codes "package") p.package
-    ∷ if_there (codes "build-override") FreeTree refuses_float p.build_override
-    ∷ told (codes "inherits") (option_map string (profile_meaning p).inherits)
+    optional_row (codes "opt-level") free_way p.opt_level
+    ∷ optional_row (codes "debug") debug_way p.debug
+    ∷ optional_row (codes "split-debuginfo") text_way p.split_debuginfo
+    ∷ optional_row (codes "rpath") truth_way p.rpath
+    ∷ optional_row (codes "lto") lto_way p.lto
+    ∷ optional_row (codes "debug-assertions") truth_way p.debug_assertions
+    ∷ optional_row (codes "codegen-units") number_way p.codegen_units
+    ∷ optional_row (codes "panic") text_way p.panic
+    ∷ optional_row (codes "incremental") truth_way p.incremental
+    ∷ optional_row (codes "overflow-checks") truth_way p.overflow_checks
+    ∷ optional_row (codes "strip") strip_way p.strip
+    ∷ given_row (codes "package") (map_way free_way) p.«package»
+    ∷ optional_row (codes "build-override") free_way p.build_override
+    ∷ optional_row (codes "inherits") text_way p.inherits
     ∷ []
 
-abbrev pub ProfileTree : Profile → Data → Type 0
-ProfileTree p d = TableOf (profile_rows p) d
-
-abbrev pub refuses_profile : Profile → Error → Type 0
-refuses_profile p e = RefuseRows (profile_rows p) e
+abbrev pub profile_way : Way ProfileMeaning
+profile_way = table_way profile_rows
 
 -- the profiles that Cargo knows
-abbrev pub known_profiles : Profiles → List Row
+abbrev pub known_profiles : ProfilesMeaning → List Row
 known_profiles p =
-    if_there (codes "release") ProfileTree refuses_profile p.release
-    ∷ if_there (codes "dev") ProfileTree refuses_profile p.dev
-    ∷ if_there (codes "test") ProfileTree refuses_profile p.test
-    ∷ if_there (codes "bench") ProfileTree refuses_profile p.bench
-    ∷ if_there (codes "doc") ProfileTree refuses_profile p.doc
+    optional_row (codes "release") profile_way p.release
+    ∷ optional_row (codes "dev") profile_way p.dev
+    ∷ optional_row (codes "test") profile_way p.test
+    ∷ optional_row (codes "bench") profile_way p.bench
+    ∷ optional_row (codes "doc") profile_way p.doc
     ∷ []
 
 -- first those of other names, then those that Cargo knows, which are put over them
-abbrev pub profiles_rows : Profiles → List Row
-profiles_rows p = map_rows ProfileTree refuses_profile p.custom ++ known_profiles p
+abbrev pub profiles_rows : ProfilesMeaning → List Row
+profiles_rows p = entry_rows profile_way p.custom ++ known_profiles p
+
+-- no profile
+abbrev pub has_no_profile : ProfilesMeaning → Bool
+has_no_profile p =
+    is_none p.release
+    && is_none p.dev
+    && is_none p.test
+    && is_none p.bench
+    && is_none p.doc
+    && is_nil p.custom
+
+abbrev pub profiles_way : Way ProfilesMeaning
+profiles_way = record (table_way profiles_rows) { left_out = has_no_profile }

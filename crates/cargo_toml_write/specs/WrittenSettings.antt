@@ -1,10 +1,7 @@
--- The trees of the enums and settings that stand for one value.
-use Rattle.std.specs.Prelude.{◌≡◌, ℕ, List, codes, pos, map, true, false, string_bytes}
+-- How the enums and settings that stand for one value are written.
+use Rattle.std.specs.Prelude.{◌≡◌, List, ℕ, codes, pos, Bool, true, false}
 use Rattle.toml.specs.Data.{Data, string, integer, boolean}
-use Rattle.cargo_toml_tables.specs.declared.badge.MaintenanceStatus.{MaintenanceStatus}
-use Rattle.cargo_toml_tables.specs.declared.badge.MaintenanceStatus.TheVariants as status
-use Rattle.cargo_toml_tables.specs.declared.lint.LintLevel.{LintLevel}
-use Rattle.cargo_toml_tables.specs.declared.lint.LintLevel.TheVariants.{Allow, Warn, ForceWarn, Deny, Forbid}
+use Rattle.cargo_toml_parts.specs.declared.error.Error.{Error}
 use Rattle.cargo_toml_settings.specs.declared.profile_settings.DebugSetting.{DebugSetting}
 use Rattle.cargo_toml_settings.specs.declared.profile_settings.DebugSetting.TheVariants as debug
 use Rattle.cargo_toml_settings.specs.declared.profile_settings.LtoSetting.{LtoSetting}
@@ -12,19 +9,20 @@ use Rattle.cargo_toml_settings.specs.declared.profile_settings.LtoSetting.TheVar
 use Rattle.cargo_toml_settings.specs.declared.profile_settings.StripSetting.{StripSetting}
 use Rattle.cargo_toml_settings.specs.declared.profile_settings.StripSetting.TheVariants as strip
 use Rattle.cargo_toml_settings.specs.declared.settings.Edition.{Edition}
-use Rattle.cargo_toml_settings.specs.declared.settings.OptionalFile.{OptionalFile}
-use Rattle.cargo_toml_settings.specs.declared.settings.OptionalFile.TheVariants as file
-use Rattle.cargo_toml_settings.specs.declared.settings.Publish.{Publish}
-use Rattle.cargo_toml_settings.specs.declared.settings.Publish.TheVariants as whether
 use Rattle.cargo_toml_settings.specs.declared.settings.Resolver.{Resolver}
-use Rattle.cargo_toml_settings.specs.Settings.{edition_text, resolver_text}
-use Rattle.cargo_toml_write.specs.Trees.{texts_tree}
+use Rattle.cargo_toml_settings.specs.Settings.{edition_text, resolver_text, File, flag, path, Registries, everywhere, among}
+use Rattle.cargo_toml_tables.specs.declared.badge.MaintenanceStatus.{MaintenanceStatus}
+use Rattle.cargo_toml_tables.specs.declared.badge.MaintenanceStatus.TheVariants as status
+use Rattle.cargo_toml_tables.specs.declared.lint.LintLevel.{LintLevel}
+use Rattle.cargo_toml_tables.specs.declared.lint.LintLevel.TheVariants.{Allow, Warn, ForceWarn, Deny, Forbid}
+use Rattle.cargo_toml_write.specs.Ways.{exactly, texts_way}
+use Rattle.cargo_toml_write.specs.Writes.{Way}
 
-abbrev pub EditionTree : Edition → Data → Type 0
-EditionTree x d = d ≡ string (edition_text x)
+abbrev pub edition_way : Way Edition
+edition_way = exactly (λ x. string (edition_text x))
 
-abbrev pub ResolverTree : Resolver → Data → Type 0
-ResolverTree x d = d ≡ string (resolver_text x)
+abbrev pub resolver_way : Way Resolver
+resolver_way = exactly (λ x. string (resolver_text x))
 
 abbrev pub level_text : LintLevel → List ℕ
 level_text Allow = codes "allow"
@@ -33,8 +31,8 @@ level_text ForceWarn = codes "force-warn"
 level_text Deny = codes "deny"
 level_text Forbid = codes "forbid"
 
-abbrev pub LevelTree : LintLevel → Data → Type 0
-LevelTree x d = d ≡ string (level_text x)
+abbrev pub level_way : Way LintLevel
+level_way = exactly (λ x. string (level_text x))
 
 abbrev pub status_text : MaintenanceStatus → List ℕ
 status_text status.None = codes "none"
@@ -45,40 +43,60 @@ status_text status.Experimental = codes "experimental"
 status_text status.LookingForMaintainer = codes "looking-for-maintainer"
 status_text status.Deprecated = codes "deprecated"
 
-abbrev pub StatusTree : MaintenanceStatus → Data → Type 0
-StatusTree x d = d ≡ string (status_text x)
+abbrev pub status_way : Way MaintenanceStatus
+status_way = exactly (λ x. string (status_text x))
 
--- a file that is on or off, or its path
-abbrev pub file_tree : OptionalFile → Data
-file_tree (file.Flag b) = boolean b
-file_tree (file.Path p) = string (string_bytes p)
+-- a file that is on or off, or its path; it is left out where it is on
+abbrev pub file_tree : File → Data
+file_tree (flag b) = boolean b
+file_tree (path p) = string p
 
-abbrev pub FileTree : OptionalFile → Data → Type 0
-FileTree x d = d ≡ file_tree x
+abbrev pub is_usual : File → Bool
+is_usual (flag b) = b
+is_usual _ = false
 
--- everywhere or nowhere, or the registries
-abbrev pub publish_tree : Publish → Data
-publish_tree (whether.Flag b) = boolean b
-publish_tree (whether.Registry names) = texts_tree (map string_bytes names.items)
+abbrev pub file_way : Way File
+file_way = record {
+  trees = λ x d. d ≡ file_tree x;
+  refuses = λ x e. ⊥;
+  left_out = is_usual;
+}
 
-abbrev pub PublishTree : Publish → Data → Type 0
-PublishTree x d = d ≡ publish_tree x
+-- everywhere or nowhere, or the registries; it is left out where it is everywhere
+abbrev pub PublishTree : Registries → Data → Type 0
+PublishTree (everywhere b) d = d ≡ boolean b
+PublishTree (among names) d = texts_way.trees names d
+
+abbrev pub publish_refused : Registries → Error → Type 0
+publish_refused (everywhere b) e = ⊥
+publish_refused (among names) e = texts_way.refuses names e
+
+abbrev pub is_everywhere : Registries → Bool
+is_everywhere (everywhere b) = b
+is_everywhere _ = false
+
+abbrev pub publish_way : Way Registries
+publish_way = record {
+  trees = PublishTree;
+  refuses = publish_refused;
+  left_out = is_everywhere;
+}
 
 abbrev pub debug_tree : DebugSetting → Data
 debug_tree debug.None = boolean false
 debug_tree debug.Lines = integer (pos 1)
 debug_tree debug.Full = boolean true
 
-abbrev pub DebugTree : DebugSetting → Data → Type 0
-DebugTree x d = d ≡ debug_tree x
+abbrev pub debug_way : Way DebugSetting
+debug_way = exactly debug_tree
 
 abbrev pub strip_tree : StripSetting → Data
 strip_tree strip.None = boolean false
 strip_tree strip.Debuginfo = string (codes "debuginfo")
 strip_tree strip.Symbols = boolean true
 
-abbrev pub StripTree : StripSetting → Data → Type 0
-StripTree x d = d ≡ strip_tree x
+abbrev pub strip_way : Way StripSetting
+strip_way = exactly strip_tree
 
 abbrev pub lto_tree : LtoSetting → Data
 lto_tree lto.None = string (codes "off")
@@ -86,5 +104,5 @@ lto_tree lto.ThinLocal = boolean false
 lto_tree lto.Thin = string (codes "thin")
 lto_tree lto.Fat = boolean true
 
-abbrev pub LtoTree : LtoSetting → Data → Type 0
-LtoTree x d = d ≡ lto_tree x
+abbrev pub lto_way : Way LtoSetting
+lto_way = exactly lto_tree

@@ -1,54 +1,29 @@
--- The rows of a package template.
-use Rattle.std.specs.Prelude.{ℕ, List, [], ◌∷◌, codes, map, Bool, false, Option, option_map, String, Vec, string_bytes}
-use Rattle.std.specs.declared.alloc.Global.{Global}
-use Rattle.toml.specs.Data.{string}
-use Rattle.cargo_toml_settings.specs.declared.settings.OptionalFile.{OptionalFile}
-use Rattle.cargo_toml_settings.specs.declared.settings.Publish.{Publish}
-use Rattle.cargo_toml_settings.specs.Settings.{File, flag, file_meaning, Registries, everywhere, publish_meaning, edition_text}
-use Rattle.cargo_toml_package.specs.declared.template.PackageTemplate.{PackageTemplate}
-use Rattle.cargo_toml_write.specs.Trees.{VersionTree, never, texts_tree}
-use Rattle.cargo_toml_write.specs.WrittenSettings.{FileTree, PublishTree}
-use Rattle.cargo_toml_write.specs.Writes.{Row, told, if_there, unless}
+-- How package templates are written.
+use Rattle.std.specs.Prelude.{List, [], ◌∷◌, codes}
+use Rattle.cargo_toml_package.specs.Templates.{TemplateMeaning}
+use Rattle.cargo_toml_write.specs.Ways.{text_way, texts_way, version_way}
+use Rattle.cargo_toml_write.specs.WrittenSettings.{edition_way, file_way, publish_way}
+use Rattle.cargo_toml_write.specs.Writes.{Way, Row, optional_row, given_row, table_way}
 
--- a text, and a list of texts, where they are there
-abbrev pub text_row : List ℕ → Option (String Global) → Row
-text_row key text = told key (option_map string (option_map string_bytes text))
-
-abbrev pub list_row : List ℕ → Option (Vec (String Global) Global) → Row
-list_row key texts = told key (option_map (λ v. texts_tree (map string_bytes v.items)) texts)
-
--- the values of missing keys
-abbrev pub is_everywhere : Registries → Bool
-is_everywhere (everywhere b) = b
-is_everywhere _ = false
-
-abbrev pub is_usual : File → Bool
-is_usual (flag b) = b
-is_usual _ = false
-
--- where to publish, and a file, unless that is the value of a missing key
-abbrev pub publish_row : List ℕ → Publish → Row
-publish_row key publish = unless (is_everywhere (publish_meaning publish)) key PublishTree never publish
-
-abbrev pub file_row : List ℕ → OptionalFile → Row
-file_row key file = unless (is_usual (file_meaning file)) key FileTree never file
-
-abbrev pub template_rows : PackageTemplate → List Row
+abbrev pub template_rows : TemplateMeaning → List Row
 template_rows t =
-    list_row (codes "authors") t.authors
-    ∷ list_row (codes "categories") t.categories
-    ∷ text_row (codes "description") t.description
-    ∷ text_row (codes "documentation") t.documentation
-    ∷ told (codes "edition") (option_map (λ x. string (edition_text x)) t.edition)
-    ∷ list_row (codes "exclude") t.exclude
-    ∷ text_row (codes "homepage") t.homepage
-    ∷ list_row (codes "include") t.include
-    ∷ list_row (codes "keywords") t.keywords
-    ∷ text_row (codes "license") t.license
-    ∷ text_row (codes "license-file") t.license_file
-    ∷ publish_row (codes "publish") t.publish
-    ∷ file_row (codes "readme") t.readme
-    ∷ text_row (codes "repository") t.repository
-    ∷ text_row (codes "rust-version") t.rust_version
-    ∷ if_there (codes "version") VersionTree never t.version
+    optional_row (codes "authors") texts_way t.authors
+    ∷ optional_row (codes "categories") texts_way t.categories
+    ∷ optional_row (codes "description") text_way t.description
+    ∷ optional_row (codes "documentation") text_way t.documentation
+    ∷ optional_row (codes "edition") edition_way t.edition
+    ∷ optional_row (codes "exclude") texts_way t.exclude
+    ∷ optional_row (codes "homepage") text_way t.homepage
+    ∷ optional_row (codes "include") texts_way t.include
+    ∷ optional_row (codes "keywords") texts_way t.keywords
+    ∷ optional_row (codes "license") text_way t.license
+    ∷ optional_row (codes "license-file") text_way t.license_file
+    ∷ given_row (codes "publish") publish_way t.publish
+    ∷ given_row (codes "readme") file_way t.readme
+    ∷ optional_row (codes "repository") text_way t.repository
+    ∷ optional_row (codes "rust-version") text_way t.rust_version
+    ∷ optional_row (codes "version") version_way t.version
     ∷ []
+
+abbrev pub template_way : Way TemplateMeaning
+template_way = table_way template_rows

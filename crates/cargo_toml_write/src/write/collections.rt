@@ -1,19 +1,24 @@
 //! Lists and maps of what can be written, and values that a workspace may give.
-ghost use Rattle.std.specs.Prelude.{◌≡◌, List};
-ghost use Rattle.toml.specs.View.{view, table_view};
-ghost use Rattle.cargo_toml_write.specs.Trees.{ListOf, refuse_items, entry_rows, map_rows, inherited_tree, InheritableTree, refuses_inheritable};
-ghost use Rattle.cargo_toml_write.specs.Writes.{IsWriting, AddsRows, RefuseRows, Row, TableOf};
+ghost use Rattle.std.specs.Prelude.{◌≡◌, ℕ, List, map};
+ghost use Rattle.cargo_toml_parts.specs.declared.inheritable.Inheritable.{Inheritable};
+ghost use Rattle.cargo_toml_parts.specs.Inherits.{inheritable_map};
+ghost use Rattle.cargo_toml_parts.specs.Reads.{map_meaning};
+ghost use Rattle.cargo_toml_write.specs.Ways.{list_way, map_way, inheritable_way, exactly, inherited_tree};
+ghost use Rattle.cargo_toml_write.specs.Writes.{IsWriting};
 
-use crate::write::{ToValue, WriteRows, put, put_value, table_value};
+use crate::write::writing::Writing;
+use crate::write::{LeftOut, ToValue, put};
 use cargo_toml_parts::{Error, Inheritable};
 use std::alloc::Global;
 use std::collections::BTreeMap;
 use toml::{Table, Value};
 
 impl<T: ToValue> ToValue for Vec<T> {
-    ghost Written = { λ v. ListOf T.Written v.items };
+    ghost Meaning = { List T.Meaning };
 
-    ghost write_refuses = { λ v. refuse_items T.Written T.write_refuses v.items };
+    ghost meaning = { λ v. map T.meaning v.items };
+
+    ghost way = { list_way T.way };
 
     fn to_value(&self, alloc: Global) -> Result<Value, Error> {
         let mut values = Vec::with_capacity(alloc, self.len())?;
@@ -24,30 +29,37 @@ impl<T: ToValue> ToValue for Vec<T> {
     }
 }
 
-impl<T: ToValue> WriteRows for BTreeMap<String, T> {
-    ghost rows = { map_rows T.Written T.write_refuses };
-
-    fn write_rows(&self, table: &mut Table, alloc: Global) -> Result<(), Error> {
-        for (key, x) in self.iter() {
-            put_value(table, alloc, key.as_str(), x)?;
-        }
-        Ok(())
+/// An empty list is left out.
+impl<T: ToValue> LeftOut for Vec<T> {
+    fn is_left_out(&self) -> bool {
+        self.is_empty()
     }
 }
 
 impl<T: ToValue> ToValue for BTreeMap<String, T> {
-    ghost Written = { λ m. TableOf (map_rows T.Written T.write_refuses m) };
+    ghost Meaning = { List (List ℕ × T.Meaning) };
 
-    ghost write_refuses = { λ m. RefuseRows (map_rows T.Written T.write_refuses m) };
+    ghost meaning = { map_meaning T.meaning };
+
+    ghost way = { map_way T.way };
 
     fn to_value(&self, alloc: Global) -> Result<Value, Error> {
-        table_value(self, alloc)
+        let mut writing = Writing::new(alloc);
+        writing.entries(self);
+        writing.finish()
+    }
+}
+
+/// An empty map is left out.
+impl<T: ToValue> LeftOut for BTreeMap<String, T> {
+    fn is_left_out(&self) -> bool {
+        self.is_empty()
     }
 }
 
 /// The table `{ workspace = true }`, which says that the workspace gives a value.
-pub fn inherited_value(alloc: Global) -> Result<Value, Error>
-    ensures { IsWriting view (λ d. d ≡ inherited_tree) (λ e. ⊥) result }
+fn inherited_value(alloc: Global) -> Result<Value, Error>
+    ensures { IsWriting (exactly (λ x. x)) inherited_tree result }
 {
     let mut table = Table::new(alloc);
     put(&mut table, alloc, "workspace", Value::Boolean(true))?;
@@ -56,14 +68,26 @@ pub fn inherited_value(alloc: Global) -> Result<Value, Error>
 
 /// A value that the workspace gives is written as `{ workspace = true }`.
 impl<T: ToValue> ToValue for Inheritable<T> {
-    ghost Written = { InheritableTree T.Written };
+    ghost Meaning = { Inheritable T.Meaning };
 
-    ghost write_refuses = { refuses_inheritable T.write_refuses };
+    ghost meaning = { inheritable_map T.meaning };
+
+    ghost way = { inheritable_way T.way };
 
     fn to_value(&self, alloc: Global) -> Result<Value, Error> {
         match self {
             Inheritable::Set(x) => x.to_value(alloc),
             Inheritable::Inherited => inherited_value(alloc),
+        }
+    }
+}
+
+/// What is set is left out as it is alone. What is inherited is always written.
+impl<T: LeftOut> LeftOut for Inheritable<T> {
+    fn is_left_out(&self) -> bool {
+        match self {
+            Inheritable::Set(x) => x.is_left_out(),
+            Inheritable::Inherited => false,
         }
     }
 }

@@ -1,86 +1,64 @@
 //! Writers of dependencies.
-ghost use Rattle.toml.specs.View.{table_view};
-ghost use Rattle.cargo_toml_dependencies.specs.Dependencies.{inherited_meaning};
-ghost use Rattle.cargo_toml_write.specs.WrittenDependencies.{inherited_rows, known_rows, detail_rows, DependencyTree, refuses_dependency};
-ghost use Rattle.cargo_toml_write.specs.Writes.{AddsRows, RefuseRows, TableOf};
+ghost use Rattle.cargo_toml_dependencies.specs.Dependencies.{InheritedMeaning, DetailMeaning, DependencyMeaning, inherited_meaning, detail_meaning, dependency_meaning};
+ghost use Rattle.cargo_toml_dependencies.specs.Targets.{TargetMeaning, target_meaning};
+ghost use Rattle.cargo_toml_write.specs.WrittenDependencies.{inherited_way, detail_way, dependency_way, target_way};
 
-use crate::write::plain::{put_flag, put_text_if, put_texts};
-use crate::write::{ToValue, WriteRows, put_if, table_value};
-use cargo_toml_dependencies::{Dependency, DependencyDetail, InheritedDependencyDetail};
+use crate::write::ToValue;
+use crate::write::writing::Writing;
+use cargo_toml_dependencies::{Dependency, DependencyDetail, InheritedDependencyDetail, Target};
 use cargo_toml_parts::Error;
 use std::alloc::Global;
-use toml::{Table, Value};
-
-impl WriteRows for InheritedDependencyDetail {
-    ghost rows = { λ i. inherited_rows (inherited_meaning i) };
-
-    fn write_rows(&self, table: &mut Table, alloc: Global) -> Result<(), Error> {
-        put_texts(table, alloc, "features", &self.features)?;
-        put_flag(table, alloc, "optional", false, self.optional)?;
-        put_flag(table, alloc, "workspace", false, self.workspace)?;
-        Ok(())
-    }
-}
+use toml::Value;
 
 impl ToValue for InheritedDependencyDetail {
-    ghost Written = { λ i. TableOf (inherited_rows (inherited_meaning i)) };
+    ghost Meaning = { InheritedMeaning };
 
-    ghost write_refuses = { λ i. RefuseRows (inherited_rows (inherited_meaning i)) };
+    ghost meaning = { inherited_meaning };
+
+    ghost way = { inherited_way };
 
     fn to_value(&self, alloc: Global) -> Result<Value, Error> {
-        table_value(self, alloc)
+        let mut writing = Writing::new(alloc);
+        writing.given("features", &self.features);
+        writing.flag("optional", false, self.optional);
+        writing.flag("workspace", false, self.workspace);
+        writing.finish()
     }
-}
-
-/// Writes the keys that a detail knows.
-fn put_known(table: &mut Table, alloc: Global, detail: &DependencyDetail) -> Result<(), Error>
-    ensures { AddsRows (known_rows detail.now) (table_view table.old) (table_view table.new) result }
-{
-    put_if(table, alloc, "version", &detail.version)?;
-    put_text_if(table, alloc, "package", &detail.package)?;
-    put_text_if(table, alloc, "registry", &detail.registry)?;
-    put_text_if(table, alloc, "registry-index", &detail.registry_index)?;
-    put_text_if(table, alloc, "path", &detail.path)?;
-    put_text_if(table, alloc, "git", &detail.git)?;
-    put_text_if(table, alloc, "branch", &detail.branch)?;
-    put_text_if(table, alloc, "tag", &detail.tag)?;
-    put_text_if(table, alloc, "rev", &detail.rev)?;
-    put_texts(table, alloc, "features", &detail.features)?;
-    put_flag(table, alloc, "optional", false, detail.optional)?;
-    put_flag(
-        table,
-        alloc,
-        "default-features",
-        true,
-        detail.default_features,
-    )?;
-    Ok(())
 }
 
 /// The keys that were collected are written first, so that one that a detail knows is put over a collected one.
-impl WriteRows for DependencyDetail {
-    ghost rows = { detail_rows };
-
-    fn write_rows(&self, table: &mut Table, alloc: Global) -> Result<(), Error> {
-        self.unstable.write_rows(table, alloc)?;
-        put_known(table, alloc, self)
-    }
-}
-
 impl ToValue for DependencyDetail {
-    ghost Written = { λ d. TableOf (detail_rows d) };
+    ghost Meaning = { DetailMeaning };
 
-    ghost write_refuses = { λ d. RefuseRows (detail_rows d) };
+    ghost meaning = { detail_meaning };
+
+    ghost way = { detail_way };
 
     fn to_value(&self, alloc: Global) -> Result<Value, Error> {
-        table_value(self, alloc)
+        let mut writing = Writing::new(alloc);
+        writing.entries(&self.unstable);
+        writing.optional("version", &self.version);
+        writing.optional("package", &self.package);
+        writing.optional("registry", &self.registry);
+        writing.optional("registry-index", &self.registry_index);
+        writing.optional("path", &self.path);
+        writing.optional("git", &self.git);
+        writing.optional("branch", &self.branch);
+        writing.optional("tag", &self.tag);
+        writing.optional("rev", &self.rev);
+        writing.given("features", &self.features);
+        writing.flag("optional", false, self.optional);
+        writing.flag("default-features", true, self.default_features);
+        writing.finish()
     }
 }
 
 impl ToValue for Dependency {
-    ghost Written = { DependencyTree };
+    ghost Meaning = { DependencyMeaning };
 
-    ghost write_refuses = { refuses_dependency };
+    ghost meaning = { dependency_meaning };
+
+    ghost way = { dependency_way };
 
     fn to_value(&self, alloc: Global) -> Result<Value, Error> {
         match self {
@@ -88,5 +66,22 @@ impl ToValue for Dependency {
             Dependency::Inherited(detail) => detail.to_value(alloc),
             Dependency::Detailed(detail) => detail.to_value(alloc),
         }
+    }
+}
+
+/// All three tables are written, empty ones too.
+impl ToValue for Target {
+    ghost Meaning = { TargetMeaning };
+
+    ghost meaning = { target_meaning };
+
+    ghost way = { target_way };
+
+    fn to_value(&self, alloc: Global) -> Result<Value, Error> {
+        let mut writing = Writing::new(alloc);
+        writing.required("dependencies", &self.dependencies);
+        writing.required("dev-dependencies", &self.dev_dependencies);
+        writing.required("build-dependencies", &self.build_dependencies);
+        writing.finish()
     }
 }

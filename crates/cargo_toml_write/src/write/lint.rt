@@ -1,24 +1,34 @@
 //! The writer of lints.
 ghost use Rattle.std.specs.Prelude.{◌≡◌, Some, IfOk};
 ghost use Rattle.toml.specs.Data.{integer};
-ghost use Rattle.toml.specs.View.{view, table_view};
-ghost use Rattle.cargo_toml_tables.specs.Lints.{lint_meaning, lint_of};
+ghost use Rattle.toml.specs.View.{view};
+ghost use Rattle.cargo_toml_parts.specs.Floats.{members_have_no_float};
 ghost use Rattle.cargo_toml_parts.specs.Numbers.{i8_of};
+ghost use Rattle.cargo_toml_parts.specs.Reads.{map_meaning};
+ghost use Rattle.cargo_toml_tables.specs.Lints.{LintMeaning, lint_meaning, lint_of};
 ghost use Rattle.cargo_toml_write.specs.Writes.{IsWriting};
-ghost use Rattle.cargo_toml_write.specs.WrittenLints.{is_level_alone, LintTable, LintTree, refuses_lint, IsApart};
+ghost use Rattle.cargo_toml_write.specs.WrittenLints.{is_level_alone, members_of, table_lint_way, lint_way, IsApart};
 
 use crate::write::{ToValue, put};
 use cargo_toml_parts::Error;
 use cargo_toml_parts::floats::table_has_no_float;
 use cargo_toml_tables::Lint;
 use std::alloc::Global;
+use std::collections::BTreeMap;
 use toml::Value;
 
 /// Whether the level says all of a lint.
 fn is_level_alone(lint: &Lint) -> bool
-    ensures { result ≡ is_level_alone lint.now }
+    ensures { result ≡ is_level_alone (lint_meaning lint.now) }
 {
     lint.priority == 0 && lint.config.is_empty()
+}
+
+/// Whether no float is in what else is said of a lint.
+fn has_no_float(config: &BTreeMap<String, Value>) -> bool
+    ensures { result ≡ members_have_no_float (members_of (map_meaning view config.now)) }
+{
+    table_has_no_float(config)
 }
 
 /// The priority of a lint, which is read again as it is.
@@ -31,10 +41,10 @@ fn priority_value(lint: &Lint) -> Value
 
 /// The table of a lint: a copy of its config, over which the level and the priority are put.
 fn lint_table(lint: &Lint, alloc: Global) -> Result<Value, Error>
-    ensures written { IsWriting view (LintTable lint.now) (refuses_lint lint.now) result }
-    ensures read_again { IsApart lint.now → IfOk result (λ v. lint_of (view v) ≡ Some (lint_meaning lint.now)) }
+    ensures written { IsWriting table_lint_way (lint_meaning lint.now) result }
+    ensures read_again { IsApart (lint_meaning lint.now) → IfOk result (λ v. lint_of (view v) ≡ Some (lint_meaning lint.now)) }
 {
-    if !table_has_no_float(&lint.config) {
+    if !has_no_float(&lint.config) {
         return Err(Error::Other("floats are not supported"));
     }
     let mut table = lint.config.clone()?;
@@ -45,13 +55,15 @@ fn lint_table(lint: &Lint, alloc: Global) -> Result<Value, Error>
 
 /// A lint is written as its level where its priority is 0 and nothing else is said of it, and as a table else.
 impl ToValue for Lint {
-    ghost Written = { LintTree };
+    ghost Meaning = { LintMeaning };
 
-    ghost write_refuses = { refuses_lint };
+    ghost meaning = { lint_meaning };
+
+    ghost way = { lint_way };
 
     fn to_value(&self, alloc: Global) -> Result<Value, Error>
-        ensures written { IsWriting view (LintTree self.now) (refuses_lint self.now) result }
-        ensures read_again { IsApart self.now → IfOk result (λ v. lint_of (view v) ≡ Some (lint_meaning self.now)) }
+        ensures written { IsWriting lint_way (lint_meaning self.now) result }
+        ensures read_again { IsApart (lint_meaning self.now) → IfOk result (λ v. lint_of (view v) ≡ Some (lint_meaning self.now)) }
     {
         if is_level_alone(self) {
             return self.level.to_value(alloc);

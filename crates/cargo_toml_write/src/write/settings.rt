@@ -2,16 +2,21 @@
 ghost use Rattle.std.specs.Prelude.{◌≡◌, Some, IfOk, option_and_then};
 ghost use Rattle.toml.specs.Data.{as_str};
 ghost use Rattle.toml.specs.View.{view};
+ghost use Rattle.cargo_toml_settings.specs.declared.profile_settings.DebugSetting.{DebugSetting};
+ghost use Rattle.cargo_toml_settings.specs.declared.profile_settings.LtoSetting.{LtoSetting};
+ghost use Rattle.cargo_toml_settings.specs.declared.profile_settings.StripSetting.{StripSetting};
+ghost use Rattle.cargo_toml_settings.specs.declared.settings.Edition.{Edition};
+ghost use Rattle.cargo_toml_settings.specs.declared.settings.Resolver.{Resolver};
+ghost use Rattle.cargo_toml_settings.specs.ProfileSettings.{debug_of, strip_of, lto_of};
+ghost use Rattle.cargo_toml_settings.specs.Settings.{File, Registries, edition_of, resolver_of, file_of, file_meaning, publish_of, publish_meaning};
+ghost use Rattle.cargo_toml_tables.specs.declared.badge.MaintenanceStatus.{MaintenanceStatus};
+ghost use Rattle.cargo_toml_tables.specs.declared.lint.LintLevel.{LintLevel};
 ghost use Rattle.cargo_toml_tables.specs.Badges.{status_of};
 ghost use Rattle.cargo_toml_tables.specs.Lints.{level_of};
-ghost use Rattle.cargo_toml_settings.specs.ProfileSettings.{debug_of, strip_of, lto_of};
-ghost use Rattle.cargo_toml_settings.specs.Settings.{edition_of, resolver_of, file_of, file_meaning, publish_of, publish_meaning};
-ghost use Rattle.cargo_toml_write.specs.Trees.{never};
-ghost use Rattle.cargo_toml_write.specs.WrittenSettings.{EditionTree, ResolverTree, LevelTree, StatusTree, FileTree, PublishTree, DebugTree, StripTree, LtoTree};
 ghost use Rattle.cargo_toml_write.specs.Writes.{IsWriting};
+ghost use Rattle.cargo_toml_write.specs.WrittenSettings.{edition_way, resolver_way, level_way, status_way, file_way, publish_way, debug_way, strip_way, lto_way};
 
-use crate::write::ToValue;
-use crate::write::plain::texts_value;
+use crate::write::{LeftOut, ToValue};
 use cargo_toml_parts::Error;
 use cargo_toml_settings::{DebugSetting, Edition, LtoSetting, OptionalFile, Publish, Resolver, StripSetting};
 use cargo_toml_tables::{LintLevel, MaintenanceStatus};
@@ -19,12 +24,14 @@ use std::alloc::Global;
 use toml::Value;
 
 impl ToValue for Edition {
-    ghost Written = { EditionTree };
+    ghost Meaning = { Edition };
 
-    ghost write_refuses = { never };
+    ghost meaning = { λ x. x };
+
+    ghost way = { edition_way };
 
     fn to_value(&self, alloc: Global) -> Result<Value, Error>
-        ensures written { IsWriting view (EditionTree self.now) (never self.now) result }
+        ensures written { IsWriting edition_way self.now result }
         ensures read_again { IfOk result (λ v. option_and_then edition_of (as_str (view v)) ≡ Some self.now) }
     {
         let text = match self {
@@ -38,12 +45,14 @@ impl ToValue for Edition {
 }
 
 impl ToValue for Resolver {
-    ghost Written = { ResolverTree };
+    ghost Meaning = { Resolver };
 
-    ghost write_refuses = { never };
+    ghost meaning = { λ x. x };
+
+    ghost way = { resolver_way };
 
     fn to_value(&self, alloc: Global) -> Result<Value, Error>
-        ensures written { IsWriting view (ResolverTree self.now) (never self.now) result }
+        ensures written { IsWriting resolver_way self.now result }
         ensures read_again { IfOk result (λ v. option_and_then resolver_of (as_str (view v)) ≡ Some self.now) }
     {
         let text = match self {
@@ -56,12 +65,14 @@ impl ToValue for Resolver {
 }
 
 impl ToValue for LintLevel {
-    ghost Written = { LevelTree };
+    ghost Meaning = { LintLevel };
 
-    ghost write_refuses = { never };
+    ghost meaning = { λ x. x };
+
+    ghost way = { level_way };
 
     fn to_value(&self, alloc: Global) -> Result<Value, Error>
-        ensures written { IsWriting view (LevelTree self.now) (never self.now) result }
+        ensures written { IsWriting level_way self.now result }
         ensures read_again { IfOk result (λ v. level_of (view v) ≡ Some self.now) }
     {
         let text = match self {
@@ -76,12 +87,14 @@ impl ToValue for LintLevel {
 }
 
 impl ToValue for MaintenanceStatus {
-    ghost Written = { StatusTree };
+    ghost Meaning = { MaintenanceStatus };
 
-    ghost write_refuses = { never };
+    ghost meaning = { λ x. x };
+
+    ghost way = { status_way };
 
     fn to_value(&self, alloc: Global) -> Result<Value, Error>
-        ensures written { IsWriting view (StatusTree self.now) (never self.now) result }
+        ensures written { IsWriting status_way self.now result }
         ensures read_again { IfOk result (λ v. status_of (view v) ≡ Some self.now) }
     {
         let text = match self {
@@ -98,12 +111,14 @@ impl ToValue for MaintenanceStatus {
 }
 
 impl ToValue for OptionalFile {
-    ghost Written = { FileTree };
+    ghost Meaning = { File };
 
-    ghost write_refuses = { never };
+    ghost meaning = { file_meaning };
+
+    ghost way = { file_way };
 
     fn to_value(&self, _alloc: Global) -> Result<Value, Error>
-        ensures written { IsWriting view (FileTree self.now) (never self.now) result }
+        ensures written { IsWriting file_way (file_meaning self.now) result }
         ensures read_again { IfOk result (λ v. file_of (view v) ≡ Some (file_meaning self.now)) }
     {
         match self {
@@ -113,29 +128,53 @@ impl ToValue for OptionalFile {
     }
 }
 
-impl ToValue for Publish {
-    ghost Written = { PublishTree };
+/// A file is left out where it is on.
+impl LeftOut for OptionalFile {
+    fn is_left_out(&self) -> bool {
+        match self {
+            OptionalFile::Flag(flag) => *flag,
+            OptionalFile::Path(_) => false,
+        }
+    }
+}
 
-    ghost write_refuses = { never };
+impl ToValue for Publish {
+    ghost Meaning = { Registries };
+
+    ghost meaning = { publish_meaning };
+
+    ghost way = { publish_way };
 
     fn to_value(&self, alloc: Global) -> Result<Value, Error>
-        ensures written { IsWriting view (PublishTree self.now) (never self.now) result }
+        ensures written { IsWriting publish_way (publish_meaning self.now) result }
         ensures read_again { IfOk result (λ v. publish_of (view v) ≡ Some (publish_meaning self.now)) }
     {
         match self {
             Publish::Flag(flag) => Ok(Value::Boolean(*flag)),
-            Publish::Registry(names) => texts_value(alloc, names),
+            Publish::Registry(names) => names.to_value(alloc),
+        }
+    }
+}
+
+/// Where to publish is left out where that is everywhere.
+impl LeftOut for Publish {
+    fn is_left_out(&self) -> bool {
+        match self {
+            Publish::Flag(flag) => *flag,
+            Publish::Registry(_) => false,
         }
     }
 }
 
 impl ToValue for DebugSetting {
-    ghost Written = { DebugTree };
+    ghost Meaning = { DebugSetting };
 
-    ghost write_refuses = { never };
+    ghost meaning = { λ x. x };
+
+    ghost way = { debug_way };
 
     fn to_value(&self, _alloc: Global) -> Result<Value, Error>
-        ensures written { IsWriting view (DebugTree self.now) (never self.now) result }
+        ensures written { IsWriting debug_way self.now result }
         ensures read_again { IfOk result (λ v. debug_of (view v) ≡ Some self.now) }
     {
         match self {
@@ -147,12 +186,14 @@ impl ToValue for DebugSetting {
 }
 
 impl ToValue for StripSetting {
-    ghost Written = { StripTree };
+    ghost Meaning = { StripSetting };
 
-    ghost write_refuses = { never };
+    ghost meaning = { λ x. x };
+
+    ghost way = { strip_way };
 
     fn to_value(&self, alloc: Global) -> Result<Value, Error>
-        ensures written { IsWriting view (StripTree self.now) (never self.now) result }
+        ensures written { IsWriting strip_way self.now result }
         ensures read_again { IfOk result (λ v. strip_of (view v) ≡ Some self.now) }
     {
         match self {
@@ -164,12 +205,14 @@ impl ToValue for StripSetting {
 }
 
 impl ToValue for LtoSetting {
-    ghost Written = { LtoTree };
+    ghost Meaning = { LtoSetting };
 
-    ghost write_refuses = { never };
+    ghost meaning = { λ x. x };
+
+    ghost way = { lto_way };
 
     fn to_value(&self, alloc: Global) -> Result<Value, Error>
-        ensures written { IsWriting view (LtoTree self.now) (never self.now) result }
+        ensures written { IsWriting lto_way self.now result }
         ensures read_again { IfOk result (λ v. lto_of (view v) ≡ Some self.now) }
     {
         match self {

@@ -1,7 +1,19 @@
 use Rattle.cargo_toml_tables.specs.Badges.{badge_meaning}
+use Rattle.cargo_toml_write.specs.WrittenBadges.{badge_way, badge_rows}
+use Rattle.cargo_toml_write.specs.Writes.{IsWriting}
 use Rattle.cargo_toml_write.proofs.ReadAgainBadges.{badge_again}
-use Rattle.cargo_toml_write.proofs.ReadAgainRows.{written_then}
+use Rattle.cargo_toml_write.proofs.ReadAgain.{written_then}
+use Rattle.cargo_toml_write.proofs.Rows.{then, done, ends}
 use Rattle.cargo_toml_write.proofs.write.badge.BadgeToValue.to_value.Goals as goal
 
-pub returns-clause-read_again : goal.returns-clause-read_again
-returns-clause-read_again c = written_then _ _ _ _ c.table_value.result c.table_value.ensures (badge_again (badge_meaning c.args.self.now))
+pub returns : goal.returns
+returns c =
+    let written : IsWriting badge_way (badge_meaning c.args.self.now) c.finish.result = ends badge_rows (badge_meaning c.args.self.now) _ _ _ _ c.finish.result c.new-writing.ensures.no_fault c.new-writing.ensures.no_key
+    (then _ _ _ _ _ _ _ _ c.required.ensures
+    (then _ _ _ _ _ _ _ _ c.required-2.ensures
+    (then _ _ _ _ _ _ _ _ c.optional.ensures
+    (then _ _ _ _ _ _ _ _ c.optional-2.ensures
+    (then _ _ _ _ _ _ _ _ c.optional-3.ensures
+    (done _ _))))))
+    c.finish.ensures in
+    record { written = written; read_again = written_then badge_way (badge_meaning c.args.self.now) _ c.finish.result written (badge_again (badge_meaning c.args.self.now)) }

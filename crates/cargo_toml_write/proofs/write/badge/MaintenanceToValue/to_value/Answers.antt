@@ -1,6 +1,14 @@
+use Rattle.cargo_toml_write.specs.WrittenBadges.{maintenance_way, maintenance_rows}
+use Rattle.cargo_toml_write.specs.Writes.{IsWriting}
 use Rattle.cargo_toml_write.proofs.ReadAgainBadges.{maintenance_again}
-use Rattle.cargo_toml_write.proofs.ReadAgainRows.{written_then}
+use Rattle.cargo_toml_write.proofs.ReadAgain.{written_then}
+use Rattle.cargo_toml_write.proofs.Rows.{then, done, ends}
 use Rattle.cargo_toml_write.proofs.write.badge.MaintenanceToValue.to_value.Goals as goal
 
-pub returns-clause-read_again : goal.returns-clause-read_again
-returns-clause-read_again c = written_then _ _ _ _ c.table_value.result c.table_value.ensures (maintenance_again c.args.self.now.status)
+pub returns : goal.returns
+returns c =
+    let written : IsWriting maintenance_way c.args.self.now.status c.finish.result = ends maintenance_rows c.args.self.now.status _ _ _ _ c.finish.result c.new-writing.ensures.no_fault c.new-writing.ensures.no_key
+    (then _ _ _ _ _ _ _ _ c.required.ensures
+    (done _ _))
+    c.finish.ensures in
+    record { written = written; read_again = written_then maintenance_way c.args.self.now.status _ c.finish.result written (maintenance_again c.args.self.now.status) }

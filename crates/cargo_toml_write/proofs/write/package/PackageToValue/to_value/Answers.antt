@@ -1,9 +1,48 @@
-use Rattle.toml.specs.View.{view}
-use Rattle.cargo_toml_write.proofs.PackageAgain.{package_again}
-use Rattle.cargo_toml_write.proofs.ReadAgainRows.{written_then}
+use Rattle.cargo_toml_package.specs.Packages.{package_meaning}
+use Rattle.cargo_toml_write.specs.WrittenPackages.{package_way, package_rows}
+use Rattle.cargo_toml_write.specs.Writes.{IsWriting}
+use Rattle.cargo_toml_write.proofs.ReadAgainPackages.{package_again}
+use Rattle.cargo_toml_write.proofs.ReadAgain.{written_then}
+use Rattle.cargo_toml_write.proofs.Rows.{then, done, ends}
 use Rattle.cargo_toml_write.proofs.write.package.PackageToValue.to_value.Goals as goal
 
-pub returns-clause-read_again : goal.returns-clause-read_again
-returns-clause-read_again g c version metadata =
-    written_then view _ _ _ c.table_value.result c.table_value.ensures
-    (λ d tree. package_again g.Metadata.ToValue.Written g.Metadata.ToValue.write_refuses g.Metadata.FromValue.meaning g.Metadata.FromValue.from_tree c.args.self.now d tree version metadata)
+pub returns : goal.returns
+returns g c =
+    let written : IsWriting (package_way g.Metadata.ToValue.way) (package_meaning g.Metadata.ToValue.meaning c.args.self.now) c.finish.result = ends (package_rows g.Metadata.ToValue.way) (package_meaning g.Metadata.ToValue.meaning c.args.self.now) _ _ _ _ c.finish.result c.new-writing.ensures.no_fault c.new-writing.ensures.no_key
+    (then _ _ _ _ _ _ _ _ c.required.ensures
+    (then _ _ _ _ _ _ _ _ c.required-2.ensures
+    (then _ _ _ _ _ _ _ _ c.required-3.ensures
+    (then _ _ _ _ _ _ _ _ c.optional.ensures
+    (then _ _ _ _ _ _ _ _ c.optional-2.ensures
+    (then _ _ _ _ _ _ _ _ c.optional-3.ensures
+    (then _ _ _ _ _ _ _ _ c.given.ensures
+    (then _ _ _ _ _ _ _ _ c.optional-4.ensures
+    (then _ _ _ _ _ _ _ _ c.optional-5.ensures
+    (then _ _ _ _ _ _ _ _ c.optional-6.ensures
+    (then _ _ _ _ _ _ _ _ c.optional-7.ensures
+    (then _ _ _ _ _ _ _ _ c.given-2.ensures
+    (then _ _ _ _ _ _ _ _ c.given-3.ensures
+    (then _ _ _ _ _ _ _ _ c.given-4.ensures
+    (then _ _ _ _ _ _ _ _ c.given-5.ensures
+    (then _ _ _ _ _ _ _ _ c.given-6.ensures
+    (then _ _ _ _ _ _ _ _ c.optional-8.ensures
+    (then _ _ _ _ _ _ _ _ c.optional-9.ensures
+    (then _ _ _ _ _ _ _ _ c.optional-10.ensures
+    (then _ _ _ _ _ _ _ _ c.optional-11.ensures
+    (then _ _ _ _ _ _ _ _ c.flag.ensures
+    (then _ _ _ _ _ _ _ _ c.flag-2.ensures
+    (then _ _ _ _ _ _ _ _ c.flag-3.ensures
+    (then _ _ _ _ _ _ _ _ c.flag-4.ensures
+    (then _ _ _ _ _ _ _ _ c.flag-5.ensures
+    (then _ _ _ _ _ _ _ _ c.given-7.ensures
+    (then _ _ _ _ _ _ _ _ c.optional-12.ensures
+    (then _ _ _ _ _ _ _ _ c.optional-13.ensures
+    (done _ _)))))))))))))))))))))))))))))
+    c.finish.ensures in
+    record {
+      written = written;
+      read_again = λ version metadata.
+          written_then (package_way g.Metadata.ToValue.way) (package_meaning g.Metadata.ToValue.meaning c.args.self.now) _ c.finish.result written
+          (package_again g.Metadata.ToValue.way g.Metadata.ToValue.meaning g.Metadata.FromValue.meaning g.Metadata.FromValue.from_tree
+          c.args.self.now version metadata);
+    }

@@ -1,0 +1,152 @@
+-- What the keys of a written table hold, and what they read as.
+use Prim.Native.String.{String as Words}
+use Rattle.std.proofs.Common.{◌≡◌, ◌∙◌, refl, sym, ap, subst, Bool, true, false, cond, ℕ, List, [], ◌∷◌, codes, nat_cmp, is_eq, Option, Some, None, option_map, Result, Ok, Err, IfOk}
+use Rattle.std.specs.Bool.{MatchBool}
+use Rattle.std.specs.Cmp.Lexicographic.{slice_cmp}
+use Rattle.std.specs.Result.{result_ok}
+use Rattle.std.proofs.lemmas.Map.Text.{is_eq-slice_cmp}
+use Rattle.std.proofs.lemmas.Slice.Eq.{bytes_eq-Decides}
+use Rattle.semver.specs.Identifiers.{parts_text}
+use Rattle.toml.specs.Data.{Data, string, boolean, Members, get_member, Items, no_items, item, as_str, as_bool}
+use Rattle.toml.specs.View.{view}
+use Rattle.toml.specs.declared.value.Value.{Value}
+use Rattle.cargo_toml_parts.specs.declared.error.Error.{Error}
+use Rattle.cargo_toml_parts.specs.declared.inheritable.Inheritable.{Inheritable}
+use Rattle.cargo_toml_parts.specs.declared.inheritable.Inheritable.TheVariants.{Set, Inherited}
+use Rattle.cargo_toml_parts.specs.Inherits.{inheritable_of, set_or, workspace_flag}
+use Rattle.cargo_toml_parts.specs.Reads.{items_reads, list_of, required_of, optional_of, given_of, required_at, optional_at, given_at}
+use Rattle.cargo_toml_parts.specs.Versions.{Parts, version_of}
+use Rattle.cargo_toml_write.specs.Ways.{text_way, texts_way, truth_way, version_way, inheritable_way, inherited_tree, AreItems, is_nil, is_set_and, unless_missing}
+use Rattle.cargo_toml_write.specs.WrittenPackages.{VersionAgain}
+use Rattle.cargo_toml_write.specs.Writes.{Way, IsWriting, Row, IsHeld, AreWritten, put, put_some, unless}
+use Rattle.cargo_toml_write.proofs.Tables.{get_put-same, get_put-other}
+
+-- what holds of each tree of a value holds of the one that was written
+pub written_then : {X : Type 0} (way : Way X) (x : X) (P : Data → Type 0) (r : Result Value Error) → IsWriting way x r → ((d : Data) → way.trees x d → P d) → IfOk r (λ v. P (view v))
+written_then way x P (Ok v) tree holds = holds (view v) tree
+written_then way x P (Err e) fault holds = tt
+
+-- what a key holds after a row was written
+abbrev pub or_else : Option Data → Option Data → Option Data
+or_else None o = o
+or_else (Some d) o = Some d
+
+put_at : (b : Bool) (k l : List ℕ) (d : Data) (ms : Members) → b ≡ is_eq (slice_cmp nat_cmp k l) → get_member k (put l d ms) ≡ cond b (Some d) (get_member k ms)
+put_at true k l d ms h =
+    let same : k ≡ l = (bytes_eq-Decides k l).0 (sym (h ∙ is_eq-slice_cmp k l)) in
+    rw same (get_put-same l d ms)
+put_at false k l d ms h = get_put-other k l d ms (sym h)
+
+either : (b : Bool) (o : Option Data) → o ≡ cond b o o
+either true o = refl
+either false o = refl
+
+put_some_at : (k l : List ℕ) (d : Option Data) (ms : Members)
+    → get_member k (put_some l d ms) ≡ cond (is_eq (slice_cmp nat_cmp k l)) (or_else d (get_member k ms)) (get_member k ms)
+put_some_at k l None ms = either (is_eq (slice_cmp nat_cmp k l)) (get_member k ms)
+put_some_at k l (Some d) ms = put_at (is_eq (slice_cmp nat_cmp k l)) k l d ms refl
+
+-- what a key that held `old` holds after the rows: what the rows of that key say, and else what it held
+abbrev pub Got : List ℕ → List Row → Option Data → Option Data → Type 0
+Got k [] old new = new ≡ old
+Got k (r ∷ rs) old new = MatchBool (is_eq (slice_cmp nat_cmp k r.key)) ((o : Option Data) × r.holds o × Got k rs (or_else o old) new) (Got k rs old new)
+
+one_got : (b : Bool) (k : List ℕ) (r : Row) (rs : List Row) (o old mid new : Option Data) → r.holds o → mid ≡ cond b (or_else o old) old → Got k rs mid new
+    → MatchBool b ((o : Option Data) × r.holds o × Got k rs (or_else o old) new) (Got k rs old new)
+one_got true k r rs o old mid new holds at rest = (o, holds, rw at at rest)
+one_got false k r rs o old mid new holds at rest = rw at at rest
+
+pub got : (k : List ℕ) (rows : List Row) (old new : Members) → AreWritten rows old new → Got k rows (get_member k old) (get_member k new)
+got k [] old new is = ap (get_member k) is
+got k (r ∷ rs) old new (mid, row, rest) =
+    one_got (is_eq (slice_cmp nat_cmp k r.key)) k r rs row.0 (get_member k old) (get_member k mid) (get_member k new) row.1
+    (ap (get_member k) row.2 ∙ put_some_at k r.key row.0 old) (got k rs mid new rest)
+
+-- a key of one row, in a table that held nothing before
+abbrev pub Holds : {X : Type 0} → Way X → Option X → Option Data → Type 0
+Holds way x new = (o : Option Data) × IsHeld way x o × (new ≡ or_else o None)
+
+pub holds : {X : Type 0} (way : Way X) (x : Option X) (new : Option Data) → Holds way x new → IsHeld way x new
+holds way x new (None, is, at) = subst (IsHeld way x) (sym at) is
+holds way x new (Some d, is, at) = subst (IsHeld way x) (sym at) is
+
+-- every tree of the value reads as it
+abbrev pub ReadsAs : {X M : Type 0} → Way X → (Data → Option M) → X → M → Type 0
+ReadsAs way reads x m = (d : Data) → way.trees x d → reads d ≡ Some m
+
+-- such a key that is read: a value that must be there, one that may be missing, one that is left out where it is that of a
+-- missing key, and a truth value
+required_read : {X M : Type 0} (way : Way X) (reads : Data → Option M) (x : X) (m : M) (o : Option Data) → ReadsAs way reads x m → IsHeld way (Some x) o → required_of reads o ≡ Some m
+required_read way reads x m None again is = absurd is
+required_read way reads x m (Some d) again is = again d is
+
+pub required_again : {X M : Type 0} (key : Words) (way : Way X) (reads : Data → Option M) (x : X) (m : M) (ms : Members) → ReadsAs way reads x m → Holds way (Some x) (get_member (codes key) ms)
+    → required_at key reads ms ≡ Some m
+required_again key way reads x m ms again h = required_read way reads x m _ again (holds way (Some x) _ h)
+
+optional_read : {X M : Type 0} (way : Way X) (reads : Data → Option M) (meaning : X → M) (x : Option X) (o : Option Data) → ((y : X) → x ≡ Some y → ReadsAs way reads y (meaning y)) → IsHeld way x o
+    → optional_of reads o ≡ Some (option_map meaning x)
+optional_read way reads meaning None o again is = ap (optional_of reads) is
+optional_read way reads meaning (Some x) None again is = absurd is
+optional_read way reads meaning (Some x) (Some d) again is = ap (option_map Some) (again x refl d is)
+
+same : {X : Type 0} (x : Option X) → option_map (λ (y : X). y) x ≡ x
+same None = refl
+same (Some x) = refl
+
+pub optional_again : {X : Type 0} (key : Words) (way : Way X) (reads : Data → Option X) (x : Option X) (ms : Members) → ((y : X) → ReadsAs way reads y y) → Holds way x (get_member (codes key) ms)
+    → optional_at key reads ms ≡ Some x
+optional_again {X = X} key way reads x ms again h =
+    optional_read way reads (λ (y : X). y) x _ (λ y is. again y) (holds way x _ h) ∙ ap Some (same x)
+
+pub given_read : {X : Type 0} (b : Bool) (way : Way X) (reads : Data → Option X) (missing x : X) (o : Option Data) → ReadsAs way reads x x → (b ≡ true → x ≡ missing) → IsHeld way (unless b x) o
+    → given_of reads missing o ≡ Some x
+given_read true way reads missing x o again left_out is = ap (given_of reads missing) is ∙ ap Some (sym (left_out refl))
+given_read false way reads missing x None again left_out is = absurd is
+given_read false way reads missing x (Some d) again left_out is = again d is
+
+pub given_again : {X : Type 0} (key : Words) (way : Way X) (reads : Data → Option X) (missing x : X) (ms : Members) → ReadsAs way reads x x → (way.left_out x ≡ true → x ≡ missing)
+    → Holds way (unless (way.left_out x) x) (get_member (codes key) ms) → given_at key missing reads ms ≡ Some x
+given_again key way reads missing x ms again left_out h = given_read (way.left_out x) way reads missing x _ again left_out (holds way _ _ h)
+
+flag_read : (missing b : Bool) (o : Option Data) → IsHeld truth_way (unless_missing missing b) o → given_of as_bool missing o ≡ Some b
+flag_read true true o is = ap (given_of as_bool true) is
+flag_read false false o is = ap (given_of as_bool false) is
+flag_read true false None is = absurd is
+flag_read true false (Some d) is = ap as_bool is
+flag_read false true None is = absurd is
+flag_read false true (Some d) is = ap as_bool is
+
+pub flag_again : (key : Words) (missing b : Bool) (ms : Members) → Holds truth_way (unless_missing missing b) (get_member (codes key) ms) → given_at key missing as_bool ms ≡ Some b
+flag_again key missing b ms h = flag_read missing b _ (holds truth_way _ _ h)
+
+-- texts, lists of texts, and versions
+pub text_again : (t : List ℕ) → ReadsAs text_way as_str t t
+text_again t d is = ap as_str is
+
+items_again : (ts : List (List ℕ)) (ds : Items) → AreItems text_way ts ds → items_reads as_str ds ≡ Some ts
+items_again [] no_items is = refl
+items_again [] (item d ds) is = absurd is
+items_again (t ∷ ts) no_items is = absurd is
+items_again (t ∷ ts) (item d ds) (here, rest) = rw (here, items_again ts ds rest)
+
+pub texts_again : (ts : List (List ℕ)) → ReadsAs texts_way list_of ts ts
+texts_again ts d (ds, is, items) = ap list_of is ∙ items_again ts ds items
+
+pub no_texts : (ts : List (List ℕ)) → is_nil ts ≡ true → ts ≡ []
+no_texts [] h = refl
+no_texts (t ∷ ts) h = absurd cc
+
+-- what the workspace may give
+pub inheritable_again : {X : Type 0} (way : Way X) (reads : Data → Option X) (x : Inheritable X) → ((y : X) → ReadsAs way reads y y) → reads inherited_tree ≡ None
+    → ReadsAs (inheritable_way way) (inheritable_of reads) x x
+inheritable_again way reads (Set x) again none d tree = ap (λ o. set_or o (workspace_flag d)) (again x d tree)
+inheritable_again way reads Inherited again none d is = ap (inheritable_of reads) is ∙ ap (λ o. set_or o (workspace_flag inherited_tree)) none
+
+pub set_again : {X : Type 0} (test : X → Bool) (missing : X) (x : Inheritable X) → ((y : X) → test y ≡ true → y ≡ missing) → is_set_and test x ≡ true → x ≡ Set missing
+set_again test missing (Set x) left_out h = ap Set (left_out x h)
+set_again test missing Inherited left_out h = absurd cc
+
+pub version_again : (v : Inheritable Parts) → VersionAgain v → ReadsAs (inheritable_way version_way) (inheritable_of version_of) v v
+version_again (Set v) h d is = ap (inheritable_of version_of) is ∙ ap (λ r. set_or (result_ok r) None) h
+version_again Inherited h d is = ap (inheritable_of version_of) is

@@ -1,0 +1,37 @@
+-- Written editions, resolvers, files and registries read as themselves.
+use Rattle.std.proofs.Common.{◌≡◌, ◌∙◌, refl, ap, Bool, true, false, Some, option_map, option_and_then}
+use Rattle.toml.specs.Data.{Data, as_str}
+use Rattle.cargo_toml_settings.specs.declared.settings.Edition.{Edition}
+use Rattle.cargo_toml_settings.specs.declared.settings.Edition.TheVariants.{E2015, E2018, E2021, E2024}
+use Rattle.cargo_toml_settings.specs.declared.settings.Resolver.{Resolver}
+use Rattle.cargo_toml_settings.specs.declared.settings.Resolver.TheVariants.{V1, V2, V3}
+use Rattle.cargo_toml_settings.specs.Settings.{edition_of, resolver_of, File, flag, path, file_of, Registries, everywhere, among, publish_of}
+use Rattle.cargo_toml_write.specs.WrittenSettings.{edition_way, resolver_way, file_way, is_usual, publish_way, is_everywhere}
+use Rattle.cargo_toml_write.proofs.ReadAgain.{ReadsAs, texts_again}
+
+pub edition_again : (x : Edition) → ReadsAs edition_way (λ d. option_and_then edition_of (as_str d)) x x
+edition_again E2015 d is = ap (λ t. option_and_then edition_of (as_str t)) is
+edition_again E2018 d is = ap (λ t. option_and_then edition_of (as_str t)) is
+edition_again E2021 d is = ap (λ t. option_and_then edition_of (as_str t)) is
+edition_again E2024 d is = ap (λ t. option_and_then edition_of (as_str t)) is
+
+pub resolver_again : (x : Resolver) → ReadsAs resolver_way (λ d. option_and_then resolver_of (as_str d)) x x
+resolver_again V1 d is = ap (λ t. option_and_then resolver_of (as_str t)) is
+resolver_again V2 d is = ap (λ t. option_and_then resolver_of (as_str t)) is
+resolver_again V3 d is = ap (λ t. option_and_then resolver_of (as_str t)) is
+
+pub file_again : (x : File) → ReadsAs file_way file_of x x
+file_again (flag b) d is = ap file_of is
+file_again (path p) d is = ap file_of is
+
+pub usual_file : (x : File) → is_usual x ≡ true → x ≡ flag true
+usual_file (flag b) h = ap flag h
+usual_file (path p) h = absurd cc
+
+pub publish_again : (x : Registries) → ReadsAs publish_way publish_of x x
+publish_again (everywhere b) d is = ap publish_of is
+publish_again (among names) d (ds, is, items) = ap publish_of is ∙ ap (option_map among) (texts_again names _ (ds, refl, items))
+
+pub published_everywhere : (x : Registries) → is_everywhere x ≡ true → x ≡ everywhere true
+published_everywhere (everywhere b) h = ap everywhere h
+published_everywhere (among names) h = absurd cc

@@ -1,0 +1,18 @@
+use Rattle.cargo_toml_tables.specs.Badges.{badges_meaning}
+use Rattle.cargo_toml_write.specs.WrittenBadges.{badges_rows}
+use Rattle.cargo_toml_write.proofs.Rows.{then, done, ends}
+use Rattle.cargo_toml_write.proofs.write.badge.BadgesToValue.to_value.Goals as goal
+
+pub returns : goal.returns
+returns c = ends badges_rows (badges_meaning c.args.self.now) _ _ _ _ c.finish.result c.new-writing.ensures.no_fault c.new-writing.ensures.no_key
+    (then _ _ _ _ _ _ _ _ c.optional.ensures
+    (then _ _ _ _ _ _ _ _ c.optional-2.ensures
+    (then _ _ _ _ _ _ _ _ c.optional-3.ensures
+    (then _ _ _ _ _ _ _ _ c.optional-4.ensures
+    (then _ _ _ _ _ _ _ _ c.optional-5.ensures
+    (then _ _ _ _ _ _ _ _ c.optional-6.ensures
+    (then _ _ _ _ _ _ _ _ c.optional-7.ensures
+    (then _ _ _ _ _ _ _ _ c.optional-8.ensures
+    (then _ _ _ _ _ _ _ _ c.required.ensures
+    (done _ _))))))))))
+    c.finish.ensures

@@ -1,0 +1,22 @@
+use Rattle.cargo_toml_dependencies.specs.Dependencies.{detail_meaning}
+use Rattle.cargo_toml_write.specs.WrittenDependencies.{detail_rows}
+use Rattle.cargo_toml_write.proofs.Rows.{both, then, done, ends}
+use Rattle.cargo_toml_write.proofs.write.dependency.DependencyDetailToValue.to_value.Goals as goal
+
+pub returns : goal.returns
+returns c = ends detail_rows (detail_meaning c.args.self.now) _ _ _ _ c.finish.result c.new-writing.ensures.no_fault c.new-writing.ensures.no_key
+    (both _ _ _ _ _ _ _ _ c.entries.ensures
+    (then _ _ _ _ _ _ _ _ c.optional.ensures
+    (then _ _ _ _ _ _ _ _ c.optional-2.ensures
+    (then _ _ _ _ _ _ _ _ c.optional-3.ensures
+    (then _ _ _ _ _ _ _ _ c.optional-4.ensures
+    (then _ _ _ _ _ _ _ _ c.optional-5.ensures
+    (then _ _ _ _ _ _ _ _ c.optional-6.ensures
+    (then _ _ _ _ _ _ _ _ c.optional-7.ensures
+    (then _ _ _ _ _ _ _ _ c.optional-8.ensures
+    (then _ _ _ _ _ _ _ _ c.optional-9.ensures
+    (then _ _ _ _ _ _ _ _ c.given.ensures
+    (then _ _ _ _ _ _ _ _ c.flag.ensures
+    (then _ _ _ _ _ _ _ _ c.flag-2.ensures
+    (done _ _))))))))))))))
+    c.finish.ensures

@@ -1,0 +1,112 @@
+-- How texts, truth values, numbers, versions, lists, maps and inherited values are written.
+use Rattle.std.specs.Prelude.{◌≡◌, ◌⊎◌, ℕ, ℤ, pos, List, [], ◌∷◌, codes, Bool, true, false, IsTrue, Option, Some, None}
+use Rattle.semver.specs.Identifiers.{parts_text}
+use Rattle.semver.specs.Parse.{Held}
+use Rattle.toml.specs.Data.{Data, string, boolean, integer, array, table, Items, no_items, item, no_members, member}
+use Rattle.cargo_toml_parts.specs.declared.error.Error.{Error}
+use Rattle.cargo_toml_parts.specs.declared.inheritable.Inheritable.{Inheritable}
+use Rattle.cargo_toml_parts.specs.declared.inheritable.Inheritable.TheVariants.{Set, Inherited}
+use Rattle.cargo_toml_parts.specs.Faults.{IsOther, floats_unsupported}
+use Rattle.cargo_toml_parts.specs.Floats.{has_no_float}
+use Rattle.cargo_toml_parts.specs.Versions.{Parts}
+use Rattle.cargo_toml_write.specs.Writes.{Way, Row, required_row, optional_row, table_way, never}
+
+-- what always has one tree
+abbrev pub exactly : {X : Type 0} → (X → Data) → Way X
+exactly tree = record {
+  trees = λ x d. d ≡ tree x;
+  refuses = λ x e. ⊥;
+  left_out = never;
+}
+
+abbrev pub text_way : Way (List ℕ)
+text_way = exactly string
+
+abbrev pub truth_way : Way Bool
+truth_way = exactly boolean
+
+abbrev pub number_way : Way ℕ
+number_way = exactly (λ n. integer (pos n))
+
+-- a version as `semver` writes it; the text of a requirement is left open
+abbrev pub version_way : Way Parts
+version_way = exactly (λ parts. string (parts_text parts))
+
+abbrev pub requirement_way : Way (List Held)
+requirement_way = record {
+  trees = λ held d. (bytes : List ℕ) × (d ≡ string bytes);
+  refuses = λ held e. ⊥;
+  left_out = never;
+}
+
+-- a tree itself, unless it holds a float
+abbrev pub free_way : Way Data
+free_way = record {
+  trees = λ tree d. IsTrue (has_no_float tree) × (d ≡ tree);
+  refuses = λ tree e. IsOther floats_unsupported e;
+  left_out = never;
+}
+
+-- a list: a tree for each element; an empty one is left out
+abbrev pub is_nil : {X : Type 0} → List X → Bool
+is_nil [] = true
+is_nil _ = false
+
+abbrev pub AreItems : {X : Type 0} → Way X → List X → Items → Type 0
+AreItems way [] no_items = Unit {0}
+AreItems way (x ∷ xs) (item d ds) = way.trees x d × AreItems way xs ds
+AreItems way _ _ = ⊥
+
+abbrev pub items_refused : {X : Type 0} → Way X → List X → Error → Type 0
+items_refused way [] e = ⊥
+items_refused way (x ∷ xs) e = (((d : Data) → ¬ (way.trees x d)) × way.refuses x e) ⊎ items_refused way xs e
+
+abbrev pub list_way : {X : Type 0} → Way X → Way (List X)
+list_way way = record {
+  trees = λ xs d. (ds : Items) × (d ≡ array ds) × AreItems way xs ds;
+  refuses = items_refused way;
+  left_out = is_nil;
+}
+
+abbrev pub texts_way : Way (List (List ℕ))
+texts_way = list_way text_way
+
+-- a map: a row for each entry; an empty one is left out
+abbrev pub entry_rows : {X : Type 0} → Way X → List (List ℕ × X) → List Row
+entry_rows way [] = []
+entry_rows way (e ∷ es) = required_row e.0 way e.1 ∷ entry_rows way es
+
+abbrev pub map_way : {X : Type 0} → Way X → Way (List (List ℕ × X))
+map_way way = record (table_way (entry_rows way)) { left_out = is_nil }
+
+-- a value that is set, which is left out as it is alone; and the table that says that it is inherited
+abbrev pub inherited_tree : Data
+inherited_tree = table (member (codes "workspace") (boolean true) no_members)
+
+abbrev pub InheritableTree : {X : Type 0} → Way X → Inheritable X → Data → Type 0
+InheritableTree way (Set x) d = way.trees x d
+InheritableTree way Inherited d = d ≡ inherited_tree
+
+abbrev pub inheritable_refused : {X : Type 0} → Way X → Inheritable X → Error → Type 0
+inheritable_refused way (Set x) e = way.refuses x e
+inheritable_refused way Inherited e = ⊥
+
+abbrev pub is_set_and : {X : Type 0} → (X → Bool) → Inheritable X → Bool
+is_set_and test (Set x) = test x
+is_set_and test Inherited = false
+
+abbrev pub inheritable_way : {X : Type 0} → Way X → Way (Inheritable X)
+inheritable_way way = record {
+  trees = InheritableTree way;
+  refuses = inheritable_refused way;
+  left_out = is_set_and way.left_out;
+}
+
+-- a truth value that is left out where it is that of a missing key
+abbrev pub unless_missing : Bool → Bool → Option Bool
+unless_missing true true = None
+unless_missing false false = None
+unless_missing missing b = Some b
+
+abbrev pub flag_row : List ℕ → Bool → Bool → Row
+flag_row key missing b = optional_row key truth_way (unless_missing missing b)

@@ -1,6 +1,6 @@
 -- Written editions, resolvers, files and registries read as themselves.
-use Rattle.std.proofs.Common.{◌≡◌, ◌∙◌, refl, ap, Bool, true, false, Some, option_map, option_and_then}
-use Rattle.toml.specs.Data.{Data, as_str}
+use Rattle.std.proofs.Common.{◌≡◌, ◌∙◌, refl, ap, true, option_map, option_and_then}
+use Rattle.toml.specs.Data.{as_str}
 use Rattle.cargo_toml_parts.specs.declared.settings.Edition.{Edition}
 use Rattle.cargo_toml_parts.specs.declared.settings.Edition.TheVariants.{E2015, E2018, E2021, E2024}
 use Rattle.cargo_toml_parts.specs.declared.settings.Resolver.{Resolver}

@@ -1,5 +1,5 @@
 -- A map that is written entry by entry.
-use Rattle.std.proofs.Common.{ℕ, List, [], ◌∷◌, map, Option, String, Global, string_bytes}
+use Rattle.std.proofs.Common.{ℕ, List, map, Option, String, Global, string_bytes}
 use Rattle.toml.specs.Data.{Members}
 use Rattle.cargo_toml_parts.specs.declared.error.Error.{Error}
 use Rattle.cargo_toml_write.specs.Ways.{entry_rows}

@@ -6,8 +6,7 @@ use Rattle.std.specs.Cmp.Lexicographic.{slice_cmp}
 use Rattle.std.specs.Result.{result_ok}
 use Rattle.std.proofs.lemmas.Map.Text.{is_eq-slice_cmp}
 use Rattle.std.proofs.lemmas.Slice.Eq.{bytes_eq-Decides}
-use Rattle.semver.specs.Identifiers.{parts_text}
-use Rattle.toml.specs.Data.{Data, string, boolean, Members, get_member, Items, no_items, item, as_str, as_bool}
+use Rattle.toml.specs.Data.{Data, Members, get_member, Items, no_items, item, as_str, as_bool}
 use Rattle.toml.specs.View.{view}
 use Rattle.toml.specs.declared.value.Value.{Value}
 use Rattle.cargo_toml_parts.specs.declared.error.Error.{Error}

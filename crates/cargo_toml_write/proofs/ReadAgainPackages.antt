@@ -1,5 +1,5 @@
 -- A written package reads as itself.
-use Rattle.std.proofs.Common.{◌≡◌, ◌∙◌, refl, ap, sym, ℕ, List, [], codes, true, Bool, Option, Some, None, option_map, option_and_then}
+use Rattle.std.proofs.Common.{◌≡◌, ◌∙◌, refl, ap, ℕ, List, [], codes, true, Option, Some, None, option_map, option_and_then}
 use Rattle.semver.specs.Identifiers.{parts_of}
 use Rattle.toml.specs.Data.{Data, Members, no_members, get_member, as_str, as_table}
 use Rattle.cargo_toml_package.specs.declared.package.Package.{Package}
@@ -8,12 +8,11 @@ use Rattle.cargo_toml_settings.specs.Settings.{edition_reads, resolver_reads}
 use Rattle.cargo_toml_parts.proofs.Steps.{then}
 use Rattle.cargo_toml_parts.specs.declared.inheritable.Inheritable.{Inheritable}
 use Rattle.cargo_toml_parts.specs.declared.inheritable.Inheritable.TheVariants.{Set}
-use Rattle.cargo_toml_settings.specs.declared.settings.Edition.{Edition}
-use Rattle.cargo_toml_settings.specs.declared.settings.Edition.TheVariants.{E2015}
+use Rattle.cargo_toml_parts.specs.declared.settings.Edition.TheVariants.{E2015}
 use Rattle.cargo_toml_parts.specs.Inherits.{inheritable_map, inheritable_of}
 use Rattle.cargo_toml_parts.specs.Reads.{required_of, optional_of, given_of, list_of}
-use Rattle.cargo_toml_settings.specs.Settings.{File, flag, file_of, Registries, everywhere, publish_of}
-use Rattle.cargo_toml_parts.specs.Versions.{Parts, version_of}
+use Rattle.cargo_toml_parts.specs.Settings.{File, flag, file_of, Registries, everywhere, publish_of}
+use Rattle.cargo_toml_parts.specs.Versions.{version_of}
 use Rattle.cargo_toml_write.specs.Ways.{text_way, texts_way, version_way, inheritable_way, is_nil}
 use Rattle.cargo_toml_write.specs.WrittenPackages.{package_way, package_rows, VersionAgain, MetadataAgain}
 use Rattle.cargo_toml_write.specs.WrittenSettings.{edition_way, resolver_way, file_way, is_usual, publish_way, is_everywhere}

@@ -1,10 +1,9 @@
 -- Rows that are written one after the other.
-use Rattle.std.proofs.Common.{◌≡◌, ◌⊎◌, inl, inr, sym, ◌∙◌, refl, subst, Bool, true, false, is_some, option_map, ℕ, List, [], ◌∷◌, ◌++◌, Result, Ok, Err, Option, Some, None}
-use Rattle.toml.specs.Data.{Data, table, Members, no_members}
-use Rattle.toml.specs.View.{view}
+use Rattle.std.proofs.Common.{◌≡◌, ◌⊎◌, inl, inr, sym, ◌∙◌, refl, subst, false, is_some, option_map, ℕ, List, [], ◌∷◌, ◌++◌, Result, Ok, Err, Option, Some, None}
+use Rattle.toml.specs.Data.{Data, Members, no_members}
 use Rattle.toml.specs.declared.value.Value.{Value}
 use Rattle.cargo_toml_parts.specs.declared.error.Error.{Error, Memory}
-use Rattle.cargo_toml_write.specs.Writes.{Way, IsWriting, Row, required_row, optional_row, AreWritten, RowRefused, AreRefused, Goes, Ends, put, table_way}
+use Rattle.cargo_toml_write.specs.Writes.{Way, IsWriting, Row, required_row, optional_row, AreWritten, AreRefused, Goes, Ends, put, table_way}
 
 -- some rows and then others
 are_both : (rs qs : List Row) (old mid new : Members) → AreWritten rs old mid → AreWritten qs mid new → AreWritten (rs ++ qs) old new

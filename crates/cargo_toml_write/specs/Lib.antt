@@ -1,3 +1,4 @@
+pub mod Examples
 pub mod Ways
 pub mod WrittenBadges
 pub mod WrittenDependencies

@@ -1,5 +1,5 @@
 -- How texts, truth values, numbers, versions, lists, maps and inherited values are written.
-use Rattle.std.specs.Prelude.{◌≡◌, ◌⊎◌, ℕ, ℤ, pos, List, [], ◌∷◌, codes, Bool, true, false, IsTrue, Option, Some, None}
+use Rattle.std.specs.Prelude.{◌≡◌, ◌⊎◌, ℕ, pos, List, [], ◌∷◌, codes, Bool, true, false, IsTrue, Option, Some, None}
 use Rattle.semver.specs.Identifiers.{parts_text}
 use Rattle.semver.specs.Parse.{Held}
 use Rattle.toml.specs.Data.{Data, string, boolean, integer, array, table, Items, no_items, item, no_members, member}

@@ -1,5 +1,5 @@
 -- How manifests are written.
-use Rattle.std.specs.Prelude.{ℕ, List, [], ◌∷◌, codes}
+use Rattle.std.specs.Prelude.{List, [], ◌∷◌, codes}
 use Rattle.cargo_toml_manifest.specs.Manifests.{ManifestMeaning}
 use Rattle.cargo_toml_write.specs.Ways.{texts_way, list_way, map_way, inheritable_way}
 use Rattle.cargo_toml_write.specs.WrittenBadges.{badges_way}

@@ -42,7 +42,8 @@ fn priority_value(lint: &Lint) -> Value
 /// The table of a lint: a copy of its config, over which the level and the priority are put.
 fn lint_table(lint: &Lint, alloc: Global) -> Result<Value, Error>
     ensures written { IsWriting table_lint_way (lint_meaning lint.now) result }
-    ensures read_again { IsApart (lint_meaning lint.now) → IfOk result (λ v. lint_of (view v) ≡ Some (lint_meaning lint.now)) }
+    ensures read_again { IsApart (lint_meaning lint.now)
+        → IfOk result (λ v. lint_of (view v) ≡ Some (lint_meaning lint.now)) }
 {
     if !has_no_float(&lint.config) {
         return Err(Error::Other("floats are not supported"));
@@ -63,7 +64,8 @@ impl ToValue for Lint {
 
     fn to_value(&self, alloc: Global) -> Result<Value, Error>
         ensures written { IsWriting lint_way (lint_meaning self.now) result }
-        ensures read_again { IsApart (lint_meaning self.now) → IfOk result (λ v. lint_of (view v) ≡ Some (lint_meaning self.now)) }
+        ensures read_again { IsApart (lint_meaning self.now)
+            → IfOk result (λ v. lint_of (view v) ≡ Some (lint_meaning self.now)) }
     {
         if is_level_alone(self) {
             return self.level.to_value(alloc);

@@ -1,6 +1,5 @@
 use Rattle.cargo_toml_settings.specs.Settings.{among}
 use Rattle.cargo_toml_write.specs.Ways.{texts_way}
-use Rattle.cargo_toml_write.specs.WrittenSettings.{publish_way}
 use Rattle.cargo_toml_write.proofs.ReadAgain.{written_then}
 use Rattle.cargo_toml_write.proofs.ReadAgainSettings.{publish_again}
 use Rattle.cargo_toml_write.proofs.write.settings.PublishToValue.to_value.Goals as goal

@@ -8,10 +8,10 @@ use Rattle.cargo_toml_settings.specs.Settings.{edition_reads, resolver_reads}
 use Rattle.cargo_toml_parts.proofs.Steps.{then}
 use Rattle.cargo_toml_parts.specs.declared.inheritable.Inheritable.{Inheritable}
 use Rattle.cargo_toml_parts.specs.declared.inheritable.Inheritable.TheVariants.{Set}
-use Rattle.cargo_toml_parts.specs.declared.settings.Edition.TheVariants.{E2015}
+use Rattle.cargo_toml_settings.specs.declared.settings.Edition.TheVariants.{E2015}
 use Rattle.cargo_toml_parts.specs.Inherits.{inheritable_map, inheritable_of}
 use Rattle.cargo_toml_parts.specs.Reads.{required_of, optional_of, given_of, list_of}
-use Rattle.cargo_toml_parts.specs.Settings.{File, flag, file_of, Registries, everywhere, publish_of}
+use Rattle.cargo_toml_settings.specs.Settings.{File, flag, file_of, Registries, everywhere, publish_of}
 use Rattle.cargo_toml_parts.specs.Versions.{version_of}
 use Rattle.cargo_toml_write.specs.Ways.{text_way, texts_way, version_way, inheritable_way, is_nil}
 use Rattle.cargo_toml_write.specs.WrittenPackages.{package_way, package_rows, VersionAgain, MetadataAgain}

@@ -1,11 +1,11 @@
 -- Written editions, resolvers, files and registries read as themselves.
 use Rattle.std.proofs.Common.{◌≡◌, ◌∙◌, refl, ap, true, option_map, option_and_then}
 use Rattle.toml.specs.Data.{as_str}
-use Rattle.cargo_toml_parts.specs.declared.settings.Edition.{Edition}
-use Rattle.cargo_toml_parts.specs.declared.settings.Edition.TheVariants.{E2015, E2018, E2021, E2024}
-use Rattle.cargo_toml_parts.specs.declared.settings.Resolver.{Resolver}
-use Rattle.cargo_toml_parts.specs.declared.settings.Resolver.TheVariants.{V1, V2, V3}
-use Rattle.cargo_toml_parts.specs.Settings.{edition_of, resolver_of, File, flag, path, file_of, Registries, everywhere, among, publish_of}
+use Rattle.cargo_toml_settings.specs.declared.settings.Edition.{Edition}
+use Rattle.cargo_toml_settings.specs.declared.settings.Edition.TheVariants.{E2015, E2018, E2021, E2024}
+use Rattle.cargo_toml_settings.specs.declared.settings.Resolver.{Resolver}
+use Rattle.cargo_toml_settings.specs.declared.settings.Resolver.TheVariants.{V1, V2, V3}
+use Rattle.cargo_toml_settings.specs.Settings.{edition_of, resolver_of, File, flag, path, file_of, Registries, everywhere, among, publish_of}
 use Rattle.cargo_toml_write.specs.WrittenSettings.{edition_way, resolver_way, file_way, is_usual, publish_way, is_everywhere}
 use Rattle.cargo_toml_write.proofs.ReadAgain.{ReadsAs, texts_again}
 

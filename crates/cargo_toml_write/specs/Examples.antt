@@ -2,7 +2,7 @@
 use Rattle.std.specs.Prelude.{[], ◌∷◌, codes, true, false, Some, None}
 use Rattle.toml.specs.Data.{Data, string, boolean, array, table, no_items, item, Members, no_members, member}
 use Rattle.cargo_toml_dependencies.specs.Dependencies.{DependencyMeaning, detailed}
-use Rattle.cargo_toml_parts.specs.declared.settings.Edition.TheVariants.{E2021}
+use Rattle.cargo_toml_settings.specs.declared.settings.Edition.TheVariants.{E2021}
 use Rattle.cargo_toml_tables.specs.Products.{ProductMeaning}
 
 -- an optional dependency of a path, with one feature

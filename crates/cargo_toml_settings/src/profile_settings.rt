@@ -3,8 +3,8 @@ ghost use Rattle.std.specs.Prelude.{◌≡◌, Some, None, MatchResult};
 ghost use Rattle.toml.specs.View.{view};
 ghost use Rattle.cargo_toml_settings.specs.ProfileSettings.{debug_of, debug_fault, debug_refuses, strip_of, strip_fault, strip_refuses, lto_of, lto_fault, lto_refuses};
 
-use cargo_toml_parts::{Error, ParseFault};
 use cargo_toml_parts::read::Read;
+use cargo_toml_parts::{Error, ParseFault};
 use std::alloc::Global;
 use toml::Value;
 

@@ -2,8 +2,8 @@
 use super::{boxed, manifest};
 use cargo_toml::{
     Badges, DependencyDetail, Error, FromValue, Inheritable, InheritedDependencyDetail,
-    Maintenance, MaintenanceStatus, Manifest, Package, PackageTemplate, Product, Profile, Profiles, Publish, SemVer,
-    Target, Value, Workspace,
+    Maintenance, MaintenanceStatus, Manifest, Package, PackageTemplate, Product, Profile, Profiles,
+    Publish, SemVer, Target, Value, Workspace,
 };
 use std::alloc::Global;
 use std::test::Fail;

@@ -5,7 +5,7 @@ use Rattle.toml.specs.Data.{Data, array, Items, no_items, item}
 use Rattle.toml.specs.View.{view, items_view}
 use Rattle.toml.specs.declared.value.Value.{Value}
 use Rattle.cargo_toml_parts.specs.declared.error.Error.{Error, Memory}
-use Rattle.cargo_toml_write.specs.Ways.{AreItems, items_refused, list_way}
+use Rattle.cargo_toml_write.specs.Ways.{AreItems, ItemsRefused, list_way}
 use Rattle.cargo_toml_write.specs.Writes.{Way}
 
 at_index : {A : Type 0} (xs : List A) (i : ℕ) (x : A) → i < length xs → x ≡ get_or xs i x → drop i xs ≡ x ∷ drop (i + 1) xs
@@ -23,7 +23,7 @@ module _ {X M : Type 0} (way : Way M) (meaning : X → M) where
   -- the trees of the first i elements are those of vs
   pub record ItemsWritten (xs : List X) (i : ℕ) (vs : List Value) : Type 0 where
     pub trees : (ys : List Value) → AreItems way (map meaning (drop i xs)) (items_view ys) → AreItems way (map meaning xs) (items_view (vs ++ ys))
-    pub faults : (e : Error) → items_refused way (map meaning (drop i xs)) e → items_refused way (map meaning xs) e
+    pub faults : (e : Error) → ItemsRefused way (map meaning (drop i xs)) e → ItemsRefused way (map meaning xs) e
 
   pub items_start : (xs : List X) → ItemsWritten xs 0 []
   items_start xs = record { trees = λ ys h. h; faults = λ e h. h }
@@ -42,7 +42,7 @@ module _ {X M : Type 0} (way : Way M) (meaning : X → M) where
     rw (← nothing_more vs) (so_far.trees [] (rw (drop_all xs i all) tt)),
   )
 
-  no_items_of : (xs : List M) (ds : Items) (e : Error) → items_refused way xs e → ¬ (AreItems way xs ds)
+  no_items_of : (xs : List M) (ds : Items) (e : Error) → ItemsRefused way xs e → ¬ (AreItems way xs ds)
   no_items_of [] ds e h w = h
   no_items_of (x ∷ xs) no_items e h w = w
   no_items_of (x ∷ xs) (item d ds) e (inl h) w = h.0 d w.0
@@ -50,8 +50,8 @@ module _ {X M : Type 0} (way : Way M) (meaning : X → M) where
 
   pub items_err : (xs : List X) (i : ℕ) (vs : List Value) (x : X) (e : Error) → ItemsWritten xs i vs → i < length xs → x ≡ get_or xs i x
       → (e ≡ Memory) ⊎ (((d : Data) → ¬ (way.trees (meaning x) d)) × way.refuses (meaning x) e)
-      → (e ≡ Memory) ⊎ (((d : Data) → ¬ ((list_way way).trees (map meaning xs) d)) × items_refused way (map meaning xs) e)
+      → (e ≡ Memory) ⊎ (((d : Data) → ¬ ((list_way way).trees (map meaning xs) d)) × ItemsRefused way (map meaning xs) e)
   items_err xs i vs x e so_far lt at (inl memory) = inl memory
   items_err xs i vs x e so_far lt at (inr fault) =
-      let all : items_refused way (map meaning xs) e = so_far.faults e (rw (at_index xs i x lt at) (inl fault)) in
+      let all : ItemsRefused way (map meaning xs) e = so_far.faults e (rw (at_index xs i x lt at) (inl fault)) in
       inr (λ d (ds, is, trees). no_items_of (map meaning xs) ds e all trees, all)

@@ -57,14 +57,14 @@ AreItems way [] no_items = Unit {0}
 AreItems way (x ∷ xs) (item d ds) = way.trees x d × AreItems way xs ds
 AreItems way _ _ = ⊥
 
-abbrev pub items_refused : {X : Type 0} → Way X → List X → Error → Type 0
-items_refused way [] e = ⊥
-items_refused way (x ∷ xs) e = (((d : Data) → ¬ (way.trees x d)) × way.refuses x e) ⊎ items_refused way xs e
+abbrev pub ItemsRefused : {X : Type 0} → Way X → List X → Error → Type 0
+ItemsRefused way [] e = ⊥
+ItemsRefused way (x ∷ xs) e = (((d : Data) → ¬ (way.trees x d)) × way.refuses x e) ⊎ ItemsRefused way xs e
 
 abbrev pub list_way : {X : Type 0} → Way X → Way (List X)
 list_way way = record {
   trees = λ xs d. (ds : Items) × (d ≡ array ds) × AreItems way xs ds;
-  refuses = items_refused way;
+  refuses = ItemsRefused way;
   left_out = is_nil;
 }
 
@@ -87,9 +87,9 @@ abbrev pub InheritableTree : {X : Type 0} → Way X → Inheritable X → Data �
 InheritableTree way (Set x) d = way.trees x d
 InheritableTree way Inherited d = d ≡ inherited_tree
 
-abbrev pub inheritable_refused : {X : Type 0} → Way X → Inheritable X → Error → Type 0
-inheritable_refused way (Set x) e = way.refuses x e
-inheritable_refused way Inherited e = ⊥
+abbrev pub InheritableRefused : {X : Type 0} → Way X → Inheritable X → Error → Type 0
+InheritableRefused way (Set x) e = way.refuses x e
+InheritableRefused way Inherited e = ⊥
 
 abbrev pub is_set_and : {X : Type 0} → (X → Bool) → Inheritable X → Bool
 is_set_and test (Set x) = test x
@@ -98,7 +98,7 @@ is_set_and test Inherited = false
 abbrev pub inheritable_way : {X : Type 0} → Way X → Way (Inheritable X)
 inheritable_way way = record {
   trees = InheritableTree way;
-  refuses = inheritable_refused way;
+  refuses = InheritableRefused way;
   left_out = is_set_and way.left_out;
 }
 

@@ -46,16 +46,16 @@ IsHeld way None d = d ≡ None
 IsHeld way (Some x) None = ⊥
 IsHeld way (Some x) (Some d) = way.trees x d
 
-abbrev pub refused : {X : Type 0} → Way X → Option X → Error → Type 0
-refused way None e = ⊥
-refused way (Some x) e = way.refuses x e
+abbrev pub IsRefused : {X : Type 0} → Way X → Option X → Error → Type 0
+IsRefused way None e = ⊥
+IsRefused way (Some x) e = way.refuses x e
 
 -- the row of what may be there, of what is there, and of what is written unless it is left out
 abbrev pub optional_row : {X : Type 0} → List ℕ → Way X → Option X → Row
 optional_row key way x = record {
   key = key;
   holds = IsHeld way x;
-  refuses = refused way x;
+  refuses = IsRefused way x;
 }
 
 abbrev pub required_row : {X : Type 0} → List ℕ → Way X → X → Row

@@ -48,15 +48,15 @@ DependencyTree (kind.simple r) d = requirement_way.trees r d
 DependencyTree (kind.inherited i) d = inherited_way.trees i d
 DependencyTree (kind.detailed x) d = detail_way.trees x d
 
-abbrev pub dependency_refused : DependencyMeaning → Error → Type 0
-dependency_refused (kind.simple r) e = requirement_way.refuses r e
-dependency_refused (kind.inherited i) e = inherited_way.refuses i e
-dependency_refused (kind.detailed x) e = detail_way.refuses x e
+abbrev pub DependencyRefused : DependencyMeaning → Error → Type 0
+DependencyRefused (kind.simple r) e = requirement_way.refuses r e
+DependencyRefused (kind.inherited i) e = inherited_way.refuses i e
+DependencyRefused (kind.detailed x) e = detail_way.refuses x e
 
 abbrev pub dependency_way : Way DependencyMeaning
 dependency_way = record {
   trees = DependencyTree;
-  refuses = dependency_refused;
+  refuses = DependencyRefused;
   left_out = never;
 }
 

@@ -67,9 +67,9 @@ abbrev pub PublishTree : Registries → Data → Type 0
 PublishTree (everywhere b) d = d ≡ boolean b
 PublishTree (among names) d = texts_way.trees names d
 
-abbrev pub publish_refused : Registries → Error → Type 0
-publish_refused (everywhere b) e = ⊥
-publish_refused (among names) e = texts_way.refuses names e
+abbrev pub PublishRefused : Registries → Error → Type 0
+PublishRefused (everywhere b) e = ⊥
+PublishRefused (among names) e = texts_way.refuses names e
 
 abbrev pub is_everywhere : Registries → Bool
 is_everywhere (everywhere b) = b
@@ -78,7 +78,7 @@ is_everywhere _ = false
 abbrev pub publish_way : Way Registries
 publish_way = record {
   trees = PublishTree;
-  refuses = publish_refused;
+  refuses = PublishRefused;
   left_out = is_everywhere;
 }
 

@@ -25,7 +25,8 @@ pub fn a_product_is_written()
 
 /// A text that is set is written as it is, and one that the workspace gives as `{ workspace = true }`.
 pub fn an_inheritable_text_is_written()
-    ensures set { (d : Data) → (inheritable_way text_way).trees (Set (codes "MIT")) d ↔ (d ≡ string (codes "MIT")) }
+    ensures set { (d : Data) → (inheritable_way text_way).trees (Set (codes "MIT")) d
+        ↔ (d ≡ string (codes "MIT")) }
     ensures inherited { (d : Data) → (inheritable_way text_way).trees Inherited d
         ↔ (d ≡ table (member (codes "workspace") (boolean true) no_members)) }
 {}

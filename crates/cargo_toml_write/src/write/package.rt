@@ -26,11 +26,19 @@ impl<Metadata: FromValue + ToValue> ToValue for Package<Metadata> {
     ghost way = { package_way Metadata.way };
 
     fn to_value(&self, alloc: Global) -> Result<Value, Error>
-        ensures written { IsWriting (package_way Metadata.way) (package_meaning Metadata.ToValue.meaning self.now) result }
+        ensures written { IsWriting
+            (package_way Metadata.way)
+            (package_meaning Metadata.ToValue.meaning self.now)
+            result }
         ensures read_again { VersionAgain (inheritable_map parts_of self.now.version)
-            → MetadataAgain Metadata.way Metadata.ToValue.meaning Metadata.FromValue.meaning Metadata.from_tree self.now.metadata
-            → IfOk result (λ v.
-            package_reads Metadata.from_tree (view v) ≡ Some (package_meaning Metadata.FromValue.meaning self.now)) }
+            → MetadataAgain
+            Metadata.way
+            Metadata.ToValue.meaning
+            Metadata.FromValue.meaning
+            Metadata.from_tree
+            self.now.metadata
+            → IfOk result (λ v. package_reads Metadata.from_tree (view v)
+            ≡ Some (package_meaning Metadata.FromValue.meaning self.now)) }
     {
         let mut writing = Writing::new(alloc);
         writing.required("name", &self.name);

@@ -32,7 +32,8 @@ impl ToValue for Edition {
 
     fn to_value(&self, alloc: Global) -> Result<Value, Error>
         ensures written { IsWriting edition_way self.now result }
-        ensures read_again { IfOk result (λ v. option_and_then edition_of (as_str (view v)) ≡ Some self.now) }
+        ensures read_again { IfOk result (λ v.
+            option_and_then edition_of (as_str (view v)) ≡ Some self.now) }
     {
         let text = match self {
             Edition::E2015 => "2015",
@@ -53,7 +54,8 @@ impl ToValue for Resolver {
 
     fn to_value(&self, alloc: Global) -> Result<Value, Error>
         ensures written { IsWriting resolver_way self.now result }
-        ensures read_again { IfOk result (λ v. option_and_then resolver_of (as_str (view v)) ≡ Some self.now) }
+        ensures read_again { IfOk result (λ v.
+            option_and_then resolver_of (as_str (view v)) ≡ Some self.now) }
     {
         let text = match self {
             Resolver::V1 => "1",

@@ -13,15 +13,23 @@ use std::hash::BuildHasher;
 pub fn recorded(alloc: Global, bytes: &[u8]) -> Result<String, Error> {
     let manifest = read(alloc, bytes)?;
     let features = Resolver::new().parse(alloc, &*manifest)?;
-    let mut keys: Vec<&str> = features.dependencies.keys().copied().collect(alloc)?;
+    let removed = features.removed_hidden_features;
+    dependency_lines(alloc, &features.dependencies, removed)
+}
+
+fn dependency_lines<S: BuildHasher>(
+    alloc: Global,
+    dependencies: &HashMap<&str, FeatureDependency<'_>, S>,
+    removed: bool,
+) -> Result<String, Error> {
+    let mut keys: Vec<&str> = dependencies.keys().copied().collect(alloc)?;
     keys.sort()?;
     let mut text = String::new(alloc);
     for key in keys {
-        if let Some(dependency) = features.dependencies.get(key) {
+        if let Some(dependency) = dependencies.get(key) {
             push_dependency(&mut text, key, dependency)?;
         }
     }
-    let removed = features.removed_hidden_features;
     write!(text, "removed {removed}\n")?;
     Ok(text)
 }

@@ -45,10 +45,6 @@ fn answer(alloc: Global, row: &str, value: &str) -> Result<String, Error> {
 
 fn table_answer(alloc: Global, row: &str, value: &Value) -> Result<String, Error> {
     match row {
-        "values/requirement" => answer_of::<VersionReq>(alloc, value),
-        "values/inheritable-version" => answer_of::<Inheritable<SemVer>>(alloc, value),
-        "values/inheritable-text" => answer_of::<Inheritable<String>>(alloc, value),
-        "values/inheritable-edition" => answer_of::<Inheritable<Edition>>(alloc, value),
         "values/lint" => answer_of::<Lint>(alloc, value),
         "values/lint-groups" => answer_of::<LintGroups>(alloc, value),
         "values/badge" => answer_of::<Badge>(alloc, value),
@@ -57,11 +53,19 @@ fn table_answer(alloc: Global, row: &str, value: &Value) -> Result<String, Error
         "values/product" => answer_of::<Product>(alloc, value),
         "values/profile" => answer_of::<Profile>(alloc, value),
         "values/profiles" => answer_of::<Profiles>(alloc, value),
+        _ => package_answer(alloc, row, value),
+    }
+}
+
+fn package_answer(alloc: Global, row: &str, value: &Value) -> Result<String, Error> {
+    match row {
+        "values/inheritable-version" => answer_of::<Inheritable<SemVer>>(alloc, value),
+        "values/inheritable-text" => answer_of::<Inheritable<String>>(alloc, value),
+        "values/inheritable-edition" => answer_of::<Inheritable<Edition>>(alloc, value),
         "values/template" => answer_of::<PackageTemplate>(alloc, value),
         "values/package" => answer_of::<Package>(alloc, value),
         "values/workspace" => answer_of::<Workspace>(alloc, value),
         "values/manifest" => answer_of::<Manifest>(alloc, value),
-        "values/value" => answer_of::<Value>(alloc, value),
         _ => dependency_answer(alloc, row, value),
     }
 }
@@ -74,6 +78,8 @@ fn dependency_answer(alloc: Global, row: &str, value: &Value) -> Result<String, 
         "values/target" => answer_of::<Target>(alloc, value),
         "values/targets" => answer_of::<TargetDepsSet>(alloc, value),
         "values/patches" => answer_of::<PatchSet>(alloc, value),
+        "values/requirement" => answer_of::<VersionReq>(alloc, value),
+        "values/value" => answer_of::<Value>(alloc, value),
         _ => Err(Error::Other("no such type")),
     }
 }

@@ -58,3 +58,13 @@ pub use Rattle.cargo_toml_resolve.specs.Views
 pub use Rattle.cargo_toml_resolve.specs.Reading
 pub use Rattle.cargo_toml_resolve.specs.Reached
 pub use Rattle.cargo_toml_resolve.specs.NonDefault
+-- the same of the types that a caller's own definitions name, with their variants
+pub use Rattle.cargo_toml_parts.specs.declared.error.Error
+pub use Rattle.cargo_toml_parts.specs.declared.error.ParseFault
+pub use Rattle.cargo_toml_parts.specs.declared.inheritable.Inheritable
+pub use Rattle.cargo_toml_dependencies.specs.declared.dependency.Dependency
+pub use Rattle.cargo_toml_package.specs.declared.package.Package
+pub use Rattle.cargo_toml_manifest.specs.declared.manifest.Manifest
+pub use Rattle.cargo_toml_manifest.specs.declared.workspace.Workspace
+pub use Rattle.cargo_toml_resolve.specs.declared.features.Feature
+pub use Rattle.cargo_toml_resolve.specs.declared.features.Kind

@@ -6,17 +6,17 @@ ghost use Rattle.cargo_toml_cli.specs.Words.{words_of};
 ghost use Rattle.cargo_toml_cli.specs.declared.arguments.Command.{Command};
 
 mod arguments;
+mod outcome;
 #[cfg(test)]
 mod tests;
 
 use arguments::Command;
 use cargo_toml::Error;
 use cargo_toml_print::print_features;
+use outcome::Outcome;
 use std::process::ExitCode;
 use std::rt::{Env, Files};
 use std::{env, fs, io};
-
-const USAGE: &str = "usage: cargo-toml features FILE | complete FILE";
 
 /// What the words, without the program's own name, ask for; `None` where they are no command.
 pub fn command(words: &[String]) -> Option<Command<'_>>
@@ -51,34 +51,23 @@ fn words<R: Env + AllocGlobal>(rt: &R) -> io::Result<Vec<String>> {
     Ok(all)
 }
 
-/// Says how the program is called.
-fn usage<R: Eprint>(rt: &R) -> ExitCode {
-    let _ = eprintln!(rt; "{USAGE}");
-    ExitCode::from(2)
-}
-
-/// Tells the fault that stopped the program.
-fn failure<R: Eprint>(rt: &R, fault: &Error) -> ExitCode {
-    let _ = eprintln!(rt; "error: {fault}");
-    ExitCode::from(1)
+/// What the program is asked to do, done.
+fn run<R: Env + Files + Print + AllocGlobal>(rt: &R) -> Outcome {
+    let words = match words(rt) {
+        Ok(words) => words,
+        Err(fault) => return Outcome::of_words(fault),
+    };
+    let Some(Command::Features(file)) = command(words.as_slice()) else {
+        return Outcome::NotACommand;
+    };
+    match features(rt, file) {
+        Ok(()) => Outcome::Done,
+        Err(fault) => Outcome::Refused(fault),
+    }
 }
 
 fn main(rt: HostRuntime) -> ExitCode {
-    let words = match words(&rt) {
-        Ok(words) => words,
-        Err(fault) => {
-            return match Error::from(fault) {
-                Error::Memory => failure(&rt, &Error::Memory),
-                // a word that isn't UTF-8
-                _ => usage(&rt),
-            };
-        }
-    };
-    let Some(Command::Features(file)) = command(words.as_slice()) else {
-        return usage(&rt);
-    };
-    match features(&rt, file) {
-        Ok(()) => ExitCode::SUCCESS,
-        Err(fault) => failure(&rt, &fault),
-    }
+    let outcome = run(&rt);
+    let _ = eprint!(rt; "{outcome}");
+    ExitCode::from(outcome.status())
 }

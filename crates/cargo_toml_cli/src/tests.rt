@@ -1,5 +1,7 @@
-//! What the words of the command line ask for.
+//! What the words of the command line ask for, and what the program tells at its end.
 use super::*;
+use std::alloc::AllocError;
+use std::process::Abort;
 use std::test::Fail;
 
 #[test]
@@ -12,5 +14,44 @@ fn words_of_commands(rt: HostRuntime) -> Result<(), Fail> {
     assert_eq!(rt; command(words.as_slice()), Some(Command::Features("F")));
     words.push(String::from_str(alloc, "G")?)?;
     assert_eq!(rt; command(words.as_slice()), None);
+    Ok(())
+}
+
+// The program ends with this status, and tells this.
+fn assert_told(
+    rt: &(impl Abort + AllocGlobal),
+    outcome: &Outcome,
+    status: u8,
+    text: &str,
+) -> Result<(), AllocError> {
+    assert_eq!(rt; outcome.status(), status);
+    assert_eq!(rt; format!(in rt.alloc(); "{outcome}")?.as_str(), text);
+    Ok(())
+}
+
+#[test]
+fn told_of_outcomes(rt: HostRuntime) -> Result<(), Fail> {
+    let usage = "usage: cargo-toml features FILE | complete FILE\n";
+    assert_told(&rt, &Outcome::Done, 0, "")?;
+    assert_told(&rt, &Outcome::NotACommand, 2, usage)?;
+    assert_told(&rt, &Outcome::Refused(Error::Memory), 1, "error: out of memory\n")?;
+    Ok(())
+}
+
+#[test]
+fn told_of_a_manifest(rt: HostRuntime) -> Result<(), Fail> {
+    let Err(fault) = print_features(rt.alloc(), &mut &b"package = 1"[..], &mut io::sink()) else {
+        return Err("read")?;
+    };
+    assert_told(&rt, &Outcome::Refused(fault), 1, "error: value has the wrong shape\n")?;
+    Ok(())
+}
+
+#[test]
+fn words_not_had(rt: HostRuntime) -> Result<(), Fail> {
+    let memory = Outcome::of_words(io::Error::from(io::ErrorKind::OutOfMemory));
+    assert_told(&rt, &memory, 1, "error: out of memory\n")?;
+    let no_text = Outcome::of_words(io::Error::from(io::ErrorKind::InvalidData));
+    assert_eq!(rt; no_text.status(), 2);
     Ok(())
 }

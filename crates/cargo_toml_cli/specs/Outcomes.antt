@@ -1,0 +1,33 @@
+-- What a run of the program tells of its end.
+use Rattle.std.specs.Prelude.{◌≡◌, ◌⊎◌, ℕ, List, [], ◌∷◌, ◌++◌, Option, Some, option_map, codes}
+use Rattle.std.specs.declared.io.Error.{Error as IoError}
+use Rattle.std.specs.declared.io.ErrorKind.TheVariants as io
+use Rattle.std.specs.IoError.{error_kind}
+use Rattle.cargo_toml.specs.Error.{Memory}
+use Rattle.cargo_toml.specs.Faults.{text_of}
+use Rattle.cargo_toml_cli.specs.declared.outcome.Outcome.{Outcome}
+use Rattle.cargo_toml_cli.specs.declared.outcome.Outcome.TheVariants.{Done, Refused, NotACommand}
+
+-- the status of the program
+abbrev pub status_of : Outcome → ℕ
+status_of Done = 0
+status_of (Refused e) = 1
+status_of NotACommand = 2
+
+abbrev pub usage : List ℕ
+usage = codes "usage: cargo-toml features FILE | complete FILE"
+
+abbrev pub line : List ℕ → List ℕ
+line text = text ++ 10 ∷ []
+
+-- what is written on standard error, where what the fault displays is stated
+abbrev pub text_of_outcome : Outcome → Option (List ℕ)
+text_of_outcome Done = Some []
+text_of_outcome (Refused e) = option_map (λ t. line (codes "error: " ++ t)) (text_of e)
+text_of_outcome NotACommand = Some (line usage)
+
+-- the end of a run whose words couldn't be had: want of memory, or else words that are no command
+abbrev pub IsOfWords : IoError → Outcome → Type 0
+IsOfWords fault outcome =
+    ((error_kind fault ≡ io.OutOfMemory) × (outcome ≡ Refused Memory))
+    ⊎ ((¬ (error_kind fault ≡ io.OutOfMemory)) × (outcome ≡ NotACommand))

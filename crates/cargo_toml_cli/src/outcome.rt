@@ -1,0 +1,56 @@
+//! How a run of the program ends, and what it tells of that.
+ghost use Rattle.std.specs.Prelude.{◌≡◌};
+ghost use Rattle.cargo_toml_cli.specs.Outcomes.{IsOfWords, status_of, text_of_outcome};
+
+use cargo_toml::Error;
+use std::{fmt, io};
+
+/// How a run of the program ended.
+#[derive(Debug, Drop)]
+pub enum Outcome {
+    /// What was asked for is done.
+    Done,
+    /// It was refused with this fault.
+    Refused(Error),
+    /// The words of the command line are no command.
+    NotACommand,
+}
+
+impl Outcome {
+    /// What ends a run whose words couldn't be had: there was no memory for them, or one of them is no text.
+    pub fn of_words(fault: io::Error) -> Outcome
+        ensures { IsOfWords fault result }
+    {
+        match Error::from(fault) {
+            Error::Memory => Outcome::Refused(Error::Memory),
+            _ => Outcome::NotACommand,
+        }
+    }
+
+    /// The status that the program ends with.
+    pub fn status(&self) -> u8
+        ensures { result ≡ status_of self.now }
+    {
+        match self {
+            Outcome::Done => 0,
+            Outcome::Refused(_) => 1,
+            Outcome::NotACommand => 2,
+        }
+    }
+}
+
+/// What is told on standard error: nothing of what is done, the fault after `error: `, and else how the program is called, each
+/// as a line of its own. It takes no memory, since want of memory is a fault too.
+impl fmt::Display for Outcome {
+    ghost output = { text_of_outcome };
+
+    fn fmt<W: fmt::Write>(&self, f: &mut fmt::Formatter<W>) -> fmt::Result {
+        match self {
+            Outcome::Done => Ok(()),
+            Outcome::Refused(fault) => write!(f, "error: {fault}\n"),
+            Outcome::NotACommand => {
+                f.write_str("usage: cargo-toml features FILE | complete FILE\n")
+            }
+        }
+    }
+}

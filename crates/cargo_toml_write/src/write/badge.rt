@@ -3,6 +3,7 @@ ghost use Rattle.std.specs.Prelude.{◌≡◌, Some, IfOk};
 ghost use Rattle.toml.specs.View.{view};
 ghost use Rattle.cargo_toml_tables.specs.declared.badge.MaintenanceStatus.{MaintenanceStatus};
 ghost use Rattle.cargo_toml_tables.specs.Badges.{BadgeMeaning, BadgesMeaning, badge_meaning, badges_meaning, badge_reads, maintenance_reads};
+ghost use Rattle.cargo_toml_write.specs.FloatlessTypes.{badge_floatless, badges_floatless, maintenance_floatless};
 ghost use Rattle.cargo_toml_write.specs.WrittenBadges.{badge_way, maintenance_way, badges_way, has_no_service, is_unstated};
 ghost use Rattle.cargo_toml_write.specs.Writes.{IsWriting};
 
@@ -19,6 +20,8 @@ impl ToValue for Badge {
     ghost meaning = { badge_meaning };
 
     ghost way = { badge_way };
+
+    ghost floatless = { badge_floatless };
 
     fn to_value(&self, alloc: Global) -> Result<Value, Error>
         ensures written { IsWriting badge_way (badge_meaning self.now) result }
@@ -41,6 +44,8 @@ impl ToValue for Maintenance {
 
     ghost way = { maintenance_way };
 
+    ghost floatless = { maintenance_floatless };
+
     fn to_value(&self, alloc: Global) -> Result<Value, Error>
         ensures written { IsWriting maintenance_way self.now.status result }
         ensures read_again { IfOk result (λ v. maintenance_reads (view v) ≡ Some self.now.status) }
@@ -57,6 +62,8 @@ impl ToValue for Badges {
     ghost meaning = { badges_meaning };
 
     ghost way = { badges_way };
+
+    ghost floatless = { badges_floatless };
 
     fn to_value(&self, alloc: Global) -> Result<Value, Error> {
         let mut writing = Writing::new(alloc);

@@ -6,6 +6,7 @@ ghost use Rattle.cargo_toml_parts.specs.Floats.{members_have_no_float};
 ghost use Rattle.cargo_toml_parts.specs.Numbers.{i8_of};
 ghost use Rattle.cargo_toml_parts.specs.Reads.{map_meaning};
 ghost use Rattle.cargo_toml_tables.specs.Lints.{LintMeaning, lint_meaning, lint_of};
+ghost use Rattle.cargo_toml_write.specs.FloatlessTypes.{lint_floatless};
 ghost use Rattle.cargo_toml_write.specs.Writes.{IsWriting};
 ghost use Rattle.cargo_toml_write.specs.WrittenLints.{is_level_alone, members_of, table_lint_way, lint_way, IsApart};
 
@@ -61,6 +62,8 @@ impl ToValue for Lint {
     ghost meaning = { lint_meaning };
 
     ghost way = { lint_way };
+
+    ghost floatless = { lint_floatless };
 
     fn to_value(&self, alloc: Global) -> Result<Value, Error>
         ensures written { IsWriting lint_way (lint_meaning self.now) result }

@@ -1,5 +1,6 @@
 //! The writer of manifests.
 ghost use Rattle.cargo_toml_manifest.specs.Manifests.{ManifestMeaning, manifest_meaning};
+ghost use Rattle.cargo_toml_write.specs.FloatlessTypes.{manifest_floatless};
 ghost use Rattle.cargo_toml_write.specs.WrittenManifests.{manifest_way};
 
 use crate::write::ToValue;
@@ -16,6 +17,8 @@ impl<Metadata: FromValue + ToValue> ToValue for Manifest<Metadata> {
     ghost meaning = { manifest_meaning Metadata.ToValue.meaning };
 
     ghost way = { manifest_way Metadata.way };
+
+    ghost floatless = { manifest_floatless Metadata.way Metadata.floatless };
 
     fn to_value(&self, alloc: Global) -> Result<Value, Error> {
         let mut writing = Writing::new(alloc);

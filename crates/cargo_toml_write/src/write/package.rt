@@ -5,6 +5,7 @@ ghost use Rattle.toml.specs.View.{view};
 ghost use Rattle.cargo_toml_manifest.specs.Texts.{any_tree};
 ghost use Rattle.cargo_toml_package.specs.Packages.{PackageMeaning, package_meaning, package_reads};
 ghost use Rattle.cargo_toml_parts.specs.Inherits.{inheritable_map};
+ghost use Rattle.cargo_toml_write.specs.FloatlessTypes.{package_floatless};
 ghost use Rattle.cargo_toml_write.specs.Ways.{free_way};
 ghost use Rattle.cargo_toml_write.specs.WrittenPackages.{package_way, VersionAgain, MetadataAgain};
 ghost use Rattle.cargo_toml_write.specs.Writes.{IsWriting};
@@ -24,6 +25,8 @@ impl<Metadata: FromValue + ToValue> ToValue for Package<Metadata> {
     ghost meaning = { package_meaning Metadata.ToValue.meaning };
 
     ghost way = { package_way Metadata.way };
+
+    ghost floatless = { package_floatless Metadata.way Metadata.floatless };
 
     fn to_value(&self, alloc: Global) -> Result<Value, Error>
         ensures written { IsWriting (package_way Metadata.way) (package_meaning Metadata.ToValue.meaning self.now) result }

@@ -3,6 +3,7 @@ ghost use Rattle.std.specs.Prelude.{◌≡◌, Some, IfOk, option_and_then};
 ghost use Rattle.toml.specs.Data.{as_table};
 ghost use Rattle.toml.specs.View.{view};
 ghost use Rattle.cargo_toml_tables.specs.Products.{ProductMeaning, product_meaning, product_of};
+ghost use Rattle.cargo_toml_write.specs.FloatlessTypes.{product_floatless};
 ghost use Rattle.cargo_toml_write.specs.WrittenProducts.{product_way};
 ghost use Rattle.cargo_toml_write.specs.Writes.{IsWriting};
 
@@ -19,6 +20,8 @@ impl ToValue for Product {
     ghost meaning = { product_meaning };
 
     ghost way = { product_way };
+
+    ghost floatless = { product_floatless };
 
     fn to_value(&self, alloc: Global) -> Result<Value, Error>
         ensures written { IsWriting product_way (product_meaning self.now) result }

@@ -13,6 +13,7 @@ ghost use Rattle.cargo_toml_tables.specs.declared.badge.MaintenanceStatus.{Maint
 ghost use Rattle.cargo_toml_tables.specs.declared.lint.LintLevel.{LintLevel};
 ghost use Rattle.cargo_toml_tables.specs.Badges.{status_of};
 ghost use Rattle.cargo_toml_tables.specs.Lints.{level_of};
+ghost use Rattle.cargo_toml_write.specs.FloatlessTypes.{debug_floatless, edition_floatless, file_floatless, level_floatless, lto_floatless, publish_floatless, resolver_floatless, status_floatless, strip_floatless};
 ghost use Rattle.cargo_toml_write.specs.Writes.{IsWriting};
 ghost use Rattle.cargo_toml_write.specs.WrittenSettings.{edition_way, resolver_way, level_way, status_way, file_way, publish_way, debug_way, strip_way, lto_way};
 
@@ -29,6 +30,8 @@ impl ToValue for Edition {
     ghost meaning = { λ x. x };
 
     ghost way = { edition_way };
+
+    ghost floatless = { edition_floatless };
 
     fn to_value(&self, alloc: Global) -> Result<Value, Error>
         ensures written { IsWriting edition_way self.now result }
@@ -51,6 +54,8 @@ impl ToValue for Resolver {
 
     ghost way = { resolver_way };
 
+    ghost floatless = { resolver_floatless };
+
     fn to_value(&self, alloc: Global) -> Result<Value, Error>
         ensures written { IsWriting resolver_way self.now result }
         ensures read_again { IfOk result (λ v. option_and_then resolver_of (as_str (view v)) ≡ Some self.now) }
@@ -70,6 +75,8 @@ impl ToValue for LintLevel {
     ghost meaning = { λ x. x };
 
     ghost way = { level_way };
+
+    ghost floatless = { level_floatless };
 
     fn to_value(&self, alloc: Global) -> Result<Value, Error>
         ensures written { IsWriting level_way self.now result }
@@ -92,6 +99,8 @@ impl ToValue for MaintenanceStatus {
     ghost meaning = { λ x. x };
 
     ghost way = { status_way };
+
+    ghost floatless = { status_floatless };
 
     fn to_value(&self, alloc: Global) -> Result<Value, Error>
         ensures written { IsWriting status_way self.now result }
@@ -116,6 +125,8 @@ impl ToValue for OptionalFile {
     ghost meaning = { file_meaning };
 
     ghost way = { file_way };
+
+    ghost floatless = { file_floatless };
 
     fn to_value(&self, _alloc: Global) -> Result<Value, Error>
         ensures written { IsWriting file_way (file_meaning self.now) result }
@@ -145,6 +156,8 @@ impl ToValue for Publish {
 
     ghost way = { publish_way };
 
+    ghost floatless = { publish_floatless };
+
     fn to_value(&self, alloc: Global) -> Result<Value, Error>
         ensures written { IsWriting publish_way (publish_meaning self.now) result }
         ensures read_again { IfOk result (λ v. publish_of (view v) ≡ Some (publish_meaning self.now)) }
@@ -173,6 +186,8 @@ impl ToValue for DebugSetting {
 
     ghost way = { debug_way };
 
+    ghost floatless = { debug_floatless };
+
     fn to_value(&self, _alloc: Global) -> Result<Value, Error>
         ensures written { IsWriting debug_way self.now result }
         ensures read_again { IfOk result (λ v. debug_of (view v) ≡ Some self.now) }
@@ -192,6 +207,8 @@ impl ToValue for StripSetting {
 
     ghost way = { strip_way };
 
+    ghost floatless = { strip_floatless };
+
     fn to_value(&self, alloc: Global) -> Result<Value, Error>
         ensures written { IsWriting strip_way self.now result }
         ensures read_again { IfOk result (λ v. strip_of (view v) ≡ Some self.now) }
@@ -210,6 +227,8 @@ impl ToValue for LtoSetting {
     ghost meaning = { λ x. x };
 
     ghost way = { lto_way };
+
+    ghost floatless = { lto_floatless };
 
     fn to_value(&self, alloc: Global) -> Result<Value, Error>
         ensures written { IsWriting lto_way self.now result }

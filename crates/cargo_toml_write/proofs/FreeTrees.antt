@@ -211,9 +211,12 @@ no_config : (es : List (List ℕ × Data)) → IsTrue (is_nil es) → AllByRecur
 no_config [] h = tt
 no_config (e ∷ es) h = absurd cc
 
+pub table_lint_tree : (l : LintMeaning) → LintHoldsNoFloat l → HasTree table_lint_way l
+table_lint_tree l h = (lint_table l, (config_held l.config (recursion_from_All (λ (e : List ℕ × Data). HoldsNoFloat e.1) l.config h.config), refl))
+
 lint_at : (b : Bool) (l : LintMeaning) → LintHoldsNoFloat l → (d : Data) × MatchBool b (level_way.trees l.level d) (table_lint_way.trees l d)
 lint_at true l h = level_tree l.level
-lint_at false l h = (lint_table l, (config_held l.config (recursion_from_All (λ (e : List ℕ × Data). HoldsNoFloat e.1) l.config h.config), refl))
+lint_at false l h = table_lint_tree l h
 
 lint_config : (b : Bool) (l : LintMeaning) (d : Data) → b ≡ is_level_alone l → MatchBool b (level_way.trees l.level d) (table_lint_way.trees l d)
     → AllByRecursion (λ (e : List ℕ × Data). HoldsNoFloat e.1) l.config

@@ -1,4 +1,6 @@
 pub mod Entries
+pub mod FloatlessAgain
+pub mod FreeTrees
 pub mod Items
 pub mod LintAgain
 pub mod Others
@@ -9,3 +11,5 @@ pub mod ReadAgainProducts
 pub mod ReadAgainSettings
 pub mod Rows
 pub mod Tables
+pub mod TotalTrees
+pub mod Trees

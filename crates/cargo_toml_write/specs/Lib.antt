@@ -1,4 +1,7 @@
 pub mod Examples
+pub mod FloatlessLaws
+pub mod FloatlessTypes
+pub mod NoFloats
 pub mod Ways
 pub mod WrittenBadges
 pub mod WrittenDependencies

@@ -1,11 +1,12 @@
 -- What a writer answers, and how a table is written key by key.
-use Rattle.std.specs.Prelude.{◌≡◌, ◌⊎◌, ℕ, List, [], ◌∷◌, Bool, true, false, Result, Ok, Err, Option, Some, None}
+use Rattle.std.specs.Prelude.{◌≡◌, ◌⊎◌, ℕ, List, [], ◌∷◌, Bool, true, false, IsTrue, Result, Ok, Err, IfOk, Option, Some, None}
 use Rattle.std.specs.Cmp.Lexicographic.{slice_cmp}
 use Rattle.std.specs.Ordering.{nat_cmp, match_ordering}
 use Rattle.toml.specs.Data.{Data, table, Members, no_members, member}
 use Rattle.toml.specs.View.{view, table_view}
 use Rattle.toml.specs.declared.value.Value.{Value}
 use Rattle.cargo_toml_parts.specs.declared.error.Error.{Error, Memory}
+use Rattle.cargo_toml_parts.specs.Floats.{has_no_float, without_floats}
 use Rattle.cargo_toml_write.specs.declared.write.writing.Writing.{Writing}
 
 -- how what values hold is written: the trees of each, and the faults of one that has no tree; and which value is left out of a
@@ -15,6 +16,14 @@ pub record Way (X : Type 0) : Type 1 where
   pub refuses : X → Error → Type 0
   pub left_out : X → Bool
 
+-- there is a tree of what is held
+abbrev pub HasTree : {X : Type 0} → Way X → X → Type 0
+HasTree way x = (d : Data) × way.trees x d
+
+-- what is written in this way holds no float
+abbrev pub IsFloatless : {X : Type 0} → Way X → Type 0
+IsFloatless {X = X} way = (x : X) (d : Data) → way.trees x d → IsTrue (has_no_float d)
+
 abbrev pub never : {X : Type 0} → X → Bool
 never x = false
 
@@ -22,6 +31,10 @@ never x = false
 abbrev pub IsWriting : {X : Type 0} → Way X → X → Result Value Error → Type 0
 IsWriting way x (Ok v) = way.trees x (view v)
 IsWriting way x (Err e) = (e ≡ Memory) ⊎ (((d : Data) → ¬ (way.trees x d)) × way.refuses x e)
+
+-- the public reader, which refuses a float at any depth, reads the tree again as what was held
+abbrev pub IsReadAgain : {M : Type 0} → (Data → Option M) → M → Result Value Error → Type 0
+IsReadAgain reads m answer = IfOk answer (λ v. without_floats reads (view v) ≡ Some m)
 
 -- the members, with d at the key k
 abbrev pub put : List ℕ → Data → Members → Members

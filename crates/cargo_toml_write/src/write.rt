@@ -2,7 +2,7 @@
 ghost use Rattle.std.specs.Prelude.{◌≡◌, OnOk, IfErr};
 ghost use Rattle.toml.specs.View.{view, table_view};
 ghost use Rattle.cargo_toml_parts.specs.declared.error.Error.{Error};
-ghost use Rattle.cargo_toml_write.specs.Writes.{Way, IsWriting, put};
+ghost use Rattle.cargo_toml_write.specs.Writes.{Way, IsWriting, IsFloatless, put};
 
 pub mod badge;
 pub mod collections;
@@ -25,7 +25,7 @@ use toml::{Table, Value};
 /// What can be written to a value of TOML. Each type of a manifest is; the type of a package's metadata is any such type.
 ///
 /// A type tells what its values mean, and the way in which that is written: which trees it is written to, and which faults a
-/// value that has none may be refused with.
+/// value that has none may be refused with. By the law `floatless` no tree holds a float, so that each can be read again.
 pub trait ToValue {
     ghost Meaning: { Type 0 };
 
@@ -39,6 +39,8 @@ pub trait ToValue {
     /// metadata of a caller's own type has none, whose fault is handed on as it is.
     fn to_value(&self, alloc: Global) -> Result<Value, Error>
         ensures { IsWriting way (meaning self.now) result };
+
+    ghost floatless: { IsFloatless way };
 }
 
 /// What is left out of a table where it is what a missing key stands for.

@@ -1,10 +1,11 @@
 //! Writers of badges.
-ghost use Rattle.std.specs.Prelude.{◌≡◌, Some, IfOk};
-ghost use Rattle.toml.specs.View.{view};
+ghost use Rattle.std.specs.Prelude.{◌≡◌, IfErr};
+ghost use Rattle.cargo_toml_parts.specs.declared.error.Error.{Error};
 ghost use Rattle.cargo_toml_tables.specs.declared.badge.MaintenanceStatus.{MaintenanceStatus};
 ghost use Rattle.cargo_toml_tables.specs.Badges.{BadgeMeaning, BadgesMeaning, badge_meaning, badges_meaning, badge_reads, maintenance_reads};
+ghost use Rattle.cargo_toml_write.specs.FloatlessTypes.{badge_floatless, badges_floatless, maintenance_floatless};
 ghost use Rattle.cargo_toml_write.specs.WrittenBadges.{badge_way, maintenance_way, badges_way, has_no_service, is_unstated};
-ghost use Rattle.cargo_toml_write.specs.Writes.{IsWriting};
+ghost use Rattle.cargo_toml_write.specs.Writes.{IsWriting, IsReadAgain};
 
 use crate::write::writing::Writing;
 use crate::write::{LeftOut, ToValue};
@@ -20,9 +21,12 @@ impl ToValue for Badge {
 
     ghost way = { badge_way };
 
+    ghost floatless = { badge_floatless };
+
     fn to_value(&self, alloc: Global) -> Result<Value, Error>
         ensures written { IsWriting badge_way (badge_meaning self.now) result }
-        ensures read_again { IfOk result (λ v. badge_reads (view v) ≡ Some (badge_meaning self.now)) }
+        ensures read_again { IsReadAgain badge_reads (badge_meaning self.now) result }
+        ensures memory { IfErr result (λ e. e ≡ Error.Memory) }
     {
         let mut writing = Writing::new(alloc);
         writing.required("repository", &self.repository);
@@ -41,9 +45,12 @@ impl ToValue for Maintenance {
 
     ghost way = { maintenance_way };
 
+    ghost floatless = { maintenance_floatless };
+
     fn to_value(&self, alloc: Global) -> Result<Value, Error>
         ensures written { IsWriting maintenance_way self.now.status result }
-        ensures read_again { IfOk result (λ v. maintenance_reads (view v) ≡ Some self.now.status) }
+        ensures read_again { IsReadAgain maintenance_reads self.now.status result }
+        ensures memory { IfErr result (λ e. e ≡ Error.Memory) }
     {
         let mut writing = Writing::new(alloc);
         writing.required("status", &self.status);
@@ -57,6 +64,8 @@ impl ToValue for Badges {
     ghost meaning = { badges_meaning };
 
     ghost way = { badges_way };
+
+    ghost floatless = { badges_floatless };
 
     fn to_value(&self, alloc: Global) -> Result<Value, Error> {
         let mut writing = Writing::new(alloc);

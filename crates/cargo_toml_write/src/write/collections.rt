@@ -3,6 +3,7 @@ ghost use Rattle.std.specs.Prelude.{◌≡◌, ℕ, List, map};
 ghost use Rattle.cargo_toml_parts.specs.declared.inheritable.Inheritable.{Inheritable};
 ghost use Rattle.cargo_toml_parts.specs.Inherits.{inheritable_map};
 ghost use Rattle.cargo_toml_parts.specs.Reads.{map_meaning};
+ghost use Rattle.cargo_toml_write.specs.FloatlessLaws.{inheritable_floatless, list_floatless, map_floatless};
 ghost use Rattle.cargo_toml_write.specs.Ways.{list_way, map_way, inheritable_way, exactly, inherited_tree};
 ghost use Rattle.cargo_toml_write.specs.Writes.{IsWriting};
 
@@ -19,6 +20,8 @@ impl<T: ToValue> ToValue for Vec<T> {
     ghost meaning = { λ v. map T.meaning v.items };
 
     ghost way = { list_way T.way };
+
+    ghost floatless = { list_floatless T.way T.floatless };
 
     fn to_value(&self, alloc: Global) -> Result<Value, Error> {
         let mut values = Vec::with_capacity(alloc, self.len())?;
@@ -42,6 +45,8 @@ impl<T: ToValue> ToValue for BTreeMap<String, T> {
     ghost meaning = { map_meaning T.meaning };
 
     ghost way = { map_way T.way };
+
+    ghost floatless = { map_floatless T.way T.floatless };
 
     fn to_value(&self, alloc: Global) -> Result<Value, Error> {
         let mut writing = Writing::new(alloc);
@@ -73,6 +78,8 @@ impl<T: ToValue> ToValue for Inheritable<T> {
     ghost meaning = { inheritable_map T.meaning };
 
     ghost way = { inheritable_way T.way };
+
+    ghost floatless = { inheritable_floatless T.way T.floatless };
 
     fn to_value(&self, alloc: Global) -> Result<Value, Error> {
         match self {

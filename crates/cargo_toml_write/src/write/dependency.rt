@@ -1,6 +1,7 @@
 //! Writers of dependencies.
 ghost use Rattle.cargo_toml_dependencies.specs.Dependencies.{InheritedMeaning, DetailMeaning, DependencyMeaning, inherited_meaning, detail_meaning, dependency_meaning};
 ghost use Rattle.cargo_toml_dependencies.specs.Targets.{TargetMeaning, target_meaning};
+ghost use Rattle.cargo_toml_write.specs.FloatlessTypes.{dependency_floatless, detail_floatless, inherited_floatless, target_floatless};
 ghost use Rattle.cargo_toml_write.specs.WrittenDependencies.{inherited_way, detail_way, dependency_way, target_way};
 
 use crate::write::ToValue;
@@ -16,6 +17,8 @@ impl ToValue for InheritedDependencyDetail {
     ghost meaning = { inherited_meaning };
 
     ghost way = { inherited_way };
+
+    ghost floatless = { inherited_floatless };
 
     fn to_value(&self, alloc: Global) -> Result<Value, Error> {
         let mut writing = Writing::new(alloc);
@@ -33,6 +36,8 @@ impl ToValue for DependencyDetail {
     ghost meaning = { detail_meaning };
 
     ghost way = { detail_way };
+
+    ghost floatless = { detail_floatless };
 
     fn to_value(&self, alloc: Global) -> Result<Value, Error> {
         let mut writing = Writing::new(alloc);
@@ -60,6 +65,8 @@ impl ToValue for Dependency {
 
     ghost way = { dependency_way };
 
+    ghost floatless = { dependency_floatless };
+
     fn to_value(&self, alloc: Global) -> Result<Value, Error> {
         match self {
             Dependency::Simple(requirement) => requirement.to_value(alloc),
@@ -76,6 +83,8 @@ impl ToValue for Target {
     ghost meaning = { target_meaning };
 
     ghost way = { target_way };
+
+    ghost floatless = { target_floatless };
 
     fn to_value(&self, alloc: Global) -> Result<Value, Error> {
         let mut writing = Writing::new(alloc);

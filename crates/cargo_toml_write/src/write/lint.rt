@@ -1,12 +1,15 @@
 //! The writer of lints.
-ghost use Rattle.std.specs.Prelude.{◌≡◌, Some, IfOk};
+ghost use Rattle.std.specs.Prelude.{◌≡◌, Some, IfErr};
 ghost use Rattle.toml.specs.Data.{integer};
 ghost use Rattle.toml.specs.View.{view};
+ghost use Rattle.cargo_toml_parts.specs.declared.error.Error.{Error};
 ghost use Rattle.cargo_toml_parts.specs.Floats.{members_have_no_float};
 ghost use Rattle.cargo_toml_parts.specs.Numbers.{i8_of};
 ghost use Rattle.cargo_toml_parts.specs.Reads.{map_meaning};
 ghost use Rattle.cargo_toml_tables.specs.Lints.{LintMeaning, lint_meaning, lint_of};
-ghost use Rattle.cargo_toml_write.specs.Writes.{IsWriting};
+ghost use Rattle.cargo_toml_write.specs.FloatlessTypes.{lint_floatless};
+ghost use Rattle.cargo_toml_write.specs.NoFloats.{LintHoldsNoFloat};
+ghost use Rattle.cargo_toml_write.specs.Writes.{IsWriting, IsReadAgain};
 ghost use Rattle.cargo_toml_write.specs.WrittenLints.{is_level_alone, members_of, table_lint_way, lint_way, IsApart};
 
 use crate::write::{ToValue, put};
@@ -42,8 +45,7 @@ fn priority_value(lint: &Lint) -> Value
 /// The table of a lint: a copy of its config, over which the level and the priority are put.
 fn lint_table(lint: &Lint, alloc: Global) -> Result<Value, Error>
     ensures written { IsWriting table_lint_way (lint_meaning lint.now) result }
-    ensures read_again { IsApart (lint_meaning lint.now)
-        → IfOk result (λ v. lint_of (view v) ≡ Some (lint_meaning lint.now)) }
+    ensures read_again { IsApart (lint_meaning lint.now) → IsReadAgain lint_of (lint_meaning lint.now) result }
 {
     if !has_no_float(&lint.config) {
         return Err(Error::Other("floats are not supported"));
@@ -62,10 +64,12 @@ impl ToValue for Lint {
 
     ghost way = { lint_way };
 
+    ghost floatless = { lint_floatless };
+
     fn to_value(&self, alloc: Global) -> Result<Value, Error>
         ensures written { IsWriting lint_way (lint_meaning self.now) result }
-        ensures read_again { IsApart (lint_meaning self.now)
-            → IfOk result (λ v. lint_of (view v) ≡ Some (lint_meaning self.now)) }
+        ensures read_again { IsApart (lint_meaning self.now) → IsReadAgain lint_of (lint_meaning self.now) result }
+        ensures memory { LintHoldsNoFloat (lint_meaning self.now) → IfErr result (λ e. e ≡ Error.Memory) }
     {
         if is_level_alone(self) {
             return self.level.to_value(alloc);

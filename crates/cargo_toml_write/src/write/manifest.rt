@@ -1,6 +1,11 @@
 //! The writer of manifests.
+ghost use Rattle.std.specs.Prelude.{◌≡◌, IfErr};
 ghost use Rattle.cargo_toml_manifest.specs.Manifests.{ManifestMeaning, manifest_meaning};
+ghost use Rattle.cargo_toml_parts.specs.declared.error.Error.{Error};
+ghost use Rattle.cargo_toml_write.specs.FloatlessTypes.{manifest_floatless};
+ghost use Rattle.cargo_toml_write.specs.NoFloats.{ManifestHoldsNoFloat};
 ghost use Rattle.cargo_toml_write.specs.WrittenManifests.{manifest_way};
+ghost use Rattle.cargo_toml_write.specs.Writes.{HasTree, IsWriting};
 
 use crate::write::ToValue;
 use crate::write::writing::Writing;
@@ -17,7 +22,13 @@ impl<Metadata: FromValue + ToValue> ToValue for Manifest<Metadata> {
 
     ghost way = { manifest_way Metadata.way };
 
-    fn to_value(&self, alloc: Global) -> Result<Value, Error> {
+    ghost floatless = { manifest_floatless Metadata.way Metadata.floatless };
+
+    fn to_value(&self, alloc: Global) -> Result<Value, Error>
+        ensures written { IsWriting (manifest_way Metadata.way) (manifest_meaning Metadata.ToValue.meaning self.now) result }
+        ensures memory { ManifestHoldsNoFloat (HasTree Metadata.way) (manifest_meaning Metadata.ToValue.meaning self.now)
+            → IfErr result (λ e. e ≡ Error.Memory) }
+    {
         let mut writing = Writing::new(alloc);
         writing.optional("package", &self.package);
         writing.optional("workspace", &self.workspace);

@@ -1,13 +1,16 @@
 //! The writer of packages.
-ghost use Rattle.std.specs.Prelude.{◌≡◌, Some, IfOk};
+ghost use Rattle.std.specs.Prelude.{◌≡◌, IfErr};
 ghost use Rattle.semver.specs.Identifiers.{parts_of};
 ghost use Rattle.toml.specs.View.{view};
 ghost use Rattle.cargo_toml_manifest.specs.Texts.{any_tree};
 ghost use Rattle.cargo_toml_package.specs.Packages.{PackageMeaning, package_meaning, package_reads};
+ghost use Rattle.cargo_toml_parts.specs.declared.error.Error.{Error};
 ghost use Rattle.cargo_toml_parts.specs.Inherits.{inheritable_map};
+ghost use Rattle.cargo_toml_write.specs.FloatlessTypes.{package_floatless};
+ghost use Rattle.cargo_toml_write.specs.NoFloats.{PackageHoldsNoFloat};
 ghost use Rattle.cargo_toml_write.specs.Ways.{free_way};
 ghost use Rattle.cargo_toml_write.specs.WrittenPackages.{package_way, VersionAgain, MetadataAgain};
-ghost use Rattle.cargo_toml_write.specs.Writes.{IsWriting};
+ghost use Rattle.cargo_toml_write.specs.Writes.{IsWriting, IsReadAgain, HasTree};
 
 use crate::write::ToValue;
 use crate::write::writing::Writing;
@@ -25,20 +28,18 @@ impl<Metadata: FromValue + ToValue> ToValue for Package<Metadata> {
 
     ghost way = { package_way Metadata.way };
 
+    ghost floatless = { package_floatless Metadata.way Metadata.floatless };
+
     fn to_value(&self, alloc: Global) -> Result<Value, Error>
         ensures written { IsWriting
             (package_way Metadata.way)
             (package_meaning Metadata.ToValue.meaning self.now)
             result }
         ensures read_again { VersionAgain (inheritable_map parts_of self.now.version)
-            → MetadataAgain
-            Metadata.way
-            Metadata.ToValue.meaning
-            Metadata.FromValue.meaning
-            Metadata.from_tree
-            self.now.metadata
-            → IfOk result (λ v. package_reads Metadata.from_tree (view v)
-            ≡ Some (package_meaning Metadata.FromValue.meaning self.now)) }
+            → MetadataAgain Metadata.way Metadata.ToValue.meaning Metadata.FromValue.meaning Metadata.from_tree self.now.metadata
+            → IsReadAgain (package_reads Metadata.from_tree) (package_meaning Metadata.FromValue.meaning self.now) result }
+        ensures memory { PackageHoldsNoFloat (HasTree Metadata.way) (package_meaning Metadata.ToValue.meaning self.now)
+            → IfErr result (λ e. e ≡ Error.Memory) }
     {
         let mut writing = Writing::new(alloc);
         writing.required("name", &self.name);
@@ -73,7 +74,7 @@ impl<Metadata: FromValue + ToValue> ToValue for Package<Metadata> {
     }
 }
 
-// A law: metadata of the type `Value` are read again as they were.
-fn value_metadata(metadata: &Option<Value>)
+/// A law: metadata of the type `Value` are read again as they were.
+pub fn value_metadata(metadata: &Option<Value>)
     ensures { MetadataAgain free_way view view any_tree metadata.now }
 {}

@@ -5,6 +5,7 @@ ghost use Rattle.semver.specs.Parse.{Held};
 ghost use Rattle.toml.specs.Data.{Data};
 ghost use Rattle.toml.specs.View.{view};
 ghost use Rattle.cargo_toml_parts.specs.Versions.{Parts, requirement_meaning};
+ghost use Rattle.cargo_toml_write.specs.FloatlessLaws.{free_floatless, number_floatless, requirement_floatless, text_floatless, truth_floatless, version_floatless};
 ghost use Rattle.cargo_toml_write.specs.Ways.{text_way, truth_way, number_way, version_way, requirement_way, free_way};
 
 use crate::write::ToValue;
@@ -20,6 +21,8 @@ impl ToValue for bool {
 
     ghost way = { truth_way };
 
+    ghost floatless = { truth_floatless };
+
     fn to_value(&self, _alloc: Global) -> Result<Value, Error> {
         Ok(Value::Boolean(*self))
     }
@@ -31,6 +34,8 @@ impl ToValue for u16 {
     ghost meaning = { λ n. n };
 
     ghost way = { number_way };
+
+    ghost floatless = { number_floatless };
 
     fn to_value(&self, _alloc: Global) -> Result<Value, Error> {
         Ok(Value::Integer(i64::from(*self)))
@@ -44,6 +49,8 @@ impl ToValue for String {
 
     ghost way = { text_way };
 
+    ghost floatless = { text_floatless };
+
     fn to_value(&self, _alloc: Global) -> Result<Value, Error> {
         Ok(Value::String(self.clone()?))
     }
@@ -55,6 +62,8 @@ impl ToValue for SemVer {
     ghost meaning = { parts_of };
 
     ghost way = { version_way };
+
+    ghost floatless = { version_floatless };
 
     fn to_value(&self, alloc: Global) -> Result<Value, Error> {
         Ok(Value::String(self.to_string(alloc)?))
@@ -68,6 +77,8 @@ impl ToValue for VersionReq {
 
     ghost way = { requirement_way };
 
+    ghost floatless = { requirement_floatless };
+
     fn to_value(&self, alloc: Global) -> Result<Value, Error> {
         Ok(Value::String(self.to_string(alloc)?))
     }
@@ -80,6 +91,8 @@ impl ToValue for Value {
     ghost meaning = { view };
 
     ghost way = { free_way };
+
+    ghost floatless = { free_floatless };
 
     fn to_value(&self, _alloc: Global) -> Result<Value, Error> {
         if !has_no_float(self) {

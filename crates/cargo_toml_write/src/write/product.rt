@@ -1,10 +1,11 @@
 //! The writer of products.
-ghost use Rattle.std.specs.Prelude.{◌≡◌, Some, IfOk, option_and_then};
-ghost use Rattle.toml.specs.Data.{as_table};
-ghost use Rattle.toml.specs.View.{view};
-ghost use Rattle.cargo_toml_tables.specs.Products.{ProductMeaning, product_meaning, product_of};
+ghost use Rattle.std.specs.Prelude.{◌≡◌, IfErr};
+ghost use Rattle.cargo_toml_manifest.specs.Manifests.{product_reads};
+ghost use Rattle.cargo_toml_parts.specs.declared.error.Error.{Error};
+ghost use Rattle.cargo_toml_tables.specs.Products.{ProductMeaning, product_meaning};
+ghost use Rattle.cargo_toml_write.specs.FloatlessTypes.{product_floatless};
 ghost use Rattle.cargo_toml_write.specs.WrittenProducts.{product_way};
-ghost use Rattle.cargo_toml_write.specs.Writes.{IsWriting};
+ghost use Rattle.cargo_toml_write.specs.Writes.{IsWriting, IsReadAgain};
 
 use crate::write::ToValue;
 use crate::write::writing::Writing;
@@ -20,10 +21,12 @@ impl ToValue for Product {
 
     ghost way = { product_way };
 
+    ghost floatless = { product_floatless };
+
     fn to_value(&self, alloc: Global) -> Result<Value, Error>
         ensures written { IsWriting product_way (product_meaning self.now) result }
-        ensures read_again { IfOk result (λ v.
-            option_and_then product_of (as_table (view v)) ≡ Some (product_meaning self.now)) }
+        ensures read_again { IsReadAgain product_reads (product_meaning self.now) result }
+        ensures memory { IfErr result (λ e. e ≡ Error.Memory) }
     {
         let mut writing = Writing::new(alloc);
         writing.optional("path", &self.path);

@@ -1,5 +1,6 @@
 //! Writers of profiles.
 ghost use Rattle.cargo_toml_tables.specs.Profiles.{ProfileMeaning, ProfilesMeaning, profile_meaning, profiles_meaning};
+ghost use Rattle.cargo_toml_write.specs.FloatlessTypes.{profile_floatless, profiles_floatless};
 ghost use Rattle.cargo_toml_write.specs.WrittenProfiles.{profile_way, profiles_way};
 
 use crate::write::writing::Writing;
@@ -15,6 +16,8 @@ impl ToValue for Profile {
     ghost meaning = { profile_meaning };
 
     ghost way = { profile_way };
+
+    ghost floatless = { profile_floatless };
 
     fn to_value(&self, alloc: Global) -> Result<Value, Error> {
         let mut writing = Writing::new(alloc);
@@ -43,6 +46,8 @@ impl ToValue for Profiles {
     ghost meaning = { profiles_meaning };
 
     ghost way = { profiles_way };
+
+    ghost floatless = { profiles_floatless };
 
     fn to_value(&self, alloc: Global) -> Result<Value, Error> {
         let mut writing = Writing::new(alloc);

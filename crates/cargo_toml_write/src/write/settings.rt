@@ -1,19 +1,19 @@
 //! Writers of the enums and settings that stand for one value.
-ghost use Rattle.std.specs.Prelude.{◌≡◌, Some, IfOk, option_and_then};
-ghost use Rattle.toml.specs.Data.{as_str};
-ghost use Rattle.toml.specs.View.{view};
+ghost use Rattle.std.specs.Prelude.{◌≡◌, IfErr};
+ghost use Rattle.cargo_toml_parts.specs.declared.error.Error.{Error};
 ghost use Rattle.cargo_toml_settings.specs.declared.profile_settings.DebugSetting.{DebugSetting};
 ghost use Rattle.cargo_toml_settings.specs.declared.profile_settings.LtoSetting.{LtoSetting};
 ghost use Rattle.cargo_toml_settings.specs.declared.profile_settings.StripSetting.{StripSetting};
 ghost use Rattle.cargo_toml_settings.specs.declared.settings.Edition.{Edition};
 ghost use Rattle.cargo_toml_settings.specs.declared.settings.Resolver.{Resolver};
 ghost use Rattle.cargo_toml_settings.specs.ProfileSettings.{debug_of, strip_of, lto_of};
-ghost use Rattle.cargo_toml_settings.specs.Settings.{File, Registries, edition_of, resolver_of, file_of, file_meaning, publish_of, publish_meaning};
+ghost use Rattle.cargo_toml_settings.specs.Settings.{File, Registries, edition_reads, resolver_reads, file_of, file_meaning, publish_of, publish_meaning};
 ghost use Rattle.cargo_toml_tables.specs.declared.badge.MaintenanceStatus.{MaintenanceStatus};
 ghost use Rattle.cargo_toml_tables.specs.declared.lint.LintLevel.{LintLevel};
 ghost use Rattle.cargo_toml_tables.specs.Badges.{status_of};
 ghost use Rattle.cargo_toml_tables.specs.Lints.{level_of};
-ghost use Rattle.cargo_toml_write.specs.Writes.{IsWriting};
+ghost use Rattle.cargo_toml_write.specs.FloatlessTypes.{debug_floatless, edition_floatless, file_floatless, level_floatless, lto_floatless, publish_floatless, resolver_floatless, status_floatless, strip_floatless};
+ghost use Rattle.cargo_toml_write.specs.Writes.{IsWriting, IsReadAgain};
 ghost use Rattle.cargo_toml_write.specs.WrittenSettings.{edition_way, resolver_way, level_way, status_way, file_way, publish_way, debug_way, strip_way, lto_way};
 
 use crate::write::{LeftOut, ToValue};
@@ -32,10 +32,12 @@ impl ToValue for Edition {
 
     ghost way = { edition_way };
 
+    ghost floatless = { edition_floatless };
+
     fn to_value(&self, alloc: Global) -> Result<Value, Error>
         ensures written { IsWriting edition_way self.now result }
-        ensures read_again { IfOk result (λ v.
-            option_and_then edition_of (as_str (view v)) ≡ Some self.now) }
+        ensures read_again { IsReadAgain edition_reads self.now result }
+        ensures memory { IfErr result (λ e. e ≡ Error.Memory) }
     {
         let text = match self {
             Edition::E2015 => "2015",
@@ -54,10 +56,12 @@ impl ToValue for Resolver {
 
     ghost way = { resolver_way };
 
+    ghost floatless = { resolver_floatless };
+
     fn to_value(&self, alloc: Global) -> Result<Value, Error>
         ensures written { IsWriting resolver_way self.now result }
-        ensures read_again { IfOk result (λ v.
-            option_and_then resolver_of (as_str (view v)) ≡ Some self.now) }
+        ensures read_again { IsReadAgain resolver_reads self.now result }
+        ensures memory { IfErr result (λ e. e ≡ Error.Memory) }
     {
         let text = match self {
             Resolver::V1 => "1",
@@ -75,9 +79,12 @@ impl ToValue for LintLevel {
 
     ghost way = { level_way };
 
+    ghost floatless = { level_floatless };
+
     fn to_value(&self, alloc: Global) -> Result<Value, Error>
         ensures written { IsWriting level_way self.now result }
-        ensures read_again { IfOk result (λ v. level_of (view v) ≡ Some self.now) }
+        ensures read_again { IsReadAgain level_of self.now result }
+        ensures memory { IfErr result (λ e. e ≡ Error.Memory) }
     {
         let text = match self {
             LintLevel::Allow => "allow",
@@ -97,9 +104,12 @@ impl ToValue for MaintenanceStatus {
 
     ghost way = { status_way };
 
+    ghost floatless = { status_floatless };
+
     fn to_value(&self, alloc: Global) -> Result<Value, Error>
         ensures written { IsWriting status_way self.now result }
-        ensures read_again { IfOk result (λ v. status_of (view v) ≡ Some self.now) }
+        ensures read_again { IsReadAgain status_of self.now result }
+        ensures memory { IfErr result (λ e. e ≡ Error.Memory) }
     {
         let text = match self {
             MaintenanceStatus::None => "none",
@@ -121,9 +131,12 @@ impl ToValue for OptionalFile {
 
     ghost way = { file_way };
 
+    ghost floatless = { file_floatless };
+
     fn to_value(&self, _alloc: Global) -> Result<Value, Error>
         ensures written { IsWriting file_way (file_meaning self.now) result }
-        ensures read_again { IfOk result (λ v. file_of (view v) ≡ Some (file_meaning self.now)) }
+        ensures read_again { IsReadAgain file_of (file_meaning self.now) result }
+        ensures memory { IfErr result (λ e. e ≡ Error.Memory) }
     {
         match self {
             OptionalFile::Flag(flag) => Ok(Value::Boolean(*flag)),
@@ -149,9 +162,12 @@ impl ToValue for Publish {
 
     ghost way = { publish_way };
 
+    ghost floatless = { publish_floatless };
+
     fn to_value(&self, alloc: Global) -> Result<Value, Error>
         ensures written { IsWriting publish_way (publish_meaning self.now) result }
-        ensures read_again { IfOk result (λ v. publish_of (view v) ≡ Some (publish_meaning self.now)) }
+        ensures read_again { IsReadAgain publish_of (publish_meaning self.now) result }
+        ensures memory { IfErr result (λ e. e ≡ Error.Memory) }
     {
         match self {
             Publish::Flag(flag) => Ok(Value::Boolean(*flag)),
@@ -177,9 +193,12 @@ impl ToValue for DebugSetting {
 
     ghost way = { debug_way };
 
+    ghost floatless = { debug_floatless };
+
     fn to_value(&self, _alloc: Global) -> Result<Value, Error>
         ensures written { IsWriting debug_way self.now result }
-        ensures read_again { IfOk result (λ v. debug_of (view v) ≡ Some self.now) }
+        ensures read_again { IsReadAgain debug_of self.now result }
+        ensures memory { IfErr result (λ e. e ≡ Error.Memory) }
     {
         match self {
             DebugSetting::None => Ok(Value::Boolean(false)),
@@ -196,9 +215,12 @@ impl ToValue for StripSetting {
 
     ghost way = { strip_way };
 
+    ghost floatless = { strip_floatless };
+
     fn to_value(&self, alloc: Global) -> Result<Value, Error>
         ensures written { IsWriting strip_way self.now result }
-        ensures read_again { IfOk result (λ v. strip_of (view v) ≡ Some self.now) }
+        ensures read_again { IsReadAgain strip_of self.now result }
+        ensures memory { IfErr result (λ e. e ≡ Error.Memory) }
     {
         match self {
             StripSetting::None => Ok(Value::Boolean(false)),
@@ -215,9 +237,12 @@ impl ToValue for LtoSetting {
 
     ghost way = { lto_way };
 
+    ghost floatless = { lto_floatless };
+
     fn to_value(&self, alloc: Global) -> Result<Value, Error>
         ensures written { IsWriting lto_way self.now result }
-        ensures read_again { IfOk result (λ v. lto_of (view v) ≡ Some self.now) }
+        ensures read_again { IsReadAgain lto_of self.now result }
+        ensures memory { IfErr result (λ e. e ≡ Error.Memory) }
     {
         match self {
             LtoSetting::None => Ok(Value::string(alloc, "off")?),

@@ -1,5 +1,6 @@
 //! The writer of package templates.
 ghost use Rattle.cargo_toml_package.specs.Templates.{TemplateMeaning, template_meaning};
+ghost use Rattle.cargo_toml_write.specs.FloatlessTypes.{template_floatless};
 ghost use Rattle.cargo_toml_write.specs.WrittenTemplates.{template_way};
 
 use crate::write::ToValue;
@@ -16,6 +17,8 @@ impl ToValue for PackageTemplate {
     ghost meaning = { template_meaning };
 
     ghost way = { template_way };
+
+    ghost floatless = { template_floatless };
 
     fn to_value(&self, alloc: Global) -> Result<Value, Error> {
         let mut writing = Writing::new(alloc);

@@ -1,5 +1,6 @@
 //! The writer of workspaces.
 ghost use Rattle.cargo_toml_manifest.specs.Workspaces.{WorkspaceMeaning, workspace_meaning};
+ghost use Rattle.cargo_toml_write.specs.FloatlessTypes.{workspace_floatless};
 ghost use Rattle.cargo_toml_write.specs.WrittenWorkspaces.{workspace_way};
 
 use crate::write::ToValue;
@@ -16,6 +17,8 @@ impl<Metadata: ToValue> ToValue for Workspace<Metadata> {
     ghost meaning = { workspace_meaning Metadata.meaning };
 
     ghost way = { workspace_way Metadata.way };
+
+    ghost floatless = { workspace_floatless Metadata.way Metadata.floatless };
 
     fn to_value(&self, alloc: Global) -> Result<Value, Error> {
         let mut writing = Writing::new(alloc);

@@ -1,8 +1,11 @@
-use Rattle.cargo_toml_package.specs.Packages.{package_meaning}
+use Rattle.cargo_toml_package.specs.Packages.{package_meaning, package_reads}
 use Rattle.cargo_toml_write.specs.WrittenPackages.{package_way, package_rows}
 use Rattle.cargo_toml_write.specs.Writes.{IsWriting}
 use Rattle.cargo_toml_write.proofs.ReadAgainPackages.{package_again}
-use Rattle.cargo_toml_write.proofs.ReadAgain.{written_then}
+use Rattle.cargo_toml_write.proofs.FloatlessAgain.{reads_again}
+use Rattle.cargo_toml_write.proofs.FreeTrees.{package_exact}
+use Rattle.cargo_toml_write.proofs.Trees.{memory_alone, itself_exact}
+use Rattle.cargo_toml_write.specs.FloatlessTypes.{package_floatless}
 use Rattle.cargo_toml_write.proofs.Rows.{then, done, ends}
 use Rattle.cargo_toml_write.proofs.write.package.PackageToValue.to_value.Goals as goal
 
@@ -42,7 +45,11 @@ returns g c =
     record {
       written = written;
       read_again = λ version metadata.
-          written_then (package_way g.Metadata.ToValue.way) (package_meaning g.Metadata.ToValue.meaning c.args.self.now) _ c.finish.result written
+          reads_again (package_way g.Metadata.ToValue.way) (package_meaning g.Metadata.ToValue.meaning c.args.self.now) (package_reads g.Metadata.FromValue.from_tree) (package_meaning g.Metadata.FromValue.meaning c.args.self.now) c.finish.result
+          (package_floatless g.Metadata.ToValue.way g.met.Metadata.ToValue.floatless) written
           (package_again g.Metadata.ToValue.way g.Metadata.ToValue.meaning g.Metadata.FromValue.meaning g.Metadata.FromValue.from_tree
           c.args.self.now version metadata);
+      memory = λ h.
+          memory_alone (package_way g.Metadata.ToValue.way) (package_meaning g.Metadata.ToValue.meaning c.args.self.now) c.finish.result written
+          ((package_exact g.Metadata.ToValue.way (itself_exact g.Metadata.ToValue.way)).has (package_meaning g.Metadata.ToValue.meaning c.args.self.now) h);
     }

@@ -1,0 +1,54 @@
+//! Laws: what can be written. A value has a tree exactly where it holds no float in what it may hold freely.
+ghost use Rattle.std.specs.Prelude.{◌↔◌};
+ghost use Rattle.toml.specs.Data.{Data};
+ghost use Rattle.cargo_toml_dependencies.specs.Dependencies.{DetailMeaning, DependencyMeaning};
+ghost use Rattle.cargo_toml_dependencies.specs.Targets.{TargetMeaning};
+ghost use Rattle.cargo_toml_manifest.specs.Manifests.{ManifestMeaning};
+ghost use Rattle.cargo_toml_manifest.specs.Workspaces.{WorkspaceMeaning};
+ghost use Rattle.cargo_toml_package.specs.Packages.{PackageMeaning};
+ghost use Rattle.cargo_toml_tables.specs.Lints.{LintMeaning};
+ghost use Rattle.cargo_toml_tables.specs.Profiles.{ProfileMeaning, ProfilesMeaning};
+ghost use Rattle.cargo_toml_write.specs.NoFloats.{HoldsNoFloat, DetailHoldsNoFloat, DependencyHoldsNoFloat, TargetHoldsNoFloat, ProfileHoldsNoFloat, ProfilesHoldsNoFloat, LintHoldsNoFloat, PackageHoldsNoFloat, WorkspaceHoldsNoFloat, ManifestHoldsNoFloat};
+ghost use Rattle.cargo_toml_write.specs.Ways.{free_way};
+ghost use Rattle.cargo_toml_write.specs.WrittenDependencies.{detail_way, dependency_way, target_way};
+ghost use Rattle.cargo_toml_write.specs.WrittenLints.{lint_way};
+ghost use Rattle.cargo_toml_write.specs.WrittenManifests.{manifest_way};
+ghost use Rattle.cargo_toml_write.specs.WrittenPackages.{package_way};
+ghost use Rattle.cargo_toml_write.specs.WrittenProfiles.{profile_way, profiles_way};
+ghost use Rattle.cargo_toml_write.specs.WrittenWorkspaces.{workspace_way};
+ghost use Rattle.cargo_toml_write.specs.Writes.{HasTree};
+
+use crate::write::ToValue;
+
+/// The dependencies that have a tree.
+pub fn dependencies_without_floats()
+    ensures detail { (d : DetailMeaning) → HasTree detail_way d ↔ DetailHoldsNoFloat d }
+    ensures dependency { (d : DependencyMeaning) → HasTree dependency_way d ↔ DependencyHoldsNoFloat d }
+    ensures target { (t : TargetMeaning) → HasTree target_way t ↔ TargetHoldsNoFloat t }
+{}
+
+/// The profiles and lints that have a tree.
+pub fn tables_without_floats()
+    ensures profile { (p : ProfileMeaning) → HasTree profile_way p ↔ ProfileHoldsNoFloat p }
+    ensures profiles { (p : ProfilesMeaning) → HasTree profiles_way p ↔ ProfilesHoldsNoFloat p }
+    ensures lint { (l : LintMeaning) → HasTree lint_way l ↔ LintHoldsNoFloat l }
+{}
+
+/// The packages, workspaces and manifests that have a tree, where metadata are a free value.
+pub fn manifests_without_floats()
+    ensures packages { (p : PackageMeaning Data) → HasTree (package_way free_way) p ↔ PackageHoldsNoFloat HoldsNoFloat p }
+    ensures workspaces { (w : WorkspaceMeaning Data) → HasTree (workspace_way free_way) w
+        ↔ WorkspaceHoldsNoFloat HoldsNoFloat w }
+    ensures manifests { (m : ManifestMeaning Data) → HasTree (manifest_way free_way) m
+        ↔ ManifestHoldsNoFloat HoldsNoFloat m }
+{}
+
+/// The same, where metadata are of any type: each has to have a tree.
+pub fn manifests_of_any_metadata<Metadata: ToValue>()
+    ensures packages { (p : PackageMeaning Metadata.Meaning) → HasTree (package_way Metadata.way) p
+        ↔ PackageHoldsNoFloat (HasTree Metadata.way) p }
+    ensures workspaces { (w : WorkspaceMeaning Metadata.Meaning) → HasTree (workspace_way Metadata.way) w
+        ↔ WorkspaceHoldsNoFloat (HasTree Metadata.way) w }
+    ensures manifests { (m : ManifestMeaning Metadata.Meaning) → HasTree (manifest_way Metadata.way) m
+        ↔ ManifestHoldsNoFloat (HasTree Metadata.way) m }
+{}

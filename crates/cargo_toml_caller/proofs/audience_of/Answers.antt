@@ -1,0 +1,14 @@
+use Rattle.std.proofs.Common.{inl, inr}
+use Rattle.cargo_toml.specs.Manifests.{manifest_meaning}
+use Rattle.cargo_toml_caller.proofs.audience_of.Goals as goal
+
+pub returns-clause-answer : goal.returns-clause-answer
+returns-clause-answer c = elim (c.in_ok-manifest.ensures) [
+  | inl b ↦ absurd b.1
+  | inr b ↦ record {
+    manifest = manifest_meaning (λ x. x) c.in_ok-manifest.manifest;
+    text = b.0;
+    reads = b.1;
+    exact = c.package_audience.ensures;
+  }
+]

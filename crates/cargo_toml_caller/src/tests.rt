@@ -1,0 +1,68 @@
+//! Metadata of a caller's own, read and written, and the faults that they tell.
+use super::*;
+use cargo_toml::SemVer;
+use std::alloc::AllocError;
+use std::test::Fail;
+
+// Values behind pointers. Of what a function owns itself each field is looked at wherever the function may end, when it is
+// proved, and a manifest has some hundred.
+fn manifest(alloc: Global, bytes: &[u8]) -> Result<Box<Manifest<Audience>>, Error> {
+    let manifest = Manifest::from_slice_with_metadata(alloc, bytes)?;
+    Ok(Box::new(alloc, manifest)?)
+}
+
+fn package(alloc: Global, audience: Audience) -> Result<Box<Package<Audience>>, AllocError> {
+    let name = String::from_str(alloc, "p")?;
+    let mut package = Box::new(alloc, Package::new(alloc, name, SemVer::new(1, 2, 3)))?;
+    package.metadata = Some(audience);
+    Ok(package)
+}
+
+// Whether writing was refused for an audience that isn't settled.
+fn is_undecided(written: &Result<Value, Error>) -> bool {
+    matches!(written, Err(Error::Other("undecided audience")))
+}
+
+#[test]
+fn told(rt: HostRuntime) -> Result<(), Fail> {
+    let text = b"[package]\nname = \"p\"\nmetadata = \"everyone\"\n";
+    assert_eq!(rt; audience_of(rt.alloc(), text)?, Some(Audience::Everyone));
+    assert_eq!(rt; audience_of(rt.alloc(), b"")?, None);
+    Ok(())
+}
+
+#[test]
+fn fault_of_reading(rt: HostRuntime) -> Result<(), Fail> {
+    let refused = audience_of(rt.alloc(), b"[package]\nname = \"p\"\nmetadata = 3\n");
+    assert!(rt; matches!(refused, Err(Error::Other("unknown audience"))));
+    Ok(())
+}
+
+#[test]
+fn written(rt: HostRuntime) -> Result<(), Fail> {
+    let alloc = rt.alloc();
+    let tree = write_package(alloc, &*package(alloc, Audience::Team)?)?;
+    assert_eq!(rt;
+        format!(in alloc; "{tree}")?.as_str(),
+        "{ edition = \"2021\", metadata = \"team\", name = \"p\", version = \"1.2.3\" }"
+    );
+    let manifest = manifest(alloc, b"[workspace]\nmetadata = \"everyone\"\n")?;
+    assert_eq!(rt;
+        format!(in alloc; "{}", write_manifest(alloc, &*manifest)?)?.as_str(),
+        "{ workspace = { members = [], metadata = \"everyone\" } }"
+    );
+    Ok(())
+}
+
+#[test]
+fn faults_of_writing(rt: HostRuntime) -> Result<(), Fail> {
+    let alloc = rt.alloc();
+    let package = package(alloc, Audience::Undecided)?;
+    assert!(rt; is_undecided(&write_package(alloc, &*package)));
+    let mut manifest = manifest(alloc, b"[workspace]\nmetadata = \"team\"\n")?;
+    if let Some(workspace) = &mut manifest.workspace {
+        workspace.metadata = Some(Audience::Undecided);
+    }
+    assert!(rt; is_undecided(&write_manifest(alloc, &*manifest)));
+    Ok(())
+}

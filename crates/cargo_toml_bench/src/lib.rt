@@ -3,5 +3,6 @@
 
 pub mod enabled;
 pub mod report;
+pub mod round_trip;
 #[cfg(test)]
 mod tests;

@@ -1,6 +1,7 @@
 pub mod Entries
 pub mod FloatlessAgain
 pub mod FreeTrees
+pub mod Gives
 pub mod Items
 pub mod LintAgain
 pub mod Others
@@ -9,6 +10,7 @@ pub mod ReadAgainBadges
 pub mod ReadAgainPackages
 pub mod ReadAgainProducts
 pub mod ReadAgainSettings
+pub mod ReadNoFloats
 pub mod Rows
 pub mod Tables
 pub mod TotalTrees

@@ -1,11 +1,13 @@
 //! Laws: what can be written. A value has a tree exactly where it holds no float in what it may hold freely.
-ghost use Rattle.std.specs.Prelude.{◌↔◌};
-ghost use Rattle.toml.specs.Data.{Data};
+ghost use Rattle.std.specs.Prelude.{◌≡◌, ◌↔◌, Option, Some};
+ghost use Rattle.toml.specs.Data.{Data, Members};
 ghost use Rattle.cargo_toml_dependencies.specs.Dependencies.{DetailMeaning, DependencyMeaning};
 ghost use Rattle.cargo_toml_dependencies.specs.Targets.{TargetMeaning};
-ghost use Rattle.cargo_toml_manifest.specs.Manifests.{ManifestMeaning};
+ghost use Rattle.cargo_toml_manifest.specs.Manifests.{ManifestMeaning, manifest_reads};
+ghost use Rattle.cargo_toml_manifest.specs.Texts.{any_tree, document_reads};
 ghost use Rattle.cargo_toml_manifest.specs.Workspaces.{WorkspaceMeaning};
 ghost use Rattle.cargo_toml_package.specs.Packages.{PackageMeaning};
+ghost use Rattle.cargo_toml_parts.specs.Floats.{without_floats};
 ghost use Rattle.cargo_toml_tables.specs.Lints.{LintMeaning};
 ghost use Rattle.cargo_toml_tables.specs.Profiles.{ProfileMeaning, ProfilesMeaning};
 ghost use Rattle.cargo_toml_write.specs.NoFloats.{HoldsNoFloat, DetailHoldsNoFloat, DependencyHoldsNoFloat, TargetHoldsNoFloat, ProfileHoldsNoFloat, ProfilesHoldsNoFloat, LintHoldsNoFloat, PackageHoldsNoFloat, WorkspaceHoldsNoFloat, ManifestHoldsNoFloat};
@@ -51,4 +53,14 @@ pub fn manifests_of_any_metadata<Metadata: ToValue>()
         ↔ WorkspaceHoldsNoFloat (HasTree Metadata.way) w }
     ensures manifests { (m : ManifestMeaning Metadata.Meaning) → HasTree (manifest_way Metadata.way) m
         ↔ ManifestHoldsNoFloat (HasTree Metadata.way) m }
+{}
+
+/// A manifest that was read, of a tree or of a document, has a tree: it holds no float, since what it was read of holds none.
+pub fn read_manifests_are_written()
+    ensures no_float { (d : Data) (m : ManifestMeaning Data) → without_floats (manifest_reads any_tree) d ≡ Some m
+        → ManifestHoldsNoFloat HoldsNoFloat m }
+    ensures of_tree { (d : Data) (m : ManifestMeaning Data) → without_floats (manifest_reads any_tree) d ≡ Some m
+        → ManifestHoldsNoFloat (HasTree free_way) m }
+    ensures of_document { (document : Option Members) (m : ManifestMeaning Data)
+        → document_reads (manifest_reads any_tree) document ≡ Some m → ManifestHoldsNoFloat (HasTree free_way) m }
 {}

@@ -34,7 +34,12 @@ fn told_of_outcomes(rt: HostRuntime) -> Result<(), Fail> {
     let usage = "usage: cargo-toml features FILE | complete FILE\n";
     assert_told(&rt, &Outcome::Done, 0, "")?;
     assert_told(&rt, &Outcome::NotACommand, 2, usage)?;
-    assert_told(&rt, &Outcome::Refused(Error::Memory), 1, "error: out of memory\n")?;
+    assert_told(
+        &rt,
+        &Outcome::Refused(Error::Memory),
+        1,
+        "error: out of memory\n",
+    )?;
     Ok(())
 }
 
@@ -43,7 +48,12 @@ fn told_of_a_manifest(rt: HostRuntime) -> Result<(), Fail> {
     let Err(fault) = print_features(rt.alloc(), &mut &b"package = 1"[..], &mut io::sink()) else {
         return Err("read")?;
     };
-    assert_told(&rt, &Outcome::Refused(fault), 1, "error: value has the wrong shape\n")?;
+    assert_told(
+        &rt,
+        &Outcome::Refused(fault),
+        1,
+        "error: value has the wrong shape\n",
+    )?;
     Ok(())
 }
 

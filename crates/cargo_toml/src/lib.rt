@@ -13,7 +13,9 @@ pub use cargo_toml_dependencies::{
 pub use cargo_toml_manifest::{Manifest, Workspace};
 pub use cargo_toml_package::{Package, PackageTemplate};
 pub use cargo_toml_parts::{Error, FromValue, Inheritable, ParseFault, SemVer, Value, VersionReq};
-pub use cargo_toml_settings::{DebugSetting, Edition, LtoSetting, OptionalFile, Publish, Resolver, StripSetting};
+pub use cargo_toml_settings::{
+    DebugSetting, Edition, LtoSetting, OptionalFile, Publish, Resolver, StripSetting,
+};
 pub use cargo_toml_tables::{
     Badge, Badges, Lint, LintGroups, LintLevel, LintSet, Maintenance, MaintenanceStatus, Product,
     Profile, Profiles,

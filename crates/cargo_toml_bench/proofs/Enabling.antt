@@ -9,7 +9,7 @@ use Rattle.cargo_toml.specs.Reached.{AreEnabled, Found, IsKeyed}
 use Rattle.cargo_toml.specs.Recursive.{Enables}
 use Rattle.cargo_toml.specs.Recursive.Enables.{itself, further}
 use Rattle.cargo_toml.specs.Views.{resolution_of, table_in, value_at}
-use Rattle.cargo_toml_resolve.specs.declared.features.Feature.{Feature}
+use Rattle.cargo_toml.specs.Feature.{Feature}
 use Rattle.cargo_toml_resolve.proofs.Pending.{key_of}
 use Rattle.cargo_toml_bench.specs.Enabled.{HasEnabling}
 

@@ -1,8 +1,8 @@
 -- The entries of a table of dependencies.
 use Rattle.std.proofs.Common.{◌≡◌, List, [], ◌∷◌, String, string_bytes, Global, None, map, refl, ap}
-use Rattle.cargo_toml_dependencies.specs.declared.dependency.Dependency.{Dependency}
-use Rattle.cargo_toml_dependencies.specs.Dependencies.{DependencyMeaning, dependency_meaning}
-use Rattle.cargo_toml_resolve.specs.declared.features.Kind.TheVariants.{Normal}
+use Rattle.cargo_toml.specs.Dependency.{Dependency}
+use Rattle.cargo_toml.specs.Dependencies.{DependencyMeaning, dependency_meaning}
+use Rattle.cargo_toml.specs.Kind.TheVariants.{Normal}
 use Rattle.cargo_toml.specs.Action.{Text}
 use Rattle.cargo_toml.specs.Recorded.{Entry}
 use Rattle.cargo_toml_bench.specs.Printing.{normal_entry}

@@ -12,7 +12,7 @@ use Rattle.std.specs.Cmp.Lexicographic.{on_texts_equal}
 use Rattle.std.specs.List.{IsDistinct, list_any}
 use Rattle.std.specs.Map.{keys_of, lookup}
 use Rattle.std.specs.Option.{option_map_or}
-use Rattle.cargo_toml_resolve.specs.declared.features.Feature.{Feature}
+use Rattle.cargo_toml.specs.Feature.{Feature}
 use Rattle.cargo_toml.specs.Action.{Text}
 use Rattle.cargo_toml.specs.Views.{has_text}
 use Rattle.cargo_toml_bench.specs.Alone.{is_alone}

@@ -4,12 +4,12 @@ use Rattle.std.specs.List.{flat_map}
 use Rattle.std.specs.declared.io.Error.{Error as IoError}
 use Rattle.toml.specs.Data.{Data}
 use Rattle.toml.specs.Parse.{parse_document}
-use Rattle.cargo_toml_parts.specs.declared.error.Error.{Error, Io, Memory}
-use Rattle.cargo_toml_parts.specs.Faults.{IsOther}
-use Rattle.cargo_toml_dependencies.specs.Dependencies.{DependencyMeaning}
-use Rattle.cargo_toml_manifest.specs.Manifests.{ManifestMeaning, manifest_reads, manifest_refuses}
-use Rattle.cargo_toml_manifest.specs.Texts.{any_tree, any_refuses, document_reads, document_refuses}
-use Rattle.cargo_toml_resolve.specs.declared.features.Kind.TheVariants.{Normal}
+use Rattle.cargo_toml.specs.Error.{Error, Io, Memory}
+use Rattle.cargo_toml.specs.Faults.{IsOther}
+use Rattle.cargo_toml.specs.Dependencies.{DependencyMeaning}
+use Rattle.cargo_toml.specs.Manifests.{ManifestMeaning, manifest_reads, manifest_refuses}
+use Rattle.cargo_toml.specs.Texts.{any_tree, any_refuses, document_reads, document_refuses}
+use Rattle.cargo_toml.specs.Kind.TheVariants.{Normal}
 use Rattle.cargo_toml.specs.Action.{Text}
 use Rattle.cargo_toml.specs.Recorded.{Entry}
 use Rattle.cargo_toml_bench.specs.Reports.{optional_keys, AreUnreferenced}

@@ -5,7 +5,7 @@ use Rattle.std.specs.Cmp.Lexicographic.{slice_cmp}
 use Rattle.std.specs.List.Sorted.{IsStrictlySortedBy}
 use Rattle.std.specs.Ordering.{nat_cmp}
 use Rattle.std.specs.declared.alloc.Global.{Global}
-use Rattle.cargo_toml_dependencies.specs.Dependencies.{DependencyMeaning, is_optional}
+use Rattle.cargo_toml.specs.Dependencies.{DependencyMeaning, is_optional}
 use Rattle.cargo_toml.specs.Action.{Text}
 use Rattle.cargo_toml.specs.Admitted.{Listed, IsWithin}
 use Rattle.cargo_toml.specs.Graph.{Table, Edge}

@@ -13,7 +13,7 @@ ghost use Rattle.cargo_toml.specs.Writes.{HasTree};
 ghost use Rattle.cargo_toml.specs.WrittenLints.{IsApart};
 ghost use Rattle.cargo_toml.specs.WrittenPackages.{VersionAgain};
 ghost use Rattle.cargo_toml_parts.specs.declared.error.Error.{Error};
-ghost use Rattle.cargo_toml_write.specs.NoFloats.{LintHoldsNoFloat, PackageHoldsNoFloat};
+ghost use Rattle.cargo_toml.specs.NoFloats.{LintHoldsNoFloat, PackageHoldsNoFloat};
 
 use cargo_toml::{
     Badge, Edition, Error, FromValue, Lint, LtoSetting, Maintenance, OptionalFile, Package,

@@ -31,6 +31,26 @@ fn display_nested(rt: HostRuntime) -> Result<(), Fail> {
     Ok(())
 }
 
+// Whether the fault, wrapped with this path, displays these words and then its own.
+fn is_prefixed(alloc: Global, fault: Error, path: &str, words: &str) -> Result<bool, AllocError> {
+    let own = format!(in alloc; "{fault}")?;
+    let outer = wrapped(alloc, fault, Some(String::from_str(alloc, path)?))?;
+    Ok(format!(in alloc; "{outer}")? == format!(in alloc; "{words}{own}")?)
+}
+
+#[test]
+fn display_of_faults_from_below(rt: HostRuntime) -> Result<(), Fail> {
+    let alloc = rt.alloc();
+    let words = "can't load root workspace at /w/Cargo.toml: ";
+    let input = Error::from(io::Error::from(io::ErrorKind::NotFound));
+    assert!(rt; is_prefixed(alloc, input, "/w/Cargo.toml", words)?);
+    let Err(inner) = toml::table_from_str(alloc, "[package") else {
+        return Err("read")?;
+    };
+    assert!(rt; is_prefixed(alloc, Error::from(inner), "/w/Cargo.toml", words)?);
+    Ok(())
+}
+
 #[test]
 fn faults_from_below(rt: HostRuntime) -> Result<(), Fail> {
     let fault = Error::from(io::Error::from(io::ErrorKind::NotFound));

@@ -15,7 +15,7 @@ struct Level(i64);
 impl FromValue for Level {
     ghost use Rattle.std.specs.Prelude.{ℤ, codes};
     ghost use Rattle.toml.specs.Data.{as_integer};
-    ghost use Rattle.cargo_toml_parts.specs.Faults.{IsOther};
+    ghost use Rattle.cargo_toml.specs.Faults.{IsOther};
 
     ghost Meaning = { ℤ };
 

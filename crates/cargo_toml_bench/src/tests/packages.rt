@@ -1,6 +1,6 @@
 //! What is asked of a manifest and its package, and what is written to it.
 ghost use Rattle.std.specs.Prelude.{◌≡◌};
-ghost use Rattle.cargo_toml_package.specs.PackageAnswers.{is_known};
+ghost use Rattle.cargo_toml.specs.PackageAnswers.{is_known};
 
 use super::{boxed, joined, manifest};
 use cargo_toml::{Edition, Inheritable, OptionalFile, Package, Publish, SemVer};

@@ -1,7 +1,7 @@
 use Rattle.std.proofs.Common.{◌≡◌, List, subst, inl, inr}
 use Rattle.std.proofs.lemmas.Result.{IfOk-weaker, IfErr-weaker}
 use Rattle.toml.specs.View.{view}
-use Rattle.cargo_toml_parts.specs.declared.error.Error.{Memory}
+use Rattle.cargo_toml.specs.Error.{Memory}
 use Rattle.cargo_toml.specs.Manifests.{manifest_meaning}
 use Rattle.cargo_toml.specs.Recorded.{Entry}
 use Rattle.cargo_toml.specs.Views.{listed_in, normal_entries}

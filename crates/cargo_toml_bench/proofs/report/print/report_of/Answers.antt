@@ -1,6 +1,6 @@
 use Rattle.std.proofs.Common.{ap, subst, ◌∙◌}
 use Rattle.toml.specs.View.{view}
-use Rattle.cargo_toml_manifest.specs.Manifests.{manifest_meaning}
+use Rattle.cargo_toml.specs.Manifests.{manifest_meaning}
 use Rattle.cargo_toml.specs.Views.{listed_in}
 use Rattle.cargo_toml_bench.specs.Printing.{report_text}
 use Rattle.cargo_toml_bench.specs.Reports.{AreUnreferenced, texts}

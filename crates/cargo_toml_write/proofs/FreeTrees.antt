@@ -1,9 +1,9 @@
 -- The values that may hold free ones have a tree where these hold no float, and only there.
-use Rattle.std.proofs.Common.{◌≡◌, refl, subst, sym, ℕ, List, [], ◌∷◌, codes, Bool, true, false, ◌&&◌, MatchBool, IsTrue, Option, Some, None, is_none, IfSome}
+use Rattle.std.proofs.Common.{◌≡◌, refl, sym, ℕ, List, [], ◌∷◌, Bool, true, false, ◌&&◌, MatchBool, IsTrue, Option, Some, None, is_none, IfSome}
 use Rattle.std.specs.List.{AllByRecursion}
 use Rattle.std.proofs.lemmas.Bool.{and_from}
 use Rattle.std.proofs.lemmas.List.Elements.{recursion_from_All, All-from_recursion}
-use Rattle.toml.specs.Data.{Data, string}
+use Rattle.toml.specs.Data.{Data}
 use Rattle.cargo_toml_dependencies.specs.Dependencies.{DetailMeaning, DependencyMeaning}
 use Rattle.cargo_toml_dependencies.specs.Dependencies as kind
 use Rattle.cargo_toml_dependencies.specs.Targets.{TargetMeaning}
@@ -13,19 +13,19 @@ use Rattle.cargo_toml_package.specs.Packages.{PackageMeaning}
 use Rattle.cargo_toml_parts.specs.Floats.{has_no_float, members_have_no_float}
 use Rattle.cargo_toml_tables.specs.Lints.{LintMeaning}
 use Rattle.cargo_toml_tables.specs.Profiles.{ProfileMeaning, ProfilesMeaning}
-use Rattle.cargo_toml_write.specs.NoFloats.{HoldsNoFloat, EachValue, IfSet, DetailHoldsNoFloat, DependencyHoldsNoFloat, TargetHoldsNoFloat, ProfileHoldsNoFloat, ProfilesHoldsNoFloat, LintHoldsNoFloat, LintsHoldNoFloat, PackageHoldsNoFloat, WorkspaceHoldsNoFloat, ManifestHoldsNoFloat}
+use Rattle.cargo_toml_write.specs.NoFloats.{HoldsNoFloat, EachValue, DetailHoldsNoFloat, DependencyHoldsNoFloat, TargetHoldsNoFloat, ProfileHoldsNoFloat, ProfilesHoldsNoFloat, LintHoldsNoFloat, LintsHoldNoFloat, PackageHoldsNoFloat, WorkspaceHoldsNoFloat, ManifestHoldsNoFloat}
 use Rattle.cargo_toml_write.specs.Ways.{text_way, truth_way, number_way, version_way, requirement_way, free_way, texts_way, list_way, map_way, inheritable_way, is_nil}
 use Rattle.cargo_toml_write.specs.WrittenBadges.{badges_way}
-use Rattle.cargo_toml_write.specs.WrittenDependencies.{inherited_way, known_rows, detail_rows, detail_way, dependency_way, dependencies_way, target_rows, target_way}
+use Rattle.cargo_toml_write.specs.WrittenDependencies.{known_rows, detail_rows, detail_way, dependency_way, dependencies_way, target_rows, target_way}
 use Rattle.cargo_toml_write.specs.WrittenLints.{is_level_alone, members_of, lint_table, table_lint_way, lint_way, lint_groups_way}
 use Rattle.cargo_toml_write.specs.WrittenManifests.{manifest_rows, manifest_way}
 use Rattle.cargo_toml_write.specs.WrittenPackages.{package_rows, package_way}
 use Rattle.cargo_toml_write.specs.WrittenProducts.{product_way}
 use Rattle.cargo_toml_write.specs.WrittenProfiles.{profile_rows, profile_way, known_profiles, profiles_rows, profiles_way, has_no_profile}
-use Rattle.cargo_toml_write.specs.WrittenSettings.{edition_way, resolver_way, level_way, level_text, file_way, publish_way, debug_way, strip_way, lto_way}
+use Rattle.cargo_toml_write.specs.WrittenSettings.{edition_way, resolver_way, level_way, file_way, publish_way, debug_way, strip_way, lto_way}
 use Rattle.cargo_toml_write.specs.WrittenTemplates.{template_way}
 use Rattle.cargo_toml_write.specs.WrittenWorkspaces.{workspace_rows, workspace_way}
-use Rattle.cargo_toml_write.specs.Writes.{Way, HasTree, given_row}
+use Rattle.cargo_toml_write.specs.Writes.{Way, HasTree}
 use Rattle.cargo_toml_write.proofs.TotalTrees.{edition_tree, resolver_tree, level_tree, file_tree, publish_tree, debug_tree, strip_tree, lto_tree, badges_tree, product_tree, inherited_tree, template_tree}
 use Rattle.cargo_toml_write.proofs.Trees.{AreHeld, Exact, has_table, table_has, text_tree, truth_tree, number_tree, version_tree, requirement_tree, texts_tree, list_tree, map_tree, inheritable_tree, optional_all, required_all, given_all, flag_all, optional_held, optional_only, required_held, required_only, given_held, given_only, entries_held, entries_only, free_exact, map_exact, map_left, inheritable_exact, inheritable_left}
 
@@ -35,22 +35,49 @@ both_parts false b h = absurd cc
 
 -- profiles
 profile_held : (p : ProfileMeaning) → ProfileHoldsNoFloat p → AreHeld (profile_rows p)
-profile_held p h =
-    (optional_held free_way free_exact p.opt_level h.opt_level,
-    (optional_all debug_way debug_tree p.debug,
-    (optional_all text_way text_tree p.split_debuginfo,
-    (optional_all truth_way truth_tree p.rpath,
-    (optional_all lto_way lto_tree p.lto,
-    (optional_all truth_way truth_tree p.debug_assertions,
-    (optional_all number_way number_tree p.codegen_units,
-    (optional_all text_way text_tree p.panic,
-    (optional_all truth_way truth_tree p.incremental,
-    (optional_all truth_way truth_tree p.overflow_checks,
-    (optional_all strip_way strip_tree p.strip,
-    (given_held (map_way free_way) (map_exact free_way free_exact) p.«package» h.«package»,
-    (optional_held free_way free_exact p.build_override h.build_override,
-    (optional_all text_way text_tree p.inherits,
-    tt))))))))))))))
+profile_held p h = (
+  optional_held free_way free_exact p.opt_level h.opt_level,
+  (
+    optional_all debug_way debug_tree p.debug,
+    (
+      optional_all text_way text_tree p.split_debuginfo,
+      (
+        optional_all truth_way truth_tree p.rpath,
+        (
+          optional_all lto_way lto_tree p.lto,
+          (
+            optional_all truth_way truth_tree p.debug_assertions,
+            (
+              optional_all number_way number_tree p.codegen_units,
+              (
+                optional_all text_way text_tree p.panic,
+                (
+                  optional_all truth_way truth_tree p.incremental,
+                  (
+                    optional_all truth_way truth_tree p.overflow_checks,
+                    (
+                      optional_all strip_way strip_tree p.strip,
+                      (
+                        given_held (map_way free_way) (map_exact free_way free_exact) p.«package» h.«package»,
+                        (
+                          optional_held free_way free_exact p.build_override h.build_override,
+                          (
+                            optional_all text_way text_tree p.inherits,
+                            tt,
+                          ),
+                        ),
+                      ),
+                    ),
+                  ),
+                ),
+              ),
+            ),
+          ),
+        ),
+      ),
+    ),
+  ),
+)
 
 profile_only : (p : ProfileMeaning) → AreHeld (profile_rows p) → ProfileHoldsNoFloat p
 profile_only p h = record {
@@ -66,13 +93,22 @@ profile_exact = record {
 }
 
 profiles_held : (p : ProfilesMeaning) → ProfilesHoldsNoFloat p → AreHeld (known_profiles p)
-profiles_held p h =
-    (optional_held profile_way profile_exact p.release h.release,
-    (optional_held profile_way profile_exact p.dev h.dev,
-    (optional_held profile_way profile_exact p.test h.test,
-    (optional_held profile_way profile_exact p.bench h.bench,
-    (optional_held profile_way profile_exact p.doc h.doc,
-    tt)))))
+profiles_held p h = (
+  optional_held profile_way profile_exact p.release h.release,
+  (
+    optional_held profile_way profile_exact p.dev h.dev,
+    (
+      optional_held profile_way profile_exact p.test h.test,
+      (
+        optional_held profile_way profile_exact p.bench h.bench,
+        (
+          optional_held profile_way profile_exact p.doc h.doc,
+          tt,
+        ),
+      ),
+    ),
+  ),
+)
 
 profiles_has : (p : ProfilesMeaning) → ProfilesHoldsNoFloat p → HasTree profiles_way p
 profiles_has p h =
@@ -124,20 +160,43 @@ profiles_exact = record {
 
 -- dependencies
 detail_held : (d : DetailMeaning) → DetailHoldsNoFloat d → AreHeld (known_rows d)
-detail_held d h =
-    (optional_all requirement_way requirement_tree d.version,
-    (optional_all text_way text_tree d.«package»,
-    (optional_all text_way text_tree d.registry,
-    (optional_all text_way text_tree d.registry_index,
-    (optional_all text_way text_tree d.path,
-    (optional_all text_way text_tree d.git,
-    (optional_all text_way text_tree d.branch,
-    (optional_all text_way text_tree d.tag,
-    (optional_all text_way text_tree d.rev,
-    (given_all texts_way texts_tree d.features,
-    (flag_all false d.optional,
-    (flag_all true d.default_features,
-    tt))))))))))))
+detail_held d h = (
+  optional_all requirement_way requirement_tree d.version,
+  (
+    optional_all text_way text_tree d.«package»,
+    (
+      optional_all text_way text_tree d.registry,
+      (
+        optional_all text_way text_tree d.registry_index,
+        (
+          optional_all text_way text_tree d.path,
+          (
+            optional_all text_way text_tree d.git,
+            (
+              optional_all text_way text_tree d.branch,
+              (
+                optional_all text_way text_tree d.tag,
+                (
+                  optional_all text_way text_tree d.rev,
+                  (
+                    given_all texts_way texts_tree d.features,
+                    (
+                      flag_all false d.optional,
+                      (
+                        flag_all true d.default_features,
+                        tt,
+                      ),
+                    ),
+                  ),
+                ),
+              ),
+            ),
+          ),
+        ),
+      ),
+    ),
+  ),
+)
 
 detail_has : (d : DetailMeaning) → DetailHoldsNoFloat d → HasTree detail_way d
 detail_has d h =
@@ -179,11 +238,16 @@ dependencies_exact : Exact dependencies_way (EachValue DependencyHoldsNoFloat)
 dependencies_exact = map_exact dependency_way dependency_exact
 
 target_held : (t : TargetMeaning) → TargetHoldsNoFloat t → AreHeld (target_rows t)
-target_held t h =
-    (required_held dependencies_way dependencies_exact t.dependencies h.dependencies,
-    (required_held dependencies_way dependencies_exact t.dev_dependencies h.dev_dependencies,
-    (required_held dependencies_way dependencies_exact t.build_dependencies h.build_dependencies,
-    tt)))
+target_held t h = (
+  required_held dependencies_way dependencies_exact t.dependencies h.dependencies,
+  (
+    required_held dependencies_way dependencies_exact t.dev_dependencies h.dev_dependencies,
+    (
+      required_held dependencies_way dependencies_exact t.build_dependencies h.build_dependencies,
+      tt,
+    ),
+  ),
+)
 
 target_only : (t : TargetMeaning) → AreHeld (target_rows t) → TargetHoldsNoFloat t
 target_only t h = record {
@@ -235,36 +299,91 @@ lint_groups_exact = map_exact (map_way lint_way) (map_exact lint_way lint_exact)
 -- packages, workspaces and manifests
 
 package_held : {M : Type 0} {P : M → Type 0} (metadata : Way M) → Exact metadata P → (p : PackageMeaning M) → PackageHoldsNoFloat P p → AreHeld (package_rows metadata p)
-package_held metadata e p h =
-    (required_all text_way text_tree p.name,
-    (required_all (inheritable_way version_way) (inheritable_tree version_way version_tree) p.version,
-    (required_all (inheritable_way edition_way) (inheritable_tree edition_way edition_tree) p.edition,
-    (optional_all (inheritable_way text_way) (inheritable_tree text_way text_tree) p.rust_version,
-    (optional_all file_way file_tree p.build,
-    (optional_all text_way text_tree p.workspace,
-    (given_all (inheritable_way texts_way) (inheritable_tree texts_way texts_tree) p.authors,
-    (optional_all text_way text_tree p.links,
-    (optional_all (inheritable_way text_way) (inheritable_tree text_way text_tree) p.description,
-    (optional_all (inheritable_way text_way) (inheritable_tree text_way text_tree) p.homepage,
-    (optional_all (inheritable_way text_way) (inheritable_tree text_way text_tree) p.documentation,
-    (given_all (inheritable_way file_way) (inheritable_tree file_way file_tree) p.readme,
-    (given_all (inheritable_way texts_way) (inheritable_tree texts_way texts_tree) p.keywords,
-    (given_all (inheritable_way texts_way) (inheritable_tree texts_way texts_tree) p.categories,
-    (given_all (inheritable_way texts_way) (inheritable_tree texts_way texts_tree) p.exclude,
-    (given_all (inheritable_way texts_way) (inheritable_tree texts_way texts_tree) p.include,
-    (optional_all (inheritable_way text_way) (inheritable_tree text_way text_tree) p.license,
-    (optional_all (inheritable_way text_way) (inheritable_tree text_way text_tree) p.license_file,
-    (optional_all (inheritable_way text_way) (inheritable_tree text_way text_tree) p.repository,
-    (optional_all text_way text_tree p.default_run,
-    (flag_all true p.autobins,
-    (flag_all true p.autolib,
-    (flag_all true p.autoexamples,
-    (flag_all true p.autotests,
-    (flag_all true p.autobenches,
-    (given_all (inheritable_way publish_way) (inheritable_tree publish_way publish_tree) p.publish,
-    (optional_all resolver_way resolver_tree p.resolver,
-    (optional_held metadata e p.metadata h.metadata,
-    tt))))))))))))))))))))))))))))
+package_held metadata e p h = (
+  required_all text_way text_tree p.name,
+  (
+    required_all (inheritable_way version_way) (inheritable_tree version_way version_tree) p.version,
+    (
+      required_all (inheritable_way edition_way) (inheritable_tree edition_way edition_tree) p.edition,
+      (
+        optional_all (inheritable_way text_way) (inheritable_tree text_way text_tree) p.rust_version,
+        (
+          optional_all file_way file_tree p.build,
+          (
+            optional_all text_way text_tree p.workspace,
+            (
+              given_all (inheritable_way texts_way) (inheritable_tree texts_way texts_tree) p.authors,
+              (
+                optional_all text_way text_tree p.links,
+                (
+                  optional_all (inheritable_way text_way) (inheritable_tree text_way text_tree) p.description,
+                  (
+                    optional_all (inheritable_way text_way) (inheritable_tree text_way text_tree) p.homepage,
+                    (
+                      optional_all (inheritable_way text_way) (inheritable_tree text_way text_tree) p.documentation,
+                      (
+                        given_all (inheritable_way file_way) (inheritable_tree file_way file_tree) p.readme,
+                        (
+                          given_all (inheritable_way texts_way) (inheritable_tree texts_way texts_tree) p.keywords,
+                          (
+                            given_all (inheritable_way texts_way) (inheritable_tree texts_way texts_tree) p.categories,
+                            (
+                              given_all (inheritable_way texts_way) (inheritable_tree texts_way texts_tree) p.exclude,
+                              (
+                                given_all (inheritable_way texts_way) (inheritable_tree texts_way texts_tree) p.include,
+                                (
+                                  optional_all (inheritable_way text_way) (inheritable_tree text_way text_tree) p.license,
+                                  (
+                                    optional_all (inheritable_way text_way) (inheritable_tree text_way text_tree) p.license_file,
+                                    (
+                                      optional_all (inheritable_way text_way) (inheritable_tree text_way text_tree) p.repository,
+                                      (
+                                        optional_all text_way text_tree p.default_run,
+                                        (
+                                          flag_all true p.autobins,
+                                          (
+                                            flag_all true p.autolib,
+                                            (
+                                              flag_all true p.autoexamples,
+                                              (
+                                                flag_all true p.autotests,
+                                                (
+                                                  flag_all true p.autobenches,
+                                                  (
+                                                    given_all (inheritable_way publish_way) (inheritable_tree publish_way publish_tree) p.publish,
+                                                    (
+                                                      optional_all resolver_way resolver_tree p.resolver,
+                                                      (
+                                                        optional_held metadata e p.metadata h.metadata,
+                                                        tt,
+                                                      ),
+                                                    ),
+                                                  ),
+                                                ),
+                                              ),
+                                            ),
+                                          ),
+                                        ),
+                                      ),
+                                    ),
+                                  ),
+                                ),
+                              ),
+                            ),
+                          ),
+                        ),
+                      ),
+                    ),
+                  ),
+                ),
+              ),
+            ),
+          ),
+        ),
+      ),
+    ),
+  ),
+)
 
 package_only : {M : Type 0} {P : M → Type 0} (metadata : Way M) → Exact metadata P → (p : PackageMeaning M) → AreHeld (package_rows metadata p) → PackageHoldsNoFloat P p
 package_only metadata e p h = record {
@@ -278,16 +397,31 @@ package_exact metadata e = record {
 }
 
 workspace_held : {M : Type 0} {P : M → Type 0} (metadata : Way M) → Exact metadata P → (w : WorkspaceMeaning M) → WorkspaceHoldsNoFloat P w → AreHeld (workspace_rows metadata w)
-workspace_held metadata e w h =
-    (required_all texts_way texts_tree w.members,
-    (given_all texts_way texts_tree w.default_members,
-    (optional_all template_way template_tree w.«package»,
-    (given_all texts_way texts_tree w.exclude,
-    (optional_held metadata e w.metadata h.metadata,
-    (optional_all resolver_way resolver_tree w.resolver,
-    (given_held dependencies_way dependencies_exact w.dependencies h.dependencies,
-    (given_held lint_groups_way lint_groups_exact w.lints h.lints,
-    tt))))))))
+workspace_held metadata e w h = (
+  required_all texts_way texts_tree w.members,
+  (
+    given_all texts_way texts_tree w.default_members,
+    (
+      optional_all template_way template_tree w.«package»,
+      (
+        given_all texts_way texts_tree w.exclude,
+        (
+          optional_held metadata e w.metadata h.metadata,
+          (
+            optional_all resolver_way resolver_tree w.resolver,
+            (
+              given_held dependencies_way dependencies_exact w.dependencies h.dependencies,
+              (
+                given_held lint_groups_way lint_groups_exact w.lints h.lints,
+                tt,
+              ),
+            ),
+          ),
+        ),
+      ),
+    ),
+  ),
+)
 
 workspace_only : {M : Type 0} {P : M → Type 0} (metadata : Way M) → Exact metadata P → (w : WorkspaceMeaning M) → AreHeld (workspace_rows metadata w) → WorkspaceHoldsNoFloat P w
 workspace_only metadata e w h = record {
@@ -303,25 +437,58 @@ workspace_exact metadata e = record {
 }
 
 manifest_held : {M : Type 0} {P : M → Type 0} (metadata : Way M) → Exact metadata P → (m : ManifestMeaning M) → ManifestHoldsNoFloat P m → AreHeld (manifest_rows metadata m)
-manifest_held metadata e m h =
-    (optional_held (package_way metadata) (package_exact metadata e) m.«package» h.«package»,
-    (optional_held (workspace_way metadata) (workspace_exact metadata e) m.workspace h.workspace,
-    (given_held dependencies_way dependencies_exact m.dependencies h.dependencies,
-    (given_held dependencies_way dependencies_exact m.dev_dependencies h.dev_dependencies,
-    (given_held dependencies_way dependencies_exact m.build_dependencies h.build_dependencies,
-    (given_held (map_way target_way) (map_exact target_way target_exact) m.target h.target,
-    (given_all (map_way texts_way) (map_tree texts_way texts_tree) m.features,
-    (given_held dependencies_way dependencies_exact m.replace h.replace,
-    (given_held (map_way dependencies_way) (map_exact dependencies_way dependencies_exact) m.patch h.patch,
-    (optional_all product_way product_tree m.lib,
-    (given_held profiles_way profiles_exact m.profile h.profile,
-    (given_all badges_way badges_tree m.badges,
-    (given_all (list_way product_way) (list_tree product_way product_tree) m.bin,
-    (given_all (list_way product_way) (list_tree product_way product_tree) m.bench,
-    (given_all (list_way product_way) (list_tree product_way product_tree) m.test,
-    (given_all (list_way product_way) (list_tree product_way product_tree) m.example,
-    (given_held (inheritable_way lint_groups_way) (inheritable_exact lint_groups_way lint_groups_exact) m.lints h.lints,
-    tt)))))))))))))))))
+manifest_held metadata e m h = (
+  optional_held (package_way metadata) (package_exact metadata e) m.«package» h.«package»,
+  (
+    optional_held (workspace_way metadata) (workspace_exact metadata e) m.workspace h.workspace,
+    (
+      given_held dependencies_way dependencies_exact m.dependencies h.dependencies,
+      (
+        given_held dependencies_way dependencies_exact m.dev_dependencies h.dev_dependencies,
+        (
+          given_held dependencies_way dependencies_exact m.build_dependencies h.build_dependencies,
+          (
+            given_held (map_way target_way) (map_exact target_way target_exact) m.target h.target,
+            (
+              given_all (map_way texts_way) (map_tree texts_way texts_tree) m.features,
+              (
+                given_held dependencies_way dependencies_exact m.replace h.replace,
+                (
+                  given_held (map_way dependencies_way) (map_exact dependencies_way dependencies_exact) m.patch h.patch,
+                  (
+                    optional_all product_way product_tree m.lib,
+                    (
+                      given_held profiles_way profiles_exact m.profile h.profile,
+                      (
+                        given_all badges_way badges_tree m.badges,
+                        (
+                          given_all (list_way product_way) (list_tree product_way product_tree) m.bin,
+                          (
+                            given_all (list_way product_way) (list_tree product_way product_tree) m.bench,
+                            (
+                              given_all (list_way product_way) (list_tree product_way product_tree) m.test,
+                              (
+                                given_all (list_way product_way) (list_tree product_way product_tree) m.example,
+                                (
+                                  given_held (inheritable_way lint_groups_way) (inheritable_exact lint_groups_way lint_groups_exact) m.lints h.lints,
+                                  tt,
+                                ),
+                              ),
+                            ),
+                          ),
+                        ),
+                      ),
+                    ),
+                  ),
+                ),
+              ),
+            ),
+          ),
+        ),
+      ),
+    ),
+  ),
+)
 
 manifest_only : {M : Type 0} {P : M → Type 0} (metadata : Way M) → Exact metadata P → (m : ManifestMeaning M) → AreHeld (manifest_rows metadata m) → ManifestHoldsNoFloat P m
 manifest_only metadata e m h = record {

@@ -1,7 +1,7 @@
 -- What is written of each type holds no float.
-use Rattle.std.specs.Prelude.{◌≡◌, ℕ, List, [], codes, Bool, true, false, ◌&&◌, IsTrue, MatchBool, Option, Some, None, pos, refl}
+use Rattle.std.specs.Prelude.{codes, Bool, true, false, IsTrue, MatchBool, refl}
 use Rattle.std.proofs.Common.{sym, subst}
-use Rattle.toml.specs.Data.{Data, string, boolean, integer}
+use Rattle.toml.specs.Data.{Data, string, integer}
 use Rattle.cargo_toml_dependencies.specs.Dependencies.{InheritedMeaning, DetailMeaning, DependencyMeaning}
 use Rattle.cargo_toml_dependencies.specs.Dependencies as kind
 use Rattle.cargo_toml_dependencies.specs.Targets.{TargetMeaning}
@@ -94,57 +94,107 @@ lint_groups_floatless = map_floatless (map_way lint_way) (map_floatless lint_way
 
 -- badges
 each_of_badge : (b : BadgeMeaning) → AreFloatless (badge_rows b)
-each_of_badge b =
-    (required text_way text_floatless b.repository,
-    (required text_way text_floatless b.branch,
-    (optional text_way text_floatless b.service,
-    (optional text_way text_floatless b.id,
-    (optional text_way text_floatless b.project_name,
-    tt)))))
+each_of_badge b = (
+  required text_way text_floatless b.repository,
+  (
+    required text_way text_floatless b.branch,
+    (
+      optional text_way text_floatless b.service,
+      (
+        optional text_way text_floatless b.id,
+        (
+          optional text_way text_floatless b.project_name,
+          tt,
+        ),
+      ),
+    ),
+  ),
+)
 
 pub badge_floatless : IsFloatless badge_way
 badge_floatless = table_floatless badge_rows each_of_badge
 
 each_of_maintenance : (s : MaintenanceStatus) → AreFloatless (maintenance_rows s)
-each_of_maintenance s =
-    (required status_way status_floatless s,
-    tt)
+each_of_maintenance s = (
+  required status_way status_floatless s,
+  tt,
+)
 
 pub maintenance_floatless : IsFloatless maintenance_way
 maintenance_floatless = table_floatless maintenance_rows each_of_maintenance
 
 each_of_badges : (b : BadgesMeaning) → AreFloatless (badges_rows b)
-each_of_badges b =
-    (optional badge_way badge_floatless b.appveyor,
-    (optional badge_way badge_floatless b.circle_ci,
-    (optional badge_way badge_floatless b.gitlab,
-    (optional badge_way badge_floatless b.travis_ci,
-    (optional badge_way badge_floatless b.codecov,
-    (optional badge_way badge_floatless b.coveralls,
-    (optional badge_way badge_floatless b.is_it_maintained_issue_resolution,
-    (optional badge_way badge_floatless b.is_it_maintained_open_issues,
-    (required maintenance_way maintenance_floatless b.maintenance,
-    tt)))))))))
+each_of_badges b = (
+  optional badge_way badge_floatless b.appveyor,
+  (
+    optional badge_way badge_floatless b.circle_ci,
+    (
+      optional badge_way badge_floatless b.gitlab,
+      (
+        optional badge_way badge_floatless b.travis_ci,
+        (
+          optional badge_way badge_floatless b.codecov,
+          (
+            optional badge_way badge_floatless b.coveralls,
+            (
+              optional badge_way badge_floatless b.is_it_maintained_issue_resolution,
+              (
+                optional badge_way badge_floatless b.is_it_maintained_open_issues,
+                (
+                  required maintenance_way maintenance_floatless b.maintenance,
+                  tt,
+                ),
+              ),
+            ),
+          ),
+        ),
+      ),
+    ),
+  ),
+)
 
 pub badges_floatless : IsFloatless badges_way
 badges_floatless = table_floatless badges_rows each_of_badges
 
 -- products and profiles
 each_of_product : (p : ProductMeaning) → AreFloatless (product_rows p)
-each_of_product p =
-    (optional text_way text_floatless p.path,
-    (optional text_way text_floatless p.name,
-    (flagged true p.test,
-    (flagged true p.doctest,
-    (flagged true p.bench,
-    (flagged true p.doc,
-    (flagged true p.harness,
-    (flagged false p.plugin,
-    (flagged false p.proc_macro,
-    (optional edition_way edition_floatless p.edition,
-    (given texts_way texts_floatless p.crate_type,
-    (required texts_way texts_floatless p.required_features,
-    tt))))))))))))
+each_of_product p = (
+  optional text_way text_floatless p.path,
+  (
+    optional text_way text_floatless p.name,
+    (
+      flagged true p.test,
+      (
+        flagged true p.doctest,
+        (
+          flagged true p.bench,
+          (
+            flagged true p.doc,
+            (
+              flagged true p.harness,
+              (
+                flagged false p.plugin,
+                (
+                  flagged false p.proc_macro,
+                  (
+                    optional edition_way edition_floatless p.edition,
+                    (
+                      given texts_way texts_floatless p.crate_type,
+                      (
+                        required texts_way texts_floatless p.required_features,
+                        tt,
+                      ),
+                    ),
+                  ),
+                ),
+              ),
+            ),
+          ),
+        ),
+      ),
+    ),
+  ),
+)
 
 pub product_floatless : IsFloatless product_way
 product_floatless = table_floatless product_rows each_of_product
@@ -153,34 +203,70 @@ products_floatless : IsFloatless (list_way product_way)
 products_floatless = list_floatless product_way product_floatless
 
 each_of_profile : (p : ProfileMeaning) → AreFloatless (profile_rows p)
-each_of_profile p =
-    (optional free_way free_floatless p.opt_level,
-    (optional debug_way debug_floatless p.debug,
-    (optional text_way text_floatless p.split_debuginfo,
-    (optional truth_way truth_floatless p.rpath,
-    (optional lto_way lto_floatless p.lto,
-    (optional truth_way truth_floatless p.debug_assertions,
-    (optional number_way number_floatless p.codegen_units,
-    (optional text_way text_floatless p.panic,
-    (optional truth_way truth_floatless p.incremental,
-    (optional truth_way truth_floatless p.overflow_checks,
-    (optional strip_way strip_floatless p.strip,
-    (given (map_way free_way) (map_floatless free_way free_floatless) p.«package»,
-    (optional free_way free_floatless p.build_override,
-    (optional text_way text_floatless p.inherits,
-    tt))))))))))))))
+each_of_profile p = (
+  optional free_way free_floatless p.opt_level,
+  (
+    optional debug_way debug_floatless p.debug,
+    (
+      optional text_way text_floatless p.split_debuginfo,
+      (
+        optional truth_way truth_floatless p.rpath,
+        (
+          optional lto_way lto_floatless p.lto,
+          (
+            optional truth_way truth_floatless p.debug_assertions,
+            (
+              optional number_way number_floatless p.codegen_units,
+              (
+                optional text_way text_floatless p.panic,
+                (
+                  optional truth_way truth_floatless p.incremental,
+                  (
+                    optional truth_way truth_floatless p.overflow_checks,
+                    (
+                      optional strip_way strip_floatless p.strip,
+                      (
+                        given (map_way free_way) (map_floatless free_way free_floatless) p.«package»,
+                        (
+                          optional free_way free_floatless p.build_override,
+                          (
+                            optional text_way text_floatless p.inherits,
+                            tt,
+                          ),
+                        ),
+                      ),
+                    ),
+                  ),
+                ),
+              ),
+            ),
+          ),
+        ),
+      ),
+    ),
+  ),
+)
 
 pub profile_floatless : IsFloatless profile_way
 profile_floatless = table_floatless profile_rows each_of_profile
 
 each_known_of_profiles : (p : ProfilesMeaning) → AreFloatless (known_profiles p)
-each_known_of_profiles p =
-    (optional profile_way profile_floatless p.release,
-    (optional profile_way profile_floatless p.dev,
-    (optional profile_way profile_floatless p.test,
-    (optional profile_way profile_floatless p.bench,
-    (optional profile_way profile_floatless p.doc,
-    tt)))))
+each_known_of_profiles p = (
+  optional profile_way profile_floatless p.release,
+  (
+    optional profile_way profile_floatless p.dev,
+    (
+      optional profile_way profile_floatless p.test,
+      (
+        optional profile_way profile_floatless p.bench,
+        (
+          optional profile_way profile_floatless p.doc,
+          tt,
+        ),
+      ),
+    ),
+  ),
+)
 
 pub profiles_floatless : IsFloatless profiles_way
 profiles_floatless =
@@ -188,30 +274,58 @@ profiles_floatless =
 
 -- dependencies
 each_of_inherited : (i : InheritedMeaning) → AreFloatless (inherited_rows i)
-each_of_inherited i =
-    (given texts_way texts_floatless i.features,
-    (flagged false i.optional,
-    (flagged false i.workspace,
-    tt)))
+each_of_inherited i = (
+  given texts_way texts_floatless i.features,
+  (
+    flagged false i.optional,
+    (
+      flagged false i.workspace,
+      tt,
+    ),
+  ),
+)
 
 pub inherited_floatless : IsFloatless inherited_way
 inherited_floatless = table_floatless inherited_rows each_of_inherited
 
 each_known_of_detail : (d : DetailMeaning) → AreFloatless (known_rows d)
-each_known_of_detail d =
-    (optional requirement_way requirement_floatless d.version,
-    (optional text_way text_floatless d.«package»,
-    (optional text_way text_floatless d.registry,
-    (optional text_way text_floatless d.registry_index,
-    (optional text_way text_floatless d.path,
-    (optional text_way text_floatless d.git,
-    (optional text_way text_floatless d.branch,
-    (optional text_way text_floatless d.tag,
-    (optional text_way text_floatless d.rev,
-    (given texts_way texts_floatless d.features,
-    (flagged false d.optional,
-    (flagged true d.default_features,
-    tt))))))))))))
+each_known_of_detail d = (
+  optional requirement_way requirement_floatless d.version,
+  (
+    optional text_way text_floatless d.«package»,
+    (
+      optional text_way text_floatless d.registry,
+      (
+        optional text_way text_floatless d.registry_index,
+        (
+          optional text_way text_floatless d.path,
+          (
+            optional text_way text_floatless d.git,
+            (
+              optional text_way text_floatless d.branch,
+              (
+                optional text_way text_floatless d.tag,
+                (
+                  optional text_way text_floatless d.rev,
+                  (
+                    given texts_way texts_floatless d.features,
+                    (
+                      flagged false d.optional,
+                      (
+                        flagged true d.default_features,
+                        tt,
+                      ),
+                    ),
+                  ),
+                ),
+              ),
+            ),
+          ),
+        ),
+      ),
+    ),
+  ),
+)
 
 pub detail_floatless : IsFloatless detail_way
 detail_floatless =
@@ -226,109 +340,248 @@ dependencies_floatless : IsFloatless dependencies_way
 dependencies_floatless = map_floatless dependency_way dependency_floatless
 
 each_of_target : (t : TargetMeaning) → AreFloatless (target_rows t)
-each_of_target t =
-    (required dependencies_way dependencies_floatless t.dependencies,
-    (required dependencies_way dependencies_floatless t.dev_dependencies,
-    (required dependencies_way dependencies_floatless t.build_dependencies,
-    tt)))
+each_of_target t = (
+  required dependencies_way dependencies_floatless t.dependencies,
+  (
+    required dependencies_way dependencies_floatless t.dev_dependencies,
+    (
+      required dependencies_way dependencies_floatless t.build_dependencies,
+      tt,
+    ),
+  ),
+)
 
 pub target_floatless : IsFloatless target_way
 target_floatless = table_floatless target_rows each_of_target
 
 -- packages, workspaces and manifests, whose metadata hold no float
 each_of_package : {M : Type 0} (metadata : Way M) → IsFloatless metadata → (p : PackageMeaning M) → AreFloatless (package_rows metadata p)
-each_of_package metadata h p =
-    (required text_way text_floatless p.name,
-    (required (inheritable_way version_way) (inheritable_floatless version_way version_floatless) p.version,
-    (required (inheritable_way edition_way) (inheritable_floatless edition_way edition_floatless) p.edition,
-    (optional (inheritable_way text_way) known_text p.rust_version,
-    (optional file_way file_floatless p.build,
-    (optional text_way text_floatless p.workspace,
-    (given (inheritable_way texts_way) known_texts p.authors,
-    (optional text_way text_floatless p.links,
-    (optional (inheritable_way text_way) known_text p.description,
-    (optional (inheritable_way text_way) known_text p.homepage,
-    (optional (inheritable_way text_way) known_text p.documentation,
-    (given (inheritable_way file_way) (inheritable_floatless file_way file_floatless) p.readme,
-    (given (inheritable_way texts_way) known_texts p.keywords,
-    (given (inheritable_way texts_way) known_texts p.categories,
-    (given (inheritable_way texts_way) known_texts p.exclude,
-    (given (inheritable_way texts_way) known_texts p.include,
-    (optional (inheritable_way text_way) known_text p.license,
-    (optional (inheritable_way text_way) known_text p.license_file,
-    (optional (inheritable_way text_way) known_text p.repository,
-    (optional text_way text_floatless p.default_run,
-    (flagged true p.autobins,
-    (flagged true p.autolib,
-    (flagged true p.autoexamples,
-    (flagged true p.autotests,
-    (flagged true p.autobenches,
-    (given (inheritable_way publish_way) (inheritable_floatless publish_way publish_floatless) p.publish,
-    (optional resolver_way resolver_floatless p.resolver,
-    (optional metadata h p.metadata,
-    tt))))))))))))))))))))))))))))
+each_of_package metadata h p = (
+  required text_way text_floatless p.name,
+  (
+    required (inheritable_way version_way) (inheritable_floatless version_way version_floatless) p.version,
+    (
+      required (inheritable_way edition_way) (inheritable_floatless edition_way edition_floatless) p.edition,
+      (
+        optional (inheritable_way text_way) known_text p.rust_version,
+        (
+          optional file_way file_floatless p.build,
+          (
+            optional text_way text_floatless p.workspace,
+            (
+              given (inheritable_way texts_way) known_texts p.authors,
+              (
+                optional text_way text_floatless p.links,
+                (
+                  optional (inheritable_way text_way) known_text p.description,
+                  (
+                    optional (inheritable_way text_way) known_text p.homepage,
+                    (
+                      optional (inheritable_way text_way) known_text p.documentation,
+                      (
+                        given (inheritable_way file_way) (inheritable_floatless file_way file_floatless) p.readme,
+                        (
+                          given (inheritable_way texts_way) known_texts p.keywords,
+                          (
+                            given (inheritable_way texts_way) known_texts p.categories,
+                            (
+                              given (inheritable_way texts_way) known_texts p.exclude,
+                              (
+                                given (inheritable_way texts_way) known_texts p.include,
+                                (
+                                  optional (inheritable_way text_way) known_text p.license,
+                                  (
+                                    optional (inheritable_way text_way) known_text p.license_file,
+                                    (
+                                      optional (inheritable_way text_way) known_text p.repository,
+                                      (
+                                        optional text_way text_floatless p.default_run,
+                                        (
+                                          flagged true p.autobins,
+                                          (
+                                            flagged true p.autolib,
+                                            (
+                                              flagged true p.autoexamples,
+                                              (
+                                                flagged true p.autotests,
+                                                (
+                                                  flagged true p.autobenches,
+                                                  (
+                                                    given (inheritable_way publish_way) (inheritable_floatless publish_way publish_floatless) p.publish,
+                                                    (
+                                                      optional resolver_way resolver_floatless p.resolver,
+                                                      (
+                                                        optional metadata h p.metadata,
+                                                        tt,
+                                                      ),
+                                                    ),
+                                                  ),
+                                                ),
+                                              ),
+                                            ),
+                                          ),
+                                        ),
+                                      ),
+                                    ),
+                                  ),
+                                ),
+                              ),
+                            ),
+                          ),
+                        ),
+                      ),
+                    ),
+                  ),
+                ),
+              ),
+            ),
+          ),
+        ),
+      ),
+    ),
+  ),
+)
 
 pub package_floatless : {M : Type 0} (metadata : Way M) → IsFloatless metadata → IsFloatless (package_way metadata)
 package_floatless metadata h = table_floatless (package_rows metadata) (each_of_package metadata h)
 
 each_of_template : (t : TemplateMeaning) → AreFloatless (template_rows t)
-each_of_template t =
-    (optional texts_way texts_floatless t.authors,
-    (optional texts_way texts_floatless t.categories,
-    (optional text_way text_floatless t.description,
-    (optional text_way text_floatless t.documentation,
-    (optional edition_way edition_floatless t.edition,
-    (optional texts_way texts_floatless t.exclude,
-    (optional text_way text_floatless t.homepage,
-    (optional texts_way texts_floatless t.include,
-    (optional texts_way texts_floatless t.keywords,
-    (optional text_way text_floatless t.license,
-    (optional text_way text_floatless t.license_file,
-    (given publish_way publish_floatless t.publish,
-    (given file_way file_floatless t.readme,
-    (optional text_way text_floatless t.repository,
-    (optional text_way text_floatless t.rust_version,
-    (optional version_way version_floatless t.version,
-    tt))))))))))))))))
+each_of_template t = (
+  optional texts_way texts_floatless t.authors,
+  (
+    optional texts_way texts_floatless t.categories,
+    (
+      optional text_way text_floatless t.description,
+      (
+        optional text_way text_floatless t.documentation,
+        (
+          optional edition_way edition_floatless t.edition,
+          (
+            optional texts_way texts_floatless t.exclude,
+            (
+              optional text_way text_floatless t.homepage,
+              (
+                optional texts_way texts_floatless t.include,
+                (
+                  optional texts_way texts_floatless t.keywords,
+                  (
+                    optional text_way text_floatless t.license,
+                    (
+                      optional text_way text_floatless t.license_file,
+                      (
+                        given publish_way publish_floatless t.publish,
+                        (
+                          given file_way file_floatless t.readme,
+                          (
+                            optional text_way text_floatless t.repository,
+                            (
+                              optional text_way text_floatless t.rust_version,
+                              (
+                                optional version_way version_floatless t.version,
+                                tt,
+                              ),
+                            ),
+                          ),
+                        ),
+                      ),
+                    ),
+                  ),
+                ),
+              ),
+            ),
+          ),
+        ),
+      ),
+    ),
+  ),
+)
 
 pub template_floatless : IsFloatless template_way
 template_floatless = table_floatless template_rows each_of_template
 
 each_of_workspace : {M : Type 0} (metadata : Way M) → IsFloatless metadata → (w : WorkspaceMeaning M) → AreFloatless (workspace_rows metadata w)
-each_of_workspace metadata h w =
-    (required texts_way texts_floatless w.members,
-    (given texts_way texts_floatless w.default_members,
-    (optional template_way template_floatless w.«package»,
-    (given texts_way texts_floatless w.exclude,
-    (optional metadata h w.metadata,
-    (optional resolver_way resolver_floatless w.resolver,
-    (given dependencies_way dependencies_floatless w.dependencies,
-    (given lint_groups_way lint_groups_floatless w.lints,
-    tt))))))))
+each_of_workspace metadata h w = (
+  required texts_way texts_floatless w.members,
+  (
+    given texts_way texts_floatless w.default_members,
+    (
+      optional template_way template_floatless w.«package»,
+      (
+        given texts_way texts_floatless w.exclude,
+        (
+          optional metadata h w.metadata,
+          (
+            optional resolver_way resolver_floatless w.resolver,
+            (
+              given dependencies_way dependencies_floatless w.dependencies,
+              (
+                given lint_groups_way lint_groups_floatless w.lints,
+                tt,
+              ),
+            ),
+          ),
+        ),
+      ),
+    ),
+  ),
+)
 
 pub workspace_floatless : {M : Type 0} (metadata : Way M) → IsFloatless metadata → IsFloatless (workspace_way metadata)
 workspace_floatless metadata h = table_floatless (workspace_rows metadata) (each_of_workspace metadata h)
 
 each_of_manifest : {M : Type 0} (metadata : Way M) → IsFloatless metadata → (m : ManifestMeaning M) → AreFloatless (manifest_rows metadata m)
-each_of_manifest metadata h m =
-    (optional (package_way metadata) (package_floatless metadata h) m.«package»,
-    (optional (workspace_way metadata) (workspace_floatless metadata h) m.workspace,
-    (given dependencies_way dependencies_floatless m.dependencies,
-    (given dependencies_way dependencies_floatless m.dev_dependencies,
-    (given dependencies_way dependencies_floatless m.build_dependencies,
-    (given (map_way target_way) (map_floatless target_way target_floatless) m.target,
-    (given (map_way texts_way) (map_floatless texts_way texts_floatless) m.features,
-    (given dependencies_way dependencies_floatless m.replace,
-    (given (map_way dependencies_way) (map_floatless dependencies_way dependencies_floatless) m.patch,
-    (optional product_way product_floatless m.lib,
-    (given profiles_way profiles_floatless m.profile,
-    (given badges_way badges_floatless m.badges,
-    (given (list_way product_way) products_floatless m.bin,
-    (given (list_way product_way) products_floatless m.bench,
-    (given (list_way product_way) products_floatless m.test,
-    (given (list_way product_way) products_floatless m.example,
-    (given (inheritable_way lint_groups_way) (inheritable_floatless lint_groups_way lint_groups_floatless) m.lints,
-    tt)))))))))))))))))
+each_of_manifest metadata h m = (
+  optional (package_way metadata) (package_floatless metadata h) m.«package»,
+  (
+    optional (workspace_way metadata) (workspace_floatless metadata h) m.workspace,
+    (
+      given dependencies_way dependencies_floatless m.dependencies,
+      (
+        given dependencies_way dependencies_floatless m.dev_dependencies,
+        (
+          given dependencies_way dependencies_floatless m.build_dependencies,
+          (
+            given (map_way target_way) (map_floatless target_way target_floatless) m.target,
+            (
+              given (map_way texts_way) (map_floatless texts_way texts_floatless) m.features,
+              (
+                given dependencies_way dependencies_floatless m.replace,
+                (
+                  given (map_way dependencies_way) (map_floatless dependencies_way dependencies_floatless) m.patch,
+                  (
+                    optional product_way product_floatless m.lib,
+                    (
+                      given profiles_way profiles_floatless m.profile,
+                      (
+                        given badges_way badges_floatless m.badges,
+                        (
+                          given (list_way product_way) products_floatless m.bin,
+                          (
+                            given (list_way product_way) products_floatless m.bench,
+                            (
+                              given (list_way product_way) products_floatless m.test,
+                              (
+                                given (list_way product_way) products_floatless m.example,
+                                (
+                                  given (inheritable_way lint_groups_way) (inheritable_floatless lint_groups_way lint_groups_floatless) m.lints,
+                                  tt,
+                                ),
+                              ),
+                            ),
+                          ),
+                        ),
+                      ),
+                    ),
+                  ),
+                ),
+              ),
+            ),
+          ),
+        ),
+      ),
+    ),
+  ),
+)
 
 pub manifest_floatless : {M : Type 0} (metadata : Way M) → IsFloatless metadata → IsFloatless (manifest_way metadata)
 manifest_floatless metadata h = table_floatless (manifest_rows metadata) (each_of_manifest metadata h)

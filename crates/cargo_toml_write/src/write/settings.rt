@@ -18,7 +18,9 @@ ghost use Rattle.cargo_toml_write.specs.WrittenSettings.{edition_way, resolver_w
 
 use crate::write::{LeftOut, ToValue};
 use cargo_toml_parts::Error;
-use cargo_toml_settings::{DebugSetting, Edition, LtoSetting, OptionalFile, Publish, Resolver, StripSetting};
+use cargo_toml_settings::{
+    DebugSetting, Edition, LtoSetting, OptionalFile, Publish, Resolver, StripSetting,
+};
 use cargo_toml_tables::{LintLevel, MaintenanceStatus};
 use std::alloc::Global;
 use toml::Value;

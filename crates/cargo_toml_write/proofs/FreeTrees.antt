@@ -1,9 +1,9 @@
 -- The values that may hold free ones have a tree where these hold no float, and only there.
-use Rattle.std.proofs.Common.{◌≡◌, refl, subst, sym, ℕ, List, [], ◌∷◌, codes, Bool, true, false, ◌&&◌, MatchBool, IsTrue, Option, Some, None, is_none, IfSome}
+use Rattle.std.proofs.Common.{◌≡◌, refl, sym, ℕ, List, [], ◌∷◌, Bool, true, false, ◌&&◌, MatchBool, IsTrue, Option, Some, None, is_none, IfSome}
 use Rattle.std.specs.List.{AllByRecursion}
 use Rattle.std.proofs.lemmas.Bool.{and_from}
 use Rattle.std.proofs.lemmas.List.Elements.{recursion_from_All, All-from_recursion}
-use Rattle.toml.specs.Data.{Data, string}
+use Rattle.toml.specs.Data.{Data}
 use Rattle.cargo_toml_dependencies.specs.Dependencies.{DetailMeaning, DependencyMeaning}
 use Rattle.cargo_toml_dependencies.specs.Dependencies as kind
 use Rattle.cargo_toml_dependencies.specs.Targets.{TargetMeaning}
@@ -13,19 +13,19 @@ use Rattle.cargo_toml_package.specs.Packages.{PackageMeaning}
 use Rattle.cargo_toml_parts.specs.Floats.{has_no_float, members_have_no_float}
 use Rattle.cargo_toml_tables.specs.Lints.{LintMeaning}
 use Rattle.cargo_toml_tables.specs.Profiles.{ProfileMeaning, ProfilesMeaning}
-use Rattle.cargo_toml_write.specs.NoFloats.{HoldsNoFloat, EachValue, IfSet, DetailHoldsNoFloat, DependencyHoldsNoFloat, TargetHoldsNoFloat, ProfileHoldsNoFloat, ProfilesHoldsNoFloat, LintHoldsNoFloat, LintsHoldNoFloat, PackageHoldsNoFloat, WorkspaceHoldsNoFloat, ManifestHoldsNoFloat}
+use Rattle.cargo_toml_write.specs.NoFloats.{HoldsNoFloat, EachValue, DetailHoldsNoFloat, DependencyHoldsNoFloat, TargetHoldsNoFloat, ProfileHoldsNoFloat, ProfilesHoldsNoFloat, LintHoldsNoFloat, LintsHoldNoFloat, PackageHoldsNoFloat, WorkspaceHoldsNoFloat, ManifestHoldsNoFloat}
 use Rattle.cargo_toml_write.specs.Ways.{text_way, truth_way, number_way, version_way, requirement_way, free_way, texts_way, list_way, map_way, inheritable_way, is_nil}
 use Rattle.cargo_toml_write.specs.WrittenBadges.{badges_way}
-use Rattle.cargo_toml_write.specs.WrittenDependencies.{inherited_way, known_rows, detail_rows, detail_way, dependency_way, dependencies_way, target_rows, target_way}
+use Rattle.cargo_toml_write.specs.WrittenDependencies.{known_rows, detail_rows, detail_way, dependency_way, dependencies_way, target_rows, target_way}
 use Rattle.cargo_toml_write.specs.WrittenLints.{is_level_alone, members_of, lint_table, table_lint_way, lint_way, lint_groups_way}
 use Rattle.cargo_toml_write.specs.WrittenManifests.{manifest_rows, manifest_way}
 use Rattle.cargo_toml_write.specs.WrittenPackages.{package_rows, package_way}
 use Rattle.cargo_toml_write.specs.WrittenProducts.{product_way}
 use Rattle.cargo_toml_write.specs.WrittenProfiles.{profile_rows, profile_way, known_profiles, profiles_rows, profiles_way, has_no_profile}
-use Rattle.cargo_toml_write.specs.WrittenSettings.{edition_way, resolver_way, level_way, level_text, file_way, publish_way, debug_way, strip_way, lto_way}
+use Rattle.cargo_toml_write.specs.WrittenSettings.{edition_way, resolver_way, level_way, file_way, publish_way, debug_way, strip_way, lto_way}
 use Rattle.cargo_toml_write.specs.WrittenTemplates.{template_way}
 use Rattle.cargo_toml_write.specs.WrittenWorkspaces.{workspace_rows, workspace_way}
-use Rattle.cargo_toml_write.specs.Writes.{Way, HasTree, given_row}
+use Rattle.cargo_toml_write.specs.Writes.{Way, HasTree}
 use Rattle.cargo_toml_write.proofs.TotalTrees.{edition_tree, resolver_tree, level_tree, file_tree, publish_tree, debug_tree, strip_tree, lto_tree, badges_tree, product_tree, inherited_tree, template_tree}
 use Rattle.cargo_toml_write.proofs.Trees.{AreHeld, Exact, has_table, table_has, text_tree, truth_tree, number_tree, version_tree, requirement_tree, texts_tree, list_tree, map_tree, inheritable_tree, optional_all, required_all, given_all, flag_all, optional_held, optional_only, required_held, required_only, given_held, given_only, entries_held, entries_only, free_exact, map_exact, map_left, inheritable_exact, inheritable_left}
 

@@ -1,14 +1,14 @@
 -- What was read of a manifest, and of each part of it, of a tree that holds no float holds none.
-use Rattle.std.proofs.Common.{◌≡◌, refl, sym, pos, ℕ, List, [], ◌∷◌, codes, Bool, true, false, IsTrue, Option, Some, None, IfSome, option_map, option_and_then, if◌then◌else◌}
+use Rattle.std.proofs.Common.{◌≡◌, refl, sym, pos, [], Bool, true, false, Option, Some, None, IfSome, option_map, if◌then◌else◌}
 use Rattle.std.specs.Result.{result_ok}
 use Rattle.semver.specs.Parse.{req_of}
-use Rattle.toml.specs.Data.{Data, string, table, Members, as_table, as_str, as_bool}
+use Rattle.toml.specs.Data.{Data, string, table, Members, as_str, as_bool}
 use Rattle.cargo_toml_dependencies.specs.Dependencies.{InheritedMeaning, DetailMeaning, DependencyMeaning, detail_keys, detail_of, strict_of, inherited_or, dependency_of}
 use Rattle.cargo_toml_dependencies.specs.Dependencies as kind
-use Rattle.cargo_toml_dependencies.specs.Targets.{TargetMeaning, target_of}
+use Rattle.cargo_toml_dependencies.specs.Targets.{target_of}
 use Rattle.cargo_toml_manifest.specs.Manifests.{ManifestMeaning, by_zero_rule, zero_rule_applies, target_reads, product_reads, badges_reads, no_badges, profiles_reads, no_profiles, manifest_of, manifest_reads}
 use Rattle.cargo_toml_manifest.specs.Texts.{any_tree, document_reads}
-use Rattle.cargo_toml_manifest.specs.Workspaces.{WorkspaceMeaning, workspace_of, workspace_reads}
+use Rattle.cargo_toml_manifest.specs.Workspaces.{workspace_of, workspace_reads}
 use Rattle.cargo_toml_package.specs.Packages.{PackageMeaning, package_of, package_reads}
 use Rattle.cargo_toml_parts.specs.declared.inheritable.Inheritable.TheVariants.{Set}
 use Rattle.cargo_toml_parts.specs.Floats.{has_no_float, without_floats}
@@ -22,8 +22,8 @@ use Rattle.cargo_toml_package.specs.Templates.{template_reads}
 use Rattle.cargo_toml_settings.specs.declared.settings.Edition.TheVariants.{E2015}
 use Rattle.cargo_toml_settings.specs.ProfileSettings.{debug_of, strip_of, lto_of}
 use Rattle.cargo_toml_settings.specs.Settings.{everywhere, flag, edition_reads, resolver_reads, file_of, publish_of}
-use Rattle.cargo_toml_tables.specs.Lints.{LintMeaning, level_of, level_alone, lint_keys, table_lint, lint_of}
-use Rattle.cargo_toml_tables.specs.Profiles.{ProfileMeaning, ProfilesMeaning, profile_keys, profile_of, profile_reads, profiles_of}
+use Rattle.cargo_toml_tables.specs.Lints.{level_of, level_alone, lint_keys, table_lint, lint_of}
+use Rattle.cargo_toml_tables.specs.Profiles.{profile_keys, profile_of, profile_reads, profiles_of}
 use Rattle.cargo_toml_write.specs.NoFloats.{EachValue, IfSet, DetailHoldsNoFloat, DependencyHoldsNoFloat, TargetHoldsNoFloat, ProfileHoldsNoFloat, ProfilesHoldsNoFloat, LintHoldsNoFloat, LintsHoldNoFloat, PackageHoldsNoFloat, WorkspaceHoldsNoFloat, ManifestHoldsNoFloat}
 use Rattle.cargo_toml_write.specs.Ways.{free_way}
 use Rattle.cargo_toml_write.specs.Writes.{HasTree}

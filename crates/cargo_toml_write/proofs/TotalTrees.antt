@@ -1,20 +1,19 @@
 -- Each value of a type that holds nothing free has a tree.
-use Rattle.std.proofs.Common.{◌≡◌, refl, ℕ, List, [], ◌∷◌, codes, Option, Some, None, true, false}
-use Rattle.toml.specs.Data.{Data, string, boolean}
+use Rattle.std.proofs.Common.{refl, true, false}
+use Rattle.toml.specs.Data.{string, boolean}
 use Rattle.cargo_toml_dependencies.specs.Dependencies.{InheritedMeaning}
 use Rattle.cargo_toml_package.specs.Templates.{TemplateMeaning}
-use Rattle.cargo_toml_settings.specs.Settings.{edition_text, resolver_text, File, Registries, everywhere, among}
+use Rattle.cargo_toml_settings.specs.Settings.{edition_text, resolver_text, everywhere, among}
 use Rattle.cargo_toml_tables.specs.declared.badge.MaintenanceStatus.{MaintenanceStatus}
 use Rattle.cargo_toml_tables.specs.Badges.{BadgeMeaning, BadgesMeaning}
 use Rattle.cargo_toml_tables.specs.Products.{ProductMeaning}
-use Rattle.cargo_toml_write.specs.Ways.{text_way, truth_way, number_way, version_way, requirement_way, texts_way, list_way, map_way, inheritable_way}
+use Rattle.cargo_toml_write.specs.Ways.{text_way, version_way, texts_way}
 use Rattle.cargo_toml_write.specs.WrittenBadges.{badge_rows, badge_way, maintenance_rows, maintenance_way, badges_rows, badges_way}
 use Rattle.cargo_toml_write.specs.WrittenDependencies.{inherited_rows, inherited_way}
 use Rattle.cargo_toml_write.specs.WrittenProducts.{product_rows, product_way}
 use Rattle.cargo_toml_write.specs.WrittenSettings.{edition_way, resolver_way, level_text, level_way, status_text, status_way, file_tree as tree_of_file, file_way, publish_way, debug_tree as tree_of_debug, debug_way, strip_tree as tree_of_strip, strip_way, lto_tree as tree_of_lto, lto_way}
 use Rattle.cargo_toml_write.specs.WrittenTemplates.{template_rows, template_way}
-use Rattle.cargo_toml_write.specs.Writes.{Way, HasTree}
-use Rattle.cargo_toml_write.proofs.Trees.{AreHeld, Total, has_table, exactly_tree, text_tree, truth_tree, number_tree, version_tree, requirement_tree, texts_tree, list_tree, map_tree, inheritable_tree, optional_all, required_all, given_all, flag_all}
+use Rattle.cargo_toml_write.proofs.Trees.{AreHeld, Total, has_table, exactly_tree, text_tree, version_tree, texts_tree, optional_all, required_all, given_all, flag_all}
 
 pub edition_tree : Total edition_way
 edition_tree = exactly_tree (λ x. string (edition_text x))

@@ -1,5 +1,5 @@
 -- Which values have a tree: the ways of which all ways are made.
-use Rattle.std.proofs.Common.{◌≡◌, ◌⊎◌, inl, inr, refl, ℕ, pos, List, [], ◌∷◌, ◌++◌, Bool, true, false, IsTrue, Option, Some, None, IfSome, Result, Ok, Err, IfErr, All}
+use Rattle.std.proofs.Common.{◌≡◌, inl, inr, refl, ℕ, pos, List, [], ◌∷◌, ◌++◌, Bool, true, false, IsTrue, Option, Some, None, IfSome, Result, Ok, Err, IfErr}
 use Rattle.std.specs.List.{AllByRecursion}
 use Rattle.std.proofs.lemmas.List.Elements.{recursion_from_All, All-from_recursion}
 use Rattle.semver.specs.Identifiers.{parts_text}

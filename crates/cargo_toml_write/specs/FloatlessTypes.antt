@@ -1,7 +1,7 @@
 -- What is written of each type holds no float.
-use Rattle.std.specs.Prelude.{◌≡◌, ℕ, List, [], codes, Bool, true, false, ◌&&◌, IsTrue, MatchBool, Option, Some, None, pos, refl}
+use Rattle.std.specs.Prelude.{codes, Bool, true, false, IsTrue, MatchBool, refl}
 use Rattle.std.proofs.Common.{sym, subst}
-use Rattle.toml.specs.Data.{Data, string, boolean, integer}
+use Rattle.toml.specs.Data.{Data, string, integer}
 use Rattle.cargo_toml_dependencies.specs.Dependencies.{InheritedMeaning, DetailMeaning, DependencyMeaning}
 use Rattle.cargo_toml_dependencies.specs.Dependencies as kind
 use Rattle.cargo_toml_dependencies.specs.Targets.{TargetMeaning}

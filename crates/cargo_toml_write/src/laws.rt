@@ -25,7 +25,8 @@ use crate::write::ToValue;
 /// The dependencies that have a tree.
 pub fn dependencies_without_floats()
     ensures detail { (d : DetailMeaning) → HasTree detail_way d ↔ DetailHoldsNoFloat d }
-    ensures dependency { (d : DependencyMeaning) → HasTree dependency_way d ↔ DependencyHoldsNoFloat d }
+    ensures dependency { (d : DependencyMeaning) → HasTree dependency_way d
+        ↔ DependencyHoldsNoFloat d }
     ensures target { (t : TargetMeaning) → HasTree target_way t ↔ TargetHoldsNoFloat t }
 {}
 
@@ -38,7 +39,8 @@ pub fn tables_without_floats()
 
 /// The packages, workspaces and manifests that have a tree, where metadata are a free value.
 pub fn manifests_without_floats()
-    ensures packages { (p : PackageMeaning Data) → HasTree (package_way free_way) p ↔ PackageHoldsNoFloat HoldsNoFloat p }
+    ensures packages { (p : PackageMeaning Data) → HasTree (package_way free_way) p
+        ↔ PackageHoldsNoFloat HoldsNoFloat p }
     ensures workspaces { (w : WorkspaceMeaning Data) → HasTree (workspace_way free_way) w
         ↔ WorkspaceHoldsNoFloat HoldsNoFloat w }
     ensures manifests { (m : ManifestMeaning Data) → HasTree (manifest_way free_way) m
@@ -49,18 +51,19 @@ pub fn manifests_without_floats()
 pub fn manifests_of_any_metadata<Metadata: ToValue>()
     ensures packages { (p : PackageMeaning Metadata.Meaning) → HasTree (package_way Metadata.way) p
         ↔ PackageHoldsNoFloat (HasTree Metadata.way) p }
-    ensures workspaces { (w : WorkspaceMeaning Metadata.Meaning) → HasTree (workspace_way Metadata.way) w
-        ↔ WorkspaceHoldsNoFloat (HasTree Metadata.way) w }
-    ensures manifests { (m : ManifestMeaning Metadata.Meaning) → HasTree (manifest_way Metadata.way) m
-        ↔ ManifestHoldsNoFloat (HasTree Metadata.way) m }
+    ensures workspaces { (w : WorkspaceMeaning Metadata.Meaning)
+        → HasTree (workspace_way Metadata.way) w ↔ WorkspaceHoldsNoFloat (HasTree Metadata.way) w }
+    ensures manifests { (m : ManifestMeaning Metadata.Meaning)
+        → HasTree (manifest_way Metadata.way) m ↔ ManifestHoldsNoFloat (HasTree Metadata.way) m }
 {}
 
 /// A manifest that was read, of a tree or of a document, has a tree: it holds no float, since what it was read of holds none.
 pub fn read_manifests_are_written()
-    ensures no_float { (d : Data) (m : ManifestMeaning Data) → without_floats (manifest_reads any_tree) d ≡ Some m
-        → ManifestHoldsNoFloat HoldsNoFloat m }
-    ensures of_tree { (d : Data) (m : ManifestMeaning Data) → without_floats (manifest_reads any_tree) d ≡ Some m
-        → ManifestHoldsNoFloat (HasTree free_way) m }
+    ensures no_float { (d : Data) (m : ManifestMeaning Data)
+        → without_floats (manifest_reads any_tree) d ≡ Some m → ManifestHoldsNoFloat HoldsNoFloat m }
+    ensures of_tree { (d : Data) (m : ManifestMeaning Data)
+        → without_floats (manifest_reads any_tree) d ≡ Some m → ManifestHoldsNoFloat (HasTree free_way) m }
     ensures of_document { (document : Option Members) (m : ManifestMeaning Data)
-        → document_reads (manifest_reads any_tree) document ≡ Some m → ManifestHoldsNoFloat (HasTree free_way) m }
+        → document_reads (manifest_reads any_tree) document ≡ Some m
+        → ManifestHoldsNoFloat (HasTree free_way) m }
 {}

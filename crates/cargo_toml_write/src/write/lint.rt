@@ -45,7 +45,8 @@ fn priority_value(lint: &Lint) -> Value
 /// The table of a lint: a copy of its config, over which the level and the priority are put.
 fn lint_table(lint: &Lint, alloc: Global) -> Result<Value, Error>
     ensures written { IsWriting table_lint_way (lint_meaning lint.now) result }
-    ensures read_again { IsApart (lint_meaning lint.now) → IsReadAgain lint_of (lint_meaning lint.now) result }
+    ensures read_again { IsApart (lint_meaning lint.now)
+        → IsReadAgain lint_of (lint_meaning lint.now) result }
 {
     if !has_no_float(&lint.config) {
         return Err(Error::Other("floats are not supported"));
@@ -68,8 +69,10 @@ impl ToValue for Lint {
 
     fn to_value(&self, alloc: Global) -> Result<Value, Error>
         ensures written { IsWriting lint_way (lint_meaning self.now) result }
-        ensures read_again { IsApart (lint_meaning self.now) → IsReadAgain lint_of (lint_meaning self.now) result }
-        ensures memory { LintHoldsNoFloat (lint_meaning self.now) → IfErr result (λ e. e ≡ Error.Memory) }
+        ensures read_again { IsApart (lint_meaning self.now)
+            → IsReadAgain lint_of (lint_meaning self.now) result }
+        ensures memory { LintHoldsNoFloat (lint_meaning self.now)
+            → IfErr result (λ e. e ≡ Error.Memory) }
     {
         if is_level_alone(self) {
             return self.level.to_value(alloc);

@@ -25,8 +25,10 @@ impl<Metadata: FromValue + ToValue> ToValue for Manifest<Metadata> {
     ghost floatless = { manifest_floatless Metadata.way Metadata.floatless };
 
     fn to_value(&self, alloc: Global) -> Result<Value, Error>
-        ensures written { IsWriting (manifest_way Metadata.way) (manifest_meaning Metadata.ToValue.meaning self.now) result }
-        ensures memory { ManifestHoldsNoFloat (HasTree Metadata.way) (manifest_meaning Metadata.ToValue.meaning self.now)
+        ensures written { IsWriting (manifest_way Metadata.way)
+            (manifest_meaning Metadata.ToValue.meaning self.now) result }
+        ensures memory { ManifestHoldsNoFloat (HasTree Metadata.way)
+            (manifest_meaning Metadata.ToValue.meaning self.now)
             → IfErr result (λ e. e ≡ Error.Memory) }
     {
         let mut writing = Writing::new(alloc);

@@ -31,14 +31,15 @@ impl<Metadata: FromValue + ToValue> ToValue for Package<Metadata> {
     ghost floatless = { package_floatless Metadata.way Metadata.floatless };
 
     fn to_value(&self, alloc: Global) -> Result<Value, Error>
-        ensures written { IsWriting
-            (package_way Metadata.way)
-            (package_meaning Metadata.ToValue.meaning self.now)
-            result }
+        ensures written { IsWriting (package_way Metadata.way)
+            (package_meaning Metadata.ToValue.meaning self.now) result }
         ensures read_again { VersionAgain (inheritable_map parts_of self.now.version)
-            → MetadataAgain Metadata.way Metadata.ToValue.meaning Metadata.FromValue.meaning Metadata.from_tree self.now.metadata
-            → IsReadAgain (package_reads Metadata.from_tree) (package_meaning Metadata.FromValue.meaning self.now) result }
-        ensures memory { PackageHoldsNoFloat (HasTree Metadata.way) (package_meaning Metadata.ToValue.meaning self.now)
+            → MetadataAgain Metadata.way Metadata.ToValue.meaning Metadata.FromValue.meaning
+            Metadata.from_tree self.now.metadata
+            → IsReadAgain (package_reads Metadata.from_tree)
+            (package_meaning Metadata.FromValue.meaning self.now) result }
+        ensures memory { PackageHoldsNoFloat (HasTree Metadata.way)
+            (package_meaning Metadata.ToValue.meaning self.now)
             → IfErr result (λ e. e ≡ Error.Memory) }
     {
         let mut writing = Writing::new(alloc);

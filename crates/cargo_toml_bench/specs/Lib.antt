@@ -2,3 +2,4 @@ pub mod Alone
 pub mod Printing
 pub mod Reports
 pub mod Enabled
+pub mod Rewriting

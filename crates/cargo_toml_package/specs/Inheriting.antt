@@ -1,0 +1,84 @@
+-- What a package becomes whose fields are left to the workspace.
+use Rattle.std.specs.Prelude.{ℕ, List, ◌++◌, codes, Bool, false, not, ◌||◌, if◌then◌else◌, Option, Some, None, option_map, option_map_or, Result, Ok, Err}
+use Rattle.std.specs.Path.{path_join}
+use Rattle.cargo_toml_parts.specs.FaultValues.{Fault, workspace_integrity}
+use Rattle.cargo_toml_parts.specs.declared.inheritable.Inheritable.{Inheritable}
+use Rattle.cargo_toml_parts.specs.declared.inheritable.Inheritable.TheVariants.{Set, Inherited}
+use Rattle.cargo_toml_parts.specs.InheritableValues.{is_set}
+use Rattle.cargo_toml_settings.specs.Settings.{File, flag, path}
+use Rattle.cargo_toml_package.specs.Packages.{PackageMeaning}
+use Rattle.cargo_toml_package.specs.Templates.{TemplateMeaning}
+
+-- an inherited field takes the workspace's value, where there is one
+abbrev pub filled : {A : Type 0} → Inheritable A → Option A → Inheritable A
+filled Inherited (Some x) = Set x
+filled field value = field
+
+abbrev pub filled_if_there : {A : Type 0} → Option (Inheritable A) → Option A → Option (Inheritable A)
+filled_if_there field value = option_map (λ f. filled f value) field
+
+-- a file of the workspace, whose folder is `base`
+abbrev pub based : List ℕ → File → File
+based base (flag b) = flag b
+based base (path p) = path (path_join base p)
+
+-- a package, with what the template of its workspace has for its inherited fields
+abbrev pub with_template : {M : Type 0} → List ℕ → TemplateMeaning → PackageMeaning M → PackageMeaning M
+with_template base t p = record p {
+  version = filled p.version t.version;
+  edition = filled p.edition t.edition;
+  rust_version = filled_if_there p.rust_version t.rust_version;
+  authors = filled p.authors t.authors;
+  description = filled_if_there p.description t.description;
+  homepage = filled_if_there p.homepage t.homepage;
+  documentation = filled_if_there p.documentation t.documentation;
+  readme = filled p.readme (Some (based base t.readme));
+  keywords = filled p.keywords t.keywords;
+  categories = filled p.categories t.categories;
+  exclude = filled p.exclude t.exclude;
+  include = filled p.include t.include;
+  license = filled_if_there p.license t.license;
+  license_file = filled_if_there p.license_file (option_map (path_join base) t.license_file);
+  repository = filled_if_there p.repository t.repository;
+  publish = filled p.publish (Some t.publish);
+}
+
+abbrev pub with_template_if_there : {M : Type 0} → List ℕ → Option TemplateMeaning → PackageMeaning M → PackageMeaning M
+with_template_if_there base template p = option_map_or (λ t. with_template base t p) template p
+
+abbrev pub is_left : {A : Type 0} → Inheritable A → Bool
+is_left field = not (is_set field)
+
+abbrev pub is_left_there : {A : Type 0} → Option (Inheritable A) → Bool
+is_left_there field = option_map_or is_left field false
+
+-- whether some field is inherited
+abbrev pub any_field_left : {M : Type 0} → PackageMeaning M → Bool
+any_field_left p =
+    is_left p.version
+    || is_left p.edition
+    || is_left_there p.rust_version
+    || is_left p.authors
+    || is_left_there p.description
+    || is_left_there p.homepage
+    || is_left_there p.documentation
+    || is_left p.readme
+    || is_left p.keywords
+    || is_left p.categories
+    || is_left p.exclude
+    || is_left p.include
+    || is_left_there p.license
+    || is_left_there p.license_file
+    || is_left_there p.repository
+    || is_left p.publish
+
+abbrev pub missing_fields : List ℕ → Fault
+missing_fields name = workspace_integrity (codes "not all fields of `" ++ name ++ codes "` have been present in workspace.package")
+
+-- the package, unless a field of it is still inherited
+abbrev pub checked_package : {M : Type 0} → PackageMeaning M → Result (PackageMeaning M) Fault
+checked_package p = if any_field_left p then Err (missing_fields p.name) else Ok p
+
+-- a package after inheritance from this template
+abbrev pub inherited_package : {M : Type 0} → Option TemplateMeaning → List ℕ → PackageMeaning M → Result (PackageMeaning M) Fault
+inherited_package template base p = checked_package (with_template_if_there base template p)

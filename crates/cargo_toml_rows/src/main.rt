@@ -3,7 +3,9 @@
 //! The words of the command line name the rows, as KIND/NAME. A line for each says that all is as expected, or what came instead.
 #![tactic(auto)]
 
+mod completed;
 mod manifests;
+mod paths;
 mod resolved;
 mod values;
 
@@ -27,8 +29,10 @@ enum Kind {
     Dependencies,
     /// What one of its features enables at last. The file `start` names the feature.
     Recursion,
-    /// What values of one type read as, and how these are written.
+    /// What values of one type read as, and how these are written, or what comes of paths.
     Values,
+    /// What completion makes of the manifest.
+    Complete,
 }
 
 fn kind_of(word: &str) -> Option<Kind> {
@@ -39,7 +43,8 @@ fn kind_of(word: &str) -> Option<Kind> {
         "features" => Some(Kind::Features),
         "dependencies" => Some(Kind::Dependencies),
         "recursion" => Some(Kind::Recursion),
-        "values" => Some(Kind::Values),
+        "values" | "paths" => Some(Kind::Values),
+        "complete" => Some(Kind::Complete),
         _ => None,
     }
 }
@@ -54,6 +59,7 @@ fn expected_file(kind: Kind) -> &'static str {
         Kind::Dependencies => "/recorded",
         Kind::Recursion => "/enabled",
         Kind::Values => "",
+        Kind::Complete => "/completed",
     }
 }
 
@@ -76,6 +82,7 @@ fn answer<R: Files + AllocGlobal>(
         Kind::Refuse => manifests::fault(alloc, manifest.as_slice()),
         Kind::Features => manifests::features(alloc, manifest.as_slice()),
         Kind::Recursion => enabled(rt, folder, manifest.as_slice()),
+        Kind::Complete => completed::fields(rt, folder, manifest.as_slice(), expected),
         _ => resolved::recorded(alloc, manifest.as_slice()),
     }
 }

@@ -42,6 +42,11 @@ pub fn written(alloc: Global, bytes: &[u8]) -> Result<String, Error> {
 pub fn fields(alloc: Global, bytes: &[u8], expected: &str) -> Result<String, Error> {
     let manifest = read(alloc, bytes)?;
     let text = format!(in alloc; "{manifest:?}")?;
+    with_lines(alloc, text.as_str(), expected)
+}
+
+/// The expected lines where each stands in the text, and the text otherwise.
+pub fn with_lines(alloc: Global, text: &str, expected: &str) -> Result<String, Error> {
     for line in expected.split_terminator('\n') {
         if !text.contains(line) {
             return Ok(format!(in alloc; "no {line} in {text}")?);

@@ -1,4 +1,5 @@
 //! What values read as, and how these are written.
+use crate::paths;
 use cargo_toml::{
     Badge, Badges, DebugSetting, Dependency, DependencyDetail, Edition, Error, FromValue,
     Inheritable, InheritedDependencyDetail, Lint, LintGroups, LintLevel, LtoSetting, Maintenance,
@@ -29,6 +30,9 @@ pub fn lines(alloc: Global, row: &str, expected: &str) -> Result<String, Error> 
 
 fn answer(alloc: Global, row: &str, value: &str) -> Result<String, Error> {
     let value = Value::from_str(alloc, value)?;
+    if let Some(row) = row.strip_prefix("paths/") {
+        return paths::answer(alloc, row, &value);
+    }
     match row {
         "values/debug" => setting_answer::<DebugSetting>(alloc, &value),
         "values/strip" => setting_answer::<StripSetting>(alloc, &value),

@@ -1,0 +1,130 @@
+//! A file system that is held in memory, for tests of completion.
+ghost use Rattle.std.specs.Prelude.{◌≡◌, IfOk, IfErr, map, string_bytes};
+ghost use Rattle.std.specs.Option.{option_copied};
+ghost use Rattle.cargo_toml.specs.Error.{Memory};
+ghost use Rattle.cargo_toml.specs.Told.{AnswersNames, HasTexts, ReadsRoot};
+ghost use Rattle.cargo_toml_bench.specs.InMemory.{told_at, told_root_at, told_of_answer, told_of_root};
+
+use cargo_toml::{AbstractFilesystem, Error};
+use std::alloc::{AllocError, Global};
+use std::collections::HashSet;
+use std::io;
+
+/// What is answered of a folder.
+#[derive(Drop)]
+pub enum Answer {
+    /// These names, which are told.
+    Names(Vec<String>),
+    /// A fault of this kind, which is told.
+    Denied(io::ErrorKind),
+    /// These names, of which nothing is told.
+    Open(Vec<String>),
+    /// Want of memory.
+    NoMemory,
+}
+
+/// The workspace that a hint leads to.
+#[derive(Drop)]
+pub struct Root {
+    /// The hint.
+    pub hint: Option<String>,
+    /// The path that is answered.
+    pub path: String,
+    /// The text of its manifest. Without one, want of memory is answered.
+    pub text: Option<String>,
+}
+
+/// Folders with their answers, and roots. A path that isn't listed is absent, and a hint that isn't leads nowhere. Of two of one
+/// path, or of one hint, the first counts.
+#[derive(Drop)]
+pub struct InMemory {
+    /// The folders, by path.
+    pub folders: Vec<(String, Answer)>,
+    /// The roots.
+    pub roots: Vec<Root>,
+}
+
+impl InMemory {
+    /// No folder, and no root. It takes no memory.
+    pub fn new(alloc: Global) -> InMemory {
+        InMemory {
+            folders: Vec::new(alloc),
+            roots: Vec::new(alloc),
+        }
+    }
+}
+
+fn set_of(alloc: Global, names: &[String]) -> Result<HashSet<String>, AllocError>
+    ensures { IfOk result (λ set. HasTexts set (map string_bytes names.now)) }
+{
+    let mut set = HashSet::new(alloc);
+    for name in names {
+        set.insert(name.clone()?)?;
+    }
+    Ok(set)
+}
+
+fn answer_at<'a>(folders: &'a [(String, Answer)], path: &str) -> Option<&'a Answer>
+    ensures { told_of_answer (option_copied result) ≡ told_at folders.now path.now }
+{
+    for (name, answer) in folders {
+        if name.as_str() == path {
+            return Some(answer);
+        }
+    }
+    None
+}
+
+fn names_of(alloc: Global, answer: Option<&Answer>) -> Result<HashSet<String>, Error>
+    ensures { AnswersNames (told_of_answer (option_copied answer.entry)) result }
+{
+    let Some(answer) = answer else {
+        return Err(Error::Io(io::Error::from(io::ErrorKind::NotFound)));
+    };
+    match answer {
+        Answer::Names(names) | Answer::Open(names) => Ok(set_of(alloc, names.as_slice())?),
+        Answer::Denied(kind) => Err(Error::Io(io::Error::from(*kind))),
+        Answer::NoMemory => Err(Error::Memory),
+    }
+}
+
+fn root_at<'a>(roots: &'a [Root], hint: Option<&str>) -> Option<&'a Root>
+    ensures { told_of_root (option_copied result) ≡ told_root_at roots.now (option_copied hint.entry) }
+{
+    for root in roots {
+        if root.hint.as_deref() == hint {
+            return Some(root);
+        }
+    }
+    None
+}
+
+fn read_root(alloc: Global, root: Option<&Root>) -> Result<(Vec<u8>, String), Error>
+    ensures { ReadsRoot (told_of_root (option_copied root.entry)) result }
+{
+    let Some(root) = root else {
+        return Err(Error::Io(io::Error::from(io::ErrorKind::NotFound)));
+    };
+    match &root.text {
+        Some(text) => Ok((text.clone()?.into_bytes(), root.path.clone()?)),
+        None => Err(Error::Memory),
+    }
+}
+
+impl AbstractFilesystem for InMemory {
+    ghost names_at = { λ files path. told_at files.folders.items path };
+
+    ghost root_for = { λ files hint. told_root_at files.roots.items hint };
+
+    fn file_names_in(&self, alloc: Global, rel_path: &str) -> Result<HashSet<String>, Error> {
+        names_of(alloc, answer_at(self.folders.as_slice(), rel_path))
+    }
+
+    fn read_root_workspace(
+        &self,
+        alloc: Global,
+        hint: Option<&str>,
+    ) -> Result<(Vec<u8>, String), Error> {
+        read_root(alloc, root_at(self.roots.as_slice(), hint))
+    }
+}

@@ -1,0 +1,36 @@
+//! Paths: what two join to, the last name, the folder above and all folders above, and the folder of a workspace.
+use cargo_toml::{Error, Value};
+use cargo_toml_paths::{ancestors, join, last_name, parent, workspace_folder};
+use std::alloc::Global;
+use std::fmt::Debug;
+
+fn shown<T: Debug>(alloc: Global, answer: &T) -> Result<String, Error> {
+    Ok(format!(in alloc; "{answer:?}")?)
+}
+
+/// The answer to a path, or to an array of two paths, by the name of the row.
+pub fn answer(alloc: Global, row: &str, value: &Value) -> Result<String, Error> {
+    if let Some([front, back]) = value.as_array() {
+        let (Some(front), Some(back)) = (front.as_str(), back.as_str()) else {
+            return Err(Error::Other("a path that is no text"));
+        };
+        return shown(alloc, &join(alloc, front, back)?);
+    }
+    let Some(path) = value.as_str() else {
+        return Err(Error::Other("a path that is no text"));
+    };
+    match row {
+        "last-names" => shown(alloc, &last_name(path)),
+        "folder-of-a-workspace" => shown(alloc, &workspace_folder(path)),
+        "ancestors" => all_above(alloc, path),
+        _ => shown(alloc, &parent(path)),
+    }
+}
+
+fn all_above(alloc: Global, path: &str) -> Result<String, Error> {
+    let mut above = Vec::new(alloc);
+    for folder in ancestors(path) {
+        above.push(folder.as_str())?;
+    }
+    shown(alloc, &above)
+}

@@ -1,4 +1,6 @@
 -- a caller names each of these as a file of this crate
+pub use Rattle.cargo_toml_paths.specs.Paths
+pub use Rattle.cargo_toml_parts.specs.Answers
 pub use Rattle.cargo_toml_parts.specs.Copies
 pub use Rattle.cargo_toml_parts.specs.Faults
 pub use Rattle.cargo_toml_parts.specs.FaultValues
@@ -15,6 +17,7 @@ pub use Rattle.cargo_toml_settings.specs.SettingAnswers
 pub use Rattle.cargo_toml_settings.specs.Settings
 pub use Rattle.cargo_toml_settings.specs.SettingsLaws
 pub use Rattle.cargo_toml_parts.specs.Versions
+pub use Rattle.cargo_toml_parts.specs.Wrapping
 pub use Rattle.cargo_toml_tables.specs.Badges
 pub use Rattle.cargo_toml_tables.specs.Lints
 pub use Rattle.cargo_toml_tables.specs.Products
@@ -23,14 +26,19 @@ pub use Rattle.cargo_toml_dependencies.specs.Dependencies
 pub use Rattle.cargo_toml_dependencies.specs.DependencyAnswers
 pub use Rattle.cargo_toml_dependencies.specs.DependencyLending
 pub use Rattle.cargo_toml_dependencies.specs.Features
+pub use Rattle.cargo_toml_dependencies.specs.InheritedDependencies
 pub use Rattle.cargo_toml_dependencies.specs.Targets
 pub use Rattle.cargo_toml_parts.specs.Keys
+pub use Rattle.cargo_toml_package.specs.InheritedPackages
 pub use Rattle.cargo_toml_package.specs.PackageAnswers
 pub use Rattle.cargo_toml_package.specs.PackageLending
 pub use Rattle.cargo_toml_package.specs.Packages
 pub use Rattle.cargo_toml_package.specs.Templates
+pub use Rattle.cargo_toml_manifest.specs.Completing
+pub use Rattle.cargo_toml_manifest.specs.InheritedManifests
 pub use Rattle.cargo_toml_manifest.specs.Manifests
 pub use Rattle.cargo_toml_manifest.specs.Texts
+pub use Rattle.cargo_toml_manifest.specs.Told
 pub use Rattle.cargo_toml_manifest.specs.Workspaces
 pub use Rattle.cargo_toml_write.specs.NoFloats
 pub use Rattle.cargo_toml_write.specs.Ways

@@ -3,3 +3,4 @@ pub mod Printing
 pub mod Reports
 pub mod Enabled
 pub mod Rewriting
+pub mod InMemory

@@ -1,1 +1,60 @@
-//! A caller that completes the manifest of a member from that of its workspace.
+//! Manifests of members, completed from the manifest of their workspace.
+ghost use Rattle.std.specs.Prelude.{◌≡◌, false, IfOk, IfSome, OnErr, OnOk, option_and_then};
+ghost use Rattle.cargo_toml.specs.Completing.{IsFilled};
+ghost use Rattle.cargo_toml.specs.InheritableValues.{value_of};
+ghost use Rattle.cargo_toml.specs.InheritedManifests.{needs};
+ghost use Rattle.cargo_toml.specs.Manifests.{manifest_meaning};
+
+use crate::in_memory::InMemory;
+use cargo_toml::{Edition, Error, Manifest};
+use std::alloc::Global;
+
+/// Completes the manifest of a member from that of its workspace, of which the bytes and the path are told.
+///
+/// Refused where those bytes are no manifest, and where the workspace lacks what the member leaves to it. The member is then as
+/// it was.
+pub fn complete_member(
+    alloc: Global,
+    member: &mut Manifest,
+    workspace: &[u8],
+    path: &str,
+) -> Result<(), Error>
+    ensures nothing_left { OnOk result (needs (manifest_meaning (λ m. m) member.new) ≡ false) }
+    ensures filled { OnOk result (IfSome member.new.«package» IsFilled) }
+    ensures unchanged { OnErr result (member.new ≡ member.old) }
+{
+    let workspace = Manifest::from_slice(alloc, workspace)?;
+    let files = InMemory::new(alloc);
+    member.complete_from_abstract_filesystem(alloc, &files, Some((&workspace, path)))
+}
+
+/// The manifest of a member, read of bytes and completed in the same way.
+pub fn read_member(
+    alloc: Global,
+    member: &[u8],
+    workspace: &[u8],
+    path: &str,
+) -> Result<Manifest, Error>
+    ensures nothing_left { IfOk result (λ m. needs (manifest_meaning (λ x. x) m) ≡ false) }
+{
+    let mut manifest = Manifest::from_slice(alloc, member)?;
+    complete_member(alloc, &mut manifest, workspace, path)?;
+    Ok(manifest)
+}
+
+/// Completes the manifest of a member in the same way, and tells the edition of its package, if it has one.
+pub fn edition_of_member(
+    alloc: Global,
+    member: &mut Manifest,
+    workspace: &[u8],
+    path: &str,
+) -> Result<Option<Edition>, Error>
+    ensures edition { IfOk result (λ e. e ≡ option_and_then (λ p. value_of p.edition) member.new.«package») }
+    ensures unchanged { OnErr result (member.new ≡ member.old) }
+{
+    complete_member(alloc, member, workspace, path)?;
+    match &member.package {
+        Some(package) => Ok(Some(package.edition())),
+        None => Ok(None),
+    }
+}

@@ -1,7 +1,9 @@
 //! Callers of `cargo_toml` that are proved, written as a user of the crate writes them.
 #![tactic(auto)]
 
+pub mod completing;
 pub mod enabled;
+pub mod in_memory;
 pub mod report;
 pub mod round_trip;
 #[cfg(test)]

@@ -1,5 +1,5 @@
 -- The features that a table lists, within a limit, and what each says.
-use Rattle.std.specs.Prelude.{◌≤◌, ℕ, Bool, false, cond, ◌&&◌, ◌||◌, List, [], map, take, length, nat_lt, is_some, Option, Some, None, unwrap_or, codes, bytes_eq, fold, count_by, All}
+use Rattle.std.specs.Prelude.{◌≤◌, ℕ, Bool, false, if◌then◌else◌, ◌&&◌, ◌||◌, List, [], map, take, length, nat_lt, is_some, Option, Some, None, unwrap_or, codes, bytes_eq, fold, count_by, All}
 use Rattle.std.specs.List.{list_any}
 use Rattle.std.specs.Map.{lookup}
 use Rattle.std.specs.Cmp.Lexicographic.{slice_cmp}
@@ -23,7 +23,7 @@ item_names x (On k a) = false
 -- what an item does to k
 abbrev pub action_on : Text → Item → Option Action
 action_on k (Name y) = None
-action_on k (On q a) = cond (bytes_eq k q) (Some a) None
+action_on k (On q a) = if bytes_eq k q then Some a else None
 
 -- the limit leaves nothing out
 pub record IsWithin (limit : ℕ) (listed : Listed) : Type 0 where
@@ -37,7 +37,7 @@ module _ (limit : ℕ) (listed : Listed) where
 
   -- the first actions of an admitted feature
   abbrev pub items : Text → List Item
-  items f = cond (is_admitted f) (map item_of (take limit (unwrap_or (lookup (bytes_eq f) listed) []))) []
+  items f = if is_admitted f then map item_of (take limit (unwrap_or (lookup (bytes_eq f) listed) [])) else []
 
   -- the names that f names, known or not
   abbrev pub names : Text → Text → Bool

@@ -1,5 +1,5 @@
 -- Tables of worked examples.
-use Rattle.std.specs.Prelude.{cond, bytes_eq, List, [], ◌∷◌, codes}
+use Rattle.std.specs.Prelude.{if◌then◌else◌, bytes_eq, List, [], ◌∷◌, codes}
 use Rattle.cargo_toml_graph.specs.Action.{Text}
 use Rattle.cargo_toml_graph.specs.Admitted.{Listed, is_admitted, names, joined_action}
 use Rattle.cargo_toml_graph.specs.Graph.{Table, Resolution}
@@ -39,7 +39,7 @@ hidden_parent = features_alone ((codes "_h", codes "f" ∷ []) ∷ (codes "f", [
 
 -- the binaries y and z require f, and x (twice) and y require _h
 abbrev pub some_bins : Text → List Text
-some_bins f = cond (bytes_eq f (codes "f")) (codes "y" ∷ codes "z" ∷ []) (cond (bytes_eq f (codes "_h")) (codes "x" ∷ codes "x" ∷ codes "y" ∷ []) [])
+some_bins f = if bytes_eq f (codes "f") then codes "y" ∷ codes "z" ∷ [] else if bytes_eq f (codes "_h") then codes "x" ∷ codes "x" ∷ codes "y" ∷ [] else []
 
 -- a = ["x", "y", "z"], b = [], c = [], default = ["c"]
 abbrev pub four : Listed

@@ -1,5 +1,5 @@
 -- Taking one feature after another out of a resolution: the steps that the laws of elimination speak of.
-use Rattle.std.specs.Prelude.{◌≡◌, IsTrue, ◌&&◌, ◌||◌, not, cond, List, [], ◌∷◌, ◌++◌, take, bytes_eq, nat_eq, codes, Bool, false, Option}
+use Rattle.std.specs.Prelude.{◌≡◌, IsTrue, ◌&&◌, ◌||◌, not, if◌then◌else◌, List, [], ◌∷◌, ◌++◌, take, bytes_eq, nat_eq, codes, Bool, false, Option}
 use Rattle.std.specs.List.{list_any, starts_with}
 use Rattle.std.specs.Option.{option_map_or}
 use Rattle.cargo_toml_graph.specs.Action.{Text, Action, join_option}
@@ -25,10 +25,10 @@ abbrev pub without : Text → Resolution → Resolution
 without r m = record {
   table = record {
     has = λ f. m.table.has f && not (bytes_eq f r);
-    names = λ f x. cond (m.enabled_by r f) ((m.table.names f x || m.table.names r x) && not (bytes_eq x r)) (m.table.names f x);
-    action = λ f k. cond (m.enabled_by r f) (join_option (m.table.action f k) (m.table.action r k)) (m.table.action f k);
+    names = λ f x. if m.enabled_by r f then (m.table.names f x || m.table.names r x) && not (bytes_eq x r) else m.table.names f x;
+    action = λ f k. if m.enabled_by r f then join_option (m.table.action f k) (m.table.action r k) else m.table.action f k;
   };
-  enabled_by = λ f e. cond (m.enabled_by f r) ((m.enabled_by f e || m.enabled_by r e) && not (bytes_eq e r)) (m.enabled_by f e);
+  enabled_by = λ f e. if m.enabled_by f r then (m.enabled_by f e || m.enabled_by r e) && not (bytes_eq e r) else m.enabled_by f e;
 }
 
 abbrev pub without_all : List Text → Resolution → Resolution
@@ -41,11 +41,11 @@ is_among xs x = list_any (bytes_eq x) xs
 -- each of ys is put at the end, unless it is there
 abbrev pub put_all : List Text → List Text → List Text
 put_all xs [] = xs
-put_all xs (y ∷ ys) = put_all (cond (is_among xs y) xs (xs ++ y ∷ [])) ys
+put_all xs (y ∷ ys) = put_all (if is_among xs y then xs else (xs ++ y ∷ [])) ys
 
 -- r's first ten binaries are passed on to each feature that it names
 abbrev pub pass_bins : Resolution → Text → (Text → List Text) → Text → List Text
-pass_bins m r bins f = cond (m.table.names r f) (put_all (bins f) (take 10 (bins r))) (bins f)
+pass_bins m r bins f = if m.table.names r f then put_all (bins f) (take 10 (bins r)) else bins f
 
 abbrev pub pass_all : List Text → Resolution → (Text → List Text) → Text → List Text
 pass_all [] m bins = bins

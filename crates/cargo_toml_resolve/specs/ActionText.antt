@@ -1,5 +1,5 @@
 -- What an action text says, from its parts.
-use Rattle.std.specs.Prelude.{false, cond, ◌||◌, is_some, bytes_eq}
+use Rattle.std.specs.Prelude.{false, if◌then◌else◌, ◌||◌, is_some, bytes_eq}
 use Rattle.std.specs.Option.{option_map_or}
 use Rattle.cargo_toml_resolve.specs.declared.action.ActionText.{ActionText}
 use Rattle.cargo_toml_graph.specs.Action.{Action, Item}
@@ -14,4 +14,4 @@ action_in t = record {
 
 -- an action on a dependency, or else a feature's name
 abbrev pub item_in : ActionText → Item
-item_in t = cond (t.is_dep_only || is_some t.dep_feature) (On t.target.now (action_in t)) (Name t.target.now)
+item_in t = if t.is_dep_only || is_some t.dep_feature then On t.target.now (action_in t) else Name t.target.now

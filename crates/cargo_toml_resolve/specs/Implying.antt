@@ -1,5 +1,5 @@
 -- Features that optional dependencies imply: words of a step of resolving, on which no public contract rests.
-use Rattle.std.specs.Prelude.{◌≡◌, ◌&&◌, not, Bool, true, false, List, [], Option, Some, None, bytes_eq, cond, unwrap_or}
+use Rattle.std.specs.Prelude.{◌≡◌, ◌&&◌, not, Bool, true, false, List, [], Option, Some, None, bytes_eq, if◌then◌else◌, unwrap_or}
 use Rattle.std.specs.Option.{IsSomeAnd}
 use Rattle.std.specs.List.{list_any}
 use Rattle.std.specs.Borrow.{Bor}
@@ -15,7 +15,7 @@ use Rattle.cargo_toml_resolve.specs.Views.{has_text, action_at, value_at}
 pub record IsImplied (q : Text) (v : Feature) : Type 0 where
   pub key : v.key.now ≡ q
   pub names : (x : Text) → has_text v.enables_features x ≡ false
-  pub action : (k : Text) → action_at v.enables_deps k ≡ cond (bytes_eq k q) (Some plain) None
+  pub action : (k : Text) → action_at v.enables_deps k ≡ (if bytes_eq k q then Some plain else None)
   pub enabled_by : v.enabled_by.keys ≡ []
   pub bins : v.required_by_bins.items ≡ []
   pub explicit : v.explicit ≡ false

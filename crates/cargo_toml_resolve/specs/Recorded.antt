@@ -1,5 +1,5 @@
 -- The dependencies that features can speak of.
-use Rattle.std.specs.Prelude.{ℕ, Bool, false, not, cond, ◌&&◌, ◌||◌, List, [], ◌∷◌, is_some, option_map, Option, Some, None, unwrap_or, codes, bytes_eq, find, fold, filter}
+use Rattle.std.specs.Prelude.{ℕ, Bool, false, not, if◌then◌else◌, ◌&&◌, ◌||◌, List, [], ◌∷◌, is_some, option_map, Option, Some, None, unwrap_or, codes, bytes_eq, find, fold, filter}
 use Rattle.std.specs.Option.{option_map_or, option_cmp}
 use Rattle.std.specs.List.{list_any}
 use Rattle.std.specs.Cmp.Lexicographic.{slice_cmp}
@@ -49,7 +49,7 @@ module _ (limit : ℕ) (listed : Listed) where
   counting earlier [] = []
   counting earlier (e ∷ es) =
       let optional = list_any (λ b. bytes_eq b.key e.key && is_optional b.dependency) (e ∷ earlier) in
-      cond (is_mentioned e.key || optional) (e ∷ counting (e ∷ earlier) es) (counting (e ∷ earlier) es)
+      if is_mentioned e.key || optional then e ∷ counting (e ∷ earlier) es else (counting (e ∷ earlier) es)
 
   -- the counting entries of the key k, in their order
   abbrev pub entries_at : List Entry → Text → List Entry
@@ -70,7 +70,7 @@ recorded_of (e ∷ es) = Some (record {
 -- the dependency of the first target; of equal ones the first
 abbrev pub first_target : List Entry → Option DependencyMeaning
 first_target [] = None
-first_target (e ∷ es) = Some (fold (λ a b. cond (is_lt (target_cmp b.target a.target)) b a) e es).dependency
+first_target (e ∷ es) = Some (fold (λ a b. if is_lt (target_cmp b.target a.target) then b else a) e es).dependency
 
 -- x is a feature that the dependency has anyway, as its detail says
 abbrev pub is_redundant : Option DependencyMeaning → Text → Bool

@@ -1,5 +1,5 @@
 -- Entries of dependency tables, recorded one after another: words of a step of resolving, on which no public contract rests.
-use Rattle.std.specs.Prelude.{Bool, ◌&&◌, ◌||◌, cond, Option, Some, None, is_some, option_map, unwrap_or, bytes_eq}
+use Rattle.std.specs.Prelude.{Bool, ◌&&◌, ◌||◌, if◌then◌else◌, Option, Some, None, is_some, option_map, unwrap_or, bytes_eq}
 use Rattle.std.specs.Option.{option_or}
 use Rattle.std.specs.Ordering.{is_eq}
 use Rattle.std.specs.Borrow.{Bor}
@@ -19,14 +19,14 @@ recorded_at m k = option_map recorded_in (value_at m k)
 abbrev pub recorded_first : Entry → Recorded
 recorded_first e = record {
   crate_name = unwrap_or (package_of e.dependency) e.key;
-  targets = λ t. cond (is_eq (target_cmp t e.target)) (Some e.dependency) None;
+  targets = λ t. if is_eq (target_cmp t e.target) then Some e.dependency else None;
 }
 
 -- e comes after what is recorded: only a target of its own counts
 abbrev pub recorded_next : Recorded → Entry → Recorded
 recorded_next r e = record {
   crate_name = r.crate_name;
-  targets = λ t. option_or (r.targets t) (cond (is_eq (target_cmp t e.target)) (Some e.dependency) None);
+  targets = λ t. option_or (r.targets t) (if is_eq (target_cmp t e.target) then Some e.dependency else None);
 }
 
 abbrev pub recorded_with : Option Recorded → Entry → Recorded
@@ -40,4 +40,4 @@ is_mentioned_in m k = is_some (value_at m.features k) || is_some (value_at m.act
 -- what is recorded of q after e, where o was recorded of q before: e counts if its key is recorded already or mentioned, or e
 -- is optional
 abbrev pub recorded_after : (Text → Bool) → Entry → Text → Option Recorded → Option Recorded
-recorded_after mentioned e q o = cond (bytes_eq e.key q && (is_some o || (is_optional e.dependency || mentioned q))) (Some (recorded_with o e)) o
+recorded_after mentioned e q o = if bytes_eq e.key q && (is_some o || (is_optional e.dependency || mentioned q)) then Some (recorded_with o e) else o

@@ -1,5 +1,5 @@
 -- From what a manifest lists to the table of features, and the whole answer.
-use Rattle.std.specs.Prelude.{◌≡◌, ◌↔◌, ℕ, Bool, false, cond, ◌&&◌, ◌||◌, List, is_some, option_map, IsTrue, Option, Some, None, bytes_eq, IfSome}
+use Rattle.std.specs.Prelude.{◌≡◌, ◌↔◌, ℕ, Bool, false, if◌then◌else◌, ◌&&◌, ◌||◌, List, is_some, option_map, IsTrue, Option, Some, None, bytes_eq, IfSome}
 use Rattle.cargo_toml_graph.specs.Action.{Text, Action}
 use Rattle.cargo_toml_graph.specs.Admitted.{Listed, is_admitted, is_below, names, joined_action}
 use Rattle.cargo_toml_graph.specs.Bins.{HasBins}
@@ -18,8 +18,7 @@ module _ (limit : ℕ) (listed : Listed) (entries : List Entry) where
   joined_table = record {
     has = λ f. is_admitted limit listed f || is_implied limit listed entries f;
     names = λ f x. names limit listed f x;
-    action = λ f k. cond (is_admitted limit listed f) (joined_action limit listed f k)
-        (cond (is_implied limit listed entries f && bytes_eq k f) (Some plain) None);
+    action = λ f k. if is_admitted limit listed f then joined_action limit listed f k else if is_implied limit listed entries f && bytes_eq k f then Some plain else None;
   }
 
   -- the table that the removal starts from

@@ -1,5 +1,5 @@
 -- What one visit of a feature adds to the lists of pairs and to the features still to visit. No public clause cites it.
-use Rattle.std.specs.Prelude.{◌≡◌, ◌≤◌, ◌+◌, ◌&&◌, ◌||◌, Bool, false, cond, List, [], ◌∷◌, ◌++◌, length, Option, Some, None, bytes_eq, is_some}
+use Rattle.std.specs.Prelude.{◌≡◌, ◌≤◌, ◌+◌, ◌&&◌, ◌||◌, Bool, false, if◌then◌else◌, List, [], ◌∷◌, ◌++◌, length, Option, Some, None, bytes_eq, is_some}
 use Rattle.std.specs.Option.{option_map_or}
 use Rattle.std.specs.List.{list_any, AllByRecursion}
 use Rattle.std.specs.Borrow.{Bor}
@@ -22,7 +22,7 @@ pub record AddsPair {S : Type 0} (k : Text) (pair : Bor Text × Bor DepAction) (
 -- f with its action, where it isn't conditional
 abbrev pub unconditional : Text → Option Action → List (Text × Action)
 unconditional f None = []
-unconditional f (Some a) = cond a.is_conditional [] ((f, a) ∷ [])
+unconditional f (Some a) = if a.is_conditional then [] else ((f, a) ∷ [])
 
 -- at the end of each list one pair for what the feature does unconditionally
 abbrev pub AddsActions : {S : Type 0} → Feature → Lists S → Lists S → Type 0

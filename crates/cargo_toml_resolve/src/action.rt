@@ -1,5 +1,5 @@
 //! One text of a feature's list, and what it does to a dependency.
-ghost use Rattle.std.specs.Prelude.{◌≡◌, ◌||◌, cond, nat_eq, codes, bytes_eq, is_some, Some, None, IfSome, OnOk};
+ghost use Rattle.std.specs.Prelude.{◌≡◌, ◌||◌, if◌then◌else◌, nat_eq, codes, bytes_eq, is_some, Some, None, IfSome, OnOk};
 ghost use Rattle.std.specs.List.{starts_with, ends_with, before_first, after_first, list_any};
 ghost use Rattle.cargo_toml_graph.specs.Action.{Text, join, join_option, without_start, without_end, is_slash, item_of};
 ghost use Rattle.cargo_toml_resolve.specs.ActionText.{action_in, item_in};
@@ -112,7 +112,9 @@ pub fn join_action<'a>(
     deps: &mut BTreeMap<&'a str, DepAction<'a>>,
     action: ActionText<'a>,
 ) -> Result<(), AllocError>
-    ensures { OnOk result ((k : Text) → action_at deps.new k ≡ join_option (action_at deps.old k) (cond (bytes_eq k action.entry.target.now) (Some (action_in action.entry)) None)) }
+    ensures { OnOk result ((k : Text) → action_at deps.new k
+        ≡ join_option (action_at deps.old k)
+            (if bytes_eq k action.entry.target.now then Some (action_in action.entry) else None)) }
 {
     let first = DepAction {
         is_conditional: true,

@@ -50,7 +50,8 @@ fn push_action<'a>(
     action: &DepAction<'_>,
     source: &'a str,
 ) -> Result<(), AllocError>
-    ensures { OnOk result (AddsLinks (λ q. bytes_eq q key.now && is_plain (Some (action_of action.now))) source.now links.old.items links.new.items) }
+    ensures { OnOk result (AddsLinks (λ q. bytes_eq q key.now && is_plain (Some (action_of action.now)))
+        source.now links.old.items links.new.items) }
 {
     if !action.is_conditional && !action.is_dep_only {
         push_link(links, key, source)?;
@@ -64,7 +65,8 @@ fn push_actions<'a>(
     actions: &BTreeMap<&'a str, DepAction<'a>>,
     source: &'a str,
 ) -> Result<(), AllocError>
-    ensures { OnOk result (AddsLinks (λ q. is_plain (action_at actions.now q)) source.now links.old.items links.new.items) }
+    ensures { OnOk result (AddsLinks (λ q. is_plain (action_at actions.now q)) source.now links.old.items
+        links.new.items) }
 {
     for (key, action) in actions.iter() {
         push_action(links, *key, action, source)?;
@@ -87,7 +89,8 @@ fn links_of<'a, S: BuildHasher>(
     alloc: Global,
     features: &HashMap<&'a str, Feature<'a>, S>,
 ) -> Result<Vec<Link<'a>>, AllocError>
-    ensures { IfOk result (λ v. (q e : Text) → is_linked v.items q e ≡ (leads_at features.now e q && not (bytes_eq q e))) }
+    ensures { IfOk result (λ v. (q e : Text) → is_linked v.items q e
+        ≡ (leads_at features.now e q && not (bytes_eq q e))) }
 {
     let mut links = Vec::new(alloc);
     for (name, feature) in features {
@@ -100,7 +103,8 @@ fn enable<'a, S: BuildHasher>(
     features: &mut HashMap<&'a str, Feature<'a>, S>,
     link: &Link<'a>,
 ) -> Result<(), AllocError>
-    ensures { OnOk result (EnabledAll (λ q e. bytes_eq q link.now.target.now && bytes_eq e link.now.source.now) features.old features.new) }
+    ensures { OnOk result (EnabledAll
+        (λ q e. bytes_eq q link.now.target.now && bytes_eq e link.now.source.now) features.old features.new) }
 {
     if let Some(feature) = features.get_mut(link.target) {
         feature.enabled_by.insert(link.source)?;
@@ -125,7 +129,8 @@ pub fn set_enabled_by<'a, S: BuildHasher>(
     alloc: Global,
     features: &mut HashMap<&'a str, Feature<'a>, S>,
 ) -> Result<(), AllocError>
-    ensures { OnOk result (EnabledAll (λ q e. leads_at features.old e q && not (bytes_eq q e)) features.old features.new) }
+    ensures { OnOk result (EnabledAll (λ q e. leads_at features.old e q && not (bytes_eq q e)) features.old
+        features.new) }
 {
     let links = links_of(alloc, features)?;
     enable_all(features, links.as_slice())

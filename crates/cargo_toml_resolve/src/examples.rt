@@ -18,14 +18,17 @@ ghost use Rattle.cargo_toml_resolve.specs.Resolved.{joined_table, plain};
 /// Without dependencies a table is what its listed features say.
 pub fn features_alone_are_a_table()
     ensures has { (listed : Listed) (f : Text) → (joined_table 2048 listed []).has f ≡ (features_alone listed).has f }
-    ensures names { (listed : Listed) (f x : Text) → (joined_table 2048 listed []).names f x ≡ (features_alone listed).names f x }
-    ensures action { (listed : Listed) (f k : Text) → (joined_table 2048 listed []).action f k ≡ (features_alone listed).action f k }
+    ensures names { (listed : Listed) (f x : Text) → (joined_table 2048 listed []).names f x
+        ≡ (features_alone listed).names f x }
+    ensures action { (listed : Listed) (f k : Text) → (joined_table 2048 listed []).action f k
+        ≡ (features_alone listed).action f k }
 {}
 
 /// `default = ["fast"]`, `fast = ["log/std"]`, and an optional dependency `log`, which implies a feature of its name.
 pub fn a_small_table()
     // the features are these three, and no `std`
-    ensures features { (f : Text) → IsTrue (small.has f) ↔ Among (codes "default" ∷ codes "fast" ∷ codes "log" ∷ []) f }
+    ensures features { (f : Text) → IsTrue (small.has f)
+        ↔ Among (codes "default" ∷ codes "fast" ∷ codes "log" ∷ []) f }
     // `log` is implied
     ensures implied { is_implied 2048 small_listed small_entries (codes "log") ≡ true }
     // `default` names `fast` alone
@@ -34,17 +37,20 @@ pub fn a_small_table()
     ensures acts { (joined_table 2048 small_listed small_entries).action (codes "fast") (codes "log") ≡
         Some (record { is_conditional = false; is_dep_only = false; features = λ x. bytes_eq x (codes "std") }) }
     // `log` acts on itself plainly, with no feature
-    ensures acts_on_itself { (joined_table 2048 small_listed small_entries).action (codes "log") (codes "log") ≡ Some plain }
+    ensures acts_on_itself { (joined_table 2048 small_listed small_entries).action (codes "log") (codes "log")
+        ≡ Some plain }
     // the same where redundant features go
     ensures effective { IsSomeAnd (small.action (codes "fast") (codes "log")) (λ a. IsFalse a.is_conditional × IsFalse a.is_dep_only ×
         ((x : Text) → IsTrue (a.features x) ↔ (x ≡ codes "std"))) }
     // `log` is recorded under its key
-    ensures recorded { option_map (λ r. r.crate_name) (recorded_of (entries_at 2048 small_listed small_entries (codes "log"))) ≡ Some (codes "log") }
+    ensures recorded { option_map (λ r. r.crate_name)
+        (recorded_of (entries_at 2048 small_listed small_entries (codes "log"))) ≡ Some (codes "log") }
     // `default` leads to `fast`, and `fast` to `log`
     ensures first_edge { Edge small (codes "default") (codes "fast") }
     ensures second_edge { Edge small (codes "fast") (codes "log") }
     // from `default` on `fast` is enabled, and `log` is not reached by names
-    ensures recursive { (x : Text) → Enables small (codes "default") x ↔ ((x ≡ codes "default") ⊎ (x ≡ codes "fast")) }
+    ensures recursive { (x : Text) → Enables small (codes "default") x
+        ↔ ((x ≡ codes "default") ⊎ (x ≡ codes "fast")) }
 {}
 
 /// `k = ["_h", "d?/a"]`, `_h = ["d/b"]`: the plain action of `_h` wins over the conditional one.
@@ -55,7 +61,8 @@ pub fn a_hidden_plain_action_wins()
 
 /// `k = ["_d/x"]`, `_d = ["b"]`: acting plainly on the dependency `_d` leads to the feature `_d`, so `k` names `b` once it is removed.
 pub fn a_hidden_feature_named_as_a_dependency()
-    ensures names { (x : Text) → IsTrue ((left_of hidden_key (codes "_d" ∷ [])).table.names (codes "k") x) ↔ (x ≡ codes "b") }
+    ensures names { (x : Text) → IsTrue ((left_of hidden_key (codes "_d" ∷ [])).table.names (codes "k") x)
+        ↔ (x ≡ codes "b") }
     ensures enabled_by { (left_of hidden_key (codes "_d" ∷ [])).enabled_by (codes "b") (codes "k") ≡ true }
     ensures acts { IsSomeAnd ((left_of hidden_key (codes "_d" ∷ [])).table.action (codes "k") (codes "_d")) (λ a. IsFalse a.is_conditional × IsFalse a.is_dep_only ×
         ((x : Text) → IsTrue (a.features x) ↔ (x ≡ codes "x"))) }
@@ -70,7 +77,8 @@ pub fn a_hidden_conditional_action()
 
 /// `d = []`, `_a = ["dep:d"]`, `_p = ["d/x", "_a"]`, `k = ["_p"]`: `k` enables `d` though its joined action turns dep-only.
 pub fn a_join_that_turns_dep_only()
-    ensures enabled_by { (left_of hidden_dep_only (codes "_a" ∷ codes "_p" ∷ [])).enabled_by (codes "d") (codes "k") ≡ true }
+    ensures enabled_by { (left_of hidden_dep_only (codes "_a" ∷ codes "_p" ∷ [])).enabled_by (codes "d") (codes "k")
+        ≡ true }
     ensures acts { IsSomeAnd ((left_of hidden_dep_only (codes "_a" ∷ codes "_p" ∷ [])).table.action (codes "k") (codes "d")) (λ a. IsFalse a.is_conditional × IsTrue a.is_dep_only ×
         ((x : Text) → IsTrue (a.features x) ↔ (x ≡ codes "x"))) }
 {}
@@ -79,7 +87,8 @@ pub fn a_join_that_turns_dep_only()
 pub fn entries_of_three_kinds()
     ensures recorded { IsSomeAnd (recorded_of (entries_at 2048 [] three_kinds (codes "d"))) (λ r. (r.crate_name ≡ codes "q") ×
         (r.targets (Normal, None) ≡ None) × IsSome (r.targets (Build, None)) × IsSome (r.targets (Dev, None))) }
-    ensures first_target { first_target (entries_at 2048 [] three_kinds (codes "d")) ≡ Some (detail (Some (codes "q")) [] true) }
+    ensures first_target { first_target (entries_at 2048 [] three_kinds (codes "d"))
+        ≡ Some (detail (Some (codes "q")) [] true) }
     ensures implied { is_implied 2048 [] three_kinds (codes "d") ≡ true }
 {}
 

@@ -42,7 +42,9 @@ fn is_free<'m, S: BuildHasher>(
     acted: &HashMap<&'m str, bool, S>,
     entry: &ParseDependency<'m, '_>,
 ) -> bool
-    ensures { result ≡ (is_optional (dependency_meaning entry.now.dep.now) && not (is_reserved_in acted.now entry.now.key.now) && not (is_some (value_at features.now entry.now.key.now))) }
+    ensures { result ≡ (is_optional (dependency_meaning entry.now.dep.now)
+        && not (is_reserved_in acted.now entry.now.key.now)
+        && not (is_some (value_at features.now entry.now.key.now))) }
 {
     entry.dep.optional() && !is_reserved(acted, entry.key) && !features.contains_key(entry.key)
 }

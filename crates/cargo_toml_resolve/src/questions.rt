@@ -49,7 +49,8 @@ impl<'a> Feature<'a> {
     /// Whether users are meant to ask for this feature: its name doesn't begin with `_`, and the manifest lists it or no
     /// other feature enables it.
     pub fn is_user_facing(&self) -> bool
-        ensures { IsTrue result ↔ ((IsTrue self.now.explicit ⊎ (btree_set_len self.now.enabled_by ≡ 0)) × IsFalse (starts_with nat_eq self.now.key.now (codes "_"))) }
+        ensures { IsTrue result ↔ ((IsTrue self.now.explicit ⊎ (btree_set_len self.now.enabled_by ≡ 0))
+            × IsFalse (starts_with nat_eq self.now.key.now (codes "_"))) }
     {
         (self.explicit || !self.is_referenced()) && !self.key.starts_with('_')
     }

@@ -1,5 +1,5 @@
 //! What the lists of features say.
-ghost use Rattle.std.specs.Prelude.{◌≡◌, ◌∷◌, ◌++◌, [], ℕ, List, cond, bytes_eq, string_bytes, codes, map, false, IfOk, OnOk, Some, None, MatchOption};
+ghost use Rattle.std.specs.Prelude.{◌≡◌, ◌∷◌, ◌++◌, [], ℕ, List, if◌then◌else◌, bytes_eq, string_bytes, codes, map, false, IfOk, OnOk, Some, None, MatchOption};
 ghost use Rattle.std.specs.Option.{IsSomeAnd};
 ghost use Rattle.cargo_toml_graph.specs.Action.{Text, Item, item_of};
 ghost use Rattle.cargo_toml_resolve.specs.ActionText.{action_in};
@@ -44,7 +44,9 @@ fn note_action<'m, S: BuildHasher>(
     acted: &mut HashMap<&'m str, bool, S>,
     action: ActionText<'m>,
 ) -> Result<(), AllocError>
-    ensures { OnOk result ((k : Text) → value_at acted.new k ≡ noted (value_at acted.old k) (cond (bytes_eq k action.entry.target.now) (Some (action_in action.entry)) None)) }
+    ensures { OnOk result ((k : Text) → value_at acted.new k
+        ≡ noted (value_at acted.old k)
+            (if bytes_eq k action.entry.target.now then Some (action_in action.entry) else None)) }
 {
     let is_dep_only = acted.entry(action.target)?.or_insert(false);
     *is_dep_only |= action.is_dep_only;
@@ -58,8 +60,10 @@ fn add_item<'m, S: BuildHasher>(
     acted: &mut HashMap<&'m str, bool, S>,
     text: &'m str,
 ) -> Result<(), AllocError>
-    ensures listed { OnOk result ((f : Text) (items : List Item) → IsListed f items feature.old → IsListed f (items ++ item_of text.now ∷ []) feature.new) }
-    ensures noted { OnOk result ((k : Text) → value_at acted.new k ≡ noted (value_at acted.old k) (action_on k (item_of text.now))) }
+    ensures listed { OnOk result ((f : Text) (items : List Item)
+        → IsListed f items feature.old → IsListed f (items ++ item_of text.now ∷ []) feature.new) }
+    ensures noted { OnOk result
+        ((k : Text) → value_at acted.new k ≡ noted (value_at acted.old k) (action_on k (item_of text.now))) }
 {
     let action = read_action(text);
     if action.acts() {
@@ -77,8 +81,11 @@ fn read_list<'m, S: BuildHasher>(
     acted: &mut HashMap<&'m str, bool, S>,
     listing: Listing<'m>,
 ) -> Result<Feature<'m>, AllocError>
-    ensures listed { IfOk result (IsListed listing.entry.name.now (map item_of (map string_bytes listing.entry.actions.now))) }
-    ensures noted { OnOk result ((k : Text) → value_at acted.new k ≡ noted (value_at acted.old k) (joined_in (map item_of (map string_bytes listing.entry.actions.now)) k)) }
+    ensures listed { IfOk result
+        (IsListed listing.entry.name.now (map item_of (map string_bytes listing.entry.actions.now))) }
+    ensures noted { OnOk result
+        ((k : Text) → value_at acted.new k ≡ noted (value_at acted.old k)
+        (joined_in (map item_of (map string_bytes listing.entry.actions.now)) k)) }
 {
     let mut feature = empty_feature(alloc, listing.name);
     for text in listing.actions {
@@ -93,7 +100,8 @@ fn put_feature<'m, S: BuildHasher>(
     name: &'m str,
     feature: Feature<'m>,
 ) -> Result<(), AllocError>
-    ensures { OnOk result ((f : Text) → value_at features.new f ≡ cond (bytes_eq f name.now) (Some feature.entry) (value_at features.old f)) }
+    ensures { OnOk result ((f : Text) → value_at features.new f
+        ≡ (if bytes_eq f name.now then Some feature.entry else value_at features.old f)) }
 {
     features.insert(name, feature)?;
     Ok(())
@@ -104,8 +112,12 @@ fn add_default<'m, S: BuildHasher>(
     alloc: Global,
     features: &mut HashMap<&'m str, Feature<'m>, S>,
 ) -> Result<(), AllocError>
-    ensures others { OnOk result ((f : Text) → bytes_eq f (codes "default") ≡ false → value_at features.new f ≡ value_at features.old f) }
-    ensures default { OnOk result (MatchOption (value_at features.old (codes "default")) (IsSomeAnd (value_at features.new (codes "default")) (IsListed (codes "default") [])) (λ v. value_at features.new (codes "default") ≡ Some v)) }
+    ensures others { OnOk result ((f : Text) → bytes_eq f (codes "default") ≡ false
+        → value_at features.new f ≡ value_at features.old f) }
+    ensures default { OnOk result
+        (MatchOption (value_at features.old (codes "default"))
+        (IsSomeAnd (value_at features.new (codes "default")) (IsListed (codes "default") []))
+        (λ v. value_at features.new (codes "default") ≡ Some v)) }
 {
     if !features.contains_key("default") {
         put_feature(features, "default", empty_feature(alloc, "default"))?;
@@ -122,7 +134,8 @@ pub fn read_features<'m, S: BuildHasher + Clone>(
     listings: &[Listing<'m>],
 ) -> Result<Mentions<'m, S>, AllocError>
     requires { IsOnce (map (λ l. l.name.now) listings.now) }
-    ensures read { IfOk result (λ r. (limit : ℕ) → IsWithin limit (listed_of listings.now) → IsRead limit (listed_of listings.now) (table_in r.features) (value_at r.acted)) }
+    ensures read { IfOk result (λ r. (limit : ℕ) → IsWithin limit (listed_of listings.now)
+        → IsRead limit (listed_of listings.now) (table_in r.features) (value_at r.acted)) }
     ensures fresh { IfOk result (λ r. AreFresh r.features) }
 {
     let mut features = HashMap::with_capacity_and_hasher(

@@ -62,7 +62,8 @@ fn add_target<'m: 'd, 'd>(
     dependency: &mut FeatureDependency<'d>,
     entry: &ParseDependency<'m, 'd>,
 ) -> Result<(), AllocError>
-    ensures { OnOk result (recorded_in dependency.new ≡ recorded_next (recorded_in dependency.old) (entry_of entry.now)) }
+    ensures { OnOk result (recorded_in dependency.new
+        ≡ recorded_next (recorded_in dependency.old) (entry_of entry.now)) }
 {
     let target = target_key(entry);
     if !dependency.targets.contains_key(&target) {
@@ -73,7 +74,8 @@ fn add_target<'m: 'd, 'd>(
 
 // Whether an entry counts by itself.
 fn counts<'m, S: BuildHasher>(mentions: &Mentions<'m, S>, entry: &ParseDependency<'m, '_>) -> bool
-    ensures { result ≡ (is_optional (dependency_meaning entry.now.dep.now) || is_mentioned_in mentions.now entry.now.key.now) }
+    ensures { result ≡ (is_optional (dependency_meaning entry.now.dep.now)
+        || is_mentioned_in mentions.now entry.now.key.now) }
 {
     entry.dep.optional()
         || mentions.features.contains_key(entry.key)
@@ -86,7 +88,8 @@ fn record_entry<'m: 'd, 'd, S: BuildHasher>(
     mentions: &Mentions<'m, S>,
     entry: &ParseDependency<'m, 'd>,
 ) -> Result<(), AllocError>
-    ensures { OnOk result ((q : Text) → recorded_at dependencies.new q ≡ recorded_after (is_mentioned_in mentions.now) (entry_of entry.now) q (recorded_at dependencies.old q)) }
+    ensures { OnOk result ((q : Text) → recorded_at dependencies.new q
+        ≡ recorded_after (is_mentioned_in mentions.now) (entry_of entry.now) q (recorded_at dependencies.old q)) }
 {
     if let Some(dependency) = dependencies.get_mut(entry.key) {
         return add_target(dependency, entry);

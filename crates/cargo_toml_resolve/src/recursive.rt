@@ -114,7 +114,8 @@ impl<'a> Feature<'a> {
         requires start { IsHeldBy features.now self.now }
         ensures features { IfOk result (λ r. AreEnabled features.now self.now.key.now r.0) }
         ensures values { IfOk result (λ r. ComeFrom features.now r.0) }
-        ensures dependencies { IfOk result (λ r. (k : Text) → ArePairs (table_in features.now) self.now.key.now k (pairs_at r.1 k)) }
+        ensures dependencies { IfOk result
+            (λ r. (k : Text) → ArePairs (table_in features.now) self.now.key.now k (pairs_at r.1 k)) }
         ensures no_empty { IfOk result (λ r. HaveNoEmpty r.1) }
         ensures refused { IfErr result (λ e. e ≡ Memory) }
     {

@@ -24,14 +24,18 @@ pub fn a_limit_leaves_out()
 /// `a = ["_h"]`, `_h = ["a"]` with `_h` removed: `a` names itself and is enabled by itself, and stands for `_h`.
 pub fn a_cycle_through_a_hidden_feature()
     ensures names { (x : Text) → KeepsName hidden_cycle (Among (codes "_h" ∷ [])) (codes "a") x ↔ (x ≡ codes "a") }
-    ensures enabled_by { (e : Text) → IsEnabledBy hidden_cycle (Among (codes "_h" ∷ [])) (codes "a") e ↔ (e ≡ codes "a") }
-    ensures redirect { (x : Text) → RedirectsTo hidden_cycle (Among (codes "_h" ∷ [])) (λ a b. IsTrue (is_below a b)) (codes "_h") x ↔ (x ≡ codes "a") }
+    ensures enabled_by { (e : Text) → IsEnabledBy hidden_cycle (Among (codes "_h" ∷ [])) (codes "a") e
+        ↔ (e ≡ codes "a") }
+    ensures redirect { (x : Text) → RedirectsTo hidden_cycle (Among (codes "_h" ∷ []))
+        (λ a b. IsTrue (is_below a b)) (codes "_h") x ↔ (x ≡ codes "a") }
 {}
 
 /// `k = ["_s"]`, `_s = ["_s", "b"]`, `b = []` with `_s` removed: `k` names `b` alone, and `_s` stays in its own redirect.
 pub fn a_hidden_feature_that_names_itself()
-    ensures names { (x : Text) → KeepsName hidden_names_itself (Among (codes "_s" ∷ [])) (codes "k") x ↔ (x ≡ codes "b") }
-    ensures enabled_by { (e : Text) → IsEnabledBy hidden_names_itself (Among (codes "_s" ∷ [])) (codes "b") e ↔ (e ≡ codes "k") }
+    ensures names { (x : Text) → KeepsName hidden_names_itself (Among (codes "_s" ∷ [])) (codes "k") x
+        ↔ (x ≡ codes "b") }
+    ensures enabled_by { (e : Text) → IsEnabledBy hidden_names_itself (Among (codes "_s" ∷ [])) (codes "b") e
+        ↔ (e ≡ codes "k") }
     ensures redirect { (x : Text) → RedirectsTo hidden_names_itself (Among (codes "_s" ∷ [])) (λ a b. IsTrue (is_below a b)) (codes "_s") x ↔
         ((x ≡ codes "_s") ⊎ (x ≡ codes "b")) }
 {}
@@ -53,7 +57,8 @@ pub fn features_that_are_removed()
 
 /// `k = ["_a", "_b"]`, `_a = ["x"]`, `_b = ["y"]` with `_b` alone removed: `k` names `_a` and `y`.
 pub fn a_filter_keeps_one_hidden_feature()
-    ensures names { (x : Text) → IsTrue ((left_of two_hidden (codes "_b" ∷ [])).table.names (codes "k") x) ↔ ((x ≡ codes "_a") ⊎ (x ≡ codes "y")) }
+    ensures names { (x : Text) → IsTrue ((left_of two_hidden (codes "_b" ∷ [])).table.names (codes "k") x)
+        ↔ ((x ≡ codes "_a") ⊎ (x ≡ codes "y")) }
     ensures kept_is_enabled { (left_of two_hidden (codes "_b" ∷ [])).enabled_by (codes "_a") (codes "k") ≡ true }
     ensures kept_enables { (left_of two_hidden (codes "_b" ∷ [])).enabled_by (codes "x") (codes "_a") ≡ true }
     ensures passed_on { (left_of two_hidden (codes "_b" ∷ [])).enabled_by (codes "y") (codes "k") ≡ true }
@@ -62,5 +67,6 @@ pub fn a_filter_keeps_one_hidden_feature()
 
 /// `f = []`, `_h = ["f"]`: the binaries of `_h` follow those of `f`, each once.
 pub fn binaries_of_a_hidden_feature()
-    ensures { pass_all (codes "_h" ∷ []) (unremoved hidden_parent) some_bins (codes "f") ≡ codes "y" ∷ codes "z" ∷ codes "x" ∷ [] }
+    ensures { pass_all (codes "_h" ∷ []) (unremoved hidden_parent) some_bins (codes "f")
+        ≡ codes "y" ∷ codes "z" ∷ codes "x" ∷ [] }
 {}

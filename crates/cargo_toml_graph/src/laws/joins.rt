@@ -13,7 +13,8 @@ pub fn actions_join_in_any_order()
 
 /// The same where an action may be missing, and a missing one adds nothing.
 pub fn missing_actions_add_nothing()
-    ensures associative { (a b c : Option Action) → join_option (join_option a b) c ≡ join_option a (join_option b c) }
+    ensures associative { (a b c : Option Action) → join_option (join_option a b) c
+        ≡ join_option a (join_option b c) }
     ensures commutative { (a b : Option Action) → join_option a b ≡ join_option b a }
     ensures idempotent { (a : Option Action) → join_option a a ≡ a }
     ensures unit { (a : Option Action) → join_option a None ≡ a }
@@ -21,7 +22,8 @@ pub fn missing_actions_add_nothing()
 
 /// What a feature names and how it acts on a dependency is what the items of its list say.
 pub fn lists_say_what_their_items_say()
-    ensures names { (limit : ℕ) (listed : Listed) (f x : Text) → IsTrue (names limit listed f x) ↔ Among (items limit listed f) (Item.Name x) }
+    ensures names { (limit : ℕ) (listed : Listed) (f x : Text) → IsTrue (names limit listed f x)
+        ↔ Among (items limit listed f) (Item.Name x) }
     ensures action { (limit : ℕ) (listed : Listed) (f k : Text) →
         IsJoin (λ a. (i : Item) × Among (items limit listed f) i × (action_on k i ≡ Some a)) (joined_action limit listed f k) }
 {}

@@ -1,0 +1,8 @@
+use Rattle.std.proofs.Common.{rules, map}
+use Rattle.std.specs.Vec.Iter.{into_iter_items}
+use Rattle.cargo_toml_dependencies.specs.Dependencies.{dependency_meaning}
+use Rattle.cargo_toml_dependencies.proofs.Replaced.{replaced-by}
+use Rattle.cargo_toml_dependencies.proofs.inheriting.replace.Goals as goal
+
+pub returns : goal.returns
+returns c = rw (← c.into_iter-made.ensures.rest) (replaced-by (λ f. map dependency_meaning (into_iter_items f.0.now)) _ (record { at = λ f k v b w f' t. search rules }) _ _ _ c.retain.ensures.filtered)

@@ -3,3 +3,4 @@ pub mod Entries
 pub mod Inherited
 pub mod Replaced
 pub mod SameCopies
+pub mod Targets

@@ -1,5 +1,5 @@
 -- A detail of the workspace with what a member's entry adds.
-use Rattle.std.proofs.Common.{◌≡◌, ◌++◌, ◌||◌, ℕ, List, Bool, true, map, option_map, string_bytes}
+use Rattle.std.proofs.Common.{◌≡◌, ◌++◌, ◌||◌, ℕ, List, true, map, option_map, string_bytes}
 use Rattle.std.specs.Path.{path_join}
 use Rattle.toml.specs.View.{view}
 use Rattle.cargo_toml_parts.specs.Reads.{map_meaning}

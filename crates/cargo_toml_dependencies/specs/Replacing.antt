@@ -1,9 +1,24 @@
 -- Dependencies with others in the place of those that are left to the workspace.
-use Rattle.std.specs.Prelude.{ℕ, List, [], ◌∷◌, drop, map}
+use Rattle.std.specs.Prelude.{ℕ, List, [], ◌∷◌, drop, map, String, Vec}
+use Rattle.std.specs.BTreeMap.{BTreeMap}
+use Rattle.std.specs.declared.alloc.Global.{Global}
+use Rattle.cargo_toml_parts.specs.Reads.{map_meaning}
+use Rattle.cargo_toml_dependencies.specs.declared.dependency.Dependency.{Dependency}
 use Rattle.cargo_toml_dependencies.specs.declared.inheriting.targets.NewTarget.{NewTarget}
+use Rattle.cargo_toml_dependencies.specs.declared.target.Target.{Target}
 use Rattle.cargo_toml_dependencies.specs.Dependencies.{DependencyMeaning, dependency_meaning, inherited}
 use Rattle.cargo_toml_dependencies.specs.Inheriting.{Entries}
-use Rattle.cargo_toml_dependencies.specs.Targets.{TargetMeaning}
+use Rattle.cargo_toml_dependencies.specs.Targets.{TargetMeaning, target_meaning}
+
+-- what the dependencies of a map hold, those of a list, and the targets of a map
+abbrev pub entries_meaning : BTreeMap (String Global) Dependency → Entries
+entries_meaning m = map_meaning dependency_meaning m
+
+abbrev pub made_meaning : Vec Dependency Global → List DependencyMeaning
+made_meaning made = map dependency_meaning made.items
+
+abbrev pub targets_meaning : BTreeMap (String Global) Target → List (List ℕ × TargetMeaning)
+targets_meaning m = map_meaning target_meaning m
 
 -- the dependency that stands in the place of this one: the next of those made, if it is inherited
 abbrev pub next_for : DependencyMeaning → List DependencyMeaning → DependencyMeaning
@@ -23,9 +38,9 @@ replaced (e ∷ es) made = (e.0, next_for e.1 made) ∷ replaced es (rest_for e.
 -- the same for a target
 abbrev pub replaced_target : TargetMeaning → NewTarget → TargetMeaning
 replaced_target t new = record {
-  dependencies = replaced t.dependencies (map dependency_meaning new.dependencies.items);
-  dev_dependencies = replaced t.dev_dependencies (map dependency_meaning new.dev_dependencies.items);
-  build_dependencies = replaced t.build_dependencies (map dependency_meaning new.build_dependencies.items);
+  dependencies = replaced t.dependencies (made_meaning new.dependencies);
+  dev_dependencies = replaced t.dev_dependencies (made_meaning new.dev_dependencies);
+  build_dependencies = replaced t.build_dependencies (made_meaning new.build_dependencies);
 }
 
 -- the target with the next one of those made

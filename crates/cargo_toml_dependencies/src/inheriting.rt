@@ -6,21 +6,19 @@ ghost use Rattle.std.specs.Prelude.{◌≡◌, map, option_map};
 ghost use Rattle.std.specs.Option.{option_copied};
 ghost use Rattle.std.specs.Vec.Iter.{into_iter_items};
 ghost use Rattle.cargo_toml_parts.specs.Answers.{Gives};
-ghost use Rattle.cargo_toml_parts.specs.Reads.{map_meaning};
 ghost use Rattle.cargo_toml_dependencies.specs.Dependencies.{dependency_meaning, inherited, inherited_meaning};
 ghost use Rattle.cargo_toml_dependencies.specs.Inheriting.{any_left, inherited_entries, inherited_entry};
-ghost use Rattle.cargo_toml_dependencies.specs.Replacing.{next_for, replaced, rest_for};
+ghost use Rattle.cargo_toml_dependencies.specs.Replacing.{entries_meaning, made_meaning, next_for, replaced, rest_for};
 
 mod entry;
 mod targets;
-
-pub use targets::{NewTarget, any_target_inherits, replace_targets, target_replacements};
 
 use crate::dependency::{Dependency, InheritedDependencyDetail};
 use crate::target::DepsSet;
 use cargo_toml_parts::error::Error;
 use std::alloc::Global;
 use std::vec::IntoIter;
+pub use targets::{NewTarget, any_target_inherits, replace_targets, target_replacements};
 
 // What the inherited dependency of a key becomes.
 fn made_for(
@@ -30,7 +28,8 @@ fn made_for(
     key: &str,
     entry: &InheritedDependencyDetail,
 ) -> Result<Dependency, Error>
-    ensures { Gives dependency_meaning result (inherited_entry (option_map (map_meaning dependency_meaning) (option_copied templates.entry)) base.now key.now (inherited (inherited_meaning entry.now))) }
+    ensures { Gives dependency_meaning result
+        (inherited_entry (option_map entries_meaning (option_copied templates.entry)) base.now key.now (inherited (inherited_meaning entry.now))) }
 {
     let template = match templates {
         Some(templates) => templates.get(key),
@@ -50,7 +49,8 @@ pub fn replacements(
     base: &str,
     dependencies: &DepsSet,
 ) -> Result<Vec<Dependency>, Error>
-    ensures { Gives (λ made. replaced (map_meaning dependency_meaning dependencies.now) (map dependency_meaning made.items)) result (inherited_entries (option_map (map_meaning dependency_meaning) (option_copied templates.entry)) base.now (map_meaning dependency_meaning dependencies.now)) }
+    ensures { Gives (λ made. replaced (entries_meaning dependencies.now) (made_meaning made)) result
+        (inherited_entries (option_map entries_meaning (option_copied templates.entry)) base.now (entries_meaning dependencies.now)) }
 {
     let mut made = Vec::new(alloc);
     for (key, dependency) in dependencies {
@@ -63,8 +63,10 @@ pub fn replacements(
 
 // Puts the next one in the place of an inherited dependency.
 fn put_next(dependency: &mut Dependency, made: &mut IntoIter<Dependency>)
-    ensures dependency { dependency_meaning dependency.new ≡ next_for (dependency_meaning dependency.old) (map dependency_meaning (into_iter_items made.old)) }
-    ensures rest { map dependency_meaning (into_iter_items made.new) ≡ rest_for (dependency_meaning dependency.old) (map dependency_meaning (into_iter_items made.old)) }
+    ensures dependency { dependency_meaning dependency.new
+        ≡ next_for (dependency_meaning dependency.old) (map dependency_meaning (into_iter_items made.old)) }
+    ensures rest { map dependency_meaning (into_iter_items made.new)
+        ≡ rest_for (dependency_meaning dependency.old) (map dependency_meaning (into_iter_items made.old)) }
 {
     if let Dependency::Inherited(_) = dependency {
         if let Some(next) = made.next() {
@@ -75,7 +77,7 @@ fn put_next(dependency: &mut Dependency, made: &mut IntoIter<Dependency>)
 
 /// Puts what was made in the place of the inherited dependencies, in the order of their keys. It takes no memory.
 pub fn replace(dependencies: &mut DepsSet, made: Vec<Dependency>)
-    ensures { map_meaning dependency_meaning dependencies.new ≡ replaced (map_meaning dependency_meaning dependencies.old) (map dependency_meaning made.items) }
+    ensures { entries_meaning dependencies.new ≡ replaced (entries_meaning dependencies.old) (made_meaning made) }
 {
     let mut made = made.into_iter();
     dependencies.retain(|_, dependency| {
@@ -86,7 +88,7 @@ pub fn replace(dependencies: &mut DepsSet, made: Vec<Dependency>)
 
 /// Whether a dependency is left to the workspace.
 pub fn any_inherited(dependencies: &DepsSet) -> bool
-    ensures { result ≡ any_left (map_meaning dependency_meaning dependencies.now) }
+    ensures { result ≡ any_left (entries_meaning dependencies.now) }
 {
     for (_, dependency) in dependencies {
         if let Dependency::Inherited(_) = dependency {

@@ -17,8 +17,13 @@ use std::alloc::{AllocError, Global};
 use std::collections::BTreeMap;
 
 // The path, if there is one, as seen from the folder `base`.
-fn joined_path(alloc: Global, base: &str, path: Option<&String>) -> Result<Option<String>, AllocError>
-    ensures { IfOk result (λ joined. option_map string_bytes joined ≡ option_map (path_join base.now) (option_map string_bytes (option_copied path.entry))) }
+fn joined_path(
+    alloc: Global,
+    base: &str,
+    path: Option<&String>,
+) -> Result<Option<String>, AllocError>
+    ensures { IfOk result (λ joined. option_map string_bytes joined
+        ≡ option_map (path_join base.now) (option_map string_bytes (option_copied path.entry))) }
 {
     match path {
         Some(path) => Ok(Some(join(alloc, base, path.as_str())?)),
@@ -53,7 +58,8 @@ fn with_entry(
     entry: &InheritedDependencyDetail,
     template: &DependencyDetail,
 ) -> Result<DependencyDetail, AllocError>
-    ensures { IfOk result (λ d. detail_meaning d ≡ with_entry base.now (inherited_meaning entry.now) (detail_meaning template.now)) }
+    ensures { IfOk result (λ d. detail_meaning d
+        ≡ with_entry base.now (inherited_meaning entry.now) (detail_meaning template.now)) }
 {
     let optional = template.optional || entry.optional;
     let mut copying = Copying::new();
@@ -66,7 +72,11 @@ fn with_entry(
     let branch = copying.of(&template.branch, None);
     let tag = copying.of(&template.tag, None);
     let rev = copying.of(&template.rev, None);
-    let features = joined_texts(alloc, template.features.as_slice(), entry.features.as_slice());
+    let features = joined_texts(
+        alloc,
+        template.features.as_slice(),
+        entry.features.as_slice(),
+    );
     let features = copying.keep(features, Vec::new(alloc));
     let unstable = copying.of(&template.unstable, BTreeMap::new(alloc));
     copying.finish(DependencyDetail {
@@ -93,7 +103,8 @@ fn requirement_with_entry(
     entry: &InheritedDependencyDetail,
     requirement: &VersionReq,
 ) -> Result<DependencyDetail, AllocError>
-    ensures { IfOk result (λ d. detail_meaning d ≡ with_entry [] (inherited_meaning entry.now) (plain_detail (requirement_meaning requirement.now))) }
+    ensures { IfOk result (λ d. detail_meaning d
+        ≡ with_entry [] (inherited_meaning entry.now) (plain_detail (requirement_meaning requirement.now))) }
 {
     let version = requirement.duplicate(alloc)?;
     let features = entry.features.duplicate(alloc)?;
@@ -120,7 +131,8 @@ pub fn from_template(
     entry: &InheritedDependencyDetail,
     template: Option<&Dependency>,
 ) -> Result<Dependency, Error>
-    ensures { Gives dependency_meaning result (from_template base.now key.now (inherited_meaning entry.now) (option_map dependency_meaning (option_copied template.entry))) }
+    ensures { Gives dependency_meaning result (from_template base.now key.now (inherited_meaning entry.now)
+        (option_map dependency_meaning (option_copied template.entry))) }
 {
     match template {
         None => {

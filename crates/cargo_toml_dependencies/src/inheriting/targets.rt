@@ -3,10 +3,8 @@ ghost use Rattle.std.specs.Prelude.{◌≡◌, drop, option_map};
 ghost use Rattle.std.specs.Option.{option_copied};
 ghost use Rattle.std.specs.Vec.Iter.{into_iter_items};
 ghost use Rattle.cargo_toml_parts.specs.Answers.{Gives};
-ghost use Rattle.cargo_toml_parts.specs.Reads.{map_meaning};
-ghost use Rattle.cargo_toml_dependencies.specs.Dependencies.{dependency_meaning};
 ghost use Rattle.cargo_toml_dependencies.specs.Inheriting.{any_target_left, inherited_target, inherited_targets, target_left};
-ghost use Rattle.cargo_toml_dependencies.specs.Replacing.{next_target, replaced_target, replaced_targets};
+ghost use Rattle.cargo_toml_dependencies.specs.Replacing.{entries_meaning, next_target, replaced_target, replaced_targets, targets_meaning};
 ghost use Rattle.cargo_toml_dependencies.specs.Targets.{target_meaning};
 
 use super::{any_inherited, replace, replacements};
@@ -34,7 +32,8 @@ fn new_target(
     base: &str,
     target: &Target,
 ) -> Result<NewTarget, Error>
-    ensures { Gives (replaced_target (target_meaning target.now)) result (inherited_target (option_map (map_meaning dependency_meaning) (option_copied templates.entry)) base.now (target_meaning target.now)) }
+    ensures { Gives (replaced_target (target_meaning target.now)) result
+        (inherited_target (option_map entries_meaning (option_copied templates.entry)) base.now (target_meaning target.now)) }
 {
     let dependencies = replacements(alloc, templates, base, &target.dependencies)?;
     let build_dependencies = replacements(alloc, templates, base, &target.build_dependencies)?;
@@ -56,7 +55,8 @@ pub fn target_replacements(
     base: &str,
     targets: &TargetDepsSet,
 ) -> Result<Vec<NewTarget>, Error>
-    ensures { Gives (λ made. replaced_targets (map_meaning target_meaning targets.now) made.items) result (inherited_targets (option_map (map_meaning dependency_meaning) (option_copied templates.entry)) base.now (map_meaning target_meaning targets.now)) }
+    ensures { Gives (λ made. replaced_targets (targets_meaning targets.now) made.items) result
+        (inherited_targets (option_map entries_meaning (option_copied templates.entry)) base.now (targets_meaning targets.now)) }
 {
     let mut made = Vec::with_capacity(alloc, targets.len())?;
     for (_, target) in targets {
@@ -86,7 +86,7 @@ fn put_next_target(target: &mut Target, made: &mut IntoIter<NewTarget>)
 
 /// Puts what was made into the targets, in the order of their names. It takes no memory.
 pub fn replace_targets(targets: &mut TargetDepsSet, made: Vec<NewTarget>)
-    ensures { map_meaning target_meaning targets.new ≡ replaced_targets (map_meaning target_meaning targets.old) made.items }
+    ensures { targets_meaning targets.new ≡ replaced_targets (targets_meaning targets.old) made.items }
 {
     let mut made = made.into_iter();
     targets.retain(|_, target| {
@@ -106,7 +106,7 @@ fn inherits(target: &Target) -> bool
 
 /// Whether a dependency of a target is left to the workspace.
 pub fn any_target_inherits(targets: &TargetDepsSet) -> bool
-    ensures { result ≡ any_target_left (map_meaning target_meaning targets.now) }
+    ensures { result ≡ any_target_left (targets_meaning targets.now) }
 {
     for (_, target) in targets {
         if inherits(target) {

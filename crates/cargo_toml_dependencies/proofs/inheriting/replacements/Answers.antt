@@ -1,4 +1,4 @@
-use Rattle.std.proofs.Common.{rules, arith, ◌≡◌, ◌⊎◌, Ok, Err, map, option_map, inl, inr}
+use Rattle.std.proofs.Common.{rules, arith, Ok, option_map}
 use Rattle.std.proofs.lemmas.Grind.{common_steps}
 use Rattle.std.specs.Option.{option_copied}
 use Rattle.cargo_toml_parts.specs.Reads.{map_meaning}

@@ -9,4 +9,4 @@ abbrev pub invariant-loop-key : goal.invariant-loop-key
 invariant-loop-key l =
     let templates = option_map (map_meaning dependency_meaning) (option_copied l.templates) in
     needed templates l.base (map_meaning dependency_meaning l.dependencies)
-      ≡ behind (map dependency_meaning l.made.items) (needed templates l.base (map (λ e. (string_bytes e.0, dependency_meaning e.1)) l.key-iterator))
+    ≡ behind (map dependency_meaning l.made.items) (needed templates l.base (map (λ e. (string_bytes e.0, dependency_meaning e.1)) l.key-iterator))

@@ -33,27 +33,27 @@ returns c =
       inherited = true;
     } in
     ends_ok _ _ _ _ _ _ _ c.new-copying.ensures c.finish.ensures
-      (both _ _ _ _ _ _ _ c.of-version.ensures
-      (both _ _ _ _ _ _ _ c.of-package.ensures
-      (both _ _ _ _ _ _ _ c.of-registry.ensures
-      (both _ _ _ _ _ _ _ c.of-registry_index.ensures
-      (both _ _ _ _ _ _ _ c.keep-path.ensures
-      (both _ _ _ _ _ _ _ c.of-git.ensures
-      (both _ _ _ _ _ _ _ c.of-branch.ensures
-      (both _ _ _ _ _ _ _ c.of-tag.ensures
-      (both _ _ _ _ _ _ _ c.of-rev.ensures
-      (both _ _ _ _ _ _ _ c.keep-features.ensures
-      c.of-unstable.ensures))))))))))
-      (λ h. added c.args.base.now c.args.entry.now t whole
-        (option_same requirement_meaning _ requirement_same t.version _ h.0)
-        (option_same string_bytes _ (λ _ _ s. s) t.«package» _ h.1.0)
-        (option_same string_bytes _ (λ _ _ s. s) t.registry _ h.1.1.0)
-        (option_same string_bytes _ (λ _ _ s. s) t.registry_index _ h.1.1.1.0)
-        (of_kept c.joined_path.result c.keep-path.result (λ p. option_map string_bytes p ≡ option_map (path_join c.args.base.now) (option_map string_bytes t.path)) (search rules) h.1.1.1.1.0)
-        (option_same string_bytes _ (λ _ _ s. s) t.git _ h.1.1.1.1.1.0)
-        (option_same string_bytes _ (λ _ _ s. s) t.branch _ h.1.1.1.1.1.1.0)
-        (option_same string_bytes _ (λ _ _ s. s) t.tag _ h.1.1.1.1.1.1.1.0)
-        (option_same string_bytes _ (λ _ _ s. s) t.rev _ h.1.1.1.1.1.1.1.1.0)
-        (of_kept c.joined_texts-features.result c.keep-features.result (λ f. map string_bytes f.items ≡ map string_bytes t.features.items ++ map string_bytes c.args.entry.now.features.items) (search rules) h.1.1.1.1.1.1.1.1.1.0)
-        (zip_same (λ (m : String Global × Value). (string_bytes m.0, view m.1)) _ pair_same t.unstable.entries _ h.1.1.1.1.1.1.1.1.1.1)
-        optional refl refl)
+    (both _ _ _ _ _ _ _ c.of-version.ensures
+    (both _ _ _ _ _ _ _ c.of-package.ensures
+    (both _ _ _ _ _ _ _ c.of-registry.ensures
+    (both _ _ _ _ _ _ _ c.of-registry_index.ensures
+    (both _ _ _ _ _ _ _ c.keep-path.ensures
+    (both _ _ _ _ _ _ _ c.of-git.ensures
+    (both _ _ _ _ _ _ _ c.of-branch.ensures
+    (both _ _ _ _ _ _ _ c.of-tag.ensures
+    (both _ _ _ _ _ _ _ c.of-rev.ensures
+    (both _ _ _ _ _ _ _ c.keep-features.ensures
+    c.of-unstable.ensures))))))))))
+    (λ h. added c.args.base.now c.args.entry.now t whole
+    (option_same requirement_meaning _ requirement_same t.version _ h.0)
+    (option_same string_bytes _ (λ _ _ s. s) t.«package» _ h.1.0)
+    (option_same string_bytes _ (λ _ _ s. s) t.registry _ h.1.1.0)
+    (option_same string_bytes _ (λ _ _ s. s) t.registry_index _ h.1.1.1.0)
+    (of_kept c.joined_path.result c.keep-path.result (λ p. option_map string_bytes p ≡ option_map (path_join c.args.base.now) (option_map string_bytes t.path)) (search rules) h.1.1.1.1.0)
+    (option_same string_bytes _ (λ _ _ s. s) t.git _ h.1.1.1.1.1.0)
+    (option_same string_bytes _ (λ _ _ s. s) t.branch _ h.1.1.1.1.1.1.0)
+    (option_same string_bytes _ (λ _ _ s. s) t.tag _ h.1.1.1.1.1.1.1.0)
+    (option_same string_bytes _ (λ _ _ s. s) t.rev _ h.1.1.1.1.1.1.1.1.0)
+    (of_kept c.joined_texts-features.result c.keep-features.result (λ f. map string_bytes f.items ≡ map string_bytes t.features.items ++ map string_bytes c.args.entry.now.features.items) (search rules) h.1.1.1.1.1.1.1.1.1.0)
+    (zip_same (λ (m : String Global × Value). (string_bytes m.0, view m.1)) _ pair_same t.unstable.entries _ h.1.1.1.1.1.1.1.1.1.1)
+    optional refl refl)

@@ -1,7 +1,7 @@
 //! Filling in the dependencies that are left to the workspace.
 //!
-//! It goes in two steps, so that a refusal leaves everything as it was: first the new dependencies are made beside the old ones,
-//! then they are put in their places, which takes no memory and is never refused.
+//! It goes in two steps, so that a refusal leaves everything as it was: first the new dependencies are made beside the old
+//! ones, then they are put in their places, which takes no memory and is never refused.
 ghost use Rattle.std.specs.Prelude.{◌≡◌, map, option_map};
 ghost use Rattle.std.specs.Option.{option_copied};
 ghost use Rattle.std.specs.Vec.Iter.{into_iter_items};
@@ -29,7 +29,8 @@ fn made_for(
     entry: &InheritedDependencyDetail,
 ) -> Result<Dependency, Error>
     ensures { Gives dependency_meaning result
-        (inherited_entry (option_map entries_meaning (option_copied templates.entry)) base.now key.now (inherited (inherited_meaning entry.now))) }
+        (inherited_entry (option_map entries_meaning (option_copied templates.entry)) base.now key.now
+        (inherited (inherited_meaning entry.now))) }
 {
     let template = match templates {
         Some(templates) => templates.get(key),
@@ -38,11 +39,11 @@ fn made_for(
     entry::from_template(alloc, base, key, entry, template)
 }
 
-/// What the inherited dependencies become by those of the workspace, in the order of their keys. `base` is the workspace's
-/// folder as seen from the member: paths are joined to it.
+/// What the inherited dependencies become by those of the workspace, `templates`, in the order of their keys. `base` is the
+/// workspace's folder as seen from the member: paths are joined to it. Hand the answer to `replace`.
 ///
-/// Refused by `WorkspaceIntegrity` at the first key that the workspace lacks, by `InheritedUnknownValue` at the first one whose
-/// dependency the workspace itself leaves to another, and by `Memory`.
+/// The first fault in the order of the keys counts: `WorkspaceIntegrity` where the workspace lacks the key, and
+/// `InheritedUnknownValue` where its own dependency of that key is inherited. Refused by `Memory` where there was none.
 pub fn replacements(
     alloc: Global,
     templates: Option<&DepsSet>,
@@ -50,7 +51,8 @@ pub fn replacements(
     dependencies: &DepsSet,
 ) -> Result<Vec<Dependency>, Error>
     ensures { Gives (λ made. replaced (entries_meaning dependencies.now) (made_meaning made)) result
-        (inherited_entries (option_map entries_meaning (option_copied templates.entry)) base.now (entries_meaning dependencies.now)) }
+        (inherited_entries (option_map entries_meaning (option_copied templates.entry)) base.now
+        (entries_meaning dependencies.now)) }
 {
     let mut made = Vec::new(alloc);
     for (key, dependency) in dependencies {
@@ -75,7 +77,8 @@ fn put_next(dependency: &mut Dependency, made: &mut IntoIter<Dependency>)
     }
 }
 
-/// Puts what was made in the place of the inherited dependencies, in the order of their keys. It takes no memory.
+/// Puts what was made in the place of the inherited dependencies, in the order of their keys. Other dependencies are left as
+/// they are, and so are inherited ones for which nothing was made. It takes no memory.
 pub fn replace(dependencies: &mut DepsSet, made: Vec<Dependency>)
     ensures { entries_meaning dependencies.new ≡ replaced (entries_meaning dependencies.old) (made_meaning made) }
 {

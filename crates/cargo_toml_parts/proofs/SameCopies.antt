@@ -51,8 +51,3 @@ comparator_same x y h =
 
 pub requirement_same : (x y : VersionReq) → requirement.ghosts.is_clone x y → requirement_meaning y ≡ requirement_meaning x
 requirement_same x y h = zip_same comparator_view _ comparator_same x.comparators.items y.comparators.items h.0
-
-
-
-
-

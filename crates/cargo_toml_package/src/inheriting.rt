@@ -183,3 +183,76 @@ pub fn install<M: Drop>(package: &mut Package<M>, new: NewFields)
     put_if_there(&mut package.repository, new.repository);
     put(&mut package.publish, new.publish);
 }
+
+// Whether a field is left to the workspace once this value is put in.
+fn stays<T: Read>(field: &Inheritable<T>, value: &Option<T>) -> bool
+    ensures { result ≡ is_left (put (inheritable_map T.meaning field.now) (option_map T.meaning value.now)) }
+{
+    !field.is_set() && value.is_none()
+}
+
+// The same of a field that may not be there.
+fn stays_there<T: Read>(field: &Option<Inheritable<T>>, value: &Option<T>) -> bool
+    ensures { result ≡ is_left_there (put_if_there (option_map (inheritable_map T.meaning) field.now) (option_map T.meaning value.now)) }
+{
+    match field {
+        Some(field) => stays(field, value),
+        None => false,
+    }
+}
+
+// Whether some field is left to the workspace once these values are put in.
+fn any_stays<M>(package: &Package<M>, new: &NewFields) -> bool
+    ensures { result ≡ any_field_left (installed (package_meaning (λ m. m) «package».now) new.now) }
+{
+    stays(&package.version, &new.version)
+        || stays(&package.edition, &new.edition)
+        || stays_there(&package.rust_version, &new.rust_version)
+        || stays(&package.authors, &new.authors)
+        || stays_there(&package.description, &new.description)
+        || stays_there(&package.homepage, &new.homepage)
+        || stays_there(&package.documentation, &new.documentation)
+        || stays(&package.readme, &new.readme)
+        || stays(&package.keywords, &new.keywords)
+        || stays(&package.categories, &new.categories)
+        || stays(&package.exclude, &new.exclude)
+        || stays(&package.include, &new.include)
+        || stays_there(&package.license, &new.license)
+        || stays_there(&package.license_file, &new.license_file)
+        || stays_there(&package.repository, &new.repository)
+        || stays(&package.publish, &new.publish)
+}
+
+/// Whether some field is left to the workspace. Where none is, each getter of the package may be called.
+pub fn any_field_inherited<M>(package: &Package<M>) -> bool
+    ensures exact { result ≡ any_field_left (package_meaning (λ m. m) «package».now) }
+    ensures else_filled { result ≡ false → IsFilled «package».now }
+{
+    any_stays(package, &no_fields())
+}
+
+/// What a package takes from the template of its workspace, where there is one. A path of the workspace is joined to `base`,
+/// the workspace's folder.
+///
+/// Refused by `WorkspaceIntegrity` where a field would still be left to the workspace, and by `Memory`.
+pub fn new_fields<M>(
+    alloc: Global,
+    package: &Package<M>,
+    template: Option<&PackageTemplate>,
+    base: &str,
+) -> Result<NewFields, Error>
+    ensures { Gives (λ n. installed (package_meaning (λ m. m) «package».now) n) result
+        (inherited_package (option_map template_meaning (option_copied template.entry)) base.now
+            (package_meaning (λ m. m) «package».now)) }
+{
+    let new = match template {
+        Some(template) => fields_from(alloc, package, template, base)?,
+        None => no_fields(),
+    };
+    if any_stays(package, &new) {
+        let name = package.name.as_str();
+        let text = format!(in alloc; "not all fields of `{name}` have been present in workspace.package")?;
+        return Err(Error::WorkspaceIntegrity(text));
+    }
+    Ok(new)
+}

@@ -2,7 +2,13 @@
 use Rattle.std.proofs.Common.{◌≡◌, Bool, true, false, Result, Ok, Err, refl}
 use Rattle.std.specs.Prelude.{IfOk}
 use Rattle.cargo_toml_parts.specs.Copies.{Finishes}
-use Rattle.cargo_toml_package.specs.Installing.{Fills}
+use Rattle.cargo_toml_package.specs.Installing.{Fills, installed, no_fields}
+use Rattle.cargo_toml_package.specs.Packages.{PackageMeaning}
+use Rattle.cargo_toml_package.specs.declared.inheriting.NewFields.{NewFields}
+
+-- a package without new values
+pub nothing_put : {M : Type 0} (p : PackageMeaning M) (n : NewFields) → n ≡ no_fields → installed p n ≡ p
+nothing_put p n none = rw none refl
 
 -- before the first field
 pub from : {A : Type 0} (a : Bool) (x : A) → Fills a a (x ≡ x)

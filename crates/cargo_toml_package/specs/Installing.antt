@@ -13,8 +13,8 @@ put field None = field
 put field (Some x) = Set x
 
 abbrev pub put_if_there : {A : Type 0} → Option (Inheritable A) → Option A → Option (Inheritable A)
-put_if_there None value = None
-put_if_there (Some field) value = Some (put field value)
+put_if_there field None = field
+put_if_there field (Some x) = option_map (λ f. Set x) field
 
 -- a package with these values in its fields
 abbrev pub installed : {M : Type 0} → PackageMeaning M → NewFields → PackageMeaning M

@@ -4,7 +4,7 @@ ghost use Rattle.std.specs.Option.{option_copied};
 ghost use Rattle.cargo_toml_parts.specs.Answers.{Gives};
 ghost use Rattle.cargo_toml_parts.specs.Inherits.{inheritable_map};
 ghost use Rattle.cargo_toml_package.specs.Filled.{IsFilled};
-ghost use Rattle.cargo_toml_package.specs.Inheriting.{any_field_left, inherited_package, is_left, is_left_there, with_template};
+ghost use Rattle.cargo_toml_package.specs.Inheriting.{any_field_left, checked_package, inherited_package, is_left, is_left_there, with_template, with_template_if_there};
 ghost use Rattle.cargo_toml_package.specs.Installing.{installed, put, put_if_there, no_fields};
 ghost use Rattle.cargo_toml_package.specs.Packages.{package_meaning};
 ghost use Rattle.cargo_toml_package.specs.Templates.{template_meaning};
@@ -231,6 +231,36 @@ pub fn any_field_inherited<M>(package: &Package<M>) -> bool
     any_stays(package, &no_fields())
 }
 
+// What a package takes from a template, if there is one.
+fn fields_for<M>(
+    alloc: Global,
+    package: &Package<M>,
+    template: Option<&PackageTemplate>,
+    base: &str,
+) -> Result<NewFields, AllocError>
+    ensures { IfOk result (λ n. installed (package_meaning (λ m. m) «package».now) n
+        ≡ with_template_if_there base.now (option_map template_meaning (option_copied template.entry))
+            (package_meaning (λ m. m) «package».now)) }
+{
+    match template {
+        Some(template) => fields_from(alloc, package, template, base),
+        None => Ok(no_fields()),
+    }
+}
+
+// Refuses where some field would still be left to the workspace.
+fn check_none_stays<M>(alloc: Global, package: &Package<M>, new: &NewFields) -> Result<(), Error>
+    ensures { Gives (λ _. installed (package_meaning (λ m. m) «package».now) new.now) result
+        (checked_package (installed (package_meaning (λ m. m) «package».now) new.now)) }
+{
+    if any_stays(package, new) {
+        let name = package.name.as_str();
+        let text = format!(in alloc; "not all fields of `{name}` have been present in workspace.package")?;
+        return Err(Error::WorkspaceIntegrity(text));
+    }
+    Ok(())
+}
+
 /// What a package takes from the template of its workspace, where there is one. A path of the workspace is joined to `base`,
 /// the workspace's folder.
 ///
@@ -245,14 +275,6 @@ pub fn new_fields<M>(
         (inherited_package (option_map template_meaning (option_copied template.entry)) base.now
             (package_meaning (λ m. m) «package».now)) }
 {
-    let new = match template {
-        Some(template) => fields_from(alloc, package, template, base)?,
-        None => no_fields(),
-    };
-    if any_stays(package, &new) {
-        let name = package.name.as_str();
-        let text = format!(in alloc; "not all fields of `{name}` have been present in workspace.package")?;
-        return Err(Error::WorkspaceIntegrity(text));
-    }
-    Ok(new)
+    let new = fields_for(alloc, package, template, base)?;
+    check_none_stays(alloc, package, &new).and(Ok(new))
 }

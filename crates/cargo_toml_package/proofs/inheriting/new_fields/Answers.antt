@@ -1,14 +1,13 @@
-use Rattle.std.proofs.Common.{rules, ◌≡◌, IfOk, false, option_map, ℕ, ◌+◌, ◌-◌, ◌*◌, ◌<◌, ◌≤◌, length, ◌/◌, ◌%◌, Bool, true, nat_eq, nat_lt, List, [], ◌∷◌, ◌++◌, slice_index_or, slice_set, bit_and, bit_or, Fits, w8, w32, w64, Bor, MutBor}
 use Rattle.std.specs.Option.{option_copied}
-use Rattle.cargo_toml_parts.specs.Answers.{Gives}
-use Rattle.cargo_toml_parts.specs.Inherits.{inheritable_map}
-use Rattle.cargo_toml_package.specs.Filled.{IsFilled}
-use Rattle.cargo_toml_package.specs.Inheriting.{any_field_left, inherited_package, is_left, is_left_there, with_template}
-use Rattle.cargo_toml_package.specs.Installing.{installed, put, put_if_there, no_fields}
+use Rattle.std.proofs.Common.{option_map}
+use Rattle.cargo_toml_package.specs.Inheriting.{with_template_if_there}
 use Rattle.cargo_toml_package.specs.Packages.{package_meaning}
 use Rattle.cargo_toml_package.specs.Templates.{template_meaning}
+use Rattle.cargo_toml_package.proofs.Integrity.{given}
 use Rattle.cargo_toml_package.proofs.inheriting.new_fields.Goals as goal
 
--- src/inheriting.rt:255:9
-pub returns-then-any_stays : goal.returns-then-any_stays
-returns-then-any_stays g c = ?
+pub returns : goal.returns
+returns g c =
+    let p = package_meaning (λ m. m) c.args.«package».now in
+    let q = with_template_if_there c.args.base.now (option_map template_meaning (option_copied c.args.template)) p in
+    rw c.and.ensures (given p q c.in_ok-new.new _ c.in_ok-new.ensures c.check_none_stays.ensures)

@@ -240,7 +240,7 @@ fn fields_for<M>(
 ) -> Result<NewFields, AllocError>
     ensures { IfOk result (λ n. installed (package_meaning (λ m. m) «package».now) n
         ≡ with_template_if_there base.now (option_map template_meaning (option_copied template.entry))
-            (package_meaning (λ m. m) «package».now)) }
+        (package_meaning (λ m. m) «package».now)) }
 {
     match template {
         Some(template) => fields_from(alloc, package, template, base),
@@ -255,7 +255,9 @@ fn check_none_stays<M>(alloc: Global, package: &Package<M>, new: &NewFields) -> 
 {
     if any_stays(package, new) {
         let name = package.name.as_str();
-        let text = format!(in alloc; "not all fields of `{name}` have been present in workspace.package")?;
+        let text = format!(in alloc;
+            "not all fields of `{name}` have been present in workspace.package"
+        )?;
         return Err(Error::WorkspaceIntegrity(text));
     }
     Ok(())
@@ -273,7 +275,7 @@ pub fn new_fields<M>(
 ) -> Result<NewFields, Error>
     ensures { Gives (λ n. installed (package_meaning (λ m. m) «package».now) n) result
         (inherited_package (option_map template_meaning (option_copied template.entry)) base.now
-            (package_meaning (λ m. m) «package».now)) }
+        (package_meaning (λ m. m) «package».now)) }
 {
     let new = fields_for(alloc, package, template, base)?;
     check_none_stays(alloc, package, &new).and(Ok(new))

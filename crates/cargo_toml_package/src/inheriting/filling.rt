@@ -37,7 +37,10 @@ impl Filling {
     pub fn new(alloc: Global) -> Filling
         ensures { result.refused ≡ false }
     {
-        Filling { alloc, refused: false }
+        Filling {
+            alloc,
+            refused: false,
+        }
     }
 
     // What was made, if memory was not refused.
@@ -120,10 +123,14 @@ impl Filling {
         ensures { Fills self.old.refused self.new.refused
             (put_if_there (option_map (inheritable_map string_bytes) field.now) (option_map string_bytes result)
             ≡ filled_if_there (option_map (inheritable_map string_bytes) field.now)
-                (option_map (path_join base.now) (option_map string_bytes path.now))) }
+            (option_map (path_join base.now) (option_map string_bytes path.now))) }
     {
         match (field, path) {
-            (Some(Inheritable::Inherited), Some(path)) => self.keep(join(self.alloc, base, path.as_str())),
+            (Some(Inheritable::Inherited), Some(path)) => self.keep(join(
+                self.alloc,
+                base,
+                path.as_str(),
+            )),
             _ => None,
         }
     }

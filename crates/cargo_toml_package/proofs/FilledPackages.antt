@@ -1,5 +1,5 @@
 -- A package of which nothing is left to the workspace has every value.
-use Rattle.std.proofs.Common.{◌≡◌, Bool, true, false, IsTrue, IsSome, Option, Some, None, option_map, refl}
+use Rattle.std.proofs.Common.{◌≡◌, false, IsTrue, IsSome, Option, Some, None, option_map, refl}
 use Rattle.std.proofs.lemmas.Bool.{or_parts}
 use Rattle.cargo_toml_parts.specs.declared.inheritable.Inheritable.{Inheritable}
 use Rattle.cargo_toml_parts.specs.declared.inheritable.Inheritable.TheVariants.{Set, Inherited}

@@ -1,5 +1,5 @@
 -- Fields that are filled one after the other.
-use Rattle.std.proofs.Common.{◌≡◌, ℕ, List, Option, Bool, true, false, Result, Ok, Err, refl}
+use Rattle.std.proofs.Common.{◌≡◌, ℕ, List, Option, Bool, Result, Ok, Err, refl}
 use Rattle.std.specs.Prelude.{IfOk}
 use Rattle.cargo_toml_parts.specs.Copies.{Finishes}
 use Rattle.cargo_toml_parts.specs.Versions.{Parts}

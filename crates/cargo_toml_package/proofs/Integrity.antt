@@ -1,11 +1,11 @@
 -- What a workspace lacks, as a fault.
-use Rattle.std.proofs.Common.{◌≡◌, ℕ, List, ◌++◌, codes, Bool, true, String, Global, string_bytes, Result, Ok, Err, refl, ap, sym, ◌∙◌}
+use Rattle.std.proofs.Common.{◌≡◌, ◌++◌, codes, true, String, Global, string_bytes, Result, Ok, Err, refl, ap, sym, ◌∙◌}
 use Rattle.std.specs.Result.{result_and}
 use Rattle.cargo_toml_parts.specs.Answers.{Gives}
 use Rattle.cargo_toml_parts.specs.declared.error.Error.{Error, fold-roll-Error}
 use Rattle.cargo_toml_parts.specs.declared.error.Error.TheVariants.{WorkspaceIntegrity, rolls-WorkspaceIntegrity}
 use Rattle.cargo_toml_parts.specs.FaultValues.{Fault, fault_of, fault_step, workspace_integrity}
-use Rattle.cargo_toml_package.specs.Inheriting.{any_field_left, checked_package, missing_fields}
+use Rattle.cargo_toml_package.specs.Inheriting.{any_field_left, checked_package}
 use Rattle.cargo_toml_package.specs.Installing.{installed}
 use Rattle.cargo_toml_package.specs.Packages.{PackageMeaning}
 use Rattle.cargo_toml_package.specs.declared.inheriting.NewFields.{NewFields}

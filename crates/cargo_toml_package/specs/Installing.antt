@@ -1,5 +1,5 @@
 -- A package, once the values that its workspace gives are put in.
-use Rattle.std.specs.Prelude.{◌≡◌, List, map, Bool, false, Option, Some, None, option_map, string_bytes}
+use Rattle.std.specs.Prelude.{◌≡◌, map, Bool, false, Option, Some, None, option_map, string_bytes}
 use Rattle.semver.specs.Identifiers.{parts_of}
 use Rattle.cargo_toml_parts.specs.declared.inheritable.Inheritable.{Inheritable}
 use Rattle.cargo_toml_parts.specs.declared.inheritable.Inheritable.TheVariants.{Set}

@@ -2,6 +2,7 @@
 //! the settings of profiles.
 #![tactic(auto)]
 
+mod duplicate;
 mod laws;
 pub mod profile_settings;
 pub mod settings;

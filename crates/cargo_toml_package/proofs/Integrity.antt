@@ -1,0 +1,23 @@
+-- What a workspace lacks, as a fault.
+use Rattle.std.proofs.Common.{◌≡◌, ℕ, List, ◌++◌, codes, Bool, true, String, Global, string_bytes, Result, Ok, Err, refl, ap, sym, ◌∙◌}
+use Rattle.std.specs.Result.{result_and}
+use Rattle.cargo_toml_parts.specs.Answers.{Gives}
+use Rattle.cargo_toml_parts.specs.declared.error.Error.{Error, fold-roll-Error}
+use Rattle.cargo_toml_parts.specs.declared.error.Error.TheVariants.{WorkspaceIntegrity, rolls-WorkspaceIntegrity}
+use Rattle.cargo_toml_parts.specs.FaultValues.{Fault, fault_of, fault_step, workspace_integrity}
+use Rattle.cargo_toml_package.specs.Inheriting.{any_field_left, checked_package, missing_fields}
+use Rattle.cargo_toml_package.specs.Installing.{installed}
+use Rattle.cargo_toml_package.specs.Packages.{PackageMeaning}
+use Rattle.cargo_toml_package.specs.declared.inheriting.NewFields.{NewFields}
+
+integrity : (s : String Global) → fault_of (WorkspaceIntegrity s) ≡ workspace_integrity (string_bytes s)
+integrity s = ap fault_of (sym (rolls-WorkspaceIntegrity s)) ∙ fold-roll-Error Fault fault_step _
+
+-- the fault of a package of which a field is left, by its text
+pub refused : {M : Type 0} (p : PackageMeaning M) (s : String Global) → true ≡ any_field_left p → string_bytes s ≡ codes "not all fields of `" ++ p.name ++ codes "` have been present in workspace.package" → checked_package p ≡ Err (fault_of (WorkspaceIntegrity s))
+refused p s left is = rw (← left, integrity s, is) refl
+
+-- new values that leave nothing to the workspace, or the fault
+pub given : {U M : Type 0} (p q : PackageMeaning M) (new : NewFields) (r : Result U Error) → installed p new ≡ q → Gives (λ _. installed p new) r (checked_package (installed p new)) → Gives (λ n. installed p n) (result_and r (Ok new)) (checked_package q)
+given p q new (Ok _) is h = rw (← is) h
+given p q new (Err e) is h = rw (← is) h

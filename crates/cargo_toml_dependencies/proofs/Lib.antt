@@ -1,0 +1,6 @@
+pub mod Added
+pub mod Entries
+pub mod Inherited
+pub mod Replaced
+pub mod SameCopies
+pub mod Targets

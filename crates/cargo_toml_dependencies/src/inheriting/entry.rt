@@ -1,0 +1,143 @@
+// What one inherited dependency becomes.
+ghost use Rattle.std.specs.Prelude.{◌≡◌, ◌++◌, [], IfOk, OnOk, map, option_map, string_bytes};
+ghost use Rattle.std.specs.Option.{option_copied};
+ghost use Rattle.std.specs.Path.{path_join};
+ghost use Rattle.cargo_toml_parts.specs.Answers.{Gives};
+ghost use Rattle.cargo_toml_parts.specs.Versions.{requirement_meaning};
+ghost use Rattle.cargo_toml_dependencies.specs.Dependencies.{dependency_meaning, detail_meaning, inherited_meaning};
+ghost use Rattle.cargo_toml_dependencies.specs.Inheriting.{adds_nothing, from_template, plain_detail, with_entry};
+
+use crate::dependency::{Dependency, DependencyDetail, InheritedDependencyDetail};
+use cargo_toml_parts::copying::Copying;
+use cargo_toml_parts::duplicate::Duplicate;
+use cargo_toml_parts::error::Error;
+use cargo_toml_paths::join;
+use semver::VersionReq;
+use std::alloc::{AllocError, Global};
+use std::collections::BTreeMap;
+
+// The path, if there is one, as seen from the folder `base`.
+fn joined_path(alloc: Global, base: &str, path: Option<&String>) -> Result<Option<String>, AllocError>
+    ensures { IfOk result (λ joined. option_map string_bytes joined ≡ option_map (path_join base.now) (option_map string_bytes (option_copied path.entry))) }
+{
+    match path {
+        Some(path) => Ok(Some(join(alloc, base, path.as_str())?)),
+        None => Ok(None),
+    }
+}
+
+// The texts of both lists.
+fn joined_texts(alloc: Global, front: &[String], back: &[String]) -> Result<Vec<String>, AllocError>
+    ensures { IfOk result (λ texts. map string_bytes texts.items ≡ map string_bytes front.now ++ map string_bytes back.now) }
+{
+    let mut texts = Vec::with_capacity(alloc, front.len() + back.len())?;
+    add_texts(&mut texts, front)?;
+    add_texts(&mut texts, back)?;
+    Ok(texts)
+}
+
+// Puts copies of the texts behind those of the list.
+fn add_texts(texts: &mut Vec<String>, more: &[String]) -> Result<(), AllocError>
+    ensures { OnOk result (map string_bytes texts.new.items ≡ map string_bytes texts.old.items ++ map string_bytes more.now) }
+{
+    for text in more {
+        texts.push(text.clone()?)?;
+    }
+    Ok(())
+}
+
+// A detail of the workspace with what a member's entry adds.
+fn with_entry(
+    alloc: Global,
+    base: &str,
+    entry: &InheritedDependencyDetail,
+    template: &DependencyDetail,
+) -> Result<DependencyDetail, AllocError>
+    ensures { IfOk result (λ d. detail_meaning d ≡ with_entry base.now (inherited_meaning entry.now) (detail_meaning template.now)) }
+{
+    let optional = template.optional || entry.optional;
+    let mut copying = Copying::new();
+    let version = copying.of(&template.version, None);
+    let package = copying.of(&template.package, None);
+    let registry = copying.of(&template.registry, None);
+    let registry_index = copying.of(&template.registry_index, None);
+    let path = copying.keep(joined_path(alloc, base, template.path.as_ref()), None);
+    let git = copying.of(&template.git, None);
+    let branch = copying.of(&template.branch, None);
+    let tag = copying.of(&template.tag, None);
+    let rev = copying.of(&template.rev, None);
+    let features = joined_texts(alloc, template.features.as_slice(), entry.features.as_slice());
+    let features = copying.keep(features, Vec::new(alloc));
+    let unstable = copying.of(&template.unstable, BTreeMap::new(alloc));
+    copying.finish(DependencyDetail {
+        version,
+        package,
+        registry,
+        registry_index,
+        path,
+        git,
+        branch,
+        tag,
+        rev,
+        features,
+        optional,
+        default_features: template.default_features,
+        unstable,
+        inherited: true,
+    })
+}
+
+// A detail of which the workspace tells the requirement alone, with what a member's entry adds.
+fn requirement_with_entry(
+    alloc: Global,
+    entry: &InheritedDependencyDetail,
+    requirement: &VersionReq,
+) -> Result<DependencyDetail, AllocError>
+    ensures { IfOk result (λ d. detail_meaning d ≡ with_entry [] (inherited_meaning entry.now) (plain_detail (requirement_meaning requirement.now))) }
+{
+    let version = requirement.duplicate(alloc)?;
+    let features = entry.features.duplicate(alloc)?;
+    let mut detail = DependencyDetail::default(alloc);
+    detail.version = Some(version);
+    detail.features = features;
+    detail.optional = entry.optional;
+    detail.inherited = true;
+    Ok(detail)
+}
+
+// Whether the entry asks for nothing beside what the workspace tells.
+fn adds_nothing(entry: &InheritedDependencyDetail) -> bool
+    ensures { result ≡ adds_nothing (inherited_meaning entry.now) }
+{
+    entry.features.is_empty() && !entry.optional
+}
+
+/// What the inherited dependency of a key becomes, by the workspace's dependency of that key.
+pub fn from_template(
+    alloc: Global,
+    base: &str,
+    key: &str,
+    entry: &InheritedDependencyDetail,
+    template: Option<&Dependency>,
+) -> Result<Dependency, Error>
+    ensures { Gives dependency_meaning result (from_template base.now key.now (inherited_meaning entry.now) (option_map dependency_meaning (option_copied template.entry))) }
+{
+    match template {
+        None => {
+            let text = format!(in alloc; "workspace dependencies are missing `{key}`")?;
+            Err(Error::WorkspaceIntegrity(text))
+        }
+        Some(Dependency::Inherited(_)) => Err(Error::InheritedUnknownValue),
+        Some(Dependency::Detailed(detail)) => {
+            let detail = with_entry(alloc, base, entry, detail)?;
+            Ok(Dependency::Detailed(Box::new(alloc, detail)?))
+        }
+        Some(Dependency::Simple(requirement)) => {
+            if adds_nothing(entry) {
+                return Ok(Dependency::Simple(requirement.duplicate(alloc)?));
+            }
+            let detail = requirement_with_entry(alloc, entry, requirement)?;
+            Ok(Dependency::Detailed(Box::new(alloc, detail)?))
+        }
+    }
+}

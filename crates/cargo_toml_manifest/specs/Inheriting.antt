@@ -1,5 +1,6 @@
 -- What a manifest becomes whose parts are left to the workspace.
-use Rattle.std.specs.Prelude.{ℕ, List, codes, Bool, false, not, ◌||◌, Option, Some, None, option_map, option_and_then, option_map_or, Result, Ok, Err}
+use Rattle.std.specs.Prelude.{ℕ, List, codes, Bool, false, not, ◌||◌, Option, Some, None, option_map, option_and_then, Result, Ok, Err}
+use Rattle.std.specs.Option.{option_map_or}
 use Rattle.cargo_toml_parts.specs.Answers.{◌>>=◌}
 use Rattle.cargo_toml_parts.specs.FaultValues.{Fault, workspace_integrity}
 use Rattle.cargo_toml_parts.specs.InheritableValues.{is_set}

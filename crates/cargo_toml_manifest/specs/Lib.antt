@@ -1,6 +1,7 @@
 pub mod Completing
 pub mod Inheriting
 pub mod Manifests
+pub mod Roots
 pub mod Texts
 pub mod Told
 pub mod Workspaces

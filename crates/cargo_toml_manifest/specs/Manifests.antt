@@ -1,5 +1,5 @@
 -- What a manifest holds, and which trees are manifests.
-use Rattle.std.specs.Prelude.{◌⊎◌, ℕ, List, [], ◌∷◌, map, Bool, false, ◌&&◌, ◌==◌, if◌then◌else◌, length, Option, Some, None, option_map, option_and_then, string_bytes}
+use Rattle.std.specs.Prelude.{◌⊎◌, ℕ, List, [], map, Bool, false, ◌&&◌, ◌==◌, if◌then◌else◌, length, Option, Some, None, option_map, option_and_then, string_bytes}
 use Rattle.toml.specs.Data.{Data, Members, no_members, as_table}
 use Rattle.cargo_toml_parts.specs.declared.error.Error.{Error}
 use Rattle.cargo_toml_parts.specs.declared.inheritable.Inheritable.{Inheritable}

@@ -1,5 +1,5 @@
 -- What an implementor of `AbstractFilesystem` tells, and what its answers have to be by that.
-use Rattle.std.specs.Prelude.{◌≡◌, ◌≢◌, ◌⊎◌, ◌↔◌, ¬◌, ℕ, List, Bool, true, IsTrue, Option, Some, None, is_some, Result, Ok, Err, string_bytes, String, Vec, IsUtf8, MatchResult, IsErr, IsErrAnd, IfOk}
+use Rattle.std.specs.Prelude.{◌≡◌, ◌⊎◌, ℕ, List, Bool, true, false, Some, is_some, Result, string_bytes, String, Vec, IsUtf8, MatchResult, IsErr, IsErrAnd, IfOk}
 use Rattle.std.specs.HashSet.{HashSet, contains_text}
 use Rattle.std.specs.List.{list_any}
 use Rattle.std.specs.Str.{bytes_eq}
@@ -11,7 +11,7 @@ use Rattle.toml.specs.Parse.{parse_document}
 use Rattle.toml.specs.View.{view}
 use Rattle.toml.specs.declared.value.Value.{Value}
 use Rattle.cargo_toml_parts.specs.declared.error.Error.{Error, Memory}
-use Rattle.cargo_toml_parts.specs.FaultValues.{Fault, fault_of, io}
+use Rattle.cargo_toml_parts.specs.FaultValues.{fault_of, io}
 use Rattle.cargo_toml_manifest.specs.declared.manifest.Manifest as code
 use Rattle.cargo_toml_manifest.specs.Manifests.{ManifestMeaning, manifest_meaning, manifest_reads}
 use Rattle.cargo_toml_manifest.specs.Texts.{any_tree, document_reads}
@@ -59,3 +59,10 @@ AnswersRoot (root m path) result =
     MatchResult result (λ r. (manifest_meaning view r.0 ≡ m) × (string_bytes r.1 ≡ path)) (λ e. e ≡ Memory)
 AnswersRoot no_root result = IsErr result
 AnswersRoot open_root result = Unit {0}
+
+-- what is heard of a root: where no root is ever read, none can be told
+abbrev pub heard : Bool → ToldRoot → ToldRoot
+heard true told = told
+heard false (root m path) = open_root
+heard false no_root = no_root
+heard false open_root = open_root

@@ -1,5 +1,5 @@
 -- What a workspace holds, and which trees are workspaces.
-use Rattle.std.specs.Prelude.{◌⊎◌, ℕ, List, [], ◌∷◌, map, Option, Some, option_map, option_and_then, string_bytes}
+use Rattle.std.specs.Prelude.{◌⊎◌, ℕ, List, map, Option, Some, option_map, option_and_then, string_bytes}
 use Rattle.toml.specs.Data.{Data, Members, as_table}
 use Rattle.cargo_toml_parts.specs.declared.error.Error.{Error}
 use Rattle.cargo_toml_settings.specs.declared.settings.Resolver.{Resolver}

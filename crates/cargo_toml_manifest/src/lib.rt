@@ -1,8 +1,10 @@
 //! A manifest and its workspace: how they are read.
 #![tactic(auto)]
 
+pub mod afs;
 pub mod manifest;
 pub mod workspace;
 
+pub use afs::{AbstractFilesystem, NoRoot, OwnRoot, Roots};
 pub use manifest::Manifest;
 pub use workspace::Workspace;

@@ -1,0 +1,69 @@
+-- The root of what was read is the root that is told.
+use Rattle.std.proofs.Common.{◌≡◌, inl, inr, sym, ap, ◌∙◌, refl, ℕ, List, Option, Some, None, Result, Ok, Err, String, string_bytes, Vec}
+use Rattle.std.specs.Prelude.{is_some, option_map}
+use Rattle.std.specs.declared.alloc.Global.{Global}
+use Rattle.toml.specs.Data.{Data}
+use Rattle.toml.specs.Parse.{parse_document}
+use Rattle.toml.specs.View.{view}
+use Rattle.toml.specs.declared.value.Value.{Value}
+use Rattle.cargo_toml_parts.specs.declared.error.Error.{Error, Memory}
+use Rattle.cargo_toml_parts.specs.FaultValues.{fault_of}
+use Rattle.cargo_toml_parts.specs.Wrapping.{wrap}
+use Rattle.cargo_toml_manifest.specs.declared.manifest.Manifest.{Manifest}
+use Rattle.cargo_toml_manifest.specs.Manifests.{ManifestMeaning, manifest_meaning, manifest_reads}
+use Rattle.cargo_toml_manifest.specs.Roots.{IsRootOf, IsNoRoot, IsFromSlice}
+use Rattle.cargo_toml_manifest.specs.Texts.{any_tree, document_reads}
+use Rattle.cargo_toml_manifest.specs.Told.{ToldRoot, root, no_root, open_root, IsRootIn, ReadsRoot, AnswersRoot}
+use Rattle.cargo_toml_manifest.proofs.Faults.{memory_alone, fault_of-memory}
+
+abbrev Read : Type 0
+Read = Vec ℕ Global × String Global
+
+abbrev Found : Type 0
+Found = Manifest Value × String Global
+
+-- want of memory stays what it is
+memory_wrapped : (path : Option (List ℕ)) (own e : Error) → own ≡ Memory → fault_of e ≡ wrap path (fault_of own) → e ≡ Memory
+memory_wrapped path own e memory h = memory_alone e (h ∙ ap (λ (f : Error). wrap path (fault_of f)) memory ∙ ap (wrap path) fault_of-memory)
+
+same : {A : Type 0} (o : Option A) (x y : A) → o ≡ Some x → o ≡ Some y → x ≡ y
+same o x y h k = cc
+
+table_stays : {A B : Type 0} (f : A → B) (o : Option A) → is_some (option_map f o) ≡ is_some o
+table_stays f None = refl
+table_stays f (Some x) = refl
+
+abbrev reads : List ℕ → Option (ManifestMeaning Data)
+reads bytes = document_reads (manifest_reads any_tree) (parse_document bytes)
+
+-- bytes that are told as a root are read as that
+read_as_told : (bytes : List ℕ) (m : ManifestMeaning Data) (x : Manifest Value) → IsRootIn bytes m → IsFromSlice bytes (Ok x) → manifest_meaning view x ≡ m
+read_as_told bytes m x told (inl h) = absurd h.1
+read_as_told bytes m x told (inr h) = same (reads bytes) (manifest_meaning view x) m h.1 told.1
+
+-- and they have no fault
+no_fault : (bytes path : List ℕ) (m : ManifestMeaning Data) (e : Error) → IsRootIn bytes m → IsNoRoot bytes path e → e ≡ Memory
+no_fault bytes path m e told (inl (own, inl h, same)) = absurd (h.0 told.0)
+no_fault bytes path m e told (inl (own, inr (text, inl memory), same)) = memory_wrapped (Some path) own e memory same
+no_fault bytes path m e told (inl (own, inr (text, inr h), same)) = let k : None ≡ Some m = sym h.0 ∙ told.1 in cc
+no_fault bytes path m e told (inr (x, read, none, same)) =
+    let is = read_as_told bytes m x told read in
+    let there = ap (λ (n : ManifestMeaning Data). is_some n.workspace) is ∙ told.2 in
+    let k = sym none ∙ sym (table_stays _ x.workspace) ∙ there in cc
+
+pub answers_as_told : (told : ToldRoot) (hint : Option (List ℕ)) (read : Result Read Error) (found : Result Found Error) →
+    ReadsRoot told read → IsRootOf hint read found → AnswersRoot told found
+answers_as_told open_root hint read found h k = tt
+answers_as_told no_root hint (Err own) (Ok x) h k = absurd k
+answers_as_told no_root hint (Err own) (Err e) h k = refl
+answers_as_told no_root hint (Ok r) (Err e) h k = refl
+answers_as_told no_root hint (Ok r) (Ok (x, path)) h (inl text, table, same) = absurd text.1
+answers_as_told no_root hint (Ok r) (Ok (x, path)) h (inr text, table, same) =
+    absurd (h (manifest_meaning view x) (text.0, text.1, table_stays _ x.workspace ∙ table))
+answers_as_told (root m path) hint (Err own) (Ok x) h k = absurd k
+answers_as_told (root m path) hint (Err own) (Err e) h (inl memory) = memory
+answers_as_told (root m path) hint (Err own) (Err e) h (inr same) = memory_wrapped hint own e h same
+answers_as_told (root m path) hint (Ok r) (Ok (x, at)) h k =
+    (read_as_told r.0.items m x h.0 k.0, k.2 ∙ h.1)
+answers_as_told (root m path) hint (Ok r) (Err e) h (inl memory) = memory
+answers_as_told (root m path) hint (Ok r) (Err e) h (inr fault) = no_fault r.0.items (string_bytes r.1) m e h.0 fault

@@ -1,0 +1,190 @@
+//! The files around a manifest, as an implementor of a trait answers for them.
+ghost use Rattle.std.specs.Prelude.{◌≡◌, ◌⊎◌, ℕ, List, Bool, true, false, Option, IfOk};
+ghost use Rattle.std.specs.Option.{option_copied};
+ghost use Rattle.cargo_toml_parts.specs.declared.error.Error.{Memory};
+ghost use Rattle.cargo_toml_parts.specs.Answers.{Gives};
+ghost use Rattle.cargo_toml_parts.specs.FaultValues.{fault_of, workspace, workspace_integrity};
+ghost use Rattle.cargo_toml_parts.specs.Wrapping.{wrap};
+ghost use Rattle.cargo_toml_manifest.specs.Roots.{IsRootOf, not_a_workspace};
+ghost use Rattle.cargo_toml_manifest.specs.Told.{Told, ToldRoot, open_path, open_root, heard, AnswersNames, ReadsRoot, AnswersRoot};
+
+use crate::manifest::Manifest;
+use cargo_toml_parts::Error;
+use std::alloc::Global;
+use std::collections::HashSet;
+use std::io;
+
+/// Whether an implementor of `AbstractFilesystem` writes `read_root_workspace` itself.
+pub trait Roots {
+    /// Whether it does.
+    const ARE_READ: bool;
+
+    ghost ARE_READ: { Bool };
+}
+
+/// For an implementor that leaves `read_root_workspace` out.
+pub struct NoRoot;
+
+impl Roots for NoRoot {
+    const ARE_READ: bool = false;
+
+    ghost ARE_READ = { false };
+}
+
+/// For an implementor that writes `read_root_workspace`.
+pub struct OwnRoot;
+
+impl Roots for OwnRoot {
+    const ARE_READ: bool = true;
+
+    ghost ARE_READ = { true };
+}
+
+/// The files around a manifest: what a folder holds, and where the root of the workspace is.
+///
+/// Of each path and each hint an implementor may tell, for proofs alone, what it answers; by default it tells nothing. What
+/// it tells its calls then answer, want of memory aside.
+pub trait AbstractFilesystem {
+    /// `OwnRoot` where `read_root_workspace` is written, and `NoRoot` where it is left out. With `NoRoot` nothing is told
+    /// of a root but that there is none.
+    type Roots: Roots;
+
+    /// What is told of a path, as seen from the folder of the manifest.
+    ghost names_at: { Self → List ℕ → Told } = { λ _ _. open_path };
+
+    /// What is told of the workspace that a hint leads to.
+    ghost root_for: { Self → Option (List ℕ) → ToldRoot } = { λ _ _. open_root };
+
+    /// The names in a folder, whose path is as seen from the folder of the manifest; the empty path is that folder.
+    ///
+    /// A path where nothing is, or no folder, is `Error::Io` of the kind `NotFound`. Another fault of reading it is an
+    /// `Error::Io` of its kind, and want of memory `Error::Memory`.
+    fn file_names_in(&self, alloc: Global, rel_path: &str) -> Result<HashSet<String>, Error>
+        ensures { AnswersNames (names_at self.now rel_path.now) result };
+
+    /// The bytes of the `Cargo.toml` of the workspace's root, and their path.
+    ///
+    /// The hint is what the package says of its workspace, where it does. Where this call is left out, it is refused with
+    /// `Error::Io` of the kind `Unsupported`. (An implementor that leaves it out and yet says `OwnRoot` gets
+    /// `Error::Memory`.)
+    fn read_root_workspace(
+        &self,
+        _alloc: Global,
+        _hint: Option<&str>,
+    ) -> Result<(Vec<u8>, String), Error>
+        ensures { ReadsRoot (heard Self.Roots.ARE_READ (root_for self.now (option_copied _hint.entry))) result }
+    {
+        if Self::Roots::ARE_READ {
+            return Err(Error::Memory);
+        }
+        let fault = io::Error::new(
+            io::ErrorKind::Unsupported,
+            "read_root_workspace is not implemented",
+        );
+        Err(Error::Io(fault))
+    }
+
+    /// The manifest of the workspace's root, which has a workspace table, and its path.
+    ///
+    /// Where this call is left out, it is what `read_root_workspace` and `Manifest::from_slice` answer. A fault of reading
+    /// is then told as `Error::Workspace` with the hint as its path, and a fault of the bytes with their path; so is a
+    /// manifest without a workspace table, as `Error::WorkspaceIntegrity`. Want of memory is `Error::Memory` as ever.
+    fn parse_root_workspace(
+        &self,
+        alloc: Global,
+        hint: Option<&str>,
+    ) -> Result<(Manifest, String), Error>
+        ensures { AnswersRoot (heard Self.Roots.ARE_READ (root_for self.now (option_copied hint.entry))) result }
+    {
+        root_of(alloc, hint, self.read_root_workspace(alloc, hint))
+    }
+}
+
+impl<T: AbstractFilesystem> AbstractFilesystem for &T {
+    type Roots = T::Roots;
+
+    ghost names_at = { λ fs path. T.names_at fs.now path };
+
+    ghost root_for = { λ fs hint. T.root_for fs.now hint };
+
+    fn file_names_in(&self, alloc: Global, rel_path: &str) -> Result<HashSet<String>, Error> {
+        (**self).file_names_in(alloc, rel_path)
+    }
+
+    fn read_root_workspace(
+        &self,
+        alloc: Global,
+        hint: Option<&str>,
+    ) -> Result<(Vec<u8>, String), Error> {
+        (**self).read_root_workspace(alloc, hint)
+    }
+
+    fn parse_root_workspace(
+        &self,
+        alloc: Global,
+        hint: Option<&str>,
+    ) -> Result<(Manifest, String), Error> {
+        (**self).parse_root_workspace(alloc, hint)
+    }
+}
+
+/// The root that was read, or why there is none.
+///
+/// A fault of reading becomes one of the workspace with the hint as its path. A fault of the bytes, and
+/// `Error::WorkspaceIntegrity` for a manifest without a workspace table, become such with the path of the bytes.
+pub fn root_of(
+    alloc: Global,
+    hint: Option<&str>,
+    read: Result<(Vec<u8>, String), Error>,
+) -> Result<(Manifest, String), Error>
+    ensures { IsRootOf (option_copied hint.entry) read result }
+{
+    let (bytes, path) = match read {
+        Ok(read) => read,
+        Err(fault) => return Err(wrapped(alloc, fault, hint)),
+    };
+    let manifest = match Manifest::from_slice(alloc, bytes.as_slice()) {
+        Ok(manifest) => manifest,
+        Err(fault) => return Err(wrapped(alloc, fault, Some(path.as_str()))),
+    };
+    if manifest.workspace.is_none() {
+        let fault = not_a_workspace(alloc)?;
+        return Err(wrapped(alloc, fault, Some(path.as_str())));
+    }
+    Ok((manifest, path))
+}
+
+/// The fault as one of a workspace at this path, where one is known. A fault that is one of a workspace already, and want of
+/// memory, stay as they are. Where there is no memory for it, the answer is `Error::Memory`.
+pub fn wrapped(alloc: Global, fault: Error, path: Option<&str>) -> Error
+    ensures { (result ≡ Memory) ⊎ (fault_of result ≡ wrap (option_copied path.entry) (fault_of fault)) }
+{
+    match fault {
+        Error::Workspace(_) | Error::Memory => fault,
+        _ => match in_workspace(alloc, fault, path) {
+            Ok(fault) => fault,
+            Err(_) => Error::Memory,
+        },
+    }
+}
+
+// The fault as one of a workspace, whatever it is.
+fn in_workspace(alloc: Global, fault: Error, path: Option<&str>) -> Result<Error, Error>
+    ensures { IfOk result (λ e. fault_of e ≡ workspace (fault_of fault) (option_copied path.entry)) }
+{
+    let path = match path {
+        Some(path) => Some(String::from_str(alloc, path)?),
+        None => None,
+    };
+    Ok(Error::Workspace(Box::new(alloc, (fault, path))?))
+}
+
+fn not_a_workspace(alloc: Global) -> Result<Error, Error>
+    ensures { Gives fault_of result (Ok (workspace_integrity not_a_workspace)) }
+{
+    let text = String::from_str(
+        alloc,
+        "Not a Workspace.\nUse package.workspace to select a differnt path, or implement cargo_toml::AbstractFilesystem::parse_root_workspace",
+    )?;
+    Ok(Error::WorkspaceIntegrity(text))
+}

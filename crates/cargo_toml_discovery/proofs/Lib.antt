@@ -2,6 +2,7 @@ pub mod Ascend
 pub mod Ascends
 pub mod Copies
 pub mod Dashes
+pub mod Joins
 pub mod LastWaiting
 pub mod Lookups
 pub mod Paths

@@ -15,13 +15,7 @@ use Rattle.cargo_toml_parts.specs.FaultValues.{fault_of, io}
 use Rattle.cargo_toml_manifest.specs.declared.manifest.Manifest as code
 use Rattle.cargo_toml_manifest.specs.Manifests.{ManifestMeaning, manifest_meaning, manifest_reads}
 use Rattle.cargo_toml_manifest.specs.Texts.{any_tree, document_reads}
-
--- what is told of a path: the names in that folder, that it is absent, a fault of this kind, or nothing
-pub data Told : Type 0 where
-  names : List (List ℕ) → Told
-  absent : Told
-  denied : ErrorKind → Told
-  open_path : Told
+use Rattle.cargo_toml_discovery.specs.Told.{Told, names, absent, denied, open_path}
 
 -- what is told of the workspace that a hint leads to: its manifest and the path of that, that there is none, or nothing
 pub data ToldRoot : Type 0 where

@@ -6,7 +6,8 @@ ghost use Rattle.cargo_toml_parts.specs.Answers.{Gives};
 ghost use Rattle.cargo_toml_parts.specs.FaultValues.{fault_of, workspace, workspace_integrity};
 ghost use Rattle.cargo_toml_parts.specs.Wrapping.{wrap};
 ghost use Rattle.cargo_toml_manifest.specs.Roots.{IsRootOf, not_a_workspace};
-ghost use Rattle.cargo_toml_manifest.specs.Told.{Told, ToldRoot, open_path, open_root, heard, AnswersNames, ReadsRoot, AnswersRoot};
+ghost use Rattle.cargo_toml_discovery.specs.Told.{Told, open_path};
+ghost use Rattle.cargo_toml_manifest.specs.Told.{ToldRoot, open_root, heard, AnswersNames, ReadsRoot, AnswersRoot};
 
 use crate::manifest::Manifest;
 use cargo_toml_parts::Error;

@@ -1,0 +1,15 @@
+pub mod Ascend
+pub mod Ascends
+pub mod Copies
+pub mod Dashes
+pub mod Joins
+pub mod LastWaiting
+pub mod Lookups
+pub mod Paths
+pub mod Ranks
+pub mod SetForm
+pub mod Sorts
+pub mod Stable
+pub mod Stems
+pub mod Unique
+pub mod Walks

@@ -1,0 +1,9 @@
+use Rattle.std.proofs.Common.{◌≡◌, refl, ap, sym, ◌∙◌, map, ◌++◌, List, [], ◌∷◌, string_bytes, arith, Some, None, rules, Option, unwrap_or, cond, ◌+◌, take, codes}
+use Rattle.std.specs.Option.{option_map, option_copied}
+use Rattle.cargo_toml_discovery.proofs.Unique.{has-set}
+use Rattle.cargo_toml_discovery.specs.Answers.{texts_in, answer_at, answers_of, names_in, below, named_in, entries_in}
+use Rattle.cargo_toml_discovery.specs.Names.{Text, has_text}
+use Rattle.cargo_toml_discovery.proofs.listings.Listings.has.Goals as goal
+
+pub returns-in-Some : goal.returns-in-Some
+returns-in-Some c = c.contains.ensures ∙ has-set c.args.name.now c.in-Some.names.now ∙ ap (λ (r : Option (List Text)). has_text (unwrap_or r []) c.args.name.now) c.in-Some.ensures

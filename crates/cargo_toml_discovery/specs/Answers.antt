@@ -1,0 +1,53 @@
+-- A finite record of names that were told.
+use Rattle.std.specs.Prelude.{◌≡◌, ℕ, Bool, ◌&&◌, List, [], ◌∷◌, map, filter, Option, Some, None, if◌then◌else◌, codes, unwrap_or, string_bytes, String}
+use Rattle.std.specs.BTreeSet.{BTreeSet}
+use Rattle.std.specs.Str.{bytes_eq}
+use Rattle.std.specs.declared.alloc.Global.{Global}
+use Rattle.cargo_toml_discovery.specs.Around.{Around}
+use Rattle.cargo_toml_discovery.specs.Found.{Named}
+use Rattle.cargo_toml_discovery.specs.Names.{Text, has_text, in_dir, may_be_folder}
+use Rattle.cargo_toml_discovery.specs.declared.listings.Listings as code
+use Rattle.cargo_toml_discovery.specs.declared.listings.Wanted.{Wanted}
+
+abbrev pub Answers : Type 0
+Answers = List (Text × List Text)
+
+abbrev pub answer_at : Answers → Text → Option (List Text)
+answer_at [] p = None
+answer_at (a ∷ ans) p = if bytes_eq p a.0 then Some a.1 else answer_at ans p
+
+-- the texts of a set, in order
+abbrev pub texts_in : BTreeSet (String Global) → List Text
+texts_in s = map (λ k. string_bytes k) s.keys
+
+abbrev pub answers_of : code.Listings → Answers
+answers_of l = map (λ e. (string_bytes e.0, texts_in e.1)) l.names.entries
+
+-- the names at a path, none where there is no answer
+abbrev pub names_in : Answers → Text → List Text
+names_in ans p = unwrap_or (answer_at ans p) []
+
+-- the folders in a folder that may hold `main.rs`
+abbrev pub below : Text → List Text → List Text
+below dir ns = map (in_dir dir) (filter may_be_folder ns)
+
+abbrev pub named_in : Answers → Text → Text → Named
+named_in ans dir n = record { name = n; has_main = may_be_folder n && has_text (names_in ans (in_dir dir n)) (codes "main.rs") }
+
+-- what a folder of products holds by these answers
+abbrev pub entries_in : Answers → Text → List Named
+entries_in ans dir = map (named_in ans dir) (names_in ans dir)
+
+abbrev pub entries_if : Bool → Answers → Text → List Named
+entries_if b ans dir = if b then entries_in ans dir else []
+
+-- what stands around a package by these answers
+abbrev pub around_in : Answers → Wanted → Around
+around_in ans wanted = record {
+  root = names_in ans [];
+  src = names_in ans (codes "src");
+  bins = entries_if wanted.bins ans (codes "src/bin");
+  examples = entries_if wanted.examples ans (codes "examples");
+  tests = entries_if wanted.tests ans (codes "tests");
+  benches = entries_if wanted.benches ans (codes "benches");
+}

@@ -1,0 +1,141 @@
+-- What discovery makes of what a manifest states.
+use Rattle.std.specs.Prelude.{ℕ, Bool, true, false, List, [], ◌∷◌, map, Option, Some, None, option_map, if◌then◌else◌, codes, unwrap_or}
+use Rattle.std.specs.Option.{option_copied}
+use Rattle.cargo_toml_settings.specs.Settings.{File, flag, path, file_meaning}
+use Rattle.cargo_toml_settings.specs.declared.settings.Edition.{Edition}
+use Rattle.cargo_toml_tables.specs.Products.{ProductMeaning, product_meaning}
+use Rattle.cargo_toml_discovery.specs.declared.discovery.Discovered as discovered_type
+use Rattle.cargo_toml_discovery.specs.declared.discovery.Stated as stated_type
+use Rattle.cargo_toml_discovery.specs.declared.listings.Wanted.{Wanted}
+use Rattle.cargo_toml_discovery.specs.Around.{Around}
+use Rattle.cargo_toml_discovery.specs.Found.{Named, Offered, found, is_path_of, plain, still_open}
+use Rattle.cargo_toml_discovery.specs.Names.{Text, has_text, underscored}
+use Rattle.cargo_toml_discovery.specs.Sorting.{in_order}
+
+-- a library without a path has this one, where the file is there
+abbrev pub at_library : ProductMeaning → ProductMeaning
+at_library p = record p { path = Some (unwrap_or p.path (codes "src/lib.rs")) }
+
+-- the library, where `src/lib.rs` is there or not, and a library is made or not
+abbrev pub found_library : Bool → Bool → Option ProductMeaning → Option ProductMeaning
+found_library false made lib = lib
+found_library true true None = Some (at_library plain)
+found_library true false None = None
+found_library true made (Some p) = Some (at_library p)
+
+abbrev pub or_plain_library : List Text → List Text
+or_plain_library [] = codes "lib" ∷ []
+or_plain_library types = types
+
+-- a library has the name, the edition and the crate type that it states, or else those of the package; it requires no feature
+abbrev pub filled_library : Text → Edition → ProductMeaning → ProductMeaning
+filled_library name edition p = record p {
+    name = Some (unwrap_or p.name (underscored name));
+    edition = Some (unwrap_or p.edition edition);
+    crate_type = or_plain_library p.crate_type;
+    required_features = [];
+  }
+
+abbrev pub library : Text → Edition → Bool → Bool → Option ProductMeaning → Option ProductMeaning
+library name edition is_there made lib = option_map (filled_library name edition) (found_library is_there made lib)
+
+-- what `src/main.rs` offers, unless a product has that path
+abbrev pub main_offer : Text → Bool → List ProductMeaning → Option Offered
+main_offer name false ps = None
+main_offer name true ps = still_open (is_path_of ps) (Some (record { file = codes "main.rs"; name = name; path = codes "src/main.rs" }))
+
+-- a list of products: as it is found in its folder where that is wanted, and else only put in order
+abbrev pub list_of : Edition → Bool → Text → List ProductMeaning → List Named → Option Offered → List ProductMeaning
+list_of edition false dir ps es extra = in_order ps
+list_of edition true dir ps es extra = found edition dir ps es extra
+
+abbrev pub may_build : Option File → Bool
+may_build None = true
+may_build (Some (flag b)) = b
+may_build (Some (path p)) = false
+
+-- the build script, where these names stand beside the manifest
+abbrev pub build_in : List Text → Option File → Option File
+build_in root build = if may_build build then (if has_text root (codes "build.rs") then Some (path (codes "build.rs")) else build) else build
+
+-- the first of the names that is there
+abbrev pub first_in : List Text → List Text → File → File
+first_in root [] otherwise = otherwise
+first_in root (n ∷ ns) otherwise = if has_text root n then path n else first_in root ns otherwise
+
+abbrev pub readme_names : List Text
+readme_names = codes "README.md" ∷ codes "README.txt" ∷ codes "README" ∷ []
+
+-- the readme, where these names stand beside the manifest
+abbrev pub readme_in : List Text → File → File
+readme_in root (flag true) = first_in root readme_names (flag true)
+readme_in root (flag false) = flag false
+readme_in root (path p) = path p
+
+-- what a manifest states of its package and of its products
+pub record StatedMeaning : Type 0 where
+  pub name : Text
+  pub edition : Edition
+  pub autolib : Bool
+  pub wanted : Wanted
+  pub lib : Option ProductMeaning
+  pub bin : List ProductMeaning
+  pub example : List ProductMeaning
+  pub test : List ProductMeaning
+  pub bench : List ProductMeaning
+  pub build : Option File
+  pub readme : File
+
+-- what discovery changes of a manifest
+pub record DiscoveredMeaning : Type 0 where
+  pub lib : Option ProductMeaning
+  pub bin : List ProductMeaning
+  pub example : List ProductMeaning
+  pub test : List ProductMeaning
+  pub bench : List ProductMeaning
+  pub build : Option File
+  pub readme : File
+
+abbrev pub stated_meaning : stated_type.Stated → StatedMeaning
+stated_meaning s = record {
+  name = s.name.now;
+  edition = s.edition;
+  autolib = s.autolib;
+  wanted = s.wanted;
+  lib = option_map product_meaning (option_copied s.lib);
+  bin = map product_meaning s.bin.now;
+  example = map product_meaning s.example.now;
+  test = map product_meaning s.test.now;
+  bench = map product_meaning s.bench.now;
+  build = option_map file_meaning (option_copied s.build);
+  readme = file_meaning s.readme.now;
+}
+
+abbrev pub discovered_meaning : discovered_type.Discovered → DiscoveredMeaning
+discovered_meaning d = record {
+  lib = option_map product_meaning d.lib;
+  bin = map product_meaning d.bin.items;
+  example = map product_meaning d.example.items;
+  test = map product_meaning d.test.items;
+  bench = map product_meaning d.bench.items;
+  build = option_map file_meaning d.build;
+  readme = file_meaning d.readme;
+}
+
+abbrev pub library_around : StatedMeaning → Around → Option ProductMeaning
+library_around s a = library s.name s.edition (has_text a.src (codes "lib.rs")) s.autolib s.lib
+
+abbrev pub main_around : StatedMeaning → Around → Option Offered
+main_around s a = main_offer s.name (has_text a.src (codes "main.rs")) s.bin
+
+-- what discovery makes of it, where this stands around the package
+abbrev pub discovered : StatedMeaning → Around → DiscoveredMeaning
+discovered s a = record {
+  lib = library_around s a;
+  bin = list_of s.edition s.wanted.bins (codes "src/bin") s.bin a.bins (main_around s a);
+  example = list_of s.edition s.wanted.examples (codes "examples") s.example a.examples None;
+  test = list_of s.edition s.wanted.tests (codes "tests") s.test a.tests None;
+  bench = list_of s.edition s.wanted.benches (codes "benches") s.bench a.benches None;
+  build = build_in a.root s.build;
+  readme = readme_in a.root s.readme;
+}

@@ -1,0 +1,9 @@
+pub mod Names
+pub mod Told
+pub mod Sorting
+pub mod Found
+pub mod Seen
+pub mod Around
+pub mod Discovering
+pub mod Answers
+pub mod Walk

@@ -1,0 +1,68 @@
+-- How the code finds products: a walk over the offers. What it gives is what `Found` says; nothing here has to be believed.
+use Rattle.std.specs.Prelude.{◌≡◌, ℕ, Bool, List, [], ◌∷◌, ◌++◌, option_to_list, Option, None, option_map, if◌then◌else◌, string_bytes, map, filter, Vec}
+use Rattle.std.specs.BTreeMap.{BTreeMap, get_by}
+use Rattle.std.specs.BTreeSet.{BTreeSet, contains_by}
+use Rattle.std.specs.Cmp.Lexicographic.{slice_cmp}
+use Rattle.std.specs.Ordering.{nat_cmp}
+use Rattle.std.specs.Str.{bytes_eq}
+use Rattle.std.specs.declared.cmp.Ordering.TheVariants.{Less}
+use Rattle.std.specs.declared.alloc.Global.{Global}
+use denote.Ref.{Bor}
+use Rattle.cargo_toml_settings.specs.declared.settings.Edition.{Edition}
+use Rattle.cargo_toml_tables.specs.Products.{ProductMeaning, product_meaning}
+use Rattle.cargo_toml_tables.specs.declared.product.Product.{Product}
+use Rattle.cargo_toml_discovery.specs.declared.found.Offer as code_offer
+use Rattle.cargo_toml_discovery.specs.declared.listings.Entry as code_entry
+use Rattle.cargo_toml_discovery.specs.Found.{Named, Offered, product_for, has_path, is_path_of, last_waiting, offers}
+use Rattle.cargo_toml_discovery.specs.Names.{Text}
+
+abbrev pub named_of : code_entry.Entry → Named
+named_of e = record { name = string_bytes e.name; has_main = e.has_main }
+
+-- what the code keeps of an offer
+abbrev pub offer_parts : Offered → Text × Text
+offer_parts o = (o.name, o.path)
+
+abbrev pub parts_of_code : code_offer.Offer → Text × Text
+parts_of_code o = (string_bytes o.name, string_bytes o.path)
+
+-- the code's offer is this one
+abbrev pub IsOffer : Option Offered → Option code_offer.Offer → Type 0
+IsOffer o offer = option_map offer_parts o ≡ option_map parts_of_code offer
+
+-- what waits in a map, and which paths are in a set
+abbrev pub waiting_in : BTreeMap (Bor Text) (Bor Product) → Text → Option ProductMeaning
+waiting_in m n = option_map (λ p. product_meaning p.now) (get_by (λ k. slice_cmp nat_cmp n k.now) m)
+
+abbrev pub is_path_in : BTreeSet (Bor Text) → Text → Bool
+is_path_in s t = contains_by (λ k. slice_cmp nat_cmp t k.now) s
+
+-- what waits, without that which waits for this name
+abbrev pub without : (Text → Option ProductMeaning) → Text → Text → Option ProductMeaning
+without w n m = if bytes_eq n m then None else w m
+
+-- the products of the offers, where this waits
+abbrev pub walk : Edition → (Text → Option ProductMeaning) → List Offered → List ProductMeaning
+walk edition w [] = []
+walk edition w (o ∷ os) = product_for edition o (w o.name) ∷ walk edition (without w o.name) os
+
+-- the products that are placed, and those of the offers that are left, where these products still wait
+abbrev pub walked : Edition → Vec Product Global → BTreeMap (Bor Text) (Bor Product) → List Offered → List ProductMeaning
+walked edition list still os = map product_meaning list.items ++ walk edition (waiting_in still) os
+
+abbrev pub with_extra : List Offered → Option Offered → List Offered
+with_extra os extra = os ++ option_to_list extra
+
+-- the products that stay, and those of the walk over all offers
+abbrev pub all_walked : Edition → Text → List ProductMeaning → List Named → Option Offered → List ProductMeaning
+all_walked edition dir ps es extra =
+    filter has_path ps ++ walk edition (last_waiting ps) (with_extra (offers dir (is_path_of ps) es) extra)
+
+-- each name stands after this one in byte order, and names ascend
+abbrev pub NamesAfter : Text → List Named → Type 0
+NamesAfter n [] = Unit {0}
+NamesAfter n (e ∷ es) = (slice_cmp nat_cmp n e.name ≡ Less) × NamesAfter n es
+
+abbrev pub NamesAscend : List Named → Type 0
+NamesAscend [] = Unit {0}
+NamesAscend (e ∷ es) = NamesAfter e.name es × NamesAscend es

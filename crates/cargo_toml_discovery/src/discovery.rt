@@ -1,0 +1,255 @@
+//! What discovery makes of what a manifest states.
+ghost use Rattle.std.specs.Prelude.{◌≡◌, [], List, Option, None, IfOk, IsTrue, map, codes, is_some};
+ghost use Rattle.std.specs.Option.{option_map, option_copied};
+ghost use Rattle.cargo_toml_discovery.specs.Answers.{answers_of, around_in, entries_if, names_in};
+ghost use Rattle.cargo_toml_discovery.specs.Discovering.{at_library, build_in, discovered, discovered_meaning, filled_library, found_library, library, list_of, main_offer, readme_in, stated_meaning};
+ghost use Rattle.cargo_toml_discovery.specs.Found.{Offered};
+ghost use Rattle.cargo_toml_discovery.specs.Names.{has_text};
+ghost use Rattle.cargo_toml_discovery.specs.Walk.{IsOffer};
+ghost use Rattle.cargo_toml_settings.specs.Settings.{file_meaning};
+ghost use Rattle.cargo_toml_tables.specs.Products.{product_meaning};
+
+use crate::found::{Offer, found};
+use crate::listings::{Listings, Wanted};
+use crate::names::underscored;
+use crate::products::{copied, copies, is_path_of, plain, sort_products};
+use cargo_toml_settings::{Edition, OptionalFile};
+use cargo_toml_tables::Product;
+use std::alloc::{AllocError, Global};
+
+/// What a manifest states of its package and of its products.
+pub struct Stated<'a> {
+    /// The package's name.
+    pub name: &'a str,
+    /// The package's edition.
+    pub edition: Edition,
+    /// Whether a library is made where `src/lib.rs` is there and none is stated.
+    pub autolib: bool,
+    /// Which lists of products are found in folders.
+    pub wanted: Wanted,
+    /// The library.
+    pub lib: Option<&'a Product>,
+    /// The binaries.
+    pub bin: &'a [Product],
+    /// The examples.
+    pub example: &'a [Product],
+    /// The tests.
+    pub test: &'a [Product],
+    /// The benchmarks.
+    pub bench: &'a [Product],
+    /// The build script.
+    pub build: Option<&'a OptionalFile>,
+    /// The readme.
+    pub readme: &'a OptionalFile,
+}
+
+/// What discovery puts into a manifest.
+#[derive(Debug, Drop)]
+pub struct Discovered {
+    /// The library.
+    pub lib: Option<Product>,
+    /// The binaries.
+    pub bin: Vec<Product>,
+    /// The examples.
+    pub example: Vec<Product>,
+    /// The tests.
+    pub test: Vec<Product>,
+    /// The benchmarks.
+    pub bench: Vec<Product>,
+    /// The build script.
+    pub build: Option<OptionalFile>,
+    /// The readme.
+    pub readme: OptionalFile,
+}
+
+// A library with the path `src/lib.rs`, unless it has one.
+fn at_library(alloc: Global, library: Product) -> Result<Product, AllocError>
+    ensures { IfOk result (λ p. product_meaning p ≡ at_library (product_meaning library)) }
+{
+    let mut library = library;
+    if library.path.is_none() {
+        library.path = Some(String::from_str(alloc, "src/lib.rs")?);
+    }
+    Ok(library)
+}
+
+// The library, where `src/lib.rs` is there or not.
+fn found_library(
+    alloc: Global,
+    is_there: bool,
+    autolib: bool,
+    library: Option<&Product>,
+) -> Result<Option<Product>, AllocError>
+    ensures { IfOk result (λ l. option_map product_meaning l ≡ found_library is_there autolib (option_map product_meaning (option_copied library.entry))) }
+{
+    match library {
+        Some(library) => {
+            let library = copied(library)?;
+            if is_there { Ok(Some(at_library(alloc, library)?)) } else { Ok(Some(library)) }
+        }
+        None => {
+            if is_there && autolib { Ok(Some(at_library(alloc, plain(alloc))?)) } else { Ok(None) }
+        }
+    }
+}
+
+// The library with what it takes from the package.
+fn filled_library(
+    alloc: Global,
+    name: &str,
+    edition: Edition,
+    library: Product,
+) -> Result<Product, AllocError>
+    ensures { IfOk result (λ p. product_meaning p ≡ filled_library name.now edition (product_meaning library)) }
+{
+    let mut library = library;
+    if library.name.is_none() {
+        library.name = Some(underscored(alloc, name)?);
+    }
+    if library.edition.is_none() {
+        library.edition = Some(edition);
+    }
+    if library.crate_type.is_empty() {
+        library.crate_type = vec![in alloc; String::from_str(alloc, "lib")?]?;
+    }
+    library.required_features = Vec::new(alloc);
+    Ok(library)
+}
+
+/// The library of a package of this name and edition: the one that is stated, with the path `src/lib.rs` where it has none and
+/// that file is there, or one that is made there where `autolib` says so. It has the name of the package with each `-` as `_`, its
+/// edition and the crate type `lib` where it states none, and no required features. It is refused only where there was no memory.
+pub fn library(
+    alloc: Global,
+    name: &str,
+    edition: Edition,
+    autolib: bool,
+    stated: Option<&Product>,
+    listings: &Listings,
+) -> Result<Option<Product>, AllocError>
+    ensures { IfOk result (λ l. option_map product_meaning l ≡ library name.now edition (has_text (names_in (answers_of listings.now) (codes "src")) (codes "lib.rs")) autolib (option_map product_meaning (option_copied stated.entry))) }
+{
+    match found_library(alloc, listings.has("src", "lib.rs"), autolib, stated)? {
+        Some(library) => Ok(Some(filled_library(alloc, name, edition, library)?)),
+        None => Ok(None),
+    }
+}
+
+// What `src/main.rs` offers, where it is there or not.
+fn main_offer(
+    alloc: Global,
+    name: &str,
+    is_there: bool,
+    products: &[Product],
+) -> Result<Option<Offer>, AllocError>
+    ensures { IfOk result (IsOffer (main_offer name.now is_there (map product_meaning products.now))) }
+{
+    if is_there && !is_path_of(products, "src/main.rs") {
+        return Ok(Some(Offer {
+            name: String::from_str(alloc, name)?,
+            path: String::from_str(alloc, "src/main.rs")?,
+        }));
+    }
+    Ok(None)
+}
+
+/// A list of products in order of name and path: where `is_wanted`, as it is found in the folder `dir` and by the offer `extra`, and
+/// otherwise just those that are stated. It is refused only where there was no memory.
+pub fn list_of(
+    alloc: Global,
+    edition: Edition,
+    is_wanted: bool,
+    dir: &str,
+    products: &[Product],
+    listings: &Listings,
+    extra: Option<Offer>,
+) -> Result<Vec<Product>, AllocError>
+    ensures { IfOk result (λ v. (x : Option Offered) → IsOffer x extra → map product_meaning v.items ≡ list_of edition is_wanted dir.now (map product_meaning products.now) (entries_if is_wanted (answers_of listings.now) dir.now) x) }
+{
+    if is_wanted {
+        let entries = listings.entries(alloc, dir)?;
+        return found(alloc, edition, dir, products, entries.as_slice(), extra);
+    }
+    let mut list = copies(alloc, products)?;
+    sort_products(&mut list)?;
+    Ok(list)
+}
+
+// A copy of a setting of a file.
+fn copied_file(alloc: Global, file: &OptionalFile) -> Result<OptionalFile, AllocError>
+    ensures { IfOk result (λ copy. file_meaning copy ≡ file_meaning file.now) }
+{
+    match file {
+        OptionalFile::Flag(is_on) => Ok(OptionalFile::Flag(*is_on)),
+        OptionalFile::Path(path) => Ok(OptionalFile::Path(String::from_str(alloc, path.as_str())?)),
+    }
+}
+
+/// The build script: the path `build.rs` where none is stated or just that there is one, and that file stands beside the manifest;
+/// otherwise what is stated. It is refused only where there was no memory.
+pub fn build(
+    alloc: Global,
+    stated: Option<&OptionalFile>,
+    listings: &Listings,
+) -> Result<Option<OptionalFile>, AllocError>
+    ensures { IfOk result (λ b. option_map file_meaning b ≡ build_in (names_in (answers_of listings.now) []) (option_map file_meaning (option_copied stated.entry))) }
+{
+    if let None | Some(OptionalFile::Flag(true)) = stated {
+        if listings.has("", "build.rs") {
+            return Ok(Some(OptionalFile::Path(String::from_str(alloc, "build.rs")?)));
+        }
+    }
+    match stated {
+        Some(file) => Ok(Some(copied_file(alloc, file)?)),
+        None => Ok(None),
+    }
+}
+
+/// The readme: where just that there is one is stated, the first of `README.md`, `README.txt` and `README` that stands beside the
+/// manifest; otherwise, or where none does, what is stated. It is refused only where there was no memory.
+pub fn readme(
+    alloc: Global,
+    stated: &OptionalFile,
+    listings: &Listings,
+) -> Result<OptionalFile, AllocError>
+    ensures { IfOk result (λ r. file_meaning r ≡ readme_in (names_in (answers_of listings.now) []) (file_meaning stated.now)) }
+{
+    let OptionalFile::Flag(true) = stated else {
+        return copied_file(alloc, stated);
+    };
+    let name = if listings.has("", "README.md") {
+        "README.md"
+    } else if listings.has("", "README.txt") {
+        "README.txt"
+    } else if listings.has("", "README") {
+        "README"
+    } else {
+        return Ok(OptionalFile::Flag(true));
+    };
+    Ok(OptionalFile::Path(String::from_str(alloc, name)?))
+}
+
+/// What discovery makes of what a manifest states, by the names that were told of the folders around it. It is refused only where
+/// there was no memory.
+pub fn discover(
+    alloc: Global,
+    stated: &Stated<'_>,
+    listings: &Listings,
+) -> Result<Discovered, AllocError>
+    ensures { IfOk result (λ d. discovered_meaning d ≡ discovered (stated_meaning stated.now) (around_in (answers_of listings.now) stated.now.wanted)) }
+{
+    let name = stated.name;
+    let edition = stated.edition;
+    let wanted = stated.wanted;
+    let bin = stated.bin;
+    let main = main_offer(alloc, name, listings.has("src", "main.rs"), bin)?;
+    Ok(Discovered {
+        lib: library(alloc, name, edition, stated.autolib, stated.lib, listings)?,
+        bin: list_of(alloc, edition, wanted.bins, "src/bin", bin, listings, main)?,
+        example: list_of(alloc, edition, wanted.examples, "examples", stated.example, listings, None)?,
+        test: list_of(alloc, edition, wanted.tests, "tests", stated.test, listings, None)?,
+        bench: list_of(alloc, edition, wanted.benches, "benches", stated.bench, listings, None)?,
+        build: build(alloc, stated.build, listings)?,
+        readme: readme(alloc, stated.readme, listings)?,
+    })
+}

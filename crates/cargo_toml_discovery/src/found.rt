@@ -1,0 +1,274 @@
+//! Products that are found in a folder.
+ghost use Rattle.std.specs.Prelude.{◌≡◌, ◌++◌, ◌∷◌, ◌||◌, List, map, filter, Option, OnOk, IfOk, IsTrue, string_bytes};
+ghost use Rattle.std.specs.List.{cons_option};
+ghost use Rattle.std.specs.Option.{option_map, option_copied};
+ghost use Rattle.std.specs.Str.{bytes_eq};
+ghost use Rattle.cargo_toml_discovery.specs.Found.{offer_of, Offered, has_path, is_path_of, is_text, last_waiting, waits_or, product_for, open_offer, offers, found};
+ghost use Rattle.cargo_toml_discovery.specs.Names.{Text};
+ghost use Rattle.cargo_toml_discovery.specs.Sorting.{in_order};
+ghost use Rattle.cargo_toml_discovery.specs.Walk.{named_of, offer_parts, parts_of_code, waiting_in, is_path_in, walked, all_walked, IsOffer, NamesAscend};
+ghost use Rattle.cargo_toml_tables.specs.Products.{ProductMeaning, product_meaning};
+
+use crate::listings::Entry;
+use crate::names::{in_dir, is_source, stem};
+use crate::products::{copied, plain, sort_products};
+use cargo_toml_settings::Edition;
+use cargo_toml_tables::Product;
+use std::alloc::{AllocError, Global};
+use std::collections::{BTreeMap, BTreeSet};
+
+/// A main file that is there, and the name of its product.
+#[derive(Debug, Drop)]
+pub struct Offer {
+    /// The name of the product.
+    pub name: String,
+    /// The path of the file.
+    pub path: String,
+}
+
+// What a name in a folder offers.
+fn offer_for(alloc: Global, dir: &str, entry: &Entry) -> Result<Option<Offer>, AllocError>
+    ensures { IfOk result (IsOffer (offer_of dir.now (named_of entry.now))) }
+{
+    let name = entry.name.as_str();
+    if is_source(name) {
+        return Ok(Some(Offer {
+            name: String::from_str(alloc, stem(name))?,
+            path: in_dir(alloc, dir, name)?,
+        }));
+    }
+    if entry.has_main {
+        let mut path = in_dir(alloc, dir, name)?;
+        path.push_str("/main.rs")?;
+        return Ok(Some(Offer { name: entry.name.clone()?, path }));
+    }
+    Ok(None)
+}
+
+// Puts the path of a product into a set of paths, if it has one.
+fn add_path<'a>(paths: &mut BTreeSet<&'a str>, product: &'a Product) -> Result<(), AllocError>
+    ensures ok { OnOk result ((t : Text) → is_path_in paths.new t ≡ (is_path_in paths.old t || is_text t (product_meaning product.now).path)) }
+{
+    if let Some(path) = &product.path {
+        paths.insert(path.as_str())?;
+    }
+    Ok(())
+}
+
+// The paths of the products.
+fn paths_of<'a>(alloc: Global, products: &'a [Product]) -> Result<BTreeSet<&'a str>, AllocError>
+    ensures { IfOk result (λ s. (t : Text) → is_path_in s t ≡ is_path_of (map product_meaning products.now) t) }
+{
+    let mut paths = BTreeSet::new(alloc);
+    for product in products {
+        add_path(&mut paths, product)?;
+    }
+    Ok(paths)
+}
+
+// Copies of the products that have a path.
+fn staying(alloc: Global, products: &[Product]) -> Result<Vec<Product>, AllocError>
+    ensures { IfOk result (λ v. map product_meaning v.items ≡ filter has_path (map product_meaning products.now)) }
+{
+    let mut list = Vec::new(alloc);
+    for product in products {
+        if product.path.is_some() {
+            list.push(copied(product)?)?;
+        }
+    }
+    Ok(list)
+}
+
+// Lets a product wait, if it has a name and no path.
+fn wait<'a>(
+    map: &mut BTreeMap<&'a str, &'a Product>,
+    product: &'a Product,
+) -> Result<(), AllocError>
+    ensures ok { OnOk result ((n : Text) → waiting_in map.new n ≡ waits_or (product_meaning product.now) n (waiting_in map.old n)) }
+{
+    if product.path.is_none() {
+        if let Some(name) = &product.name {
+            map.insert(name.as_str(), product)?;
+        }
+    }
+    Ok(())
+}
+
+// The products that wait for a file, the last of each name.
+fn waiting<'a>(
+    alloc: Global,
+    products: &'a [Product],
+) -> Result<BTreeMap<&'a str, &'a Product>, AllocError>
+    ensures { IfOk result (λ m. (n : Text) → waiting_in m n ≡ last_waiting (map product_meaning products.now) n) }
+{
+    let mut map = BTreeMap::new(alloc);
+    for product in products {
+        wait(&mut map, product)?;
+    }
+    Ok(map)
+}
+
+// The product of an offer, where this one waits for it.
+fn product_for(
+    alloc: Global,
+    edition: Edition,
+    offer: Offer,
+    waiting: Option<&Product>,
+) -> Result<Product, AllocError>
+    ensures { IfOk result (λ p. (o : Offered) → offer_parts o ≡ parts_of_code offer → product_meaning p ≡ product_for edition o (option_map product_meaning (option_copied waiting.entry))) }
+{
+    match waiting {
+        Some(product) => {
+            let mut placed = copied(product)?;
+            placed.path = Some(offer.path);
+            Ok(placed)
+        }
+        None => {
+            let mut product = plain(alloc);
+            product.name = Some(offer.name);
+            product.path = Some(offer.path);
+            product.edition = Some(edition);
+            Ok(product)
+        }
+    }
+}
+
+// What a name offers, unless its path is taken.
+fn open_offer(
+    alloc: Global,
+    dir: &str,
+    paths: &BTreeSet<&str>,
+    entry: &Entry,
+) -> Result<Option<Offer>, AllocError>
+    ensures { IfOk result (IsOffer (open_offer dir.now (is_path_in paths.now) (named_of entry.now))) }
+{
+    match offer_for(alloc, dir, entry)? {
+        Some(offer) => {
+            if paths.contains(offer.path.as_str()) {
+                Ok(None)
+            } else {
+                Ok(Some(offer))
+            }
+        }
+        None => Ok(None),
+    }
+}
+
+// Puts the product of an offer into the list.
+fn place<'a>(
+    alloc: Global,
+    edition: Edition,
+    offer: Offer,
+    list: &mut Vec<Product>,
+    still: &mut BTreeMap<&'a str, &'a Product>,
+) -> Result<(), AllocError>
+    ensures ok { OnOk result ((o : Offered) (os : List Offered) → offer_parts o ≡ parts_of_code offer → walked edition list.new still.new os ≡ walked edition list.old still.old (o ∷ os)) }
+{
+    let waiting = still.remove(offer.name.as_str());
+    list.push(product_for(alloc, edition, offer, waiting)?)?;
+    Ok(())
+}
+
+// Puts the product of an offer into the list, if there is one.
+fn place_if_there<'a>(
+    alloc: Global,
+    edition: Edition,
+    offer: Option<Offer>,
+    list: &mut Vec<Product>,
+    still: &mut BTreeMap<&'a str, &'a Product>,
+) -> Result<(), AllocError>
+    ensures ok { OnOk result ((o : Option Offered) (os : List Offered) → IsOffer o offer → walked edition list.new still.new os ≡ walked edition list.old still.old (cons_option o os)) }
+{
+    if let Some(offer) = offer {
+        place(alloc, edition, offer, list, still)?;
+    }
+    Ok(())
+}
+
+// Puts the product of a name into the list, if the name offers one.
+fn place_one<'a>(
+    alloc: Global,
+    edition: Edition,
+    dir: &str,
+    paths: &BTreeSet<&str>,
+    entry: &Entry,
+    list: &mut Vec<Product>,
+    still: &mut BTreeMap<&'a str, &'a Product>,
+) -> Result<(), AllocError>
+    ensures ok { OnOk result ((os : List Offered) → walked edition list.new still.new os ≡ walked edition list.old still.old (cons_option (open_offer dir.now (is_path_in paths.now) (named_of entry.now)) os)) }
+{
+    let offer = open_offer(alloc, dir, paths, entry)?;
+    place_if_there(alloc, edition, offer, list, still)?;
+    Ok(())
+}
+
+// Puts the products of the names into the list.
+fn place_all<'a>(
+    alloc: Global,
+    edition: Edition,
+    dir: &str,
+    paths: &BTreeSet<&str>,
+    entries: &[Entry],
+    list: &mut Vec<Product>,
+    still: &mut BTreeMap<&'a str, &'a Product>,
+) -> Result<(), AllocError>
+    ensures ok { OnOk result ((os : List Offered) → walked edition list.new still.new os ≡ walked edition list.old still.old (offers dir.now (is_path_in paths.now) (map named_of entries.now) ++ os)) }
+{
+    for entry in entries {
+        place_one(alloc, edition, dir, paths, entry, list, still)?;
+    }
+    Ok(())
+}
+
+// The products of the folder and of one more offer, those that have a path first.
+fn placed(
+    alloc: Global,
+    edition: Edition,
+    dir: &str,
+    products: &[Product],
+    entries: &[Entry],
+    extra: Option<Offer>,
+) -> Result<Vec<Product>, AllocError>
+    ensures { IfOk result (λ v. (x : Option Offered) → IsOffer x extra → map product_meaning v.items ≡ all_walked edition dir.now (map product_meaning products.now) (map named_of entries.now) x) }
+{
+    let paths = paths_of(alloc, products)?;
+    let mut list = staying(alloc, products)?;
+    let mut still = waiting(alloc, products)?;
+    place_all(alloc, edition, dir, &paths, entries, &mut list, &mut still)?;
+    place_if_there(alloc, edition, extra, &mut list, &mut still)?;
+    Ok(list)
+}
+
+// The products of the folder and of one more offer, in order.
+fn found_by_walk(
+    alloc: Global,
+    edition: Edition,
+    dir: &str,
+    products: &[Product],
+    entries: &[Entry],
+    extra: Option<Offer>,
+) -> Result<Vec<Product>, AllocError>
+    ensures { IfOk result (λ v. (x : Option Offered) → IsOffer x extra → map product_meaning v.items ≡ in_order (all_walked edition dir.now (map product_meaning products.now) (map named_of entries.now) x)) }
+{
+    let mut list = placed(alloc, edition, dir, products, entries, extra)?;
+    sort_products(&mut list)?;
+    Ok(list)
+}
+
+/// The products of a folder whose names are these, each once and in byte order: those of `products` that have a path, and one for
+/// each offer of the folder, and of `extra`, whose path none of them has. It takes the last product without a path that has the
+/// offer's name, if no name before offers the same, and is a new one of this edition otherwise. They are in order of name and path.
+/// It is refused only where there was no memory.
+pub fn found(
+    alloc: Global,
+    edition: Edition,
+    dir: &str,
+    products: &[Product],
+    entries: &[Entry],
+    extra: Option<Offer>,
+) -> Result<Vec<Product>, AllocError>
+    requires { NamesAscend (map named_of entries.now) }
+    ensures { IfOk result (λ v. (x : Option Offered) → IsOffer x extra → map product_meaning v.items ≡ found edition dir.now (map product_meaning products.now) (map named_of entries.now) x) }
+{
+    found_by_walk(alloc, edition, dir, products, entries, extra)
+}

@@ -1,0 +1,16 @@
+//! Which library, binaries, examples, tests and benchmarks of a package are found by the names in its folders, and which build
+//! script and readme.
+//!
+//! Nothing here asks a file system. What was told of the folders stands in `Listings`, what a manifest states in `Stated`, and
+//! `discover` makes `Discovered` of both.
+#![tactic(auto)]
+
+pub mod discovery;
+pub mod found;
+pub mod listings;
+mod names;
+mod products;
+
+pub use discovery::{Discovered, Stated, discover};
+pub use found::Offer;
+pub use listings::{Entry, Listings, Wanted};

@@ -1,0 +1,128 @@
+//! The names that were told of folders.
+ghost use Rattle.std.specs.Prelude.{◌≡◌, [], IfOk, OnOk, Some, map, string_bytes, if◌then◌else◌};
+ghost use Rattle.std.specs.BTreeSet.{contains_text, IsOrdered};
+ghost use Rattle.std.specs.HashSet.{contains_text as has_in};
+ghost use Rattle.std.specs.Option.{option_map, option_copied};
+ghost use Rattle.std.specs.Str.{bytes_eq};
+ghost use Rattle.std.specs.String.{string_cmp};
+ghost use Rattle.cargo_toml_discovery.specs.Answers.{answers_of, answer_at, texts_in, names_in, below, entries_in};
+ghost use Rattle.cargo_toml_discovery.specs.Names.{Text, has_text};
+ghost use Rattle.cargo_toml_discovery.specs.Walk.{named_of, NamesAscend};
+
+use crate::names::{in_dir, is_source};
+use std::alloc::{AllocError, Global};
+use std::collections::{BTreeMap, BTreeSet, HashSet};
+
+/// Which lists of products are to be found in folders.
+#[derive(Clone, Copy, Debug, PartialEq, Eq)]
+pub struct Wanted {
+    /// Whether binaries are found in `src/bin`.
+    pub bins: bool,
+    /// Whether examples are found in `examples`.
+    pub examples: bool,
+    /// Whether tests are found in `tests`.
+    pub tests: bool,
+    /// Whether benchmarks are found in `benches`.
+    pub benches: bool,
+}
+
+/// A name in a folder of products.
+#[derive(Debug, Drop)]
+pub struct Entry {
+    /// The name.
+    pub name: String,
+    /// Whether it is no source and the folder of that name holds `main.rs`.
+    pub has_main: bool,
+}
+
+/// The names in the folders that were asked for, by the paths of these.
+#[derive(Debug, Drop)]
+pub struct Listings {
+    /// The names in each folder.
+    pub names: BTreeMap<String, BTreeSet<String>>,
+}
+
+/// The names in byte order. It is refused only where there was no memory.
+pub fn sorted_names(alloc: Global, names: &HashSet<String>) -> Result<BTreeSet<String>, AllocError>
+    ensures names { IfOk result (λ s. (t : Text) → contains_text s t ≡ has_in names.now t) }
+    ensures ordered { IfOk result (λ s. IsOrdered string_cmp s) }
+{
+    let mut sorted = BTreeSet::new(alloc);
+    for name in names {
+        sorted.insert(name.clone()?)?;
+    }
+    let _count = sorted.len();
+    Ok(sorted)
+}
+
+impl Listings {
+    /// Without any folder.
+    pub fn new(alloc: Global) -> Listings
+        ensures { answers_of result ≡ [] }
+    {
+        Listings { names: BTreeMap::new(alloc) }
+    }
+
+    /// The names in a folder, `None` where it was not asked for.
+    pub fn names_at(&self, path: &str) -> Option<&BTreeSet<String>>
+        ensures { option_map texts_in (option_copied result) ≡ answer_at (answers_of self.now) path.now }
+    {
+        self.names.get(path)
+    }
+
+    /// Whether the name is in a folder, false where that was not asked for.
+    pub fn has(&self, path: &str, name: &str) -> bool
+        ensures { result ≡ has_text (names_in (answers_of self.now) path.now) name.now }
+    {
+        match self.names_at(path) {
+            Some(names) => names.contains(name),
+            None => false,
+        }
+    }
+
+    /// Keeps the names in a folder, in place of those that were kept of it. It is refused only where there was no memory.
+    pub fn keep(
+        &mut self,
+        alloc: Global,
+        path: &str,
+        names: BTreeSet<String>,
+    ) -> Result<(), AllocError>
+        ensures ok { OnOk result ((p : Text) → answer_at (answers_of self.new) p ≡ (if bytes_eq path.now p then Some (texts_in names) else answer_at (answers_of self.old) p)) }
+    {
+        self.names.insert(String::from_str(alloc, path)?, names)?;
+        Ok(())
+    }
+
+    /// The paths of the folders in a folder that may hold `main.rs`: those of the names that are no sources.
+    pub fn folders_in(&self, alloc: Global, dir: &str) -> Result<Vec<String>, AllocError>
+        ensures { IfOk result (λ v. map string_bytes v.items ≡ below dir.now (names_in (answers_of self.now) dir.now)) }
+    {
+        let mut paths = Vec::new(alloc);
+        if let Some(names) = self.names_at(dir) {
+            for name in names {
+                if !is_source(name.as_str()) {
+                    paths.push(in_dir(alloc, dir, name.as_str())?)?;
+                }
+            }
+        }
+        Ok(paths)
+    }
+
+    /// What a folder of products holds, by name in byte order; nothing where it was not asked for.
+    pub fn entries(&self, alloc: Global, dir: &str) -> Result<Vec<Entry>, AllocError>
+        ensures names { IfOk result (λ v. map named_of v.items ≡ entries_in (answers_of self.now) dir.now) }
+        ensures ascend { IfOk result (λ v. NamesAscend (map named_of v.items)) }
+    {
+        let mut entries = Vec::new(alloc);
+        let Some(names) = self.names_at(dir) else {
+            return Ok(entries);
+        };
+        let _count = names.len();
+        for name in names {
+            let has_main = !is_source(name.as_str())
+                && self.has(in_dir(alloc, dir, name.as_str())?.as_str(), "main.rs");
+            entries.push(Entry { name: name.clone()?, has_main })?;
+        }
+        Ok(entries)
+    }
+}

@@ -1,0 +1,48 @@
+//! Names of files and folders.
+ghost use Rattle.std.specs.Prelude.{◌≡◌, IfOk, IsTrue, string_bytes};
+ghost use Rattle.cargo_toml_discovery.specs.Names.{in_dir, is_source, stem, underscored, without_ending};
+
+use std::alloc::{AllocError, Global};
+
+/// The path of a name in a folder.
+pub fn in_dir(alloc: Global, dir: &str, name: &str) -> Result<String, AllocError>
+    ensures { IfOk result (λ path. string_bytes path ≡ in_dir dir.now name.now) }
+{
+    format!(in alloc; "{dir}/{name}")
+}
+
+/// Whether the name is that of a source: whether it ends with `.rs`.
+pub fn is_source(name: &str) -> bool
+    ensures { result ≡ is_source name.now }
+{
+    name.as_bytes().ends_with(b".rs".as_slice())
+}
+
+// The name of a source without its last three bytes.
+fn without_ending(name: &str) -> &str
+    requires { IsTrue (is_source name.now) }
+    ensures { result.now ≡ without_ending name.now }
+{
+    match name.strip_suffix(".rs") {
+        Some(front) => front,
+        None => name,
+    }
+}
+
+/// The name without `.rs` at its end, however often it stands there.
+pub fn stem(name: &str) -> &str
+    ensures { result.now ≡ stem name.now }
+{
+    let mut rest = name;
+    while is_source(rest) {
+        rest = without_ending(rest);
+    }
+    rest
+}
+
+/// The name with each `-` as `_`.
+pub fn underscored(alloc: Global, name: &str) -> Result<String, AllocError>
+    ensures { IfOk result (λ s. string_bytes s ≡ underscored name.now) }
+{
+    name.replace(alloc, '-', "_")
+}

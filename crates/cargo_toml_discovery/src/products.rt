@@ -1,0 +1,63 @@
+//! Copies of products, new ones, and their order.
+ghost use Rattle.std.specs.Prelude.{◌≡◌, IfOk, OnOk, Some, map, string_bytes};
+ghost use Rattle.cargo_toml_discovery.specs.Found.{plain, is_path_of};
+ghost use Rattle.cargo_toml_discovery.specs.Sorting.{in_order, product_cmp};
+ghost use Rattle.cargo_toml_tables.specs.Products.{product_meaning};
+
+use cargo_toml_tables::Product;
+use std::alloc::{AllocError, Global};
+use std::cmp::Ordering;
+
+// Compares two products by name, then by path.
+fn compare(a: &Product, b: &Product) -> Ordering
+    ensures { result ≡ product_cmp (product_meaning a.now) (product_meaning b.now) }
+{
+    a.name.cmp(&b.name).then(a.path.cmp(&b.path))
+}
+
+/// Puts products in order, by name and then by path. Equal ones stay in their order. It is refused only where there was no
+/// memory.
+pub fn sort_products(products: &mut Vec<Product>) -> Result<(), AllocError>
+    ensures ok { OnOk result (map product_meaning products.new.items ≡ in_order (map product_meaning products.old.items)) }
+{
+    products.sort_by(|a, b| compare(a, b))
+}
+
+/// A product of which no key is given. It takes no memory.
+pub fn plain(alloc: Global) -> Product
+    ensures { product_meaning result ≡ plain }
+{
+    Product::default(alloc)
+}
+
+/// A copy of a product, which holds the same.
+pub fn copied(product: &Product) -> Result<Product, AllocError>
+    ensures { IfOk result (λ copy. product_meaning copy ≡ product_meaning product.now) }
+{
+    product.clone()
+}
+
+/// Copies of products, which hold the same.
+pub fn copies(alloc: Global, products: &[Product]) -> Result<Vec<Product>, AllocError>
+    ensures { IfOk result (λ list. map product_meaning list.items ≡ map product_meaning products.now) }
+{
+    let mut list = Vec::new(alloc);
+    for product in products {
+        list.push(copied(product)?)?;
+    }
+    Ok(list)
+}
+
+/// Whether some product has the path.
+pub fn is_path_of(products: &[Product], path: &str) -> bool
+    ensures { result ≡ is_path_of (map product_meaning products.now) path.now }
+{
+    for product in products {
+        if let Some(own) = &product.path {
+            if own.as_str() == path {
+                return true;
+            }
+        }
+    }
+    false
+}

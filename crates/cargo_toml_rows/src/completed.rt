@@ -1,7 +1,8 @@
 //! What completion makes of a manifest: with a workspace that is handed in, with its own, or with a root that is told.
 use crate::manifests::{read, with_lines};
 use cargo_toml::{Error, Manifest, Value};
-use cargo_toml_bench::in_memory::{InMemory, Root};
+use cargo_toml_bench::in_memory::{Answer, InMemory, Root};
+use std::alloc::Global;
 use std::rt::Files;
 use std::{fs, io};
 
@@ -19,10 +20,47 @@ fn text_of<R: Files + AllocGlobal>(
     }
 }
 
-/// The files around the manifest. The file `root` names the path of the one root, which the hint in the file `hint` leads to;
-/// `Root.toml` is its manifest, without which want of memory is answered.
+fn texts(alloc: Global, words: &str) -> Result<Vec<String>, Error> {
+    let mut texts = Vec::new(alloc);
+    for word in words.split_whitespace() {
+        texts.push(String::from_str(alloc, word)?)?;
+    }
+    Ok(texts)
+}
+
+fn answer_of(alloc: Global, words: &str) -> Result<Answer, Error> {
+    match words {
+        "!denied" => Ok(Answer::Denied(io::ErrorKind::PermissionDenied)),
+        "!no-memory" => Ok(Answer::NoMemory),
+        _ => match words.strip_prefix("!open") {
+            Some(words) => Ok(Answer::Open(texts(alloc, words)?)),
+            None => Ok(Answer::Names(texts(alloc, words)?)),
+        },
+    }
+}
+
+/// The folders around the manifest, a line each: `PATH: NAME NAME ..`, with `!open` before the names of which nothing is told, and
+/// `!denied` or `!no-memory` in place of names. The folder of the manifest is the empty path. Other folders are absent.
+fn folders(alloc: Global, lines: &str) -> Result<Vec<(String, Answer)>, Error> {
+    let mut folders = Vec::new(alloc);
+    for line in lines.split_terminator('\n') {
+        let Some((path, words)) = line.split_once(':') else {
+            return Err(Error::Other("a folder is a line PATH: NAME NAME .."));
+        };
+        let path = String::from_str(alloc, path)?;
+        folders.push((path, answer_of(alloc, words.trim())?))?;
+    }
+    Ok(folders)
+}
+
+/// The files around the manifest: the folders in the file `files`, and the one root, if the row has one. The file `root` names its path,
+/// `hint` the hint that leads to it; `Root.toml` is its manifest, without which want of memory is answered.
 fn files_around<R: Files + AllocGlobal>(rt: &R, folder: &str) -> Result<InMemory, Error> {
-    let mut files = InMemory::new(rt.alloc());
+    let alloc = rt.alloc();
+    let mut files = InMemory::new(alloc);
+    if let Some(lines) = text_of(rt, folder, "files")? {
+        files.folders = folders(alloc, lines.as_str())?;
+    }
     if let Some(path) = text_of(rt, folder, "root")? {
         let hint = text_of(rt, folder, "hint")?;
         let text = text_of(rt, folder, "Root.toml")?;
@@ -49,13 +87,12 @@ fn complete<R: Files + AllocGlobal>(
     manifest.complete_from_abstract_filesystem(alloc, files, Some((&*workspace, path.as_str())))
 }
 
-/// The expected lines where each stands in the text of the completed manifest's fields, and that text otherwise; or why completion is
-/// refused, and whether the manifest is then as it was.
-pub fn fields<R: Files + AllocGlobal>(
+/// What came of completing: the fields of the manifest, or why it is refused, in words and by its parts, and whether the manifest is then
+/// as it was.
+fn outcome_text<R: Files + AllocGlobal>(
     rt: &R,
     folder: &str,
     bytes: &[u8],
-    expected: &str,
 ) -> Result<String, Error> {
     let alloc = rt.alloc();
     let files = files_around(rt, folder)?;
@@ -64,8 +101,21 @@ pub fn fields<R: Files + AllocGlobal>(
     let outcome = complete(rt, folder, &mut *manifest, &files);
     let after = format!(in alloc; "{manifest:?}")?;
     match outcome {
-        Ok(()) => with_lines(alloc, after.as_str(), expected),
-        Err(fault) if after == before => Ok(format!(in alloc; "refused, unchanged: {fault}\n")?),
-        Err(fault) => Ok(format!(in alloc; "refused, changed: {fault}\n")?),
+        Ok(()) => Ok(after),
+        Err(fault) if after == before => {
+            Ok(format!(in alloc; "refused, unchanged: {fault}\n{fault:?}")?)
+        }
+        Err(fault) => Ok(format!(in alloc; "refused, changed: {fault}")?),
     }
+}
+
+/// The expected lines where each stands in what came of completing, and that text otherwise.
+pub fn fields<R: Files + AllocGlobal>(
+    rt: &R,
+    folder: &str,
+    bytes: &[u8],
+    expected: &str,
+) -> Result<String, Error> {
+    let text = outcome_text(rt, folder, bytes)?;
+    with_lines(rt.alloc(), text.as_str(), expected)
 }

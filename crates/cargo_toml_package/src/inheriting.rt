@@ -145,7 +145,8 @@ fn fields_from<M>(
 
 // Puts in a new value, if there is one.
 fn put<T: Read>(field: &mut Inheritable<T>, value: Option<T>)
-    ensures { inheritable_map T.meaning field.new ≡ put (inheritable_map T.meaning field.old) (option_map T.meaning value) }
+    ensures { inheritable_map T.meaning field.new
+        ≡ put (inheritable_map T.meaning field.old) (option_map T.meaning value) }
 {
     if let Some(value) = value {
         *field = Inheritable::Set(value);
@@ -162,7 +163,8 @@ fn put_if_there<T: Read>(field: &mut Option<Inheritable<T>>, value: Option<T>)
     }
 }
 
-/// Puts these values in place of the package's own. Its other fields stay, and its metadata are not touched.
+/// Puts these values in place of the package's own. Its other fields stay, and its metadata are not touched. It takes no
+/// memory.
 pub fn install<M: Drop>(package: &mut Package<M>, new: NewFields)
     ensures { package_meaning (λ m. m) «package».new ≡ installed (package_meaning (λ m. m) «package».old) new }
 {
@@ -193,7 +195,8 @@ fn stays<T: Read>(field: &Inheritable<T>, value: &Option<T>) -> bool
 
 // The same of a field that may not be there.
 fn stays_there<T: Read>(field: &Option<Inheritable<T>>, value: &Option<T>) -> bool
-    ensures { result ≡ is_left_there (put_if_there (option_map (inheritable_map T.meaning) field.now) (option_map T.meaning value.now)) }
+    ensures { result ≡ is_left_there
+        (put_if_there (option_map (inheritable_map T.meaning) field.now) (option_map T.meaning value.now)) }
 {
     match field {
         Some(field) => stays(field, value),
@@ -266,7 +269,8 @@ fn check_none_stays<M>(alloc: Global, package: &Package<M>, new: &NewFields) -> 
 /// What a package takes from the template of its workspace, where there is one. A path of the workspace is joined to `base`,
 /// the workspace's folder.
 ///
-/// Refused by `WorkspaceIntegrity` where a field would still be left to the workspace, and by `Memory`.
+/// Refused by `WorkspaceIntegrity`, which tells the package's name, where a field would still be left to the workspace, and by
+/// `Memory`. The package is only read: [`install`] changes it.
 pub fn new_fields<M>(
     alloc: Global,
     package: &Package<M>,

@@ -1,5 +1,5 @@
 -- Copies of lints hold the same.
-use Rattle.std.proofs.Common.{◌≡◌, ℕ, List, map, BTreeMap, String, Global, string_bytes}
+use Rattle.std.proofs.Common.{◌≡◌, ℕ, List, BTreeMap, String, Global, string_bytes}
 use Rattle.std.specs.List.{AllZip}
 use Rattle.toml.specs.View.{view}
 use Rattle.cargo_toml_parts.specs.Reads.{map_meaning}

@@ -5,15 +5,23 @@ use Rattle.cargo_toml_parts.specs.declared.error.Error.{Error, Memory}
 use Rattle.cargo_toml_parts.specs.FaultValues.{Fault, fault_of}
 use Rattle.cargo_toml_parts.specs.InheritableValues.{value_of}
 use Rattle.cargo_toml_parts.specs.Wrapping.{wrap}
-use Rattle.cargo_toml_package.specs.PackageAnswers.{is_known}
-use Rattle.cargo_toml_package.specs.declared.package.Package as code
 use Rattle.cargo_toml_manifest.specs.Inheriting.{Shared, shared, inherited_manifest, needs}
 use Rattle.cargo_toml_manifest.specs.Manifests.{ManifestMeaning}
+use Rattle.cargo_toml_manifest.specs.Workspaces.{workspace_meaning}
+use Rattle.cargo_toml_manifest.specs.declared.manifest.Manifest.{Manifest}
+use Rattle.cargo_toml_manifest.specs.declared.workspace.Workspace.{Workspace}
+use denote.Ref.{Bor}
 use Rattle.cargo_toml_manifest.specs.Told.{ToldRoot, root, no_root, open_root}
 
 -- a workspace that is handed in: what its manifest shares, where it has a workspace table, and the path
 abbrev pub Handed : Type 0
 Handed = Option Shared × List ℕ
+
+abbrev pub shared_of : {N : Type 0} → Option (Workspace N) → Option Shared
+shared_of workspace = option_map (λ w. shared (workspace_meaning (λ x. x) w)) workspace
+
+abbrev pub handed_of : {N : Type 0} → Bor (Manifest N) × Bor (List ℕ) → Handed
+handed_of handed = (shared_of handed.0.now.workspace, handed.1.now)
 
 -- no inheritance; this workspace table, or none, with its path; that none was found; or that nothing is told of it
 pub data Choice : Type 0 where
@@ -81,22 +89,3 @@ Answers told answered = (hint : Option (List ℕ)) → (told hint ≡ answered h
 abbrev pub GivenBy : {M : Type 0} → ManifestMeaning M → Option Handed → (Option (List ℕ) → ToldRoot) → ManifestMeaning M → Type 0
 GivenBy m handed told n =
     (answered : Option (List ℕ) → ToldRoot) × Answers told answered × (complete m handed answered ≡ gives n)
-
--- every field is known that a workspace may give
-pub record IsFilled {M : Type 0} (p : code.Package M) : Type 0 where
-  pub version : IsSome (value_of p.version)
-  pub edition : IsSome (value_of p.edition)
-  pub rust_version : IsTrue (is_known p.rust_version)
-  pub authors : IsSome (value_of p.authors)
-  pub description : IsTrue (is_known p.description)
-  pub homepage : IsTrue (is_known p.homepage)
-  pub documentation : IsTrue (is_known p.documentation)
-  pub readme : IsSome (value_of p.readme)
-  pub keywords : IsSome (value_of p.keywords)
-  pub categories : IsSome (value_of p.categories)
-  pub exclude : IsSome (value_of p.exclude)
-  pub include : IsSome (value_of p.include)
-  pub license : IsTrue (is_known p.license)
-  pub license_file : IsTrue (is_known p.license_file)
-  pub repository : IsTrue (is_known p.repository)
-  pub publish : IsSome (value_of p.publish)

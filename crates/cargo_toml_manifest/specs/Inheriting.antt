@@ -6,7 +6,8 @@ use Rattle.cargo_toml_parts.specs.FaultValues.{Fault, workspace_integrity}
 use Rattle.cargo_toml_parts.specs.InheritableValues.{is_set}
 use Rattle.cargo_toml_parts.specs.declared.inheritable.Inheritable.{Inheritable}
 use Rattle.cargo_toml_parts.specs.declared.inheritable.Inheritable.TheVariants.{Set, Inherited}
-use Rattle.cargo_toml_dependencies.specs.Inheriting.{Entries, inherited_entries, inherited_targets, any_left, any_target_left}
+use Rattle.cargo_toml_dependencies.specs.Inheriting.{Entries, inherited_target, inherited_targets, any_left, any_target_left}
+use Rattle.cargo_toml_dependencies.specs.Targets.{TargetMeaning}
 use Rattle.cargo_toml_package.specs.Inheriting.{inherited_package, any_field_left}
 use Rattle.cargo_toml_package.specs.Packages.{PackageMeaning}
 use Rattle.cargo_toml_package.specs.Templates.{TemplateMeaning}
@@ -39,24 +40,36 @@ inherited_if_there template base (Some p) = do
   q ← inherited_package template base p
   Ok (Some q)
 
--- a manifest after inheritance from this workspace, whose folder is `base`: each part is looked up in what was written, and
--- the first fault in this order counts
-abbrev pub inherited_manifest : {M : Type 0} → Option Shared → List ℕ → ManifestMeaning M → Result (ManifestMeaning M) Fault
-inherited_manifest workspace base m = do
-  dependencies ← inherited_entries (option_map (λ w. w.dependencies) workspace) base m.dependencies
-  build_dependencies ← inherited_entries (option_map (λ w. w.dependencies) workspace) base m.build_dependencies
-  dev_dependencies ← inherited_entries (option_map (λ w. w.dependencies) workspace) base m.dev_dependencies
-  target ← inherited_targets (option_map (λ w. w.dependencies) workspace) base m.target
-  lints ← inherited_lints (option_map (λ w. w.lints) workspace) m.lints
-  «package» ← inherited_if_there (option_and_then (λ w. w.template) workspace) base m.«package»
+-- the tables of dependencies, like those of a target
+abbrev pub own_tables : {M : Type 0} → ManifestMeaning M → TargetMeaning
+own_tables m = record {
+  dependencies = m.dependencies;
+  dev_dependencies = m.dev_dependencies;
+  build_dependencies = m.build_dependencies;
+}
+
+-- a manifest after inheritance of dependencies from these templates, of lints and of package fields, whose paths are joined to
+-- `base`: each part is looked up in what was written, and the first fault in this order counts
+abbrev pub inherited_from : {M : Type 0} → Option Entries → Option Lints → Option TemplateMeaning → List ℕ → ManifestMeaning M → Result (ManifestMeaning M) Fault
+inherited_from templates groups template base m = do
+  tables ← inherited_target templates base (own_tables m)
+  target ← inherited_targets templates base m.target
+  lints ← inherited_lints groups m.lints
+  «package» ← inherited_if_there template base m.«package»
   Ok (record m {
     «package» = «package»;
-    dependencies = dependencies;
-    dev_dependencies = dev_dependencies;
-    build_dependencies = build_dependencies;
+    dependencies = tables.dependencies;
+    dev_dependencies = tables.dev_dependencies;
+    build_dependencies = tables.build_dependencies;
     target = target;
     lints = lints;
   })
+
+-- the same from a workspace, whose folder is `base`
+abbrev pub inherited_manifest : {M : Type 0} → Option Shared → List ℕ → ManifestMeaning M → Result (ManifestMeaning M) Fault
+inherited_manifest workspace base m =
+    inherited_from (option_map (λ w. w.dependencies) workspace) (option_map (λ w. w.lints) workspace)
+      (option_and_then (λ w. w.template) workspace) base m
 
 -- whether something of the manifest is left to the workspace
 abbrev pub needs : {M : Type 0} → ManifestMeaning M → Bool

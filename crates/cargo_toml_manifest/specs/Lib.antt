@@ -1,5 +1,6 @@
 pub mod Completing
 pub mod Inheriting
+pub mod Installing
 pub mod Manifests
 pub mod Roots
 pub mod Texts

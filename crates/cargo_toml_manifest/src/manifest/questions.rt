@@ -1,9 +1,13 @@
 // What is asked of a manifest.
 ghost use Rattle.std.specs.Prelude.{◌≡◌, IsSome, Some};
 ghost use Rattle.cargo_toml_parts.specs.InheritableValues.{value_of};
+ghost use Rattle.cargo_toml_manifest.specs.Inheriting.{needs};
+ghost use Rattle.cargo_toml_manifest.specs.Manifests.{manifest_meaning};
 
 use super::Manifest;
+use cargo_toml_dependencies::inheriting::{any_inherited, any_target_inherits};
 use cargo_toml_package::Package;
+use cargo_toml_package::inheriting::any_field_inherited;
 use cargo_toml_parts::Inheritable;
 use cargo_toml_tables::LintGroups;
 
@@ -33,5 +37,22 @@ impl<Metadata> Manifest<Metadata> {
             Inheritable::Set(lints) => lints,
             Inheritable::Inherited => unreachable!(),
         }
+    }
+
+    /// Whether something is left to the workspace: a field of the package, the lints, or a dependency of one of the three
+    /// tables or of a target's three. Where nothing is, every getter of the manifest's package and `lints` may be called.
+    pub fn needs_workspace_inheritance(&self) -> bool
+        ensures { result ≡ needs (manifest_meaning (λ m. m) self.now) }
+    {
+        let package_needs = match &self.package {
+            Some(package) => any_field_inherited(package),
+            None => false,
+        };
+        package_needs
+            || !self.lints.is_set()
+            || any_inherited(&self.dependencies)
+            || any_inherited(&self.dev_dependencies)
+            || any_inherited(&self.build_dependencies)
+            || any_target_inherits(&self.target)
     }
 }

@@ -1,0 +1,26 @@
+-- A manifest, once what its workspace gives is put in.
+use Rattle.std.specs.Prelude.{map, Option, Some, None, option_map}
+use Rattle.cargo_toml_dependencies.specs.Replacing.{replaced_target, replaced_targets}
+use Rattle.cargo_toml_package.specs.Installing.{put, installed as installed_package}
+use Rattle.cargo_toml_package.specs.Packages.{PackageMeaning}
+use Rattle.cargo_toml_package.specs.declared.inheriting.NewFields.{NewFields}
+use Rattle.cargo_toml_parts.specs.Reads.{map_meaning}
+use Rattle.cargo_toml_tables.specs.Lints.{lint_meaning}
+use Rattle.cargo_toml_manifest.specs.Inheriting.{own_tables}
+use Rattle.cargo_toml_manifest.specs.Manifests.{ManifestMeaning}
+use Rattle.cargo_toml_manifest.specs.declared.inheriting.NewParts.{NewParts}
+
+abbrev pub installed_if_there : {M : Type 0} → Option (PackageMeaning M) → Option NewFields → Option (PackageMeaning M)
+installed_if_there (Some p) (Some new) = Some (installed_package p new)
+installed_if_there p new = p
+
+-- a manifest with these parts in place of what it left to the workspace
+abbrev pub installed : {M : Type 0} → ManifestMeaning M → NewParts → ManifestMeaning M
+installed m new = record m {
+  «package» = installed_if_there m.«package» new.«package»;
+  dependencies = (replaced_target (own_tables m) new.tables).dependencies;
+  dev_dependencies = (replaced_target (own_tables m) new.tables).dev_dependencies;
+  build_dependencies = (replaced_target (own_tables m) new.tables).build_dependencies;
+  target = replaced_targets m.target new.targets.items;
+  lints = put m.lints (option_map (map_meaning (map_meaning lint_meaning)) new.lints);
+}

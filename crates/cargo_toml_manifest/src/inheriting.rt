@@ -1,0 +1,205 @@
+//! What a manifest takes from its workspace: first made, then put in, so that a refusal changes nothing.
+ghost use Rattle.std.specs.Prelude.{◌≡◌, Option, None, [], option_map};
+ghost use Rattle.std.specs.Option.{option_copied};
+ghost use Rattle.cargo_toml_parts.specs.Answers.{Gives};
+ghost use Rattle.cargo_toml_parts.specs.Inherits.{inheritable_map};
+ghost use Rattle.cargo_toml_parts.specs.Reads.{map_meaning};
+ghost use Rattle.cargo_toml_dependencies.specs.Dependencies.{dependency_meaning};
+ghost use Rattle.cargo_toml_dependencies.specs.Inheriting.{inherited_target};
+ghost use Rattle.cargo_toml_dependencies.specs.Replacing.{replaced_target};
+ghost use Rattle.cargo_toml_package.specs.Installing.{put};
+ghost use Rattle.cargo_toml_package.specs.Packages.{package_meaning};
+ghost use Rattle.cargo_toml_package.specs.Templates.{template_meaning};
+ghost use Rattle.cargo_toml_tables.specs.Lints.{lint_meaning};
+ghost use Rattle.cargo_toml_manifest.specs.Completing.{shared_of};
+ghost use Rattle.cargo_toml_manifest.specs.Inheriting.{own_tables, inherited_lints, inherited_if_there, inherited_from, inherited_manifest};
+ghost use Rattle.cargo_toml_manifest.specs.Installing.{installed, installed_if_there};
+ghost use Rattle.cargo_toml_manifest.specs.Manifests.{manifest_meaning};
+
+use crate::manifest::Manifest;
+use crate::workspace::Workspace;
+use cargo_toml_dependencies::DepsSet;
+use cargo_toml_dependencies::inheriting::{
+    NewTarget, replace, replace_targets, replacements, target_replacements,
+};
+use cargo_toml_package::inheriting::{NewFields, install, new_fields};
+use cargo_toml_package::{Package, PackageTemplate};
+use cargo_toml_parts::{Error, Inheritable};
+use cargo_toml_tables::LintGroups;
+use cargo_toml_tables::lint::duplicate_lints;
+use std::alloc::Global;
+
+/// What a manifest takes from its workspace, in place of what it left to it.
+#[derive(Drop)]
+pub struct NewParts {
+    /// In place of the inherited dependencies of its own three tables.
+    pub tables: NewTarget,
+
+    /// In place of those of each target, in the order of the targets' names.
+    pub targets: Vec<NewTarget>,
+
+    /// In place of the lints; `None` where the manifest keeps its own.
+    pub lints: Option<LintGroups>,
+
+    /// In place of fields of the package, where there is one.
+    pub package: Option<NewFields>,
+}
+
+// What the inherited dependencies of the manifest's own tables become.
+fn new_tables<Metadata>(
+    alloc: Global,
+    manifest: &Manifest<Metadata>,
+    templates: Option<&DepsSet>,
+    base: &str,
+) -> Result<NewTarget, Error>
+    ensures { Gives (replaced_target (own_tables (manifest_meaning (λ m. m) manifest.now))) result
+        (inherited_target (option_map (map_meaning dependency_meaning) (option_copied templates.entry)) base.now
+            (own_tables (manifest_meaning (λ m. m) manifest.now))) }
+{
+    let dependencies = replacements(alloc, templates, base, &manifest.dependencies)?;
+    let build_dependencies = replacements(alloc, templates, base, &manifest.build_dependencies)?;
+    let dev_dependencies = replacements(alloc, templates, base, &manifest.dev_dependencies)?;
+    Ok(NewTarget {
+        dependencies,
+        build_dependencies,
+        dev_dependencies,
+    })
+}
+
+// What inherited lints become, by those of the workspace where it has a table.
+fn new_lints(
+    alloc: Global,
+    lints: &Inheritable<LintGroups>,
+    groups: Option<&LintGroups>,
+) -> Result<Option<LintGroups>, Error>
+    ensures { Gives
+        (λ new. put (inheritable_map (map_meaning (map_meaning lint_meaning)) lints.now)
+            (option_map (map_meaning (map_meaning lint_meaning)) new))
+        result
+        (inherited_lints (option_map (map_meaning (map_meaning lint_meaning)) (option_copied groups.entry))
+            (inheritable_map (map_meaning (map_meaning lint_meaning)) lints.now)) }
+{
+    match (lints, groups) {
+        (Inheritable::Set(_), _) => Ok(None),
+        (Inheritable::Inherited, Some(groups)) => Ok(Some(duplicate_lints(groups)?)),
+        (Inheritable::Inherited, None) => {
+            let text = "lints are inherited, but there is no workspace table";
+            Err(Error::WorkspaceIntegrity(String::from_str(alloc, text)?))
+        }
+    }
+}
+
+// What the package takes, where there is one.
+fn new_package<Metadata>(
+    alloc: Global,
+    package: Option<&Package<Metadata>>,
+    template: Option<&PackageTemplate>,
+    base: &str,
+) -> Result<Option<NewFields>, Error>
+    ensures { Gives (installed_if_there (option_map (package_meaning (λ m. m)) (option_copied «package».entry))) result
+        (inherited_if_there (option_map template_meaning (option_copied template.entry)) base.now
+            (option_map (package_meaning (λ m. m)) (option_copied «package».entry))) }
+{
+    match package {
+        Some(package) => Ok(Some(new_fields(alloc, package, template, base)?)),
+        None => Ok(None),
+    }
+}
+
+// What a manifest takes from these tables of a workspace.
+fn parts_from<Metadata>(
+    alloc: Global,
+    manifest: &Manifest<Metadata>,
+    templates: Option<&DepsSet>,
+    groups: Option<&LintGroups>,
+    template: Option<&PackageTemplate>,
+    base: &str,
+) -> Result<NewParts, Error>
+    ensures { Gives (installed (manifest_meaning (λ m. m) manifest.now)) result
+        (inherited_from (option_map (map_meaning dependency_meaning) (option_copied templates.entry))
+            (option_map (map_meaning (map_meaning lint_meaning)) (option_copied groups.entry))
+            (option_map template_meaning (option_copied template.entry))
+            base.now (manifest_meaning (λ m. m) manifest.now)) }
+{
+    let tables = new_tables(alloc, manifest, templates, base)?;
+    let targets = target_replacements(alloc, templates, base, &manifest.target)?;
+    let lints = new_lints(alloc, &manifest.lints, groups)?;
+    let package = new_package(alloc, manifest.package.as_ref(), template, base)?;
+    Ok(NewParts {
+        tables,
+        targets,
+        lints,
+        package,
+    })
+}
+
+/// What a manifest takes from a workspace table, if there is one, with paths joined to `base`, the workspace's folder.
+///
+/// Refused by the first fault in this order: of `dependencies`, `build-dependencies` and `dev-dependencies`, then of the same
+/// three of each target, by key (see `replacements`); `WorkspaceIntegrity` where lints are left to a workspace without a
+/// table; of the package (see `new_fields`). Want of memory is `Memory`.
+pub fn new_parts<Metadata, N>(
+    alloc: Global,
+    manifest: &Manifest<Metadata>,
+    workspace: Option<&Workspace<N>>,
+    base: &str,
+) -> Result<NewParts, Error>
+    ensures { Gives (installed (manifest_meaning (λ m. m) manifest.now)) result
+        (inherited_manifest (shared_of (option_copied workspace.entry)) base.now (manifest_meaning (λ m. m) manifest.now)) }
+{
+    match workspace {
+        Some(workspace) => parts_from(
+            alloc,
+            manifest,
+            Some(&workspace.dependencies),
+            Some(&workspace.lints),
+            workspace.package.as_ref(),
+            base,
+        ),
+        None => parts_from(alloc, manifest, None, None, None, base),
+    }
+}
+
+/// Nothing: a manifest takes it and stays as it is. It takes no memory.
+pub fn no_parts(alloc: Global) -> NewParts
+    ensures tables { result.tables.dependencies.items ≡ [] × (result.tables.build_dependencies.items ≡ [] × result.tables.dev_dependencies.items ≡ []) }
+    ensures targets { result.targets.items ≡ [] }
+    ensures lints { result.lints ≡ None }
+    ensures fields { result.package ≡ None }
+{
+    NewParts {
+        tables: NewTarget {
+            dependencies: Vec::new(alloc),
+            build_dependencies: Vec::new(alloc),
+            dev_dependencies: Vec::new(alloc),
+        },
+        targets: Vec::new(alloc),
+        lints: None,
+        package: None,
+    }
+}
+
+// Puts the fields into the package, where there is one.
+fn put_package<Metadata: Drop>(package: &mut Option<Package<Metadata>>, new: Option<NewFields>)
+    ensures { option_map (package_meaning (λ m. m)) «package».new
+        ≡ installed_if_there (option_map (package_meaning (λ m. m)) «package».old) new }
+{
+    if let (Some(package), Some(new)) = (package, new) {
+        install(package, new);
+    }
+}
+
+/// Puts the parts in place of what the manifest left to its workspace. All else stays, and metadata are not touched. It takes no
+/// memory.
+pub fn install_parts<Metadata: Drop>(manifest: &mut Manifest<Metadata>, new: NewParts)
+    ensures { manifest_meaning (λ m. m) manifest.new ≡ installed (manifest_meaning (λ m. m) manifest.old) new }
+{
+    replace(&mut manifest.dependencies, new.tables.dependencies);
+    replace(&mut manifest.build_dependencies, new.tables.build_dependencies);
+    replace(&mut manifest.dev_dependencies, new.tables.dev_dependencies);
+    replace_targets(&mut manifest.target, new.targets);
+    if let Some(lints) = new.lints {
+        manifest.lints = Inheritable::Set(lints);
+    }
+    put_package(&mut manifest.package, new.package);
+}

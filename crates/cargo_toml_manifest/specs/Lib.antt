@@ -1,4 +1,5 @@
 pub mod Completing
+pub mod Completion
 pub mod Inheriting
 pub mod Installing
 pub mod Manifests

@@ -1,5 +1,5 @@
 -- A text with each `-` replaced.
-use Rattle.std.proofs.Common.{◌≡◌, ℕ, Bool, true, false, cond, zero, suc, List, [], ◌∷◌, ◌++◌, refl, ap, ◌∙◌, sym, subst, length, get_or, ◌<◌, ◌+◌, take, drop, map, Option, Some, None, inl, inr, arith, take-append-drop, nat_eq}
+use Rattle.std.proofs.Common.{◌≡◌, ℕ, Bool, cond, zero, suc, List, [], ◌∷◌, ◌++◌, refl, ap, ◌∙◌, sym, subst, length, get_or, ◌<◌, take, drop, Option, Some, None, inl, inr, arith, take-append-drop, nat_eq}
 use Rattle.std.proofs.lemmas.List.{map-append}
 use Rattle.std.specs.Str.{NoCharPasses}
 use Rattle.std.specs.Str.Replace.{ReplacesMatches}

@@ -1,16 +1,14 @@
-use Rattle.std.proofs.Common.{◌≡◌, ℕ, Bool, true, false, cond, List, [], ◌∷◌, ◌++◌, Option, Some, None, refl, ap, ◌∙◌, map, drop, get_or, length, ◌<◌, ◌+◌, sym, String, string_bytes, append_assoc, add-one, drop-cons, subst}
+use Rattle.std.proofs.Common.{◌≡◌, ℕ, Bool, true, false, cond, List, [], ◌∷◌, ◌++◌, Option, Some, None, refl, ap, ◌∙◌, map, drop, get_or, length, ◌<◌, ◌+◌, sym, add-one, drop-cons}
 use Rattle.std.specs.Option.{option_map, option_copied}
 use Rattle.std.specs.Str.{bytes_eq}
 use Rattle.std.specs.List.{cons_option}
-use Rattle.std.specs.BTreeMap.{BTreeMap, get_by}
 use denote.Ref.{Bor}
 use Rattle.cargo_toml_settings.specs.declared.settings.Edition.{Edition}
 use Rattle.cargo_toml_tables.specs.declared.product.Product as code_product
 use Rattle.cargo_toml_discovery.specs.declared.listings.Entry as code
-use Rattle.cargo_toml_discovery.specs.declared.found.Offer as code_offer
-use Rattle.cargo_toml_discovery.specs.Found.{Named, Offered, product_for}
+use Rattle.cargo_toml_discovery.specs.Found.{Offered, product_for}
 use Rattle.cargo_toml_discovery.specs.Names.{Text}
-use Rattle.cargo_toml_discovery.specs.Walk.{named_of, offer_parts, parts_of_code, walk, without}
+use Rattle.cargo_toml_discovery.specs.Walk.{named_of, walk, without}
 use Rattle.cargo_toml_tables.specs.Products.{ProductMeaning, product_meaning}
 
 module _ (edition : Edition) where

@@ -1,5 +1,5 @@
 -- What discovery makes of what a manifest states.
-use Rattle.std.specs.Prelude.{ℕ, Bool, true, false, List, [], ◌∷◌, map, Option, Some, None, option_map, if◌then◌else◌, codes, unwrap_or}
+use Rattle.std.specs.Prelude.{Bool, true, false, List, [], ◌∷◌, map, Option, Some, None, option_map, if◌then◌else◌, codes, unwrap_or}
 use Rattle.std.specs.Option.{option_copied}
 use Rattle.cargo_toml_settings.specs.Settings.{File, flag, path, file_meaning}
 use Rattle.cargo_toml_settings.specs.declared.settings.Edition.{Edition}

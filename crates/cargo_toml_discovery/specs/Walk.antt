@@ -1,5 +1,5 @@
 -- How the code finds products: a walk over the offers. What it gives is what `Found` says; nothing here has to be believed.
-use Rattle.std.specs.Prelude.{◌≡◌, ℕ, Bool, List, [], ◌∷◌, ◌++◌, option_to_list, Option, None, option_map, if◌then◌else◌, string_bytes, map, filter, Vec}
+use Rattle.std.specs.Prelude.{◌≡◌, Bool, List, [], ◌∷◌, ◌++◌, option_to_list, Option, None, option_map, if◌then◌else◌, string_bytes, map, filter, Vec}
 use Rattle.std.specs.BTreeMap.{BTreeMap, get_by}
 use Rattle.std.specs.BTreeSet.{BTreeSet, contains_by}
 use Rattle.std.specs.Cmp.Lexicographic.{slice_cmp}

@@ -1,4 +1,4 @@
-use Rattle.std.proofs.Common.{◌≡◌, None, refl}
+use Rattle.std.proofs.Common.{None, refl}
 use Rattle.cargo_toml_discovery.proofs.Joins.{joined}
 use Rattle.cargo_toml_discovery.specs.Answers.{answers_of, around_in}
 use Rattle.cargo_toml_discovery.specs.Discovering.{main_around, stated_meaning}

@@ -1,5 +1,4 @@
-use Rattle.std.proofs.Common.{◌≡◌, Bool, ◌||◌, ap, ◌∙◌}
-use Rattle.std.specs.Str.{bytes_eq}
+use Rattle.std.proofs.Common.{◌∙◌}
 use Rattle.cargo_toml_discovery.proofs.Paths.{inserted, has_this}
 use Rattle.cargo_toml_discovery.proofs.found.add_path.Goals as goal
 

@@ -1,4 +1,4 @@
-use Rattle.std.proofs.Common.{◌≡◌, ℕ, ◌++◌, [], ◌∷◌, List, map, sym, ap, ◌∙◌, string_bytes, Some, None, Option, cond, append_assoc, refl}
+use Rattle.std.proofs.Common.{◌≡◌, ◌++◌, List, map, sym, ap, ◌∙◌, string_bytes, None, Option, cond, append_assoc}
 use Rattle.std.specs.Option.{option_map, option_copied}
 use Rattle.std.specs.Str.{bytes_eq}
 use Rattle.std.proofs.lemmas.List.{map_push}
@@ -6,9 +6,8 @@ use Rattle.std.proofs.lemmas.Map.Text.{btree_map_updates_str}
 use denote.Ref.{Bor}
 use Rattle.cargo_toml_tables.specs.declared.product.Product as code
 use Rattle.cargo_toml_discovery.proofs.Walks.{walk-step, seen_twice, removed}
-use Rattle.cargo_toml_discovery.specs.Found.{Offered}
 use Rattle.cargo_toml_discovery.specs.Names.{Text}
-use Rattle.cargo_toml_discovery.specs.Walk.{walk, waiting_in}
+use Rattle.cargo_toml_discovery.specs.Walk.{waiting_in}
 use Rattle.cargo_toml_tables.specs.Products.{product_meaning, ProductMeaning}
 use Rattle.cargo_toml_discovery.proofs.found.place.Goals as goal
 

@@ -1,4 +1,4 @@
-use Rattle.std.proofs.Common.{◌≡◌, ◌++◌, map, drop, sym, ap, ◌∙◌, arith, List, ◌+◌}
+use Rattle.std.proofs.Common.{◌++◌, map, drop, sym, ap, ◌∙◌, arith, List, ◌+◌}
 use Rattle.cargo_toml_discovery.proofs.Walks.{drop-named, cons-append}
 use Rattle.cargo_toml_discovery.specs.Found.{offers, open_offer, Named, Offered}
 use Rattle.cargo_toml_discovery.specs.Walk.{walked, is_path_in, named_of}

@@ -1,6 +1,4 @@
-use Rattle.std.proofs.Common.{◌≡◌, ◌∷◌, ◌||◌, string_bytes, true, ap, sym}
-use Rattle.std.specs.List.{list_any}
-use Rattle.std.specs.Str.{bytes_eq}
+use Rattle.std.proofs.Common.{string_bytes, true}
 use Rattle.std.specs.Map.Iter.{deref}
 use Rattle.std.specs.BTreeSet.{contains_text}
 use Rattle.std.specs.HashSet.{contains_text as has_in}

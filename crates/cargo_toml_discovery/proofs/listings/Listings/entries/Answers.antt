@@ -4,7 +4,7 @@ use Rattle.std.specs.declared.alloc.Global.{Global}
 use Rattle.std.proofs.lemmas.Map.Iter.{rest_all}
 use Rattle.cargo_toml_discovery.proofs.Unique.{Ascend, ascend-set}
 use Rattle.cargo_toml_discovery.proofs.Ascends.{ascend-named}
-use Rattle.cargo_toml_discovery.specs.Answers.{answers_of, names_in, named_in, texts_in}
+use Rattle.cargo_toml_discovery.specs.Answers.{answers_of, names_in, named_in}
 use Rattle.cargo_toml_discovery.specs.Found.{Named}
 use Rattle.cargo_toml_discovery.specs.Names.{Text}
 use Rattle.cargo_toml_discovery.specs.Walk.{NamesAscend, named_of}

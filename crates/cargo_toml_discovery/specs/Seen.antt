@@ -1,4 +1,4 @@
--- What is seen of a tree of folders: a value, or that one of some faults is told, or nothing where an open path is asked for.
+-- What is seen of a tree of folders: a value, one of some faults, or nothing where an open path is asked for.
 use Rattle.std.specs.Prelude.{◌≡◌, Bool, true, false, List, [], ◌∷◌, ◌++◌, ◌⊎◌, if◌then◌else◌}
 use Rattle.std.specs.declared.io.ErrorKind.{ErrorKind}
 use Rattle.std.specs.declared.io.ErrorKind.TheVariants.{NotFound}

@@ -11,6 +11,6 @@ loop-entry-preserved c = λ os.
     let es = map named_of (drop (c.loop-entry.entry-index + 1) c.args.entries.now) in
     let next = drop-named c.args.entries.now c.loop-entry.entry-index c.entry-item.result (omega arith) c.entry-item.is in
     c.in_ok-place_one.ensures.ok (offers dir taken es ++ os)
-      ∙ ap (λ (qs : List Offered). walked c.args.edition c.loop-entry.list c.loop-entry.still qs) (sym (cons-append (open_offer dir taken (named_of c.entry-item.result)) (offers dir taken es) os))
-      ∙ ap (λ (fs : List Named). walked c.args.edition c.loop-entry.list c.loop-entry.still (offers dir taken fs ++ os)) (sym next)
-      ∙ c.loop-entry.invariant os
+    ∙ ap (λ (qs : List Offered). walked c.args.edition c.loop-entry.list c.loop-entry.still qs) (sym (cons-append (open_offer dir taken (named_of c.entry-item.result)) (offers dir taken es) os))
+    ∙ ap (λ (fs : List Named). walked c.args.edition c.loop-entry.list c.loop-entry.still (offers dir taken fs ++ os)) (sym next)
+    ∙ c.loop-entry.invariant os

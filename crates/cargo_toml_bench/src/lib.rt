@@ -4,5 +4,3 @@
 pub mod enabled;
 pub mod report;
 pub mod round_trip;
-#[cfg(test)]
-mod tests;

@@ -6,5 +6,3 @@ pub mod enabled;
 pub mod in_memory;
 pub mod report;
 pub mod round_trip;
-#[cfg(test)]
-mod tests;

@@ -67,7 +67,10 @@ impl ToValue for Badges {
 
     ghost floatless = { badges_floatless };
 
-    fn to_value(&self, alloc: Global) -> Result<Value, Error> {
+    fn to_value(&self, alloc: Global) -> Result<Value, Error>
+        ensures written { IsWriting badges_way (badges_meaning self.now) result }
+        ensures memory { IfErr result (λ e. e ≡ Error.Memory) }
+    {
         let mut writing = Writing::new(alloc);
         writing.optional("appveyor", &self.appveyor);
         writing.optional("circle-ci", &self.circle_ci);

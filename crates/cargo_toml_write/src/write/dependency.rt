@@ -1,8 +1,12 @@
 //! Writers of dependencies.
+ghost use Rattle.std.specs.Prelude.{◌≡◌, IfErr};
 ghost use Rattle.cargo_toml_dependencies.specs.Dependencies.{InheritedMeaning, DetailMeaning, DependencyMeaning, inherited_meaning, detail_meaning, dependency_meaning};
 ghost use Rattle.cargo_toml_dependencies.specs.Targets.{TargetMeaning, target_meaning};
+ghost use Rattle.cargo_toml_parts.specs.declared.error.Error.{Error};
 ghost use Rattle.cargo_toml_write.specs.FloatlessTypes.{dependency_floatless, detail_floatless, inherited_floatless, target_floatless};
+ghost use Rattle.cargo_toml_write.specs.NoFloats.{DetailHoldsNoFloat, DependencyHoldsNoFloat, TargetHoldsNoFloat};
 ghost use Rattle.cargo_toml_write.specs.WrittenDependencies.{inherited_way, detail_way, dependency_way, target_way};
+ghost use Rattle.cargo_toml_write.specs.Writes.{IsWriting};
 
 use crate::write::ToValue;
 use crate::write::writing::Writing;
@@ -20,7 +24,10 @@ impl ToValue for InheritedDependencyDetail {
 
     ghost floatless = { inherited_floatless };
 
-    fn to_value(&self, alloc: Global) -> Result<Value, Error> {
+    fn to_value(&self, alloc: Global) -> Result<Value, Error>
+        ensures written { IsWriting inherited_way (inherited_meaning self.now) result }
+        ensures memory { IfErr result (λ e. e ≡ Error.Memory) }
+    {
         let mut writing = Writing::new(alloc);
         writing.given("features", &self.features);
         writing.flag("optional", false, self.optional);
@@ -39,7 +46,11 @@ impl ToValue for DependencyDetail {
 
     ghost floatless = { detail_floatless };
 
-    fn to_value(&self, alloc: Global) -> Result<Value, Error> {
+    fn to_value(&self, alloc: Global) -> Result<Value, Error>
+        ensures written { IsWriting detail_way (detail_meaning self.now) result }
+        ensures memory { DetailHoldsNoFloat (detail_meaning self.now)
+            → IfErr result (λ e. e ≡ Error.Memory) }
+    {
         let mut writing = Writing::new(alloc);
         writing.entries(&self.unstable);
         writing.optional("version", &self.version);
@@ -67,7 +78,11 @@ impl ToValue for Dependency {
 
     ghost floatless = { dependency_floatless };
 
-    fn to_value(&self, alloc: Global) -> Result<Value, Error> {
+    fn to_value(&self, alloc: Global) -> Result<Value, Error>
+        ensures written { IsWriting dependency_way (dependency_meaning self.now) result }
+        ensures memory { DependencyHoldsNoFloat (dependency_meaning self.now)
+            → IfErr result (λ e. e ≡ Error.Memory) }
+    {
         match self {
             Dependency::Simple(requirement) => requirement.to_value(alloc),
             Dependency::Inherited(detail) => detail.to_value(alloc),
@@ -86,7 +101,11 @@ impl ToValue for Target {
 
     ghost floatless = { target_floatless };
 
-    fn to_value(&self, alloc: Global) -> Result<Value, Error> {
+    fn to_value(&self, alloc: Global) -> Result<Value, Error>
+        ensures written { IsWriting target_way (target_meaning self.now) result }
+        ensures memory { TargetHoldsNoFloat (target_meaning self.now)
+            → IfErr result (λ e. e ≡ Error.Memory) }
+    {
         let mut writing = Writing::new(alloc);
         writing.required("dependencies", &self.dependencies);
         writing.required("dev-dependencies", &self.dev_dependencies);

@@ -1,6 +1,10 @@
 //! Writers of profiles.
+ghost use Rattle.std.specs.Prelude.{◌≡◌, IfErr};
+ghost use Rattle.cargo_toml_parts.specs.declared.error.Error.{Error};
 ghost use Rattle.cargo_toml_tables.specs.Profiles.{ProfileMeaning, ProfilesMeaning, profile_meaning, profiles_meaning};
 ghost use Rattle.cargo_toml_write.specs.FloatlessTypes.{profile_floatless, profiles_floatless};
+ghost use Rattle.cargo_toml_write.specs.NoFloats.{ProfileHoldsNoFloat, ProfilesHoldsNoFloat};
+ghost use Rattle.cargo_toml_write.specs.Writes.{IsWriting};
 ghost use Rattle.cargo_toml_write.specs.WrittenProfiles.{profile_way, profiles_way};
 
 use crate::write::writing::Writing;
@@ -19,7 +23,11 @@ impl ToValue for Profile {
 
     ghost floatless = { profile_floatless };
 
-    fn to_value(&self, alloc: Global) -> Result<Value, Error> {
+    fn to_value(&self, alloc: Global) -> Result<Value, Error>
+        ensures written { IsWriting profile_way (profile_meaning self.now) result }
+        ensures memory { ProfileHoldsNoFloat (profile_meaning self.now)
+            → IfErr result (λ e. e ≡ Error.Memory) }
+    {
         let mut writing = Writing::new(alloc);
         writing.optional("opt-level", &self.opt_level);
         writing.optional("debug", &self.debug);
@@ -49,7 +57,11 @@ impl ToValue for Profiles {
 
     ghost floatless = { profiles_floatless };
 
-    fn to_value(&self, alloc: Global) -> Result<Value, Error> {
+    fn to_value(&self, alloc: Global) -> Result<Value, Error>
+        ensures written { IsWriting profiles_way (profiles_meaning self.now) result }
+        ensures memory { ProfilesHoldsNoFloat (profiles_meaning self.now)
+            → IfErr result (λ e. e ≡ Error.Memory) }
+    {
         let mut writing = Writing::new(alloc);
         writing.entries(&self.custom);
         writing.optional("release", &self.release);

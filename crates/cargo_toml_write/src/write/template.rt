@@ -1,7 +1,10 @@
 //! The writer of package templates.
+ghost use Rattle.std.specs.Prelude.{◌≡◌, IfErr};
 ghost use Rattle.cargo_toml_package.specs.Templates.{TemplateMeaning, template_meaning};
+ghost use Rattle.cargo_toml_parts.specs.declared.error.Error.{Error};
 ghost use Rattle.cargo_toml_write.specs.FloatlessTypes.{template_floatless};
 ghost use Rattle.cargo_toml_write.specs.WrittenTemplates.{template_way};
+ghost use Rattle.cargo_toml_write.specs.Writes.{IsWriting};
 
 use crate::write::ToValue;
 use crate::write::writing::Writing;
@@ -20,7 +23,10 @@ impl ToValue for PackageTemplate {
 
     ghost floatless = { template_floatless };
 
-    fn to_value(&self, alloc: Global) -> Result<Value, Error> {
+    fn to_value(&self, alloc: Global) -> Result<Value, Error>
+        ensures written { IsWriting template_way (template_meaning self.now) result }
+        ensures memory { IfErr result (λ e. e ≡ Error.Memory) }
+    {
         let mut writing = Writing::new(alloc);
         writing.optional("authors", &self.authors);
         writing.optional("categories", &self.categories);

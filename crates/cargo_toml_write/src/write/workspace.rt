@@ -1,7 +1,11 @@
 //! The writer of workspaces.
+ghost use Rattle.std.specs.Prelude.{◌≡◌, IfErr};
 ghost use Rattle.cargo_toml_manifest.specs.Workspaces.{WorkspaceMeaning, workspace_meaning};
+ghost use Rattle.cargo_toml_parts.specs.declared.error.Error.{Error};
 ghost use Rattle.cargo_toml_write.specs.FloatlessTypes.{workspace_floatless};
+ghost use Rattle.cargo_toml_write.specs.NoFloats.{WorkspaceHoldsNoFloat};
 ghost use Rattle.cargo_toml_write.specs.WrittenWorkspaces.{workspace_way};
+ghost use Rattle.cargo_toml_write.specs.Writes.{HasTree, IsWriting};
 
 use crate::write::ToValue;
 use crate::write::writing::Writing;
@@ -20,7 +24,13 @@ impl<Metadata: ToValue> ToValue for Workspace<Metadata> {
 
     ghost floatless = { workspace_floatless Metadata.way Metadata.floatless };
 
-    fn to_value(&self, alloc: Global) -> Result<Value, Error> {
+    fn to_value(&self, alloc: Global) -> Result<Value, Error>
+        ensures written { IsWriting (workspace_way Metadata.way)
+            (workspace_meaning Metadata.meaning self.now) result }
+        ensures memory { WorkspaceHoldsNoFloat (HasTree Metadata.way)
+            (workspace_meaning Metadata.meaning self.now)
+            → IfErr result (λ e. e ≡ Error.Memory) }
+    {
         let mut writing = Writing::new(alloc);
         writing.required("members", &self.members);
         writing.given("default-members", &self.default_members);

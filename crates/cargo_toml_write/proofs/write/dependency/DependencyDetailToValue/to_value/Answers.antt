@@ -1,10 +1,14 @@
 use Rattle.cargo_toml_dependencies.specs.Dependencies.{detail_meaning}
-use Rattle.cargo_toml_write.specs.WrittenDependencies.{detail_rows}
+use Rattle.cargo_toml_write.specs.WrittenDependencies.{detail_rows, detail_way}
+use Rattle.cargo_toml_write.specs.Writes.{IsWriting}
+use Rattle.cargo_toml_write.proofs.FreeTrees.{detail_exact}
+use Rattle.cargo_toml_write.proofs.Trees.{memory_alone}
 use Rattle.cargo_toml_write.proofs.Rows.{both, then, done, ends}
 use Rattle.cargo_toml_write.proofs.write.dependency.DependencyDetailToValue.to_value.Goals as goal
 
 pub returns : goal.returns
-returns c = ends detail_rows (detail_meaning c.args.self.now) _ _ _ _ c.finish.result c.new-writing.ensures.no_fault c.new-writing.ensures.no_key
+returns c =
+    let written : IsWriting detail_way (detail_meaning c.args.self.now) c.finish.result = ends detail_rows (detail_meaning c.args.self.now) _ _ _ _ c.finish.result c.new-writing.ensures.no_fault c.new-writing.ensures.no_key
     (both _ _ _ _ _ _ _ _ c.entries.ensures
     (then _ _ _ _ _ _ _ _ c.optional.ensures
     (then _ _ _ _ _ _ _ _ c.optional-2.ensures
@@ -19,4 +23,5 @@ returns c = ends detail_rows (detail_meaning c.args.self.now) _ _ _ _ c.finish.r
     (then _ _ _ _ _ _ _ _ c.flag.ensures
     (then _ _ _ _ _ _ _ _ c.flag-2.ensures
     (done _ _))))))))))))))
-    c.finish.ensures
+    c.finish.ensures in
+    record { written = written; memory = λ h. memory_alone detail_way (detail_meaning c.args.self.now) c.finish.result written (detail_exact.has (detail_meaning c.args.self.now) h) }

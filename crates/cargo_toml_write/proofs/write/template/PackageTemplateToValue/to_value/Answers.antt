@@ -1,10 +1,14 @@
 use Rattle.cargo_toml_package.specs.Templates.{template_meaning}
-use Rattle.cargo_toml_write.specs.WrittenTemplates.{template_rows}
+use Rattle.cargo_toml_write.specs.WrittenTemplates.{template_rows, template_way}
+use Rattle.cargo_toml_write.specs.Writes.{IsWriting}
+use Rattle.cargo_toml_write.proofs.TotalTrees.{template_tree}
+use Rattle.cargo_toml_write.proofs.Trees.{memory_alone}
 use Rattle.cargo_toml_write.proofs.Rows.{then, done, ends}
 use Rattle.cargo_toml_write.proofs.write.template.PackageTemplateToValue.to_value.Goals as goal
 
 pub returns : goal.returns
-returns c = ends template_rows (template_meaning c.args.self.now) _ _ _ _ c.finish.result c.new-writing.ensures.no_fault c.new-writing.ensures.no_key
+returns c =
+    let written : IsWriting template_way (template_meaning c.args.self.now) c.finish.result = ends template_rows (template_meaning c.args.self.now) _ _ _ _ c.finish.result c.new-writing.ensures.no_fault c.new-writing.ensures.no_key
     (then _ _ _ _ _ _ _ _ c.optional.ensures
     (then _ _ _ _ _ _ _ _ c.optional-2.ensures
     (then _ _ _ _ _ _ _ _ c.optional-3.ensures
@@ -22,4 +26,5 @@ returns c = ends template_rows (template_meaning c.args.self.now) _ _ _ _ c.fini
     (then _ _ _ _ _ _ _ _ c.optional-13.ensures
     (then _ _ _ _ _ _ _ _ c.optional-14.ensures
     (done _ _)))))))))))))))))
-    c.finish.ensures
+    c.finish.ensures in
+    record { written = written; memory = memory_alone template_way (template_meaning c.args.self.now) c.finish.result written (template_tree (template_meaning c.args.self.now)) }

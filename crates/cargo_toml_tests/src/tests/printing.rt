@@ -1,6 +1,6 @@
 //! What is printed of a report, and what a refusal of a printing call leaves.
-use crate::report::print_report;
 use cargo_toml::{Error, ParseFault};
+use cargo_toml_bench::report::print_report;
 use cargo_toml_print::print_features;
 use std::io;
 use std::io::{Read, Write};

@@ -5,7 +5,7 @@ ghost use Rattle.cargo_toml.specs.Error.{Memory};
 ghost use Rattle.cargo_toml.specs.Told.{AnswersNames, HasTexts, ReadsRoot};
 ghost use Rattle.cargo_toml_bench.specs.InMemory.{told_at, told_root_at, told_of_answer, told_of_root};
 
-use cargo_toml::{AbstractFilesystem, Error};
+use cargo_toml::{AbstractFilesystem, Error, OwnRoot};
 use std::alloc::{AllocError, Global};
 use std::collections::HashSet;
 use std::io;
@@ -112,6 +112,8 @@ fn read_root(alloc: Global, root: Option<&Root>) -> Result<(Vec<u8>, String), Er
 }
 
 impl AbstractFilesystem for InMemory {
+    type Roots = OwnRoot;
+
     ghost names_at = { λ files path. told_at files.folders.items path };
 
     ghost root_for = { λ files hint. told_root_at files.roots.items hint };

@@ -1,5 +1,6 @@
 //! Tests of what goes not from text to text: values that a caller makes, asks and changes, and code of a caller's own. What a text
 //! reads as, is written as and is resolved to stands in the rows of `cargo_toml_rows`, which cost no proof.
+mod completing;
 mod dependencies;
 mod faults;
 mod features;

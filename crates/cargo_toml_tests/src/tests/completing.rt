@@ -1,0 +1,42 @@
+//! Completion over an implementor of a caller's own, which tells nothing.
+use super::manifest;
+use cargo_toml::{AbstractFilesystem, Error, NoRoot, Value};
+use std::alloc::Global;
+use std::collections::HashSet;
+use std::io;
+use std::test::Fail;
+
+/// An implementor that writes neither of the calls for a root.
+struct Silent;
+
+impl AbstractFilesystem for Silent {
+    type Roots = NoRoot;
+
+    fn file_names_in(&self, alloc: Global, _rel_path: &str) -> Result<HashSet<String>, Error> {
+        Ok(HashSet::new(alloc))
+    }
+}
+
+fn is_unsupported(fault: &Error, hint: &str) -> bool {
+    let Error::Workspace(inner) = fault else {
+        return false;
+    };
+    let Error::Io(fault) = &inner.0 else {
+        return false;
+    };
+    fault.kind() == io::ErrorKind::Unsupported && inner.1.as_deref() == Some(hint)
+}
+
+const MEMBER: &str = "package = { name = \"m\", workspace = \"../\", version.workspace = true }";
+
+#[test]
+fn root_for_hint_of_a_silent_implementor(rt: HostRuntime) -> Result<(), Fail> {
+    let alloc = rt.alloc();
+    let mut member = manifest(alloc, MEMBER)?;
+    match member.complete_from_abstract_filesystem::<Value, _>(alloc, &Silent, None) {
+        Ok(()) => return Err(Fail),
+        Err(fault) => assert!(rt; is_unsupported(&fault, "../")),
+    }
+    assert!(rt; *member == *manifest(alloc, MEMBER)?);
+    Ok(())
+}

@@ -33,10 +33,9 @@ const MEMBER: &str = "package = { name = \"m\", workspace = \"../\", version.wor
 fn root_for_hint_of_a_silent_implementor(rt: HostRuntime) -> Result<(), Fail> {
     let alloc = rt.alloc();
     let mut member = manifest(alloc, MEMBER)?;
-    match member.complete_from_abstract_filesystem::<Value, _>(alloc, &Silent, None) {
-        Ok(()) => return Err(Fail),
-        Err(fault) => assert!(rt; is_unsupported(&fault, "../")),
-    }
-    assert!(rt; *member == *manifest(alloc, MEMBER)?);
+    let before = format!(in alloc; "{member:?}")?;
+    let outcome = member.complete_from_abstract_filesystem::<Value, _>(alloc, &Silent, None);
+    assert!(rt; matches!(&outcome, Err(fault) if is_unsupported(fault, "../")));
+    assert_eq!(rt; format!(in alloc; "{member:?}")?, before);
     Ok(())
 }

@@ -27,6 +27,8 @@ enum Kind {
     Features,
     /// What is recorded of its dependencies.
     Dependencies,
+    /// What is reported of it by a caller.
+    Report,
     /// What one of its features enables at last. The file `start` names the feature.
     Recursion,
     /// What values of one type read as, and how these are written, or what comes of paths.
@@ -42,6 +44,7 @@ fn kind_of(word: &str) -> Option<Kind> {
         "refuse" => Some(Kind::Refuse),
         "features" => Some(Kind::Features),
         "dependencies" => Some(Kind::Dependencies),
+        "report" => Some(Kind::Report),
         "recursion" => Some(Kind::Recursion),
         "values" | "paths" => Some(Kind::Values),
         "complete" => Some(Kind::Complete),
@@ -57,6 +60,7 @@ fn expected_file(kind: Kind) -> &'static str {
         Kind::Refuse => "/fault",
         Kind::Features => "/lines",
         Kind::Dependencies => "/recorded",
+        Kind::Report => "/reported",
         Kind::Recursion => "/enabled",
         Kind::Values => "",
         Kind::Complete => "/completed",
@@ -81,6 +85,7 @@ fn answer<R: Files + AllocGlobal>(
         Kind::Fields => manifests::fields(alloc, manifest.as_slice(), expected),
         Kind::Refuse => manifests::fault(alloc, manifest.as_slice()),
         Kind::Features => manifests::features(alloc, manifest.as_slice()),
+        Kind::Report => manifests::report(alloc, manifest.as_slice()),
         Kind::Recursion => enabled(rt, folder, manifest.as_slice()),
         Kind::Complete => completed::fields(rt, folder, manifest.as_slice(), expected),
         _ => resolved::recorded(alloc, manifest.as_slice()),

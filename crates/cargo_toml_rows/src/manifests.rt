@@ -1,5 +1,6 @@
 //! What comes of a manifest, as text.
 use cargo_toml::{Error, Manifest, ParseFault, ToValue, Value};
+use cargo_toml_bench::report::print_report;
 use cargo_toml_print::print_features;
 use std::alloc::Global;
 use toml::Table;
@@ -75,13 +76,24 @@ pub fn fault(alloc: Global, bytes: &[u8]) -> Result<String, Error> {
     }
 }
 
+fn text_of(alloc: Global, bytes: &[u8]) -> Result<String, Error> {
+    match str::from_utf8(bytes) {
+        Ok(text) => Ok(String::from_str(alloc, text)?),
+        Err(_) => Err(Error::Other("lines that aren't UTF-8")),
+    }
+}
+
 /// What the program `cargo-toml` prints of the manifest's features.
 pub fn features(alloc: Global, bytes: &[u8]) -> Result<String, Error> {
     let mut input = bytes;
     let mut output = Vec::new(alloc);
     print_features(alloc, &mut input, &mut output)?;
-    match str::from_utf8(output.as_slice()) {
-        Ok(text) => Ok(String::from_str(alloc, text)?),
-        Err(_) => Err(Error::Other("lines that aren't UTF-8")),
-    }
+    text_of(alloc, output.as_slice())
+}
+
+/// What the proved caller prints of the manifest.
+pub fn report(alloc: Global, bytes: &[u8]) -> Result<String, Error> {
+    let mut output = Vec::new(alloc);
+    print_report(alloc, bytes, &mut output)?;
+    text_of(alloc, output.as_slice())
 }

@@ -1,33 +1,15 @@
-//! What is printed of a report, and what a refusal of a printing call leaves.
+//! What a refusal of a printing call leaves.
 use cargo_toml::{Error, ParseFault};
-use cargo_toml_bench::report::print_report;
 use cargo_toml_print::print_features;
 use std::io;
 use std::io::{Read, Write};
 use std::test::Fail;
-
-// Two dependencies, of which one is optional; `fast` is enabled by `default` and `extra`, and `log` by `fast`.
-const SMALL: &str =
-    "[package]\nname = \"p\"\n[dependencies]\nlog = { version = \"0.4\", optional = true }\nserde = \"1\"\n[features]\ndefault = [\"fast\"]\nextra = [\"fast\"]\nfast = [\"log/std\"]\nalone = []\n";
-
-#[test]
-fn printed_of_a_small_manifest(rt: HostRuntime) -> Result<(), Fail> {
-    let mut output = Vec::new(rt.alloc());
-    print_report(rt.alloc(), b"", &mut output)?;
-    assert!(rt; output.is_empty());
-    print_report(rt.alloc(), SMALL.as_bytes(), &mut output)?;
-    let lines = "optional log\nunreferenced alone\nunreferenced extra\n";
-    assert_eq!(rt; output.as_slice(), lines.as_bytes());
-    Ok(())
-}
 
 #[test]
 fn nothing_is_printed_of_what_is_no_manifest(rt: HostRuntime) -> Result<(), Fail> {
     let alloc = rt.alloc();
     let mut output = Vec::new(alloc);
     output.push(b'#')?;
-    let refused = print_report(alloc, b"\xff", &mut output);
-    assert!(rt; matches!(refused, Err(Error::Other("utf8"))));
     let refused = print_features(alloc, &mut b"\xff".as_slice(), &mut output);
     assert!(rt; matches!(refused, Err(Error::Other("utf8"))));
     let refused = print_features(alloc, &mut b"[package".as_slice(), &mut output);
@@ -85,5 +67,4 @@ fn input_and_output_that_fail(rt: HostRuntime) {
     assert!(rt; is_broken(print_features(alloc, &mut Broken { given: false }, &mut output)));
     assert!(rt; output.is_empty());
     assert!(rt; is_broken(print_features(alloc, &mut b"".as_slice(), &mut Full)));
-    assert!(rt; is_broken(print_report(alloc, SMALL.as_bytes(), &mut Full)));
 }

@@ -23,7 +23,7 @@ abbrev Found : Type 0
 Found = Manifest Value × String Global
 
 -- want of memory stays what it is
-memory_wrapped : (path : Option (List ℕ)) (own e : Error) → own ≡ Memory → fault_of e ≡ wrap path (fault_of own) → e ≡ Memory
+pub memory_wrapped : (path : Option (List ℕ)) (own e : Error) → own ≡ Memory → fault_of e ≡ wrap path (fault_of own) → e ≡ Memory
 memory_wrapped path own e memory h = memory_alone e (h ∙ ap (λ (f : Error). wrap path (fault_of f)) memory ∙ ap (wrap path) fault_of-memory)
 
 same : {A : Type 0} (o : Option A) (x y : A) → o ≡ Some x → o ≡ Some y → x ≡ y

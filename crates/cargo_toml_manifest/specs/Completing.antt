@@ -88,3 +88,8 @@ Answers told answered = (hint : Option (List ℕ)) → (told hint ≡ answered h
 abbrev pub GivenBy : {M : Type 0} → ManifestMeaning M → Option Handed → (Option (List ℕ) → ToldRoot) → ManifestMeaning M → Type 0
 GivenBy m handed told n =
     (answered : Option (List ℕ) → ToldRoot) × Answers told answered × (complete m handed answered ≡ gives n)
+
+-- the same of the root alone, where a root is looked up
+abbrev pub GivenByRoot : {M : Type 0} → ManifestMeaning M → ToldRoot → ManifestMeaning M → Type 0
+GivenByRoot m told n =
+    (answered : ToldRoot) × ((told ≡ answered) ⊎ (told ≡ open_root)) × (complete_by m (told_choice answered) ≡ gives n)

@@ -179,6 +179,17 @@ pub fn no_parts(alloc: Global) -> NewParts
     }
 }
 
+// Puts in new lints, if there are some.
+fn put_lints(lints: &mut Inheritable<LintGroups>, new: Option<LintGroups>)
+    ensures { inheritable_map (map_meaning (map_meaning lint_meaning)) lints.new
+        ≡ put (inheritable_map (map_meaning (map_meaning lint_meaning)) lints.old)
+            (option_map (map_meaning (map_meaning lint_meaning)) new) }
+{
+    if let Some(new) = new {
+        *lints = Inheritable::Set(new);
+    }
+}
+
 // Puts the fields into the package, where there is one.
 fn put_package<Metadata: Drop>(package: &mut Option<Package<Metadata>>, new: Option<NewFields>)
     ensures { option_map (package_meaning (λ m. m)) «package».new
@@ -194,12 +205,16 @@ fn put_package<Metadata: Drop>(package: &mut Option<Package<Metadata>>, new: Opt
 pub fn install_parts<Metadata: Drop>(manifest: &mut Manifest<Metadata>, new: NewParts)
     ensures { manifest_meaning (λ m. m) manifest.new ≡ installed (manifest_meaning (λ m. m) manifest.old) new }
 {
-    replace(&mut manifest.dependencies, new.tables.dependencies);
-    replace(&mut manifest.build_dependencies, new.tables.build_dependencies);
-    replace(&mut manifest.dev_dependencies, new.tables.dev_dependencies);
-    replace_targets(&mut manifest.target, new.targets);
-    if let Some(lints) = new.lints {
-        manifest.lints = Inheritable::Set(lints);
-    }
-    put_package(&mut manifest.package, new.package);
+    let NewParts {
+        tables,
+        targets,
+        lints,
+        package,
+    } = new;
+    replace(&mut manifest.dependencies, tables.dependencies);
+    replace(&mut manifest.build_dependencies, tables.build_dependencies);
+    replace(&mut manifest.dev_dependencies, tables.dev_dependencies);
+    replace_targets(&mut manifest.target, targets);
+    put_lints(&mut manifest.lints, lints);
+    put_package(&mut manifest.package, package);
 }

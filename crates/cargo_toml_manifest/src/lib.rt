@@ -2,6 +2,7 @@
 #![tactic(auto)]
 
 pub mod afs;
+pub mod complete;
 pub mod inheriting;
 pub mod manifest;
 pub mod workspace;

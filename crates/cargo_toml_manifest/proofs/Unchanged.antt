@@ -1,0 +1,42 @@
+-- A manifest that takes nothing stays as it is.
+use Rattle.std.proofs.Common.{◌≡◌, ℕ, List, [], ◌∷◌, Option, Some, None, refl, ap, drop}
+use Rattle.cargo_toml_dependencies.specs.Dependencies.{DependencyMeaning, simple, inherited, detailed}
+use Rattle.cargo_toml_dependencies.specs.Inheriting.{Entries}
+use Rattle.cargo_toml_dependencies.specs.Replacing.{replaced, replaced_targets}
+use Rattle.cargo_toml_dependencies.specs.Targets.{TargetMeaning}
+use Rattle.cargo_toml_package.specs.Packages.{PackageMeaning}
+use Rattle.cargo_toml_manifest.specs.Installing.{installed, installed_if_there}
+use Rattle.cargo_toml_manifest.specs.Manifests.{ManifestMeaning}
+use Rattle.cargo_toml_manifest.specs.declared.inheriting.NewParts.{NewParts}
+
+replaced-none : (es : Entries) → replaced es [] ≡ es
+replaced-none [] = refl
+replaced-none ((key, simple r) ∷ es) = ap (λ (ds : Entries). (key, simple r) ∷ ds) (replaced-none es)
+replaced-none ((key, inherited i) ∷ es) = ap (λ (ds : Entries). (key, inherited i) ∷ ds) (replaced-none es)
+replaced-none ((key, detailed d) ∷ es) = ap (λ (ds : Entries). (key, detailed d) ∷ ds) (replaced-none es)
+
+abbrev Targets : Type 0
+Targets = List (List ℕ × TargetMeaning)
+
+replaced_targets-none : (ts : Targets) → replaced_targets ts [] ≡ ts
+replaced_targets-none [] = refl
+replaced_targets-none (t ∷ ts) = ap (λ (us : Targets). t ∷ us) (replaced_targets-none ts)
+
+installed_if_there-none : {M : Type 0} (p : Option (PackageMeaning M)) → installed_if_there p None ≡ p
+installed_if_there-none None = refl
+installed_if_there-none (Some p) = refl
+
+-- nothing is in the parts
+pub record IsNothing (new : NewParts) : Type 0 where
+  pub dependencies : new.tables.dependencies.items ≡ []
+  pub build_dependencies : new.tables.build_dependencies.items ≡ []
+  pub dev_dependencies : new.tables.dev_dependencies.items ≡ []
+  pub targets : new.targets.items ≡ []
+  pub lints : new.lints ≡ None
+  pub fields : new.«package» ≡ None
+
+pub installed-none : {M : Type 0} (m : ManifestMeaning M) (new : NewParts) → IsNothing new → installed m new ≡ m
+installed-none m new is =
+    rw (is.dependencies, is.build_dependencies, is.dev_dependencies, is.targets, is.lints, is.fields,
+      replaced-none m.dependencies, replaced-none m.build_dependencies, replaced-none m.dev_dependencies,
+      replaced_targets-none m.target, installed_if_there-none m.«package») refl

@@ -1,0 +1,13 @@
+use Rattle.std.proofs.lemmas.Result.{err_from_is_err_and}
+use Rattle.cargo_toml_manifest.proofs.Steps.{stops, later}
+use Rattle.cargo_toml_manifest.proofs.inheriting.new_tables.Goals as goal
+
+pub returns-in_err-build_dependencies : goal.returns-in_err-build_dependencies
+returns-in_err-build_dependencies g c =
+    let p = err_from_is_err_and c.from_residual-in_err-build_dependencies.result c.from_residual-in_err-build_dependencies.ensures.1 in
+    rw (p.1, p.2) (later _ _ _ _ c.in_ok-dependencies.ensures (stops _ _ _ c.in_err-build_dependencies.ensures))
+
+pub returns-in_err-dev_dependencies : goal.returns-in_err-dev_dependencies
+returns-in_err-dev_dependencies g c =
+    let p = err_from_is_err_and c.from_residual-in_err-dev_dependencies.result c.from_residual-in_err-dev_dependencies.ensures.1 in
+    rw (p.1, p.2) (later _ _ _ _ c.in_ok-dependencies.ensures (later _ _ _ _ c.in_ok-build_dependencies.ensures (stops _ _ _ c.in_err-dev_dependencies.ensures)))

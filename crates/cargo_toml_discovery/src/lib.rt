@@ -7,6 +7,7 @@
 
 pub mod discovery;
 pub mod found;
+mod laws;
 pub mod listings;
 mod names;
 mod products;

@@ -77,7 +77,7 @@ filter-all (p ∷ ps) h = ap (λ (b : Bool). cond b (p ∷ filter has_path ps) (
 have-filter : (ps : List ProductMeaning) → HavePaths (filter has_path ps)
 have-filter [] = tt
 have-filter (p ∷ ps) = elim (has_path p) as (λ b. has_path p ≡ b → HavePaths (cond b (p ∷ filter has_path ps) (filter has_path ps)))
-  [ true ↦ λ e. (e, have-filter ps) | false ↦ λ e. have-filter ps ] refl
+    [ true ↦ λ e. (e, have-filter ps) | false ↦ λ e. have-filter ps ] refl
 
 have-append : (ps qs : List ProductMeaning) → HavePaths ps → HavePaths qs → HavePaths (ps ++ qs)
 have-append [] qs h k = k
@@ -102,7 +102,7 @@ have-last edition ps os (Some o) = (has-placed edition o (late_taker ps os o), t
 have-insert : (x : ProductMeaning) (ys : List ProductMeaning) → has_path x ≡ true → HavePaths ys → HavePaths (insert_by product_lt x ys)
 have-insert x [] e h = (e, tt)
 have-insert x (y ∷ ys) e h = elim (product_lt y x) as (λ b. HavePaths (cond b (y ∷ insert_by product_lt x ys) (x ∷ y ∷ ys)))
-  [ true ↦ (h.0, have-insert x ys e h.1) | false ↦ (e, h) ]
+    [ true ↦ (h.0, have-insert x ys e h.1) | false ↦ (e, h) ]
 
 have-sorted : (xs : List ProductMeaning) → HavePaths xs → HavePaths (sorted_by product_lt xs)
 have-sorted [] h = tt
@@ -130,7 +130,7 @@ path-append (p ∷ ps) qs t = ap (λ (b : Bool). is_text t p.path || b) (path-ap
 path-insert : (x : ProductMeaning) (ys : List ProductMeaning) (t : Text) → is_path_of (insert_by product_lt x ys) t ≡ (is_text t x.path || is_path_of ys t)
 path-insert x [] t = refl
 path-insert x (y ∷ ys) t = elim (product_lt y x) as (λ b. is_path_of (cond b (y ∷ insert_by product_lt x ys) (x ∷ y ∷ ys)) t ≡ (is_text t x.path || is_path_of (y ∷ ys) t))
-  [ true ↦ ap (λ (b : Bool). is_text t y.path || b) (path-insert x ys t) ∙ or-swap (is_text t y.path) (is_text t x.path) (is_path_of ys t) | false ↦ refl ]
+    [ true ↦ ap (λ (b : Bool). is_text t y.path || b) (path-insert x ys t) ∙ or-swap (is_text t y.path) (is_text t x.path) (is_path_of ys t) | false ↦ refl ]
 
 path-sorted : (xs : List ProductMeaning) (t : Text) → is_path_of (sorted_by product_lt xs) t ≡ is_path_of xs t
 path-sorted [] t = refl
@@ -161,9 +161,9 @@ path-found edition dir ps es x t =
     let placed = map (product_among edition ps os) os in
     let last = last_product edition ps os x in
     path-sorted (filter has_path ps ++ (placed ++ last)) t
-      ∙ path-append (filter has_path ps) (placed ++ last) t
-      ∙ ap (λ (b : Bool). b || is_path_of (placed ++ last) t) (path-filter ps t)
-      ∙ ap (λ (b : Bool). is_path_of ps t || b) (path-append placed last t ∙ ap (λ (b : Bool). b || is_path_of last t) (path-among edition ps os os t))
+    ∙ path-append (filter has_path ps) (placed ++ last) t
+    ∙ ap (λ (b : Bool). b || is_path_of (placed ++ last) t) (path-filter ps t)
+    ∙ ap (λ (b : Bool). is_path_of ps t || b) (path-append placed last t ∙ ap (λ (b : Bool). b || is_path_of last t) (path-among edition ps os os t))
 
 -- no offer is open any more
 module _ (dir : Text) (f g : Text → Bool) (more : (t : Text) → f t ≡ true → g t ≡ true) where
@@ -173,9 +173,10 @@ module _ (dir : Text) (f g : Text → Bool) (more : (t : Text) → f t ≡ true 
   none-step : (r : Option Offered) (os rest : List Offered) → ((t : Text) → offered (cons_option (still_open f r) os) t ≡ true → g t ≡ true) →
       (((t : Text) → offered os t ≡ true → g t ≡ true) → rest ≡ []) → cons_option (still_open g r) rest ≡ []
   none-step None os rest h next = next h
-  none-step (Some o) os rest h next = elim (f o.path) as (λ b. f o.path ≡ b → ((t : Text) → offered (cons_option (cond b None (Some o)) os) t ≡ true → g t ≡ true) → cons_option (still_open g (Some o)) rest ≡ [])
-    [ true ↦ λ e k. taken o rest (more o.path e) (next k)
-    | false ↦ λ e k. taken o rest (k o.path (ap (λ (b : Bool). b || offered os o.path) (own o.path))) (next (λ t i. k t (or-right (bytes_eq o.path t) (offered os t) i))) ] refl h
+  none-step (Some o) os rest h next = elim (f o.path) as (λ b. f o.path ≡ b → ((t : Text) → offered (cons_option (cond b None (Some o)) os) t ≡ true → g t ≡ true) → cons_option (still_open g (Some o)) rest ≡ []) [
+    | true ↦ λ e k. taken o rest (more o.path e) (next k)
+    | false ↦ λ e k. taken o rest (k o.path (ap (λ (b : Bool). b || offered os o.path) (own o.path))) (next (λ t i. k t (or-right (bytes_eq o.path t) (offered os t) i)))
+  ] refl h
 
   none-open : (es : List Named) → ((t : Text) → offered (offers dir f es) t ≡ true → g t ≡ true) → offers dir g es ≡ []
   none-open [] h = refl
@@ -186,7 +187,7 @@ module _ (edition : Edition) (dir : Text) (ps : List ProductMeaning) (es : List 
   have-found x =
       let os = offers dir (is_path_of ps) es in
       have-sorted _ (have-append (filter has_path ps) (map (product_among edition ps os) os ++ last_product edition ps os x) (have-filter ps)
-        (have-append (map (product_among edition ps os) os) (last_product edition ps os x) (have-among edition ps os os) (have-last edition ps os x)))
+      (have-append (map (product_among edition ps os) os) (last_product edition ps os x) (have-among edition ps os os) (have-last edition ps os x)))
 
   or-left : (a b : Bool) → a ≡ true → (a || b) ≡ true
   or-left a b h = ap (λ (c : Bool). c || b) h
@@ -196,28 +197,29 @@ module _ (edition : Edition) (dir : Text) (ps : List ProductMeaning) (es : List 
       let os = offers dir (is_path_of ps) es in
       let last = last_product edition ps os x in
       none-open dir (is_path_of ps) (is_path_of (found edition dir ps es x))
-        (λ t h. path-found edition dir ps es x t ∙ or-left (is_path_of ps t) (offered os t || is_path_of last t) h) es
-        (λ t h. path-found edition dir ps es x t ∙ or-right (is_path_of ps t) (offered os t || is_path_of last t) (or-left (offered os t) (is_path_of last t) h))
+      (λ t h. path-found edition dir ps es x t ∙ or-left (is_path_of ps t) (offered os t || is_path_of last t) h) es
+      (λ t h. path-found edition dir ps es x t ∙ or-right (is_path_of ps t) (offered os t || is_path_of last t) (or-left (offered os t) (is_path_of last t) h))
 
   pub found-again : (x : Option Offered) → found edition dir (found edition dir ps es x) es None ≡ found edition dir ps es x
   found-again x =
       let q = found edition dir ps es x in
       ap (λ (os : List Offered). in_order (filter has_path q ++ (map (product_among edition q os) os ++ []))) (none-left x)
-        ∙ ap (λ (rs : List ProductMeaning). in_order (rs ++ [])) (filter-all q (have-found x))
-        ∙ ap in_order (append-nil q)
-        ∙ sorted-again (all_found edition ps (offers dir (is_path_of ps) es) x)
+      ∙ ap (λ (rs : List ProductMeaning). in_order (rs ++ [])) (filter-all q (have-found x))
+      ∙ ap in_order (append-nil q)
+      ∙ sorted-again (all_found edition ps (offers dir (is_path_of ps) es) x)
 
   -- `src/main.rs` is no offer any more
   main-path : (m : Offered) → is_path_of (found edition dir ps es (still_open (is_path_of ps) (Some m))) m.path ≡ true
   main-path m =
       let os = offers dir (is_path_of ps) es in
       let t = m.path in
-      elim (is_path_of ps t) as (λ b. is_path_of ps t ≡ b → is_path_of (found edition dir ps es (cond b None (Some m))) t ≡ true)
-        [ true ↦ λ e. path-found edition dir ps es None t ∙ or-left (is_path_of ps t) (offered os t || false) e
+      elim (is_path_of ps t) as (λ b. is_path_of ps t ≡ b → is_path_of (found edition dir ps es (cond b None (Some m))) t ≡ true) [
+        | true ↦ λ e. path-found edition dir ps es None t ∙ or-left (is_path_of ps t) (offered os t || false) e
         | false ↦ λ e. path-found edition dir ps es (Some m) t
             ∙ or-right (is_path_of ps t) (offered os t || is_path_of (last_product edition ps os (Some m)) t)
-              (or-right (offered os t) (is_path_of (last_product edition ps os (Some m)) t)
-                (ap (λ (r : Option Text). is_text t r || false) (placed-path edition m (late_taker ps os m)) ∙ ap (λ (b : Bool). b || false) (own t))) ] refl
+            (or-right (offered os t) (is_path_of (last_product edition ps os (Some m)) t)
+            (ap (λ (r : Option Text). is_text t r || false) (placed-path edition m (late_taker ps os m)) ∙ ap (λ (b : Bool). b || false) (own t)))
+      ] refl
 
   main-again : (name : Text) (there : Bool) → main_offer name there (found edition dir ps es (main_offer name there ps)) ≡ None
   main-again name false = refl
@@ -229,11 +231,11 @@ module _ (edition : Edition) (dir : Text) (ps : List ProductMeaning) (es : List 
 
   pub bins-again : (wanted : Bool) (name : Text) (there : Bool) →
       list_of edition wanted dir (list_of edition wanted dir ps es (main_offer name there ps)) es (main_offer name there (list_of edition wanted dir ps es (main_offer name there ps)))
-        ≡ list_of edition wanted dir ps es (main_offer name there ps)
+      ≡ list_of edition wanted dir ps es (main_offer name there ps)
   bins-again false name there = sorted-again ps
   bins-again true name there =
       ap (λ (x : Option Offered). found edition dir (found edition dir ps es (main_offer name there ps)) es x) (main-again name there)
-        ∙ found-again (main_offer name there ps)
+      ∙ found-again (main_offer name there ps)
 
 -- all parts
 same-parts : (d e : DiscoveredMeaning) → d.lib ≡ e.lib → d.bin ≡ e.bin → d.example ≡ e.example → d.test ≡ e.test → d.bench ≡ e.bench → d.build ≡ e.build → d.readme ≡ e.readme → d ≡ e

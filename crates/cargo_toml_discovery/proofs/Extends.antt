@@ -67,7 +67,7 @@ module _ (told : Text → Told) (ans : Answers) where
 
   pub ext-around : (wanted : Wanted) → Ext (around told wanted) (around (filled told ans) wanted)
   ext-around wanted = ext-as make_around _ _ (ext-pair _ _ _ _ (ext-pair _ _ _ _ (ext-root (told []) (answer_at ans [])) (ext-names (told (codes "src")) (answer_at ans (codes "src"))))
-    (ext-pair _ _ _ _ (ext-pair _ _ _ _ (ext-entries wanted.bins (codes "src/bin")) (ext-entries wanted.examples (codes "examples"))) (ext-pair _ _ _ _ (ext-entries wanted.tests (codes "tests")) (ext-entries wanted.benches (codes "benches")))))
+      (ext-pair _ _ _ _ (ext-pair _ _ _ _ (ext-entries wanted.bins (codes "src/bin")) (ext-entries wanted.examples (codes "examples"))) (ext-pair _ _ _ _ (ext-entries wanted.tests (codes "tests")) (ext-entries wanted.benches (codes "benches")))))
 
 pub ext-at : {A : Type 0} (p : Option Text) (s t : Seen A) → Ext s t → Ext (at_path p s) (at_path p t)
 ext-at p s t (inl e) = inl (ap (λ u. at_path p u) e)

@@ -28,7 +28,7 @@ grows-on told a b c g h = ((λ p ns e. h.0 p ns (g.0 p ns e)), (λ f. h.1 (g.1 f
 
 pub has-grows : (told : Text → Told) (a b : Answers) (p : Text) → Grows told a b → Has a p → Has b p
 has-grows told a b p g h = elim (answer_at a p) as (λ r. answer_at a p ≡ r → is_some r ≡ true → Has b p)
-  [ None ↦ λ e k. cc | Some ns ↦ λ e k. ap is_some (g.0 p ns e) ] refl h
+    [ None ↦ λ e k. cc | Some ns ↦ λ e k. ap is_some (g.0 p ns e) ] refl h
 
 pub has_each-grows : (told : Text → Told) (a b : Answers) (ps : List Text) → Grows told a b → HasEach a ps → HasEach b ps
 has_each-grows told a b [] g h = tt
@@ -40,7 +40,7 @@ has_each-push a (q ∷ ps) p h k = (h.0, has_each-push a ps p h.1 k)
 
 pub names_in-grows : (told : Text → Told) (a b : Answers) (p : Text) → Grows told a b → Has a p → names_in a p ≡ names_in b p
 names_in-grows told a b p g h = elim (answer_at a p) as (λ r. answer_at a p ≡ r → is_some r ≡ true → unwrap_or r [] ≡ names_in b p)
-  [ None ↦ λ e k. cc | Some ns ↦ λ e k. sym (ap (λ (r : Option (List Text)). unwrap_or r []) (g.0 p ns e)) ] refl h
+    [ None ↦ λ e k. cc | Some ns ↦ λ e k. sym (ap (λ (r : Option (List Text)). unwrap_or r []) (g.0 p ns e)) ] refl h
 
 pub has_products-grows : (told : Text → Told) (a b : Answers) (wanted : Bool) (dir : Text) → Grows told a b → HasProducts wanted dir a → HasProducts wanted dir b
 has_products-grows told a b false dir g h = tt

@@ -37,11 +37,11 @@ told_or_open open_path ns h = inl refl
 
 pub products-told : (told : Text → Told) (dir : Text) (ns : List Text) (f : Fault) → IsAnswer (told dir) ns → MayTellOneOf told (below dir ns) f → MayTell (entries_at told true dir) f
 products-told told dir ns f one h = elim (told_or_open (told dir) ns one)
-  [ inl e ↦ rw e tt | inr e ↦ rw e (each-told told dir ns f h) ]
+    [ inl e ↦ rw e tt | inr e ↦ rw e (each-told told dir ns f h) ]
 
 pub products-first : (told : Text → Told) (dir : Text) (f : Fault) → MayTell (names_at (told dir)) f → MayTell (entries_at told true dir) f
 products-first told dir f h = elim (names_at (told dir)) as (λ s. MayTell s f → MayTell (and_then s (each_named told dir)) f)
-  [ seen x ↦ λ k. absurd k | faulty fs ↦ λ k. k | unclear ↦ λ k. k ] h
+    [ seen x ↦ λ k. absurd k | faulty fs ↦ λ k. k | unclear ↦ λ k. k ] h
 
 -- what was heard
 heard_at : (told : Text → Told) (ans : Answers) (p : Text) (r : Option (List Text)) → Fits told ans → answer_at ans p ≡ r → is_some r ≡ true → names_at (filled_by (told p) r) ≡ seen (unwrap_or r [])
@@ -55,7 +55,7 @@ each-heard-step : (told : Text → Told) (ans : Answers) (dir n : Text) (ns : Li
     (HasEach ans (below dir ns) → each_named (filled told ans) dir ns ≡ seen (map (named_in ans dir) ns)) →
     HasEach ans (map (in_dir dir) (cond (not b) (n ∷ filter may_be_folder ns) (filter may_be_folder ns))) →
     seen_as (λ (e : Named × List Named). e.0 ∷ e.1) (pair (cond b (seen (record { name = n; has_main = false })) (seen_as (named_by n) (names_at (filled told ans (in_dir dir n))))) (each_named (filled told ans) dir ns))
-      ≡ seen ((record { name = n; has_main = not b && has_text (names_in ans (in_dir dir n)) (codes "main.rs") }) ∷ map (named_in ans dir) ns)
+    ≡ seen ((record { name = n; has_main = not b && has_text (names_in ans (in_dir dir n)) (codes "main.rs") }) ∷ map (named_in ans dir) ns)
 each-heard-step told ans dir n ns true f next h = ap (λ (s : Seen (List Named)). seen_as (λ (e : Named × List Named). e.0 ∷ e.1) (pair ((source_named n)) s)) (next h)
 each-heard-step told ans dir n ns false f next h =
     ap (λ (t : Seen (List Text)). seen_as (λ (e : Named × List Named). e.0 ∷ e.1) (pair (seen_as (named_by n) t) (each_named (filled told ans) dir ns))) (heard told ans (in_dir dir n) f h.0)
@@ -76,9 +76,14 @@ pub all-heard : (told : Text → Told) (ans : Answers) (wanted : Wanted) (root :
     HasProducts wanted.bins (codes "src/bin") ans → HasProducts wanted.examples (codes "examples") ans → HasProducts wanted.tests (codes "tests") ans → HasProducts wanted.benches (codes "benches") ans →
     around (filled told ans) wanted ≡ seen (around_in ans wanted)
 all-heard told ans wanted root f top is src bins examples tests benches =
-    rw (root-heard (told []) (answer_at ans []) root top is, heard told ans (codes "src") f src,
-      products-heard told ans wanted.bins (codes "src/bin") f bins, products-heard told ans wanted.examples (codes "examples") f examples,
-      products-heard told ans wanted.tests (codes "tests") f tests, products-heard told ans wanted.benches (codes "benches") f benches) refl
+    rw (
+      root-heard (told []) (answer_at ans []) root top is,
+      heard told ans (codes "src") f src,
+      products-heard told ans wanted.bins (codes "src/bin") f bins,
+      products-heard told ans wanted.examples (codes "examples") f examples,
+      products-heard told ans wanted.tests (codes "tests") f tests,
+      products-heard told ans wanted.benches (codes "benches") f benches,
+    ) refl
 
 -- a fault of one is a fault of all
 module _ (told : Text → Told) (wanted : Wanted) (f : Fault) where
@@ -129,6 +134,11 @@ started told old new root e h is =
 
 pub all-told : (told : Text → Told) (ans : Answers) (wanted : Wanted) → Fits told ans → HasRoot told ans → HasAll wanted ans → around (filled told ans) wanted ≡ seen (around_in ans wanted)
 all-told told ans wanted f root h =
-    rw (root, heard told ans (codes "src") f h.0,
-      products-heard told ans wanted.bins (codes "src/bin") f h.1.0, products-heard told ans wanted.examples (codes "examples") f h.1.1.0,
-      products-heard told ans wanted.tests (codes "tests") f h.1.1.1.0, products-heard told ans wanted.benches (codes "benches") f h.1.1.1.1) refl
+    rw (
+      root,
+      heard told ans (codes "src") f h.0,
+      products-heard told ans wanted.bins (codes "src/bin") f h.1.0,
+      products-heard told ans wanted.examples (codes "examples") f h.1.1.0,
+      products-heard told ans wanted.tests (codes "tests") f h.1.1.1.0,
+      products-heard told ans wanted.benches (codes "benches") f h.1.1.1.1,
+    ) refl

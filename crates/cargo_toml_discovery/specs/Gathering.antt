@@ -17,7 +17,8 @@ Fits told ans = (p : Text) (ns : List Text) → answer_at ans p ≡ Some ns → 
 -- answers stay, and those that fit go on to fit
 abbrev pub Grows : (Text → Told) → Answers → Answers → Type 0
 Grows told old new =
-    ((p : Text) (ns : List Text) → answer_at old p ≡ Some ns → answer_at new p ≡ Some ns) × (Fits told old → Fits told new)
+    ((p : Text) (ns : List Text) → answer_at old p ≡ Some ns → answer_at new p ≡ Some ns)
+    × (Fits told old → Fits told new)
 
 abbrev pub Has : Answers → Text → Type 0
 Has ans p = is_some (answer_at ans p) ≡ true

@@ -18,6 +18,7 @@ use cargo_toml_tables::Product;
 use std::alloc::{AllocError, Global};
 
 /// What a manifest states of its package and of its products.
+#[derive(Clone, Copy, Debug)]
 pub struct Stated<'a> {
     /// The package's name.
     pub name: &'a str,

@@ -3,14 +3,13 @@ use Rattle.std.proofs.Common.{◌≡◌, Bool, true, false, cond, not, ◌&&◌,
 use Rattle.std.specs.Str.{bytes_eq}
 use Rattle.cargo_toml_parts.specs.declared.error.Error.{Error, Memory}
 use Rattle.cargo_toml_parts.specs.FaultValues.{Fault, fault_of}
-use Rattle.cargo_toml_discovery.specs.Answers.{Answers, answer_at, answers_of, names_in, below, named_in, entries_if, around_in, filled_by, filled}
+use Rattle.cargo_toml_discovery.specs.Answers.{Answers, answer_at, names_in, below, named_in, entries_if, around_in, filled_by, filled}
 use Rattle.cargo_toml_discovery.specs.Around.{named_by, each_named, entries_at, make_around, around}
 use Rattle.cargo_toml_discovery.specs.Found.{Named}
 use Rattle.cargo_toml_discovery.specs.Gathering.{IsAnswer, Fits, Has, HasEach, MayTellOneOf, HasProducts, HasRoot, HasAll}
 use Rattle.cargo_toml_discovery.specs.Names.{Text, has_text, in_dir, is_source, may_be_folder}
 use Rattle.cargo_toml_discovery.specs.Seen.{Seen, seen, faulty, unclear, seen_as, pair, and_then, names_at, root_names, MayTell, Tells}
 use Rattle.cargo_toml_discovery.specs.Told.{Told, names, absent, denied, open_path}
-use Rattle.cargo_toml_discovery.specs.declared.listings.Listings as code
 use Rattle.cargo_toml_discovery.specs.declared.listings.Wanted.{Wanted}
 use Rattle.cargo_toml_discovery.proofs.Heard.{tell-as, tell-left, tell-right, grows-one, has-one, root_is_answer}
 
@@ -72,19 +71,6 @@ products-heard told ans true dir f h = ap (λ (s : Seen (List Text)). and_then s
 root-heard : (t : Told) (r : Option (List Text)) (ns : List Text) → r ≡ Some ns → root_names (filled_by t (Some ns)) ≡ seen ns → root_names (filled_by t r) ≡ seen (unwrap_or r [])
 root-heard t r ns e h = rw e h
 
-pub all-heard : (told : Text → Told) (ans : Answers) (wanted : Wanted) (root : List Text) → Fits told ans → answer_at ans [] ≡ Some root → root_names (filled_by (told []) (Some root)) ≡ seen root → Has ans (codes "src") →
-    HasProducts wanted.bins (codes "src/bin") ans → HasProducts wanted.examples (codes "examples") ans → HasProducts wanted.tests (codes "tests") ans → HasProducts wanted.benches (codes "benches") ans →
-    around (filled told ans) wanted ≡ seen (around_in ans wanted)
-all-heard told ans wanted root f top is src bins examples tests benches =
-    rw (
-      root-heard (told []) (answer_at ans []) root top is,
-      heard told ans (codes "src") f src,
-      products-heard told ans wanted.bins (codes "src/bin") f bins,
-      products-heard told ans wanted.examples (codes "examples") f examples,
-      products-heard told ans wanted.tests (codes "tests") f tests,
-      products-heard told ans wanted.benches (codes "benches") f benches,
-    ) refl
-
 -- a fault of one is a fault of all
 module _ (told : Text → Told) (wanted : Wanted) (f : Fault) where
   pub by-root : MayTell (root_names (told [])) f → MayTell (around told wanted) f
@@ -119,18 +105,22 @@ products-tells told wanted dir ns e is one (inr h) = inr (rw is (products-told t
 pub has_products-here : (ans : Answers) (wanted : Bool) (dir : Text) → wanted ≡ true → Has ans dir → HasEach ans (below dir (names_in ans dir)) → HasProducts wanted dir ans
 has_products-here ans wanted dir is h k = rw is (h, k)
 
-none_at : (l : code.Listings) (p : Text) → l.names.entries ≡ [] → answer_at (answers_of l) p ≡ None
-none_at l p e = rw e refl
+none_at : (ans : Answers) (p : Text) → ans ≡ [] → answer_at ans p ≡ None
+none_at ans p e = ap (λ (given : Answers). answer_at given p) e
 
-none_fits : (told : Text → Told) (l : code.Listings) → l.names.entries ≡ [] → Fits told (answers_of l)
-none_fits told l e p ns h = let n = none_at l p e in cc
+none_fits : (told : Text → Told) (ans : Answers) → ans ≡ [] → Fits told ans
+none_fits told ans e p ns h = let n = none_at ans p e in cc
 
-pub started : (told : Text → Told) (old new : code.Listings) (root : List Text) → old.names.entries ≡ [] →
-    ((p : Text) → answer_at (answers_of new) p ≡ cond (bytes_eq [] p) (Some root) (answer_at (answers_of old) p)) → root_names (filled_by (told []) (Some root)) ≡ seen root →
-    Fits told (answers_of new) × (answer_at (answers_of new) [] ≡ Some root)
+-- the names of the package's own folder are the first answer
+pub started : (told : Text → Told) (old new : Answers) (root : List Text) → old ≡ [] →
+    ((p : Text) → answer_at new p ≡ cond (bytes_eq [] p) (Some root) (answer_at old p)) → root_names (filled_by (told []) (Some root)) ≡ seen root →
+    Fits told new × (answer_at new [] ≡ Some root)
 started told old new root e h is =
     let missing = ap is_some (none_at old [] e) in
-    ((grows-one told (answers_of old) (answers_of new) [] root missing h (root_is_answer (told []) root is)).1 (none_fits told old e), has-one told (answers_of old) (answers_of new) [] root missing h)
+    ((grows-one told old new [] root missing h (root_is_answer (told []) root is)).1 (none_fits told old e), has-one told old new [] root missing h)
+
+pub has_root : (told : Text → Told) (ans : Answers) (root : List Text) → answer_at ans [] ≡ Some root → root_names (filled_by (told []) (Some root)) ≡ seen root → HasRoot told ans
+has_root told ans root e h = root-heard (told []) (answer_at ans []) root e h
 
 pub all-told : (told : Text → Told) (ans : Answers) (wanted : Wanted) → Fits told ans → HasRoot told ans → HasAll wanted ans → around (filled told ans) wanted ≡ seen (around_in ans wanted)
 all-told told ans wanted f root h =

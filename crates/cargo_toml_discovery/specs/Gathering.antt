@@ -1,9 +1,12 @@
 -- How names are gathered that discovery needs: what is kept is what was told, and all that is needed is kept.
-use Rattle.std.specs.Prelude.{◌≡◌, Bool, true, false, List, [], ◌∷◌, Some, is_some, codes, ◌⊎◌}
+use Rattle.std.specs.Prelude.{◌≡◌, Bool, true, false, List, [], ◌∷◌, Some, is_some, codes, String, Result, MatchResult, ◌⊎◌}
+use Rattle.std.specs.BTreeSet.{BTreeSet}
+use Rattle.std.specs.declared.alloc.Global.{Global}
+use Rattle.cargo_toml_parts.specs.declared.error.Error.{Error}
 use Rattle.cargo_toml_parts.specs.FaultValues.{Fault}
-use Rattle.cargo_toml_discovery.specs.Answers.{Answers, answer_at, names_in, below, filled, filled_by}
+use Rattle.cargo_toml_discovery.specs.Answers.{Answers, answer_at, names_in, below, filled, filled_by, texts_in}
 use Rattle.cargo_toml_discovery.specs.Names.{Text}
-use Rattle.cargo_toml_discovery.specs.Seen.{seen, names_at, root_names, MayTell}
+use Rattle.cargo_toml_discovery.specs.Seen.{seen, names_at, root_names, MayTell, Tells}
 use Rattle.cargo_toml_discovery.specs.Told.{Told}
 use Rattle.cargo_toml_discovery.specs.declared.listings.Wanted.{Wanted}
 
@@ -48,3 +51,12 @@ HasAll wanted ans =
 abbrev pub MayTellOneOf : (Text → Told) → List Text → Fault → Type 0
 MayTellOneOf told [] f = ⊥
 MayTellOneOf told (p ∷ ps) f = MayTell (names_at (told p)) f ⊎ MayTellOneOf told ps f
+
+-- the answer to the question for the names in a folder, in order; an absent one counts as empty
+abbrev pub Listed : Told → Result (BTreeSet (String Global)) Error → Type 0
+Listed t r = MatchResult r (λ s. IsAnswer t (texts_in s)) (λ e. Tells (names_at t) e)
+
+-- the same for the folder of the package, which must be there
+abbrev pub RootListed : Told → Result (BTreeSet (String Global)) Error → Type 0
+RootListed t r =
+    MatchResult r (λ s. root_names (filled_by t (Some (texts_in s))) ≡ seen (texts_in s)) (λ e. Tells (root_names t) e)

@@ -1,7 +1,10 @@
+pub mod Again
 pub mod Ascend
 pub mod Ascends
 pub mod Copies
 pub mod Dashes
+pub mod Extends
+pub mod Heard
 pub mod Joins
 pub mod LastWaiting
 pub mod Lookups
@@ -13,3 +16,4 @@ pub mod Stable
 pub mod Stems
 pub mod Unique
 pub mod Walks
+pub mod Whole

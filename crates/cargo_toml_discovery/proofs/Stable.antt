@@ -1,5 +1,5 @@
 -- A stable sort has one result.
-use Rattle.std.proofs.Common.{◌≡◌, ℕ, ◌<◌, Bool, true, false, cond, not, ◌&&◌, List, [], ◌∷◌, length, get_or, refl, ap, sym, ◌∙◌, arith, filter, suc, add-one, map}
+use Rattle.std.proofs.Common.{◌≡◌, ℕ, ◌<◌, Bool, true, false, cond, not, ◌&&◌, List, [], ◌∷◌, length, get_or, refl, ap, sym, ◌∙◌, arith, filter, suc, zero, add-one, map}
 use Rattle.std.specs.Cmp.{IsStrictWeakOrder}
 use Rattle.std.specs.List.Sorted.{IsSortedBy, IsStableBy, ties}
 use Rattle.std.proofs.lemmas.List.Sorted.{sorted_far}
@@ -116,6 +116,20 @@ module _ {X : Type 0} (lt : X → X → Bool) (o : IsStrictWeakOrder lt) where
     at_most-from_each x xs (λ j d k. sorted_far lt o (x ∷ xs) h 0 (suc j) d (omega arith) (omega arith)),
     sorted-from_std xs (λ k d low high. let e = rw add-one at (h (suc k) d (omega arith) (omega arith)) in rw add-one e),
   )
+
+  at : (x : X) (zs : List X) → AtMost x zs → (j : ℕ) (d : X) → j < length zs → lt (get_or zs j d) x ≡ false
+  at x [] h j d below = absurd (omega arith)
+  at x (z ∷ zs) h zero d below = h.0
+  at x (z ∷ zs) h (suc j) d below = at x zs h.1 j d (omega arith)
+
+  neighbours : (xs : List X) → Sorted xs → (k : ℕ) (d : X) → suc k < length xs → lt (get_or xs (suc k) d) (get_or xs k d) ≡ false
+  neighbours [] s k d below = absurd (omega arith)
+  neighbours (x ∷ xs) s zero d below = at x xs s.0 zero d (omega arith)
+  neighbours (x ∷ xs) s (suc k) d below = neighbours xs s.1 k d (omega arith)
+
+  -- in the words of std
+  pub sorted-in_std : (xs : List X) → Sorted xs → IsSortedBy lt xs
+  sorted-in_std xs s = λ k d low high. rw add-one (neighbours xs s k d (omega arith))
 
   -- a stable sort gives what insertion gives
   pub sort_gives : (xs ys : List X) → IsSortedBy lt ys → IsStableBy lt xs ys → ys ≡ sorted_by lt xs

@@ -1,6 +1,7 @@
 -- How often `.rs` is stripped.
-use Rattle.std.proofs.Common.{◌≡◌, ℕ, true, false, cond, [], ◌∷◌, refl, ap, sym, length, zero, suc, ◌≤◌, ◌<◌, ◌-◌, arith, length-take}
-use Rattle.cargo_toml_discovery.specs.Names.{Text, stripped, stem, without_ending, is_source}
+use Rattle.std.proofs.Common.{◌∙◌, ◌≡◌, ℕ, true, false, cond, [], ◌∷◌, refl, ap, sym, length, zero, suc, ◌≤◌, ◌<◌, ◌-◌, arith, length-take, ◌++◌, drop, take-append-drop, codes}
+use Rattle.std.proofs.lemmas.Slice.Eq.{bytes_eq-Decides}
+use Rattle.cargo_toml_discovery.specs.Names.{with_endings, Text, stripped, stem, without_ending, is_source}
 
 stripped-nil : (n : ℕ) → stripped n [] ≡ []
 stripped-nil zero = refl
@@ -34,3 +35,19 @@ stem-shorter (x ∷ t) h =
 pub stem-done : (t : Text) → is_source t ≡ false → stem t ≡ t
 stem-done [] h = refl
 stem-done (x ∷ t) h = rw h refl
+
+-- nothing is left to take away
+pub stripped-done : (n : ℕ) (t : Text) → length t ≤ n → is_source (stripped n t) ≡ false
+stripped-done zero [] h = refl
+stripped-done zero (x ∷ t) h = absurd (omega arith)
+stripped-done (suc n) t h = elim (is_source t) as (λ b. is_source t ≡ b → is_source (cond b (stripped n (without_ending t)) t) ≡ false)
+    [ true ↦ λ e. let s = source-shorter t e in stripped-done n (without_ending t) (omega arith) | false ↦ λ e. e ] refl
+
+put-back : (t : Text) → is_source t ≡ true → without_ending t ++ codes ".rs" ≡ t
+put-back t e = ap (λ (u : Text). without_ending t ++ u) ((bytes_eq-Decides (codes ".rs") (drop (length t - 3) t)).0 e) ∙ take-append-drop (length t - 3) t
+
+-- what was taken away stands there again
+pub rebuilt : (k : ℕ) (t : Text) → (n : ℕ) × (with_endings n (stripped k t) ≡ t)
+rebuilt zero t = (zero, refl)
+rebuilt (suc k) t = elim (is_source t) as (λ b. is_source t ≡ b → (n : ℕ) × (with_endings n (cond b (stripped k (without_ending t)) t) ≡ t))
+    [ true ↦ λ e. let r = rebuilt k (without_ending t) in (suc r.0, ap (λ (u : Text). u ++ codes ".rs") r.1 ∙ put-back t e) | false ↦ λ e. (zero, refl) ] refl

@@ -6,6 +6,7 @@ use Rattle.std.specs.declared.alloc.Global.{Global}
 use Rattle.cargo_toml_discovery.specs.Around.{Around}
 use Rattle.cargo_toml_discovery.specs.Found.{Named}
 use Rattle.cargo_toml_discovery.specs.Names.{Text, has_text, in_dir, may_be_folder}
+use Rattle.cargo_toml_discovery.specs.Told.{Told, names, absent, denied, open_path}
 use Rattle.cargo_toml_discovery.specs.declared.listings.Listings as code
 use Rattle.cargo_toml_discovery.specs.declared.listings.Wanted.{Wanted}
 
@@ -15,6 +16,17 @@ Answers = List (Text × List Text)
 abbrev pub answer_at : Answers → Text → Option (List Text)
 answer_at [] p = None
 answer_at (a ∷ ans) p = if bytes_eq p a.0 then Some a.1 else answer_at ans p
+
+-- what is told where an open path has this answer
+abbrev pub filled_by : Told → Option (List Text) → Told
+filled_by (names ts) a = names ts
+filled_by absent a = absent
+filled_by (denied kind) a = denied kind
+filled_by open_path None = open_path
+filled_by open_path (Some ts) = names ts
+
+abbrev pub filled : (Text → Told) → Answers → Text → Told
+filled told ans p = filled_by (told p) (answer_at ans p)
 
 -- the texts of a set, in order
 abbrev pub texts_in : BTreeSet (String Global) → List Text

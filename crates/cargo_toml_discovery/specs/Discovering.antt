@@ -30,7 +30,8 @@ abbrev pub or_plain_library : List Text → List Text
 or_plain_library [] = codes "lib" ∷ []
 or_plain_library types = types
 
--- the library with the name and the edition of the package and the crate type `lib`, where it states none, and no required feature
+-- the library with what it does not state: the name and the edition of the package, and the crate type `lib`; it
+-- requires no feature
 abbrev pub filled_library : Text → Edition → ProductMeaning → ProductMeaning
 filled_library name edition p = record p {
   name = Some (unwrap_or p.name (underscored name));
@@ -63,7 +64,8 @@ may_build (Some (path p)) = false
 
 -- the build script, where these names stand beside the manifest
 abbrev pub build_in : List Text → Option File → Option File
-build_in root build = if may_build build && has_text root (codes "build.rs") then Some (path (codes "build.rs")) else build
+build_in root build =
+    if may_build build && has_text root (codes "build.rs") then Some (path (codes "build.rs")) else build
 
 -- the first of the names that is there
 abbrev pub first_in : List Text → List Text → File → File
@@ -155,4 +157,16 @@ discovered s a = record {
   bench = list_of s.edition s.wanted.benches (codes "benches") s.bench a.benches None;
   build = build_in a.root s.build;
   readme = readme_in a.root s.readme;
+}
+
+-- what a manifest states with what was discovered in it
+abbrev pub restated : StatedMeaning → DiscoveredMeaning → StatedMeaning
+restated s d = record s {
+  lib = d.lib;
+  bin = d.bin;
+  example = d.example;
+  test = d.test;
+  bench = d.bench;
+  build = d.build;
+  readme = d.readme;
 }

@@ -6,4 +6,5 @@ pub mod Seen
 pub mod Around
 pub mod Discovering
 pub mod Answers
+pub mod Gathering
 pub mod Walk

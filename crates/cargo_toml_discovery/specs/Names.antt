@@ -34,6 +34,11 @@ stripped (suc n) name = if is_source name then stripped n (without_ending name) 
 abbrev pub stem : Text → Text
 stem name = stripped (length name) name
 
+-- the name with `.rs` at its end so often more
+abbrev pub with_endings : ℕ → Text → Text
+with_endings zero name = name
+with_endings (suc n) name = with_endings n name ++ codes ".rs"
+
 -- a text put among texts in byte order, each of which stands there once
 abbrev pub put_in : Text → List Text → List Text
 put_in text [] = text ∷ []

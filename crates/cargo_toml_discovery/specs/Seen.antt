@@ -1,8 +1,10 @@
 -- What is seen of a tree of folders: a value, one of some faults, or nothing where an open path is asked for.
-use Rattle.std.specs.Prelude.{◌≡◌, Bool, true, false, List, [], ◌∷◌, ◌++◌, ◌⊎◌, if◌then◌else◌}
+use Rattle.std.specs.Prelude.{◌≡◌, Bool, true, false, List, [], ◌∷◌, ◌++◌, ◌⊎◌, map, Option, if◌then◌else◌}
 use Rattle.std.specs.declared.io.ErrorKind.{ErrorKind}
 use Rattle.std.specs.declared.io.ErrorKind.TheVariants.{NotFound}
-use Rattle.cargo_toml_parts.specs.FaultValues.{Fault, io}
+use Rattle.cargo_toml_parts.specs.FaultValues.{Fault, fault_of, io}
+use Rattle.cargo_toml_parts.specs.Wrapping.{wrap}
+use Rattle.cargo_toml_parts.specs.declared.error.Error.{Error, Memory}
 use Rattle.cargo_toml_discovery.specs.Names.{Text, ordered}
 use Rattle.cargo_toml_discovery.specs.Told.{Told, names, absent, denied, open_path}
 
@@ -58,3 +60,13 @@ abbrev pub MayTell : {A : Type 0} → Seen A → Fault → Type 0
 MayTell (seen x) f = ⊥
 MayTell (faulty fs) f = IsOneOf f fs
 MayTell unclear f = Unit {0}
+
+-- the refusal: want of memory, or a fault that may be told
+abbrev pub Tells : {A : Type 0} → Seen A → Error → Type 0
+Tells s e = (e ≡ Memory) ⊎ MayTell s (fault_of e)
+
+-- the faults, told with this path
+abbrev pub at_path : {A : Type 0} → Option Text → Seen A → Seen A
+at_path p (seen x) = seen x
+at_path p (faulty fs) = faulty (map (wrap p) fs)
+at_path p unclear = unclear

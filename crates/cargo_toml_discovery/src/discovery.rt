@@ -18,6 +18,7 @@ use cargo_toml_tables::Product;
 use std::alloc::{AllocError, Global};
 
 /// What a manifest states of its package and of its products.
+#[derive(Clone, Copy, Debug)]
 pub struct Stated<'a> {
     /// The package's name.
     pub name: &'a str,
@@ -80,7 +81,8 @@ fn found_library(
     autolib: bool,
     library: Option<&Product>,
 ) -> Result<Option<Product>, AllocError>
-    ensures { IfOk result (λ l. option_map product_meaning l ≡ found_library is_there autolib (product_lent library.entry)) }
+    ensures { IfOk result (λ l. option_map product_meaning l
+        ≡ found_library is_there autolib (product_lent library.entry)) }
 {
     match library {
         Some(library) => {
@@ -124,10 +126,10 @@ fn filled_library(
     Ok(library)
 }
 
-/// The library of a package of this name and edition: the one that is stated, with the path `src/lib.rs` where it has none
-/// and that file is there, or one that is made there where `autolib` says so. It has the name of the package with each `-` as
-/// `_`, its edition and the crate type `lib` where it states none, and no required features. It is refused only where there
-/// was no memory.
+/// The library of a package of this name and edition: the one that is stated, with the path `src/lib.rs` where it has
+/// none and that file is there, or one that is made there where `autolib` says so. It has the name of the package
+/// with each `-` as `_`, its edition and the crate type `lib` where it states none, and no required features. It is
+/// refused only where there was no memory.
 pub fn library(
     alloc: Global,
     name: &str,
@@ -198,8 +200,8 @@ fn copied_file(alloc: Global, file: &OptionalFile) -> Result<OptionalFile, Alloc
     }
 }
 
-/// The build script: the path `build.rs` where none is stated or just that there is one, and that file stands beside the
-/// manifest; otherwise what is stated. It is refused only where there was no memory.
+/// The build script: the path `build.rs` where none is stated or just that there is one, and that file stands beside
+/// the manifest; otherwise what is stated. It is refused only where there was no memory.
 pub fn build(
     alloc: Global,
     stated: Option<&OptionalFile>,
@@ -219,8 +221,9 @@ pub fn build(
     }
 }
 
-/// The readme: where just that there is one is stated, the first of `README.md`, `README.txt` and `README` that stands beside
-/// the manifest; otherwise, or where none does, what is stated. It is refused only where there was no memory.
+/// The readme: where just that there is one is stated, the first of `README.md`, `README.txt` and `README` that
+/// stands beside the manifest; otherwise, or where none does, what is stated. It is refused only where there was no
+/// memory.
 pub fn readme(
     alloc: Global,
     stated: &OptionalFile,
@@ -243,8 +246,8 @@ pub fn readme(
     Ok(OptionalFile::Path(String::from_str(alloc, name)?))
 }
 
-/// What discovery makes of what a manifest states, by the names that were told of the folders around it. It is refused only
-/// where there was no memory.
+/// What discovery makes of what a manifest states, by the names that were told of the folders around it. It is
+/// refused only where there was no memory.
 pub fn discover(
     alloc: Global,
     stated: &Stated<'_>,

@@ -1,0 +1,62 @@
+-- How names are gathered that discovery needs: what is kept is what was told, and all that is needed is kept.
+use Rattle.std.specs.Prelude.{◌≡◌, Bool, true, false, List, [], ◌∷◌, Some, is_some, codes, String, Result, MatchResult, ◌⊎◌}
+use Rattle.std.specs.BTreeSet.{BTreeSet}
+use Rattle.std.specs.declared.alloc.Global.{Global}
+use Rattle.cargo_toml_parts.specs.declared.error.Error.{Error}
+use Rattle.cargo_toml_parts.specs.FaultValues.{Fault}
+use Rattle.cargo_toml_discovery.specs.Answers.{Answers, answer_at, names_in, below, filled, filled_by, texts_in}
+use Rattle.cargo_toml_discovery.specs.Names.{Text}
+use Rattle.cargo_toml_discovery.specs.Seen.{seen, names_at, root_names, MayTell, Tells}
+use Rattle.cargo_toml_discovery.specs.Told.{Told}
+use Rattle.cargo_toml_discovery.specs.declared.listings.Wanted.{Wanted}
+
+-- the names are an answer of what is told
+abbrev pub IsAnswer : Told → List Text → Type 0
+IsAnswer t ns = names_at (filled_by t (Some ns)) ≡ seen ns
+
+abbrev pub Fits : (Text → Told) → Answers → Type 0
+Fits told ans = (p : Text) (ns : List Text) → answer_at ans p ≡ Some ns → IsAnswer (told p) ns
+
+-- answers stay, and those that fit go on to fit
+abbrev pub Grows : (Text → Told) → Answers → Answers → Type 0
+Grows told old new =
+    ((p : Text) (ns : List Text) → answer_at old p ≡ Some ns → answer_at new p ≡ Some ns)
+    × (Fits told old → Fits told new)
+
+abbrev pub Has : Answers → Text → Type 0
+Has ans p = is_some (answer_at ans p) ≡ true
+
+abbrev pub HasEach : Answers → List Text → Type 0
+HasEach ans [] = Unit {0}
+HasEach ans (p ∷ ps) = Has ans p × HasEach ans ps
+
+-- a folder of products, if it is wanted, and each folder in it
+abbrev pub HasProducts : Bool → Text → Answers → Type 0
+HasProducts false dir ans = Unit {0}
+HasProducts true dir ans = Has ans dir × HasEach ans (below dir (names_in ans dir))
+
+-- the folder of the package is there and its names are kept
+abbrev pub HasRoot : (Text → Told) → Answers → Type 0
+HasRoot told ans = root_names (filled told ans []) ≡ seen (names_in ans [])
+
+-- every path is kept that a package asks for whose lists of these kinds are wanted, but for its own folder
+abbrev pub HasAll : Wanted → Answers → Type 0
+HasAll wanted ans =
+    Has ans (codes "src")
+    × (HasProducts wanted.bins (codes "src/bin") ans
+    × (HasProducts wanted.examples (codes "examples") ans
+    × (HasProducts wanted.tests (codes "tests") ans × HasProducts wanted.benches (codes "benches") ans)))
+
+-- the fault may be told at one of these
+abbrev pub MayTellOneOf : (Text → Told) → List Text → Fault → Type 0
+MayTellOneOf told [] f = ⊥
+MayTellOneOf told (p ∷ ps) f = MayTell (names_at (told p)) f ⊎ MayTellOneOf told ps f
+
+-- the answer to the question for the names in a folder, in order; an absent one counts as empty
+abbrev pub Listed : Told → Result (BTreeSet (String Global)) Error → Type 0
+Listed t r = MatchResult r (λ s. IsAnswer t (texts_in s)) (λ e. Tells (names_at t) e)
+
+-- the same for the folder of the package, which must be there
+abbrev pub RootListed : Told → Result (BTreeSet (String Global)) Error → Type 0
+RootListed t r =
+    MatchResult r (λ s. root_names (filled_by t (Some (texts_in s))) ≡ seen (texts_in s)) (λ e. Tells (root_names t) e)

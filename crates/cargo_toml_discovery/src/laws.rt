@@ -1,0 +1,43 @@
+// Laws of discovery, each as the contract of a function that does nothing.
+ghost use Rattle.std.specs.Prelude.{◌≡◌, ◌⊎◌, ℕ, false, List};
+ghost use Rattle.std.specs.List.Sorted.{IsSortedBy, IsStableBy};
+ghost use Rattle.cargo_toml_discovery.specs.Answers.{Answers, around_in, filled};
+ghost use Rattle.cargo_toml_discovery.specs.Around.{Around, around};
+ghost use Rattle.cargo_toml_discovery.specs.Discovering.{discovered, restated, StatedMeaning};
+ghost use Rattle.cargo_toml_discovery.specs.Gathering.{Fits, HasAll, HasRoot};
+ghost use Rattle.cargo_toml_discovery.specs.Names.{Text, is_source, stem, with_endings};
+ghost use Rattle.cargo_toml_discovery.specs.Seen.{seen, unclear};
+ghost use Rattle.cargo_toml_discovery.specs.Sorting.{in_order, product_lt};
+ghost use Rattle.cargo_toml_discovery.specs.Told.{Told};
+ghost use Rattle.cargo_toml_discovery.specs.declared.listings.Wanted.{Wanted};
+ghost use Rattle.cargo_toml_tables.specs.Products.{ProductMeaning};
+
+// Discovery of what was discovered, with the same names around the package, changes nothing.
+fn discovering_again()
+    ensures { (s : StatedMeaning) (a : Around) → discovered (restated s (discovered s a)) a ≡ discovered s a }
+{}
+
+// Where open paths have answers, what is seen around a package stays as it was, unless it was unclear.
+fn answers_extend()
+    ensures { (told : Text → Told) (answers : Answers) (wanted : Wanted) →
+        (around told wanted ≡ unclear) ⊎ (around (filled told answers) wanted ≡ around told wanted) }
+{}
+
+// Where answers fit what is told and are there for each path that is asked for, what is seen around a package is what
+// they say.
+fn answers_tell()
+    ensures { (told : Text → Told) (answers : Answers) (wanted : Wanted) → Fits told answers → HasRoot told answers →
+        HasAll wanted answers → around (filled told answers) wanted ≡ seen (around_in answers wanted) }
+{}
+
+// What is in order ascends by name and path, and products that tie stand in their old order.
+fn order()
+    ensures sorted { (ps : List ProductMeaning) → IsSortedBy product_lt (in_order ps) }
+    ensures stable { (ps : List ProductMeaning) → IsStableBy product_lt ps (in_order ps) }
+{}
+
+// A stem does not end with `.rs`, and the name is the stem with some number of `.rs` after it.
+fn stems()
+    ensures end { (name : Text) → is_source (stem name) ≡ false }
+    ensures whole { (name : Text) → (n : ℕ) × (with_endings n (stem name) ≡ name) }
+{}

@@ -1,5 +1,4 @@
 pub mod Completing
-pub mod Completion
 pub mod Inheriting
 pub mod Installing
 pub mod Manifests

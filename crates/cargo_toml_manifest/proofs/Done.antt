@@ -1,5 +1,5 @@
 -- What is completed leaves nothing to the workspace.
-use Rattle.std.proofs.Common.{◌≡◌, ℕ, List, [], ◌∷◌, Bool, true, false, not, ◌||◌, cond, Option, Some, None, Result, Ok, Err, refl, ap, sym, ◌∙◌}
+use Rattle.std.proofs.Common.{◌≡◌, ℕ, List, [], ◌∷◌, Bool, true, false, cond, Option, Some, None, Result, Ok, Err, refl, ap, sym, ◌∙◌}
 use Rattle.std.specs.List.{list_any}
 use Rattle.std.specs.Option.{option_map_or}
 use Rattle.std.specs.Prelude.{option_map, option_and_then}
@@ -11,11 +11,11 @@ use Rattle.cargo_toml_parts.specs.declared.inheritable.Inheritable.TheVariants.{
 use Rattle.cargo_toml_dependencies.specs.Dependencies.{DependencyMeaning, InheritedMeaning, simple, inherited, detailed}
 use Rattle.cargo_toml_dependencies.specs.Inheriting.{Entries, adds_nothing, any_left, any_target_left, entry_at, from_template, inherited_entries, inherited_entry, inherited_target, inherited_targets, is_left, plain_detail, target_left, with_entry}
 use Rattle.cargo_toml_dependencies.specs.Targets.{TargetMeaning}
-use Rattle.cargo_toml_package.specs.Inheriting.{any_field_left, checked_package, inherited_package, with_template_if_there}
+use Rattle.cargo_toml_package.specs.Inheriting.{any_field_left, inherited_package, with_template_if_there}
 use Rattle.cargo_toml_package.specs.Packages.{PackageMeaning}
 use Rattle.cargo_toml_package.specs.Templates.{TemplateMeaning}
-use Rattle.cargo_toml_manifest.specs.Completing.{Choice, Handed, Outcome, alone, choice, complete, complete_by, from, gives, lost, outcome_of, own_choice, unclear_root, hint_of}
-use Rattle.cargo_toml_manifest.specs.Inheriting.{Lints, Shared, inherited_from, inherited_if_there, inherited_lints, inherited_manifest, needs, own_tables, shared}
+use Rattle.cargo_toml_manifest.specs.Completing.{Handed, complete, complete_by, from, gives, outcome_of, own_choice, hint_of}
+use Rattle.cargo_toml_manifest.specs.Inheriting.{Lints, Shared, inherited_from, inherited_if_there, inherited_lints, needs, own_tables, shared}
 use Rattle.cargo_toml_manifest.specs.Manifests.{ManifestMeaning}
 use Rattle.cargo_toml_manifest.specs.Told.{ToldRoot, root, no_root, open_root}
 

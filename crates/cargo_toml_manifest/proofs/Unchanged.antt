@@ -1,6 +1,6 @@
 -- A manifest that takes nothing stays as it is.
-use Rattle.std.proofs.Common.{◌≡◌, ℕ, List, [], ◌∷◌, Option, Some, None, refl, ap, drop}
-use Rattle.cargo_toml_dependencies.specs.Dependencies.{DependencyMeaning, simple, inherited, detailed}
+use Rattle.std.proofs.Common.{◌≡◌, ℕ, List, [], ◌∷◌, Option, Some, None, refl, ap}
+use Rattle.cargo_toml_dependencies.specs.Dependencies.{simple, inherited, detailed}
 use Rattle.cargo_toml_dependencies.specs.Inheriting.{Entries}
 use Rattle.cargo_toml_dependencies.specs.Replacing.{replaced, replaced_targets}
 use Rattle.cargo_toml_dependencies.specs.Targets.{TargetMeaning}

@@ -1,4 +1,4 @@
-use Rattle.std.proofs.Common.{[], Some, ap, sym, refl, ◌∙◌}
+use Rattle.std.proofs.Common.{[], Some, ap, sym, ◌∙◌}
 use Rattle.std.specs.Prelude.{option_map}
 use Rattle.std.proofs.lemmas.Result.{IfOk-weaker}
 use Rattle.cargo_toml_paths.specs.Paths.{workspace_folder}

@@ -1,9 +1,8 @@
 -- From which workspace a manifest inherits, and what completion gives.
-use Rattle.std.specs.Prelude.{◌≡◌, ◌⊎◌, ℕ, List, [], Bool, true, false, IsTrue, Option, Some, None, IsSome, option_map, option_and_then, Result, Ok, Err}
+use Rattle.std.specs.Prelude.{◌≡◌, ◌⊎◌, ℕ, List, [], Bool, true, false, Option, Some, None, option_map, option_and_then, Result, Ok, Err}
 use Rattle.cargo_toml_paths.specs.Paths.{workspace_folder}
 use Rattle.cargo_toml_parts.specs.declared.error.Error.{Error, Memory}
 use Rattle.cargo_toml_parts.specs.FaultValues.{Fault, fault_of}
-use Rattle.cargo_toml_parts.specs.InheritableValues.{value_of}
 use Rattle.cargo_toml_parts.specs.Wrapping.{wrap}
 use Rattle.cargo_toml_manifest.specs.Inheriting.{Shared, shared, inherited_manifest, needs}
 use Rattle.cargo_toml_manifest.specs.Manifests.{ManifestMeaning}

@@ -1,5 +1,5 @@
 -- A manifest, once what its workspace gives is put in.
-use Rattle.std.specs.Prelude.{map, Option, Some, None, option_map}
+use Rattle.std.specs.Prelude.{Option, Some, option_map}
 use Rattle.cargo_toml_dependencies.specs.Replacing.{replaced_target, replaced_targets}
 use Rattle.cargo_toml_package.specs.Installing.{put, installed as installed_package}
 use Rattle.cargo_toml_package.specs.Packages.{PackageMeaning}

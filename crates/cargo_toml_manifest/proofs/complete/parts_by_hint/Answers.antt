@@ -1,5 +1,4 @@
 use Rattle.std.proofs.Common.{string_bytes}
-use Rattle.std.specs.Option.{option_copied}
 use Rattle.std.proofs.lemmas.Result.{IfOk-weaker}
 use Rattle.cargo_toml_paths.specs.Paths.{workspace_folder}
 use Rattle.cargo_toml_manifest.specs.Completing.{hint_of, shared_of}
@@ -27,7 +26,7 @@ returns-in-Ok-clause-given g c =
     let a = rw c.hint_of-hint.ensures at c.in-Ok.ensures in
     let h = rw (c.as_ref.ensures.value, c.as_str.ensures.value) at c.parts_at.ensures in
     IfOk-weaker c.parts_at.result _ _ (λ new e. given_by_root m (installed m new) told (c.in-Ok.found, c.in-Ok.path) a e)
-      (given_as_met (installed m) path stated c.parts_at.result h)
+    (given_as_met (installed m) path stated c.parts_at.result h)
 
 pub returns-in-Err-clause-outcome : goal.returns-in-Err-clause-outcome
 returns-in-Err-clause-outcome g c =

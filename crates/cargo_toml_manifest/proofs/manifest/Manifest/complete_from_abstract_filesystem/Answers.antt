@@ -1,11 +1,10 @@
-use Rattle.std.proofs.Common.{Option, ℕ, List, ap, ◌∙◌}
+use Rattle.std.proofs.Common.{ap, ◌∙◌}
 use Rattle.std.specs.Prelude.{option_map}
 use Rattle.std.proofs.lemmas.Result.{err_from_is_err_and}
-use Rattle.cargo_toml_manifest.specs.Completing.{complete, handed_of}
+use Rattle.cargo_toml_manifest.specs.Completing.{handed_of}
 use Rattle.cargo_toml_manifest.specs.Inheriting.{needs}
 use Rattle.cargo_toml_manifest.specs.Installing.{installed}
 use Rattle.cargo_toml_manifest.specs.Manifests.{manifest_meaning}
-use Rattle.cargo_toml_manifest.specs.Told.{ToldRoot, heard}
 use Rattle.cargo_toml_manifest.proofs.Done.{done}
 use Rattle.cargo_toml_manifest.proofs.Known.{known}
 use Rattle.cargo_toml_manifest.proofs.Meeting.{given_again, refused_again}
@@ -33,4 +32,4 @@ returns-clause-filled g c =
     let m = manifest_meaning (λ m. m) c.args.self.now in
     let given = c.in_ok-parts.ensures.given in
     known c.install_parts.new.manifest
-      (ap needs c.install_parts.ensures ∙ done m (installed m c.in_ok-parts.parts) (option_map handed_of c.args.workspace) given.0 given.2)
+    (ap needs c.install_parts.ensures ∙ done m (installed m c.in_ok-parts.parts) (option_map handed_of c.args.workspace) given.0 given.2)

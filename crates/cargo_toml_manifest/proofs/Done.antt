@@ -64,7 +64,7 @@ entry-done templates base key (detailed d) x h = ap is_left (sym (same (detailed
 entries-done : (templates : Option Entries) (base : List ℕ) (es ds : Entries) → inherited_entries templates base es ≡ Ok ds → any_left ds ≡ false
 entries-done templates base es ds h =
     each-done (λ e. beside e.0 (inherited_entry templates base e.0 e.1)) (λ e. is_left e.1)
-      (λ e y k. beside-done is_left e.0 (inherited_entry templates base e.0 e.1) y (entry-done templates base e.0 e.1) k) es ds h
+    (λ e y k. beside-done is_left e.0 (inherited_entry templates base e.0 e.1) y (entry-done templates base e.0 e.1) k) es ds h
 
 target-done : (templates : Option Entries) (base : List ℕ) (t u : TargetMeaning) → inherited_target templates base t ≡ Ok u →
     (any_left u.dependencies ≡ false) × (any_left u.dev_dependencies ≡ false) × (any_left u.build_dependencies ≡ false)
@@ -72,10 +72,11 @@ target-done templates base t u h =
     let a = both (inherited_entries templates base t.dependencies) _ u h in
     let b = both (inherited_entries templates base t.build_dependencies) _ u a.2 in
     let c = both (inherited_entries templates base t.dev_dependencies) _ u b.2 in
-    let is = same (record { dependencies = a.0; dev_dependencies = c.0; build_dependencies = b.0 }) u c.2 in
-    (ap (λ (v : TargetMeaning). any_left v.dependencies) (sym is) ∙ entries-done templates base t.dependencies a.0 a.1,
+    let is = same (record { dependencies = a.0; dev_dependencies = c.0; build_dependencies = b.0 }) u c.2 in (
+      ap (λ (v : TargetMeaning). any_left v.dependencies) (sym is) ∙ entries-done templates base t.dependencies a.0 a.1,
       ap (λ (v : TargetMeaning). any_left v.dev_dependencies) (sym is) ∙ entries-done templates base t.dev_dependencies c.0 c.1,
-      ap (λ (v : TargetMeaning). any_left v.build_dependencies) (sym is) ∙ entries-done templates base t.build_dependencies b.0 b.1)
+      ap (λ (v : TargetMeaning). any_left v.build_dependencies) (sym is) ∙ entries-done templates base t.build_dependencies b.0 b.1,
+    )
 
 one-target-done : (templates : Option Entries) (base : List ℕ) (t u : TargetMeaning) → inherited_target templates base t ≡ Ok u → target_left u ≡ false
 one-target-done templates base t u h = let k = target-done templates base t u h in rw (k.0, k.1, k.2) refl
@@ -83,7 +84,7 @@ one-target-done templates base t u h = let k = target-done templates base t u h 
 targets-done : (templates : Option Entries) (base : List ℕ) (ts us : List (List ℕ × TargetMeaning)) → inherited_targets templates base ts ≡ Ok us → any_target_left us ≡ false
 targets-done templates base ts us h =
     each-done (λ e. beside e.0 (inherited_target templates base e.1)) (λ e. target_left e.1)
-      (λ e y k. beside-done target_left e.0 (inherited_target templates base e.1) y (one-target-done templates base e.1) k) ts us h
+    (λ e y k. beside-done target_left e.0 (inherited_target templates base e.1) y (one-target-done templates base e.1) k) ts us h
 
 -- nor are the lints
 lints-done : (groups : Option Lints) (l k : Inheritable Lints) → inherited_lints groups l ≡ Ok k → is_set k ≡ true
@@ -101,7 +102,7 @@ package-done t base None q h = ap (λ (o : Option (PackageMeaning _)). option_ma
 package-done t base (Some p) q h =
     let k = both (inherited_package t base p) (λ x. Ok (Some x)) q h in
     ap (λ (o : Option (PackageMeaning _)). option_map_or any_field_left o false) (sym (same (Some k.0) q k.2))
-      ∙ checked-done (any_field_left (with_template_if_there base t p)) (with_template_if_there base t p) k.0 _ refl k.1
+    ∙ checked-done (any_field_left (with_template_if_there base t p)) (with_template_if_there base t p) k.0 _ refl k.1
 
 inherited-done : {M : Type 0} (templates : Option Entries) (groups : Option Lints) (t : Option TemplateMeaning) (base : List ℕ) (m n : ManifestMeaning M) →
     inherited_from templates groups t base m ≡ Ok n → needs n ≡ false
@@ -123,7 +124,7 @@ outcome-ok path (Err e) x h = cc
 from-done : {M : Type 0} (workspace : Option Shared) (path : List ℕ) (m n : ManifestMeaning M) → complete_by m (from workspace path) ≡ gives n → needs n ≡ false
 from-done workspace path m n h =
     inherited-done (option_map (λ w. w.dependencies) workspace) (option_map (λ w. w.lints) workspace) (option_and_then (λ w. w.template) workspace) _ m n
-      (outcome-ok (Some path) _ n h)
+    (outcome-ok (Some path) _ n h)
 
 own-done : {M : Type 0} (m n : ManifestMeaning M) (table : Option Shared) (b : Bool) (t : ToldRoot) → needs m ≡ b → complete_by m (own_choice table b t) ≡ gives n → needs n ≡ false
 own-done m n (Some w) b t needed h = from-done (Some w) [] m n h

@@ -86,10 +86,10 @@ answered_by answer open_root = answer
 answers : (told : Option (List ℕ) → ToldRoot) (answer : ToldRoot) → Answers told (λ hint. answered_by answer (told hint))
 answers told answer hint = answers_at (told hint)
   where
-  answers_at : (t : ToldRoot) → (t ≡ answered_by answer t) ⊎ (t ≡ open_root)
-  answers_at (root m path) = inl refl
-  answers_at no_root = inl refl
-  answers_at open_root = inr refl
+    answers_at : (t : ToldRoot) → (t ≡ answered_by answer t) ⊎ (t ≡ open_root)
+    answers_at (root m path) = inl refl
+    answers_at no_root = inl refl
+    answers_at open_root = inr refl
 
 answer_there : (told answer : ToldRoot) → (told ≡ answer) ⊎ (told ≡ open_root) → answered_by answer told ≡ answer
 answer_there (root m path) answer (inl h) = h

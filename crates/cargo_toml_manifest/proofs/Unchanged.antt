@@ -37,6 +37,16 @@ pub record IsNothing (new : NewParts) : Type 0 where
 
 pub installed-none : {M : Type 0} (m : ManifestMeaning M) (new : NewParts) → IsNothing new → installed m new ≡ m
 installed-none m new is =
-    rw (is.dependencies, is.build_dependencies, is.dev_dependencies, is.targets, is.lints, is.fields,
-      replaced-none m.dependencies, replaced-none m.build_dependencies, replaced-none m.dev_dependencies,
-      replaced_targets-none m.target, installed_if_there-none m.«package») refl
+    rw (
+      is.dependencies,
+      is.build_dependencies,
+      is.dev_dependencies,
+      is.targets,
+      is.lints,
+      is.fields,
+      replaced-none m.dependencies,
+      replaced-none m.build_dependencies,
+      replaced-none m.dev_dependencies,
+      replaced_targets-none m.target,
+      installed_if_there-none m.«package»,
+    ) refl

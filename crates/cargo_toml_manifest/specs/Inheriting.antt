@@ -69,7 +69,7 @@ inherited_from templates groups template base m = do
 abbrev pub inherited_manifest : {M : Type 0} → Option Shared → List ℕ → ManifestMeaning M → Result (ManifestMeaning M) Fault
 inherited_manifest workspace base m =
     inherited_from (option_map (λ w. w.dependencies) workspace) (option_map (λ w. w.lints) workspace)
-      (option_and_then (λ w. w.template) workspace) base m
+    (option_and_then (λ w. w.template) workspace) base m
 
 -- whether something of the manifest is left to the workspace
 abbrev pub needs : {M : Type 0} → ManifestMeaning M → Bool

@@ -51,11 +51,11 @@ fn parts_by_hint<Metadata, Fs: AbstractFilesystem>(
 ) -> Result<NewParts, Error>
     ensures outcome { let m = manifest_meaning (λ m. m) manifest.now in
         Meets (installed m)
-            (complete_by m (told_choice (heard Fs.Roots.ARE_READ (Fs.root_for fs.now (hint_of m)))))
-            result }
+        (complete_by m (told_choice (heard Fs.Roots.ARE_READ (Fs.root_for fs.now (hint_of m)))))
+        result }
     ensures given { let m = manifest_meaning (λ m. m) manifest.now in
         IfOk result
-            (λ new. GivenByRoot m (heard Fs.Roots.ARE_READ (Fs.root_for fs.now (hint_of m))) (installed m new)) }
+        (λ new. GivenByRoot m (heard Fs.Roots.ARE_READ (Fs.root_for fs.now (hint_of m))) (installed m new)) }
 {
     let hint = hint_of(manifest);
     match fs.parse_root_workspace(alloc, hint) {
@@ -74,7 +74,7 @@ fn own_parts<Metadata, Fs: AbstractFilesystem>(
         Meets (installed m) (complete m None (λ hint. heard Fs.Roots.ARE_READ (Fs.root_for fs.now hint))) result }
     ensures given { let m = manifest_meaning (λ m. m) manifest.now in
         IfOk result
-            (λ new. GivenBy m None (λ hint. heard Fs.Roots.ARE_READ (Fs.root_for fs.now hint)) (installed m new)) }
+        (λ new. GivenBy m None (λ hint. heard Fs.Roots.ARE_READ (Fs.root_for fs.now hint)) (installed m new)) }
 {
     match &manifest.workspace {
         Some(workspace) => parts_at(alloc, manifest, Some(workspace), ""),
@@ -97,12 +97,12 @@ fn parts_for<Metadata, N, Fs: AbstractFilesystem>(
 ) -> Result<NewParts, Error>
     ensures outcome { let m = manifest_meaning (λ m. m) manifest.now in
         Meets (installed m)
-            (complete m (option_map handed_of workspace.entry) (λ hint. heard Fs.Roots.ARE_READ (Fs.root_for fs.now hint)))
-            result }
+        (complete m (option_map handed_of workspace.entry) (λ hint. heard Fs.Roots.ARE_READ (Fs.root_for fs.now hint)))
+        result }
     ensures given { let m = manifest_meaning (λ m. m) manifest.now in
         IfOk result
-            (λ new. GivenBy m (option_map handed_of workspace.entry)
-                (λ hint. heard Fs.Roots.ARE_READ (Fs.root_for fs.now hint)) (installed m new)) }
+        (λ new. GivenBy m (option_map handed_of workspace.entry)
+        (λ hint. heard Fs.Roots.ARE_READ (Fs.root_for fs.now hint)) (installed m new)) }
 {
     match workspace {
         Some((root, path)) => parts_at(alloc, manifest, root.workspace.as_ref(), path),
@@ -131,7 +131,7 @@ impl<Metadata: Drop> Manifest<Metadata> {
     ) -> Result<(), Error>
         ensures outcome { Meets (λ _. manifest_meaning (λ m. m) self.new)
             (complete (manifest_meaning (λ m. m) self.old) (option_map handed_of workspace.entry)
-                (λ hint. heard Fs.Roots.ARE_READ (Fs.root_for fs hint)))
+            (λ hint. heard Fs.Roots.ARE_READ (Fs.root_for fs hint)))
             result }
         ensures unchanged { OnErr result (self.new ≡ self.old) }
         ensures given { OnOk result (GivenBy (manifest_meaning (λ m. m) self.old) (option_map handed_of workspace.entry)

@@ -54,7 +54,7 @@ fn new_tables<Metadata>(
 ) -> Result<NewTarget, Error>
     ensures { Gives (replaced_target (own_tables (manifest_meaning (λ m. m) manifest.now))) result
         (inherited_target (option_map (map_meaning dependency_meaning) (option_copied templates.entry)) base.now
-            (own_tables (manifest_meaning (λ m. m) manifest.now))) }
+        (own_tables (manifest_meaning (λ m. m) manifest.now))) }
 {
     let dependencies = replacements(alloc, templates, base, &manifest.dependencies)?;
     let build_dependencies = replacements(alloc, templates, base, &manifest.build_dependencies)?;
@@ -74,10 +74,10 @@ fn new_lints(
 ) -> Result<Option<LintGroups>, Error>
     ensures { Gives
         (λ new. put (inheritable_map (map_meaning (map_meaning lint_meaning)) lints.now)
-            (option_map (map_meaning (map_meaning lint_meaning)) new))
+        (option_map (map_meaning (map_meaning lint_meaning)) new))
         result
         (inherited_lints (option_map (map_meaning (map_meaning lint_meaning)) (option_copied groups.entry))
-            (inheritable_map (map_meaning (map_meaning lint_meaning)) lints.now)) }
+        (inheritable_map (map_meaning (map_meaning lint_meaning)) lints.now)) }
 {
     match (lints, groups) {
         (Inheritable::Set(_), _) => Ok(None),
@@ -98,7 +98,7 @@ fn new_package<Metadata>(
 ) -> Result<Option<NewFields>, Error>
     ensures { Gives (installed_if_there (option_map (package_meaning (λ m. m)) (option_copied «package».entry))) result
         (inherited_if_there (option_map template_meaning (option_copied template.entry)) base.now
-            (option_map (package_meaning (λ m. m)) (option_copied «package».entry))) }
+        (option_map (package_meaning (λ m. m)) (option_copied «package».entry))) }
 {
     match package {
         Some(package) => Ok(Some(new_fields(alloc, package, template, base)?)),
@@ -117,9 +117,9 @@ fn parts_from<Metadata>(
 ) -> Result<NewParts, Error>
     ensures { Gives (installed (manifest_meaning (λ m. m) manifest.now)) result
         (inherited_from (option_map (map_meaning dependency_meaning) (option_copied templates.entry))
-            (option_map (map_meaning (map_meaning lint_meaning)) (option_copied groups.entry))
-            (option_map template_meaning (option_copied template.entry))
-            base.now (manifest_meaning (λ m. m) manifest.now)) }
+        (option_map (map_meaning (map_meaning lint_meaning)) (option_copied groups.entry))
+        (option_map template_meaning (option_copied template.entry))
+        base.now (manifest_meaning (λ m. m) manifest.now)) }
 {
     let tables = new_tables(alloc, manifest, templates, base)?;
     let targets = target_replacements(alloc, templates, base, &manifest.target)?;
@@ -183,7 +183,7 @@ pub fn no_parts(alloc: Global) -> NewParts
 fn put_lints(lints: &mut Inheritable<LintGroups>, new: Option<LintGroups>)
     ensures { inheritable_map (map_meaning (map_meaning lint_meaning)) lints.new
         ≡ put (inheritable_map (map_meaning (map_meaning lint_meaning)) lints.old)
-            (option_map (map_meaning (map_meaning lint_meaning)) new) }
+        (option_map (map_meaning (map_meaning lint_meaning)) new) }
 {
     if let Some(new) = new {
         *lints = Inheritable::Set(new);

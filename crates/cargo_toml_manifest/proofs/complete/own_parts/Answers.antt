@@ -18,16 +18,16 @@ returns-in-Some-clause-given g c =
     let w = c.in-Some.workspace in
     let stated = inherited_manifest (shared_of (Some w)) (workspace_folder []) m in
     IfOk-weaker c.parts_at.result _ _
-      (λ new e. given_by_table m (installed m new) (λ hint. heard g.Fs.Roots.Roots.ARE_READ (g.Fs.AbstractFilesystem.root_for c.args.fs.now hint)) (workspace_meaning (λ x. x) w) (ap (option_map (workspace_meaning (λ x. x))) c.in-Some.is) e)
-      (given_as_met (installed m) [] stated c.parts_at.result c.parts_at.ensures)
+    (λ new e. given_by_table m (installed m new) (λ hint. heard g.Fs.Roots.Roots.ARE_READ (g.Fs.AbstractFilesystem.root_for c.args.fs.now hint)) (workspace_meaning (λ x. x) w) (ap (option_map (workspace_meaning (λ x. x))) c.in-Some.is) e)
+    (given_as_met (installed m) [] stated c.parts_at.result c.parts_at.ensures)
 
 pub returns-then-needs_workspace_inheritance-clause-given : goal.returns-then-needs_workspace_inheritance-clause-given
 returns-then-needs_workspace_inheritance-clause-given g c =
     let m = manifest_meaning (λ m. m) c.args.manifest.now in
     let needed = sym c.needs_workspace_inheritance.ensures ∙ c.if-needs_workspace_inheritance.true in
     IfOk-weaker c.parts_by_hint.result _ _
-      (λ new e. given_by_hint m (installed m new) (λ hint. heard g.Fs.Roots.Roots.ARE_READ (g.Fs.AbstractFilesystem.root_for c.args.fs.now hint)) (ap (option_map (workspace_meaning (λ x. x))) c.in-None.is) needed e)
-      c.parts_by_hint.ensures.given
+    (λ new e. given_by_hint m (installed m new) (λ hint. heard g.Fs.Roots.Roots.ARE_READ (g.Fs.AbstractFilesystem.root_for c.args.fs.now hint)) (ap (option_map (workspace_meaning (λ x. x))) c.in-None.is) needed e)
+    c.parts_by_hint.ensures.given
 
 pub returns-else-needs_workspace_inheritance-clause-outcome : goal.returns-else-needs_workspace_inheritance-clause-outcome
 returns-else-needs_workspace_inheritance-clause-outcome g c =

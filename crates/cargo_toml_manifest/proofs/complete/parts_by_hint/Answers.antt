@@ -26,7 +26,7 @@ returns-in-Ok-clause-given g c =
     let a = rw c.hint_of-hint.ensures at c.in-Ok.ensures in
     let h = rw (c.as_ref.ensures.value, c.as_str.ensures.value) at c.parts_at.ensures in
     IfOk-weaker c.parts_at.result _ _ (λ new e. given_by_root m (installed m new) told (c.in-Ok.found, c.in-Ok.path) a e)
-      (given_as_met (installed m) path stated c.parts_at.result h)
+    (given_as_met (installed m) path stated c.parts_at.result h)
 
 pub returns-in-Err-clause-outcome : goal.returns-in-Err-clause-outcome
 returns-in-Err-clause-outcome g c =

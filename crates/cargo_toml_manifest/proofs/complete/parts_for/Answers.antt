@@ -16,6 +16,6 @@ returns-in-Some-clause-given g c =
     let stated = inherited_manifest (shared_of c.in-Some.root.now.workspace) (workspace_folder path) m in
     let h = rw c.as_ref.ensures.value at c.parts_at.ensures in
     rw c.in-Some.is
-      (IfOk-weaker c.parts_at.result _ _
-        (λ new e. given_as_told m (installed m new) (Some (handed_of (c.in-Some.root, c.in-Some.path))) (λ hint. heard g.Fs.Roots.Roots.ARE_READ (g.Fs.AbstractFilesystem.root_for c.args.fs.now hint)) e)
-        (given_as_met (installed m) path stated c.parts_at.result h))
+    (IfOk-weaker c.parts_at.result _ _
+    (λ new e. given_as_told m (installed m new) (Some (handed_of (c.in-Some.root, c.in-Some.path))) (λ hint. heard g.Fs.Roots.Roots.ARE_READ (g.Fs.AbstractFilesystem.root_for c.args.fs.now hint)) e)
+    (given_as_met (installed m) path stated c.parts_at.result h))

@@ -32,4 +32,4 @@ returns-clause-filled g c =
     let m = manifest_meaning (λ m. m) c.args.self.now in
     let given = c.in_ok-parts.ensures.given in
     known c.install_parts.new.manifest
-      (ap needs c.install_parts.ensures ∙ done m (installed m c.in_ok-parts.parts) (option_map handed_of c.args.workspace) given.0 given.2)
+    (ap needs c.install_parts.ensures ∙ done m (installed m c.in_ok-parts.parts) (option_map handed_of c.args.workspace) given.0 given.2)

@@ -1,13 +1,12 @@
 -- Offers stand in the order of their names.
-use Rattle.std.proofs.Common.{◌≡◌, ℕ, Bool, true, false, cond, List, [], ◌∷◌, ◌++◌, Option, Some, None, refl, ap, ◌∙◌, sym, map, filter, subst}
-use Rattle.std.specs.List.{filter_map, cons_option}
+use Rattle.std.proofs.Common.{◌≡◌, Bool, true, false, cond, List, [], ◌∷◌, ◌++◌, Option, Some, None, refl, ap, ◌∙◌, sym, filter, subst}
+use Rattle.std.specs.List.{cons_option}
 use Rattle.std.specs.Ordering.{nat_cmp}
-use Rattle.std.specs.declared.cmp.Ordering.{Ordering}
 use Rattle.std.specs.declared.cmp.Ordering.TheVariants.{Less}
 use Rattle.std.specs.Cmp.Lexicographic.{slice_cmp}
 use Rattle.cargo_toml_settings.specs.declared.settings.Edition.{Edition}
 use Rattle.cargo_toml_discovery.proofs.SetForm.{AllAfter, Ascending, walk-set}
-use Rattle.cargo_toml_discovery.specs.Found.{Named, Offered, offer_of, still_open, open_offer, offers, is_path_of, last_waiting, found, has_path, product_among}
+use Rattle.cargo_toml_discovery.specs.Found.{Named, Offered, offer_of, still_open, open_offer, offers, is_path_of, last_waiting, found, has_path}
 use Rattle.cargo_toml_discovery.specs.Names.{Text, is_source}
 use Rattle.cargo_toml_discovery.specs.Sorting.{sorted_by, product_lt}
 use Rattle.cargo_toml_discovery.specs.Walk.{NamesAfter, NamesAscend, walk, with_extra}

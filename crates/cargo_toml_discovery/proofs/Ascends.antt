@@ -1,4 +1,4 @@
-use Rattle.std.proofs.Common.{◌≡◌, List, [], ◌∷◌, map}
+use Rattle.std.proofs.Common.{List, [], ◌∷◌, map}
 use Rattle.cargo_toml_discovery.proofs.Unique.{Ascend, AllAbove}
 use Rattle.cargo_toml_discovery.specs.Answers.{Answers, named_in}
 use Rattle.cargo_toml_discovery.specs.Names.{Text}

@@ -1,7 +1,6 @@
 -- A copy of a product holds the same.
-use Rattle.std.proofs.Common.{◌≡◌, Bool, string_bytes, Option, Some, None, refl, ap}
+use Rattle.std.proofs.Common.{◌≡◌, string_bytes, Option, Some, None, refl, ap}
 use Rattle.cargo_toml_parts.proofs.SameCopies.{IsOptionCopy, option_same, zip_same}
-use Rattle.cargo_toml_settings.specs.declared.settings.Edition.{Edition}
 use Rattle.cargo_toml_tables.specs.Products.{product_meaning}
 use Rattle.cargo_toml_tables.specs.contracts.product.ProductClone.TheImpl as clone
 use Rattle.cargo_toml_tables.specs.declared.product.Product as code

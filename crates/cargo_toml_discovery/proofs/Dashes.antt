@@ -1,5 +1,5 @@
 -- A text with each `-` replaced.
-use Rattle.std.proofs.Common.{◌≡◌, ℕ, Bool, true, false, cond, zero, suc, List, [], ◌∷◌, ◌++◌, refl, ap, ◌∙◌, sym, subst, length, get_or, ◌<◌, ◌+◌, take, drop, map, Option, Some, None, inl, inr, arith, take-append-drop, nat_eq}
+use Rattle.std.proofs.Common.{◌≡◌, ℕ, Bool, cond, zero, suc, List, [], ◌∷◌, ◌++◌, refl, ap, ◌∙◌, sym, subst, length, get_or, ◌<◌, take, drop, Option, Some, None, inl, inr, arith, take-append-drop, nat_eq}
 use Rattle.std.proofs.lemmas.List.{map-append}
 use Rattle.std.specs.Str.{NoCharPasses}
 use Rattle.std.specs.Str.Replace.{ReplacesMatches}
@@ -22,18 +22,18 @@ no_dash s h = kept s (λ i below. NoCharPasses-char 45 s i h (omega arith) below
 module _ (finds : ℕ → List ℕ → Option (ℕ × ℕ) → Type 0) (keeps : ℕ → ℕ → Type 0) (pattern : IsCharPattern finds keeps 45 45) where
   at_dash : (s : Text) (a b : ℕ) (rest : Text) → NoCharPasses (λ d. nat_eq d 45) (take a s) → HasCharAt 45 s a b → rest ≡ underscored (drop b s) → take a s ++ (95 ∷ rest) ≡ underscored s
   at_dash s a b rest none here is =
-    ap (λ (t : Text). take a s ++ (95 ∷ t)) is
-    ∙ ap (λ (t : Text). t ++ underscored (45 ∷ drop b s)) (sym (no_dash (take a s) none))
-    ∙ ap (λ (t : Text). underscored (take a s) ++ underscored t) (sym (drop_at_char 45 s a b here (omega arith)))
-    ∙ sym (map-append (λ b. cond (nat_eq b 45) 95 b) (take a s) (drop a s))
-    ∙ ap underscored (take-append-drop a s)
+      ap (λ (t : Text). take a s ++ (95 ∷ t)) is
+      ∙ ap (λ (t : Text). t ++ underscored (45 ∷ drop b s)) (sym (no_dash (take a s) none))
+      ∙ ap (λ (t : Text). underscored (take a s) ++ underscored t) (sym (drop_at_char 45 s a b here (omega arith)))
+      ∙ sym (map-append (λ b. cond (nat_eq b 45) 95 b) (take a s) (drop a s))
+      ∙ ap underscored (take-append-drop a s)
 
   pub dashes : (n : ℕ) (s out : Text) → ReplacesMatches finds keeps (95 ∷ []) n 45 s out → out ≡ underscored s
   dashes zero s out r = r.1 ∙ sym (no_dash s (pattern.1 s None r.0))
   dashes (suc n) s out (a, b, q, rest, found, same, inl next, is) =
-    let f = pattern.1 s (Some (a, b)) found in
-    is ∙ at_dash s a b rest f.0 f.1 (dashes n (drop b s) rest (subst (λ (p : ℕ). ReplacesMatches finds keeps (95 ∷ []) n p (drop b s) rest) (pattern.0 q same) next.1))
+      let f = pattern.1 s (Some (a, b)) found in
+      is ∙ at_dash s a b rest f.0 f.1 (dashes n (drop b s) rest (subst (λ (p : ℕ). ReplacesMatches finds keeps (95 ∷ []) n p (drop b s) rest) (pattern.0 q same) next.1))
   dashes (suc n) s out (a, b, q, rest, found, same, inr next, is) =
-    let f = pattern.1 s (Some (a, b)) found in
-    let e = next.0 in
-    absurd (omega (arith, f.1.ends, len_utf8_ascii 45 (omega arith)))
+      let f = pattern.1 s (Some (a, b)) found in
+      let e = next.0 in
+      absurd (omega (arith, f.1.ends, len_utf8_ascii 45 (omega arith)))

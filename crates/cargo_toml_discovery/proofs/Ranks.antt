@@ -1,10 +1,8 @@
 -- Products are ordered.
-use Rattle.std.proofs.Common.{◌≡◌, ℕ, Bool, List}
 use Rattle.std.specs.Cmp.{IsStrictWeakOrder, IsTotalOrder, then_total, on_total}
 use Rattle.std.specs.Cmp.Lexicographic.{nat_list_cmp_total, options_total}
 use Rattle.std.proofs.lemmas.List.MinMax.{ranks_by}
-use Rattle.cargo_toml_discovery.specs.Names.{Text}
-use Rattle.cargo_toml_discovery.specs.Sorting.{product_cmp, product_lt, text_cmp}
+use Rattle.cargo_toml_discovery.specs.Sorting.{product_cmp, product_lt}
 use Rattle.cargo_toml_tables.specs.Products.{ProductMeaning}
 
 pub product_cmp_total : IsTotalOrder product_cmp

@@ -1,14 +1,13 @@
 -- The walk gives what each offer gives by itself.
-use Rattle.std.proofs.Common.{◌≡◌, ℕ, Bool, true, false, cond, not, ◌&&◌, ◌||◌, List, [], ◌∷◌, ◌++◌, Option, Some, None, refl, ap, ◌∙◌, map, sym, append_assoc, append-nil, option_to_list}
-use Rattle.std.specs.List.{list_any, filter_map}
+use Rattle.std.proofs.Common.{◌≡◌, Bool, true, false, cond, not, ◌&&◌, ◌||◌, List, [], ◌∷◌, ◌++◌, Option, Some, None, refl, ap, ◌∙◌, map, sym, append_assoc, append-nil, option_to_list}
+use Rattle.std.specs.List.{list_any}
 use Rattle.std.specs.Str.{bytes_eq}
 use Rattle.std.specs.Ordering.{nat_cmp, is_lt}
 use Rattle.std.specs.declared.cmp.Ordering.{Ordering}
 use Rattle.std.specs.declared.cmp.Ordering.TheVariants.{Less, Equal, Greater}
-use Rattle.std.specs.Cmp.{IsTotalOrder}
 use Rattle.std.specs.Cmp.Lexicographic.{slice_cmp, nat_list_cmp_total}
 use Rattle.cargo_toml_settings.specs.declared.settings.Edition.{Edition}
-use Rattle.cargo_toml_discovery.specs.Found.{Named, Offered, open_offer, offers, product_for, product_among, is_first, last_waiting, last_product, named}
+use Rattle.cargo_toml_discovery.specs.Found.{Offered, product_for, product_among, last_waiting, last_product, named}
 use Rattle.cargo_toml_discovery.specs.Names.{Text}
 use Rattle.cargo_toml_discovery.specs.Walk.{walk, with_extra, without}
 use Rattle.cargo_toml_tables.specs.Products.{ProductMeaning}
@@ -57,7 +56,6 @@ rivals-after o (q ∷ qs) h =
     ∙ ap (λ (b : Bool). b || list_any (rival o) qs) (and_false (bytes_eq q.name o.name))
     ∙ rivals-after o qs h.1
 
-
 not_own : (a : Text) (r : Ordering) → slice_cmp nat_cmp a a ≡ r → less a a ≡ false
 not_own a Less e = not_less a a e
 not_own a Equal e = ap is_lt e
@@ -95,7 +93,7 @@ named-push [] o n x = either (bytes_eq o.name n) x where
   either true x = refl
   either false x = refl
 named-push (q ∷ done) o n x = elim (bytes_eq q.name n) as (λ b. cond (bytes_eq o.name n) None (cond (b || named done n) None x) ≡ cond (b || named (done ++ o ∷ []) n) None x)
-  [ true ↦ twice (bytes_eq o.name n) | false ↦ named-push done o n x ]
+    [ true ↦ twice (bytes_eq o.name n) | false ↦ named-push done o n x ]
 
 chosen : (b : Bool) (x : Option ProductMeaning) → cond b None x ≡ cond (not b) x None
 chosen true x = refl
@@ -107,16 +105,16 @@ module _ (edition : Edition) (ps : List ProductMeaning) where
   last-product done w (Some o) h = ap (λ (p : Option ProductMeaning). product_for edition o p ∷ []) (h o.name)
 
   walk-each : (done os : List Offered) (w : Text → Option ProductMeaning) (x : Option Offered) → Apart done os → Ascending os → ((n : Text) → w n ≡ cond (named done n) None (last_waiting ps n)) →
-    walk edition w (with_extra os x) ≡ map (λ o. product_among edition ps (done ++ os) o) os ++ last_product edition ps (done ++ os) x
+      walk edition w (with_extra os x) ≡ map (λ o. product_among edition ps (done ++ os) o) os ++ last_product edition ps (done ++ os) x
   walk-each done [] w x a up h = last-product done w x h ∙ ap (λ (os : List Offered). last_product edition ps os x) (simp append-nil)
   walk-each done (o ∷ os) w x a up h =
-    let first : product_for edition o (w o.name) ≡ product_among edition ps (done ++ o ∷ os) o =
+      let first : product_for edition o (w o.name) ≡ product_among edition ps (done ++ o ∷ os) o =
       ap (λ (x : Option ProductMeaning). product_for edition o x) (h o.name ∙ chosen (named done o.name) (last_waiting ps o.name)
-        ∙ ap (λ (b : Bool). cond (not b) (last_waiting ps o.name) None) (sym (rivals o done os a.0 up.0))) in
-    let rest = walk-each (done ++ o ∷ []) os (without w o.name) x (apart-push done o os a.1 up.0) up.1
+      ∙ ap (λ (b : Bool). cond (not b) (last_waiting ps o.name) None) (sym (rivals o done os a.0 up.0))) in
+      let rest = walk-each (done ++ o ∷ []) os (without w o.name) x (apart-push done o os a.1 up.0) up.1
       (λ n. ap (λ (x : Option ProductMeaning). cond (bytes_eq o.name n) None x) (h n) ∙ named-push done o n (last_waiting ps n)) in
-    let joined : (done ++ o ∷ []) ++ os ≡ done ++ o ∷ os = simp append_assoc in
-    ap (λ (p : ProductMeaning). p ∷ walk edition (without w o.name) (with_extra os x)) first
+      let joined : (done ++ o ∷ []) ++ os ≡ done ++ o ∷ os = simp append_assoc in
+      ap (λ (p : ProductMeaning). p ∷ walk edition (without w o.name) (with_extra os x)) first
       ∙ ap (λ (qs : List ProductMeaning). product_among edition ps (done ++ o ∷ os) o ∷ qs) (rest ∙ ap (λ (all : List Offered). map (λ o. product_among edition ps all o) os ++ last_product edition ps all x) joined)
 
   pub walk-set : (os : List Offered) (x : Option Offered) → Ascending os → walk edition (last_waiting ps) (with_extra os x) ≡ map (λ o. product_among edition ps os o) os ++ last_product edition ps os x

@@ -1,4 +1,4 @@
-use Rattle.std.proofs.Common.{◌≡◌, ℕ, Bool, true, false, cond, ◌||◌, List, [], ◌∷◌, refl, ap, ◌∙◌, sym, String, string_bytes}
+use Rattle.std.proofs.Common.{◌≡◌, Bool, true, false, cond, ◌||◌, List, ◌∷◌, refl, ap, ◌∙◌, sym, String, string_bytes}
 use Rattle.std.specs.List.{list_any}
 use Rattle.std.specs.Bool.{Decides}
 use Rattle.std.specs.Str.{bytes_eq}
@@ -23,4 +23,4 @@ pub sorted_step : (bs t : Text) (a v all : Bool) (k : String Global) (rest : Lis
     (a || list_any (λ k. bytes_eq t (string_bytes k)) (k ∷ rest)) ≡ all → (v || list_any (λ k. bytes_eq t (string_bytes k)) rest) ≡ all
 sorted_step bs t a v all k rest same step h =
     ap (λ (b : Bool). b || list_any (λ k. bytes_eq t (string_bytes k)) rest) step ∙ moved (bytes_eq bs t) a (list_any (λ k. bytes_eq t (string_bytes k)) rest)
-      ∙ ap (λ (b : Bool). a || (b || list_any (λ k. bytes_eq t (string_bytes k)) rest)) (bytes_eq_comm bs t ∙ ap (λ (u : Text). bytes_eq t u) same) ∙ h
+    ∙ ap (λ (b : Bool). a || (b || list_any (λ k. bytes_eq t (string_bytes k)) rest)) (bytes_eq_comm bs t ∙ ap (λ (u : Text). bytes_eq t u) same) ∙ h

@@ -1,5 +1,5 @@
 -- How often `.rs` is stripped.
-use Rattle.std.proofs.Common.{◌≡◌, ℕ, Bool, true, false, cond, List, [], ◌∷◌, refl, ap, ◌∙◌, sym, length, take, zero, suc, ◌≤◌, ◌<◌, ◌-◌, arith, length-take, codes}
+use Rattle.std.proofs.Common.{◌≡◌, ℕ, true, false, cond, [], ◌∷◌, refl, ap, sym, length, zero, suc, ◌≤◌, ◌<◌, ◌-◌, arith, length-take}
 use Rattle.cargo_toml_discovery.specs.Names.{Text, stripped, stem, without_ending, is_source}
 
 stripped-nil : (n : ℕ) → stripped n [] ≡ []

@@ -1,5 +1,5 @@
 -- Texts in order, each once, are given by which they are.
-use Rattle.std.proofs.Common.{◌≡◌, ℕ, Bool, true, false, cond, ◌||◌, List, [], ◌∷◌, refl, ap, ◌∙◌, sym, map, String, string_bytes, subst}
+use Rattle.std.proofs.Common.{◌≡◌, Bool, true, false, ◌||◌, List, [], ◌∷◌, refl, ap, ◌∙◌, sym, map, String, string_bytes, subst}
 use Rattle.std.specs.List.{list_any, AllByRecursion}
 use Rattle.std.specs.List.Sorted.{IsStrictlySortedBy}
 use Rattle.std.specs.Str.{bytes_eq}
@@ -36,12 +36,12 @@ turned t u h = let e = nat_list_cmp_total.antisymm u t in rw (e, h) refl
 above-put_in : (b t : Text) (us : List Text) → compare b t ≡ Less → AllAbove b us → AllAbove b (put_in t us)
 above-put_in b t [] h k = (h, tt)
 above-put_in b t (u ∷ us) h k = elim (compare t u) as (λ o. AllAbove b (match_ordering o (t ∷ u ∷ us) (u ∷ us) (u ∷ put_in t us)))
-  [ Less ↦ (h, k) | Equal ↦ k | Greater ↦ (k.0, above-put_in b t us h k.1) ]
+    [ Less ↦ (h, k) | Equal ↦ k | Greater ↦ (k.0, above-put_in b t us h k.1) ]
 
 ascend-put_in : (t : Text) (us : List Text) → Ascend us → Ascend (put_in t us)
 ascend-put_in t [] h = (tt, tt)
 ascend-put_in t (u ∷ us) h = elim (compare t u) as (λ o. compare t u ≡ o → Ascend (match_ordering o (t ∷ u ∷ us) (u ∷ us) (u ∷ put_in t us)))
-  [ Less ↦ λ e. ((e, above-less t u us e h.0), h) | Equal ↦ λ e. h | Greater ↦ λ e. (above-put_in u t us (turned t u e) h.0, ascend-put_in t us h.1) ] refl
+    [ Less ↦ λ e. ((e, above-less t u us e h.0), h) | Equal ↦ λ e. h | Greater ↦ λ e. (above-put_in u t us (turned t u e) h.0, ascend-put_in t us h.1) ] refl
 
 pub ascend-ordered : (ts : List Text) → Ascend (ordered ts)
 ascend-ordered [] = tt
@@ -62,10 +62,11 @@ or-twice false r = refl
 
 has-put_in : (q t : Text) (us : List Text) → has_text (put_in t us) q ≡ bytes_eq q t || has_text us q
 has-put_in q t [] = refl
-has-put_in q t (u ∷ us) = elim (compare t u) as (λ o. compare t u ≡ o → has_text (match_ordering o (t ∷ u ∷ us) (u ∷ us) (u ∷ put_in t us)) q ≡ bytes_eq q t || (bytes_eq q u || has_text us q))
-  [ Less ↦ λ e. refl
+has-put_in q t (u ∷ us) = elim (compare t u) as (λ o. compare t u ≡ o → has_text (match_ordering o (t ∷ u ∷ us) (u ∷ us) (u ∷ put_in t us)) q ≡ bytes_eq q t || (bytes_eq q u || has_text us q)) [
+  | Less ↦ λ e. refl
   | Equal ↦ λ e. or-twice (bytes_eq q u) (has_text us q) ∙ ap (λ (v : Text). bytes_eq q v || (bytes_eq q u || has_text us q)) (sym (same_text t u e))
-  | Greater ↦ λ e. ap (λ (b : Bool). bytes_eq q u || b) (has-put_in q t us) ∙ or-swap (bytes_eq q u) (bytes_eq q t) (has_text us q) ] refl
+  | Greater ↦ λ e. ap (λ (b : Bool). bytes_eq q u || b) (has-put_in q t us) ∙ or-swap (bytes_eq q u) (bytes_eq q t) (has_text us q)
+] refl
 
 pub has-ordered : (q : Text) (ts : List Text) → has_text (ordered ts) q ≡ has_text ts q
 has-ordered q [] = refl
@@ -88,22 +89,24 @@ clash : {A : Type 0} (b : Bool) → b ≡ true → b ≡ false → A
 clash b h k = cc
 
 rest_same : (x q : Text) (xs ys : List Text) → AllAbove x xs → AllAbove x ys → (bytes_eq q x || has_text xs q) ≡ (bytes_eq q x || has_text ys q) → has_text xs q ≡ has_text ys q
-rest_same x q xs ys h k e = elim (bytes_eq q x) as (λ b. bytes_eq q x ≡ b → (b || has_text xs q) ≡ (b || has_text ys q) → has_text xs q ≡ has_text ys q)
-  [ true ↦ λ is _. let s : q ≡ x = (bytes_eq-Decides q x).0 is in rw (s, not-above x xs h, not-above x ys k) refl
-  | false ↦ λ _ r. r ] refl e
+rest_same x q xs ys h k e = elim (bytes_eq q x) as (λ b. bytes_eq q x ≡ b → (b || has_text xs q) ≡ (b || has_text ys q) → has_text xs q ≡ has_text ys q) [
+  | true ↦ λ is _. let s : q ≡ x = (bytes_eq-Decides q x).0 is in rw (s, not-above x xs h, not-above x ys k) refl
+  | false ↦ λ _ r. r
+] refl e
 
 pub unique : (xs ys : List Text) → Ascend xs → Ascend ys → ((q : Text) → has_text xs q ≡ has_text ys q) → xs ≡ ys
 unique [] [] a b h = refl
 unique [] (y ∷ ys) a b h = clash (has_text (y ∷ ys) y) (has-first y ys) (sym (h y))
 unique (x ∷ xs) [] a b h = clash (has_text (x ∷ xs) x) (has-first x xs) (h x)
-unique (x ∷ xs) (y ∷ ys) a b h = elim (compare x y) as (λ o. compare x y ≡ o → x ∷ xs ≡ y ∷ ys)
-  [ Less ↦ λ e. clash (has_text (x ∷ xs) x) (has-first x xs) (h x ∙ not-above x (y ∷ ys) (e, above-less x y ys e b.0))
+unique (x ∷ xs) (y ∷ ys) a b h = elim (compare x y) as (λ o. compare x y ≡ o → x ∷ xs ≡ y ∷ ys) [
+  | Less ↦ λ e. clash (has_text (x ∷ xs) x) (has-first x xs) (h x ∙ not-above x (y ∷ ys) (e, above-less x y ys e b.0))
   | Equal ↦ λ e.
       let s : x ≡ y = same_text x y e in
       let b' : AllAbove x ys = subst (λ (t : Text). AllAbove t ys) (sym s) b.0 in
       let r : xs ≡ ys = unique xs ys a.1 b.1 (λ q. rest_same x q xs ys a.0 b' (h q ∙ ap (λ (t : Text). bytes_eq q t || has_text ys q) (sym s))) in
       ap (λ (t : Text). t ∷ xs) s ∙ ap (λ (ts : List Text). y ∷ ts) r
-  | Greater ↦ λ e. let k = turned x y e in clash (has_text (y ∷ ys) y) (has-first y ys) (sym (h y) ∙ not-above y (x ∷ xs) (k, above-less y x xs k a.0)) ] refl
+  | Greater ↦ λ e. let k = turned x y e in clash (has_text (y ∷ ys) y) (has-first y ys) (sym (h y) ∙ not-above y (x ∷ xs) (k, above-less y x xs k a.0))
+] refl
 
 -- the texts of a set
 above-keys : (k : String Global) (ks : List (String Global)) → AllByRecursion (λ y. string_cmp k y ≡ Less) ks → AllAbove (string_bytes k) (map (λ k. string_bytes k) ks)

@@ -1,16 +1,14 @@
-use Rattle.std.proofs.Common.{◌≡◌, ℕ, Bool, true, false, cond, List, [], ◌∷◌, ◌++◌, Option, Some, None, refl, ap, ◌∙◌, map, drop, get_or, length, ◌<◌, ◌+◌, sym, String, string_bytes, append_assoc, add-one, drop-cons, subst}
+use Rattle.std.proofs.Common.{◌≡◌, ℕ, Bool, true, false, cond, List, [], ◌∷◌, ◌++◌, Option, Some, None, refl, ap, ◌∙◌, map, drop, get_or, length, ◌<◌, ◌+◌, sym, add-one, drop-cons}
 use Rattle.std.specs.Option.{option_map, option_copied}
 use Rattle.std.specs.Str.{bytes_eq}
 use Rattle.std.specs.List.{cons_option}
-use Rattle.std.specs.BTreeMap.{BTreeMap, get_by}
 use denote.Ref.{Bor}
 use Rattle.cargo_toml_settings.specs.declared.settings.Edition.{Edition}
 use Rattle.cargo_toml_tables.specs.declared.product.Product as code_product
 use Rattle.cargo_toml_discovery.specs.declared.listings.Entry as code
-use Rattle.cargo_toml_discovery.specs.declared.found.Offer as code_offer
-use Rattle.cargo_toml_discovery.specs.Found.{Named, Offered, product_for}
+use Rattle.cargo_toml_discovery.specs.Found.{Offered, product_for}
 use Rattle.cargo_toml_discovery.specs.Names.{Text}
-use Rattle.cargo_toml_discovery.specs.Walk.{named_of, offer_parts, parts_of_code, walk, without}
+use Rattle.cargo_toml_discovery.specs.Walk.{named_of, walk, without}
 use Rattle.cargo_toml_tables.specs.Products.{ProductMeaning, product_meaning}
 
 module _ (edition : Edition) where
@@ -20,14 +18,14 @@ module _ (edition : Edition) where
   pub walk-same : (v w : Text → Option ProductMeaning) (os : List Offered) → ((n : Text) → v n ≡ w n) → walk edition v os ≡ walk edition w os
   walk-same v w [] h = refl
   walk-same v w (o ∷ os) h = ap (λ (x : Option ProductMeaning). product_for edition o x ∷ walk edition (without v o.name) os) (h o.name)
-    ∙ ap (λ (qs : List ProductMeaning). product_for edition o (w o.name) ∷ qs) (walk-same (without v o.name) (without w o.name) os (without-same v w o.name h))
+      ∙ ap (λ (qs : List ProductMeaning). product_for edition o (w o.name) ∷ qs) (walk-same (without v o.name) (without w o.name) os (without-same v w o.name h))
 
   pub walk-step : (w w' : Text → Option ProductMeaning) (o : Offered) (os : List Offered) (name : Text) (found : Option ProductMeaning) (p : ProductMeaning) → o.name ≡ name → found ≡ w name →
-    p ≡ product_for edition o found → ((n : Text) → w' n ≡ without w name n) → walk edition w (o ∷ os) ≡ p ∷ walk edition w' os
+      p ≡ product_for edition o found → ((n : Text) → w' n ≡ without w name n) → walk edition w (o ∷ os) ≡ p ∷ walk edition w' os
   walk-step w w' o os name found p same finds made after =
-    let there : product_for edition o (w o.name) ≡ p = ap (λ (n : Text). product_for edition o (w n)) same ∙ ap (λ (q : Option ProductMeaning). product_for edition o q) (sym finds) ∙ sym made in
-    let rest : walk edition (without w o.name) os ≡ walk edition w' os = ap (λ (n : Text). walk edition (without w n) os) same ∙ walk-same (without w name) w' os (λ n. sym (after n)) in
-    ap (λ (q : ProductMeaning). q ∷ walk edition (without w o.name) os) there ∙ ap (λ (qs : List ProductMeaning). p ∷ qs) rest
+      let there : product_for edition o (w o.name) ≡ p = ap (λ (n : Text). product_for edition o (w n)) same ∙ ap (λ (q : Option ProductMeaning). product_for edition o q) (sym finds) ∙ sym made in
+      let rest : walk edition (without w o.name) os ≡ walk edition w' os = ap (λ (n : Text). walk edition (without w n) os) same ∙ walk-same (without w name) w' os (λ n. sym (after n)) in
+      ap (λ (q : ProductMeaning). q ∷ walk edition (without w o.name) os) there ∙ ap (λ (qs : List ProductMeaning). p ∷ qs) rest
 
 -- the next name
 pub drop-named : (es : List code.Entry) (i : ℕ) (e : code.Entry) → i < length es → e ≡ get_or es i e → map named_of (drop i es) ≡ named_of e ∷ map named_of (drop (i + 1) es)

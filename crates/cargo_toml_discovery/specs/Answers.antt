@@ -1,5 +1,5 @@
 -- A finite record of names that were told.
-use Rattle.std.specs.Prelude.{◌≡◌, ℕ, Bool, ◌&&◌, List, [], ◌∷◌, map, filter, Option, Some, None, if◌then◌else◌, codes, unwrap_or, string_bytes, String}
+use Rattle.std.specs.Prelude.{Bool, ◌&&◌, List, [], ◌∷◌, map, filter, Option, Some, None, if◌then◌else◌, codes, unwrap_or, string_bytes, String}
 use Rattle.std.specs.BTreeSet.{BTreeSet}
 use Rattle.std.specs.Str.{bytes_eq}
 use Rattle.std.specs.declared.alloc.Global.{Global}
@@ -27,12 +27,19 @@ answers_of l = map (λ e. (string_bytes e.0, texts_in e.1)) l.names.entries
 abbrev pub names_in : Answers → Text → List Text
 names_in ans p = unwrap_or (answer_at ans p) []
 
+-- the names in a folder that were kept
+abbrev pub names_kept : code.Listings → Text → List Text
+names_kept l p = names_in (answers_of l) p
+
 -- the folders in a folder that may hold `main.rs`
 abbrev pub below : Text → List Text → List Text
 below dir ns = map (in_dir dir) (filter may_be_folder ns)
 
 abbrev pub named_in : Answers → Text → Text → Named
-named_in ans dir n = record { name = n; has_main = may_be_folder n && has_text (names_in ans (in_dir dir n)) (codes "main.rs") }
+named_in ans dir n = record {
+  name = n;
+  has_main = may_be_folder n && has_text (names_in ans (in_dir dir n)) (codes "main.rs");
+}
 
 -- what a folder of products holds by these answers
 abbrev pub entries_in : Answers → Text → List Named

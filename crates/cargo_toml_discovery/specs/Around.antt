@@ -35,12 +35,19 @@ pub record Around : Type 0 where
   pub benches : List Named
 
 abbrev pub make_around : (List Text × List Text) × ((List Named × List Named) × (List Named × List Named)) → Around
-make_around a = record { root = a.0.0; src = a.0.1; bins = a.1.0.0; examples = a.1.0.1; tests = a.1.1.0; benches = a.1.1.1 }
+make_around a = record {
+  root = a.0.0;
+  src = a.0.1;
+  bins = a.1.0.0;
+  examples = a.1.0.1;
+  tests = a.1.1.0;
+  benches = a.1.1.1;
+}
 
 -- what is seen around a package whose lists of these kinds are wanted
 abbrev pub around : (Text → Told) → Wanted → Seen Around
 around told wanted = seen_as make_around (pair
     (pair (root_names (told [])) (names_at (told (codes "src"))))
     (pair
-      (pair (entries_at told wanted.bins (codes "src/bin")) (entries_at told wanted.examples (codes "examples")))
-      (pair (entries_at told wanted.tests (codes "tests")) (entries_at told wanted.benches (codes "benches")))))
+    (pair (entries_at told wanted.bins (codes "src/bin")) (entries_at told wanted.examples (codes "examples")))
+    (pair (entries_at told wanted.tests (codes "tests")) (entries_at told wanted.benches (codes "benches")))))

@@ -1,8 +1,11 @@
 -- What discovery makes of what a manifest states.
-use Rattle.std.specs.Prelude.{ℕ, Bool, true, false, List, [], ◌∷◌, map, Option, Some, None, option_map, if◌then◌else◌, codes, unwrap_or}
+use Rattle.std.specs.Prelude.{Bool, true, false, List, [], ◌∷◌, ◌&&◌, map, Option, Some, None, option_map, if◌then◌else◌, codes, unwrap_or}
 use Rattle.std.specs.Option.{option_copied}
+use denote.Ref.{Bor}
 use Rattle.cargo_toml_settings.specs.Settings.{File, flag, path, file_meaning}
 use Rattle.cargo_toml_settings.specs.declared.settings.Edition.{Edition}
+use Rattle.cargo_toml_settings.specs.declared.settings.OptionalFile.{OptionalFile}
+use Rattle.cargo_toml_tables.specs.declared.product.Product.{Product}
 use Rattle.cargo_toml_tables.specs.Products.{ProductMeaning, product_meaning}
 use Rattle.cargo_toml_discovery.specs.declared.discovery.Discovered as discovered_type
 use Rattle.cargo_toml_discovery.specs.declared.discovery.Stated as stated_type
@@ -27,28 +30,32 @@ abbrev pub or_plain_library : List Text → List Text
 or_plain_library [] = codes "lib" ∷ []
 or_plain_library types = types
 
--- a library has the name, the edition and the crate type that it states, or else those of the package; it requires no feature
+-- the library with the name and the edition of the package and the crate type `lib`, where it states none, and no required feature
 abbrev pub filled_library : Text → Edition → ProductMeaning → ProductMeaning
 filled_library name edition p = record p {
-    name = Some (unwrap_or p.name (underscored name));
-    edition = Some (unwrap_or p.edition edition);
-    crate_type = or_plain_library p.crate_type;
-    required_features = [];
-  }
+  name = Some (unwrap_or p.name (underscored name));
+  edition = Some (unwrap_or p.edition edition);
+  crate_type = or_plain_library p.crate_type;
+  required_features = [];
+}
 
 abbrev pub library : Text → Edition → Bool → Bool → Option ProductMeaning → Option ProductMeaning
 library name edition is_there made lib = option_map (filled_library name edition) (found_library is_there made lib)
 
+abbrev pub main_of : Text → Offered
+main_of name = record { file = codes "main.rs"; name = name; path = codes "src/main.rs" }
+
 -- what `src/main.rs` offers, unless a product has that path
 abbrev pub main_offer : Text → Bool → List ProductMeaning → Option Offered
 main_offer name false ps = None
-main_offer name true ps = still_open (is_path_of ps) (Some (record { file = codes "main.rs"; name = name; path = codes "src/main.rs" }))
+main_offer name true ps = still_open (is_path_of ps) (Some (main_of name))
 
 -- a list of products: as it is found in its folder where that is wanted, and else only put in order
 abbrev pub list_of : Edition → Bool → Text → List ProductMeaning → List Named → Option Offered → List ProductMeaning
 list_of edition false dir ps es extra = in_order ps
 list_of edition true dir ps es extra = found edition dir ps es extra
 
+-- nothing is stated, or just that there is a build script
 abbrev pub may_build : Option File → Bool
 may_build None = true
 may_build (Some (flag b)) = b
@@ -56,7 +63,7 @@ may_build (Some (path p)) = false
 
 -- the build script, where these names stand beside the manifest
 abbrev pub build_in : List Text → Option File → Option File
-build_in root build = if may_build build then (if has_text root (codes "build.rs") then Some (path (codes "build.rs")) else build) else build
+build_in root build = if may_build build && has_text root (codes "build.rs") then Some (path (codes "build.rs")) else build
 
 -- the first of the names that is there
 abbrev pub first_in : List Text → List Text → File → File
@@ -96,28 +103,38 @@ pub record DiscoveredMeaning : Type 0 where
   pub build : Option File
   pub readme : File
 
+-- what is lent of a product, of products and of a file
+abbrev pub product_lent : Option (Bor Product) → Option ProductMeaning
+product_lent p = option_map product_meaning (option_copied p)
+
+abbrev pub meanings : List Product → List ProductMeaning
+meanings ps = map product_meaning ps
+
+abbrev pub file_lent : Option (Bor OptionalFile) → Option File
+file_lent f = option_map file_meaning (option_copied f)
+
 abbrev pub stated_meaning : stated_type.Stated → StatedMeaning
 stated_meaning s = record {
   name = s.name.now;
   edition = s.edition;
   autolib = s.autolib;
   wanted = s.wanted;
-  lib = option_map product_meaning (option_copied s.lib);
-  bin = map product_meaning s.bin.now;
-  example = map product_meaning s.example.now;
-  test = map product_meaning s.test.now;
-  bench = map product_meaning s.bench.now;
-  build = option_map file_meaning (option_copied s.build);
+  lib = product_lent s.lib;
+  bin = meanings s.bin.now;
+  example = meanings s.example.now;
+  test = meanings s.test.now;
+  bench = meanings s.bench.now;
+  build = file_lent s.build;
   readme = file_meaning s.readme.now;
 }
 
 abbrev pub discovered_meaning : discovered_type.Discovered → DiscoveredMeaning
 discovered_meaning d = record {
   lib = option_map product_meaning d.lib;
-  bin = map product_meaning d.bin.items;
-  example = map product_meaning d.example.items;
-  test = map product_meaning d.test.items;
-  bench = map product_meaning d.bench.items;
+  bin = meanings d.bin.items;
+  example = meanings d.example.items;
+  test = meanings d.test.items;
+  bench = meanings d.bench.items;
   build = option_map file_meaning d.build;
   readme = file_meaning d.readme;
 }

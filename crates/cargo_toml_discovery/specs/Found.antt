@@ -1,5 +1,5 @@
 -- What is found in a folder of products.
-use Rattle.std.specs.Prelude.{◌≡◌, ℕ, Bool, true, false, not, ◌&&◌, List, [], ◌∷◌, ◌++◌, map, filter, Option, Some, None, is_some, if◌then◌else◌, codes}
+use Rattle.std.specs.Prelude.{Bool, true, false, not, ◌&&◌, List, [], ◌∷◌, ◌++◌, map, filter, Option, Some, None, is_some, if◌then◌else◌, codes}
 use Rattle.std.specs.List.{list_any, filter_map}
 use Rattle.std.specs.Option.{option_or}
 use Rattle.std.specs.Ordering.{nat_cmp, is_lt}
@@ -109,14 +109,18 @@ product_among edition ps os o = product_for edition o (taker ps os o)
 abbrev pub named : List Offered → Text → Bool
 named os n = list_any (λ q. bytes_eq q.name n) os
 
--- one offer more, which a waiting product takes where no other offer has its name
+-- a waiting product takes one offer more where no other offer has its name
+abbrev pub late_taker : List ProductMeaning → List Offered → Offered → Option ProductMeaning
+late_taker ps os o = if named os o.name then None else last_waiting ps o.name
+
 abbrev pub last_product : Edition → List ProductMeaning → List Offered → Option Offered → List ProductMeaning
 last_product edition ps os None = []
-last_product edition ps os (Some o) = product_for edition o (if named os o.name then None else last_waiting ps o.name) ∷ []
+last_product edition ps os (Some o) = product_for edition o (late_taker ps os o) ∷ []
 
 -- the products that stay, and one for each offer
 abbrev pub all_found : Edition → List ProductMeaning → List Offered → Option Offered → List ProductMeaning
-all_found edition ps os extra = filter has_path ps ++ (map (product_among edition ps os) os ++ last_product edition ps os extra)
+all_found edition ps os extra =
+    filter has_path ps ++ (map (product_among edition ps os) os ++ last_product edition ps os extra)
 
 -- the products of a folder, in order: those that have a path, and one for each offer of the folder and of one beside it
 abbrev pub found : Edition → Text → List ProductMeaning → List Named → Option Offered → List ProductMeaning

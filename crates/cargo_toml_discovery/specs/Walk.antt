@@ -1,5 +1,5 @@
--- How the code finds products: a walk over the offers. What it gives is what `Found` says; nothing here has to be believed.
-use Rattle.std.specs.Prelude.{◌≡◌, ℕ, Bool, List, [], ◌∷◌, ◌++◌, option_to_list, Option, None, option_map, if◌then◌else◌, string_bytes, map, filter, Vec}
+-- How the code finds products: a walk over the offers. It gives what `Found` says, so nothing here has to be believed.
+use Rattle.std.specs.Prelude.{◌≡◌, Bool, List, [], ◌∷◌, ◌++◌, option_to_list, Option, None, option_map, if◌then◌else◌, string_bytes, map, filter, Vec}
 use Rattle.std.specs.BTreeMap.{BTreeMap, get_by}
 use Rattle.std.specs.BTreeSet.{BTreeSet, contains_by}
 use Rattle.std.specs.Cmp.Lexicographic.{slice_cmp}
@@ -19,6 +19,9 @@ use Rattle.cargo_toml_discovery.specs.Names.{Text}
 abbrev pub named_of : code_entry.Entry → Named
 named_of e = record { name = string_bytes e.name; has_main = e.has_main }
 
+abbrev pub all_named : List code_entry.Entry → List Named
+all_named es = map named_of es
+
 -- what the code keeps of an offer
 abbrev pub offer_parts : Offered → Text × Text
 offer_parts o = (o.name, o.path)
@@ -30,8 +33,11 @@ parts_of_code o = (string_bytes o.name, string_bytes o.path)
 abbrev pub IsOffer : Option Offered → Option code_offer.Offer → Type 0
 IsOffer o offer = option_map offer_parts o ≡ option_map parts_of_code offer
 
+abbrev pub Waiting : Type 0
+Waiting = BTreeMap (Bor Text) (Bor Product)
+
 -- what waits in a map, and which paths are in a set
-abbrev pub waiting_in : BTreeMap (Bor Text) (Bor Product) → Text → Option ProductMeaning
+abbrev pub waiting_in : Waiting → Text → Option ProductMeaning
 waiting_in m n = option_map (λ p. product_meaning p.now) (get_by (λ k. slice_cmp nat_cmp n k.now) m)
 
 abbrev pub is_path_in : BTreeSet (Bor Text) → Text → Bool
@@ -47,7 +53,7 @@ walk edition w [] = []
 walk edition w (o ∷ os) = product_for edition o (w o.name) ∷ walk edition (without w o.name) os
 
 -- the products that are placed, and those of the offers that are left, where these products still wait
-abbrev pub walked : Edition → Vec Product Global → BTreeMap (Bor Text) (Bor Product) → List Offered → List ProductMeaning
+abbrev pub walked : Edition → Vec Product Global → Waiting → List Offered → List ProductMeaning
 walked edition list still os = map product_meaning list.items ++ walk edition (waiting_in still) os
 
 abbrev pub with_extra : List Offered → Option Offered → List Offered

@@ -1,8 +1,8 @@
 //! What discovery makes of what a manifest states.
 ghost use Rattle.std.specs.Prelude.{◌≡◌, [], List, Option, None, IfOk, IsTrue, map, codes, is_some};
 ghost use Rattle.std.specs.Option.{option_map, option_copied};
-ghost use Rattle.cargo_toml_discovery.specs.Answers.{answers_of, around_in, entries_if, names_in};
-ghost use Rattle.cargo_toml_discovery.specs.Discovering.{at_library, build_in, discovered, discovered_meaning, filled_library, found_library, library, list_of, main_offer, readme_in, stated_meaning};
+ghost use Rattle.cargo_toml_discovery.specs.Answers.{answers_of, around_in, entries_if, names_kept};
+ghost use Rattle.cargo_toml_discovery.specs.Discovering.{at_library, build_in, discovered, discovered_meaning, filled_library, file_lent, found_library, library, list_of, main_offer, meanings, product_lent, readme_in, stated_meaning};
 ghost use Rattle.cargo_toml_discovery.specs.Found.{Offered};
 ghost use Rattle.cargo_toml_discovery.specs.Names.{has_text};
 ghost use Rattle.cargo_toml_discovery.specs.Walk.{IsOffer};
@@ -80,15 +80,23 @@ fn found_library(
     autolib: bool,
     library: Option<&Product>,
 ) -> Result<Option<Product>, AllocError>
-    ensures { IfOk result (λ l. option_map product_meaning l ≡ found_library is_there autolib (option_map product_meaning (option_copied library.entry))) }
+    ensures { IfOk result (λ l. option_map product_meaning l ≡ found_library is_there autolib (product_lent library.entry)) }
 {
     match library {
         Some(library) => {
             let library = copied(library)?;
-            if is_there { Ok(Some(at_library(alloc, library)?)) } else { Ok(Some(library)) }
+            if is_there {
+                Ok(Some(at_library(alloc, library)?))
+            } else {
+                Ok(Some(library))
+            }
         }
         None => {
-            if is_there && autolib { Ok(Some(at_library(alloc, plain(alloc))?)) } else { Ok(None) }
+            if is_there && autolib {
+                Ok(Some(at_library(alloc, plain(alloc))?))
+            } else {
+                Ok(None)
+            }
         }
     }
 }
@@ -116,9 +124,10 @@ fn filled_library(
     Ok(library)
 }
 
-/// The library of a package of this name and edition: the one that is stated, with the path `src/lib.rs` where it has none and
-/// that file is there, or one that is made there where `autolib` says so. It has the name of the package with each `-` as `_`, its
-/// edition and the crate type `lib` where it states none, and no required features. It is refused only where there was no memory.
+/// The library of a package of this name and edition: the one that is stated, with the path `src/lib.rs` where it has none
+/// and that file is there, or one that is made there where `autolib` says so. It has the name of the package with each `-` as
+/// `_`, its edition and the crate type `lib` where it states none, and no required features. It is refused only where there
+/// was no memory.
 pub fn library(
     alloc: Global,
     name: &str,
@@ -127,7 +136,9 @@ pub fn library(
     stated: Option<&Product>,
     listings: &Listings,
 ) -> Result<Option<Product>, AllocError>
-    ensures { IfOk result (λ l. option_map product_meaning l ≡ library name.now edition (has_text (names_in (answers_of listings.now) (codes "src")) (codes "lib.rs")) autolib (option_map product_meaning (option_copied stated.entry))) }
+    ensures { IfOk result (λ l. option_map product_meaning l
+        ≡ library name.now edition (has_text (names_kept listings.now (codes "src")) (codes "lib.rs")) autolib
+        (product_lent stated.entry)) }
 {
     match found_library(alloc, listings.has("src", "lib.rs"), autolib, stated)? {
         Some(library) => Ok(Some(filled_library(alloc, name, edition, library)?)),
@@ -142,7 +153,7 @@ fn main_offer(
     is_there: bool,
     products: &[Product],
 ) -> Result<Option<Offer>, AllocError>
-    ensures { IfOk result (IsOffer (main_offer name.now is_there (map product_meaning products.now))) }
+    ensures { IfOk result (IsOffer (main_offer name.now is_there (meanings products.now))) }
 {
     if is_there && !is_path_of(products, "src/main.rs") {
         return Ok(Some(Offer {
@@ -153,8 +164,8 @@ fn main_offer(
     Ok(None)
 }
 
-/// A list of products in order of name and path: where `is_wanted`, as it is found in the folder `dir` and by the offer `extra`, and
-/// otherwise just those that are stated. It is refused only where there was no memory.
+/// A list of products in order of name and path: where `is_wanted`, as it is found in the folder `dir` and by the offer
+/// `extra`, and otherwise just those that are stated. It is refused only where there was no memory.
 pub fn list_of(
     alloc: Global,
     edition: Edition,
@@ -164,7 +175,9 @@ pub fn list_of(
     listings: &Listings,
     extra: Option<Offer>,
 ) -> Result<Vec<Product>, AllocError>
-    ensures { IfOk result (λ v. (x : Option Offered) → IsOffer x extra → map product_meaning v.items ≡ list_of edition is_wanted dir.now (map product_meaning products.now) (entries_if is_wanted (answers_of listings.now) dir.now) x) }
+    ensures { IfOk result (λ v. (x : Option Offered) → IsOffer x extra → meanings v.items
+        ≡ list_of edition is_wanted dir.now (meanings products.now)
+        (entries_if is_wanted (answers_of listings.now) dir.now) x) }
 {
     if is_wanted {
         let entries = listings.entries(alloc, dir)?;
@@ -185,14 +198,15 @@ fn copied_file(alloc: Global, file: &OptionalFile) -> Result<OptionalFile, Alloc
     }
 }
 
-/// The build script: the path `build.rs` where none is stated or just that there is one, and that file stands beside the manifest;
-/// otherwise what is stated. It is refused only where there was no memory.
+/// The build script: the path `build.rs` where none is stated or just that there is one, and that file stands beside the
+/// manifest; otherwise what is stated. It is refused only where there was no memory.
 pub fn build(
     alloc: Global,
     stated: Option<&OptionalFile>,
     listings: &Listings,
 ) -> Result<Option<OptionalFile>, AllocError>
-    ensures { IfOk result (λ b. option_map file_meaning b ≡ build_in (names_in (answers_of listings.now) []) (option_map file_meaning (option_copied stated.entry))) }
+    ensures { IfOk result (λ b. option_map file_meaning b
+        ≡ build_in (names_kept listings.now []) (file_lent stated.entry)) }
 {
     if let None | Some(OptionalFile::Flag(true)) = stated {
         if listings.has("", "build.rs") {
@@ -205,14 +219,14 @@ pub fn build(
     }
 }
 
-/// The readme: where just that there is one is stated, the first of `README.md`, `README.txt` and `README` that stands beside the
-/// manifest; otherwise, or where none does, what is stated. It is refused only where there was no memory.
+/// The readme: where just that there is one is stated, the first of `README.md`, `README.txt` and `README` that stands beside
+/// the manifest; otherwise, or where none does, what is stated. It is refused only where there was no memory.
 pub fn readme(
     alloc: Global,
     stated: &OptionalFile,
     listings: &Listings,
 ) -> Result<OptionalFile, AllocError>
-    ensures { IfOk result (λ r. file_meaning r ≡ readme_in (names_in (answers_of listings.now) []) (file_meaning stated.now)) }
+    ensures { IfOk result (λ r. file_meaning r ≡ readme_in (names_kept listings.now []) (file_meaning stated.now)) }
 {
     let OptionalFile::Flag(true) = stated else {
         return copied_file(alloc, stated);
@@ -229,14 +243,15 @@ pub fn readme(
     Ok(OptionalFile::Path(String::from_str(alloc, name)?))
 }
 
-/// What discovery makes of what a manifest states, by the names that were told of the folders around it. It is refused only where
-/// there was no memory.
+/// What discovery makes of what a manifest states, by the names that were told of the folders around it. It is refused only
+/// where there was no memory.
 pub fn discover(
     alloc: Global,
     stated: &Stated<'_>,
     listings: &Listings,
 ) -> Result<Discovered, AllocError>
-    ensures { IfOk result (λ d. discovered_meaning d ≡ discovered (stated_meaning stated.now) (around_in (answers_of listings.now) stated.now.wanted)) }
+    ensures { IfOk result (λ d. discovered_meaning d
+        ≡ discovered (stated_meaning stated.now) (around_in (answers_of listings.now) stated.now.wanted)) }
 {
     let name = stated.name;
     let edition = stated.edition;
@@ -246,9 +261,33 @@ pub fn discover(
     Ok(Discovered {
         lib: library(alloc, name, edition, stated.autolib, stated.lib, listings)?,
         bin: list_of(alloc, edition, wanted.bins, "src/bin", bin, listings, main)?,
-        example: list_of(alloc, edition, wanted.examples, "examples", stated.example, listings, None)?,
-        test: list_of(alloc, edition, wanted.tests, "tests", stated.test, listings, None)?,
-        bench: list_of(alloc, edition, wanted.benches, "benches", stated.bench, listings, None)?,
+        example: list_of(
+            alloc,
+            edition,
+            wanted.examples,
+            "examples",
+            stated.example,
+            listings,
+            None,
+        )?,
+        test: list_of(
+            alloc,
+            edition,
+            wanted.tests,
+            "tests",
+            stated.test,
+            listings,
+            None,
+        )?,
+        bench: list_of(
+            alloc,
+            edition,
+            wanted.benches,
+            "benches",
+            stated.bench,
+            listings,
+            None,
+        )?,
         build: build(alloc, stated.build, listings)?,
         readme: readme(alloc, stated.readme, listings)?,
     })

@@ -3,10 +3,11 @@ ghost use Rattle.std.specs.Prelude.{◌≡◌, ◌++◌, ◌∷◌, ◌||◌, Li
 ghost use Rattle.std.specs.List.{cons_option};
 ghost use Rattle.std.specs.Option.{option_map, option_copied};
 ghost use Rattle.std.specs.Str.{bytes_eq};
+ghost use Rattle.cargo_toml_discovery.specs.Discovering.{meanings, product_lent};
 ghost use Rattle.cargo_toml_discovery.specs.Found.{offer_of, Offered, has_path, is_path_of, is_text, last_waiting, waits_or, product_for, open_offer, offers, found};
 ghost use Rattle.cargo_toml_discovery.specs.Names.{Text};
 ghost use Rattle.cargo_toml_discovery.specs.Sorting.{in_order};
-ghost use Rattle.cargo_toml_discovery.specs.Walk.{named_of, offer_parts, parts_of_code, waiting_in, is_path_in, walked, all_walked, IsOffer, NamesAscend};
+ghost use Rattle.cargo_toml_discovery.specs.Walk.{named_of, all_named, offer_parts, parts_of_code, waiting_in, is_path_in, walked, all_walked, IsOffer, NamesAscend};
 ghost use Rattle.cargo_toml_tables.specs.Products.{ProductMeaning, product_meaning};
 
 use crate::listings::Entry;
@@ -40,14 +41,18 @@ fn offer_for(alloc: Global, dir: &str, entry: &Entry) -> Result<Option<Offer>, A
     if entry.has_main {
         let mut path = in_dir(alloc, dir, name)?;
         path.push_str("/main.rs")?;
-        return Ok(Some(Offer { name: entry.name.clone()?, path }));
+        return Ok(Some(Offer {
+            name: entry.name.clone()?,
+            path,
+        }));
     }
     Ok(None)
 }
 
 // Puts the path of a product into a set of paths, if it has one.
 fn add_path<'a>(paths: &mut BTreeSet<&'a str>, product: &'a Product) -> Result<(), AllocError>
-    ensures ok { OnOk result ((t : Text) → is_path_in paths.new t ≡ (is_path_in paths.old t || is_text t (product_meaning product.now).path)) }
+    ensures ok { OnOk result ((t : Text) →
+        is_path_in paths.new t ≡ (is_path_in paths.old t || is_text t (product_meaning product.now).path)) }
 {
     if let Some(path) = &product.path {
         paths.insert(path.as_str())?;
@@ -57,7 +62,7 @@ fn add_path<'a>(paths: &mut BTreeSet<&'a str>, product: &'a Product) -> Result<(
 
 // The paths of the products.
 fn paths_of<'a>(alloc: Global, products: &'a [Product]) -> Result<BTreeSet<&'a str>, AllocError>
-    ensures { IfOk result (λ s. (t : Text) → is_path_in s t ≡ is_path_of (map product_meaning products.now) t) }
+    ensures { IfOk result (λ s. (t : Text) → is_path_in s t ≡ is_path_of (meanings products.now) t) }
 {
     let mut paths = BTreeSet::new(alloc);
     for product in products {
@@ -68,7 +73,7 @@ fn paths_of<'a>(alloc: Global, products: &'a [Product]) -> Result<BTreeSet<&'a s
 
 // Copies of the products that have a path.
 fn staying(alloc: Global, products: &[Product]) -> Result<Vec<Product>, AllocError>
-    ensures { IfOk result (λ v. map product_meaning v.items ≡ filter has_path (map product_meaning products.now)) }
+    ensures { IfOk result (λ v. meanings v.items ≡ filter has_path (meanings products.now)) }
 {
     let mut list = Vec::new(alloc);
     for product in products {
@@ -84,7 +89,8 @@ fn wait<'a>(
     map: &mut BTreeMap<&'a str, &'a Product>,
     product: &'a Product,
 ) -> Result<(), AllocError>
-    ensures ok { OnOk result ((n : Text) → waiting_in map.new n ≡ waits_or (product_meaning product.now) n (waiting_in map.old n)) }
+    ensures ok { OnOk result ((n : Text) →
+        waiting_in map.new n ≡ waits_or (product_meaning product.now) n (waiting_in map.old n)) }
 {
     if product.path.is_none() {
         if let Some(name) = &product.name {
@@ -99,7 +105,7 @@ fn waiting<'a>(
     alloc: Global,
     products: &'a [Product],
 ) -> Result<BTreeMap<&'a str, &'a Product>, AllocError>
-    ensures { IfOk result (λ m. (n : Text) → waiting_in m n ≡ last_waiting (map product_meaning products.now) n) }
+    ensures { IfOk result (λ m. (n : Text) → waiting_in m n ≡ last_waiting (meanings products.now) n) }
 {
     let mut map = BTreeMap::new(alloc);
     for product in products {
@@ -115,7 +121,8 @@ fn product_for(
     offer: Offer,
     waiting: Option<&Product>,
 ) -> Result<Product, AllocError>
-    ensures { IfOk result (λ p. (o : Offered) → offer_parts o ≡ parts_of_code offer → product_meaning p ≡ product_for edition o (option_map product_meaning (option_copied waiting.entry))) }
+    ensures { IfOk result (λ p. (o : Offered) → offer_parts o ≡ parts_of_code offer →
+        product_meaning p ≡ product_for edition o (product_lent waiting.entry)) }
 {
     match waiting {
         Some(product) => {
@@ -162,7 +169,8 @@ fn place<'a>(
     list: &mut Vec<Product>,
     still: &mut BTreeMap<&'a str, &'a Product>,
 ) -> Result<(), AllocError>
-    ensures ok { OnOk result ((o : Offered) (os : List Offered) → offer_parts o ≡ parts_of_code offer → walked edition list.new still.new os ≡ walked edition list.old still.old (o ∷ os)) }
+    ensures ok { OnOk result ((o : Offered) (os : List Offered) → offer_parts o ≡ parts_of_code offer →
+        walked edition list.new still.new os ≡ walked edition list.old still.old (o ∷ os)) }
 {
     let waiting = still.remove(offer.name.as_str());
     list.push(product_for(alloc, edition, offer, waiting)?)?;
@@ -177,7 +185,8 @@ fn place_if_there<'a>(
     list: &mut Vec<Product>,
     still: &mut BTreeMap<&'a str, &'a Product>,
 ) -> Result<(), AllocError>
-    ensures ok { OnOk result ((o : Option Offered) (os : List Offered) → IsOffer o offer → walked edition list.new still.new os ≡ walked edition list.old still.old (cons_option o os)) }
+    ensures ok { OnOk result ((o : Option Offered) (os : List Offered) → IsOffer o offer →
+        walked edition list.new still.new os ≡ walked edition list.old still.old (cons_option o os)) }
 {
     if let Some(offer) = offer {
         place(alloc, edition, offer, list, still)?;
@@ -195,7 +204,9 @@ fn place_one<'a>(
     list: &mut Vec<Product>,
     still: &mut BTreeMap<&'a str, &'a Product>,
 ) -> Result<(), AllocError>
-    ensures ok { OnOk result ((os : List Offered) → walked edition list.new still.new os ≡ walked edition list.old still.old (cons_option (open_offer dir.now (is_path_in paths.now) (named_of entry.now)) os)) }
+    ensures ok { OnOk result ((os : List Offered) → walked edition list.new still.new os
+        ≡ walked edition list.old still.old
+        (cons_option (open_offer dir.now (is_path_in paths.now) (named_of entry.now)) os)) }
 {
     let offer = open_offer(alloc, dir, paths, entry)?;
     place_if_there(alloc, edition, offer, list, still)?;
@@ -212,7 +223,8 @@ fn place_all<'a>(
     list: &mut Vec<Product>,
     still: &mut BTreeMap<&'a str, &'a Product>,
 ) -> Result<(), AllocError>
-    ensures ok { OnOk result ((os : List Offered) → walked edition list.new still.new os ≡ walked edition list.old still.old (offers dir.now (is_path_in paths.now) (map named_of entries.now) ++ os)) }
+    ensures ok { OnOk result ((os : List Offered) → walked edition list.new still.new os
+        ≡ walked edition list.old still.old (offers dir.now (is_path_in paths.now) (all_named entries.now) ++ os)) }
 {
     for entry in entries {
         place_one(alloc, edition, dir, paths, entry, list, still)?;
@@ -229,7 +241,8 @@ fn placed(
     entries: &[Entry],
     extra: Option<Offer>,
 ) -> Result<Vec<Product>, AllocError>
-    ensures { IfOk result (λ v. (x : Option Offered) → IsOffer x extra → map product_meaning v.items ≡ all_walked edition dir.now (map product_meaning products.now) (map named_of entries.now) x) }
+    ensures { IfOk result (λ v. (x : Option Offered) → IsOffer x extra →
+        meanings v.items ≡ all_walked edition dir.now (meanings products.now) (all_named entries.now) x) }
 {
     let paths = paths_of(alloc, products)?;
     let mut list = staying(alloc, products)?;
@@ -248,17 +261,18 @@ fn found_by_walk(
     entries: &[Entry],
     extra: Option<Offer>,
 ) -> Result<Vec<Product>, AllocError>
-    ensures { IfOk result (λ v. (x : Option Offered) → IsOffer x extra → map product_meaning v.items ≡ in_order (all_walked edition dir.now (map product_meaning products.now) (map named_of entries.now) x)) }
+    ensures { IfOk result (λ v. (x : Option Offered) → IsOffer x extra →
+        meanings v.items ≡ in_order (all_walked edition dir.now (meanings products.now) (all_named entries.now) x)) }
 {
     let mut list = placed(alloc, edition, dir, products, entries, extra)?;
     sort_products(&mut list)?;
     Ok(list)
 }
 
-/// The products of a folder whose names are these, each once and in byte order: those of `products` that have a path, and one for
-/// each offer of the folder, and of `extra`, whose path none of them has. It takes the last product without a path that has the
-/// offer's name, if no name before offers the same, and is a new one of this edition otherwise. They are in order of name and path.
-/// It is refused only where there was no memory.
+/// The products of a folder whose names are these, each once and in byte order: those of `products` that have a path, one
+/// for each offer of the folder whose path none of them has, and one for `extra`. An offer goes to the last product that has
+/// its name and no path, unless a name before it or any name before `extra` offers the same product, and else to a new product
+/// of this edition. All are in order of name and path. It is refused only where there was no memory.
 pub fn found(
     alloc: Global,
     edition: Edition,
@@ -267,8 +281,9 @@ pub fn found(
     entries: &[Entry],
     extra: Option<Offer>,
 ) -> Result<Vec<Product>, AllocError>
-    requires { NamesAscend (map named_of entries.now) }
-    ensures { IfOk result (λ v. (x : Option Offered) → IsOffer x extra → map product_meaning v.items ≡ found edition dir.now (map product_meaning products.now) (map named_of entries.now) x) }
+    requires { NamesAscend (all_named entries.now) }
+    ensures { IfOk result (λ v. (x : Option Offered) → IsOffer x extra →
+        meanings v.items ≡ found edition dir.now (meanings products.now) (all_named entries.now) x) }
 {
     found_by_walk(alloc, edition, dir, products, entries, extra)
 }

@@ -5,9 +5,9 @@ ghost use Rattle.std.specs.HashSet.{contains_text as has_in};
 ghost use Rattle.std.specs.Option.{option_map, option_copied};
 ghost use Rattle.std.specs.Str.{bytes_eq};
 ghost use Rattle.std.specs.String.{string_cmp};
-ghost use Rattle.cargo_toml_discovery.specs.Answers.{answers_of, answer_at, texts_in, names_in, below, entries_in};
+ghost use Rattle.cargo_toml_discovery.specs.Answers.{answers_of, answer_at, texts_in, names_kept, below, entries_in};
 ghost use Rattle.cargo_toml_discovery.specs.Names.{Text, has_text};
-ghost use Rattle.cargo_toml_discovery.specs.Walk.{named_of, NamesAscend};
+ghost use Rattle.cargo_toml_discovery.specs.Walk.{all_named, NamesAscend};
 
 use crate::names::{in_dir, is_source};
 use std::alloc::{AllocError, Global};
@@ -60,7 +60,9 @@ impl Listings {
     pub fn new(alloc: Global) -> Listings
         ensures { answers_of result ≡ [] }
     {
-        Listings { names: BTreeMap::new(alloc) }
+        Listings {
+            names: BTreeMap::new(alloc),
+        }
     }
 
     /// The names in a folder, `None` where it was not asked for.
@@ -72,7 +74,7 @@ impl Listings {
 
     /// Whether the name is in a folder, false where that was not asked for.
     pub fn has(&self, path: &str, name: &str) -> bool
-        ensures { result ≡ has_text (names_in (answers_of self.now) path.now) name.now }
+        ensures { result ≡ has_text (names_kept self.now path.now) name.now }
     {
         match self.names_at(path) {
             Some(names) => names.contains(name),
@@ -80,14 +82,16 @@ impl Listings {
         }
     }
 
-    /// Keeps the names in a folder, in place of those that were kept of it. It is refused only where there was no memory.
+    /// Keeps the names in a folder, in place of those that were kept of it. It is refused only where there was no
+    /// memory.
     pub fn keep(
         &mut self,
         alloc: Global,
         path: &str,
         names: BTreeSet<String>,
     ) -> Result<(), AllocError>
-        ensures ok { OnOk result ((p : Text) → answer_at (answers_of self.new) p ≡ (if bytes_eq path.now p then Some (texts_in names) else answer_at (answers_of self.old) p)) }
+        ensures ok { OnOk result ((p : Text) → answer_at (answers_of self.new) p
+            ≡ (if bytes_eq path.now p then Some (texts_in names) else answer_at (answers_of self.old) p)) }
     {
         self.names.insert(String::from_str(alloc, path)?, names)?;
         Ok(())
@@ -95,7 +99,7 @@ impl Listings {
 
     /// The paths of the folders in a folder that may hold `main.rs`: those of the names that are no sources.
     pub fn folders_in(&self, alloc: Global, dir: &str) -> Result<Vec<String>, AllocError>
-        ensures { IfOk result (λ v. map string_bytes v.items ≡ below dir.now (names_in (answers_of self.now) dir.now)) }
+        ensures { IfOk result (λ v. map string_bytes v.items ≡ below dir.now (names_kept self.now dir.now)) }
     {
         let mut paths = Vec::new(alloc);
         if let Some(names) = self.names_at(dir) {
@@ -110,8 +114,8 @@ impl Listings {
 
     /// What a folder of products holds, by name in byte order; nothing where it was not asked for.
     pub fn entries(&self, alloc: Global, dir: &str) -> Result<Vec<Entry>, AllocError>
-        ensures names { IfOk result (λ v. map named_of v.items ≡ entries_in (answers_of self.now) dir.now) }
-        ensures ascend { IfOk result (λ v. NamesAscend (map named_of v.items)) }
+        ensures names { IfOk result (λ v. all_named v.items ≡ entries_in (answers_of self.now) dir.now) }
+        ensures ascend { IfOk result (λ v. NamesAscend (all_named v.items)) }
     {
         let mut entries = Vec::new(alloc);
         let Some(names) = self.names_at(dir) else {
@@ -121,7 +125,10 @@ impl Listings {
         for name in names {
             let has_main = !is_source(name.as_str())
                 && self.has(in_dir(alloc, dir, name.as_str())?.as_str(), "main.rs");
-            entries.push(Entry { name: name.clone()?, has_main })?;
+            entries.push(Entry {
+                name: name.clone()?,
+                has_main,
+            })?;
         }
         Ok(entries)
     }

@@ -1,5 +1,6 @@
 //! Copies of products, new ones, and their order.
 ghost use Rattle.std.specs.Prelude.{◌≡◌, IfOk, OnOk, Some, map, string_bytes};
+ghost use Rattle.cargo_toml_discovery.specs.Discovering.{meanings};
 ghost use Rattle.cargo_toml_discovery.specs.Found.{plain, is_path_of};
 ghost use Rattle.cargo_toml_discovery.specs.Sorting.{in_order, product_cmp};
 ghost use Rattle.cargo_toml_tables.specs.Products.{product_meaning};
@@ -15,10 +16,10 @@ fn compare(a: &Product, b: &Product) -> Ordering
     a.name.cmp(&b.name).then(a.path.cmp(&b.path))
 }
 
-/// Puts products in order, by name and then by path. Equal ones stay in their order. It is refused only where there was no
-/// memory.
+/// Puts products in order, by name and then by path. Equal ones stay in their order. It is refused only where there was
+/// no memory.
 pub fn sort_products(products: &mut Vec<Product>) -> Result<(), AllocError>
-    ensures ok { OnOk result (map product_meaning products.new.items ≡ in_order (map product_meaning products.old.items)) }
+    ensures ok { OnOk result (meanings products.new.items ≡ in_order (meanings products.old.items)) }
 {
     products.sort_by(|a, b| compare(a, b))
 }
@@ -39,7 +40,7 @@ pub fn copied(product: &Product) -> Result<Product, AllocError>
 
 /// Copies of products, which hold the same.
 pub fn copies(alloc: Global, products: &[Product]) -> Result<Vec<Product>, AllocError>
-    ensures { IfOk result (λ list. map product_meaning list.items ≡ map product_meaning products.now) }
+    ensures { IfOk result (λ list. meanings list.items ≡ meanings products.now) }
 {
     let mut list = Vec::new(alloc);
     for product in products {
@@ -50,7 +51,7 @@ pub fn copies(alloc: Global, products: &[Product]) -> Result<Vec<Product>, Alloc
 
 /// Whether some product has the path.
 pub fn is_path_of(products: &[Product], path: &str) -> bool
-    ensures { result ≡ is_path_of (map product_meaning products.now) path.now }
+    ensures { result ≡ is_path_of (meanings products.now) path.now }
 {
     for product in products {
         if let Some(own) = &product.path {

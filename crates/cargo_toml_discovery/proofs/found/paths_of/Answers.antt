@@ -1,4 +1,4 @@
-use Rattle.std.proofs.Common.{◌≡◌, Bool, ◌||◌, arith, ap, sym, ◌∙◌}
+use Rattle.std.proofs.Common.{Bool, ◌||◌, arith, ap, sym, ◌∙◌}
 use Rattle.cargo_toml_discovery.proofs.Paths.{is_path_of-more}
 use Rattle.cargo_toml_discovery.specs.Found.{is_text}
 use Rattle.cargo_toml_tables.specs.Products.{product_meaning}

@@ -21,8 +21,8 @@ returns c = λ x is.
     let last = c.in_ok-place_if_there.ensures.ok x [] is in
     let before = c.in_ok-place_all.ensures.ok (option_to_list x) in
     sym (append-nil (map product_meaning c.place_if_there.new.list.items)) ∙ last
-      ∙ ap (λ (qs : List Offered). walked c.args.edition c.place_all.new.list c.place_all.new.still qs) (option-cons x)
-      ∙ before
-      ∙ ap (λ (qs : List Offered). walked c.args.edition c.in_ok-list.list c.in_ok-still.still (with_extra qs x)) (offers-same dir (is_path_in c.in_ok-paths.paths) (is_path_of ps) c.in_ok-paths.ensures es)
-      ∙ ap (λ (qs : List ProductMeaning). qs ++ walk c.args.edition start (with_extra os x)) c.in_ok-list.ensures
-      ∙ ap (λ (qs : List ProductMeaning). filter has_path ps ++ qs) (walk-same c.args.edition start (last_waiting ps) (with_extra os x) c.in_ok-still.ensures)
+    ∙ ap (λ (qs : List Offered). walked c.args.edition c.place_all.new.list c.place_all.new.still qs) (option-cons x)
+    ∙ before
+    ∙ ap (λ (qs : List Offered). walked c.args.edition c.in_ok-list.list c.in_ok-still.still (with_extra qs x)) (offers-same dir (is_path_in c.in_ok-paths.paths) (is_path_of ps) c.in_ok-paths.ensures es)
+    ∙ ap (λ (qs : List ProductMeaning). qs ++ walk c.args.edition start (with_extra os x)) c.in_ok-list.ensures
+    ∙ ap (λ (qs : List ProductMeaning). filter has_path ps ++ qs) (walk-same c.args.edition start (last_waiting ps) (with_extra os x) c.in_ok-still.ensures)

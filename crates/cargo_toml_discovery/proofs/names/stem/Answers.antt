@@ -1,6 +1,6 @@
-use Rattle.std.proofs.Common.{◌≡◌, true, false, sym, ◌∙◌, rules, ap}
-use Rattle.cargo_toml_discovery.proofs.Stems.{stem-shorter, stem-done, source-shorter}
-use Rattle.cargo_toml_discovery.specs.Names.{stem, is_source}
+use Rattle.std.proofs.Common.{sym, ◌∙◌, ap}
+use Rattle.cargo_toml_discovery.proofs.Stems.{stem-shorter, stem-done}
+use Rattle.cargo_toml_discovery.specs.Names.{stem}
 use Rattle.cargo_toml_discovery.proofs.names.stem.Goals as goal
 
 pub returns : goal.returns

@@ -1,4 +1,4 @@
-use Rattle.std.proofs.Common.{◌≡◌, take, drop, length, ◌-◌, ◌++◌, sym, ◌∙◌, ap, codes, take-append-drop}
+use Rattle.std.proofs.Common.{take, drop, length, ◌-◌, sym, codes, take-append-drop}
 use Rattle.std.proofs.lemmas.Slice.Eq.{bytes_eq-Decides}
 use Rattle.cargo_toml_discovery.proofs.names.without_ending.Goals as goal
 

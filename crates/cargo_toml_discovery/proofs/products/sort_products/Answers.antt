@@ -3,7 +3,7 @@ use Rattle.std.proofs.lemmas.Result.{on_ok_weaker}
 use Rattle.std.proofs.lemmas.List.Sorted.{answers_always}
 use Rattle.cargo_toml_discovery.proofs.Stable.{sort_gives, map-sorted_by}
 use Rattle.cargo_toml_discovery.proofs.Ranks.{products_rank}
-use Rattle.cargo_toml_discovery.specs.Sorting.{product_lt, sorted_by}
+use Rattle.cargo_toml_discovery.specs.Sorting.{product_lt}
 use Rattle.cargo_toml_tables.specs.Products.{product_meaning}
 use Rattle.cargo_toml_discovery.proofs.products.sort_products.Goals as goal
 
@@ -11,8 +11,10 @@ pub returns : goal.returns
 returns c =
     let old = c.args.products.now.items in
     let new = c.sort_by.new.self.items in
-    record { ok = on_ok_weaker c.sort_by.result (λ up.
-      let order = products_rank product_meaning in
-      let by_it = answers_always _ _ _ (λ f a r f' h. search rules) in
-      let same = sort_gives _ order old new (up _ order by_it) (c.sort_by.ensures.stable _ order (answers_always _ _ _ (λ f a r f' h. search rules))) in
-      ap (λ ps. map product_meaning ps) same ∙ map-sorted_by product_meaning product_lt old) c.sort_by.ensures.sorted }
+    record {
+      ok = on_ok_weaker c.sort_by.result (λ up.
+          let order = products_rank product_meaning in
+          let by_it = answers_always _ _ _ (λ f a r f' h. search rules) in
+          let same = sort_gives _ order old new (up _ order by_it) (c.sort_by.ensures.stable _ order (answers_always _ _ _ (λ f a r f' h. search rules))) in
+          ap (λ ps. map product_meaning ps) same ∙ map-sorted_by product_meaning product_lt old) c.sort_by.ensures.sorted;
+    }

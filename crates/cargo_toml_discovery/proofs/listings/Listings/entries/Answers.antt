@@ -4,7 +4,7 @@ use Rattle.std.specs.declared.alloc.Global.{Global}
 use Rattle.std.proofs.lemmas.Map.Iter.{rest_all}
 use Rattle.cargo_toml_discovery.proofs.Unique.{Ascend, ascend-set}
 use Rattle.cargo_toml_discovery.proofs.Ascends.{ascend-named}
-use Rattle.cargo_toml_discovery.specs.Answers.{answers_of, names_in, named_in, texts_in}
+use Rattle.cargo_toml_discovery.specs.Answers.{answers_of, names_in, named_in}
 use Rattle.cargo_toml_discovery.specs.Found.{Named}
 use Rattle.cargo_toml_discovery.specs.Names.{Text}
 use Rattle.cargo_toml_discovery.specs.Walk.{NamesAscend, named_of}
@@ -18,6 +18,6 @@ returns-clause-ascend c =
     let up : Ascend (names_in a dir) = subst (λ (ts : List Text). Ascend ts) texts (ascend-set c.in-Some.names.now c.len-count.ensures.ordered) in
     let done = rest_all deref c.loop-name.name-iterator c.next.new.self c.next.result c.in-None.is c.next.ensures.steps in
     let all : map named_of c.loop-name.entries.items ≡ map (named_in a dir) (names_in a dir) =
-      sym (append-nil (map named_of c.loop-name.entries.items))
-      ∙ ap (λ (ks : List (String Global)). map named_of c.loop-name.entries.items ++ map (named_in a dir) (map (λ k. string_bytes k) ks)) (sym done) ∙ c.loop-name.invariant in
+    sym (append-nil (map named_of c.loop-name.entries.items))
+    ∙ ap (λ (ks : List (String Global)). map named_of c.loop-name.entries.items ++ map (named_in a dir) (map (λ k. string_bytes k) ks)) (sym done) ∙ c.loop-name.invariant in
     subst (λ (es : List Named). NamesAscend es) (sym all) (ascend-named a dir (names_in a dir) up)

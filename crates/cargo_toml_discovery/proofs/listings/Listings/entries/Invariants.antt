@@ -1,7 +1,5 @@
-use Rattle.std.proofs.Common.{◌≡◌, refl, ap, sym, ◌∙◌, map, ◌++◌, List, [], ◌∷◌, string_bytes, arith, Some, None, rules, Option, unwrap_or, cond, ◌+◌, take, codes}
-use Rattle.std.specs.Option.{option_map, option_copied}
-use Rattle.cargo_toml_discovery.specs.Answers.{texts_in, answer_at, answers_of, names_in, below, named_in, entries_in}
-use Rattle.cargo_toml_discovery.specs.Names.{Text}
+use Rattle.std.proofs.Common.{◌≡◌, map, ◌++◌, string_bytes}
+use Rattle.cargo_toml_discovery.specs.Answers.{answers_of, names_in, named_in}
 use Rattle.cargo_toml_discovery.specs.Walk.{named_of}
 use Rattle.cargo_toml_discovery.proofs.listings.Listings.entries.Given as goal
 

@@ -1,8 +1,7 @@
-use Rattle.std.proofs.Common.{◌≡◌, refl, ap, sym, ◌∙◌, map, ◌++◌, List, [], ◌∷◌, string_bytes, arith, Some, None, rules, Option, unwrap_or, cond, ◌+◌, take, codes}
-use Rattle.std.specs.Option.{option_map, option_copied}
+use Rattle.std.proofs.Common.{ap, sym, ◌∙◌}
+use Rattle.std.specs.Option.{option_map}
 use Rattle.cargo_toml_discovery.proofs.Lookups.{answer_at-get}
-use Rattle.cargo_toml_discovery.specs.Answers.{texts_in, answer_at, answers_of, names_in, below, named_in, entries_in}
-use Rattle.cargo_toml_discovery.specs.Names.{Text}
+use Rattle.cargo_toml_discovery.specs.Answers.{texts_in}
 use Rattle.cargo_toml_discovery.proofs.listings.Listings.names_at.Goals as goal
 
 pub returns : goal.returns

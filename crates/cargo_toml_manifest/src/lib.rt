@@ -2,6 +2,7 @@
 #![tactic(auto)]
 
 pub mod afs;
+pub mod gather;
 pub mod manifest;
 pub mod workspace;
 

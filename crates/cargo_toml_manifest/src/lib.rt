@@ -1,8 +1,9 @@
-//! A manifest and its workspace: how they are read.
+//! A manifest and its workspace: how they are read, and how a manifest is completed.
 #![tactic(auto)]
 
 pub mod afs;
 pub mod complete;
+pub mod gather;
 pub mod inheriting;
 pub mod manifest;
 pub mod workspace;

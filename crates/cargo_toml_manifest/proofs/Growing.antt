@@ -1,0 +1,60 @@
+-- Answers stay, while others are added.
+use Rattle.std.proofs.Common.{◌≡◌, ℕ, Bool, true, false, cond, List, [], ◌∷◌, ◌++◌, refl, ap, ◌∙◌, sym, map, String, string_bytes, subst, Option, Some, None, is_some, unwrap_or, get_or, length, ◌<◌, take, ◌+◌}
+use Rattle.std.specs.Str.{bytes_eq}
+use Rattle.std.specs.declared.alloc.Global.{Global}
+use Rattle.std.proofs.lemmas.Slice.Eq.{bytes_eq-Decides}
+use Rattle.std.proofs.lemmas.List.{take_more, map_push}
+use Rattle.cargo_toml_discovery.proofs.Unique.{own}
+use Rattle.cargo_toml_discovery.specs.Answers.{Answers, answer_at, below, names_in}
+use Rattle.cargo_toml_discovery.specs.Names.{Text}
+use Rattle.cargo_toml_discovery.specs.Told.{Told}
+use Rattle.cargo_toml_manifest.specs.Gathering.{Fits, Grows, Has, HasEach, HasProducts, IsAnswer}
+
+pub grows-same : (told : Text → Told) (ans : Answers) → Grows told ans ans
+grows-same told ans = ((λ p ns h. h), (λ f. f))
+
+pub grows-on : (told : Text → Told) (a b c : Answers) → Grows told a b → Grows told b c → Grows told a c
+grows-on told a b c g h = ((λ p ns e. h.0 p ns (g.0 p ns e)), (λ f. h.1 (g.1 f)))
+
+pub has-grows : (told : Text → Told) (a b : Answers) (p : Text) → Grows told a b → Has a p → Has b p
+has-grows told a b p g h = elim (answer_at a p) as (λ r. answer_at a p ≡ r → is_some r ≡ true → Has b p)
+  [ None ↦ λ e k. cc | Some ns ↦ λ e k. ap is_some (g.0 p ns e) ] refl h
+
+pub has_each-grows : (told : Text → Told) (a b : Answers) (ps : List Text) → Grows told a b → HasEach a ps → HasEach b ps
+has_each-grows told a b [] g h = tt
+has_each-grows told a b (p ∷ ps) g h = (has-grows told a b p g h.0, has_each-grows told a b ps g h.1)
+
+pub has_each-push : (a : Answers) (ps : List Text) (p : Text) → HasEach a ps → Has a p → HasEach a (ps ++ p ∷ [])
+has_each-push a [] p h k = (k, tt)
+has_each-push a (q ∷ ps) p h k = (h.0, has_each-push a ps p h.1 k)
+
+pub names_in-grows : (told : Text → Told) (a b : Answers) (p : Text) → Grows told a b → Has a p → names_in a p ≡ names_in b p
+names_in-grows told a b p g h = elim (answer_at a p) as (λ r. answer_at a p ≡ r → is_some r ≡ true → unwrap_or r [] ≡ names_in b p)
+  [ None ↦ λ e k. cc | Some ns ↦ λ e k. sym (ap (λ (r : Option (List Text)). unwrap_or r []) (g.0 p ns e)) ] refl h
+
+pub has_products-grows : (told : Text → Told) (a b : Answers) (wanted : Bool) (dir : Text) → Grows told a b → HasProducts wanted dir a → HasProducts wanted dir b
+has_products-grows told a b false dir g h = tt
+has_products-grows told a b true dir g h = (has-grows told a b dir g h.0, subst (λ (ns : List Text). HasEach b (below dir ns)) (names_in-grows told a b dir g h.0) (has_each-grows told a b (below dir (names_in a dir)) g h.1))
+
+-- one answer more
+none_then_some : (r : Option (List Text)) (ns : List Text) {A : Type 0} → is_some r ≡ false → r ≡ Some ns → A
+none_then_some None ns h e = cc
+none_then_some (Some ms) ns h e = cc
+
+module _ (told : Text → Told) (old new : Answers) (path : Text) (ns : List Text) (missing : is_some (answer_at old path) ≡ false) (after : (p : Text) → answer_at new p ≡ cond (bytes_eq path p) (Some ns) (answer_at old p)) where
+  stays : (p : Text) (ms : List Text) → answer_at old p ≡ Some ms → (b : Bool) → bytes_eq path p ≡ b → cond b (Some ns) (answer_at old p) ≡ Some ms
+  stays p ms e true h = none_then_some (answer_at old path) ms missing (ap (λ (q : Text). answer_at old q) ((bytes_eq-Decides path p).0 h) ∙ e)
+  stays p ms e false h = e
+
+  fits : IsAnswer (told path) ns → Fits told old → (p : Text) (ms : List Text) (b : Bool) → bytes_eq path p ≡ b → cond b (Some ns) (answer_at old p) ≡ Some ms → IsAnswer (told p) ms
+  fits one f p ms true h e = let s : path ≡ p = (bytes_eq-Decides path p).0 h in let same : ns ≡ ms = cc in subst (λ (q : Text). IsAnswer (told q) ms) s (subst (λ (xs : List Text). IsAnswer (told path) xs) same one)
+  fits one f p ms false h e = f p ms e
+
+  pub grows-one : IsAnswer (told path) ns → Grows told old new
+  grows-one one = ((λ p ms e. after p ∙ stays p ms e (bytes_eq path p) refl), (λ f p ms e. fits one f p ms (bytes_eq path p) refl (sym (after p) ∙ e)))
+
+  pub has-one : answer_at new path ≡ Some ns
+  has-one = after path ∙ ap (λ (b : Bool). cond b (Some ns) (answer_at old path)) (own path)
+
+pub has_each-more : (a : Answers) (xs : List (String Global)) (i : ℕ) (x : String Global) → i < length xs → x ≡ get_or xs i x → HasEach a (map string_bytes (take i xs)) → Has a (string_bytes x) → HasEach a (map string_bytes (take (i + 1) xs))
+has_each-more a xs i x below read h k = rw (take_more xs i x below, ← read, map_push string_bytes (take i xs) x) (has_each-push a (map string_bytes (take i xs)) (string_bytes x) h k)

@@ -26,19 +26,21 @@ pub use Rattle.cargo_toml_dependencies.specs.Dependencies
 pub use Rattle.cargo_toml_dependencies.specs.DependencyAnswers
 pub use Rattle.cargo_toml_dependencies.specs.DependencyLending
 pub use Rattle.cargo_toml_dependencies.specs.Features
-pub use Rattle.cargo_toml_dependencies.specs.InheritedDependencies
+pub use Rattle.cargo_toml_dependencies.specs.Inheriting as InheritedDependencies
 pub use Rattle.cargo_toml_dependencies.specs.Targets
 pub use Rattle.cargo_toml_parts.specs.Keys
-pub use Rattle.cargo_toml_package.specs.InheritedPackages
+pub use Rattle.cargo_toml_package.specs.Filled
+pub use Rattle.cargo_toml_package.specs.Inheriting as InheritedPackages
 pub use Rattle.cargo_toml_package.specs.PackageAnswers
 pub use Rattle.cargo_toml_package.specs.PackageLending
 pub use Rattle.cargo_toml_package.specs.Packages
 pub use Rattle.cargo_toml_package.specs.Templates
 pub use Rattle.cargo_toml_manifest.specs.Completing
-pub use Rattle.cargo_toml_manifest.specs.InheritedManifests
+pub use Rattle.cargo_toml_manifest.specs.Inheriting as InheritedManifests
 pub use Rattle.cargo_toml_manifest.specs.Manifests
 pub use Rattle.cargo_toml_manifest.specs.Texts
 pub use Rattle.cargo_toml_manifest.specs.Told
+pub use Rattle.cargo_toml_discovery.specs.Told as ToldFolders
 pub use Rattle.cargo_toml_manifest.specs.Workspaces
 pub use Rattle.cargo_toml_write.specs.NoFloats
 pub use Rattle.cargo_toml_write.specs.Ways

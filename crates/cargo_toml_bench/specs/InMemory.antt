@@ -6,7 +6,8 @@ use Rattle.toml.specs.Data.{Data}
 use Rattle.toml.specs.Parse.{parse_document}
 use Rattle.cargo_toml.specs.Manifests.{ManifestMeaning, manifest_reads}
 use Rattle.cargo_toml.specs.Texts.{any_tree, document_reads}
-use Rattle.cargo_toml.specs.Told.{Told, names, absent, denied, open_path, ToldRoot, root, no_root, open_root}
+use Rattle.cargo_toml.specs.Told.{ToldRoot, root, no_root, open_root}
+use Rattle.cargo_toml.specs.ToldFolders.{Told, names, absent, denied, open_path}
 use Rattle.cargo_toml_bench.specs.declared.in_memory.Answer.{Answer}
 use Rattle.cargo_toml_bench.specs.declared.in_memory.Answer.TheVariants.{Names, Denied, Open, NoMemory}
 use Rattle.cargo_toml_bench.specs.declared.in_memory.Root.{Root}

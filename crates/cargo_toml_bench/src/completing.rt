@@ -1,6 +1,6 @@
 //! Manifests of members, completed from the manifest of their workspace.
 ghost use Rattle.std.specs.Prelude.{◌≡◌, false, IfOk, IfSome, OnErr, OnOk, option_and_then};
-ghost use Rattle.cargo_toml.specs.Completing.{IsFilled};
+ghost use Rattle.cargo_toml.specs.Filled.{IsFilled};
 ghost use Rattle.cargo_toml.specs.InheritableValues.{value_of};
 ghost use Rattle.cargo_toml.specs.InheritedManifests.{needs};
 ghost use Rattle.cargo_toml.specs.Manifests.{manifest_meaning};

@@ -32,9 +32,12 @@ abbrev pub told_manifest : Option (ManifestMeaning Data) → List ℕ → ToldRo
 told_manifest None path = no_root
 told_manifest (Some m) path = if is_some m.workspace then root m path else no_root
 
+abbrev pub told_bytes : List ℕ → List ℕ → ToldRoot
+told_bytes bytes path = told_manifest (document_reads (manifest_reads any_tree) (parse_document bytes)) path
+
 abbrev pub told_text : Option (String Global) → List ℕ → ToldRoot
 told_text None path = open_root
-told_text (Some text) path = told_manifest (document_reads (manifest_reads any_tree) (parse_document (string_bytes text))) path
+told_text (Some text) path = told_bytes (string_bytes text) path
 
 abbrev pub told_by : Root → ToldRoot
 told_by r = told_text r.text (string_bytes r.path)

@@ -3,7 +3,7 @@ ghost use Rattle.std.specs.Prelude.{◌≡◌, IfOk, IfErr, map, string_bytes};
 ghost use Rattle.std.specs.Option.{option_copied};
 ghost use Rattle.cargo_toml.specs.Error.{Memory};
 ghost use Rattle.cargo_toml.specs.Told.{AnswersNames, HasTexts, ReadsRoot};
-ghost use Rattle.cargo_toml_bench.specs.InMemory.{told_at, told_root_at, told_of_answer, told_of_root};
+ghost use Rattle.cargo_toml_bench.specs.InMemory.{told_at, told_root_at, told_of_answer, told_of_root, told_bytes};
 
 use cargo_toml::{AbstractFilesystem, Error, OwnRoot};
 use std::alloc::{AllocError, Global};
@@ -99,6 +99,14 @@ fn root_at<'a>(roots: &'a [Root], hint: Option<&str>) -> Option<&'a Root>
     None
 }
 
+fn read_text(alloc: Global, text: &str, path: &str) -> Result<(Vec<u8>, String), Error>
+    ensures { ReadsRoot (told_bytes text.now path.now) result }
+{
+    let path = String::from_str(alloc, path)?;
+    let text = String::from_str(alloc, text)?;
+    Ok((text.into_bytes(), path))
+}
+
 fn read_root(alloc: Global, root: Option<&Root>) -> Result<(Vec<u8>, String), Error>
     ensures { ReadsRoot (told_of_root (option_copied root.entry)) result }
 {
@@ -106,7 +114,7 @@ fn read_root(alloc: Global, root: Option<&Root>) -> Result<(Vec<u8>, String), Er
         return Err(Error::Io(io::Error::from(io::ErrorKind::NotFound)));
     };
     match &root.text {
-        Some(text) => Ok((text.clone()?.into_bytes(), root.path.clone()?)),
+        Some(text) => read_text(alloc, text.as_str(), root.path.as_str()),
         None => Err(Error::Memory),
     }
 }

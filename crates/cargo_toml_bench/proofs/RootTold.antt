@@ -1,0 +1,59 @@
+-- What is read for a root that is told by its text.
+use Rattle.std.proofs.Common.{◌≡◌, ℕ, Bool, true, false, cond, subst, List, Option, Some, None, Result, Ok, Err, IsErrAnd, String, Vec, string_bytes, refl, sym, ◌∙◌, ap}
+use Rattle.std.specs.Prelude.{IsUtf8, is_some, if◌then◌else◌}
+use Rattle.std.specs.declared.alloc.Global.{Global}
+use Rattle.toml.specs.Data.{Data}
+use Rattle.toml.specs.Parse.{parse_document}
+use Rattle.cargo_toml.specs.Error.{Error, Memory}
+use Rattle.cargo_toml.specs.Manifests.{ManifestMeaning, manifest_reads}
+use Rattle.cargo_toml.specs.Texts.{any_tree, document_reads}
+use Rattle.cargo_toml.specs.Told.{ToldRoot, root, no_root, ReadsRoot, IsRootIn}
+use Rattle.cargo_toml_bench.specs.InMemory.{told_manifest, told_bytes}
+
+abbrev Is : {A : Type 0} → Option A → Type 0
+Is None = ⊥
+Is (Some x) = Unit {0}
+
+no_value : {A : Type 0} (x : A) → ◌≡◌ {A = Option A} None (Some x) → ⊥
+no_value x e = subst Is (sym e) tt
+
+no_workspace : (m n : ManifestMeaning Data) → is_some m.workspace ≡ false → ◌≡◌ {A = Option (ManifestMeaning Data)} (Some m) (Some n) → is_some n.workspace ≡ true → ⊥
+no_workspace m n lacks same has = true_false (sym has ∙ ap (λ o. is_some_in o) (sym same) ∙ lacks)
+  where
+    is_some_in : Option (ManifestMeaning Data) → Bool
+    is_some_in None = false
+    is_some_in (Some k) = is_some k.workspace
+    true_false : true ≡ false → ⊥
+    true_false e = subst (λ b. cond b (Unit {0}) ⊥) e tt
+
+by_workspace : (x : Vec ℕ Global × String Global) (m : ManifestMeaning Data) (path : List ℕ) (b : Bool) → is_some m.workspace ≡ b
+    → document_reads (manifest_reads any_tree) (parse_document x.0.items) ≡ Some m → IsUtf8 x.0.items → string_bytes x.1 ≡ path
+    → ReadsRoot (if b then root m path else no_root) (Ok x)
+by_workspace x m path true w e u p = ((u, e, w), p)
+by_workspace x m path false w e u p = λ n h. no_workspace m n w (sym e ∙ h.1) h.2
+
+by_document : (x : Vec ℕ Global × String Global) (path : List ℕ) (d : Option (ManifestMeaning Data))
+    → document_reads (manifest_reads any_tree) (parse_document x.0.items) ≡ d → IsUtf8 x.0.items → string_bytes x.1 ≡ path
+    → ReadsRoot (told_manifest d path) (Ok x)
+by_document x path None e u p = λ n h. no_value n (sym e ∙ h.1)
+by_document x path (Some m) e u p = by_workspace x m path (is_some m.workspace) refl e u p
+
+-- the bytes of a text, and its path
+pub read_ok : (x : Vec ℕ Global × String Global) (bytes path : List ℕ) → x.0.items ≡ bytes → IsUtf8 bytes → string_bytes x.1 ≡ path → ReadsRoot (told_bytes bytes path) (Ok x)
+read_ok x bytes path same u p = subst (λ bs. ReadsRoot (told_bytes bs path) (Ok x)) same (by_document x path _ refl (subst IsUtf8 (sym same) u) p)
+
+memory_by : (m : ManifestMeaning Data) (path : List ℕ) (b : Bool) → ReadsRoot (if b then root m path else no_root) (Err Memory)
+memory_by m path true = refl
+memory_by m path false = tt
+
+memory_in : (d : Option (ManifestMeaning Data)) (path : List ℕ) → ReadsRoot (told_manifest d path) (Err Memory)
+memory_in None path = tt
+memory_in (Some m) path = memory_by m path (is_some m.workspace)
+
+-- want of memory answers whatever is told
+pub read_memory : (bytes path : List ℕ) → ReadsRoot (told_bytes bytes path) (Err Memory)
+read_memory bytes path = memory_in (document_reads (manifest_reads any_tree) (parse_document bytes)) path
+
+pub read_err : (bytes path : List ℕ) (r : Result (Vec ℕ Global × String Global) Error) → IsErrAnd r (λ e. e ≡ Memory) → ReadsRoot (told_bytes bytes path) r
+read_err bytes path (Ok x) h = absurd h
+read_err bytes path (Err e) h = subst (λ f. ReadsRoot (told_bytes bytes path) (Err f)) (sym h) (read_memory bytes path)

@@ -1,6 +1,4 @@
-pub mod Asking
 pub mod Completing
-pub mod Gathering
 pub mod Inheriting
 pub mod Installing
 pub mod Manifests

@@ -1,9 +1,8 @@
-//! A manifest and its workspace: how they are read, and how a manifest is completed.
+//! A manifest and its workspace: how they are read.
 #![tactic(auto)]
 
 pub mod afs;
 pub mod complete;
-pub mod gather;
 pub mod inheriting;
 pub mod manifest;
 pub mod workspace;

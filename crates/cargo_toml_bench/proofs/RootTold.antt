@@ -23,6 +23,7 @@ no_workspace m n lacks same has = true_false (sym has ∙ ap (λ o. is_some_in o
     is_some_in : Option (ManifestMeaning Data) → Bool
     is_some_in None = false
     is_some_in (Some k) = is_some k.workspace
+
     true_false : true ≡ false → ⊥
     true_false e = subst (λ b. cond b (Unit {0}) ⊥) e tt
 

@@ -114,7 +114,7 @@ pub fn join_action<'a>(
 ) -> Result<(), AllocError>
     ensures { OnOk result ((k : Text) → action_at deps.new k
         ≡ join_option (action_at deps.old k)
-            (if bytes_eq k action.entry.target.now then Some (action_in action.entry) else None)) }
+        (if bytes_eq k action.entry.target.now then Some (action_in action.entry) else None)) }
 {
     let first = DepAction {
         is_conditional: true,

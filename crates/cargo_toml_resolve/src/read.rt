@@ -46,7 +46,7 @@ fn note_action<'m, S: BuildHasher>(
 ) -> Result<(), AllocError>
     ensures { OnOk result ((k : Text) → value_at acted.new k
         ≡ noted (value_at acted.old k)
-            (if bytes_eq k action.entry.target.now then Some (action_in action.entry) else None)) }
+        (if bytes_eq k action.entry.target.now then Some (action_in action.entry) else None)) }
 {
     let is_dep_only = acted.entry(action.target)?.or_insert(false);
     *is_dep_only |= action.is_dep_only;

@@ -8,17 +8,22 @@ fn shown<T: Debug>(alloc: Global, answer: &T) -> Result<String, Error> {
     Ok(format!(in alloc; "{answer:?}")?)
 }
 
+fn text_of(value: &Value) -> Result<&str, Error> {
+    match value.as_str() {
+        Some(text) => Ok(text),
+        None => Err(Error::Other("a path that is no text")),
+    }
+}
+
 /// The answer to a path, or to an array of two paths, by the name of the row.
 pub fn answer(alloc: Global, row: &str, value: &Value) -> Result<String, Error> {
-    if let Some([front, back]) = value.as_array() {
-        let (Some(front), Some(back)) = (front.as_str(), back.as_str()) else {
-            return Err(Error::Other("a path that is no text"));
+    if let Some(paths) = value.as_array() {
+        let [front, back] = paths.as_slice() else {
+            return Err(Error::Other("two paths join"));
         };
-        return shown(alloc, &join(alloc, front, back)?);
+        return shown(alloc, &join(alloc, text_of(front)?, text_of(back)?)?);
     }
-    let Some(path) = value.as_str() else {
-        return Err(Error::Other("a path that is no text"));
-    };
+    let path = text_of(value)?;
     match row {
         "last-names" => shown(alloc, &last_name(path)),
         "folder-of-a-workspace" => shown(alloc, &workspace_folder(path)),

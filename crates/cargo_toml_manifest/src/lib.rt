@@ -1,4 +1,4 @@
-//! A manifest and its workspace: how they are read.
+//! A manifest and its workspace: how they are read, and how a manifest is completed.
 #![tactic(auto)]
 
 pub mod afs;

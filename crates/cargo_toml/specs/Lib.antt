@@ -35,7 +35,9 @@ pub use Rattle.cargo_toml_package.specs.PackageAnswers
 pub use Rattle.cargo_toml_package.specs.PackageLending
 pub use Rattle.cargo_toml_package.specs.Packages
 pub use Rattle.cargo_toml_package.specs.Templates
+pub use Rattle.cargo_toml_manifest.specs.Choosing
 pub use Rattle.cargo_toml_manifest.specs.Completing
+pub use Rattle.cargo_toml_manifest.specs.Finding
 pub use Rattle.cargo_toml_manifest.specs.Inheriting as InheritedManifests
 pub use Rattle.cargo_toml_manifest.specs.Manifests
 pub use Rattle.cargo_toml_manifest.specs.Texts

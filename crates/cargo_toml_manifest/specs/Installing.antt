@@ -6,8 +6,10 @@ use Rattle.cargo_toml_package.specs.Packages.{PackageMeaning}
 use Rattle.cargo_toml_package.specs.declared.inheriting.NewFields.{NewFields}
 use Rattle.cargo_toml_parts.specs.Reads.{map_meaning}
 use Rattle.cargo_toml_tables.specs.Lints.{lint_meaning}
+use Rattle.cargo_toml_manifest.specs.Finding.{with_found}
 use Rattle.cargo_toml_manifest.specs.Inheriting.{own_tables}
 use Rattle.cargo_toml_manifest.specs.Manifests.{ManifestMeaning}
+use Rattle.cargo_toml_manifest.specs.declared.finding.Completion.{Completion}
 use Rattle.cargo_toml_manifest.specs.declared.inheriting.NewParts.{NewParts}
 
 abbrev pub installed_if_there : {M : Type 0} → Option (PackageMeaning M) → Option NewFields → Option (PackageMeaning M)
@@ -24,3 +26,7 @@ installed m new = record m {
   target = replaced_targets m.target new.targets.items;
   lints = put m.lints (option_map (map_meaning (map_meaning lint_meaning)) new.lints);
 }
+
+-- the manifest with these parts, and then with what was found by them
+abbrev pub completed : {M : Type 0} → ManifestMeaning M → Completion → ManifestMeaning M
+completed m new = with_found (installed m new.parts) new.found

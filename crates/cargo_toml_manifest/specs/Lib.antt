@@ -1,4 +1,6 @@
+pub mod Choosing
 pub mod Completing
+pub mod Finding
 pub mod Inheriting
 pub mod Installing
 pub mod Manifests

@@ -1,14 +1,19 @@
-//! Completing a manifest from its workspace.
-ghost use Rattle.std.specs.Prelude.{◌≡◌, None, false, IfOk, IfSome, OnErr, OnOk, option_map};
+//! Completing a manifest from its workspace and from its folders.
+ghost use Rattle.std.specs.Prelude.{◌≡◌, Some, None, Ok, Result, false, IfOk, IfSome, OnErr, OnOk, option_map};
 ghost use Rattle.std.specs.Option.{option_copied};
+ghost use Rattle.cargo_toml_parts.specs.Answers.{Gives};
+ghost use Rattle.cargo_toml_parts.specs.FaultValues.{Fault};
+ghost use Rattle.cargo_toml_discovery.specs.Answers.{Answers, filled};
 ghost use Rattle.cargo_toml_package.specs.Filled.{IsFilled};
-ghost use Rattle.cargo_toml_manifest.specs.Completing.{GivenBy, GivenByRoot, Meets, complete, complete_by, from, handed_of, hint_of, shared_of, told_choice};
+ghost use Rattle.cargo_toml_manifest.specs.Choosing.{AnswersRoots, from, handed_of, hint_of, shared_of, told_choice};
+ghost use Rattle.cargo_toml_manifest.specs.Completing.{GivenBy, GivenByRoot, IsLasting, Meets, complete, complete_by, gives, then_found};
 ghost use Rattle.cargo_toml_manifest.specs.Inheriting.{needs};
-ghost use Rattle.cargo_toml_manifest.specs.Installing.{installed};
-ghost use Rattle.cargo_toml_manifest.specs.Manifests.{manifest_meaning};
+ghost use Rattle.cargo_toml_manifest.specs.Installing.{completed, installed};
+ghost use Rattle.cargo_toml_manifest.specs.Manifests.{ManifestMeaning, manifest_meaning};
 ghost use Rattle.cargo_toml_manifest.specs.Told.{heard};
 
 use crate::afs::{AbstractFilesystem, wrapped};
+use crate::finding::{Completion, find, put_found};
 use crate::inheriting::{NewParts, install_parts, new_parts, no_parts};
 use crate::manifest::Manifest;
 use crate::workspace::Workspace;
@@ -16,21 +21,50 @@ use cargo_toml_parts::Error;
 use cargo_toml_paths::workspace_folder;
 use std::alloc::Global;
 
-// What a manifest takes from a workspace at a path.
-fn parts_at<Metadata, N>(
+// What completion puts into a manifest that takes these parts, with the path that is told with a fault.
+fn completion<Metadata, Fs: AbstractFilesystem>(
+    alloc: Global,
+    manifest: &Manifest<Metadata>,
+    parts: Result<NewParts, Error>,
+    fs: &Fs,
+    path: Option<&str>,
+) -> Result<Completion, Error>
+    ensures outcome { let m = manifest_meaning (λ m. m) manifest.now in
+        (stated : Result (ManifestMeaning Metadata) Fault) → Gives (installed m) parts stated →
+        Meets (completed m) (then_found (option_copied path.entry) (Fs.names_at fs.now) stated) result }
+    ensures given { let m = manifest_meaning (λ m. m) manifest.now in
+        (stated : Result (ManifestMeaning Metadata) Fault) → Gives (installed m) parts stated →
+        IfOk result (λ new. (answers : Answers) ×
+        (then_found (option_copied path.entry) (filled (Fs.names_at fs.now) answers) stated ≡ gives (completed m new))) }
+{
+    let parts = match parts {
+        Ok(parts) => parts,
+        Err(fault) => return Err(wrapped(alloc, fault, path)),
+    };
+    match find(alloc, manifest, &parts, fs) {
+        Ok(found) => Ok(Completion { parts, found }),
+        Err(fault) => Err(wrapped(alloc, fault, path)),
+    }
+}
+
+// What completion puts into a manifest that inherits from a workspace at a path.
+fn completion_at<Metadata, N, Fs: AbstractFilesystem>(
     alloc: Global,
     manifest: &Manifest<Metadata>,
     workspace: Option<&Workspace<N>>,
     path: &str,
-) -> Result<NewParts, Error>
-    ensures { Meets (installed (manifest_meaning (λ m. m) manifest.now))
-        (complete_by (manifest_meaning (λ m. m) manifest.now) (from (shared_of (option_copied workspace.entry)) path.now))
-        result }
+    fs: &Fs,
+) -> Result<Completion, Error>
+    ensures outcome { let m = manifest_meaning (λ m. m) manifest.now in
+        Meets (completed m)
+        (complete_by m (from (shared_of (option_copied workspace.entry)) path.now) (Fs.names_at fs.now)) result }
+    ensures given { let m = manifest_meaning (λ m. m) manifest.now in
+        IfOk result (λ new. (answers : Answers) ×
+        (complete_by m (from (shared_of (option_copied workspace.entry)) path.now) (filled (Fs.names_at fs.now) answers)
+        ≡ gives (completed m new))) }
 {
-    match new_parts(alloc, manifest, workspace, workspace_folder(path)) {
-        Ok(parts) => Ok(parts),
-        Err(fault) => Err(wrapped(alloc, fault, Some(path))),
-    }
+    let parts = new_parts(alloc, manifest, workspace, workspace_folder(path));
+    completion(alloc, manifest, parts, fs, Some(path))
 }
 
 // What the package says of where its workspace is.
@@ -43,86 +77,99 @@ fn hint_of<Metadata>(manifest: &Manifest<Metadata>) -> Option<&str>
     }
 }
 
-// What a manifest takes from the root that is looked up.
-fn parts_by_hint<Metadata, Fs: AbstractFilesystem>(
+// What completion puts into a manifest that inherits from the root that is looked up.
+fn completion_by_hint<Metadata, Fs: AbstractFilesystem>(
     alloc: Global,
     manifest: &Manifest<Metadata>,
     fs: &Fs,
-) -> Result<NewParts, Error>
+) -> Result<Completion, Error>
     ensures outcome { let m = manifest_meaning (λ m. m) manifest.now in
-        Meets (installed m)
-        (complete_by m (told_choice (heard Fs.Roots.ARE_READ (Fs.root_for fs.now (hint_of m)))))
+        Meets (completed m)
+        (complete_by m (told_choice (heard Fs.Roots.ARE_READ (Fs.root_for fs.now (hint_of m)))) (Fs.names_at fs.now))
         result }
     ensures given { let m = manifest_meaning (λ m. m) manifest.now in
-        IfOk result
-        (λ new. GivenByRoot m (heard Fs.Roots.ARE_READ (Fs.root_for fs.now (hint_of m))) (installed m new)) }
+        IfOk result (λ new. GivenByRoot m (heard Fs.Roots.ARE_READ (Fs.root_for fs.now (hint_of m))) (Fs.names_at fs.now)
+        (completed m new)) }
 {
     let hint = hint_of(manifest);
     match fs.parse_root_workspace(alloc, hint) {
-        Ok((found, path)) => parts_at(alloc, manifest, found.workspace.as_ref(), path.as_str()),
+        Ok((found, path)) => completion_at(
+            alloc,
+            manifest,
+            found.workspace.as_ref(),
+            path.as_str(),
+            fs,
+        ),
         Err(fault) => Err(wrapped(alloc, fault, hint)),
     }
 }
 
-// What a manifest takes from its own table, or else from the root, if it leaves something to it.
-fn own_parts<Metadata, Fs: AbstractFilesystem>(
+// What completion puts into a manifest, where no workspace is handed in.
+fn own_completion<Metadata, Fs: AbstractFilesystem>(
     alloc: Global,
     manifest: &Manifest<Metadata>,
     fs: &Fs,
-) -> Result<NewParts, Error>
+) -> Result<Completion, Error>
     ensures outcome { let m = manifest_meaning (λ m. m) manifest.now in
-        Meets (installed m) (complete m None (λ hint. heard Fs.Roots.ARE_READ (Fs.root_for fs.now hint))) result }
+        Meets (completed m)
+        (complete m None (λ hint. heard Fs.Roots.ARE_READ (Fs.root_for fs.now hint)) (Fs.names_at fs.now)) result }
     ensures given { let m = manifest_meaning (λ m. m) manifest.now in
-        IfOk result
-        (λ new. GivenBy m None (λ hint. heard Fs.Roots.ARE_READ (Fs.root_for fs.now hint)) (installed m new)) }
+        IfOk result (λ new. GivenBy m None (λ hint. heard Fs.Roots.ARE_READ (Fs.root_for fs.now hint)) (Fs.names_at fs.now)
+        (completed m new)) }
 {
     match &manifest.workspace {
-        Some(workspace) => parts_at(alloc, manifest, Some(workspace), ""),
+        Some(workspace) => completion_at(alloc, manifest, Some(workspace), "", fs),
         None => {
             if manifest.needs_workspace_inheritance() {
-                parts_by_hint(alloc, manifest, fs)
+                completion_by_hint(alloc, manifest, fs)
             } else {
-                Ok(no_parts(alloc))
+                completion(alloc, manifest, Ok(no_parts(alloc)), fs, None)
             }
         }
     }
 }
 
-// What a manifest takes, wherever its workspace is.
-fn parts_for<Metadata, N, Fs: AbstractFilesystem>(
+// What completion puts into a manifest, wherever its workspace is.
+fn completion_for<Metadata, N, Fs: AbstractFilesystem>(
     alloc: Global,
     manifest: &Manifest<Metadata>,
     fs: &Fs,
     workspace: Option<(&Manifest<N>, &str)>,
-) -> Result<NewParts, Error>
+) -> Result<Completion, Error>
     ensures outcome { let m = manifest_meaning (λ m. m) manifest.now in
-        Meets (installed m)
-        (complete m (option_map handed_of workspace.entry) (λ hint. heard Fs.Roots.ARE_READ (Fs.root_for fs.now hint)))
-        result }
+        Meets (completed m)
+        (complete m (option_map handed_of workspace.entry) (λ hint. heard Fs.Roots.ARE_READ (Fs.root_for fs.now hint))
+        (Fs.names_at fs.now)) result }
     ensures given { let m = manifest_meaning (λ m. m) manifest.now in
-        IfOk result
-        (λ new. GivenBy m (option_map handed_of workspace.entry)
-        (λ hint. heard Fs.Roots.ARE_READ (Fs.root_for fs.now hint)) (installed m new)) }
+        IfOk result (λ new. GivenBy m (option_map handed_of workspace.entry)
+        (λ hint. heard Fs.Roots.ARE_READ (Fs.root_for fs.now hint)) (Fs.names_at fs.now) (completed m new)) }
 {
     match workspace {
-        Some((root, path)) => parts_at(alloc, manifest, root.workspace.as_ref(), path),
-        None => own_parts(alloc, manifest, fs),
+        Some((root, path)) => completion_at(alloc, manifest, root.workspace.as_ref(), path, fs),
+        None => own_completion(alloc, manifest, fs),
     }
 }
 
 impl<Metadata: Drop> Manifest<Metadata> {
-    /// Puts in what the manifest leaves to its workspace: dependencies, lints and fields of the package.
+    /// Puts in what the manifest leaves to its workspace, and what is found in its folders.
     ///
     /// The workspace is the one that is handed in, with the path of its folder or of its `Cargo.toml`; else the manifest's own
     /// workspace table; else, where something is left to it, the root that `fs` finds by what the package says of its
-    /// workspace. Where nothing is, the manifest stays as it is. Afterwards nothing is left to the workspace, and every getter
-    /// of the package may be called.
+    /// workspace. It gives dependencies, lints and fields of the package; where nothing is left to it, these stay as they are.
+    ///
+    /// Where there is a package, `fs` is asked for the names in its folder, in `src`, in `src/bin`, `examples`, `tests` and
+    /// `benches` unless the package turns that off, and in the folders in these, each once. They tell the library, binaries,
+    /// examples, tests and benchmarks as Cargo finds them, the build script and the readme; the lists are put in order of name
+    /// and path. A folder that is absent counts as empty, but that of the package must be there.
+    ///
+    /// Afterwards nothing is left to the workspace, every getter of the package may be called, and completing again with the
+    /// same workspace and folders changes nothing.
     ///
     /// Each fault is told as `Error::Workspace` with the path of that workspace (with the hint where no root was found), unless
     /// it is one already: what `fs` answers in place of a root; `WorkspaceIntegrity` for a dependency that the workspace
     /// lacks, for lints without a workspace table and for a field of the package that is still left; `InheritedUnknownValue`
-    /// for a dependency that the workspace itself leaves to another. Want of memory is `Error::Memory`. A refusal leaves the
-    /// manifest as it was.
+    /// for a dependency that the workspace itself leaves to another; and after all these what `fs` answers in place of names.
+    /// Want of memory is `Error::Memory`. A refusal leaves the manifest as it was.
     pub fn complete_from_abstract_filesystem<N, Fs: AbstractFilesystem + Drop>(
         &mut self,
         alloc: Global,
@@ -131,16 +178,19 @@ impl<Metadata: Drop> Manifest<Metadata> {
     ) -> Result<(), Error>
         ensures outcome { Meets (λ _. manifest_meaning (λ m. m) self.new)
             (complete (manifest_meaning (λ m. m) self.old) (option_map handed_of workspace.entry)
-            (λ hint. heard Fs.Roots.ARE_READ (Fs.root_for fs hint)))
+            (λ hint. heard Fs.Roots.ARE_READ (Fs.root_for fs hint)) (Fs.names_at fs))
             result }
         ensures unchanged { OnErr result (self.new ≡ self.old) }
         ensures given { OnOk result (GivenBy (manifest_meaning (λ m. m) self.old) (option_map handed_of workspace.entry)
-            (λ hint. heard Fs.Roots.ARE_READ (Fs.root_for fs hint)) (manifest_meaning (λ m. m) self.new)) }
+            (λ hint. heard Fs.Roots.ARE_READ (Fs.root_for fs hint)) (Fs.names_at fs) (manifest_meaning (λ m. m) self.new)) }
         ensures needs { OnOk result (needs (manifest_meaning (λ m. m) self.new) ≡ false) }
         ensures filled { OnOk result (IfSome self.new.package IsFilled) }
+        ensures again { OnOk result (IsLasting (manifest_meaning (λ m. m) self.old) (option_map handed_of workspace.entry)
+            (manifest_meaning (λ m. m) self.new)) }
     {
-        let parts = parts_for(alloc, self, &fs, workspace)?;
+        let Completion { parts, found } = completion_for(alloc, self, &fs, workspace)?;
         install_parts(self, parts);
+        put_found(self, found);
         Ok(())
     }
 }

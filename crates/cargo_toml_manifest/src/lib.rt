@@ -3,6 +3,8 @@
 
 pub mod afs;
 pub mod complete;
+pub mod finding;
+pub mod gather;
 pub mod inheriting;
 pub mod manifest;
 pub mod workspace;

@@ -1,0 +1,54 @@
+-- From which workspace a manifest inherits.
+use Rattle.std.specs.Prelude.{◌≡◌, ◌⊎◌, List, ℕ, [], Bool, true, false, Option, Some, None, option_map, option_and_then}
+use Rattle.cargo_toml_manifest.specs.Inheriting.{Shared, shared, needs}
+use Rattle.cargo_toml_manifest.specs.Manifests.{ManifestMeaning}
+use Rattle.cargo_toml_manifest.specs.Told.{ToldRoot, root, no_root, open_root}
+use Rattle.cargo_toml_manifest.specs.Workspaces.{workspace_meaning}
+use Rattle.cargo_toml_manifest.specs.declared.manifest.Manifest.{Manifest}
+use Rattle.cargo_toml_manifest.specs.declared.workspace.Workspace.{Workspace}
+use denote.Ref.{Bor}
+
+-- a workspace that is handed in: what its manifest shares, where it has a workspace table, and the path
+abbrev pub Handed : Type 0
+Handed = Option Shared × List ℕ
+
+abbrev pub shared_of : {N : Type 0} → Option (Workspace N) → Option Shared
+shared_of workspace = option_map (λ w. shared (workspace_meaning (λ x. x) w)) workspace
+
+abbrev pub handed_of : {N : Type 0} → Bor (Manifest N) × Bor (List ℕ) → Handed
+handed_of handed = (shared_of handed.0.now.workspace, handed.1.now)
+
+-- what is told of the root that a hint leads to
+abbrev pub RootsTold : Type 0
+RootsTold = Option (List ℕ) → ToldRoot
+
+-- no inheritance; this workspace table, or none, with its path; that none was found; or that nothing is told of it
+pub data Choice : Type 0 where
+  alone : Choice
+  from : Option Shared → List ℕ → Choice
+  lost : Choice
+  unclear_root : Choice
+
+abbrev pub told_choice : ToldRoot → Choice
+told_choice (root m path) = from (option_map shared m.workspace) path
+told_choice no_root = lost
+told_choice open_root = unclear_root
+
+-- the hint of the package
+abbrev pub hint_of : {M : Type 0} → ManifestMeaning M → Option (List ℕ)
+hint_of m = option_and_then (λ p. p.workspace) m.«package»
+
+-- the own workspace table, or else, where something is inherited, the root that the hint leads to
+abbrev pub own_choice : Option Shared → Bool → ToldRoot → Choice
+own_choice (Some w) needed told = from (Some w) []
+own_choice None true told = told_choice told
+own_choice None false told = alone
+
+-- what was handed in goes first
+abbrev pub choice : {M : Type 0} → ManifestMeaning M → Option Handed → RootsTold → Choice
+choice m (Some handed) told = from handed.0 handed.1
+choice m None told = own_choice (option_map shared m.workspace) (needs m) (told (hint_of m))
+
+-- answers in place of what isn't told, with the rest as it is told
+abbrev pub AnswersRoots : RootsTold → RootsTold → Type 0
+AnswersRoots told answered = (hint : Option (List ℕ)) → (told hint ≡ answered hint) ⊎ (told hint ≡ open_root)

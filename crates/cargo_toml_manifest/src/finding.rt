@@ -1,0 +1,130 @@
+//! What is found in the folders around a manifest: first made, then put in, so that a refusal changes nothing.
+ghost use Rattle.std.specs.Prelude.{◌≡◌, ◌⊎◌, IfOk, IfErr, option_map, unwrap_or};
+ghost use Rattle.std.specs.Option.{option_copied};
+ghost use Rattle.cargo_toml_discovery.specs.Answers.{Answers, filled};
+ghost use Rattle.cargo_toml_discovery.specs.Seen.{Tells, seen, unclear};
+ghost use Rattle.cargo_toml_package.specs.Packages.{package_meaning};
+ghost use Rattle.cargo_toml_manifest.specs.Finding.{found_around, wanted_by, with_found};
+ghost use Rattle.cargo_toml_manifest.specs.Installing.{installed};
+ghost use Rattle.cargo_toml_manifest.specs.Manifests.{manifest_meaning};
+
+use crate::afs::AbstractFilesystem;
+use crate::gather::gather;
+use crate::inheriting::NewParts;
+use crate::manifest::Manifest;
+use cargo_toml_discovery::listings::Wanted;
+use cargo_toml_discovery::{Discovered, Stated, discover};
+use cargo_toml_package::Package;
+use cargo_toml_package::inheriting::NewFields;
+use cargo_toml_parts::{Error, Inheritable};
+use cargo_toml_settings::{Edition, OptionalFile};
+use std::alloc::Global;
+
+/// What completion puts into a manifest.
+#[derive(Drop)]
+pub struct Completion {
+    /// What the manifest takes from its workspace.
+    pub parts: NewParts,
+
+    /// What is found in its folders, where it has a package.
+    pub found: Option<Discovered>,
+}
+
+// The lists that the package has found in folders.
+fn wanted<Metadata>(package: &Package<Metadata>) -> Wanted
+    ensures { result ≡ wanted_by (package_meaning (λ m. m) «package».now) }
+{
+    Wanted {
+        bins: package.autobins,
+        examples: package.autoexamples,
+        tests: package.autotests,
+        benches: package.autobenches,
+    }
+}
+
+// The edition of a package that takes these fields.
+fn edition<Metadata>(package: &Package<Metadata>, new: Option<&NewFields>) -> Edition
+{
+    match (new.and_then(|new| new.edition), &package.edition) {
+        (Some(edition), _) => edition,
+        (None, Inheritable::Set(edition)) => *edition,
+        (None, Inheritable::Inherited) => Edition::E2015,
+    }
+}
+
+// The readme of a package that takes these fields, or else the other.
+fn readme<'a, Metadata>(package: &'a Package<Metadata>, new: Option<&'a NewFields>, other: &'a OptionalFile) -> &'a OptionalFile
+{
+    match (new.and_then(|new| new.readme.as_ref()), &package.readme) {
+        (Some(readme), _) => readme,
+        (None, Inheritable::Set(readme)) => readme,
+        (None, Inheritable::Inherited) => other,
+    }
+}
+
+/// What is found in the folders around a manifest that takes these parts; `None` where it has no package, and then nothing
+/// is asked for.
+///
+/// Refused as `gather` is.
+pub fn find<Metadata, Fs: AbstractFilesystem>(
+    alloc: Global,
+    manifest: &Manifest<Metadata>,
+    parts: &NewParts,
+    fs: &Fs,
+) -> Result<Option<Discovered>, Error>
+    ensures answered { let m = installed (manifest_meaning (λ m. m) manifest.now) parts.now in
+        IfOk result (λ found. (answers : Answers) ×
+        (found_around m (filled (Fs.names_at fs.now) answers) ≡ seen (with_found m found))) }
+    ensures told { let m = installed (manifest_meaning (λ m. m) manifest.now) parts.now in
+        IfOk result (λ found. (found_around m (Fs.names_at fs.now) ≡ unclear)
+        ⊎ (found_around m (Fs.names_at fs.now) ≡ seen (with_found m found))) }
+    ensures faults { IfErr result
+        (Tells (found_around (installed (manifest_meaning (λ m. m) manifest.now) parts.now) (Fs.names_at fs.now))) }
+{
+    let Some(package) = &manifest.package else {
+        return Ok(None);
+    };
+    let wanted = wanted(package);
+    let listings = gather(alloc, fs, wanted)?;
+    let new = parts.package.as_ref();
+    let no_readme = OptionalFile::Flag(false);
+    let stated = Stated {
+        name: package.name.as_str(),
+        edition: edition(package, new),
+        autolib: package.autolib,
+        wanted,
+        lib: manifest.lib.as_ref(),
+        bin: manifest.bin.as_slice(),
+        example: manifest.example.as_slice(),
+        test: manifest.test.as_slice(),
+        bench: manifest.bench.as_slice(),
+        build: package.build.as_ref(),
+        readme: readme(package, new, &no_readme),
+    };
+    Ok(Some(discover(alloc, &stated, &listings)?))
+}
+
+/// Puts what was found into the manifest, where it has a package. It takes no memory.
+pub fn put_found<Metadata: Drop>(manifest: &mut Manifest<Metadata>, found: Option<Discovered>)
+    ensures { manifest_meaning (λ m. m) manifest.new ≡ with_found (manifest_meaning (λ m. m) manifest.old) found }
+{
+    let (Some(package), Some(found)) = (&mut manifest.package, found) else {
+        return;
+    };
+    let Discovered {
+        lib,
+        bin,
+        example,
+        test,
+        bench,
+        build,
+        readme,
+    } = found;
+    package.build = build;
+    package.readme = Inheritable::Set(readme);
+    manifest.lib = lib;
+    manifest.bin = bin;
+    manifest.example = example;
+    manifest.test = test;
+    manifest.bench = bench;
+}

@@ -46,11 +46,3 @@ fault_tells S absent e (inr f) other = absurd (other f)
 fault_tells S (denied kind) e (inl m) other = inl m
 fault_tells S (denied kind) e (inr f) other = denied_tells kind e (is_not_found kind) refl f other
 fault_tells S open_path e told other = inr tt
-
-pub root_fault_tells : (S : Type 0) (t : Told) (e : Error) → AnswersNames {S = S} t (Err e) → Tells (root_names t) e
-root_fault_tells S (names ts) e told = inl told
-root_fault_tells S absent e (inl m) = inl m
-root_fault_tells S absent e (inr f) = inr (inl f)
-root_fault_tells S (denied kind) e (inl m) = inl m
-root_fault_tells S (denied kind) e (inr f) = inr (inl f)
-root_fault_tells S open_path e told = inr tt

@@ -4,7 +4,7 @@ use Rattle.cargo_toml_discovery.specs.Answers.{answers_of, names_in, below}
 use Rattle.cargo_toml_discovery.specs.Gathering.{HasEach}
 use Rattle.cargo_toml_discovery.specs.Names.{Text}
 use Rattle.cargo_toml_discovery.proofs.Heard.{grows-on, has-grows, names_in-grows}
-use Rattle.cargo_toml_discovery.proofs.Whole.{has_products-here, is_answer-here, products-first, products-tells}
+use Rattle.cargo_toml_discovery.proofs.Whole.{has_products-here, is_answer-here, products-tells}
 use Rattle.cargo_toml_manifest.proofs.gather.ask_products.Goals as goal
 
 pub returns-clause-grows : goal.returns-clause-grows

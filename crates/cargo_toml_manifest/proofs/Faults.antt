@@ -1,4 +1,4 @@
--- What the fault says of an error: want of memory is one error alone, and a kind of input comes of a fault of input.
+-- What an error is by its fault.
 use Rattle.std.proofs.Common.{◌≡◌, sym, ap, ◌∙◌, refl, false}
 use denote.Enum.Bare.{sameb}
 use Rattle.std.specs.IoError.{error_kind}
@@ -12,6 +12,7 @@ use Rattle.cargo_toml_parts.specs.declared.error.Error.TheVariants.{rolls-Io, ro
 use Rattle.cargo_toml_parts.specs.declared.error.ParseFault.TheVariants.{Toml, Shape}
 use Rattle.cargo_toml_parts.specs.FaultValues.{Fault, fault_of, fault_step, io, memory}
 
+-- want of memory is one error alone
 layer_alone : (l : Error-F Error) → fault_step (map-Error _ _ fault_of l) ≡ memory → l ≡ Error-F.Memory
 layer_alone (Error-F.Parse (Toml f)) h = cc
 layer_alone (Error-F.Parse (Shape t)) h = cc
@@ -28,7 +29,9 @@ memory_alone e h = sym (roll-out-Error e) ∙ ap roll-Error (layer_alone (out-Er
 pub fault_of-memory : fault_of Memory ≡ memory
 fault_of-memory = ap fault_of (sym rolls-Memory) ∙ fold-roll-Error Fault fault_step Error-F.Memory
 
-layer_of_input : (kind : ErrorKind) (l : Error-F Error) → fault_step (map-Error _ _ fault_of l) ≡ io kind → (found : IoError) × (l ≡ Error-F.Io found)
+-- a kind of input comes of a fault of input alone
+layer_of_input : (kind : ErrorKind) (l : Error-F Error) → fault_step (map-Error _ _ fault_of l) ≡ io kind →
+    (found : IoError) × (l ≡ Error-F.Io found)
 layer_of_input kind (Error-F.Parse (Toml f)) h = cc
 layer_of_input kind (Error-F.Parse (Shape t)) h = cc
 layer_of_input kind (Error-F.Io f) h = (f, refl)
@@ -46,7 +49,9 @@ no_input e kind none h =
 fault_of-io : (found : IoError) → fault_of (Io found) ≡ io (error_kind found)
 fault_of-io found = ap fault_of (sym (rolls-Io found)) ∙ fold-roll-Error Fault fault_step (Error-F.Io found)
 
-pub no_absence : (e : Error) (found : IoError) → e ≡ Io found → sameb the_type (error_kind found) NotFound ≡ false → ¬ (fault_of e ≡ io NotFound)
+-- a fault of input of another kind is no absence
+pub no_absence : (e : Error) (found : IoError) → e ≡ Io found → sameb the_type (error_kind found) NotFound ≡ false →
+    ¬ (fault_of e ≡ io NotFound)
 no_absence e found is other h =
     let input : io (error_kind found) ≡ io NotFound = sym (fault_of-io found) ∙ ap fault_of (sym is) ∙ h in
     let kind : error_kind found ≡ NotFound = cc in

@@ -9,8 +9,9 @@ returns-in_err-ask-clause-faults g c =
     let told = g.Fs.AbstractFilesystem.names_at c.args.fs.now in
     let p = err_from_is_err_and c.from_residual.result c.from_residual.ensures.1 in
     let fault = rw c.as_str.ensures.value at c.in_err-ask.ensures.faults in
-    rw (p.1, p.2)
-    (tells-one told c.args.paths.now c.loop-path.path-index c.path-item.result c.path-item.result c.in_err-ask.field-0.0 (omega arith) c.path-item.is fault)
+    let path = c.path-item.result in
+    let told_by = tells-one told c.args.paths.now c.loop-path.path-index path path c.in_err-ask.field-0.0 in
+    rw (p.1, p.2) (told_by (omega arith) c.path-item.is fault)
 
 pub loop-path-preserved : goal.loop-path-preserved
 loop-path-preserved g c =

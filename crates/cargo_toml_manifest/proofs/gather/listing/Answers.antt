@@ -10,14 +10,18 @@ use Rattle.cargo_toml_manifest.proofs.gather.listing.Goals as goal
 
 pub returns-in_ok-sorted_names-in-Ok : goal.returns-in_ok-sorted_names-in-Ok
 returns-in_ok-sorted_names-in-Ok g c =
-    heard (g.Fs.AbstractFilesystem.names_at c.args.fs.now c.args.path.now) c.in-Ok.names c.in_ok-sorted_names-in-Ok.field-0
-    c.in-Ok.ensures c.in_ok-sorted_names-in-Ok.ensures.ordered c.in_ok-sorted_names-in-Ok.ensures.names
+    let told = g.Fs.AbstractFilesystem.names_at c.args.fs.now c.args.path.now in
+    let sorted = c.in_ok-sorted_names-in-Ok.ensures in
+    heard told c.in-Ok.names c.in_ok-sorted_names-in-Ok.field-0 c.in-Ok.ensures (sorted.ordered, sorted.names)
 
 pub returns-in_default : goal.returns-in_default
-returns-in_default g c = fault_tells _ (g.Fs.AbstractFilesystem.names_at c.args.fs.now c.args.path.now) c.in-Err.fault c.in-Err.ensures
+returns-in_default g c =
+    let told = g.Fs.AbstractFilesystem.names_at c.args.fs.now c.args.path.now in
+    let fault = c.in-Err.fault in
+    fault_tells _ told fault c.in-Err.ensures
     (elim c.in_default.branch [
       | in_default-via-in-Io+else-eq w ↦
-          no_absence c.in-Err.fault w.in-Io.found w.in-Io.is
-          (ap (λ (k : ErrorKind). sameb the_type k NotFound) (sym w.kind.ensures) ∙ sym w.eq.ensures ∙ w.if-eq.false)
-      | in_default-via-in_default w ↦ no_input c.in-Err.fault NotFound w.in_default.not-Io
+          let kind = ap (λ (k : ErrorKind). sameb the_type k NotFound) w.kind.ensures in
+          no_absence fault w.in-Io.found w.in-Io.is (sym kind ∙ sym w.eq.ensures ∙ w.if-eq.false)
+      | in_default-via-in_default w ↦ no_input fault NotFound w.in_default.not-Io
     ])

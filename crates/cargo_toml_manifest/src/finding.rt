@@ -133,7 +133,10 @@ pub fn find<Metadata, Fs: AbstractFilesystem>(
 pub fn put_found<Metadata: Drop>(manifest: &mut Manifest<Metadata>, found: Option<Discovered>)
     ensures { manifest_meaning (λ m. m) manifest.new ≡ with_found (manifest_meaning (λ m. m) manifest.old) found }
 {
-    let (Some(package), Some(found)) = (&mut manifest.package, found) else {
+    let Some(package) = &mut manifest.package else {
+        return;
+    };
+    let Some(found) = found else {
         return;
     };
     let Discovered {

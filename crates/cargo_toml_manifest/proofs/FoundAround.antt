@@ -27,6 +27,13 @@ pub taken_in : {M : Type 0} (m : ManifestMeaning M) (p : PackageMeaning M) (new 
     m.«package» ≡ Some p → (installed m new).«package» ≡ Some (taken p new.«package»)
 taken_in m p new is = ap (λ (o : Option (PackageMeaning _)). installed_if_there o new.«package») is ∙ taken_there p new.«package»
 
+-- nothing is found where there is none
+pub found_nothing : {M : Type 0} (m : ManifestMeaning M) (new : NewParts) → m.«package» ≡ None → (told : Text → Told) →
+    found_around (installed m new) told ≡ seen (with_found (installed m new) None)
+found_nothing m new is told =
+    ap (λ (o : Option (PackageMeaning _)). found_for (installed m new) (installed_if_there o new.«package») told) is
+    ∙ ap (λ (n : ManifestMeaning _). seen n) (sym (ap (λ (o : Option (PackageMeaning _)). with_found_for (installed m new) (installed_if_there o new.«package») None) is))
+
 -- it wants the same lists
 pub wanted_taken : {M : Type 0} (p : PackageMeaning M) (new : Option NewFields) → wanted_by (taken p new) ≡ wanted_by p
 wanted_taken p None = refl
@@ -66,5 +73,5 @@ pub seen_or_unclear : {M : Type 0} (m n : ManifestMeaning M) (told : Text → To
 seen_or_unclear m n told answers h = still (found_for-extends m m.«package» told answers)
   where
     still : Ext (found_around m told) (found_around m (filled told answers)) → (found_around m told ≡ unclear) ⊎ (found_around m told ≡ seen n)
-    still (inl open) = inl open
+    still (inl hidden) = inl hidden
     still (inr same) = inr (sym same ∙ h)

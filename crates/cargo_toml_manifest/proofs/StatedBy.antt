@@ -1,5 +1,5 @@
 -- What a manifest states whose package takes its fields.
-use Rattle.std.proofs.Common.{◌≡◌, sym, refl, Option, Some, None}
+use Rattle.std.proofs.Common.{◌≡◌, sym, refl, false, Option, Some, None}
 use Rattle.std.specs.Prelude.{unwrap_or}
 use Rattle.cargo_toml_parts.specs.InheritableValues.{value_of}
 use Rattle.cargo_toml_settings.specs.Settings.{flag}

@@ -1,6 +1,6 @@
 use Rattle.std.proofs.Common.{Some}
 use Rattle.std.proofs.lemmas.Result.{IfOk-weaker}
-use Rattle.cargo_toml_manifest.specs.Choosing.{handed_of}
+use Rattle.cargo_toml_manifest.specs.Choosing.{RootsTold, handed_of}
 use Rattle.cargo_toml_manifest.specs.Installing.{completed}
 use Rattle.cargo_toml_manifest.specs.Manifests.{manifest_meaning}
 use Rattle.cargo_toml_manifest.specs.Told.{heard}
@@ -10,7 +10,7 @@ use Rattle.cargo_toml_manifest.proofs.complete.completion_for.Goals as goal
 pub returns-in-Some-clause-given : goal.returns-in-Some-clause-given
 returns-in-Some-clause-given g c =
     let m = manifest_meaning (λ m. m) c.args.manifest.now in
-    let roots = λ hint. heard g.Fs.Roots.Roots.ARE_READ (g.Fs.AbstractFilesystem.root_for c.args.fs.now hint) in
+    let roots : RootsTold = λ hint. heard g.Fs.Roots.Roots.ARE_READ (g.Fs.AbstractFilesystem.root_for c.args.fs.now hint) in
     let h = rw c.as_ref.ensures.value at c.completion_at.ensures.given in
     rw c.in-Some.is
     (IfOk-weaker c.completion_at.result _ _

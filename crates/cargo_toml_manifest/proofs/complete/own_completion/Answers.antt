@@ -1,6 +1,7 @@
 use Rattle.std.proofs.Common.{ap, sym, ◌∙◌, Ok}
 use Rattle.std.specs.Prelude.{option_map}
 use Rattle.std.proofs.lemmas.Result.{IfOk-weaker}
+use Rattle.cargo_toml_manifest.specs.Choosing.{RootsTold}
 use Rattle.cargo_toml_manifest.specs.Installing.{completed}
 use Rattle.cargo_toml_manifest.specs.Manifests.{manifest_meaning}
 use Rattle.cargo_toml_manifest.specs.Told.{heard}
@@ -12,7 +13,7 @@ use Rattle.cargo_toml_manifest.proofs.complete.own_completion.Goals as goal
 pub returns-in-Some-clause-given : goal.returns-in-Some-clause-given
 returns-in-Some-clause-given g c =
     let m = manifest_meaning (λ m. m) c.args.manifest.now in
-    let roots = λ hint. heard g.Fs.Roots.Roots.ARE_READ (g.Fs.AbstractFilesystem.root_for c.args.fs.now hint) in
+    let roots : RootsTold = λ hint. heard g.Fs.Roots.Roots.ARE_READ (g.Fs.AbstractFilesystem.root_for c.args.fs.now hint) in
     let table = ap (option_map (workspace_meaning (λ x. x))) c.in-Some.is in
     IfOk-weaker c.completion_at.result _ _
     (λ new e. given_by_table m (completed m new) roots (g.Fs.AbstractFilesystem.names_at c.args.fs.now) (workspace_meaning (λ x. x) c.in-Some.workspace) table e)
@@ -21,7 +22,7 @@ returns-in-Some-clause-given g c =
 pub returns-then-needs_workspace_inheritance-clause-given : goal.returns-then-needs_workspace_inheritance-clause-given
 returns-then-needs_workspace_inheritance-clause-given g c =
     let m = manifest_meaning (λ m. m) c.args.manifest.now in
-    let roots = λ hint. heard g.Fs.Roots.Roots.ARE_READ (g.Fs.AbstractFilesystem.root_for c.args.fs.now hint) in
+    let roots : RootsTold = λ hint. heard g.Fs.Roots.Roots.ARE_READ (g.Fs.AbstractFilesystem.root_for c.args.fs.now hint) in
     let table = ap (option_map (workspace_meaning (λ x. x))) c.in-None.is in
     let needed = sym c.needs_workspace_inheritance.ensures ∙ c.if-needs_workspace_inheritance.true in
     IfOk-weaker c.completion_by_hint.result _ _
@@ -31,7 +32,7 @@ returns-then-needs_workspace_inheritance-clause-given g c =
 pub returns-else-needs_workspace_inheritance-clause-outcome : goal.returns-else-needs_workspace_inheritance-clause-outcome
 returns-else-needs_workspace_inheritance-clause-outcome g c =
     let m = manifest_meaning (λ m. m) c.args.manifest.now in
-    let roots = λ hint. heard g.Fs.Roots.Roots.ARE_READ (g.Fs.AbstractFilesystem.root_for c.args.fs.now hint) in
+    let roots : RootsTold = λ hint. heard g.Fs.Roots.Roots.ARE_READ (g.Fs.AbstractFilesystem.root_for c.args.fs.now hint) in
     let table = ap (option_map (workspace_meaning (λ x. x))) c.in-None.is in
     let needed = sym c.needs_workspace_inheritance.ensures ∙ c.if-needs_workspace_inheritance.false in
     let none = c.no_parts.ensures in
@@ -42,7 +43,7 @@ returns-else-needs_workspace_inheritance-clause-outcome g c =
 pub returns-else-needs_workspace_inheritance-clause-given : goal.returns-else-needs_workspace_inheritance-clause-given
 returns-else-needs_workspace_inheritance-clause-given g c =
     let m = manifest_meaning (λ m. m) c.args.manifest.now in
-    let roots = λ hint. heard g.Fs.Roots.Roots.ARE_READ (g.Fs.AbstractFilesystem.root_for c.args.fs.now hint) in
+    let roots : RootsTold = λ hint. heard g.Fs.Roots.Roots.ARE_READ (g.Fs.AbstractFilesystem.root_for c.args.fs.now hint) in
     let table = ap (option_map (workspace_meaning (λ x. x))) c.in-None.is in
     let needed = sym c.needs_workspace_inheritance.ensures ∙ c.if-needs_workspace_inheritance.false in
     let none = c.no_parts.ensures in

@@ -1,6 +1,6 @@
 -- Which outcome an answer meets.
 use Rattle.std.proofs.Common.{◌≡◌, ◌⊎◌, inl, inr, sym, ap, ◌∙◌, refl, subst, ℕ, List, Bool, true, false, map, Option, Some, None, Result, Ok, Err, [], String, string_bytes}
-use Rattle.std.specs.Prelude.{option_map, IfOk}
+use Rattle.std.specs.Prelude.{option_map}
 use Rattle.std.specs.declared.alloc.Global.{Global}
 use Rattle.toml.specs.View.{view}
 use Rattle.toml.specs.declared.value.Value.{Value}
@@ -11,7 +11,6 @@ use Rattle.cargo_toml_discovery.specs.Answers.{Answers, filled}
 use Rattle.cargo_toml_discovery.specs.Names.{Text}
 use Rattle.cargo_toml_discovery.specs.Seen.{IsOneOf, Seen, Tells, seen, faulty, unclear}
 use Rattle.cargo_toml_discovery.specs.Told.{Told}
-use Rattle.cargo_toml_discovery.specs.declared.discovery.Discovered.{Discovered}
 use Rattle.cargo_toml_discovery.proofs.Extends.{tell-at}
 use Rattle.cargo_toml_manifest.specs.Choosing.{AnswersRoots, Choice, Handed, RootsTold, alone, choice, from, hint_of, own_choice, shared_of, told_choice}
 use Rattle.cargo_toml_manifest.specs.Completing.{GivenBy, GivenByRoot, Meets, Outcome, complete, complete_by, gives, no_workspace, refuses, seen_at, then_found, untold}
@@ -22,7 +21,6 @@ use Rattle.cargo_toml_manifest.specs.Manifests.{ManifestMeaning, manifest_meanin
 use Rattle.cargo_toml_manifest.specs.Told.{ToldRoot, root, no_root, open_root, AnswersRoot}
 use Rattle.cargo_toml_manifest.specs.Workspaces.{WorkspaceMeaning, workspace_meaning}
 use Rattle.cargo_toml_manifest.specs.declared.finding.Completion.{Completion}
-use Rattle.cargo_toml_manifest.specs.declared.inheriting.NewParts.{NewParts}
 use Rattle.cargo_toml_manifest.specs.declared.manifest.Manifest.{Manifest}
 use Rattle.cargo_toml_manifest.specs.declared.workspace.Workspace.{Workspace}
 use Rattle.cargo_toml_manifest.proofs.Rooted.{memory_wrapped}
@@ -187,6 +185,6 @@ given_again f g (no_workspace path) t u same h = h
 given_again f g untold t u same h = tt
 
 -- the parts are put in, and then what was found
-pub put_in : {M : Type 0} (m k n : ManifestMeaning M) (new : Completion) (parts : NewParts) (found : Option Discovered) →
-    new.parts ≡ parts → new.found ≡ found → k ≡ installed m parts → n ≡ with_found k found → n ≡ completed m new
-put_in m k n new parts found p f h j = j ∙ ap (λ (x : ManifestMeaning _). with_found x found) h ∙ rw (p, f) refl
+pub put_in : {M : Type 0} (m k n : ManifestMeaning M) (new : Completion) →
+    k ≡ installed m new.parts → n ≡ with_found k new.found → n ≡ completed m new
+put_in m k n new h j = j ∙ ap (λ (x : ManifestMeaning _). with_found x new.found) h

@@ -25,6 +25,30 @@ pub stated_so : {M : Type 0} (m : ManifestMeaning M) (p : PackageMeaning M) (new
     s.readme ≡ unwrap_or (value_of (taken p new).readme) (flag false) →
     s ≡ stated_by m (taken p new)
 stated_so m p None s name edition autolib wanted lib bin example test bench build readme =
-    rw (sym name, sym edition, sym autolib, sym wanted, sym lib, sym bin, sym example, sym test, sym bench, sym build, sym readme) refl
+    rw (
+      sym name,
+      sym edition,
+      sym autolib,
+      sym wanted,
+      sym lib,
+      sym bin,
+      sym example,
+      sym test,
+      sym bench,
+      sym build,
+      sym readme,
+    ) refl
 stated_so m p (Some n) s name edition autolib wanted lib bin example test bench build readme =
-    rw (sym name, sym edition, sym autolib, sym wanted, sym lib, sym bin, sym example, sym test, sym bench, sym build, sym readme) refl
+    rw (
+      sym name,
+      sym edition,
+      sym autolib,
+      sym wanted,
+      sym lib,
+      sym bin,
+      sym example,
+      sym test,
+      sym bench,
+      sym build,
+      sym readme,
+    ) refl

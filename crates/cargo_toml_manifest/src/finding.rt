@@ -48,7 +48,8 @@ fn wanted<Metadata>(package: &Package<Metadata>) -> Wanted
 
 // The edition of a package that takes these fields.
 fn edition<Metadata>(package: &Package<Metadata>, new: Option<&NewFields>) -> Edition
-    ensures { result ≡ unwrap_or (value_of (taken (package_meaning (λ m. m) «package».now) (option_copied new.entry)).edition) E2015 }
+    ensures { let p = taken (package_meaning (λ m. m) «package».now) (option_copied new.entry) in
+        result ≡ unwrap_or (value_of p.edition) E2015 }
 {
     match (new.and_then(|new| new.edition), &package.edition) {
         (Some(edition), _) => edition,
@@ -63,8 +64,8 @@ fn readme<'a, Metadata>(
     new: Option<&'a NewFields>,
     other: &'a OptionalFile,
 ) -> &'a OptionalFile
-    ensures { file_meaning result.now
-        ≡ unwrap_or (value_of (taken (package_meaning (λ m. m) «package».now) (option_copied new.entry)).readme) (file_meaning other.now) }
+    ensures { let p = taken (package_meaning (λ m. m) «package».now) (option_copied new.entry) in
+        file_meaning result.now ≡ unwrap_or (value_of p.readme) (file_meaning other.now) }
 {
     match (new.and_then(|new| new.readme.as_ref()), &package.readme) {
         (Some(readme), _) => readme,
@@ -83,7 +84,8 @@ fn found_in<Metadata>(
 ) -> Result<Discovered, AllocError>
     ensures { let p = taken (package_meaning (λ m. m) «package».now) (option_copied new.entry) in
         IfOk result (λ d. discovered_meaning d
-        ≡ discovered (stated_by (manifest_meaning (λ m. m) manifest.now) p) (around_in (answers_of listings.now) (wanted_by p))) }
+        ≡ discovered (stated_by (manifest_meaning (λ m. m) manifest.now) p)
+        (around_in (answers_of listings.now) (wanted_by p))) }
 {
     let no_readme = OptionalFile::Flag(false);
     let stated = Stated {

@@ -14,7 +14,8 @@ returns-in-Err-find-clause-outcome g c stated h =
     let told = g.Fs.AbstractFilesystem.names_at c.args.fs.now in
     let given = rw c.in-Ok.is at h in
     subst
-    (λ (s : Result (ManifestMeaning _) Fault). Meets (completed m) (then_found (option_copied c.args.path) told s) (Err c.wrapped-in-Err-find.result))
+    (λ (s : Result (ManifestMeaning _) Fault).
+    Meets (completed m) (then_found (option_copied c.args.path) told s) (Err c.wrapped-in-Err-find.result))
     (sym given)
-    (refused_found (completed m) (option_copied c.args.path) (found_around (installed m c.in-Ok.parts) told) c.in-Err-find.fault
-    c.wrapped-in-Err-find.result c.in-Err-find.ensures.faults c.wrapped-in-Err-find.ensures)
+    (refused_found (completed m) (option_copied c.args.path) (found_around (installed m c.in-Ok.parts) told)
+    c.in-Err-find.fault c.wrapped-in-Err-find.result c.in-Err-find.ensures.faults c.wrapped-in-Err-find.ensures)

@@ -12,7 +12,8 @@ returns-in-Ok-clause-outcome g c =
     let told = heard g.Fs.Roots.Roots.ARE_READ (g.Fs.AbstractFilesystem.root_for c.args.fs.now (hint_of m)) in
     let a = rw c.hint_of-hint.ensures at c.in-Ok.ensures in
     let h = rw (c.as_ref.ensures.value, c.as_str.ensures.value) at c.completion_at.ensures.outcome in
-    root_found (completed m) m told (g.Fs.AbstractFilesystem.names_at c.args.fs.now) (c.in-Ok.found, c.in-Ok.path) c.completion_at.result a h
+    root_found (completed m) m told (g.Fs.AbstractFilesystem.names_at c.args.fs.now) (c.in-Ok.found, c.in-Ok.path)
+    c.completion_at.result a h
 
 pub returns-in-Ok-clause-given : goal.returns-in-Ok-clause-given
 returns-in-Ok-clause-given g c =
@@ -21,7 +22,10 @@ returns-in-Ok-clause-given g c =
     let a = rw c.hint_of-hint.ensures at c.in-Ok.ensures in
     let h = rw (c.as_ref.ensures.value, c.as_str.ensures.value) at c.completion_at.ensures.given in
     IfOk-weaker c.completion_at.result _ _
-    (λ new e. given_by_root m (completed m new) told (g.Fs.AbstractFilesystem.names_at c.args.fs.now) (c.in-Ok.found, c.in-Ok.path) a e) h
+    (λ new e.
+    given_by_root m (completed m new) told (g.Fs.AbstractFilesystem.names_at c.args.fs.now)
+    (c.in-Ok.found, c.in-Ok.path) a e)
+    h
 
 pub returns-in-Err-clause-outcome : goal.returns-in-Err-clause-outcome
 returns-in-Err-clause-outcome g c =

@@ -14,5 +14,7 @@ returns-in-Some-clause-given g c =
     let h = rw c.as_ref.ensures.value at c.completion_at.ensures.given in
     rw c.in-Some.is
     (IfOk-weaker c.completion_at.result _ _
-    (λ new e. given_as_told m (completed m new) (Some (handed_of (c.in-Some.root, c.in-Some.path))) roots (g.Fs.AbstractFilesystem.names_at c.args.fs.now) e)
+    (λ new e.
+    given_as_told m (completed m new) (Some (handed_of (c.in-Some.root, c.in-Some.path))) roots
+    (g.Fs.AbstractFilesystem.names_at c.args.fs.now) e)
     h)

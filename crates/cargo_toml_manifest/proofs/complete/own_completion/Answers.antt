@@ -16,7 +16,9 @@ returns-in-Some-clause-given g c =
     let roots : RootsTold = λ hint. heard g.Fs.Roots.Roots.ARE_READ (g.Fs.AbstractFilesystem.root_for c.args.fs.now hint) in
     let table = ap (option_map (workspace_meaning (λ x. x))) c.in-Some.is in
     IfOk-weaker c.completion_at.result _ _
-    (λ new e. given_by_table m (completed m new) roots (g.Fs.AbstractFilesystem.names_at c.args.fs.now) (workspace_meaning (λ x. x) c.in-Some.workspace) table e)
+    (λ new e.
+    given_by_table m (completed m new) roots (g.Fs.AbstractFilesystem.names_at c.args.fs.now)
+    (workspace_meaning (λ x. x) c.in-Some.workspace) table e)
     c.completion_at.ensures.given
 
 pub returns-then-needs_workspace_inheritance-clause-given : goal.returns-then-needs_workspace_inheritance-clause-given
@@ -36,7 +38,14 @@ returns-else-needs_workspace_inheritance-clause-outcome g c =
     let table = ap (option_map (workspace_meaning (λ x. x))) c.in-None.is in
     let needed = sym c.needs_workspace_inheritance.ensures ∙ c.if-needs_workspace_inheritance.false in
     let none = c.no_parts.ensures in
-    let same = installed-none m c.no_parts.result (record { dependencies = none.tables.0; build_dependencies = none.tables.1.0; dev_dependencies = none.tables.1.1; targets = none.targets; lints = none.lints; fields = none.fields }) in
+    let same = installed-none m c.no_parts.result (record {
+      dependencies = none.tables.0;
+      build_dependencies = none.tables.1.0;
+      dev_dependencies = none.tables.1.1;
+      targets = none.targets;
+      lints = none.lints;
+      fields = none.fields;
+    }) in
     met_alone (completed m) m roots (g.Fs.AbstractFilesystem.names_at c.args.fs.now) c.completion.result table needed
     (c.completion.ensures.outcome (Ok m) (ap (λ n. Ok n) (sym same)))
 
@@ -47,7 +56,14 @@ returns-else-needs_workspace_inheritance-clause-given g c =
     let table = ap (option_map (workspace_meaning (λ x. x))) c.in-None.is in
     let needed = sym c.needs_workspace_inheritance.ensures ∙ c.if-needs_workspace_inheritance.false in
     let none = c.no_parts.ensures in
-    let same = installed-none m c.no_parts.result (record { dependencies = none.tables.0; build_dependencies = none.tables.1.0; dev_dependencies = none.tables.1.1; targets = none.targets; lints = none.lints; fields = none.fields }) in
+    let same = installed-none m c.no_parts.result (record {
+      dependencies = none.tables.0;
+      build_dependencies = none.tables.1.0;
+      dev_dependencies = none.tables.1.1;
+      targets = none.targets;
+      lints = none.lints;
+      fields = none.fields;
+    }) in
     IfOk-weaker c.completion.result _ _
     (λ new e. given_alone m (completed m new) roots (g.Fs.AbstractFilesystem.names_at c.args.fs.now) table needed e)
     (c.completion.ensures.given (Ok m) (ap (λ n. Ok n) (sym same)))

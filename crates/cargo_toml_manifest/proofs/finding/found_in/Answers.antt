@@ -29,14 +29,14 @@ returns g c =
       readme = c.readme.result;
     } in
     let same = stated_so m p (option_copied c.args.new) (stated_meaning s)
-        c.as_str.ensures.value c.edition.ensures refl c.wanted.ensures
-        (ap (option_map product_meaning) c.as_ref.ensures.value)
-        (ap (map product_meaning) c.as_slice.ensures.value)
-        (ap (map product_meaning) c.as_slice-2.ensures.value)
-        (ap (map product_meaning) c.as_slice-3.ensures.value)
-        (ap (map product_meaning) c.as_slice-4.ensures.value)
-        (ap (option_map file_meaning) c.as_ref-2.ensures.value)
-        c.readme.ensures in
+    c.as_str.ensures.value c.edition.ensures refl c.wanted.ensures
+    (ap (option_map product_meaning) c.as_ref.ensures.value)
+    (ap (map product_meaning) c.as_slice.ensures.value)
+    (ap (map product_meaning) c.as_slice-2.ensures.value)
+    (ap (map product_meaning) c.as_slice-3.ensures.value)
+    (ap (map product_meaning) c.as_slice-4.ensures.value)
+    (ap (option_map file_meaning) c.as_ref-2.ensures.value)
+    c.readme.ensures in
     subst
     (λ (t : StatedMeaning). IfOk c.discover.result (λ d. discovered_meaning d ≡ discovered t (around_in (answers_of c.args.listings.now) t.wanted)))
     same c.discover.ensures

@@ -22,7 +22,7 @@ returns-in_err-parts-clause-outcome g c =
 pub returns-clause-outcome : goal.returns-clause-outcome
 returns-clause-outcome g c =
     let m = manifest_meaning (λ m. m) c.args.self.now in
-    let put = put_in m _ _ c.in_ok-parts.field-0 _ _ c.in_ok-parts.parts-is c.in_ok-parts.found-is c.install_parts.ensures c.put_found.ensures in
+    let put = put_in m _ _ c.in_ok-parts.field-0 c.install_parts.ensures c.put_found.ensures in
     given_again (completed m) _ _ c.in_ok-parts.field-0 tt put c.in_ok-parts.ensures.outcome
 
 pub returns-clause-given : goal.returns-clause-given
@@ -30,8 +30,9 @@ returns-clause-given g c =
     let m = manifest_meaning (λ m. m) c.args.self.now in
     let roots : RootsTold = λ hint. heard g.Fs.Roots.Roots.ARE_READ (g.Fs.AbstractFilesystem.root_for c.args.fs hint) in
     let told = g.Fs.AbstractFilesystem.names_at c.args.fs in
-    let put = put_in m _ _ c.in_ok-parts.field-0 _ _ c.in_ok-parts.parts-is c.in_ok-parts.found-is c.install_parts.ensures c.put_found.ensures in
-    subst (λ (n : ManifestMeaning _). GivenBy m (option_map handed_of c.args.workspace) roots told n) (sym put) c.in_ok-parts.ensures.given
+    let put = put_in m _ _ c.in_ok-parts.field-0 c.install_parts.ensures c.put_found.ensures in
+    subst (λ (n : ManifestMeaning _). GivenBy m (option_map handed_of c.args.workspace) roots told n) (sym put)
+    c.in_ok-parts.ensures.given
 
 pub returns-clause-needs : goal.returns-clause-needs
 returns-clause-needs g c =

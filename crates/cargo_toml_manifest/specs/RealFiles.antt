@@ -1,5 +1,5 @@
 -- Files on the disk: where they are looked for, which root is found among them, and what faults they give.
-use Rattle.std.specs.Prelude.{◌≡◌, ◌⊎◌, ℕ, suc, zero, List, [], ◌∷◌, ◌++◌, codes, Bool, true, false, Option, Some, None, option_and_then, is_some, Result, Ok, Err, IsUtf8, String}
+use Rattle.std.specs.Prelude.{◌≡◌, ◌⊎◌, ℕ, suc, zero, List, ◌++◌, codes, length, ◌==◌, if◌then◌else◌, Bool, true, false, Option, Some, None, option_and_then, is_some, Result, Ok, Err, IsUtf8, String}
 use Rattle.std.specs.Path.{path_parent}
 use Rattle.std.specs.declared.alloc.Global.{Global}
 use Rattle.std.specs.declared.io.ErrorKind.{ErrorKind}
@@ -17,14 +17,18 @@ use Rattle.cargo_toml_manifest.specs.Manifests.{ManifestMeaning, manifest_meanin
 use Rattle.cargo_toml_manifest.specs.Roots.{IsFromSlice}
 use Rattle.cargo_toml_manifest.specs.Texts.{IsFromText, document_reads}
 use Rattle.cargo_toml_manifest.specs.Told.{ToldRoot, open_root}
+use Rattle.cargo_toml_manifest.specs.declared.files.Filesystem.{Filesystem}
 use Rattle.cargo_toml_manifest.specs.declared.lookup.Candidate.{Candidate}
 use Rattle.cargo_toml_manifest.specs.declared.lookup.Candidate.TheVariants.{Root, Other, Absent}
 use Rattle.cargo_toml_manifest.specs.declared.manifest.Manifest.{Manifest}
 
--- the folder that is read: the empty path is the folder that the program runs in
-abbrev pub folder_of : List ℕ → List ℕ
-folder_of [] = codes "."
-folder_of (c ∷ path) = c ∷ path
+-- the folder that files are read in
+abbrev pub folder_of : {R : Type 0} → Filesystem R → List ℕ
+folder_of files = files.path.now
+
+-- the empty path is the folder that the program runs in
+abbrev pub or_here : List ℕ → List ℕ
+or_here path = if length path == 0 then codes "." else path
 
 -- of real files nothing is told, neither of a root nor of a folder
 abbrev pub real_roots : RootsTold

@@ -3,7 +3,7 @@ ghost use Rattle.std.specs.Prelude.{◌≡◌, ◌⊎◌, IfErr};
 ghost use Rattle.std.specs.IoError.{error_kind};
 ghost use Rattle.cargo_toml_parts.specs.declared.error.Error.{Memory};
 ghost use Rattle.cargo_toml_parts.specs.FaultValues.{fault_of, io};
-ghost use Rattle.cargo_toml_manifest.specs.RealFiles.{IsInput, folder_of, listed_as};
+ghost use Rattle.cargo_toml_manifest.specs.RealFiles.{IsInput, folder_of, listed_as, or_here};
 
 use crate::afs::{AbstractFilesystem, NoRoot};
 use crate::lookup::{root_above, root_by_hint};
@@ -29,7 +29,7 @@ impl<'a, R: Files + AllocGlobal> Filesystem<'a, R> {
     /// The files around a manifest in this folder. The empty path is the folder that the program runs in, as `.` is. Nothing
     /// is read yet.
     pub fn new(rt: &'a R, path: &'a str) -> Filesystem<'a, R>
-        ensures { result.path.now ≡ folder_of path.now }
+        ensures { folder_of result ≡ or_here path.now }
     {
         let path = if path.is_empty() { "." } else { path };
         Filesystem { path, rt }

@@ -69,7 +69,7 @@ enum Candidate {
 }
 
 // What the file at a path is to the search.
-fn candidate<R: Files + AllocGlobal>(rt: &R, alloc: Global, file: &str) -> Result<Candidate, Error>
+fn look_at<R: Files + AllocGlobal>(rt: &R, alloc: Global, file: &str) -> Result<Candidate, Error>
     ensures { IsCandidate result }
 {
     let bytes = match fs::read(rt, file) {
@@ -106,7 +106,7 @@ pub fn root_above<R: Files + AllocGlobal>(
     };
     for above in ancestors(nearest) {
         let file = join(alloc, above.as_str(), "Cargo.toml")?;
-        match candidate(rt, alloc, file.as_str())? {
+        match look_at(rt, alloc, file.as_str())? {
             Candidate::Root(manifest) => return Ok((manifest, file)),
             Candidate::Other(fault) => last = fault,
             Candidate::Absent => {}

@@ -12,3 +12,7 @@ first_above path nearest next h is = subst (λ (o : Option (List ℕ)). IfSome o
 pub next_above : (path above : List ℕ) (next : Option (List ℕ)) → IsAbove path above → next ≡ path_parent above → IfSome next (IsAbove path)
 next_above path above None (n, h) is = tt
 next_above path above (Some next) (n, h) is = (suc n, ap (option_and_then path_parent) h ∙ sym is)
+
+-- the one that comes now
+pub above_now : (path above : List ℕ) (next : Option (List ℕ)) → Some above ≡ next → IfSome next (IsAbove path) → IsAbove path above
+above_now path above next is h = let P : Option (List ℕ) → Type 0 = λ o. IfSome o (IsAbove path) in subst P (sym is) h

@@ -3,12 +3,13 @@ ghost use Rattle.std.specs.Prelude.{◌≡◌, ◌↔◌, ◌⊎◌, None, false
 ghost use Rattle.std.specs.Path.{path_parent};
 ghost use Rattle.toml.specs.View.{view};
 ghost use Rattle.cargo_toml_parts.specs.FaultValues.{fault_of};
+ghost use Rattle.cargo_toml_parts.specs.declared.error.Error.{Memory};
 ghost use Rattle.cargo_toml_package.specs.Filled.{IsFilled};
 ghost use Rattle.cargo_toml_manifest.specs.Choosing.{handed_of};
 ghost use Rattle.cargo_toml_manifest.specs.Completing.{GivenBy, IsLasting, Meets, complete};
 ghost use Rattle.cargo_toml_manifest.specs.Inheriting.{needs};
 ghost use Rattle.cargo_toml_manifest.specs.Manifests.{manifest_meaning, manifest_reads, manifest_refuses};
-ghost use Rattle.cargo_toml_manifest.specs.RealFiles.{IsPathFault, IsReadAndCompleted, bad_path, real_folders, real_roots};
+ghost use Rattle.cargo_toml_manifest.specs.RealFiles.{IsCompletionFault, IsPathFault, IsReadAndCompleted, bad_path, real_folders, real_roots};
 ghost use Rattle.cargo_toml_manifest.specs.Texts.{any_refuses, any_tree};
 
 use crate::files::Filesystem;
@@ -40,6 +41,7 @@ impl<Metadata: Drop> Manifest<Metadata> {
         ensures filled { OnOk result (IfSome self.new.package IsFilled) }
         ensures again { OnOk result (IsLasting (manifest_meaning (λ m. m) self.old) None
             (manifest_meaning (λ m. m) self.new)) }
+        ensures refused { IfErr result (λ e. (e ≡ Memory) ⊎ IsCompletionFault e) }
     {
         self.complete_from_path_and_workspace(rt, alloc, path, None::<(&Manifest<Value>, &str)>)
     }
@@ -71,6 +73,7 @@ impl<Metadata: Drop> Manifest<Metadata> {
         ensures filled { OnOk result (IfSome self.new.package IsFilled) }
         ensures again { OnOk result (IsLasting (manifest_meaning (λ m. m) self.old) (option_map handed_of workspace.entry)
             (manifest_meaning (λ m. m) self.new)) }
+        ensures refused { IfErr result (λ e. (e ≡ Memory) ⊎ IsCompletionFault e) }
     {
         let Some(folder) = parent(path) else {
             return Err(Error::Other("bad path"));

@@ -49,10 +49,7 @@ pub fn root_by_hint<R: Files + AllocGlobal>(
     let root = join(alloc, folder, hint)?;
     let file = join(alloc, root.as_str(), "Cargo.toml")?;
     match fs::read(rt, file.as_str()) {
-        Ok(bytes) => Ok((
-            workspace_of(alloc, bytes.as_slice(), file.as_str())?,
-            root,
-        )),
+        Ok(bytes) => Ok((workspace_of(alloc, bytes.as_slice(), file.as_str())?, root)),
         Err(fault) => Err(wrapped(alloc, Error::from(fault), Some(file.as_str()))),
     }
 }

@@ -9,10 +9,9 @@ use Rattle.toml.specs.Parse.{parse_document}
 use Rattle.toml.specs.declared.value.Value.{Value}
 use Rattle.cargo_toml_parts.specs.declared.error.Error.{Error, Memory}
 use Rattle.cargo_toml_parts.specs.FaultValues.{Fault, fault_of, io, other, workspace, workspace_integrity}
-use Rattle.cargo_toml_parts.specs.Wrapping.{wrap}
 use Rattle.cargo_toml_discovery.specs.Told.{Told, open_path}
 use Rattle.cargo_toml_manifest.specs.Choosing.{RootsTold}
-use Rattle.cargo_toml_manifest.specs.Completing.{GivenBy}
+use Rattle.cargo_toml_manifest.specs.Completing.{GivenBy, IsWrapped}
 use Rattle.cargo_toml_manifest.specs.Manifests.{ManifestMeaning, manifest_meaning}
 use Rattle.cargo_toml_manifest.specs.Roots.{IsFromSlice}
 use Rattle.cargo_toml_manifest.specs.Texts.{IsFromText, document_reads}
@@ -100,12 +99,12 @@ parent_after (suc n) path = option_and_then path_parent (parent_after n path)
 abbrev pub IsAbove : List ℕ → List ℕ → Type 0
 IsAbove path above = (n : ℕ) × (parent_after (suc n) path ≡ Some above)
 
--- the error is the one of completion: a path that has no folder, or a fault that has the path of a workspace
 abbrev pub bad_path : Fault
 bad_path = other (codes "bad path")
 
+-- why real files complete no manifest: the path of its file names none, or a fault of completion
 abbrev pub IsCompletionFault : Error → Type 0
-IsCompletionFault e = (fault_of e ≡ bad_path) ⊎ ((path : Option (List ℕ)) × ((fault : Fault) × (fault_of e ≡ wrap path fault)))
+IsCompletionFault e = (fault_of e ≡ bad_path) ⊎ IsWrapped e
 
 -- some text reads as a manifest which completion among real files makes into this one
 abbrev pub IsReadAndCompleted : {X M : Type 0} → (X → M) → (Data → Option (ManifestMeaning M)) → Manifest X → Type 0

@@ -1,9 +1,8 @@
 //! Manifests in real files, completed from what stands around them.
-ghost use Rattle.std.specs.Prelude.{◌≡◌, ◌↔◌, ◌⊎◌, None, false, option_map, IfErr, IfOk, IfSome, IsErrAnd, IsSome, OnErr, OnOk};
+ghost use Rattle.std.specs.Prelude.{◌≡◌, ◌↔◌, None, false, option_map, IfErr, IfOk, IfSome, IsErrAnd, IsSome, OnErr, OnOk};
 ghost use Rattle.std.specs.Path.{path_parent};
 ghost use Rattle.toml.specs.View.{view};
 ghost use Rattle.cargo_toml_parts.specs.FaultValues.{fault_of};
-ghost use Rattle.cargo_toml_parts.specs.declared.error.Error.{Memory};
 ghost use Rattle.cargo_toml_package.specs.Filled.{IsFilled};
 ghost use Rattle.cargo_toml_manifest.specs.Choosing.{handed_of};
 ghost use Rattle.cargo_toml_manifest.specs.Completing.{GivenBy, IsLasting, Meets, complete};
@@ -41,7 +40,7 @@ impl<Metadata: Drop> Manifest<Metadata> {
         ensures filled { OnOk result (IfSome self.new.package IsFilled) }
         ensures again { OnOk result (IsLasting (manifest_meaning (λ m. m) self.old) None
             (manifest_meaning (λ m. m) self.new)) }
-        ensures refused { IfErr result (λ e. (e ≡ Memory) ⊎ IsCompletionFault e) }
+        ensures refused { IfErr result IsCompletionFault }
     {
         self.complete_from_path_and_workspace(rt, alloc, path, None::<(&Manifest<Value>, &str)>)
     }
@@ -73,7 +72,7 @@ impl<Metadata: Drop> Manifest<Metadata> {
         ensures filled { OnOk result (IfSome self.new.package IsFilled) }
         ensures again { OnOk result (IsLasting (manifest_meaning (λ m. m) self.old) (option_map handed_of workspace.entry)
             (manifest_meaning (λ m. m) self.new)) }
-        ensures refused { IfErr result (λ e. (e ≡ Memory) ⊎ IsCompletionFault e) }
+        ensures refused { IfErr result IsCompletionFault }
     {
         let Some(folder) = parent(path) else {
             return Err(Error::Other("bad path"));

@@ -1,12 +1,12 @@
 //! Completing a manifest from its workspace and from its folders.
-ghost use Rattle.std.specs.Prelude.{◌≡◌, Some, None, Ok, Result, false, IfOk, IfSome, OnErr, OnOk, option_map};
+ghost use Rattle.std.specs.Prelude.{◌≡◌, Some, None, Ok, Result, false, IfErr, IfOk, IfSome, OnErr, OnOk, option_map};
 ghost use Rattle.std.specs.Option.{option_copied};
 ghost use Rattle.cargo_toml_parts.specs.Answers.{Gives};
 ghost use Rattle.cargo_toml_parts.specs.FaultValues.{Fault};
 ghost use Rattle.cargo_toml_discovery.specs.Answers.{Answers, filled};
 ghost use Rattle.cargo_toml_package.specs.Filled.{IsFilled};
 ghost use Rattle.cargo_toml_manifest.specs.Choosing.{from, handed_of, hint_of, shared_of, told_choice};
-ghost use Rattle.cargo_toml_manifest.specs.Completing.{GivenBy, GivenByRoot, IsLasting, Meets, complete, complete_by, gives, then_found};
+ghost use Rattle.cargo_toml_manifest.specs.Completing.{GivenBy, GivenByRoot, IsLasting, IsWrapped, Meets, complete, complete_by, gives, then_found};
 ghost use Rattle.cargo_toml_manifest.specs.Inheriting.{needs};
 ghost use Rattle.cargo_toml_manifest.specs.Installing.{completed, installed};
 ghost use Rattle.cargo_toml_manifest.specs.Manifests.{ManifestMeaning, manifest_meaning};
@@ -36,6 +36,7 @@ fn completion<Metadata, Fs: AbstractFilesystem>(
         (stated : Result (ManifestMeaning Metadata) Fault) → Gives (installed m) parts stated →
         IfOk result (λ new. (answers : Answers) ×
         (then_found (option_copied path.entry) (filled (Fs.names_at fs.now) answers) stated ≡ gives (completed m new))) }
+    ensures wrapped { IfErr result IsWrapped }
 {
     let parts = match parts {
         Ok(parts) => parts,
@@ -62,6 +63,7 @@ fn completion_at<Metadata, N, Fs: AbstractFilesystem>(
         IfOk result (λ new. (answers : Answers) ×
         (complete_by m (from (shared_of (option_copied workspace.entry)) path.now) (filled (Fs.names_at fs.now) answers)
         ≡ gives (completed m new))) }
+    ensures wrapped { IfErr result IsWrapped }
 {
     let parts = new_parts(alloc, manifest, workspace, workspace_folder(path));
     completion(alloc, manifest, parts, fs, Some(path))
@@ -90,6 +92,7 @@ fn completion_by_hint<Metadata, Fs: AbstractFilesystem>(
     ensures given { let m = manifest_meaning (λ m. m) manifest.now in
         IfOk result (λ new. GivenByRoot m (heard Fs.Roots.ARE_READ (Fs.root_for fs.now (hint_of m))) (Fs.names_at fs.now)
         (completed m new)) }
+    ensures wrapped { IfErr result IsWrapped }
 {
     let hint = hint_of(manifest);
     match fs.parse_root_workspace(alloc, hint) {
@@ -116,6 +119,7 @@ fn own_completion<Metadata, Fs: AbstractFilesystem>(
     ensures given { let m = manifest_meaning (λ m. m) manifest.now in
         IfOk result (λ new. GivenBy m None (λ hint. heard Fs.Roots.ARE_READ (Fs.root_for fs.now hint)) (Fs.names_at fs.now)
         (completed m new)) }
+    ensures wrapped { IfErr result IsWrapped }
 {
     match &manifest.workspace {
         Some(workspace) => completion_at(alloc, manifest, Some(workspace), "", fs),
@@ -143,6 +147,7 @@ fn completion_for<Metadata, N, Fs: AbstractFilesystem>(
     ensures given { let m = manifest_meaning (λ m. m) manifest.now in
         IfOk result (λ new. GivenBy m (option_map handed_of workspace.entry)
         (λ hint. heard Fs.Roots.ARE_READ (Fs.root_for fs.now hint)) (Fs.names_at fs.now) (completed m new)) }
+    ensures wrapped { IfErr result IsWrapped }
 {
     match workspace {
         Some((root, path)) => completion_at(alloc, manifest, root.workspace.as_ref(), path, fs),
@@ -187,6 +192,7 @@ impl<Metadata: Drop> Manifest<Metadata> {
         ensures filled { OnOk result (IfSome self.new.package IsFilled) }
         ensures again { OnOk result (IsLasting (manifest_meaning (λ m. m) self.old) (option_map handed_of workspace.entry)
             (manifest_meaning (λ m. m) self.new)) }
+        ensures wrapped { IfErr result IsWrapped }
     {
         let Completion { parts, found } = completion_for(alloc, self, &fs, workspace)?;
         install_parts(self, parts);

@@ -14,6 +14,7 @@ use arguments::Command;
 use cargo_toml::{Error, Manifest};
 use cargo_toml_print::{print_complete, print_features};
 use outcome::Outcome;
+use std::io::Write;
 use std::process::ExitCode;
 use std::rt::{Env, Files};
 use std::{env, fs, io};
@@ -40,11 +41,15 @@ fn features<R: Files + Print + AllocGlobal>(rt: &R, file: &str) -> Result<(), Er
     print_features(rt.alloc(), &mut input, &mut output)
 }
 
-/// Prints what is found around the manifest in a file.
-fn complete<R: Files + Print + AllocGlobal>(rt: &R, file: &str) -> Result<(), Error> {
+/// Writes what is found around the manifest in a file.
+fn complete<R: Files + AllocGlobal, W: Write>(
+    rt: &R,
+    file: &str,
+    output: &mut W,
+) -> Result<(), Error> {
     let alloc = rt.alloc();
     let manifest = Box::new(alloc, Manifest::from_path(rt, alloc, file)?)?;
-    print_complete(alloc, &*manifest, &mut io::writer(rt))
+    print_complete(alloc, &*manifest, output)
 }
 
 /// The words of the command line without the program's own name.
@@ -66,7 +71,9 @@ fn run<R: Env + Files + Print + AllocGlobal>(rt: &R) -> Outcome {
     };
     match command(words.as_slice()) {
         Some(Command::Features(file)) => Outcome::of_command(features(rt, file)),
-        Some(Command::Complete(file)) => Outcome::of_command(complete(rt, file)),
+        Some(Command::Complete(file)) => {
+            Outcome::of_command(complete(rt, file, &mut io::writer(rt)))
+        }
         None => Outcome::NotACommand,
     }
 }

@@ -56,7 +56,7 @@ fn answer<R: Files + AllocGlobal>(
 ) -> Result<String, Error> {
     match words {
         [call, path] => made(rt, call.as_str(), path.as_str(), field),
-        [call, folder, path] if call == "file_names_in" => {
+        [call, folder, path] if call.as_str() == "file_names_in" => {
             names(rt, folder.as_str(), path.as_str())
         }
         [call, path, file] => completed(rt, call.as_str(), path.as_str(), file.as_str(), field),

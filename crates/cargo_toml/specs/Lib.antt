@@ -40,6 +40,7 @@ pub use Rattle.cargo_toml_manifest.specs.Completing
 pub use Rattle.cargo_toml_manifest.specs.Finding
 pub use Rattle.cargo_toml_manifest.specs.Inheriting as InheritedManifests
 pub use Rattle.cargo_toml_manifest.specs.Manifests
+pub use Rattle.cargo_toml_manifest.specs.RealFiles
 pub use Rattle.cargo_toml_manifest.specs.Texts
 pub use Rattle.cargo_toml_manifest.specs.Told
 pub use Rattle.cargo_toml_discovery.specs.Told as ToldFolders

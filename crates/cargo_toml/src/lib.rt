@@ -10,7 +10,9 @@ pub use cargo_toml_dependencies::{
     Dependency, DependencyDetail, DepsSet, FeatureSet, InheritedDependencyDetail, PatchSet, Target,
     TargetDepsSet,
 };
-pub use cargo_toml_manifest::{AbstractFilesystem, Manifest, NoRoot, OwnRoot, Roots, Workspace};
+pub use cargo_toml_manifest::{
+    AbstractFilesystem, Filesystem, Manifest, NoRoot, OwnRoot, Roots, Workspace,
+};
 pub use cargo_toml_package::{Package, PackageTemplate};
 pub use cargo_toml_parts::{Error, FromValue, Inheritable, ParseFault, SemVer, Value, VersionReq};
 pub use cargo_toml_settings::{

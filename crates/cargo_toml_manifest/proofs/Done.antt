@@ -8,14 +8,21 @@ use Rattle.cargo_toml_parts.specs.FaultValues.{Fault}
 use Rattle.cargo_toml_parts.specs.InheritableValues.{is_set}
 use Rattle.cargo_toml_parts.specs.declared.inheritable.Inheritable.{Inheritable}
 use Rattle.cargo_toml_parts.specs.declared.inheritable.Inheritable.TheVariants.{Set, Inherited}
+use Rattle.cargo_toml_paths.specs.Paths.{workspace_folder}
+use Rattle.cargo_toml_discovery.specs.Names.{Text}
+use Rattle.cargo_toml_discovery.specs.Seen.{Seen, seen, faulty, unclear}
+use Rattle.cargo_toml_discovery.specs.Told.{Told}
 use Rattle.cargo_toml_dependencies.specs.Dependencies.{DependencyMeaning, InheritedMeaning, simple, inherited, detailed}
 use Rattle.cargo_toml_dependencies.specs.Inheriting.{Entries, adds_nothing, any_left, any_target_left, entry_at, from_template, inherited_entries, inherited_entry, inherited_target, inherited_targets, is_left, plain_detail, target_left, with_entry}
 use Rattle.cargo_toml_dependencies.specs.Targets.{TargetMeaning}
 use Rattle.cargo_toml_package.specs.Inheriting.{any_field_left, inherited_package, with_template_if_there}
 use Rattle.cargo_toml_package.specs.Packages.{PackageMeaning}
 use Rattle.cargo_toml_package.specs.Templates.{TemplateMeaning}
-use Rattle.cargo_toml_manifest.specs.Completing.{Handed, complete, complete_by, from, gives, outcome_of, own_choice, hint_of}
-use Rattle.cargo_toml_manifest.specs.Inheriting.{Lints, Shared, inherited_from, inherited_if_there, inherited_lints, needs, own_tables, shared}
+use Rattle.cargo_toml_manifest.proofs.FoundAgain.{needs_found}
+use Rattle.cargo_toml_manifest.specs.Choosing.{Handed, RootsTold, from, hint_of, own_choice}
+use Rattle.cargo_toml_manifest.specs.Completing.{complete, complete_by, gives, seen_at, then_found}
+use Rattle.cargo_toml_manifest.specs.Finding.{found_around}
+use Rattle.cargo_toml_manifest.specs.Inheriting.{Lints, Shared, inherited_from, inherited_if_there, inherited_lints, inherited_manifest, needs, own_tables, shared}
 use Rattle.cargo_toml_manifest.specs.Manifests.{ManifestMeaning}
 use Rattle.cargo_toml_manifest.specs.Told.{ToldRoot, root, no_root, open_root}
 
@@ -117,22 +124,43 @@ inherited-done templates groups t base m n h =
     let fields = package-done t base m.«package» d.0 d.1 in
     ap needs (sym (same _ n d.2)) ∙ rw (fields, lints, tables.0, tables.1, tables.2, targets) refl
 
-outcome-ok : {A : Type 0} (path : Option (List ℕ)) (r : Result A Fault) (x : A) → outcome_of path r ≡ gives x → r ≡ Ok x
-outcome-ok path (Ok y) x h = cc
-outcome-ok path (Err e) x h = cc
+seen-given : {A : Type 0} (path : Option (List ℕ)) (s : Seen A) (x : A) → seen_at path s ≡ gives x → s ≡ seen x
+seen-given path (seen y) x h = cc
+seen-given path (faulty faults) x h = cc
+seen-given path unclear x h = cc
 
-from-done : {M : Type 0} (workspace : Option Shared) (path : List ℕ) (m n : ManifestMeaning M) → complete_by m (from workspace path) ≡ gives n → needs n ≡ false
-from-done workspace path m n h =
-    inherited-done (option_map (λ w. w.dependencies) workspace) (option_map (λ w. w.lints) workspace) (option_and_then (λ w. w.template) workspace) _ m n
-    (outcome-ok (Some path) _ n h)
+-- before this was found in folders, it was a manifest that left nothing to the workspace
+pub record Completed {M : Type 0} (n : ManifestMeaning M) (told : Text → Told) : Type 0 where
+  pub inherited : ManifestMeaning M
+  pub none : needs inherited ≡ false
+  pub found : found_around inherited told ≡ seen n
 
-own-done : {M : Type 0} (m n : ManifestMeaning M) (table : Option Shared) (b : Bool) (t : ToldRoot) → needs m ≡ b → complete_by m (own_choice table b t) ≡ gives n → needs n ≡ false
-own-done m n (Some w) b t needed h = from-done (Some w) [] m n h
-own-done m n None false t needed h = let same : m ≡ n = cc in ap needs (sym same) ∙ needed
-own-done m n None true (root r path) needed h = from-done _ path m n h
-own-done m n None true no_root needed h = cc
-own-done m n None true open_root needed h = cc
+then-completed : {M : Type 0} (path : Option (List ℕ)) (told : Text → Told) (r : Result (ManifestMeaning M) Fault) (n : ManifestMeaning M) →
+    ((k : ManifestMeaning M) → r ≡ Ok k → needs k ≡ false) → then_found path told r ≡ gives n → Completed n told
+then-completed path told (Ok k) n well h = record { inherited = k; none = well k refl; found = seen-given path (found_around k told) n h }
+then-completed path told (Err e) n well h = cc
 
-pub done : {M : Type 0} (m n : ManifestMeaning M) (handed : Option Handed) (told : Option (List ℕ) → ToldRoot) → complete m handed told ≡ gives n → needs n ≡ false
-done m n (Some handed) told h = from-done handed.0 handed.1 m n h
-done m n None told h = own-done m n (option_map shared m.workspace) (needs m) (told (hint_of m)) refl h
+from-completed : {M : Type 0} (workspace : Option Shared) (path : List ℕ) (m n : ManifestMeaning M) (told : Text → Told) →
+    complete_by m (from workspace path) told ≡ gives n → Completed n told
+from-completed workspace path m n told h =
+    then-completed (Some path) told (inherited_manifest workspace (workspace_folder path) m) n
+    (inherited-done (option_map (λ w. w.dependencies) workspace) (option_map (λ w. w.lints) workspace) (option_and_then (λ w. w.template) workspace) (workspace_folder path) m) h
+
+own-completed : {M : Type 0} (m n : ManifestMeaning M) (told : Text → Told) (table : Option Shared) (b : Bool) (t : ToldRoot) → needs m ≡ b →
+    complete_by m (own_choice table b t) told ≡ gives n → Completed n told
+own-completed m n told (Some w) b t needed h = from-completed (Some w) [] m n told h
+own-completed m n told None false t needed h = then-completed None told (Ok m) n (λ k e. ap needs (sym (same m k e)) ∙ needed) h
+own-completed m n told None true (root r path) needed h = from-completed (option_map shared r.workspace) path m n told h
+own-completed m n told None true no_root needed h = cc
+own-completed m n told None true open_root needed h = cc
+
+pub completed : {M : Type 0} (m n : ManifestMeaning M) (handed : Option Handed) (roots : RootsTold) (told : Text → Told) →
+    complete m handed roots told ≡ gives n → Completed n told
+completed m n (Some handed) roots told h = from-completed handed.0 handed.1 m n told h
+completed m n None roots told h = own-completed m n told (option_map shared m.workspace) (needs m) (roots (hint_of m)) refl h
+
+pub complete_done : {M : Type 0} (m n : ManifestMeaning M) (handed : Option Handed) (roots : RootsTold) (told : Text → Told) →
+    complete m handed roots told ≡ gives n → needs n ≡ false
+complete_done m n handed roots told h =
+    let c = completed m n handed roots told h in
+    needs_found c.inherited n told c.none c.found

@@ -1,5 +1,5 @@
 -- What is found in the folders around a manifest.
-use Rattle.std.specs.Prelude.{Option, Some, None, unwrap_or, option_map}
+use Rattle.std.specs.Prelude.{false, Option, Some, None, unwrap_or}
 use Rattle.cargo_toml_parts.specs.InheritableValues.{value_of}
 use Rattle.cargo_toml_parts.specs.declared.inheritable.Inheritable.TheVariants.{Set}
 use Rattle.cargo_toml_settings.specs.Settings.{flag}

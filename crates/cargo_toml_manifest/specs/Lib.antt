@@ -4,6 +4,7 @@ pub mod Finding
 pub mod Inheriting
 pub mod Installing
 pub mod Manifests
+pub mod RealFiles
 pub mod Roots
 pub mod Texts
 pub mod Told

@@ -246,7 +246,7 @@ impl<Metadata: FromValue> Manifest<Metadata> {
         }
     }
 
-    fn from_text(alloc: Global, text: &str) -> Result<Manifest<Metadata>, Error>
+    pub(crate) fn from_text(alloc: Global, text: &str) -> Result<Manifest<Metadata>, Error>
         ensures { IsFromText (manifest_meaning Metadata.meaning) (manifest_reads Metadata.from_tree)
             (manifest_refuses Metadata.from_tree Metadata.from_refuses) (parse_document text.now) result }
     {

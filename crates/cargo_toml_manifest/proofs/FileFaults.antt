@@ -1,0 +1,51 @@
+-- Which faults reading real files and searching among them give.
+use Rattle.std.proofs.Common.{◌≡◌, ◌⊎◌, inl, inr, sym, ap, subst, ◌∙◌, ℕ, List, false, Some, Ok, Err, String, string_bytes}
+use Rattle.std.specs.Prelude.{is_some}
+use Rattle.std.specs.IoError.{error_kind}
+use Rattle.std.specs.declared.alloc.Global.{Global}
+use Rattle.std.specs.declared.io.Error.{Error as IoError}
+use Rattle.toml.specs.declared.value.Value.{Value}
+use Rattle.cargo_toml_parts.specs.declared.error.Error.{Error, Memory, Io, WorkspaceIntegrity, fold-roll-Error}
+use Rattle.cargo_toml_parts.specs.declared.error.Error.TheOpen.{Error-F}
+use Rattle.cargo_toml_parts.specs.declared.error.Error.TheVariants.{rolls-Io, rolls-WorkspaceIntegrity}
+use Rattle.cargo_toml_parts.specs.Faults.{IsFromIo}
+use Rattle.cargo_toml_parts.specs.FaultValues.{Fault, fault_of, fault_step, io, workspace_integrity}
+use Rattle.cargo_toml_parts.specs.Wrapping.{wrap}
+use Rattle.cargo_toml_manifest.specs.RealFiles.{IsHintFault, IsInput, IsNoWorkspace, IsSearchFault, expected_workspace}
+use Rattle.cargo_toml_manifest.specs.Roots.{IsFromSlice}
+use Rattle.cargo_toml_manifest.specs.declared.manifest.Manifest.{Manifest}
+use Rattle.cargo_toml_manifest.proofs.Rooted.{memory_wrapped}
+
+pub io_fault : (f : IoError) → fault_of (Io f) ≡ io (error_kind f)
+io_fault f = ap fault_of (sym (rolls-Io f)) ∙ fold-roll-Error Fault fault_step (Error-F.Io f)
+
+integrity_fault : (text : String Global) → fault_of (WorkspaceIntegrity text) ≡ workspace_integrity (string_bytes text)
+integrity_fault text =
+    ap fault_of (sym (rolls-WorkspaceIntegrity text)) ∙ fold-roll-Error Fault fault_step (Error-F.WorkspaceIntegrity text)
+
+-- a fault of reading, once it is an error
+pub from_input : (f : IoError) (e : Error) → IsFromIo f e → (e ≡ Memory) ⊎ IsInput e
+from_input f e (inl h) = inl h.1
+from_input f e (inr h) = inr (error_kind f, ap fault_of h.1 ∙ io_fault f)
+
+-- the same with the path of the file
+pub read_fault : (file : List ℕ) (f : IoError) (own e : Error) → IsFromIo f own → (e ≡ Memory) ⊎ (fault_of e ≡ wrap (Some file) (fault_of own)) → IsHintFault file e
+read_fault file f own e from (inl memory) = inl memory
+read_fault file f own e (inl h) (inr same) = inl (memory_wrapped (Some file) own e h.1 same)
+read_fault file f own e (inr h) (inr same) =
+    inr (inl (error_kind f, same ∙ ap (wrap (Some file)) (ap fault_of h.1 ∙ io_fault f)))
+
+-- a manifest without a workspace
+pub no_table : (bytes path : List ℕ) (m : Manifest Value) (text : String Global) → IsFromSlice bytes (Ok m) → is_some m.workspace ≡ false →
+    string_bytes text ≡ expected_workspace path → IsNoWorkspace bytes path (WorkspaceIntegrity text)
+no_table bytes path m text read none same =
+    inr (m, read, none, integrity_fault text ∙ ap workspace_integrity same)
+
+-- a file that is no workspace's manifest, to each of the two searches
+pub hint_fault : (bytes file : List ℕ) (e : Error) → (e ≡ Memory) ⊎ IsNoWorkspace bytes file e → IsHintFault file e
+hint_fault bytes file e (inl memory) = inl memory
+hint_fault bytes file e (inr fault) = inr (inr (bytes, fault))
+
+pub search_fault : (bytes file : List ℕ) (e : Error) → (e ≡ Memory) ⊎ IsNoWorkspace bytes file e → IsSearchFault e
+search_fault bytes file e (inl memory) = inl memory
+search_fault bytes file e (inr fault) = inr (inr (bytes, file, fault))

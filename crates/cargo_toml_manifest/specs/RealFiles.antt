@@ -1,0 +1,124 @@
+-- Files on the disk: where they are looked for, which root is found among them, and what faults they give.
+use Rattle.std.specs.Prelude.{◌≡◌, ◌⊎◌, ℕ, suc, zero, List, ◌++◌, codes, length, ◌==◌, if◌then◌else◌, Bool, true, false, Option, Some, None, option_and_then, is_some, Result, Ok, Err, IsUtf8, String}
+use Rattle.std.specs.Path.{path_parent}
+use Rattle.std.specs.declared.alloc.Global.{Global}
+use Rattle.std.specs.declared.io.ErrorKind.{ErrorKind}
+use Rattle.std.specs.declared.io.ErrorKind.TheVariants.{NotFound, NotADirectory}
+use Rattle.toml.specs.Data.{Data, Members}
+use Rattle.toml.specs.Parse.{parse_document}
+use Rattle.toml.specs.declared.value.Value.{Value}
+use Rattle.cargo_toml_parts.specs.declared.error.Error.{Error, Memory}
+use Rattle.cargo_toml_parts.specs.FaultValues.{Fault, fault_of, io, other, workspace, workspace_integrity}
+use Rattle.cargo_toml_parts.specs.Wrapping.{wrap}
+use Rattle.cargo_toml_discovery.specs.Told.{Told, open_path}
+use Rattle.cargo_toml_manifest.specs.Choosing.{RootsTold}
+use Rattle.cargo_toml_manifest.specs.Completing.{GivenBy}
+use Rattle.cargo_toml_manifest.specs.Manifests.{ManifestMeaning, manifest_meaning}
+use Rattle.cargo_toml_manifest.specs.Roots.{IsFromSlice}
+use Rattle.cargo_toml_manifest.specs.Texts.{IsFromText, document_reads}
+use Rattle.cargo_toml_manifest.specs.Told.{ToldRoot, open_root}
+use Rattle.cargo_toml_manifest.specs.declared.files.Filesystem.{Filesystem}
+use Rattle.cargo_toml_manifest.specs.declared.lookup.Candidate.{Candidate}
+use Rattle.cargo_toml_manifest.specs.declared.lookup.Candidate.TheVariants.{Root, Other, Absent}
+use Rattle.cargo_toml_manifest.specs.declared.manifest.Manifest.{Manifest}
+
+-- the folder that files are read in
+abbrev pub folder_of : {R : Type 0} → Filesystem R → List ℕ
+folder_of files = files.path.now
+
+-- the empty path is the folder that the program runs in
+abbrev pub or_here : List ℕ → List ℕ
+or_here path = if length path == 0 then codes "." else path
+
+-- of real files nothing is told, neither of a root nor of a folder
+abbrev pub real_roots : RootsTold
+real_roots hint = open_root
+
+abbrev pub real_folders : List ℕ → Told
+real_folders path = open_path
+
+-- nothing is at the path of a file: its name is missing, or it leads through a file
+abbrev pub is_absent : ErrorKind → Bool
+is_absent NotFound = true
+is_absent NotADirectory = true
+is_absent kind = false
+
+-- the kind of a fault of listing: a name that is no folder counts as absent
+abbrev pub listed_as : ErrorKind → ErrorKind
+listed_as NotADirectory = NotFound
+listed_as kind = kind
+
+-- the error is a fault of reading a file or a folder
+abbrev pub IsInput : Error → Type 0
+IsInput e = (kind : ErrorKind) × (fault_of e ≡ io kind)
+
+abbrev pub expected_workspace : List ℕ → List ℕ
+expected_workspace path = codes "Manifest at " ++ path ++ codes " was expected to be a workspace."
+
+-- the manifest has a workspace, and some bytes read as it
+abbrev pub IsRootManifest : Manifest Value → Type 0
+IsRootManifest m = (is_some m.workspace ≡ true) × ((bytes : List ℕ) × IsFromSlice bytes (Ok m))
+
+-- the fault of the bytes of a file at this path: their own, or that they are a manifest without a workspace
+abbrev pub IsNoWorkspace : List ℕ → List ℕ → Error → Type 0
+IsNoWorkspace bytes path e =
+    IsFromSlice bytes (Err e)
+    ⊎ ((m : Manifest Value)
+    × IsFromSlice bytes (Ok m)
+    × (is_some m.workspace ≡ false)
+    × (fault_of e ≡ workspace_integrity (expected_workspace path)))
+
+-- a workspace's manifest of these bytes, or why they are none
+abbrev pub IsWorkspaceOf : List ℕ → List ℕ → Result (Manifest Value) Error → Type 0
+IsWorkspaceOf bytes path (Ok m) = (is_some m.workspace ≡ true) × IsFromSlice bytes (Ok m)
+IsWorkspaceOf bytes path (Err e) = (e ≡ Memory) ⊎ IsNoWorkspace bytes path e
+
+-- why the search above a folder finds no root: no memory, a fault of reading, or a file that is no workspace's manifest
+abbrev pub IsSearchFault : Error → Type 0
+IsSearchFault e = (e ≡ Memory) ⊎ (IsInput e ⊎ ((bytes path : List ℕ) × IsNoWorkspace bytes path e))
+
+-- what a file is to that search: a workspace's manifest, a file with a fault, or nothing
+abbrev pub IsCandidate : Result Candidate Error → Type 0
+IsCandidate (Ok (Root m)) = IsRootManifest m
+IsCandidate (Ok (Other e)) = IsSearchFault e
+IsCandidate (Ok Absent) = Unit {0}
+IsCandidate (Err e) = IsSearchFault e
+
+-- why the one file that a hint leads to is no root: a fault of reading is told with its path
+abbrev pub IsHintFault : List ℕ → Error → Type 0
+IsHintFault file e =
+    (e ≡ Memory)
+    ⊎ (((kind : ErrorKind) × (fault_of e ≡ workspace (io kind) (Some file)))
+    ⊎ ((bytes : List ℕ) × IsNoWorkspace bytes file e))
+
+-- the folder that is so many steps above a path, as far as it is written
+abbrev pub parent_after : ℕ → List ℕ → Option (List ℕ)
+parent_after zero path = Some path
+parent_after (suc n) path = option_and_then path_parent (parent_after n path)
+
+-- the folder is written in the path, above it
+abbrev pub IsAbove : List ℕ → List ℕ → Type 0
+IsAbove path above = (n : ℕ) × (parent_after (suc n) path ≡ Some above)
+
+-- the error is the one of completion: a path that has no folder, or a fault that has the path of a workspace
+abbrev pub bad_path : Fault
+bad_path = other (codes "bad path")
+
+abbrev pub IsCompletionFault : Error → Type 0
+IsCompletionFault e = (fault_of e ≡ bad_path) ⊎ ((path : Option (List ℕ)) × ((fault : Fault) × (fault_of e ≡ wrap path fault)))
+
+-- some text reads as a manifest which completion among real files makes into this one
+abbrev pub IsReadAndCompleted : {X M : Type 0} → (X → M) → (Data → Option (ManifestMeaning M)) → Manifest X → Type 0
+IsReadAndCompleted meaning reads new =
+    (text : List ℕ) × IsUtf8 text
+    × ((read : Manifest _)
+    × (document_reads reads (parse_document text) ≡ Some (manifest_meaning meaning read))
+    × GivenBy (manifest_meaning (λ m. m) read) None real_roots real_folders (manifest_meaning (λ m. m) new))
+
+-- why a file gives no completed manifest: no memory, a fault of reading, of some text, or of completion
+abbrev pub IsPathFault : {X M : Type 0} → (Manifest X → ManifestMeaning M) → (Data → Option (ManifestMeaning M)) → (Data → Error → Type 0) → Error → Type 0
+IsPathFault meaning reads refuses e =
+    (e ≡ Memory)
+    ⊎ (IsInput e
+    ⊎ (((text : List ℕ) × IsUtf8 text × IsFromText meaning reads refuses (parse_document text) (Err e))
+    ⊎ IsCompletionFault e))

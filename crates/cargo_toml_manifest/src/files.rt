@@ -1,0 +1,91 @@
+//! Real files around a manifest.
+ghost use Rattle.std.specs.Prelude.{◌≡◌, ◌⊎◌, IfErr};
+ghost use Rattle.std.specs.IoError.{error_kind};
+ghost use Rattle.cargo_toml_parts.specs.declared.error.Error.{Memory};
+ghost use Rattle.cargo_toml_parts.specs.FaultValues.{fault_of, io};
+ghost use Rattle.cargo_toml_manifest.specs.RealFiles.{IsInput, folder_of, listed_as, or_here};
+
+use crate::afs::{AbstractFilesystem, NoRoot};
+use crate::lookup::{root_above, root_by_hint};
+use crate::manifest::Manifest;
+use cargo_toml_parts::Error;
+use cargo_toml_paths::join;
+use std::alloc::Global;
+use std::collections::HashSet;
+use std::rt::Files;
+use std::{fs, io};
+
+/// The files on the disk, as seen from the folder of a manifest.
+///
+/// A name that is no folder has no names in it: it is refused as one that is absent. Of what stands on a disk nothing is
+/// told beforehand.
+#[derive(Drop)]
+pub struct Filesystem<'a, R> {
+    path: &'a str,
+    rt: &'a R,
+}
+
+impl<'a, R: Files + AllocGlobal> Filesystem<'a, R> {
+    /// The files around a manifest in this folder. The empty path is the folder that the program runs in, as `.` is. Nothing
+    /// is read yet.
+    pub fn new(rt: &'a R, path: &'a str) -> Filesystem<'a, R>
+        ensures { folder_of result ≡ or_here path.now }
+    {
+        let path = if path.is_empty() { "." } else { path };
+        Filesystem { path, rt }
+    }
+}
+
+// A fault of listing a folder, where a name that is no folder counts as absent.
+fn listing_fault(fault: io::Error) -> Error
+    ensures { (result ≡ Memory) ⊎ (fault_of result ≡ io (listed_as (error_kind fault))) }
+{
+    match fault.kind() {
+        io::ErrorKind::NotADirectory => Error::Io(io::Error::from(io::ErrorKind::NotFound)),
+        _ => Error::from(fault),
+    }
+}
+
+// The names in a folder on the disk.
+fn names_in<R: Files + AllocGlobal>(
+    rt: &R,
+    alloc: Global,
+    folder: &str,
+) -> Result<HashSet<String>, Error>
+    ensures { IfErr result (λ e. (e ≡ Memory) ⊎ IsInput e) }
+{
+    let entries = match fs::read_dir(&rt, folder) {
+        Ok(entries) => entries,
+        Err(fault) => return Err(listing_fault(fault)),
+    };
+    let mut names = HashSet::new(alloc);
+    for entry in entries {
+        let entry = entry?;
+        names.insert(String::from_str(alloc, entry.file_name())?)?;
+    }
+    Ok(names)
+}
+
+/// What stands on the disk. Nothing is told of it.
+impl<R: Files + AllocGlobal> AbstractFilesystem for Filesystem<'_, R> {
+    type Roots = NoRoot;
+
+    /// The names in the folder on the disk. A name that is absent or no folder is `Error::Io` of the kind `NotFound`; a folder
+    /// or an entry that can't be read, or whose name is not UTF-8, is `Error::Io` of its kind.
+    fn file_names_in(&self, alloc: Global, rel_path: &str) -> Result<HashSet<String>, Error> {
+        let folder = join(alloc, self.path, rel_path)?;
+        names_in(self.rt, alloc, folder.as_str())
+    }
+
+    /// The root that the hint leads to, as `root_by_hint` finds it, or else the one above the folder, as `root_above` does.
+    fn parse_root_workspace(
+        &self,
+        alloc: Global,
+        hint: Option<&str>,
+    ) -> Result<(Manifest, String), Error> {
+        match hint {
+            Some(hint) => root_by_hint(self.rt, alloc, self.path, hint),
+            None => root_above(self.rt, alloc, self.path),
+        }
+    }
+}

@@ -1,0 +1,126 @@
+//! Manifests in real files, completed from what stands around them.
+ghost use Rattle.std.specs.Prelude.{◌≡◌, ◌↔◌, ◌⊎◌, None, false, option_map, IfErr, IfOk, IfSome, IsErrAnd, IsSome, OnErr, OnOk};
+ghost use Rattle.std.specs.Path.{path_parent};
+ghost use Rattle.toml.specs.View.{view};
+ghost use Rattle.cargo_toml_parts.specs.FaultValues.{fault_of};
+ghost use Rattle.cargo_toml_package.specs.Filled.{IsFilled};
+ghost use Rattle.cargo_toml_manifest.specs.Choosing.{handed_of};
+ghost use Rattle.cargo_toml_manifest.specs.Completing.{GivenBy, IsLasting, Meets, complete};
+ghost use Rattle.cargo_toml_manifest.specs.Inheriting.{needs};
+ghost use Rattle.cargo_toml_manifest.specs.Manifests.{manifest_meaning, manifest_reads, manifest_refuses};
+ghost use Rattle.cargo_toml_manifest.specs.RealFiles.{IsPathFault, IsReadAndCompleted, bad_path, real_folders, real_roots};
+ghost use Rattle.cargo_toml_manifest.specs.Texts.{any_refuses, any_tree};
+
+use crate::files::Filesystem;
+use crate::manifest::Manifest;
+use cargo_toml_parts::{Error, FromValue};
+use cargo_toml_paths::parent;
+use std::alloc::Global;
+use std::fs;
+use std::rt::Files;
+use toml::Value;
+
+impl<Metadata: Drop> Manifest<Metadata> {
+    /// Completes the manifest of the file at this path from the real files around it.
+    ///
+    /// It is `complete_from_path_and_workspace` where no workspace is handed in, and refuses as that does.
+    pub fn complete_from_path<'a, R: Files + AllocGlobal>(
+        &mut self,
+        rt: &'a R,
+        alloc: Global,
+        path: &'a str,
+    ) -> Result<(), Error>
+        ensures outcome { IsSome (path_parent path.now) → Meets (λ _. manifest_meaning (λ m. m) self.new)
+            (complete (manifest_meaning (λ m. m) self.old) None real_roots real_folders) result }
+        ensures bad_path { (path_parent path.now ≡ None) ↔ IsErrAnd result (λ e. fault_of e ≡ bad_path) }
+        ensures unchanged { OnErr result (self.new ≡ self.old) }
+        ensures given { OnOk result (GivenBy (manifest_meaning (λ m. m) self.old) None real_roots real_folders
+            (manifest_meaning (λ m. m) self.new)) }
+        ensures needs { OnOk result (needs (manifest_meaning (λ m. m) self.new) ≡ false) }
+        ensures filled { OnOk result (IfSome self.new.package IsFilled) }
+        ensures again { OnOk result (IsLasting (manifest_meaning (λ m. m) self.old) None
+            (manifest_meaning (λ m. m) self.new)) }
+    {
+        self.complete_from_path_and_workspace(rt, alloc, path, None::<(&Manifest<Value>, &str)>)
+    }
+
+    /// Completes the manifest of the file at this path, with a workspace that is handed in, from the real files around it.
+    ///
+    /// What is put in is what `complete_from_abstract_filesystem` puts in, over the `Filesystem` of the folder that holds the
+    /// file, and as Cargo does it: the workspace is the one that is handed in with its path; else the manifest's own table;
+    /// else, where something is left to it, the root that `package.workspace` leads to, or the nearest above the folder. The
+    /// file itself is not read.
+    ///
+    /// A path that names no file, as the empty one and `/`, is refused as `Error::Other("bad path")`. Other refusals are those of
+    /// `complete_from_abstract_filesystem`: `Error::Workspace` and `Error::Memory`. A refusal leaves the manifest as it was.
+    pub fn complete_from_path_and_workspace<'a, N, R: Files + AllocGlobal>(
+        &mut self,
+        rt: &'a R,
+        alloc: Global,
+        path: &'a str,
+        workspace: Option<(&Manifest<N>, &str)>,
+    ) -> Result<(), Error>
+        ensures outcome { IsSome (path_parent path.now) → Meets (λ _. manifest_meaning (λ m. m) self.new)
+            (complete (manifest_meaning (λ m. m) self.old) (option_map handed_of workspace.entry) real_roots real_folders)
+            result }
+        ensures bad_path { (path_parent path.now ≡ None) ↔ IsErrAnd result (λ e. fault_of e ≡ bad_path) }
+        ensures unchanged { OnErr result (self.new ≡ self.old) }
+        ensures given { OnOk result (GivenBy (manifest_meaning (λ m. m) self.old) (option_map handed_of workspace.entry)
+            real_roots real_folders (manifest_meaning (λ m. m) self.new)) }
+        ensures needs { OnOk result (needs (manifest_meaning (λ m. m) self.new) ≡ false) }
+        ensures filled { OnOk result (IfSome self.new.package IsFilled) }
+        ensures again { OnOk result (IsLasting (manifest_meaning (λ m. m) self.old) (option_map handed_of workspace.entry)
+            (manifest_meaning (λ m. m) self.new)) }
+    {
+        let Some(folder) = parent(path) else {
+            return Err(Error::Other("bad path"));
+        };
+        self.complete_from_abstract_filesystem(alloc, Filesystem::new(rt, folder), workspace)
+    }
+}
+
+impl Manifest {
+    /// The manifest in the file at this path, completed from the real files around it.
+    ///
+    /// The text is read as `Manifest::from_str` reads it, and then completed as `complete_from_path` does. So nothing in it is
+    /// left to its workspace, and its products are those that Cargo builds.
+    ///
+    /// A file that can't be read is refused as `Error::Io` of its kind, and one that is not UTF-8 as that of the kind
+    /// `InvalidData`. Other refusals are those of `from_str` and of `complete_from_path`.
+    pub fn from_path<'a, R: Files + AllocGlobal>(
+        rt: &'a R,
+        alloc: Global,
+        path: &'a str,
+    ) -> Result<Manifest, Error>
+        ensures given { IfOk result (IsReadAndCompleted view (manifest_reads any_tree)) }
+        ensures needs { IfOk result (λ new. needs (manifest_meaning (λ m. m) new) ≡ false) }
+        ensures filled { IfOk result (λ new. IfSome new.package IsFilled) }
+        ensures refused { IfErr result (IsPathFault (manifest_meaning view) (manifest_reads any_tree)
+            (manifest_refuses any_tree any_refuses)) }
+    {
+        Manifest::from_path_with_metadata(rt, alloc, path)
+    }
+}
+
+impl<Metadata: FromValue> Manifest<Metadata> {
+    /// The manifest in the file at this path, whose free tables `metadata` are read as the type says, completed from the real
+    /// files around it.
+    ///
+    /// It refuses as `from_path` does; a fault that the metadata type tells is handed on as it is.
+    pub fn from_path_with_metadata<'a, R: Files + AllocGlobal>(
+        rt: &'a R,
+        alloc: Global,
+        path: &'a str,
+    ) -> Result<Manifest<Metadata>, Error>
+        ensures given { IfOk result (IsReadAndCompleted Metadata.meaning (manifest_reads Metadata.from_tree)) }
+        ensures needs { IfOk result (λ new. needs (manifest_meaning (λ m. m) new) ≡ false) }
+        ensures filled { IfOk result (λ new. IfSome new.package IsFilled) }
+        ensures refused { IfErr result (IsPathFault (manifest_meaning Metadata.meaning) (manifest_reads Metadata.from_tree)
+            (manifest_refuses Metadata.from_tree Metadata.from_refuses)) }
+    {
+        let text = fs::read_to_string(rt, path)?;
+        let mut manifest = Manifest::from_text(alloc, text.as_str())?;
+        manifest.complete_from_path(rt, alloc, path)?;
+        Ok(manifest)
+    }
+}

@@ -49,11 +49,7 @@ fn words(alloc: Global, folder: &str, call: &str) -> Result<Vec<String>, Error> 
 
 /// What comes of a call: `CALL PATH`, `file_names_in FOLDER PATH`, or `CALL PATH FILE` with the file of the manifest to be completed
 /// and, where one is handed in, the file of the workspace after it.
-fn answer<R: Files + AllocGlobal>(
-    rt: &R,
-    words: &[String],
-    field: &str,
-) -> Result<String, Error> {
+fn answer<R: Files + AllocGlobal>(rt: &R, words: &[String], field: &str) -> Result<String, Error> {
     match words {
         [call, path] => made(rt, call.as_str(), path.as_str(), field),
         [call, folder, path] if call.as_str() == "file_names_in" => {
@@ -126,8 +122,12 @@ fn handed<R: Files + AllocGlobal>(
     let mut manifest = read_file(rt, file)?;
     let workspace = read_file(rt, root)?;
     let before = format!(in alloc; "{manifest:?}")?;
-    let outcome =
-        manifest.complete_from_path_and_workspace(rt, alloc, path, Some((&*workspace, root)));
+    let outcome = manifest.complete_from_path_and_workspace(
+        rt,
+        alloc,
+        path,
+        Some((&*workspace, root)),
+    );
     told(alloc, &*manifest, before.as_str(), outcome, field)
 }
 

@@ -9,7 +9,8 @@ use Rattle.cargo_toml_dependencies.specs.Inheriting.{Entries, any_left, any_targ
 use Rattle.cargo_toml_dependencies.specs.Targets.{TargetMeaning}
 
 -- a step that gives this leads to what follows
-then : {A B : Type 0} (step : Result A Fault) (x : A) (next : A → Result B Fault) (r : Result B Fault) → step ≡ Ok x → next x ≡ r → ◌>>=◌ step next ≡ r
+then : {A B : Type 0} (step : Result A Fault) (x : A) (next : A → Result B Fault) (r : Result B Fault) → step ≡ Ok x →
+    next x ≡ r → ◌>>=◌ step next ≡ r
 then step x next r h k = rw h k
 
 -- where each element stays, the list does
@@ -21,12 +22,14 @@ each-kept f bad kept (x ∷ xs) none =
     then (f x) x (λ y. ◌>>=◌ (each f xs) (λ ys. Ok (y ∷ ys))) (Ok (x ∷ xs)) (kept x parts.0)
     (then (each f xs) xs (λ ys. Ok (x ∷ ys)) (Ok (x ∷ xs)) (each-kept f bad kept xs parts.1) refl)
 
-entry-kept : (templates : Option Entries) (base key : List ℕ) (d : DependencyMeaning) → is_left d ≡ false → inherited_entry templates base key d ≡ Ok d
+entry-kept : (templates : Option Entries) (base key : List ℕ) (d : DependencyMeaning) → is_left d ≡ false →
+    inherited_entry templates base key d ≡ Ok d
 entry-kept templates base key (simple r) none = refl
 entry-kept templates base key (inherited entry) none = cc
 entry-kept templates base key (detailed d) none = refl
 
-pub entries-kept : (templates : Option Entries) (base : List ℕ) (es : Entries) → any_left es ≡ false → inherited_entries templates base es ≡ Ok es
+pub entries-kept : (templates : Option Entries) (base : List ℕ) (es : Entries) → any_left es ≡ false →
+    inherited_entries templates base es ≡ Ok es
 entries-kept templates base es none =
     each-kept (λ e. beside e.0 (inherited_entry templates base e.0 e.1)) (λ e. is_left e.1)
     (λ e h. ap (beside e.0) (entry-kept templates base e.0 e.1 h)) es none
@@ -35,17 +38,22 @@ pub target-kept : (templates : Option Entries) (base : List ℕ) (t : TargetMean
     any_left t.dependencies ≡ false → any_left t.dev_dependencies ≡ false → any_left t.build_dependencies ≡ false →
     inherited_target templates base t ≡ Ok t
 target-kept templates base t own dev build =
-    then (inherited_entries templates base t.dependencies) t.dependencies _ (Ok t) (entries-kept templates base t.dependencies own)
-    (then (inherited_entries templates base t.build_dependencies) t.build_dependencies _ (Ok t) (entries-kept templates base t.build_dependencies build)
-    (then (inherited_entries templates base t.dev_dependencies) t.dev_dependencies _ (Ok t) (entries-kept templates base t.dev_dependencies dev) refl))
+    then (inherited_entries templates base t.dependencies) t.dependencies _ (Ok t)
+    (entries-kept templates base t.dependencies own)
+    (then (inherited_entries templates base t.build_dependencies) t.build_dependencies _ (Ok t)
+    (entries-kept templates base t.build_dependencies build)
+    (then (inherited_entries templates base t.dev_dependencies) t.dev_dependencies _ (Ok t)
+    (entries-kept templates base t.dev_dependencies dev) refl))
 
-one-target-kept : (templates : Option Entries) (base : List ℕ) (t : TargetMeaning) → target_left t ≡ false → inherited_target templates base t ≡ Ok t
+one-target-kept : (templates : Option Entries) (base : List ℕ) (t : TargetMeaning) → target_left t ≡ false →
+    inherited_target templates base t ≡ Ok t
 one-target-kept templates base t none =
     let build = or_parts _ _ none in
     let dev = or_parts _ _ build.0 in
     target-kept templates base t dev.0 dev.1 build.1
 
-pub targets-kept : (templates : Option Entries) (base : List ℕ) (ts : List (List ℕ × TargetMeaning)) → any_target_left ts ≡ false →
+pub targets-kept : (templates : Option Entries) (base : List ℕ) (ts : List (List ℕ × TargetMeaning)) →
+    any_target_left ts ≡ false →
     inherited_targets templates base ts ≡ Ok ts
 targets-kept templates base ts none =
     each-kept (λ e. beside e.0 (inherited_target templates base e.1)) (λ e. target_left e.1)

@@ -135,21 +135,25 @@ pub record Completed {M : Type 0} (n : ManifestMeaning M) (told : Text → Told)
   pub none : needs inherited ≡ false
   pub found : found_around inherited told ≡ seen n
 
-then-completed : {M : Type 0} (path : Option (List ℕ)) (told : Text → Told) (r : Result (ManifestMeaning M) Fault) (n : ManifestMeaning M) →
-    ((k : ManifestMeaning M) → r ≡ Ok k → needs k ≡ false) → then_found path told r ≡ gives n → Completed n told
-then-completed path told (Ok k) n well h = record { inherited = k; none = well k refl; found = seen-given path (found_around k told) n h }
+then-completed : {M : Type 0} (path : Option (List ℕ)) (told : Text → Told) (r : Result (ManifestMeaning M) Fault)
+    (n : ManifestMeaning M) → ((k : ManifestMeaning M) → r ≡ Ok k → needs k ≡ false) → then_found path told r ≡ gives n →
+    Completed n told
+then-completed path told (Ok k) n well h =
+    record { inherited = k; none = well k refl; found = seen-given path (found_around k told) n h }
 then-completed path told (Err e) n well h = cc
 
 from-completed : {M : Type 0} (workspace : Option Shared) (path : List ℕ) (m n : ManifestMeaning M) (told : Text → Told) →
     complete_by m (from workspace path) told ≡ gives n → Completed n told
 from-completed workspace path m n told h =
     then-completed (Some path) told (inherited_manifest workspace (workspace_folder path) m) n
-    (inherited-done (option_map (λ w. w.dependencies) workspace) (option_map (λ w. w.lints) workspace) (option_and_then (λ w. w.template) workspace) (workspace_folder path) m) h
+    (inherited-done (option_map (λ w. w.dependencies) workspace) (option_map (λ w. w.lints) workspace)
+    (option_and_then (λ w. w.template) workspace) (workspace_folder path) m) h
 
-own-completed : {M : Type 0} (m n : ManifestMeaning M) (told : Text → Told) (table : Option Shared) (b : Bool) (t : ToldRoot) → needs m ≡ b →
-    complete_by m (own_choice table b t) told ≡ gives n → Completed n told
+own-completed : {M : Type 0} (m n : ManifestMeaning M) (told : Text → Told) (table : Option Shared) (b : Bool)
+    (t : ToldRoot) → needs m ≡ b → complete_by m (own_choice table b t) told ≡ gives n → Completed n told
 own-completed m n told (Some w) b t needed h = from-completed (Some w) [] m n told h
-own-completed m n told None false t needed h = then-completed None told (Ok m) n (λ k e. ap needs (sym (same m k e)) ∙ needed) h
+own-completed m n told None false t needed h =
+    then-completed None told (Ok m) n (λ k e. ap needs (sym (same m k e)) ∙ needed) h
 own-completed m n told None true (root r path) needed h = from-completed (option_map shared r.workspace) path m n told h
 own-completed m n told None true no_root needed h = cc
 own-completed m n told None true open_root needed h = cc

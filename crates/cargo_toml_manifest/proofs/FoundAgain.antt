@@ -24,9 +24,11 @@ seen-from f (faulty faults) y h = cc
 seen-from f unclear y h = cc
 
 -- what holds of a manifest without a package and of what is discovered for one with a package, holds of what is found
-by_package : {M : Type 0} (P : ManifestMeaning M → Type 0) (m n : ManifestMeaning M) (told : Text → Told) (o : Option (PackageMeaning M)) → m.«package» ≡ o →
+by_package : {M : Type 0} (P : ManifestMeaning M → Type 0) (m n : ManifestMeaning M) (told : Text → Told)
+    (o : Option (PackageMeaning M)) → m.«package» ≡ o →
     (m.«package» ≡ None → P m) →
-    ((p : PackageMeaning M) (a : Around) → m.«package» ≡ Some p → around told (wanted_by p) ≡ seen a → P (with_discovered m p (discovered (stated_by m p) a))) →
+    ((p : PackageMeaning M) (a : Around) → m.«package» ≡ Some p → around told (wanted_by p) ≡ seen a →
+    P (with_discovered m p (discovered (stated_by m p) a))) →
     found_for m o told ≡ seen n → P n
 by_package P m n told None is none there h = let same : m ≡ n = cc in subst P same (none is)
 by_package P m n told (Some p) is none there h =
@@ -41,7 +43,8 @@ stated-again : {M : Type 0} (m : ManifestMeaning M) (p : PackageMeaning M) (d : 
     stated_by (with_discovered m p d) (with_files p d) ≡ restated (stated_by m p) d
 stated-again m p d = refl
 
-discovered-found : {M : Type 0} (m : ManifestMeaning M) (p : PackageMeaning M) (told : Text → Told) (a : Around) (d : DiscoveredMeaning) →
+discovered-found : {M : Type 0} (m : ManifestMeaning M) (p : PackageMeaning M) (told : Text → Told) (a : Around)
+    (d : DiscoveredMeaning) →
     discovered (stated_by m p) a ≡ d → around told (wanted_by p) ≡ seen a →
     found_around (with_discovered m p d) told ≡ seen (with_discovered m p d)
 discovered-found m p told a d is at =
@@ -54,13 +57,15 @@ discovered-found m p told a d is at =
     ∙ ap (λ (e : DiscoveredMeaning). seen (with_discovered n (with_files p d) e)) again
 
 -- what is found is found again
-pub found_again : {M : Type 0} (m n : ManifestMeaning M) (told : Text → Told) → found_around m told ≡ seen n → found_around n told ≡ seen n
+pub found_again : {M : Type 0} (m n : ManifestMeaning M) (told : Text → Told) → found_around m told ≡ seen n →
+    found_around n told ≡ seen n
 found_again m n told h =
     by_package (λ k. found_around k told ≡ seen k) m n told m.«package» refl
     (λ none. ap (λ (o : Option (PackageMeaning _)). found_for m o told) none)
     (λ p a there at. discovered-found m p told a (discovered (stated_by m p) a) refl at) h
 
-needs-discovered : {M : Type 0} (m : ManifestMeaning M) (p : PackageMeaning M) (d : DiscoveredMeaning) → m.«package» ≡ Some p → needs m ≡ false →
+needs-discovered : {M : Type 0} (m : ManifestMeaning M) (p : PackageMeaning M) (d : DiscoveredMeaning) →
+    m.«package» ≡ Some p → needs m ≡ false →
     needs (with_discovered m p d) ≡ false
 needs-discovered m p d there none =
     let target = or_parts _ _ none in
@@ -68,11 +73,13 @@ needs-discovered m p d there none =
     let dev = or_parts _ _ build.0 in
     let own = or_parts _ _ dev.0 in
     let lints = or_parts _ _ own.0 in
-    let field : any_field_left p ≡ false = ap (λ (o : Option (PackageMeaning _)). option_map_or any_field_left o false) (sym there) ∙ lints.0 in
+    let field : any_field_left p ≡ false =
+    ap (λ (o : Option (PackageMeaning _)). option_map_or any_field_left o false) (sym there) ∙ lints.0 in
     rw (files-own p d.build d.readme field, lints.1, own.1, dev.1, build.1, target.1) refl
 
 -- what is found leaves nothing to the workspace
-pub needs_found : {M : Type 0} (m n : ManifestMeaning M) (told : Text → Told) → needs m ≡ false → found_around m told ≡ seen n → needs n ≡ false
+pub needs_found : {M : Type 0} (m n : ManifestMeaning M) (told : Text → Told) → needs m ≡ false →
+    found_around m told ≡ seen n → needs n ≡ false
 needs_found m n told none h =
     by_package (λ k. needs k ≡ false) m n told m.«package» refl (λ _. none)
     (λ p a there at. needs-discovered m p (discovered (stated_by m p) a) there none) h
@@ -84,7 +91,8 @@ pub record StaysAround {M : Type 0} (m n : ManifestMeaning M) : Type 0 where
   pub tables : own_tables n ≡ own_tables m
   pub target : n.target ≡ m.target
 
-pub stays_around : {M : Type 0} (m n : ManifestMeaning M) (told : Text → Told) → found_around m told ≡ seen n → StaysAround m n
+pub stays_around : {M : Type 0} (m n : ManifestMeaning M) (told : Text → Told) → found_around m told ≡ seen n →
+    StaysAround m n
 stays_around m n told h =
     by_package (λ k. StaysAround m k) m n told m.«package» refl
     (λ _. record { workspace = refl; hint = refl; tables = refl; target = refl })

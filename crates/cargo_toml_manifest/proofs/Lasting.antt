@@ -26,17 +26,21 @@ use Rattle.cargo_toml_manifest.specs.Inheriting.{Lints, Shared, inherited_if_the
 use Rattle.cargo_toml_manifest.specs.Manifests.{ManifestMeaning}
 use Rattle.cargo_toml_manifest.specs.Told.{ToldRoot}
 
-lints-kept : (groups : Option Lints) (lints : Inheritable Lints) → not (is_set lints) ≡ false → inherited_lints groups lints ≡ Ok lints
+lints-kept : (groups : Option Lints) (lints : Inheritable Lints) → not (is_set lints) ≡ false →
+    inherited_lints groups lints ≡ Ok lints
 lints-kept groups (Set x) none = refl
 lints-kept groups Inherited none = cc
 
-if_there-kept : {M : Type 0} (t : Option TemplateMeaning) (base : List ℕ) (p : Option (PackageMeaning M)) → option_map_or any_field_left p false ≡ false →
+if_there-kept : {M : Type 0} (t : Option TemplateMeaning) (base : List ℕ) (p : Option (PackageMeaning M)) →
+    option_map_or any_field_left p false ≡ false →
     inherited_if_there t base p ≡ Ok p
 if_there-kept t base None none = refl
-if_there-kept t base (Some p) none = then (inherited_package t base p) p (λ q. Ok (Some q)) (Some p) (package-kept t base p none) refl
+if_there-kept t base (Some p) none =
+    then (inherited_package t base p) p (λ q. Ok (Some q)) (Some p) (package-kept t base p none) refl
 
 -- where nothing is left to the workspace, inheritance changes nothing
-pub nothing_left : {M : Type 0} (workspace : Option Shared) (base : List ℕ) (m : ManifestMeaning M) → needs m ≡ false → inherited_manifest workspace base m ≡ Ok m
+pub nothing_left : {M : Type 0} (workspace : Option Shared) (base : List ℕ) (m : ManifestMeaning M) → needs m ≡ false →
+    inherited_manifest workspace base m ≡ Ok m
 nothing_left workspace base m none =
     let templates = option_map (λ w. w.dependencies) workspace in
     let groups = option_map (λ w. w.lints) workspace in
@@ -46,18 +50,22 @@ nothing_left workspace base m none =
     let dev = or_parts _ _ build.0 in
     let own = or_parts _ _ dev.0 in
     let lints = or_parts _ _ own.0 in
-    then (inherited_target templates base (own_tables m)) (own_tables m) _ m (target-kept templates base (own_tables m) own.1 dev.1 build.1)
+    then (inherited_target templates base (own_tables m)) (own_tables m) _ m
+    (target-kept templates base (own_tables m) own.1 dev.1 build.1)
     (then (inherited_targets templates base m.target) m.target _ m (targets-kept templates base m.target target.1)
     (then (inherited_lints groups m.lints) m.lints _ m (lints-kept groups m.lints lints.1)
-    (then (inherited_if_there template base m.«package») m.«package» _ m (if_there-kept template base m.«package» lints.0) refl)))
+    (then (inherited_if_there template base m.«package») m.«package» _ m
+    (if_there-kept template base m.«package» lints.0) refl)))
 
 -- a manifest that leaves nothing, and in which everything is found, stays
-module _ {M : Type 0} (n : ManifestMeaning M) (told : Text → Told) (none : needs n ≡ false) (again : found_around n told ≡ seen n) where
+module _ {M : Type 0} (n : ManifestMeaning M) (told : Text → Told) (none : needs n ≡ false)
+    (again : found_around n told ≡ seen n) where
   from-stays : (workspace : Option Shared) (path : List ℕ) → complete_by n (from workspace path) told ≡ gives n
   from-stays workspace path =
       ap (then_found (Some path) told) (nothing_left workspace (workspace_folder path) n none) ∙ ap (seen_at (Some path)) again
 
-  own-stays : (table : Option Shared) (needed : Bool) (t : ToldRoot) → needed ≡ false → complete_by n (own_choice table needed t) told ≡ gives n
+  own-stays : (table : Option Shared) (needed : Bool) (t : ToldRoot) → needed ≡ false →
+      complete_by n (own_choice table needed t) told ≡ gives n
   own-stays (Some w) needed t h = from-stays (Some w) []
   own-stays None false t h = ap (seen_at None) again
   own-stays None true t h = cc
@@ -67,7 +75,8 @@ module _ {M : Type 0} (n : ManifestMeaning M) (told : Text → Told) (none : nee
   stays None roots = own-stays (option_map shared n.workspace) (needs n) (roots (hint_of n)) none
 
 -- completing the result again gives it again
-pub complete_lasts : {M : Type 0} (m : ManifestMeaning M) (handed : Option Handed) (n : ManifestMeaning M) → IsLasting m handed n
+pub complete_lasts : {M : Type 0} (m : ManifestMeaning M) (handed : Option Handed) (n : ManifestMeaning M) →
+    IsLasting m handed n
 complete_lasts m handed n = λ roots told h.
     let c = completed m n handed roots told h in
     stays n told (needs_found c.inherited n told c.none c.found) (found_again c.inherited n told c.found) handed roots

@@ -1,5 +1,5 @@
 -- A manifest, once what its workspace gives is put in.
-use Rattle.std.specs.Prelude.{Option, Some, option_map}
+use Rattle.std.specs.Prelude.{Option, Some, None, option_map}
 use Rattle.cargo_toml_dependencies.specs.Replacing.{replaced_target, replaced_targets}
 use Rattle.cargo_toml_package.specs.Installing.{put, installed as installed_package}
 use Rattle.cargo_toml_package.specs.Packages.{PackageMeaning}
@@ -15,6 +15,11 @@ use Rattle.cargo_toml_manifest.specs.declared.inheriting.NewParts.{NewParts}
 abbrev pub installed_if_there : {M : Type 0} → Option (PackageMeaning M) → Option NewFields → Option (PackageMeaning M)
 installed_if_there (Some p) (Some new) = Some (installed_package p new)
 installed_if_there p new = p
+
+-- a package that takes these fields, if there are some
+abbrev pub taken : {M : Type 0} → PackageMeaning M → Option NewFields → PackageMeaning M
+taken p None = p
+taken p (Some new) = installed_package p new
 
 -- a manifest with these parts in place of what it left to the workspace
 abbrev pub installed : {M : Type 0} → ManifestMeaning M → NewParts → ManifestMeaning M

@@ -5,7 +5,7 @@ ghost use Rattle.cargo_toml_parts.specs.Answers.{Gives};
 ghost use Rattle.cargo_toml_parts.specs.FaultValues.{Fault};
 ghost use Rattle.cargo_toml_discovery.specs.Answers.{Answers, filled};
 ghost use Rattle.cargo_toml_package.specs.Filled.{IsFilled};
-ghost use Rattle.cargo_toml_manifest.specs.Choosing.{AnswersRoots, from, handed_of, hint_of, shared_of, told_choice};
+ghost use Rattle.cargo_toml_manifest.specs.Choosing.{from, handed_of, hint_of, shared_of, told_choice};
 ghost use Rattle.cargo_toml_manifest.specs.Completing.{GivenBy, GivenByRoot, IsLasting, Meets, complete, complete_by, gives, then_found};
 ghost use Rattle.cargo_toml_manifest.specs.Inheriting.{needs};
 ghost use Rattle.cargo_toml_manifest.specs.Installing.{completed, installed};

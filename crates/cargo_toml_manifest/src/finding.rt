@@ -1,24 +1,28 @@
 //! What is found in the folders around a manifest: first made, then put in, so that a refusal changes nothing.
-ghost use Rattle.std.specs.Prelude.{◌≡◌, ◌⊎◌, IfOk, IfErr, option_map, unwrap_or};
+ghost use Rattle.std.specs.Prelude.{◌≡◌, ◌⊎◌, IfOk, IfErr, unwrap_or};
 ghost use Rattle.std.specs.Option.{option_copied};
-ghost use Rattle.cargo_toml_discovery.specs.Answers.{Answers, filled};
+ghost use Rattle.cargo_toml_parts.specs.InheritableValues.{value_of};
+ghost use Rattle.cargo_toml_settings.specs.Settings.{file_meaning};
+ghost use Rattle.cargo_toml_settings.specs.declared.settings.Edition.TheVariants.{E2015};
+ghost use Rattle.cargo_toml_discovery.specs.Answers.{Answers, answers_of, around_in, filled};
+ghost use Rattle.cargo_toml_discovery.specs.Discovering.{discovered, discovered_meaning};
 ghost use Rattle.cargo_toml_discovery.specs.Seen.{Tells, seen, unclear};
 ghost use Rattle.cargo_toml_package.specs.Packages.{package_meaning};
-ghost use Rattle.cargo_toml_manifest.specs.Finding.{found_around, wanted_by, with_found};
-ghost use Rattle.cargo_toml_manifest.specs.Installing.{installed};
+ghost use Rattle.cargo_toml_manifest.specs.Finding.{found_around, stated_by, wanted_by, with_found};
+ghost use Rattle.cargo_toml_manifest.specs.Installing.{installed, taken};
 ghost use Rattle.cargo_toml_manifest.specs.Manifests.{manifest_meaning};
 
 use crate::afs::AbstractFilesystem;
 use crate::gather::gather;
 use crate::inheriting::NewParts;
 use crate::manifest::Manifest;
-use cargo_toml_discovery::listings::Wanted;
+use cargo_toml_discovery::listings::{Listings, Wanted};
 use cargo_toml_discovery::{Discovered, Stated, discover};
 use cargo_toml_package::Package;
 use cargo_toml_package::inheriting::NewFields;
 use cargo_toml_parts::{Error, Inheritable};
 use cargo_toml_settings::{Edition, OptionalFile};
-use std::alloc::Global;
+use std::alloc::{AllocError, Global};
 
 /// What completion puts into a manifest.
 #[derive(Drop)]
@@ -44,6 +48,8 @@ fn wanted<Metadata>(package: &Package<Metadata>) -> Wanted
 
 // The edition of a package that takes these fields.
 fn edition<Metadata>(package: &Package<Metadata>, new: Option<&NewFields>) -> Edition
+    ensures { let p = taken (package_meaning (λ m. m) «package».now) (option_copied new.entry) in
+        result ≡ unwrap_or (value_of p.edition) E2015 }
 {
     match (new.and_then(|new| new.edition), &package.edition) {
         (Some(edition), _) => edition,
@@ -53,13 +59,49 @@ fn edition<Metadata>(package: &Package<Metadata>, new: Option<&NewFields>) -> Ed
 }
 
 // The readme of a package that takes these fields, or else the other.
-fn readme<'a, Metadata>(package: &'a Package<Metadata>, new: Option<&'a NewFields>, other: &'a OptionalFile) -> &'a OptionalFile
+fn readme<'a, Metadata>(
+    package: &'a Package<Metadata>,
+    new: Option<&'a NewFields>,
+    other: &'a OptionalFile,
+) -> &'a OptionalFile
+    ensures { let p = taken (package_meaning (λ m. m) «package».now) (option_copied new.entry) in
+        file_meaning result.now ≡ unwrap_or (value_of p.readme) (file_meaning other.now) }
 {
     match (new.and_then(|new| new.readme.as_ref()), &package.readme) {
         (Some(readme), _) => readme,
         (None, Inheritable::Set(readme)) => readme,
         (None, Inheritable::Inherited) => other,
     }
+}
+
+// What is found in the folders of a package that takes these fields.
+fn found_in<Metadata>(
+    alloc: Global,
+    manifest: &Manifest<Metadata>,
+    package: &Package<Metadata>,
+    new: Option<&NewFields>,
+    listings: &Listings,
+) -> Result<Discovered, AllocError>
+    ensures { let p = taken (package_meaning (λ m. m) «package».now) (option_copied new.entry) in
+        IfOk result (λ d. discovered_meaning d
+        ≡ discovered (stated_by (manifest_meaning (λ m. m) manifest.now) p)
+        (around_in (answers_of listings.now) (wanted_by p))) }
+{
+    let no_readme = OptionalFile::Flag(false);
+    let stated = Stated {
+        name: package.name.as_str(),
+        edition: edition(package, new),
+        autolib: package.autolib,
+        wanted: wanted(package),
+        lib: manifest.lib.as_ref(),
+        bin: manifest.bin.as_slice(),
+        example: manifest.example.as_slice(),
+        test: manifest.test.as_slice(),
+        bench: manifest.bench.as_slice(),
+        build: package.build.as_ref(),
+        readme: readme(package, new, &no_readme),
+    };
+    discover(alloc, &stated, listings)
 }
 
 /// What is found in the folders around a manifest that takes these parts; `None` where it has no package, and then nothing
@@ -84,31 +126,19 @@ pub fn find<Metadata, Fs: AbstractFilesystem>(
     let Some(package) = &manifest.package else {
         return Ok(None);
     };
-    let wanted = wanted(package);
-    let listings = gather(alloc, fs, wanted)?;
-    let new = parts.package.as_ref();
-    let no_readme = OptionalFile::Flag(false);
-    let stated = Stated {
-        name: package.name.as_str(),
-        edition: edition(package, new),
-        autolib: package.autolib,
-        wanted,
-        lib: manifest.lib.as_ref(),
-        bin: manifest.bin.as_slice(),
-        example: manifest.example.as_slice(),
-        test: manifest.test.as_slice(),
-        bench: manifest.bench.as_slice(),
-        build: package.build.as_ref(),
-        readme: readme(package, new, &no_readme),
-    };
-    Ok(Some(discover(alloc, &stated, &listings)?))
+    let listings = gather(alloc, fs, wanted(package))?;
+    let found = found_in(alloc, manifest, package, parts.package.as_ref(), &listings)?;
+    Ok(Some(found))
 }
 
 /// Puts what was found into the manifest, where it has a package. It takes no memory.
 pub fn put_found<Metadata: Drop>(manifest: &mut Manifest<Metadata>, found: Option<Discovered>)
     ensures { manifest_meaning (λ m. m) manifest.new ≡ with_found (manifest_meaning (λ m. m) manifest.old) found }
 {
-    let (Some(package), Some(found)) = (&mut manifest.package, found) else {
+    let Some(package) = &mut manifest.package else {
+        return;
+    };
+    let Some(found) = found else {
         return;
     };
     let Discovered {

@@ -69,12 +69,14 @@ kept : {A : Type 0} (field : Inheritable A) (value : Option A) → is_left field
 kept (Set x) value none = refl
 kept Inherited value none = cc
 
-kept_there : {A : Type 0} (field : Option (Inheritable A)) (value : Option A) → is_left_there field ≡ false → filled_if_there field value ≡ field
+kept_there : {A : Type 0} (field : Option (Inheritable A)) (value : Option A) → is_left_there field ≡ false →
+    filled_if_there field value ≡ field
 kept_there None value none = refl
 kept_there (Some (Set x)) value none = refl
 kept_there (Some Inherited) value none = cc
 
-template-kept : {M : Type 0} (base : List ℕ) (t : TemplateMeaning) (p : PackageMeaning M) → IsOwn p → with_template base t p ≡ p
+template-kept : {M : Type 0} (base : List ℕ) (t : TemplateMeaning) (p : PackageMeaning M) → IsOwn p →
+    with_template base t p ≡ p
 template-kept base t p is =
     rw (
       kept p.version t.version is.version,
@@ -95,11 +97,13 @@ template-kept base t p is =
       kept p.publish (Some t.publish) is.publish,
     ) refl
 
-template_if_there-kept : {M : Type 0} (base : List ℕ) (t : Option TemplateMeaning) (p : PackageMeaning M) → IsOwn p → with_template_if_there base t p ≡ p
+template_if_there-kept : {M : Type 0} (base : List ℕ) (t : Option TemplateMeaning) (p : PackageMeaning M) → IsOwn p →
+    with_template_if_there base t p ≡ p
 template_if_there-kept base None p is = refl
 template_if_there-kept base (Some t) p is = template-kept base t p is
 
-pub package-kept : {M : Type 0} (t : Option TemplateMeaning) (base : List ℕ) (p : PackageMeaning M) → any_field_left p ≡ false → inherited_package t base p ≡ Ok p
+pub package-kept : {M : Type 0} (t : Option TemplateMeaning) (base : List ℕ) (p : PackageMeaning M) →
+    any_field_left p ≡ false → inherited_package t base p ≡ Ok p
 package-kept t base p none = rw (template_if_there-kept base t p (own p none), none) refl
 
 -- a package with a build script and a readme of its own

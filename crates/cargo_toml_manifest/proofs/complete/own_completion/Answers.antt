@@ -1,0 +1,69 @@
+use Rattle.std.proofs.Common.{ap, sym, ◌∙◌, Ok}
+use Rattle.std.specs.Prelude.{option_map}
+use Rattle.std.proofs.lemmas.Result.{IfOk-weaker}
+use Rattle.cargo_toml_manifest.specs.Choosing.{RootsTold}
+use Rattle.cargo_toml_manifest.specs.Installing.{completed}
+use Rattle.cargo_toml_manifest.specs.Manifests.{manifest_meaning}
+use Rattle.cargo_toml_manifest.specs.Told.{heard}
+use Rattle.cargo_toml_manifest.specs.Workspaces.{workspace_meaning}
+use Rattle.cargo_toml_manifest.proofs.Meeting.{given_alone, given_by_hint, given_by_table, met_alone}
+use Rattle.cargo_toml_manifest.proofs.Unchanged.{installed-none}
+use Rattle.cargo_toml_manifest.proofs.complete.own_completion.Goals as goal
+
+pub returns-in-Some-clause-given : goal.returns-in-Some-clause-given
+returns-in-Some-clause-given g c =
+    let m = manifest_meaning (λ m. m) c.args.manifest.now in
+    let roots : RootsTold = λ hint. heard g.Fs.Roots.Roots.ARE_READ (g.Fs.AbstractFilesystem.root_for c.args.fs.now hint) in
+    let table = ap (option_map (workspace_meaning (λ x. x))) c.in-Some.is in
+    IfOk-weaker c.completion_at.result _ _
+    (λ new e.
+    given_by_table m (completed m new) roots (g.Fs.AbstractFilesystem.names_at c.args.fs.now)
+    (workspace_meaning (λ x. x) c.in-Some.workspace) table e)
+    c.completion_at.ensures.given
+
+pub returns-then-needs_workspace_inheritance-clause-given : goal.returns-then-needs_workspace_inheritance-clause-given
+returns-then-needs_workspace_inheritance-clause-given g c =
+    let m = manifest_meaning (λ m. m) c.args.manifest.now in
+    let roots : RootsTold = λ hint. heard g.Fs.Roots.Roots.ARE_READ (g.Fs.AbstractFilesystem.root_for c.args.fs.now hint) in
+    let table = ap (option_map (workspace_meaning (λ x. x))) c.in-None.is in
+    let needed = sym c.needs_workspace_inheritance.ensures ∙ c.if-needs_workspace_inheritance.true in
+    IfOk-weaker c.completion_by_hint.result _ _
+    (λ new e. given_by_hint m (completed m new) roots (g.Fs.AbstractFilesystem.names_at c.args.fs.now) table needed e)
+    c.completion_by_hint.ensures.given
+
+pub returns-else-needs_workspace_inheritance-clause-outcome : goal.returns-else-needs_workspace_inheritance-clause-outcome
+returns-else-needs_workspace_inheritance-clause-outcome g c =
+    let m = manifest_meaning (λ m. m) c.args.manifest.now in
+    let roots : RootsTold = λ hint. heard g.Fs.Roots.Roots.ARE_READ (g.Fs.AbstractFilesystem.root_for c.args.fs.now hint) in
+    let table = ap (option_map (workspace_meaning (λ x. x))) c.in-None.is in
+    let needed = sym c.needs_workspace_inheritance.ensures ∙ c.if-needs_workspace_inheritance.false in
+    let none = c.no_parts.ensures in
+    let same = installed-none m c.no_parts.result (record {
+      dependencies = none.tables.0;
+      build_dependencies = none.tables.1.0;
+      dev_dependencies = none.tables.1.1;
+      targets = none.targets;
+      lints = none.lints;
+      fields = none.fields;
+    }) in
+    met_alone (completed m) m roots (g.Fs.AbstractFilesystem.names_at c.args.fs.now) c.completion.result table needed
+    (c.completion.ensures.outcome (Ok m) (ap (λ n. Ok n) (sym same)))
+
+pub returns-else-needs_workspace_inheritance-clause-given : goal.returns-else-needs_workspace_inheritance-clause-given
+returns-else-needs_workspace_inheritance-clause-given g c =
+    let m = manifest_meaning (λ m. m) c.args.manifest.now in
+    let roots : RootsTold = λ hint. heard g.Fs.Roots.Roots.ARE_READ (g.Fs.AbstractFilesystem.root_for c.args.fs.now hint) in
+    let table = ap (option_map (workspace_meaning (λ x. x))) c.in-None.is in
+    let needed = sym c.needs_workspace_inheritance.ensures ∙ c.if-needs_workspace_inheritance.false in
+    let none = c.no_parts.ensures in
+    let same = installed-none m c.no_parts.result (record {
+      dependencies = none.tables.0;
+      build_dependencies = none.tables.1.0;
+      dev_dependencies = none.tables.1.1;
+      targets = none.targets;
+      lints = none.lints;
+      fields = none.fields;
+    }) in
+    IfOk-weaker c.completion.result _ _
+    (λ new e. given_alone m (completed m new) roots (g.Fs.AbstractFilesystem.names_at c.args.fs.now) table needed e)
+    (c.completion.ensures.given (Ok m) (ap (λ n. Ok n) (sym same)))

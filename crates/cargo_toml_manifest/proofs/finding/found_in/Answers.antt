@@ -1,0 +1,42 @@
+use Rattle.std.proofs.Common.{◌≡◌, refl, subst, ap}
+use Rattle.std.specs.Prelude.{IfOk, map, option_map}
+use Rattle.std.specs.Option.{option_copied}
+use Rattle.cargo_toml_discovery.specs.Answers.{answers_of, around_in}
+use Rattle.cargo_toml_discovery.specs.Discovering.{StatedMeaning, discovered, discovered_meaning, stated_meaning}
+use Rattle.cargo_toml_discovery.specs.declared.discovery.Stated.{Stated}
+use Rattle.cargo_toml_package.specs.Packages.{package_meaning}
+use Rattle.cargo_toml_settings.specs.Settings.{file_meaning}
+use Rattle.cargo_toml_tables.specs.Products.{product_meaning}
+use Rattle.cargo_toml_manifest.specs.Manifests.{manifest_meaning}
+use Rattle.cargo_toml_manifest.proofs.StatedBy.{stated_so}
+use Rattle.cargo_toml_manifest.proofs.finding.found_in.Goals as goal
+
+pub returns : goal.returns
+returns g c =
+    let m = manifest_meaning (λ m. m) c.args.manifest.now in
+    let p = package_meaning (λ m. m) c.args.package.now in
+    let s : Stated = record {
+      name = c.as_str.result;
+      edition = c.edition.result;
+      autolib = p.autolib;
+      wanted = c.wanted.result;
+      lib = c.as_ref.result;
+      bin = c.as_slice.result;
+      example = c.as_slice-2.result;
+      test = c.as_slice-3.result;
+      bench = c.as_slice-4.result;
+      build = c.as_ref-2.result;
+      readme = c.readme.result;
+    } in
+    let same = stated_so m p (option_copied c.args.new) (stated_meaning s)
+    c.as_str.ensures.value c.edition.ensures refl c.wanted.ensures
+    (ap (option_map product_meaning) c.as_ref.ensures.value)
+    (ap (map product_meaning) c.as_slice.ensures.value)
+    (ap (map product_meaning) c.as_slice-2.ensures.value)
+    (ap (map product_meaning) c.as_slice-3.ensures.value)
+    (ap (map product_meaning) c.as_slice-4.ensures.value)
+    (ap (option_map file_meaning) c.as_ref-2.ensures.value)
+    c.readme.ensures in
+    subst
+    (λ (t : StatedMeaning). IfOk c.discover.result (λ d. discovered_meaning d ≡ discovered t (around_in (answers_of c.args.listings.now) t.wanted)))
+    same c.discover.ensures

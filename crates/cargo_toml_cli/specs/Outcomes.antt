@@ -1,12 +1,17 @@
 -- What a run of the program tells of its end.
-use Rattle.std.specs.Prelude.{◌≡◌, ◌⊎◌, ℕ, List, [], ◌∷◌, ◌++◌, Option, Some, option_map, codes}
+use Rattle.std.specs.Prelude.{◌≡◌, ◌⊎◌, ℕ, List, [], ◌∷◌, ◌++◌, Option, Some, option_map, codes, Result, Ok, Err, ⊤}
 use Rattle.std.specs.declared.io.Error.{Error as IoError}
 use Rattle.std.specs.declared.io.ErrorKind.TheVariants as io
 use Rattle.std.specs.IoError.{error_kind}
-use Rattle.cargo_toml.specs.Error.{Memory}
+use Rattle.cargo_toml.specs.Error.{Error, Memory}
 use Rattle.cargo_toml.specs.Faults.{text_of}
 use Rattle.cargo_toml_cli.specs.declared.outcome.Outcome.{Outcome}
 use Rattle.cargo_toml_cli.specs.declared.outcome.Outcome.TheVariants.{Done, Refused, NotACommand}
+
+-- the end of a run whose command was done or refused
+abbrev pub outcome_of : Result ⊤ Error → Outcome
+outcome_of (Ok _) = Done
+outcome_of (Err e) = Refused e
 
 -- the status of the program
 abbrev pub status_of : Outcome → ℕ

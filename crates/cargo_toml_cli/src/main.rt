@@ -1,4 +1,4 @@
-//! `cargo-toml features FILE`: prints what the features of a manifest enable.
+//! `cargo-toml features FILE` prints what the features of a manifest enable, and `cargo-toml complete FILE` what is found around it.
 #![tactic(auto)]
 
 ghost use Rattle.std.specs.Prelude.{◌≡◌, IfSome, IfNone, map, string_bytes};
@@ -11,9 +11,10 @@ mod outcome;
 mod tests;
 
 use arguments::Command;
-use cargo_toml::Error;
-use cargo_toml_print::print_features;
+use cargo_toml::{Error, Manifest};
+use cargo_toml_print::{print_complete, print_features};
 use outcome::Outcome;
+use std::io::Write;
 use std::process::ExitCode;
 use std::rt::{Env, Files};
 use std::{env, fs, io};
@@ -40,6 +41,17 @@ fn features<R: Files + Print + AllocGlobal>(rt: &R, file: &str) -> Result<(), Er
     print_features(rt.alloc(), &mut input, &mut output)
 }
 
+/// Writes what is found around the manifest in a file.
+fn complete<R: Files + AllocGlobal, W: Write>(
+    rt: &R,
+    file: &str,
+    output: &mut W,
+) -> Result<(), Error> {
+    let alloc = rt.alloc();
+    let manifest = Box::new(alloc, Manifest::from_path(rt, alloc, file)?)?;
+    print_complete(alloc, &*manifest, output)
+}
+
 /// The words of the command line without the program's own name.
 fn words<R: Env + AllocGlobal>(rt: &R) -> io::Result<Vec<String>> {
     let mut all = Vec::new(rt.alloc());
@@ -57,12 +69,12 @@ fn run<R: Env + Files + Print + AllocGlobal>(rt: &R) -> Outcome {
         Ok(words) => words,
         Err(fault) => return Outcome::of_words(fault),
     };
-    let Some(Command::Features(file)) = command(words.as_slice()) else {
-        return Outcome::NotACommand;
-    };
-    match features(rt, file) {
-        Ok(()) => Outcome::Done,
-        Err(fault) => Outcome::Refused(fault),
+    match command(words.as_slice()) {
+        Some(Command::Features(file)) => Outcome::of_command(features(rt, file)),
+        Some(Command::Complete(file)) => {
+            Outcome::of_command(complete(rt, file, &mut io::writer(rt)))
+        }
+        None => Outcome::NotACommand,
     }
 }
 

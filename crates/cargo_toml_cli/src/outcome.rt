@@ -1,6 +1,6 @@
 //! How a run of the program ends, and what it tells of that.
 ghost use Rattle.std.specs.Prelude.{◌≡◌};
-ghost use Rattle.cargo_toml_cli.specs.Outcomes.{IsOfWords, status_of, text_of_outcome};
+ghost use Rattle.cargo_toml_cli.specs.Outcomes.{IsOfWords, outcome_of, status_of, text_of_outcome};
 
 use cargo_toml::Error;
 use std::{fmt, io};
@@ -17,6 +17,16 @@ pub enum Outcome {
 }
 
 impl Outcome {
+    /// What ends a run whose command was done or refused.
+    pub fn of_command(done: Result<(), Error>) -> Outcome
+        ensures { result ≡ outcome_of done }
+    {
+        match done {
+            Ok(()) => Outcome::Done,
+            Err(fault) => Outcome::Refused(fault),
+        }
+    }
+
     /// What ends a run whose words couldn't be had: there was no memory for them, or one of them is no text.
     pub fn of_words(fault: io::Error) -> Outcome
         ensures { IsOfWords fault result }

@@ -5,8 +5,13 @@ ghost use Rattle.std.specs.Prelude.{IfErr};
 ghost use Rattle.std.specs.Io.KnownBytes.{Keeps};
 ghost use Rattle.cargo_toml_print.specs.Printing.{IsOfManifest};
 
+mod completion;
+mod items;
+
 use cargo_toml::features::{DepAction, Feature, Features, Resolver};
 use cargo_toml::{Error, Manifest};
+pub use completion::print_complete;
+use items::{separate, write_none};
 use std::alloc::Global;
 use std::collections::{BTreeMap, BTreeSet};
 use std::hash::BuildHasher;
@@ -72,22 +77,6 @@ fn write_feature(text: &mut String, feature: &Feature<'_>) -> Result<(), Error> 
     text.push_str(" | bins: ")?;
     write_list(text, feature.required_by_bins.as_slice())?;
     text.push_str("\n")?;
-    Ok(())
-}
-
-/// Writes what stands before an item: nothing before the first one.
-fn separate(text: &mut String, is_first: bool) -> Result<(), Error> {
-    if !is_first {
-        text.push_str(", ")?;
-    }
-    Ok(())
-}
-
-/// Writes what stands for no item at all.
-fn write_none(text: &mut String, is_empty: bool) -> Result<(), Error> {
-    if is_empty {
-        text.push_str("-")?;
-    }
     Ok(())
 }
 

@@ -4,9 +4,11 @@
 #![tactic(auto)]
 
 mod completed;
+mod files;
 mod manifests;
 mod paths;
 mod resolved;
+mod tree;
 mod values;
 
 use cargo_toml::Error;
@@ -35,6 +37,8 @@ enum Kind {
     Values,
     /// What completion makes of the manifest.
     Complete,
+    /// What comes of real files.
+    Files,
 }
 
 fn kind_of(word: &str) -> Option<Kind> {
@@ -48,6 +52,7 @@ fn kind_of(word: &str) -> Option<Kind> {
         "recursion" => Some(Kind::Recursion),
         "values" | "paths" => Some(Kind::Values),
         "complete" => Some(Kind::Complete),
+        "files" => Some(Kind::Files),
         _ => None,
     }
 }
@@ -64,6 +69,7 @@ fn expected_file(kind: Kind) -> &'static str {
         Kind::Recursion => "/enabled",
         Kind::Values => "",
         Kind::Complete => "/completed",
+        Kind::Files => "/printed",
     }
 }
 
@@ -75,8 +81,10 @@ fn answer<R: Files + AllocGlobal>(
     expected: &str,
 ) -> Result<String, Error> {
     let alloc = rt.alloc();
-    if let Kind::Values = kind {
-        return values::lines(alloc, folder, expected);
+    match kind {
+        Kind::Values => return values::lines(alloc, folder, expected),
+        Kind::Files => return files::answers(rt, folder),
+        _ => {}
     }
     let path = format!(in alloc; "{folder}/Cargo.toml")?;
     let manifest = fs::read(rt, path.as_str())?;

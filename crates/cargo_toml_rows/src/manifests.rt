@@ -76,7 +76,8 @@ pub fn fault(alloc: Global, bytes: &[u8]) -> Result<String, Error> {
     }
 }
 
-fn text_of(alloc: Global, bytes: &[u8]) -> Result<String, Error> {
+/// The text that is printed.
+pub fn text_of(alloc: Global, bytes: &[u8]) -> Result<String, Error> {
     match str::from_utf8(bytes) {
         Ok(text) => Ok(String::from_str(alloc, text)?),
         Err(_) => Err(Error::Other("lines that aren't UTF-8")),

@@ -1,6 +1,7 @@
 //! What a refusal of a printing call leaves.
+use super::manifest;
 use cargo_toml::{Error, ParseFault};
-use cargo_toml_print::print_features;
+use cargo_toml_print::{print_complete, print_features};
 use std::io;
 use std::io::{Read, Write};
 use std::test::Fail;
@@ -67,4 +68,17 @@ fn input_and_output_that_fail(rt: HostRuntime) {
     assert!(rt; is_broken(print_features(alloc, &mut Broken { given: false }, &mut output)));
     assert!(rt; output.is_empty());
     assert!(rt; is_broken(print_features(alloc, &mut b"".as_slice(), &mut Full)));
+}
+
+#[test]
+fn lines_of_what_is_not_completed(rt: HostRuntime) -> Result<(), Fail> {
+    let alloc = rt.alloc();
+    let text = "package = { name = \"p\", version = \"1.0.0\", readme = { workspace = true } }";
+    let manifest = manifest(alloc, text)?;
+    assert!(rt; is_broken(print_complete(alloc, &*manifest, &mut Full)));
+    let mut output = Vec::new(alloc);
+    print_complete(alloc, &*manifest, &mut output)?;
+    let lines = b"build | -\nreadme | -\n";
+    assert_eq!(rt; output.as_slice(), lines.as_slice());
+    Ok(())
 }

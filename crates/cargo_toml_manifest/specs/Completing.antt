@@ -60,8 +60,8 @@ GivenBy m handed roots told n =
 
 -- the same of the root alone, where a root is looked up
 abbrev pub GivenByRoot : {M : Type 0} → ManifestMeaning M → ToldRoot → (Text → Told) → ManifestMeaning M → Type 0
-GivenByRoot m root told n =
-    (answered : ToldRoot) × ((root ≡ answered) ⊎ (root ≡ open_root))
+GivenByRoot m lookup told n =
+    (answered : ToldRoot) × ((lookup ≡ answered) ⊎ (lookup ≡ open_root))
     × ((answers : Answers) × (complete_by m (told_choice answered) (filled told answers) ≡ gives n))
 
 -- completing the result again, with the same workspace and by what is told alike, gives it again

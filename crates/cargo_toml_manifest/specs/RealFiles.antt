@@ -4,7 +4,7 @@ use Rattle.std.specs.Path.{path_parent}
 use Rattle.std.specs.declared.alloc.Global.{Global}
 use Rattle.std.specs.declared.io.ErrorKind.{ErrorKind}
 use Rattle.std.specs.declared.io.ErrorKind.TheVariants.{NotFound, NotADirectory}
-use Rattle.toml.specs.Data.{Data, Members}
+use Rattle.toml.specs.Data.{Data}
 use Rattle.toml.specs.Parse.{parse_document}
 use Rattle.toml.specs.declared.value.Value.{Value}
 use Rattle.cargo_toml_parts.specs.declared.error.Error.{Error, Memory}
@@ -15,7 +15,7 @@ use Rattle.cargo_toml_manifest.specs.Completing.{GivenBy, IsWrapped}
 use Rattle.cargo_toml_manifest.specs.Manifests.{ManifestMeaning, manifest_meaning}
 use Rattle.cargo_toml_manifest.specs.Roots.{IsFromSlice}
 use Rattle.cargo_toml_manifest.specs.Texts.{IsFromText, document_reads}
-use Rattle.cargo_toml_manifest.specs.Told.{ToldRoot, open_root}
+use Rattle.cargo_toml_manifest.specs.Told.{open_root}
 use Rattle.cargo_toml_manifest.specs.declared.files.Filesystem.{Filesystem}
 use Rattle.cargo_toml_manifest.specs.declared.lookup.Candidate.{Candidate}
 use Rattle.cargo_toml_manifest.specs.declared.lookup.Candidate.TheVariants.{Root, Other, Absent}

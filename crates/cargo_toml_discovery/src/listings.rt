@@ -117,11 +117,11 @@ impl Listings {
         ensures names { IfOk result (λ v. all_named v.items ≡ entries_in (answers_of self.now) dir.now) }
         ensures ascend { IfOk result (λ v. NamesAscend (all_named v.items)) }
     {
-        let mut entries = Vec::new(alloc);
         let Some(names) = self.names_at(dir) else {
-            return Ok(entries);
+            return Ok(Vec::new(alloc));
         };
-        let _count = names.len();
+        let count = names.len();
+        let mut entries = Vec::with_capacity(alloc, count)?;
         for name in names {
             let has_main = !is_source(name.as_str())
                 && self.has(in_dir(alloc, dir, name.as_str())?.as_str(), "main.rs");

@@ -8,7 +8,12 @@ use std::alloc::{AllocError, Global};
 pub fn in_dir(alloc: Global, dir: &str, name: &str) -> Result<String, AllocError>
     ensures { IfOk result (λ path. string_bytes path ≡ in_dir dir.now name.now) }
 {
-    format!(in alloc; "{dir}/{name}")
+    let room = dir.len().saturating_add(name.len()).saturating_add(1);
+    let mut path = String::with_capacity(alloc, room)?;
+    path.push_str(dir)?;
+    path.push_str("/")?;
+    path.push_str(name)?;
+    Ok(path)
 }
 
 /// Whether the name is that of a source: whether it ends with `.rs`.

@@ -20,9 +20,6 @@ root_is_answer (denied k) ns h = cc
 root_is_answer open_path ns h = h
 
 -- answers stay
-pub grows-same : (told : Text → Told) (ans : Answers) → Grows told ans ans
-grows-same told ans = ((λ p ns h. h), (λ f. f))
-
 pub grows-on : (told : Text → Told) (a b c : Answers) → Grows told a b → Grows told b c → Grows told a c
 grows-on told a b c g h = ((λ p ns e. h.0 p ns (g.0 p ns e)), (λ f. h.1 (g.1 f)))
 

@@ -1,26 +1,44 @@
-use Rattle.std.proofs.Common.{◌≡◌, Bool, true, false, cond, ◌||◌, List, ◌∷◌, refl, ap, ◌∙◌, sym, String, string_bytes}
+-- A set that is made of names has just these.
+use Rattle.std.proofs.Common.{◌≡◌, Bool, true, false, ◌||◌, List, [], ◌∷◌, refl, ap, ◌∙◌, sym, subst, String, string_bytes}
 use Rattle.std.specs.List.{list_any}
-use Rattle.std.specs.Bool.{Decides}
 use Rattle.std.specs.Str.{bytes_eq}
+use Rattle.std.specs.String.{string_cmp}
+use Rattle.std.specs.Ordering.{nat_cmp, is_eq}
+use Rattle.std.specs.Cmp.Lexicographic.{slice_cmp}
+use Rattle.std.specs.BTreeSet.{BTreeSet, IsFromIterResult, contains_text}
+use Rattle.std.specs.HashSet.{HashSet, contains_text as has_in}
 use Rattle.std.specs.declared.alloc.Global.{Global}
 use Rattle.std.proofs.lemmas.Slice.Eq.{bytes_eq-Decides}
-use Rattle.std.proofs.lemmas.Bool.Decides.{same_from_decides}
+use Rattle.std.proofs.lemmas.Map.Text.{is_eq-slice_cmp}
 use Rattle.cargo_toml_discovery.specs.Names.{Text}
 
-Decides-sym : (xs ys : Text) (b : Bool) → Decides b (xs ≡ ys) → Decides b (ys ≡ xs)
-Decides-sym xs ys b d = (λ e. sym (d.0 e), λ e. d.1 (sym e))
+abbrev is_here : Text → String Global → Bool
+is_here t k = is_eq (slice_cmp nat_cmp t (string_bytes k))
 
-pub bytes_eq_comm : (xs ys : Text) → bytes_eq xs ys ≡ bytes_eq ys xs
-bytes_eq_comm xs ys = same_from_decides _ _ (bytes_eq-Decides xs ys) (Decides-sym ys xs (bytes_eq ys xs) (bytes_eq-Decides ys xs))
+abbrev has : Text → List (String Global) → Bool
+has t ks = list_any (is_here t) ks
 
-moved : (b a r : Bool) → cond b true a || r ≡ a || (b || r)
-moved true true r = refl
-moved true false r = refl
-moved false true r = refl
-moved false false r = refl
+-- a text that is there is one of them
+one_of : (t : Text) (ks : List (String Global)) → has t ks ≡ true → (k : String Global) × (t ≡ string_bytes k)
+one_of t [] h = cc
+one_of t (k ∷ ks) h = elim (is_here t k) as (λ b. is_here t k ≡ b → (b || has t ks) ≡ true → (k : String Global) × (t ≡ string_bytes k)) [
+  | true ↦ λ e _. (k, (bytes_eq-Decides t (string_bytes k)).0 (sym (is_eq-slice_cmp t (string_bytes k)) ∙ e))
+  | false ↦ λ _ r. one_of t ks r
+] refl h
 
-pub sorted_step : (bs t : Text) (a v all : Bool) (k : String Global) (rest : List (String Global)) → bs ≡ string_bytes k → v ≡ cond (bytes_eq bs t) true a →
-    (a || list_any (λ k. bytes_eq t (string_bytes k)) (k ∷ rest)) ≡ all → (v || list_any (λ k. bytes_eq t (string_bytes k)) rest) ≡ all
-sorted_step bs t a v all k rest same step h =
-    ap (λ (b : Bool). b || list_any (λ k. bytes_eq t (string_bytes k)) rest) step ∙ moved (bytes_eq bs t) a (list_any (λ k. bytes_eq t (string_bytes k)) rest)
-    ∙ ap (λ (b : Bool). a || (b || list_any (λ k. bytes_eq t (string_bytes k)) rest)) (bytes_eq_comm bs t ∙ ap (λ (u : Text). bytes_eq t u) same) ∙ h
+-- which texts are there is known by the names alone
+module _ (xs ys : List (String Global)) (h : (k : String Global) → has (string_bytes k) xs ≡ has (string_bytes k) ys) where
+  by_name : (t : Text) (k : String Global) → t ≡ string_bytes k → has t xs ≡ has t ys
+  by_name t k e = subst (λ (u : Text). has u xs ≡ has u ys) (sym e) (h k)
+
+  both : (t : Text) (a b : Bool) → has t xs ≡ a → has t ys ≡ b → a ≡ b
+  both t true b e d = let k = one_of t xs e in sym e ∙ by_name t k.0 k.1 ∙ d
+  both t false true e d = let k = one_of t ys d in sym e ∙ by_name t k.0 k.1 ∙ d
+  both t false false e d = refl
+
+has-bytes : (t : Text) (ks : List (String Global)) → has t ks ≡ list_any (λ k. bytes_eq t (string_bytes k)) ks
+has-bytes t [] = refl
+has-bytes t (k ∷ ks) = ap (λ (b : Bool). b || has t ks) (is_eq-slice_cmp t (string_bytes k)) ∙ ap (λ (b : Bool). bytes_eq t (string_bytes k) || b) (has-bytes t ks)
+
+pub made_of : {S : Type 0} (names : HashSet (String Global) S) (s : BTreeSet (String Global)) → IsFromIterResult string_cmp names.keys s → (t : Text) → contains_text s t ≡ has_in names t
+made_of names s made t = both s.keys names.keys made.0 t (has t s.keys) (has t names.keys) refl refl ∙ has-bytes t names.keys

@@ -27,10 +27,6 @@ module _ (edition : Edition) where
       let rest : walk edition (without w o.name) os ≡ walk edition w' os = ap (λ (n : Text). walk edition (without w n) os) same ∙ walk-same (without w name) w' os (λ n. sym (after n)) in
       ap (λ (q : ProductMeaning). q ∷ walk edition (without w o.name) os) there ∙ ap (λ (qs : List ProductMeaning). p ∷ qs) rest
 
--- the next name
-pub drop-named : (es : List code.Entry) (i : ℕ) (e : code.Entry) → i < length es → e ≡ get_or es i e → map named_of (drop i es) ≡ named_of e ∷ map named_of (drop (i + 1) es)
-drop-named es i e below read = rw (add-one, drop-cons es i e below, ← read) refl
-
 pub seen_twice : (r : Option (Bor code_product.Product)) → option_map product_meaning (option_copied r) ≡ option_map (λ (q : Bor code_product.Product). product_meaning q.now) r
 seen_twice None = refl
 seen_twice (Some q) = refl
@@ -38,7 +34,3 @@ seen_twice (Some q) = refl
 pub removed : (b : Bool) (old : Option (Bor code_product.Product)) → option_map (λ (q : Bor code_product.Product). product_meaning q.now) (cond b None old) ≡ cond b None (option_map (λ (q : Bor code_product.Product). product_meaning q.now) old)
 removed true old = refl
 removed false old = refl
-
-pub cons-append : (r : Option Offered) (os qs : List Offered) → cons_option r os ++ qs ≡ cons_option r (os ++ qs)
-cons-append None os qs = refl
-cons-append (Some o) os qs = refl

@@ -38,10 +38,6 @@ pub products-told : (told : Text → Told) (dir : Text) (ns : List Text) (f : Fa
 products-told told dir ns f one h = elim (told_or_open (told dir) ns one)
     [ inl e ↦ rw e tt | inr e ↦ rw e (each-told told dir ns f h) ]
 
-pub products-first : (told : Text → Told) (dir : Text) (f : Fault) → MayTell (names_at (told dir)) f → MayTell (entries_at told true dir) f
-products-first told dir f h = elim (names_at (told dir)) as (λ s. MayTell s f → MayTell (and_then s (each_named told dir)) f)
-    [ seen x ↦ λ k. absurd k | faulty fs ↦ λ k. k | unclear ↦ λ k. k ] h
-
 -- what was heard
 heard_at : (told : Text → Told) (ans : Answers) (p : Text) (r : Option (List Text)) → Fits told ans → answer_at ans p ≡ r → is_some r ≡ true → names_at (filled_by (told p) r) ≡ seen (unwrap_or r [])
 heard_at told ans p None f e h = cc

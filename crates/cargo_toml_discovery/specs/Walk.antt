@@ -17,7 +17,7 @@ use Rattle.cargo_toml_discovery.specs.Found.{Named, Offered, product_for, has_pa
 use Rattle.cargo_toml_discovery.specs.Names.{Text}
 
 abbrev pub named_of : code_entry.Entry → Named
-named_of e = record { name = string_bytes e.name; has_main = e.has_main }
+named_of e = record { name = e.name.now; has_main = e.has_main }
 
 abbrev pub all_named : List code_entry.Entry → List Named
 all_named es = map named_of es

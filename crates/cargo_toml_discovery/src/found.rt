@@ -28,10 +28,10 @@ pub struct Offer {
 }
 
 // What a name in a folder offers.
-fn offer_for(alloc: Global, dir: &str, entry: &Entry) -> Result<Option<Offer>, AllocError>
+fn offer_for(alloc: Global, dir: &str, entry: &Entry<'_>) -> Result<Option<Offer>, AllocError>
     ensures { IfOk result (IsOffer (offer_of dir.now (named_of entry.now))) }
 {
-    let name = entry.name.as_str();
+    let name = entry.name;
     if is_source(name) {
         return Ok(Some(Offer {
             name: String::from_str(alloc, stem(name))?,
@@ -42,7 +42,7 @@ fn offer_for(alloc: Global, dir: &str, entry: &Entry) -> Result<Option<Offer>, A
         let mut path = in_dir(alloc, dir, name)?;
         path.push_str("/main.rs")?;
         return Ok(Some(Offer {
-            name: entry.name.clone()?,
+            name: String::from_str(alloc, name)?,
             path,
         }));
     }
@@ -145,7 +145,7 @@ fn open_offer(
     alloc: Global,
     dir: &str,
     paths: &BTreeSet<&str>,
-    entry: &Entry,
+    entry: &Entry<'_>,
 ) -> Result<Option<Offer>, AllocError>
     ensures { IfOk result (IsOffer (open_offer dir.now (is_path_in paths.now) (named_of entry.now))) }
 {
@@ -200,7 +200,7 @@ fn place_one<'a>(
     edition: Edition,
     dir: &str,
     paths: &BTreeSet<&str>,
-    entry: &Entry,
+    entry: &Entry<'_>,
     list: &mut Vec<Product>,
     still: &mut BTreeMap<&'a str, &'a Product>,
 ) -> Result<(), AllocError>
@@ -219,7 +219,7 @@ fn place_all<'a>(
     edition: Edition,
     dir: &str,
     paths: &BTreeSet<&str>,
-    entries: &[Entry],
+    entries: &[Entry<'_>],
     list: &mut Vec<Product>,
     still: &mut BTreeMap<&'a str, &'a Product>,
 ) -> Result<(), AllocError>
@@ -238,7 +238,7 @@ fn placed(
     edition: Edition,
     dir: &str,
     products: &[Product],
-    entries: &[Entry],
+    entries: &[Entry<'_>],
     extra: Option<Offer>,
 ) -> Result<Vec<Product>, AllocError>
     ensures { IfOk result (λ v. (x : Option Offered) → IsOffer x extra →
@@ -258,7 +258,7 @@ fn found_by_walk(
     edition: Edition,
     dir: &str,
     products: &[Product],
-    entries: &[Entry],
+    entries: &[Entry<'_>],
     extra: Option<Offer>,
 ) -> Result<Vec<Product>, AllocError>
     ensures { IfOk result (λ v. (x : Option Offered) → IsOffer x extra →
@@ -279,7 +279,7 @@ pub fn found(
     edition: Edition,
     dir: &str,
     products: &[Product],
-    entries: &[Entry],
+    entries: &[Entry<'_>],
     extra: Option<Offer>,
 ) -> Result<Vec<Product>, AllocError>
     requires { NamesAscend (all_named entries.now) }

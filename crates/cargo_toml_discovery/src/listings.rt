@@ -27,10 +27,10 @@ pub struct Wanted {
 }
 
 /// A name in a folder of products.
-#[derive(Debug, Drop)]
-pub struct Entry {
+#[derive(Clone, Copy, Debug)]
+pub struct Entry<'a> {
     /// The name.
-    pub name: String,
+    pub name: &'a str,
     /// Whether it is no source and the folder of that name holds `main.rs`.
     pub has_main: bool,
 }
@@ -43,16 +43,12 @@ pub struct Listings {
 }
 
 /// The names in byte order. It is refused only where there was no memory.
-pub fn sorted_names(alloc: Global, names: &HashSet<String>) -> Result<BTreeSet<String>, AllocError>
-    ensures names { IfOk result (λ s. (t : Text) → contains_text s t ≡ has_in names.now t) }
+pub fn sorted_names(alloc: Global, names: HashSet<String>) -> Result<BTreeSet<String>, AllocError>
+    ensures names { IfOk result (λ s. (t : Text) → contains_text s t ≡ has_in names t) }
     ensures ordered { IfOk result (λ s. IsOrdered string_cmp s) }
 {
-    let mut sorted = BTreeSet::new(alloc);
-    for name in names {
-        sorted.insert(name.clone()?)?;
-    }
-    let _count = sorted.len();
-    Ok(sorted)
+    // All at once: the names are moved, sorted and then built into the set, and none is searched for its place.
+    BTreeSet::from_iter(alloc, names)
 }
 
 impl Listings {
@@ -113,7 +109,7 @@ impl Listings {
     }
 
     /// What a folder of products holds, by name in byte order; nothing where it was not asked for.
-    pub fn entries(&self, alloc: Global, dir: &str) -> Result<Vec<Entry>, AllocError>
+    pub fn entries<'a>(&'a self, alloc: Global, dir: &str) -> Result<Vec<Entry<'a>>, AllocError>
         ensures names { IfOk result (λ v. all_named v.items ≡ entries_in (answers_of self.now) dir.now) }
         ensures ascend { IfOk result (λ v. NamesAscend (all_named v.items)) }
     {
@@ -126,7 +122,7 @@ impl Listings {
             let has_main = !is_source(name.as_str())
                 && self.has(in_dir(alloc, dir, name.as_str())?.as_str(), "main.rs");
             entries.push(Entry {
-                name: name.clone()?,
+                name: name.as_str(),
                 has_main,
             })?;
         }

@@ -13,7 +13,10 @@ use std::cmp::Ordering;
 fn compare(a: &Product, b: &Product) -> Ordering
     ensures { result ≡ product_cmp (product_meaning a.now) (product_meaning b.now) }
 {
-    a.name.cmp(&b.name).then(a.path.cmp(&b.path))
+    match a.name.cmp(&b.name) {
+        Ordering::Equal => a.path.cmp(&b.path),
+        by_name => by_name,
+    }
 }
 
 /// Puts products in order, by name and then by path. Equal ones stay in their order. It is refused only where there was
@@ -42,7 +45,7 @@ pub fn copied(product: &Product) -> Result<Product, AllocError>
 pub fn copies(alloc: Global, products: &[Product]) -> Result<Vec<Product>, AllocError>
     ensures { IfOk result (λ list. meanings list.items ≡ meanings products.now) }
 {
-    let mut list = Vec::new(alloc);
+    let mut list = Vec::with_capacity(alloc, products.len())?;
     for product in products {
         list.push(copied(product)?)?;
     }

@@ -23,7 +23,7 @@ fn listing<Fs: AbstractFilesystem>(
     ensures { Listed (Fs.names_at fs.now path.now) result }
 {
     match fs.file_names_in(alloc, path) {
-        Ok(names) => Ok(sorted_names(alloc, &names)?),
+        Ok(names) => Ok(sorted_names(alloc, names)?),
         Err(fault) => match &fault {
             Error::Io(found) if found.kind() == io::ErrorKind::NotFound => Ok(BTreeSet::new(alloc)),
             _ => Err(fault),
@@ -36,7 +36,7 @@ fn root_listing<Fs: AbstractFilesystem>(alloc: Global, fs: &Fs) -> Result<BTreeS
     ensures { RootListed (Fs.names_at fs.now []) result }
 {
     let names = fs.file_names_in(alloc, "")?;
-    Ok(sorted_names(alloc, &names)?)
+    Ok(sorted_names(alloc, names)?)
 }
 
 // Asks for the names in a folder, unless that was done.

@@ -1,16 +1,19 @@
-use Rattle.std.proofs.Common.{string_bytes, true}
-use Rattle.std.specs.Map.Iter.{deref}
-use Rattle.std.specs.BTreeSet.{contains_text}
-use Rattle.std.specs.HashSet.{contains_text as has_in}
-use Rattle.std.proofs.lemmas.Map.Iter.{rest_more}
-use Rattle.std.proofs.lemmas.Map.Text.{btree_set_updates_text}
-use Rattle.cargo_toml_discovery.proofs.Sorts.{sorted_step}
+use Rattle.std.proofs.Common.{◌∙◌, sym, subst, map-id}
+use Rattle.std.specs.BTreeSet.{IsFromIterResult}
+use Rattle.std.specs.String.{string_cmp}
+use Rattle.std.proofs.lemmas.Iterator.{items_from_drains}
+use Rattle.std.proofs.lemmas.Iterator.Consumers.{YieldsList-from_rest}
+use Rattle.std.proofs.lemmas.Result.{IfOk-weaker}
+use Rattle.cargo_toml_discovery.proofs.Sorts.{made_of}
 use Rattle.cargo_toml_discovery.proofs.listings.sorted_names.Goals as goal
 
-pub loop-name-preserved : goal.loop-name-preserved
-loop-name-preserved c = λ t.
-    let bs = string_bytes c.in_ok-clone.field-0 in
-    let left = rest_more deref c.loop-name.name-iterator c.next.new.self c.next.result c.in-Some.name c.in-Some.is c.next.ensures.steps in
-    sorted_step bs t (contains_text c.loop-name.sorted t) (contains_text c.insert.new.self t) (has_in c.args.names.now t) c.in-Some.name.now c.next.new.self
-    c.in_ok-clone.ensures.cases (btree_set_updates_text bs c.loop-name.sorted c.insert.new.self true c.in_ok-insert.ensures.updates t)
-    (rw left at (c.loop-name.invariant t))
+pub returns : goal.returns
+returns c =
+    let names = c.args.names in
+    let made = IfOk-weaker c.from_iter.result _ (λ s. IsFromIterResult string_cmp names.keys s)
+    (λ s h. subst (λ l. IsFromIterResult string_cmp l s) (sym (map-id h.1) ∙ items_from_drains h.1 h.3 (YieldsList-from_rest names.keys h.2.0)) h.4)
+    c.from_iter.ensures.ran in
+    record {
+      names = IfOk-weaker c.from_iter.result _ _ (λ s h t. made_of names s h t) made;
+      ordered = IfOk-weaker c.from_iter.result _ _ (λ s h. h.1) made;
+    }

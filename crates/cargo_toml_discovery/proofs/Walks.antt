@@ -1,14 +1,12 @@
-use Rattle.std.proofs.Common.{◌≡◌, ℕ, Bool, true, false, cond, List, [], ◌∷◌, ◌++◌, Option, Some, None, refl, ap, ◌∙◌, map, drop, get_or, length, ◌<◌, ◌+◌, sym, add-one, drop-cons}
+use Rattle.std.proofs.Common.{◌≡◌, Bool, true, false, cond, List, [], ◌∷◌, Option, Some, None, refl, ap, ◌∙◌, sym}
 use Rattle.std.specs.Option.{option_map, option_copied}
 use Rattle.std.specs.Str.{bytes_eq}
-use Rattle.std.specs.List.{cons_option}
 use denote.Ref.{Bor}
 use Rattle.cargo_toml_settings.specs.declared.settings.Edition.{Edition}
 use Rattle.cargo_toml_tables.specs.declared.product.Product as code_product
-use Rattle.cargo_toml_discovery.specs.declared.listings.Entry as code
 use Rattle.cargo_toml_discovery.specs.Found.{Offered, product_for}
 use Rattle.cargo_toml_discovery.specs.Names.{Text}
-use Rattle.cargo_toml_discovery.specs.Walk.{named_of, walk, without}
+use Rattle.cargo_toml_discovery.specs.Walk.{walk, without}
 use Rattle.cargo_toml_tables.specs.Products.{ProductMeaning, product_meaning}
 
 module _ (edition : Edition) where

@@ -8,7 +8,7 @@ use Rattle.cargo_toml_discovery.specs.Around.{named_by, each_named, entries_at, 
 use Rattle.cargo_toml_discovery.specs.Found.{Named}
 use Rattle.cargo_toml_discovery.specs.Gathering.{IsAnswer, Fits, Has, HasEach, MayTellOneOf, HasProducts, HasRoot, HasAll}
 use Rattle.cargo_toml_discovery.specs.Names.{Text, has_text, in_dir, is_source, may_be_folder}
-use Rattle.cargo_toml_discovery.specs.Seen.{Seen, seen, faulty, unclear, seen_as, pair, and_then, names_at, root_names, MayTell, Tells}
+use Rattle.cargo_toml_discovery.specs.Seen.{Seen, seen, unclear, seen_as, pair, and_then, names_at, root_names, MayTell, Tells}
 use Rattle.cargo_toml_discovery.specs.Told.{Told, names, absent, denied, open_path}
 use Rattle.cargo_toml_discovery.specs.declared.listings.Wanted.{Wanted}
 use Rattle.cargo_toml_discovery.proofs.Heard.{tell-as, tell-left, tell-right, grows-one, has-one, root_is_answer}

@@ -1,5 +1,5 @@
 -- A manifest that was read, or why it could not be completed.
-use Rattle.std.proofs.Common.{◌≡◌, ◌⊎◌, inl, inr, refl, ℕ, List, Option, Some, None, Result, Ok, Err}
+use Rattle.std.proofs.Common.{◌≡◌, inl, inr, refl, ℕ, List, Option, Some, None, Result, Ok, Err}
 use Rattle.std.specs.Prelude.{◌↔◌, IfErr, IfOk, IsErrAnd, IsSome, OnOk}
 use Rattle.std.specs.Result.{result_and}
 use Rattle.toml.specs.Data.{Data}

@@ -15,22 +15,22 @@ returns-clause-given g c =
     let from : IsReadFromText (manifest_meaning meaning) (manifest_reads tree) c.in_ok-manifest.manifest
     = (c.as_str.result.now, c.as_str.utf8, c.in_ok-manifest.ensures) in
     rw c.and.ensures (
-      given meaning (manifest_reads tree) c.in_ok-manifest.manifest
-      c.complete_from_path.new.self c.complete_from_path.result from c.complete_from_path.ensures.given
+    given meaning (manifest_reads tree) c.in_ok-manifest.manifest
+    c.complete_from_path.new.self c.complete_from_path.result from c.complete_from_path.ensures.given
     )
 
 pub returns-clause-needs : goal.returns-clause-needs
 returns-clause-needs g c =
     rw c.and.ensures (
-      if_completed (λ (m : Manifest _). needs (manifest_meaning (λ m. m) m) ≡ false) c.complete_from_path.result
-      c.complete_from_path.new.self c.complete_from_path.ensures.needs
+    if_completed (λ (m : Manifest _). needs (manifest_meaning (λ m. m) m) ≡ false) c.complete_from_path.result
+    c.complete_from_path.new.self c.complete_from_path.ensures.needs
     )
 
 pub returns-clause-filled : goal.returns-clause-filled
 returns-clause-filled g c =
     rw c.and.ensures (
-      if_completed (λ (m : Manifest _). IfSome m.«package» IsFilled) c.complete_from_path.result
-      c.complete_from_path.new.self c.complete_from_path.ensures.filled
+    if_completed (λ (m : Manifest _). IfSome m.«package» IsFilled) c.complete_from_path.result
+    c.complete_from_path.new.self c.complete_from_path.ensures.filled
     )
 
 pub returns-clause-refused : goal.returns-clause-refused
@@ -40,8 +40,8 @@ returns-clause-refused g c =
     let from : IsReadFromText (manifest_meaning meaning) (manifest_reads tree) c.in_ok-manifest.manifest
     = (c.as_str.result.now, c.as_str.utf8, c.in_ok-manifest.ensures) in
     rw c.and.ensures (
-      refused (manifest_meaning meaning) (manifest_reads tree) (manifest_refuses tree g.Metadata.FromValue.from_refuses)
-      (λ _. manifest_meaning (λ m. m) c.complete_from_path.new.self) c.in_ok-manifest.manifest
-      c.complete_from_path.new.self (path_parent c.args.path.now) c.complete_from_path.result from
-      c.complete_from_path.ensures.outcome c.complete_from_path.ensures.bad_path c.complete_from_path.ensures.refused
+    refused (manifest_meaning meaning) (manifest_reads tree) (manifest_refuses tree g.Metadata.FromValue.from_refuses)
+    (λ _. manifest_meaning (λ m. m) c.complete_from_path.new.self) c.in_ok-manifest.manifest
+    c.complete_from_path.new.self (path_parent c.args.path.now) c.complete_from_path.result from
+    c.complete_from_path.ensures.outcome c.complete_from_path.ensures.bad_path c.complete_from_path.ensures.refused
     )

@@ -1,11 +1,13 @@
 //! Manifests of members, completed from the manifest of their workspace, and a manifest in a file.
 ghost use Rattle.std.specs.Prelude.{◌≡◌, false, IfErr, IfOk, IfSome, OnErr, OnOk, option_and_then};
 ghost use Rattle.toml.specs.View.{view};
+ghost use Rattle.toml.specs.declared.value.Value.{Value};
 ghost use Rattle.cargo_toml.specs.Filled.{IsFilled};
 ghost use Rattle.cargo_toml.specs.InheritableValues.{value_of};
 ghost use Rattle.cargo_toml.specs.InheritedManifests.{needs};
+ghost use Rattle.cargo_toml.specs.Manifest.{Manifest};
 ghost use Rattle.cargo_toml.specs.Manifests.{manifest_meaning, manifest_reads, manifest_refuses};
-ghost use Rattle.cargo_toml.specs.RealFiles.{IsPathFault};
+ghost use Rattle.cargo_toml.specs.RealFiles.{IsPathFault, IsReadAndCompleted};
 ghost use Rattle.cargo_toml.specs.Texts.{any_refuses, any_tree};
 
 use crate::in_memory::InMemory;
@@ -69,6 +71,8 @@ pub fn edition_of_file<'a, R: Files + AllocGlobal>(
     rt: &'a R,
     path: &'a str,
 ) -> Result<Option<Edition>, Error>
+    ensures edition { IfOk result (λ e. (m : Manifest Value) × IsReadAndCompleted view (manifest_reads any_tree) m
+        × (e ≡ option_and_then (λ p. value_of p.edition) m.«package»)) }
     ensures refused { IfErr result (IsPathFault (manifest_meaning view) (manifest_reads any_tree)
         (manifest_refuses any_tree any_refuses)) }
 {

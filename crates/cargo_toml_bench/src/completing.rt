@@ -1,13 +1,19 @@
-//! Manifests of members, completed from the manifest of their workspace.
-ghost use Rattle.std.specs.Prelude.{◌≡◌, false, IfOk, IfSome, OnErr, OnOk, option_and_then};
+//! Manifests of members, completed from the manifest of their workspace, and a manifest in a file.
+ghost use Rattle.std.specs.Prelude.{◌≡◌, false, IfErr, IfOk, IfSome, OnErr, OnOk, option_and_then};
+ghost use Rattle.toml.specs.View.{view};
+ghost use Rattle.toml.specs.declared.value.Value.{Value};
 ghost use Rattle.cargo_toml.specs.Filled.{IsFilled};
 ghost use Rattle.cargo_toml.specs.InheritableValues.{value_of};
 ghost use Rattle.cargo_toml.specs.InheritedManifests.{needs};
-ghost use Rattle.cargo_toml.specs.Manifests.{manifest_meaning};
+ghost use Rattle.cargo_toml.specs.Manifest.{Manifest};
+ghost use Rattle.cargo_toml.specs.Manifests.{manifest_meaning, manifest_reads, manifest_refuses};
+ghost use Rattle.cargo_toml.specs.RealFiles.{IsPathFault, IsReadAndCompleted};
+ghost use Rattle.cargo_toml.specs.Texts.{any_refuses, any_tree};
 
 use crate::in_memory::InMemory;
 use cargo_toml::{Edition, Error, Manifest};
 use std::alloc::Global;
+use std::rt::Files;
 
 /// Completes the manifest of a member from that of its workspace, of which the bytes and the path are told.
 ///
@@ -54,6 +60,24 @@ pub fn edition_of_member(
 {
     complete_member(alloc, member, workspace, path)?;
     match &member.package {
+        Some(package) => Ok(Some(package.edition())),
+        None => Ok(None),
+    }
+}
+
+/// Reads the manifest of the file at this path, completes it from the files around it, and tells the edition of its package,
+/// if it has one.
+pub fn edition_of_file<'a, R: Files + AllocGlobal>(
+    rt: &'a R,
+    path: &'a str,
+) -> Result<Option<Edition>, Error>
+    ensures edition { IfOk result (λ e. (m : Manifest Value) × IsReadAndCompleted view (manifest_reads any_tree) m
+        × (e ≡ option_and_then (λ p. value_of p.edition) m.«package»)) }
+    ensures refused { IfErr result (IsPathFault (manifest_meaning view) (manifest_reads any_tree)
+        (manifest_refuses any_tree any_refuses)) }
+{
+    let manifest = Manifest::from_path(rt, rt.alloc(), path)?;
+    match &manifest.package {
         Some(package) => Ok(Some(package.edition())),
         None => Ok(None),
     }

@@ -1,5 +1,5 @@
 -- Which faults reading real files and searching among them give.
-use Rattle.std.proofs.Common.{◌≡◌, ◌⊎◌, inl, inr, sym, ap, subst, ◌∙◌, ℕ, List, false, Some, Ok, Err, String, string_bytes}
+use Rattle.std.proofs.Common.{◌≡◌, ◌⊎◌, inl, inr, sym, ap, ◌∙◌, ℕ, List, false, Some, Ok, String, string_bytes}
 use Rattle.std.specs.Prelude.{is_some}
 use Rattle.std.specs.IoError.{error_kind}
 use Rattle.std.specs.declared.alloc.Global.{Global}

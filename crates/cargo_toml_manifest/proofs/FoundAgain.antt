@@ -1,7 +1,6 @@
 -- What is found in folders is found again, and leaves nothing to the workspace.
 use Rattle.std.proofs.Common.{◌≡◌, false, Option, Some, None, refl, ap, sym, ◌∙◌, subst}
 use Rattle.std.specs.Option.{option_map_or}
-use Rattle.std.specs.Prelude.{option_and_then}
 use Rattle.std.proofs.lemmas.Bool.{or_parts}
 use Rattle.cargo_toml_parts.specs.declared.inheritable.Inheritable.TheVariants.{Set}
 use Rattle.cargo_toml_discovery.proofs.Again.{discovered-again}
@@ -13,9 +12,8 @@ use Rattle.cargo_toml_discovery.specs.Told.{Told}
 use Rattle.cargo_toml_package.proofs.Lasting.{files-own}
 use Rattle.cargo_toml_package.specs.Inheriting.{any_field_left}
 use Rattle.cargo_toml_package.specs.Packages.{PackageMeaning}
-use Rattle.cargo_toml_manifest.specs.Choosing.{hint_of}
 use Rattle.cargo_toml_manifest.specs.Finding.{found_around, found_for, stated_by, wanted_by, with_discovered}
-use Rattle.cargo_toml_manifest.specs.Inheriting.{needs, own_tables}
+use Rattle.cargo_toml_manifest.specs.Inheriting.{needs}
 use Rattle.cargo_toml_manifest.specs.Manifests.{ManifestMeaning}
 
 seen-from : {A B : Type 0} (f : A → B) (s : Seen A) (y : B) → seen_as f s ≡ seen y → (x : A) × (s ≡ seen x) × (f x ≡ y)
@@ -83,22 +81,3 @@ pub needs_found : {M : Type 0} (m n : ManifestMeaning M) (told : Text → Told) 
 needs_found m n told none h =
     by_package (λ k. needs k ≡ false) m n told m.«package» refl (λ _. none)
     (λ p a there at. needs-discovered m p (discovered (stated_by m p) a) there none) h
-
--- what the search for products leaves as it is
-pub record StaysAround {M : Type 0} (m n : ManifestMeaning M) : Type 0 where
-  pub workspace : n.workspace ≡ m.workspace
-  pub hint : hint_of n ≡ hint_of m
-  pub tables : own_tables n ≡ own_tables m
-  pub target : n.target ≡ m.target
-
-pub stays_around : {M : Type 0} (m n : ManifestMeaning M) (told : Text → Told) → found_around m told ≡ seen n →
-    StaysAround m n
-stays_around m n told h =
-    by_package (λ k. StaysAround m k) m n told m.«package» refl
-    (λ _. record { workspace = refl; hint = refl; tables = refl; target = refl })
-    (λ p a there at. record {
-      workspace = refl;
-      hint = ap (λ (o : Option (PackageMeaning _)). option_and_then (λ q. q.workspace) o) (sym there);
-      tables = refl;
-      target = refl;
-    }) h

@@ -1,7 +1,6 @@
 -- Files on the disk: where they are looked for, which root is found among them, and what faults they give.
-use Rattle.std.specs.Prelude.{◌≡◌, ◌⊎◌, ℕ, suc, zero, List, ◌++◌, codes, length, ◌==◌, if◌then◌else◌, Bool, true, false, Option, Some, None, option_and_then, is_some, Result, Ok, Err, IsUtf8, String}
+use Rattle.std.specs.Prelude.{◌≡◌, ◌⊎◌, ℕ, suc, zero, List, ◌++◌, codes, length, ◌==◌, if◌then◌else◌, Bool, true, false, Option, Some, None, option_and_then, is_some, Result, Ok, Err, IsUtf8}
 use Rattle.std.specs.Path.{path_parent}
-use Rattle.std.specs.declared.alloc.Global.{Global}
 use Rattle.std.specs.declared.io.ErrorKind.{ErrorKind}
 use Rattle.std.specs.declared.io.ErrorKind.TheVariants.{NotFound, NotADirectory}
 use Rattle.toml.specs.Data.{Data}
@@ -11,7 +10,7 @@ use Rattle.cargo_toml_parts.specs.declared.error.Error.{Error, Memory}
 use Rattle.cargo_toml_parts.specs.FaultValues.{Fault, fault_of, io, other, workspace, workspace_integrity}
 use Rattle.cargo_toml_discovery.specs.Told.{Told, open_path}
 use Rattle.cargo_toml_manifest.specs.Choosing.{RootsTold}
-use Rattle.cargo_toml_manifest.specs.Completing.{GivenBy, IsWrapped}
+use Rattle.cargo_toml_manifest.specs.Completing.{GivenBy, IsWrapped, Meets, complete}
 use Rattle.cargo_toml_manifest.specs.Manifests.{ManifestMeaning, manifest_meaning}
 use Rattle.cargo_toml_manifest.specs.Roots.{IsFromSlice}
 use Rattle.cargo_toml_manifest.specs.Texts.{IsFromText, document_reads}
@@ -106,18 +105,33 @@ bad_path = other (codes "bad path")
 abbrev pub IsCompletionFault : Error → Type 0
 IsCompletionFault e = (fault_of e ≡ bad_path) ⊎ IsWrapped e
 
+-- some text reads as this manifest
+abbrev pub IsReadFromText : {X M : Type 0} → (Manifest X → ManifestMeaning M) → (Data → Option (ManifestMeaning M)) → Manifest X → Type 0
+IsReadFromText meaning reads m =
+    (text : List ℕ) × IsUtf8 text × (document_reads reads (parse_document text) ≡ Some (meaning m))
+
+-- completing this manifest among real files, with no workspace handed in, may be refused with this fault
+abbrev pub IsRefusalOf : {X : Type 0} → Manifest X → Error → Type 0
+IsRefusalOf m e =
+    Meets (manifest_meaning (λ m. m)) (complete (manifest_meaning (λ m. m) m) None real_roots real_folders) (Err e)
+    × IsWrapped e
+
 -- some text reads as a manifest which completion among real files makes into this one
 abbrev pub IsReadAndCompleted : {X M : Type 0} → (X → M) → (Data → Option (ManifestMeaning M)) → Manifest X → Type 0
 IsReadAndCompleted meaning reads new =
-    (text : List ℕ) × IsUtf8 text
-    × ((read : Manifest _)
-    × (document_reads reads (parse_document text) ≡ Some (manifest_meaning meaning read))
-    × GivenBy (manifest_meaning (λ m. m) read) None real_roots real_folders (manifest_meaning (λ m. m) new))
+    (read : Manifest _) × IsReadFromText (manifest_meaning meaning) reads read
+    × GivenBy (manifest_meaning (λ m. m) read) None real_roots real_folders (manifest_meaning (λ m. m) new)
 
--- why a file gives no completed manifest: no memory, a fault of reading, of some text, or of completion
+-- some text reads as a manifest whose completion among real files may be refused with this fault
+abbrev pub IsReadAndRefused : {X M : Type 0} → (Manifest X → ManifestMeaning M) → (Data → Option (ManifestMeaning M)) → Error → Type 0
+IsReadAndRefused meaning reads e = (read : Manifest _) × IsReadFromText meaning reads read × IsRefusalOf read e
+
+-- why a file gives no completed manifest: no memory, a fault of reading, one of some text, a path that names no file,
+-- or the fault of completing a manifest that some text reads as
 abbrev pub IsPathFault : {X M : Type 0} → (Manifest X → ManifestMeaning M) → (Data → Option (ManifestMeaning M)) → (Data → Error → Type 0) → Error → Type 0
 IsPathFault meaning reads refuses e =
     (e ≡ Memory)
     ⊎ (IsInput e
     ⊎ (((text : List ℕ) × IsUtf8 text × IsFromText meaning reads refuses (parse_document text) (Err e))
-    ⊎ IsCompletionFault e))
+    ⊎ ((fault_of e ≡ bad_path)
+    ⊎ IsReadAndRefused meaning reads e)))

@@ -122,7 +122,8 @@ impl<Metadata: FromValue> Manifest<Metadata> {
     {
         let text = fs::read_to_string(rt, path)?;
         let mut manifest = Manifest::from_text(alloc, text.as_str())?;
-        manifest.complete_from_path(rt, alloc, path)?;
-        Ok(manifest)
+        manifest
+            .complete_from_path(rt, alloc, path)
+            .and(Ok(manifest))
     }
 }

@@ -1,4 +1,4 @@
-use Rattle.std.proofs.Common.{inl, inr, sym, ◌∙◌}
+use Rattle.std.proofs.Common.{inl, inr, sym}
 use Rattle.std.specs.IoError.{error_kind}
 use Rattle.std.specs.Path.{path_bytes}
 use Rattle.std.specs.Path.Iter.{ancestors_next}

@@ -1,12 +1,47 @@
-use Rattle.std.proofs.Common.{inr}
-use Rattle.std.proofs.lemmas.Result.{err_from_is_err_and}
+use Rattle.std.specs.Prelude.{◌≡◌, false, IfSome}
+use Rattle.std.specs.Path.{path_parent}
+use Rattle.cargo_toml_package.specs.Filled.{IsFilled}
+use Rattle.cargo_toml_manifest.specs.Inheriting.{needs}
+use Rattle.cargo_toml_manifest.specs.Manifests.{manifest_meaning, manifest_reads, manifest_refuses}
+use Rattle.cargo_toml_manifest.specs.RealFiles.{IsReadFromText}
+use Rattle.cargo_toml_manifest.specs.declared.manifest.Manifest.{Manifest}
+use Rattle.cargo_toml_manifest.proofs.PathFaults.{given, if_completed, refused}
 use Rattle.cargo_toml_manifest.proofs.manifest.Manifest.from_path_with_metadata.Goals as goal
-
-pub returns-in_err-complete_from_path-clause-refused : goal.returns-in_err-complete_from_path-clause-refused
-returns-in_err-complete_from_path-clause-refused g c =
-    let p = err_from_is_err_and c.from_residual-in_err-complete_from_path.result c.from_residual-in_err-complete_from_path.ensures.1 in
-    rw (p.1, p.2) (inr (inr (inr c.in_err-complete_from_path.ensures.refused)))
 
 pub returns-clause-given : goal.returns-clause-given
 returns-clause-given g c =
-    (c.as_str.result.now, c.as_str.utf8, (c.in_ok-manifest.manifest, c.in_ok-manifest.ensures, c.in_ok-complete_from_path.ensures.given))
+    let meaning = g.Metadata.FromValue.meaning in
+    let tree = g.Metadata.FromValue.from_tree in
+    let from : IsReadFromText (manifest_meaning meaning) (manifest_reads tree) c.in_ok-manifest.manifest
+    = (c.as_str.result.now, c.as_str.utf8, c.in_ok-manifest.ensures) in
+    rw c.and.ensures (
+    given meaning (manifest_reads tree) c.in_ok-manifest.manifest
+    c.complete_from_path.new.self c.complete_from_path.result from c.complete_from_path.ensures.given
+    )
+
+pub returns-clause-needs : goal.returns-clause-needs
+returns-clause-needs g c =
+    rw c.and.ensures (
+    if_completed (λ (m : Manifest _). needs (manifest_meaning (λ m. m) m) ≡ false) c.complete_from_path.result
+    c.complete_from_path.new.self c.complete_from_path.ensures.needs
+    )
+
+pub returns-clause-filled : goal.returns-clause-filled
+returns-clause-filled g c =
+    rw c.and.ensures (
+    if_completed (λ (m : Manifest _). IfSome m.«package» IsFilled) c.complete_from_path.result
+    c.complete_from_path.new.self c.complete_from_path.ensures.filled
+    )
+
+pub returns-clause-refused : goal.returns-clause-refused
+returns-clause-refused g c =
+    let meaning = g.Metadata.FromValue.meaning in
+    let tree = g.Metadata.FromValue.from_tree in
+    let from : IsReadFromText (manifest_meaning meaning) (manifest_reads tree) c.in_ok-manifest.manifest
+    = (c.as_str.result.now, c.as_str.utf8, c.in_ok-manifest.ensures) in
+    rw c.and.ensures (
+    refused (manifest_meaning meaning) (manifest_reads tree) (manifest_refuses tree g.Metadata.FromValue.from_refuses)
+    (λ _. manifest_meaning (λ m. m) c.complete_from_path.new.self) c.in_ok-manifest.manifest
+    c.complete_from_path.new.self (path_parent c.args.path.now) c.complete_from_path.result from
+    c.complete_from_path.ensures.outcome c.complete_from_path.ensures.bad_path c.complete_from_path.ensures.refused
+    )

@@ -15,7 +15,7 @@ use Rattle.cargo_toml_parts.specs.Reads.{map_meaning}
 use Rattle.cargo_toml_dependencies.specs.declared.dependency.Dependency.{Dependency}
 use Rattle.cargo_toml_dependencies.specs.Dependencies.{DependencyMeaning, dependency_meaning, InheritedMeaning, simple, inherited, detailed}
 use Rattle.cargo_toml_dependencies.specs.Inheriting.{Entries, entry_at, inherited_entries, inherited_entry}
-use Rattle.cargo_toml_dependencies.specs.Replacing.{AreEntriesOf}
+use Rattle.cargo_toml_dependencies.specs.Near.{AreEntriesOf}
 use Rattle.cargo_toml_dependencies.proofs.Entries.{entry_at-map}
 use Rattle.cargo_toml_dependencies.proofs.Inherited.{behind, behind-push, needed}
 

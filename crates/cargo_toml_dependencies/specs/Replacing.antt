@@ -1,6 +1,5 @@
 -- Dependencies with others in the place of those that are left to the workspace.
-use Rattle.std.specs.Prelude.{◌≡◌, ℕ, List, [], ◌∷◌, Some, drop, map, String, string_bytes, Vec}
-use Rattle.std.specs.List.{AllByRecursion}
+use Rattle.std.specs.Prelude.{ℕ, List, [], ◌∷◌, drop, map, String, Vec}
 use Rattle.std.specs.BTreeMap.{BTreeMap}
 use Rattle.std.specs.declared.alloc.Global.{Global}
 use Rattle.cargo_toml_parts.specs.Reads.{map_meaning}
@@ -8,7 +7,7 @@ use Rattle.cargo_toml_dependencies.specs.declared.dependency.Dependency.{Depende
 use Rattle.cargo_toml_dependencies.specs.declared.inheriting.targets.NewTarget.{NewTarget}
 use Rattle.cargo_toml_dependencies.specs.declared.target.Target.{Target}
 use Rattle.cargo_toml_dependencies.specs.Dependencies.{DependencyMeaning, dependency_meaning, inherited}
-use Rattle.cargo_toml_dependencies.specs.Inheriting.{Entries, entry_at}
+use Rattle.cargo_toml_dependencies.specs.Inheriting.{Entries}
 use Rattle.cargo_toml_dependencies.specs.Targets.{TargetMeaning, target_meaning}
 
 -- what the dependencies of a map hold, those of a list, and the targets of a map
@@ -20,10 +19,6 @@ made_meaning made = map dependency_meaning made.items
 
 abbrev pub targets_meaning : BTreeMap (String Global) Target → List (List ℕ × TargetMeaning)
 targets_meaning m = map_meaning target_meaning m
-
--- each of these is the one of its key among the entries
-abbrev pub AreEntriesOf : Entries → List (String Global × Dependency) → Type 0
-AreEntriesOf entries some = AllByRecursion (λ e. entry_at (string_bytes e.0) entries ≡ Some (dependency_meaning e.1)) some
 
 -- the dependency that stands in the place of this one: the next of those made, if it is inherited
 abbrev pub next_for : DependencyMeaning → List DependencyMeaning → DependencyMeaning

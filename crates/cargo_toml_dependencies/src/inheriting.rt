@@ -8,7 +8,8 @@ ghost use Rattle.std.specs.Vec.Iter.{into_iter_items};
 ghost use Rattle.cargo_toml_parts.specs.Answers.{Gives};
 ghost use Rattle.cargo_toml_dependencies.specs.Dependencies.{dependency_meaning};
 ghost use Rattle.cargo_toml_dependencies.specs.Inheriting.{Entries, any_left, entry_at, inherited_entries};
-ghost use Rattle.cargo_toml_dependencies.specs.Replacing.{AreEntriesOf, entries_meaning, made_meaning, next_for, replaced, rest_for};
+ghost use Rattle.cargo_toml_dependencies.specs.Near.{AreEntriesOf};
+ghost use Rattle.cargo_toml_dependencies.specs.Replacing.{entries_meaning, made_meaning, next_for, replaced, rest_for};
 
 mod entry;
 mod targets;
@@ -56,6 +57,15 @@ fn template_at<'a>(
     }
 }
 
+// Room for what the inherited dependencies become: for all at once, or for none where none is inherited.
+fn room_for(dependencies: &DepsSet) -> usize {
+    if any_inherited(dependencies) {
+        dependencies.len()
+    } else {
+        0
+    }
+}
+
 // What the inherited dependencies become by these of the workspace.
 fn made_by(
     alloc: Global,
@@ -67,7 +77,7 @@ fn made_by(
         (inherited_entries (Some (entries_meaning templates.now)) base.now (entries_meaning dependencies.now)) }
 {
     let mut near = templates.iter();
-    let mut made = Vec::new(alloc);
+    let mut made = Vec::with_capacity(alloc, room_for(dependencies))?;
     for (key, dependency) in dependencies {
         if let Dependency::Inherited(entry) = dependency {
             let Some(template) = template_at(templates, &mut near, key.as_str()) else {

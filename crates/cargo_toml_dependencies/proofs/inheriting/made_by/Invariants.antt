@@ -1,7 +1,7 @@
 use Rattle.std.proofs.Common.{◌≡◌, Some, map, string_bytes}
 use Rattle.cargo_toml_parts.specs.Reads.{map_meaning}
 use Rattle.cargo_toml_dependencies.specs.Dependencies.{dependency_meaning}
-use Rattle.cargo_toml_dependencies.specs.Replacing.{AreEntriesOf}
+use Rattle.cargo_toml_dependencies.specs.Near.{AreEntriesOf}
 use Rattle.cargo_toml_dependencies.proofs.Inherited.{behind, needed}
 use Rattle.cargo_toml_dependencies.proofs.inheriting.made_by.Given as goal
 

@@ -1,5 +1,5 @@
 use Rattle.cargo_toml_dependencies.specs.Inheriting.{Entries}
-use Rattle.cargo_toml_dependencies.specs.Replacing.{AreEntriesOf}
+use Rattle.cargo_toml_dependencies.specs.Near.{AreEntriesOf}
 use Rattle.cargo_toml_dependencies.proofs.inheriting.near_at.Given as goal
 
 abbrev pub invariant-loop : goal.invariant-loop

@@ -1,12 +1,11 @@
 -- Entries that are gone through beside the table that they are of.
-use Rattle.std.proofs.Common.{◌≡◌, ◌∙◌, ◌++◌, ℕ, List, [], ◌∷◌, Result, Ok, Err, None, Some, Option, ap, map, option_map, refl, rules, string_bytes, String, subst, sym}
+use Rattle.std.proofs.Common.{◌≡◌, ◌∙◌, ◌++◌, ℕ, List, [], ◌∷◌, Result, Ok, Err, None, Some, ap, refl, rules, string_bytes, String, subst, sym}
 use Rattle.std.proofs.lemmas.List.Elements.{All-head, All-tail, All-same}
 use Rattle.std.specs.BTreeMap.{BTreeMap, get_by}
 use Rattle.std.specs.Cmp.Lexicographic.{slice_cmp}
 use Rattle.std.specs.List.{All}
 use Rattle.std.specs.Ordering.{nat_cmp}
 use Rattle.std.specs.declared.alloc.Global.{Global}
-use Rattle.cargo_toml_parts.specs.Answers.{◌>>=◌, beside}
 use Rattle.cargo_toml_parts.specs.FaultValues.{Fault, fault_of, fault_step, inherited_unknown_value}
 use Rattle.cargo_toml_parts.specs.declared.error.Error.{InheritedUnknownValue, fold-roll-Error}
 use Rattle.cargo_toml_parts.specs.declared.error.Error.TheOpen.{Error-F}

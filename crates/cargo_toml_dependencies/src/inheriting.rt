@@ -2,41 +2,94 @@
 //!
 //! It goes in two steps, so that a refusal leaves everything as it was: first the new dependencies are made beside the old
 //! ones, then they are put in their places, which takes no memory and is never refused.
-ghost use Rattle.std.specs.Prelude.{◌≡◌, map, option_map};
+ghost use Rattle.std.specs.Prelude.{◌≡◌, IfSome, Some, map, option_map};
 ghost use Rattle.std.specs.Option.{option_copied};
 ghost use Rattle.std.specs.Vec.Iter.{into_iter_items};
 ghost use Rattle.cargo_toml_parts.specs.Answers.{Gives};
-ghost use Rattle.cargo_toml_dependencies.specs.Dependencies.{dependency_meaning, inherited, inherited_meaning};
-ghost use Rattle.cargo_toml_dependencies.specs.Inheriting.{any_left, inherited_entries, inherited_entry};
+ghost use Rattle.cargo_toml_dependencies.specs.Dependencies.{dependency_meaning};
+ghost use Rattle.cargo_toml_dependencies.specs.Inheriting.{Entries, any_left, entry_at, inherited_entries};
+ghost use Rattle.cargo_toml_dependencies.specs.Near.{AreEntriesOf};
 ghost use Rattle.cargo_toml_dependencies.specs.Replacing.{entries_meaning, made_meaning, next_for, replaced, rest_for};
 
 mod entry;
 mod targets;
 
-use crate::dependency::{Dependency, InheritedDependencyDetail};
+use crate::dependency::Dependency;
 use crate::target::DepsSet;
 use cargo_toml_parts::error::Error;
 use std::alloc::Global;
+use std::collections::btree_map::Iter;
 use std::vec::IntoIter;
 pub use targets::{NewTarget, any_target_inherits, replace_targets, target_replacements};
 
-// What the inherited dependency of a key becomes.
-fn made_for(
-    alloc: Global,
-    templates: Option<&DepsSet>,
-    base: &str,
-    key: &str,
-    entry: &InheritedDependencyDetail,
-) -> Result<Dependency, Error>
-    ensures { Gives dependency_meaning result
-        (inherited_entry (option_map entries_meaning (option_copied templates.entry)) base.now key.now
-        (inherited (inherited_meaning entry.now))) }
+// How many of the workspace's dependencies are looked at in their order before one of a key is searched for.
+const NEAR: usize = 3;
+
+// The dependency of the key, if it is among the next few.
+fn near_at<'a>(near: &mut Iter<'a, String, Dependency>, key: &str) -> Option<&'a Dependency>
+    ensures found { (entries : Entries) → AreEntriesOf entries near.old
+        → IfSome result (λ d. entry_at key.now entries ≡ Some (dependency_meaning d.now)) }
+    ensures near { (entries : Entries) → AreEntriesOf entries near.old → AreEntriesOf entries near.new }
 {
-    let template = match templates {
-        Some(templates) => templates.get(key),
-        None => None,
-    };
-    entry::from_template(alloc, base, key, entry, template)
+    for _ in 0..NEAR {
+        let (at, dependency) = near.next()?;
+        if at.as_str() == key {
+            return Some(dependency);
+        }
+    }
+    None
+}
+
+// The workspace's dependency of a key. Both tables are gone through in the order of their keys, so it mostly is among the next
+// few of the workspace's.
+fn template_at<'a>(
+    templates: &'a DepsSet,
+    near: &mut Iter<'a, String, Dependency>,
+    key: &str,
+) -> Option<&'a Dependency>
+    ensures found { AreEntriesOf (entries_meaning templates.now) near.old
+        → option_map dependency_meaning (option_copied result) ≡ entry_at key.now (entries_meaning templates.now) }
+    ensures near { (entries : Entries) → AreEntriesOf entries near.old → AreEntriesOf entries near.new }
+{
+    match near_at(near, key) {
+        Some(template) => Some(template),
+        None => templates.get(key),
+    }
+}
+
+// Room for what the inherited dependencies become: for all at once, or for none where none is inherited.
+fn room_for(dependencies: &DepsSet) -> usize {
+    if any_inherited(dependencies) {
+        dependencies.len()
+    } else {
+        0
+    }
+}
+
+// What the inherited dependencies become by these of the workspace.
+fn made_by(
+    alloc: Global,
+    templates: &DepsSet,
+    base: &str,
+    dependencies: &DepsSet,
+) -> Result<Vec<Dependency>, Error>
+    ensures { Gives (λ made. replaced (entries_meaning dependencies.now) (made_meaning made)) result
+        (inherited_entries (Some (entries_meaning templates.now)) base.now (entries_meaning dependencies.now)) }
+{
+    let mut near = templates.iter();
+    let mut made = Vec::with_capacity(alloc, room_for(dependencies))?;
+    for (key, dependency) in dependencies {
+        if let Dependency::Inherited(entry) = dependency {
+            let Some(template) = template_at(templates, &mut near, key.as_str()) else {
+                return Err(entry::missing(alloc, key.as_str())?);
+            };
+            let Some(filled) = entry::from_template(alloc, base, entry, template)? else {
+                return Err(Error::InheritedUnknownValue);
+            };
+            made.push(filled)?;
+        }
+    }
+    Ok(made)
 }
 
 /// What the inherited dependencies become by those of the workspace, `templates`, in the order of their keys. `base` is the
@@ -54,13 +107,10 @@ pub fn replacements(
         (inherited_entries (option_map entries_meaning (option_copied templates.entry)) base.now
         (entries_meaning dependencies.now)) }
 {
-    let mut made = Vec::new(alloc);
-    for (key, dependency) in dependencies {
-        if let Dependency::Inherited(entry) = dependency {
-            made.push(made_for(alloc, templates, base, key.as_str(), entry)?)?;
-        }
+    match templates {
+        Some(templates) => made_by(alloc, templates, base, dependencies),
+        None => made_by(alloc, &DepsSet::new(alloc), base, dependencies),
     }
-    Ok(made)
 }
 
 // Puts the next one in the place of an inherited dependency.

@@ -1,11 +1,11 @@
 // What one inherited dependency becomes.
-ghost use Rattle.std.specs.Prelude.{◌≡◌, ◌++◌, [], IfOk, OnOk, map, option_map, string_bytes};
+ghost use Rattle.std.specs.Prelude.{ℕ, ◌≡◌, ◌++◌, List, [], IfOk, OnOk, Some, map, ok_or, option_map, string_bytes};
 ghost use Rattle.std.specs.Option.{option_copied};
 ghost use Rattle.std.specs.Path.{path_join};
-ghost use Rattle.cargo_toml_parts.specs.Answers.{Gives};
+ghost use Rattle.cargo_toml_parts.specs.FaultValues.{fault_of, inherited_unknown_value};
 ghost use Rattle.cargo_toml_parts.specs.Versions.{requirement_meaning};
 ghost use Rattle.cargo_toml_dependencies.specs.Dependencies.{dependency_meaning, detail_meaning, inherited_meaning};
-ghost use Rattle.cargo_toml_dependencies.specs.Inheriting.{adds_nothing, from_template, plain_detail, with_entry};
+ghost use Rattle.cargo_toml_dependencies.specs.Inheriting.{adds_nothing, from_template, missing_template, plain_detail, with_entry};
 
 use crate::dependency::{Dependency, DependencyDetail, InheritedDependencyDetail};
 use cargo_toml_parts::copying::Copying;
@@ -123,33 +123,38 @@ fn adds_nothing(entry: &InheritedDependencyDetail) -> bool
     entry.features.is_empty() && !entry.optional
 }
 
-/// What the inherited dependency of a key becomes, by the workspace's dependency of that key.
+/// The fault where the workspace lacks the dependency of this key.
+pub fn missing(alloc: Global, key: &str) -> Result<Error, AllocError>
+    ensures { IfOk result (λ fault. fault_of fault ≡ missing_template key.now) }
+{
+    let text = format!(in alloc; "workspace dependencies are missing `{key}`")?;
+    Ok(Error::WorkspaceIntegrity(text))
+}
+
+/// What the inherited dependency of a key becomes, by the workspace's dependency of that key; `None` where that is inherited
+/// itself.
 pub fn from_template(
     alloc: Global,
     base: &str,
-    key: &str,
     entry: &InheritedDependencyDetail,
-    template: Option<&Dependency>,
-) -> Result<Dependency, Error>
-    ensures { Gives dependency_meaning result (from_template base.now key.now (inherited_meaning entry.now)
-        (option_map dependency_meaning (option_copied template.entry))) }
+    template: &Dependency,
+) -> Result<Option<Dependency>, AllocError>
+    ensures { IfOk result (λ made. (key : List ℕ)
+        → from_template base.now key (inherited_meaning entry.now) (Some (dependency_meaning template.now))
+        ≡ ok_or (option_map dependency_meaning made) inherited_unknown_value) }
 {
     match template {
-        None => {
-            let text = format!(in alloc; "workspace dependencies are missing `{key}`")?;
-            Err(Error::WorkspaceIntegrity(text))
-        }
-        Some(Dependency::Inherited(_)) => Err(Error::InheritedUnknownValue),
-        Some(Dependency::Detailed(detail)) => {
+        Dependency::Inherited(_) => Ok(None),
+        Dependency::Detailed(detail) => {
             let detail = with_entry(alloc, base, entry, detail)?;
-            Ok(Dependency::Detailed(Box::new(alloc, detail)?))
+            Ok(Some(Dependency::Detailed(Box::new(alloc, detail)?)))
         }
-        Some(Dependency::Simple(requirement)) => {
+        Dependency::Simple(requirement) => {
             if adds_nothing(entry) {
-                return Ok(Dependency::Simple(requirement.duplicate(alloc)?));
+                return Ok(Some(Dependency::Simple(requirement.duplicate(alloc)?)));
             }
             let detail = requirement_with_entry(alloc, entry, requirement)?;
-            Ok(Dependency::Detailed(Box::new(alloc, detail)?))
+            Ok(Some(Dependency::Detailed(Box::new(alloc, detail)?)))
         }
     }
 }

@@ -17,3 +17,5 @@ pub mod Held
 pub mod Work
 pub mod Walks
 pub mod NextName
+mod Requiring
+mod FirstEntries

@@ -11,3 +11,6 @@ pub mod Enabling
 pub mod Implying
 pub mod Examples
 pub mod ReadFeature
+pub mod Entries
+pub mod OwnBins
+pub mod Requiring

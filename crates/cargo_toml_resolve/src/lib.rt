@@ -5,7 +5,9 @@
 
 mod action;
 pub mod admit;
+pub mod bins;
 mod enable;
+pub mod entries;
 pub mod examples;
 pub mod features;
 mod imply;

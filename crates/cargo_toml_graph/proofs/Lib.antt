@@ -14,5 +14,4 @@ pub mod NothingLost
 pub mod BinLists
 pub mod PassedBins
 pub mod RedirectsInOrder
-pub mod Within
 pub mod WorkedExamples

@@ -20,7 +20,7 @@ use Rattle.cargo_toml_resolve.specs.ReadFeature.{joined_in, noted, IsListed}
 use Rattle.cargo_toml_resolve.specs.Reading.{listed_of, IsRead}
 use Rattle.cargo_toml_resolve.specs.Recorded.{is_reserved}
 use Rattle.cargo_toml_resolve.specs.Views.{value_at, table_in, has_text, action_at}
-use Rattle.cargo_toml_resolve.proofs.Listings.{names_listed}
+use Rattle.cargo_toml_resolve.proofs.Listings.{listed_one, names_listed}
 use Rattle.cargo_toml_graph.proofs.Texts.{bytes_eq_refl}
 
 -- what stands under f, where the table lists these actions for it, if any
@@ -67,9 +67,6 @@ new_name [] after n once = refl
 new_name (e ∷ es) after n once =
     ap (λ b. cond b (Some e.1) (lookup (bytes_eq n) es)) (apart n e.0 (λ same. once.0 (subst (Among (map (λ d. d.0) es ++ n ∷ after)) same (among_later (map (λ d. d.0) es) after n))))
     ∙ new_name es after n once.1
-
-abbrev listed_one : Listing → Text × List Text
-listed_one l = (l.name.now, map string_bytes l.actions.now)
 
 module _ (ls : List Listing) (i : ℕ) (l : Listing) (below : i < length ls) (is : l ≡ get_or ls i l) (once : IsOnce (map (λ l. l.name.now) ls)) where
   split : ls ≡ take i ls ++ l ∷ drop (i + 1) ls

@@ -4,8 +4,8 @@ use Rattle.std.proofs.lemmas.Bool.{false≢true, or_cases, and_parts}
 use Rattle.std.specs.List.{list_any}
 use Rattle.std.specs.Map.{lookup}
 use Rattle.cargo_toml_dependencies.specs.Dependencies.{is_optional}
-use Rattle.cargo_toml_graph.specs.Action.{Text, Action, item_of, join_option}
-use Rattle.cargo_toml_graph.specs.Admitted.{Listed, action_on, is_explicit, joined_action}
+use Rattle.cargo_toml_graph.specs.Action.{Text, item_of, join_option}
+use Rattle.cargo_toml_graph.specs.Admitted.{Listed, action_on, is_explicit}
 use Rattle.cargo_toml_graph.specs.Examples.{features_alone}
 use Rattle.cargo_toml_graph.specs.Reach.{Among}
 use Rattle.cargo_toml_graph.specs.Recursive.{Enables}

@@ -1,5 +1,5 @@
 -- From the features that are read to the whole answer, where nothing is removed.
-use Rattle.std.proofs.Common.{◌≡◌, ◌⊎◌, ◌↔◌, ◌&&◌, ◌||◌, not, Bool, true, false, cond, List, [], ℕ, map, Option, Some, None, IsTrue, IfSome, is_some, option_map, bytes_eq, Bor, refl, sym, ap, ap₂, subst, inl, inr, ◌∙◌}
+use Rattle.std.proofs.Common.{◌≡◌, ◌⊎◌, ◌↔◌, ◌&&◌, ◌||◌, not, Bool, true, false, cond, List, [], map, Option, Some, None, IsTrue, IfSome, is_some, option_map, bytes_eq, Bor, refl, sym, ap, ap₂, subst, inl, inr, ◌∙◌}
 use Rattle.std.proofs.Math.Bool.{and-false}
 use Rattle.std.proofs.lemmas.Bool.{false≢true, false_from_ne_true, or_cases, or_left, or_right, and_parts, and_from}
 use Rattle.std.proofs.lemmas.Slice.Eq.{bytes_eq-Decides}
@@ -11,7 +11,7 @@ use Rattle.cargo_toml_resolve.specs.declared.features.Feature.{Feature}
 use Rattle.cargo_toml_resolve.specs.declared.features.Features.{Features}
 use Rattle.cargo_toml_resolve.specs.declared.read.Mentions.{Mentions}
 use Rattle.cargo_toml_graph.specs.Action.{Text, Action}
-use Rattle.cargo_toml_graph.specs.Admitted.{Listed, is_admitted, is_below, joined_action}
+use Rattle.cargo_toml_graph.specs.Admitted.{Listed, is_explicit, is_below, joined_action}
 use Rattle.cargo_toml_graph.specs.Bins.{HasBins}
 use Rattle.cargo_toml_resolve.specs.Enabling.{is_plain, leads, leads_at, Relates, Enabled, EnabledAll}
 use Rattle.cargo_toml_graph.specs.Graph.{Table, Resolution, Edge, IsPlain, IsUnremoved}
@@ -232,26 +232,26 @@ keyed_from implied by read middle last fresh i e f = enabled_one (value_at middl
     enabled_one (Some v) None r k = absurd r
     enabled_one (Some v) (Some w) r k = ap (λ q. q.now) r.key ∙ k
 
-module _ {S H : Type 0} (limit : ℕ) (listed : Listed) (entries : List Entry) (mentions : Mentions S H) (implied : HashMap (Bor Text) Feature S) (a : Features S H)
-    (r : IsRead limit listed (table_in mentions.features) (value_at mentions.acted)) (fresh : AreFresh mentions.features) (i : ImpliesAll (is_offered mentions.acted entries) mentions.features implied)
+module _ {S H : Type 0} (listed : Listed) (entries : List Entry) (mentions : Mentions S H) (implied : HashMap (Bor Text) Feature S) (a : Features S H)
+    (r : IsRead listed (table_in mentions.features) (value_at mentions.acted)) (fresh : AreFresh mentions.features) (i : ImpliesAll (is_offered mentions.acted entries) mentions.features implied)
     (e : EnabledAll (λ q e. leads_at implied e q && not (bytes_eq q e)) implied a.features)
-    (recorded : ((k : Text) → is_mentioned_in mentions k ≡ is_mentioned limit listed k) → (k : Text) → recorded_at a.dependencies k ≡ recorded_of (entries_at limit listed entries k))
+    (recorded : ((k : Text) → is_mentioned_in mentions k ≡ is_mentioned listed k) → (k : Text) → recorded_at a.dependencies k ≡ recorded_of (entries_at listed entries k))
     (hidden : a.hidden_features.entries ≡ []) (removed : a.removed_hidden_features ≡ false) where
   abbrev t : Table
-  t = joined_table limit listed entries
+  t = joined_table listed entries
 
-  offered_is : (f : Text) → is_offered mentions.acted entries f ≡ (list_any (is_optional_at f) entries && not (is_reserved limit listed f))
+  offered_is : (f : Text) → is_offered mentions.acted entries f ≡ (list_any (is_optional_at f) entries && not (is_reserved listed f))
   offered_is f = ap (λ b. list_any (is_optional_at f) entries && not b) (r.reserved f)
 
   same : Same (table_in implied) t
   same = record {
-    has = λ f. has_after (is_offered mentions.acted entries) mentions.features implied i f ∙ ap (λ b. b || is_offered mentions.acted entries f) (r.has f) ∙ ap (λ b. is_admitted limit listed f || b) (offered_is f) ∙ or_not (is_admitted limit listed f) _;
+    has = λ f. has_after (is_offered mentions.acted entries) mentions.features implied i f ∙ ap (λ b. b || is_offered mentions.acted entries f) (r.has f) ∙ ap (λ b. is_explicit listed f || b) (offered_is f) ∙ or_not (is_explicit listed f) _;
     names = λ f x. names_after (is_offered mentions.acted entries) mentions.features implied i f x ∙ r.names f x;
     action = λ f k.
         action_after (is_offered mentions.acted entries) mentions.features implied i f k ∙ ap (λ b. cond b ((table_in mentions.features).action f k) (cond (is_offered mentions.acted entries f && bytes_eq k f) (Some plain) None)) (r.has f)
-        ∙ ap (λ o. cond (is_admitted limit listed f) o (cond (is_offered mentions.acted entries f && bytes_eq k f) (Some plain) None)) (r.action f k)
-        ∙ ap (λ b. cond (is_admitted limit listed f) (joined_action limit listed f k) (cond (b && bytes_eq k f) (Some plain) None)) (offered_is f)
-        ∙ go (is_admitted limit listed f) (joined_action limit listed f k) (list_any (is_optional_at f) entries && not (is_reserved limit listed f)) (bytes_eq k f);
+        ∙ ap (λ o. cond (is_explicit listed f) o (cond (is_offered mentions.acted entries f && bytes_eq k f) (Some plain) None)) (r.action f k)
+        ∙ ap (λ b. cond (is_explicit listed f) (joined_action listed f k) (cond (b && bytes_eq k f) (Some plain) None)) (offered_is f)
+        ∙ go (is_explicit listed f) (joined_action listed f k) (list_any (is_optional_at f) entries && not (is_reserved listed f)) (bytes_eq k f);
   }
     where
       go : (a : Bool) (o : Option Action) (i b : Bool) → cond a o (cond (i && b) (Some plain) None) ≡ cond a o (cond ((i && not a) && b) (Some plain) None)
@@ -270,50 +270,50 @@ module _ {S H : Type 0} (limit : ℕ) (listed : Listed) (entries : List Entry) (
   whole = unremoved_alike (table_in implied) t (resolution_of a.features) same
       (unremoved implied a.features (enablers_after (is_offered mentions.acted entries) mentions.features implied i no_enablers) e)
 
-  marked : (f : Text) → IfSome (value_at a.features f) (IsMarked f (is_admitted limit listed f))
+  marked : (f : Text) → IfSome (value_at a.features f) (IsMarked f (is_explicit listed f))
   marked f = later (value_at implied f) (value_at a.features f) (e.at f) (middle (is_offered mentions.acted entries f) (value_at mentions.features f) (value_at implied f) refl (i.at f))
     where
-      listed_one : (v : Feature) → value_at mentions.features f ≡ Some v → IsMarked f (is_admitted limit listed f) v
+      listed_one : (v : Feature) → value_at mentions.features f ≡ Some v → IsMarked f (is_explicit listed f) v
       listed_one v s =
           let k = fresh f v s in
           record { key = k.key; bins = k.bins; explicit = k.explicit ∙ sym (ap is_some s) ∙ r.has f }
 
-      middle : (b : Bool) (o o' : Option Feature) → value_at mentions.features f ≡ o → Becomes b f o o' → IfSome o' (IsMarked f (is_admitted limit listed f))
+      middle : (b : Bool) (o o' : Option Feature) → value_at mentions.features f ≡ o → Becomes b f o o' → IfSome o' (IsMarked f (is_explicit listed f))
       middle true None None s b = absurd b
       middle true None (Some v) s b = record { key = b.key; bins = b.bins; explicit = b.explicit ∙ sym (ap is_some s) ∙ r.has f }
-      middle false None o' s b = subst (λ o. IfSome o (IsMarked f (is_admitted limit listed f))) (sym b) tt
-      middle true (Some v) o' s b = subst (λ o. IfSome o (IsMarked f (is_admitted limit listed f))) (sym b) (listed_one v s)
-      middle false (Some v) o' s b = subst (λ o. IfSome o (IsMarked f (is_admitted limit listed f))) (sym b) (listed_one v s)
+      middle false None o' s b = subst (λ o. IfSome o (IsMarked f (is_explicit listed f))) (sym b) tt
+      middle true (Some v) o' s b = subst (λ o. IfSome o (IsMarked f (is_explicit listed f))) (sym b) (listed_one v s)
+      middle false (Some v) o' s b = subst (λ o. IfSome o (IsMarked f (is_explicit listed f))) (sym b) (listed_one v s)
 
-      later : (o o' : Option Feature) → Relates (Enabled (λ q. leads_at implied q f && not (bytes_eq f q))) o o' → IfSome o (IsMarked f (is_admitted limit listed f)) → IfSome o' (IsMarked f (is_admitted limit listed f))
+      later : (o o' : Option Feature) → Relates (Enabled (λ q. leads_at implied q f && not (bytes_eq f q))) o o' → IfSome o (IsMarked f (is_explicit listed f)) → IfSome o' (IsMarked f (is_explicit listed f))
       later None None k m = tt
       later None (Some w) k m = absurd k
       later (Some v) None k m = absurd k
       later (Some v) (Some w) k m = record { key = ap (λ q. q.now) k.key ∙ m.key; bins = ap (λ q. q.items) k.bins ∙ m.bins; explicit = k.explicit ∙ m.explicit }
 
-  mentioned : (k : Text) → is_mentioned_in mentions k ≡ is_mentioned limit listed k
+  mentioned : (k : Text) → is_mentioned_in mentions k ≡ is_mentioned listed k
   mentioned k = ap₂ (λ x y. x || y) (r.has k) (r.acted_on k)
 
-  pub answers : IsAnswer t limit listed entries (λ _. []) (λ _. true) (answer_of a)
+  pub answers : IsAnswer t listed entries (λ _. []) (λ _. true) (answer_of a)
   answers = record {
     resolved = resolved_unremoved t (resolution_of a.features) (Removed t) (none_removed t) whole;
     keyed = λ f. keyed_at f (value_at a.features f) (marked f);
     explicit = λ f. explicit_at f (value_at a.features f) (marked f);
     bins = λ f has. no_bins t f _ (bins_at f (value_at a.features f) (marked f));
-    dependencies = λ k. same_recorded (recorded_at a.dependencies k) (recorded_of (entries_at limit listed entries k)) (recorded mentioned k);
+    dependencies = λ k. same_recorded (recorded_at a.dependencies k) (recorded_of (entries_at listed entries k)) (recorded mentioned k);
     redirected = λ f. ap (λ es. is_some (option_map has_text (lookup (λ (k : Bor Text). bytes_eq f k.now) es))) hidden ∙ sym (kept_all t f);
     redirects = λ f. subst (λ es. IfSome (option_map has_text (lookup (λ (k : Bor Text). bytes_eq f k.now) es)) (λ names. (x : Text) → IsTrue (names x) ↔ RedirectsTo t (Removed t) (λ s b. IsTrue (is_below s b)) f x)) (sym hidden) tt;
     some = (λ y. absurd (false≢true (sym removed ∙ y)), λ f. absurd (none_removed t f.0 f.1));
   }
     where
-      keyed_at : (f : Text) (o : Option Feature) → IfSome o (IsMarked f (is_admitted limit listed f)) → IfSome (option_map (λ v. v.key.now) o) (λ k. k ≡ f)
+      keyed_at : (f : Text) (o : Option Feature) → IfSome o (IsMarked f (is_explicit listed f)) → IfSome (option_map (λ v. v.key.now) o) (λ k. k ≡ f)
       keyed_at f None m = tt
       keyed_at f (Some v) m = m.key
 
-      explicit_at : (f : Text) (o : Option Feature) → IfSome o (IsMarked f (is_admitted limit listed f)) → IsTrue (is_some o) → option_map_or (λ v. v.explicit) o false ≡ is_admitted limit listed f
+      explicit_at : (f : Text) (o : Option Feature) → IfSome o (IsMarked f (is_explicit listed f)) → IsTrue (is_some o) → option_map_or (λ v. v.explicit) o false ≡ is_explicit listed f
       explicit_at f None m has = absurd (false≢true has)
       explicit_at f (Some v) m has = m.explicit
 
-      bins_at : (f : Text) (o : Option Feature) → IfSome o (IsMarked f (is_admitted limit listed f)) → option_map_or (λ v. map (λ t. t.now) v.required_by_bins.items) o [] ≡ []
+      bins_at : (f : Text) (o : Option Feature) → IfSome o (IsMarked f (is_explicit listed f)) → option_map_or (λ v. map (λ t. t.now) v.required_by_bins.items) o [] ≡ []
       bins_at f None m = refl
       bins_at f (Some v) m = ap (map (λ (t : Bor Text). t.now)) m.bins

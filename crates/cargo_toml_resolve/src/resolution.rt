@@ -1,6 +1,5 @@
 //! From what a manifest lists to the whole answer.
-ghost use Rattle.std.specs.Prelude.{◌≡◌, ℕ, [], true, map, IfOk};
-ghost use Rattle.cargo_toml_graph.specs.Admitted.{IsWithin};
+ghost use Rattle.std.specs.Prelude.{◌≡◌, [], true, map, IfOk};
 ghost use Rattle.cargo_toml_graph.specs.Reach.{IsOnce};
 ghost use Rattle.cargo_toml_resolve.specs.Reached.{IsKeyed};
 ghost use Rattle.cargo_toml_resolve.specs.Reading.{listed_of};
@@ -28,8 +27,8 @@ pub fn resolve<'m: 'd, 'd, S: BuildHasher + Clone>(
     entries: &[ParseDependency<'m, 'd>],
 ) -> Result<Features<'m, 'd, S>, AllocError>
     requires { IsOnce (map (λ l. l.name.now) listings.now) }
-    ensures resolved { IfOk result (λ a. (limit : ℕ) → IsWithin limit (listed_of listings.now) →
-        IsAnswer (joined_table limit (listed_of listings.now) (map entry_of entries.now)) limit
+    ensures resolved { IfOk result (λ a.
+        IsAnswer (joined_table (listed_of listings.now) (map entry_of entries.now))
         (listed_of listings.now) (map entry_of entries.now) (λ _. []) (λ _. true) (answer_of a)) }
     ensures keyed { IfOk result (λ a. IsKeyed a.features) }
 {

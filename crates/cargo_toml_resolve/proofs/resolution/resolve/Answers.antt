@@ -7,10 +7,10 @@ use Rattle.cargo_toml_resolve.proofs.Answering.{answers, keyed_from}
 use Rattle.cargo_toml_resolve.proofs.resolution.resolve.Goals as goal
 
 pub returns-clause-resolved : goal.returns-clause-resolved
-returns-clause-resolved g c = λ limit within.
-    answers limit (listed_of c.args.listings.now) (map entry_of c.args.entries.now) c.in_ok-mentions.mentions c.imply_all.new.features
+returns-clause-resolved g c =
+    answers (listed_of c.args.listings.now) (map entry_of c.args.entries.now) c.in_ok-mentions.mentions c.imply_all.new.features
     (record { features = c.set_enabled_by.new.features; dependencies = c.in_ok-dependencies.dependencies; removed_hidden_features = false; hidden_features = c.with_hasher.result })
-    (c.in_ok-mentions.ensures.read limit within) c.in_ok-mentions.ensures.fresh c.in_ok-imply_all.ensures c.in_ok-set_enabled_by.ensures (c.in_ok-dependencies.ensures limit (listed_of c.args.listings.now)) c.with_hasher.ensures.empty refl
+    c.in_ok-mentions.ensures.read c.in_ok-mentions.ensures.fresh c.in_ok-imply_all.ensures c.in_ok-set_enabled_by.ensures (c.in_ok-dependencies.ensures (listed_of c.args.listings.now)) c.with_hasher.ensures.empty refl
 
 pub returns-clause-keyed : goal.returns-clause-keyed
 returns-clause-keyed g c =

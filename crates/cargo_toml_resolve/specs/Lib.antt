@@ -14,3 +14,4 @@ pub mod ReadFeature
 pub mod Entries
 pub mod OwnBins
 pub mod Requiring
+pub mod TargetLaws

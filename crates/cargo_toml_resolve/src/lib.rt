@@ -11,6 +11,7 @@ pub mod entries;
 pub mod examples;
 pub mod features;
 mod imply;
+mod laws;
 pub mod questions;
 mod read;
 pub mod record;

@@ -19,3 +19,5 @@ pub mod Walks
 pub mod NextName
 mod Requiring
 mod FirstEntries
+mod OneListing
+mod Hashed

@@ -15,3 +15,4 @@ pub mod Entries
 pub mod OwnBins
 pub mod Requiring
 pub mod TargetLaws
+pub mod Hashed

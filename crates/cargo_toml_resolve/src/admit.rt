@@ -1,12 +1,15 @@
 //! Which features of a table count, in what order.
 ghost use Rattle.std.specs.Prelude.{◌≡◌, ◌∷◌, ◌++◌, ◌||◌, [], IfOk, OnOk, if◌then◌else◌, bytes_eq, codes, length, map, nat_lt, string_bytes, take};
-ghost use Rattle.cargo_toml_graph.specs.Admitted.{admitted};
+ghost use Rattle.cargo_toml_graph.specs.Action.{Text};
+ghost use Rattle.cargo_toml_graph.specs.Admitted.{Listed, admitted};
 ghost use Rattle.cargo_toml_graph.specs.Reach.{IsOnce};
 ghost use Rattle.cargo_toml_resolve.specs.Reading.{listed_of};
+ghost use Rattle.cargo_toml_resolve.specs.Hashed.{IsListingOf, actions_at, sorted_actions_at};
 ghost use Rattle.cargo_toml_resolve.specs.Views.{listed_in};
 
 use std::alloc::{AllocError, Global};
-use std::collections::BTreeMap;
+use std::collections::{BTreeMap, HashMap};
+use std::hash::BuildHasher;
 
 /// How many names of a table of features count, how many actions of a feature, and how many keys of a table of dependencies.
 pub const MAX_ITEMS: usize = 2048;
@@ -56,6 +59,38 @@ pub fn listings<'m>(
     let mut listings = Vec::with_capacity(alloc, table.len().min(limit))?;
     for (name, actions) in table {
         add_listing(&mut listings, name.as_str(), actions.as_slice(), limit)?;
+    }
+    Ok(listings)
+}
+
+// The features of a hashed table, in the byte order of their names.
+fn in_order<'m, S: BuildHasher>(
+    alloc: Global,
+    table: &'m HashMap<String, Vec<String>, S>,
+) -> Result<BTreeMap<&'m str, &'m [String]>, AllocError>
+    ensures { IfOk result (λ m. (f : Text) → sorted_actions_at m f ≡ actions_at table.now f) }
+{
+    let mut sorted = BTreeMap::new(alloc);
+    for (name, actions) in table {
+        sorted.insert(name.as_str(), actions.as_slice())?;
+    }
+    Ok(sorted)
+}
+
+/// The same of a hashed table, whatever the order of its walk. It fails only where memory runs out.
+pub fn hashed_listings<'m, S: BuildHasher>(
+    alloc: Global,
+    table: &'m HashMap<String, Vec<String>, S>,
+    limit: usize,
+) -> Result<Vec<Listing<'m>>, AllocError>
+    ensures all { IfOk result (λ v. (listed : Listed) → IsListingOf table.now listed
+        → listed_of v.items ≡ admitted limit listed) }
+    ensures once { IfOk result (λ v. IsOnce (map (λ l. l.name.now) v.items)) }
+{
+    let sorted = in_order(alloc, table)?;
+    let mut listings = Vec::with_capacity(alloc, sorted.len().min(limit))?;
+    for (name, actions) in &sorted {
+        add_listing(&mut listings, *name, *actions, limit)?;
     }
     Ok(listings)
 }

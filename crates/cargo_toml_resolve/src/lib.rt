@@ -13,6 +13,7 @@ pub mod questions;
 mod read;
 pub mod record;
 pub mod recursive;
+mod redundant;
 pub mod resolution;
 
 pub use resolution::resolve;

@@ -16,13 +16,14 @@ use Rattle.cargo_toml_graph.specs.Bins.{HasBins}
 use Rattle.cargo_toml_resolve.specs.Enabling.{is_plain, leads, leads_at, Relates, Enabled, EnabledAll}
 use Rattle.cargo_toml_graph.specs.Graph.{Table, Resolution, Edge, IsPlain, IsUnremoved}
 use Rattle.cargo_toml_resolve.specs.Implying.{Becomes, ImpliesAll, is_optional_at, is_offered}
-use Rattle.cargo_toml_resolve.specs.Reading.{IsRead, AreFresh}
-use Rattle.cargo_toml_resolve.specs.Recorded.{Entry, Recorded, is_mentioned, is_reserved, entries_at, recorded_of}
+use Rattle.cargo_toml_resolve.specs.Reading.{IsRead, IsFresh, AreFresh}
+use Rattle.cargo_toml_resolve.specs.Recorded.{Entry, Recorded, is_mentioned, is_reserved, entries_at, recorded_of, first_target, without_redundant}
 use Rattle.cargo_toml_resolve.specs.Recording.{recorded_at, is_mentioned_in}
+use Rattle.cargo_toml_resolve.specs.Redundant.{IsRecordOf, Thinned, ThinnedAll}
 use Rattle.cargo_toml_graph.specs.Redirects.{RedirectsTo}
 use Rattle.cargo_toml_graph.specs.Removal.{is_removed}
 use Rattle.cargo_toml_resolve.specs.Reached.{IsKeyed}
-use Rattle.cargo_toml_resolve.specs.Resolved.{joined_table, plain, SameRecorded, IsAnswer}
+use Rattle.cargo_toml_resolve.specs.Resolved.{table_of, plain, SameRecorded, IsAnswer}
 use Rattle.cargo_toml_resolve.specs.Views.{has_text, action_at, value_at, table_in, resolution_of, answer_of}
 use Rattle.cargo_toml_resolve.proofs.TextKeys.{none_in}
 use Rattle.cargo_toml_graph.proofs.Unremoved.{resolved_unremoved}
@@ -143,6 +144,46 @@ module _ {S : Type 0} (old new : HashMap (Bor Text) Feature S) (none : (f e : Te
     enabled_by = λ f e. (λ y. edge_is f e (sym (enablers_now f e) ∙ y), λ d. enablers_now f e ∙ edge-true f e d);
   }
 
+-- the features without what dependencies have anyway
+module _ {S : Type 0} (entries : Text → List Entry) (old new : HashMap (Bor Text) Feature S) (h : ThinnedAll entries old new) where
+  has_thinned : (f : Text) → is_some (value_at new f) ≡ is_some (value_at old f)
+  has_thinned f = go (value_at old f) (value_at new f) (h.at f)
+    where
+      go : (o o' : Option Feature) → Relates (Thinned entries) o o' → is_some o' ≡ is_some o
+      go None None r = refl
+      go None (Some b) r = absurd r
+      go (Some a) None r = absurd r
+      go (Some a) (Some b) r = refl
+
+  names_thinned : (f x : Text) → (table_in new).names f x ≡ (table_in old).names f x
+  names_thinned f x = go (value_at old f) (value_at new f) (h.at f)
+    where
+      go : (o o' : Option Feature) → Relates (Thinned entries) o o' → option_map_or (λ v. has_text v.enables_features x) o' false ≡ option_map_or (λ v. has_text v.enables_features x) o false
+      go None None r = refl
+      go None (Some b) r = absurd r
+      go (Some a) None r = absurd r
+      go (Some a) (Some b) r = rw r.names
+
+  action_thinned : (f k : Text) → (table_in new).action f k ≡ option_map (without_redundant (first_target (entries k))) ((table_in old).action f k)
+  action_thinned f k = go (value_at old f) (value_at new f) (h.at f)
+    where
+      go : (o o' : Option Feature) → Relates (Thinned entries) o o' → option_map_or (λ v. action_at v.enables_deps k) o' None ≡ option_map (without_redundant (first_target (entries k))) (option_map_or (λ v. action_at v.enables_deps k) o None)
+      go None None r = refl
+      go None (Some b) r = absurd r
+      go (Some a) None r = absurd r
+      go (Some a) (Some b) r = r.actions k
+
+  fresh_thinned : AreFresh old → AreFresh new
+  fresh_thinned fresh f v s = subst (λ o. IfSome o (IsFresh f)) s (go (value_at old f) (value_at new f) refl (h.at f))
+    where
+      go : (o o' : Option Feature) → value_at old f ≡ o → Relates (Thinned entries) o o' → IfSome o' (IsFresh f)
+      go None None s r = tt
+      go None (Some b) s r = absurd r
+      go (Some a) None s r = absurd r
+      go (Some a) (Some b) s r =
+          let k = fresh f a s in
+          record { key = ap (λ q. q.now) r.key ∙ k.key; explicit = r.explicit ∙ k.explicit; enabled_by = ap (λ q. q.keys) r.enabled_by ∙ k.enabled_by; bins = ap (λ q. q.items) r.bins ∙ k.bins }
+
 -- the table with the implied features
 module _ {S : Type 0} (implied : Text → Bool) (old new : HashMap (Bor Text) Feature S) (h : ImpliesAll implied old new) where
   has_after : (f : Text) → is_some (value_at new f) ≡ (is_some (value_at old f) || implied f)
@@ -232,55 +273,76 @@ keyed_from implied by read middle last fresh i e f = enabled_one (value_at middl
     enabled_one (Some v) None r k = absurd r
     enabled_one (Some v) (Some w) r k = ap (λ q. q.now) r.key ∙ k
 
-module _ {S H : Type 0} (listed : Listed) (entries : List Entry) (mentions : Mentions S H) (implied : HashMap (Bor Text) Feature S) (a : Features S H)
-    (r : IsRead listed (table_in mentions.features) (value_at mentions.acted)) (fresh : AreFresh mentions.features) (i : ImpliesAll (is_offered mentions.acted entries) mentions.features implied)
+module _ {S H : Type 0} (listed : Listed) (entries : List Entry) (mentions : Mentions S H) (thinned implied : HashMap (Bor Text) Feature S) (a : Features S H)
+    (r : IsRead listed (table_in mentions.features) (value_at mentions.acted)) (fresh : AreFresh mentions.features)
+    (thins : (entries : Text → List Entry) → IsRecordOf a.dependencies entries → ThinnedAll entries mentions.features thinned) (i : ImpliesAll (is_offered mentions.acted entries) thinned implied)
     (e : EnabledAll (λ q e. leads_at implied e q && not (bytes_eq q e)) implied a.features)
     (recorded : ((k : Text) → is_mentioned_in mentions k ≡ is_mentioned listed k) → (k : Text) → recorded_at a.dependencies k ≡ recorded_of (entries_at listed entries k))
     (hidden : a.hidden_features.entries ≡ []) (removed : a.removed_hidden_features ≡ false) where
   abbrev t : Table
-  t = joined_table listed entries
+  t = table_of listed entries
+
+  mentioned : (k : Text) → is_mentioned_in mentions k ≡ is_mentioned listed k
+  mentioned k = ap₂ (λ x y. x || y) (r.has k) (r.acted_on k)
+
+  less : ThinnedAll (entries_at listed entries) mentions.features thinned
+  less = thins (entries_at listed entries) (recorded mentioned)
+
+  pub fresh_still : AreFresh thinned
+  fresh_still = fresh_thinned (entries_at listed entries) mentions.features thinned less fresh
+
+  -- what is left of an action on k
+  abbrev left : Text → Action → Action
+  left k = without_redundant (first_target (entries_at listed entries k))
+
+  has_still : (f : Text) → is_some (value_at thinned f) ≡ is_explicit listed f
+  has_still f = has_thinned (entries_at listed entries) mentions.features thinned less f ∙ r.has f
+
+  action_still : (f k : Text) → (table_in thinned).action f k ≡ option_map (left k) (joined_action listed f k)
+  action_still f k = action_thinned (entries_at listed entries) mentions.features thinned less f k ∙ ap (option_map (left k)) (r.action f k)
 
   offered_is : (f : Text) → is_offered mentions.acted entries f ≡ (list_any (is_optional_at f) entries && not (is_reserved listed f))
   offered_is f = ap (λ b. list_any (is_optional_at f) entries && not b) (r.reserved f)
 
   same : Same (table_in implied) t
   same = record {
-    has = λ f. has_after (is_offered mentions.acted entries) mentions.features implied i f ∙ ap (λ b. b || is_offered mentions.acted entries f) (r.has f) ∙ ap (λ b. is_explicit listed f || b) (offered_is f) ∙ or_not (is_explicit listed f) _;
-    names = λ f x. names_after (is_offered mentions.acted entries) mentions.features implied i f x ∙ r.names f x;
+    has = λ f. has_after (is_offered mentions.acted entries) thinned implied i f ∙ ap (λ b. b || is_offered mentions.acted entries f) (has_still f) ∙ ap (λ b. is_explicit listed f || b) (offered_is f) ∙ or_not (is_explicit listed f) _;
+    names = λ f x. names_after (is_offered mentions.acted entries) thinned implied i f x ∙ names_thinned (entries_at listed entries) mentions.features thinned less f x ∙ r.names f x;
     action = λ f k.
-        action_after (is_offered mentions.acted entries) mentions.features implied i f k ∙ ap (λ b. cond b ((table_in mentions.features).action f k) (cond (is_offered mentions.acted entries f && bytes_eq k f) (Some plain) None)) (r.has f)
-        ∙ ap (λ o. cond (is_explicit listed f) o (cond (is_offered mentions.acted entries f && bytes_eq k f) (Some plain) None)) (r.action f k)
-        ∙ ap (λ b. cond (is_explicit listed f) (joined_action listed f k) (cond (b && bytes_eq k f) (Some plain) None)) (offered_is f)
-        ∙ go (is_explicit listed f) (joined_action listed f k) (list_any (is_optional_at f) entries && not (is_reserved listed f)) (bytes_eq k f);
+        action_after (is_offered mentions.acted entries) thinned implied i f k ∙ ap (λ b. cond b ((table_in thinned).action f k) (cond (is_offered mentions.acted entries f && bytes_eq k f) (Some plain) None)) (has_still f)
+        ∙ ap (λ o. cond (is_explicit listed f) o (cond (is_offered mentions.acted entries f && bytes_eq k f) (Some plain) None)) (action_still f k)
+        ∙ ap (λ b. cond (is_explicit listed f) (option_map (left k) (joined_action listed f k)) (cond (b && bytes_eq k f) (Some plain) None)) (offered_is f)
+        ∙ go (left k) refl (is_explicit listed f) (joined_action listed f k) (list_any (is_optional_at f) entries && not (is_reserved listed f)) (bytes_eq k f);
   }
     where
-      go : (a : Bool) (o : Option Action) (i b : Bool) → cond a o (cond (i && b) (Some plain) None) ≡ cond a o (cond ((i && not a) && b) (Some plain) None)
-      go true o i b = refl
-      go false o true b = refl
-      go false o false b = refl
+      go : (w : Action → Action) → w plain ≡ plain → (a : Bool) (o : Option Action) (i b : Bool) → cond a (option_map w o) (cond (i && b) (Some plain) None) ≡ option_map w (cond a o (cond ((i && not a) && b) (Some plain) None))
+      go w p true o i b = refl
+      go w p false o true true = ap Some (sym p)
+      go w p false o true false = refl
+      go w p false o false b = refl
 
-  no_enablers : (f e : Text) → (resolution_of mentions.features).enabled_by f e ≡ false
-  no_enablers f e = go (value_at mentions.features f) refl
+  no_enablers : (f e : Text) → (resolution_of thinned).enabled_by f e ≡ false
+  no_enablers f e = go (value_at thinned f) refl
     where
-      go : (o : Option Feature) → value_at mentions.features f ≡ o → option_map_or (λ v. has_text v.enabled_by e) o false ≡ false
+      go : (o : Option Feature) → value_at thinned f ≡ o → option_map_or (λ v. has_text v.enabled_by e) o false ≡ false
       go None s = refl
-      go (Some v) s = none_in v.enabled_by (fresh f v s).enabled_by e
+      go (Some v) s = none_in v.enabled_by (fresh_still f v s).enabled_by e
 
   whole : IsUnremoved t (resolution_of a.features)
   whole = unremoved_alike (table_in implied) t (resolution_of a.features) same
-      (unremoved implied a.features (enablers_after (is_offered mentions.acted entries) mentions.features implied i no_enablers) e)
+      (unremoved implied a.features (enablers_after (is_offered mentions.acted entries) thinned implied i no_enablers) e)
 
   marked : (f : Text) → IfSome (value_at a.features f) (IsMarked f (is_explicit listed f))
-  marked f = later (value_at implied f) (value_at a.features f) (e.at f) (middle (is_offered mentions.acted entries f) (value_at mentions.features f) (value_at implied f) refl (i.at f))
+  marked f = later (value_at implied f) (value_at a.features f) (e.at f) (middle (is_offered mentions.acted entries f) (value_at thinned f) (value_at implied f) refl (i.at f))
     where
-      listed_one : (v : Feature) → value_at mentions.features f ≡ Some v → IsMarked f (is_explicit listed f) v
+      listed_one : (v : Feature) → value_at thinned f ≡ Some v → IsMarked f (is_explicit listed f) v
       listed_one v s =
-          let k = fresh f v s in
-          record { key = k.key; bins = k.bins; explicit = k.explicit ∙ sym (ap is_some s) ∙ r.has f }
+          let k = fresh_still f v s in
+          record { key = k.key; bins = k.bins; explicit = k.explicit ∙ sym (ap is_some s) ∙ has_still f }
 
-      middle : (b : Bool) (o o' : Option Feature) → value_at mentions.features f ≡ o → Becomes b f o o' → IfSome o' (IsMarked f (is_explicit listed f))
+      middle : (b : Bool) (o o' : Option Feature) → value_at thinned f ≡ o → Becomes b f o o' → IfSome o' (IsMarked f (is_explicit listed f))
       middle true None None s b = absurd b
-      middle true None (Some v) s b = record { key = b.key; bins = b.bins; explicit = b.explicit ∙ sym (ap is_some s) ∙ r.has f }
+      middle true None (Some v) s b = record { key = b.key; bins = b.bins; explicit = b.explicit ∙ sym (ap is_some s) ∙ has_still f }
       middle false None o' s b = subst (λ o. IfSome o (IsMarked f (is_explicit listed f))) (sym b) tt
       middle true (Some v) o' s b = subst (λ o. IfSome o (IsMarked f (is_explicit listed f))) (sym b) (listed_one v s)
       middle false (Some v) o' s b = subst (λ o. IfSome o (IsMarked f (is_explicit listed f))) (sym b) (listed_one v s)
@@ -290,9 +352,6 @@ module _ {S H : Type 0} (listed : Listed) (entries : List Entry) (mentions : Men
       later None (Some w) k m = absurd k
       later (Some v) None k m = absurd k
       later (Some v) (Some w) k m = record { key = ap (λ q. q.now) k.key ∙ m.key; bins = ap (λ q. q.items) k.bins ∙ m.bins; explicit = k.explicit ∙ m.explicit }
-
-  mentioned : (k : Text) → is_mentioned_in mentions k ≡ is_mentioned listed k
-  mentioned k = ap₂ (λ x y. x || y) (r.has k) (r.acted_on k)
 
   pub answers : IsAnswer t listed entries (λ _. []) (λ _. true) (answer_of a)
   answers = record {

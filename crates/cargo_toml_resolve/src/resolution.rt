@@ -3,7 +3,7 @@ ghost use Rattle.std.specs.Prelude.{◌≡◌, [], true, map, IfOk};
 ghost use Rattle.cargo_toml_graph.specs.Reach.{IsOnce};
 ghost use Rattle.cargo_toml_resolve.specs.Reached.{IsKeyed};
 ghost use Rattle.cargo_toml_resolve.specs.Reading.{listed_of};
-ghost use Rattle.cargo_toml_resolve.specs.Resolved.{joined_table, IsAnswer};
+ghost use Rattle.cargo_toml_resolve.specs.Resolved.{table_of, IsAnswer};
 ghost use Rattle.cargo_toml_resolve.specs.Views.{entry_of, answer_of};
 
 use crate::admit::Listing;
@@ -12,6 +12,7 @@ use crate::features::{Features, ParseDependency};
 use crate::imply::imply_all;
 use crate::read::{Mentions, read_features};
 use crate::record::record_dependencies;
+use crate::redundant::drop_redundant;
 use std::alloc::{AllocError, Global};
 use std::collections::HashMap;
 use std::hash::BuildHasher;
@@ -28,7 +29,7 @@ pub fn resolve<'m: 'd, 'd, S: BuildHasher + Clone>(
 ) -> Result<Features<'m, 'd, S>, AllocError>
     requires { IsOnce (map (λ l. l.name.now) listings.now) }
     ensures resolved { IfOk result (λ a.
-        IsAnswer (joined_table (listed_of listings.now) (map entry_of entries.now))
+        IsAnswer (table_of (listed_of listings.now) (map entry_of entries.now))
         (listed_of listings.now) (map entry_of entries.now) (λ _. []) (λ _. true) (answer_of a)) }
     ensures keyed { IfOk result (λ a. IsKeyed a.features) }
 {
@@ -40,6 +41,7 @@ pub fn resolve<'m: 'd, 'd, S: BuildHasher + Clone>(
         mut features,
         acted,
     } = mentions;
+    drop_redundant(&mut features, &dependencies);
     imply_all(alloc, &mut features, &acted, entries)?;
     set_enabled_by(alloc, &mut features)?;
     Ok(Features {

@@ -1,14 +1,14 @@
 //! What the features of a manifest enable, and which features enable them.
-ghost use Rattle.std.specs.Prelude.{◌≡◌, ℕ, [], true, IfOk, IfErr};
+ghost use Rattle.std.specs.Prelude.{◌≡◌, [], true, IfOk, IfErr};
 ghost use Rattle.cargo_toml_parts.specs.declared.error.Error.{Memory};
-ghost use Rattle.cargo_toml_graph.specs.Admitted.{IsWithin};
+ghost use Rattle.cargo_toml_graph.specs.Admitted.{admitted};
 ghost use Rattle.cargo_toml_resolve.specs.Reached.{IsKeyed};
-ghost use Rattle.cargo_toml_resolve.specs.Resolved.{joined_table, IsAnswer};
+ghost use Rattle.cargo_toml_resolve.specs.Resolved.{table_of, IsAnswer};
 ghost use Rattle.cargo_toml_resolve.specs.Views.{listed_in, normal_entries, answer_of};
 
 use cargo_toml_manifest::Manifest;
 use cargo_toml_parts::Error;
-use cargo_toml_resolve::admit::listings;
+use cargo_toml_resolve::admit::{MAX_ITEMS, listings};
 pub use cargo_toml_resolve::features::{
     DepAction, Feature, FeatureDependency, Features, Kind, ParseDependency, TargetKey,
 };
@@ -47,10 +47,13 @@ impl<'config, F, S: BuildHasher + Clone> Resolver<'config, F, S> {
     /// feature tells which others enable it: those that name it, and those that act on the dependency of its name neither
     /// conditionally nor by `dep:`.
     ///
-    /// All features and all texts of their lists count, however many there are. None is removed, whatever its name:
-    /// `removed_hidden_features` is false and `hidden_features` empty. Nothing is told of binaries yet: each
-    /// `required_by_bins` is empty. Every text is borrowed from the manifest. Each feature stands under its own key, as
-    /// [`Feature::enables_recursive`] asks.
+    /// What is asked of a dependency leaves out the features that it has anyway, as its table says: those that its list
+    /// `features` has, and `default` unless its default features are off.
+    ///
+    /// Of the features the first 2048 names in byte order count, and always `default`, and of each list the first 2048 texts.
+    /// None is removed, whatever its name: `removed_hidden_features` is false and `hidden_features` empty. Nothing is told of
+    /// binaries yet: each `required_by_bins` is empty. Every text is borrowed from the manifest. Each feature stands under its
+    /// own key, as [`Feature::enables_recursive`] asks.
     ///
     /// The one refusal is [`Error::Memory`], where there was no room for the answer.
     pub fn parse<'m, M>(
@@ -58,13 +61,13 @@ impl<'config, F, S: BuildHasher + Clone> Resolver<'config, F, S> {
         alloc: Global,
         manifest: &'m Manifest<M>,
     ) -> Result<Features<'m, 'm, S>, Error>
-        ensures resolved { IfOk result (λ a. (limit : ℕ) → IsWithin limit (listed_in manifest.now.features) →
-            IsAnswer (joined_table limit (listed_in manifest.now.features) (normal_entries manifest.now.dependencies)) limit
-            (listed_in manifest.now.features) (normal_entries manifest.now.dependencies) (λ _. []) (λ _. true) (answer_of a)) }
+        ensures resolved { IfOk result (λ a. IsAnswer
+            (table_of (admitted MAX_ITEMS (listed_in manifest.now.features)) (normal_entries manifest.now.dependencies))
+            (admitted MAX_ITEMS (listed_in manifest.now.features)) (normal_entries manifest.now.dependencies) (λ _. []) (λ _. true) (answer_of a)) }
         ensures keyed { IfOk result (λ a. IsKeyed a.features) }
         ensures refused { IfErr result (λ e. e ≡ Memory) }
     {
-        let listings = listings(alloc, &manifest.features)?;
+        let listings = listings(alloc, &manifest.features, MAX_ITEMS)?;
         let entries = normal_dependencies(alloc, &manifest.dependencies)?;
         Ok(resolve(alloc, &self.state, listings.as_slice(), entries.as_slice())?)
     }

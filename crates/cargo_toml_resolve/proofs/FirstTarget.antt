@@ -1,5 +1,5 @@
 -- The first of a dependency's targets, by the order of their keys, is the first target of the entries that were recorded.
-use Rattle.std.proofs.Common.{◌≡◌, Ordering, Less, Equal, Greater, Bool, true, false, cond, List, [], ◌∷◌, fold, find, Option, Some, None, option_map, is_some, IsSome, Bor, refl, sym, ap, ap₂, subst, ◌∙◌}
+use Rattle.std.proofs.Common.{◌≡◌, Ordering, Less, Equal, Greater, Bool, true, false, cond, List, [], ◌∷◌, fold, find, Option, Some, None, option_map, is_some, Bor, refl, sym, ap, ap₂, subst, ◌∙◌}
 use Rattle.std.proofs.lemmas.Bool.{false≢true, false_from_ne_true}
 use Rattle.std.proofs.lemmas.Cmp.{upto, tied_itself, alike_right, on_total}
 use Rattle.std.specs.Cmp.{IsTotalOrder}

@@ -1,4 +1,4 @@
-use Rattle.std.proofs.Common.{◌≡◌, List, Option, Some, None, bytes_eq, Bor, rules}
+use Rattle.std.proofs.Common.{List, Option, Some, None, bytes_eq, Bor, rules}
 use Rattle.std.specs.Map.{lookup}
 use Rattle.cargo_toml_resolve.specs.declared.features.Feature.{Feature}
 use Rattle.cargo_toml_graph.specs.Action.{Text}

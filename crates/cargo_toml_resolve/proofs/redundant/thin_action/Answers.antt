@@ -1,4 +1,4 @@
-use Rattle.std.proofs.Common.{◌≡◌, not, Some, filter, rules}
+use Rattle.std.proofs.Common.{not, Some, rules}
 use Rattle.std.proofs.lemmas.Fn.{filter_same}
 use Rattle.cargo_toml_dependencies.specs.Dependencies.{dependency_meaning}
 use Rattle.cargo_toml_resolve.specs.Recorded.{is_redundant}

@@ -1,4 +1,4 @@
-use Rattle.std.proofs.Common.{◌≡◌, List, Option, Some, None, option_map, IsTrue, Bor, refl, sym, ap, subst, rules, ◌∙◌}
+use Rattle.std.proofs.Common.{◌≡◌, List, Option, Some, None, option_map, Bor, refl, sym, ap, subst, rules, ◌∙◌}
 use Rattle.std.proofs.lemmas.Map.Text.{is_eq-slice_cmp}
 use Rattle.std.proofs.lemmas.Slice.Eq.{bytes_eq-Decides}
 use Rattle.std.specs.BTreeMap.{is_at}
@@ -9,7 +9,7 @@ use Rattle.cargo_toml_resolve.specs.declared.features.DepAction.{DepAction}
 use Rattle.cargo_toml_graph.specs.Action.{Text}
 use Rattle.cargo_toml_resolve.specs.Recorded.{Entry, first_target, recorded_of, without_redundant}
 use Rattle.cargo_toml_resolve.specs.Recording.{recorded_at}
-use Rattle.cargo_toml_resolve.specs.Views.{action_of, action_at}
+use Rattle.cargo_toml_resolve.specs.Views.{action_of}
 use Rattle.cargo_toml_resolve.proofs.Thinning.{Finds, looked_up}
 use Rattle.cargo_toml_resolve.proofs.redundant.thin_feature.Goals as goal
 

@@ -86,3 +86,5 @@ pub use Rattle.cargo_toml_manifest.specs.declared.manifest.Manifest
 pub use Rattle.cargo_toml_manifest.specs.declared.workspace.Workspace
 pub use Rattle.cargo_toml_resolve.specs.declared.features.Feature
 pub use Rattle.cargo_toml_resolve.specs.declared.features.Kind
+-- the number of items that count
+pub use Rattle.cargo_toml_resolve.specs.declared.admit.TheConstants as Limits

@@ -1,4 +1,6 @@
 pub mod Targets
+pub mod FirstTarget
+pub mod Thinning
 pub mod Counting
 pub mod Recording
 pub mod Links

@@ -8,6 +8,7 @@ pub mod Views
 pub mod Reading
 pub mod Recording
 pub mod Enabling
+pub mod Redundant
 pub mod Implying
 pub mod Examples
 pub mod ReadFeature

@@ -16,6 +16,7 @@ pub mod questions;
 mod read;
 pub mod record;
 pub mod recursive;
+mod redundant;
 pub mod resolution;
 
 pub use resolution::resolve;

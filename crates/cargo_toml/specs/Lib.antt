@@ -1,3 +1,5 @@
+-- what resolving a manifest answers
+pub mod Parsed
 -- a caller names each of these as a file of this crate
 pub use Rattle.cargo_toml_paths.specs.Paths
 pub use Rattle.cargo_toml_parts.specs.Answers
@@ -66,6 +68,8 @@ pub use Rattle.cargo_toml_graph.specs.Redirects
 pub use Rattle.cargo_toml_graph.specs.Bins
 pub use Rattle.cargo_toml_graph.specs.Recursive
 pub use Rattle.cargo_toml_graph.specs.Admitted
+pub use Rattle.cargo_toml_resolve.specs.Entries
+pub use Rattle.cargo_toml_resolve.specs.OwnBins
 pub use Rattle.cargo_toml_resolve.specs.Recorded
 pub use Rattle.cargo_toml_resolve.specs.Resolved
 pub use Rattle.cargo_toml_resolve.specs.Views
@@ -82,3 +86,5 @@ pub use Rattle.cargo_toml_manifest.specs.declared.manifest.Manifest
 pub use Rattle.cargo_toml_manifest.specs.declared.workspace.Workspace
 pub use Rattle.cargo_toml_resolve.specs.declared.features.Feature
 pub use Rattle.cargo_toml_resolve.specs.declared.features.Kind
+-- the number of items that count
+pub use Rattle.cargo_toml_resolve.specs.declared.admit.TheConstants as Limits

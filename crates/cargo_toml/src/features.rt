@@ -1,19 +1,24 @@
 //! What the features of a manifest enable, and which features enable them.
-ghost use Rattle.std.specs.Prelude.{◌≡◌, ℕ, [], true, IfOk, IfErr};
+ghost use Rattle.std.specs.Prelude.{◌≡◌, true, IfOk, IfErr};
 ghost use Rattle.cargo_toml_parts.specs.declared.error.Error.{Memory};
-ghost use Rattle.cargo_toml_graph.specs.Admitted.{IsWithin};
+ghost use Rattle.cargo_toml_parts.specs.Reads.{map_meaning};
+ghost use Rattle.cargo_toml_dependencies.specs.Targets.{target_meaning};
+ghost use Rattle.cargo_toml_manifest.specs.Inheriting.{own_tables};
+ghost use Rattle.cargo_toml_manifest.specs.Manifests.{manifest_meaning};
+ghost use Rattle.cargo_toml_resolve.specs.Entries.{tables_meaning};
 ghost use Rattle.cargo_toml_resolve.specs.Reached.{IsKeyed};
-ghost use Rattle.cargo_toml_resolve.specs.Resolved.{joined_table, IsAnswer};
-ghost use Rattle.cargo_toml_resolve.specs.Views.{listed_in, normal_entries, answer_of};
+ghost use Rattle.cargo_toml_resolve.specs.Views.{answer_of};
+ghost use Rattle.cargo_toml.specs.Parsed.{IsParsed};
 
+use crate::requirements::requirements;
 use cargo_toml_manifest::Manifest;
 use cargo_toml_parts::Error;
-use cargo_toml_resolve::admit::listings;
+use cargo_toml_resolve::admit::{MAX_ITEMS, listings};
+use cargo_toml_resolve::entries::{Tables, entries_of};
 pub use cargo_toml_resolve::features::{
     DepAction, Feature, FeatureDependency, Features, Kind, ParseDependency, TargetKey,
 };
 pub use cargo_toml_resolve::questions::NonDefaultEnabledBy;
-use cargo_toml_resolve::record::normal_dependencies;
 pub use cargo_toml_resolve::recursive::DependenciesEnabledByFeatures;
 use cargo_toml_resolve::resolve;
 use std::alloc::Global;
@@ -39,18 +44,22 @@ impl Resolver<'static, fn(&str) -> bool, BuildHasherDefault<FoldHasher>> {
 }
 
 impl<'config, F, S: BuildHasher + Clone> Resolver<'config, F, S> {
-    /// Resolves the features of a manifest, as Cargo understands `[features]` and optional `[dependencies]`.
+    /// Resolves the features of a manifest, as Cargo understands `[features]` and optional dependencies.
     ///
     /// The answer has the features that the manifest lists, and `default`, each with what its list names and what it does
     /// to dependencies. It has a feature for each optional dependency whose key no feature has and no `dep:` keeps for
-    /// itself. It has the dependencies that are optional, that a feature acts on, or whose key a feature has. And each
-    /// feature tells which others enable it: those that name it, and those that act on the dependency of its name neither
-    /// conditionally nor by `dep:`.
+    /// itself. It has the dependencies that are optional, that a feature acts on, or whose key a feature has, with each
+    /// target that they stand under: normal and build dependencies come before those of targets, and dev dependencies last.
+    /// Each feature tells which others enable it: those that name it, and those that act on the dependency of its name
+    /// neither conditionally nor by `dep:`. And it tells which binaries require it, once for each mention.
     ///
-    /// All features and all texts of their lists count, however many there are. None is removed, whatever its name:
-    /// `removed_hidden_features` is false and `hidden_features` empty. Nothing is told of binaries yet: each
-    /// `required_by_bins` is empty. Every text is borrowed from the manifest. Each feature stands under its own key, as
-    /// [`Feature::enables_recursive`] asks.
+    /// Features of a dependency that its first target asks for anyway are left out of actions: `default`, unless it turns
+    /// default features off, and those that it lists.
+    ///
+    /// Of the table of features the first 2048 names in byte order count, and `default`; of each list the first 2048 texts; of
+    /// each table of dependencies the first 2048 keys. No feature is removed, whatever its name: `removed_hidden_features`
+    /// is false and `hidden_features` empty. Every text is borrowed from the manifest. Each feature stands under its own
+    /// key, as [`Feature::enables_recursive`] asks.
     ///
     /// The one refusal is [`Error::Memory`], where there was no room for the answer.
     pub fn parse<'m, M>(
@@ -58,14 +67,32 @@ impl<'config, F, S: BuildHasher + Clone> Resolver<'config, F, S> {
         alloc: Global,
         manifest: &'m Manifest<M>,
     ) -> Result<Features<'m, 'm, S>, Error>
-        ensures resolved { IfOk result (λ a. (limit : ℕ) → IsWithin limit (listed_in manifest.now.features) →
-            IsAnswer (joined_table limit (listed_in manifest.now.features) (normal_entries manifest.now.dependencies)) limit
-            (listed_in manifest.now.features) (normal_entries manifest.now.dependencies) (λ _. []) (λ _. true) (answer_of a)) }
+        ensures resolved { IfOk result (λ a. IsParsed (manifest_meaning (λ m. m) manifest.now) (λ _. true) (answer_of a)) }
         ensures keyed { IfOk result (λ a. IsKeyed a.features) }
         ensures refused { IfErr result (λ e. e ≡ Memory) }
     {
-        let listings = listings(alloc, &manifest.features)?;
-        let entries = normal_dependencies(alloc, &manifest.dependencies)?;
-        Ok(resolve(alloc, &self.state, listings.as_slice(), entries.as_slice())?)
+        let listings = listings(alloc, &manifest.features, MAX_ITEMS)?;
+        let entries = entries_of(alloc, tables_of(manifest), MAX_ITEMS)?;
+        let requirements = requirements(alloc, manifest)?;
+        Ok(resolve(
+            alloc,
+            &self.state,
+            listings.as_slice(),
+            entries.as_slice(),
+            requirements.as_slice(),
+        )?)
+    }
+}
+
+// The tables of a manifest's dependencies.
+fn tables_of<M>(manifest: &Manifest<M>) -> Tables<'_>
+    ensures own { tables_meaning result ≡ own_tables (manifest_meaning (λ m. m) manifest.now) }
+    ensures targets { map_meaning target_meaning result.target.now ≡ (manifest_meaning (λ m. m) manifest.now).target }
+{
+    Tables {
+        dependencies: &manifest.dependencies,
+        build_dependencies: &manifest.build_dependencies,
+        dev_dependencies: &manifest.dev_dependencies,
+        target: &manifest.target,
     }
 }

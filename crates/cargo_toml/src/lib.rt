@@ -5,6 +5,7 @@
 #![tactic(auto)]
 
 pub mod features;
+mod requirements;
 
 pub use cargo_toml_dependencies::{
     Dependency, DependencyDetail, DepsSet, FeatureSet, InheritedDependencyDetail, PatchSet, Target,

@@ -1,17 +1,15 @@
 -- A report as text.
-use Rattle.std.specs.Prelude.{◌≡◌, ◌⊎◌, ℕ, List, [], ◌∷◌, ◌++◌, map, Some, None, IsUtf8, codes}
+use Rattle.std.specs.Prelude.{◌≡◌, ◌⊎◌, ℕ, List, [], ◌∷◌, ◌++◌, Some, None, IsUtf8, codes}
 use Rattle.std.specs.List.{flat_map}
 use Rattle.std.specs.declared.io.Error.{Error as IoError}
 use Rattle.toml.specs.Data.{Data}
 use Rattle.toml.specs.Parse.{parse_document}
 use Rattle.cargo_toml.specs.Error.{Error, Io, Memory}
 use Rattle.cargo_toml.specs.Faults.{IsOther}
-use Rattle.cargo_toml.specs.Dependencies.{DependencyMeaning}
 use Rattle.cargo_toml.specs.Manifests.{ManifestMeaning, manifest_reads, manifest_refuses}
 use Rattle.cargo_toml.specs.Texts.{any_tree, any_refuses, document_reads, document_refuses}
-use Rattle.cargo_toml.specs.Kind.TheVariants.{Normal}
 use Rattle.cargo_toml.specs.Action.{Text}
-use Rattle.cargo_toml.specs.Recorded.{Entry}
+use Rattle.cargo_toml.specs.Parsed.{parsed_table}
 use Rattle.cargo_toml_bench.specs.Reports.{optional_keys, AreUnreferenced}
 
 -- the bytes are the text of a manifest that holds m
@@ -47,14 +45,10 @@ lines word names = flat_map (line word) names
 abbrev pub report_text : List Text → List Text → Text
 report_text optional unreferenced = lines (codes "optional ") optional ++ lines (codes "unreferenced ") unreferenced
 
--- an entry of a manifest's normal dependencies
-abbrev pub normal_entry : Text × DependencyMeaning → Entry
-normal_entry e = record { key = e.0; target = (Normal, None); dependency = e.1 }
-
 -- the text is the report of the manifest that the bytes spell
 pub record IsReport (bytes : List ℕ) (text : Text) : Type 0 where
   pub manifest : ManifestMeaning Data
   pub spelled : Spells bytes manifest
   pub unreferenced : List Text
-  pub exact : AreUnreferenced manifest.features (map normal_entry manifest.dependencies) unreferenced
+  pub exact : AreUnreferenced (parsed_table manifest) unreferenced
   pub whole : text ≡ report_text (optional_keys manifest.dependencies) unreferenced

@@ -1,5 +1,5 @@
 -- What a report tells of a manifest.
-use Rattle.std.specs.Prelude.{◌≢◌, ◌↔◌, ℕ, IsTrue, List, map, filter, Vec, codes}
+use Rattle.std.specs.Prelude.{◌≢◌, ◌↔◌, IsTrue, List, map, filter, Vec, codes}
 use Rattle.std.specs.Borrow.{Bor}
 use Rattle.std.specs.Cmp.Lexicographic.{slice_cmp}
 use Rattle.std.specs.List.Sorted.{IsStrictlySortedBy}
@@ -7,11 +7,8 @@ use Rattle.std.specs.Ordering.{nat_cmp}
 use Rattle.std.specs.declared.alloc.Global.{Global}
 use Rattle.cargo_toml.specs.Dependencies.{DependencyMeaning, is_optional}
 use Rattle.cargo_toml.specs.Action.{Text}
-use Rattle.cargo_toml.specs.Admitted.{Listed, IsWithin}
 use Rattle.cargo_toml.specs.Graph.{Table, Edge}
 use Rattle.cargo_toml.specs.Reach.{Among}
-use Rattle.cargo_toml.specs.Recorded.{Entry}
-use Rattle.cargo_toml.specs.Resolved.{joined_table}
 
 -- borrowed texts, read
 abbrev pub texts_of : List (Bor Text) → List Text
@@ -30,7 +27,7 @@ pub record IsUnreferenced (t : Table) (f : Text) : Type 0 where
   pub named : f ≢ codes "default"
   pub alone : (e : Text) → ¬ Edge t e f
 
--- the names are those of the unreferenced features, where the limit leaves nothing out, in byte order and each once
-pub record AreUnreferenced (listed : Listed) (entries : List Entry) (names : List Text) : Type 0 where
-  pub exact : (limit : ℕ) → IsWithin limit listed → (f : Text) → Among names f ↔ IsUnreferenced (joined_table limit listed entries) f
+-- the names are those of the unreferenced features, in byte order and each once
+pub record AreUnreferenced (t : Table) (names : List Text) : Type 0 where
+  pub exact : (f : Text) → Among names f ↔ IsUnreferenced t f
   pub in_order : IsStrictlySortedBy (slice_cmp nat_cmp) names

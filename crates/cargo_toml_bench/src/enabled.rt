@@ -3,7 +3,8 @@ ghost use Rattle.std.specs.Prelude.{◌≡◌, IfErr, IfOk, IfSome, option_map};
 ghost use Rattle.cargo_toml.specs.Action.{Text};
 ghost use Rattle.cargo_toml.specs.Reached.{AreEnabled, IsKeyed, pairs_at};
 ghost use Rattle.cargo_toml.specs.Recursive.{ArePairs};
-ghost use Rattle.cargo_toml.specs.Views.{listed_in, normal_entries, table_in, value_at};
+ghost use Rattle.cargo_toml.specs.Manifests.{manifest_meaning};
+ghost use Rattle.cargo_toml.specs.Views.{table_in, value_at};
 ghost use Rattle.cargo_toml_bench.specs.Enabled.{IsAnswered, IsAnsweredFrom};
 ghost use Rattle.cargo_toml_bench.specs.Printing.{Refuses};
 
@@ -58,8 +59,7 @@ pub fn enables<M>(
     name: &str,
     other: &str,
 ) -> Result<bool, Error>
-    ensures answer { IfOk result (IsAnswered (listed_in manifest.now.features)
-        (normal_entries manifest.now.dependencies) name.now other.now) }
+    ensures answer { IfOk result (IsAnswered (manifest_meaning (λ m. m) manifest.now) name.now other.now) }
     ensures refused { IfErr result (λ e. e ≡ Error.Memory) }
 {
     let resolved = Resolver::new().parse(alloc, manifest)?;

@@ -10,7 +10,9 @@ ghost use Rattle.cargo_toml.specs.Dependencies.{dependency_meaning};
 ghost use Rattle.cargo_toml.specs.Reads.{map_meaning};
 ghost use Rattle.cargo_toml.specs.Action.{Text};
 ghost use Rattle.cargo_toml.specs.Reach.{Among};
-ghost use Rattle.cargo_toml.specs.Views.{has_text, listed_in, normal_entries};
+ghost use Rattle.cargo_toml.specs.Manifests.{manifest_meaning};
+ghost use Rattle.cargo_toml.specs.Parsed.{parsed_table};
+ghost use Rattle.cargo_toml.specs.Views.{has_text};
 ghost use Rattle.cargo_toml_bench.specs.Alone.{is_alone_at};
 ghost use Rattle.cargo_toml_bench.specs.Reports.{texts, optional_keys, AreUnreferenced};
 
@@ -34,8 +36,8 @@ pub struct Report<'m> {
 pub fn make_report<'m, M>(alloc: Global, manifest: &'m Manifest<M>) -> Result<Report<'m>, Error>
     ensures optional { IfOk result (λ r. texts r.optional
         ≡ optional_keys (map_meaning dependency_meaning manifest.now.dependencies)) }
-    ensures unreferenced { IfOk result (λ r. AreUnreferenced (listed_in manifest.now.features)
-        (normal_entries manifest.now.dependencies) (texts r.unreferenced)) }
+    ensures unreferenced { IfOk result (λ r. AreUnreferenced
+        (parsed_table (manifest_meaning (λ m. m) manifest.now)) (texts r.unreferenced)) }
     ensures refused { IfErr result (λ e. e ≡ Memory) }
 {
     Ok(Report {
@@ -68,8 +70,8 @@ pub fn unreferenced_features<'m, M>(
     alloc: Global,
     manifest: &'m Manifest<M>,
 ) -> Result<Vec<&'m str>, Error>
-    ensures names { IfOk result (λ v. AreUnreferenced (listed_in manifest.now.features)
-        (normal_entries manifest.now.dependencies) (texts v)) }
+    ensures names { IfOk result (λ v. AreUnreferenced
+        (parsed_table (manifest_meaning (λ m. m) manifest.now)) (texts v)) }
     ensures refused { IfErr result (λ e. e ≡ Memory) }
 {
     let resolved = Resolver::new().parse(alloc, manifest)?;

@@ -14,5 +14,5 @@ pub mod NothingLost
 pub mod BinLists
 pub mod PassedBins
 pub mod RedirectsInOrder
-pub mod Within
+pub mod Cut
 pub mod WorkedExamples

@@ -1,5 +1,5 @@
 -- What the items of a feature's list say together.
-use Rattle.std.proofs.Common.{ap, ◌≡◌, ◌⊎◌, ◌↔◌, ℕ, IsTrue, List, [], ◌∷◌, Option, Some, None, bytes_eq, fold, refl, subst, inl, inr}
+use Rattle.std.proofs.Common.{ap, ◌≡◌, ◌⊎◌, ◌↔◌, IsTrue, List, [], ◌∷◌, Option, Some, None, bytes_eq, fold, refl, subst, inl, inr}
 use Rattle.std.proofs.lemmas.Bool.{false≢true, or_cases, or_left, or_right}
 use Rattle.std.specs.List.{list_any}
 use Rattle.std.proofs.lemmas.Slice.Eq.{bytes_eq-Decides}
@@ -10,7 +10,7 @@ use Rattle.cargo_toml_graph.specs.Reach.{Among}
 use Rattle.cargo_toml_graph.proofs.Joins.{join_alike, join_halves, join_one}
 use Rattle.cargo_toml_graph.proofs.Texts.{same}
 
-module _ (limit : ℕ) (listed : Listed) where
+module _ (listed : Listed) where
   -- some item of the list acts so on k
   abbrev Acts : Text → List Item → Action → Type 0
   Acts k is a = (i : Item) × Among is i × (action_on k i ≡ Some a)
@@ -32,8 +32,8 @@ module _ (limit : ℕ) (listed : Listed) where
   none : IsJoin (λ a. ⊥) None
   none = record { there = (λ e. absurd (false≢true e), λ e. absurd e.1); plain = tt; dep_only = tt; features = tt }
 
-  pub joined_is_join : (f k : Text) → IsJoin (Acts k (items limit listed f)) (joined_action limit listed f k)
-  joined_is_join f k = join_alike (λ a. (elim [ inl n ↦ absurd n | inr e ↦ e ], λ e. inr e)) _ (folded k (items limit listed f) (λ a. ⊥) None none)
+  pub joined_is_join : (f k : Text) → IsJoin (Acts k (items listed f)) (joined_action listed f k)
+  joined_is_join f k = join_alike (λ a. (elim [ inl n ↦ absurd n | inr e ↦ e ], λ e. inr e)) _ (folded k (items listed f) (λ a. ⊥) None none)
 
   named : (x : Text) (is : List Item) → IsTrue (list_any (item_names x) is) ↔ Among is (Name x)
   named x [] = (λ e. false≢true e, λ i. absurd i)
@@ -52,5 +52,5 @@ module _ (limit : ℕ) (listed : Listed) where
       other : Name x ≡ On k a → ⊥
       other e = cc
 
-  pub names_are_named : (f x : Text) → IsTrue (names limit listed f x) ↔ Among (items limit listed f) (Name x)
-  names_are_named f x = named x (items limit listed f)
+  pub names_are_named : (f x : Text) → IsTrue (names listed f x) ↔ Among (items listed f) (Name x)
+  names_are_named f x = named x (items listed f)

@@ -56,7 +56,7 @@ module _ (Below : Text → Text → Type 0) (asymmetric : (a b : Text) → Below
         )
 
 -- no text is below one that is below it
-below_one_way : (a b : Text) → IsTrue (is_below a b) → IsTrue (is_below b a) → ⊥
+pub below_one_way : (a b : Text) → IsTrue (is_below a b) → IsTrue (is_below b a) → ⊥
 below_one_way a b = go (slice_cmp nat_cmp a b) (slice_cmp nat_cmp b a) (nat_list_cmp_total.antisymm a b)
   where
     go : (o p : Ordering) → o ≡ ordering_reverse p → IsTrue (is_lt o) → IsTrue (is_lt p) → ⊥

@@ -1,10 +1,10 @@
 -- Worked examples of edges, removal and recursion.
-use Rattle.std.proofs.Common.{ℕ, ◌≡◌, ◌≢◌, ◌⊎◌, ◌↔◌, true, Some, Bool, false, ◌&&◌, ◌||◌, not, cond, IsTrue, List, [], ◌∷◌, map, is_some, codes, bytes_eq, refl, sym, subst, inl, inr, ◌∙◌}
+use Rattle.std.proofs.Common.{◌≡◌, ◌≢◌, ◌⊎◌, ◌↔◌, true, Some, Bool, false, ◌&&◌, ◌||◌, not, cond, IsTrue, List, [], ◌∷◌, map, is_some, codes, bytes_eq, refl, sym, subst, inl, inr, ◌∙◌}
 use Rattle.std.proofs.lemmas.Bool.{false≢true, or_cases, and_parts}
 use Rattle.std.proofs.lemmas.Slice.Eq.{bytes_eq-Decides}
 use Rattle.std.specs.Map.{lookup}
 use Rattle.cargo_toml_graph.specs.Action.{Text}
-use Rattle.cargo_toml_graph.specs.Admitted.{Listed, is_admitted, is_below}
+use Rattle.cargo_toml_graph.specs.Admitted.{Listed, is_explicit, is_below}
 use Rattle.cargo_toml_graph.specs.Examples.{features_alone, hidden_cycle, hidden_names_itself, left_of, ring}
 use Rattle.cargo_toml_graph.specs.Graph.{Table, KeepsName, IsEnabledBy, IsResolved, IsKept}
 use Rattle.cargo_toml_graph.specs.Reach.{Among, IsOnce}
@@ -17,7 +17,7 @@ use Rattle.cargo_toml_graph.proofs.Edges.{unremoved_is}
 use Rattle.cargo_toml_graph.proofs.Elimination.{all_taken_out}
 use Rattle.cargo_toml_graph.proofs.RedirectsInOrder.{redirect_by_bytes}
 
--- what is admitted is `default` or listed
+-- an explicit name is `default` or listed
 looked_up : (listed : Listed) (f : Text) → IsTrue (is_some (lookup (bytes_eq f) listed)) → Among (map (λ e. e.0) listed) f
 looked_up [] f e = absurd (false≢true e)
 looked_up (l ∷ ls) f e = go (λ h. looked_up ls f h) (bytes_eq f l.0) refl e
@@ -27,14 +27,14 @@ looked_up (l ∷ ls) f e = go (λ h. looked_up ls f h) (bytes_eq f l.0) refl e
     go later true t e = inl (same t)
     go later false t e = inr (later e)
 
-pub listed_admitted : (limit : ℕ) (listed : Listed) (f : Text) → IsTrue (is_admitted limit listed f) → (f ≡ codes "default") ⊎ Among (map (λ e. e.0) listed) f
-listed_admitted limit listed f a = elim (or_cases (bytes_eq f (codes "default")) _ a) [
+pub listed_explicit : (listed : Listed) (f : Text) → IsTrue (is_explicit listed f) → (f ≡ codes "default") ⊎ Among (map (λ e. e.0) listed) f
+listed_explicit listed f a = elim (or_cases (bytes_eq f (codes "default")) _ a) [
   | inl i ↦ inl (same i)
-  | inr p ↦ inr (looked_up listed f (and_parts (is_some (lookup (bytes_eq f) listed)) _ p).0)
+  | inr p ↦ inr (looked_up listed f p)
 ]
 
 has_listed : (listed : Listed) (f : Text) → IsTrue ((features_alone listed).has f) → (f ≡ codes "default") ⊎ Among (map (λ e. e.0) listed) f
-has_listed listed f e = listed_admitted 2048 listed f e
+has_listed listed f e = listed_explicit listed f e
 
 pub one : {a b : Text} → IsTrue (bytes_eq a b || false) → a ≡ b
 one {a} {b} e = elim (or_cases (bytes_eq a b) false e) [ inl i ↦ same i | inr i ↦ absurd (false≢true i) ]

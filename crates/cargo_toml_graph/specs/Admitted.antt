@@ -1,5 +1,5 @@
--- The features that a table lists, within a limit, and what each says.
-use Rattle.std.specs.Prelude.{◌≤◌, ℕ, Bool, false, if◌then◌else◌, ◌&&◌, ◌||◌, List, [], map, take, length, nat_lt, is_some, Option, Some, None, unwrap_or, codes, bytes_eq, fold, count_by, All}
+-- The features that a table lists, as many of them as count, and what each says.
+use Rattle.std.specs.Prelude.{ℕ, Bool, false, if◌then◌else◌, ◌||◌, List, [], map, filter, take, nat_lt, is_some, Option, Some, None, unwrap_or, codes, bytes_eq, fold, count_by}
 use Rattle.std.specs.List.{list_any}
 use Rattle.std.specs.Map.{lookup}
 use Rattle.std.specs.Cmp.Lexicographic.{slice_cmp}
@@ -25,19 +25,22 @@ abbrev pub action_on : Text → Item → Option Action
 action_on k (Name y) = None
 action_on k (On q a) = if bytes_eq k q then Some a else None
 
--- the limit leaves nothing out
-pub record IsWithin (limit : ℕ) (listed : Listed) : Type 0 where
-  pub names : length listed ≤ limit
-  pub actions : All (λ e. length e.1 ≤ limit) listed
+-- the first names in byte order, and always `default`
+abbrev pub is_admitted : ℕ → Listed → Text → Bool
+is_admitted limit listed f = bytes_eq f (codes "default") || nat_lt (count_by (λ e. is_below e.0 f) listed) limit
 
-module _ (limit : ℕ) (listed : Listed) where
-  -- the first names in byte order, and always `default`
-  abbrev pub is_admitted : Text → Bool
-  is_admitted f = bytes_eq f (codes "default") || (is_some (lookup (bytes_eq f) listed) && nat_lt (count_by (λ e. is_below e.0 f) listed) limit)
+-- the table as far as it is admitted: of its names the first and `default`, of the actions of each the first
+abbrev pub admitted : ℕ → Listed → Listed
+admitted limit listed = map (λ e. (e.0, take limit e.1)) (filter (λ e. is_admitted limit listed e.0) listed)
 
-  -- the first actions of an admitted feature
+module _ (listed : Listed) where
+  -- a name that is listed, or `default`
+  abbrev pub is_explicit : Text → Bool
+  is_explicit f = bytes_eq f (codes "default") || is_some (lookup (bytes_eq f) listed)
+
+  -- what the list of f says; nothing where f isn't listed
   abbrev pub items : Text → List Item
-  items f = if is_admitted f then map item_of (take limit (unwrap_or (lookup (bytes_eq f) listed) [])) else []
+  items f = map item_of (unwrap_or (lookup (bytes_eq f) listed) [])
 
   -- the names that f names, known or not
   abbrev pub names : Text → Text → Bool

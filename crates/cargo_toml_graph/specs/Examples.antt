@@ -1,16 +1,16 @@
 -- Tables of worked examples.
 use Rattle.std.specs.Prelude.{if◌then◌else◌, bytes_eq, List, [], ◌∷◌, codes}
 use Rattle.cargo_toml_graph.specs.Action.{Text}
-use Rattle.cargo_toml_graph.specs.Admitted.{Listed, is_admitted, names, joined_action}
+use Rattle.cargo_toml_graph.specs.Admitted.{Listed, is_explicit, names, joined_action}
 use Rattle.cargo_toml_graph.specs.Graph.{Table, Resolution}
 use Rattle.cargo_toml_graph.specs.Removal.{unremoved, without_all}
 
--- what the admitted features of a table say, where there are no dependencies
+-- what the listed features of a table say, where there are no dependencies
 abbrev pub features_alone : Listed → Table
 features_alone listed = record {
-  has = is_admitted 2048 listed;
-  names = names 2048 listed;
-  action = joined_action 2048 listed;
+  has = is_explicit listed;
+  names = names listed;
+  action = joined_action listed;
 }
 
 -- a = ["_h"], _h = ["a"]
@@ -41,6 +41,6 @@ hidden_parent = features_alone ((codes "_h", codes "f" ∷ []) ∷ (codes "f", [
 abbrev pub some_bins : Text → List Text
 some_bins f = if bytes_eq f (codes "f") then codes "y" ∷ codes "z" ∷ [] else if bytes_eq f (codes "_h") then codes "x" ∷ codes "x" ∷ codes "y" ∷ [] else []
 
--- a = ["x", "y", "z"], b = [], c = [], default = ["c"]
+-- b = [], default = ["c"], a = ["x", "y", "z"], c = []
 abbrev pub four : Listed
-four = (codes "a", codes "x" ∷ codes "y" ∷ codes "z" ∷ []) ∷ (codes "b", []) ∷ (codes "c", []) ∷ (codes "default", codes "c" ∷ []) ∷ []
+four = (codes "b", []) ∷ (codes "default", codes "c" ∷ []) ∷ (codes "a", codes "x" ∷ codes "y" ∷ codes "z" ∷ []) ∷ (codes "c", []) ∷ []

@@ -1,7 +1,8 @@
 -- From the features that are read to the whole answer, where nothing is removed.
-use Rattle.std.proofs.Common.{◌≡◌, ◌⊎◌, ◌↔◌, ◌&&◌, ◌||◌, not, Bool, true, false, cond, List, [], ℕ, map, Option, Some, None, IsTrue, IfSome, is_some, option_map, bytes_eq, Bor, refl, sym, ap, ap₂, subst, inl, inr, ◌∙◌}
+use Rattle.std.proofs.Common.{◌≡◌, ◌⊎◌, ◌↔◌, ◌&&◌, ◌||◌, not, Bool, true, false, cond, List, [], ◌++◌, map, Option, Some, None, IsTrue, IfSome, is_some, option_map, bytes_eq, Bor, refl, sym, ap, ap₂, subst, inl, inr, ◌∙◌}
 use Rattle.std.proofs.Math.Bool.{and-false}
 use Rattle.std.proofs.lemmas.Bool.{false≢true, false_from_ne_true, or_cases, or_left, or_right, and_parts, and_from}
+use Rattle.std.proofs.lemmas.List.{append-nil}
 use Rattle.std.proofs.lemmas.Slice.Eq.{bytes_eq-Decides}
 use Rattle.std.specs.HashMap.{HashMap}
 use Rattle.std.specs.List.{list_any}
@@ -11,18 +12,20 @@ use Rattle.cargo_toml_resolve.specs.declared.features.Feature.{Feature}
 use Rattle.cargo_toml_resolve.specs.declared.features.Features.{Features}
 use Rattle.cargo_toml_resolve.specs.declared.read.Mentions.{Mentions}
 use Rattle.cargo_toml_graph.specs.Action.{Text, Action}
-use Rattle.cargo_toml_graph.specs.Admitted.{Listed, is_admitted, is_below, joined_action}
+use Rattle.cargo_toml_graph.specs.Admitted.{Listed, is_explicit, is_below, joined_action}
 use Rattle.cargo_toml_graph.specs.Bins.{HasBins}
 use Rattle.cargo_toml_resolve.specs.Enabling.{is_plain, leads, leads_at, Relates, Enabled, EnabledAll}
 use Rattle.cargo_toml_graph.specs.Graph.{Table, Resolution, Edge, IsPlain, IsUnremoved}
 use Rattle.cargo_toml_resolve.specs.Implying.{Becomes, ImpliesAll, is_optional_at, is_offered}
-use Rattle.cargo_toml_resolve.specs.Reading.{IsRead, AreFresh}
-use Rattle.cargo_toml_resolve.specs.Recorded.{Entry, Recorded, is_mentioned, is_reserved, entries_at, recorded_of}
+use Rattle.cargo_toml_resolve.specs.Reading.{IsRead, IsFresh, AreFresh}
+use Rattle.cargo_toml_resolve.specs.Requiring.{Required, RequiredAll}
+use Rattle.cargo_toml_resolve.specs.Recorded.{Entry, Recorded, is_mentioned, is_reserved, entries_at, recorded_of, first_target, without_redundant}
 use Rattle.cargo_toml_resolve.specs.Recording.{recorded_at, is_mentioned_in}
+use Rattle.cargo_toml_resolve.specs.Redundant.{IsRecordOf, Thinned, ThinnedAll}
 use Rattle.cargo_toml_graph.specs.Redirects.{RedirectsTo}
 use Rattle.cargo_toml_graph.specs.Removal.{is_removed}
 use Rattle.cargo_toml_resolve.specs.Reached.{IsKeyed}
-use Rattle.cargo_toml_resolve.specs.Resolved.{joined_table, plain, SameRecorded, IsAnswer}
+use Rattle.cargo_toml_resolve.specs.Resolved.{table_of, plain, SameRecorded, IsAnswer}
 use Rattle.cargo_toml_resolve.specs.Views.{has_text, action_at, value_at, table_in, resolution_of, answer_of}
 use Rattle.cargo_toml_resolve.proofs.TextKeys.{none_in}
 use Rattle.cargo_toml_graph.proofs.Unremoved.{resolved_unremoved}
@@ -143,6 +146,46 @@ module _ {S : Type 0} (old new : HashMap (Bor Text) Feature S) (none : (f e : Te
     enabled_by = λ f e. (λ y. edge_is f e (sym (enablers_now f e) ∙ y), λ d. enablers_now f e ∙ edge-true f e d);
   }
 
+-- the features without what dependencies have anyway
+module _ {S : Type 0} (entries : Text → List Entry) (old new : HashMap (Bor Text) Feature S) (h : ThinnedAll entries old new) where
+  has_thinned : (f : Text) → is_some (value_at new f) ≡ is_some (value_at old f)
+  has_thinned f = go (value_at old f) (value_at new f) (h.at f)
+    where
+      go : (o o' : Option Feature) → Relates (Thinned entries) o o' → is_some o' ≡ is_some o
+      go None None r = refl
+      go None (Some b) r = absurd r
+      go (Some a) None r = absurd r
+      go (Some a) (Some b) r = refl
+
+  names_thinned : (f x : Text) → (table_in new).names f x ≡ (table_in old).names f x
+  names_thinned f x = go (value_at old f) (value_at new f) (h.at f)
+    where
+      go : (o o' : Option Feature) → Relates (Thinned entries) o o' → option_map_or (λ v. has_text v.enables_features x) o' false ≡ option_map_or (λ v. has_text v.enables_features x) o false
+      go None None r = refl
+      go None (Some b) r = absurd r
+      go (Some a) None r = absurd r
+      go (Some a) (Some b) r = rw r.names
+
+  action_thinned : (f k : Text) → (table_in new).action f k ≡ option_map (without_redundant (first_target (entries k))) ((table_in old).action f k)
+  action_thinned f k = go (value_at old f) (value_at new f) (h.at f)
+    where
+      go : (o o' : Option Feature) → Relates (Thinned entries) o o' → option_map_or (λ v. action_at v.enables_deps k) o' None ≡ option_map (without_redundant (first_target (entries k))) (option_map_or (λ v. action_at v.enables_deps k) o None)
+      go None None r = refl
+      go None (Some b) r = absurd r
+      go (Some a) None r = absurd r
+      go (Some a) (Some b) r = r.actions k
+
+  fresh_thinned : AreFresh old → AreFresh new
+  fresh_thinned fresh f v s = subst (λ o. IfSome o (IsFresh f)) s (go (value_at old f) (value_at new f) refl (h.at f))
+    where
+      go : (o o' : Option Feature) → value_at old f ≡ o → Relates (Thinned entries) o o' → IfSome o' (IsFresh f)
+      go None None s r = tt
+      go None (Some b) s r = absurd r
+      go (Some a) None s r = absurd r
+      go (Some a) (Some b) s r =
+          let k = fresh f a s in
+          record { key = ap (λ q. q.now) r.key ∙ k.key; explicit = r.explicit ∙ k.explicit; enabled_by = ap (λ q. q.keys) r.enabled_by ∙ k.enabled_by; bins = ap (λ q. q.items) r.bins ∙ k.bins }
+
 -- the table with the implied features
 module _ {S : Type 0} (implied : Text → Bool) (old new : HashMap (Bor Text) Feature S) (h : ImpliesAll implied old new) where
   has_after : (f : Text) → is_some (value_at new f) ≡ (is_some (value_at old f) || implied f)
@@ -191,7 +234,81 @@ record IsMarked (f : Text) (mark : Bool) (v : Feature) : Type 0 where
   bins : v.required_by_bins.items ≡ []
   explicit : v.explicit ≡ mark
 
--- nothing is removed, and no binary is known
+-- the same with the binaries that require it
+record IsTold (f : Text) (mark : Bool) (own : List Text) (v : Feature) : Type 0 where
+  key : v.key.now ≡ f
+  bins : map (λ b. b.now) v.required_by_bins.items ≡ own
+  explicit : v.explicit ≡ mark
+
+-- binaries change neither what features say nor which enable them
+module _ {S : Type 0} (own : Text → List Text) (old new : HashMap (Bor Text) Feature S) (h : RequiredAll own old new) where
+  has_required : (f : Text) → is_some (value_at new f) ≡ is_some (value_at old f)
+  has_required f = go (value_at old f) (value_at new f) (h.at f)
+    where
+      go : (o o' : Option Feature) → Relates (Required (own f)) o o' → is_some o' ≡ is_some o
+      go None None r = refl
+      go None (Some b) r = absurd r
+      go (Some a) None r = absurd r
+      go (Some a) (Some b) r = refl
+
+  names_required : (f x : Text) → (table_in new).names f x ≡ (table_in old).names f x
+  names_required f x = go (value_at old f) (value_at new f) (h.at f)
+    where
+      go : (o o' : Option Feature) → Relates (Required (own f)) o o' → option_map_or (λ v. has_text v.enables_features x) o' false ≡ option_map_or (λ v. has_text v.enables_features x) o false
+      go None None r = refl
+      go None (Some b) r = absurd r
+      go (Some a) None r = absurd r
+      go (Some a) (Some b) r = rw r.names
+
+  action_required : (f k : Text) → (table_in new).action f k ≡ (table_in old).action f k
+  action_required f k = go (value_at old f) (value_at new f) (h.at f)
+    where
+      go : (o o' : Option Feature) → Relates (Required (own f)) o o' → option_map_or (λ v. action_at v.enables_deps k) o' None ≡ option_map_or (λ v. action_at v.enables_deps k) o None
+      go None None r = refl
+      go None (Some b) r = absurd r
+      go (Some a) None r = absurd r
+      go (Some a) (Some b) r = rw r.actions
+
+  enablers_required : (f e : Text) → (resolution_of new).enabled_by f e ≡ (resolution_of old).enabled_by f e
+  enablers_required f e = go (value_at old f) (value_at new f) (h.at f)
+    where
+      go : (o o' : Option Feature) → Relates (Required (own f)) o o' → option_map_or (λ v. has_text v.enabled_by e) o' false ≡ option_map_or (λ v. has_text v.enabled_by e) o false
+      go None None r = refl
+      go None (Some b) r = absurd r
+      go (Some a) None r = absurd r
+      go (Some a) (Some b) r = rw r.enabled_by
+
+  unremoved_required : (t : Table) → IsUnremoved t (resolution_of old) → IsUnremoved t (resolution_of new)
+  unremoved_required t u = record {
+    has = λ f. has_required f ∙ u.has f;
+    names = λ f x. names_required f x ∙ u.names f x;
+    action = λ f k. action_required f k ∙ u.action f k;
+    enabled_by = λ f e. (λ y. (u.enabled_by f e).0 (sym (enablers_required f e) ∙ y), λ d. enablers_required f e ∙ (u.enabled_by f e).1 d);
+  }
+
+  told_required : (f : Text) (mark : Bool) → IfSome (value_at old f) (IsMarked f mark) → IfSome (value_at new f) (IsTold f mark (own f))
+  told_required f mark = go (value_at old f) (value_at new f) (h.at f)
+    where
+      go : (o o' : Option Feature) → Relates (Required (own f)) o o' → IfSome o (IsMarked f mark) → IfSome o' (IsTold f mark (own f))
+      go None None r m = tt
+      go None (Some b) r m = absurd r
+      go (Some a) None r m = absurd r
+      go (Some a) (Some b) r m = record {
+        key = ap (λ q. q.now) r.key ∙ m.key;
+        bins = r.bins ∙ ap (λ xs. map (λ (b : Bor Text). b.now) xs ++ own f) m.bins;
+        explicit = r.explicit ∙ m.explicit;
+      }
+
+  pub keyed_required : IsKeyed old → IsKeyed new
+  keyed_required k f = go (value_at old f) (value_at new f) (h.at f) (k f)
+    where
+      go : (o o' : Option Feature) → Relates (Required (own f)) o o' → IfSome o (λ v. v.key.now ≡ f) → IfSome o' (λ v. v.key.now ≡ f)
+      go None None r m = tt
+      go None (Some b) r m = absurd r
+      go (Some a) None r m = absurd r
+      go (Some a) (Some b) r m = ap (λ q. q.now) r.key ∙ m
+
+-- nothing is removed
 module _ (t : Table) where
   abbrev Removed : Text → Type 0
   Removed f = IsTrue (is_removed t (λ _. true) f)
@@ -202,9 +319,9 @@ module _ (t : Table) where
   none_removed : (f : Text) → ¬ Removed f
   none_removed f r = false≢true (sym (kept_all f) ∙ r)
 
-  no_bins : (f : Text) (bins : List Text) → bins ≡ [] → HasBins t Removed (λ _. []) f bins
-  no_bins f bins e = record {
-    lists = record { passed = []; whole = e; once = tt; fresh = λ x a. absurd a; cause = λ x a. absurd a };
+  own_bins : (own : Text → List Text) (f : Text) (bins : List Text) → bins ≡ own f → HasBins t Removed own f bins
+  own_bins own f bins e = record {
+    lists = record { passed = []; whole = e ∙ sym (append-nil (own f)); once = tt; fresh = λ x a. absurd a; cause = λ x a. absurd a };
     direct = λ r x removed. absurd (none_removed r removed);
   }
 
@@ -232,88 +349,109 @@ keyed_from implied by read middle last fresh i e f = enabled_one (value_at middl
     enabled_one (Some v) None r k = absurd r
     enabled_one (Some v) (Some w) r k = ap (λ q. q.now) r.key ∙ k
 
-module _ {S H : Type 0} (limit : ℕ) (listed : Listed) (entries : List Entry) (mentions : Mentions S H) (implied : HashMap (Bor Text) Feature S) (a : Features S H)
-    (r : IsRead limit listed (table_in mentions.features) (value_at mentions.acted)) (fresh : AreFresh mentions.features) (i : ImpliesAll (is_offered mentions.acted entries) mentions.features implied)
-    (e : EnabledAll (λ q e. leads_at implied e q && not (bytes_eq q e)) implied a.features)
-    (recorded : ((k : Text) → is_mentioned_in mentions k ≡ is_mentioned limit listed k) → (k : Text) → recorded_at a.dependencies k ≡ recorded_of (entries_at limit listed entries k))
+module _ {S H : Type 0} (listed : Listed) (entries : List Entry) (own : Text → List Text) (mentions : Mentions S H) (thinned implied enabled : HashMap (Bor Text) Feature S) (a : Features S H)
+    (r : IsRead listed (table_in mentions.features) (value_at mentions.acted)) (fresh : AreFresh mentions.features)
+    (thins : (entries : Text → List Entry) → IsRecordOf a.dependencies entries → ThinnedAll entries mentions.features thinned) (i : ImpliesAll (is_offered mentions.acted entries) thinned implied)
+    (e : EnabledAll (λ q e. leads_at implied e q && not (bytes_eq q e)) implied enabled) (b : RequiredAll own enabled a.features)
+    (recorded : ((k : Text) → is_mentioned_in mentions k ≡ is_mentioned listed k) → (k : Text) → recorded_at a.dependencies k ≡ recorded_of (entries_at listed entries k))
     (hidden : a.hidden_features.entries ≡ []) (removed : a.removed_hidden_features ≡ false) where
   abbrev t : Table
-  t = joined_table limit listed entries
+  t = table_of listed entries
 
-  offered_is : (f : Text) → is_offered mentions.acted entries f ≡ (list_any (is_optional_at f) entries && not (is_reserved limit listed f))
+  mentioned : (k : Text) → is_mentioned_in mentions k ≡ is_mentioned listed k
+  mentioned k = ap₂ (λ x y. x || y) (r.has k) (r.acted_on k)
+
+  less : ThinnedAll (entries_at listed entries) mentions.features thinned
+  less = thins (entries_at listed entries) (recorded mentioned)
+
+  pub fresh_still : AreFresh thinned
+  fresh_still = fresh_thinned (entries_at listed entries) mentions.features thinned less fresh
+
+  -- what is left of an action on k
+  abbrev left : Text → Action → Action
+  left k = without_redundant (first_target (entries_at listed entries k))
+
+  has_still : (f : Text) → is_some (value_at thinned f) ≡ is_explicit listed f
+  has_still f = has_thinned (entries_at listed entries) mentions.features thinned less f ∙ r.has f
+
+  action_still : (f k : Text) → (table_in thinned).action f k ≡ option_map (left k) (joined_action listed f k)
+  action_still f k = action_thinned (entries_at listed entries) mentions.features thinned less f k ∙ ap (option_map (left k)) (r.action f k)
+
+  offered_is : (f : Text) → is_offered mentions.acted entries f ≡ (list_any (is_optional_at f) entries && not (is_reserved listed f))
   offered_is f = ap (λ b. list_any (is_optional_at f) entries && not b) (r.reserved f)
 
   same : Same (table_in implied) t
   same = record {
-    has = λ f. has_after (is_offered mentions.acted entries) mentions.features implied i f ∙ ap (λ b. b || is_offered mentions.acted entries f) (r.has f) ∙ ap (λ b. is_admitted limit listed f || b) (offered_is f) ∙ or_not (is_admitted limit listed f) _;
-    names = λ f x. names_after (is_offered mentions.acted entries) mentions.features implied i f x ∙ r.names f x;
+    has = λ f. has_after (is_offered mentions.acted entries) thinned implied i f ∙ ap (λ b. b || is_offered mentions.acted entries f) (has_still f) ∙ ap (λ b. is_explicit listed f || b) (offered_is f) ∙ or_not (is_explicit listed f) _;
+    names = λ f x. names_after (is_offered mentions.acted entries) thinned implied i f x ∙ names_thinned (entries_at listed entries) mentions.features thinned less f x ∙ r.names f x;
     action = λ f k.
-        action_after (is_offered mentions.acted entries) mentions.features implied i f k ∙ ap (λ b. cond b ((table_in mentions.features).action f k) (cond (is_offered mentions.acted entries f && bytes_eq k f) (Some plain) None)) (r.has f)
-        ∙ ap (λ o. cond (is_admitted limit listed f) o (cond (is_offered mentions.acted entries f && bytes_eq k f) (Some plain) None)) (r.action f k)
-        ∙ ap (λ b. cond (is_admitted limit listed f) (joined_action limit listed f k) (cond (b && bytes_eq k f) (Some plain) None)) (offered_is f)
-        ∙ go (is_admitted limit listed f) (joined_action limit listed f k) (list_any (is_optional_at f) entries && not (is_reserved limit listed f)) (bytes_eq k f);
+        action_after (is_offered mentions.acted entries) thinned implied i f k ∙ ap (λ b. cond b ((table_in thinned).action f k) (cond (is_offered mentions.acted entries f && bytes_eq k f) (Some plain) None)) (has_still f)
+        ∙ ap (λ o. cond (is_explicit listed f) o (cond (is_offered mentions.acted entries f && bytes_eq k f) (Some plain) None)) (action_still f k)
+        ∙ ap (λ b. cond (is_explicit listed f) (option_map (left k) (joined_action listed f k)) (cond (b && bytes_eq k f) (Some plain) None)) (offered_is f)
+        ∙ go (left k) refl (is_explicit listed f) (joined_action listed f k) (list_any (is_optional_at f) entries && not (is_reserved listed f)) (bytes_eq k f);
   }
     where
-      go : (a : Bool) (o : Option Action) (i b : Bool) → cond a o (cond (i && b) (Some plain) None) ≡ cond a o (cond ((i && not a) && b) (Some plain) None)
-      go true o i b = refl
-      go false o true b = refl
-      go false o false b = refl
+      go : (w : Action → Action) → w plain ≡ plain → (a : Bool) (o : Option Action) (i b : Bool) → cond a (option_map w o) (cond (i && b) (Some plain) None) ≡ option_map w (cond a o (cond ((i && not a) && b) (Some plain) None))
+      go w p true o i b = refl
+      go w p false o true true = ap Some (sym p)
+      go w p false o true false = refl
+      go w p false o false b = refl
 
-  no_enablers : (f e : Text) → (resolution_of mentions.features).enabled_by f e ≡ false
-  no_enablers f e = go (value_at mentions.features f) refl
+  no_enablers : (f e : Text) → (resolution_of thinned).enabled_by f e ≡ false
+  no_enablers f e = go (value_at thinned f) refl
     where
-      go : (o : Option Feature) → value_at mentions.features f ≡ o → option_map_or (λ v. has_text v.enabled_by e) o false ≡ false
+      go : (o : Option Feature) → value_at thinned f ≡ o → option_map_or (λ v. has_text v.enabled_by e) o false ≡ false
       go None s = refl
-      go (Some v) s = none_in v.enabled_by (fresh f v s).enabled_by e
+      go (Some v) s = none_in v.enabled_by (fresh_still f v s).enabled_by e
 
   whole : IsUnremoved t (resolution_of a.features)
-  whole = unremoved_alike (table_in implied) t (resolution_of a.features) same
-      (unremoved implied a.features (enablers_after (is_offered mentions.acted entries) mentions.features implied i no_enablers) e)
+  whole = unremoved_required own enabled a.features b t (unremoved_alike (table_in implied) t (resolution_of enabled) same
+      (unremoved implied enabled (enablers_after (is_offered mentions.acted entries) thinned implied i no_enablers) e))
 
-  marked : (f : Text) → IfSome (value_at a.features f) (IsMarked f (is_admitted limit listed f))
-  marked f = later (value_at implied f) (value_at a.features f) (e.at f) (middle (is_offered mentions.acted entries f) (value_at mentions.features f) (value_at implied f) refl (i.at f))
+  marked : (f : Text) → IfSome (value_at enabled f) (IsMarked f (is_explicit listed f))
+  marked f = later (value_at implied f) (value_at enabled f) (e.at f) (middle (is_offered mentions.acted entries f) (value_at thinned f) (value_at implied f) refl (i.at f))
     where
-      listed_one : (v : Feature) → value_at mentions.features f ≡ Some v → IsMarked f (is_admitted limit listed f) v
+      listed_one : (v : Feature) → value_at thinned f ≡ Some v → IsMarked f (is_explicit listed f) v
       listed_one v s =
-          let k = fresh f v s in
-          record { key = k.key; bins = k.bins; explicit = k.explicit ∙ sym (ap is_some s) ∙ r.has f }
+          let k = fresh_still f v s in
+          record { key = k.key; bins = k.bins; explicit = k.explicit ∙ sym (ap is_some s) ∙ has_still f }
 
-      middle : (b : Bool) (o o' : Option Feature) → value_at mentions.features f ≡ o → Becomes b f o o' → IfSome o' (IsMarked f (is_admitted limit listed f))
+      middle : (b : Bool) (o o' : Option Feature) → value_at thinned f ≡ o → Becomes b f o o' → IfSome o' (IsMarked f (is_explicit listed f))
       middle true None None s b = absurd b
-      middle true None (Some v) s b = record { key = b.key; bins = b.bins; explicit = b.explicit ∙ sym (ap is_some s) ∙ r.has f }
-      middle false None o' s b = subst (λ o. IfSome o (IsMarked f (is_admitted limit listed f))) (sym b) tt
-      middle true (Some v) o' s b = subst (λ o. IfSome o (IsMarked f (is_admitted limit listed f))) (sym b) (listed_one v s)
-      middle false (Some v) o' s b = subst (λ o. IfSome o (IsMarked f (is_admitted limit listed f))) (sym b) (listed_one v s)
+      middle true None (Some v) s b = record { key = b.key; bins = b.bins; explicit = b.explicit ∙ sym (ap is_some s) ∙ has_still f }
+      middle false None o' s b = subst (λ o. IfSome o (IsMarked f (is_explicit listed f))) (sym b) tt
+      middle true (Some v) o' s b = subst (λ o. IfSome o (IsMarked f (is_explicit listed f))) (sym b) (listed_one v s)
+      middle false (Some v) o' s b = subst (λ o. IfSome o (IsMarked f (is_explicit listed f))) (sym b) (listed_one v s)
 
-      later : (o o' : Option Feature) → Relates (Enabled (λ q. leads_at implied q f && not (bytes_eq f q))) o o' → IfSome o (IsMarked f (is_admitted limit listed f)) → IfSome o' (IsMarked f (is_admitted limit listed f))
+      later : (o o' : Option Feature) → Relates (Enabled (λ q. leads_at implied q f && not (bytes_eq f q))) o o' → IfSome o (IsMarked f (is_explicit listed f)) → IfSome o' (IsMarked f (is_explicit listed f))
       later None None k m = tt
       later None (Some w) k m = absurd k
       later (Some v) None k m = absurd k
       later (Some v) (Some w) k m = record { key = ap (λ q. q.now) k.key ∙ m.key; bins = ap (λ q. q.items) k.bins ∙ m.bins; explicit = k.explicit ∙ m.explicit }
 
-  mentioned : (k : Text) → is_mentioned_in mentions k ≡ is_mentioned limit listed k
-  mentioned k = ap₂ (λ x y. x || y) (r.has k) (r.acted_on k)
+  told : (f : Text) → IfSome (value_at a.features f) (IsTold f (is_explicit listed f) (own f))
+  told f = told_required own enabled a.features b f (is_explicit listed f) (marked f)
 
-  pub answers : IsAnswer t limit listed entries (λ _. []) (λ _. true) (answer_of a)
+  pub answers : IsAnswer t listed entries own (λ _. true) (answer_of a)
   answers = record {
     resolved = resolved_unremoved t (resolution_of a.features) (Removed t) (none_removed t) whole;
-    keyed = λ f. keyed_at f (value_at a.features f) (marked f);
-    explicit = λ f. explicit_at f (value_at a.features f) (marked f);
-    bins = λ f has. no_bins t f _ (bins_at f (value_at a.features f) (marked f));
-    dependencies = λ k. same_recorded (recorded_at a.dependencies k) (recorded_of (entries_at limit listed entries k)) (recorded mentioned k);
+    keyed = λ f. keyed_at f (value_at a.features f) (told f);
+    explicit = λ f. explicit_at f (value_at a.features f) (told f);
+    bins = λ f has. own_bins t own f _ (bins_at f (value_at a.features f) (told f) has);
+    dependencies = λ k. same_recorded (recorded_at a.dependencies k) (recorded_of (entries_at listed entries k)) (recorded mentioned k);
     redirected = λ f. ap (λ es. is_some (option_map has_text (lookup (λ (k : Bor Text). bytes_eq f k.now) es))) hidden ∙ sym (kept_all t f);
     redirects = λ f. subst (λ es. IfSome (option_map has_text (lookup (λ (k : Bor Text). bytes_eq f k.now) es)) (λ names. (x : Text) → IsTrue (names x) ↔ RedirectsTo t (Removed t) (λ s b. IsTrue (is_below s b)) f x)) (sym hidden) tt;
     some = (λ y. absurd (false≢true (sym removed ∙ y)), λ f. absurd (none_removed t f.0 f.1));
   }
     where
-      keyed_at : (f : Text) (o : Option Feature) → IfSome o (IsMarked f (is_admitted limit listed f)) → IfSome (option_map (λ v. v.key.now) o) (λ k. k ≡ f)
+      keyed_at : (f : Text) (o : Option Feature) → IfSome o (IsTold f (is_explicit listed f) (own f)) → IfSome (option_map (λ v. v.key.now) o) (λ k. k ≡ f)
       keyed_at f None m = tt
       keyed_at f (Some v) m = m.key
 
-      explicit_at : (f : Text) (o : Option Feature) → IfSome o (IsMarked f (is_admitted limit listed f)) → IsTrue (is_some o) → option_map_or (λ v. v.explicit) o false ≡ is_admitted limit listed f
+      explicit_at : (f : Text) (o : Option Feature) → IfSome o (IsTold f (is_explicit listed f) (own f)) → IsTrue (is_some o) → option_map_or (λ v. v.explicit) o false ≡ is_explicit listed f
       explicit_at f None m has = absurd (false≢true has)
       explicit_at f (Some v) m has = m.explicit
 
-      bins_at : (f : Text) (o : Option Feature) → IfSome o (IsMarked f (is_admitted limit listed f)) → option_map_or (λ v. map (λ t. t.now) v.required_by_bins.items) o [] ≡ []
-      bins_at f None m = refl
-      bins_at f (Some v) m = ap (map (λ (t : Bor Text). t.now)) m.bins
+      bins_at : (f : Text) (o : Option Feature) → IfSome o (IsTold f (is_explicit listed f) (own f)) → IsTrue (is_some o) → option_map_or (λ v. map (λ t. t.now) v.required_by_bins.items) o [] ≡ own f
+      bins_at f None m has = absurd (false≢true has)
+      bins_at f (Some v) m has = m.bins

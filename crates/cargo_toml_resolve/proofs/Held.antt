@@ -1,9 +1,8 @@
 -- A feature of a map whose features stand under their own keys is found under its key.
-use Rattle.std.proofs.Common.{◌≡◌, ◌<◌, ◌⊎◌, ℕ, zero, suc, List, [], ◌∷◌, length, Some, is_some, IsSome, Bor, bytes_eq, slice_get, slice_index_or, sym, ap, subst, ◌∙◌, inl, inr, arith}
+use Rattle.std.proofs.Common.{◌≡◌, ◌<◌, ℕ, zero, suc, List, [], ◌∷◌, length, Some, is_some, IsSome, Bor, bytes_eq, slice_get, slice_index_or, sym, ap, ◌∙◌, inl, inr, arith}
 use Rattle.std.proofs.lemmas.Map.Entries.{hash_map_get_place}
 use Rattle.std.specs.Cmp.Lexicographic.{on_texts_equal}
-use Rattle.std.specs.HashMap.{HashMap, IsUnique, values}
-use Rattle.std.specs.List.{IsAmong}
+use Rattle.std.specs.HashMap.{HashMap, IsUnique}
 use Rattle.std.specs.Map.{values_of}
 use Rattle.cargo_toml_graph.specs.Action.{Text}
 use Rattle.cargo_toml_resolve.specs.declared.features.Feature.{Feature}

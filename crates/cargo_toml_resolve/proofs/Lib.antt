@@ -1,4 +1,6 @@
 pub mod Targets
+pub mod FirstTarget
+pub mod Thinning
 pub mod Counting
 pub mod Recording
 pub mod Links
@@ -17,3 +19,7 @@ pub mod Held
 pub mod Work
 pub mod Walks
 pub mod NextName
+mod Requiring
+mod FirstEntries
+mod OneListing
+mod Hashed

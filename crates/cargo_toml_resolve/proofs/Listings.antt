@@ -1,43 +1,40 @@
--- The names of a table, each once.
-use Rattle.std.proofs.Common.{◌≡◌, List, [], ◌∷◌, map, bytes_eq, string_bytes, String, Vec, refl, sym, ap, ◌∙◌, inl, inr}
+-- The names of a table, in byte order and each once.
+use Rattle.std.proofs.Common.{◌≡◌, List, [], ◌∷◌, map, string_bytes, String, Vec, IsTrue, refl, sym, ap, subst, inl, inr}
 use Rattle.std.specs.List.{AllByRecursion}
 use Rattle.std.specs.List.Sorted.{IsStrictlySortedBy}
-use Rattle.std.specs.Ordering.{is_eq}
+use Rattle.std.specs.Ordering.{is_lt}
 use Rattle.std.specs.String.{string_cmp}
 use Rattle.std.specs.declared.alloc.Global.{Global}
 use Rattle.std.specs.declared.cmp.Ordering.TheVariants.{Less}
-use Rattle.std.proofs.lemmas.Bool.{false≢true}
 use Rattle.std.proofs.lemmas.Map.Keys.{sorted_head, sorted_tail}
-use Rattle.std.proofs.lemmas.Map.Text.{is_eq-slice_cmp}
 use Rattle.cargo_toml_graph.specs.Action.{Text}
-use Rattle.cargo_toml_graph.specs.Reach.{Among, IsOnce}
+use Rattle.cargo_toml_graph.specs.Admitted.{is_below}
+use Rattle.cargo_toml_graph.specs.Reach.{Among}
+use Rattle.cargo_toml_graph.proofs.Cut.{Ascends}
 use Rattle.cargo_toml_resolve.specs.Reading.{listed_of}
 use Rattle.cargo_toml_resolve.specs.declared.admit.Listing.{Listing}
-use Rattle.cargo_toml_graph.proofs.Texts.{bytes_eq_refl}
+
+abbrev Owned : Type 0
+Owned = String Global × Vec (String Global) Global
 
 -- what an entry of a table lists
-abbrev pub listed_entry : String Global × Vec (String Global) Global → Text × List Text
+abbrev pub listed_entry : Owned → Text × List Text
 listed_entry e = (string_bytes e.0, map string_bytes e.1.items)
 
-less_apart : (x y : String Global) → string_cmp x y ≡ Less → string_bytes x ≡ string_bytes y → ⊥
-less_apart x y less e =
-    false≢true (ap is_eq (sym less) ∙ is_eq-slice_cmp (string_bytes x) (string_bytes y) ∙ ap (bytes_eq (string_bytes x)) (sym e) ∙ bytes_eq_refl (string_bytes x))
+below_each : (k : String Global) (es : List Owned) → AllByRecursion (λ y. string_cmp k y ≡ Less) (map (λ e. e.0) es) → (y : Text) → Among (map (λ e. e.0) (map listed_entry es)) y → IsTrue (is_below (string_bytes k) y)
+below_each k [] all y i = absurd i
+below_each k (e ∷ es) all y (inl s) = subst (λ v. IsTrue (is_below (string_bytes k) v)) (sym s) (ap is_lt all.0)
+below_each k (e ∷ es) all y (inr i) = below_each k es all.1 y i
 
-not_among : (k : String Global) (ks : List (String Global)) → AllByRecursion (λ y. string_cmp k y ≡ Less) ks → Among (map string_bytes ks) (string_bytes k) → ⊥
-not_among k [] all a = absurd a
-not_among k (x ∷ xs) all a = elim a [ inl e ↦ less_apart k x all.0 e | inr more ↦ not_among k xs all.1 more ]
+-- the order of a table's keys is the byte order of the names that it lists
+pub ascending : (es : List Owned) → IsStrictlySortedBy string_cmp (map (λ e. e.0) es) → Ascends (map listed_entry es)
+ascending [] h = tt
+ascending (e ∷ es) h = (below_each e.0 es (sorted_head string_cmp e.0 (map (λ e. e.0) es) h), ascending es (sorted_tail string_cmp e.0 (map (λ e. e.0) es) h))
 
-pub once_sorted : (ks : List (String Global)) → IsStrictlySortedBy string_cmp ks → IsOnce (map string_bytes ks)
-once_sorted [] h = tt
-once_sorted (k ∷ ks) h = (not_among k ks (sorted_head string_cmp k ks h), once_sorted ks (sorted_tail string_cmp k ks h))
+-- what a listing lists
+abbrev pub listed_one : Listing → Text × List Text
+listed_one l = (l.name.now, map string_bytes l.actions.now)
 
 pub names_listed : (ls : List Listing) → map (λ e. e.0) (listed_of ls) ≡ map (λ l. l.name.now) ls
 names_listed [] = refl
 names_listed (l ∷ ls) = ap (λ xs. l.name.now ∷ xs) (names_listed ls)
-
-names_entries : (es : List (String Global × Vec (String Global) Global)) → map (λ e. e.0) (map listed_entry es) ≡ map string_bytes (map (λ e. e.0) es)
-names_entries [] = refl
-names_entries (e ∷ es) = ap (λ xs. string_bytes e.0 ∷ xs) (names_entries es)
-
-pub names_are : (ls : List Listing) (es : List (String Global × Vec (String Global) Global)) → listed_of ls ≡ map listed_entry es → map string_bytes (map (λ e. e.0) es) ≡ map (λ l. l.name.now) ls
-names_are ls es same = sym (names_entries es) ∙ ap (map (λ e. e.0)) (sym same) ∙ names_listed ls

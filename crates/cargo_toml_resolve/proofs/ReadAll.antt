@@ -14,15 +14,14 @@ use Rattle.std.proofs.Math.Seq.{drop-cons}
 use Rattle.cargo_toml_resolve.specs.declared.features.Feature.{Feature}
 use Rattle.cargo_toml_resolve.specs.declared.admit.Listing.{Listing}
 use Rattle.cargo_toml_graph.specs.Action.{Text, Action, item_of}
-use Rattle.cargo_toml_graph.specs.Admitted.{Listed, IsWithin, items, item_names, joined_action}
+use Rattle.cargo_toml_graph.specs.Admitted.{Listed, items, item_names, joined_action}
 use Rattle.cargo_toml_graph.specs.Reach.{Among, IsOnce}
 use Rattle.cargo_toml_resolve.specs.ReadFeature.{joined_in, noted, IsListed}
 use Rattle.cargo_toml_resolve.specs.Reading.{listed_of, IsRead}
 use Rattle.cargo_toml_resolve.specs.Recorded.{is_reserved}
 use Rattle.cargo_toml_resolve.specs.Views.{value_at, table_in, has_text, action_at}
-use Rattle.cargo_toml_resolve.proofs.Listings.{names_listed}
+use Rattle.cargo_toml_resolve.proofs.Listings.{listed_one, names_listed}
 use Rattle.cargo_toml_graph.proofs.Texts.{bytes_eq_refl}
-use Rattle.cargo_toml_graph.proofs.Within.{admitted_is, items_are}
 
 -- what stands under f, where the table lists these actions for it, if any
 abbrev Holds : Text → Option (List Text) → Option Feature → Type 0
@@ -68,9 +67,6 @@ new_name [] after n once = refl
 new_name (e ∷ es) after n once =
     ap (λ b. cond b (Some e.1) (lookup (bytes_eq n) es)) (apart n e.0 (λ same. once.0 (subst (Among (map (λ d. d.0) es ++ n ∷ after)) same (among_later (map (λ d. d.0) es) after n))))
     ∙ new_name es after n once.1
-
-abbrev listed_one : Listing → Text × List Text
-listed_one l = (l.name.now, map string_bytes l.actions.now)
 
 module _ (ls : List Listing) (i : ℕ) (l : Listing) (below : i < length ls) (is : l ≡ get_or ls i l) (once : IsOnce (map (λ l. l.name.now) ls)) where
   split : ls ≡ take i ls ++ l ∷ drop (i + 1) ls
@@ -186,15 +182,15 @@ module _ (k : Text) where
       one None (Some a) = refl
       one (Some b) (Some a) = refl
 
-module _ (limit : ℕ) (listed : Listed) (within : IsWithin limit listed) (once : IsOnce (map (λ e. e.0) listed)) (k : Text) where
+module _ (listed : Listed) (once : IsOnce (map (λ e. e.0) listed)) (k : Text) where
   -- what the table's actions on k come to, of each entry
-  joined_each : AllByRecursion (λ e. joined_action limit listed e.0 k ≡ said k e) listed
-  joined_each = weaken _ _ (λ e found. ap (λ is. joined_in is k) (items_are limit listed within e.0) ∙ ap (λ o. joined_in (map item_of (unwrap_or o [])) k) found) listed (found_each listed once)
+  joined_each : AllByRecursion (λ e. joined_action listed e.0 k ≡ said k e) listed
+  joined_each = weaken _ _ (λ e found. ap (λ o. joined_in (map item_of (unwrap_or o [])) k) found) listed (found_each listed once)
 
-  noted_is_some : is_some (noted_in listed k) ≡ list_any (λ e. is_some (joined_action limit listed e.0 k)) listed
+  noted_is_some : is_some (noted_in listed k) ≡ list_any (λ e. is_some (joined_action listed e.0 k)) listed
   noted_is_some = noted_some k None listed ∙ sym (list_any_same _ _ listed (weaken _ _ (λ e same. ap is_some same) listed joined_each))
 
-  noted_is_dep_only : unwrap_or (noted_in listed k) false ≡ is_reserved limit listed k
+  noted_is_dep_only : unwrap_or (noted_in listed k) false ≡ is_reserved listed k
   noted_is_dep_only = noted_dep_only k None listed ∙ sym (list_any_same _ _ listed (weaken _ _ (λ e same. ap (λ o. option_map_or (λ a. a.is_dep_only) o false) same) listed joined_each))
 
 module _ {S : Type 0} (listed : Listed) (m m' : HashMap (Bor Text) Feature S) (read : HasRead listed m)
@@ -219,14 +215,14 @@ module _ {S : Type 0} (listed : Listed) (m m' : HashMap (Bor Text) Feature S) (r
           (here (lookup (bytes_eq (codes "default")) listed) (value_at m (codes "default")) (value_at m' (codes "default")) (read.at (codes "default")) default)
       go false e = subst (λ o. Holds f o (value_at m' f)) (sym (or_none (lookup (bytes_eq f) listed))) (subst (Holds f (lookup (bytes_eq f) listed)) (sym (others f e)) (read.at f))
 
-  pub all_read : (limit : ℕ) (acted : Text → Option Bool) → ((k : Text) → acted k ≡ noted_in listed k) → IsOnce (map (λ e. e.0) listed) → IsWithin limit listed → IsRead limit listed (table_in m') acted
-  all_read limit acted acted_is once within = record {
-    has = λ f. holds_some f (with_default listed f) (value_at m' f) (holds_all f) ∙ default_some (bytes_eq f (codes "default")) (lookup (bytes_eq f) listed) ∙ sym (admitted_is limit listed within f);
+  pub all_read : (acted : Text → Option Bool) → ((k : Text) → acted k ≡ noted_in listed k) → IsOnce (map (λ e. e.0) listed) → IsRead listed (table_in m') acted
+  all_read acted acted_is once = record {
+    has = λ f. holds_some f (with_default listed f) (value_at m' f) (holds_all f) ∙ default_some (bytes_eq f (codes "default")) (lookup (bytes_eq f) listed);
     names = λ f x. holds_names f x (with_default listed f) (value_at m' f) (holds_all f) ∙ ap (λ is. list_any (item_names x) is) (lists f);
     action = λ f k. holds_action f k (with_default listed f) (value_at m' f) (holds_all f) ∙ ap (λ is. joined_in is k) (lists f);
-    acted_on = λ k. ap is_some (acted_is k) ∙ noted_is_some limit listed within once k;
-    reserved = λ k. ap (λ o. unwrap_or o false) (acted_is k) ∙ noted_is_dep_only limit listed within once k;
+    acted_on = λ k. ap is_some (acted_is k) ∙ noted_is_some listed once k;
+    reserved = λ k. ap (λ o. unwrap_or o false) (acted_is k) ∙ noted_is_dep_only listed once k;
   }
     where
-      lists : (f : Text) → map item_of (unwrap_or (with_default listed f) []) ≡ items limit listed f
-      lists f = ap (map item_of) (default_list (bytes_eq f (codes "default")) (lookup (bytes_eq f) listed)) ∙ sym (items_are limit listed within f)
+      lists : (f : Text) → map item_of (unwrap_or (with_default listed f) []) ≡ items listed f
+      lists f = ap (map item_of) (default_list (bytes_eq f (codes "default")) (lookup (bytes_eq f) listed))

@@ -17,7 +17,7 @@ use Rattle.cargo_toml_graph.specs.Action.{Text}
 use Rattle.cargo_toml_resolve.specs.Recorded.{Target, target_cmp}
 use Rattle.cargo_toml_resolve.specs.Views.{target_of}
 
-abbrev key_of : Target → TargetKey
+abbrev pub key_of : Target → TargetKey
 key_of t = record { kind = t.0; target = option_map (λ s. record { ref_ptr = (0, 0); now = s }) t.1 }
 
 targets_cmp : (k : Kind) (s t : Option (Bor Text)) → (key_order.cmp-value).it (record { kind = k; target = s }) (record { kind = k; target = t }) ≡ target_cmp (k, option_copied s) (k, option_copied t)
@@ -46,10 +46,10 @@ parts_cmp Dev Build s t = refl
 parts_cmp Dev Dev s t = targets_cmp Dev s t
 
 -- the derived order of keys is that of targets
-cmp_is : (a b : TargetKey) → (key_order.cmp-value).it a b ≡ target_cmp (target_of a) (target_of b)
+pub cmp_is : (a b : TargetKey) → (key_order.cmp-value).it a b ≡ target_cmp (target_of a) (target_of b)
 cmp_is a b = parts_cmp a.kind b.kind a.target b.target
 
-target_of-key_of : (t : Target) → target_of (key_of t) ≡ t
+pub target_of-key_of : (t : Target) → target_of (key_of t) ≡ t
 target_of-key_of t = go t.0 t.1
   where
     go : (k : Kind) (o : Option Text) → target_of (key_of (k, o)) ≡ (k, o)
@@ -62,7 +62,7 @@ is_eq-reverse Equal = refl
 is_eq-reverse Greater = refl
 
 -- the look-up of a target is that of its key
-by_key : {X : Type 0} (m : BTreeMap TargetKey X) (t : Target) → tree.get_by (λ k. target_cmp t (target_of k)) m ≡ tree.get (key_order.cmp-value).it m (key_of t)
+pub by_key : {X : Type 0} (m : BTreeMap TargetKey X) (t : Target) → tree.get_by (λ k. target_cmp t (target_of k)) m ≡ tree.get (key_order.cmp-value).it m (key_of t)
 by_key m t = ap (λ f. tree.get_by f m) (λ i k. (ap (λ x. target_cmp x (target_of k)) (sym (target_of-key_of t)) ∙ sym (cmp_is (key_of t) k)) i)
 
 -- a target once the map has w at a key
@@ -73,7 +73,7 @@ target_updated key m n w u t =
     ∙ ap₂ (λ b o. cond b w o) (ap is_eq (laws.total-law.antisymm key (key_of t)) ∙ is_eq-reverse _ ∙ ap is_eq (cmp_is (key_of t) key ∙ ap (λ x. target_cmp x (target_of key)) (target_of-key_of t))) (sym (by_key m t))
 
 -- equal targets find the same
-target_same : {X : Type 0} (key : TargetKey) (m : BTreeMap TargetKey X) (t : Target) → is_eq (target_cmp t (target_of key)) ≡ true
+pub target_same : {X : Type 0} (key : TargetKey) (m : BTreeMap TargetKey X) (t : Target) → is_eq (target_cmp t (target_of key)) ≡ true
     → tree.get_by (λ k. target_cmp t (target_of k)) m ≡ tree.get (key_order.cmp-value).it m key
 target_same key m t e = by_key m t ∙ ap (λ f. tree.get_by f m) (λ i k. laws.total-law.congr (key_of t) key k equal i)
   where

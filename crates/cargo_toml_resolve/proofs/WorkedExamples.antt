@@ -1,42 +1,43 @@
 -- Worked examples with dependencies.
-use Rattle.std.proofs.Common.{◌≡◌, ◌⊎◌, ◌↔◌, Bool, true, false, ◌&&◌, ◌||◌, not, cond, IsTrue, [], ◌∷◌, map, take, fold, None, unwrap_or, codes, bytes_eq, refl, sym, ap, subst, inl, inr}
+use Rattle.std.proofs.Common.{◌≡◌, ◌⊎◌, ◌↔◌, Bool, true, false, ◌&&◌, ◌||◌, not, cond, IsTrue, List, [], ◌∷◌, map, fold, is_some, Option, Some, None, unwrap_or, codes, bytes_eq, refl, sym, subst, inl, inr}
 use Rattle.std.proofs.lemmas.Bool.{false≢true, or_cases, and_parts}
 use Rattle.std.specs.List.{list_any}
 use Rattle.std.specs.Map.{lookup}
 use Rattle.cargo_toml_dependencies.specs.Dependencies.{is_optional}
 use Rattle.cargo_toml_graph.specs.Action.{Text, item_of, join_option}
-use Rattle.cargo_toml_graph.specs.Admitted.{Listed, action_on, is_admitted, joined_action}
+use Rattle.cargo_toml_graph.specs.Admitted.{Listed, action_on, is_explicit}
 use Rattle.cargo_toml_graph.specs.Examples.{features_alone}
 use Rattle.cargo_toml_graph.specs.Reach.{Among}
 use Rattle.cargo_toml_graph.specs.Recursive.{Enables}
 use Rattle.cargo_toml_graph.specs.Recursive.Enables.{itself, further}
 use Rattle.cargo_toml_graph.proofs.Texts.{same}
-use Rattle.cargo_toml_graph.proofs.WorkedExamples.{listed_admitted, one}
+use Rattle.cargo_toml_graph.proofs.WorkedExamples.{listed_explicit, one}
 use Rattle.cargo_toml_resolve.specs.Examples.{small, small_entries, small_listed}
 use Rattle.cargo_toml_resolve.specs.Recorded.{is_reserved}
 use Rattle.cargo_toml_resolve.specs.Resolved.{joined_table}
 
 -- ---- no dependencies
-pub alone_has : (listed : Listed) (f : Text) → (joined_table 2048 listed []).has f ≡ (features_alone listed).has f
-alone_has listed f = go (is_admitted 2048 listed f)
+pub alone_has : (listed : Listed) (f : Text) → (joined_table listed []).has f ≡ (features_alone listed).has f
+alone_has listed f = go (is_explicit listed f)
   where
     go : (b : Bool) → (b || false) ≡ b
     go true = refl
     go false = refl
 
-pub alone_acts : (listed : Listed) (f k : Text) → (joined_table 2048 listed []).action f k ≡ (features_alone listed).action f k
-alone_acts listed f k = go (is_admitted 2048 listed f) refl
+pub alone_acts : (listed : Listed) (f k : Text) → (joined_table listed []).action f k ≡ (features_alone listed).action f k
+alone_acts listed f k = go (bytes_eq f (codes "default")) (lookup (bytes_eq f) listed)
   where
-    go : (b : Bool) → is_admitted 2048 listed f ≡ b → cond b (joined_action 2048 listed f k) None ≡ joined_action 2048 listed f k
-    go true e = refl
-    go false e = sym (ap (λ b. fold (λ o i. join_option o (action_on k i)) None (cond b (map item_of (take 2048 (unwrap_or (lookup (bytes_eq f) listed) []))) [])) e)
+    go : (b : Bool) (o : Option (List Text)) → cond (b || is_some o) (fold (λ a i. join_option a (action_on k i)) None (map item_of (unwrap_or o []))) None ≡ fold (λ a i. join_option a (action_on k i)) None (map item_of (unwrap_or o []))
+    go true o = refl
+    go false None = refl
+    go false (Some ts) = refl
 
 -- ---- default = ["fast"], fast = ["log/std"], with an optional dependency log
 small_only : (f : Text) → IsTrue (small.has f) → Among (codes "default" ∷ codes "fast" ∷ codes "log" ∷ []) f
-small_only f e = elim (or_cases (is_admitted 2048 small_listed f) _ e) [
-  | inl a ↦ elim (listed_admitted 2048 small_listed f a) [ inl d ↦ inl d | inr l ↦ elim l [ inl d ↦ inl d | inr l ↦ elim l [ inl i ↦ inr (inl i) | inr i ↦ absurd i ] ] ]
+small_only f e = elim (or_cases (is_explicit small_listed f) _ e) [
+  | inl a ↦ elim (listed_explicit small_listed f a) [ inl d ↦ inl d | inr l ↦ elim l [ inl d ↦ inl d | inr l ↦ elim l [ inl i ↦ inr (inl i) | inr i ↦ absurd i ] ] ]
   | inr i ↦
-      let optional = and_parts (list_any (λ e. bytes_eq e.key f && is_optional e.dependency) small_entries) _ (and_parts (list_any (λ e. bytes_eq e.key f && is_optional e.dependency) small_entries && not (is_reserved 2048 small_listed f)) _ i).0 in
+      let optional = and_parts (list_any (λ e. bytes_eq e.key f && is_optional e.dependency) small_entries) _ (and_parts (list_any (λ e. bytes_eq e.key f && is_optional e.dependency) small_entries && not (is_reserved small_listed f)) _ i).0 in
       elim (or_cases (bytes_eq (codes "log") f && true) false optional.0) [
         | inl l ↦ inr (inr (inl (sym (same (and_parts (bytes_eq (codes "log") f) true l).0))))
         | inr n ↦ absurd (false≢true n)

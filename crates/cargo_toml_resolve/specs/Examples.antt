@@ -39,23 +39,23 @@ abbrev pub small_entries : List Entry
 small_entries = entry (codes "log") true ∷ []
 
 abbrev pub small : Table
-small = table_of 2048 small_listed small_entries
+small = table_of small_listed small_entries
 
 -- k = ["_h", "d?/a"], _h = ["d/b"], with a dependency d
 abbrev pub hidden_plain : Table
-hidden_plain = table_of 2048 ((codes "_h", codes "d/b" ∷ []) ∷ (codes "k", codes "_h" ∷ codes "d?/a" ∷ []) ∷ []) (entry (codes "d") false ∷ [])
+hidden_plain = table_of ((codes "_h", codes "d/b" ∷ []) ∷ (codes "k", codes "_h" ∷ codes "d?/a" ∷ []) ∷ []) (entry (codes "d") false ∷ [])
 
 -- k = ["_d/x"], _d = ["b"], b = [], with a dependency _d
 abbrev pub hidden_key : Table
-hidden_key = table_of 2048 ((codes "_d", codes "b" ∷ []) ∷ (codes "b", []) ∷ (codes "k", codes "_d/x" ∷ []) ∷ []) (entry (codes "_d") false ∷ [])
+hidden_key = table_of ((codes "_d", codes "b" ∷ []) ∷ (codes "b", []) ∷ (codes "k", codes "_d/x" ∷ []) ∷ []) (entry (codes "_d") false ∷ [])
 
 -- k = ["_h"], _h = ["opt?/f"], with an optional dependency opt
 abbrev pub hidden_conditional : Table
-hidden_conditional = table_of 2048 ((codes "_h", codes "opt?/f" ∷ []) ∷ (codes "k", codes "_h" ∷ []) ∷ []) (entry (codes "opt") true ∷ [])
+hidden_conditional = table_of ((codes "_h", codes "opt?/f" ∷ []) ∷ (codes "k", codes "_h" ∷ []) ∷ []) (entry (codes "opt") true ∷ [])
 
 -- d = [], _a = ["dep:d"], _p = ["d/x", "_a"], k = ["_p"], with an optional dependency d
 abbrev pub hidden_dep_only : Table
-hidden_dep_only = table_of 2048 ((codes "_a", codes "dep:d" ∷ []) ∷ (codes "_p", codes "d/x" ∷ codes "_a" ∷ []) ∷ (codes "d", []) ∷ (codes "k", codes "_p" ∷ []) ∷ []) (entry (codes "d") true ∷ [])
+hidden_dep_only = table_of ((codes "_a", codes "dep:d" ∷ []) ∷ (codes "_p", codes "d/x" ∷ codes "_a" ∷ []) ∷ (codes "d", []) ∷ (codes "k", codes "_p" ∷ []) ∷ []) (entry (codes "d") true ∷ [])
 
 -- entries of the key d in the three kinds: not optional, then optional with the package q, then not optional
 abbrev pub three_kinds : List Entry
@@ -71,7 +71,7 @@ twice = record { key = codes "d"; target = (Normal, None); dependency = simple [
 
 -- x = ["d/default", "d/f"], where d stands without target as given, and for `cfg(unix)` with the feature f
 abbrev pub redundancy : DependencyMeaning → Table
-redundancy first = table_of 2048 ((codes "x", codes "d/default" ∷ codes "d/f" ∷ []) ∷ []) (
+redundancy first = table_of ((codes "x", codes "d/default" ∷ codes "d/f" ∷ []) ∷ []) (
     record { key = codes "d"; target = (Normal, Some (codes "cfg(unix)")); dependency = detail None (codes "f" ∷ []) false }
     ∷ record { key = codes "d"; target = (Normal, None); dependency = first }
     ∷ []

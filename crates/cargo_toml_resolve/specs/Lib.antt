@@ -8,6 +8,12 @@ pub mod Views
 pub mod Reading
 pub mod Recording
 pub mod Enabling
+pub mod Redundant
 pub mod Implying
 pub mod Examples
 pub mod ReadFeature
+pub mod Entries
+pub mod OwnBins
+pub mod Requiring
+pub mod TargetLaws
+pub mod Hashed

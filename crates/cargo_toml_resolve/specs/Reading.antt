@@ -1,13 +1,13 @@
 -- The features as they stand once their lists are read, before dependencies are looked at.
-use Rattle.std.specs.Prelude.{◌≡◌, ℕ, Bool, true, false, List, [], Option, Some, is_some, unwrap_or, string_bytes, map}
+use Rattle.std.specs.Prelude.{◌≡◌, Bool, true, false, List, [], Option, Some, is_some, unwrap_or, string_bytes, map}
 use Rattle.std.specs.List.{list_any}
 use Rattle.std.specs.Borrow.{Bor}
 use Rattle.std.specs.HashMap.{HashMap}
 use Rattle.cargo_toml_resolve.specs.declared.features.Feature.{Feature}
 use Rattle.cargo_toml_resolve.specs.declared.admit.Listing.{Listing}
 use Rattle.cargo_toml_graph.specs.Action.{Text}
-use Rattle.cargo_toml_graph.specs.Admitted as admitted
-use Rattle.cargo_toml_graph.specs.Admitted.{Listed, is_admitted, joined_action}
+use Rattle.cargo_toml_graph.specs.Admitted as listing
+use Rattle.cargo_toml_graph.specs.Admitted.{Listed, is_explicit, joined_action}
 use Rattle.cargo_toml_graph.specs.Graph.{Table}
 use Rattle.cargo_toml_resolve.specs.Recorded.{is_reserved}
 use Rattle.cargo_toml_resolve.specs.Views.{value_at}
@@ -17,12 +17,12 @@ abbrev pub listed_of : List Listing → Listed
 listed_of ls = map (λ l. (l.name.now, map string_bytes l.actions.now)) ls
 
 -- the features are those that the table lists, and `acted` tells of each key that one acts on whether it is reserved
-pub record IsRead (limit : ℕ) (listed : Listed) (t : Table) (acted : Text → Option Bool) : Type 0 where
-  pub has : (f : Text) → t.has f ≡ is_admitted limit listed f
-  pub names : (f x : Text) → t.names f x ≡ admitted.names limit listed f x
-  pub action : (f k : Text) → t.action f k ≡ joined_action limit listed f k
-  pub acted_on : (k : Text) → is_some (acted k) ≡ list_any (λ e. is_some (joined_action limit listed e.0 k)) listed
-  pub reserved : (k : Text) → unwrap_or (acted k) false ≡ is_reserved limit listed k
+pub record IsRead (listed : Listed) (t : Table) (acted : Text → Option Bool) : Type 0 where
+  pub has : (f : Text) → t.has f ≡ is_explicit listed f
+  pub names : (f x : Text) → t.names f x ≡ listing.names listed f x
+  pub action : (f k : Text) → t.action f k ≡ joined_action listed f k
+  pub acted_on : (k : Text) → is_some (acted k) ≡ list_any (λ e. is_some (joined_action listed e.0 k)) listed
+  pub reserved : (k : Text) → unwrap_or (acted k) false ≡ is_reserved listed k
 
 -- a feature with this key that the manifest lists, of which neither enablers nor binaries are known yet
 pub record IsFresh (f : Text) (v : Feature) : Type 0 where

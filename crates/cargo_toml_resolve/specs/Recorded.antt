@@ -9,7 +9,7 @@ use Rattle.cargo_toml_dependencies.specs.Dependencies.{DependencyMeaning, detail
 use Rattle.cargo_toml_resolve.specs.declared.features.Kind.{Kind}
 use Rattle.cargo_toml_resolve.specs.declared.features.Kind.TheVariants.{Normal, Build, Dev}
 use Rattle.cargo_toml_graph.specs.Action.{Text, Action}
-use Rattle.cargo_toml_graph.specs.Admitted.{Listed, is_admitted, joined_action}
+use Rattle.cargo_toml_graph.specs.Admitted.{Listed, is_explicit, joined_action}
 
 -- where a dependency stands: its kind, and the target that its table is for, if any
 abbrev pub Target : Type 0
@@ -35,14 +35,14 @@ pub record Recorded : Type 0 where
   pub crate_name : Text
   pub targets : Target → Option DependencyMeaning
 
-module _ (limit : ℕ) (listed : Listed) where
-  -- k is an admitted feature, or one acts on k
+module _ (listed : Listed) where
+  -- k is an explicit feature, or one acts on k
   abbrev pub is_mentioned : Text → Bool
-  is_mentioned k = is_admitted limit listed k || list_any (λ e. is_some (joined_action limit listed e.0 k)) listed
+  is_mentioned k = is_explicit listed k || list_any (λ e. is_some (joined_action listed e.0 k)) listed
 
   -- some action on k is dep-only
   abbrev pub is_reserved : Text → Bool
-  is_reserved k = list_any (λ e. option_map_or (λ a. a.is_dep_only) (joined_action limit listed e.0 k) false) listed
+  is_reserved k = list_any (λ e. option_map_or (λ a. a.is_dep_only) (joined_action listed e.0 k) false) listed
 
   -- an entry counts if its key is mentioned, or it or an earlier entry of its key is optional
   abbrev pub counting : List Entry → List Entry → List Entry
@@ -55,9 +55,9 @@ module _ (limit : ℕ) (listed : Listed) where
   abbrev pub entries_at : List Entry → Text → List Entry
   entries_at entries k = filter (λ e. bytes_eq e.key k) (counting [] entries)
 
-  -- the key of an optional entry that isn't reserved and that no admitted feature has
+  -- the key of an optional entry that isn't reserved and that no explicit feature has
   abbrev pub is_implied : List Entry → Text → Bool
-  is_implied entries k = list_any (λ e. bytes_eq e.key k && is_optional e.dependency) entries && not (is_reserved k) && not (is_admitted limit listed k)
+  is_implied entries k = list_any (λ e. bytes_eq e.key k && is_optional e.dependency) entries && not (is_reserved k) && not (is_explicit listed k)
 
 -- the first entry gives the crate's name, and the first for each target stays
 abbrev pub recorded_of : List Entry → Option Recorded

@@ -1,7 +1,7 @@
 -- From what a manifest lists to the table of features, and the whole answer.
-use Rattle.std.specs.Prelude.{◌≡◌, ◌↔◌, ℕ, Bool, false, if◌then◌else◌, ◌&&◌, ◌||◌, List, is_some, option_map, IsTrue, Option, Some, None, bytes_eq, IfSome}
+use Rattle.std.specs.Prelude.{◌≡◌, ◌↔◌, Bool, false, if◌then◌else◌, ◌&&◌, ◌||◌, List, is_some, option_map, IsTrue, Option, Some, None, bytes_eq, IfSome}
 use Rattle.cargo_toml_graph.specs.Action.{Text, Action}
-use Rattle.cargo_toml_graph.specs.Admitted.{Listed, is_admitted, is_below, names, joined_action}
+use Rattle.cargo_toml_graph.specs.Admitted.{Listed, is_explicit, is_below, names, joined_action}
 use Rattle.cargo_toml_graph.specs.Bins.{HasBins}
 use Rattle.cargo_toml_graph.specs.Graph.{Table, Resolution, IsResolved}
 use Rattle.cargo_toml_resolve.specs.Recorded.{Entry, Recorded, Target, is_implied, entries_at, recorded_of, first_target, without_redundant}
@@ -12,19 +12,19 @@ use Rattle.cargo_toml_graph.specs.Removal.{is_removed}
 abbrev pub plain : Action
 plain = record { is_conditional = false; is_dep_only = false; features = λ x. false }
 
-module _ (limit : ℕ) (listed : Listed) (entries : List Entry) where
-  -- what the admitted and the implied features say, each redundant dependency feature included
+module _ (listed : Listed) (entries : List Entry) where
+  -- what the explicit and the implied features say, each redundant dependency feature included
   abbrev pub joined_table : Table
   joined_table = record {
-    has = λ f. is_admitted limit listed f || is_implied limit listed entries f;
-    names = λ f x. names limit listed f x;
-    action = λ f k. if is_admitted limit listed f then joined_action limit listed f k else if is_implied limit listed entries f && bytes_eq k f then Some plain else None;
+    has = λ f. is_explicit listed f || is_implied listed entries f;
+    names = λ f x. names listed f x;
+    action = λ f k. if is_explicit listed f then joined_action listed f k else if is_implied listed entries f && bytes_eq k f then Some plain else None;
   }
 
   -- the table that the removal starts from
   abbrev pub table_of : Table
   table_of = record joined_table {
-    action = λ f k. option_map (without_redundant (first_target (entries_at limit listed entries k))) (joined_table.action f k);
+    action = λ f k. option_map (without_redundant (first_target (entries_at listed entries k))) (joined_table.action f k);
   }
 
 -- what a resolution answers: under each name its feature and the key that it tells, under each key its dependency, under each
@@ -44,14 +44,14 @@ SameRecorded None None = Unit {0}
 SameRecorded (Some a) (Some b) = (a.crate_name ≡ b.crate_name) × ((t : Target) → a.targets t ≡ b.targets t)
 SameRecorded _ _ = ⊥
 
--- the table t is resolved: its features as IsResolved says, with the marks of the admitted ones, the recorded dependencies of
+-- the table t is resolved: its features as IsResolved says, with the marks of the explicit ones, the recorded dependencies of
 -- entries, the own mentions of binaries, and what the filter keeps
-pub record IsAnswer (t : Table) (limit : ℕ) (listed : Listed) (entries : List Entry) (own : Text → List Text) (keep : Text → Bool) (a : Answer) : Type 0 where
+pub record IsAnswer (t : Table) (listed : Listed) (entries : List Entry) (own : Text → List Text) (keep : Text → Bool) (a : Answer) : Type 0 where
   pub resolved : IsResolved t (λ f. IsTrue (is_removed t keep f)) a.resolution
   pub keyed : (f : Text) → IfSome (a.key f) (λ k. k ≡ f)
-  pub explicit : (f : Text) → IsTrue (a.resolution.table.has f) → a.explicit f ≡ is_admitted limit listed f
+  pub explicit : (f : Text) → IsTrue (a.resolution.table.has f) → a.explicit f ≡ is_explicit listed f
   pub bins : (f : Text) → IsTrue (a.resolution.table.has f) → HasBins t (λ r. IsTrue (is_removed t keep r)) own f (a.bins f)
-  pub dependencies : (k : Text) → SameRecorded (a.dependencies k) (recorded_of (entries_at limit listed entries k))
+  pub dependencies : (k : Text) → SameRecorded (a.dependencies k) (recorded_of (entries_at listed entries k))
   pub redirected : (r : Text) → is_some (a.redirects r) ≡ is_removed t keep r
   pub redirects : (r : Text) → IfSome (a.redirects r) (λ names. (x : Text) → IsTrue (names x) ↔ RedirectsTo t (λ s. IsTrue (is_removed t keep s)) (λ s b. IsTrue (is_below s b)) r x)
   pub some : IsTrue a.removed_some ↔ ((r : Text) × IsTrue (is_removed t keep r))

@@ -17,10 +17,10 @@ ghost use Rattle.cargo_toml_resolve.specs.Resolved.{joined_table, plain};
 
 /// Without dependencies a table is what its listed features say.
 pub fn features_alone_are_a_table()
-    ensures has { (listed : Listed) (f : Text) → (joined_table 2048 listed []).has f ≡ (features_alone listed).has f }
-    ensures names { (listed : Listed) (f x : Text) → (joined_table 2048 listed []).names f x
+    ensures has { (listed : Listed) (f : Text) → (joined_table listed []).has f ≡ (features_alone listed).has f }
+    ensures names { (listed : Listed) (f x : Text) → (joined_table listed []).names f x
         ≡ (features_alone listed).names f x }
-    ensures action { (listed : Listed) (f k : Text) → (joined_table 2048 listed []).action f k
+    ensures action { (listed : Listed) (f k : Text) → (joined_table listed []).action f k
         ≡ (features_alone listed).action f k }
 {}
 
@@ -30,21 +30,21 @@ pub fn a_small_table()
     ensures features { (f : Text) → IsTrue (small.has f)
         ↔ Among (codes "default" ∷ codes "fast" ∷ codes "log" ∷ []) f }
     // `log` is implied
-    ensures implied { is_implied 2048 small_listed small_entries (codes "log") ≡ true }
+    ensures implied { is_implied small_listed small_entries (codes "log") ≡ true }
     // `default` names `fast` alone
     ensures names { (x : Text) → IsTrue (small.names (codes "default") x) ↔ (x ≡ codes "fast") }
     // `fast` acts on `log` plainly, with the feature `std`
-    ensures acts { (joined_table 2048 small_listed small_entries).action (codes "fast") (codes "log") ≡
+    ensures acts { (joined_table small_listed small_entries).action (codes "fast") (codes "log") ≡
         Some (record { is_conditional = false; is_dep_only = false; features = λ x. bytes_eq x (codes "std") }) }
     // `log` acts on itself plainly, with no feature
-    ensures acts_on_itself { (joined_table 2048 small_listed small_entries).action (codes "log") (codes "log")
+    ensures acts_on_itself { (joined_table small_listed small_entries).action (codes "log") (codes "log")
         ≡ Some plain }
     // the same where redundant features go
     ensures effective { IsSomeAnd (small.action (codes "fast") (codes "log")) (λ a. IsFalse a.is_conditional × IsFalse a.is_dep_only ×
         ((x : Text) → IsTrue (a.features x) ↔ (x ≡ codes "std"))) }
     // `log` is recorded under its key
     ensures recorded { option_map (λ r. r.crate_name)
-        (recorded_of (entries_at 2048 small_listed small_entries (codes "log"))) ≡ Some (codes "log") }
+        (recorded_of (entries_at small_listed small_entries (codes "log"))) ≡ Some (codes "log") }
     // `default` leads to `fast`, and `fast` to `log`
     ensures first_edge { Edge small (codes "default") (codes "fast") }
     ensures second_edge { Edge small (codes "fast") (codes "log") }
@@ -85,20 +85,20 @@ pub fn a_join_that_turns_dep_only()
 
 /// Of the entries of one key those from the first optional one on count; the first of them gives the crate's name.
 pub fn entries_of_three_kinds()
-    ensures recorded { IsSomeAnd (recorded_of (entries_at 2048 [] three_kinds (codes "d"))) (λ r. (r.crate_name ≡ codes "q") ×
+    ensures recorded { IsSomeAnd (recorded_of (entries_at [] three_kinds (codes "d"))) (λ r. (r.crate_name ≡ codes "q") ×
         (r.targets (Normal, None) ≡ None) × IsSome (r.targets (Build, None)) × IsSome (r.targets (Dev, None))) }
-    ensures first_target { first_target (entries_at 2048 [] three_kinds (codes "d"))
+    ensures first_target { first_target (entries_at [] three_kinds (codes "d"))
         ≡ Some (detail (Some (codes "q")) [] true) }
-    ensures implied { is_implied 2048 [] three_kinds (codes "d") ≡ true }
+    ensures implied { is_implied [] three_kinds (codes "d") ≡ true }
 {}
 
 /// The first entry of a key and target stays, and a later optional one still implies a feature, unless the key is reserved.
 pub fn entries_of_one_target()
-    ensures recorded { IsSomeAnd (recorded_of (entries_at 2048 ((codes "k", codes "d/x" ∷ []) ∷ []) twice (codes "d"))) (λ r.
+    ensures recorded { IsSomeAnd (recorded_of (entries_at ((codes "k", codes "d/x" ∷ []) ∷ []) twice (codes "d"))) (λ r.
         (r.crate_name ≡ codes "d") × (r.targets (Normal, None) ≡ Some (simple []))) }
-    ensures implied { is_implied 2048 ((codes "k", codes "d/x" ∷ []) ∷ []) twice (codes "d") ≡ true }
-    ensures reserved { is_reserved 2048 ((codes "k", codes "dep:d" ∷ []) ∷ []) (codes "d") ≡ true }
-    ensures not_implied { is_implied 2048 ((codes "k", codes "dep:d" ∷ []) ∷ []) twice (codes "d") ≡ false }
+    ensures implied { is_implied ((codes "k", codes "d/x" ∷ []) ∷ []) twice (codes "d") ≡ true }
+    ensures reserved { is_reserved ((codes "k", codes "dep:d" ∷ []) ∷ []) (codes "d") ≡ true }
+    ensures not_implied { is_implied ((codes "k", codes "dep:d" ∷ []) ∷ []) twice (codes "d") ≡ false }
 {}
 
 /// Redundant features are those that the dependency's first target has, where it is a detail.

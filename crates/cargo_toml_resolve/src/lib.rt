@@ -5,14 +5,18 @@
 
 mod action;
 pub mod admit;
+pub mod bins;
 mod enable;
+pub mod entries;
 pub mod examples;
 pub mod features;
 mod imply;
+mod laws;
 pub mod questions;
 mod read;
 pub mod record;
 pub mod recursive;
+mod redundant;
 pub mod resolution;
 
 pub use resolution::resolve;

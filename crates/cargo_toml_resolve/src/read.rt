@@ -1,9 +1,9 @@
 //! What the lists of features say.
-ghost use Rattle.std.specs.Prelude.{◌≡◌, ◌∷◌, ◌++◌, [], ℕ, List, if◌then◌else◌, bytes_eq, string_bytes, codes, map, false, IfOk, OnOk, Some, None, MatchOption};
+ghost use Rattle.std.specs.Prelude.{◌≡◌, ◌∷◌, ◌++◌, [], List, if◌then◌else◌, bytes_eq, string_bytes, codes, map, false, IfOk, OnOk, Some, None, MatchOption};
 ghost use Rattle.std.specs.Option.{IsSomeAnd};
 ghost use Rattle.cargo_toml_graph.specs.Action.{Text, Item, item_of};
 ghost use Rattle.cargo_toml_resolve.specs.ActionText.{action_in};
-ghost use Rattle.cargo_toml_graph.specs.Admitted.{IsWithin, action_on};
+ghost use Rattle.cargo_toml_graph.specs.Admitted.{action_on};
 ghost use Rattle.cargo_toml_graph.specs.Reach.{IsOnce};
 ghost use Rattle.cargo_toml_resolve.specs.Reading.{listed_of, IsRead, AreFresh};
 ghost use Rattle.cargo_toml_resolve.specs.ReadFeature.{joined_in, noted, IsListed};
@@ -134,8 +134,8 @@ pub fn read_features<'m, S: BuildHasher + Clone>(
     listings: &[Listing<'m>],
 ) -> Result<Mentions<'m, S>, AllocError>
     requires { IsOnce (map (λ l. l.name.now) listings.now) }
-    ensures read { IfOk result (λ r. (limit : ℕ) → IsWithin limit (listed_of listings.now)
-        → IsRead limit (listed_of listings.now) (table_in r.features) (value_at r.acted)) }
+    ensures read { IfOk result (λ r.
+        IsRead (listed_of listings.now) (table_in r.features) (value_at r.acted)) }
     ensures fresh { IfOk result (λ r. AreFresh r.features) }
 {
     let mut features = HashMap::with_capacity_and_hasher(

@@ -1,5 +1,5 @@
 //! Which dependencies features can speak of.
-ghost use Rattle.std.specs.Prelude.{◌≡◌, ◌||◌, ℕ, IfOk, OnOk, Option, Some, map};
+ghost use Rattle.std.specs.Prelude.{◌≡◌, ◌||◌, IfOk, OnOk, Option, Some, map};
 ghost use Rattle.cargo_toml_dependencies.specs.Dependencies.{dependency_meaning, is_optional};
 ghost use Rattle.cargo_toml_graph.specs.Action.{Text};
 ghost use Rattle.cargo_toml_graph.specs.Admitted.{Listed};
@@ -108,8 +108,8 @@ pub fn record_dependencies<'m: 'd, 'd, S: BuildHasher + Clone>(
     mentions: &Mentions<'m, S>,
     entries: &[ParseDependency<'m, 'd>],
 ) -> Result<HashMap<&'d str, FeatureDependency<'d>, S>, AllocError>
-    ensures { IfOk result (λ m. (limit : ℕ) (listed : Listed) → ((k : Text) → is_mentioned_in mentions.now k ≡ is_mentioned limit listed k) →
-        (k : Text) → recorded_at m k ≡ recorded_of (entries_at limit listed (map entry_of entries.now) k)) }
+    ensures { IfOk result (λ m. (listed : Listed) → ((k : Text) → is_mentioned_in mentions.now k ≡ is_mentioned listed k) →
+        (k : Text) → recorded_at m k ≡ recorded_of (entries_at listed (map entry_of entries.now) k)) }
 {
     let mut dependencies = HashMap::with_capacity_and_hasher(alloc, entries.len(), state.clone()?)?;
     for entry in entries {

@@ -1,7 +1,7 @@
 //! Worked examples of the definitions.
 ghost use Rattle.std.specs.Prelude.{◌≡◌, ◌↔◌, ◌⊎◌, ◌∷◌, [], bytes_eq, codes, false, true, IsFalse, IsTrue};
 ghost use Rattle.cargo_toml_graph.specs.Action.{Text};
-ghost use Rattle.cargo_toml_graph.specs.Admitted.{is_admitted, is_below, names};
+ghost use Rattle.cargo_toml_graph.specs.Admitted.{admitted, is_admitted, is_below, is_explicit, names};
 ghost use Rattle.cargo_toml_graph.specs.Examples.{four, hidden_cycle, hidden_names_itself, hidden_parent, left_of, ring, some_bins, two_hidden};
 ghost use Rattle.cargo_toml_graph.specs.Graph.{KeepsName, IsEnabledBy};
 ghost use Rattle.cargo_toml_graph.specs.Reach.{Among};
@@ -9,16 +9,16 @@ ghost use Rattle.cargo_toml_graph.specs.Recursive.{Enables};
 ghost use Rattle.cargo_toml_graph.specs.Redirects.{RedirectsTo};
 ghost use Rattle.cargo_toml_graph.specs.Removal.{is_removed, pass_all, unremoved};
 
-/// With a limit of two the first two names count, and the first two actions of each, and always `default`.
+/// With a limit of two the first two names in byte order count, and the first two actions of each, and always `default`.
 pub fn a_limit_leaves_out()
-    ensures first { is_admitted 2 four (codes "a") ≡ true }
-    ensures second { is_admitted 2 four (codes "b") ≡ true }
+    ensures admitted { admitted 2 four ≡ (codes "b", []) ∷ (codes "default", codes "c" ∷ [])
+        ∷ (codes "a", codes "x" ∷ codes "y" ∷ []) ∷ [] }
     ensures third { is_admitted 2 four (codes "c") ≡ false }
-    ensures default { is_admitted 2 four (codes "default") ≡ true }
-    ensures unlisted_default { is_admitted 2 [] (codes "default") ≡ true }
-    ensures actions { (x : Text) → IsTrue (names 2 four (codes "a") x) ↔ ((x ≡ codes "x") ⊎ (x ≡ codes "y")) }
-    ensures default_actions { (x : Text) → IsTrue (names 2 four (codes "default") x) ↔ (x ≡ codes "c") }
-    ensures no_actions { (x : Text) → IsFalse (names 2 four (codes "c") x) }
+    ensures unlisted_default { is_explicit (admitted 2 []) (codes "default") ≡ true }
+    ensures actions { (x : Text) → IsTrue (names (admitted 2 four) (codes "a") x)
+        ↔ ((x ≡ codes "x") ⊎ (x ≡ codes "y")) }
+    ensures default_actions { (x : Text) → IsTrue (names (admitted 2 four) (codes "default") x) ↔ (x ≡ codes "c") }
+    ensures no_actions { (x : Text) → IsFalse (names (admitted 2 four) (codes "c") x) }
 {}
 
 /// `a = ["_h"]`, `_h = ["a"]` with `_h` removed: `a` names itself and is enabled by itself, and stands for `_h`.

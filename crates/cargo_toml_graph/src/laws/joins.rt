@@ -1,5 +1,5 @@
 //! What several actions on one dependency say together.
-ghost use Rattle.std.specs.Prelude.{◌≡◌, ◌↔◌, ℕ, IsTrue, None, Option, Some};
+ghost use Rattle.std.specs.Prelude.{◌≡◌, ◌↔◌, IsTrue, None, Option, Some};
 ghost use Rattle.cargo_toml_graph.specs.Action.{Action, IsJoin, Item, Text, join, join_option};
 ghost use Rattle.cargo_toml_graph.specs.Admitted.{Listed, action_on, items, joined_action, names};
 ghost use Rattle.cargo_toml_graph.specs.Reach.{Among};
@@ -22,8 +22,8 @@ pub fn missing_actions_add_nothing()
 
 /// What a feature names and how it acts on a dependency is what the items of its list say.
 pub fn lists_say_what_their_items_say()
-    ensures names { (limit : ℕ) (listed : Listed) (f x : Text) → IsTrue (names limit listed f x)
-        ↔ Among (items limit listed f) (Item.Name x) }
-    ensures action { (limit : ℕ) (listed : Listed) (f k : Text) →
-        IsJoin (λ a. (i : Item) × Among (items limit listed f) i × (action_on k i ≡ Some a)) (joined_action limit listed f k) }
+    ensures names { (listed : Listed) (f x : Text) → IsTrue (names listed f x)
+        ↔ Among (items listed f) (Item.Name x) }
+    ensures action { (listed : Listed) (f k : Text) →
+        IsJoin (λ a. (i : Item) × Among (items listed f) i × (action_on k i ≡ Some a)) (joined_action listed f k) }
 {}

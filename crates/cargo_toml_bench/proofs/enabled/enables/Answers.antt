@@ -2,22 +2,23 @@ use Rattle.std.proofs.Common.{◌≡◌, Some, None, true, IsTrue, sym, ap, ◌�
 use Rattle.std.specs.Option.{option_copied}
 use Rattle.cargo_toml.specs.Graph.{Table}
 use Rattle.cargo_toml.specs.Removal.{is_removed}
-use Rattle.cargo_toml.specs.Resolved.{joined_table}
-use Rattle.cargo_toml.specs.Views.{listed_in, normal_entries, value_at}
+use Rattle.cargo_toml.specs.Manifests.{manifest_meaning}
+use Rattle.cargo_toml.specs.Parsed.{parsed_table}
+use Rattle.cargo_toml.specs.Views.{value_at}
 use Rattle.cargo_toml_bench.proofs.Enabling.{answer_missing, answer_told}
 use Rattle.cargo_toml_bench.proofs.Unreferenced.{nothing_removed}
 use Rattle.cargo_toml_bench.proofs.enabled.enables.Goals as goal
 
 pub returns-in_default-clause-answer : goal.returns-in_default-clause-answer
-returns-in_default-clause-answer g c = λ limit within.
-    let t : Table = joined_table limit (listed_in c.args.manifest.now.features) (normal_entries c.args.manifest.now.dependencies) in
+returns-in_default-clause-answer g c =
+    let t : Table = parsed_table (manifest_meaning (λ m. m) c.args.manifest.now) in
     let missing : value_at c.in_ok-resolved.resolved.features c.args.name.now ≡ None = sym c.get.ensures.value ∙ ap option_copied c.in_default.is in
-    answer_missing c.in_ok-resolved.resolved.features t (λ x. IsTrue (is_removed t (λ _. true) x)) (nothing_removed t) (c.in_ok-resolved.ensures.resolved limit within).resolved
+    answer_missing c.in_ok-resolved.resolved.features t (λ x. IsTrue (is_removed t (λ _. true) x)) (nothing_removed t) c.in_ok-resolved.ensures.resolved.resolved
     c.args.name.now c.args.other.now missing
 
 pub returns-clause-answer : goal.returns-clause-answer
-returns-clause-answer g c = λ limit within.
-    let t : Table = joined_table limit (listed_in c.args.manifest.now.features) (normal_entries c.args.manifest.now.dependencies) in
+returns-clause-answer g c =
+    let t : Table = parsed_table (manifest_meaning (λ m. m) c.args.manifest.now) in
     let here : value_at c.in_ok-resolved.resolved.features c.args.name.now ≡ Some c.in-Some.feature.now = sym c.get.ensures.value ∙ ap option_copied c.in-Some.is in
-    answer_told c.in_ok-resolved.resolved.features t (λ x. IsTrue (is_removed t (λ _. true) x)) (nothing_removed t) (c.in_ok-resolved.ensures.resolved limit within).resolved
+    answer_told c.in_ok-resolved.resolved.features t (λ x. IsTrue (is_removed t (λ _. true) x)) (nothing_removed t) c.in_ok-resolved.ensures.resolved.resolved
     c.in_ok-resolved.ensures.keyed c.args.name.now c.args.other.now c.in-Some.feature.now here c.in_ok-features.features c.in_ok-features.ensures.features c.contains_key.result c.contains_key.ensures

@@ -1,24 +1,21 @@
-use Rattle.std.proofs.Common.{◌≡◌, List, subst, inl, inr}
+use Rattle.std.proofs.Common.{◌≡◌, inl, inr}
 use Rattle.std.proofs.lemmas.Result.{IfOk-weaker, IfErr-weaker}
 use Rattle.toml.specs.View.{view}
 use Rattle.cargo_toml.specs.Error.{Memory}
 use Rattle.cargo_toml.specs.Manifests.{manifest_meaning}
-use Rattle.cargo_toml.specs.Recorded.{Entry}
-use Rattle.cargo_toml.specs.Views.{listed_in, normal_entries}
 use Rattle.cargo_toml_bench.specs.Enabled.{IsAnswered, IsAnsweredFrom}
 use Rattle.cargo_toml_bench.specs.Printing.{Spells, Refuses}
-use Rattle.cargo_toml_bench.proofs.Entries.{entries_shown}
 use Rattle.cargo_toml_bench.proofs.enabled.enables_from.Goals as goal
 
 pub returns-clause-answer : goal.returns-clause-answer
 returns-clause-answer c =
     let found = c.in_ok-manifest.manifest in
     let spelled : Spells c.args.bytes.now (manifest_meaning view found) = elim (c.in_ok-manifest.ensures) [ inl b ↦ absurd b.1 | inr b ↦ record { text = b.0; reads = b.1 } ] in
-    IfOk-weaker c.enables.result (IsAnswered (listed_in found.features) (normal_entries found.dependencies) c.args.name.now c.args.other.now) (IsAnsweredFrom c.args.bytes.now c.args.name.now c.args.other.now)
+    IfOk-weaker c.enables.result (IsAnswered (manifest_meaning (λ m. m) found) c.args.name.now c.args.other.now) (IsAnsweredFrom c.args.bytes.now c.args.name.now c.args.other.now)
     (λ answer told. record {
       manifest = manifest_meaning view found;
       spelled = spelled;
-      exact = subst (λ (es : List Entry). IsAnswered (listed_in found.features) es c.args.name.now c.args.other.now answer) (entries_shown found.dependencies.entries) told;
+      exact = told;
     })
     c.enables.ensures.answer
 

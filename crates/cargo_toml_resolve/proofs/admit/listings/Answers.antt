@@ -1,11 +1,19 @@
-use Rattle.std.proofs.Common.{◌≡◌, subst, rules}
+use Rattle.std.proofs.Common.{◌≡◌, [], map, sym, ap, subst, rules, ◌∙◌}
 use Rattle.cargo_toml_graph.specs.Reach.{IsOnce}
+use Rattle.cargo_toml_graph.proofs.Cut.{Ascends, admitted_once, cut, cut_is_admitted}
 use Rattle.cargo_toml_resolve.specs.Reading.{listed_of}
 use Rattle.cargo_toml_resolve.specs.Views.{listed_in}
-use Rattle.cargo_toml_resolve.proofs.Listings.{once_sorted, names_are}
+use Rattle.cargo_toml_resolve.proofs.Listings.{ascending, names_listed}
 use Rattle.cargo_toml_resolve.proofs.admit.listings.Goals as goal
+
+pub returns-clause-all : goal.returns-clause-all
+returns-clause-all c =
+    let all : listed_of c.loop-name.listings.items ≡ cut c.args.limit [] (listed_in c.args.table.now) = search rules in
+    all ∙ cut_is_admitted c.args.limit (listed_in c.args.table.now) (ascending c.args.table.now.entries c.len.ensures.ordered)
 
 pub returns-clause-once : goal.returns-clause-once
 returns-clause-once c =
-    let all : listed_of c.loop-name.listings.items ≡ listed_in c.args.table.now = search rules in
-    subst IsOnce (names_are c.loop-name.listings.items c.args.table.now.entries all) (once_sorted _ c.len.ensures.ordered)
+    let ascends : Ascends (listed_in c.args.table.now) = ascending c.args.table.now.entries c.len.ensures.ordered in
+    let all : listed_of c.loop-name.listings.items ≡ cut c.args.limit [] (listed_in c.args.table.now) = search rules in
+    subst IsOnce (ap (map (λ e. e.0)) (sym (all ∙ cut_is_admitted c.args.limit (listed_in c.args.table.now) ascends)) ∙ names_listed c.loop-name.listings.items)
+    (admitted_once c.args.limit (listed_in c.args.table.now) ascends)

@@ -18,11 +18,11 @@ loop-listing-preserved g c =
     }
 
 pub returns-clause-read : goal.returns-clause-read
-returns-clause-read g c = λ limit within.
+returns-clause-read g c =
     let ls = c.args.listings.now in
     let all : take c.loop-listing.listing-index ls ≡ ls = take_all _ ls (omega arith) in
     all_read (listed_of ls) c.loop-listing.features c.add_default.new.features
     (subst (λ xs. HasRead (listed_of xs) c.loop-listing.features) all c.loop-listing.invariant.features)
-    c.in_ok-add_default.ensures.others c.in_ok-add_default.ensures.default limit (value_at c.loop-listing.acted)
+    c.in_ok-add_default.ensures.others c.in_ok-add_default.ensures.default (value_at c.loop-listing.acted)
     (λ k. c.loop-listing.invariant.acted k ∙ ap (λ xs. noted_in (listed_of xs) k) all)
-    (subst IsOnce (sym (names_listed ls)) c.requires) within
+    (subst IsOnce (sym (names_listed ls)) c.requires)

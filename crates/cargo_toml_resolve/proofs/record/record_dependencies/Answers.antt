@@ -13,12 +13,12 @@ loop-entry-preserved g c =
     let p : ParseDependency = c.entry-item.result in
     let more : map entry_of (take (c.loop-entry.entry-index + 1) c.args.entries.now) ≡ map entry_of (take c.loop-entry.entry-index c.args.entries.now) ++ entry_of c.entry-item.result ∷ [] =
     ap (map entry_of) (take_more c.args.entries.now c.loop-entry.entry-index p c.loop-entry-test.true ∙ ap (λ x. es ++ x ∷ []) (sym c.entry-item.is)) ∙ map-append entry_of es (p ∷ []) in
-    λ limit listed same k.
-    subst (λ xs. recorded_at c.record_entry.new.dependencies k ≡ recorded_of (entries_at limit listed xs k)) (sym more)
-    (recorded_then limit listed (is_mentioned_in c.args.mentions.now) same (map entry_of es) (entry_of p) k
-    (recorded_at c.loop-entry.dependencies k) (recorded_at c.record_entry.new.dependencies k) (c.loop-entry.invariant limit listed same k) (c.in_ok-record_entry.ensures k))
+    λ listed same k.
+    subst (λ xs. recorded_at c.record_entry.new.dependencies k ≡ recorded_of (entries_at listed xs k)) (sym more)
+    (recorded_then listed (is_mentioned_in c.args.mentions.now) same (map entry_of es) (entry_of p) k
+    (recorded_at c.loop-entry.dependencies k) (recorded_at c.record_entry.new.dependencies k) (c.loop-entry.invariant listed same k) (c.in_ok-record_entry.ensures k))
 
 pub returns : goal.returns
-returns g c = λ limit listed same k.
-    c.loop-entry.invariant limit listed same k
-    ∙ ap (λ xs. recorded_of (entries_at limit listed (map entry_of xs) k)) (take_all c.loop-entry.entry-index c.args.entries.now c.loop-entry-test.false)
+returns g c = λ listed same k.
+    c.loop-entry.invariant listed same k
+    ∙ ap (λ xs. recorded_of (entries_at listed (map entry_of xs) k)) (take_all c.loop-entry.entry-index c.args.entries.now c.loop-entry-test.false)

@@ -1,18 +1,24 @@
 use Rattle.std.proofs.Common.{◌&&◌, not, bytes_eq, false, refl, map}
 use Rattle.cargo_toml_resolve.specs.Enabling.{leads_at}
 use Rattle.cargo_toml_resolve.specs.Implying.{is_offered}
+use Rattle.cargo_toml_resolve.specs.OwnBins.{own_of, requirement_of}
 use Rattle.cargo_toml_resolve.specs.Reading.{listed_of}
 use Rattle.cargo_toml_resolve.specs.Views.{entry_of}
-use Rattle.cargo_toml_resolve.proofs.Answering.{answers, keyed_from}
+use Rattle.cargo_toml_resolve.proofs.Answering.{answers, fresh_still, keyed_from, keyed_required}
 use Rattle.cargo_toml_resolve.proofs.resolution.resolve.Goals as goal
 
 pub returns-clause-resolved : goal.returns-clause-resolved
-returns-clause-resolved g c = λ limit within.
-    answers limit (listed_of c.args.listings.now) (map entry_of c.args.entries.now) c.in_ok-mentions.mentions c.imply_all.new.features
-    (record { features = c.set_enabled_by.new.features; dependencies = c.in_ok-dependencies.dependencies; removed_hidden_features = false; hidden_features = c.with_hasher.result })
-    (c.in_ok-mentions.ensures.read limit within) c.in_ok-mentions.ensures.fresh c.in_ok-imply_all.ensures c.in_ok-set_enabled_by.ensures (c.in_ok-dependencies.ensures limit (listed_of c.args.listings.now)) c.with_hasher.ensures.empty refl
+returns-clause-resolved g c =
+    answers (listed_of c.args.listings.now) (map entry_of c.args.entries.now) (own_of (map requirement_of c.args.requirements.now)) c.in_ok-mentions.mentions c.drop_redundant.new.features c.imply_all.new.features c.set_enabled_by.new.features
+    (record { features = c.require_all.new.features; dependencies = c.in_ok-dependencies.dependencies; removed_hidden_features = false; hidden_features = c.with_hasher.result })
+    c.in_ok-mentions.ensures.read c.in_ok-mentions.ensures.fresh c.drop_redundant.ensures c.in_ok-imply_all.ensures c.in_ok-set_enabled_by.ensures c.in_ok-require_all.ensures (c.in_ok-dependencies.ensures (listed_of c.args.listings.now)) c.with_hasher.ensures.empty refl
 
 pub returns-clause-keyed : goal.returns-clause-keyed
 returns-clause-keyed g c =
-    keyed_from (is_offered c.in_ok-mentions.mentions.acted (map entry_of c.args.entries.now)) (λ q e. leads_at c.imply_all.new.features e q && not (bytes_eq q e))
-    c.in_ok-mentions.mentions.features c.imply_all.new.features c.set_enabled_by.new.features c.in_ok-mentions.ensures.fresh c.in_ok-imply_all.ensures c.in_ok-set_enabled_by.ensures
+    keyed_required (own_of (map requirement_of c.args.requirements.now)) c.set_enabled_by.new.features c.require_all.new.features c.in_ok-require_all.ensures
+    (keyed_from (is_offered c.in_ok-mentions.mentions.acted (map entry_of c.args.entries.now)) (λ q e. leads_at c.imply_all.new.features e q && not (bytes_eq q e))
+    c.drop_redundant.new.features c.imply_all.new.features c.set_enabled_by.new.features
+    (fresh_still (listed_of c.args.listings.now) (map entry_of c.args.entries.now) (own_of (map requirement_of c.args.requirements.now)) c.in_ok-mentions.mentions c.drop_redundant.new.features c.imply_all.new.features c.set_enabled_by.new.features
+    (record { features = c.require_all.new.features; dependencies = c.in_ok-dependencies.dependencies; removed_hidden_features = false; hidden_features = c.with_hasher.result })
+    c.in_ok-mentions.ensures.read c.in_ok-mentions.ensures.fresh c.drop_redundant.ensures c.in_ok-imply_all.ensures c.in_ok-set_enabled_by.ensures c.in_ok-require_all.ensures (c.in_ok-dependencies.ensures (listed_of c.args.listings.now)) c.with_hasher.ensures.empty refl)
+    c.in_ok-imply_all.ensures c.in_ok-set_enabled_by.ensures)

@@ -1,10 +1,8 @@
-use Rattle.std.proofs.Common.{ap, subst, ◌∙◌}
+use Rattle.std.proofs.Common.{ap, ◌∙◌}
 use Rattle.toml.specs.View.{view}
 use Rattle.cargo_toml.specs.Manifests.{manifest_meaning}
-use Rattle.cargo_toml.specs.Views.{listed_in}
 use Rattle.cargo_toml_bench.specs.Printing.{report_text}
-use Rattle.cargo_toml_bench.specs.Reports.{AreUnreferenced, texts}
-use Rattle.cargo_toml_bench.proofs.Entries.{entries_shown}
+use Rattle.cargo_toml_bench.specs.Reports.{texts}
 use Rattle.cargo_toml_bench.proofs.report.print.report_of.Goals as goal
 
 pub returns-clause-text : goal.returns-clause-text
@@ -14,6 +12,6 @@ returns-clause-text c =
       manifest = manifest_meaning view found;
       spelled = c.in_ok-manifest.ensures.manifest;
       unreferenced = names;
-      exact = subst (λ es. AreUnreferenced (listed_in found.features) es names) (entries_shown found.dependencies.entries) c.in_ok-report.ensures.unreferenced;
+      exact = c.in_ok-report.ensures.unreferenced;
       whole = c.in_ok-report_text.ensures ∙ ap (λ keys. report_text keys names) c.in_ok-report.ensures.optional;
     }

@@ -1,0 +1,60 @@
+//! Which features the binaries of a manifest require.
+ghost use Rattle.std.specs.Prelude.{◌≡◌, ◌++◌, IfOk, OnOk, map};
+ghost use Rattle.std.specs.List.{flat_map};
+ghost use Rattle.cargo_toml_manifest.specs.Manifests.{manifest_meaning};
+ghost use Rattle.cargo_toml_resolve.specs.OwnBins.{requirement_of};
+ghost use Rattle.cargo_toml_tables.specs.Products.{product_meaning};
+ghost use Rattle.cargo_toml.specs.Parsed.{requirements, requirements_by};
+
+use cargo_toml_manifest::Manifest;
+use cargo_toml_resolve::bins::Requirement;
+use cargo_toml_tables::Product;
+use std::alloc::{AllocError, Global};
+
+// Adds what a binary requires, by its own name or else that of its package.
+fn add_requirements<'m>(
+    requirements: &mut Vec<Requirement<'m>>,
+    bin: &'m Product,
+    package_name: &'m str,
+) -> Result<(), AllocError>
+    ensures { OnOk result (map requirement_of requirements.new.items ≡ map requirement_of requirements.old.items
+        ++ requirements_by package_name.now (product_meaning bin.now)) }
+{
+    let name = bin.name.as_deref().unwrap_or(package_name);
+    for feature in &bin.required_features {
+        requirements.push(Requirement {
+            feature: feature.as_str(),
+            bin: name,
+        })?;
+    }
+    Ok(())
+}
+
+// What the binaries of a package of this name require.
+fn requirements_of<'m>(
+    alloc: Global,
+    bins: &'m [Product],
+    package_name: &'m str,
+) -> Result<Vec<Requirement<'m>>, AllocError>
+    ensures { IfOk result (λ v. map requirement_of v.items
+        ≡ flat_map (requirements_by package_name.now) (map product_meaning bins.now)) }
+{
+    let mut requirements = Vec::new(alloc);
+    for bin in bins {
+        add_requirements(&mut requirements, bin, package_name)?;
+    }
+    Ok(requirements)
+}
+
+// What the binaries of a manifest require, in their order; nothing where it has no package.
+pub fn requirements<'m, M>(
+    alloc: Global,
+    manifest: &'m Manifest<M>,
+) -> Result<Vec<Requirement<'m>>, AllocError>
+    ensures { IfOk result (λ v. map requirement_of v.items ≡ requirements (manifest_meaning (λ m. m) manifest.now)) }
+{
+    match &manifest.package {
+        Some(package) => requirements_of(alloc, manifest.bin.as_slice(), package.name.as_str()),
+        None => Ok(Vec::new(alloc)),
+    }
+}

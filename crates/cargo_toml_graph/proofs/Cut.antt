@@ -1,0 +1,154 @@
+-- A table in the byte order of its names, cut to a limit.
+use Rattle.std.proofs.Common.{◌≡◌, ◌⊎◌, ◌+◌, ◌<◌, ◌≤◌, ℕ, Bool, true, false, cond, ◌||◌, List, [], ◌∷◌, ◌++◌, map, filter, fold, take, length, length-append, nat_lt, codes, bytes_eq, count_by, append_assoc, arith, IsTrue, refl, sym, ap, subst, inl, inr, ◌∙◌}
+use Rattle.std.proofs.lemmas.Bool.{false≢true, lt-ltb, le-ltb, ltb-true, ltb-false}
+use Rattle.std.proofs.lemmas.List.{append-nil}
+use Rattle.std.proofs.lemmas.List.Sums.{sum_by-cons}
+use Rattle.cargo_toml_graph.specs.Action.{Text}
+use Rattle.cargo_toml_graph.specs.Admitted.{Listed, is_below, is_admitted, admitted}
+use Rattle.cargo_toml_graph.specs.Reach.{Among, IsOnce}
+use Rattle.cargo_toml_graph.specs.Removal.{IsAscending}
+use Rattle.cargo_toml_graph.proofs.RedirectsInOrder.{below_one_way}
+
+-- a name counts while there is room, and `default` always
+abbrev pub is_counted : ℕ → Listed → Text → Bool
+is_counted limit taken n = nat_lt (length taken) limit || bytes_eq n (codes "default")
+
+abbrev pub first_of : ℕ → Text × List Text → Text × List Text
+first_of limit e = (e.0, take limit e.1)
+
+abbrev pub take_one : ℕ → Listed → Text × List Text → Listed
+take_one limit taken e = cond (is_counted limit taken e.0) (taken ++ first_of limit e ∷ []) taken
+
+-- one name after another
+abbrev pub cut : ℕ → Listed → Listed → Listed
+cut limit taken listed = fold (take_one limit) taken listed
+
+abbrev names_of : Listed → List Text
+names_of es = map (λ e. e.0) es
+
+abbrev Below : Text → Text → Type 0
+Below a b = IsTrue (is_below a b)
+
+abbrev pub Ascends : Listed → Type 0
+Ascends listed = IsAscending Below (names_of listed)
+
+abbrev one : Bool → ℕ
+one b = cond b 1 0
+
+false_from : (b : Bool) → (b ≡ true → ⊥) → b ≡ false
+false_from true n = absurd (n refl)
+false_from false n = refl
+
+counted : (n : Text) (e : Text × List Text) (es : Listed) → count_by (λ d. is_below d.0 n) (e ∷ es) ≡ one (is_below e.0 n) + count_by (λ d. is_below d.0 n) es
+counted n e es = sum_by-cons (λ (d : Text × List Text). cond (is_below d.0 n) 1 0) e es
+
+not_below : (a b : Text) → Below b a → is_below a b ≡ false
+not_below a b h = false_from _ (λ i. below_one_way a b i h)
+
+not_itself : (a : Text) → is_below a a ≡ false
+not_itself a = false_from _ (λ i. below_one_way a a i i)
+
+-- no name is below n, where n is below each
+none_below : (n : Text) (es : Listed) → ((y : Text) → Among (names_of es) y → Below n y) → count_by (λ d. is_below d.0 n) es ≡ 0
+none_below n [] h = refl
+none_below n (e ∷ es) h =
+    let off : one (is_below e.0 n) ≡ 0 = ap one (not_below e.0 n (h e.0 (inl refl))) in
+    let rest : count_by (λ d. is_below d.0 n) es ≡ 0 = none_below n es (λ y i. h y (inr i)) in
+    let first : count_by (λ d. is_below d.0 n) (e ∷ es) ≡ one (is_below e.0 n) + count_by (λ d. is_below d.0 n) es = counted n e es in
+    omega (arith, first, off, rest)
+
+among_here : (ys : Listed) (e : Text × List Text) (es : Listed) → Among (names_of (ys ++ e ∷ es)) e.0
+among_here [] e es = inl refl
+among_here (y ∷ ys) e es = inr (among_here ys e es)
+
+-- as many names are below one as stand before it
+place : (ys : Listed) (e : Text × List Text) (es : Listed) → Ascends (ys ++ e ∷ es) → count_by (λ d. is_below d.0 e.0) (ys ++ e ∷ es) ≡ length ys
+place [] e es a =
+    let off : one (is_below e.0 e.0) ≡ 0 = ap one (not_itself e.0) in
+    let rest : count_by (λ d. is_below d.0 e.0) es ≡ 0 = none_below e.0 es a.0 in
+    let first : count_by (λ d. is_below d.0 e.0) (e ∷ es) ≡ one (is_below e.0 e.0) + count_by (λ d. is_below d.0 e.0) es = counted e.0 e es in
+    omega (arith, first, off, rest)
+place (y ∷ ys) e es a =
+    let on : one (is_below y.0 e.0) ≡ 1 = ap one (a.0 e.0 (among_here ys e es)) in
+    let rest : count_by (λ d. is_below d.0 e.0) (ys ++ e ∷ es) ≡ length ys = place ys e es a.1 in
+    let first : count_by (λ d. is_below d.0 e.0) (y ∷ ys ++ e ∷ es) ≡ one (is_below y.0 e.0) + count_by (λ d. is_below d.0 e.0) (ys ++ e ∷ es) = counted e.0 y (ys ++ e ∷ es) in
+    omega (arith, first, on, rest)
+
+-- there is room among those that are taken as long as there is among those that were looked at
+abbrev Room : ℕ → Listed → Listed → Type 0
+Room limit taken ys = (length taken ≡ length ys) ⊎ ((limit ≤ length taken) × (limit ≤ length ys))
+
+same_room : (limit : ℕ) (taken ys : Listed) → Room limit taken ys → nat_lt (length taken) limit ≡ nat_lt (length ys) limit
+same_room limit taken ys (inl e) = ap (λ n. nat_lt n limit) e
+same_room limit taken ys (inr f) = le-ltb _ _ f.0 ∙ sym (le-ltb _ _ f.1)
+
+or_comm : (a b : Bool) → (a || b) ≡ (b || a)
+or_comm true true = refl
+or_comm true false = refl
+or_comm false true = refl
+or_comm false false = refl
+
+one_longer : (xs : Listed) (x : Text × List Text) → length (xs ++ x ∷ []) ≡ length xs + 1
+one_longer xs x = length-append xs (x ∷ [])
+
+room_taken : (limit : ℕ) (taken ys : Listed) (x y : Text × List Text) → Room limit taken ys → Room limit (taken ++ x ∷ []) (ys ++ y ∷ [])
+room_taken limit taken ys x y (inl e) = inl (one_longer taken x ∙ ap (λ n. n + 1) e ∙ sym (one_longer ys y))
+room_taken limit taken ys x y (inr f) = inr (omega (arith, f.0, one_longer taken x), omega (arith, f.1, one_longer ys y))
+
+room_left : (limit : ℕ) (taken ys : Listed) (y : Text × List Text) → limit ≤ length taken → Room limit taken ys → Room limit taken (ys ++ y ∷ [])
+room_left limit taken ys y full (inl e) = inr (full, omega (arith, full, e, one_longer ys y))
+room_left limit taken ys y full (inr f) = inr (f.0, omega (arith, f.1, one_longer ys y))
+
+module _ (limit : ℕ) (all : Listed) (ascends : Ascends all) where
+  abbrev kept : Listed → Listed
+  kept es = map (first_of limit) (filter (λ e. is_admitted limit all e.0) es)
+
+  same_test : (ys : Listed) (e : Text × List Text) (es taken : Listed) → ys ++ e ∷ es ≡ all → Room limit taken ys → is_admitted limit all e.0 ≡ is_counted limit taken e.0
+  same_test ys e es taken is r =
+      ap (λ n. bytes_eq e.0 (codes "default") || nat_lt n limit) (subst (λ l. count_by (λ d. is_below d.0 e.0) l ≡ length ys) is (place ys e es (subst Ascends (sym is) ascends)))
+      ∙ or_comm (bytes_eq e.0 (codes "default")) (nat_lt (length ys) limit) ∙ ap (λ b. b || bytes_eq e.0 (codes "default")) (sym (same_room limit taken ys r))
+
+  cut_from : (ys es taken : Listed) → ys ++ es ≡ all → Room limit taken ys → cut limit taken es ≡ taken ++ kept es
+  cut_from ys [] taken is r = sym (append-nil taken)
+  cut_from ys (e ∷ es) taken is r = go (λ more room. cut_from (ys ++ e ∷ []) es more (next is) room) (is_counted limit taken e.0) refl
+    where
+      next : ys ++ e ∷ es ≡ all → (ys ++ e ∷ []) ++ es ≡ all
+      next h = append_assoc ys (e ∷ []) es ∙ h
+
+      full : (b : Bool) (d : Bool) → (b || d) ≡ false → b ≡ false
+      full true d h = absurd (false≢true (sym h))
+      full false d h = refl
+
+      go : ((more : Listed) → Room limit more (ys ++ e ∷ []) → cut limit more es ≡ more ++ kept es) → (b : Bool) → is_counted limit taken e.0 ≡ b → cut limit (cond b (taken ++ first_of limit e ∷ []) taken) es ≡ taken ++ map (first_of limit) (cond (is_admitted limit all e.0) (e ∷ filter (λ d. is_admitted limit all d.0) es) (filter (λ d. is_admitted limit all d.0) es))
+      go later true t =
+          later (taken ++ first_of limit e ∷ []) (room_taken limit taken ys (first_of limit e) e r)
+          ∙ append_assoc taken (first_of limit e ∷ []) (kept es)
+          ∙ sym (ap (λ b. taken ++ map (first_of limit) (cond b (e ∷ filter (λ d. is_admitted limit all d.0) es) (filter (λ d. is_admitted limit all d.0) es))) (same_test ys e es taken is r ∙ t))
+      go later false t =
+          later taken (room_left limit taken ys e (ltb-false _ _ (full (nat_lt (length taken) limit) _ t)) r)
+          ∙ sym (ap (λ b. taken ++ map (first_of limit) (cond b (e ∷ filter (λ d. is_admitted limit all d.0) es) (filter (λ d. is_admitted limit all d.0) es))) (same_test ys e es taken is r ∙ t))
+
+  -- what is taken one after another is what is admitted
+  pub cut_is_admitted : cut limit [] all ≡ admitted limit all
+  cut_is_admitted = cut_from [] all [] refl (inl refl)
+
+-- a name that is admitted is listed, and once
+kept_among : (limit : ℕ) (p : Text × List Text → Bool) (es : Listed) (n : Text) → Among (names_of (map (first_of limit) (filter p es))) n → Among (names_of es) n
+kept_among limit p [] n i = i
+kept_among limit p (e ∷ es) n i = go (λ h. kept_among limit p es n h) (p e) i
+  where
+    go : (Among (names_of (map (first_of limit) (filter p es))) n → Among (names_of es) n) → (b : Bool) → Among (names_of (map (first_of limit) (cond b (e ∷ filter p es) (filter p es)))) n → (n ≡ e.0) ⊎ Among (names_of es) n
+    go later true (inl s) = inl s
+    go later true (inr i) = inr (later i)
+    go later false i = inr (later i)
+
+kept_once : (limit : ℕ) (p : Text × List Text → Bool) (es : Listed) → Ascends es → IsOnce (names_of (map (first_of limit) (filter p es)))
+kept_once limit p [] a = tt
+kept_once limit p (e ∷ es) a = go (kept_once limit p es a.1) (p e)
+  where
+    go : IsOnce (names_of (map (first_of limit) (filter p es))) → (b : Bool) → IsOnce (names_of (map (first_of limit) (cond b (e ∷ filter p es) (filter p es))))
+    go later true = ((λ i. let b = a.0 e.0 (kept_among limit p es e.0 i) in below_one_way e.0 e.0 b b), later)
+    go later false = later
+
+pub admitted_once : (limit : ℕ) (listed : Listed) → Ascends listed → IsOnce (names_of (admitted limit listed))
+admitted_once limit listed a = kept_once limit (λ e. is_admitted limit listed e.0) listed a

@@ -1,0 +1,28 @@
+-- Actions without the features that dependencies have anyway: words of a step of resolving, on which no public contract rests.
+use Rattle.std.specs.Prelude.{◌≡◌, List, option_map}
+use Rattle.std.specs.Borrow.{Bor}
+use Rattle.std.specs.HashMap.{HashMap}
+use Rattle.cargo_toml_resolve.specs.declared.features.Feature.{Feature}
+use Rattle.cargo_toml_resolve.specs.declared.features.FeatureDependency.{FeatureDependency}
+use Rattle.cargo_toml_graph.specs.Action.{Text}
+use Rattle.cargo_toml_resolve.specs.Enabling.{Relates}
+use Rattle.cargo_toml_resolve.specs.Recorded.{Entry, first_target, recorded_of, without_redundant}
+use Rattle.cargo_toml_resolve.specs.Recording.{recorded_at}
+use Rattle.cargo_toml_resolve.specs.Views.{action_at, value_at}
+
+-- of each key the map records what these entries say
+abbrev pub IsRecordOf : {S : Type 0} → HashMap (Bor Text) FeatureDependency S → (Text → List Entry) → Type 0
+IsRecordOf m entries = (k : Text) → recorded_at m k ≡ recorded_of (entries k)
+
+-- each action of the feature lost what is redundant by the entries of its key, and nothing else changed
+pub record Thinned (entries : Text → List Entry) (old new : Feature) : Type 0 where
+  pub key : new.key ≡ old.key
+  pub names : new.enables_features ≡ old.enables_features
+  pub actions : (k : Text) → action_at new.enables_deps k ≡ option_map (without_redundant (first_target (entries k))) (action_at old.enables_deps k)
+  pub enabled_by : new.enabled_by ≡ old.enabled_by
+  pub bins : new.required_by_bins ≡ old.required_by_bins
+  pub explicit : new.explicit ≡ old.explicit
+
+-- so did each feature
+pub record ThinnedAll {S : Type 0} (entries : Text → List Entry) (old new : HashMap (Bor Text) Feature S) : Type 0 where
+  pub at : (q : Text) → Relates (Thinned entries) (value_at old q) (value_at new q)

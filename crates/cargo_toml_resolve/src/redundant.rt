@@ -1,0 +1,95 @@
+//! Features of dependencies that are on anyway.
+ghost use Rattle.std.specs.Prelude.{◌≡◌, List, Some, bytes_eq, map, option_map, string_bytes};
+ghost use Rattle.std.specs.List.{list_any};
+ghost use Rattle.cargo_toml_dependencies.specs.Dependencies.{dependency_meaning};
+ghost use Rattle.cargo_toml_graph.specs.Action.{Text};
+ghost use Rattle.cargo_toml_resolve.specs.Recorded.{Entry, first_target, is_redundant, recorded_of, without_redundant};
+ghost use Rattle.cargo_toml_resolve.specs.Recording.{recorded_at};
+ghost use Rattle.cargo_toml_resolve.specs.Redundant.{IsRecordOf, Thinned, ThinnedAll};
+ghost use Rattle.cargo_toml_resolve.specs.Views.{action_of};
+
+use crate::features::{DepAction, Feature, FeatureDependency};
+use cargo_toml_dependencies::Dependency;
+use std::collections::HashMap;
+use std::hash::BuildHasher;
+
+// The dependency of the key's first target, where the key is recorded.
+fn first_dependency<'d, S: BuildHasher>(
+    dependencies: &HashMap<&str, FeatureDependency<'d>, S>,
+    key: &str,
+) -> Option<&'d Dependency>
+    ensures { (es : List Entry) → recorded_at dependencies.now key.now ≡ recorded_of es
+        → option_map (λ d. dependency_meaning d.now) result ≡ first_target es }
+{
+    let (_, first) = dependencies.get(key)?.targets.first_key_value()?;
+    Some(*first)
+}
+
+fn lists(features: &[String], feature: &str) -> bool
+    ensures { result ≡ list_any (bytes_eq feature.now) (map string_bytes features.now) }
+{
+    features.iter().any(|listed| feature == listed.as_str())
+}
+
+// Whether the dependency has the feature anyway, as its detail says.
+fn is_redundant(dependency: &Dependency, feature: &str) -> bool
+    ensures { result ≡ is_redundant (Some (dependency_meaning dependency.now)) feature.now }
+{
+    let Dependency::Detailed(detail) = dependency else {
+        return false;
+    };
+    (detail.default_features && feature == "default") || lists(&detail.features, feature)
+}
+
+// Takes out of the action what the dependency has anyway.
+fn thin_action(action: &mut DepAction<'_>, dependency: &Dependency)
+    ensures { action_of action.new
+        ≡ without_redundant (Some (dependency_meaning dependency.now)) (action_of action.old) }
+{
+    action
+        .dep_features
+        .retain(|feature| !is_redundant(dependency, *feature));
+}
+
+// The same of the action on the key, by the dependency of its first target.
+fn thin_action_on<S: BuildHasher>(
+    key: &str,
+    action: &mut DepAction<'_>,
+    dependencies: &HashMap<&str, FeatureDependency<'_>, S>,
+)
+    ensures { (es : List Entry) → recorded_at dependencies.now key.now ≡ recorded_of es
+        → action_of action.new ≡ without_redundant (first_target es) (action_of action.old) }
+{
+    if let Some(dependency) = first_dependency(dependencies, key) {
+        thin_action(action, dependency);
+    }
+}
+
+// The same of each action of the feature. `retain` lends each value to be written, and keeps all.
+fn thin_feature<S: BuildHasher>(
+    feature: &mut Feature<'_>,
+    dependencies: &HashMap<&str, FeatureDependency<'_>, S>,
+)
+    ensures { (entries : Text → List Entry) → IsRecordOf dependencies.now entries
+        → Thinned entries feature.old feature.new }
+{
+    feature.enables_deps.retain(|key, action| {
+        thin_action_on(*key, action, dependencies);
+        true
+    });
+}
+
+/// Takes out of each feature's actions the dependency features that are on anyway. A feature `default` is where the
+/// dependency's first target has its default features, and any other where that target lists it.
+pub fn drop_redundant<S: BuildHasher>(
+    features: &mut HashMap<&str, Feature<'_>, S>,
+    dependencies: &HashMap<&str, FeatureDependency<'_>, S>,
+)
+    ensures { (entries : Text → List Entry) → IsRecordOf dependencies.now entries
+        → ThinnedAll entries features.old features.new }
+{
+    features.retain(|_, feature| {
+        thin_feature(feature, dependencies);
+        true
+    });
+}

@@ -70,6 +70,7 @@ pub use Rattle.cargo_toml_graph.specs.Recursive
 pub use Rattle.cargo_toml_graph.specs.Admitted
 pub use Rattle.cargo_toml_resolve.specs.Entries
 pub use Rattle.cargo_toml_resolve.specs.OwnBins
+pub use Rattle.cargo_toml_resolve.specs.Hashed
 pub use Rattle.cargo_toml_resolve.specs.Recorded
 pub use Rattle.cargo_toml_resolve.specs.Resolved
 pub use Rattle.cargo_toml_resolve.specs.Views

@@ -1,19 +1,21 @@
 //! What the features of a manifest enable, and which features enable them.
-ghost use Rattle.std.specs.Prelude.{◌≡◌, true, IfOk, IfErr};
+ghost use Rattle.std.specs.Prelude.{◌≡◌, [], true, map, IfOk, IfErr};
 ghost use Rattle.cargo_toml_parts.specs.declared.error.Error.{Memory};
 ghost use Rattle.cargo_toml_parts.specs.Reads.{map_meaning};
 ghost use Rattle.cargo_toml_dependencies.specs.Targets.{target_meaning};
 ghost use Rattle.cargo_toml_manifest.specs.Inheriting.{own_tables};
 ghost use Rattle.cargo_toml_manifest.specs.Manifests.{manifest_meaning};
+ghost use Rattle.cargo_toml_graph.specs.Admitted.{Listed};
 ghost use Rattle.cargo_toml_resolve.specs.Entries.{tables_meaning};
+ghost use Rattle.cargo_toml_resolve.specs.Hashed.{IsListingOf};
 ghost use Rattle.cargo_toml_resolve.specs.Reached.{IsKeyed};
-ghost use Rattle.cargo_toml_resolve.specs.Views.{answer_of};
-ghost use Rattle.cargo_toml.specs.Parsed.{IsParsed};
+ghost use Rattle.cargo_toml_resolve.specs.Views.{answer_of, entry_of};
+ghost use Rattle.cargo_toml.specs.Parsed.{IsAnswerFor, IsParsed};
 
 use crate::requirements::requirements;
 use cargo_toml_manifest::Manifest;
 use cargo_toml_parts::Error;
-use cargo_toml_resolve::admit::{MAX_ITEMS, listings};
+use cargo_toml_resolve::admit::{MAX_ITEMS, hashed_listings, listings};
 use cargo_toml_resolve::entries::{Tables, entries_of};
 pub use cargo_toml_resolve::features::{
     DepAction, Feature, FeatureDependency, Features, Kind, ParseDependency, TargetKey,
@@ -22,6 +24,7 @@ pub use cargo_toml_resolve::questions::NonDefaultEnabledBy;
 pub use cargo_toml_resolve::recursive::DependenciesEnabledByFeatures;
 use cargo_toml_resolve::resolve;
 use std::alloc::Global;
+use std::collections::HashMap;
 use std::hash::{BuildHasher, BuildHasherDefault, FoldHasher};
 
 /// Resolves the features of manifests.
@@ -81,6 +84,29 @@ impl<'config, F, S: BuildHasher + Clone> Resolver<'config, F, S> {
             entries.as_slice(),
             requirements.as_slice(),
         )?)
+    }
+
+    /// Resolves features and dependencies that stand in no manifest, as those of a registry's index.
+    ///
+    /// It answers as [`Resolver::parse`] does of the same features and of these entries in their order, of which each counts,
+    /// however many there are; no binary requires a feature. The walk of the hashed table changes nothing: of its names the
+    /// first 2048 in byte order count, and `default`. Features borrow from the table and from the entries' keys, dependencies
+    /// from the entries.
+    ///
+    /// The one refusal is [`Error::Memory`], where there was no room for the answer.
+    pub fn parse_custom<'m: 'd, 'd, S2: BuildHasher>(
+        &self,
+        alloc: Global,
+        features: &'m HashMap<String, Vec<String>, S2>,
+        dependencies: &[ParseDependency<'m, 'd>],
+    ) -> Result<Features<'m, 'd, S>, Error>
+        ensures resolved { IfOk result (λ a. (listed : Listed) → IsListingOf features.now listed →
+            IsAnswerFor listed (map entry_of dependencies.now) (λ _. []) (λ _. true) (answer_of a)) }
+        ensures keyed { IfOk result (λ a. IsKeyed a.features) }
+        ensures refused { IfErr result (λ e. e ≡ Memory) }
+    {
+        let listings = hashed_listings(alloc, features, MAX_ITEMS)?;
+        Ok(resolve(alloc, &self.state, listings.as_slice(), dependencies, &[])?)
     }
 }
 

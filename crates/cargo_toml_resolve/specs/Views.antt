@@ -17,7 +17,6 @@ use Rattle.cargo_toml_resolve.specs.declared.features.DepAction.{DepAction}
 use Rattle.cargo_toml_resolve.specs.declared.features.Feature.{Feature}
 use Rattle.cargo_toml_resolve.specs.declared.features.FeatureDependency.{FeatureDependency}
 use Rattle.cargo_toml_resolve.specs.declared.features.Features.{Features}
-use Rattle.cargo_toml_resolve.specs.declared.features.Kind.TheVariants.{Normal}
 use Rattle.cargo_toml_resolve.specs.declared.features.ParseDependency.{ParseDependency}
 use Rattle.cargo_toml_resolve.specs.declared.features.TargetKey.{TargetKey}
 use Rattle.cargo_toml_graph.specs.Action.{Text, Action}
@@ -75,12 +74,9 @@ answer_of a = record {
   removed_some = a.removed_hidden_features;
 }
 
--- the features and the normal dependencies of a manifest, as they are listed
+-- the features of a manifest, as they are listed
 abbrev pub listed_in : BTreeMap (String Global) (Vec (String Global) Global) → Listed
 listed_in m = map (λ e. (string_bytes e.0, map string_bytes e.1.items)) m.entries
-
-abbrev pub normal_entries : BTreeMap (String Global) Dependency → List Entry
-normal_entries m = map (λ e. record { key = string_bytes e.0; target = (Normal, None); dependency = dependency_meaning e.1 }) m.entries
 
 -- an entry that a caller hands in
 abbrev pub entry_of : ParseDependency → Entry

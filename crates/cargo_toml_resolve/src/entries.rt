@@ -123,13 +123,7 @@ pub fn entries_of<'m>(
         target,
     } = tables;
     let mut entries = Vec::with_capacity(alloc, dependencies.len())?;
-    add_built(
-        &mut entries,
-        dependencies,
-        build_dependencies,
-        limit,
-        None,
-    )?;
+    add_built(&mut entries, dependencies, build_dependencies, limit, None)?;
     add_targets_built(&mut entries, target, limit)?;
     add_first(&mut entries, dev_dependencies, limit, Kind::Dev, None)?;
     add_targets_dev(&mut entries, target, limit)?;

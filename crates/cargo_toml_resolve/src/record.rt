@@ -5,33 +5,13 @@ ghost use Rattle.cargo_toml_graph.specs.Action.{Text};
 ghost use Rattle.cargo_toml_graph.specs.Admitted.{Listed};
 ghost use Rattle.cargo_toml_resolve.specs.Recorded.{is_mentioned, entries_at, recorded_of};
 ghost use Rattle.cargo_toml_resolve.specs.Recording.{recorded_at, recorded_first, recorded_next, is_mentioned_in, recorded_after};
-ghost use Rattle.cargo_toml_resolve.specs.Views.{entry_of, normal_entries, recorded_in, target_of};
+ghost use Rattle.cargo_toml_resolve.specs.Views.{entry_of, recorded_in, target_of};
 
-use crate::features::{FeatureDependency, Kind, ParseDependency, TargetKey};
+use crate::features::{FeatureDependency, ParseDependency, TargetKey};
 use crate::read::Mentions;
-use cargo_toml_dependencies::Dependency;
 use std::alloc::{AllocError, Global};
 use std::collections::{BTreeMap, HashMap};
 use std::hash::BuildHasher;
-
-/// The entries of a table of normal dependencies. It fails only where memory runs out.
-pub fn normal_dependencies<'m>(
-    alloc: Global,
-    table: &'m BTreeMap<String, Dependency>,
-) -> Result<Vec<ParseDependency<'m, 'm>>, AllocError>
-    ensures { IfOk result (λ v. map entry_of v.items ≡ normal_entries table.now) }
-{
-    let mut entries = Vec::with_capacity(alloc, table.len())?;
-    for (key, dep) in table {
-        entries.push(ParseDependency {
-            key: key.as_str(),
-            kind: Kind::Normal,
-            target: None,
-            dep,
-        })?;
-    }
-    Ok(entries)
-}
 
 fn target_key<'m>(entry: &ParseDependency<'m, '_>) -> TargetKey<'m>
     ensures { target_of result ≡ (entry_of entry.now).target }

@@ -1,16 +1,29 @@
-use Rattle.std.proofs.Common.{◌≡◌, [], true, List, map, ap, subst, ◌∙◌}
+use Rattle.std.proofs.Common.{◌≡◌, true, List, map, ap, subst, ◌∙◌}
+use Rattle.cargo_toml_graph.specs.Action.{Text}
 use Rattle.cargo_toml_graph.specs.Admitted.{Listed, admitted}
+use Rattle.cargo_toml_manifest.specs.Manifests.{ManifestMeaning, manifest_meaning}
 use Rattle.cargo_toml_resolve.specs.declared.admit.TheConstants.{MAX_ITEMS}
+use Rattle.cargo_toml_resolve.specs.OwnBins.{own_of, requirement_of}
 use Rattle.cargo_toml_resolve.specs.Reading.{listed_of}
 use Rattle.cargo_toml_resolve.specs.Recorded.{Entry}
-use Rattle.cargo_toml_resolve.specs.Resolved.{table_of, IsAnswer}
-use Rattle.cargo_toml_resolve.specs.Views.{answer_of, entry_of, listed_in, normal_entries}
+use Rattle.cargo_toml_resolve.specs.Resolved.{table_of, Answer, IsAnswer}
+use Rattle.cargo_toml_resolve.specs.Views.{answer_of, entry_of}
+use Rattle.cargo_toml.specs.Parsed.{IsParsed, parsed_entries, requirements}
 use Rattle.cargo_toml.proofs.features.Resolver.parse.Goals as goal
+
+-- the answer for what stands in a manifest is the answer for the manifest
+parsed_from : {M : Type 0} (m : ManifestMeaning M) (fs : Listed) (es : List Entry) (rs : List (Text × Text)) (a : Answer) →
+    fs ≡ admitted MAX_ITEMS m.features → es ≡ parsed_entries m → rs ≡ requirements m →
+    IsAnswer (table_of fs es) fs es (own_of rs) (λ _. true) a → IsParsed m (λ _. true) a
+parsed_from m fs es rs a listed entries required is =
+    let by_rs : IsAnswer (table_of fs es) fs es (own_of (requirements m)) (λ _. true) a = subst (λ xs. IsAnswer (table_of fs es) fs es (own_of xs) (λ _. true) a) required is in
+    let by_es : IsAnswer (table_of fs (parsed_entries m)) fs (parsed_entries m) (own_of (requirements m)) (λ _. true) a = subst (λ xs. IsAnswer (table_of fs xs) fs xs (own_of (requirements m)) (λ _. true) a) entries by_rs in
+    subst (λ xs. IsAnswer (table_of xs (parsed_entries m)) xs (parsed_entries m) (own_of (requirements m)) (λ _. true) a) listed by_es
 
 pub returns-clause-resolved : goal.returns-clause-resolved
 returns-clause-resolved g c =
-    let listed : listed_of c.as_slice.result.now ≡ admitted MAX_ITEMS (listed_in c.args.manifest.now.features) = ap listed_of c.as_slice.ensures.value ∙ c.in_ok-listings.ensures.all in
-    let entries : map entry_of c.as_slice-2.result.now ≡ normal_entries c.args.manifest.now.dependencies = ap (map entry_of) c.as_slice-2.ensures.value ∙ c.in_ok-entries.ensures in
-    subst (λ (es : List Entry). IsAnswer (table_of (admitted MAX_ITEMS (listed_in c.args.manifest.now.features)) es) (admitted MAX_ITEMS (listed_in c.args.manifest.now.features)) es (λ _. []) (λ _. true) (answer_of c.in_ok-resolve.field-0)) entries
-    (subst (λ (fs : Listed). IsAnswer (table_of fs (map entry_of c.as_slice-2.result.now)) fs (map entry_of c.as_slice-2.result.now) (λ _. []) (λ _. true) (answer_of c.in_ok-resolve.field-0)) listed
-    c.in_ok-resolve.ensures.resolved)
+    parsed_from (manifest_meaning (λ m. m) c.args.manifest.now) (listed_of c.as_slice.result.now) (map entry_of c.as_slice-2.result.now) (map requirement_of c.as_slice-3.result.now) (answer_of c.in_ok-resolve.field-0)
+    (ap listed_of c.as_slice.ensures.value ∙ c.in_ok-listings.ensures.all)
+    (ap (map entry_of) c.as_slice-2.ensures.value ∙ c.in_ok-entries.ensures)
+    (ap (map requirement_of) c.as_slice-3.ensures.value ∙ c.in_ok-requirements.ensures)
+    c.in_ok-resolve.ensures.resolved

@@ -6,6 +6,7 @@ mod faults;
 mod features;
 mod manifests;
 mod packages;
+mod parsing;
 mod printing;
 mod values;
 mod written;

@@ -1,8 +1,9 @@
-use Rattle.std.proofs.Common.{◌≡◌, true, List, map, ap, subst, ◌∙◌}
+use Rattle.std.proofs.Common.{◌≡◌, true, List, map, ap, ap₂, subst, ◌∙◌}
 use Rattle.cargo_toml_graph.specs.Action.{Text}
 use Rattle.cargo_toml_graph.specs.Admitted.{Listed, admitted}
 use Rattle.cargo_toml_manifest.specs.Manifests.{ManifestMeaning, manifest_meaning}
 use Rattle.cargo_toml_resolve.specs.declared.admit.TheConstants.{MAX_ITEMS}
+use Rattle.cargo_toml_resolve.specs.Entries.{entries_of}
 use Rattle.cargo_toml_resolve.specs.OwnBins.{own_of, requirement_of}
 use Rattle.cargo_toml_resolve.specs.Reading.{listed_of}
 use Rattle.cargo_toml_resolve.specs.Recorded.{Entry}
@@ -24,6 +25,6 @@ pub returns-clause-resolved : goal.returns-clause-resolved
 returns-clause-resolved g c =
     parsed_from (manifest_meaning (λ m. m) c.args.manifest.now) (listed_of c.as_slice.result.now) (map entry_of c.as_slice-2.result.now) (map requirement_of c.as_slice-3.result.now) (answer_of c.in_ok-resolve.field-0)
     (ap listed_of c.as_slice.ensures.value ∙ c.in_ok-listings.ensures.all)
-    (ap (map entry_of) c.as_slice-2.ensures.value ∙ c.in_ok-entries.ensures)
+    (ap (map entry_of) c.as_slice-2.ensures.value ∙ c.in_ok-entries.ensures ∙ ap₂ (entries_of MAX_ITEMS) c.tables_of.ensures.own c.tables_of.ensures.targets)
     (ap (map requirement_of) c.as_slice-3.ensures.value ∙ c.in_ok-requirements.ensures)
     c.in_ok-resolve.ensures.resolved

@@ -44,7 +44,12 @@ fn first_entry_of_a_key(rt: HostRuntime) -> Result<(), Fail> {
     };
     assert_eq!(rt; recorded.targets.len(), 1);
     assert!(rt; recorded.targets.values().all(|dep| !dep.optional()));
-    assert!(rt; answer.features.get("d").is_some_and(|implied| !implied.explicit));
+    assert!(rt;
+        answer
+            .features
+            .get("d")
+            .is_some_and(|implied| !implied.explicit)
+    );
     assert_eq!(rt; answer.features.len(), 3);
     Ok(())
 }

@@ -19,10 +19,10 @@ each_with name (f ∷ fs) = ap (λ xs. (string_bytes f, name) ∷ xs) (each_with
 pub returns : goal.returns
 returns c =
     let named : c.unwrap_or-name.result.now ≡ unwrap_or (product_meaning c.args.bin.now).name c.args.package_name.now =
-        ap (λ (b : Bor Text). b.now) c.unwrap_or-name.ensures ∙ text_or c.as_deref.result c.args.package_name ∙ ap (λ o. unwrap_or o c.args.package_name.now) c.as_deref.ensures.value in
+    ap (λ (b : Bor Text). b.now) c.unwrap_or-name.ensures ∙ text_or c.as_deref.result c.args.package_name ∙ ap (λ o. unwrap_or o c.args.package_name.now) c.as_deref.ensures.value in
     let end : length c.deref-feature-items.result.now ≡ c.loop-feature.feature-index = omega (arith, c.loop-feature-test.false, c.loop-feature.auto.feature-index-end) in
     let all : take c.loop-feature.feature-index c.args.bin.now.required_features.items ≡ c.args.bin.now.required_features.items =
-        ap (λ n. take n c.args.bin.now.required_features.items) (sym end ∙ ap length c.deref-feature-items.ensures.value) ∙ take-length c.args.bin.now.required_features.items in
+    ap (λ n. take n c.args.bin.now.required_features.items) (sym end ∙ ap length c.deref-feature-items.ensures.value) ∙ take-length c.args.bin.now.required_features.items in
     c.loop-feature.invariant
     ∙ ap (λ fs. map requirement_of c.args.requirements.now.items ++ map {B = Text × Text} (λ f. (string_bytes f, c.unwrap_or-name.result.now)) fs) all
     ∙ ap (λ xs. map requirement_of c.args.requirements.now.items ++ xs) (each_with c.unwrap_or-name.result.now c.args.bin.now.required_features.items)

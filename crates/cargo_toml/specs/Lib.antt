@@ -1,5 +1,8 @@
--- what resolving a manifest answers
+-- what resolving a manifest answers, and by which filter
+pub mod Filtered
 pub mod Parsed
+-- what is left of a manifest that is lent on
+pub mod Lent
 -- a caller names each of these as a file of this crate
 pub use Rattle.cargo_toml_paths.specs.Paths
 pub use Rattle.cargo_toml_parts.specs.Answers
@@ -67,8 +70,12 @@ pub use Rattle.cargo_toml_graph.specs.Removal
 pub use Rattle.cargo_toml_graph.specs.Redirects
 pub use Rattle.cargo_toml_graph.specs.Bins
 pub use Rattle.cargo_toml_graph.specs.Recursive
+pub use Rattle.cargo_toml_graph.specs.Kept
 pub use Rattle.cargo_toml_graph.specs.Admitted
+pub use Rattle.cargo_toml_hidden.specs.Filter
+pub use Rattle.cargo_toml_resolve.specs.Agreement
 pub use Rattle.cargo_toml_resolve.specs.Entries
+pub use Rattle.cargo_toml_resolve.specs.FirstTarget
 pub use Rattle.cargo_toml_resolve.specs.OwnBins
 pub use Rattle.cargo_toml_resolve.specs.Hashed
 pub use Rattle.cargo_toml_resolve.specs.Recorded

@@ -21,9 +21,7 @@ requirements_by name b = map (λ f. (f, unwrap_or b.name name)) b.required_featu
 -- the answer for features in byte order of their names, these entries and what binaries require, where the names are kept
 -- that `keep` tells
 abbrev pub IsAnswerFor : Listed → List Entry → (Text → List Text) → (Text → Bool) → Answer → Type 0
-IsAnswerFor listed entries own keep a =
-    let features = admitted MAX_ITEMS listed in
-    IsAnswer (table_of features entries) features entries own keep a
+IsAnswerFor listed entries own keep a = IsAnswer (admitted MAX_ITEMS listed) entries own keep a
 
 module _ {M : Type 0} (m : ManifestMeaning M) where
   -- the dependencies that count, in their order

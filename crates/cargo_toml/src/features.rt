@@ -1,18 +1,27 @@
 //! What the features of a manifest enable, and which features enable them.
-ghost use Rattle.std.specs.Prelude.{◌≡◌, [], true, map, IfOk, IfErr};
+ghost use Rattle.std.specs.Prelude.{◌≡◌, [], Bool, List, None, Some, map, true, IfOk, IfErr, IsSome};
 ghost use Rattle.cargo_toml_parts.specs.declared.error.Error.{Memory};
 ghost use Rattle.cargo_toml_parts.specs.Reads.{map_meaning};
 ghost use Rattle.cargo_toml_dependencies.specs.Targets.{target_meaning};
 ghost use Rattle.cargo_toml_manifest.specs.Inheriting.{own_tables};
 ghost use Rattle.cargo_toml_manifest.specs.Manifests.{manifest_meaning};
+ghost use Rattle.cargo_toml_graph.specs.Action.{Text};
 ghost use Rattle.cargo_toml_graph.specs.Admitted.{Listed};
+ghost use Rattle.cargo_toml_graph.specs.Kept.{KeepsEnabling, LosesNothing, NoneIsLeft};
+ghost use Rattle.cargo_toml_hidden.specs.Filter.{HasNameFilter, IsNameFilter, Tells};
+ghost use Rattle.cargo_toml_resolve.specs.Agreement.{Agree};
 ghost use Rattle.cargo_toml_resolve.specs.Entries.{tables_meaning};
+ghost use Rattle.cargo_toml_resolve.specs.FirstTarget.{HaveTargets};
 ghost use Rattle.cargo_toml_resolve.specs.Hashed.{IsListingOf};
 ghost use Rattle.cargo_toml_resolve.specs.Reached.{IsKeyed};
+ghost use Rattle.cargo_toml_resolve.specs.Resolved.{Answer};
 ghost use Rattle.cargo_toml_resolve.specs.Views.{answer_of, entry_of};
+ghost use Rattle.cargo_toml.specs.Filtered.{filter_of};
 ghost use Rattle.cargo_toml.specs.Parsed.{IsAnswerFor, IsParsed};
 
+pub use crate::complete_and_parse::complete_and_parse_into;
 use crate::requirements::requirements;
+use cargo_toml_hidden::resolve;
 use cargo_toml_manifest::Manifest;
 use cargo_toml_parts::Error;
 use cargo_toml_resolve::admit::{MAX_ITEMS, hashed_listings, listings};
@@ -22,7 +31,6 @@ pub use cargo_toml_resolve::features::{
 };
 pub use cargo_toml_resolve::questions::NonDefaultEnabledBy;
 pub use cargo_toml_resolve::recursive::DependenciesEnabledByFeatures;
-use cargo_toml_resolve::resolve;
 use std::alloc::Global;
 use std::collections::HashMap;
 use std::hash::{BuildHasher, BuildHasherDefault, FoldHasher};
@@ -37,8 +45,10 @@ pub struct Resolver<'config, F, S> {
 }
 
 impl Resolver<'static, fn(&str) -> bool, BuildHasherDefault<FoldHasher>> {
-    /// A resolver with the fixed state of hashed maps and no filter.
-    pub fn new() -> Self {
+    /// A resolver with the fixed state of hashed maps and no filter: all features whose names begin with `_` are removed.
+    pub fn new() -> Self
+        ensures unfiltered { filter_of result ≡ None }
+    {
         Resolver {
             should_keep_hidden_feature: None,
             state: BuildHasherDefault::new(),
@@ -46,7 +56,23 @@ impl Resolver<'static, fn(&str) -> bool, BuildHasherDefault<FoldHasher>> {
     }
 }
 
-impl<'config, F, S: BuildHasher + Clone> Resolver<'config, F, S> {
+impl<'config, F: Fn(&str) -> bool, S> Resolver<'config, F, S> {
+    /// A resolver with this state of hashed maps and this filter, which is asked for names that begin with `_`: features for
+    /// which it answers false are removed.
+    ///
+    /// The filter may be called on every text, and answers each in one way. How often it is asked, and in which order, is open.
+    pub fn new_with_hasher_and_filter(state: S, should_keep_hidden_feature: &'config F) -> Self
+        requires { IsNameFilter F.Fn should_keep_hidden_feature.now }
+        ensures kept { filter_of result ≡ Some should_keep_hidden_feature.entry }
+    {
+        Resolver {
+            should_keep_hidden_feature: Some(should_keep_hidden_feature),
+            state,
+        }
+    }
+}
+
+impl<'config, F: Fn(&str) -> bool, S: BuildHasher + Clone> Resolver<'config, F, S> {
     /// Resolves the features of a manifest, as Cargo understands `[features]` and optional dependencies.
     ///
     /// The answer has the features that the manifest lists, and `default`, each with what its list names and what it does
@@ -60,9 +86,18 @@ impl<'config, F, S: BuildHasher + Clone> Resolver<'config, F, S> {
     /// default features off, and those that it lists.
     ///
     /// Of the table of features the first 2048 names in byte order count, and `default`; of each list the first 2048 texts; of
-    /// each table of dependencies the first 2048 keys. No feature is removed, whatever its name: `removed_hidden_features`
-    /// is false and `hidden_features` empty. Every text is borrowed from the manifest. Each feature stands under its own
-    /// key, as [`Feature::enables_recursive`] asks.
+    /// each table of dependencies the first 2048 keys. Every text is borrowed from the manifest. Each feature stands under its
+    /// own key, as [`Feature::enables_recursive`] asks, and each dependency has a target, as [`FeatureDependency::dep`] asks.
+    ///
+    /// Features whose names begin with `_` are then removed, but for those that the filter keeps. What a removed feature says,
+    /// those that enable it say in its place, through any number of removed ones: they name what it names and act as it acts,
+    /// and are enablers of what it enables. Its first ten binaries require each feature that it then names.
+    /// `removed_hidden_features` tells whether some feature was removed, and `hidden_features` has a set for each: what it
+    /// names, where smaller removed names are replaced by what they stand for.
+    ///
+    /// Beside an answer of a filter that keeps every name: between features of this answer the transitive closure of
+    /// `enabled_by` is the same, and what [`Feature::enables_recursive`] tells of one of them loses no feature of this answer
+    /// and no dependency. No name of a removed feature is left in `enables_features` or `enabled_by`.
     ///
     /// The one refusal is [`Error::Memory`], where there was no room for the answer.
     pub fn parse<'m, M>(
@@ -70,8 +105,17 @@ impl<'config, F, S: BuildHasher + Clone> Resolver<'config, F, S> {
         alloc: Global,
         manifest: &'m Manifest<M>,
     ) -> Result<Features<'m, 'm, S>, Error>
-        ensures resolved { IfOk result (λ a. IsParsed (manifest_meaning (λ m. m) manifest.now) (λ _. true) (answer_of a)) }
+        requires { HasNameFilter F.Fn (filter_of self.now) }
+        ensures resolved { IfOk result (λ a. (keep : Text → Bool) → Tells F.Fn (filter_of self.now) keep →
+            IsParsed (manifest_meaning (λ m. m) manifest.now) keep (answer_of a)) }
+        ensures no_removed_name { IfOk result (λ a. (keep : Text → Bool) → Tells F.Fn (filter_of self.now) keep →
+            NoneIsLeft (λ r. IsSome ((answer_of a).redirects r)) (answer_of a).resolution) }
+        ensures closure { IfOk result (λ a. (keep : Text → Bool) (full : Answer) → Tells F.Fn (filter_of self.now) keep →
+            IsParsed (manifest_meaning (λ m. m) manifest.now) (λ _. true) full → KeepsEnabling full.resolution (answer_of a).resolution) }
+        ensures nothing_lost { IfOk result (λ a. (keep : Text → Bool) (full : Answer) → Tells F.Fn (filter_of self.now) keep →
+            IsParsed (manifest_meaning (λ m. m) manifest.now) (λ _. true) full → LosesNothing full.resolution (answer_of a).resolution) }
         ensures keyed { IfOk result (λ a. IsKeyed a.features) }
+        ensures targets { IfOk result (λ a. HaveTargets a.dependencies) }
         ensures refused { IfErr result (λ e. e ≡ Memory) }
     {
         let listings = listings(alloc, &manifest.features, MAX_ITEMS)?;
@@ -80,6 +124,7 @@ impl<'config, F, S: BuildHasher + Clone> Resolver<'config, F, S> {
         Ok(resolve(
             alloc,
             &self.state,
+            self.should_keep_hidden_feature,
             listings.as_slice(),
             entries.as_slice(),
             requirements.as_slice(),
@@ -89,7 +134,7 @@ impl<'config, F, S: BuildHasher + Clone> Resolver<'config, F, S> {
     /// Resolves features and dependencies that stand in no manifest, as those of a registry's index.
     ///
     /// It answers as [`Resolver::parse`] does of the same features and of these entries in their order, of which each counts,
-    /// however many there are; no binary requires a feature. The walk of the hashed table changes nothing: of its names the
+    /// however many there are, in all but one point: no binary requires a feature. The walk of the hashed table changes nothing: of its names the
     /// first 2048 in byte order count, and `default`. Features borrow from the table and from the entries' keys, dependencies
     /// from the entries.
     ///
@@ -100,13 +145,21 @@ impl<'config, F, S: BuildHasher + Clone> Resolver<'config, F, S> {
         features: &'m HashMap<String, Vec<String>, S2>,
         dependencies: &[ParseDependency<'m, 'd>],
     ) -> Result<Features<'m, 'd, S>, Error>
-        ensures resolved { IfOk result (λ a. (listed : Listed) → IsListingOf features.now listed →
-            IsAnswerFor listed (map entry_of dependencies.now) (λ _. []) (λ _. true) (answer_of a)) }
+        requires { HasNameFilter F.Fn (filter_of self.now) }
+        ensures resolved { IfOk result (λ a. (keep : Text → Bool) (listed : Listed) → Tells F.Fn (filter_of self.now) keep →
+            IsListingOf features.now listed → IsAnswerFor listed (map entry_of dependencies.now) (λ _. []) keep (answer_of a)) }
+        ensures agreement { IfOk result (λ b. (keep : Text → Bool) (listed : Listed) → Tells F.Fn (filter_of self.now) keep →
+            IsListingOf features.now listed → (own : Text → List Text) (a : Answer) →
+            IsAnswerFor listed (map entry_of dependencies.now) own keep a → Agree a (answer_of b)) }
+        ensures listed { IfOk result (λ _. (listed : Listed) × IsListingOf features.now listed) }
         ensures keyed { IfOk result (λ a. IsKeyed a.features) }
+        ensures targets { IfOk result (λ a. HaveTargets a.dependencies) }
         ensures refused { IfErr result (λ e. e ≡ Memory) }
     {
         let listings = hashed_listings(alloc, features, MAX_ITEMS)?;
-        Ok(resolve(alloc, &self.state, listings.as_slice(), dependencies, &[])?)
+        let filter = self.should_keep_hidden_feature;
+        let listings = listings.as_slice();
+        Ok(resolve(alloc, &self.state, filter, listings, dependencies, &[])?)
     }
 }
 

@@ -4,6 +4,7 @@
 //! says what their contracts rest on.
 #![tactic(auto)]
 
+mod complete_and_parse;
 pub mod features;
 mod requirements;
 

@@ -2,7 +2,10 @@ pub mod Gathering
 pub mod Entries
 pub mod Unreferenced
 pub mod Enabling
+pub mod MemberFeatures
 mod Rewriting
 pub mod ToldAt
 pub mod RootTold
 pub mod Texts
+mod Filters
+mod Kept

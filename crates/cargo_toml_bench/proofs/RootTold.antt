@@ -7,7 +7,7 @@ use Rattle.toml.specs.Parse.{parse_document}
 use Rattle.cargo_toml.specs.Error.{Error, Memory}
 use Rattle.cargo_toml.specs.Manifests.{ManifestMeaning, manifest_reads}
 use Rattle.cargo_toml.specs.Texts.{any_tree, document_reads}
-use Rattle.cargo_toml.specs.Told.{ToldRoot, root, no_root, ReadsRoot, IsRootIn}
+use Rattle.cargo_toml.specs.Told.{root, no_root, ReadsRoot}
 use Rattle.cargo_toml_bench.specs.InMemory.{told_manifest, told_bytes}
 
 abbrev Is : {A : Type 0} → Option A → Type 0

@@ -4,3 +4,4 @@ pub mod Reports
 pub mod Enabled
 pub mod Rewriting
 pub mod InMemory
+pub mod Members

@@ -8,7 +8,8 @@ ghost use Rattle.cargo_toml.specs.Views.{table_in, value_at};
 ghost use Rattle.cargo_toml_bench.specs.Enabled.{IsAnswered, IsAnsweredFrom};
 ghost use Rattle.cargo_toml_bench.specs.Printing.{Refuses};
 
-use cargo_toml::features::{DependenciesEnabledByFeatures, Feature, Features, Resolver};
+use crate::whole::resolve_whole;
+use cargo_toml::features::{DependenciesEnabledByFeatures, Feature, Features};
 use cargo_toml::{Error, Manifest};
 use std::alloc::Global;
 use std::collections::HashMap;
@@ -62,7 +63,7 @@ pub fn enables<M>(
     ensures answer { IfOk result (IsAnswered (manifest_meaning (λ m. m) manifest.now) name.now other.now) }
     ensures refused { IfErr result (λ e. e ≡ Error.Memory) }
 {
-    let resolved = Resolver::new().parse(alloc, manifest)?;
+    let resolved = resolve_whole(alloc, manifest)?;
     let Some(feature) = resolved.features.get(name) else {
         return Ok(false);
     };

@@ -4,5 +4,7 @@
 pub mod completing;
 pub mod enabled;
 pub mod in_memory;
+pub mod members;
 pub mod report;
 pub mod round_trip;
+pub mod whole;

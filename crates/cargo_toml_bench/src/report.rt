@@ -16,7 +16,8 @@ ghost use Rattle.cargo_toml.specs.Views.{has_text};
 ghost use Rattle.cargo_toml_bench.specs.Alone.{is_alone_at};
 ghost use Rattle.cargo_toml_bench.specs.Reports.{texts, optional_keys, AreUnreferenced};
 
-use cargo_toml::features::{Feature, Resolver};
+use crate::whole::resolve_whole;
+use cargo_toml::features::Feature;
 use cargo_toml::{DepsSet, Error, Manifest};
 pub use print::print_report;
 use std::alloc::{AllocError, Global};
@@ -74,7 +75,7 @@ pub fn unreferenced_features<'m, M>(
         (parsed_table (manifest_meaning (λ m. m) manifest.now)) (texts v)) }
     ensures refused { IfErr result (λ e. e ≡ Memory) }
 {
-    let resolved = Resolver::new().parse(alloc, manifest)?;
+    let resolved = resolve_whole(alloc, manifest)?;
     let names = unreferenced_names(alloc, &resolved.features)?;
     Ok(in_order(alloc, &names)?)
 }

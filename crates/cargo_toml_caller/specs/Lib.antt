@@ -1,1 +1,3 @@
 pub mod Audiences
+pub mod FirstDependencies
+pub mod CustomFeatures

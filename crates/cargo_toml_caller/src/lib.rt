@@ -2,6 +2,8 @@
 #![tactic(auto)]
 
 pub mod audience;
+pub mod custom;
+pub mod dependencies;
 #[cfg(test)]
 mod tests;
 

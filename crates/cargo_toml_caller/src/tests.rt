@@ -1,7 +1,12 @@
 //! Metadata of a caller's own, read and written, and the faults that they tell.
 use super::*;
+use crate::custom::is_named;
+use crate::dependencies::{is_optional_at, kind_from};
 use cargo_toml::SemVer;
+use cargo_toml::features::Kind;
 use std::alloc::AllocError;
+use std::collections::HashMap;
+use std::hash::{BuildHasherDefault, FoldHasher};
 use std::test::Fail;
 
 // Values behind pointers. Of what a function owns itself each field is looked at wherever the function may end, when it is
@@ -64,5 +69,32 @@ fn faults_of_writing(rt: HostRuntime) -> Result<(), Fail> {
         workspace.metadata = Some(Audience::Undecided);
     }
     assert!(rt; is_undecided(&write_manifest(alloc, &*manifest)));
+    Ok(())
+}
+
+// The key `a` stands among the dependencies of tests, and before those in the build dependencies of a platform.
+#[test]
+fn first_dependencies(rt: HostRuntime) -> Result<(), Fail> {
+    let alloc = rt.alloc();
+    let text =
+        b"[features]\nf = [\"a/x\"]\n[dev-dependencies]\na = \"1\"\n[target.'cfg(unix)'.build-dependencies]\na = { version = \"2\", optional = true }\n";
+    assert_eq!(rt; kind_from(alloc, text, "a")?, Some(Kind::Build));
+    assert_eq!(rt; kind_from(alloc, text, "x")?, None);
+    let manifest = manifest(alloc, text)?;
+    assert_eq!(rt; is_optional_at(alloc, &*manifest, "a")?, Some(true));
+    assert_eq!(rt; is_optional_at(alloc, &*manifest, "f")?, None);
+    Ok(())
+}
+
+#[test]
+fn names_of_a_table(rt: HostRuntime) -> Result<(), Fail> {
+    let alloc = rt.alloc();
+    let mut table: HashMap<String, Vec<String>, BuildHasherDefault<FoldHasher>> =
+        HashMap::with_hasher(alloc, BuildHasherDefault::new());
+    let mut actions = Vec::new(alloc);
+    actions.push(String::from_str(alloc, "g")?)?;
+    table.insert(String::from_str(alloc, "f")?, actions)?;
+    assert!(rt; is_named(alloc, &table, &[], "f", "g")?);
+    assert!(rt; !is_named(alloc, &table, &[], "g", "f")?);
     Ok(())
 }

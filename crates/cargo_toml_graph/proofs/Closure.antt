@@ -1,10 +1,11 @@
 -- Between kept features, what enables what at last is as it was before anything was removed.
-use Rattle.std.proofs.Common.{◌≡◌, ◌⊎◌, Bool, false, IsTrue, IsFalse, refl, sym, subst, inl, inr, ◌∙◌}
+use Rattle.std.proofs.Common.{◌≡◌, ◌⊎◌, Bool, false, IsTrue, refl, sym, subst, inl, inr, ◌∙◌}
 use Rattle.std.proofs.lemmas.Bool.{false≢true, cases_Bool, false_from_ne_true}
 use Rattle.cargo_toml_graph.specs.Action.{Text}
 use Rattle.cargo_toml_graph.specs.Reach.{Reaches}
 use Rattle.cargo_toml_graph.specs.Reach.Reaches.{edge, through}
 use Rattle.cargo_toml_graph.specs.Graph.{Table, Edge, Resolution, IsKept, IsResolved, IsUnremoved, EnablesAtLast}
+use Rattle.cargo_toml_graph.specs.Kept.{NoneIsLeft}
 
 pub chained : {K : Type 0} {E : K → K → Type 0} (S : K → Type 0) {a b c : K} → Reaches E S a b → S b → Reaches E S b c → Reaches E S a c
 chained S (edge e) s q = through e s q
@@ -57,11 +58,10 @@ module _ (t : Table) (removed : Text → Bool) (full m : Resolution) (u : IsUnre
       let first : IsTrue (m.enabled_by f.0 a) = (h.enabled_by f.0 a f.1).1 (ka, f.2) in
       elim (f.3) [ inl i ↦ subst (λ v. EnablesAtLast m a v) i (edge first) | inr q ↦ through first ((h.kept f.0).1 f.1) q ]
 
-pub none_left : (t : Table) (removed : Text → Bool) (m : Resolution) → IsResolved t (λ v. IsTrue (removed v)) m → (f r : Text) → IsTrue (m.table.has f) → IsTrue (removed r)
-    → IsFalse (m.table.has r) × IsFalse (m.table.names f r) × IsFalse (m.enabled_by f r)
-none_left t removed m h f r there gone =
-    let k = (h.kept f).0 there in (
-      false_from_ne_true _ (λ y. ((h.kept r).0 y).1 gone),
-      false_from_ne_true _ (λ y. ((h.names f r k).0 y).1 gone),
-      false_from_ne_true _ (λ y. ((h.enabled_by f r k).0 y).0.1 gone),
-    )
+-- no removed name is left
+pub none_left : (t : Table) (removed : Text → Bool) (m : Resolution) → IsResolved t (λ v. IsTrue (removed v)) m → NoneIsLeft (λ v. IsTrue (removed v)) m
+none_left t removed m h = record {
+  features = λ r gone. false_from_ne_true _ (λ y. ((h.kept r).0 y).1 gone);
+  names = λ f r there gone. false_from_ne_true _ (λ y. ((h.names f r ((h.kept f).0 there)).0 y).1 gone);
+  enabled_by = λ f r there gone. false_from_ne_true _ (λ y. ((h.enabled_by f r ((h.kept f).0 there)).0 y).0.1 gone);
+}

@@ -11,6 +11,7 @@ pub mod Elimination
 pub mod Settled
 pub mod Closure
 pub mod NothingLost
+pub mod AgainstAll
 pub mod BinLists
 pub mod PassedBins
 pub mod RedirectsInOrder

@@ -5,5 +5,6 @@ pub mod Removal
 pub mod Redirects
 pub mod Bins
 pub mod Recursive
+pub mod Kept
 pub mod Admitted
 pub mod Examples

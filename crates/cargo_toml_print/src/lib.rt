@@ -13,11 +13,12 @@ use cargo_toml::{Error, Manifest};
 pub use completion::print_complete;
 use items::{separate, write_none};
 use std::alloc::Global;
-use std::collections::{BTreeMap, BTreeSet};
+use std::collections::{BTreeMap, BTreeSet, HashMap};
 use std::hash::BuildHasher;
 use std::io::{Read, Write};
 
-/// Reads a manifest from `input` and writes a line for each of its features to `output`.
+/// Reads a manifest from `input` and writes to `output` a line for each of its features, and then one for each that is removed
+/// since it is hidden.
 ///
 /// Refuses as `Manifest::from_slice` does, with `Io` where `input` can't be read or `output` can't be written, and with `Memory`
 /// for want of memory. Nothing is written before all lines stand, so that a fault of the manifest leaves `output` as it was.
@@ -43,20 +44,55 @@ fn lines_of(alloc: Global, bytes: &[u8]) -> Result<String, Error> {
     feature_lines(alloc, &features)
 }
 
-/// A line for each feature, in byte order of their names.
-fn feature_lines<S: BuildHasher>(
+/// The lines that the program prints of resolved features: one for each feature, and then one for each that was removed with
+/// what stands for it, both in byte order of their names. It fails only where memory runs out.
+pub fn feature_lines<S: BuildHasher>(
     alloc: Global,
     features: &Features<'_, '_, S>,
 ) -> Result<String, Error> {
-    let mut names: Vec<&str> = features.features.keys().copied().collect(alloc)?;
-    names.sort()?;
     let mut text = String::new(alloc);
+    write_features(alloc, &mut text, &features.features)?;
+    write_hidden(alloc, &mut text, &features.hidden_features)?;
+    Ok(text)
+}
+
+fn write_features<S: BuildHasher>(
+    alloc: Global,
+    text: &mut String,
+    features: &HashMap<&str, Feature<'_>, S>,
+) -> Result<(), Error> {
+    let mut names: Vec<&str> = features.keys().copied().collect(alloc)?;
+    names.sort()?;
     for name in names {
-        if let Some(feature) = features.features.get(name) {
-            write_feature(&mut text, feature)?;
+        if let Some(feature) = features.get(name) {
+            write_feature(text, feature)?;
         }
     }
-    Ok(text)
+    Ok(())
+}
+
+fn write_hidden<S: BuildHasher>(
+    alloc: Global,
+    text: &mut String,
+    hidden: &HashMap<&str, BTreeSet<&str>, S>,
+) -> Result<(), Error> {
+    let mut names: Vec<&str> = hidden.keys().copied().collect(alloc)?;
+    names.sort()?;
+    for name in names {
+        if let Some(stands_for) = hidden.get(name) {
+            write_redirect(text, name, stands_for)?;
+        }
+    }
+    Ok(())
+}
+
+fn write_redirect(text: &mut String, name: &str, stands_for: &BTreeSet<&str>) -> Result<(), Error> {
+    text.push_str("hidden ")?;
+    text.push_str(name)?;
+    text.push_str(" | ")?;
+    write_set(text, stands_for)?;
+    text.push_str("\n")?;
+    Ok(())
 }
 
 fn write_feature(text: &mut String, feature: &Feature<'_>) -> Result<(), Error> {

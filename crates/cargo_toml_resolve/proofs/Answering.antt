@@ -1,19 +1,15 @@
--- From the features that are read to the whole answer, where nothing is removed.
-use Rattle.std.proofs.Common.{◌≡◌, ◌⊎◌, ◌↔◌, ◌&&◌, ◌||◌, not, Bool, true, false, cond, List, [], ◌++◌, map, Option, Some, None, IsTrue, IfSome, is_some, option_map, bytes_eq, Bor, refl, sym, ap, ap₂, subst, inl, inr, ◌∙◌}
-use Rattle.std.proofs.Math.Bool.{and-false}
+-- From the features that are read to all that are resolved, before any is removed.
+use Rattle.std.proofs.Common.{◌≡◌, ◌⊎◌, ◌&&◌, ◌||◌, not, Bool, true, false, cond, List, [], ◌++◌, map, Option, Some, None, IsTrue, IfSome, is_some, option_map, bytes_eq, Bor, refl, sym, ap, ap₂, subst, inl, inr, ◌∙◌}
 use Rattle.std.proofs.lemmas.Bool.{false≢true, false_from_ne_true, or_cases, or_left, or_right, and_parts, and_from}
-use Rattle.std.proofs.lemmas.List.{append-nil}
 use Rattle.std.proofs.lemmas.Slice.Eq.{bytes_eq-Decides}
 use Rattle.std.specs.HashMap.{HashMap}
 use Rattle.std.specs.List.{list_any}
-use Rattle.std.specs.Map.{lookup}
 use Rattle.std.specs.Option.{option_map_or}
 use Rattle.cargo_toml_resolve.specs.declared.features.Feature.{Feature}
 use Rattle.cargo_toml_resolve.specs.declared.features.Features.{Features}
 use Rattle.cargo_toml_resolve.specs.declared.read.Mentions.{Mentions}
 use Rattle.cargo_toml_graph.specs.Action.{Text, Action}
-use Rattle.cargo_toml_graph.specs.Admitted.{Listed, is_explicit, is_below, joined_action}
-use Rattle.cargo_toml_graph.specs.Bins.{HasBins}
+use Rattle.cargo_toml_graph.specs.Admitted.{Listed, is_explicit, joined_action}
 use Rattle.cargo_toml_resolve.specs.Enabling.{is_plain, leads, leads_at, Relates, Enabled, EnabledAll}
 use Rattle.cargo_toml_graph.specs.Graph.{Table, Resolution, Edge, IsPlain, IsUnremoved}
 use Rattle.cargo_toml_resolve.specs.Implying.{Becomes, ImpliesAll, is_optional_at, is_offered}
@@ -22,13 +18,10 @@ use Rattle.cargo_toml_resolve.specs.Requiring.{Required, RequiredAll}
 use Rattle.cargo_toml_resolve.specs.Recorded.{Entry, Recorded, is_mentioned, is_reserved, entries_at, recorded_of, first_target, without_redundant}
 use Rattle.cargo_toml_resolve.specs.Recording.{recorded_at, is_mentioned_in}
 use Rattle.cargo_toml_resolve.specs.Redundant.{IsRecordOf, Thinned, ThinnedAll}
-use Rattle.cargo_toml_graph.specs.Redirects.{RedirectsTo}
-use Rattle.cargo_toml_graph.specs.Removal.{is_removed}
 use Rattle.cargo_toml_resolve.specs.Reached.{IsKeyed}
-use Rattle.cargo_toml_resolve.specs.Resolved.{table_of, plain, SameRecorded, IsAnswer}
-use Rattle.cargo_toml_resolve.specs.Views.{has_text, action_at, value_at, table_in, resolution_of, answer_of}
+use Rattle.cargo_toml_resolve.specs.Resolved.{table_of, plain, SameRecorded}
+use Rattle.cargo_toml_resolve.specs.Views.{has_text, action_at, value_at, table_in, resolution_of}
 use Rattle.cargo_toml_resolve.proofs.TextKeys.{none_in}
-use Rattle.cargo_toml_graph.proofs.Unremoved.{resolved_unremoved}
 
 -- tables that say the same
 record Same (t u : Table) : Type 0 where
@@ -308,23 +301,6 @@ module _ {S : Type 0} (own : Text → List Text) (old new : HashMap (Bor Text) F
       go (Some a) None r m = absurd r
       go (Some a) (Some b) r m = ap (λ q. q.now) r.key ∙ m
 
--- nothing is removed
-module _ (t : Table) where
-  abbrev Removed : Text → Type 0
-  Removed f = IsTrue (is_removed t (λ _. true) f)
-
-  kept_all : (f : Text) → is_removed t (λ _. true) f ≡ false
-  kept_all f = and-false _
-
-  none_removed : (f : Text) → ¬ Removed f
-  none_removed f r = false≢true (sym (kept_all f) ∙ r)
-
-  own_bins : (own : Text → List Text) (f : Text) (bins : List Text) → bins ≡ own f → HasBins t Removed own f bins
-  own_bins own f bins e = record {
-    lists = record { passed = []; whole = e ∙ sym (append-nil (own f)); once = tt; fresh = λ x a. absurd a; cause = λ x a. absurd a };
-    direct = λ r x removed. absurd (none_removed r removed);
-  }
-
 same_recorded : (a b : Option Recorded) → a ≡ b → SameRecorded a b
 same_recorded a b e = subst (SameRecorded a) e (own a)
   where
@@ -404,7 +380,7 @@ module _ {S H : Type 0} (listed : Listed) (entries : List Entry) (own : Text →
       go None s = refl
       go (Some v) s = none_in v.enabled_by (fresh_still f v s).enabled_by e
 
-  whole : IsUnremoved t (resolution_of a.features)
+  pub whole : IsUnremoved t (resolution_of a.features)
   whole = unremoved_required own enabled a.features b t (unremoved_alike (table_in implied) t (resolution_of enabled) same
       (unremoved implied enabled (enablers_after (is_offered mentions.acted entries) thinned implied i no_enablers) e))
 
@@ -432,26 +408,19 @@ module _ {S H : Type 0} (listed : Listed) (entries : List Entry) (own : Text →
   told : (f : Text) → IfSome (value_at a.features f) (IsTold f (is_explicit listed f) (own f))
   told f = told_required own enabled a.features b f (is_explicit listed f) (marked f)
 
-  pub answers : IsAnswer t listed entries own (λ _. true) (answer_of a)
-  answers = record {
-    resolved = resolved_unremoved t (resolution_of a.features) (Removed t) (none_removed t) whole;
-    keyed = λ f. keyed_at f (value_at a.features f) (told f);
-    explicit = λ f. explicit_at f (value_at a.features f) (told f);
-    bins = λ f has. own_bins t own f _ (bins_at f (value_at a.features f) (told f) has);
-    dependencies = λ k. same_recorded (recorded_at a.dependencies k) (recorded_of (entries_at listed entries k)) (recorded mentioned k);
-    redirected = λ f. ap (λ es. is_some (option_map has_text (lookup (λ (k : Bor Text). bytes_eq f k.now) es))) hidden ∙ sym (kept_all t f);
-    redirects = λ f. subst (λ es. IfSome (option_map has_text (lookup (λ (k : Bor Text). bytes_eq f k.now) es)) (λ names. (x : Text) → IsTrue (names x) ↔ RedirectsTo t (Removed t) (λ s b. IsTrue (is_below s b)) f x)) (sym hidden) tt;
-    some = (λ y. absurd (false≢true (sym removed ∙ y)), λ f. absurd (none_removed t f.0 f.1));
-  }
+  pub explicit_told : (f : Text) → IfSome (value_at a.features f) (λ v. v.explicit ≡ is_explicit listed f)
+  explicit_told f = go (value_at a.features f) (told f)
     where
-      keyed_at : (f : Text) (o : Option Feature) → IfSome o (IsTold f (is_explicit listed f) (own f)) → IfSome (option_map (λ v. v.key.now) o) (λ k. k ≡ f)
-      keyed_at f None m = tt
-      keyed_at f (Some v) m = m.key
+      go : (o : Option Feature) → IfSome o (IsTold f (is_explicit listed f) (own f)) → IfSome o (λ v. v.explicit ≡ is_explicit listed f)
+      go None k = tt
+      go (Some v) k = k.explicit
 
-      explicit_at : (f : Text) (o : Option Feature) → IfSome o (IsTold f (is_explicit listed f) (own f)) → IsTrue (is_some o) → option_map_or (λ v. v.explicit) o false ≡ is_explicit listed f
-      explicit_at f None m has = absurd (false≢true has)
-      explicit_at f (Some v) m has = m.explicit
+  pub bins_told : (f : Text) → IfSome (value_at a.features f) (λ v. map (λ b. b.now) v.required_by_bins.items ≡ own f)
+  bins_told f = go (value_at a.features f) (told f)
+    where
+      go : (o : Option Feature) → IfSome o (IsTold f (is_explicit listed f) (own f)) → IfSome o (λ v. map (λ b. b.now) v.required_by_bins.items ≡ own f)
+      go None k = tt
+      go (Some v) k = k.bins
 
-      bins_at : (f : Text) (o : Option Feature) → IfSome o (IsTold f (is_explicit listed f) (own f)) → IsTrue (is_some o) → option_map_or (λ v. map (λ t. t.now) v.required_by_bins.items) o [] ≡ own f
-      bins_at f None m has = absurd (false≢true has)
-      bins_at f (Some v) m has = m.bins
+  pub dependencies_told : (k : Text) → SameRecorded (recorded_at a.dependencies k) (recorded_of (entries_at listed entries k))
+  dependencies_told k = same_recorded (recorded_at a.dependencies k) (recorded_of (entries_at listed entries k)) (recorded mentioned k)

@@ -1,5 +1,5 @@
 -- The first entries of a table, one after another.
-use Rattle.std.proofs.Common.{arith, ◌≡◌, ◌+◌, ℕ, suc, List, ◌∷◌, Option, refl, subst}
+use Rattle.std.proofs.Common.{arith, ◌≡◌, ◌+◌, ℕ, suc, ◌∷◌, Option, refl, subst}
 use Rattle.cargo_toml_dependencies.specs.Dependencies.{DependencyMeaning}
 use Rattle.cargo_toml_dependencies.specs.Inheriting.{Entries}
 use Rattle.cargo_toml_resolve.specs.declared.features.Kind.{Kind}

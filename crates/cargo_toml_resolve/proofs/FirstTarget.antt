@@ -1,6 +1,7 @@
 -- The first of a dependency's targets, by the order of their keys, is the first target of the entries that were recorded.
-use Rattle.std.proofs.Common.{◌≡◌, Ordering, Less, Equal, Greater, Bool, true, false, cond, List, [], ◌∷◌, fold, find, Option, Some, None, option_map, is_some, Bor, refl, sym, ap, ap₂, subst, ◌∙◌}
+use Rattle.std.proofs.Common.{◌≡◌, ◌<◌, Ordering, Less, Equal, Greater, Bool, true, false, cond, List, [], ◌∷◌, fold, find, length, Option, Some, None, option_map, is_some, IsSome, IfSome, Bor, bytes_eq, refl, sym, ap, ap₂, subst, arith, ◌∙◌}
 use Rattle.std.proofs.lemmas.Bool.{false≢true, false_from_ne_true}
+use Rattle.std.proofs.lemmas.Map.Views.{All-values_from_lookup}
 use Rattle.std.proofs.lemmas.Cmp.{upto, tied_itself, alike_right, on_total}
 use Rattle.std.specs.Cmp.{IsTotalOrder}
 use Rattle.std.specs.List.{AllByRecursion}
@@ -8,14 +9,19 @@ use Rattle.std.specs.Ordering.{is_eq, is_gt, is_lt, on, ordering_reverse}
 use Rattle.std.specs.Map.{lookup}
 use Rattle.std.specs.BTreeMap as tree
 use Rattle.std.specs.BTreeMap.{BTreeMap}
+use Rattle.std.specs.Cmp.Lexicographic.{on_texts_equal}
+use Rattle.std.specs.HashMap.{HashMap, IsUnique}
 use Rattle.cargo_toml_dependencies.specs.declared.dependency.Dependency.{Dependency}
 use Rattle.cargo_toml_dependencies.specs.Dependencies.{DependencyMeaning, dependency_meaning}
 use Rattle.cargo_toml_resolve.specs.contracts.features.TargetKeyOrd.TheImpl as key_order
 use Rattle.cargo_toml_resolve.specs.contracts.features.TargetKeyOrd.TheImpl.Laws as laws
 use Rattle.cargo_toml_resolve.specs.declared.features.FeatureDependency.{FeatureDependency}
 use Rattle.cargo_toml_resolve.specs.declared.features.TargetKey.{TargetKey}
+use Rattle.cargo_toml_graph.specs.Action.{Text}
+use Rattle.cargo_toml_resolve.specs.FirstTarget.{HasTarget, HaveTargets, IsFirst}
 use Rattle.cargo_toml_resolve.specs.Recorded.{Entry, Target, target_cmp, recorded_of, first_target}
-use Rattle.cargo_toml_resolve.specs.Views.{recorded_in, target_of}
+use Rattle.cargo_toml_resolve.specs.Resolved.{SameRecorded}
+use Rattle.cargo_toml_resolve.specs.Views.{recorded_in, target_of, value_at}
 use Rattle.cargo_toml_resolve.proofs.Targets.{at, by_key, cmp_is, key_of, target_of-key_of, target_same}
 
 -- ---- the least of a list, of equal ones the first
@@ -161,6 +167,11 @@ pub first_recorded : (d : FeatureDependency) (key : TargetKey) (w : Bor Dependen
 first_recorded d key w here bound [] r = absurd (some_none r)
 first_recorded d key w here bound (e ∷ es) r = sym (first_is d.targets key w here bound e es (λ t. ap (λ x. x.targets t) (some_same r)))
 
+pub first_same : (d : FeatureDependency) (key : TargetKey) (w : Bor Dependency) → tree.get (key_order.cmp-value).it d.targets key ≡ Some w → tree.IsLowerBound (key_order.cmp-value).it d.targets key
+    → (es : List Entry) → SameRecorded (Some (recorded_in d)) (recorded_of es) → Some (dependency_meaning w.now) ≡ first_target es
+first_same d key w here bound [] r = absurd r
+first_same d key w here bound (e ∷ es) r = sym (first_is d.targets key w here bound e es r.1)
+
 -- a key that is recorded has a target
 pub some_recorded : (d : FeatureDependency) → d.targets.entries ≡ [] → (es : List Entry) → Some (recorded_in d) ≡ recorded_of es → None ≡ first_target es
 some_recorded d empty [] r = refl
@@ -168,3 +179,40 @@ some_recorded d empty (e ∷ es) r = absurd (some_none (sym (sym nothing ∙ ap 
   where
     nothing : at d.targets e.target ≡ None
     nothing = ap (λ l. option_map (λ (x : Bor Dependency). dependency_meaning x.now) (lookup (tree.is_at (λ k. target_cmp e.target (target_of k))) l)) empty
+
+-- ---- what a record tells of its first target
+some_mapped : {X Y : Type 0} (f : X → Y) (o : Option X) → IsSome (option_map f o) → is_some o ≡ true
+some_mapped f None s = absurd (false≢true s)
+some_mapped f (Some x) s = refl
+
+-- the least key holds the record's first dependency
+pub is_first : (d : FeatureDependency) (key : TargetKey) (w : Bor Dependency) → tree.get (key_order.cmp-value).it d.targets key ≡ Some w → tree.IsLowerBound (key_order.cmp-value).it d.targets key
+    → IsFirst (recorded_in d) (target_of key) (dependency_meaning w.now)
+is_first d key w here bound = record {
+  here = ap (option_map (λ x. dependency_meaning x.now)) (target_same key d.targets (target_of key) (ap is_eq (tied_itself target_total (target_of key))) ∙ here);
+  least = λ q some.
+      let there : is_some (tree.get (key_order.cmp-value).it d.targets (key_of q)) ≡ true = ap is_some (sym (by_key d.targets q)) ∙ some_mapped (λ (x : Bor Dependency). dependency_meaning x.now) _ some in
+      sym (turned target_total (λ (t : Target). t) (target_of key) q)
+      ∙ ap is_gt (sym (cmp_is key (key_of q) ∙ ap (target_cmp (target_of key)) (target_of-key_of q))) ∙ bound (key_of q) there;
+}
+
+-- what says the same as some entries has a target
+pub has_target : (d : FeatureDependency) (es : List Entry) → SameRecorded (Some (recorded_in d)) (recorded_of es) → HasTarget d
+has_target d [] r = absurd r
+has_target d (e ∷ es) r = go d.targets.entries refl
+  where
+    there : at d.targets e.target ≡ Some e.dependency
+    there = r.1 e.target ∙ ap (λ b. option_map (λ (x : Entry). x.dependency) (cond b (Some e) (find (λ x. is_eq (target_cmp e.target x.target)) es))) (ap is_eq (tied_itself target_total e.target))
+
+    go : (xs : List (TargetKey × Bor Dependency)) → d.targets.entries ≡ xs → 0 < length d.targets.entries
+    go [] s = absurd (some_none (sym there ∙ ap (λ l. option_map (λ (x : Bor Dependency). dependency_meaning x.now) (lookup (tree.is_at (λ k. target_cmp e.target (target_of k))) l)) s))
+    go (x ∷ xs) s = subst (λ l. 0 < length l) (sym s) (omega arith)
+
+-- so each dependency of a map has one, where the map says the same as some entries
+pub have_targets : {S : Type 0} (m : HashMap (Bor Text) FeatureDependency S) → IsUnique (λ x y. bytes_eq x.now y.now) m → (entries : Text → List Entry)
+    → ((k : Text) → SameRecorded (option_map recorded_in (value_at m k)) (recorded_of (entries k))) → HaveTargets m
+have_targets m unique entries same = All-values_from_lookup (on_texts_equal (λ (k : Bor Text). k.now)) HasTarget m.entries unique (λ q. go q.now (value_at m q.now) (same q.now))
+  where
+    go : (k : Text) (o : Option FeatureDependency) → SameRecorded (option_map recorded_in o) (recorded_of (entries k)) → IfSome o HasTarget
+    go k None s = tt
+    go k (Some d) s = has_target d (entries k) s

@@ -1,19 +1,18 @@
 -- Features implied one after another.
 use Rattle.std.proofs.Common.{◌≡◌, ◌&&◌, ◌||◌, not, Bool, true, false, cond, List, [], ◌∷◌, ◌++◌, Option, Some, None, is_some, option_map, bytes_eq, Bor, refl, sym, ap, subst, ◌∙◌}
 use Rattle.std.proofs.Math.Bool.{and-or_distrib_right}
-use Rattle.std.proofs.lemmas.Bool.{false≢true, and_parts, not-true}
+use Rattle.std.proofs.lemmas.Bool.{false≢true}
 use Rattle.std.proofs.lemmas.List.Folds.{list_any-append}
 use Rattle.std.proofs.lemmas.Slice.Eq.{bytes_eq-Decides}
-use Rattle.std.proofs.lemmas.Map.Text.{hash_map_updates_str, btree_map_updates_str}
+use Rattle.std.proofs.lemmas.Map.Text.{btree_map_updates_str}
 use Rattle.std.specs.BTreeMap as tree
 use Rattle.std.specs.BTreeMap.{BTreeMap}
 use Rattle.std.specs.BTreeSet.{BTreeSet}
 use Rattle.std.specs.Cmp.Lexicographic.{slice_cmp}
-use Rattle.std.specs.HashMap as hash
 use Rattle.std.specs.HashMap.{HashMap}
 use Rattle.std.specs.List.{list_any}
 use Rattle.std.specs.Map.{lookup}
-use Rattle.std.specs.Option.{IsSomeAnd}
+use Rattle.std.specs.Option.{IsSomeAnd, UnwrapsOrElse}
 use Rattle.std.specs.Ordering.{nat_cmp}
 use Rattle.cargo_toml_dependencies.specs.Dependencies.{is_optional}
 use Rattle.cargo_toml_resolve.specs.declared.features.DepAction.{DepAction}
@@ -25,6 +24,18 @@ use Rattle.cargo_toml_resolve.specs.Resolved.{plain}
 use Rattle.cargo_toml_resolve.specs.Views.{action_of, action_at, value_at}
 use Rattle.cargo_toml_graph.proofs.Texts.{bytes_eq_sym}
 use Rattle.cargo_toml_resolve.proofs.TextKeys.{none_in}
+
+-- what a list of entries holds at a text
+abbrev feature_at : List (Bor Text × Feature) → Text → Option Feature
+feature_at es k = lookup (λ q. bytes_eq k q.now) es
+
+-- of two equal options, where what is made meets Q once it meets P
+pub unwraps_weaker : {o o' : Option Feature} {P Q : Feature → Type 0} (w : Feature) → o ≡ o' → UnwrapsOrElse o P w → ((v : Feature) → P v → Q v) → UnwrapsOrElse o' Q w
+unwraps_weaker {o} {P = P} {Q} w e h weaker = subst (λ o. UnwrapsOrElse o Q w) e (go o h)
+  where
+    go : (o : Option Feature) → UnwrapsOrElse o P w → UnwrapsOrElse o Q w
+    go None h = weaker w h
+    go (Some v) h = h
 
 stays : (t : Bool) (q : Text) (o : Option Feature) → (t ≡ true → is_some o ≡ true) → Becomes t q o o
 stays true q None h = absurd (false≢true (h refl))
@@ -59,36 +70,29 @@ module _ {S : Type 0} where
   implied_next acted es e a b c = implied_more (is_offered acted es) (is_offered acted (e ∷ [])) (is_offered acted (es ++ e ∷ [])) a b c
       (λ q. ap (λ t. t && not (is_reserved_in acted q)) (list_any-append (is_optional_at q) es (e ∷ [])) ∙ and-or_distrib_right (list_any (is_optional_at q) es) (list_any (is_optional_at q) (e ∷ [])) (not (is_reserved_in acted q)))
 
-  -- the entry e implies a feature w
-  pub implied_here : (e : Entry) (acted : HashMap (Bor Text) Bool S) (m n : HashMap (Bor Text) Feature S) (w : Feature) → hash.UpdatesBy (λ x y. bytes_eq x.now y.now) (λ q. bytes_eq e.key q.now) m n (Some w)
-      → IsImplied e.key w → (is_optional e.dependency && not (is_reserved_in acted e.key) && not (is_some (value_at m e.key))) ≡ true → ImpliesAll (is_offered acted (e ∷ [])) m n
-  implied_here e acted m n w u i free = record { at = λ q. go q (bytes_eq e.key q) refl }
+  -- the optional entry e implies a feature where none has its key; the map is told by its entries, since it has no name after `entry`
+  pub implied_here : (e : Entry) (acted : HashMap (Bor Text) Bool S) (m : HashMap (Bor Text) Feature S) (new : List (Bor Text × Feature)) (w : Feature)
+      → ((q : Text) → bytes_eq e.key q ≡ false → feature_at new q ≡ feature_at m.entries q)
+      → feature_at new e.key ≡ Some w
+      → UnwrapsOrElse (feature_at m.entries e.key) (IsImplied e.key) w
+      → is_optional e.dependency ≡ true → is_reserved_in acted e.key ≡ false
+      → (q : Text) → Becomes (is_offered acted (e ∷ []) q) q (value_at m q) (feature_at new q)
+  implied_here e acted m new w others there is optional free q = go (bytes_eq e.key q) refl
     where
-      after : (q : Text) → value_at n q ≡ cond (bytes_eq e.key q) (Some w) (value_at m q)
-      after q = hash_map_updates_str e.key m n (Some w) u q
-
-      self : bytes_eq e.key e.key ≡ true
-      self = (bytes_eq-Decides e.key e.key).1 refl
-
       offered : is_offered acted (e ∷ []) e.key ≡ true
       offered =
-          let a = (and_parts (is_optional e.dependency && not (is_reserved_in acted e.key)) (not (is_some (value_at m e.key))) free).0 in
-          let b = and_parts (is_optional e.dependency) (not (is_reserved_in acted e.key)) a in
-          rw (self, b.0, b.1)
+          let self = (bytes_eq-Decides e.key e.key).1 refl in
+          rw (self, optional, free)
 
-      none : (o : Option Feature) → is_some o ≡ false → o ≡ None
-      none None h = refl
-      none (Some v) h = absurd (false≢true (sym h))
+      here : (o : Option Feature) → UnwrapsOrElse o (IsImplied e.key) w → Becomes true e.key o (Some w)
+      here None i = i
+      here (Some v) h = ap Some h
 
-      absent : value_at m e.key ≡ None
-      absent = none (value_at m e.key) (not-true _ (and_parts (is_optional e.dependency && not (is_reserved_in acted e.key)) (not (is_some (value_at m e.key))) free).1)
-
-      go : (q : Text) (t : Bool) → bytes_eq e.key q ≡ t → Becomes (is_offered acted (e ∷ []) q) q (value_at m q) (value_at n q)
-      go q true on = subst (λ v. Becomes (is_offered acted (e ∷ []) v) v (value_at m v) (value_at n v)) ((bytes_eq-Decides e.key q).0 on)
-          (subst (λ t. Becomes t e.key (value_at m e.key) (value_at n e.key)) (sym offered)
-          (subst (λ o. Becomes true e.key o (value_at n e.key)) (sym absent)
-          (subst (λ o. IsSomeAnd o (IsImplied e.key)) (sym (after e.key ∙ ap (λ t. cond t (Some w) (value_at m e.key)) self)) i)))
-      go q false off = subst (λ o. Becomes (is_offered acted (e ∷ []) q) q (value_at m q) o) (sym (after q ∙ ap (λ t. cond t (Some w) (value_at m q)) off))
+      go : (t : Bool) → bytes_eq e.key q ≡ t → Becomes (is_offered acted (e ∷ []) q) q (value_at m q) (feature_at new q)
+      go true on = subst (λ v. Becomes (is_offered acted (e ∷ []) v) v (value_at m v) (feature_at new v)) ((bytes_eq-Decides e.key q).0 on)
+          (subst (λ t. Becomes t e.key (value_at m e.key) (feature_at new e.key)) (sym offered)
+          (subst (Becomes true e.key (value_at m e.key)) (sym there) (here (value_at m e.key) is)))
+      go false off = subst (Becomes (is_offered acted (e ∷ []) q) q (value_at m q)) (sym (others q off))
           (stays (is_offered acted (e ∷ []) q) q (value_at m q) (λ y. absurd (false≢true (sym (ap (λ t. ((t && is_optional e.dependency) || false) && not (is_reserved_in acted q)) off) ∙ y))))
 
 -- the one plain action

@@ -23,3 +23,5 @@ mod Requiring
 mod FirstEntries
 mod OneListing
 mod Hashed
+pub mod Agreement
+pub mod HashedListing

@@ -1,5 +1,5 @@
 -- Two tables in byte order that tell the same of each name are the same.
-use Rattle.std.proofs.Common.{◌≡◌, ◌⊎◌, Bool, true, false, cond, List, [], ◌∷◌, map, Some, None, is_some, unwrap_or, IsTrue, bytes_eq, refl, sym, ap, ap₂, inl, inr, ◌∙◌}
+use Rattle.std.proofs.Common.{◌≡◌, Bool, true, false, cond, List, [], ◌∷◌, map, Some, None, is_some, unwrap_or, IsTrue, bytes_eq, refl, sym, ap, ap₂, inl, inr, ◌∙◌}
 use Rattle.std.proofs.lemmas.Bool.{false≢true, false_from_ne_true}
 use Rattle.std.proofs.lemmas.Map.Keys.{sorted_head, sorted_tail}
 use Rattle.std.proofs.lemmas.Slice.Eq.{bytes_eq-Decides}

@@ -1,7 +1,6 @@
 -- The targets of a dependency, by the order of their keys.
-use Rattle.std.proofs.Common.{◌≡◌, Ordering, Less, Equal, Greater, Bool, true, false, cond, [], Option, Some, None, option_map, is_some, unwrap_or, Bor, refl, sym, ap, ap₂, ◌∙◌}
+use Rattle.std.proofs.Common.{◌≡◌, Ordering, Less, Equal, Greater, Bool, true, false, cond, Option, Some, None, option_map, is_some, unwrap_or, Bor, refl, sym, ap, ap₂, ◌∙◌}
 use Rattle.std.proofs.lemmas.Bool.{false≢true}
-use Rattle.std.specs.Map.{lookup}
 use Rattle.std.specs.Option.{option_or, option_copied}
 use Rattle.std.specs.Ordering.{is_eq, ordering_reverse}
 use Rattle.std.specs.BTreeMap as tree
@@ -95,10 +94,6 @@ module _ (key : TargetKey) (d : Bor Dependency) (m n : BTreeMap TargetKey (Bor D
       go : (b : Bool) → option_map (λ x. dependency_meaning x.now) (cond b (Some d) (tree.get_by (λ k. target_cmp t (target_of k)) m)) ≡ cond b (Some (dependency_meaning d.now)) (at m t)
       go true = refl
       go false = refl
-
-  -- the first target
-  pub target_first : m.entries ≡ [] → (t : Target) → at n t ≡ cond (is_eq (target_cmp t (target_of key))) (Some (dependency_meaning d.now)) None
-  target_first none t = put_at t ∙ ap (λ es. cond (is_eq (target_cmp t (target_of key))) (Some (dependency_meaning d.now)) (option_map (λ (x : Bor Dependency). dependency_meaning x.now) (lookup (tree.is_at (λ k. target_cmp t (target_of k))) es))) none
 
   -- a further target
   pub target_added : is_some (tree.get (key_order.cmp-value).it m key) ≡ false → (t : Target) → at n t ≡ option_or (at m t) (cond (is_eq (target_cmp t (target_of key))) (Some (dependency_meaning d.now)) None)

@@ -5,6 +5,7 @@ pub mod NonDefault
 pub mod Recorded
 pub mod Resolved
 pub mod Views
+pub mod FirstTarget
 pub mod Reading
 pub mod Recording
 pub mod Enabling
@@ -17,3 +18,5 @@ pub mod OwnBins
 pub mod Requiring
 pub mod TargetLaws
 pub mod Hashed
+pub mod InOrder
+pub mod Agreement

@@ -15,6 +15,10 @@ use Rattle.cargo_toml_resolve.specs.Views.{recorded_in, value_at}
 abbrev pub recorded_at : {S : Type 0} → HashMap (Bor Text) FeatureDependency S → Text → Option Recorded
 recorded_at m k = option_map recorded_in (value_at m k)
 
+-- what e records of its key before its target
+abbrev pub recorded_nowhere : Entry → Recorded
+recorded_nowhere e = record { crate_name = unwrap_or (package_of e.dependency) e.key; targets = λ _. None }
+
 -- what e alone records
 abbrev pub recorded_first : Entry → Recorded
 recorded_first e = record {

@@ -44,14 +44,19 @@ SameRecorded None None = Unit {0}
 SameRecorded (Some a) (Some b) = (a.crate_name ≡ b.crate_name) × ((t : Target) → a.targets t ≡ b.targets t)
 SameRecorded _ _ = ⊥
 
--- the table t is resolved: its features as IsResolved says, with the marks of the explicit ones, the recorded dependencies of
--- entries, the own mentions of binaries, and what the filter keeps
-pub record IsAnswer (t : Table) (listed : Listed) (entries : List Entry) (own : Text → List Text) (keep : Text → Bool) (a : Answer) : Type 0 where
-  pub resolved : IsResolved t (λ f. IsTrue (is_removed t keep f)) a.resolution
+-- the listed features and the entries are resolved, with the features taken out that the filter doesn't keep: which features
+-- are left, under their own keys and with the marks of the explicit ones, and the recorded dependencies
+pub record IsKeptAnswer (listed : Listed) (entries : List Entry) (keep : Text → Bool) (a : Answer) : Type 0 where
+  pub resolved : IsResolved (table_of listed entries) (λ f. IsTrue (is_removed (table_of listed entries) keep f)) a.resolution
   pub keyed : (f : Text) → IfSome (a.key f) (λ k. k ≡ f)
   pub explicit : (f : Text) → IsTrue (a.resolution.table.has f) → a.explicit f ≡ is_explicit listed f
-  pub bins : (f : Text) → IsTrue (a.resolution.table.has f) → HasBins t (λ r. IsTrue (is_removed t keep r)) own f (a.bins f)
   pub dependencies : (k : Text) → SameRecorded (a.dependencies k) (recorded_of (entries_at listed entries k))
-  pub redirected : (r : Text) → is_some (a.redirects r) ≡ is_removed t keep r
-  pub redirects : (r : Text) → IfSome (a.redirects r) (λ names. (x : Text) → IsTrue (names x) ↔ RedirectsTo t (λ s. IsTrue (is_removed t keep s)) (λ s b. IsTrue (is_below s b)) r x)
-  pub some : IsTrue a.removed_some ↔ ((r : Text) × IsTrue (is_removed t keep r))
+  pub some : IsTrue a.removed_some ↔ ((r : Text) × IsTrue (is_removed (table_of listed entries) keep r))
+
+-- and so are the binaries that require features, of which own are the binaries' own mentions, and what stands for each feature
+-- that is taken out
+pub record IsAnswer (listed : Listed) (entries : List Entry) (own : Text → List Text) (keep : Text → Bool) (a : Answer) : Type 0 where
+  pub kept : IsKeptAnswer listed entries keep a
+  pub bins : (f : Text) → IsTrue (a.resolution.table.has f) → HasBins (table_of listed entries) (λ r. IsTrue (is_removed (table_of listed entries) keep r)) own f (a.bins f)
+  pub redirected : (r : Text) → is_some (a.redirects r) ≡ is_removed (table_of listed entries) keep r
+  pub redirects : (r : Text) → IfSome (a.redirects r) (λ names. (x : Text) → IsTrue (names x) ↔ RedirectsTo (table_of listed entries) (λ s. IsTrue (is_removed (table_of listed entries) keep s)) (λ s b. IsTrue (is_below s b)) r x)

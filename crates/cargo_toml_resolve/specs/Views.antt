@@ -1,5 +1,5 @@
 -- What the maps of a resolution hold, by the bytes of their keys, and what a manifest lists.
-use Rattle.std.specs.Prelude.{Bool, false, List, [], Option, None, bytes_eq, is_some, option_map, map, string_bytes, String, Vec}
+use Rattle.std.specs.Prelude.{Bool, false, [], Option, None, bytes_eq, is_some, option_map, map, string_bytes, String, Vec}
 use Rattle.std.specs.Option.{option_map_or, option_copied}
 use Rattle.std.specs.Borrow.{Bor}
 use Rattle.std.specs.declared.alloc.Global.{Global}
@@ -11,7 +11,6 @@ use Rattle.std.specs.BTreeMap as tree
 use Rattle.std.specs.BTreeMap.{BTreeMap}
 use Rattle.std.specs.BTreeSet as sorted
 use Rattle.std.specs.BTreeSet.{BTreeSet}
-use Rattle.cargo_toml_dependencies.specs.declared.dependency.Dependency.{Dependency}
 use Rattle.cargo_toml_dependencies.specs.Dependencies.{dependency_meaning}
 use Rattle.cargo_toml_resolve.specs.declared.features.DepAction.{DepAction}
 use Rattle.cargo_toml_resolve.specs.declared.features.Feature.{Feature}

@@ -86,6 +86,7 @@ pub fn hashed_listings<'m, S: BuildHasher>(
     ensures all { IfOk result (λ v. (listed : Listed) → IsListingOf table.now listed
         → listed_of v.items ≡ admitted limit listed) }
     ensures once { IfOk result (λ v. IsOnce (map (λ l. l.name.now) v.items)) }
+    ensures listed { IfOk result (λ _. (listed : Listed) × IsListingOf table.now listed) }
 {
     let sorted = in_order(alloc, table)?;
     let mut listings = Vec::with_capacity(alloc, sorted.len().min(limit))?;

@@ -92,7 +92,7 @@ fn links_of<'a, S: BuildHasher>(
     ensures { IfOk result (λ v. (q e : Text) → is_linked v.items q e
         ≡ (leads_at features.now e q && not (bytes_eq q e))) }
 {
-    let mut links = Vec::new(alloc);
+    let mut links = Vec::with_capacity(alloc, features.len())?;
     for (name, feature) in features {
         push_links(&mut links, feature, *name)?;
     }

@@ -122,7 +122,12 @@ pub fn entries_of<'m>(
         dev_dependencies,
         target,
     } = tables;
-    let mut entries = Vec::with_capacity(alloc, dependencies.len())?;
+    let room = dependencies
+        .len()
+        .min(limit)
+        .saturating_add(build_dependencies.len().min(limit))
+        .saturating_add(dev_dependencies.len().min(limit));
+    let mut entries = Vec::with_capacity(alloc, room)?;
     add_built(&mut entries, dependencies, build_dependencies, limit, None)?;
     add_targets_built(&mut entries, target, limit)?;
     add_first(&mut entries, dev_dependencies, limit, Kind::Dev, None)?;

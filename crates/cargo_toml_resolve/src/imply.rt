@@ -29,24 +29,11 @@ fn implied_feature(alloc: Global, key: &str) -> Result<Feature<'_>, AllocError>
     })
 }
 
-// Whether some action on the key is dep-only.
+// Whether some action on the key is dep-only. Of an empty map no key is looked up.
 fn is_reserved<'m, S: BuildHasher>(acted: &HashMap<&'m str, bool, S>, key: &str) -> bool
     ensures { result ≡ is_reserved_in acted.now key.now }
 {
-    acted.get(key).copied().unwrap_or(false)
-}
-
-// Whether the entry implies a feature that isn't there yet.
-fn is_free<'m, S: BuildHasher>(
-    features: &HashMap<&'m str, Feature<'m>, S>,
-    acted: &HashMap<&'m str, bool, S>,
-    entry: &ParseDependency<'m, '_>,
-) -> bool
-    ensures { result ≡ (is_optional (dependency_meaning entry.now.dep.now)
-        && not (is_reserved_in acted.now entry.now.key.now)
-        && not (is_some (value_at features.now entry.now.key.now))) }
-{
-    entry.dep.optional() && !is_reserved(acted, entry.key) && !features.contains_key(entry.key)
+    !acted.is_empty() && acted.get(key).copied().unwrap_or(false)
 }
 
 fn imply<'m, S: BuildHasher>(
@@ -57,9 +44,10 @@ fn imply<'m, S: BuildHasher>(
 ) -> Result<(), AllocError>
     ensures { OnOk result (ImpliesAll (is_offered acted.now (entry_of entry.now ∷ [])) features.old features.new) }
 {
-    if is_free(features, acted, entry) {
-        let feature = implied_feature(alloc, entry.key)?;
-        features.insert(entry.key, feature)?;
+    if entry.dep.optional() && !is_reserved(acted, entry.key) {
+        features
+            .entry(entry.key)?
+            .or_try_insert_with(|| implied_feature(alloc, entry.key))?;
     }
     Ok(())
 }

@@ -1,4 +1,10 @@
-// Laws of the orders of kinds and targets, each as the contract of a function.
+// Laws of the orders of kinds and targets and of answers, each as the contract of a function.
+ghost use Rattle.std.specs.Prelude.{Bool, List};
+ghost use Rattle.cargo_toml_graph.specs.Action.{Text};
+ghost use Rattle.cargo_toml_graph.specs.Admitted.{Listed};
+ghost use Rattle.cargo_toml_resolve.specs.Agreement as agreement;
+ghost use Rattle.cargo_toml_resolve.specs.Recorded.{Entry};
+ghost use Rattle.cargo_toml_resolve.specs.Resolved.{Answer, IsAnswer};
 ghost use Rattle.cargo_toml_resolve.specs.TargetLaws.{Agree, IsKindEquality, IsKindOrder, IsTargetEquality, IsTargetOrder};
 
 use crate::features::{Kind, TargetKey};
@@ -13,4 +19,10 @@ fn targets<'a>()
     ensures order { IsTargetOrder ⟦<TargetKey<'a> as Ord>⟧.cmp }
     ensures equality { IsTargetEquality ⟦<TargetKey<'a> as PartialEq>⟧.eq }
     ensures agree { Agree ⟦<TargetKey<'a> as Ord>⟧.cmp ⟦<TargetKey<'a> as PartialEq>⟧.eq }
+{}
+
+// What is listed, the entries and what is kept settle an answer, but for its binaries.
+fn answers()
+    ensures { (listed : Listed) (entries : List Entry) (own others : Text → List Text) (keep : Text → Bool) (a b : Answer) →
+        IsAnswer listed entries own keep a → IsAnswer listed entries others keep b → agreement.Agree a b }
 {}

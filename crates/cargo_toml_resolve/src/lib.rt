@@ -1,6 +1,6 @@
 //! Features are resolved: from the lists of a manifest and entries of dependency tables to what each feature enables.
 //!
-//! [`resolve`] is the whole of it. Callers use it by `cargo_toml::features::Resolver`.
+//! [`resolve_all`] is the whole of it; hidden features are removed after it. Callers use it by `cargo_toml::features::Resolver`.
 #![tactic(auto)]
 
 mod action;
@@ -19,4 +19,4 @@ pub mod recursive;
 mod redundant;
 pub mod resolution;
 
-pub use resolution::resolve;
+pub use resolution::resolve_all;

@@ -1,5 +1,5 @@
-//! What a feature tells of itself and of those that enable it.
-ghost use Rattle.std.specs.Prelude.{◌≡◌, ◌<◌, ◌⊎◌, ◌↔◌, IsTrue, IsFalse, List, nat_eq, codes};
+//! What a feature tells of itself and of those that enable it, and a dependency of its first target.
+ghost use Rattle.std.specs.Prelude.{◌≡◌, ◌<◌, ◌⊎◌, ◌↔◌, IsTrue, IsFalse, List, Option, Some, nat_eq, codes};
 ghost use Rattle.std.specs.Borrow.{Bor};
 ghost use Rattle.std.specs.List.{starts_with};
 ghost use Rattle.std.specs.List.Sorted.{IsStrictlySortedBy};
@@ -7,10 +7,16 @@ ghost use Rattle.std.specs.BTreeSet.{btree_set_len};
 ghost use Rattle.std.specs.Cmp.Lexicographic.{slice_cmp};
 ghost use Rattle.std.specs.Ordering.{nat_cmp};
 ghost use Rattle.std.specs.Iterator.{YieldsFirst, item_count};
+ghost use Rattle.cargo_toml_dependencies.specs.Dependencies.{dependency_meaning};
 ghost use Rattle.cargo_toml_graph.specs.Action.{Text};
+ghost use Rattle.cargo_toml_resolve.specs.FirstTarget.{HasTarget, IsFirst};
 ghost use Rattle.cargo_toml_resolve.specs.NonDefault.{without_default};
+ghost use Rattle.cargo_toml_resolve.specs.Recorded.{Entry, Target, first_target, recorded_of};
+ghost use Rattle.cargo_toml_resolve.specs.Resolved.{SameRecorded};
+ghost use Rattle.cargo_toml_resolve.specs.Views.{recorded_in};
 
-use crate::features::Feature;
+use crate::features::{Feature, FeatureDependency, Kind};
+use cargo_toml_dependencies::Dependency;
 use std::collections::btree_set;
 use std::marker::Model;
 
@@ -62,6 +68,35 @@ impl<'a> Feature<'a> {
     {
         NonDefaultEnabledBy {
             names: self.enabled_by.iter(),
+        }
+    }
+}
+
+impl<'d> FeatureDependency<'d> {
+    /// The dependency of the first target: of those of the least kind the one for no platform, else the one for the first
+    /// platform in byte order.
+    ///
+    /// There must be a target, as each dependency that a resolver answers has one.
+    pub fn dep(&self) -> &'d Dependency
+        requires { HasTarget self.now }
+        ensures first { (t : Target) × IsFirst (recorded_in self.now) t (dependency_meaning result.now) }
+        ensures recorded { (es : List Entry) → SameRecorded (Some (recorded_in self.now)) (recorded_of es)
+            → Some (dependency_meaning result.now) ≡ first_target es }
+    {
+        self.detail().0
+    }
+
+    /// The same, with the kind of that target. There must be one.
+    pub fn detail(&self) -> (&'d Dependency, Kind)
+        requires { HasTarget self.now }
+        ensures first { (name : Option Text)
+            × IsFirst (recorded_in self.now) (result.1, name) (dependency_meaning result.0.now) }
+        ensures recorded { (es : List Entry) → SameRecorded (Some (recorded_in self.now)) (recorded_of es)
+            → Some (dependency_meaning result.0.now) ≡ first_target es }
+    {
+        match self.targets.first_key_value() {
+            Some((target, dependency)) => (*dependency, target.kind),
+            None => unreachable!(),
         }
     }
 }

@@ -1,5 +1,6 @@
 //! What completion makes of a manifest: with a workspace that is handed in, with its own, or with a root that is told.
 use crate::manifests::{read, with_lines};
+use cargo_toml::features::Resolver;
 use cargo_toml::{Error, Manifest, Value};
 use cargo_toml_bench::in_memory::{Answer, InMemory, Root};
 use std::alloc::Global;
@@ -117,5 +118,34 @@ pub fn fields<R: Files + AllocGlobal>(
     expected: &str,
 ) -> Result<String, Error> {
     let text = outcome_text(rt, folder, bytes)?;
+    with_lines(rt.alloc(), text.as_str(), expected)
+}
+
+/// What is resolved of the manifest, once it is completed with the workspace of the files `Workspace.toml` and `path`.
+fn resolved_text<R: Files + AllocGlobal>(
+    rt: &R,
+    folder: &str,
+    bytes: &[u8],
+) -> Result<String, Error> {
+    let alloc = rt.alloc();
+    let files = files_around(rt, folder)?;
+    let mut manifest = read(alloc, bytes)?;
+    let path = fs::read_to_string(rt, format!(in alloc; "{folder}/path")?.as_str())?;
+    let text = fs::read(rt, format!(in alloc; "{folder}/Workspace.toml")?.as_str())?;
+    let workspace = read(alloc, text.as_slice())?;
+    let handed = Some((&*workspace, path.as_str()));
+    let resolver = Resolver::new();
+    let (_, resolved) = resolver.complete_and_parse(alloc, &mut *manifest, &files, handed)?;
+    Ok(format!(in alloc; "{resolved:?}")?)
+}
+
+/// The expected lines where each stands in what is resolved of the completed manifest, and that text otherwise.
+pub fn resolved<R: Files + AllocGlobal>(
+    rt: &R,
+    folder: &str,
+    bytes: &[u8],
+    expected: &str,
+) -> Result<String, Error> {
+    let text = resolved_text(rt, folder, bytes)?;
     with_lines(rt.alloc(), text.as_str(), expected)
 }

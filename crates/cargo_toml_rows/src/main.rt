@@ -4,6 +4,7 @@
 #![tactic(auto)]
 
 mod completed;
+mod custom;
 mod files;
 mod manifests;
 mod paths;
@@ -27,6 +28,12 @@ enum Kind {
     Refuse,
     /// What is printed of its features.
     Features,
+    /// The same of its features and dependencies where they stand in no manifest.
+    Custom,
+    /// The same where every hidden name is kept.
+    Whole,
+    /// The same where `_a` alone of the hidden names is kept.
+    Kept,
     /// What is recorded of its dependencies.
     Dependencies,
     /// What is reported of it by a caller.
@@ -37,6 +44,8 @@ enum Kind {
     Values,
     /// What completion makes of the manifest.
     Complete,
+    /// What is resolved of the manifest that completion makes.
+    Parsed,
     /// What comes of real files.
     Files,
 }
@@ -47,11 +56,15 @@ fn kind_of(word: &str) -> Option<Kind> {
         "fields" => Some(Kind::Fields),
         "refuse" => Some(Kind::Refuse),
         "features" => Some(Kind::Features),
+        "custom" => Some(Kind::Custom),
+        "whole" => Some(Kind::Whole),
+        "kept" => Some(Kind::Kept),
         "dependencies" => Some(Kind::Dependencies),
         "report" => Some(Kind::Report),
         "recursion" => Some(Kind::Recursion),
         "values" | "paths" => Some(Kind::Values),
         "complete" => Some(Kind::Complete),
+        "parsed" => Some(Kind::Parsed),
         "files" => Some(Kind::Files),
         _ => None,
     }
@@ -63,12 +76,13 @@ fn expected_file(kind: Kind) -> &'static str {
         Kind::Read => "/written.toml",
         Kind::Fields => "/fields",
         Kind::Refuse => "/fault",
-        Kind::Features => "/lines",
+        Kind::Features | Kind::Custom | Kind::Whole | Kind::Kept => "/lines",
         Kind::Dependencies => "/recorded",
         Kind::Report => "/reported",
         Kind::Recursion => "/enabled",
         Kind::Values => "",
         Kind::Complete => "/completed",
+        Kind::Parsed => "/parsed",
         Kind::Files => "/printed",
     }
 }
@@ -93,9 +107,13 @@ fn answer<R: Files + AllocGlobal>(
         Kind::Fields => manifests::fields(alloc, manifest.as_slice(), expected),
         Kind::Refuse => manifests::fault(alloc, manifest.as_slice()),
         Kind::Features => manifests::features(alloc, manifest.as_slice()),
+        Kind::Custom => custom::lines(alloc, manifest.as_slice()),
+        Kind::Whole => manifests::whole(alloc, manifest.as_slice()),
+        Kind::Kept => manifests::kept(alloc, manifest.as_slice()),
         Kind::Report => manifests::report(alloc, manifest.as_slice()),
         Kind::Recursion => enabled(rt, folder, manifest.as_slice()),
         Kind::Complete => completed::fields(rt, folder, manifest.as_slice(), expected),
+        Kind::Parsed => completed::resolved(rt, folder, manifest.as_slice(), expected),
         _ => resolved::recorded(alloc, manifest.as_slice()),
     }
 }

@@ -1,7 +1,8 @@
 //! What comes of a manifest, as text.
 use cargo_toml::{Error, Manifest, ParseFault, ToValue, Value};
 use cargo_toml_bench::report::print_report;
-use cargo_toml_print::print_features;
+use cargo_toml_bench::whole::{resolve_keeping_a, resolve_whole};
+use cargo_toml_print::{feature_lines, print_features};
 use std::alloc::Global;
 use toml::Table;
 
@@ -90,6 +91,20 @@ pub fn features(alloc: Global, bytes: &[u8]) -> Result<String, Error> {
     let mut output = Vec::new(alloc);
     print_features(alloc, &mut input, &mut output)?;
     text_of(alloc, output.as_slice())
+}
+
+/// The lines of the manifest's features where every hidden name is kept.
+pub fn whole(alloc: Global, bytes: &[u8]) -> Result<String, Error> {
+    let manifest = read(alloc, bytes)?;
+    let features = resolve_whole(alloc, &*manifest)?;
+    feature_lines(alloc, &features)
+}
+
+/// The lines of the manifest's features where `_a` alone of the hidden names is kept.
+pub fn kept(alloc: Global, bytes: &[u8]) -> Result<String, Error> {
+    let manifest = read(alloc, bytes)?;
+    let features = resolve_keeping_a(alloc, &*manifest)?;
+    feature_lines(alloc, &features)
 }
 
 /// What the proved caller prints of the manifest.

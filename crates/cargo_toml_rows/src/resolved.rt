@@ -60,12 +60,12 @@ pub fn enabled(alloc: Global, bytes: &[u8], start: &str) -> Result<String, Error
         return Err(Error::Other("no such feature"));
     };
     let (found, dependencies) = feature.enables_recursive(alloc, &resolved.features)?;
-    let mut text = feature_lines(alloc, &found)?;
+    let mut text = name_lines(alloc, &found)?;
     push_enablers(alloc, &mut text, &dependencies)?;
     Ok(text)
 }
 
-fn feature_lines<S: BuildHasher>(
+fn name_lines<S: BuildHasher>(
     alloc: Global,
     found: &HashMap<&str, &Feature<'_>, S>,
 ) -> Result<String, Error> {

@@ -1,11 +1,11 @@
 //! What is left where features are taken out one after another.
 ghost use Rattle.std.specs.Prelude.{◌↔◌, ◌≡◌, ◌≤◌, ◌++◌, ◌∷◌, Bool, IsFalse, IsTrue, List};
-ghost use Rattle.cargo_toml_graph.specs.Action.{Action, Text};
+ghost use Rattle.cargo_toml_graph.specs.Action.{Text};
 ghost use Rattle.cargo_toml_graph.specs.Admitted.{is_below};
 ghost use Rattle.cargo_toml_graph.specs.Bins.{HasBins, IsComplete, mentions};
-ghost use Rattle.cargo_toml_graph.specs.Graph.{EnablesAtLast, IsKept, IsResolved, IsUnremoved, Resolution, Table};
+ghost use Rattle.cargo_toml_graph.specs.Graph.{IsKept, IsResolved, IsUnremoved, Resolution, Table};
+ghost use Rattle.cargo_toml_graph.specs.Kept.{KeepsEnabling, LosesNothing, NoneIsLeft};
 ghost use Rattle.cargo_toml_graph.specs.Reach.{Among, IsOnce};
-ghost use Rattle.cargo_toml_graph.specs.Recursive.{Enables, EnablesDependency};
 ghost use Rattle.cargo_toml_graph.specs.Redirects.{RedirectsTo};
 ghost use Rattle.cargo_toml_graph.specs.Removal.{IsAscending, SameKept, pass_all, unremoved, without_all};
 
@@ -38,27 +38,22 @@ pub fn any_order_leaves_the_same()
         ((v : Text) → Among a v ↔ Among b v) → SameKept (without_all a m) (without_all b m) }
 {}
 
-/// Between kept features, what enables what at last is as if nothing had been removed.
+/// Between kept features, what enables what at last is as in a resolution that removes nothing.
 pub fn removal_keeps_enabling()
-    ensures { (t : Table) (removed : Text → Bool) (full m : Resolution) → IsUnremoved t full → IsResolved t (λ v. IsTrue (removed v)) m →
-        (a b : Text) → IsKept t (λ v. IsTrue (removed v)) a → IsKept t (λ v. IsTrue (removed v)) b →
-        EnablesAtLast m a b ↔ EnablesAtLast full a b }
+    ensures { (t : Table) (removed nothing : Text → Bool) (full m : Resolution) → ((v : Text) → IsFalse (nothing v)) →
+        IsResolved t (λ v. IsTrue (nothing v)) full → IsResolved t (λ v. IsTrue (removed v)) m → KeepsEnabling full m }
 {}
 
-/// No removed name stays: not among the features, nor among a kept feature's names and enablers.
-pub fn no_removed_name_stays()
+/// No removed name is left: not among the features, nor among a kept feature's names and enablers.
+pub fn no_removed_name_is_left()
     ensures { (t : Table) (removed : Text → Bool) (m : Resolution) → IsResolved t (λ v. IsTrue (removed v)) m →
-        (f r : Text) → IsTrue (m.table.has f) → IsTrue (removed r) →
-        IsFalse (m.table.has r) × IsFalse (m.table.names f r) × IsFalse (m.enabled_by f r) }
+        NoneIsLeft (λ v. IsTrue (removed v)) m }
 {}
 
-/// What a kept feature enables recursively loses no kept feature and no dependency.
+/// Against a resolution that removes nothing, what a kept feature enables recursively loses no kept feature and no dependency.
 pub fn removal_loses_nothing()
-    ensures features { (t : Table) (removed : Text → Bool) (full m : Resolution) → IsUnremoved t full → IsResolved t (λ v. IsTrue (removed v)) m →
-        (f g : Text) → IsKept t (λ v. IsTrue (removed v)) f → IsKept t (λ v. IsTrue (removed v)) g → Enables full.table f g → Enables m.table f g }
-    ensures dependencies { (t : Table) (removed : Text → Bool) (full m : Resolution) → IsUnremoved t full → IsResolved t (λ v. IsTrue (removed v)) m →
-        (f k g : Text) (a : Action) → IsKept t (λ v. IsTrue (removed v)) f → EnablesDependency full.table f k g a →
-        (h : Text) × (b : Action) × EnablesDependency m.table f k h b }
+    ensures { (t : Table) (removed nothing : Text → Bool) (full m : Resolution) → ((v : Text) → IsFalse (nothing v)) →
+        IsResolved t (λ v. IsTrue (nothing v)) full → IsResolved t (λ v. IsTrue (removed v)) m → LosesNothing full m }
 {}
 
 /// What a removed feature names at its turn, where they are taken out in byte order, is its redirect.

@@ -13,12 +13,12 @@ pub returns-in_default-clause-answer : goal.returns-in_default-clause-answer
 returns-in_default-clause-answer g c =
     let t : Table = parsed_table (manifest_meaning (λ m. m) c.args.manifest.now) in
     let missing : value_at c.in_ok-resolved.resolved.features c.args.name.now ≡ None = sym c.get.ensures.value ∙ ap option_copied c.in_default.is in
-    answer_missing c.in_ok-resolved.resolved.features t (λ x. IsTrue (is_removed t (λ _. true) x)) (nothing_removed t) c.in_ok-resolved.ensures.resolved.resolved
+    answer_missing c.in_ok-resolved.resolved.features t (λ x. IsTrue (is_removed t (λ _. true) x)) (nothing_removed t) c.in_ok-resolved.ensures.resolved.kept.resolved
     c.args.name.now c.args.other.now missing
 
 pub returns-clause-answer : goal.returns-clause-answer
 returns-clause-answer g c =
     let t : Table = parsed_table (manifest_meaning (λ m. m) c.args.manifest.now) in
     let here : value_at c.in_ok-resolved.resolved.features c.args.name.now ≡ Some c.in-Some.feature.now = sym c.get.ensures.value ∙ ap option_copied c.in-Some.is in
-    answer_told c.in_ok-resolved.resolved.features t (λ x. IsTrue (is_removed t (λ _. true) x)) (nothing_removed t) c.in_ok-resolved.ensures.resolved.resolved
+    answer_told c.in_ok-resolved.resolved.features t (λ x. IsTrue (is_removed t (λ _. true) x)) (nothing_removed t) c.in_ok-resolved.ensures.resolved.kept.resolved
     c.in_ok-resolved.ensures.keyed c.args.name.now c.args.other.now c.in-Some.feature.now here c.in_ok-features.features c.in_ok-features.ensures.features c.contains_key.result c.contains_key.ensures

@@ -1,9 +1,10 @@
-use Rattle.std.proofs.Common.{◌≡◌, [], List, map, sym, ap, subst, rules, ◌∙◌}
+use Rattle.std.proofs.Common.{◌≡◌, [], map, sym, ap, subst, rules, ◌∙◌}
 use Rattle.cargo_toml_graph.specs.Admitted.{Listed, admitted}
 use Rattle.cargo_toml_graph.specs.Reach.{IsOnce}
 use Rattle.cargo_toml_graph.proofs.Cut.{Ascends, admitted_once, cut, cut_is_admitted}
 use Rattle.cargo_toml_resolve.specs.Reading.{listed_of}
 use Rattle.cargo_toml_resolve.proofs.Hashed.{looked_up, sorted_ascends, sorted_entry}
+use Rattle.cargo_toml_resolve.proofs.HashedListing.{has_listing}
 use Rattle.cargo_toml_resolve.proofs.Listings.{names_listed}
 use Rattle.cargo_toml_resolve.proofs.OneListing.{ascends_from, one_listing}
 use Rattle.cargo_toml_resolve.proofs.admit.hashed_listings.Goals as goal
@@ -22,3 +23,6 @@ returns-clause-once g c =
     let ascends : Ascends es = sorted_ascends c.in_ok-sorted.sorted.entries c.len.ensures.ordered in
     let all : listed_of c.loop-name.listings.items ≡ cut c.args.limit [] es = search rules in
     subst IsOnce (ap (map (λ e. e.0)) (sym (all ∙ cut_is_admitted c.args.limit es ascends)) ∙ names_listed c.loop-name.listings.items) (admitted_once c.args.limit es ascends)
+
+pub returns-clause-listed : goal.returns-clause-listed
+returns-clause-listed g c = has_listing c.args.table.now

@@ -1,10 +1,10 @@
-use Rattle.std.proofs.Common.{◌≡◌, Some, None, is_some, refl, ap, map, sym, ◌∙◌}
+use Rattle.std.proofs.Common.{◌≡◌, Some, is_some, refl, ap, map, sym, ◌∙◌}
 use Rattle.std.proofs.lemmas.List.{map-append}
 use Rattle.std.specs.Borrow.{Bor}
 use Rattle.std.specs.Option.{option_copied_mut}
 use Rattle.cargo_toml_graph.specs.Action.{Text}
 use Rattle.cargo_toml_resolve.specs.Views.{value_at}
-use Rattle.cargo_toml_resolve.proofs.Requiring.{required_at, required_nowhere}
+use Rattle.cargo_toml_resolve.proofs.Requiring.{required_at}
 use Rattle.cargo_toml_resolve.proofs.bins.require.Goals as goal
 
 pub returns-in_ok-push : goal.returns-in_ok-push

@@ -1,4 +1,4 @@
-use Rattle.std.proofs.Common.{rules, arith}
+use Rattle.std.proofs.Common.{arith}
 use Rattle.std.proofs.lemmas.Grind.{common_steps}
 use Rattle.cargo_toml_resolve.proofs.FirstEntries.{one_more}
 use Rattle.cargo_toml_resolve.proofs.entries.add_first.Goals as goal

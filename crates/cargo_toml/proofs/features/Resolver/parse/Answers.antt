@@ -1,4 +1,4 @@
-use Rattle.std.proofs.Common.{◌≡◌, true, List, map, ap, ap₂, subst, ◌∙◌}
+use Rattle.std.proofs.Common.{◌≡◌, Bool, true, List, map, ap, ap₂, subst, ◌∙◌}
 use Rattle.cargo_toml_graph.specs.Action.{Text}
 use Rattle.cargo_toml_graph.specs.Admitted.{Listed, admitted}
 use Rattle.cargo_toml_manifest.specs.Manifests.{ManifestMeaning, manifest_meaning}
@@ -7,24 +7,40 @@ use Rattle.cargo_toml_resolve.specs.Entries.{entries_of}
 use Rattle.cargo_toml_resolve.specs.OwnBins.{own_of, requirement_of}
 use Rattle.cargo_toml_resolve.specs.Reading.{listed_of}
 use Rattle.cargo_toml_resolve.specs.Recorded.{Entry}
-use Rattle.cargo_toml_resolve.specs.Resolved.{table_of, Answer, IsAnswer}
+use Rattle.cargo_toml_resolve.specs.Resolved.{Answer, IsAnswer}
 use Rattle.cargo_toml_resolve.specs.Views.{answer_of, entry_of}
 use Rattle.cargo_toml.specs.Parsed.{IsParsed, parsed_entries, requirements}
+use Rattle.cargo_toml_hidden.proofs.AgainstAll.{none_left, keeps_enabling, loses_nothing}
 use Rattle.cargo_toml.proofs.features.Resolver.parse.Goals as goal
 
 -- the answer for what stands in a manifest is the answer for the manifest
-parsed_from : {M : Type 0} (m : ManifestMeaning M) (fs : Listed) (es : List Entry) (rs : List (Text × Text)) (a : Answer) →
+parsed_from : {M : Type 0} (m : ManifestMeaning M) (fs : Listed) (es : List Entry) (rs : List (Text × Text)) (keep : Text → Bool) (a : Answer) →
     fs ≡ admitted MAX_ITEMS m.features → es ≡ parsed_entries m → rs ≡ requirements m →
-    IsAnswer (table_of fs es) fs es (own_of rs) (λ _. true) a → IsParsed m (λ _. true) a
-parsed_from m fs es rs a listed entries required is =
-    let by_rs : IsAnswer (table_of fs es) fs es (own_of (requirements m)) (λ _. true) a = subst (λ xs. IsAnswer (table_of fs es) fs es (own_of xs) (λ _. true) a) required is in
-    let by_es : IsAnswer (table_of fs (parsed_entries m)) fs (parsed_entries m) (own_of (requirements m)) (λ _. true) a = subst (λ xs. IsAnswer (table_of fs xs) fs xs (own_of (requirements m)) (λ _. true) a) entries by_rs in
-    subst (λ xs. IsAnswer (table_of xs (parsed_entries m)) xs (parsed_entries m) (own_of (requirements m)) (λ _. true) a) listed by_es
+    IsAnswer fs es (own_of rs) keep a → IsParsed m keep a
+parsed_from m fs es rs keep a listed entries required is =
+    let by_rs : IsAnswer fs es (own_of (requirements m)) keep a = subst (λ xs. IsAnswer fs es (own_of xs) keep a) required is in
+    let by_es : IsAnswer fs (parsed_entries m) (own_of (requirements m)) keep a = subst (λ xs. IsAnswer fs xs (own_of (requirements m)) keep a) entries by_rs in
+    subst (λ xs. IsAnswer xs (parsed_entries m) (own_of (requirements m)) keep a) listed by_es
 
 pub returns-clause-resolved : goal.returns-clause-resolved
-returns-clause-resolved g c =
-    parsed_from (manifest_meaning (λ m. m) c.args.manifest.now) (listed_of c.as_slice.result.now) (map entry_of c.as_slice-2.result.now) (map requirement_of c.as_slice-3.result.now) (answer_of c.in_ok-resolve.field-0)
+returns-clause-resolved g c = λ keep tells.
+    parsed_from (manifest_meaning (λ m. m) c.args.manifest.now) (listed_of c.as_slice.result.now) (map entry_of c.as_slice-2.result.now) (map requirement_of c.as_slice-3.result.now) keep (answer_of c.in_ok-resolve.field-0)
     (ap listed_of c.as_slice.ensures.value ∙ c.in_ok-listings.ensures.all)
     (ap (map entry_of) c.as_slice-2.ensures.value ∙ c.in_ok-entries.ensures ∙ ap₂ (entries_of MAX_ITEMS) c.tables_of.ensures.own c.tables_of.ensures.targets)
     (ap (map requirement_of) c.as_slice-3.ensures.value ∙ c.in_ok-requirements.ensures)
-    c.in_ok-resolve.ensures.resolved
+    (c.in_ok-resolve.ensures.resolved keep tells)
+
+pub returns-clause-no_removed_name : goal.returns-clause-no_removed_name
+returns-clause-no_removed_name g c = λ keep tells.
+    none_left (admitted MAX_ITEMS (manifest_meaning (λ m. m) c.args.manifest.now).features) (parsed_entries (manifest_meaning (λ m. m) c.args.manifest.now))
+    (own_of (requirements (manifest_meaning (λ m. m) c.args.manifest.now))) keep (answer_of c.in_ok-resolve.field-0) (returns-clause-resolved g c keep tells)
+
+pub returns-clause-closure : goal.returns-clause-closure
+returns-clause-closure g c = λ keep full tells all.
+    keeps_enabling (admitted MAX_ITEMS (manifest_meaning (λ m. m) c.args.manifest.now).features) (parsed_entries (manifest_meaning (λ m. m) c.args.manifest.now))
+    (own_of (requirements (manifest_meaning (λ m. m) c.args.manifest.now))) keep full (answer_of c.in_ok-resolve.field-0) all (returns-clause-resolved g c keep tells)
+
+pub returns-clause-nothing_lost : goal.returns-clause-nothing_lost
+returns-clause-nothing_lost g c = λ keep full tells all.
+    loses_nothing (admitted MAX_ITEMS (manifest_meaning (λ m. m) c.args.manifest.now).features) (parsed_entries (manifest_meaning (λ m. m) c.args.manifest.now))
+    (own_of (requirements (manifest_meaning (λ m. m) c.args.manifest.now))) keep full (answer_of c.in_ok-resolve.field-0) all (returns-clause-resolved g c keep tells)

@@ -1,11 +1,17 @@
-use Rattle.std.proofs.Common.{true, [], map, ap, subst, ◌∙◌}
-use Rattle.cargo_toml_graph.specs.Admitted.{Listed}
+use Rattle.std.proofs.Common.{[], map, ap, subst, ◌∙◌}
+use Rattle.cargo_toml_graph.specs.Admitted.{Listed, admitted}
+use Rattle.cargo_toml_resolve.specs.declared.admit.TheConstants.{MAX_ITEMS}
 use Rattle.cargo_toml_resolve.specs.Reading.{listed_of}
-use Rattle.cargo_toml_resolve.specs.Resolved.{table_of, IsAnswer}
+use Rattle.cargo_toml_resolve.specs.Resolved.{IsAnswer}
 use Rattle.cargo_toml_resolve.specs.Views.{answer_of, entry_of}
+use Rattle.cargo_toml_resolve.proofs.Agreement.{settled}
 use Rattle.cargo_toml.proofs.features.Resolver.parse_custom.Goals as goal
 
 pub returns-clause-resolved : goal.returns-clause-resolved
-returns-clause-resolved g c = λ listed is.
-    subst (λ (fs : Listed). IsAnswer (table_of fs (map entry_of c.args.dependencies.now)) fs (map entry_of c.args.dependencies.now) (λ _. []) (λ _. true) (answer_of c.in_ok-resolve.field-0))
-    (ap listed_of c.as_slice.ensures.value ∙ c.in_ok-listings.ensures.all listed is) c.in_ok-resolve.ensures.resolved
+returns-clause-resolved g c = λ keep listed tells is.
+    subst (λ (fs : Listed). IsAnswer fs (map entry_of c.args.dependencies.now) (λ _. []) keep (answer_of c.in_ok-resolve.field-0))
+    (ap listed_of c.as_slice-listings.ensures.value ∙ c.in_ok-listings.ensures.all listed is) (c.in_ok-resolve.ensures.resolved keep tells)
+
+pub returns-clause-agreement : goal.returns-clause-agreement
+returns-clause-agreement g c = λ keep listed tells is own a answers.
+    settled (admitted MAX_ITEMS listed) (map entry_of c.args.dependencies.now) own (λ _. []) keep a (answer_of c.in_ok-resolve.field-0) answers (returns-clause-resolved g c keep listed tells is)

@@ -1,0 +1,133 @@
+//! Completing a manifest, and resolving the features that it then has.
+ghost use Rattle.std.specs.Prelude.{◌≡◌, Bool, false, IfErr, IfOk, IfSome, IsSome, Ok, Some, option_map};
+ghost use Rattle.std.specs.Borrow.{sem};
+ghost use Rattle.cargo_toml_parts.specs.declared.error.Error.{Memory};
+ghost use Rattle.cargo_toml_graph.specs.Action.{Text};
+ghost use Rattle.cargo_toml_hidden.specs.Filter.{HasNameFilter, Tells};
+ghost use Rattle.cargo_toml_package.specs.Filled.{IsFilled};
+ghost use Rattle.cargo_toml_manifest.specs.Choosing.{handed_of};
+ghost use Rattle.cargo_toml_manifest.specs.Completing.{GivenBy, IsLasting, IsWrapped, Meets, complete};
+ghost use Rattle.cargo_toml_manifest.specs.Inheriting.{needs};
+ghost use Rattle.cargo_toml_manifest.specs.Manifests.{manifest_meaning};
+ghost use Rattle.cargo_toml_manifest.specs.Told.{heard};
+ghost use Rattle.cargo_toml_resolve.specs.FirstTarget.{HaveTargets};
+ghost use Rattle.cargo_toml_resolve.specs.Reached.{IsKeyed};
+ghost use Rattle.cargo_toml_resolve.specs.Views.{answer_of};
+ghost use Rattle.cargo_toml.specs.Filtered.{filter_of};
+ghost use Rattle.cargo_toml.specs.Lent.{IsLentOn, with_lent};
+ghost use Rattle.cargo_toml.specs.Parsed.{IsParsed};
+
+use crate::features::{Features, Resolver};
+use cargo_toml_manifest::{AbstractFilesystem, Manifest};
+use cargo_toml_parts::Error;
+use std::alloc::Global;
+use std::hash::BuildHasher;
+
+/// Completes a manifest and resolves its features, as [`Resolver::complete_and_parse`], and says what a refusal leaves.
+///
+/// The manifest comes back where it was completed, and then is as it is lent; where completion was refused, the answer is `None`,
+/// and it is as it was. What is resolved, or the fault, is put into `slot`. After a completion that fault is
+/// [`Error::Memory`].
+pub fn complete_and_parse_into<
+    'm,
+    M: Drop,
+    N,
+    F: Fn(&str) -> bool,
+    S: BuildHasher + Clone + Drop,
+    Fs: AbstractFilesystem + Drop,
+>(
+    manifest: &'m mut Manifest<M>,
+    resolver: &Resolver<'_, F, S>,
+    alloc: Global,
+    fs: Fs,
+    workspace: Option<(&Manifest<N>, &str)>,
+    slot: &mut Option<Result<Features<'m, 'm, S>, Error>>,
+) -> Option<&'m Manifest<M>>
+    requires { HasNameFilter F.Fn (filter_of resolver.now) }
+    ensures* left { sem 𝓛 (IsLentOn M.row manifest.entry result) }
+    ensures answered { IsSome (with_lent result slot.new) }
+    ensures completed { IfSome result (λ lent. Meets (λ m. manifest_meaning (λ m. m) m.now)
+        (complete (manifest_meaning (λ m. m) manifest.old) (option_map handed_of workspace.entry)
+        (λ hint. heard Fs.Roots.ARE_READ (Fs.root_for fs hint)) (Fs.names_at fs)) (Ok lent)) }
+    ensures given { IfSome result (λ m. GivenBy (manifest_meaning (λ m. m) manifest.old)
+        (option_map handed_of workspace.entry) (λ hint. heard Fs.Roots.ARE_READ (Fs.root_for fs hint))
+        (Fs.names_at fs) (manifest_meaning (λ m. m) m.now)) }
+    ensures needs { IfSome result (λ m. needs (manifest_meaning (λ m. m) m.now) ≡ false) }
+    ensures filled { IfSome result (λ m. IfSome m.now.package IsFilled) }
+    ensures again { IfSome result (λ m. IsLasting (manifest_meaning (λ m. m) manifest.old)
+        (option_map handed_of workspace.entry) (manifest_meaning (λ m. m) m.now)) }
+    ensures memory { IfSome result (λ _. IfSome slot.new (λ r. IfErr r (λ e. e ≡ Memory))) }
+    ensures outcome { IfSome (with_lent result slot.new) (Meets (λ p. manifest_meaning (λ m. m) p.0.now)
+        (complete (manifest_meaning (λ m. m) manifest.old) (option_map handed_of workspace.entry)
+        (λ hint. heard Fs.Roots.ARE_READ (Fs.root_for fs hint)) (Fs.names_at fs))) }
+    ensures wrapped { IfSome (with_lent result slot.new) (λ r. IfErr r IsWrapped) }
+    ensures resolved { IfSome (with_lent result slot.new) (λ r. IfOk r (λ p. (keep : Text → Bool) →
+        Tells F.Fn (filter_of resolver.now) keep → IsParsed (manifest_meaning (λ m. m) p.0.now) keep (answer_of p.1))) }
+    ensures keyed { IfSome (with_lent result slot.new) (λ r. IfOk r (λ p. IsKeyed p.1.features)) }
+    ensures targets { IfSome (with_lent result slot.new) (λ r. IfOk r (λ p. HaveTargets p.1.dependencies)) }
+{
+    match manifest.complete_from_abstract_filesystem(alloc, fs, workspace) {
+        Ok(()) => {}
+        Err(fault) => {
+            *slot = Some(Err(fault));
+            return None;
+        }
+    }
+    let manifest: &'m Manifest<M> = manifest;
+    *slot = Some(resolver.parse(alloc, manifest));
+    Some(manifest)
+}
+
+// What is lent, with what was put beside it.
+fn both<'m, M, S: BuildHasher + Drop>(
+    lent: Option<&'m Manifest<M>>,
+    slot: Option<Result<Features<'m, 'm, S>, Error>>,
+) -> Result<(&'m Manifest<M>, Features<'m, 'm, S>), Error>
+    requires { IsSome (with_lent lent slot) }
+    ensures answer { with_lent lent.entry slot.entry ≡ Some result }
+    ensures lent { IfOk result (λ p. lent.entry ≡ Some p.0) }
+{
+    match slot {
+        Some(Ok(resolved)) => match lent {
+            Some(lent) => Ok((lent, resolved)),
+            None => unreachable!(),
+        },
+        Some(Err(fault)) => Err(fault),
+        None => unreachable!(),
+    }
+}
+
+impl<'config, F: Fn(&str) -> bool, S: BuildHasher + Clone + Drop> Resolver<'config, F, S> {
+    /// Completes a manifest as [`Manifest::complete_from_abstract_filesystem`] does, and resolves the features of the completed
+    /// manifest as [`Resolver::parse`] does.
+    ///
+    /// A refusal is that of completion, or [`Error::Memory`]. [`complete_and_parse_into`] says what it leaves.
+    pub fn complete_and_parse<'m, M: Drop, N, Fs: AbstractFilesystem + Drop>(
+        &self,
+        alloc: Global,
+        manifest: &'m mut Manifest<M>,
+        fs: Fs,
+        workspace: Option<(&Manifest<N>, &str)>,
+    ) -> Result<(&'m Manifest<M>, Features<'m, 'm, S>), Error>
+        requires { HasNameFilter F.Fn (filter_of self.now) }
+        ensures outcome { Meets (λ p. manifest_meaning (λ m. m) p.0.now)
+            (complete (manifest_meaning (λ m. m) manifest.old) (option_map handed_of workspace.entry)
+            (λ hint. heard Fs.Roots.ARE_READ (Fs.root_for fs hint)) (Fs.names_at fs)) result }
+        ensures given { IfOk result (λ p. GivenBy (manifest_meaning (λ m. m) manifest.old)
+            (option_map handed_of workspace.entry) (λ hint. heard Fs.Roots.ARE_READ (Fs.root_for fs hint))
+            (Fs.names_at fs) (manifest_meaning (λ m. m) p.0.now)) }
+        ensures needs { IfOk result (λ p. needs (manifest_meaning (λ m. m) p.0.now) ≡ false) }
+        ensures filled { IfOk result (λ p. IfSome p.0.now.package IsFilled) }
+        ensures again { IfOk result (λ p. IsLasting (manifest_meaning (λ m. m) manifest.old)
+            (option_map handed_of workspace.entry) (manifest_meaning (λ m. m) p.0.now)) }
+        ensures wrapped { IfErr result IsWrapped }
+        ensures resolved { IfOk result (λ p. (keep : Text → Bool) → Tells F.Fn (filter_of self.now) keep →
+            IsParsed (manifest_meaning (λ m. m) p.0.now) keep (answer_of p.1)) }
+        ensures keyed { IfOk result (λ p. IsKeyed p.1.features) }
+        ensures targets { IfOk result (λ p. HaveTargets p.1.dependencies) }
+    {
+        let mut slot = None;
+        let lent = complete_and_parse_into(manifest, self, alloc, fs, workspace, &mut slot);
+        both(lent, slot)
+    }
+}

@@ -1,0 +1,25 @@
+-- What the walk over a map of features tells is what the map's own table tells.
+use Rattle.std.proofs.Common.{◌≡◌, ◌↔◌, Bool, false, Bor, IsTrue, Some, None, is_some, sym, ap, subst, ◌∙◌}
+use Rattle.std.proofs.lemmas.Bool.{false≢true}
+use Rattle.std.specs.HashMap.{HashMap}
+use Rattle.cargo_toml.specs.Action.{Text}
+use Rattle.cargo_toml.specs.Feature.{Feature}
+use Rattle.cargo_toml.specs.Reached.{AreEnabled, Found, IsKeyed}
+use Rattle.cargo_toml.specs.Recursive.{Enables}
+use Rattle.cargo_toml.specs.Views.{table_in, value_at}
+use Rattle.cargo_toml_resolve.proofs.Pending.{key_of}
+use Rattle.cargo_toml_bench.specs.Enabled.{HasEnabling}
+
+module _ {S : Type 0} (m : HashMap (Bor Text) Feature S) (name other : Text) where
+  -- the feature under the name enables those that are found
+  pub told_in : IsKeyed m → (v : Feature) → value_at m name ≡ Some v → (found : Found S) → AreEnabled m v.key.now found →
+      (answer : Bool) → answer ≡ is_some (value_at found other) → IsTrue answer ↔ HasEnabling (table_in m) name other
+  told_in keyed v here found enabled answer told =
+      let key : v.key.now ≡ name = key_of m keyed name v here in (
+        λ y. (ap is_some here, subst (λ f. Enables (table_in m) f other) key ((enabled other).0 (sym told ∙ y))),
+        λ h. told ∙ (enabled other).1 (subst (λ f. Enables (table_in m) f other) (sym key) h.1),
+      )
+
+  -- no feature has the name
+  pub missing_in : value_at m name ≡ None → IsTrue false ↔ HasEnabling (table_in m) name other
+  missing_in missing = (λ y. absurd (false≢true y), λ h. absurd (false≢true (sym (ap is_some missing) ∙ h.0)))

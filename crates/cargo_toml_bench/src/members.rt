@@ -1,0 +1,60 @@
+//! Features of members of a workspace, once these are completed.
+ghost use Rattle.std.specs.Prelude.{◌≡◌, ◌⊎◌, false, IfErr, IfOk, OnOk, option_map};
+ghost use Rattle.cargo_toml.specs.Choosing.{handed_of};
+ghost use Rattle.cargo_toml.specs.Completing.{IsWrapped};
+ghost use Rattle.cargo_toml.specs.Error.{Memory};
+ghost use Rattle.cargo_toml.specs.InheritedManifests.{needs};
+ghost use Rattle.cargo_toml.specs.Manifests.{manifest_meaning};
+ghost use Rattle.cargo_toml.specs.Told.{heard};
+ghost use Rattle.cargo_toml_bench.specs.Members.{IsToldOfMember};
+
+use cargo_toml::features::{Resolver, complete_and_parse_into};
+use cargo_toml::{AbstractFilesystem, Error, Manifest};
+use std::alloc::Global;
+
+/// Completes a member, and tells whether it then has the feature `name` and asking for that enables the feature `other`.
+///
+/// Refuses as completion does, with [`Error::Memory`] where there was no room.
+pub fn enables_in_member<Fs: AbstractFilesystem + Drop>(
+    alloc: Global,
+    member: &mut Manifest,
+    files: Fs,
+    workspace: Option<(&Manifest, &str)>,
+    name: &str,
+    other: &str,
+) -> Result<bool, Error>
+    ensures answer { IfOk result (IsToldOfMember (manifest_meaning (λ m. m) member.old) (option_map handed_of workspace.entry)
+        (λ hint. heard Fs.Roots.ARE_READ (Fs.root_for files hint)) (Fs.names_at files) name.now other.now) }
+    ensures refused { IfErr result IsWrapped }
+{
+    let resolver = Resolver::new();
+    let (_completed, resolved) = resolver.complete_and_parse(alloc, member, files, workspace)?;
+    let Some(feature) = resolved.features.get(name) else {
+        return Ok(false);
+    };
+    let (features, _dependencies) = feature.enables_recursive(alloc, &resolved.features)?;
+    Ok(features.contains_key(other))
+}
+
+/// Completes a member, and counts the features that it then has.
+///
+/// A refusal leaves the member as it was, unless it is want of memory: then the member may be completed.
+pub fn count_features<Fs: AbstractFilesystem + Drop>(
+    alloc: Global,
+    member: &mut Manifest,
+    files: Fs,
+    workspace: Option<(&Manifest, &str)>,
+) -> Result<usize, Error>
+    ensures nothing_left { OnOk result (needs (manifest_meaning (λ m. m) member.new) ≡ false) }
+    ensures left { IfErr result (λ e. (member.new ≡ member.old)
+        ⊎ ((e ≡ Memory) × (needs (manifest_meaning (λ m. m) member.new) ≡ false))) }
+{
+    let mut slot = None;
+    let resolver = Resolver::new();
+    complete_and_parse_into(member, &resolver, alloc, files, workspace, &mut slot);
+    match slot {
+        Some(Ok(resolved)) => Ok(resolved.features.len()),
+        Some(Err(fault)) => Err(fault),
+        None => unreachable!(),
+    }
+}

@@ -1,0 +1,72 @@
+//! A manifest's features, with none removed, with one hidden name kept, and both with none and with all removed.
+ghost use Rattle.std.specs.Prelude.{◌≡◌, true, bytes_eq, codes, IfErr, IfOk};
+ghost use Rattle.cargo_toml.specs.Error.{Memory};
+ghost use Rattle.cargo_toml.specs.Kept.{KeepsEnabling, LosesNothing};
+ghost use Rattle.cargo_toml.specs.Manifests.{manifest_meaning};
+ghost use Rattle.cargo_toml.specs.Parsed.{IsParsed};
+ghost use Rattle.cargo_toml.specs.Reached.{IsKeyed};
+ghost use Rattle.cargo_toml.specs.Views.{answer_of};
+
+use cargo_toml::features::{Features, Resolver};
+use cargo_toml::{Error, Manifest};
+use std::alloc::Global;
+use std::hash::{BuildHasherDefault, FoldHasher};
+
+type Answer<'m> = Features<'m, 'm, BuildHasherDefault<FoldHasher>>;
+
+fn keep_every(_name: &str) -> bool
+    ensures { result ≡ true }
+{
+    true
+}
+
+fn keep_a(name: &str) -> bool
+    ensures { result ≡ bytes_eq name.now (codes "_a") }
+{
+    name == "_a"
+}
+
+/// Resolves the features of a manifest by a filter that keeps every name, so that none is removed. The one refusal is
+/// [`Error::Memory`].
+pub fn resolve_whole<'m, M>(alloc: Global, manifest: &'m Manifest<M>) -> Result<Answer<'m>, Error>
+    ensures resolved { IfOk result (λ a. IsParsed (manifest_meaning (λ m. m) manifest.now) (λ _. true) (answer_of a)) }
+    ensures keyed { IfOk result (λ a. IsKeyed a.features) }
+    ensures refused { IfErr result (λ e. e ≡ Memory) }
+{
+    let keep = keep_every;
+    let resolver = Resolver::new_with_hasher_and_filter(BuildHasherDefault::new(), &keep);
+    resolver.parse(alloc, manifest)
+}
+
+/// Resolves the features of a manifest by a filter that keeps `_a` alone of the hidden names. The one refusal is
+/// [`Error::Memory`].
+pub fn resolve_keeping_a<'m, M>(
+    alloc: Global,
+    manifest: &'m Manifest<M>,
+) -> Result<Answer<'m>, Error>
+    ensures resolved { IfOk result (λ a. IsParsed (manifest_meaning (λ m. m) manifest.now) (λ n. bytes_eq n (codes "_a"))
+        (answer_of a)) }
+    ensures refused { IfErr result (λ e. e ≡ Memory) }
+{
+    let keep = keep_a;
+    let resolver = Resolver::new_with_hasher_and_filter(BuildHasherDefault::new(), &keep);
+    resolver.parse(alloc, manifest)
+}
+
+/// Resolves the features of a manifest twice: first with none removed, then without the hidden ones.
+///
+/// Between features of the second answer, what enables what at last is the same in both, and none of them enables less by
+/// the second. The one refusal is [`Error::Memory`].
+pub fn resolve_both<'m, M>(
+    alloc: Global,
+    manifest: &'m Manifest<M>,
+) -> Result<(Answer<'m>, Answer<'m>), Error>
+    ensures closure { IfOk result (λ p. KeepsEnabling (answer_of p.0).resolution (answer_of p.1).resolution) }
+    ensures nothing_lost { IfOk result (λ p. LosesNothing (answer_of p.0).resolution (answer_of p.1).resolution) }
+    ensures refused { IfErr result (λ e. e ≡ Memory) }
+{
+    let whole = resolve_whole(alloc, manifest)?;
+    let resolver = Resolver::new();
+    let shown = resolver.parse(alloc, manifest)?;
+    Ok((whole, shown))
+}

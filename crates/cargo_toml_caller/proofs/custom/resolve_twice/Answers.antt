@@ -1,0 +1,16 @@
+use Rattle.std.proofs.Common.{false, sym, subst}
+use Rattle.cargo_toml.specs.Manifests.{manifest_meaning}
+use Rattle.cargo_toml.specs.OwnBins.{own_of}
+use Rattle.cargo_toml.specs.Parsed.{IsAnswerFor, requirements}
+use Rattle.cargo_toml.specs.Views.{answer_of}
+use Rattle.cargo_toml_caller.proofs.Unfiltered.{keeps_none}
+use Rattle.cargo_toml_caller.proofs.custom.resolve_twice.Goals as goal
+
+pub returns-clause-agree : goal.returns-clause-agree
+returns-clause-agree g c = λ is same.
+    let m = manifest_meaning (λ m. m) c.args.manifest.now in
+    let own = own_of (requirements m) in
+    let a = answer_of c.in_ok-parsed.parsed in
+    let none = c.new-resolver.ensures.unfiltered in
+    c.in_ok-custom.ensures.agreement (λ _. false) m.features (keeps_none _ c.new-resolver.result.should_keep_hidden_feature none) is own a
+    (subst (λ es. IsAnswerFor m.features es own (λ _. false) a) (sym same) (c.in_ok-parsed.ensures.resolved (λ _. false) (keeps_none _ c.new-resolver.result.should_keep_hidden_feature none)))

@@ -1,0 +1,62 @@
+//! Features that stand in no manifest.
+ghost use Rattle.std.specs.Prelude.{◌≡◌, IfErr, IfOk, map};
+ghost use Rattle.cargo_toml.specs.Admitted.{Listed};
+ghost use Rattle.cargo_toml.specs.Agreement.{Agree};
+ghost use Rattle.cargo_toml.specs.Error.{Memory};
+ghost use Rattle.cargo_toml.specs.Hashed.{IsListingOf};
+ghost use Rattle.cargo_toml.specs.Manifests.{manifest_meaning};
+ghost use Rattle.cargo_toml.specs.Parsed.{parsed_entries};
+ghost use Rattle.cargo_toml.specs.Views.{answer_of, entry_of};
+ghost use Rattle.cargo_toml_caller.specs.CustomFeatures.{IsNamed};
+
+use cargo_toml::features::{Features, ParseDependency, Resolver};
+use cargo_toml::{Error, Manifest};
+use std::alloc::Global;
+use std::collections::HashMap;
+use std::hash::{BuildHasher, BuildHasherDefault, FoldHasher};
+
+/// Whether a table has the feature `name`, and it names `other` once the table is resolved. The one refusal is
+/// [`Error::Memory`].
+pub fn is_named<'m: 'd, 'd, S: BuildHasher>(
+    alloc: Global,
+    features: &'m HashMap<String, Vec<String>, S>,
+    dependencies: &[ParseDependency<'m, 'd>],
+    name: &str,
+    other: &str,
+) -> Result<bool, Error>
+    ensures answer { IfOk result (λ b. (listed : Listed) → IsListingOf features.now listed
+        → IsNamed listed (map entry_of dependencies.now) name.now other.now b) }
+    ensures listed { IfOk result (λ _. (listed : Listed) × IsListingOf features.now listed) }
+    ensures refused { IfErr result (λ e. e ≡ Memory) }
+{
+    let resolved = Resolver::new().parse_custom(alloc, features, dependencies)?;
+    let Some(feature) = resolved.features.get(name) else {
+        return Ok(false);
+    };
+    Ok(feature.enables_features.contains(other))
+}
+
+/// Features resolved twice: in their manifest, and with the entries of its dependency tables by themselves.
+pub type Twice<'m, 'd> = (
+    Features<'m, 'm, BuildHasherDefault<FoldHasher>>,
+    Features<'m, 'd, BuildHasherDefault<FoldHasher>>,
+);
+
+/// Where the table and the entries are those of the manifest, the two agree in all but binaries. The one refusal is
+/// [`Error::Memory`].
+pub fn resolve_twice<'m: 'd, 'd, M, S: BuildHasher>(
+    alloc: Global,
+    manifest: &'m Manifest<M>,
+    features: &'m HashMap<String, Vec<String>, S>,
+    dependencies: &[ParseDependency<'m, 'd>],
+) -> Result<Twice<'m, 'd>, Error>
+    ensures agree { IfOk result (λ r. let m = manifest_meaning (λ m. m) manifest.now in
+        IsListingOf features.now m.features → map entry_of dependencies.now ≡ parsed_entries m
+        → Agree (answer_of r.0) (answer_of r.1)) }
+    ensures refused { IfErr result (λ e. e ≡ Memory) }
+{
+    let resolver = Resolver::new();
+    let parsed = resolver.parse(alloc, manifest)?;
+    let custom = resolver.parse_custom(alloc, features, dependencies)?;
+    Ok((parsed, custom))
+}

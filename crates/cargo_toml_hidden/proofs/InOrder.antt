@@ -1,0 +1,54 @@
+-- The texts of a set, as a list.
+use Rattle.std.proofs.Common.{◌≡◌, ◌↔◌, List, [], ◌∷◌, map, IsTrue, Result, Ok, Err, IfOk, Vec, Global, Bor, subst, sym, ap, inl, inr, ◌∙◌}
+use Rattle.std.proofs.lemmas.Bool.{false≢true, or_left, or_right, or_cases}
+use Rattle.std.proofs.lemmas.Map.Keys.{sorted_head, sorted_tail}
+use Rattle.std.proofs.lemmas.Map.Text.{is_eq-slice_cmp}
+use Rattle.std.proofs.lemmas.Slice.Eq.{bytes_eq-Decides}
+use Rattle.std.specs.BTreeMap.{is_at}
+use Rattle.std.specs.BTreeSet.{BTreeSet}
+use Rattle.std.specs.Cmp.Lexicographic.{slice_cmp}
+use Rattle.std.specs.List.{AllByRecursion, list_any}
+use Rattle.std.specs.List.Sorted.{IsStrictlySortedBy}
+use Rattle.std.specs.Ordering.{nat_cmp, is_lt}
+use Rattle.std.specs.declared.cmp.Ordering.TheVariants.{Less}
+use Rattle.cargo_toml_graph.specs.Action.{Text}
+use Rattle.cargo_toml_graph.specs.Admitted.{is_below}
+use Rattle.cargo_toml_graph.specs.Reach.{Among}
+use Rattle.cargo_toml_graph.specs.Removal.{IsAscending}
+use Rattle.cargo_toml_resolve.specs.Views.{has_text}
+
+abbrev texts : List (Bor Text) → List Text
+texts xs = map (λ t. t.now) xs
+
+pub among_keys : (f : Text) (ks : List (Bor Text)) → Among (texts ks) f ↔ IsTrue (list_any (is_at (λ k. slice_cmp nat_cmp f k.now)) ks)
+among_keys f ks = (into ks, out ks)
+  where
+    into : (ks : List (Bor Text)) → Among (texts ks) f → IsTrue (list_any (is_at (λ k. slice_cmp nat_cmp f k.now)) ks)
+    into [] i = absurd i
+    into (k ∷ ks) (inl e) = or_left _ _ (is_eq-slice_cmp f k.now ∙ (bytes_eq-Decides f k.now).1 e)
+    into (k ∷ ks) (inr i) = or_right _ _ (into ks i)
+
+    out : (ks : List (Bor Text)) → IsTrue (list_any (is_at (λ k. slice_cmp nat_cmp f k.now)) ks) → Among (texts ks) f
+    out [] e = absurd (false≢true e)
+    out (k ∷ ks) e = elim (or_cases _ _ e) [ inl h ↦ inl ((bytes_eq-Decides f k.now).0 (sym (is_eq-slice_cmp f k.now) ∙ h)) | inr i ↦ inr (out ks i) ]
+
+pub all_taken : {E : Type 0} (r : Result (Vec (Bor Text) Global) E) (s : BTreeSet (Bor Text)) → IfOk r (λ v. v.items ≡ s.keys) → IfOk r (λ v. (f : Text) → Among (texts v.items) f ↔ IsTrue (has_text s f))
+all_taken (Ok v) s e = λ f. subst (λ (ks : List (Bor Text)). Among (texts ks) f ↔ IsTrue (has_text s f)) (sym e) (among_keys f s.keys)
+all_taken (Err _) s e = tt
+
+below_each : (k : Bor Text) (ks : List (Bor Text)) → AllByRecursion (λ x. slice_cmp nat_cmp k.now x.now ≡ Less) ks → (y : Text) → Among (texts ks) y → IsTrue (is_below k.now y)
+below_each k [] all y i = absurd i
+below_each k (x ∷ xs) all y (inl e) = subst (λ z. IsTrue (is_below k.now z)) (sym e) (ap is_lt all.0)
+below_each k (x ∷ xs) all y (inr i) = below_each k xs all.1 y i
+
+ascending : (ks : List (Bor Text)) → IsStrictlySortedBy (λ (x : Bor Text) (y : Bor Text). slice_cmp nat_cmp x.now y.now) ks → IsAscending (λ a b. IsTrue (is_below a b)) (texts ks)
+ascending [] h = tt
+ascending (k ∷ ks) h = (
+  below_each k ks (sorted_head (λ (x : Bor Text) (y : Bor Text). slice_cmp nat_cmp x.now y.now) k ks h),
+  ascending ks (sorted_tail (λ (x : Bor Text) (y : Bor Text). slice_cmp nat_cmp x.now y.now) k ks h),
+)
+
+pub taken_in_order : {E : Type 0} (r : Result (Vec (Bor Text) Global) E) (ks : List (Bor Text)) → IsStrictlySortedBy (λ (x : Bor Text) (y : Bor Text). slice_cmp nat_cmp x.now y.now) ks → IfOk r (λ v. v.items ≡ ks)
+    → IfOk r (λ v. IsAscending (λ a b. IsTrue (is_below a b)) (texts v.items))
+taken_in_order (Ok v) ks ordered e = subst (λ xs. IsAscending (λ a b. IsTrue (is_below a b)) (texts xs)) (sym e) (ascending ks ordered)
+taken_in_order (Err _) ks ordered e = tt

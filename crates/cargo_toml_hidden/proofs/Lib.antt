@@ -1,0 +1,30 @@
+mod Put
+mod Names
+mod Sets
+mod Actions
+mod Turns
+mod Taken
+mod InTurn
+mod Hiding
+mod InOrder
+mod Gathered
+mod NumberTexts
+mod NumberRows
+mod SameKept
+mod Resolving
+pub mod AgainstAll
+mod Renumbered
+mod InPlace
+pub mod NumberingGraph
+mod Answered
+mod Walked
+mod LeavingAll
+mod Placing
+mod TextSets
+mod Passers
+mod TakingOver
+mod HashedRows
+mod HashedKept
+mod LeftOver
+mod PutAlong
+mod BinTurns

@@ -1,0 +1,16 @@
+use Rattle.std.proofs.Common.{◌≡◌, sym, subst}
+use Rattle.cargo_toml_walk.specs.Numbered.{text_at}
+use Rattle.cargo_toml_hidden.specs.Texts.{texts_of}
+use Rattle.cargo_toml_hidden.proofs.NumberRows.{Gains, key_missing, key_own, key_put}
+use Rattle.cargo_toml_hidden.proofs.numbering.push_target.Goals as goal
+
+pub returns-in_ok-push : goal.returns-in_ok-push
+returns-in_ok-push c =
+    subst (Gains c.args.keys.now c.args.own (λ x. text_at (texts_of c.args.keys.now) x ≡ c.args.key.now) c.args.row.now.items) (sym c.in_ok-push.ensures.items)
+    (key_put c.args.keys.now c.args.own c.requires c.args.key.now c.args.row.now.items c.in-Some.target c.in-Some.ensures.found c.if-target-own.true)
+
+pub returns-else-target-own : goal.returns-else-target-own
+returns-else-target-own c = key_own c.args.keys.now c.args.own c.requires c.args.key.now c.args.row.now.items c.in-Some.target c.in-Some.ensures.found c.if-target-own.false
+
+pub returns-in_default : goal.returns-in_default
+returns-in_default c = key_missing c.args.keys.now c.args.own c.requires c.args.key.now c.args.row.now.items (c.place_of.ensures.missing c.in_default.is)

@@ -1,0 +1,11 @@
+pub mod Filter
+pub mod Removing
+pub mod Leaving
+pub mod TakingOver
+pub mod KeptFeatures
+pub mod Texts
+pub mod Numbering
+pub mod Passing
+pub mod Walking
+pub mod Left
+pub mod Puts

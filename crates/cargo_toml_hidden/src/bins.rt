@@ -1,0 +1,105 @@
+//! The binaries of removed features are passed on.
+ghost use Rattle.std.specs.Prelude.{◌≡◌, ◌<◌, ◌≤◌, ◌∷◌, [], ℕ, List, Vec, length, take, true, false, IfOk, OnOk};
+ghost use Rattle.std.specs.declared.alloc.Global.{Global};
+ghost use Rattle.cargo_toml_graph.specs.Reach.{Among};
+ghost use Rattle.cargo_toml_graph.specs.Removal.{put_all};
+ghost use Rattle.cargo_toml_walk.specs.Numbers.{IsWanted};
+ghost use Rattle.cargo_toml_hidden.specs.Passing.{bins_of, AreRedirects, AreSameButBins, HasBinsAt};
+ghost use Rattle.cargo_toml_hidden.specs.Puts.{Puts};
+ghost use Rattle.cargo_toml_hidden.specs.Texts.{texts_of};
+
+use cargo_toml_resolve::features::Feature;
+use std::alloc::AllocError;
+
+// A copy, for the lists may change while it is read.
+fn first_ten<'m>(bins: &Vec<&'m str>) -> Result<Vec<&'m str>, AllocError>
+    ensures { IfOk result (λ v. texts_of v.items ≡ take 10 (texts_of bins.now.items)) }
+{
+    let count = bins.len().min(10);
+    bins[..count].to_vec(*bins.allocator())
+}
+
+// The binary is put at the end, unless it is there.
+fn put_bin<'m>(own: &mut Vec<&'m str>, bin: &'m str) -> Result<(), AllocError>
+    ensures { OnOk result (texts_of own.new.items ≡ put_all (texts_of own.old.items) (bin.now ∷ [])) }
+{
+    if !own.contains(&bin) {
+        own.push(bin)?;
+    }
+    Ok(())
+}
+
+fn put_bins<'m>(own: &mut Vec<&'m str>, bins: &[&'m str]) -> Result<(), AllocError>
+    ensures { OnOk result (texts_of own.new.items ≡ put_all (texts_of own.old.items) (texts_of bins.now)) }
+{
+    for bin in bins {
+        put_bin(own, *bin)?;
+    }
+    Ok(())
+}
+
+fn put_at<'m>(
+    features: &mut Vec<Feature<'m>>,
+    at: usize,
+    bins: &[&'m str],
+) -> Result<(), AllocError>
+    requires { at < length features.old.items }
+    ensures { OnOk result (Puts (λ y. y ≡ at) (texts_of bins.now) features.old.items features.new.items) }
+{
+    let feature = &mut features[at];
+    put_bins(&mut feature.required_by_bins, bins)
+}
+
+// The binaries are put into the lists of the features that the row names; it may name what is no feature, too.
+fn put_along<'m>(
+    features: &mut Vec<Feature<'m>>,
+    row: &[usize],
+    bins: &[&'m str],
+) -> Result<(), AllocError>
+    ensures { OnOk result (Puts (Among row.now) (texts_of bins.now) features.old.items features.new.items) }
+{
+    for at in row {
+        if *at < features.len() {
+            put_at(features, *at, bins)?;
+        }
+    }
+    Ok(())
+}
+
+// The feature in place r passes its first ten binaries on along the row.
+fn pass_from<'m>(features: &mut Vec<Feature<'m>>, r: usize, row: &[usize]) -> Result<(), AllocError>
+    requires { r < length features.old.items }
+    ensures { OnOk result (Puts (Among row.now) (take 10 (bins_of features.old.items r)) features.old.items features.new.items) }
+{
+    let bins = first_ten(&features[r].required_by_bins)?;
+    if bins.is_empty() {
+        return Ok(());
+    }
+    put_along(features, row, bins.as_slice())
+}
+
+/// Removed features pass their binaries on to those that their rows name, in the order of their places: at its turn each its
+/// first ten.
+///
+/// A kept feature passes nothing on. It fails only where memory runs out.
+pub(crate) fn pass_bins<'m>(
+    features: &mut Vec<Feature<'m>>,
+    rows: &[Vec<usize>],
+    flags: &[bool],
+) -> Result<(), AllocError>
+    requires rows { length rows.now ≡ length features.old.items }
+    requires flags { length features.old.items ≤ length flags.now }
+    ensures others { OnOk result (AreSameButBins features.old.items features.new.items) }
+    ensures bins { OnOk result ((edges names : List (Vec ℕ Global)) → length edges ≡ length features.old.items
+        → length names ≡ length features.old.items → AreRedirects edges names flags.now rows.now
+        → (f : ℕ) → f < length features.old.items → IsWanted flags.now false f
+        → HasBinsAt edges names flags.now (bins_of features.old.items) f (bins_of features.new.items f)) }
+{
+    let size = features.len();
+    for r in 0..size {
+        if flags[r] {
+            pass_from(features, r, rows[r].as_slice())?;
+        }
+    }
+    Ok(())
+}

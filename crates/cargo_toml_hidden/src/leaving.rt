@@ -1,0 +1,139 @@
+//! What a kept feature holds once the removed ones that it passes are taken out.
+ghost use Rattle.std.specs.Prelude.{◌≡◌, ◌<◌, ◌⊎◌, ◌↔◌, ℕ, Some, IfOk, IsTrue, OnOk, length, map};
+ghost use Rattle.cargo_toml_graph.specs.Action.{Text, IsJoin};
+ghost use Rattle.cargo_toml_graph.specs.Reach.{Among};
+ghost use Rattle.cargo_toml_resolve.specs.Views.{action_at, has_text};
+ghost use Rattle.cargo_toml_walk.specs.Numbered.{text_at};
+ghost use Rattle.cargo_toml_hidden.specs.Leaving.{DoesAt, HasTexts, Leaves};
+ghost use Rattle.cargo_toml_hidden.specs.TakingOver.{ChangesIn, TakesActions, TakesOver};
+ghost use Rattle.cargo_toml_hidden.specs.Texts.{texts_of};
+
+use crate::joining::add_actions;
+use cargo_toml_resolve::features::{DepAction, Feature};
+use std::alloc::{AllocError, Global};
+use std::collections::{BTreeMap, BTreeSet};
+use std::mem;
+
+// The texts of the numbers, in their order.
+fn list_of<'m>(
+    alloc: Global,
+    numbers: &[usize],
+    texts: &[&'m str],
+) -> Result<Vec<&'m str>, AllocError>
+    requires { (x : ℕ) → Among numbers.now x → x < length texts.now }
+    ensures { IfOk result (λ v. texts_of v.items ≡ map (text_at (texts_of texts.now)) numbers.now) }
+{
+    let mut list = Vec::with_capacity(alloc, numbers.len())?;
+    for x in numbers {
+        list.push(texts[*x])?;
+    }
+    Ok(list)
+}
+
+fn into_set<'m>(alloc: Global, texts: Vec<&'m str>) -> Result<BTreeSet<&'m str>, AllocError>
+    ensures { IfOk result (λ s. (x : Text) → IsTrue (has_text s x) ↔ Among (texts_of texts.entry.items) x) }
+{
+    texts.into_iter().collect(alloc)
+}
+
+// The texts of the numbers, as a set.
+pub(crate) fn set_of<'m>(
+    alloc: Global,
+    numbers: &[usize],
+    texts: &[&'m str],
+) -> Result<BTreeSet<&'m str>, AllocError>
+    requires { (x : ℕ) → Among numbers.now x → x < length texts.now }
+    ensures { IfOk result (HasTexts (texts_of texts.now) numbers.now) }
+{
+    let list = list_of(alloc, numbers, texts)?;
+    into_set(alloc, list)
+}
+
+// The actions of the features in the passed places are joined to `own`.
+fn join_passed<'m>(
+    alloc: Global,
+    own: &mut BTreeMap<&'m str, DepAction<'m>>,
+    features: &[Feature<'m>],
+    passed: &[usize],
+) -> Result<(), AllocError>
+    requires { (b : ℕ) → Among passed.now b → b < length features.now }
+    ensures { OnOk result ((k : Text) →
+        IsJoin (λ a. (action_at own.old k ≡ Some a) ⊎ DoesAt features.now (Among passed.now) k a) (action_at own.new k)) }
+{
+    for b in passed {
+        add_actions(alloc, own, &features[*b].enables_deps)?;
+    }
+    Ok(())
+}
+
+// What the passed features do is joined to what the one in place `at` does, which does nothing meanwhile.
+fn take_actions<'m>(
+    alloc: Global,
+    features: &mut Vec<Feature<'m>>,
+    at: usize,
+    passed: &[usize],
+) -> Result<(), AllocError>
+    requires at { at < length features.old.items }
+    requires passed { (b : ℕ) → Among passed.now b → b < length features.old.items }
+    requires apart { ¬ Among passed.now at }
+    ensures { OnOk result (ChangesIn (TakesActions features.old.items at passed.now) at features.old.items features.new.items) }
+{
+    let feature = &mut features[at];
+    let mut own = mem::replace(&mut feature.enables_deps, BTreeMap::new(alloc));
+    join_passed(alloc, &mut own, features.as_slice(), passed)?;
+    let feature = &mut features[at];
+    feature.enables_deps = own;
+    Ok(())
+}
+
+// What the passed features name and do is taken over. Where there are none, nothing is copied.
+fn take_over<'m>(
+    alloc: Global,
+    features: &mut Vec<Feature<'m>>,
+    at: usize,
+    passed: &[usize],
+    named: &[usize],
+    texts: &[&'m str],
+) -> Result<(), AllocError>
+    requires at { at < length features.old.items }
+    requires passed { (b : ℕ) → Among passed.now b → b < length features.old.items }
+    requires apart { ¬ Among passed.now at }
+    requires named { (x : ℕ) → Among named.now x → x < length texts.now }
+    ensures { OnOk result (ChangesIn (TakesOver features.old.items (texts_of texts.now) at passed.now named.now) at
+        features.old.items features.new.items) }
+{
+    if passed.is_empty() {
+        return Ok(());
+    }
+    let names = set_of(alloc, named, texts)?;
+    take_actions(alloc, features, at, passed)?;
+    features[at].enables_features = names;
+    Ok(())
+}
+
+/// Takes removed features out of what the kept one in place `at` holds: those in the places `passed`, which it reaches through
+/// removed ones.
+///
+/// It comes to name the texts of `named`, and to do what it and the passed ones do; where it passes none, it names and does
+/// what it did. It is enabled by the texts of `enablers`. It fails only where memory runs out.
+pub(crate) fn leave<'m>(
+    alloc: Global,
+    features: &mut Vec<Feature<'m>>,
+    at: usize,
+    passed: &[usize],
+    named: &[usize],
+    enablers: &[usize],
+    texts: &[&'m str],
+) -> Result<(), AllocError>
+    requires at { at < length features.old.items }
+    requires passed { (b : ℕ) → Among passed.now b → b < length features.old.items }
+    requires apart { ¬ Among passed.now at }
+    requires named { (x : ℕ) → Among named.now x → x < length texts.now }
+    requires enablers { (x : ℕ) → Among enablers.now x → x < length texts.now }
+    ensures { OnOk result (Leaves at passed.now named.now enablers.now (texts_of texts.now) features.old.items features.new.items) }
+{
+    let enabled_by = set_of(alloc, enablers, texts)?;
+    take_over(alloc, features, at, passed, named, texts)?;
+    features[at].enabled_by = enabled_by;
+    Ok(())
+}

@@ -1,0 +1,101 @@
+//! Hidden features are removed from features that stand in the byte order of their names.
+ghost use Rattle.std.specs.Prelude.{◌≡◌, ◌↔◌, ◌<◌, ◌≤◌, ℕ, Bool, IfOk, IsSome, IsTrue, Some, length, slice_get, true, false};
+ghost use Rattle.std.specs.Option.{IsSomeAnd};
+ghost use Rattle.cargo_toml_graph.specs.Action.{Text};
+ghost use Rattle.cargo_toml_graph.specs.Graph.{Table};
+ghost use Rattle.cargo_toml_walk.specs.Numbered.{text_at};
+ghost use Rattle.cargo_toml_walk.specs.Numbers.{IsWanted, Leads, list_at};
+ghost use Rattle.cargo_toml_resolve.specs.declared.features.Feature.{Feature};
+ghost use Rattle.cargo_toml_resolve.specs.InOrder.{AreInOrder, AreTable};
+ghost use Rattle.cargo_toml_resolve.specs.Views.{value_at};
+ghost use Rattle.cargo_toml_hidden.specs.Leaving.{HasTexts};
+ghost use Rattle.cargo_toml_hidden.specs.Left.{AreLeft};
+ghost use Rattle.cargo_toml_hidden.specs.Numbering.{IsFlagged};
+ghost use Rattle.cargo_toml_hidden.specs.Texts.{texts_of};
+
+use crate::elimination::place;
+use crate::numbering::{Graph, number};
+use crate::publishing::hashed_kept;
+use crate::rows::hashed_rows;
+use cargo_toml_resolve::features::Feature;
+use std::alloc::{AllocError, Global};
+use std::collections::{BTreeSet, HashMap};
+use std::hash::BuildHasher;
+
+/// What is left of features once hidden ones are removed.
+#[derive(Debug, Drop)]
+pub struct Left<'m, S: BuildHasher> {
+    /// The kept features by their names.
+    pub features: HashMap<&'m str, Feature<'m>, S>,
+    /// What stands for each removed feature, by its name.
+    pub hidden: HashMap<&'m str, BTreeSet<&'m str>, S>,
+}
+
+// What stands in places, by names.
+fn publish<'m, S: BuildHasher + Clone>(
+    alloc: Global,
+    state: &S,
+    features: Vec<Feature<'m>>,
+    rows: &[Vec<usize>],
+    flags: &[bool],
+    texts: &[&'m str],
+) -> Result<Left<'m, S>, AllocError>
+    requires flags { length features.items ≤ length flags.now }
+    requires names { (i j : ℕ) (v w : Feature) → slice_get features.items i ≡ Some v → slice_get features.items j ≡ Some w →
+        v.key.now ≡ w.key.now → i ≡ j }
+    requires once { (i j : ℕ) → i < length texts.now → j < length texts.now →
+        text_at (texts_of texts.now) i ≡ text_at (texts_of texts.now) j → i ≡ j }
+    requires texts { length rows.now ≤ length texts.now }
+    requires rows { length rows.now ≤ length flags.now }
+    requires inside { (r x : ℕ) → Leads rows.now r x → x < length texts.now }
+    ensures kept { IfOk result (λ l. (i : ℕ) (v : Feature) → slice_get features.entry.items i ≡ Some v →
+        IsWanted flags.now false i → value_at l.features v.key.now ≡ Some v) }
+    ensures only { IfOk result (λ l. (f : Text) → IsSome (value_at l.features f) → (i : ℕ) × (v : Feature) ×
+        (slice_get features.entry.items i ≡ Some v) × IsWanted flags.now false i × (v.key.now ≡ f)) }
+    ensures rows { IfOk result (λ l. (i : ℕ) → i < length rows.now → IsWanted flags.now true i →
+        IsSomeAnd (value_at l.hidden (text_at (texts_of texts.now) i)) (HasTexts (texts_of texts.now) (list_at rows.now i))) }
+    ensures only_rows { IfOk result (λ l. (r : Text) → IsSome (value_at l.hidden r) →
+        (i : ℕ) × (i < length rows.now) × (text_at (texts_of texts.now) i ≡ r) × IsWanted flags.now true i) }
+{
+    Ok(Left {
+        features: hashed_kept(state.clone()?, alloc, features, flags)?,
+        hidden: hashed_rows(alloc, state.clone()?, rows, flags, texts)?,
+    })
+}
+
+/// Takes the features out whose flag stands. It fails only where memory runs out, or the clone of `state` does.
+pub fn take_out<'m, S: BuildHasher + Clone>(
+    alloc: Global,
+    state: &S,
+    mut features: Vec<Feature<'m>>,
+    flags: &[bool],
+) -> Result<Left<'m, S>, AllocError>
+    requires in_order { AreInOrder features.items }
+    requires len { length flags.now ≡ length features.items }
+    ensures { IfOk result (λ l. (t : Table) (removed : Text → Bool) → AreTable t features.entry.items →
+        ((f : Text) → IsTrue (removed f) ↔ IsFlagged features.entry.items flags.now f) →
+        AreLeft t removed features.entry.items l.features l.hidden) }
+{
+    let Graph {
+        texts,
+        edges,
+        names,
+        flags,
+    } = number(alloc, features.as_slice(), flags)?;
+    let rows = place(
+        alloc,
+        &mut features,
+        edges,
+        names,
+        flags.as_slice(),
+        texts.as_slice(),
+    )?;
+    publish(
+        alloc,
+        state,
+        features,
+        rows.as_slice(),
+        flags.as_slice(),
+        texts.as_slice(),
+    )
+}

@@ -1,0 +1,17 @@
+//! Hidden features are removed: those whose names begin with `_` and which a filter doesn't keep.
+#![tactic(auto)]
+
+pub mod bins;
+pub mod elimination;
+pub mod filter;
+pub mod flags;
+pub mod joining;
+pub mod leaving;
+pub mod left;
+pub mod numbering;
+pub mod publishing;
+pub mod removal;
+pub mod resolution;
+pub mod rows;
+
+pub use resolution::resolve;

@@ -1,0 +1,295 @@
+//! Features as a graph of numbers.
+ghost use Rattle.std.specs.Prelude.{◌≡◌, ◌≢◌, ◌↔◌, ◌⊎◌, ◌<◌, ◌≤◌, ℕ, IfOk, IfSome, IsTrue, None, OnOk, Some, length, map, true};
+ghost use Rattle.cargo_toml_graph.specs.Action.{Text};
+ghost use Rattle.cargo_toml_graph.specs.Admitted.{is_below};
+ghost use Rattle.cargo_toml_graph.specs.Graph.{IsPlain};
+ghost use Rattle.cargo_toml_graph.specs.Reach.{Among};
+ghost use Rattle.cargo_toml_graph.specs.Removal.{IsAscending};
+ghost use Rattle.cargo_toml_resolve.specs.InOrder.{AreInOrder, names_of, table_among};
+ghost use Rattle.cargo_toml_resolve.specs.Views.{action_at, action_of, has_text};
+ghost use Rattle.cargo_toml_walk.specs.Numbers.{IsWanted, Leads};
+ghost use Rattle.cargo_toml_walk.specs.Numbered.{IsNumbered, text_at};
+ghost use Rattle.cargo_toml_hidden.specs.Numbering.{AreParted, AreTextsOf, IsFlagged, IsTarget, is_named, names_at};
+ghost use Rattle.cargo_toml_hidden.specs.Texts.{texts_of};
+
+use cargo_toml_resolve::features::{DepAction, Feature};
+use cargo_toml_walk::texts::{in_order, place_of};
+use std::alloc::{AllocError, Global};
+use std::collections::{BTreeMap, BTreeSet};
+
+/// Features as a graph of numbers. The features have the numbers of their places; other texts that they name those after them.
+#[derive(Debug, Drop)]
+pub struct Graph<'m> {
+    /// The texts of the numbers.
+    pub texts: Vec<&'m str>,
+    /// Where the edges of each feature lead.
+    pub edges: Vec<Vec<usize>>,
+    /// What each feature names.
+    pub names: Vec<Vec<usize>>,
+    /// For each number whether it is removed.
+    pub flags: Vec<bool>,
+}
+
+fn keys_of<'m>(alloc: Global, features: &[Feature<'m>]) -> Result<Vec<&'m str>, AllocError>
+    ensures { IfOk result (λ v. texts_of v.items ≡ names_of features.now) }
+{
+    let mut keys = Vec::with_capacity(alloc, features.len())?;
+    for feature in features {
+        keys.push(feature.key)?;
+    }
+    Ok(keys)
+}
+
+fn is_key(keys: &[&str], text: &str) -> bool
+    requires { IsAscending (λ a b. IsTrue (is_below a b)) (texts_of keys.now) }
+    ensures { IsTrue result ↔ Among (texts_of keys.now) text.now }
+{
+    place_of(keys, text).is_some()
+}
+
+// The named texts that are no keys are put at the end.
+fn push_others<'m>(
+    others: &mut Vec<&'m str>,
+    named: &BTreeSet<&'m str>,
+    keys: &[&'m str],
+) -> Result<(), AllocError>
+    requires { IsAscending (λ a b. IsTrue (is_below a b)) (texts_of keys.now) }
+    ensures { OnOk result ((x : Text) → Among (texts_of others.new.items) x ↔ (Among (texts_of others.old.items) x
+        ⊎ (IsTrue (has_text named.now x) × (¬ Among (texts_of keys.now) x)))) }
+{
+    for name in named.iter() {
+        if !is_key(keys, *name) {
+            others.push(*name)?;
+        }
+    }
+    Ok(())
+}
+
+// What features name that is no key, in byte order.
+fn others_of<'m>(
+    alloc: Global,
+    features: &[Feature<'m>],
+    keys: &[&'m str],
+) -> Result<Vec<&'m str>, AllocError>
+    requires { IsAscending (λ a b. IsTrue (is_below a b)) (texts_of keys.now) }
+    ensures all { IfOk result (λ v. (x : Text) → Among (texts_of v.items) x
+        ↔ (IsTrue (is_named features.now x) × (¬ Among (texts_of keys.now) x))) }
+    ensures ascending { IfOk result (λ v. IsAscending (λ a b. IsTrue (is_below a b)) (texts_of v.items)) }
+{
+    let mut others = Vec::with_capacity(alloc, features.len())?;
+    for feature in features {
+        push_others(&mut others, &feature.enables_features, keys)?;
+    }
+    Ok(in_order(others))
+}
+
+// The texts of the numbers.
+fn all_texts<'m>(alloc: Global, features: &[Feature<'m>]) -> Result<Vec<&'m str>, AllocError>
+    requires { AreInOrder features.now }
+    ensures { IfOk result (λ v. AreTextsOf features.now (texts_of v.items)) }
+{
+    let mut texts = keys_of(alloc, features)?;
+    let others = others_of(alloc, features, texts.as_slice())?;
+    texts.extend_from_slice(others.as_slice())?;
+    Ok(texts)
+}
+
+// The number of a text: its place among the first `count` texts, or else among those after them.
+fn number_of(texts: &[&str], count: usize, text: &str) -> Option<usize>
+    requires { AreParted count (texts_of texts.now) }
+    ensures found { IfSome result (λ i. (i < length texts.now) × (text_at (texts_of texts.now) i ≡ text.now)) }
+    ensures missing { result ≡ None → ¬ Among (texts_of texts.now) text.now }
+{
+    if let Some(place) = place_of(&texts[..count], text) {
+        return Some(place);
+    }
+    let place = place_of(&texts[count..], text)?;
+    Some(count + place)
+}
+
+// The numbers of what a feature names.
+fn name_row(
+    alloc: Global,
+    named: &BTreeSet<&str>,
+    texts: &[&str],
+    count: usize,
+) -> Result<Vec<usize>, AllocError>
+    requires { AreParted count (texts_of texts.now) }
+    ensures { IfOk result (λ row. (x : ℕ) → Among row.items x
+        ↔ ((x < length texts.now) × IsTrue (has_text named.now (text_at (texts_of texts.now) x)))) }
+{
+    let mut row = Vec::with_capacity(alloc, named.len())?;
+    for name in named.iter() {
+        if let Some(number) = number_of(texts, count, *name) {
+            row.push(number)?;
+        }
+    }
+    Ok(row)
+}
+
+// What each feature names, by numbers.
+fn name_rows(
+    alloc: Global,
+    features: &[Feature<'_>],
+    texts: &[&str],
+) -> Result<Vec<Vec<usize>>, AllocError>
+    requires { AreParted (length features.now) (texts_of texts.now) }
+    ensures len { IfOk result (λ rows. length rows.items ≡ length features.now) }
+    ensures rows { IfOk result (λ rows. (i x : ℕ) → i < length features.now → Leads rows.items i x
+        ↔ ((x < length texts.now) × IsTrue (names_at features.now i (text_at (texts_of texts.now) x)))) }
+{
+    let mut rows = Vec::with_capacity(alloc, features.len())?;
+    for feature in features {
+        let row = name_row(alloc, &feature.enables_features, texts, features.len())?;
+        rows.push(row)?;
+    }
+    Ok(rows)
+}
+
+// The named features other than the one in place `own`.
+fn named_targets(
+    alloc: Global,
+    named: &[usize],
+    count: usize,
+    own: usize,
+) -> Result<Vec<usize>, AllocError>
+    ensures { IfOk result (λ row. (x : ℕ) → Among row.items x ↔ (Among named.now x × (x < count) × (x ≢ own))) }
+{
+    let mut row = Vec::with_capacity(alloc, named.len())?;
+    for x in named {
+        if *x < count && *x != own {
+            row.push(*x)?;
+        }
+    }
+    Ok(row)
+}
+
+// The feature of this name, if there is one other than the one in place `own`, is put at the end.
+fn push_target(row: &mut Vec<usize>, key: &str, keys: &[&str], own: usize) -> Result<(), AllocError>
+    requires { IsAscending (λ a b. IsTrue (is_below a b)) (texts_of keys.now) }
+    ensures { OnOk result ((x : ℕ) → Among row.new.items x ↔ (Among row.old.items x
+        ⊎ ((x < length keys.now) × (x ≢ own) × (text_at (texts_of keys.now) x ≡ key.now)))) }
+{
+    if let Some(target) = place_of(keys, key) {
+        if target != own {
+            row.push(target)?;
+        }
+    }
+    Ok(())
+}
+
+// A plain action enables the feature of the key's name.
+fn push_action(
+    row: &mut Vec<usize>,
+    key: &str,
+    action: &DepAction<'_>,
+    keys: &[&str],
+    own: usize,
+) -> Result<(), AllocError>
+    requires { IsAscending (λ a b. IsTrue (is_below a b)) (texts_of keys.now) }
+    ensures { OnOk result ((x : ℕ) → Among row.new.items x ↔ (Among row.old.items x
+        ⊎ (((x < length keys.now) × (x ≢ own) × (text_at (texts_of keys.now) x ≡ key.now)) × IsPlain (Some (action_of action.now))))) }
+{
+    if !action.is_conditional && !action.is_dep_only {
+        push_target(row, key, keys, own)?;
+    }
+    Ok(())
+}
+
+// Those that the actions enable, other than the one in place `own`.
+fn push_actions(
+    row: &mut Vec<usize>,
+    actions: &BTreeMap<&str, DepAction<'_>>,
+    keys: &[&str],
+    own: usize,
+) -> Result<(), AllocError>
+    requires { IsAscending (λ a b. IsTrue (is_below a b)) (texts_of keys.now) }
+    ensures { OnOk result ((x : ℕ) → Among row.new.items x ↔ (Among row.old.items x
+        ⊎ ((x < length keys.now) × (x ≢ own) × IsPlain (action_at actions.now (text_at (texts_of keys.now) x))))) }
+{
+    for (key, action) in actions.iter() {
+        push_action(row, *key, action, keys, own)?;
+    }
+    Ok(())
+}
+
+// The features that the one in place `own` enables; `named` has the numbers of what it names.
+fn edge_row(
+    alloc: Global,
+    feature: &Feature<'_>,
+    named: &[usize],
+    keys: &[&str],
+    own: usize,
+) -> Result<Vec<usize>, AllocError>
+    requires { IsAscending (λ a b. IsTrue (is_below a b)) (texts_of keys.now) }
+    ensures { IfOk result (λ row. (x : ℕ) → Among row.items x ↔ ((x < length keys.now) × (x ≢ own)
+        × (Among named.now x ⊎ IsPlain (action_at feature.now.enables_deps (text_at (texts_of keys.now) x))))) }
+{
+    let mut row = named_targets(alloc, named, keys.len(), own)?;
+    push_actions(&mut row, &feature.enables_deps, keys, own)?;
+    Ok(row)
+}
+
+// The features that each feature enables; `names` has the numbers of what each names.
+fn edge_rows(
+    alloc: Global,
+    features: &[Feature<'_>],
+    names: &[Vec<usize>],
+    keys: &[&str],
+) -> Result<Vec<Vec<usize>>, AllocError>
+    requires names { length names.now ≡ length features.now }
+    requires keys { IsAscending (λ a b. IsTrue (is_below a b)) (texts_of keys.now) }
+    ensures len { IfOk result (λ rows. length rows.items ≡ length features.now) }
+    ensures rows { IfOk result (λ rows. (i x : ℕ) → i < length features.now → Leads rows.items i x
+        ↔ ((x < length keys.now) × IsTarget features.now names.now (texts_of keys.now) i x)) }
+{
+    let mut rows = Vec::with_capacity(alloc, features.len())?;
+    for own in 0..features.len() {
+        let row = edge_row(alloc, &features[own], names[own].as_slice(), keys, own)?;
+        rows.push(row)?;
+    }
+    Ok(rows)
+}
+
+// The flags of features, and those of other texts, which aren't removed.
+fn all_flags(alloc: Global, flags: &[bool], size: usize) -> Result<Vec<bool>, AllocError>
+    requires { length flags.now ≤ size }
+    ensures len { IfOk result (λ v. length v.items ≡ size) }
+    ensures flags { IfOk result (λ v. (i : ℕ) → IsWanted v.items true i ↔ IsWanted flags.now true i) }
+{
+    let mut all = Vec::with_capacity(alloc, size)?;
+    all.extend_from_slice(flags)?;
+    all.resize(size, false)?;
+    Ok(all)
+}
+
+/// The features as a graph of numbers, with a flag for each number. An edge leads from a feature to another one that it names
+/// or acts on plainly. It fails only where memory runs out.
+pub fn number<'m>(
+    alloc: Global,
+    features: &[Feature<'m>],
+    flags: &[bool],
+) -> Result<Graph<'m>, AllocError>
+    requires in_order { AreInOrder features.now }
+    requires len { length flags.now ≡ length features.now }
+    ensures numbered { IfOk result (λ g. IsNumbered (table_among features.now) (IsFlagged features.now flags.now)
+        (texts_of g.texts.items) g.edges.items g.names.items g.flags.items) }
+    ensures count { IfOk result (λ g. length g.edges.items ≡ length features.now) }
+    ensures vertices { IfOk result (λ g. (i : ℕ) → i < length features.now →
+        text_at (texts_of g.texts.items) i ≡ text_at (names_of features.now) i) }
+    ensures names_len { IfOk result (λ g. length g.names.items ≡ length features.now) }
+    ensures edges_inside { IfOk result (λ g. (a b : ℕ) → Leads g.edges.items a b → b < length g.edges.items) }
+    ensures names_inside { IfOk result (λ g. (a x : ℕ) → Leads g.names.items a x → x < length g.flags.items) }
+{
+    let texts = all_texts(alloc, features)?;
+    let names = name_rows(alloc, features, texts.as_slice())?;
+    let keys = &texts.as_slice()[..features.len()];
+    let edges = edge_rows(alloc, features, names.as_slice(), keys)?;
+    let flags = all_flags(alloc, flags, texts.len())?;
+    Ok(Graph {
+        texts,
+        edges,
+        names,
+        flags,
+    })
+}

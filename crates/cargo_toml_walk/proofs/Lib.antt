@@ -1,0 +1,9 @@
+pub mod Places
+pub mod Numbered
+pub mod ByteOrder
+pub mod Steps
+pub mod Walking
+pub mod Filling
+pub mod Labelled
+pub mod Linking
+pub mod Rows

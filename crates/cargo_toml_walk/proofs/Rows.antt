@@ -1,0 +1,216 @@
+-- Rows in ascending order: a path through the removed vertices below r is cut at the first vertex that is not below the one that it left.
+use Rattle.std.proofs.Common.{◌≡◌, ◌≢◌, ◌⊎◌, ◌↔◌, ◌<◌, ◌≤◌, ◌+◌, ℕ, Bool, true, false, List, length-set, [], ◌∷◌, Vec, length, get_or, set, refl, sym, ap, subst, inl, inr, ◌∙◌, arith}
+use Rattle.std.proofs.lemmas.Bool.{cases_lt, cases_eq, cases_Bool, false≢true}
+use Rattle.std.proofs.lemmas.List.{get_or-set_same, get_or-set_other}
+use Rattle.cargo_toml_graph.specs.Reach.{Among, Reaches, Gathers, GathersLabel}
+use Rattle.cargo_toml_graph.specs.Reach.Reaches.{edge, through}
+use Rattle.cargo_toml_graph.proofs.Closure.{chained}
+use Rattle.cargo_toml_graph.proofs.Members.{reaches_within, label_within}
+use Rattle.cargo_toml_walk.specs.Numbers.{HasLabel, IsPassed, IsRedirect, IsWanted, Leads, Replaces}
+use Rattle.cargo_toml_walk.proofs.Labelled.{gathered}
+use Rattle.cargo_toml_walk.proofs.Linking.{last_edge, list_set, with_last}
+
+module _ (E : ℕ → ℕ → Type 0) (R : ℕ → Type 0) (L : ℕ → ℕ → Type 0) where
+  -- a removed vertex below n
+  abbrev pub Under : ℕ → ℕ → Type 0
+  Under n v = R v × (v < n)
+
+  -- what the rows of the vertices below r, and the vertex r itself, hold
+  pub record AreRows (r : ℕ) (E' L' : ℕ → ℕ → Type 0) : Type 0 where
+    pub start_edges : (b : ℕ) → E' r b ↔ E r b
+    pub start_labels : (x : ℕ) → L' r x ↔ L r x
+    pub row_edges : (s b : ℕ) → Under r s → E' s b ↔ (Reaches E (Under s) s b × ¬ Under s b)
+    pub row_labels : (s x : ℕ) → Under r s → L' s x ↔ (GathersLabel E (Under s) L s x × ¬ Under s x)
+
+  snoc : (n : ℕ) {a b c : ℕ} → Reaches E (Under n) a b → Under n b → E b c → Reaches E (Under n) a c
+  snoc n p u e = chained (Under n) p u (edge e)
+
+  module _ (r : ℕ) (E' L' : ℕ → ℕ → Type 0) (rows : AreRows r E' L') where
+    lift : (s v : ℕ) → Under r s → Under s v → Under r v
+    lift s v u w = (w.0, below v s w.1 u.1)
+      where
+        below : (v s : ℕ) → v < s → s < r → v < r
+        below v s h k = omega arith
+
+    -- a step along a row is a path
+    unrow : {s b : ℕ} → Under r s → E' s b → Reaches E (Under r) s b
+    unrow {s} {b} u e = reaches_within (Under s) (Under r) (λ v w. lift s v u w) ((rows.row_edges s b u).0 e).0
+
+    unrow_path : {s b : ℕ} → Under r s → Reaches E' (Under r) s b → Reaches E (Under r) s b
+    unrow_path u (edge e) = unrow u e
+    unrow_path u (through e w p) = chained (Under r) (unrow u e) w (unrow_path w p)
+
+    unrow_start : {b : ℕ} → Reaches E' (Under r) r b → Reaches E (Under r) r b
+    unrow_start {b} (edge e) = edge ((rows.start_edges b).0 e)
+    unrow_start (through {b = c} e w p) = through ((rows.start_edges c).0 e) w (unrow_path w p)
+
+    further : {a b c : ℕ} → Reaches E (Under r) a b → Under r b → Gathers E (Under r) b c → Gathers E (Under r) a c
+    further {a} p u (inl same) = inr (subst (Under r) (sym same) u, subst (λ v. Reaches E (Under r) a v) (sym same) p)
+    further p u (inr g) = inr (g.0, chained (Under r) p u g.1)
+
+    pub rows_sound : (x : ℕ) → GathersLabel E' (Under r) L' r x → GathersLabel E (Under r) L r x
+    rows_sound x (b, inl same, l) = (r, inl refl, (rows.start_labels x).0 (subst (λ v. L' v x) same l))
+    rows_sound x (b, inr g, l) =
+        let m = ((rows.row_labels b x g.0).0 l).0 in
+        let inner : Gathers E (Under r) b m.0 = elim (m.1) [ inl same ↦ inl same | inr h ↦ inr (lift b m.0 g.0 h.0, reaches_within (Under b) (Under r) (λ v w. lift b v g.0 w) h.1) ] in
+        (m.0, further (unrow_start g.1) g.0 inner, m.2)
+
+    module _ (x : ℕ) (out : ¬ Under r x) where
+      abbrev Cut : ℕ → Type 0
+      Cut a = (k : ℕ) × Gathers E' (Under r) a k × L' k x
+
+      out_under : (a : ℕ) → Under r a → ¬ Under a x
+      out_under a u w = out (lift a x u w)
+
+      -- the first step along a row
+      prepend : {a c : ℕ} → E' a c → Under r c → Cut c → Cut a
+      prepend {a} {c} e u k = (k.0, elim (k.1) [ inl same ↦ inr (subst (Under r) (sym same) u, subst (λ v. Reaches E' (Under r) a v) (sym same) (edge e)) | inr g ↦ inr (g.0, through e u g.1) ], k.2)
+
+      -- the end of the path
+      ended : (a b : ℕ) → Under r a → Under r b → Reaches E (Under a) a b → L b x → (b < a) ⊎ (a ≤ b) → Cut a
+      ended a b u w p l (inl lt) = (a, inl refl, (rows.row_labels a x u).1 ((b, inr ((w.0, lt), p), l), out_under a u))
+      ended a b u w p l (inr le) =
+          prepend ((rows.row_edges a b u).1 (p, λ v. absurd (omega (arith, le, v.1)))) w
+          (b, inl refl, (rows.row_labels b x w).1 ((b, inl refl, l), out_under b w))
+
+      -- from a, by removed vertices below it, to c, and on to b
+      cut : {c b : ℕ} (a : ℕ) → Under r a → Under r c → Under r b → Reaches E (Under a) a c → Reaches E (Under r) c b → L b x → (c < a) ⊎ (a ≤ c) → Cut a
+      cut {c} {b} a u w v p (edge e) l (inl lt) = ended a b u v (snoc a p (w.0, lt) e) l (cases_lt b a)
+      cut {c} a u w v p (through {b = d} e s q) l (inl lt) = cut a u s v (snoc a p (w.0, lt) e) q l (cases_lt d a)
+      cut {c} {b} a u w v p (edge e) l (inr le) = prepend ((rows.row_edges a c u).1 (p, λ h. absurd (omega (arith, le, h.1)))) w (ended c b w v (edge e) l (cases_lt b c))
+      cut {c} a u w v p (through {b = d} e s q) l (inr le) = prepend ((rows.row_edges a c u).1 (p, λ h. absurd (omega (arith, le, h.1)))) w (cut c w s v (edge e) q l (cases_lt d c))
+
+      from_start : {b : ℕ} → Under r b → Reaches E (Under r) r b → L b x → Cut r
+      from_start {b} v (edge e) l = prepend ((rows.start_edges b).1 e) v (b, inl refl, (rows.row_labels b x v).1 ((b, inl refl, l), out_under b v))
+      from_start {b} v (through {b = c} e s (edge f)) l = prepend ((rows.start_edges c).1 e) s (ended c b s v (edge f) l (cases_lt b c))
+      from_start {b} v (through {b = c} e s (through {b = d} f t q)) l = prepend ((rows.start_edges c).1 e) s (cut c s t v (edge f) q l (cases_lt d c))
+
+      rows_complete : GathersLabel E (Under r) L r x → GathersLabel E' (Under r) L' r x
+      rows_complete (b, inl same, l) = (r, inl refl, (rows.start_labels x).1 (subst (λ v. L v x) same l))
+      rows_complete (b, inr g, l) = from_start g.0 g.1 l
+
+    -- the next row, from the rows below
+    pub next_row : (x : ℕ) → (GathersLabel E' (Under r) L' r x × ¬ Under r x) ↔ (GathersLabel E (Under r) L r x × ¬ Under r x)
+    next_row x = (λ h. (rows_sound x h.0, h.1), λ h. (rows_complete x h.1 h.0, h.1))
+
+-- a removed vertex below n
+abbrev pub IsBelow : List Bool → ℕ → ℕ → Type 0
+IsBelow removed n v = IsWanted removed true v × (v < n)
+
+-- the flags of the removed vertices below n are true
+abbrev pub IsFinished : List Bool → ℕ → List Bool → Type 0
+IsFinished removed n finished = (v : ℕ) → IsWanted finished true v ↔ IsBelow removed n v
+
+not_own : (removed : List Bool) (r : ℕ) → ¬ IsBelow removed r r
+not_own removed r u = absurd (omega (arith, u.1))
+
+under_later : (removed : List Bool) (r a : ℕ) → IsBelow removed r a → IsBelow removed (r + 1) a
+under_later removed r a u = (u.0, omega (arith, u.1))
+
+under_split : (removed : List Bool) (r a : ℕ) → a ≢ r → IsBelow removed (r + 1) a → IsBelow removed r a
+under_split removed r a ne u = (u.0, omega (arith, u.1))
+
+module _ (removed : List Bool) (r : ℕ) (kept : IsWanted removed false r) where
+  back : (v : ℕ) → IsBelow removed (r + 1) v → IsBelow removed r v
+  back v u = under_split removed r v (λ same. false≢true (sym kept ∙ ap (λ z. get_or removed z false) (sym same) ∙ u.0)) u
+
+  pub still_finished : (finished : List Bool) → IsFinished removed r finished → IsFinished removed (r + 1) finished
+  still_finished finished h v = (λ w. under_later removed r v ((h v).0 w), λ u. (h v).1 (back v u))
+
+pub one_more_finished : (removed finished : List Bool) (r : ℕ) → r < length finished → IsWanted removed true r → IsFinished removed r finished → IsFinished removed (r + 1) (set finished r true)
+one_more_finished removed finished r lt gone h v = elim (cases_eq v r) [
+  | inl same ↦ (λ w. (subst (IsWanted removed true) (sym same) gone, omega (arith, same)), λ u. ap (λ z. get_or (set finished r true) z false) same ∙ get_or-set_same finished r true false lt)
+  | inr other ↦ (λ w. under_later removed r v ((h v).0 (sym (get_or-set_other finished r v true false other) ∙ w)), λ u. get_or-set_other finished r v true false other ∙ (h v).1 (under_split removed r v other u))
+]
+
+module _ {Z : Type 0} (edges : List (Vec ℕ Z)) (removed : List Bool) where
+  -- the rows of the removed vertices below n are finished, and the others are as they were
+  pub record RowsState (initial : List (Vec ℕ Z)) (bound n : ℕ) (rows : List (Vec ℕ Z)) : Type 0 where
+    pub len : length rows ≡ length initial
+    pub inside : (a x : ℕ) → Leads rows a x → x < bound
+    pub done : (a x : ℕ) → IsBelow removed n a → Leads rows a x ↔ IsRedirect edges removed initial a x
+    pub left : (a x : ℕ) → ¬ IsBelow removed n a → Leads rows a x ↔ Leads initial a x
+
+  pub skipped_rows : (initial : List (Vec ℕ Z)) (bound r : ℕ) (rows : List (Vec ℕ Z)) → IsWanted removed false r → RowsState initial bound r rows → RowsState initial bound (r + 1) rows
+  skipped_rows initial bound r rows kept h = record {
+    len = h.len;
+    inside = h.inside;
+    done = λ a x u. h.done a x (back removed r kept a u);
+    left = λ a x n. h.left a x (λ u. n (under_later removed r a u));
+  }
+
+  module _ (initial : List (Vec ℕ Z)) (bound within r : ℕ) (targets rows : List (Vec ℕ Z)) (t : RowsState edges within r targets) (h : RowsState initial bound r rows) where
+    are_rows : AreRows (Leads edges) (IsWanted removed true) (Leads initial) r (Leads targets) (Leads rows)
+    are_rows = record {
+      start_edges = λ b. t.left r b (not_own removed r);
+      start_labels = λ x. h.left r x (not_own removed r);
+      row_edges = λ s b u. (
+        λ i. let d = (t.done s b u).0 i in (with_last (Leads edges) (IsBelow removed s) d.0.1 d.0.2, d.1),
+        λ p. (t.done s b u).1 (last_edge (Leads edges) (IsBelow removed s) p.0, p.1),
+      );
+      row_labels = λ s x u. h.done s x u;
+    }
+
+    module _ (finished : List Bool) (f : IsFinished removed r finished) (passed : List ℕ) (is : (b : ℕ) → Among passed b ↔ IsPassed targets finished r b) where
+      row_is : (x : ℕ) → HasLabel (Among passed) rows finished r x ↔ IsRedirect edges removed initial r x
+      row_is x = (
+        λ l.
+            let n = (gathered targets finished rows (Among passed) r is x).0 l in
+            (next_row (Leads edges) (IsWanted removed true) (Leads initial) r (Leads targets) (Leads rows) are_rows x).0
+            (label_within (Leads rows) (IsWanted finished true) (IsBelow removed r) (λ v w. (f v).0 w) r x n.0, λ u. false≢true (sym n.1 ∙ (f x).1 u)),
+        λ w.
+            let m = (next_row (Leads edges) (IsWanted removed true) (Leads initial) r (Leads targets) (Leads rows) are_rows x).1 w in
+            (gathered targets finished rows (Among passed) r is x).1 (
+              label_within (Leads rows) (IsBelow removed r) (IsWanted finished true) (λ v u. (f v).1 u) r x m.0,
+              elim (cases_Bool (get_or finished x false)) [ inl e ↦ absurd (m.1 ((f x).0 e)) | inr e ↦ e ],
+            ),
+      )
+
+      pub one_more_row : IsWanted removed true r → (new : List (Vec ℕ Z)) → Replaces r (HasLabel (Among passed) rows finished r) rows new → RowsState initial bound (r + 1) new
+      one_more_row gone new v = record {
+        len = v.len ∙ h.len;
+        inside = λ a x i. elim (cases_eq a r) [
+          | inl same ↦ h.inside _ x ((v.here x).0 (subst (λ z. Leads new z x) same i)).0.2
+          | inr other ↦ h.inside a x ((v.others a x other).0 i)
+        ];
+        done = λ a x u. elim (cases_eq a r) [
+          | inl same ↦ (
+            λ i. subst (λ z. IsRedirect edges removed initial z x) (sym same) ((row_is x).0 ((v.here x).0 (subst (λ z. Leads new z x) same i))),
+            λ w. subst (λ z. Leads new z x) (sym same) ((v.here x).1 ((row_is x).1 (subst (λ z. IsRedirect edges removed initial z x) same w))),
+          )
+          | inr other ↦ let d = h.done a x (under_split removed r a other u) in (λ i. d.0 ((v.others a x other).0 i), λ w. (v.others a x other).1 (d.1 w))
+        ];
+        left = λ a x n. elim (cases_eq a r) [
+          | inl same ↦ absurd (n (subst (IsWanted removed true) (sym same) gone, omega (arith, same)))
+          | inr other ↦ let d = h.left a x (λ u. n (under_later removed r a u)) in (λ i. d.0 ((v.others a x other).0 i), λ w. (v.others a x other).1 (d.1 w))
+        ];
+      }
+
+none_among : (xs : List ℕ) → length xs ≡ 0 → (b : ℕ) → ¬ Among xs b
+none_among [] e b i = absurd i
+none_among (x ∷ xs) e b i = absurd (omega arith)
+
+-- a row that passes nothing and has nothing finished
+pub row_stays : {Z : Type 0} (rows : List (Vec ℕ Z)) (finished : List Bool) (passed : List ℕ) (r : ℕ) → length passed ≡ 0 → ((x : ℕ) → Leads rows r x → IsWanted finished false x) → Replaces r (HasLabel (Among passed) rows finished r) rows rows
+row_stays rows finished passed r none clean = record {
+  len = refl;
+  here = λ x. (
+    λ i. ((r, inl refl, i), clean x i),
+    λ n. elim (n.0.1) [ inl own ↦ subst (λ z. Leads rows z x) own n.0.2 | inr p ↦ absurd (none_among passed none n.0.0 p) ],
+  );
+  others = λ a x other. (λ i. i, λ i. i);
+}
+
+-- a row that is set
+pub replaced : {Z : Type 0} (rows : List (Vec ℕ Z)) (r : ℕ) (row : Vec ℕ Z) (P : ℕ → Type 0) → r < length rows → ((x : ℕ) → Among row.items x ↔ P x) → Replaces r P rows (set rows r row)
+replaced rows r row P lt is = record {
+  len = length-set rows r row;
+  here = λ x. (
+    λ i. elim ((list_set rows r r row lt (inl refl) x).0 i) [ inl n ↦ (is x).0 n.1 | inr n ↦ absurd (n.0 refl) ],
+    λ p. (list_set rows r r row lt (inl refl) x).1 (inl (refl, (is x).1 p)),
+  );
+  others = λ a x other. (
+    λ i. elim ((list_set rows r a row lt (inr other) x).0 i) [ inl n ↦ absurd (other n.0) | inr n ↦ n.1 ],
+    λ i. (list_set rows r a row lt (inr other) x).1 (inr (other, i)),
+  );
+}

@@ -1,0 +1,88 @@
+-- A graph of numbered vertices, and a walk over it.
+use Rattle.std.specs.Prelude.{◌≡◌, ◌≢◌, ◌↔◌, ◌⊎◌, ◌+◌, ◌<◌, ◌≤◌, ℕ, Bool, true, false, List, [], length, take, if◌then◌else◌, nat_eq, slice_get, Vec}
+use Rattle.std.specs.List.{slice_index_or, sum_by}
+use Rattle.std.specs.Option.{option_map_or}
+use Rattle.cargo_toml_graph.specs.Reach.{Among, GathersLabel, Reaches}
+
+-- the list of the vertex a, empty past the end
+abbrev pub list_at : {Z : Type 0} → List (Vec ℕ Z) → ℕ → List ℕ
+list_at lists a = option_map_or (λ v. v.items) (slice_get lists a) []
+
+abbrev pub Leads : {Z : Type 0} → List (Vec ℕ Z) → ℕ → ℕ → Type 0
+Leads lists a b = Among (list_at lists a) b
+
+-- the flag of x stands there, and is `wanted`
+abbrev pub IsWanted : List Bool → Bool → ℕ → Type 0
+IsWanted flags wanted x = slice_index_or flags x false ≡ wanted
+
+abbrev pub IsStamped : ℕ → List ℕ → ℕ → Type 0
+IsStamped epoch met x = (x < length met) × (slice_index_or met x 0 ≡ epoch)
+
+abbrev pub IsFresh : ℕ → List ℕ → Type 0
+IsFresh epoch met = (x : ℕ) → ¬ IsStamped epoch met x
+
+-- the stamped numbers are those found
+abbrev pub Marks : ℕ → List ℕ → List ℕ → Type 0
+Marks epoch found met = (x : ℕ) → IsStamped epoch met x ↔ Among found x
+
+-- each stamp is an old one, or the epoch
+abbrev pub OldStamps : ℕ → List ℕ → List ℕ → Type 0
+OldStamps epoch met met' = (x : ℕ) → (slice_index_or met' x 0 ≡ slice_index_or met x 0) ⊎ (slice_index_or met' x 0 ≡ epoch)
+
+abbrev pub unmet : ℕ → List ℕ → ℕ
+unmet epoch met = sum_by (λ s. if nat_eq s epoch then 0 else 1) met
+
+-- the named numbers are found too, each that was not there put at the end, and nothing else changes
+pub record Visits (epoch : ℕ) (Named : ℕ → Type 0) (found found' met met' : List ℕ) : Type 0 where
+  pub marks : Marks epoch found' met'
+  pub grows : (x : ℕ) → Among found x → Among found' x
+  pub reaches : (x : ℕ) → Named x → Among found' x
+  pub only : (x : ℕ) → Among found' x → Among found x ⊎ Named x
+  pub front : (k : ℕ) → k ≤ length found → take k found' ≡ take k found
+  pub longer : length found ≤ length found'
+  pub count : length found' + unmet epoch met' ≡ length found + unmet epoch met
+  pub len : length met' ≡ length met
+  pub stamps : OldStamps epoch met met'
+
+-- e is put into the lists of the named
+pub record Links {Z : Type 0} (Named : ℕ → Type 0) (e : ℕ) (old new : List (Vec ℕ Z)) : Type 0 where
+  pub len : length new ≡ length old
+  pub each : (f x : ℕ) → Leads new f x ↔ (Leads old f x ⊎ ((x ≡ e) × Named f))
+
+-- each stamp is below e, or n
+abbrev pub Past : ℕ → ℕ → List ℕ → Type 0
+Past e n met = (x : ℕ) → x < length met → (slice_index_or met x 0 < e) ⊎ (slice_index_or met x 0 ≡ n)
+
+module _ {Z : Type 0} (edges : List (Vec ℕ Z)) (removed : List Bool) where
+  -- the removed vertices that a reaches through removed ones
+  abbrev pub IsPassed : ℕ → ℕ → Type 0
+  IsPassed a b = IsWanted removed true b × Reaches (Leads edges) (IsWanted removed true) a b
+
+  -- a or a removed vertex that it reaches through removed ones has the label x, and x isn't removed
+  abbrev pub KeepsLabel : List (Vec ℕ Z) → ℕ → ℕ → Type 0
+  KeepsLabel labels a x = GathersLabel (Leads edges) (IsWanted removed true) (Leads labels) a x × IsWanted removed false x
+
+  -- e isn't removed and reaches a through removed vertices
+  abbrev pub IsEnabledBy : ℕ → ℕ → Type 0
+  IsEnabledBy a e = (e < length edges) × IsWanted removed false e × Reaches (Leads edges) (IsWanted removed true) e a
+
+  -- a removed vertex below n
+  abbrev pub IsUnder : ℕ → ℕ → Type 0
+  IsUnder n v = IsWanted removed true v × (v < n)
+
+  -- r or a removed vertex below r that it reaches through such has the label x, and x is none of these
+  abbrev pub IsRedirect : List (Vec ℕ Z) → ℕ → ℕ → Type 0
+  IsRedirect labels r x = GathersLabel (Leads edges) (IsUnder r) (Leads labels) r x × ¬ IsUnder r x
+
+-- a or one of the passed vertices has the label x, and the flag of x is false
+abbrev pub HasLabel : {Z : Type 0} → (ℕ → Type 0) → List (Vec ℕ Z) → List Bool → ℕ → ℕ → Type 0
+HasLabel Passed labels flags a x = ((b : ℕ) × ((b ≡ a) ⊎ Passed b) × Leads labels b x) × IsWanted flags false x
+
+abbrev pub PassesAny : {Z : Type 0} → List (Vec ℕ Z) → ℕ → Type 0
+PassesAny passed a = (c : ℕ) × Leads passed a c
+
+-- the row of r is what P says, and the others are as they were
+pub record Replaces {Z : Type 0} (r : ℕ) (P : ℕ → Type 0) (old new : List (Vec ℕ Z)) : Type 0 where
+  pub len : length new ≡ length old
+  pub here : (x : ℕ) → Leads new r x ↔ P x
+  pub others : (a x : ℕ) → a ≢ r → Leads new a x ↔ Leads old a x

@@ -1,0 +1,94 @@
+//! What stands for a removed vertex: the labels that it has once the removed vertices below it are taken out.
+ghost use Rattle.std.specs.Prelude.{◌≡◌, ◌<◌, ◌≤◌, ◌↔◌, IfOk, OnOk, ℕ, length, true, false};
+ghost use Rattle.cargo_toml_graph.specs.Reach.{Among};
+ghost use Rattle.cargo_toml_walk.specs.Numbers.{HasLabel, IsFresh, IsRedirect, IsWanted, Leads, OldStamps, Replaces};
+
+use crate::labels::kept_labels;
+use crate::walk::passing;
+use std::alloc::{AllocError, Global};
+
+fn has_finished(row: &[usize], finished: &[bool]) -> bool
+    requires { (x : ℕ) → Among row.now x → x < length finished.now }
+    ensures { result ≡ false → (x : ℕ) → Among row.now x → IsWanted finished.now false x }
+{
+    for x in row {
+        if finished[*x] {
+            return true;
+        }
+    }
+    false
+}
+
+// Whether r passes nothing and its row has nothing finished: the row then stays as it is.
+fn stays(r: usize, rows: &[Vec<usize>], passed: &[usize], finished: &[bool]) -> bool
+    requires own { r < length rows.now }
+    requires inside { (a x : ℕ) → Leads rows.now a x → x < length finished.now }
+    ensures { result ≡ true → Replaces r (HasLabel (Among passed.now) rows.now finished.now r) rows.now rows.now }
+{
+    passed.is_empty() && !has_finished(rows[r].as_slice(), finished)
+}
+
+// The row of r becomes what it and the passed rows have, without the finished ones.
+fn finish(
+    alloc: Global,
+    r: usize,
+    rows: &mut Vec<Vec<usize>>,
+    passed: &[usize],
+    finished: &[bool],
+    met: &mut Vec<usize>,
+) -> Result<(), AllocError>
+    requires own { r < length rows.old.items }
+    requires passed { (b : ℕ) → Among passed.now b → b < length rows.old.items }
+    requires fits { length met.old.items ≤ length finished.now }
+    requires inside { (a x : ℕ) → Leads rows.old.items a x → x < length met.old.items }
+    requires fresh { IsFresh r met.old.items }
+    ensures row { OnOk result (Replaces r (HasLabel (Among passed.now) rows.old.items finished.now r)
+        rows.old.items rows.new.items) }
+    ensures len { OnOk result (length met.new.items ≡ length met.old.items) }
+    ensures stamps { OnOk result (OldStamps r met.old.items met.new.items) }
+{
+    if stays(r, rows.as_slice(), passed, finished) {
+        return Ok(());
+    }
+    let row = kept_labels(alloc, r, passed, rows.as_slice(), finished, met)?;
+    rows[r] = row;
+    Ok(())
+}
+
+/// For each removed vertex its redirect: the labels that it has once the removed vertices below it are taken out. The others
+/// keep their labels.
+pub fn redirects(
+    alloc: Global,
+    mut edges: Vec<Vec<usize>>,
+    mut labels: Vec<Vec<usize>>,
+    is_removed: &[bool],
+) -> Result<Vec<Vec<usize>>, AllocError>
+    requires same { length edges.items ≡ length labels.items }
+    requires whole { length labels.items ≤ length is_removed.now }
+    requires edges { (a b : ℕ) → Leads edges.items a b → b < length edges.items }
+    requires labels { (a x : ℕ) → Leads labels.items a x → x < length is_removed.now }
+    ensures len { IfOk result (λ rows. length rows.items ≡ length labels.items) }
+    ensures redirects { IfOk result (λ rows. (r x : ℕ) → r < length labels.items → IsWanted is_removed.now true r →
+        Leads rows.items r x ↔ IsRedirect edges.items is_removed.now labels.items r x) }
+    ensures others { IfOk result (λ rows. (a x : ℕ) → IsWanted is_removed.now false a →
+        Leads rows.items a x ↔ Leads labels.items a x) }
+    ensures inside { IfOk result (λ rows. (r x : ℕ) → Leads rows.items r x → x < length is_removed.now) }
+{
+    let size = edges.len();
+    let total = is_removed.len();
+    let mut finished = Vec::from_elem(alloc, false, total)?;
+    let mut met = Vec::from_elem(alloc, size, size)?;
+    let mut met_targets = Vec::from_elem(alloc, size, size)?;
+    let mut met_labels = Vec::from_elem(alloc, total, total)?;
+    for r in 0..size {
+        if is_removed[r] {
+            let flags = finished.as_slice();
+            let passed = passing(alloc, r, edges.as_slice(), flags, &mut met)?;
+            let below = passed.as_slice();
+            finish(alloc, r, &mut labels, below, flags, &mut met_labels)?;
+            finish(alloc, r, &mut edges, below, flags, &mut met_targets)?;
+            finished[r] = true;
+        }
+    }
+    Ok(labels)
+}

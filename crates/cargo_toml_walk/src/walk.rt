@@ -1,0 +1,144 @@
+//! What each vertex reaches through removed vertices.
+ghost use Rattle.std.specs.Prelude.{◌≡◌, ◌<◌, ◌≤◌, ◌↔◌, IfOk, OnOk, ℕ, length, true, false};
+ghost use Rattle.cargo_toml_graph.specs.Reach.{Among};
+ghost use Rattle.cargo_toml_walk.specs.Numbers.{IsFresh, IsPassed, IsWanted, Leads, Marks, OldStamps, Visits};
+
+use std::alloc::{AllocError, Global};
+
+// x is met, and put at the end where it was not met before.
+fn meet(
+    found: &mut Vec<usize>,
+    met: &mut Vec<usize>,
+    epoch: usize,
+    x: usize,
+) -> Result<(), AllocError>
+    requires inside { x < length met.old.items }
+    requires marks { Marks epoch found.old.items met.old.items }
+    ensures { OnOk result (Visits epoch (λ y. y ≡ x) found.old.items found.new.items met.old.items met.new.items) }
+{
+    let stamp = &mut met[x];
+    if *stamp != epoch {
+        *stamp = epoch;
+        found.push(x)?;
+    }
+    Ok(())
+}
+
+// The targets whose flag is `wanted` are met.
+fn visit(
+    found: &mut Vec<usize>,
+    met: &mut Vec<usize>,
+    epoch: usize,
+    targets: &[usize],
+    flags: &[bool],
+    wanted: bool,
+) -> Result<(), AllocError>
+    requires fits { length met.old.items ≤ length flags.now }
+    requires inside { (y : ℕ) → Among targets.now y → y < length met.old.items }
+    requires marks { Marks epoch found.old.items met.old.items }
+    ensures { OnOk result (Visits epoch (λ y. Among targets.now y × IsWanted flags.now wanted y) found.old.items found.new.items
+        met.old.items met.new.items) }
+{
+    for x in targets {
+        if flags[*x] == wanted {
+            meet(found, met, epoch, *x)?;
+        }
+    }
+    Ok(())
+}
+
+// The targets in the row `at` whose flag is `wanted` are met.
+pub(crate) fn visit_row(
+    found: &mut Vec<usize>,
+    met: &mut Vec<usize>,
+    epoch: usize,
+    rows: &[Vec<usize>],
+    at: usize,
+    flags: &[bool],
+    wanted: bool,
+) -> Result<(), AllocError>
+    requires at { at < length rows.now }
+    requires fits { length met.old.items ≤ length flags.now }
+    requires inside { (y : ℕ) → Leads rows.now at y → y < length met.old.items }
+    requires marks { Marks epoch found.old.items met.old.items }
+    ensures { OnOk result (Visits epoch (λ y. Leads rows.now at y × IsWanted flags.now wanted y) found.old.items found.new.items
+        met.old.items met.new.items) }
+{
+    visit(found, met, epoch, rows[at].as_slice(), flags, wanted)
+}
+
+// The removed vertices that `start` reaches through removed ones. `start` is the stamp of those that are met.
+pub(crate) fn passing(
+    alloc: Global,
+    start: usize,
+    edges: &[Vec<usize>],
+    is_removed: &[bool],
+    met: &mut Vec<usize>,
+) -> Result<Vec<usize>, AllocError>
+    requires start { start < length met.old.items }
+    requires fits { length met.old.items ≤ length is_removed.now }
+    requires whole { length edges.now ≡ length met.old.items }
+    requires inside { (a b : ℕ) → Leads edges.now a b → b < length met.old.items }
+    requires fresh { IsFresh start met.old.items }
+    ensures passed { IfOk result (λ found. (b : ℕ) → Among found.items b ↔ IsPassed edges.now is_removed.now start b) }
+    ensures len { OnOk result (length met.new.items ≡ length met.old.items) }
+    ensures stamps { OnOk result (OldStamps start met.old.items met.new.items) }
+    ensures inside { IfOk result (λ found. (b : ℕ) → Among found.items b → b < length met.old.items) }
+{
+    let mut found = Vec::new(alloc);
+    visit_row(&mut found, met, start, edges, start, is_removed, true)?;
+    let mut next = 0;
+    while next < found.len() {
+        let at = found[next];
+        visit_row(&mut found, met, start, edges, at, is_removed, true)?;
+        next += 1;
+    }
+    Ok(found)
+}
+
+// What a kept vertex passes; nothing for a removed one.
+fn passed_by(
+    alloc: Global,
+    start: usize,
+    edges: &[Vec<usize>],
+    is_removed: &[bool],
+    met: &mut Vec<usize>,
+) -> Result<Vec<usize>, AllocError>
+    requires start { start < length met.old.items }
+    requires fits { length met.old.items ≤ length is_removed.now }
+    requires whole { length edges.now ≡ length met.old.items }
+    requires inside { (a b : ℕ) → Leads edges.now a b → b < length met.old.items }
+    requires fresh { IsFresh start met.old.items }
+    ensures passed { IfOk result (λ found. (b : ℕ) → Among found.items b
+        ↔ (IsWanted is_removed.now false start × IsPassed edges.now is_removed.now start b)) }
+    ensures len { OnOk result (length met.new.items ≡ length met.old.items) }
+    ensures stamps { OnOk result (OldStamps start met.old.items met.new.items) }
+{
+    if is_removed[start] {
+        return Ok(Vec::new(alloc));
+    }
+    passing(alloc, start, edges, is_removed, met)
+}
+
+/// For each vertex that isn't removed, the removed ones that it reaches through removed ones; nothing for a removed one.
+pub fn all_passed(
+    alloc: Global,
+    edges: &[Vec<usize>],
+    is_removed: &[bool],
+) -> Result<Vec<Vec<usize>>, AllocError>
+    requires whole { length edges.now ≤ length is_removed.now }
+    requires inside { (a b : ℕ) → Leads edges.now a b → b < length edges.now }
+    ensures len { IfOk result (λ p. length p.items ≡ length edges.now) }
+    ensures passed { IfOk result (λ p. (a b : ℕ) → a < length edges.now → IsWanted is_removed.now false a →
+        Leads p.items a b ↔ IsPassed edges.now is_removed.now a b) }
+    ensures removed { IfOk result (λ p. (a b : ℕ) → IsWanted is_removed.now true a → ¬ Leads p.items a b) }
+    ensures inside { IfOk result (λ p. (a b : ℕ) → Leads p.items a b → b < length edges.now) }
+{
+    let size = edges.len();
+    let mut met = Vec::from_elem(alloc, size, size)?;
+    let mut passed = Vec::with_capacity(alloc, size)?;
+    for start in 0..size {
+        passed.push(passed_by(alloc, start, edges, is_removed, &mut met)?)?;
+    }
+    Ok(passed)
+}

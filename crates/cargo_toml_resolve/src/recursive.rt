@@ -124,8 +124,7 @@ impl<'a> Feature<'a> {
         let mut pending = Vec::new(alloc);
         pending.push(self.held(features))?;
         while let Some(feature) = pending.pop() {
-            if !found.contains_key(feature.key) {
-                found.insert(feature.key, feature)?;
+            if found.insert(feature.key, feature)?.is_none() {
                 add_actions(alloc, feature, &mut dependencies)?;
                 push_named(feature, features, &mut pending)?;
             }

@@ -32,6 +32,11 @@ AddsActions v old new = (k : Text) → pairs_at new k ≡ pairs_at old k ++ unco
 abbrev pub is_pending : List (Bor Feature) → Text → Bool
 is_pending vs x = list_any (λ v. bytes_eq x v.now.key.now) vs
 
+-- the features still to visit, where one of them was taken off to be visited next; none, where there was none to take
+abbrev pub still : List (Bor Feature) → Option (Bor Feature) → List (Bor Feature)
+still pending None = []
+still pending (Some next) = pending ++ next ∷ []
+
 -- each feature of the list stands in the map under its key
 abbrev pub AreHeld : {S : Type 0} → HashMap (Bor Text) Feature S → List (Bor Feature) → Type 0
 AreHeld m vs = AllByRecursion (λ v. value_at m v.now.key.now ≡ Some v.now) vs

@@ -5,7 +5,6 @@ use Rattle.std.proofs.lemmas.List.{map-append, append-nil}
 use Rattle.std.proofs.lemmas.Slice.Eq.{bytes_eq-Decides}
 use Rattle.std.specs.Option.{option_map_or}
 use Rattle.std.specs.Map.{lookup}
-use Rattle.std.specs.HashMap as hash
 use Rattle.std.specs.HashMap.{HashMap}
 use Rattle.cargo_toml_resolve.specs.declared.features.Feature.{Feature}
 use Rattle.cargo_toml_graph.specs.Action.{Text, Action}
@@ -15,8 +14,7 @@ use Rattle.cargo_toml_graph.specs.Recursive.{Enables, ArePairs}
 use Rattle.cargo_toml_graph.specs.Recursive.Enables.{itself, further}
 use Rattle.cargo_toml_resolve.specs.Reached.{Found, Lists, AreEnabled, ComeFrom, HaveNoEmpty, pairs_at}
 use Rattle.cargo_toml_resolve.specs.Views.{value_at, has_text, action_of, action_at, table_in}
-use Rattle.cargo_toml_resolve.specs.Visits.{unconditional, is_pending, AreHeld, PushesNamed, AddsActions}
-use Rattle.cargo_toml_resolve.proofs.Pairs.{at_key, elsewhere}
+use Rattle.cargo_toml_resolve.specs.Visits.{unconditional, is_pending, AreHeld, PushesNamed, PutsFound, AddsActions}
 use Rattle.cargo_toml_resolve.proofs.Pending.{is_pending-push}
 use Rattle.cargo_toml_resolve.proofs.Work.{work, work_drops, work_less}
 
@@ -133,31 +131,31 @@ module _ {S : Type 0} (m : HashMap (Bor Text) Feature S) (s : Text) where
   last_pending L v = is_pending-push L v v.now.key.now ∙ or_right _ _ ((bytes_eq-Decides v.now.key.now v.now.key.now).1 refl)
 
   -- the feature v of the map is put among those that are found
-  module _ (F F' : Found S) (v : Bor Feature) (u : hash.UpdatesBy (λ x y. bytes_eq x.now y.now) (λ q. bytes_eq v.now.key.now q.now) F F' (Some v)) where
+  module _ (F F' : Found S) (v : Bor Feature) (u : PutsFound v F F') where
     at_new : IsTrue (is_found F' v.now.key.now)
-    at_new = ap is_some (at_key v.now.key.now F F' (Some v) u)
+    at_new = ap is_some u.here
 
     grows : (x : Text) → IsTrue (is_found F x) → IsTrue (is_found F' x)
     grows x e = elim (cases_Bool (bytes_eq v.now.key.now x)) [
       | inl i ↦ subst (λ y. IsTrue (is_found F' y)) ((bytes_eq-Decides v.now.key.now x).0 i) at_new
-      | inr i ↦ ap is_some (elsewhere v.now.key.now F F' (Some v) u x i) ∙ e
+      | inr i ↦ ap is_some (u.others x i) ∙ e
     ]
 
     only : (x : Text) → IsTrue (is_found F' x) → (x ≡ v.now.key.now) ⊎ IsTrue (is_found F x)
     only x e = elim (cases_Bool (bytes_eq v.now.key.now x)) [
       | inl i ↦ inl (sym ((bytes_eq-Decides v.now.key.now x).0 i))
-      | inr i ↦ inr (sym (ap is_some (elsewhere v.now.key.now F F' (Some v) u x i)) ∙ e)
+      | inr i ↦ inr (sym (ap is_some (u.others x i)) ∙ e)
     ]
 
     still_same : value_at m v.now.key.now ≡ Some v.now → ComeFrom m F → ComeFrom m F'
     still_same here same x = elim (cases_Bool (bytes_eq v.now.key.now x)) [
-      | inl i ↦ subst (λ y. IfSome (value_at F' y) (λ z. value_at m y ≡ Some z.now)) ((bytes_eq-Decides v.now.key.now x).0 i) (subst (λ o. IfSome o (λ z. value_at m v.now.key.now ≡ Some z.now)) (sym (at_key v.now.key.now F F' (Some v) u)) here)
-      | inr i ↦ subst (λ o. IfSome o (λ z. value_at m x ≡ Some z.now)) (sym (elsewhere v.now.key.now F F' (Some v) u x i)) (same x)
+      | inl i ↦ subst (λ y. IfSome (value_at F' y) (λ z. value_at m y ≡ Some z.now)) ((bytes_eq-Decides v.now.key.now x).0 i) (subst (λ o. IfSome o (λ z. value_at m v.now.key.now ≡ Some z.now)) (sym u.here) here)
+      | inr i ↦ subst (λ o. IfSome o (λ z. value_at m x ≡ Some z.now)) (sym (u.others x i)) (same x)
     ]
 
   -- a feature that was found before is put there again
   module _ (F F' : Found S) (E : Lists S) (L : List (Bor Feature)) (v : Bor Feature) (w : Walks m s F E (L ++ v ∷ [])) (old : IsTrue (is_found F v.now.key.now))
-      (u : hash.UpdatesBy (λ x y. bytes_eq x.now y.now) (λ q. bytes_eq v.now.key.now q.now) F F' (Some v)) where
+      (u : PutsFound v F F') where
     was_found : (x : Text) → IsTrue (is_found F' x) → IsTrue (is_found F x)
     was_found x e = elim (only F F' v u x e) [ inl i ↦ ap (is_found F) i ∙ old | inr f ↦ f ]
 
@@ -191,7 +189,7 @@ module _ {S : Type 0} (m : HashMap (Bor Text) Feature S) (s : Text) where
 
   -- a feature that is visited now
   module _ (F F' : Found S) (E E' : Lists S) (L L' : List (Bor Feature)) (v : Bor Feature) (w : Walks m s F E (L ++ v ∷ [])) (new : is_found F v.now.key.now ≡ false)
-      (u : hash.UpdatesBy (λ x y. bytes_eq x.now y.now) (λ q. bytes_eq v.now.key.now q.now) F F' (Some v)) (listed : AddsActions v.now E E') (kept : HaveNoEmpty E → HaveNoEmpty E') (pushed : PushesNamed m v.now L L') where
+      (u : PutsFound v F F') (listed : AddsActions v.now E E') (kept : HaveNoEmpty E → HaveNoEmpty E') (pushed : PushesNamed m v.now L L') where
     here : value_at m v.now.key.now ≡ Some v.now
     here = (held_parts L v w.held).1
 

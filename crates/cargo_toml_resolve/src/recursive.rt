@@ -1,5 +1,5 @@
 //! What a feature enables by any number of names.
-ghost use Rattle.std.specs.Prelude.{◌≡◌, ◌≤◌, ◌∷◌, ◌++◌, [], List, length, IfErr, IfOk, MatchOption, OnOk, Some};
+ghost use Rattle.std.specs.Prelude.{◌≡◌, ◌≤◌, ◌∷◌, ◌++◌, [], List, length, IfErr, IfOk, MatchOption, OnOk, Some, is_none};
 ghost use Rattle.std.specs.Borrow.{Bor};
 ghost use Rattle.cargo_toml_parts.specs.declared.error.Error.{Memory};
 ghost use Rattle.cargo_toml_graph.specs.Action.{Text};
@@ -7,7 +7,7 @@ ghost use Rattle.cargo_toml_graph.specs.Recursive.{ArePairs};
 ghost use Rattle.cargo_toml_resolve.specs.declared.features.Feature.{Feature};
 ghost use Rattle.cargo_toml_resolve.specs.Reached.{AreEnabled, HaveNoEmpty, ComeFrom, IsHeldBy, IsKeyed, pairs_at};
 ghost use Rattle.cargo_toml_resolve.specs.Views.{table_in, value_at};
-ghost use Rattle.cargo_toml_resolve.specs.Visits.{AddsPair, AddsActions, PushesNamed, still};
+ghost use Rattle.cargo_toml_resolve.specs.Visits.{AddsPair, AddsActions, PushesNamed, PutsFound, still};
 
 use crate::features::{DepAction, Feature};
 use cargo_toml_parts::Error;
@@ -74,6 +74,33 @@ fn push_named<'f, 'a, S: BuildHasher>(
         }
     }
     Ok(())
+}
+
+// Makes room where none is left, for three times as many as there are. By itself the map makes room for as many again, and
+// so moves each twice as often.
+fn make_room<'f, 'a, S: BuildHasher>(
+    found: &mut HashMap<&'a str, &'f Feature<'a>, S>,
+) -> Result<(), AllocError>
+    ensures { OnOk result ((x : Text) → value_at found.new x ≡ value_at found.old x) }
+{
+    let count = found.len();
+    if count == found.capacity() {
+        found.reserve(count.saturating_mul(3))?;
+    }
+    Ok(())
+}
+
+// Puts the feature among those that are found, and tells whether it wasn't there.
+fn add_found<'f, 'a, S: BuildHasher>(
+    found: &mut HashMap<&'a str, &'f Feature<'a>, S>,
+    feature: &'f Feature<'a>,
+) -> Result<bool, AllocError>
+    ensures puts { OnOk result (PutsFound feature.entry found.old found.new) }
+    ensures is_new { IfOk result (λ is_new. is_new ≡ is_none (value_at found.old feature.now.key.now)) }
+{
+    make_room(found)?;
+    let before = found.insert(feature.key, feature)?;
+    Ok(before.is_none())
 }
 
 // What the feature's one name stands for, if it has a name and some feature has that.
@@ -166,7 +193,8 @@ impl<'a> Feature<'a> {
         let mut pending = Vec::new(alloc);
         let mut next = Some(self.held(features));
         while let Some(feature) = next {
-            if found.insert(feature.key, feature)?.is_none() {
+            let is_new = add_found(&mut found, feature)?;
+            if is_new {
                 add_actions(alloc, feature, &mut dependencies)?;
                 next = take_next(feature, features, &mut pending)?;
             } else {

@@ -105,7 +105,6 @@ completed old new handed roots told c = record {
 }
 
 module _ {M Y : Type 0} (old new : Manifest M) (handed : Option Handed) (roots : RootsTold) (told : Text → Told) where
-
   pub left_after : (d : Result (Unit {0}) Error) (p : Bor (Manifest M)) (y : Result (Bor (Manifest M) × Y) Error) → Completing old new handed roots told d → Answering new d p y
       → (left : Manifest M) → left ≡ p.now → IsLeftAfter old handed roots told y left
   left_after d p (Ok q) c a left is = is ∙ ap (λ r. r.now) (sym a.lent)

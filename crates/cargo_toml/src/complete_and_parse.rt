@@ -138,13 +138,8 @@ impl<'config, F: Fn(&str) -> bool, S: BuildHasher + Clone + Drop> Resolver<'conf
         ensures keyed { IfOk result (λ p. IsKeyed p.1.features) }
         ensures targets { IfOk result (λ p. HaveTargets p.1.dependencies) }
     {
-        match completed {
-            Ok(()) => {}
-            Err(fault) => return Err(fault),
-        }
-        match self.parse(alloc, manifest) {
-            Ok(features) => Ok((manifest, features)),
-            Err(fault) => Err(fault),
-        }
+        completed?;
+        let features = self.parse(alloc, manifest)?;
+        Ok((manifest, features))
     }
 }

@@ -1,16 +1,20 @@
-use Rattle.std.proofs.Common.{◌≡◌, ℕ, List, [], ◌∷◌, ◌++◌, refl, sym, ap, ◌∙◌, subst, MutBor}
+-- `complete_and_parse` by hand. Where the lender is no first parameter, and where the answer owns memory, no proof is generated of how the lender is left.
+-- The manifest is lent again to be completed, and comes back as completing left it. `shared` then lends it for good, and says how it is left. `resolved`
+-- makes the answer of both. What is left is carried to the end, where the facts of the three calls say it of the answer.
+-- F is the filter, S the state of the maps and I its hasher, X and N the metadata of the manifest and of the one that is handed in, P the folders and Q their
+-- roots. The lifetimes: 0 self, 1 the filter, 2 the manifest, 3 and 4 what is handed in, 5 to 11 these seven types. `tK` is the token of lifetime K.
+use Rattle.std.proofs.Common.{◌≡◌, ℕ, List, [], ◌∷◌, ◌++◌, refl, sym, ap, subst}
 use Rattle.std.proofs.raw_atomic.Walks.{proved_at, leaves}
 use mir.Syntax.{a_type, dcons, dnil, named}
 use mir.Val.{Val, vptr}
 use mir.MapTy.{inst_fn}
 use base.Fraction.{full_share}
-use base.Logic.{SProp, ent, sep, emp, wand, apply∗, id⊢}
-use base.Fml.{Lft, ftrue, flft, fres, fdead}
+use base.Logic.{ent, sep, emp, wand, apply∗, id⊢}
+use base.Fml.{Lft, ftrue, flft, fdead}
 use base.Share
 use base.FractionLaws.{common}
 use prog.Wp.{WpFn}
-use types.Logic.{sem}
-use types.Kit.{Item, ‵, raw, ◌⊛◌, some, later, ◌$◌, ◌∵◌, !, qed, by, move, keep, drop, use0, use1, use2, use3, split, split3, join, fsplit, fsplit3, fjoin, pick, await, rewrite, suffices}
+use types.Kit.{Item, ‵, raw, ◌⊛◌, some, later, ◌$◌, ◌∵◌, !, qed, by, move, keep, drop, use0, use1, use2, use3, split, join, fsplit, pick, await, rewrite, suffices}
 use types.Run.{enter, addr, of_opd, stop, no_more, and_then, returns}
 use types.ByLocal.{alloc_all, pass_all, free_all, look_at, get, through, sets, lands_as}
 use types.Tokens.{lft_new, lft_end, lft-common}
@@ -20,22 +24,22 @@ use contract.BorrowLft.{◌⊑◌, meet_⊑_left, meet_⊑_right}
 use denote.Exit.{yes, no}
 use denote.Lend.{lends_again, comes_back, LentAgain}
 use denote.Laws.{Is, shows}
-use denote.Param.{bounded, param, layout, layouts}
-use denote.Param.Laws.{Laws, param_laws, of_field}
+use denote.Param.{bounded, param, layout}
+use denote.Param.Laws.{param_laws, of_field}
 use denote.Param.Shared.{copy_shared}
-use denote.RattleType.{RattleType, owns, flat}
-use denote.Ref.{MutRef, ShrRef, Bor, mut_vals, mut_Tells, shr_vals, shr_Tells}
-use denote.Signature.{types_at, named_lft, type_at, plain}
+use denote.RattleType.{RattleType, owns}
+use denote.Ref.{MutRef, ShrRef, Bor, mut_Tells, shr_vals, shr_Tells}
+use denote.Signature.{types_at, named_lft, type_at}
 use denote.Steps.{nothing, owned, heard, peeks, only}
 use denote.Struct.Field.{shr_ref_field, unit-field}
-use denote.Struct.Laws.{shr_ref_laws, shr_ref_copy, unit-laws, unit-copy, makes}
+use denote.Struct.Laws.{unit-laws, unit-copy}
 use denote.Struct.Tuple.{Tuple, laws_at, tuple_name}
 use denote.Triple.Call.{calls_at}
-use denote.Triple.Clauses.{Lasts, lasts, at_exit}
+use denote.Triple.Clauses.{Lasts, lasts}
 use denote.Triple.Spec.{triple_of}
 use denote.Triple.Table.{framed}
 use denote.Triple.Walked.{Stays, stay_dropped, walk_of, Goes-dropped}
-use denote.Builtin.{RefOf, unit}
+use denote.Builtin.{unit}
 use Rattle.std.specs.Prelude.{OnErr, OnOk, IfErr, IfOk, Err}
 use Rattle.std.specs.contracts.result.Result as Result
 use Rattle.std.proofs.result.Result.TheLaws.{the_row_laws as result_laws}
@@ -60,7 +64,6 @@ use Rattle.cargo_toml.proofs.complete_and_parse.shared.Met as shared-met
 use Rattle.cargo_toml.specs.contracts.features.Resolver.resolved as resolved
 use Rattle.cargo_toml.proofs.features.Resolver.resolved.Met as resolved-met
 use Rattle.cargo_toml_manifest.proofs.manifest.Manifest.TheLaws as Manifest-laws
-use Rattle.std.specs.contracts.alloc.Global as Global
 use Rattle.std.proofs.alloc.Global.TheLaws as Global-laws
 use Rattle.cargo_toml.specs.contracts.features.Resolver.complete_and_parse.{ended, clauses}
 use Rattle.cargo_toml.specs.contracts.features.Resolver.complete_and_parse.Key.{name as #self}
@@ -112,10 +115,12 @@ complete_and_parse_spec 𝓤 𝓛 𝓜 𝓡 wired F S I X N P Q LF LS LI LX LN L
     let s1 = single 𝓛 (row_at 1 Rs) Global-laws.the_row_laws a.1.0 us.1.0 are.1.0 in let s3 = single 𝓛 (row_at 3 Rs) (param_laws 5 P LP) a.1.1.1.0 us.1.1.1.0 are.1.1.1.0 in
     let HandedRows : List RattleType = (shr_ref_field (named_lft 12 3 tt κs) (Manifest.the_row (param 4 N)) tt).row ∷ (str-field (named_lft 12 4 tt κs)).row ∷ [] in
     let LW = option_laws (Tuple HandedRows) (laws_at (tuple_name 2) HandedRows
-        (ref_laws (named_lft 12 3 tt κs) (Manifest.the_row (param 4 N)) tt (Manifest-laws.the_row_laws (param 4 N) (param_laws 4 N LN)).shr_laws, (str_laws (named_lft 12 4 tt κs), tt))) in
+    (ref_laws (named_lft 12 3 tt κs) (Manifest.the_row (param 4 N)) tt (Manifest-laws.the_row_laws (param 4 N) (param_laws 4 N LN)).shr_laws, (str_laws (named_lft 12 4 tt κs), tt))) in
     let EndRows : List RattleType = (shr_ref_field (named_lft 12 2 tt κs) MR tt).row ∷ Features.the_row (named_lft 12 2 tt κs) (named_lft 12 2 tt κs) (param 1 S) (param 2 I) b' h ∷ [] in
-    let LE = result_laws (Tuple EndRows) Error.the_row (laws_at (tuple_name 2) EndRows (ref_laws (named_lft 12 2 tt κs) MR tt (Manifest-laws.the_row_laws (param 3 X) (param_laws 3 X LX)).shr_laws,
-        (Features-laws.the_row_laws (named_lft 12 2 tt κs) (named_lft 12 2 tt κs) (param 1 S) (param 2 I) b' h (param_laws 1 S LS) (param_laws 2 I LI), tt))) Error-laws.the_row_laws in
+    let LE = result_laws (Tuple EndRows) Error.the_row (laws_at (tuple_name 2) EndRows (
+      ref_laws (named_lft 12 2 tt κs) MR tt (Manifest-laws.the_row_laws (param 3 X) (param_laws 3 X LX)).shr_laws,
+      (Features-laws.the_row_laws (named_lft 12 2 tt κs) (named_lft 12 2 tt κs) (param 1 S) (param 2 I) b' h (param_laws 1 S LS) (param_laws 2 I LI), tt),
+    )) Error-laws.the_row_laws in
     let s4 = single 𝓛 (row_at 4 Rs) LW a.1.1.1.1.0 us.1.1.1.1.0 are.1.1.1.1.0 in
     let v0 = vptr r.ref_ptr.0 r.ref_ptr.1 in let v2 = vptr b o in let Filter : Type 0 = HasNameFilter f (filter_of r.now) in
     qed 𝓛 (((t0 ⊛ t1 ⊛ t2 ⊛ t3 ⊛ t4 ⊛ t5 ⊛ t6 ⊛ t7 ⊛ t8 ⊛ t9 ⊛ t10 ⊛ t11 ⊛ ‵ ftrue) ⊛ ‵ (owns Rs a us)) ∷ raw (fact 𝓤 (κ5 ⊑ F.lives)) ∷ raw (fact 𝓤 (κ6 ⊑ S.lives)) ∷ raw (fact 𝓤 (κ7 ⊑ I.lives)) ∷ raw (fact 𝓤 (κ8 ⊑ X.lives)) ∷ raw (fact 𝓤 (κ9 ⊑ N.lives)) ∷ raw (fact 𝓤 (κ10 ⊑ P.lives)) ∷ raw (fact 𝓤 (κ11 ⊑ Q.lives)) ∷ raw (fact 𝓤 Filter) ∷ []) ∵
@@ -141,8 +146,16 @@ complete_and_parse_spec 𝓤 𝓛 𝓜 𝓡 wired F S I X N P Q LF LS LI LX LN L
     use2 𝓛 (later (some (λ (δ : ℕ). Ref α δ m.now ⊛ ‵ (LentAgain MR κ2 α q2 γ b o δ m.now)))) (lends_again 𝓛 MR (named 2) κ2 α q2 γ b o (named 0) m.now) $ await ! tt $ pick ! (λ δ. split ! $
     -- [the loan; what the lender keeps; the token of α; the way back; the half of 8; self; alloc; alloc; fs; workspace; the other tokens]
     let G1 = triple_of 𝓛 (complete_from.signature X N P Q) (complete_from.spec X N P Q drX p dp q dq drP 𝓛 𝓜.mem 𝓡.returns) in let E1 = complete_from.ended X N P Q drX p dp q dq drP in
-    let z1 : G1.Ghost = (((α, (κ3, (κ4, (κ8, (κ9, (κ10, (κ11, tt))))))), (s, (q3, (q4, (Share.right q8, (q9, (q10, (q11, tt))))))), (meet_⊑_right (n ∷ []) κ8, (le.1.1.1.1.1.0, tt)),
-        (record { ref_ptr = (b, o); ghost_name = δ; now = m.now }, (a.1.0, (a.1.1.1.0, (a.1.1.1.1.0, tt)))), (v2 ∷ [], (s1.word ∷ [], (s3.word ∷ [], (s4.word ∷ [], tt))))), tt) in
+    let z1 : G1.Ghost = (
+      (
+        (α, (κ3, (κ4, (κ8, (κ9, (κ10, (κ11, tt))))))),
+        (s, (q3, (q4, (Share.right q8, (q9, (q10, (q11, tt))))))),
+        (meet_⊑_right (n ∷ []) κ8, (le.1.1.1.1.1.0, tt)),
+        (record { ref_ptr = (b, o); ghost_name = δ; now = m.now }, (a.1.0, (a.1.1.1.0, (a.1.1.1.1.0, tt)))),
+        (v2 ∷ [], (s1.word ∷ [], (s3.word ∷ [], (s4.word ∷ [], tt)))),
+      ),
+      tt,
+    ) in
     nothing ! $ use0 𝓛 (raw (fact 𝓤 (κ11 ⊑ Q.lives))) (fact_i 𝓤 (κ11 ⊑ Q.lives) (emp 𝓤) inQ) $ join ! $ use0 𝓛 (raw (fact 𝓤 (κ10 ⊑ P.lives))) (fact_i 𝓤 (κ10 ⊑ P.lives) (emp 𝓤) inP) $ join ! $
     use0 𝓛 (raw (fact 𝓤 (κ9 ⊑ N.lives))) (fact_i 𝓤 (κ9 ⊑ N.lives) (emp 𝓤) inN) $ join ! $ use0 𝓛 (raw (fact 𝓤 (κ8 ⊑ X.lives))) (fact_i 𝓤 (κ8 ⊑ X.lives) (emp 𝓤) inX) $ join ! $
     nothing ! $ move ! (11 ∷ 0 ∷ []) $ join ! $ move ! (10 ∷ 0 ∷ []) $ join ! $ move ! (8 ∷ 0 ∷ []) $ join ! $ move ! (2 ∷ 0 ∷ []) $ join ! $
@@ -181,8 +194,16 @@ complete_and_parse_spec 𝓤 𝓛 𝓜 𝓡 wired F S I X N P Q LF LS LI LX LN L
     lands_as ! (ap only e10) refl (tt, tt) $ sets ! (of_opd ! (get ! refl)) refl gD $
     -- [what is lent; the tokens of 8 and 2; what is left; the answer; the tokens of 11, 10, 9, 4 and 3; self; alloc; the tokens of 0, 1, 5, 6 and 7]
     let E3 = resolved.ended F S I X f df dfm dfo b' db h dh c dc drF drS drI in let G3 = triple_of 𝓛 (resolved.signature F S I X f df dfm dfo b' db h dh c dc drF drS drI) (resolved.spec F S I X f df dfm dfo b' db h dh c dc drF drS drI 𝓛 𝓜.mem 𝓡.returns) in
-    let z3 : G3.Ghost = (((κ0, (κ1, (κ2, (κ5, (κ6, (κ7, (κ8, tt))))))), (q0, (q1, (q2, (q5, (q6, (q7, (q8, tt))))))), (le.0, (le.1.0, (le.1.1.0, (le.1.1.1.0, (le.1.1.1.1.0, tt))))),
-        (r, (l, (d, (a.1.0, tt)))), (v0 ∷ [], (shr_vals l, (v6 ∷ [], (s1.word ∷ [], tt))))), tt) in
+    let z3 : G3.Ghost = (
+      (
+        (κ0, (κ1, (κ2, (κ5, (κ6, (κ7, (κ8, tt))))))),
+        (q0, (q1, (q2, (q5, (q6, (q7, (q8, tt))))))),
+        (le.0, (le.1.0, (le.1.1.0, (le.1.1.1.0, (le.1.1.1.1.0, tt))))),
+        (r, (l, (d, (a.1.0, tt)))),
+        (v0 ∷ [], (shr_vals l, (v6 ∷ [], (s1.word ∷ [], tt)))),
+      ),
+      tt,
+    ) in
     use0 𝓛 (raw (fact 𝓤 Filter)) (fact_i 𝓤 Filter (emp 𝓤) filter) $ use0 𝓛 (raw (fact 𝓤 (κ8 ⊑ X.lives))) (fact_i 𝓤 (κ8 ⊑ X.lives) (emp 𝓤) inX) $ join ! $ use0 𝓛 (raw (fact 𝓤 (κ7 ⊑ I.lives))) (fact_i 𝓤 (κ7 ⊑ I.lives) (emp 𝓤) inI) $ join ! $
     use0 𝓛 (raw (fact 𝓤 (κ6 ⊑ S.lives))) (fact_i 𝓤 (κ6 ⊑ S.lives) (emp 𝓤) inS) $ join ! $ use0 𝓛 (raw (fact 𝓤 (κ5 ⊑ F.lives))) (fact_i 𝓤 (κ5 ⊑ F.lives) (emp 𝓤) inF) $ join ! $
     nothing ! $ move ! (13 ∷ 0 ∷ []) $ join ! $ move ! (6 ∷ 0 ∷ []) $ join ! $ move ! (2 ∷ 0 ∷ []) $ join ! $ move ! (10 ∷ 0 ∷ []) $ join ! $

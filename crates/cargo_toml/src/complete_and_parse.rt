@@ -91,7 +91,8 @@ impl<'config, F: Fn(&str) -> bool, S: BuildHasher + Clone + Drop> Resolver<'conf
     /// Completes a manifest as [`Manifest::complete_from_abstract_filesystem`] does, and resolves the features of the completed
     /// manifest as [`Resolver::parse`] does.
     ///
-    /// A refusal is that of completion, or [`Error::Memory`]. [`complete_and_parse_into`] says what it leaves.
+    /// A refusal is that of completion, or [`Error::Memory`]. It leaves the manifest as it was or, where it is [`Error::Memory`],
+    /// perhaps completed; a success leaves it as it is lent. From [`complete_and_parse_into`] a caller's proof learns that too.
     pub fn complete_and_parse<'m, M: Drop, N, Fs: AbstractFilesystem + Drop>(
         &self,
         alloc: Global,

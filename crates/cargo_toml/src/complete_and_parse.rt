@@ -119,6 +119,7 @@ impl<'config, F: Fn(&str) -> bool, S: BuildHasher + Clone + Drop> Resolver<'conf
         ensures keyed { IfOk result (λ p. IsKeyed p.1.features) }
         ensures targets { IfOk result (λ p. HaveTargets p.1.dependencies) }
     {
+        // The proof by hand walks through these lines, and names each local that they make: what may change goes into `resolved`.
         let completed = manifest.complete_from_abstract_filesystem(alloc, fs, workspace);
         self.resolved(shared(manifest), completed, alloc)
     }

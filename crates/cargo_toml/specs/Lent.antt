@@ -34,7 +34,7 @@ with_lent (Some x) (Some (Ok y)) = Some (Ok (x, y))
 
 -- what is lent for good is left as it is lent
 abbrev pub IsLentAs : (M : RattleType) → MutBor (Manifest M.Denot) → Bor (Manifest M.Denot) → Fml
-IsLentAs M manifest lent = follows_so (the_row M) (the_row M) manifest.ghost_name none (λ _ _. ⊤) (λ left. left ≡ lent.now)
+IsLentAs M manifest lent = follows_so (the_row M) (the_row M) manifest.ghost_name none (λ _ _. ⊤) (λ new. new ≡ lent.now)
 
 -- completed by a workspace that is handed in, if any, by what is told of roots and of folders
 module _ {M : Type 0} (old : Manifest M) (handed : Option Handed) (roots : RootsTold) (told : Text → Told) where
@@ -51,8 +51,8 @@ module _ {M : Type 0} (old : Manifest M) (handed : Option Handed) (roots : Roots
 
   -- after a success the manifest is as it is lent; after a refusal it is as it was or, for want of memory alone, completed
   abbrev pub IsLeftAfter : {Y : Type 0} → Result (Bor (Manifest M) × Y) Error → Manifest M → Type 0
-  IsLeftAfter (Ok p) left = left ≡ p.0.now
-  IsLeftAfter (Err e) left = (left ≡ old) ⊎ ((e ≡ Memory) × IsCompleted left)
+  IsLeftAfter (Ok p) new = new ≡ p.0.now
+  IsLeftAfter (Err e) new = (new ≡ old) ⊎ ((e ≡ Memory) × IsCompleted new)
 
 -- so the manifest is left, once what was lent is let go
 abbrev pub IsLentAfter : (M : RattleType) {Y : Type 0} → MutBor (Manifest M.Denot) → Option Handed → RootsTold → (Text → Told)

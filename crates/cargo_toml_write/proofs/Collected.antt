@@ -1,9 +1,8 @@
 -- A table that is made of pairs in one go holds what inserting them one by one would.
-use Rattle.std.proofs.Common.{◌≡◌, true, false, Bool, cond, Option, Some, None, Result, Ok, Err, IfOk, is_eq, is_some, sym, ap, ℕ, List, [], ◌∷◌, fold, String, Global, BTreeMap, Ordering, Less, Equal, Greater, string_bytes, nat_cmp, refl, ◌∙◌}
+use Rattle.std.proofs.Common.{◌≡◌, true, false, Bool, cond, Option, Some, None, Result, Ok, Err, IfOk, is_eq, is_some, sym, ap, List, [], ◌∷◌, String, Global, BTreeMap, Ordering, Less, Equal, Greater, string_bytes, refl, ◌∙◌}
 use Rattle.std.specs.BTreeMap as tree
 use Rattle.std.specs.BTreeMap.{insert_entry, is_at}
 use Rattle.std.specs.Cmp.{IsTotalOrder, eq_by_cmp_equiv, tied_itself}
-use Rattle.std.specs.Cmp.Lexicographic.{slice_cmp}
 use Rattle.std.specs.List.{AllByRecursion}
 use Rattle.std.specs.List.Sorted.{IsStrictlySortedBy}
 use Rattle.std.specs.Map.{keys_of, lookup, update, update_all}
@@ -15,12 +14,11 @@ use Rattle.std.proofs.lemmas.Map.{lookup-none}
 use Rattle.std.proofs.lemmas.Map.Entries.{none_below_head, none_past_head}
 use Rattle.std.proofs.lemmas.Map.Keys.{IsDistinct-from_sorted}
 use Rattle.std.specs.Option.{unwrap_or}
-use Rattle.toml.specs.Data.{Members, no_members, member}
+use Rattle.toml.specs.Data.{no_members, member}
 use Rattle.toml.specs.View.{view, members_view, table_view}
 use Rattle.toml.specs.declared.value.Value.{Value}
 use Rattle.toml.proofs.Views.{Entry}
 use Rattle.cargo_toml_write.specs.Pairs.{put_all}
-use Rattle.cargo_toml_write.specs.Writes.{put}
 use Rattle.cargo_toml_write.proofs.Others.{same_key}
 use Rattle.cargo_toml_write.proofs.Tables.{members_view-insert}
 

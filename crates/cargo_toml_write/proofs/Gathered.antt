@@ -30,8 +30,8 @@ module _ {X M : Type 0} (way : Way M) (meaning : X → M) where
       let next : put_all ns no_members ≡ put (string_bytes e.0) (view v) mid =
       ap (λ xs. put_all xs no_members) more ∙ put_last ps (k, v) no_members ∙ ap (λ bs. put bs (view v) mid) same in
       λ c new h.
-          so_far c new (then (required_row (string_bytes e.0) way (meaning e.1)) (entry_rows way (meant meaning rest)) None None c mid (put_all ns no_members) new
-          (is_put (string_bytes e.0) way (meaning e.1) (view v) None mid (put_all ns no_members) refl tree next) h)
+      so_far c new (then (required_row (string_bytes e.0) way (meaning e.1)) (entry_rows way (meant meaning rest)) None None c mid (put_all ns no_members) new
+      (is_put (string_bytes e.0) way (meaning e.1) (view v) None mid (put_all ns no_members) refl tree next) h)
 
   pub gather_end : (es rest : List (String Global × X)) (ps : List Entry) → Gathers es rest ps → rest ≡ []
       → AreWritten (entry_rows way (meant meaning es)) no_members (put_all ps no_members)

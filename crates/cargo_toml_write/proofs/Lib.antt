@@ -1,6 +1,8 @@
+pub mod Collected
 pub mod Entries
 pub mod FloatlessAgain
 pub mod FreeTrees
+pub mod Gathered
 pub mod Gives
 pub mod Items
 pub mod LintAgain

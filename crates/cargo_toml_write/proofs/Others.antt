@@ -13,7 +13,7 @@ use Rattle.cargo_toml_write.specs.Writes.{put}
 abbrev others : List (List ℕ) → Members → Option (List (List ℕ × Data))
 others names ms = others_read names (λ d. Some d) ms
 
-same_key : (k l : List ℕ) → slice_cmp nat_cmp k l ≡ Equal → k ≡ l
+pub same_key : (k l : List ℕ) → slice_cmp nat_cmp k l ≡ Equal → k ≡ l
 same_key k l h = (bytes_eq-Decides k l).0 (sym (is_eq-slice_cmp k l) ∙ ap is_eq h)
 
 put_at : (o : Ordering) (names : List (List ℕ)) (k l : List ℕ) (d e : Data) (ms : Members) → o ≡ slice_cmp nat_cmp k l → is_among names k ≡ true

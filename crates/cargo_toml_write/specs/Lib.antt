@@ -2,6 +2,7 @@ pub mod Examples
 pub mod FloatlessLaws
 pub mod FloatlessTypes
 pub mod NoFloats
+pub mod Pairs
 pub mod Ways
 pub mod WrittenBadges
 pub mod WrittenDependencies

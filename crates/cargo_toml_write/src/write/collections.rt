@@ -1,16 +1,18 @@
 //! Lists and maps of what can be written, and values that a workspace may give.
-ghost use Rattle.std.specs.Prelude.{◌≡◌, ℕ, List, map};
+ghost use Rattle.std.specs.Prelude.{◌≡◌, ℕ, IfOk, List, map};
+ghost use Rattle.toml.specs.Data.{no_members};
+ghost use Rattle.toml.specs.View.{table_view};
 ghost use Rattle.cargo_toml_parts.specs.declared.inheritable.Inheritable.{Inheritable};
 ghost use Rattle.cargo_toml_parts.specs.Inherits.{inheritable_map};
 ghost use Rattle.cargo_toml_parts.specs.Reads.{map_meaning};
 ghost use Rattle.cargo_toml_write.specs.FloatlessLaws.{inheritable_floatless, list_floatless, map_floatless};
-ghost use Rattle.cargo_toml_write.specs.Ways.{list_way, map_way, inheritable_way, exactly, inherited_tree};
+ghost use Rattle.cargo_toml_write.specs.Pairs.{AreGathered, put_all};
+ghost use Rattle.cargo_toml_write.specs.Ways.{entry_rows, list_way, map_way, inheritable_way, exactly, inherited_tree};
 ghost use Rattle.cargo_toml_write.specs.Writes.{IsWriting};
 
-use crate::write::writing::Writing;
 use crate::write::{LeftOut, ToValue, put};
 use cargo_toml_parts::{Error, Inheritable};
-use std::alloc::Global;
+use std::alloc::{AllocError, Global};
 use std::collections::BTreeMap;
 use toml::{Table, Value};
 
@@ -39,6 +41,28 @@ impl<T: ToValue> LeftOut for Vec<T> {
     }
 }
 
+/// The keys of a map, each with the tree of its value.
+fn pairs_of<T: ToValue>(
+    alloc: Global,
+    map: &BTreeMap<String, T>,
+) -> Result<Vec<(String, Value)>, Error>
+    ensures { AreGathered (entry_rows T.way (map_meaning T.meaning map.now)) result }
+{
+    let mut pairs = Vec::with_capacity(alloc, map.len())?;
+    for (key, x) in map.iter() {
+        let name = String::from_str(alloc, key.as_str())?;
+        pairs.push((name, x.to_value(alloc)?))?;
+    }
+    Ok(pairs)
+}
+
+/// The table of some pairs. It is made in one go: to insert them one by one looks each key up from the root.
+fn table_of(alloc: Global, pairs: Vec<(String, Value)>) -> Result<Table, AllocError>
+    ensures { IfOk result (λ t. table_view t ≡ put_all pairs.items no_members) }
+{
+    pairs.into_iter().collect(alloc)
+}
+
 impl<T: ToValue> ToValue for BTreeMap<String, T> {
     ghost Meaning = { List (List ℕ × T.Meaning) };
 
@@ -49,9 +73,9 @@ impl<T: ToValue> ToValue for BTreeMap<String, T> {
     ghost floatless = { map_floatless T.way T.floatless };
 
     fn to_value(&self, alloc: Global) -> Result<Value, Error> {
-        let mut writing = Writing::new(alloc);
-        writing.entries(self);
-        writing.finish()
+        let pairs = pairs_of(alloc, self)?;
+        let table = table_of(alloc, pairs)?;
+        Ok(Value::Table(table))
     }
 }
 

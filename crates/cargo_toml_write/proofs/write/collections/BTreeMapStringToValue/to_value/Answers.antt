@@ -1,8 +1,9 @@
+use Rattle.std.proofs.lemmas.Result.{err_from_is_err_and}
 use Rattle.cargo_toml_parts.specs.Reads.{map_meaning}
-use Rattle.cargo_toml_write.specs.Ways.{entry_rows}
-use Rattle.cargo_toml_write.proofs.Rows.{ends}
+use Rattle.cargo_toml_write.proofs.Gathered.{map_err}
 use Rattle.cargo_toml_write.proofs.write.collections.BTreeMapStringToValue.to_value.Goals as goal
 
-pub returns : goal.returns
-returns g c = ends (entry_rows g.T.ToValue.way) (map_meaning g.T.ToValue.meaning c.args.self.now) _ _ _ _ c.finish.result c.new-writing.ensures.no_fault c.new-writing.ensures.no_key
-    c.entries.ensures c.finish.ensures
+pub returns-in_err-pairs : goal.returns-in_err-pairs
+returns-in_err-pairs g c =
+    let p = err_from_is_err_and c.from_residual.result c.from_residual.ensures.1 in
+    rw (p.1, p.2) (map_err g.T.ToValue.way (map_meaning g.T.ToValue.meaning c.args.self.now) _ c.in_err-pairs.ensures)

@@ -26,5 +26,6 @@ mod TakingOver
 mod HashedRows
 mod HashedKept
 mod LeftOver
+mod KeptAll
 mod PutAlong
 mod BinTurns

@@ -2,11 +2,11 @@
 ghost use Rattle.std.specs.Prelude.{◌≡◌, ◌↔◌, ◌<◌, ◌≤◌, ℕ, Bool, IfOk, IsSome, IsTrue, Some, length, slice_get, true, false};
 ghost use Rattle.std.specs.Option.{IsSomeAnd};
 ghost use Rattle.cargo_toml_graph.specs.Action.{Text};
-ghost use Rattle.cargo_toml_graph.specs.Graph.{Table};
+ghost use Rattle.cargo_toml_graph.specs.Graph.{IsUnremoved, Table};
 ghost use Rattle.cargo_toml_walk.specs.Numbered.{text_at};
 ghost use Rattle.cargo_toml_walk.specs.Numbers.{IsWanted, Leads, list_at};
 ghost use Rattle.cargo_toml_resolve.specs.declared.features.Feature.{Feature};
-ghost use Rattle.cargo_toml_resolve.specs.InOrder.{AreInOrder, AreTable};
+ghost use Rattle.cargo_toml_resolve.specs.InOrder.{AreInOrder, AreTable, resolution_among};
 ghost use Rattle.cargo_toml_resolve.specs.Views.{value_at};
 ghost use Rattle.cargo_toml_hidden.specs.Leaving.{HasTexts};
 ghost use Rattle.cargo_toml_hidden.specs.Left.{AreLeft};
@@ -29,6 +29,27 @@ pub struct Left<'m, S: BuildHasher> {
     pub features: HashMap<&'m str, Feature<'m>, S>,
     /// What stands for each removed feature, by its name.
     pub hidden: HashMap<&'m str, BTreeSet<&'m str>, S>,
+}
+
+// Where no feature is removed, all stay as they are.
+fn keep_all<'m, S: BuildHasher + Clone>(
+    alloc: Global,
+    state: &S,
+    features: Vec<Feature<'m>>,
+    flags: &[bool],
+) -> Result<Left<'m, S>, AllocError>
+    requires in_order { AreInOrder features.items }
+    requires count { length flags.now ≡ length features.items }
+    requires none_flagged { (i : ℕ) → ¬ IsWanted flags.now true i }
+    ensures { IfOk result (λ l. (t : Table) (removed : Text → Bool) →
+        IsUnremoved t (resolution_among features.entry.items) → ((f : Text) → ¬ IsTrue (removed f)) →
+        AreLeft t removed features.entry.items l.features l.hidden) }
+{
+    let hidden = HashMap::with_hasher(alloc, state.clone()?);
+    Ok(Left {
+        features: hashed_kept(state.clone()?, alloc, features, flags)?,
+        hidden,
+    })
 }
 
 // What stands in places, by names.
@@ -98,4 +119,27 @@ pub fn take_out<'m, S: BuildHasher + Clone>(
         flags.as_slice(),
         texts.as_slice(),
     )
+}
+
+/// What is left of features in the byte order of their names, once those are taken out whose flag stands. It fails only where
+/// memory runs out, or the clone of `state` does.
+pub fn left_of<'m, S: BuildHasher + Clone>(
+    alloc: Global,
+    state: &S,
+    features: Vec<Feature<'m>>,
+    flags: &[bool],
+) -> Result<Left<'m, S>, AllocError>
+    requires in_order { AreInOrder features.items }
+    requires count { length flags.now ≡ length features.items }
+    ensures { IfOk result (λ l. (t : Table) (removed : Text → Bool) →
+        IsUnremoved t (resolution_among features.entry.items) →
+        ((f : Text) → IsTrue (removed f) ↔ IsFlagged features.entry.items flags.now f) →
+        AreLeft t removed features.entry.items l.features l.hidden) }
+{
+    // Most manifests have no hidden feature: then nothing is numbered and no path is walked.
+    if flags.contains(&true) {
+        take_out(alloc, state, features, flags)
+    } else {
+        keep_all(alloc, state, features, flags)
+    }
 }

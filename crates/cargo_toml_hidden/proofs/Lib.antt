@@ -27,5 +27,6 @@ mod HashedRows
 mod HashedKept
 mod LeftOver
 mod KeptAll
+mod AnsweringLeft
 mod PutAlong
 mod BinTurns

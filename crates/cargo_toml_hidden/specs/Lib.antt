@@ -1,5 +1,4 @@
 pub mod Filter
-pub mod Removing
 pub mod Leaving
 pub mod TakingOver
 pub mod KeptFeatures
@@ -9,3 +8,4 @@ pub mod Passing
 pub mod Walking
 pub mod Left
 pub mod Puts
+pub mod Slots

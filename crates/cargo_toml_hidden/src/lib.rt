@@ -10,8 +10,5 @@ pub mod leaving;
 pub mod left;
 pub mod numbering;
 pub mod publishing;
-pub mod removal;
-pub mod resolution;
 pub mod rows;
 
-pub use resolution::resolve;

@@ -1,9 +1,13 @@
 //! What is left of features, in a hashed map.
-ghost use Rattle.std.specs.Prelude.{◌≡◌, ◌≤◌, ℕ, Some, bytes_eq, false, if◌then◌else◌, length, slice_get, IfOk, IsSome, OnOk};
+ghost use Rattle.std.specs.Prelude.{◌≡◌, ◌≤◌, ℕ, None, Some, bytes_eq, false, if◌then◌else◌, length, map, slice_get, IfOk, IsSome, IsTrue, OnOk};
+ghost use Rattle.std.specs.Option.{option_or};
 ghost use Rattle.cargo_toml_graph.specs.Action.{Text};
+ghost use Rattle.cargo_toml_graph.specs.Admitted.{is_below};
+ghost use Rattle.cargo_toml_graph.specs.Removal.{IsAscending};
 ghost use Rattle.cargo_toml_walk.specs.Numbers.{IsWanted};
 ghost use Rattle.cargo_toml_resolve.specs.declared.features.Feature.{Feature};
 ghost use Rattle.cargo_toml_resolve.specs.Views.{value_at};
+ghost use Rattle.cargo_toml_hidden.specs.Slots.{held_among};
 
 use cargo_toml_resolve::features::Feature;
 use std::alloc::{AllocError, Global};
@@ -57,6 +61,41 @@ pub fn hashed_kept<'m, S: BuildHasher + Drop>(
     let mut place = 0;
     for feature in features {
         put_kept(&mut by_name, feature, flags[place])?;
+        place += 1;
+    }
+    Ok(by_name)
+}
+
+// The value, if there is one, is put under the name.
+fn put_value<'n, V: Drop, S: BuildHasher>(
+    by_name: &mut HashMap<&'n str, V, S>,
+    name: &'n str,
+    value: Option<V>,
+) -> Result<(), AllocError>
+    ensures { OnOk result ((k : Text) → value_at by_name.new k
+        ≡ option_or (if bytes_eq k name.now then value else None) (value_at by_name.old k)) }
+{
+    match value {
+        Some(value) => put(by_name, name, value),
+        None => Ok(()),
+    }
+}
+
+/// Values under names that ascend, of which some are without one, in a hashed map. It fails only where memory runs out.
+pub fn hashed<'n, V: Drop, S: BuildHasher + Drop>(
+    state: S,
+    alloc: Global,
+    names: &[&'n str],
+    values: Vec<Option<V>>,
+) -> Result<HashMap<&'n str, V, S>, AllocError>
+    requires ascend { IsAscending (λ a b. IsTrue (is_below a b)) (map (λ n. n.now) names.now) }
+    requires count { length values.items ≡ length names.now }
+    ensures { IfOk result (λ m. (k : Text) → value_at m k ≡ held_among (map (λ n. n.now) names.now) values.items k) }
+{
+    let mut by_name = HashMap::with_capacity_and_hasher(alloc, names.len(), state)?;
+    let mut place = 0;
+    for value in values {
+        put_value(&mut by_name, names[place], value)?;
         place += 1;
     }
     Ok(by_name)

@@ -22,6 +22,18 @@ use Rattle.cargo_toml_hidden.proofs.InPlace.{found_stands, stands_found}
 pub table_made : (t : Table) (vs : List Feature) → IsUnremoved t (resolution_among vs) → AreTable t vs
 table_made t vs h = record { has = h.has; names = h.names; action = h.action }
 
+-- a map that has under each name the feature of that name holds what they hold
+pub unremoved_by : {S : Type 0} (vs : List Feature) (m : HashMap (Bor Text) Feature S) → ((f : Text) → value_at m f ≡ feature_at vs f) →
+    (t : Table) → IsUnremoved t (resolution_among vs) → IsUnremoved t (resolution_of m)
+unremoved_by vs m same t h = record {
+  has = λ f. ap is_some (same f) ∙ h.has f;
+  names = λ f x. ap (λ o. option_map_or (λ (v : Feature). has_text v.enables_features x) o false) (same f) ∙ h.names f x;
+  action = λ f k. ap (λ o. option_map_or (λ (v : Feature). action_at v.enables_deps k) o None) (same f) ∙ h.action f k;
+  enabled_by = λ f e.
+      let alike = ap (λ o. option_map_or (λ (v : Feature). has_text v.enabled_by e) o false) (same f) in
+      (λ y. (h.enabled_by f e).0 (sym alike ∙ y), λ d. alike ∙ (h.enabled_by f e).1 d);
+}
+
 module _ {S : Type 0} (vs : List Feature) (up : AreInOrder vs) (m : HashMap (Bor Text) Feature S)
     (held : (i : ℕ) (v : Feature) → slice_get vs i ≡ Some v → value_at m v.key.now ≡ Some v)
     (only : (f : Text) → IsSome (value_at m f) → (i : ℕ) × (v : Feature) × (slice_get vs i ≡ Some v) × (v.key.now ≡ f)) where
@@ -38,20 +50,10 @@ module _ {S : Type 0} (vs : List Feature) (up : AreInOrder vs) (m : HashMap (Bor
           let o = only f (ap is_some e) in
           sym e ∙ subst (λ k. value_at m k ≡ Some o.1) o.3 (held o.0 o.1 o.2) ∙ sym (subst (λ k. feature_at vs k ≡ Some o.1) o.3 (stands_found vs up o.0 o.1 o.2)) ∙ e'
 
-  pub unremoved_there : (t : Table) → IsUnremoved t (resolution_among vs) → IsUnremoved t (resolution_of m)
-  unremoved_there t h = record {
-    has = λ f. ap is_some (same_at f) ∙ h.has f;
-    names = λ f x. ap (λ o. option_map_or (λ (v : Feature). has_text v.enables_features x) o false) (same_at f) ∙ h.names f x;
-    action = λ f k. ap (λ o. option_map_or (λ (v : Feature). action_at v.enables_deps k) o None) (same_at f) ∙ h.action f k;
-    enabled_by = λ f e.
-        let same = ap (λ o. option_map_or (λ (v : Feature). has_text v.enabled_by e) o false) (same_at f) in
-        (λ y. (h.enabled_by f e).0 (sym same ∙ y), λ d. same ∙ (h.enabled_by f e).1 d);
-  }
-
   pub all_left : (t : Table) (removed : Text → Bool) (hidden : HashMap (Bor Text) (BTreeSet (Bor Text)) S) → ((r : Text) → value_at hidden r ≡ None) →
       ((r : Text) → ¬ IsTrue (removed r)) → IsUnremoved t (resolution_among vs) → AreLeft t removed vs m hidden
   all_left t removed hidden empty none h = record {
-    resolved = resolved_unremoved t (resolution_of m) (λ f. IsTrue (removed f)) none (unremoved_there t h);
+    resolved = resolved_unremoved t (resolution_of m) (λ f. IsTrue (removed f)) none (unremoved_by vs m same_at t h);
     own = λ f. own_at f (value_at m f) (same_at f);
     bins = λ f. bins_at f (value_at m f) (same_at f);
     redirected = λ r. ap is_some (empty r) ∙ sym (false_from_ne_true (removed r) (none r));

@@ -1,12 +1,12 @@
 //! Hidden features are removed from features that stand in the byte order of their names.
-ghost use Rattle.std.specs.Prelude.{◌≡◌, ◌↔◌, ◌<◌, ◌≤◌, ℕ, Bool, IfOk, IsSome, IsTrue, Some, length, slice_get, true, false};
+ghost use Rattle.std.specs.Prelude.{◌≡◌, ◌↔◌, ◌<◌, ◌≤◌, ℕ, Bool, IfOk, IsSome, IsTrue, Some, [], length, slice_get, true, false};
 ghost use Rattle.std.specs.Option.{IsSomeAnd};
 ghost use Rattle.cargo_toml_graph.specs.Action.{Text};
 ghost use Rattle.cargo_toml_graph.specs.Graph.{IsUnremoved, Table};
 ghost use Rattle.cargo_toml_walk.specs.Numbered.{text_at};
 ghost use Rattle.cargo_toml_walk.specs.Numbers.{IsWanted, Leads, list_at};
 ghost use Rattle.cargo_toml_resolve.specs.declared.features.Feature.{Feature};
-ghost use Rattle.cargo_toml_resolve.specs.InOrder.{AreInOrder, AreTable, resolution_among};
+ghost use Rattle.cargo_toml_resolve.specs.InOrder.{AreInOrder, AreTable, feature_at, resolution_among};
 ghost use Rattle.cargo_toml_resolve.specs.Views.{value_at};
 ghost use Rattle.cargo_toml_hidden.specs.Leaving.{HasTexts};
 ghost use Rattle.cargo_toml_hidden.specs.Left.{AreLeft};
@@ -31,8 +31,9 @@ pub struct Left<'m, S: BuildHasher> {
     pub hidden: HashMap<&'m str, BTreeSet<&'m str>, S>,
 }
 
-// Where no feature is removed, all stay as they are.
-fn keep_all<'m, S: BuildHasher + Clone>(
+/// All features by their names, and nothing that stands for a removed one. It fails only where memory runs out, or the clone
+/// of `state` does.
+pub fn keep_all<'m, S: BuildHasher + Clone>(
     alloc: Global,
     state: &S,
     features: Vec<Feature<'m>>,
@@ -41,7 +42,9 @@ fn keep_all<'m, S: BuildHasher + Clone>(
     requires in_order { AreInOrder features.items }
     requires count { length flags.now ≡ length features.items }
     requires none_flagged { (i : ℕ) → ¬ IsWanted flags.now true i }
-    ensures { IfOk result (λ l. (t : Table) (removed : Text → Bool) →
+    ensures same { IfOk result (λ l. (f : Text) → value_at l.features f ≡ feature_at features.entry.items f) }
+    ensures empty { IfOk result (λ l. l.hidden.entries ≡ []) }
+    ensures all { IfOk result (λ l. (t : Table) (removed : Text → Bool) →
         IsUnremoved t (resolution_among features.entry.items) → ((f : Text) → ¬ IsTrue (removed f)) →
         AreLeft t removed features.entry.items l.features l.hidden) }
 {

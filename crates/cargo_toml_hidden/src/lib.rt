@@ -12,3 +12,4 @@ pub mod numbering;
 pub mod publishing;
 pub mod rows;
 
+

@@ -1,4 +1,4 @@
-//! From what a manifest lists to the whole answer.
+//! From what a manifest lists to the whole answer, by taking out one hidden feature after another.
 ghost use Rattle.std.specs.Prelude.{Bool, map, IfOk};
 ghost use Rattle.cargo_toml_graph.specs.Action.{Text};
 ghost use Rattle.cargo_toml_graph.specs.Reach.{IsOnce};
@@ -10,17 +10,19 @@ ghost use Rattle.cargo_toml_resolve.specs.Resolved.{IsAnswer};
 ghost use Rattle.cargo_toml_resolve.specs.Views.{answer_of, entry_of};
 ghost use Rattle.cargo_toml_hidden.specs.Filter.{HasNameFilter, Tells};
 
-use crate::filter::hidden_names;
+use crate::names::hidden_names;
 use crate::removal::remove_all;
+use cargo_toml_hidden::left::{Left, keep_all};
+use cargo_toml_hidden::publishing::hashed;
 use cargo_toml_resolve::admit::Listing;
 use cargo_toml_resolve::bins::Requirement;
 use cargo_toml_resolve::features::{Features, ParseDependency};
+use cargo_toml_resolve::resolution::Unremoved;
 use cargo_toml_resolve::resolve_all;
 use std::alloc::{AllocError, Global};
 use std::hash::BuildHasher;
 
-/// Resolves features as they are listed, with entries of whatever dependency tables and what binaries require, and removes
-/// those whose names begin with `_`, but for the ones that the filter keeps.
+/// Answers as [`cargo_toml_hidden::resolve`] does, more slowly and in a way that is easy to follow: to compare with.
 ///
 /// Each name is listed once. Each map of the answer gets a clone of `state`. It fails only where memory runs out, or the
 /// clone does.
@@ -40,19 +42,25 @@ pub fn resolve<'m: 'd, 'd, F: Fn(&str) -> bool, S: BuildHasher + Clone>(
     ensures keyed { IfOk result (λ a. IsKeyed a.features) }
     ensures targets { IfOk result (λ a. HaveTargets a.dependencies) }
 {
-    let all = resolve_all(alloc, state, listings, entries, requirements)?;
-    let names = hidden_names(alloc, &all.features, filter)?;
-    let Features {
-        mut features,
+    let Unremoved {
+        features,
         dependencies,
-        mut hidden_features,
-        ..
-    } = all;
-    remove_all(alloc, &mut features, &mut hidden_features, names.as_slice())?;
+    } = resolve_all(alloc, listings, entries, requirements)?;
+    let flags = vec![in alloc; false; features.len()]?;
+    let Left {
+        mut features,
+        mut hidden,
+    } = keep_all(alloc, state, features, flags.as_slice())?;
+    let names = hidden_names(alloc, &features, filter)?;
+    remove_all(alloc, &mut features, &mut hidden, names.as_slice())?;
+    let keys = dependencies.names.as_slice();
+    let dependencies = hashed(state.clone()?, alloc, keys, dependencies.values)?;
+    // tells that no key of the map stands there twice
+    let _count = dependencies.len();
     Ok(Features {
         features,
         dependencies,
         removed_hidden_features: !names.is_empty(),
-        hidden_features,
+        hidden_features: hidden,
     })
 }

@@ -11,4 +11,4 @@ pub returns-else-contains : goal.returns-else-contains
 returns-else-contains g c = if_ok_weaker c.keep_all.result _ _ (λ l h t removed start removed_is. h t removed start (λ f gone.
     let flagged = (removed_is f).0 gone in
     let below : flagged.0 < length c.args.flags.now = subst (λ n. flagged.0 < n) (sym c.requires.count) flagged.1 in
-    false≢true (sym (c.if-contains.ensures.cases flagged.0 false (omega arith) below) ∙ ap (λ b. beq b true) flagged.3))) c.keep_all.ensures
+    false≢true (sym (c.if-contains.ensures.cases flagged.0 false (omega arith) below) ∙ ap (λ b. beq b true) flagged.3))) c.keep_all.ensures.all

@@ -1,8 +1,9 @@
 -- From all that is resolved, and what is left of it once hidden features are taken out, to the whole answer.
-use Rattle.std.proofs.Common.{◌≡◌, ◌↔◌, ◌&&◌, Bool, true, false, List, [], not, Bor, map, codes, nat_eq, Option, Some, None, IsTrue, IfSome, is_some, option_map, refl, sym, ap, subst, ◌∙◌}
+use mathlib.Core.Bool.{beq}
+use Rattle.std.proofs.Common.{arith, ◌≡◌, ◌↔◌, ◌<◌, ◌&&◌, Bool, length, true, false, List, [], not, Bor, map, codes, nat_eq, Option, Some, None, IsTrue, IfSome, is_some, option_map, refl, sym, ap, subst, ◌∙◌}
 use Rattle.std.proofs.lemmas.Bool.{false≢true}
 use Rattle.std.specs.BTreeSet.{BTreeSet}
-use Rattle.std.specs.List.{starts_with}
+use Rattle.std.specs.List.{IsAnyAnswer, slice_index_or, starts_with}
 use Rattle.std.specs.Option.{option_map_or}
 use Rattle.cargo_toml_graph.specs.Action.{Text}
 use Rattle.cargo_toml_graph.specs.Admitted.{Listed, is_below, is_explicit}
@@ -10,15 +11,17 @@ use Rattle.cargo_toml_graph.specs.Bins.{HasBins}
 use Rattle.cargo_toml_graph.specs.Graph.{IsUnremoved, Table}
 use Rattle.cargo_toml_graph.specs.Redirects.{RedirectsTo}
 use Rattle.cargo_toml_graph.specs.Removal.{is_removed}
+use Rattle.cargo_toml_walk.specs.Numbered.{text_at}
 use Rattle.cargo_toml_resolve.specs.declared.features.Feature.{Feature}
 use Rattle.cargo_toml_resolve.specs.declared.features.Features.{Features}
-use Rattle.cargo_toml_resolve.specs.InOrder.{feature_at, resolution_among}
+use Rattle.cargo_toml_resolve.specs.InOrder.{feature_at, names_of, resolution_among}
 use Rattle.cargo_toml_resolve.specs.Reached.{IsKeyed}
 use Rattle.cargo_toml_resolve.specs.Recorded.{Entry, entries_at, recorded_of}
 use Rattle.cargo_toml_resolve.specs.Resolved.{IsAnswer, SameRecorded, table_of}
 use Rattle.cargo_toml_resolve.specs.Views.{answer_of, has_text, value_at}
 use Rattle.cargo_toml_hidden.specs.KeptFeatures.{IsNamedAlike, own_bins}
 use Rattle.cargo_toml_hidden.specs.Left.{AreLeft}
+use Rattle.cargo_toml_hidden.specs.Numbering.{IsFlagged}
 use Rattle.cargo_toml_hidden.proofs.InPlace.{found_stands}
 use Rattle.cargo_toml_hidden.proofs.SameKept.{bins_same}
 
@@ -108,3 +111,24 @@ module _ {S H : Type 0} (listed : Listed) (entries : List Entry) (own : Text →
     redirected = redirected;
     redirects = redirects;
   }
+
+-- some flag stands exactly if some feature is removed
+pub some_flagged : (b : Bool) (vs : List Feature) (flags : List Bool) (R : Text → Type 0) → length flags ≡ length vs → IsAnyAnswer (λ y c. beq y true ≡ c) flags b →
+    ((f : Text) → R f ↔ IsFlagged vs flags f) → IsTrue b ↔ ((r : Text) × R r)
+some_flagged true vs flags R len h is = (
+  λ y.
+      let name = text_at (names_of vs) h.0 in
+      (name, (is name).1 (h.0, (let below = h.1 in omega (arith, below, len)), refl, stands (slice_index_or flags h.0 false) (h.2 false))),
+  λ r. refl,
+)
+  where
+    stands : (c : Bool) → beq c true ≡ true → c ≡ true
+    stands true e = refl
+    stands false e = absurd (false≢true e)
+some_flagged false vs flags R len h is = (
+  λ y. absurd (false≢true y),
+  λ r.
+      let w = (is r.0).0 r.1 in
+      let below : w.0 < length flags = (let lt = w.1 in omega (arith, lt, len)) in
+      absurd (false≢true (sym (h w.0 false (omega arith) below) ∙ ap (λ c. beq c true) w.3)),
+)

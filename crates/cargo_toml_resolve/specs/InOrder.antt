@@ -10,7 +10,7 @@ use Rattle.std.specs.Ordering.{nat_cmp}
 use Rattle.cargo_toml_resolve.specs.declared.features.Feature.{Feature}
 use Rattle.cargo_toml_graph.specs.Action.{Text}
 use Rattle.cargo_toml_graph.specs.Admitted.{is_below}
-use Rattle.cargo_toml_graph.specs.Graph.{Table}
+use Rattle.cargo_toml_graph.specs.Graph.{Table, Resolution}
 use Rattle.cargo_toml_graph.specs.Removal.{IsAscending}
 use Rattle.cargo_toml_resolve.specs.Views.{action_at, has_text}
 
@@ -35,6 +35,13 @@ table_among vs = record {
   has = λ f. is_some (feature_at vs f);
   names = λ f x. option_map_or (λ v. has_text v.enables_features x) (feature_at vs f) false;
   action = λ f k. option_map_or (λ v. action_at v.enables_deps k) (feature_at vs f) None;
+}
+
+-- the same with the enablers that they tell
+abbrev pub resolution_among : List Feature → Resolution
+resolution_among vs = record {
+  table = table_among vs;
+  enabled_by = λ f e. option_map_or (λ v. has_text v.enabled_by e) (feature_at vs f) false;
 }
 
 -- they make the table

@@ -47,3 +47,11 @@ module _ where
         go q false off =
             subst (λ o. Relates (Enabled (λ e. bytes_eq q key && bytes_eq e by)) (held_in m q) o) (sym (after q ∙ ap (λ t. cond t (Some w) (held_in m q)) off))
             (nothing (λ e. bytes_eq q key && bytes_eq e by) (λ e. ap (λ t. t && bytes_eq e by) (bytes_eq_sym q key ∙ off)) (held_in m q))
+
+    -- where no feature has the key, nothing changes
+    pub enabled_back : (n : Slots Feature) → held_in m key ≡ None → ((q : Text) → held_in n q ≡ held_in m q) → EnabledAll (λ q e. bytes_eq q key && bytes_eq e by) m n
+    enabled_back n none same = record { at = λ q. subst (λ o. Relates (Enabled (λ e. bytes_eq q key && bytes_eq e by)) (held_in m q) o) (sym (same q)) (go q (bytes_eq q key) refl) }
+      where
+        go : (q : Text) (t : Bool) → bytes_eq q key ≡ t → Relates (Enabled (λ e. bytes_eq q key && bytes_eq e by)) (held_in m q) (held_in m q)
+        go q true on = subst (λ o. Relates (Enabled (λ e. bytes_eq q key && bytes_eq e by)) o o) (sym (ap (held_in m) ((bytes_eq-Decides q key).0 on) ∙ none)) tt
+        go q false off = nothing (λ e. bytes_eq q key && bytes_eq e by) (λ e. ap (λ t. t && bytes_eq e by) off) (held_in m q)

@@ -60,6 +60,9 @@ module _ where
         go q true on = subst (λ o. Relates (Required (own_of ((key, by) ∷ []) q)) o o) (sym (ap (held_in m) ((bytes_eq-Decides q key).0 on) ∙ gone)) tt
         go q false off = nothing (own_of ((key, by) ∷ []) q) (one q false off) (held_in m q)
 
+    pub required_back : (n : Slots Feature) → held_in m key ≡ None → ((q : Text) → held_in n q ≡ held_in m q) → RequiredAll (own_of ((key, by) ∷ [])) m n
+    required_back n gone same = record { at = λ q. subst (λ o. Relates (Required (own_of ((key, by) ∷ []) q)) (held_in m q) o) (sym (same q)) ((required_nowhere gone).at q) }
+
     pub required_at : (n : Slots Feature) (old w : Feature) → held_in m key ≡ Some old → ((q : Text) → held_in n q ≡ cond (bytes_eq key q) (Some w) (held_in m q))
         → Required (by ∷ []) old w → RequiredAll (own_of ((key, by) ∷ [])) m n
     required_at n old w was after is = record { at = λ q. go q (bytes_eq q key) refl }

@@ -79,7 +79,7 @@ impl<'n, V: Drop> Slots<'n, V> {
         requires place { place < length self.old.names.items }
         ensures same_names { HaveSameNames self.old self.new }
         ensures held { (f : Text) → held_in self.new f
-            ≡ (if bytes_eq f (text_at (names_in self.old) place) then Some value.entry else held_in self.old f) }
+            ≡ (if bytes_eq f (text_at (names_in self.old) place) then Some value else held_in self.old f) }
     {
         self.values[place] = Some(value);
     }

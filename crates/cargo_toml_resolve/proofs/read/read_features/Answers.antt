@@ -8,7 +8,7 @@ use Rattle.cargo_toml_resolve.proofs.ReadAll.{HasRead, noted_in, read_more, note
 use Rattle.cargo_toml_resolve.proofs.read.read_features.Goals as goal
 
 pub loop-listing-preserved : goal.loop-listing-preserved
-loop-listing-preserved g c =
+loop-listing-preserved c =
     let ls = c.args.listings.now in
     let i = c.loop-listing.listing-index in
     let l = c.listing-item.result in
@@ -18,7 +18,7 @@ loop-listing-preserved g c =
     }
 
 pub returns-clause-read : goal.returns-clause-read
-returns-clause-read g c =
+returns-clause-read c =
     let ls = c.args.listings.now in
     let all : take c.loop-listing.listing-index ls ≡ ls = take_all _ ls (omega arith) in
     all_read (listed_of ls) c.loop-listing.features c.add_default.new.features

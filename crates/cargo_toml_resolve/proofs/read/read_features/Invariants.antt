@@ -6,7 +6,7 @@ use Rattle.cargo_toml_resolve.proofs.ReadAll.{HasRead, noted_in}
 use Rattle.cargo_toml_resolve.proofs.read.read_features.Given as goal
 
 abbrev pub invariant-loop-listing : goal.invariant-loop-listing
-invariant-loop-listing g l = record {
+invariant-loop-listing l = record {
   features : HasRead (listed_of (take l.listing-index l.listings)) l.features;
   acted : (k : Text) → sorted_at l.acted k ≡ noted_in (listed_of (take l.listing-index l.listings)) k;
 }

@@ -6,7 +6,7 @@ use Rattle.cargo_toml_resolve.proofs.ReadOne.{items_more, noted_more}
 use Rattle.cargo_toml_resolve.proofs.read.read_list.Goals as goal
 
 pub loop-text-preserved : goal.loop-text-preserved
-loop-text-preserved g c =
+loop-text-preserved c =
     let texts = c.args.listing.actions.now in
     let i = c.loop-text.text-index in
     let items = map item_of (map string_bytes (take i texts)) in

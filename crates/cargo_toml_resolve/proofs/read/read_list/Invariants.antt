@@ -5,7 +5,7 @@ use Rattle.cargo_toml_resolve.specs.InOrder.{sorted_at}
 use Rattle.cargo_toml_resolve.proofs.read.read_list.Given as goal
 
 abbrev pub invariant-loop-text : goal.invariant-loop-text
-invariant-loop-text g l = record {
+invariant-loop-text l = record {
   listed : IsListed l.listing.name.now (map item_of (map string_bytes (take l.text-index l.listing.actions.now))) l.feature;
   acted : (k : Text) → sorted_at l.acted k ≡ noted (sorted_at l.initial.acted k) (joined_in (map item_of (map string_bytes (take l.text-index l.listing.actions.now))) k);
 }

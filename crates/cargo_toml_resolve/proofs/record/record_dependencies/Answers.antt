@@ -8,7 +8,7 @@ use Rattle.cargo_toml_resolve.proofs.Counting.{recorded_then}
 use Rattle.cargo_toml_resolve.proofs.record.record_dependencies.Goals as goal
 
 pub loop-entry-preserved : goal.loop-entry-preserved
-loop-entry-preserved g c =
+loop-entry-preserved c =
     let es : List ParseDependency = take c.loop-entry.entry-index c.args.entries.now in
     let p : ParseDependency = c.entry-item.result in
     let more : map entry_of (take (c.loop-entry.entry-index + 1) c.args.entries.now) ≡ map entry_of (take c.loop-entry.entry-index c.args.entries.now) ++ entry_of c.entry-item.result ∷ [] =
@@ -19,6 +19,6 @@ loop-entry-preserved g c =
     (recorded_at c.loop-entry.dependencies k) (recorded_at c.record_entry.new.dependencies k) (c.loop-entry.invariant listed same k) (c.in_ok-record_entry.ensures k))
 
 pub returns : goal.returns
-returns g c = λ listed same k.
+returns c = λ listed same k.
     c.loop-entry.invariant listed same k
     ∙ ap (λ xs. recorded_of (entries_at listed (map entry_of xs) k)) (take_all c.loop-entry.entry-index c.args.entries.now c.loop-entry-test.false)

@@ -7,5 +7,5 @@ use Rattle.cargo_toml_resolve.specs.Views.{entry_of}
 use Rattle.cargo_toml_resolve.proofs.record.record_dependencies.Given as goal
 
 abbrev pub invariant-loop-entry : goal.invariant-loop-entry
-invariant-loop-entry g l = (listed : Listed) → ((k : Text) → is_mentioned_in l.mentions k ≡ is_mentioned listed k) →
+invariant-loop-entry l = (listed : Listed) → ((k : Text) → is_mentioned_in l.mentions k ≡ is_mentioned listed k) →
     (k : Text) → recorded_at l.dependencies k ≡ recorded_of (entries_at listed (map entry_of (take l.entry-index l.entries)) k)

@@ -9,7 +9,7 @@ use Rattle.cargo_toml_resolve.proofs.Thinning.{Finds, looked_up}
 use Rattle.cargo_toml_resolve.proofs.redundant.drop_redundant.Goals as goal
 
 pub returns : goal.returns
-returns g c = λ entries recorded. record {
+returns c = λ entries recorded. record {
   at = λ q.
       here entries recorded q (lookup (λ k. bytes_eq q k.now) c.args.features.now.entries) (lookup (λ k. bytes_eq q k.now) c.retain.new.self.entries)
       (looked_up Changes (λ k. bytes_eq q k.now) _ _ (λ k v b w f' t. search rules) c.args.features.now.entries c.retain.new.self.entries c.retain.ensures.filtered);

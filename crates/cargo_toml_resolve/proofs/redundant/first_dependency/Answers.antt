@@ -12,7 +12,7 @@ no_entries [] n = refl
 no_entries (x ∷ xs) n = absurd (n (omega arith))
 
 pub returns-in_err-first : goal.returns-in_err-first
-returns-in_err-first g c = λ es same.
+returns-in_err-first c = λ es same.
     let d = c.in_ok-get.field-0.now in
     let there : held_in c.args.dependencies.now c.args.key.now ≡ Some d = search rules in
     let none : None ≡ c.first_key_value.result = search rules in
@@ -21,7 +21,7 @@ returns-in_err-first g c = λ es same.
     ∙ some_recorded d empty es (sym (ap (option_map recorded_in) there) ∙ same)
 
 pub returns : goal.returns
-returns g c = λ es same.
+returns c = λ es same.
     let d = c.in_ok-get.field-0.now in
     let there : held_in c.args.dependencies.now c.args.key.now ≡ Some d = search rules in
     first_recorded d c.in_ok-first.field-0-0.now c.in_ok-first.first.now c.in_ok-first.ensures.value c.in_ok-first.ensures.least es (sym (ap (option_map recorded_in) there) ∙ same)

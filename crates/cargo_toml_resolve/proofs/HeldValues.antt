@@ -94,3 +94,7 @@ module _ {V : Type 0} where
     -- the value that stood there is put back
     pub value_back : (o : Option V) → o ≡ get_or s.values.items i o → (f : Text) → held_among (names_in s) (set s.values.items i o) f ≡ held_in s f
     value_back o is f = ap (λ v. held_among (names_in s) (set s.values.items i v) f) is ∙ ap (λ vs. held_among (names_in s) vs f) (set-get_or s.values.items i o)
+
+  -- a name that a search doesn't find has no value
+  pub unfound : (s : Slots V) (ts : List (Bor Text)) (f : Text) → ts ≡ s.names.items → (¬ Among (map (λ n. n.now) ts) f) → held_in s f ≡ None
+  unfound s ts f same gone = held_missing (names_in s) s.values.items f (λ there. gone (subst (λ us. Among (map (λ (n : Bor Text). n.now) us) f) (sym same) there))

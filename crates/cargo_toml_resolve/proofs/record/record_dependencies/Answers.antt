@@ -16,7 +16,7 @@ loop-entry-preserved c =
     λ listed same k.
     subst (λ xs. recorded_at c.record_entry.new.dependencies k ≡ recorded_of (entries_at listed xs k)) (sym more)
     (recorded_then listed (is_mentioned_in c.args.mentions.now) same (map entry_of es) (entry_of p) k
-    (recorded_at c.loop-entry.dependencies k) (recorded_at c.record_entry.new.dependencies k) (c.loop-entry.invariant listed same k) (c.in_ok-record_entry.ensures k))
+    (recorded_at c.loop-entry.dependencies k) (recorded_at c.record_entry.new.dependencies k) (c.loop-entry.invariant listed same k) (c.in_ok-near.ensures k))
 
 pub returns : goal.returns
 returns c = λ listed same k.

@@ -127,17 +127,6 @@ module _ (m : Slots Feature) where
           ∙ ap (λ i. (t && (leads_at m e q && not (bytes_eq q e))) || i) (and-false (leads v.now q)) ∙ or-false _
           ∙ sym (ap (λ i. (t || i) && (leads_at m e q && not (bytes_eq q e))) s ∙ ap (λ i. i && (leads_at m e q && not (bytes_eq q e))) (or-false t))
 
-  -- once all features have had their turn
-  pub all_linked : (yielded : List (Bor (Bor Text) × Bor Feature)) → map deref_pair yielded ≡ m.entries → (q e : Text) → linked_so_far yielded q e ≡ (leads_at m e q && not (bytes_eq q e))
-  all_linked yielded all q e =
-      ap (λ ks. is_text_in ks e && (leads_at m e q && not (bytes_eq q e))) (keys_shown yielded ∙ ap (map (λ (x : Bor Text × Feature). x.0)) all)
-      ∙ ap (λ t. t && (leads_at m e q && not (bytes_eq q e))) (ap (λ f. list_any f (map (λ x. x.0) m.entries)) (λ i k. is_eq-slice_cmp e k.now i) ∙ sym (is_some-lookup (λ (k : Bor Text). bytes_eq e k.now) m.entries))
-      ∙ go (held_in m e)
-    where
-      go : (o : Option Feature) → (is_some o && (option_map_or (λ v. leads v q) o false && not (bytes_eq q e))) ≡ (option_map_or (λ v. leads v q) o false && not (bytes_eq q e))
-      go None = refl
-      go (Some v) = refl
-
 -- what an index past the end reads
 abbrev pub blank : Link
 blank = record { target = record { ref_ptr = (0, 0); now = [] }; source = record { ref_ptr = (0, 0); now = [] } }

@@ -69,10 +69,7 @@ fn thin_action_on(
 }
 
 // The same of each action of the feature. `retain` lends each value to be written, and keeps all.
-fn thin_feature(
-    feature: &mut Feature<'_>,
-    dependencies: &Slots<'_, FeatureDependency<'_>>,
-)
+fn thin_feature(feature: &mut Feature<'_>, dependencies: &Slots<'_, FeatureDependency<'_>>)
     requires { AreSlots dependencies.now }
     ensures { (entries : Text → List Entry) → IsRecordOf dependencies.now entries
         → Thinned entries feature.old feature.new }
@@ -83,10 +80,7 @@ fn thin_feature(
     });
 }
 
-fn thin_value(
-    value: &mut Option<Feature<'_>>,
-    dependencies: &Slots<'_, FeatureDependency<'_>>,
-)
+fn thin_value(value: &mut Option<Feature<'_>>, dependencies: &Slots<'_, FeatureDependency<'_>>)
     requires { AreSlots dependencies.now }
     ensures { (entries : Text → List Entry) → IsRecordOf dependencies.now entries
         → Relates (Thinned entries) value.old value.new }

@@ -10,6 +10,6 @@ loop-requirement-preserved c =
     let i = c.loop-requirement.requirement-index in
     record {
       required = required_more (own_of (map requirement_of (take i rs))) (own_of (requirement_of (get_or rs i blank) ∷ [])) (own_of (map requirement_of (take (i + 1) rs)))
-      c.args.features.now c.loop-requirement.features c.require.new.features (own_next rs i c.loop-requirement-test.true) c.loop-requirement.invariant.required c.in_ok-near.ensures.required;
+          c.args.features.now c.loop-requirement.features c.require.new.features (own_next rs i c.loop-requirement-test.true) c.loop-requirement.invariant.required c.in_ok-near.ensures.required;
       same_names = same_then c.args.features.now c.loop-requirement.features c.require.new.features c.loop-requirement.invariant.same_names c.in_ok-near.ensures.same_names;
     }

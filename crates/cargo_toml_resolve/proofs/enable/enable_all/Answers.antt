@@ -11,6 +11,6 @@ loop-link-preserved c =
     let i = c.loop-link.link-index in
     record {
       enabled = enabled_more (is_linked (take i ls)) (λ q e. bytes_eq q (get_or ls i blank).target.now && bytes_eq e (get_or ls i blank).source.now) (is_linked (take (i + 1) ls))
-      c.args.features.now c.loop-link.features c.enable.new.features (linked_more ls i c.loop-link-test.true) c.loop-link.invariant.enabled c.in_ok-near.ensures.enabled;
+          c.args.features.now c.loop-link.features c.enable.new.features (linked_more ls i c.loop-link-test.true) c.loop-link.invariant.enabled c.in_ok-near.ensures.enabled;
       same_names = same_then c.args.features.now c.loop-link.features c.enable.new.features c.loop-link.invariant.same_names c.in_ok-near.ensures.same_names;
     }

@@ -15,6 +15,6 @@ loop-entry-preserved c =
     ap (map entry_of) (take_more c.args.entries.now c.loop-entry.entry-index p c.loop-entry-test.true ∙ ap (λ x. es ++ x ∷ []) (sym c.entry-item.is)) ∙ map-append entry_of es (p ∷ []) in
     record {
       implied = subst (λ xs. ImpliesAll (is_offered c.args.acted.now xs) c.args.features.now c.imply.new.features) (sym more)
-      (implied_next c.args.acted.now (map entry_of es) (entry_of p) c.args.features.now c.loop-entry.features c.imply.new.features c.loop-entry.invariant.implied c.in_ok-near.ensures.implied);
+          (implied_next c.args.acted.now (map entry_of es) (entry_of p) c.args.features.now c.loop-entry.features c.imply.new.features c.loop-entry.invariant.implied c.in_ok-near.ensures.implied);
       same_names = same_then c.args.features.now c.loop-entry.features c.imply.new.features c.loop-entry.invariant.same_names c.in_ok-near.ensures.same_names;
     }

@@ -12,7 +12,7 @@ use Rattle.cargo_toml_graph.specs.Reach.{Among}
 use Rattle.cargo_toml_graph.specs.Removal.{IsAscending}
 use Rattle.cargo_toml_graph.proofs.RedirectsInOrder.{below_one_way}
 use Rattle.cargo_toml_resolve.specs.Views.{value_at}
-use Rattle.cargo_toml_hidden.specs.Slots.{held_among}
+use Rattle.cargo_toml_resolve.specs.Slots.{held_among}
 use Rattle.cargo_toml_hidden.specs.Texts.{texts_of}
 
 abbrev Ascend : List Text → Type 0

@@ -8,4 +8,3 @@ pub mod Passing
 pub mod Walking
 pub mod Left
 pub mod Puts
-pub mod Slots

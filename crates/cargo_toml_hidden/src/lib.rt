@@ -10,6 +10,9 @@ pub mod leaving;
 pub mod left;
 pub mod numbering;
 pub mod publishing;
+pub mod resolution;
 pub mod rows;
+
+pub use resolution::resolve;
 
 

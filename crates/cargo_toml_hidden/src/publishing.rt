@@ -7,7 +7,7 @@ ghost use Rattle.cargo_toml_graph.specs.Removal.{IsAscending};
 ghost use Rattle.cargo_toml_walk.specs.Numbers.{IsWanted};
 ghost use Rattle.cargo_toml_resolve.specs.declared.features.Feature.{Feature};
 ghost use Rattle.cargo_toml_resolve.specs.Views.{value_at};
-ghost use Rattle.cargo_toml_hidden.specs.Slots.{held_among};
+ghost use Rattle.cargo_toml_resolve.specs.Slots.{held_among};
 
 use cargo_toml_resolve::features::Feature;
 use std::alloc::{AllocError, Global};

@@ -10,7 +10,6 @@ use Rattle.std.specs.Map.{lookup}
 use Rattle.std.specs.BTreeMap as tree
 use Rattle.std.specs.BTreeMap.{BTreeMap}
 use Rattle.std.specs.Cmp.Lexicographic.{on_texts_equal}
-use Rattle.std.specs.HashMap.{HashMap, IsUnique}
 use Rattle.cargo_toml_dependencies.specs.declared.dependency.Dependency.{Dependency}
 use Rattle.cargo_toml_dependencies.specs.Dependencies.{DependencyMeaning, dependency_meaning}
 use Rattle.cargo_toml_resolve.specs.contracts.features.TargetKeyOrd.TheImpl as key_order
@@ -18,10 +17,12 @@ use Rattle.cargo_toml_resolve.specs.contracts.features.TargetKeyOrd.TheImpl.Laws
 use Rattle.cargo_toml_resolve.specs.declared.features.FeatureDependency.{FeatureDependency}
 use Rattle.cargo_toml_resolve.specs.declared.features.TargetKey.{TargetKey}
 use Rattle.cargo_toml_graph.specs.Action.{Text}
-use Rattle.cargo_toml_resolve.specs.FirstTarget.{HasTarget, HaveTargets, IsFirst}
+use Rattle.cargo_toml_resolve.specs.FirstTarget.{HasTarget, HeldHaveTargets, IsFirst}
 use Rattle.cargo_toml_resolve.specs.Recorded.{Entry, Target, target_cmp, recorded_of, first_target}
 use Rattle.cargo_toml_resolve.specs.Resolved.{SameRecorded}
-use Rattle.cargo_toml_resolve.specs.Views.{recorded_in, target_of, value_at}
+use Rattle.cargo_toml_resolve.specs.Views.{recorded_in, target_of}
+use Rattle.cargo_toml_resolve.specs.Slots.{held_in}
+use Rattle.cargo_toml_resolve.specs.declared.slots.Slots.{Slots}
 use Rattle.cargo_toml_resolve.proofs.Targets.{at, by_key, cmp_is, key_of, target_of-key_of, target_same}
 
 -- ---- the least of a list, of equal ones the first
@@ -208,11 +209,10 @@ has_target d (e ∷ es) r = go d.targets.entries refl
     go [] s = absurd (some_none (sym there ∙ ap (λ l. option_map (λ (x : Bor Dependency). dependency_meaning x.now) (lookup (tree.is_at (λ k. target_cmp e.target (target_of k))) l)) s))
     go (x ∷ xs) s = subst (λ l. 0 < length l) (sym s) (omega arith)
 
--- so each dependency of a map has one, where the map says the same as some entries
-pub have_targets : {S : Type 0} (m : HashMap (Bor Text) FeatureDependency S) → IsUnique (λ x y. bytes_eq x.now y.now) m → (entries : Text → List Entry)
-    → ((k : Text) → SameRecorded (option_map recorded_in (value_at m k)) (recorded_of (entries k))) → HaveTargets m
-have_targets m unique entries same = All-values_from_lookup (on_texts_equal (λ (k : Bor Text). k.now)) HasTarget m.entries unique (λ q. go q.now (value_at m q.now) (same q.now))
+-- so each dependency under a name has one, where the slots say the same as some entries
+pub have_targets : (s : Slots FeatureDependency) (entries : Text → List Entry) → ((k : Text) → SameRecorded (option_map recorded_in (held_in s k)) (recorded_of (entries k))) → HeldHaveTargets s
+have_targets s entries same k = go (held_in s k) (same k)
   where
-    go : (k : Text) (o : Option FeatureDependency) → SameRecorded (option_map recorded_in o) (recorded_of (entries k)) → IfSome o HasTarget
-    go k None s = tt
-    go k (Some d) s = has_target d (entries k) s
+    go : (o : Option FeatureDependency) → SameRecorded (option_map recorded_in o) (recorded_of (entries k)) → IfSome o HasTarget
+    go None s = tt
+    go (Some d) s = has_target d (entries k) s

@@ -25,3 +25,4 @@ mod OneListing
 mod Hashed
 pub mod Agreement
 pub mod HashedListing
+pub mod HeldValues

@@ -7,7 +7,6 @@ use Rattle.std.proofs.lemmas.List.{map-append}
 use Rattle.std.proofs.lemmas.Map.Text.{is_eq-slice_cmp}
 use Rattle.std.proofs.lemmas.Map.Made.{is_some-lookup}
 use Rattle.std.specs.BTreeMap.{BTreeMap, is_at}
-use Rattle.std.specs.HashMap.{HashMap}
 use Rattle.std.specs.Option.{option_map_or}
 use Rattle.std.specs.Cmp.Lexicographic.{slice_cmp}
 use Rattle.std.specs.List.{list_any}
@@ -19,7 +18,9 @@ use Rattle.cargo_toml_resolve.specs.declared.features.Feature.{Feature}
 use Rattle.cargo_toml_resolve.specs.declared.enable.Link.{Link}
 use Rattle.cargo_toml_graph.specs.Action.{Text, Action}
 use Rattle.cargo_toml_resolve.specs.Enabling.{is_plain, leads, leads_at, is_linked, AddsLinks}
-use Rattle.cargo_toml_resolve.specs.Views.{action_of, action_at, value_at}
+use Rattle.cargo_toml_resolve.specs.Views.{action_of, action_at}
+use Rattle.cargo_toml_resolve.specs.Slots.{held_in}
+use Rattle.cargo_toml_resolve.specs.declared.slots.Slots.{Slots}
 
 -- a link between two texts
 pub link_added : (ls : List Link) (l : Link) → bytes_eq l.target.now l.source.now ≡ false → AddsLinks (λ q. bytes_eq q l.target.now) l.source.now ls (ls ++ l ∷ [])
@@ -95,13 +96,13 @@ all_plain m yielded all q =
 pub alike_added : (p r : Text → Bool) (source : Text) (a b : List Link) → ((q : Text) → p q ≡ r q) → AddsLinks p source a b → AddsLinks r source a b
 alike_added p r source a b same h q e = h q e ∙ ap (λ t. is_linked a q e || (t && (bytes_eq e source && not (bytes_eq q e)))) (same q)
 
-module _ {S : Type 0} (m : HashMap (Bor Text) Feature S) where
+module _ (m : Slots Feature) where
   -- the links of the features so far
   abbrev pub linked_so_far : List (Bor (Bor Text) × Bor Feature) → Text → Text → Bool
   linked_so_far yielded q e = is_text_in (map (λ x. x.0.now) yielded) e && (leads_at m e q && not (bytes_eq q e))
 
   -- one more feature
-  pub feature_linked : (yielded : List (Bor (Bor Text) × Bor Feature)) (k : Bor (Bor Text)) (v : Bor Feature) (a b : List Link) → value_at m k.now.now ≡ Some v.now
+  pub feature_linked : (yielded : List (Bor (Bor Text) × Bor Feature)) (k : Bor (Bor Text)) (v : Bor Feature) (a b : List Link) → held_in m k.now.now ≡ Some v.now
       → ((q e : Text) → is_linked a q e ≡ linked_so_far yielded q e) → AddsLinks (leads v.now) k.now.now a b → (q e : Text) → is_linked b q e ≡ linked_so_far (yielded ++ (k, v) ∷ []) q e
   feature_linked yielded k v a b there h more q e =
       more q e ∙ ap (λ t. t || (leads v.now q && (bytes_eq e k.now.now && not (bytes_eq q e)))) (h q e)
@@ -125,17 +126,6 @@ module _ {S : Type 0} (m : HashMap (Bor Text) Feature S) where
           ap (λ i. (t && (leads_at m e q && not (bytes_eq q e))) || (leads v.now q && (i && not (bytes_eq q e)))) s
           ∙ ap (λ i. (t && (leads_at m e q && not (bytes_eq q e))) || i) (and-false (leads v.now q)) ∙ or-false _
           ∙ sym (ap (λ i. (t || i) && (leads_at m e q && not (bytes_eq q e))) s ∙ ap (λ i. i && (leads_at m e q && not (bytes_eq q e))) (or-false t))
-
-  -- once all features have had their turn
-  pub all_linked : (yielded : List (Bor (Bor Text) × Bor Feature)) → map deref_pair yielded ≡ m.entries → (q e : Text) → linked_so_far yielded q e ≡ (leads_at m e q && not (bytes_eq q e))
-  all_linked yielded all q e =
-      ap (λ ks. is_text_in ks e && (leads_at m e q && not (bytes_eq q e))) (keys_shown yielded ∙ ap (map (λ (x : Bor Text × Feature). x.0)) all)
-      ∙ ap (λ t. t && (leads_at m e q && not (bytes_eq q e))) (ap (λ f. list_any f (map (λ x. x.0) m.entries)) (λ i k. is_eq-slice_cmp e k.now i) ∙ sym (is_some-lookup (λ (k : Bor Text). bytes_eq e k.now) m.entries))
-      ∙ go (value_at m e)
-    where
-      go : (o : Option Feature) → (is_some o && (option_map_or (λ v. leads v q) o false && not (bytes_eq q e))) ≡ (option_map_or (λ v. leads v q) o false && not (bytes_eq q e))
-      go None = refl
-      go (Some v) = refl
 
 -- what an index past the end reads
 abbrev pub blank : Link

@@ -10,7 +10,7 @@ use Rattle.std.specs.Ordering.{nat_cmp}
 use Rattle.cargo_toml_resolve.specs.declared.features.Feature.{Feature}
 use Rattle.cargo_toml_graph.specs.Action.{Text}
 use Rattle.cargo_toml_graph.specs.Admitted.{is_below}
-use Rattle.cargo_toml_graph.specs.Graph.{Resolution, Table}
+use Rattle.cargo_toml_graph.specs.Graph.{Table, Resolution}
 use Rattle.cargo_toml_graph.specs.Removal.{IsAscending}
 use Rattle.cargo_toml_resolve.specs.Views.{action_at, has_text}
 
@@ -37,7 +37,7 @@ table_among vs = record {
   action = λ f k. option_map_or (λ v. action_at v.enables_deps k) (feature_at vs f) None;
 }
 
--- and with what enables each
+-- the same with the enablers that they tell
 abbrev pub resolution_among : List Feature → Resolution
 resolution_among vs = record {
   table = table_among vs;

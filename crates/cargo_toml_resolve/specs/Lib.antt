@@ -20,3 +20,4 @@ pub mod TargetLaws
 pub mod Hashed
 pub mod InOrder
 pub mod Agreement
+pub mod Slots

@@ -12,11 +12,13 @@ pub mod examples;
 pub mod features;
 mod imply;
 mod laws;
+mod names;
 pub mod questions;
 mod read;
 pub mod record;
 pub mod recursive;
 mod redundant;
 pub mod resolution;
+pub mod slots;
 
 pub use resolution::resolve_all;

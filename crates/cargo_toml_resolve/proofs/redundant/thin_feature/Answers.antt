@@ -14,7 +14,7 @@ use Rattle.cargo_toml_resolve.proofs.Thinning.{Finds, looked_up}
 use Rattle.cargo_toml_resolve.proofs.redundant.thin_feature.Goals as goal
 
 pub returns : goal.returns
-returns g c = λ entries recorded. record {
+returns c = λ entries recorded. record {
   key = refl;
   names = refl;
   actions = λ k.

@@ -1,0 +1,64 @@
+//! From what a manifest lists to the whole answer.
+ghost use Rattle.std.specs.Prelude.{Bool, map, IfOk};
+ghost use Rattle.cargo_toml_graph.specs.Action.{Text};
+ghost use Rattle.cargo_toml_graph.specs.Reach.{IsOnce};
+ghost use Rattle.cargo_toml_resolve.specs.FirstTarget.{HaveTargets};
+ghost use Rattle.cargo_toml_resolve.specs.OwnBins.{own_of, requirement_of};
+ghost use Rattle.cargo_toml_resolve.specs.Reached.{IsKeyed};
+ghost use Rattle.cargo_toml_resolve.specs.Reading.{listed_of};
+ghost use Rattle.cargo_toml_resolve.specs.Resolved.{IsAnswer};
+ghost use Rattle.cargo_toml_resolve.specs.Views.{answer_of, entry_of};
+ghost use Rattle.cargo_toml_hidden.specs.Filter.{HasNameFilter, Tells};
+
+use crate::flags::hidden_flags;
+use crate::left::{Left, left_of};
+use crate::publishing::hashed;
+use cargo_toml_resolve::admit::Listing;
+use cargo_toml_resolve::bins::Requirement;
+use cargo_toml_resolve::features::{Features, ParseDependency};
+use cargo_toml_resolve::resolution::Unremoved;
+use cargo_toml_resolve::resolve_all;
+use std::alloc::{AllocError, Global};
+use std::hash::BuildHasher;
+
+/// Resolves features as they are listed, with entries of whatever dependency tables and what binaries require, and removes
+/// those whose names begin with `_`, but for the ones that the filter keeps.
+///
+/// Each name is listed once. Each map of the answer gets a clone of `state`; nothing is hashed before the answer stands. It
+/// fails only where memory runs out, or the clone does.
+pub fn resolve<'m: 'd, 'd, F: Fn(&str) -> bool, S: BuildHasher + Clone>(
+    alloc: Global,
+    state: &S,
+    filter: Option<&F>,
+    listings: &[Listing<'m>],
+    entries: &[ParseDependency<'m, 'd>],
+    requirements: &[Requirement<'m>],
+) -> Result<Features<'m, 'd, S>, AllocError>
+    requires once { IsOnce (map (λ l. l.name.now) listings.now) }
+    requires filter { HasNameFilter F.Fn filter }
+    ensures resolved { IfOk result (λ a. (keep : Text → Bool) → Tells F.Fn filter.entry keep →
+        IsAnswer (listed_of listings.now) (map entry_of entries.now) (own_of (map requirement_of requirements.now)) keep
+        (answer_of a)) }
+    ensures keyed { IfOk result (λ a. IsKeyed a.features) }
+    ensures targets { IfOk result (λ a. HaveTargets a.dependencies) }
+{
+    let Unremoved {
+        features,
+        dependencies,
+    } = resolve_all(alloc, listings, entries, requirements)?;
+    let flags = hidden_flags(alloc, features.as_slice(), filter)?;
+    let Left {
+        features: kept,
+        hidden: hidden_features,
+    } = left_of(alloc, state, features, flags.as_slice())?;
+    let names = dependencies.names.as_slice();
+    let dependencies = hashed(state.clone()?, alloc, names, dependencies.values)?;
+    // tells that no key of the map stands there twice
+    let _count = dependencies.len();
+    Ok(Features {
+        features: kept,
+        dependencies,
+        removed_hidden_features: flags.contains(&true),
+        hidden_features,
+    })
+}

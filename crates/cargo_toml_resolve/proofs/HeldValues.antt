@@ -120,6 +120,12 @@ module _ {V : Type 0} where
     pub turned : (j : ℕ) → j < i → R (get_or old j None) (get_or new j None)
     pub rest : (j : ℕ) → (¬ (j < i)) → get_or new j None ≡ get_or old j None
 
+  -- what a place holds doesn't hang on what is read past the end
+  pub read_alike : (vs : List V) (i : ℕ) (d e : V) → i < length vs → get_or vs i d ≡ get_or vs i e
+  read_alike [] i d e below = absurd (omega arith)
+  read_alike (v ∷ vs) zero d e below = refl
+  read_alike (v ∷ vs) (suc i) d e below = read_alike vs i d e (omega arith)
+
   module _ (R : Option V → Option V → Type 0) where
     pub none_turned : (old : List (Option V)) → TurnedUpTo R 0 old old
     none_turned old = record { count = refl; turned = λ j below. absurd (omega arith); rest = λ j above. refl }

@@ -1,6 +1,6 @@
 -- Links gathered one after another.
 use Rattle.std.proofs.Common.{◌≡◌, ℕ, ◌+◌, ◌<◌, take, length, get_or, ◌&&◌, ◌||◌, not, Bool, true, false, List, [], ◌∷◌, ◌++◌, map, Option, Some, None, is_some, option_map, bytes_eq, Bor, refl, sym, ap, ap₂, subst, ◌∙◌}
-use Rattle.std.proofs.Math.Bool.{or-false, or_assoc, and-false, and-or_distrib_right}
+use Rattle.std.proofs.Math.Bool.{or-false, or_assoc, and-or_distrib_right}
 use Rattle.std.proofs.lemmas.List.Folds.{list_any-append, list_any_more}
 use Rattle.std.proofs.lemmas.Slice.Eq.{bytes_eq-Decides}
 use Rattle.std.proofs.lemmas.List.{length-map, map-append}

@@ -1,12 +1,10 @@
-use Rattle.std.proofs.Common.{◌≡◌, ◌||◌, Bool, true, false, Option, None, map, is_some, Bor, refl, sym, ap, subst, ◌∙◌}
+use Rattle.std.proofs.Common.{◌≡◌, ◌||◌, Bool, true, false, None, map, is_some, Bor, refl, sym, ap, subst, ◌∙◌}
 use Rattle.std.proofs.Math.Bool.{or-true}
 use Rattle.cargo_toml_dependencies.specs.Dependencies.{is_optional}
 use Rattle.cargo_toml_graph.specs.Action.{Text}
 use Rattle.cargo_toml_graph.specs.Reach.{Among}
 use Rattle.cargo_toml_resolve.specs.Recording.{is_mentioned_in}
-use Rattle.cargo_toml_resolve.specs.Slots.{held_in}
 use Rattle.cargo_toml_resolve.specs.Views.{entry_of}
-use Rattle.cargo_toml_resolve.specs.declared.features.FeatureDependency.{FeatureDependency}
 use Rattle.cargo_toml_resolve.proofs.HeldValues.{unfound, value_found}
 use Rattle.cargo_toml_resolve.proofs.Recording.{none_recorded, one_recorded}
 use Rattle.cargo_toml_resolve.proofs.record.record_entry.Goals as goal

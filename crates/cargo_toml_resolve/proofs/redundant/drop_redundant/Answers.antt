@@ -31,6 +31,8 @@ returns-clause-thinned c = λ entries recorded.
     let end : ¬ (i < length new) = omega (arith, test, long) in
     let s = c.args.features.now in
     let R : Option Feature → Option Feature → Type 0 = Relates (Thinned entries) in
-    record { at = λ q.
-      subst (λ vs. R (held_in s q) (held_among (names_in s) vs q)) (sym (with_items_is s.values new (long ∙ c.deref_mut-value-items.ensures.len)))
-      (subst (λ vs. R (held_among (names_in s) vs q) (held_among (names_in s) new q)) value (all_turned R i (names_in s) old new tt end (c.loop-value.invariant entries recorded) q)) }
+    record {
+      at = λ q.
+          subst (λ vs. R (held_in s q) (held_among (names_in s) vs q)) (sym (with_items_is s.values new (long ∙ c.deref_mut-value-items.ensures.len)))
+          (subst (λ vs. R (held_among (names_in s) vs q) (held_among (names_in s) new q)) value (all_turned R i (names_in s) old new tt end (c.loop-value.invariant entries recorded) q));
+    }

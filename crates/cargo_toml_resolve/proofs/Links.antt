@@ -21,7 +21,7 @@ use Rattle.cargo_toml_resolve.specs.Enabling.{is_plain, leads, is_linked, AddsLi
 use Rattle.cargo_toml_resolve.specs.Views.{action_of, action_at}
 use Rattle.cargo_toml_resolve.specs.Slots.{AreSlots, held_among, names_in}
 use Rattle.cargo_toml_resolve.specs.declared.slots.Slots.{Slots}
-use Rattle.cargo_toml_resolve.proofs.HeldValues.{told_more}
+use Rattle.cargo_toml_resolve.proofs.PlaceByPlace.{told_more}
 use Rattle.cargo_toml_walk.specs.Numbered.{text_at}
 
 -- a link between two texts

@@ -4,7 +4,7 @@ use Rattle.cargo_toml_resolve.specs.Enabling.{Relates}
 use Rattle.cargo_toml_resolve.specs.Redundant.{Thinned}
 use Rattle.cargo_toml_resolve.specs.Slots.{held_among, held_in, names_in}
 use Rattle.cargo_toml_resolve.specs.declared.features.Feature.{Feature}
-use Rattle.cargo_toml_resolve.proofs.HeldValues.{all_turned, none_turned, one_turned, read_alike}
+use Rattle.cargo_toml_resolve.proofs.PlaceByPlace.{all_turned, none_turned, one_turned, read_alike}
 use Rattle.cargo_toml_resolve.proofs.redundant.drop_redundant.Goals as goal
 
 pub loop-value-init : goal.loop-value-init

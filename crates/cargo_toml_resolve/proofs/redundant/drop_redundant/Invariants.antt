@@ -3,7 +3,7 @@ use Rattle.cargo_toml_graph.specs.Action.{Text}
 use Rattle.cargo_toml_resolve.specs.Enabling.{Relates}
 use Rattle.cargo_toml_resolve.specs.Recorded.{Entry}
 use Rattle.cargo_toml_resolve.specs.Redundant.{IsRecordOf, Thinned}
-use Rattle.cargo_toml_resolve.proofs.HeldValues.{TurnedUpTo}
+use Rattle.cargo_toml_resolve.proofs.PlaceByPlace.{TurnedUpTo}
 use Rattle.cargo_toml_resolve.proofs.redundant.drop_redundant.Given as goal
 
 abbrev pub invariant-loop-value : goal.invariant-loop-value

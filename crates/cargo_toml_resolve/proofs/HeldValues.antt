@@ -1,5 +1,5 @@
 -- Values under names that ascend.
-use Rattle.std.proofs.Common.{◌≡◌, ◌<◌, ◌+◌, ℕ, zero, suc, Bool, true, false, cond, List, [], ◌∷◌, length, map, set, get_or, Option, None, Bor, IsTrue, bytes_eq, refl, sym, ap, subst, inl, inr, arith, ◌∙◌}
+use Rattle.std.proofs.Common.{◌≡◌, ◌<◌, ℕ, zero, suc, Bool, true, false, cond, List, [], ◌∷◌, length, map, set, get_or, Option, None, Bor, IsTrue, bytes_eq, refl, sym, ap, subst, inl, inr, arith, ◌∙◌}
 use Rattle.std.proofs.lemmas.List.{length-map, set-get_or}
 use Rattle.std.proofs.lemmas.Slice.Eq.{bytes_eq-Decides}
 use Rattle.cargo_toml_graph.specs.Action.{Text}
@@ -94,6 +94,18 @@ module _ {V : Type 0} where
     -- the value that stood there is put back
     pub value_back : (o : Option V) → o ≡ get_or s.values.items i o → (f : Text) → held_among (names_in s) (set s.values.items i o) f ≡ held_in s f
     value_back o is f = ap (λ v. held_among (names_in s) (set s.values.items i v) f) is ∙ ap (λ vs. held_among (names_in s) vs f) (set-get_or s.values.items i o)
+
+  -- what stands where a name is found
+  pub value_found : (s : Slots V) → AreSlots s → (ts : List (Bor Text)) (i : ℕ) (f : Text) (o : Option V) → ts ≡ s.names.items
+      → ((i < length ts) × (text_at (map (λ n. n.now) ts) i ≡ f)) → o ≡ get_or s.values.items i o → held_in s f ≡ o
+  value_found s are ts i f o same found is =
+      let here = subst (λ (us : List (Bor Text)). (i < length us) × (text_at (map (λ n. n.now) us) i ≡ f)) same found in
+      ap (held_in s) (sym here.1) ∙ value_there s are i here.0 o is
+
+  -- of two values put under one name the later stays
+  pub put_again : (b : Bool) (later earlier old mid new : Option V) → new ≡ cond b later mid → mid ≡ cond b earlier old → new ≡ cond b later old
+  put_again true later earlier old mid new h k = h
+  put_again false later earlier old mid new h k = h ∙ k
 
   -- a name that a search doesn't find has no value
   pub unfound : (s : Slots V) (ts : List (Bor Text)) (f : Text) → ts ≡ s.names.items → (¬ Among (map (λ n. n.now) ts) f) → held_in s f ≡ None

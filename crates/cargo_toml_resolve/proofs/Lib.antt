@@ -3,6 +3,7 @@ pub mod FirstTarget
 pub mod Thinning
 pub mod Counting
 pub mod Recording
+pub mod PlaceByPlace
 pub mod Links
 pub mod Enabling
 pub mod Implying

@@ -27,3 +27,4 @@ pub mod Agreement
 pub mod HashedListing
 pub mod HeldValues
 pub mod Ascending
+pub mod GatheredKeys

@@ -1,11 +1,11 @@
 -- Texts that ascend in byte order: one more at the end, and two lists merged.
-use Rattle.std.proofs.Common.{◌≡◌, ◌↔◌, ◌⊎◌, ◌<◌, ◌≤◌, ◌+◌, ◌-◌, ℕ, zero, suc, List, [], ◌∷◌, ◌++◌, length, map, take, take_all, drop, get_or, Bor, IsTrue, refl, sym, ap, subst, inl, inr, arith, ◌∙◌}
-use Rattle.std.proofs.lemmas.Bool.{false≢true}
+use Rattle.std.proofs.Common.{◌≡◌, ◌↔◌, ◌⊎◌, false, ◌<◌, ◌≤◌, ◌+◌, ◌-◌, ℕ, zero, suc, List, [], ◌∷◌, ◌++◌, length, map, take, take_all, drop, get_or, Bor, IsTrue, refl, sym, ap, subst, inl, inr, arith, ◌∙◌}
+use Rattle.std.proofs.lemmas.Bool.{false≢true, cases_lt}
 use Rattle.std.proofs.lemmas.Cmp.{nat_list_cmp_total}
 use Rattle.std.proofs.lemmas.Map.Lookups.{exact_bytes}
-use Rattle.std.proofs.lemmas.List.{map-append, length-drop, drop_more, drop_all}
+use Rattle.std.proofs.lemmas.List.{get_or-map, map-append, length-drop, drop_more, drop_all}
 use Rattle.std.specs.Cmp.Lexicographic.{slice_cmp}
-use Rattle.std.specs.Ordering.{nat_cmp, is_lt, ordering_reverse}
+use Rattle.std.specs.Ordering.{nat_cmp, is_lt, is_ge, ordering_reverse}
 use Rattle.std.specs.declared.cmp.Ordering.{Ordering}
 use Rattle.std.specs.declared.cmp.Ordering.TheVariants.{Less, Equal, Greater}
 use Rattle.cargo_toml_graph.specs.Action.{Text}
@@ -168,6 +168,28 @@ rest_taken xs i = take_all (length xs - i) (drop i xs) (let long = length-drop i
 
 abbrev pub texts : List (Bor Text) → List Text
 texts ts = map (λ t. t.now) ts
+
+-- one more text of a list, which isn't below or equal to the one before it
+pub step_up : (ts : List (Bor Text)) (i : ℕ) (d e : Bor Text) → 1 ≤ i → i < length ts → false ≡ is_ge (slice_cmp nat_cmp (get_or ts (i - 1) d).now (get_or ts i e).now)
+    → ((k : ℕ) → suc k < i → Below (text_at (texts ts) k) (text_at (texts ts) (suc k))) → (k : ℕ) → suc k < i + 1 → Below (text_at (texts ts) k) (text_at (texts ts) (suc k))
+step_up ts zero d e positive inside off so_far k below = absurd (omega arith)
+step_up ts (suc j) d e positive inside off so_far k below = elim (cases_lt (suc k) (suc j)) [
+  | inl before ↦ so_far k before
+  | inr after ↦ subst (λ n. Below (text_at (texts ts) n) (text_at (texts ts) (suc n))) (let same : j ≡ k = omega arith in same) here
+]
+  where
+    less : (o : Ordering) → false ≡ is_ge o → IsTrue (is_lt o)
+    less Less h = refl
+    less Equal h = absurd (false≢true h)
+    less Greater h = absurd (false≢true h)
+
+    before_it : suc j - 1 ≡ j
+    before_it = omega arith
+
+    here : Below (text_at (texts ts) j) (text_at (texts ts) (suc j))
+    here = subst (λ x. Below x (text_at (texts ts) (suc j))) (sym (get_or-map (λ (t : Bor Text). t.now) ts j d [] (omega arith)))
+        (subst (Below (get_or ts j d).now) (sym (get_or-map (λ (t : Bor Text). t.now) ts (suc j) e [] inside))
+        (less _ (subst (λ n. false ≡ is_ge (slice_cmp nat_cmp (get_or ts n d).now (get_or ts (suc j) e).now)) before_it off)))
 
 -- the same of borrowed texts, where `i` and `j` of them are merged
 module _ (first second : List (Bor Text)) where

@@ -28,3 +28,4 @@ pub mod HashedListing
 pub mod HeldValues
 pub mod Ascending
 pub mod GatheredKeys
+pub mod ListedNames

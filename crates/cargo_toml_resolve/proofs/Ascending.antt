@@ -169,7 +169,7 @@ rest_taken xs i = take_all (length xs - i) (drop i xs) (let long = length-drop i
 abbrev pub texts : List (Bor Text) → List Text
 texts ts = map (λ t. t.now) ts
 
--- one more text of a list, which isn't below or equal to the one before it
+-- one more text of a list, which is above the one before it
 pub step_up : (ts : List (Bor Text)) (i : ℕ) (d e : Bor Text) → 1 ≤ i → i < length ts → false ≡ is_ge (slice_cmp nat_cmp (get_or ts (i - 1) d).now (get_or ts i e).now)
     → ((k : ℕ) → suc k < i → Below (text_at (texts ts) k) (text_at (texts ts) (suc k))) → (k : ℕ) → suc k < i + 1 → Below (text_at (texts ts) k) (text_at (texts ts) (suc k))
 step_up ts zero d e positive inside off so_far k below = absurd (omega arith)

@@ -1,5 +1,5 @@
 -- The names that a table lists, among the names of a resolution.
-use Rattle.std.proofs.Common.{◌≡◌, ◌↔◌, ◌⊎◌, ◌||◌, Bool, true, false, cond, List, [], ◌∷◌, map, Option, Some, is_some, IsTrue, bytes_eq, codes, refl, sym, subst, inl, inr}
+use Rattle.std.proofs.Common.{◌≡◌, ◌↔◌, ◌⊎◌, ◌||◌, Bool, true, false, cond, List, [], ◌∷◌, map, Option, is_some, IsTrue, bytes_eq, codes, refl, sym, subst, inl, inr}
 use Rattle.std.proofs.lemmas.Bool.{false≢true}
 use Rattle.std.proofs.lemmas.Slice.Eq.{bytes_eq-Decides}
 use Rattle.std.specs.Map.{lookup}

@@ -1,5 +1,4 @@
-use Rattle.std.proofs.Common.{rules, ◌≡◌, ◌+◌, ◌++◌, ◌∷◌, ◌≤◌, List, [], drop, length, subst, sym, ap, ◌∙◌, Bor, inl, inr, arith}
-use Rattle.cargo_toml_graph.specs.Action.{Text}
+use Rattle.std.proofs.Common.{◌+◌, subst, sym, inl, inr, arith}
 use Rattle.cargo_toml_resolve.proofs.Ascending.{MergesTo, to_start, to_first, to_second, to_same, to_all, to_ascend}
 use Rattle.cargo_toml_resolve.proofs.names.merged.Goals as goal
 use Rattle.cargo_toml_resolve.proofs.names.merged.Goals.{then-loop-i-test+else-j-right, else-loop-i-test}

@@ -1,4 +1,4 @@
-use Rattle.std.proofs.Common.{◌≡◌, ◌≤◌, ◌+◌, ◌-◌, length}
+use Rattle.std.proofs.Common.{◌≤◌, ◌+◌, ◌-◌, length}
 use Rattle.cargo_toml_resolve.proofs.Ascending.{MergesTo}
 use Rattle.cargo_toml_resolve.proofs.names.merged.Given as goal
 

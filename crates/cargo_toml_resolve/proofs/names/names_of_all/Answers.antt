@@ -1,4 +1,4 @@
-use Rattle.std.proofs.Common.{◌↔◌, subst, sym, inl, ap}
+use Rattle.std.proofs.Common.{◌↔◌, subst, sym, inl}
 use Rattle.std.proofs.lemmas.Result.{IfOk-weaker}
 use Rattle.cargo_toml_graph.specs.Reach.{Among}
 use Rattle.cargo_toml_resolve.proofs.Ascending.{texts}

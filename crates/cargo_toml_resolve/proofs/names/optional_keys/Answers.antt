@@ -1,7 +1,5 @@
-use Rattle.std.proofs.Common.{◌≡◌, ◌+◌, map, take, take_all, subst, sym, ap, ◌∙◌}
+use Rattle.std.proofs.Common.{map, take_all, subst, sym, ap, ◌∙◌}
 use Rattle.cargo_toml_dependencies.specs.Dependencies.{is_optional}
-use Rattle.cargo_toml_graph.specs.Action.{Text}
-use Rattle.cargo_toml_resolve.specs.Recorded.{Entry}
 use Rattle.cargo_toml_resolve.specs.Views.{entry_of}
 use Rattle.cargo_toml_resolve.proofs.GatheredKeys.{Gathers, key_put, key_left}
 use Rattle.cargo_toml_resolve.proofs.names.optional_keys.Goals as goal

@@ -27,3 +27,6 @@ mod Hashed
 pub mod Agreement
 pub mod HashedListing
 pub mod HeldValues
+pub mod Ascending
+pub mod GatheredKeys
+pub mod ListedNames

@@ -26,3 +26,4 @@ mod Hashed
 pub mod Agreement
 pub mod HashedListing
 pub mod HeldValues
+pub mod SlotValues

@@ -1,5 +1,5 @@
 -- The lists of all features, read one after another.
-use Rattle.std.proofs.Common.{◌≡◌, ◌≢◌, ◌+◌, ◌<◌, ℕ, Bool, true, false, cond, ◌||◌, List, [], ◌∷◌, ◌++◌, map, fold, take, drop, length, get_or, is_some, MatchOption, Option, Some, None, unwrap_or, IsTrue, codes, bytes_eq, string_bytes, Bor, refl, sym, ap, subst, ◌∙◌, inl, inr, suc, add-one}
+use Rattle.std.proofs.Common.{◌≡◌, ◌≢◌, ◌+◌, ◌<◌, ℕ, Bool, true, false, cond, ◌||◌, List, [], ◌∷◌, ◌++◌, map, fold, take, drop, length, get_or, is_some, MatchOption, Option, Some, None, unwrap_or, IsTrue, codes, bytes_eq, string_bytes, refl, sym, ap, subst, ◌∙◌, inl, inr, suc, add-one}
 use Rattle.std.specs.List.{list_any}
 use Rattle.std.specs.Map.{lookup}
 use Rattle.std.specs.Option.{option_map_or, option_or, IsSomeAnd}

@@ -1,4 +1,4 @@
-use Rattle.std.proofs.Common.{◌≡◌, None, map, ap, ◌∙◌}
+use Rattle.std.proofs.Common.{map, ap, ◌∙◌}
 use Rattle.cargo_toml_resolve.specs.Slots.{held_among}
 use Rattle.cargo_toml_resolve.proofs.SlotValues.{none_anywhere}
 use Rattle.cargo_toml_resolve.proofs.slots.empty_slots.Goals as goal

@@ -1,4 +1,4 @@
-use Rattle.std.proofs.Common.{◌≡◌, [], List, sym, ◌∙◌}
+use Rattle.std.proofs.Common.{◌≡◌, [], sym, ◌∙◌}
 use Rattle.std.proofs.lemmas.List.{nil_from_length}
 use Rattle.cargo_toml_resolve.proofs.SlotValues.{all_taken, gathered_held, gathered_in_order, values_of}
 use Rattle.cargo_toml_resolve.proofs.slots.into_features.Goals as goal

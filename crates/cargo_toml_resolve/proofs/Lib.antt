@@ -7,6 +7,7 @@ pub mod Links
 pub mod Enabling
 pub mod Implying
 pub mod Answering
+pub mod SlotValues
 pub mod WorkedExamples
 pub mod ActionTexts
 pub mod Listings
@@ -26,4 +27,3 @@ mod Hashed
 pub mod Agreement
 pub mod HashedListing
 pub mod HeldValues
-pub mod SlotValues

@@ -6,7 +6,7 @@ use Rattle.std.specs.List.{list_any}
 use Rattle.std.specs.Option.{option_map_or}
 use Rattle.cargo_toml_resolve.specs.declared.features.Feature.{Feature}
 use Rattle.cargo_toml_resolve.specs.declared.features.FeatureDependency.{FeatureDependency}
-use Rattle.cargo_toml_resolve.specs.InOrder.{sorted_at}
+use Rattle.cargo_toml_resolve.specs.InOrder.{feature_at, resolution_among, sorted_at}
 use Rattle.cargo_toml_resolve.specs.declared.read.Mentions.{Mentions}
 use Rattle.cargo_toml_graph.specs.Action.{Text, Action}
 use Rattle.cargo_toml_graph.specs.Admitted.{Listed, is_explicit, joined_action}
@@ -424,3 +424,18 @@ module _ (listed : Listed) (entries : List Entry) (own : Text → List Text) (me
 
   pub dependencies_told : (k : Text) → SameRecorded (recorded_at deps k) (recorded_of (entries_at listed entries k))
   dependencies_told k = same_recorded (recorded_at deps k) (recorded_of (entries_at listed entries k)) (recorded mentioned k)
+
+-- a list that has the same under each name
+module _ (s : Slots Feature) (vs : List Feature) (same_held : (f : Text) → feature_at vs f ≡ held_in s f) where
+  pub unremoved_among : (t : Table) → IsUnremoved t (resolution_held s) → IsUnremoved t (resolution_among vs)
+  unremoved_among t u = record {
+    has = λ f. ap is_some (same_held f) ∙ u.has f;
+    names = λ f x. ap (λ o. option_map_or (λ v. has_text v.enables_features x) o false) (same_held f) ∙ u.names f x;
+    action = λ f k. ap (λ o. option_map_or (λ v. action_at v.enables_deps k) o None) (same_held f) ∙ u.action f k;
+    enabled_by = λ f e.
+        let now : (resolution_among vs).enabled_by f e ≡ (resolution_held s).enabled_by f e = ap (λ o. option_map_or (λ v. has_text v.enabled_by e) o false) (same_held f) in
+        (λ y. (u.enabled_by f e).0 (sym now ∙ y), λ d. now ∙ (u.enabled_by f e).1 d);
+  }
+
+  pub told_among : (P : Feature → Type 0) (f : Text) → IfSome (held_in s f) P → IfSome (feature_at vs f) P
+  told_among P f before = subst (λ o. IfSome o P) (sym (same_held f)) before

@@ -1,8 +1,9 @@
 -- Features implied one after another.
-use Rattle.std.proofs.Common.{◌≡◌, ◌&&◌, ◌||◌, not, Bool, true, false, cond, List, [], ◌∷◌, ◌++◌, Option, Some, None, is_some, option_map, bytes_eq, Bor, refl, sym, ap, subst, ◌∙◌}
+use Rattle.std.proofs.Common.{◌≡◌, ◌<◌, ◌&&◌, ◌||◌, not, ℕ, Bool, true, false, cond, List, [], ◌∷◌, ◌++◌, length, map, get_or, IsTrue, Option, Some, None, is_some, option_map, bytes_eq, Bor, refl, sym, ap, subst, ◌∙◌}
 use Rattle.std.proofs.Math.Bool.{and-or_distrib_right}
-use Rattle.std.proofs.lemmas.Bool.{false≢true}
-use Rattle.std.proofs.lemmas.List.Folds.{list_any-append}
+use Rattle.std.proofs.lemmas.Bool.{and_from, false≢true}
+use Rattle.std.proofs.lemmas.List.{get_or-map, length-map}
+use Rattle.std.proofs.lemmas.List.Folds.{list_any-append, list_any_at}
 use Rattle.std.proofs.lemmas.Slice.Eq.{bytes_eq-Decides}
 use Rattle.std.proofs.lemmas.Map.Text.{btree_map_updates_str}
 use Rattle.std.specs.BTreeMap as tree
@@ -13,14 +14,15 @@ use Rattle.std.specs.List.{list_any}
 use Rattle.std.specs.Map.{lookup}
 use Rattle.std.specs.Option.{IsSomeAnd, UnwrapsOrElse}
 use Rattle.std.specs.Ordering.{nat_cmp}
-use Rattle.cargo_toml_dependencies.specs.Dependencies.{is_optional}
+use Rattle.cargo_toml_dependencies.specs.Dependencies.{dependency_meaning, is_optional}
 use Rattle.cargo_toml_resolve.specs.declared.features.DepAction.{DepAction}
 use Rattle.cargo_toml_resolve.specs.declared.features.Feature.{Feature}
+use Rattle.cargo_toml_resolve.specs.declared.features.ParseDependency.{ParseDependency}
 use Rattle.cargo_toml_graph.specs.Action.{Text}
 use Rattle.cargo_toml_resolve.specs.Implying.{IsImplied, Becomes, ImpliesAll, is_optional_at, is_offered, is_reserved_in}
 use Rattle.cargo_toml_resolve.specs.Recorded.{Entry}
 use Rattle.cargo_toml_resolve.specs.Resolved.{plain}
-use Rattle.cargo_toml_resolve.specs.Views.{action_of, action_at}
+use Rattle.cargo_toml_resolve.specs.Views.{action_of, action_at, entry_of}
 use Rattle.cargo_toml_resolve.specs.Slots.{held_in}
 use Rattle.cargo_toml_resolve.specs.declared.slots.Slots.{Slots}
 use Rattle.cargo_toml_graph.proofs.Texts.{bytes_eq_sym}
@@ -109,3 +111,10 @@ plain_made key m n s none empty u k =
     go : (t : Bool) → option_map action_of (cond t (Some (record { is_conditional = false; is_dep_only = false; dep_features = s })) None) ≡ cond t (Some plain) None
     go true = λ i. Some (record { is_conditional = false; is_dep_only = false; features = λ x. none_in s empty x i })
     go false = refl
+
+-- an optional entry is among those of its key
+pub offered_there : (es : List ParseDependency) (i : ℕ) (p : ParseDependency) → i < length es → p ≡ get_or es i p → IsTrue (is_optional (dependency_meaning p.dep.now))
+    → IsTrue (list_any (is_optional_at p.key.now) (map entry_of es))
+offered_there es i p below is optional =
+    list_any_at (is_optional_at p.key.now) (map entry_of es) i (entry_of p) (subst (λ n. i < n) (sym (length-map es entry_of)) below)
+    (ap (is_optional_at p.key.now) (get_or-map entry_of es i p (entry_of p) below ∙ ap entry_of (sym is)) ∙ and_from _ _ ((bytes_eq-Decides p.key.now p.key.now).1 refl) optional)

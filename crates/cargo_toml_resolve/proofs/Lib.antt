@@ -8,6 +8,7 @@ pub mod Links
 pub mod Enabling
 pub mod Implying
 pub mod Answering
+pub mod SlotValues
 pub mod WorkedExamples
 pub mod ActionTexts
 pub mod Listings

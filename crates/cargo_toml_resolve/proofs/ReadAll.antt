@@ -1,10 +1,12 @@
 -- The lists of all features, read one after another.
-use Rattle.std.proofs.Common.{◌≡◌, ◌≢◌, ◌+◌, ◌<◌, ℕ, Bool, true, false, cond, ◌||◌, List, [], ◌∷◌, ◌++◌, map, fold, take, drop, length, get_or, is_some, MatchOption, Option, Some, None, unwrap_or, codes, bytes_eq, string_bytes, Bor, refl, sym, ap, subst, ◌∙◌, inl, inr, suc, add-one}
+use Rattle.std.proofs.Common.{◌≡◌, ◌≢◌, ◌+◌, ◌<◌, ℕ, Bool, true, false, cond, ◌||◌, List, [], ◌∷◌, ◌++◌, map, fold, take, drop, length, get_or, is_some, MatchOption, Option, Some, None, unwrap_or, IsTrue, codes, bytes_eq, string_bytes, refl, sym, ap, subst, ◌∙◌, inl, inr, suc, add-one}
 use Rattle.std.specs.List.{list_any}
 use Rattle.std.specs.Map.{lookup}
 use Rattle.std.specs.Option.{option_map_or, option_or, IsSomeAnd}
-use Rattle.std.proofs.lemmas.Bool.{false_from_ne_true}
-use Rattle.std.proofs.lemmas.List.{map_push, map-append, take_more, take-append-drop}
+use Rattle.std.proofs.lemmas.Bool.{false_from_ne_true, or_right}
+use Rattle.std.proofs.lemmas.List.{get_or-map, length-map, map_push, map-append, take_more, take-append-drop}
+use Rattle.std.proofs.lemmas.List.Folds.{list_any_at}
+use Rattle.std.proofs.lemmas.Map.Made.{is_some-lookup}
 use Rattle.std.specs.List.{AllByRecursion}
 use Rattle.std.proofs.Common.{ap₂}
 use Rattle.std.proofs.lemmas.List.Sums.{fold_push}
@@ -13,7 +15,7 @@ use Rattle.std.proofs.Math.Seq.{drop-cons}
 use Rattle.cargo_toml_resolve.specs.declared.features.Feature.{Feature}
 use Rattle.cargo_toml_resolve.specs.declared.admit.Listing.{Listing}
 use Rattle.cargo_toml_graph.specs.Action.{Text, Action, item_of}
-use Rattle.cargo_toml_graph.specs.Admitted.{Listed, items, item_names, joined_action}
+use Rattle.cargo_toml_graph.specs.Admitted.{Listed, is_explicit, items, item_names, joined_action}
 use Rattle.cargo_toml_graph.specs.Reach.{Among, IsOnce}
 use Rattle.cargo_toml_resolve.specs.ReadFeature.{joined_in, noted, IsListed}
 use Rattle.cargo_toml_resolve.specs.Reading.{listed_of, IsRead}
@@ -227,3 +229,13 @@ module _ (listed : Listed) (m m' : Slots Feature) (read : HasRead listed m)
     where
       lists : (f : Text) → map item_of (unwrap_or (with_default listed f) []) ≡ items listed f
       lists f = ap (map item_of) (default_list (bytes_eq f (codes "default")) (lookup (bytes_eq f) listed))
+
+-- what is listed is explicit
+pub explicit_there : (ls : List Listing) (i : ℕ) (l : Listing) → i < length ls → l ≡ get_or ls i l → IsTrue (is_explicit (listed_of ls) l.name.now)
+explicit_there ls i l below is =
+    or_right (bytes_eq l.name.now (codes "default")) _ (is_some-lookup (bytes_eq l.name.now) (listed_of ls) ∙ ap (list_any (bytes_eq l.name.now)) (names_listed ls) ∙ listed_at)
+  where
+    listed_at : list_any (bytes_eq l.name.now) (map (λ (x : Listing). x.name.now) ls) ≡ true
+    listed_at =
+        list_any_at (bytes_eq l.name.now) (map (λ (x : Listing). x.name.now) ls) i l.name.now (subst (λ n. i < n) (sym (length-map ls (λ (x : Listing). x.name.now))) below)
+        (ap (bytes_eq l.name.now) (get_or-map (λ (x : Listing). x.name.now) ls i l l.name.now below ∙ ap (λ (x : Listing). x.name.now) (sym is)) ∙ bytes_eq_refl l.name.now)

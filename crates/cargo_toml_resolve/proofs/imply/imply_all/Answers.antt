@@ -1,11 +1,18 @@
-use Rattle.std.proofs.Common.{◌≡◌, ◌+◌, ◌++◌, ◌∷◌, [], List, take, map, ap, sym, subst, ◌∙◌}
+use Rattle.std.proofs.Common.{◌≡◌, ◌+◌, ◌++◌, ◌∷◌, [], Bor, List, take, map, ap, sym, subst, ◌∙◌}
 use Rattle.std.proofs.lemmas.List.{map-append, take_more}
+use Rattle.cargo_toml_graph.specs.Action.{Text}
+use Rattle.cargo_toml_graph.specs.Reach.{Among}
 use Rattle.cargo_toml_resolve.specs.declared.features.ParseDependency.{ParseDependency}
 use Rattle.cargo_toml_resolve.specs.Implying.{ImpliesAll, is_offered}
 use Rattle.cargo_toml_resolve.specs.Views.{entry_of}
-use Rattle.cargo_toml_resolve.proofs.Implying.{implied_next}
+use Rattle.cargo_toml_resolve.proofs.Implying.{implied_next, offered_there}
 use Rattle.cargo_toml_resolve.proofs.HeldValues.{same_then}
 use Rattle.cargo_toml_resolve.proofs.imply.imply_all.Goals as goal
+
+pub imply-requires-clause-named : goal.imply-requires-clause-named
+imply-requires-clause-named c = λ optional.
+    subst (λ ns. Among (map (λ (n : Bor Text). n.now) ns) c.entry-item.result.key.now) (sym c.loop-entry.invariant.same_names.names)
+    (c.requires.named c.entry-item.result.key.now (offered_there c.args.entries.now c.loop-entry.entry-index c.entry-item.result c.loop-entry-test.true c.entry-item.is optional))
 
 pub loop-entry-preserved : goal.loop-entry-preserved
 loop-entry-preserved c =

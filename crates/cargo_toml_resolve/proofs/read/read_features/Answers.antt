@@ -1,12 +1,19 @@
-use Rattle.std.proofs.Common.{◌≡◌, take, sym, subst, ap, ◌∙◌, arith}
+use Rattle.std.proofs.Common.{◌≡◌, Bor, map, take, sym, subst, ap, ◌∙◌, arith}
 use Rattle.std.proofs.lemmas.List.{take_all}
-use Rattle.cargo_toml_graph.specs.Reach.{IsOnce}
+use Rattle.cargo_toml_graph.specs.Reach.{Among, IsOnce}
+use Rattle.cargo_toml_graph.specs.Action.{Text}
 use Rattle.cargo_toml_resolve.specs.Reading.{listed_of}
 use Rattle.cargo_toml_resolve.specs.InOrder.{sorted_at}
 use Rattle.cargo_toml_resolve.proofs.Listings.{names_listed}
-use Rattle.cargo_toml_resolve.proofs.ReadAll.{HasRead, noted_in, read_more, noted_next, all_read}
+use Rattle.cargo_toml_resolve.proofs.ReadAll.{HasRead, noted_in, read_more, noted_next, all_read, explicit_there}
 use Rattle.cargo_toml_resolve.proofs.HeldValues.{same_then}
 use Rattle.cargo_toml_resolve.proofs.read.read_features.Goals as goal
+
+pub put_feature-near-requires-clause-named : goal.put_feature-near-requires-clause-named
+put_feature-near-requires-clause-named c =
+    let l = c.listing-item.result in
+    subst (λ ns. Among (map (λ (n : Bor Text). n.now) ns) l.name.now) (sym (c.loop-listing.invariant.same_names.names ∙ c.in_ok-features.ensures.names))
+    (c.requires.explicit l.name.now (explicit_there c.args.listings.now c.loop-listing.listing-index l c.loop-listing-test.true c.listing-item.is))
 
 pub loop-listing-preserved : goal.loop-listing-preserved
 loop-listing-preserved c =

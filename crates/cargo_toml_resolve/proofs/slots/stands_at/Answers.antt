@@ -1,4 +1,4 @@
-use Rattle.std.proofs.Common.{◌≡◌, ◌<◌, [], length, get_or, Bor, sym, rules, ◌∙◌}
+use Rattle.std.proofs.Common.{◌<◌, [], length, get_or, Bor, sym, rules, ◌∙◌}
 use Rattle.std.proofs.lemmas.List.{get_or-map}
 use Rattle.std.proofs.lemmas.Slice.Eq.{bytes_eq-Decides}
 use Rattle.cargo_toml_graph.specs.Action.{Text}

@@ -6,7 +6,7 @@ use cargo_toml::SemVer;
 use cargo_toml::features::Kind;
 use std::alloc::AllocError;
 use std::collections::HashMap;
-use std::hash::{BuildHasherDefault, FoldHasher};
+use std::hash::{BuildHasher, BuildHasherDefault, FoldHasher};
 use std::test::Fail;
 
 // Values behind pointers. Of what a function owns itself each field is looked at wherever the function may end, when it is
@@ -86,6 +86,16 @@ fn first_dependencies(rt: HostRuntime) -> Result<(), Fail> {
     Ok(())
 }
 
+// The same of a table beside which no dependency stands.
+fn is_named_alone<S: BuildHasher>(
+    alloc: Global,
+    features: &HashMap<String, Vec<String>, S>,
+    name: &str,
+    other: &str,
+) -> Result<bool, Error> {
+    is_named(alloc, features, &[], name, other)
+}
+
 #[test]
 fn names_of_a_table(rt: HostRuntime) -> Result<(), Fail> {
     let alloc = rt.alloc();
@@ -94,7 +104,7 @@ fn names_of_a_table(rt: HostRuntime) -> Result<(), Fail> {
     let mut actions = Vec::new(alloc);
     actions.push(String::from_str(alloc, "g")?)?;
     table.insert(String::from_str(alloc, "f")?, actions)?;
-    assert!(rt; is_named(alloc, &table, &[], "f", "g")?);
-    assert!(rt; !is_named(alloc, &table, &[], "g", "f")?);
+    assert!(rt; is_named_alone(alloc, &table, "f", "g")?);
+    assert!(rt; !is_named_alone(alloc, &table, "g", "f")?);
     Ok(())
 }

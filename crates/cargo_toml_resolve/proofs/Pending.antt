@@ -1,16 +1,16 @@
 -- The features still to visit, as those that one feature names are added.
-use Rattle.std.proofs.Common.{◌≡◌, ◌+◌, ◌≤◌, ◌&&◌, ◌||◌, Bool, true, false, List, [], ◌∷◌, ◌++◌, length, Some, None, is_some, Bor, bytes_eq, refl, sym, ap, subst, ◌∙◌, arith, length-append}
+use Rattle.std.proofs.Common.{◌≡◌, ◌+◌, ◌≤◌, ◌&&◌, ◌||◌, Bool, true, false, List, [], ◌∷◌, ◌++◌, length, Vec, Global, Option, Some, None, is_some, Bor, bytes_eq, refl, sym, ap, subst, ◌∙◌, arith, length-append, slice_get}
 use Rattle.std.proofs.lemmas.Slice.Eq.{bytes_eq-Decides}
 use Rattle.std.proofs.lemmas.Map.Text.{is_eq-slice_cmp}
 use Rattle.std.proofs.lemmas.List.Folds.{list_any-append}
 use Rattle.std.specs.List.{list_any}
-use Rattle.std.specs.Option.{IfSome}
+use Rattle.std.specs.Option.{IfSome, MatchOption, option_copied, option_to_list}
 use Rattle.std.specs.HashMap.{HashMap}
 use Rattle.cargo_toml_resolve.specs.declared.features.Feature.{Feature}
 use Rattle.cargo_toml_graph.specs.Action.{Text}
 use Rattle.cargo_toml_resolve.specs.Reached.{IsKeyed}
 use Rattle.cargo_toml_resolve.specs.Views.{value_at}
-use Rattle.cargo_toml_resolve.specs.Visits.{is_pending, AreHeld, PushesNamed}
+use Rattle.cargo_toml_resolve.specs.Visits.{is_pending, AreHeld, PushesNamed, still}
 use Rattle.cargo_toml_resolve.proofs.Pairs.{is_key}
 
 or-false : (b : Bool) → (b || false) ≡ b
@@ -105,3 +105,36 @@ module _ {S : Type 0} (m : HashMap (Bor Text) Feature S) where
     held = h.held;
     count = let c = h.count in omega (arith, c);
   }
+
+  -- a feature whose one name is k
+  module _ (v : Feature) (L : List (Bor Feature)) (k : Bor Text) (sole : v.enables_features.keys ≡ k ∷ []) where
+    begun : Pushes (k ∷ []) L L (k ∷ [])
+    begun = pushes_begun (k ∷ []) (k ∷ []) L refl
+
+    sole_named_nothing : value_at m k.now ≡ None → PushesNamed m v L L
+    sole_named_nothing none = pushes_all v L L [] refl (subst (λ names. Pushes names L L []) (sym sole) (pushes_none (k ∷ []) L L (k ∷ []) [] k refl begun none))
+
+    sole_named_one : (w : Bor Feature) → value_at m k.now ≡ Some w.now → w.now.key.now ≡ k.now → PushesNamed m v L (L ++ w ∷ [])
+    sole_named_one w here own = pushes_all v L (L ++ w ∷ []) [] refl (subst (λ names. Pushes names L (L ++ w ∷ []) []) (sym sole) (pushes_one (k ∷ []) L L (k ∷ []) [] k refl begun w (L ++ w ∷ []) here own refl))
+
+    -- what looking the name up answers
+    pub sole_looked_up : IsKeyed m → (r : Option (Bor Feature)) → option_copied r ≡ value_at m k.now → MatchOption r (PushesNamed m v L L) (λ w. PushesNamed m v L (L ++ w ∷ []))
+    sole_looked_up keyed None e = sole_named_nothing (sym e)
+    sole_looked_up keyed (Some w) e = sole_named_one w (sym e) (key_of m keyed k.now w.now (sym e))
+
+pub sole_of : {X : Type 0} (xs : List X) (x : X) → length xs ≤ 1 → slice_get xs 0 ≡ Some x → xs ≡ x ∷ []
+sole_of [] x short here = absurd (none_some here)
+  where
+    none_some : {X : Type 0} {x : X} → None ≡ Some x → ⊥
+    none_some e = cc
+sole_of (y ∷ []) x short here = cc
+sole_of (y ∷ z ∷ xs) x short here = absurd (omega (arith, short))
+
+-- what `pop` leaves and gives
+pub still_popped : (old new : Vec (Bor Feature) Global) (r : Option (Bor Feature)) → old.items ≡ new.items ++ option_to_list r → MatchOption r ((old.len ≡ 0) × (new.len ≡ 0)) (λ _. new.len + 1 ≡ old.len) → old.items ≡ still new.items r
+still_popped old new (Some v) e h = e
+still_popped old new None e h = empty old.items (sym old.ok.0 ∙ h.0)
+  where
+    empty : (xs : List (Bor Feature)) → length xs ≡ 0 → xs ≡ []
+    empty [] e = refl
+    empty (x ∷ xs) e = absurd (omega (arith, e))

@@ -5,7 +5,6 @@ use Rattle.std.proofs.lemmas.List.{map-append, append-nil}
 use Rattle.std.proofs.lemmas.Slice.Eq.{bytes_eq-Decides}
 use Rattle.std.specs.Option.{option_map_or}
 use Rattle.std.specs.Map.{lookup}
-use Rattle.std.specs.HashMap as hash
 use Rattle.std.specs.HashMap.{HashMap}
 use Rattle.cargo_toml_resolve.specs.declared.features.Feature.{Feature}
 use Rattle.cargo_toml_graph.specs.Action.{Text, Action}
@@ -15,10 +14,9 @@ use Rattle.cargo_toml_graph.specs.Recursive.{Enables, ArePairs}
 use Rattle.cargo_toml_graph.specs.Recursive.Enables.{itself, further}
 use Rattle.cargo_toml_resolve.specs.Reached.{Found, Lists, AreEnabled, ComeFrom, HaveNoEmpty, pairs_at}
 use Rattle.cargo_toml_resolve.specs.Views.{value_at, has_text, action_of, action_at, table_in}
-use Rattle.cargo_toml_resolve.specs.Visits.{unconditional, is_pending, AreHeld, PushesNamed, AddsActions}
-use Rattle.cargo_toml_resolve.proofs.Pairs.{at_key, elsewhere}
+use Rattle.cargo_toml_resolve.specs.Visits.{unconditional, is_pending, AreHeld, PushesNamed, PutsFound, AddsActions}
 use Rattle.cargo_toml_resolve.proofs.Pending.{is_pending-push}
-use Rattle.cargo_toml_resolve.proofs.Work.{work, work_drops}
+use Rattle.cargo_toml_resolve.proofs.Work.{work, work_drops, work_less}
 
 -- a feature of this name is found
 abbrev pub is_found : {S : Type 0} → Found S → Text → Bool
@@ -132,25 +130,66 @@ module _ {S : Type 0} (m : HashMap (Bor Text) Feature S) (s : Text) where
   last_pending : (L : List (Bor Feature)) (v : Bor Feature) → IsTrue (is_pending (L ++ v ∷ []) v.now.key.now)
   last_pending L v = is_pending-push L v v.now.key.now ∙ or_right _ _ ((bytes_eq-Decides v.now.key.now v.now.key.now).1 refl)
 
-  -- a feature that was found before
-  pub walks_on : (F : Found S) (E : Lists S) (L : List (Bor Feature)) (v : Bor Feature) → Walks m s F E (L ++ v ∷ []) → IsTrue (is_found F v.now.key.now) → Walks m s F E L
-  walks_on F E L v w old = record {
-    begun = elim w.begun [ inl f ↦ inl f | inr l ↦ pending_or_found s l ];
-    found = w.found;
-    pending = λ x e. w.pending x (was_pending L v x e);
-    held = (held_parts L v w.held).0;
-    same = w.same;
-    closed = λ x y f n h. elim (w.closed x y f n h) [ inl g ↦ inl g | inr l ↦ pending_or_found y l ];
-    pairs = w.pairs;
-    no_empty = w.no_empty;
-  }
-    where
-      pending_or_found : (x : Text) → IsTrue (is_pending (L ++ v ∷ []) x) → IsTrue (is_found F x) ⊎ IsTrue (is_pending L x)
-      pending_or_found x l = elim (split_pending L v x l) [ inl a ↦ inr a | inr e ↦ inl (ap (is_found F) e ∙ old) ]
+  -- the feature v of the map is put among those that are found
+  module _ (F F' : Found S) (v : Bor Feature) (u : PutsFound v F F') where
+    at_new : IsTrue (is_found F' v.now.key.now)
+    at_new = ap is_some u.here
+
+    grows : (x : Text) → IsTrue (is_found F x) → IsTrue (is_found F' x)
+    grows x e = elim (cases_Bool (bytes_eq v.now.key.now x)) [
+      | inl i ↦ subst (λ y. IsTrue (is_found F' y)) ((bytes_eq-Decides v.now.key.now x).0 i) at_new
+      | inr i ↦ ap is_some (u.others x i) ∙ e
+    ]
+
+    only : (x : Text) → IsTrue (is_found F' x) → (x ≡ v.now.key.now) ⊎ IsTrue (is_found F x)
+    only x e = elim (cases_Bool (bytes_eq v.now.key.now x)) [
+      | inl i ↦ inl (sym ((bytes_eq-Decides v.now.key.now x).0 i))
+      | inr i ↦ inr (sym (ap is_some (u.others x i)) ∙ e)
+    ]
+
+    still_same : value_at m v.now.key.now ≡ Some v.now → ComeFrom m F → ComeFrom m F'
+    still_same here same x = elim (cases_Bool (bytes_eq v.now.key.now x)) [
+      | inl i ↦ subst (λ y. IfSome (value_at F' y) (λ z. value_at m y ≡ Some z.now)) ((bytes_eq-Decides v.now.key.now x).0 i) (subst (λ o. IfSome o (λ z. value_at m v.now.key.now ≡ Some z.now)) (sym u.here) here)
+      | inr i ↦ subst (λ o. IfSome o (λ z. value_at m x ≡ Some z.now)) (sym (u.others x i)) (same x)
+    ]
+
+  -- a feature that was found before is put there again
+  module _ (F F' : Found S) (E : Lists S) (L : List (Bor Feature)) (v : Bor Feature) (w : Walks m s F E (L ++ v ∷ [])) (old : IsTrue (is_found F v.now.key.now))
+      (u : PutsFound v F F') where
+    was_found : (x : Text) → IsTrue (is_found F' x) → IsTrue (is_found F x)
+    was_found x e = elim (only F F' v u x e) [ inl i ↦ ap (is_found F) i ∙ old | inr f ↦ f ]
+
+    found_or_left : (x : Text) → IsTrue (is_pending (L ++ v ∷ []) x) → IsTrue (is_found F' x) ⊎ IsTrue (is_pending L x)
+    found_or_left x l = elim (split_pending L v x l) [ inl a ↦ inr a | inr e ↦ inl (ap (is_found F') e ∙ at_new F F' v u) ]
+
+    same_pairs : (k : Text) → ArePairsOf (table_in m) (λ g. IsTrue (is_found F' g)) k (pairs_at E k)
+    same_pairs k = let p = w.pairs k in record {
+      sound = λ g a i. let r = p.sound g a i in (grows F F' v u g r.0, r.1, r.2);
+      complete = λ g a f. p.complete g a (was_found g f);
+      once = p.once;
+    }
+
+    pub walks_on : Walks m s F' E L
+    walks_on = record {
+      begun = elim w.begun [ inl f ↦ inl (grows F F' v u s f) | inr l ↦ found_or_left s l ];
+      found = λ x e. w.found x (was_found x e);
+      pending = λ x e. w.pending x (was_pending L v x e);
+      held = (held_parts L v w.held).0;
+      same = still_same F F' v u (held_parts L v w.held).1 w.same;
+      closed = λ x y f n h. elim (w.closed x y (was_found x f) n h) [ inl g ↦ inl (grows F F' v u y g) | inr l ↦ found_or_left y l ];
+      pairs = same_pairs;
+      no_empty = w.no_empty;
+    }
+
+    pub walks_on_less : work (is_found F') m.entries + length L < work (is_found F) m.entries + length (L ++ v ∷ [])
+    walks_on_less =
+        let less = work_less (is_found F) (is_found F') (grows F F' v u) m.entries in
+        let last = length-append L (v ∷ []) in
+        omega (arith, less, last)
 
   -- a feature that is visited now
   module _ (F F' : Found S) (E E' : Lists S) (L L' : List (Bor Feature)) (v : Bor Feature) (w : Walks m s F E (L ++ v ∷ [])) (new : is_found F v.now.key.now ≡ false)
-      (u : hash.UpdatesBy (λ x y. bytes_eq x.now y.now) (λ q. bytes_eq v.now.key.now q.now) F F' (Some v)) (listed : AddsActions v.now E E') (kept : HaveNoEmpty E → HaveNoEmpty E') (pushed : PushesNamed m v.now L L') where
+      (u : PutsFound v F F') (listed : AddsActions v.now E E') (kept : HaveNoEmpty E → HaveNoEmpty E') (pushed : PushesNamed m v.now L L') where
     here : value_at m v.now.key.now ≡ Some v.now
     here = (held_parts L v w.held).1
 
@@ -160,26 +199,11 @@ module _ {S : Type 0} (m : HashMap (Bor Text) Feature S) (s : Text) where
     acts : (k : Text) → (table_in m).action v.now.key.now k ≡ action_at v.now.enables_deps k
     acts k = ap (λ o. option_map_or (λ f. action_at f.enables_deps k) o None) here
 
-    at_new : IsTrue (is_found F' v.now.key.now)
-    at_new = ap is_some (at_key v.now.key.now F F' (Some v) u)
-
-    grows : (x : Text) → IsTrue (is_found F x) → IsTrue (is_found F' x)
-    grows x e = elim (cases_Bool (bytes_eq v.now.key.now x)) [
-      | inl i ↦ subst (λ y. IsTrue (is_found F' y)) ((bytes_eq-Decides v.now.key.now x).0 i) at_new
-      | inr i ↦ ap is_some (elsewhere v.now.key.now F F' (Some v) u x i) ∙ e
-    ]
-
-    only : (x : Text) → IsTrue (is_found F' x) → (x ≡ v.now.key.now) ⊎ IsTrue (is_found F x)
-    only x e = elim (cases_Bool (bytes_eq v.now.key.now x)) [
-      | inl i ↦ inl (sym ((bytes_eq-Decides v.now.key.now x).0 i))
-      | inr i ↦ inr (sym (ap is_some (elsewhere v.now.key.now F F' (Some v) u x i)) ∙ e)
-    ]
-
     enabled : Enables (table_in m) s v.now.key.now
     enabled = w.pending v.now.key.now (last_pending L v)
 
     found_or_pending : (x : Text) → IsTrue (is_pending (L ++ v ∷ []) x) → IsTrue (is_found F' x) ⊎ IsTrue (is_pending L' x)
-    found_or_pending x l = elim (split_pending L v x l) [ inl a ↦ inr (pushed.pending x ∙ or_left _ _ a) | inr e ↦ inl (ap (is_found F') e ∙ at_new) ]
+    found_or_pending x l = elim (split_pending L v x l) [ inl a ↦ inr (pushed.pending x ∙ or_left _ _ a) | inr e ↦ inl (ap (is_found F') e ∙ at_new F F' v u) ]
 
     by_name : (x : Text) (a b : Bool) → (a && b) ≡ true → (a ≡ true) × (b ≡ true)
     by_name x true b e = (refl, e)
@@ -190,30 +214,27 @@ module _ {S : Type 0} (m : HashMap (Bor Text) Feature S) (s : Text) where
 
     pub visited : Walks m s F' E' L'
     visited = record {
-      begun = elim w.begun [ inl f ↦ inl (grows s f) | inr l ↦ found_or_pending s l ];
-      found = λ x e. elim (only x e) [ inl i ↦ subst (Enables (table_in m) s) (sym i) enabled | inr f ↦ w.found x f ];
+      begun = elim w.begun [ inl f ↦ inl (grows F F' v u s f) | inr l ↦ found_or_pending s l ];
+      found = λ x e. elim (only F F' v u x e) [ inl i ↦ subst (Enables (table_in m) s) (sym i) enabled | inr f ↦ w.found x f ];
       pending = λ x e. elim (or_cases (is_pending L x) (has_text v.now.enables_features x && is_some (value_at m x)) (sym (pushed.pending x) ∙ e)) [
         | inl a ↦ w.pending x (was_pending L v x a)
         | inr b ↦ let p = by_name x _ _ b in further enabled (named x ∙ p.0) p.1
       ];
       held = pushed.held (held_parts L v w.held).0;
-      same = λ x. elim (cases_Bool (bytes_eq v.now.key.now x)) [
-        | inl i ↦ subst (λ y. IfSome (value_at F' y) (λ z. value_at m y ≡ Some z.now)) ((bytes_eq-Decides v.now.key.now x).0 i) (subst (λ o. IfSome o (λ z. value_at m v.now.key.now ≡ Some z.now)) (sym (at_key v.now.key.now F F' (Some v) u)) here)
-        | inr i ↦ subst (λ o. IfSome o (λ z. value_at m x ≡ Some z.now)) (sym (elsewhere v.now.key.now F F' (Some v) u x i)) (w.same x)
-      ];
-      closed = λ x y f n h. elim (only x f) [
+      same = still_same F F' v u here w.same;
+      closed = λ x y f n h. elim (only F F' v u x f) [
         | inl i ↦ inr (pushed.pending y ∙ or_right _ _ (both _ _ (sym (named y) ∙ subst (λ z. IsTrue ((table_in m).names z y)) i n) h))
-        | inr f ↦ elim (w.closed x y f n h) [ inl g ↦ inl (grows y g) | inr l ↦ found_or_pending y l ]
+        | inr f ↦ elim (w.closed x y f n h) [ inl g ↦ inl (grows F F' v u y g) | inr l ↦ found_or_pending y l ]
       ];
       pairs = λ k. subst (ArePairsOf (table_in m) (λ g. IsTrue (is_found F' g)) k) (sym (listed k))
-          (pairs_joined (table_in m) (λ g. IsTrue (is_found F g)) (λ g. IsTrue (is_found F' g)) v.now.key.now k (pairs_at E k) (w.pairs k) (λ i. false≢true (sym new ∙ i)) grows at_new only (action_at v.now.enables_deps k) (acts k));
+          (pairs_joined (table_in m) (λ g. IsTrue (is_found F g)) (λ g. IsTrue (is_found F' g)) v.now.key.now k (pairs_at E k) (w.pairs k) (λ i. false≢true (sym new ∙ i)) (grows F F' v u) (at_new F F' v u) (only F F' v u) (action_at v.now.enables_deps k) (acts k));
       no_empty = kept w.no_empty;
     }
 
     -- less is left to do
     pub visited_less : work (is_found F') m.entries + length L' < work (is_found F) m.entries + length (L ++ v ∷ [])
     visited_less =
-        let drops = work_drops (is_found F) (is_found F') grows v.now.key.now v.now new at_new m.entries here in
+        let drops = work_drops (is_found F) (is_found F') (grows F F' v u) v.now.key.now v.now new (at_new F F' v u) m.entries here in
         let more = pushed.count in
         let last = length-append L (v ∷ []) in
         omega (arith, drops, more, last)

@@ -7,7 +7,7 @@ use Rattle.std.specs.HashMap.{HashMap}
 use Rattle.cargo_toml_resolve.specs.declared.features.DepAction.{DepAction}
 use Rattle.cargo_toml_resolve.specs.declared.features.Feature.{Feature}
 use Rattle.cargo_toml_graph.specs.Action.{Text, Action}
-use Rattle.cargo_toml_resolve.specs.Reached.{Lists, pairs_at}
+use Rattle.cargo_toml_resolve.specs.Reached.{Found, Lists, pairs_at}
 use Rattle.cargo_toml_resolve.specs.Views.{action_at, has_text, value_at}
 
 -- the list under a key; empty where the key isn't there
@@ -28,9 +28,19 @@ unconditional f (Some a) = if a.is_conditional then [] else ((f, a) ∷ [])
 abbrev pub AddsActions : {S : Type 0} → Feature → Lists S → Lists S → Type 0
 AddsActions v old new = (k : Text) → pairs_at new k ≡ pairs_at old k ++ unconditional v.key.now (action_at v.enables_deps k)
 
+-- the feature v is put among those that are found
+pub record PutsFound {S : Type 0} (v : Bor Feature) (old new : Found S) : Type 0 where
+  pub here : value_at new v.now.key.now ≡ Some v
+  pub others : (x : Text) → bytes_eq v.now.key.now x ≡ false → value_at new x ≡ value_at old x
+
 -- a feature of this name is still to visit
 abbrev pub is_pending : List (Bor Feature) → Text → Bool
 is_pending vs x = list_any (λ v. bytes_eq x v.now.key.now) vs
+
+-- the features still to visit, where one of them was taken off to be visited next; none, where there was none to take
+abbrev pub still : List (Bor Feature) → Option (Bor Feature) → List (Bor Feature)
+still pending None = []
+still pending (Some next) = pending ++ next ∷ []
 
 -- each feature of the list stands in the map under its key
 abbrev pub AreHeld : {S : Type 0} → HashMap (Bor Text) Feature S → List (Bor Feature) → Type 0

@@ -1,11 +1,13 @@
 //! What a feature enables by any number of names.
-ghost use Rattle.std.specs.Prelude.{◌≡◌, IfErr, IfOk, OnOk, Some};
+ghost use Rattle.std.specs.Prelude.{◌≡◌, ◌≤◌, ◌∷◌, ◌++◌, [], List, length, IfErr, IfOk, MatchOption, OnOk, Some, is_none};
+ghost use Rattle.std.specs.Borrow.{Bor};
 ghost use Rattle.cargo_toml_parts.specs.declared.error.Error.{Memory};
 ghost use Rattle.cargo_toml_graph.specs.Action.{Text};
 ghost use Rattle.cargo_toml_graph.specs.Recursive.{ArePairs};
+ghost use Rattle.cargo_toml_resolve.specs.declared.features.Feature.{Feature};
 ghost use Rattle.cargo_toml_resolve.specs.Reached.{AreEnabled, HaveNoEmpty, ComeFrom, IsHeldBy, IsKeyed, pairs_at};
 ghost use Rattle.cargo_toml_resolve.specs.Views.{table_in, value_at};
-ghost use Rattle.cargo_toml_resolve.specs.Visits.{AddsPair, AddsActions, PushesNamed};
+ghost use Rattle.cargo_toml_resolve.specs.Visits.{AddsPair, AddsActions, PushesNamed, PutsFound, still};
 
 use crate::features::{DepAction, Feature};
 use cargo_toml_parts::Error;
@@ -45,6 +47,10 @@ fn add_actions<'f, 'a, S: BuildHasher>(
     ensures pairs { OnOk result (AddsActions feature.now dependencies.old dependencies.new) }
     ensures no_empty { OnOk result (HaveNoEmpty dependencies.old → HaveNoEmpty dependencies.new) }
 {
+    // Most features act on none, and to begin a walk over an empty map costs more than this test.
+    if feature.enables_deps.is_empty() {
+        return Ok(());
+    }
     for (key, action) in &feature.enables_deps {
         if !action.is_conditional {
             add_pair(alloc, dependencies, *key, (feature.key, action))?;
@@ -68,6 +74,69 @@ fn push_named<'f, 'a, S: BuildHasher>(
         }
     }
     Ok(())
+}
+
+// Makes room where none is left, for three times as many as there are. By itself the map makes room for as many again, and
+// so moves each twice as often.
+fn make_room<'f, 'a, S: BuildHasher>(
+    found: &mut HashMap<&'a str, &'f Feature<'a>, S>,
+) -> Result<(), AllocError>
+    ensures { OnOk result ((x : Text) → value_at found.new x ≡ value_at found.old x) }
+{
+    let count = found.len();
+    if count == found.capacity() {
+        found.reserve(count.saturating_mul(3))?;
+    }
+    Ok(())
+}
+
+// Puts the feature among those that are found, and tells whether it wasn't there.
+fn add_found<'f, 'a, S: BuildHasher>(
+    found: &mut HashMap<&'a str, &'f Feature<'a>, S>,
+    feature: &'f Feature<'a>,
+) -> Result<bool, AllocError>
+    ensures puts { OnOk result (PutsFound feature.entry found.old found.new) }
+    ensures is_new { IfOk result (λ is_new. is_new ≡ is_none (value_at found.old feature.now.key.now)) }
+{
+    make_room(found)?;
+    let before = found.insert(feature.key, feature)?;
+    Ok(before.is_none())
+}
+
+// What the feature's one name stands for, if it has a name and some feature has that.
+fn sole_named<'f, 'a, S: BuildHasher>(
+    feature: &'f Feature<'a>,
+    features: &'f HashMap<&'a str, Feature<'a>, S>,
+) -> Option<&'f Feature<'a>>
+    requires keyed { IsKeyed features.now }
+    requires sole { length feature.now.enables_features.keys ≤ 1 }
+    ensures { (pending : List (Bor Feature)) → MatchOption result
+        (PushesNamed features.now feature.now pending pending)
+        (λ named. PushesNamed features.now feature.now pending (pending ++ named ∷ [])) }
+{
+    let Some(name) = feature.enables_features.first() else {
+        return None;
+    };
+    features.get(*name)
+}
+
+// Adds the features that the feature names to those still to visit, and takes off the one that comes next. A single name
+// is looked up with no walk over the set, and what it stands for isn't pushed: long chains are made of such features.
+fn take_next<'f, 'a, S: BuildHasher>(
+    feature: &'f Feature<'a>,
+    features: &'f HashMap<&'a str, Feature<'a>, S>,
+    pending: &mut Vec<&'f Feature<'a>>,
+) -> Result<Option<&'f Feature<'a>>, AllocError>
+    requires { IsKeyed features.now }
+    ensures { IfOk result (λ next.
+        PushesNamed features.now feature.now pending.old.items (still pending.new.items next)) }
+{
+    if feature.enables_features.len() > 1 {
+        push_named(feature, features, pending)?;
+    } else if let Some(named) = sole_named(feature, features) {
+        return Ok(Some(named));
+    }
+    Ok(pending.pop())
 }
 
 impl<'a> Feature<'a> {
@@ -122,12 +191,14 @@ impl<'a> Feature<'a> {
         let mut found = HashMap::with_hasher(alloc, features.hasher().clone()?);
         let mut dependencies = HashMap::with_hasher(alloc, features.hasher().clone()?);
         let mut pending = Vec::new(alloc);
-        pending.push(self.held(features))?;
-        while let Some(feature) = pending.pop() {
-            if !found.contains_key(feature.key) {
-                found.insert(feature.key, feature)?;
+        let mut next = Some(self.held(features));
+        while let Some(feature) = next {
+            let is_new = add_found(&mut found, feature)?;
+            if is_new {
                 add_actions(alloc, feature, &mut dependencies)?;
-                push_named(feature, features, &mut pending)?;
+                next = take_next(feature, features, &mut pending)?;
+            } else {
+                next = pending.pop();
             }
         }
         Ok((found, dependencies))

@@ -7,6 +7,7 @@ ghost use Rattle.cargo_toml_walk.specs.Numbered.{text_at};
 ghost use Rattle.cargo_toml_walk.specs.Numbers.{IsWanted, Leads, list_at};
 ghost use Rattle.cargo_toml_resolve.specs.declared.features.Feature.{Feature};
 ghost use Rattle.cargo_toml_resolve.specs.InOrder.{AreInOrder, AreTable, feature_at, resolution_among};
+ghost use Rattle.cargo_toml_resolve.specs.Reached.{IsKeyed};
 ghost use Rattle.cargo_toml_resolve.specs.Views.{value_at};
 ghost use Rattle.cargo_toml_hidden.specs.Leaving.{HasTexts};
 ghost use Rattle.cargo_toml_hidden.specs.Left.{AreLeft};
@@ -44,6 +45,7 @@ pub fn keep_all<'m, S: BuildHasher + Clone>(
     requires none_flagged { (i : ℕ) → ¬ IsWanted flags.now true i }
     ensures same { IfOk result (λ l. (f : Text) → value_at l.features f ≡ feature_at features.entry.items f) }
     ensures empty { IfOk result (λ l. l.hidden.entries ≡ []) }
+    ensures keyed { IfOk result (λ l. IsKeyed l.features) }
     ensures all { IfOk result (λ l. (t : Table) (removed : Text → Bool) →
         IsUnremoved t (resolution_among features.entry.items) → ((f : Text) → ¬ IsTrue (removed f)) →
         AreLeft t removed features.entry.items l.features l.hidden) }
@@ -76,6 +78,7 @@ fn publish<'m, S: BuildHasher + Clone>(
         IsWanted flags.now false i → value_at l.features v.key.now ≡ Some v) }
     ensures only { IfOk result (λ l. (f : Text) → IsSome (value_at l.features f) → (i : ℕ) × (v : Feature) ×
         (slice_get features.entry.items i ≡ Some v) × IsWanted flags.now false i × (v.key.now ≡ f)) }
+    ensures keyed { IfOk result (λ l. IsKeyed l.features) }
     ensures rows { IfOk result (λ l. (i : ℕ) → i < length rows.now → IsWanted flags.now true i →
         IsSomeAnd (value_at l.hidden (text_at (texts_of texts.now) i)) (HasTexts (texts_of texts.now) (list_at rows.now i))) }
     ensures only_rows { IfOk result (λ l. (r : Text) → IsSome (value_at l.hidden r) →
@@ -96,7 +99,8 @@ pub fn take_out<'m, S: BuildHasher + Clone>(
 ) -> Result<Left<'m, S>, AllocError>
     requires in_order { AreInOrder features.items }
     requires len { length flags.now ≡ length features.items }
-    ensures { IfOk result (λ l. (t : Table) (removed : Text → Bool) → AreTable t features.entry.items →
+    ensures keyed { IfOk result (λ l. IsKeyed l.features) }
+    ensures taken { IfOk result (λ l. (t : Table) (removed : Text → Bool) → AreTable t features.entry.items →
         ((f : Text) → IsTrue (removed f) ↔ IsFlagged features.entry.items flags.now f) →
         AreLeft t removed features.entry.items l.features l.hidden) }
 {
@@ -134,7 +138,8 @@ pub fn left_of<'m, S: BuildHasher + Clone>(
 ) -> Result<Left<'m, S>, AllocError>
     requires in_order { AreInOrder features.items }
     requires count { length flags.now ≡ length features.items }
-    ensures { IfOk result (λ l. (t : Table) (removed : Text → Bool) →
+    ensures keyed { IfOk result (λ l. IsKeyed l.features) }
+    ensures outcome { IfOk result (λ l. (t : Table) (removed : Text → Bool) →
         IsUnremoved t (resolution_among features.entry.items) →
         ((f : Text) → IsTrue (removed f) ↔ IsFlagged features.entry.items flags.now f) →
         AreLeft t removed features.entry.items l.features l.hidden) }

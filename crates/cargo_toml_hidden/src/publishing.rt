@@ -6,10 +6,13 @@ ghost use Rattle.cargo_toml_graph.specs.Admitted.{is_below};
 ghost use Rattle.cargo_toml_graph.specs.Removal.{IsAscending};
 ghost use Rattle.cargo_toml_walk.specs.Numbers.{IsWanted};
 ghost use Rattle.cargo_toml_resolve.specs.declared.features.Feature.{Feature};
+ghost use Rattle.cargo_toml_resolve.specs.Reached.{IsKeyed};
 ghost use Rattle.cargo_toml_resolve.specs.Views.{value_at};
-ghost use Rattle.cargo_toml_resolve.specs.Slots.{held_among};
+ghost use Rattle.cargo_toml_resolve.specs.FirstTarget.{HaveTargets, HeldHaveTargets};
+ghost use Rattle.cargo_toml_resolve.specs.Slots.{AreSlots, held_among, held_in};
 
-use cargo_toml_resolve::features::Feature;
+use cargo_toml_resolve::features::{Feature, FeatureDependency};
+use cargo_toml_resolve::slots::Slots;
 use std::alloc::{AllocError, Global};
 use std::collections::HashMap;
 use std::hash::BuildHasher;
@@ -56,6 +59,7 @@ pub fn hashed_kept<'m, S: BuildHasher + Drop>(
         IsWanted flags.now false i → value_at m v.key.now ≡ Some v) }
     ensures only { IfOk result (λ m. (f : Text) → IsSome (value_at m f) → (i : ℕ) × (v : Feature) ×
         (slice_get features.entry.items i ≡ Some v) × IsWanted flags.now false i × (v.key.now ≡ f)) }
+    ensures keyed { IfOk result IsKeyed }
 {
     let mut by_name = HashMap::with_capacity_and_hasher(alloc, features.len(), state)?;
     let mut place = 0;
@@ -99,4 +103,22 @@ pub fn hashed<'n, V: Drop, S: BuildHasher + Drop>(
         place += 1;
     }
     Ok(by_name)
+}
+
+/// Dependencies by their keys, in a hashed map. It fails only where memory runs out.
+pub fn hashed_dependencies<'d, S: BuildHasher + Drop>(
+    state: S,
+    alloc: Global,
+    dependencies: Slots<'d, FeatureDependency<'d>>,
+) -> Result<HashMap<&'d str, FeatureDependency<'d>, S>, AllocError>
+    requires slots { AreSlots dependencies }
+    requires targets { HeldHaveTargets dependencies }
+    ensures same { IfOk result (λ m. (k : Text) → value_at m k ≡ held_in dependencies.entry k) }
+    ensures have_targets { IfOk result HaveTargets }
+{
+    let Slots { names, values } = dependencies;
+    let by_key = hashed(state, alloc, names.as_slice(), values)?;
+    // tells that no key of the map stands there twice
+    let _count = by_key.len();
+    Ok(by_key)
 }

@@ -12,7 +12,7 @@ ghost use Rattle.cargo_toml_hidden.specs.Filter.{HasNameFilter, Tells};
 
 use crate::flags::hidden_flags;
 use crate::left::{Left, left_of};
-use crate::publishing::hashed;
+use crate::publishing::hashed_dependencies;
 use cargo_toml_resolve::admit::Listing;
 use cargo_toml_resolve::bins::Requirement;
 use cargo_toml_resolve::features::{Features, ParseDependency};
@@ -51,10 +51,7 @@ pub fn resolve<'m: 'd, 'd, F: Fn(&str) -> bool, S: BuildHasher + Clone>(
         features: kept,
         hidden: hidden_features,
     } = left_of(alloc, state, features, flags.as_slice())?;
-    let names = dependencies.names.as_slice();
-    let dependencies = hashed(state.clone()?, alloc, names, dependencies.values)?;
-    // tells that no key of the map stands there twice
-    let _count = dependencies.len();
+    let dependencies = hashed_dependencies(state.clone()?, alloc, dependencies)?;
     Ok(Features {
         features: kept,
         dependencies,

@@ -13,7 +13,7 @@ ghost use Rattle.cargo_toml_hidden.specs.Filter.{HasNameFilter, Tells};
 use crate::names::hidden_names;
 use crate::removal::remove_all;
 use cargo_toml_hidden::left::{Left, keep_all};
-use cargo_toml_hidden::publishing::hashed;
+use cargo_toml_hidden::publishing::hashed_dependencies;
 use cargo_toml_resolve::admit::Listing;
 use cargo_toml_resolve::bins::Requirement;
 use cargo_toml_resolve::features::{Features, ParseDependency};
@@ -53,10 +53,7 @@ pub fn resolve<'m: 'd, 'd, F: Fn(&str) -> bool, S: BuildHasher + Clone>(
     } = keep_all(alloc, state, features, flags.as_slice())?;
     let names = hidden_names(alloc, &features, filter)?;
     remove_all(alloc, &mut features, &mut hidden, names.as_slice())?;
-    let keys = dependencies.names.as_slice();
-    let dependencies = hashed(state.clone()?, alloc, keys, dependencies.values)?;
-    // tells that no key of the map stands there twice
-    let _count = dependencies.len();
+    let dependencies = hashed_dependencies(state.clone()?, alloc, dependencies)?;
     Ok(Features {
         features,
         dependencies,

@@ -1,8 +1,25 @@
 -- Facts of what is lent and of what is resolved beside it, as facts of both together.
-use Rattle.std.proofs.Common.{◌≡◌, Some, Result, Ok, Err, IfOk, IfErr, IfSome, IsSome, refl, ◌∙◌, inl}
+use Rattle.std.proofs.Common.{◌≡◌, false, T, is_ok, Option, Some, Result, Ok, Err, IfOk, IfErr, IfSome, IsSome, OnErr, OnOk, refl, sym, ap, ◌∙◌, subst, inl, inr}
+use Rattle.std.specs.Prelude.{⊤}
+use Rattle.std.specs.Borrow.{follows_so}
+use seplogic.Ra.Ura.{Ura}
+use mathlib.Core.Option.{none}
+use base.Logic.{ent, ex_i, ex_e}
+use base.Fml.{GName}
+use types.Logic.{Logic, sem}
+use denote.Follow.{follows_by, such_by}
+use denote.RattleType.{RattleType}
+use denote.Ref.{Bor}
 use Rattle.cargo_toml_parts.specs.declared.error.Error.{Error, Memory}
-use Rattle.cargo_toml_manifest.specs.Completing.{Outcome, gives, refuses, no_workspace, untold, IsWrapped, Meets}
-use Rattle.cargo_toml.specs.Lent.{with_lent}
+use Rattle.cargo_toml_discovery.specs.Names.{Text}
+use Rattle.cargo_toml_discovery.specs.Told.{Told}
+use Rattle.cargo_toml_package.specs.Filled.{IsFilled}
+use Rattle.cargo_toml_manifest.specs.declared.manifest.Manifest.{Manifest}
+use Rattle.cargo_toml_manifest.specs.Choosing.{Handed, RootsTold}
+use Rattle.cargo_toml_manifest.specs.Completing.{Outcome, gives, refuses, no_workspace, untold, GivenBy, IsLasting, IsWrapped, Meets, complete}
+use Rattle.cargo_toml_manifest.specs.Inheriting.{needs}
+use Rattle.cargo_toml_manifest.specs.Manifests.{ManifestMeaning, manifest_meaning}
+use Rattle.cargo_toml.specs.Lent.{with_lent, IsCompleted, IsLeftAfter}
 
 -- a refusal is one by the same outcome, whatever a success would have been
 pub refused_alike : {T U A : Type 0} (f : T → A) (g : U → A) (o : Outcome A) (e : Error) → Meets f o (Err e) → Meets g o (Err e)
@@ -43,3 +60,65 @@ pub resolved_with : {X Y : Type 0} (P : X → Y → Type 0) (x : X) (r : Result 
     IfSome (with_lent (Some x) (Some r)) (λ a. IfOk a (λ p. P p.0 p.1))
 resolved_with P x (Ok y) h = h
 resolved_with P x (Err e) h = tt
+
+-- what is known of a lender's last value is known under a weaker relation too
+pub rests_so : {M : Type 1} {𝓤 : Ura M} (𝓛 : Logic 𝓤) (R : RattleType) (γ : GName) (P Q : R.Denot → Type 0) → ((n : R.Denot) → P n → Q n)
+    → ent 𝓤 (sem 𝓛 (follows_so R R γ none (λ _ _. ⊤) P)) (sem 𝓛 (follows_so R R γ none (λ _ _. ⊤) Q))
+unfolding such_by
+rests_so {𝓤 = 𝓤} 𝓛 R γ P Q weaker = ex_e 𝓤 _ (λ s. ex_i 𝓤 (λ (y : (p : (R.Denot → R.Denot) × R.Denot) × ((w : R.Denot) → ⊤) × Q p.1). sem 𝓛 (follows_by R.Denot R.Denot R.coded.code R.coded.code γ none y.0.0 y.0.1)) (s.0, s.1, weaker s.0.1 s.2))
+
+-- what completing says, with the answer `d`, of a manifest that it leaves as `new`
+pub record Completing {M : Type 0} (old new : Manifest M) (handed : Option Handed) (roots : RootsTold) (told : Text → Told) (d : Result (Unit {0}) Error) : Type 0 where
+  pub outcome : Meets (λ _. manifest_meaning (λ m. m) new) (complete (manifest_meaning (λ m. m) old) handed roots told) d
+  pub unchanged : OnErr d (new ≡ old)
+  pub given : OnOk d (GivenBy (manifest_meaning (λ m. m) old) handed roots told (manifest_meaning (λ m. m) new))
+  pub needs_nothing : OnOk d (needs (manifest_meaning (λ m. m) new) ≡ false)
+  pub filled : OnOk d (IfSome new.«package» IsFilled)
+  pub again : OnOk d (IsLasting (manifest_meaning (λ m. m) old) handed (manifest_meaning (λ m. m) new))
+  pub wrapped : IfErr d IsWrapped
+
+-- what is said after it of the manifest, lent as `p`, and of both together, answered by `y`
+pub record Answering {M Y : Type 0} (new : Manifest M) (d : Result (Unit {0}) Error) (p : Bor (Manifest M)) (y : Result (Bor (Manifest M) × Y) Error) : Type 0 where
+  pub same : p.now ≡ new
+  pub refused : IfErr d (λ e. y ≡ Err e)
+  pub memory : OnOk d (IfErr y (λ e. e ≡ Memory))
+  pub lent : IfOk y (λ q. q.0 ≡ p)
+
+-- what holds of the completed manifest holds of the one that is lent
+pub lent_after : {M Y : Type 0} (P : Manifest M → Type 0) (new : Manifest M) (d : Result (Unit {0}) Error) (p : Bor (Manifest M)) (y : Result (Bor (Manifest M) × Y) Error)
+    → OnOk d (P new) → Answering new d p y → IfOk y (λ q. P q.0.now)
+lent_after P new (Ok u) p (Ok q) holds a = subst P (sym (ap (λ r. r.now) a.lent ∙ a.same)) holds
+lent_after P new (Err fault) p (Ok q) holds a = absurd (subst T (ap is_ok a.refused) tt)
+lent_after P new d p (Err e) holds a = tt
+
+abbrev meaning : {M : Type 0} → Manifest M → ManifestMeaning M
+meaning = manifest_meaning (λ m. m)
+
+completed : {M : Type 0} (old new : Manifest M) (handed : Option Handed) (roots : RootsTold) (told : Text → Told) → Completing old new handed roots told (Ok tt)
+    → IsCompleted old handed roots told new
+completed old new handed roots told c = record {
+  outcome = given_alike (λ (_ : Unit {0}). meaning new) meaning (complete (meaning old) handed roots told) tt new refl c.outcome;
+  given = c.given;
+  needs_nothing = c.needs_nothing;
+  filled = c.filled;
+  again = c.again;
+}
+
+module _ {M Y : Type 0} (old new : Manifest M) (handed : Option Handed) (roots : RootsTold) (told : Text → Told) where
+  pub left_after : (d : Result (Unit {0}) Error) (p : Bor (Manifest M)) (y : Result (Bor (Manifest M) × Y) Error) → Completing old new handed roots told d → Answering new d p y
+      → (left : Manifest M) → left ≡ p.now → IsLeftAfter old handed roots told y left
+  left_after d p (Ok q) c a left is = is ∙ ap (λ r. r.now) (sym a.lent)
+  left_after (Ok u) p (Err e) c a left is = inr (a.memory, subst (IsCompleted old handed roots told) (sym (is ∙ a.same)) (completed old new handed roots told c))
+  left_after (Err fault) p (Err e) c a left is = inl (is ∙ a.same ∙ c.unchanged)
+
+  pub outcome_after : (d : Result (Unit {0}) Error) (p : Bor (Manifest M)) (y : Result (Bor (Manifest M) × Y) Error) → Completing old new handed roots told d → Answering new d p y
+      → Meets (λ q. meaning q.0.now) (complete (meaning old) handed roots told) y
+  outcome_after (Ok u) p (Ok q) c a = given_alike (λ (_ : Unit {0}). meaning new) (λ (q : Bor (Manifest M) × Y). meaning q.0.now) (complete (meaning old) handed roots told) tt q (ap (λ r. meaning r.now) a.lent ∙ ap meaning a.same) c.outcome
+  outcome_after (Ok u) p (Err e) c a = memory_after (λ (_ : Unit {0}). meaning new) (λ (q : Bor (Manifest M) × Y). meaning q.0.now) (complete (meaning old) handed roots told) tt e a.memory c.outcome
+  outcome_after (Err fault) p y c a = subst (Meets (λ (q : Bor (Manifest M) × Y). meaning q.0.now) (complete (meaning old) handed roots told)) (sym a.refused)
+      (refused_alike (λ (_ : Unit {0}). meaning new) (λ (q : Bor (Manifest M) × Y). meaning q.0.now) (complete (meaning old) handed roots told) fault c.outcome)
+
+  pub wrapped_after : (d : Result (Unit {0}) Error) (p : Bor (Manifest M)) (y : Result (Bor (Manifest M) × Y) Error) → Completing old new handed roots told d → Answering new d p y → IfErr y IsWrapped
+  wrapped_after (Ok u) p (Ok q) c a = tt
+  wrapped_after (Ok u) p (Err e) c a = inl a.memory
+  wrapped_after (Err fault) p y c a = subst (λ r. IfErr r IsWrapped) (sym a.refused) c.wrapped

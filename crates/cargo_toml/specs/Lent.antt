@@ -1,12 +1,19 @@
 -- What is left of a manifest that is lent on, and what two answers in one are.
-use Rattle.std.specs.Prelude.{◌≡◌, ⊤, Option, Some, None, Result, Ok, Err}
+use Rattle.std.specs.Prelude.{◌≡◌, ◌⊎◌, ⊤, false, IfSome, Option, Some, None, Result, Ok, Err}
 use Rattle.std.specs.Borrow.{Fml, MutBor, follows_so}
 use mathlib.Core.Option.{none}
 use denote.RattleType.{RattleType}
 use denote.Ref.{Bor}
-use Rattle.cargo_toml_parts.specs.declared.error.Error.{Error}
+use Rattle.cargo_toml_parts.specs.declared.error.Error.{Error, Memory}
+use Rattle.cargo_toml_discovery.specs.Names.{Text}
+use Rattle.cargo_toml_discovery.specs.Told.{Told}
+use Rattle.cargo_toml_package.specs.Filled.{IsFilled}
 use Rattle.cargo_toml_manifest.specs.contracts.manifest.Manifest.{the_row}
 use Rattle.cargo_toml_manifest.specs.declared.manifest.Manifest.{Manifest}
+use Rattle.cargo_toml_manifest.specs.Choosing.{Handed, RootsTold}
+use Rattle.cargo_toml_manifest.specs.Completing.{GivenBy, IsLasting, Meets, complete}
+use Rattle.cargo_toml_manifest.specs.Inheriting.{needs}
+use Rattle.cargo_toml_manifest.specs.Manifests.{ManifestMeaning, manifest_meaning}
 
 -- where nothing was lent the manifest is as it was, and else as it was lent
 abbrev pub IsLeft : {M : Type 0} → Manifest M → Option (Bor (Manifest M)) → Manifest M → Type 0
@@ -24,3 +31,31 @@ with_lent lent None = None
 with_lent lent (Some (Err e)) = Some (Err e)
 with_lent None (Some (Ok y)) = None
 with_lent (Some x) (Some (Ok y)) = Some (Ok (x, y))
+
+-- what is lent for good is left as it is lent
+abbrev pub IsLentAs : (M : RattleType) → MutBor (Manifest M.Denot) → Bor (Manifest M.Denot) → Fml
+IsLentAs M manifest lent = follows_so (the_row M) (the_row M) manifest.ghost_name none (λ _ _. ⊤) (λ new. new ≡ lent.now)
+
+-- completed by a workspace that is handed in, if any, by what is told of roots and of folders
+module _ {M : Type 0} (old : Manifest M) (handed : Option Handed) (roots : RootsTold) (told : Text → Told) where
+  abbrev meaning : Manifest M → ManifestMeaning M
+  meaning = manifest_meaning (λ m. m)
+
+  -- all that completion says of the manifest where it succeeds
+  pub record IsCompleted (new : Manifest M) : Type 0 where
+    pub outcome : Meets meaning (complete (meaning old) handed roots told) (Ok new)
+    pub given : GivenBy (meaning old) handed roots told (meaning new)
+    pub needs_nothing : needs (meaning new) ≡ false
+    pub filled : IfSome new.«package» IsFilled
+    pub again : IsLasting (meaning old) handed (meaning new)
+
+  -- after a success the manifest is as it is lent; after a refusal it is as it was or, for want of memory alone, completed
+  abbrev pub IsLeftAfter : {Y : Type 0} → Result (Bor (Manifest M) × Y) Error → Manifest M → Type 0
+  IsLeftAfter (Ok p) new = new ≡ p.0.now
+  IsLeftAfter (Err e) new = (new ≡ old) ⊎ ((e ≡ Memory) × IsCompleted new)
+
+-- so the manifest is left, once what was lent is let go
+abbrev pub IsLentAfter : (M : RattleType) {Y : Type 0} → MutBor (Manifest M.Denot) → Option Handed → RootsTold → (Text → Told)
+    → Result (Bor (Manifest M.Denot) × Y) Error → Fml
+IsLentAfter M manifest handed roots told answer =
+    follows_so (the_row M) (the_row M) manifest.ghost_name none (λ _ _. ⊤) (IsLeftAfter manifest.now handed roots told answer)

@@ -1,5 +1,5 @@
 //! Completing a manifest, and resolving the features that it then has.
-ghost use Rattle.std.specs.Prelude.{◌≡◌, Bool, false, IfErr, IfOk, IfSome, IsSome, Ok, Some, option_map};
+ghost use Rattle.std.specs.Prelude.{◌≡◌, Bool, false, Err, IfErr, IfOk, IfSome, IsSome, Ok, OnOk, option_map};
 ghost use Rattle.std.specs.Borrow.{sem};
 ghost use Rattle.cargo_toml_parts.specs.declared.error.Error.{Memory};
 ghost use Rattle.cargo_toml_graph.specs.Action.{Text};
@@ -14,7 +14,7 @@ ghost use Rattle.cargo_toml_resolve.specs.FirstTarget.{HaveTargets};
 ghost use Rattle.cargo_toml_resolve.specs.Reached.{IsKeyed};
 ghost use Rattle.cargo_toml_resolve.specs.Views.{answer_of};
 ghost use Rattle.cargo_toml.specs.Filtered.{filter_of};
-ghost use Rattle.cargo_toml.specs.Lent.{IsLentOn, with_lent};
+ghost use Rattle.cargo_toml.specs.Lent.{IsLentAfter, IsLentAs, IsLentOn, with_lent};
 ghost use Rattle.cargo_toml.specs.Parsed.{IsParsed};
 
 use crate::features::{Features, Resolver};
@@ -78,30 +78,21 @@ pub fn complete_and_parse_into<
     Some(manifest)
 }
 
-// What is lent, with what was put beside it.
-fn both<'m, M, S: BuildHasher + Drop>(
-    lent: Option<&'m Manifest<M>>,
-    slot: Option<Result<Features<'m, 'm, S>, Error>>,
-) -> Result<(&'m Manifest<M>, Features<'m, 'm, S>), Error>
-    requires { IsSome (with_lent lent slot) }
-    ensures answer { with_lent lent.entry slot.entry ≡ Some result }
-    ensures lent { IfOk result (λ p. lent.entry ≡ Some p.0) }
+// The manifest, lent for as long as it was handed over.
+fn shared<'m, M>(manifest: &'m mut Manifest<M>) -> &'m Manifest<M>
+    ensures* left { sem 𝓛 (IsLentAs M.row manifest.entry result) }
+    ensures same { result.now ≡ manifest.old }
 {
-    match slot {
-        Some(Ok(resolved)) => match lent {
-            Some(lent) => Ok((lent, resolved)),
-            None => unreachable!(),
-        },
-        Some(Err(fault)) => Err(fault),
-        None => unreachable!(),
-    }
+    let manifest: &'m Manifest<M> = manifest;
+    manifest
 }
 
 impl<'config, F: Fn(&str) -> bool, S: BuildHasher + Clone + Drop> Resolver<'config, F, S> {
     /// Completes a manifest as [`Manifest::complete_from_abstract_filesystem`] does, and resolves the features of the completed
     /// manifest as [`Resolver::parse`] does.
     ///
-    /// A refusal is that of completion, or [`Error::Memory`]. [`complete_and_parse_into`] says what it leaves.
+    /// A refusal is that of completion, or [`Error::Memory`]. It leaves the manifest as it was or, where it is [`Error::Memory`],
+    /// perhaps completed; a success leaves it as it is lent. From [`complete_and_parse_into`] a caller's proof learns that too.
     pub fn complete_and_parse<'m, M: Drop, N, Fs: AbstractFilesystem + Drop>(
         &self,
         alloc: Global,
@@ -110,6 +101,8 @@ impl<'config, F: Fn(&str) -> bool, S: BuildHasher + Clone + Drop> Resolver<'conf
         workspace: Option<(&Manifest<N>, &str)>,
     ) -> Result<(&'m Manifest<M>, Features<'m, 'm, S>), Error>
         requires { HasNameFilter F.Fn (filter_of self.now) }
+        ensures* left { sem 𝓛 (IsLentAfter M.row manifest.entry (option_map handed_of workspace.entry)
+            (λ hint. heard Fs.Roots.ARE_READ (Fs.root_for fs hint)) (Fs.names_at fs) result) }
         ensures outcome { Meets (λ p. manifest_meaning (λ m. m) p.0.now)
             (complete (manifest_meaning (λ m. m) manifest.old) (option_map handed_of workspace.entry)
             (λ hint. heard Fs.Roots.ARE_READ (Fs.root_for fs hint)) (Fs.names_at fs)) result }
@@ -126,8 +119,29 @@ impl<'config, F: Fn(&str) -> bool, S: BuildHasher + Clone + Drop> Resolver<'conf
         ensures keyed { IfOk result (λ p. IsKeyed p.1.features) }
         ensures targets { IfOk result (λ p. HaveTargets p.1.dependencies) }
     {
-        let mut slot = None;
-        let lent = complete_and_parse_into(manifest, self, alloc, fs, workspace, &mut slot);
-        both(lent, slot)
+        // The proof by hand walks through these lines, and names each local that they make: what may change goes into `resolved`.
+        let completed = manifest.complete_from_abstract_filesystem(alloc, fs, workspace);
+        self.resolved(shared(manifest), completed, alloc)
+    }
+
+    // The completed manifest, with what its features resolve to; a refusal of completion stands for both.
+    fn resolved<'m, M>(
+        &self,
+        manifest: &'m Manifest<M>,
+        completed: Result<(), Error>,
+        alloc: Global,
+    ) -> Result<(&'m Manifest<M>, Features<'m, 'm, S>), Error>
+        requires { HasNameFilter F.Fn (filter_of self.now) }
+        ensures refused { IfErr completed (λ e. result ≡ Err e) }
+        ensures memory { OnOk completed (IfErr result (λ e. e ≡ Memory)) }
+        ensures lent { IfOk result (λ p. p.0 ≡ manifest.entry) }
+        ensures resolved { IfOk result (λ p. (keep : Text → Bool) → Tells F.Fn (filter_of self.now) keep →
+            IsParsed (manifest_meaning (λ m. m) p.0.now) keep (answer_of p.1)) }
+        ensures keyed { IfOk result (λ p. IsKeyed p.1.features) }
+        ensures targets { IfOk result (λ p. HaveTargets p.1.dependencies) }
+    {
+        completed?;
+        let features = self.parse(alloc, manifest)?;
+        Ok((manifest, features))
     }
 }

@@ -1,0 +1,58 @@
+-- What a proof by hand asks of the machine's values: each value of a type is one, of that type.
+use Rattle.std.proofs.Common.{◌≡◌, ℕ, List, [], ◌∷◌, refl, subst}
+use lib.Dec.{T}
+use Prim.Native.Nat.{zero, suc}
+use mir.Syntax.{Ty, ty_unit, Local, local}
+use mir.Val.{Val, has_ty, WT}
+use seplogic.Ra.Ura.{Ura}
+use types.Logic.{Logic}
+use denote.RattleType.{RattleType, RowLaws}
+use denote.Builtin.{unit, One}
+use denote.Laws.{Is, Typed, Makes}
+use denote.Param.{layout}
+use denote.Param.Laws.{Laws, of_field}
+use denote.Param.Shared.{copy_shared}
+use denote.Ref.{NamedLft}
+use denote.Struct.Field.{shr_ref_field}
+use denote.Struct.Laws.{shr_ref_laws, shr_ref_copy, makes}
+use Rattle.std.specs.contracts.alloc.Global as Global
+use Rattle.std.proofs.alloc.Global.TheLaws as Global-laws
+use denote.Signature.{Slot, plain}
+
+pub record Single (τ : Ty) (vs : List Val) : Type 0 where
+  pub word : Val
+  pub is : vs ≡ word ∷ []
+  pub typed : T (has_ty τ word) × WT word
+
+alone : (τ : Ty) (vs : List Val) → Typed (τ ∷ []) vs → Single τ vs
+alone τ [] t = absurd t
+alone τ (v ∷ []) t = record { word = v; is = refl; typed = t.0 }
+alone τ (v ∷ w ∷ vs) t = absurd t.1
+
+pub single : {M : Type 1} {𝓤 : Ura M} (𝓛 : Logic 𝓤) (R : RattleType) → Laws R → (x : R.Denot) (vs : List Val) → Is R x vs → Single (layout R) vs
+single 𝓛 R L x vs has = alone (layout R) vs (subst (λ τs. Typed τs vs) L.one ((L.lawful 𝓛).typed x vs has))
+
+-- the slot and the row of a parameter, by its place
+abbrev pub slot_at : {n : ℕ} → ℕ → List (Slot n) → Slot n
+slot_at i [] = plain (λ _. unit)
+slot_at zero (s ∷ ss) = s
+slot_at (suc i) (s ∷ ss) = slot_at i ss
+
+abbrev pub row_at : ℕ → List RattleType → RattleType
+row_at i [] = unit
+row_at zero (R ∷ Rs) = R
+row_at (suc i) (R ∷ Rs) = row_at i Rs
+
+-- the laws of a `&` to a row
+abbrev pub ref_laws : (n : NamedLft) (R : RattleType) (one : One R.mir) → RowLaws R → Laws (shr_ref_field n R one).row
+ref_laws n R one l = of_field (shr_ref_field n R one) (shr_ref_laws n R one) refl (copy_shared (shr_ref_field n R one) (shr_ref_copy n R one l))
+
+-- an allocator that owns nothing is had again
+pub global_makes : {M : Type 1} {𝓤 : Ura M} (𝓛 : Logic 𝓤) → Makes 𝓛 Global.the_row (Is Global.the_row)
+global_makes = makes Global.the_type Global-laws.the_plain
+
+-- the type of a local, by its place
+abbrev pub local_at : ℕ → List Local → Ty
+local_at i [] = ty_unit
+local_at zero (local τ h ∷ ls) = τ
+local_at (suc i) (local τ h ∷ ls) = local_at i ls

@@ -1,5 +1,5 @@
 -- Where no feature is removed, all are left.
-use Rattle.std.proofs.Common.{◌≡◌, ◌↔◌, ◌<◌, ◌++◌, ℕ, Bool, true, false, List, [], Option, Some, None, Bor, IfOk, IfSome, IsSome, IsTrue, Result, Ok, Err, is_some, length, map, slice_get, refl, sym, ap, subst, ◌∙◌}
+use Rattle.std.proofs.Common.{◌≡◌, ◌↔◌, ℕ, Bool, false, List, [], Option, Some, None, Bor, IfOk, IfSome, IsSome, IsTrue, Result, Ok, Err, is_some, map, slice_get, refl, sym, ap, subst, ◌∙◌}
 use Rattle.std.proofs.lemmas.List.{append-nil}
 use Rattle.std.proofs.lemmas.Bool.{false≢true, false_from_ne_true}
 use Rattle.std.specs.BTreeSet.{BTreeSet}

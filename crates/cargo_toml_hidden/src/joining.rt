@@ -8,7 +8,10 @@ use std::alloc::{AllocError, Global};
 use std::collections::{BTreeMap, BTreeSet};
 
 /// The set gains the texts of the other. It fails only where memory runs out.
-pub fn add_all<'a>(texts: &mut BTreeSet<&'a str>, other: &BTreeSet<&'a str>) -> Result<(), AllocError>
+pub fn add_all<'a>(
+    texts: &mut BTreeSet<&'a str>,
+    other: &BTreeSet<&'a str>,
+) -> Result<(), AllocError>
     ensures { OnOk result ((x : Text) → has_text texts.new x ≡ (has_text texts.old x || has_text other.now x)) }
 {
     for text in other.iter() {

@@ -14,5 +14,3 @@ pub mod resolution;
 pub mod rows;
 
 pub use resolution::resolve;
-
-

@@ -1,7 +1,6 @@
 -- The first of a dependency's targets, by the order of their keys, is the first target of the entries that were recorded.
-use Rattle.std.proofs.Common.{◌≡◌, ◌<◌, Ordering, Less, Equal, Greater, Bool, true, false, cond, List, [], ◌∷◌, fold, find, length, Option, Some, None, option_map, is_some, IsSome, IfSome, Bor, bytes_eq, refl, sym, ap, ap₂, subst, arith, ◌∙◌}
+use Rattle.std.proofs.Common.{◌≡◌, ◌<◌, Ordering, Less, Equal, Greater, Bool, true, false, cond, List, [], ◌∷◌, fold, find, length, Option, Some, None, option_map, is_some, IsSome, IfSome, Bor, refl, sym, ap, ap₂, subst, arith, ◌∙◌}
 use Rattle.std.proofs.lemmas.Bool.{false≢true, false_from_ne_true}
-use Rattle.std.proofs.lemmas.Map.Views.{All-values_from_lookup}
 use Rattle.std.proofs.lemmas.Cmp.{upto, tied_itself, alike_right, on_total}
 use Rattle.std.specs.Cmp.{IsTotalOrder}
 use Rattle.std.specs.List.{AllByRecursion}
@@ -9,7 +8,6 @@ use Rattle.std.specs.Ordering.{is_eq, is_gt, is_lt, on, ordering_reverse}
 use Rattle.std.specs.Map.{lookup}
 use Rattle.std.specs.BTreeMap as tree
 use Rattle.std.specs.BTreeMap.{BTreeMap}
-use Rattle.std.specs.Cmp.Lexicographic.{on_texts_equal}
 use Rattle.cargo_toml_dependencies.specs.declared.dependency.Dependency.{Dependency}
 use Rattle.cargo_toml_dependencies.specs.Dependencies.{DependencyMeaning, dependency_meaning}
 use Rattle.cargo_toml_resolve.specs.contracts.features.TargetKeyOrd.TheImpl as key_order

@@ -1,4 +1,3 @@
-use Rattle.std.proofs.Common.{◌≡◌, ◌↔◌, IfOk, Ok, Err, IsTrue, None, Result, refl, sym}
 use Rattle.std.proofs.lemmas.Bool.{false_from_ne_true}
 use Rattle.cargo_toml_hidden.proofs.InPlace.{one_place}
 use Rattle.cargo_toml_hidden.proofs.KeptAll.{all_left, same_at}

@@ -1,4 +1,4 @@
-use Rattle.std.proofs.Common.{IsTrue, refl, sym, ap, subst, ◌<◌, length, true, false, arith, ◌∙◌}
+use Rattle.std.proofs.Common.{sym, ap, subst, ◌<◌, length, true, false, arith, ◌∙◌}
 use Rattle.std.proofs.lemmas.Bool.{false≢true}
 use mathlib.Core.Bool.{beq}
 use Rattle.cargo_toml_hidden.proofs.KeptAll.{if_ok_weaker, table_made}

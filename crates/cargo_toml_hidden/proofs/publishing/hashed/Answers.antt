@@ -1,4 +1,4 @@
-use Rattle.std.proofs.Common.{◌≡◌, ◌<◌, ◌+◌, [], ◌∷◌, suc, drop, length, refl, rules, arith, sym, ap, subst, ◌∙◌}
+use Rattle.std.proofs.Common.{◌≡◌, ◌<◌, ◌+◌, [], ◌∷◌, suc, drop, rules, arith, sym, ap, subst, ◌∙◌}
 use Rattle.std.proofs.lemmas.List.{nil_from_length}
 use Rattle.cargo_toml_hidden.proofs.HashedSlots.{HasPut, all_put, comes_next, put_next}
 use Rattle.cargo_toml_hidden.proofs.publishing.hashed.Goals as goal

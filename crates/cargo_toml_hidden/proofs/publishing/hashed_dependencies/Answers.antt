@@ -1,10 +1,9 @@
-use Rattle.std.proofs.Common.{◌≡◌, Bor, IfSome, List, map, sym, ap, subst, ◌∙◌}
+use Rattle.std.proofs.Common.{Bor, IfSome, map, sym, ap, subst, ◌∙◌}
 use Rattle.std.proofs.lemmas.Map.Views.{All-values_from_lookup}
 use Rattle.std.specs.Cmp.Lexicographic.{on_texts_equal}
 use Rattle.cargo_toml_graph.specs.Action.{Text}
 use Rattle.cargo_toml_resolve.specs.FirstTarget.{HasTarget}
-use Rattle.cargo_toml_resolve.specs.Slots.{held_among, held_in}
-use Rattle.cargo_toml_resolve.specs.Views.{value_at}
+use Rattle.cargo_toml_resolve.specs.Slots.{held_among}
 use Rattle.cargo_toml_hidden.proofs.publishing.hashed_dependencies.Goals as goal
 
 pub returns-clause-same : goal.returns-clause-same

@@ -1,19 +1,14 @@
-use mathlib.Core.Bool.{beq}
-use Rattle.std.proofs.Common.{◌≡◌, ◌↔◌, ◌<◌, ◌&&◌, ℕ, Bool, Bor, IfSome, IsTrue, List, codes, false, length, map, nat_eq, not, option_map, sym, ap, subst, ◌∙◌}
-use Rattle.std.specs.List.{IsAnyAnswer, slice_index_or, starts_with}
+use Rattle.std.proofs.Common.{◌≡◌, ◌↔◌, ◌<◌, ◌&&◌, ℕ, IsTrue, codes, false, length, map, nat_eq, not, option_map, sym, ap, subst, ◌∙◌}
+use Rattle.std.specs.List.{slice_index_or, starts_with}
 use Rattle.cargo_toml_graph.specs.Action.{Text}
 use Rattle.cargo_toml_graph.specs.Graph.{Table}
 use Rattle.cargo_toml_graph.specs.Removal.{is_removed}
-use Rattle.cargo_toml_resolve.specs.FirstTarget.{HasTarget}
 use Rattle.cargo_toml_resolve.specs.InOrder.{names_of}
 use Rattle.cargo_toml_resolve.specs.OwnBins.{own_of, requirement_of}
 use Rattle.cargo_toml_resolve.specs.Reading.{listed_of}
 use Rattle.cargo_toml_resolve.specs.Recorded.{entries_at, recorded_of}
 use Rattle.cargo_toml_resolve.specs.Resolved.{SameRecorded, table_of}
-use Rattle.cargo_toml_resolve.specs.Slots.{held_among, held_in, names_in}
-use Rattle.cargo_toml_resolve.specs.declared.features.FeatureDependency.{FeatureDependency}
-use Rattle.cargo_toml_resolve.specs.declared.slots.Slots.{Slots}
-use Rattle.cargo_toml_resolve.specs.Views.{entry_of, recorded_in, value_at}
+use Rattle.cargo_toml_resolve.specs.Views.{entry_of, recorded_in}
 use Rattle.cargo_toml_walk.specs.Numbered.{text_at}
 use Rattle.cargo_toml_hidden.specs.Numbering.{IsFlagged}
 use Rattle.cargo_toml_hidden.proofs.AnsweringLeft.{answers, some_flagged}

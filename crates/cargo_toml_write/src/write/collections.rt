@@ -41,7 +41,7 @@ impl<T: ToValue> LeftOut for Vec<T> {
     }
 }
 
-/// The keys of a map, each with the tree of its value.
+// The keys of a map, each with the tree of its value.
 fn pairs_of<T: ToValue>(
     alloc: Global,
     map: &BTreeMap<String, T>,
@@ -56,7 +56,7 @@ fn pairs_of<T: ToValue>(
     Ok(pairs)
 }
 
-/// The table of some pairs. It is made in one go: to insert them one by one looks each key up from the root.
+// The table of some pairs. It is made in one go: to insert them one by one looks each key up from the root.
 fn table_of(alloc: Global, pairs: Vec<(String, Value)>) -> Result<Table, AllocError>
     ensures { IfOk result (λ t. table_view t ≡ put_all pairs.items no_members) }
 {

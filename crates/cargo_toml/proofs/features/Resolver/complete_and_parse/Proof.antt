@@ -135,7 +135,7 @@ complete_and_parse_spec 𝓤 𝓛 𝓜 𝓡 wired F S I X N P Q LF LS LI LX LN L
     keep ! (3 ∷ 5 ∷ 4 ∷ 2 ∷ 0 ∷ 6 ∷ []) $ move ! (5 ∷ []) $
     split ! $ move ! (1 ∷ []) $ split ! $ move ! (1 ∷ []) $ split ! $ move ! (1 ∷ []) $ split ! $ move ! (1 ∷ []) $ split ! $ move ! (1 ∷ []) $ split ! $ move ! (1 ∷ []) $ split ! $ move ! (1 ∷ []) $
     split ! $ move ! (1 ∷ []) $ split ! $ move ! (1 ∷ []) $ split ! $ move ! (1 ∷ []) $ split ! $ move ! (1 ∷ []) $ split ! $ keep ! (12 ∷ 11 ∷ 10 ∷ 9 ∷ 8 ∷ 7 ∷ 6 ∷ 5 ∷ 4 ∷ 3 ∷ 2 ∷ 0 ∷ 13 ∷ 14 ∷ 15 ∷ 16 ∷ 17 ∷ []) $
-    let R1 = row_at 1 Rs in owned ! R1 (Is R1) (global_makes 𝓛) a.1.0 (s1.word ∷ []) (subst (λ ws. Is R1 a.1.0 ws) s1.is are.1.0) $ move ! (13 ∷ 14 ∷ 15 ∷ 0 ∷ 16 ∷ 17 ∷ []) $
+    let AllocRow = row_at 1 Rs in owned ! AllocRow (Is AllocRow) (global_makes 𝓛) a.1.0 (s1.word ∷ []) (subst (λ ws. Is AllocRow a.1.0 ws) s1.is are.1.0) $ move ! (13 ∷ 14 ∷ 15 ∷ 0 ∷ 16 ∷ 17 ∷ []) $
     -- [manifest; self; alloc; alloc; fs; workspace; the tokens]
     enter ! 𝓣.C 𝓣.Λ fn (v0 ∷ s1.word ∷ v2 ∷ s3.word ∷ s4.word ∷ []) Post $ alloc_all ! (λ l. pass_all ! refl ((tt, tt), (s1.typed, ((tt, tt), (s3.typed, (s4.typed, tt))))) $
     sets ! (addr ! (through ! refl (stop !))) refl (tt, tt) $ sets ! (of_opd ! (get ! refl)) refl s3.typed $ sets ! (of_opd ! (get ! refl)) refl (wt_as (layout (row_at 4 Rs)) (local_at 9 fn.locals) refl s4.word s4.typed) $

@@ -73,17 +73,17 @@ pub use Rattle.cargo_toml_graph.specs.Recursive
 pub use Rattle.cargo_toml_graph.specs.Kept
 pub use Rattle.cargo_toml_graph.specs.Admitted
 pub use Rattle.cargo_toml_hidden.specs.Filter
-pub use Rattle.cargo_toml_resolve.specs.Agreement
-pub use Rattle.cargo_toml_resolve.specs.Entries
-pub use Rattle.cargo_toml_resolve.specs.FirstTarget
+pub use Rattle.cargo_toml_features.specs.Agreement
+pub use Rattle.cargo_toml_features.specs.Entries
+pub use Rattle.cargo_toml_features.specs.FirstTarget
 pub use Rattle.cargo_toml_resolve.specs.OwnBins
-pub use Rattle.cargo_toml_resolve.specs.Hashed
-pub use Rattle.cargo_toml_resolve.specs.Recorded
-pub use Rattle.cargo_toml_resolve.specs.Resolved
-pub use Rattle.cargo_toml_resolve.specs.Views
+pub use Rattle.cargo_toml_features.specs.Hashed
+pub use Rattle.cargo_toml_features.specs.Recorded
+pub use Rattle.cargo_toml_features.specs.Resolved
+pub use Rattle.cargo_toml_features.specs.Views
 pub use Rattle.cargo_toml_resolve.specs.Reading
-pub use Rattle.cargo_toml_resolve.specs.Reached
-pub use Rattle.cargo_toml_resolve.specs.NonDefault
+pub use Rattle.cargo_toml_features.specs.Reached
+pub use Rattle.cargo_toml_features.specs.NonDefault
 -- the same of the types that a caller's own definitions name, with their variants
 pub use Rattle.cargo_toml_parts.specs.declared.error.Error
 pub use Rattle.cargo_toml_parts.specs.declared.error.ParseFault
@@ -92,7 +92,7 @@ pub use Rattle.cargo_toml_dependencies.specs.declared.dependency.Dependency
 pub use Rattle.cargo_toml_package.specs.declared.package.Package
 pub use Rattle.cargo_toml_manifest.specs.declared.manifest.Manifest
 pub use Rattle.cargo_toml_manifest.specs.declared.workspace.Workspace
-pub use Rattle.cargo_toml_resolve.specs.declared.features.Feature
-pub use Rattle.cargo_toml_resolve.specs.declared.features.Kind
+pub use Rattle.cargo_toml_features.specs.declared.features.Feature
+pub use Rattle.cargo_toml_features.specs.declared.features.Kind
 -- the number of items that count
-pub use Rattle.cargo_toml_resolve.specs.declared.admit.TheConstants as Limits
+pub use Rattle.cargo_toml_features.specs.declared.admit.TheConstants as Limits

@@ -8,11 +8,11 @@ use Rattle.cargo_toml_graph.specs.Graph.{Table}
 use Rattle.cargo_toml_tables.specs.Products.{ProductMeaning}
 use Rattle.cargo_toml_manifest.specs.Inheriting.{own_tables}
 use Rattle.cargo_toml_manifest.specs.Manifests.{ManifestMeaning}
-use Rattle.cargo_toml_resolve.specs.declared.admit.TheConstants.{MAX_ITEMS}
-use Rattle.cargo_toml_resolve.specs.Entries.{entries_of}
+use Rattle.cargo_toml_features.specs.declared.admit.TheConstants.{MAX_ITEMS}
+use Rattle.cargo_toml_features.specs.Entries.{entries_of}
 use Rattle.cargo_toml_resolve.specs.OwnBins.{own_of}
-use Rattle.cargo_toml_resolve.specs.Recorded.{Entry}
-use Rattle.cargo_toml_resolve.specs.Resolved.{Answer, IsAnswer, table_of}
+use Rattle.cargo_toml_features.specs.Recorded.{Entry}
+use Rattle.cargo_toml_features.specs.Resolved.{Answer, IsAnswer, table_of}
 
 -- the features that a binary requires, each with the binary's name, or that of the package where it has none
 abbrev pub requirements_by : Text → ProductMeaning → List (Text × Text)

@@ -10,9 +10,9 @@ ghost use Rattle.cargo_toml_manifest.specs.Completing.{GivenBy, IsLasting, IsWra
 ghost use Rattle.cargo_toml_manifest.specs.Inheriting.{needs};
 ghost use Rattle.cargo_toml_manifest.specs.Manifests.{manifest_meaning};
 ghost use Rattle.cargo_toml_manifest.specs.Told.{heard};
-ghost use Rattle.cargo_toml_resolve.specs.FirstTarget.{HaveTargets};
-ghost use Rattle.cargo_toml_resolve.specs.Reached.{IsKeyed};
-ghost use Rattle.cargo_toml_resolve.specs.Views.{answer_of};
+ghost use Rattle.cargo_toml_features.specs.FirstTarget.{HaveTargets};
+ghost use Rattle.cargo_toml_features.specs.Reached.{IsKeyed};
+ghost use Rattle.cargo_toml_features.specs.Views.{answer_of};
 ghost use Rattle.cargo_toml.specs.Filtered.{filter_of};
 ghost use Rattle.cargo_toml.specs.Lent.{IsLentAfter, IsLentAs, IsLentOn, with_lent};
 ghost use Rattle.cargo_toml.specs.Parsed.{IsParsed};

@@ -9,28 +9,28 @@ ghost use Rattle.cargo_toml_graph.specs.Action.{Text};
 ghost use Rattle.cargo_toml_graph.specs.Admitted.{Listed};
 ghost use Rattle.cargo_toml_graph.specs.Kept.{KeepsEnabling, LosesNothing, NoneIsLeft};
 ghost use Rattle.cargo_toml_hidden.specs.Filter.{HasNameFilter, IsNameFilter, Tells};
-ghost use Rattle.cargo_toml_resolve.specs.Agreement.{Agree};
-ghost use Rattle.cargo_toml_resolve.specs.Entries.{tables_meaning};
-ghost use Rattle.cargo_toml_resolve.specs.FirstTarget.{HaveTargets};
-ghost use Rattle.cargo_toml_resolve.specs.Hashed.{IsListingOf};
-ghost use Rattle.cargo_toml_resolve.specs.Reached.{IsKeyed};
-ghost use Rattle.cargo_toml_resolve.specs.Resolved.{Answer};
-ghost use Rattle.cargo_toml_resolve.specs.Views.{answer_of, entry_of};
+ghost use Rattle.cargo_toml_features.specs.Agreement.{Agree};
+ghost use Rattle.cargo_toml_features.specs.Entries.{tables_meaning};
+ghost use Rattle.cargo_toml_features.specs.FirstTarget.{HaveTargets};
+ghost use Rattle.cargo_toml_features.specs.Hashed.{IsListingOf};
+ghost use Rattle.cargo_toml_features.specs.Reached.{IsKeyed};
+ghost use Rattle.cargo_toml_features.specs.Resolved.{Answer};
+ghost use Rattle.cargo_toml_features.specs.Views.{answer_of, entry_of};
 ghost use Rattle.cargo_toml.specs.Filtered.{filter_of};
 ghost use Rattle.cargo_toml.specs.Parsed.{IsAnswerFor, IsParsed};
 
 pub use crate::complete_and_parse::complete_and_parse_into;
 use crate::requirements::requirements;
+use cargo_toml_features::admit::{MAX_ITEMS, hashed_listings, listings};
+use cargo_toml_features::entries::{Tables, entries_of};
+pub use cargo_toml_features::features::{
+    DepAction, Feature, FeatureDependency, Features, Kind, ParseDependency, TargetKey,
+};
+pub use cargo_toml_features::questions::NonDefaultEnabledBy;
+pub use cargo_toml_features::recursive::DependenciesEnabledByFeatures;
 use cargo_toml_hidden::resolve;
 use cargo_toml_manifest::Manifest;
 use cargo_toml_parts::Error;
-use cargo_toml_resolve::admit::{MAX_ITEMS, hashed_listings, listings};
-use cargo_toml_resolve::entries::{Tables, entries_of};
-pub use cargo_toml_resolve::features::{
-    DepAction, Feature, FeatureDependency, Features, Kind, ParseDependency, TargetKey,
-};
-pub use cargo_toml_resolve::questions::NonDefaultEnabledBy;
-pub use cargo_toml_resolve::recursive::DependenciesEnabledByFeatures;
 use std::alloc::Global;
 use std::collections::HashMap;
 use std::hash::{BuildHasher, BuildHasherDefault, FoldHasher};

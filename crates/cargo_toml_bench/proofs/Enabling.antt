@@ -10,7 +10,7 @@ use Rattle.cargo_toml.specs.Recursive.{Enables}
 use Rattle.cargo_toml.specs.Recursive.Enables.{itself, further}
 use Rattle.cargo_toml.specs.Views.{resolution_of, table_in, value_at}
 use Rattle.cargo_toml.specs.Feature.{Feature}
-use Rattle.cargo_toml_resolve.proofs.Pending.{key_of}
+use Rattle.cargo_toml_features.proofs.Pending.{key_of}
 use Rattle.cargo_toml_bench.specs.Enabled.{HasEnabling}
 
 module _ {S : Type 0} (m : HashMap (Bor Text) Feature S) (t : Table) (Removed : Text → Type 0) (none : (f : Text) → ¬ Removed f) (resolved : IsResolved t Removed (resolution_of m)) where

@@ -9,3 +9,4 @@ pub mod RootTold
 pub mod Texts
 mod Filters
 mod Kept
+mod SameAnswers

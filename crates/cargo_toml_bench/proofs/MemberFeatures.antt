@@ -7,7 +7,7 @@ use Rattle.cargo_toml.specs.Feature.{Feature}
 use Rattle.cargo_toml.specs.Reached.{AreEnabled, Found, IsKeyed}
 use Rattle.cargo_toml.specs.Recursive.{Enables}
 use Rattle.cargo_toml.specs.Views.{table_in, value_at}
-use Rattle.cargo_toml_resolve.proofs.Pending.{key_of}
+use Rattle.cargo_toml_features.proofs.Pending.{key_of}
 use Rattle.cargo_toml_bench.specs.Enabled.{HasEnabling}
 
 module _ {S : Type 0} (m : HashMap (Bor Text) Feature S) (name other : Text) where

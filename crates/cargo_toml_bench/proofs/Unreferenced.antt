@@ -21,7 +21,7 @@ use Rattle.cargo_toml.specs.Reach.Reaches.{edge, through}
 use Rattle.cargo_toml.specs.Removal.{is_removed}
 use Rattle.cargo_toml.specs.Views.{has_text, resolution_of, value_at}
 use Rattle.cargo_toml_graph.proofs.Texts.{bytes_eq_refl}
-use Rattle.cargo_toml_resolve.proofs.TextKeys.{none_in}
+use Rattle.cargo_toml_features.proofs.TextKeys.{none_in}
 use Rattle.cargo_toml_bench.specs.Alone.{is_alone, is_alone_at}
 use Rattle.cargo_toml_bench.specs.Reports.{texts, texts_of, IsUnreferenced}
 

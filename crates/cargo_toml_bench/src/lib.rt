@@ -1,6 +1,7 @@
 //! Callers of `cargo_toml` that are proved, written as a user of the crate writes them.
 #![tactic(auto)]
 
+pub mod bodies;
 pub mod completing;
 pub mod enabled;
 pub mod in_memory;

@@ -12,7 +12,8 @@ use cargo_toml::{Error, Manifest};
 use std::alloc::Global;
 use std::hash::{BuildHasherDefault, FoldHasher};
 
-type Answer<'m> = Features<'m, 'm, BuildHasherDefault<FoldHasher>>;
+/// Features whose maps have the fixed state.
+pub type Answer<'m> = Features<'m, 'm, BuildHasherDefault<FoldHasher>>;
 
 fn keep_every(_name: &str) -> bool
     ensures { result ≡ true }
@@ -20,7 +21,7 @@ fn keep_every(_name: &str) -> bool
     true
 }
 
-fn keep_a(name: &str) -> bool
+pub(crate) fn keep_a(name: &str) -> bool
     ensures { result ≡ bytes_eq name.now (codes "_a") }
 {
     name == "_a"

@@ -1,5 +1,5 @@
 -- What the inherited dependencies become, and all of them by that.
-use Rattle.std.proofs.Common.{◌≡◌, inl, inr, ℕ, List, [], ◌∷◌, ◌++◌, map, refl, Option, Result, Ok, Err, ap, append_assoc, ◌∙◌}
+use Rattle.std.proofs.Common.{◌≡◌, inl, inr, ℕ, List, [], ◌∷◌, ◌++◌, refl, Option, Result, Ok, Err, ap, append_assoc, ◌∙◌}
 use Rattle.std.specs.Prelude.{Vec}
 use Rattle.std.specs.Result.{result_map_both}
 use Rattle.std.specs.declared.alloc.Global.{Global}
@@ -7,9 +7,9 @@ use Rattle.cargo_toml_dependencies.specs.declared.dependency.Dependency.{Depende
 use Rattle.cargo_toml_parts.specs.declared.error.Error.{Error}
 use Rattle.cargo_toml_parts.specs.FaultValues.{Fault}
 use Rattle.cargo_toml_parts.specs.Answers.{◌>>=◌, Gives, beside}
-use Rattle.cargo_toml_dependencies.specs.Dependencies.{DependencyMeaning, dependency_meaning, InheritedMeaning, simple, inherited, detailed}
+use Rattle.cargo_toml_dependencies.specs.Dependencies.{DependencyMeaning, InheritedMeaning, simple, inherited, detailed}
 use Rattle.cargo_toml_dependencies.specs.Inheriting.{Entries, inherited_entry, inherited_entries}
-use Rattle.cargo_toml_dependencies.specs.Replacing.{replaced}
+use Rattle.cargo_toml_dependencies.specs.Replacing.{made_meaning, replaced}
 
 -- one more in front
 abbrev pub in_front : {A F : Type 0} → Result A F → Result (List A) F → Result (List A) F
@@ -52,10 +52,7 @@ all-needed templates base ((key, detailed d) ∷ es) = kept (key, detailed d) (r
 all-needed templates base ((key, inherited entry) ∷ es) = taken key entry es (inherited_entry templates base key (inherited entry)) _ (needed templates base es) (all-needed templates base es)
 
 -- the same of an answer
-abbrev pub meanings : Vec Dependency Global → List DependencyMeaning
-meanings made = map dependency_meaning made.items
-
-pub gives_all : (templates : Option Entries) (base : List ℕ) (es : Entries) (r : Result (Vec Dependency Global) Error) → Gives meanings r (needed templates base es) → Gives (λ made. replaced es (meanings made)) r (inherited_entries templates base es)
+pub gives_all : (templates : Option Entries) (base : List ℕ) (es : Entries) (r : Result (Vec (Vec Dependency Global) Global) Error) → Gives made_meaning r (needed templates base es) → Gives (λ made. replaced es (made_meaning made)) r (inherited_entries templates base es)
 gives_all templates base es (Ok made) h = all-needed templates base es ∙ ap (λ (q : Result (List DependencyMeaning) Fault). result_map_both (replaced es) (λ e. e) q) h
 gives_all templates base es (Err e) (inl memory) = inl memory
 gives_all templates base es (Err e) (inr h) = inr (all-needed templates base es ∙ ap (λ (q : Result (List DependencyMeaning) Fault). result_map_both (replaced es) (λ e. e) q) h)

@@ -1,5 +1,5 @@
 -- What dependencies become that are left to the workspace.
-use Rattle.std.specs.Prelude.{ℕ, List, [], ◌∷◌, ◌++◌, length, codes, Bool, true, false, not, ◌&&◌, ◌||◌, ◌==◌, if◌then◌else◌, Option, Some, None, option_map, option_and_then, Result, Ok, Err}
+use Rattle.std.specs.Prelude.{◌≡◌, ℕ, List, [], ◌∷◌, ◌++◌, length, codes, Bool, true, false, not, ◌&&◌, ◌||◌, ◌==◌, if◌then◌else◌, Option, Some, None, option_map, option_and_then, Result, Ok, Err}
 use Rattle.std.specs.List.{list_any}
 use Rattle.std.specs.Path.{path_join}
 use Rattle.std.specs.Str.{bytes_eq}
@@ -45,6 +45,30 @@ with_entry base entry d = record d {
   optional = d.optional || entry.optional;
   inherited = true;
 }
+
+-- a detail of the workspace that tells no more than a requirement, features and flags
+abbrev pub short_detail : Option (List Held) → List (List ℕ) → Bool → Bool → DetailMeaning
+short_detail version features optional default_features = record {
+  version = version;
+  «package» = None;
+  registry = None;
+  registry_index = None;
+  path = None;
+  git = None;
+  branch = None;
+  tag = None;
+  rev = None;
+  features = features;
+  optional = optional;
+  default_features = default_features;
+  unstable = [];
+  inherited = true;
+}
+
+-- the detail of the workspace tells no more than these, so that neither does what comes of it
+abbrev pub IsShort : DetailMeaning → Type 0
+IsShort d = (base : List ℕ) (entry : InheritedMeaning) →
+    with_entry base entry d ≡ short_detail d.version (d.features ++ entry.features) (d.optional || entry.optional) d.default_features
 
 abbrev pub missing_template : List ℕ → Fault
 missing_template key = workspace_integrity (codes "workspace dependencies are missing `" ++ key ++ codes "`")

@@ -12,10 +12,10 @@ use Rattle.std.specs.Map.Iter.{deref_pair}
 use Rattle.cargo_toml_graph.specs.Action.{Text, Action, join, join_option}
 use Rattle.cargo_toml_graph.proofs.JoinLaws.{join_option_assoc, join_option_self, join_option_none}
 use Rattle.cargo_toml_graph.proofs.Texts.{bytes_eq_sym}
-use Rattle.cargo_toml_resolve.specs.declared.features.DepAction.{DepAction}
-use Rattle.cargo_toml_resolve.specs.Views.{action_of, action_at, has_text}
+use Rattle.cargo_toml_features.specs.declared.features.DepAction.{DepAction}
+use Rattle.cargo_toml_features.specs.Views.{action_of, action_at, has_text}
 use Rattle.cargo_toml_resolve.proofs.Links.{is_text_in}
-use Rattle.cargo_toml_resolve.proofs.TextKeys.{none_in}
+use Rattle.cargo_toml_features.proofs.TextKeys.{none_in}
 use Rattle.cargo_toml_hidden.proofs.Sets.{text_in_more}
 
 -- what a list of entries holds at a text

@@ -8,8 +8,8 @@ use Rattle.cargo_toml_graph.specs.Kept.{KeepsEnabling, LosesNothing, NoneIsLeft}
 use Rattle.cargo_toml_graph.specs.Removal.{is_removed}
 use Rattle.cargo_toml_graph.proofs.AgainstAll as graph
 use Rattle.cargo_toml_graph.proofs.Closure as closure
-use Rattle.cargo_toml_resolve.specs.Recorded.{Entry}
-use Rattle.cargo_toml_resolve.specs.Resolved.{Answer, IsAnswer, table_of}
+use Rattle.cargo_toml_features.specs.Recorded.{Entry}
+use Rattle.cargo_toml_features.specs.Resolved.{Answer, IsAnswer, table_of}
 
 -- where every name is kept, none is removed
 none_removed : (t : Table) (v : Text) → IsFalse (is_removed t (λ _. true) v)

@@ -13,9 +13,9 @@ use Rattle.cargo_toml_walk.specs.Numbers.{HasLabel, IsPassed, IsWanted, KeepsLab
 use Rattle.cargo_toml_walk.specs.Numbers as numbers
 use Rattle.cargo_toml_walk.specs.Numbered.{HasNumber, IsNumbered, text_at}
 use Rattle.cargo_toml_walk.proofs.Numbered as numbered
-use Rattle.cargo_toml_resolve.specs.declared.features.Feature.{Feature}
-use Rattle.cargo_toml_resolve.specs.InOrder.{AreInOrder, AreTable, feature_at, names_of}
-use Rattle.cargo_toml_resolve.specs.Views.{action_at, has_text, resolution_of, value_at}
+use Rattle.cargo_toml_features.specs.declared.features.Feature.{Feature}
+use Rattle.cargo_toml_features.specs.InOrder.{AreInOrder, AreTable, feature_at, names_of}
+use Rattle.cargo_toml_features.specs.Views.{action_at, has_text, resolution_of, value_at}
 use Rattle.cargo_toml_hidden.specs.KeptFeatures.{IsKeptFeature}
 use Rattle.cargo_toml_hidden.specs.Leaving.{Holds, action_by}
 use Rattle.cargo_toml_hidden.proofs.InPlace.{name_in, stands_found, stands_in}

@@ -6,8 +6,8 @@ use Rattle.std.proofs.lemmas.List.Folds.{list_any_more}
 use Rattle.std.specs.BTreeSet.{BTreeSet}
 use Rattle.cargo_toml_graph.specs.Action.{Text}
 use Rattle.cargo_toml_graph.specs.Reach.{Among}
-use Rattle.cargo_toml_resolve.specs.declared.features.Feature.{Feature}
-use Rattle.cargo_toml_resolve.specs.Views.{has_text}
+use Rattle.cargo_toml_features.specs.declared.features.Feature.{Feature}
+use Rattle.cargo_toml_features.specs.Views.{has_text}
 use Rattle.cargo_toml_hidden.specs.Numbering.{is_named}
 use Rattle.cargo_toml_hidden.specs.Texts.{texts_of}
 use Rattle.cargo_toml_hidden.proofs.InOrder.{among_keys}

@@ -1,13 +1,14 @@
 -- A map gets one kept feature after another.
-use Rattle.std.proofs.Common.{◌≡◌, ◌<◌, ◌+◌, ℕ, zero, suc, Bool, true, false, cond, List, [], ◌∷◌, length, drop, Option, Some, None, Bor, IsSome, bytes_eq, is_some, slice_get, sym, ap, subst, inl, inr, ◌∙◌, arith}
+use Rattle.std.proofs.Common.{◌≡◌, ◌<◌, ◌+◌, ℕ, zero, suc, Bool, true, false, cond, List, [], ◌∷◌, length, drop, Option, Some, None, Bor, IfSome, IsSome, bytes_eq, is_some, slice_get, refl, sym, ap, subst, inl, inr, ◌∙◌, arith}
 use Rattle.std.proofs.lemmas.Bool.{cases_Bool, cases_eq, false_from_ne_true, false≢true}
 use Rattle.std.proofs.lemmas.List.{length-drop}
 use Rattle.std.proofs.lemmas.Slice.Eq.{bytes_eq-Decides}
 use Rattle.std.specs.HashMap.{HashMap}
 use Rattle.cargo_toml_graph.specs.Action.{Text}
 use Rattle.cargo_toml_walk.specs.Numbers.{IsWanted}
-use Rattle.cargo_toml_resolve.specs.declared.features.Feature.{Feature}
-use Rattle.cargo_toml_resolve.specs.Views.{value_at}
+use Rattle.cargo_toml_features.specs.declared.features.Feature.{Feature}
+use Rattle.cargo_toml_features.specs.Reached.{IsKeyed}
+use Rattle.cargo_toml_features.specs.Views.{value_at}
 use Rattle.cargo_toml_hidden.proofs.Placing.{place_inside}
 
 -- what comes next in a list
@@ -101,3 +102,18 @@ module _ {S : Type 0} (vs : List Feature) (flags : List Bool) where
     kept = λ i v lt at off. put v.key.now ∙ h.kept i v lt at off;
     only = λ f y. h.only f (sym (ap is_some (put f)) ∙ y);
   })
+
+some_same : {v w : Feature} → Some v ≡ Some w → v ≡ w
+some_same e = cc
+
+-- each stands under its own key
+pub keyed_kept : {S : Type 0} (vs : List Feature) (flags : List Bool) (m : HashMap (Bor Text) Feature S) →
+    ((i : ℕ) (v : Feature) → slice_get vs i ≡ Some v → IsWanted flags false i → value_at m v.key.now ≡ Some v) →
+    ((f : Text) → IsSome (value_at m f) → (i : ℕ) × (v : Feature) × (slice_get vs i ≡ Some v) × IsWanted flags false i × (v.key.now ≡ f)) → IsKeyed m
+keyed_kept vs flags m kept only f = go (value_at m f) refl
+  where
+    go : (o : Option Feature) → value_at m f ≡ o → IfSome o (λ w. w.key.now ≡ f)
+    go None e = tt
+    go (Some w) e =
+        let o = only f (ap is_some e) in
+        subst (λ (u : Feature). u.key.now ≡ f) (some_same (sym (subst (λ k. value_at m k ≡ Some o.1) o.4 (kept o.0 o.1 o.2 o.3)) ∙ e)) o.4

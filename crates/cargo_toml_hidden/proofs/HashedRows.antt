@@ -6,7 +6,7 @@ use Rattle.std.specs.BTreeSet.{BTreeSet}
 use Rattle.std.specs.HashMap.{HashMap}
 use Rattle.std.specs.Option.{IsSomeAnd}
 use Rattle.cargo_toml_graph.specs.Action.{Text}
-use Rattle.cargo_toml_resolve.specs.Views.{value_at}
+use Rattle.cargo_toml_features.specs.Views.{value_at}
 use Rattle.cargo_toml_walk.specs.Numbers.{IsWanted, list_at}
 use Rattle.cargo_toml_walk.specs.Numbered.{text_at}
 use Rattle.cargo_toml_hidden.specs.Leaving.{HasTexts}

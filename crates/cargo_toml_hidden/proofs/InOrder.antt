@@ -15,7 +15,7 @@ use Rattle.cargo_toml_graph.specs.Action.{Text}
 use Rattle.cargo_toml_graph.specs.Admitted.{is_below}
 use Rattle.cargo_toml_graph.specs.Reach.{Among}
 use Rattle.cargo_toml_graph.specs.Removal.{IsAscending}
-use Rattle.cargo_toml_resolve.specs.Views.{has_text}
+use Rattle.cargo_toml_features.specs.Views.{has_text}
 
 abbrev texts : List (Bor Text) → List Text
 texts xs = map (λ t. t.now) xs

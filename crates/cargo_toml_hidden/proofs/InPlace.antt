@@ -12,8 +12,8 @@ use Rattle.cargo_toml_graph.specs.Removal.{is_removed}
 use Rattle.cargo_toml_graph.proofs.RedirectsInOrder.{below_one_way}
 use Rattle.cargo_toml_walk.specs.Numbers.{IsWanted}
 use Rattle.cargo_toml_walk.specs.Numbered.{text_at}
-use Rattle.cargo_toml_resolve.specs.declared.features.Feature.{Feature}
-use Rattle.cargo_toml_resolve.specs.InOrder.{AreInOrder, AreTable, feature_at, names_of}
+use Rattle.cargo_toml_features.specs.declared.features.Feature.{Feature}
+use Rattle.cargo_toml_features.specs.InOrder.{AreInOrder, AreTable, feature_at, names_of}
 
 some_same : {v w : Feature} → Some v ≡ Some w → v ≡ w
 some_same e = cc
@@ -59,6 +59,18 @@ stands_found (w ∷ vs) up (suc i) v e = go (stands_found vs up.1 i v e) (bytes_
         let below : IsTrue (is_below w.key.now v.key.now) = up.0 v.key.now (among_names vs i v e) in
         let itself : IsTrue (is_below w.key.now w.key.now) = subst (λ x. IsTrue (is_below w.key.now x)) same below in
         absurd (below_one_way w.key.now w.key.now itself itself)
+
+-- no two features have one name
+pub one_place : (vs : List Feature) → AreInOrder vs → (i j : ℕ) (v w : Feature) → slice_get vs i ≡ Some v → slice_get vs j ≡ Some w → v.key.now ≡ w.key.now → i ≡ j
+one_place [] up i j v w e e' same = absurd (no_some e)
+one_place (u ∷ vs) up zero zero v w e e' same = refl
+one_place (u ∷ vs) up zero (suc j) v w e e' same =
+    let itself : IsTrue (is_below w.key.now w.key.now) = subst (λ x. IsTrue (is_below x w.key.now)) (ap (λ (x : Feature). x.key.now) (some_same e) ∙ same) (up.0 w.key.now (among_names vs j w e')) in
+    absurd (below_one_way w.key.now w.key.now itself itself)
+one_place (u ∷ vs) up (suc i) zero v w e e' same =
+    let itself : IsTrue (is_below v.key.now v.key.now) = subst (λ x. IsTrue (is_below x v.key.now)) (ap (λ (x : Feature). x.key.now) (some_same e') ∙ sym same) (up.0 v.key.now (among_names vs i v e)) in
+    absurd (below_one_way v.key.now v.key.now itself itself)
+one_place (u ∷ vs) up (suc i) (suc j) v w e e' same = ap suc (one_place vs up.1 i j v w e e' same)
 
 -- what stands in a place below the end
 pub stands_in : (vs : List Feature) (i : ℕ) → i < length vs → (v : Feature) × (slice_get vs i ≡ Some v)

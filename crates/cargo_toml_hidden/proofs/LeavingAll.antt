@@ -7,8 +7,8 @@ use Rattle.cargo_toml_graph.specs.Action.{Text}
 use Rattle.cargo_toml_graph.specs.Reach.{Among}
 use Rattle.cargo_toml_graph.proofs.Joins.{join_alike}
 use Rattle.cargo_toml_walk.specs.Numbers.{IsWanted, Leads, list_at}
-use Rattle.cargo_toml_resolve.specs.declared.features.Feature.{Feature}
-use Rattle.cargo_toml_resolve.specs.Views.{action_at}
+use Rattle.cargo_toml_features.specs.declared.features.Feature.{Feature}
+use Rattle.cargo_toml_features.specs.Views.{action_at}
 use Rattle.cargo_toml_hidden.specs.Leaving.{HasActions, Holds, KeepsOwn, Leaves, LeavesAll}
 
 some_same : {v w : Feature} → Some v ≡ Some w → w ≡ v

@@ -13,9 +13,9 @@ use Rattle.cargo_toml_graph.specs.Redirects.{RedirectsTo}
 use Rattle.cargo_toml_walk.specs.Numbers.{IsWanted, Leads, list_at}
 use Rattle.cargo_toml_walk.specs.Numbered.{HasNumber, IsNumbered, text_at}
 use Rattle.cargo_toml_walk.proofs.Numbered as numbered
-use Rattle.cargo_toml_resolve.specs.declared.features.Feature.{Feature}
-use Rattle.cargo_toml_resolve.specs.InOrder.{AreInOrder, AreTable, feature_at, names_of, table_among}
-use Rattle.cargo_toml_resolve.specs.Views.{has_text, value_at}
+use Rattle.cargo_toml_features.specs.declared.features.Feature.{Feature}
+use Rattle.cargo_toml_features.specs.InOrder.{AreInOrder, AreTable, feature_at, names_of, table_among}
+use Rattle.cargo_toml_features.specs.Views.{has_text, value_at}
 use Rattle.cargo_toml_hidden.specs.KeptFeatures.{IsKeptFeature, IsNamedAlike, StandFor, own_bins}
 use Rattle.cargo_toml_hidden.specs.Leaving.{HasTexts}
 use Rattle.cargo_toml_hidden.specs.Left.{AreLeft}

@@ -1,17 +1,11 @@
 mod Put
-mod Names
-mod Sets
+pub mod Sets
 mod Actions
-mod Turns
-mod Taken
-mod InTurn
-mod Hiding
-mod InOrder
+pub mod InOrder
 mod Gathered
 mod NumberTexts
 mod NumberRows
-mod SameKept
-mod Resolving
+pub mod SameKept
 pub mod AgainstAll
 mod Renumbered
 mod InPlace
@@ -26,5 +20,8 @@ mod TakingOver
 mod HashedRows
 mod HashedKept
 mod LeftOver
+mod KeptAll
+mod HashedSlots
+mod AnsweringLeft
 mod PutAlong
 mod BinTurns

@@ -17,9 +17,9 @@ use Rattle.cargo_toml_walk.specs.Numbers.{IsWanted, list_at}
 use Rattle.cargo_toml_walk.specs.Numbered.{text_at}
 use Rattle.cargo_toml_walk.proofs.Places.{Ascends, among_at, once}
 use Rattle.cargo_toml_walk.proofs.Steps.{among_more}
-use Rattle.cargo_toml_resolve.specs.declared.features.DepAction.{DepAction}
-use Rattle.cargo_toml_resolve.specs.declared.features.Feature.{Feature}
-use Rattle.cargo_toml_resolve.specs.Views.{action_at, action_of, has_text}
+use Rattle.cargo_toml_features.specs.declared.features.DepAction.{DepAction}
+use Rattle.cargo_toml_features.specs.declared.features.Feature.{Feature}
+use Rattle.cargo_toml_features.specs.Views.{action_at, action_of, has_text}
 use Rattle.cargo_toml_hidden.specs.Numbering.{IsTarget}
 use Rattle.cargo_toml_hidden.specs.Texts.{texts_of}
 use Rattle.cargo_toml_hidden.proofs.Gathered.{all_seen, among_push, seen, seen_push}

@@ -8,16 +8,14 @@ use Rattle.cargo_toml_graph.specs.Removal.{is_among}
 use Rattle.cargo_toml_graph.proofs.BinLists.{among-first, among-second, among-true, is_among-true}
 use Rattle.cargo_toml_walk.specs.Numbered.{text_at}
 use Rattle.cargo_toml_walk.proofs.Places.{Ascends, among_at, at_among, once}
-use Rattle.cargo_toml_resolve.specs.declared.features.Feature.{Feature}
-use Rattle.cargo_toml_resolve.specs.InOrder.{AreInOrder, names_of}
+use Rattle.cargo_toml_features.specs.declared.features.Feature.{Feature}
+use Rattle.cargo_toml_features.specs.InOrder.{AreInOrder, names_of}
 use Rattle.cargo_toml_hidden.specs.Numbering.{AreParted, AreTextsOf, is_named}
 use Rattle.cargo_toml_hidden.specs.Texts.{texts_of}
 
--- a text is a key where a search finds it
-pub key_found : (o : Option ℕ) (b : Bool) (ts : List (Bor Text)) (x : Text) → b ≡ is_some o → IfSome o (λ i. (i < length ts) × (text_at (texts_of ts) i ≡ x))
-    → (o ≡ None → Among (texts_of ts) x → ⊥) → IsTrue b ↔ Among (texts_of ts) x
-key_found None b ts x is found missing = (λ y. absurd (false≢true (sym is ∙ y)), λ i. absurd (missing refl i))
-key_found (Some i) b ts x is found missing = (λ y. subst (Among (texts_of ts)) found.1 (among_at (texts_of ts) i [] (let long = length-map ts (λ (t : Bor Text). t.now) in let lt = found.0 in omega (arith, long, lt))), λ _. is)
+-- a text that stands in a place is among them
+pub stands_among : (ts : List (Bor Text)) (x : Text) (i : ℕ) → (i < length ts) × (text_at (texts_of ts) i ≡ x) → Among (texts_of ts) x
+stands_among ts x i at = subst (Among (texts_of ts)) at.1 (among_at (texts_of ts) i [] (let long = length-map ts (λ (t : Bor Text). t.now) in let lt = at.0 in omega (arith, long, lt)))
 
 -- two lists, each in byte order, that have no text in common
 module _ (ks os : List Text) (up : Ascends ks) (rise : Ascends os) (apart : (x : Text) → Among os x → Among ks x → ⊥) where

@@ -10,9 +10,9 @@ use Rattle.cargo_toml_walk.specs.Numbers.{IsWanted, Leads}
 use Rattle.cargo_toml_walk.specs.Numbered.{HasNumber, IsNumbered, text_at}
 use Rattle.cargo_toml_walk.proofs.Filling.{has_row}
 use Rattle.cargo_toml_walk.proofs.Places.{at_among, rises}
-use Rattle.cargo_toml_resolve.specs.declared.features.Feature.{Feature}
-use Rattle.cargo_toml_resolve.specs.InOrder.{AreInOrder, feature_at, names_of, table_among}
-use Rattle.cargo_toml_resolve.specs.Views.{action_at, has_text}
+use Rattle.cargo_toml_features.specs.declared.features.Feature.{Feature}
+use Rattle.cargo_toml_features.specs.InOrder.{AreInOrder, feature_at, names_of, table_among}
+use Rattle.cargo_toml_features.specs.Views.{action_at, has_text}
 use Rattle.cargo_toml_hidden.specs.Numbering.{ActsOn, AreTextsOf, IsFlagged, IsTarget, is_named, names_at}
 use Rattle.cargo_toml_hidden.specs.Texts.{texts_of}
 use Rattle.cargo_toml_hidden.proofs.InPlace.{has_place, name_in, stands_found, stands_in}

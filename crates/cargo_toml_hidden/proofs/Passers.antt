@@ -5,8 +5,8 @@ use Rattle.std.specs.Option.{option_and_then}
 use Rattle.cargo_toml_graph.specs.Action.{Text, Action, IsJoin, join_option}
 use Rattle.cargo_toml_graph.specs.Reach.{Among}
 use Rattle.cargo_toml_graph.proofs.Joins.{join_alike, join_halves, join_one}
-use Rattle.cargo_toml_resolve.specs.declared.features.Feature.{Feature}
-use Rattle.cargo_toml_resolve.specs.Views.{action_at}
+use Rattle.cargo_toml_features.specs.declared.features.Feature.{Feature}
+use Rattle.cargo_toml_features.specs.Views.{action_at}
 use Rattle.cargo_toml_walk.proofs.Steps.{among_all, among_more, among_taken}
 use Rattle.cargo_toml_hidden.specs.Leaving.{DoesAt, action_by}
 

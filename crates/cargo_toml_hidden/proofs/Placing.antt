@@ -13,8 +13,8 @@ use Rattle.cargo_toml_graph.specs.Redirects.{RedirectsTo}
 use Rattle.cargo_toml_walk.specs.Numbers.{IsWanted, Leads}
 use Rattle.cargo_toml_walk.specs.Numbered.{HasNumber, text_at}
 use Rattle.cargo_toml_walk.proofs.Numbered as numbered
-use Rattle.cargo_toml_resolve.specs.declared.features.Feature.{Feature}
-use Rattle.cargo_toml_resolve.specs.InOrder.{feature_at}
+use Rattle.cargo_toml_features.specs.declared.features.Feature.{Feature}
+use Rattle.cargo_toml_features.specs.InOrder.{feature_at}
 use Rattle.cargo_toml_hidden.specs.KeptFeatures.{IsKeptFeature, IsNamedAlike, StandFor, own_bins}
 use Rattle.cargo_toml_hidden.specs.Leaving.{HasActions, HasTexts, Holds, LeavesAll}
 use Rattle.cargo_toml_hidden.specs.Passing.{AreRedirects, AreSameButBins, HasBinsAt, IsSameButBins, bins_of}

@@ -7,7 +7,7 @@ use Rattle.cargo_toml_graph.specs.Action.{Text}
 use Rattle.cargo_toml_graph.specs.Reach.{Among}
 use Rattle.cargo_toml_graph.specs.Removal.{put_all}
 use Rattle.cargo_toml_graph.proofs.BinLists.{among-true, put_puts}
-use Rattle.cargo_toml_resolve.specs.declared.features.Feature.{Feature}
+use Rattle.cargo_toml_features.specs.declared.features.Feature.{Feature}
 use Rattle.cargo_toml_hidden.specs.Passing.{bins_of, IsSameButBins, AreSameButBins}
 use Rattle.cargo_toml_hidden.specs.Puts.{Puts}
 use Rattle.cargo_toml_hidden.specs.Texts.{texts_of}

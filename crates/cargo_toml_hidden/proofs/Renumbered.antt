@@ -3,8 +3,8 @@ use Rattle.std.proofs.Common.{◌≡◌, ℕ, Bool, List, Vec, sym, subst, inl, 
 use Rattle.cargo_toml_graph.specs.Action.{Text}
 use Rattle.cargo_toml_graph.specs.Graph.{Table, Edge, IsPlain}
 use Rattle.cargo_toml_walk.specs.Numbered.{IsNumbered, text_at}
-use Rattle.cargo_toml_resolve.specs.declared.features.Feature.{Feature}
-use Rattle.cargo_toml_resolve.specs.InOrder.{AreTable, table_among}
+use Rattle.cargo_toml_features.specs.declared.features.Feature.{Feature}
+use Rattle.cargo_toml_features.specs.InOrder.{AreTable, table_among}
 
 -- an edge of one table is one of another that holds the same
 same_edge : (s t : Table) → ((f : Text) → s.has f ≡ t.has f) → ((f x : Text) → s.names f x ≡ t.names f x) → ((f k : Text) → s.action f k ≡ t.action f k) →

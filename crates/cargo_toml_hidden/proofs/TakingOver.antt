@@ -8,9 +8,9 @@ use Rattle.std.specs.BTreeSet.{BTreeSet}
 use Rattle.cargo_toml_graph.specs.Action.{Text, Action, IsJoin}
 use Rattle.cargo_toml_graph.specs.Reach.{Among}
 use Rattle.cargo_toml_graph.proofs.Joins.{join_alike, join_one}
-use Rattle.cargo_toml_resolve.specs.declared.features.DepAction.{DepAction}
-use Rattle.cargo_toml_resolve.specs.declared.features.Feature.{Feature}
-use Rattle.cargo_toml_resolve.specs.Views.{action_at}
+use Rattle.cargo_toml_features.specs.declared.features.DepAction.{DepAction}
+use Rattle.cargo_toml_features.specs.declared.features.Feature.{Feature}
+use Rattle.cargo_toml_features.specs.Views.{action_at}
 use Rattle.cargo_toml_hidden.specs.Leaving.{DoesAt, HasActions, HasTexts, Holds, KeepsOwn, Leaves, action_by}
 use Rattle.cargo_toml_hidden.specs.TakingOver.{ChangesIn, TakesActions, TakesOver}
 

@@ -5,9 +5,9 @@ use Rattle.std.specs.declared.alloc.Global.{Global}
 use Rattle.cargo_toml_graph.specs.Action.{Text, IsJoin}
 use Rattle.cargo_toml_graph.specs.Graph.{Table, IsEnabledBy, KeepsName, Says}
 use Rattle.cargo_toml_walk.specs.Numbered.{IsNumbered, text_at}
-use Rattle.cargo_toml_resolve.specs.declared.features.Feature.{Feature}
-use Rattle.cargo_toml_resolve.specs.InOrder.{AreInOrder, AreTable, feature_at, names_of}
-use Rattle.cargo_toml_resolve.specs.Views.{action_at, has_text}
+use Rattle.cargo_toml_features.specs.declared.features.Feature.{Feature}
+use Rattle.cargo_toml_features.specs.InOrder.{AreInOrder, AreTable, feature_at, names_of}
+use Rattle.cargo_toml_features.specs.Views.{action_at, has_text}
 
 -- v holds what the kept feature f does
 pub record IsKeptFeature (t : Table) (Removed : Text → Type 0) (f : Text) (v : Feature) : Type 0 where

@@ -5,9 +5,9 @@ use Rattle.std.specs.BTreeMap.{BTreeMap}
 use Rattle.std.specs.BTreeSet.{BTreeSet}
 use Rattle.cargo_toml_graph.specs.Action.{Text, Action, IsJoin}
 use Rattle.cargo_toml_graph.specs.Reach.{Among}
-use Rattle.cargo_toml_resolve.specs.declared.features.DepAction.{DepAction}
-use Rattle.cargo_toml_resolve.specs.declared.features.Feature.{Feature}
-use Rattle.cargo_toml_resolve.specs.Views.{has_text, action_at}
+use Rattle.cargo_toml_features.specs.declared.features.DepAction.{DepAction}
+use Rattle.cargo_toml_features.specs.declared.features.Feature.{Feature}
+use Rattle.cargo_toml_features.specs.Views.{has_text, action_at}
 use Rattle.cargo_toml_walk.specs.Numbers.{IsWanted, list_at}
 use Rattle.cargo_toml_walk.specs.Numbered.{HasNumber}
 

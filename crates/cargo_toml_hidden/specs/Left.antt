@@ -8,9 +8,9 @@ use Rattle.cargo_toml_graph.specs.Admitted.{is_below}
 use Rattle.cargo_toml_graph.specs.Bins.{HasBins}
 use Rattle.cargo_toml_graph.specs.Graph.{Table, IsResolved}
 use Rattle.cargo_toml_graph.specs.Redirects.{RedirectsTo}
-use Rattle.cargo_toml_resolve.specs.declared.features.Feature.{Feature}
-use Rattle.cargo_toml_resolve.specs.InOrder.{feature_at}
-use Rattle.cargo_toml_resolve.specs.Views.{has_text, resolution_of, value_at}
+use Rattle.cargo_toml_features.specs.declared.features.Feature.{Feature}
+use Rattle.cargo_toml_features.specs.InOrder.{feature_at}
+use Rattle.cargo_toml_features.specs.Views.{has_text, resolution_of, value_at}
 use Rattle.cargo_toml_hidden.specs.KeptFeatures.{IsNamedAlike, own_bins}
 
 -- what is left of the features vs, and what stands for those that are removed

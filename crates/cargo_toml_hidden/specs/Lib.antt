@@ -1,5 +1,4 @@
 pub mod Filter
-pub mod Removing
 pub mod Leaving
 pub mod TakingOver
 pub mod KeptFeatures

@@ -9,9 +9,9 @@ use Rattle.cargo_toml_graph.specs.Reach.{Among}
 use Rattle.cargo_toml_graph.specs.Removal.{IsAscending}
 use Rattle.cargo_toml_walk.specs.Numbers.{IsWanted, Leads}
 use Rattle.cargo_toml_walk.specs.Numbered.{text_at}
-use Rattle.cargo_toml_resolve.specs.declared.features.Feature.{Feature}
-use Rattle.cargo_toml_resolve.specs.InOrder.{names_of}
-use Rattle.cargo_toml_resolve.specs.Views.{action_at, has_text}
+use Rattle.cargo_toml_features.specs.declared.features.Feature.{Feature}
+use Rattle.cargo_toml_features.specs.InOrder.{names_of}
+use Rattle.cargo_toml_features.specs.Views.{action_at, has_text}
 
 -- the flag of the feature of this name stands
 abbrev pub IsFlagged : List Feature → List Bool → Text → Type 0

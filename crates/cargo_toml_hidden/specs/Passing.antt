@@ -5,7 +5,7 @@ use Rattle.cargo_toml_graph.specs.Action.{Text}
 use Rattle.cargo_toml_graph.specs.Bins.{Grown}
 use Rattle.cargo_toml_graph.specs.Reach.{Among, GathersLabel}
 use Rattle.cargo_toml_walk.specs.Numbers.{IsRedirect, IsWanted, Leads}
-use Rattle.cargo_toml_resolve.specs.declared.features.Feature.{Feature}
+use Rattle.cargo_toml_features.specs.declared.features.Feature.{Feature}
 
 -- the binaries that require the feature in place i, none past the end
 abbrev pub bins_of : List Feature → ℕ → List Text

@@ -8,11 +8,11 @@ ghost use Rattle.cargo_toml_hidden.specs.Passing.{bins_of, AreRedirects, AreSame
 ghost use Rattle.cargo_toml_hidden.specs.Puts.{Puts};
 ghost use Rattle.cargo_toml_hidden.specs.Texts.{texts_of};
 
-use cargo_toml_resolve::features::Feature;
+use cargo_toml_features::features::Feature;
 use std::alloc::AllocError;
 
-// A copy, for the lists may change while it is read.
-fn first_ten<'m>(bins: &Vec<&'m str>) -> Result<Vec<&'m str>, AllocError>
+/// A copy of the first ten, for the lists may change while it is read. It fails only where memory runs out.
+pub fn first_ten<'m>(bins: &Vec<&'m str>) -> Result<Vec<&'m str>, AllocError>
     ensures { IfOk result (λ v. texts_of v.items ≡ take 10 (texts_of bins.now.items)) }
 {
     let count = bins.len().min(10);
@@ -29,7 +29,8 @@ fn put_bin<'m>(own: &mut Vec<&'m str>, bin: &'m str) -> Result<(), AllocError>
     Ok(())
 }
 
-fn put_bins<'m>(own: &mut Vec<&'m str>, bins: &[&'m str]) -> Result<(), AllocError>
+/// Each binary is put at the end, unless it is there. It fails only where memory runs out.
+pub fn put_bins<'m>(own: &mut Vec<&'m str>, bins: &[&'m str]) -> Result<(), AllocError>
     ensures { OnOk result (texts_of own.new.items ≡ put_all (texts_of own.old.items) (texts_of bins.now)) }
 {
     for bin in bins {

@@ -7,7 +7,7 @@ ghost use Rattle.cargo_toml_graph.specs.Graph.{Table};
 ghost use Rattle.cargo_toml_graph.specs.Redirects.{RedirectsTo};
 ghost use Rattle.cargo_toml_walk.specs.Numbered.{HasNumber, text_at};
 ghost use Rattle.cargo_toml_walk.specs.Numbers.{IsWanted, Leads, list_at};
-ghost use Rattle.cargo_toml_resolve.specs.declared.features.Feature.{Feature};
+ghost use Rattle.cargo_toml_features.specs.declared.features.Feature.{Feature};
 ghost use Rattle.cargo_toml_hidden.specs.KeptFeatures.{IsKeptFeature, IsNamedAlike, StandFor, own_bins};
 ghost use Rattle.cargo_toml_hidden.specs.Leaving.{Leaves, LeavesAll};
 ghost use Rattle.cargo_toml_hidden.specs.Texts.{texts_of};
@@ -15,7 +15,7 @@ ghost use Rattle.cargo_toml_hidden.specs.Walking.{AreEnablers, AreNamed, ArePass
 
 use crate::bins::pass_bins;
 use crate::leaving::leave;
-use cargo_toml_resolve::features::Feature;
+use cargo_toml_features::features::Feature;
 use cargo_toml_walk::enabling::enablers;
 use cargo_toml_walk::labels::all_labels;
 use cargo_toml_walk::redirects::redirects;

@@ -2,12 +2,12 @@
 ghost use Rattle.std.specs.Prelude.{◌≡◌, ◌<◌, ◌&&◌, ℕ, Bool, IfOk, codes, false, length, nat_eq, not};
 ghost use Rattle.std.specs.List.{slice_index_or, starts_with};
 ghost use Rattle.cargo_toml_graph.specs.Action.{Text};
-ghost use Rattle.cargo_toml_resolve.specs.InOrder.{names_of};
+ghost use Rattle.cargo_toml_features.specs.InOrder.{names_of};
 ghost use Rattle.cargo_toml_walk.specs.Numbered.{text_at};
 ghost use Rattle.cargo_toml_hidden.specs.Filter.{HasNameFilter, Tells};
 
 use crate::filter::is_hidden;
-use cargo_toml_resolve::features::Feature;
+use cargo_toml_features::features::Feature;
 use std::alloc::{AllocError, Global};
 
 /// Which features are removed, by their places: of those whose names begin with `_` the ones that the filter doesn't keep, and

@@ -1,14 +1,17 @@
 //! What several features do to dependencies, joined.
 ghost use Rattle.std.specs.Prelude.{◌≡◌, ◌||◌, if◌then◌else◌, None, Some, bytes_eq, OnOk};
 ghost use Rattle.cargo_toml_graph.specs.Action.{Text, join, join_option};
-ghost use Rattle.cargo_toml_resolve.specs.Views.{has_text, action_of, action_at};
+ghost use Rattle.cargo_toml_features.specs.Views.{has_text, action_of, action_at};
 
-use cargo_toml_resolve::features::DepAction;
+use cargo_toml_features::features::DepAction;
 use std::alloc::{AllocError, Global};
 use std::collections::{BTreeMap, BTreeSet};
 
-// The set gains the texts of the other.
-fn add_all<'a>(texts: &mut BTreeSet<&'a str>, other: &BTreeSet<&'a str>) -> Result<(), AllocError>
+/// The set gains the texts of the other. It fails only where memory runs out.
+pub fn add_all<'a>(
+    texts: &mut BTreeSet<&'a str>,
+    other: &BTreeSet<&'a str>,
+) -> Result<(), AllocError>
     ensures { OnOk result ((x : Text) → has_text texts.new x ≡ (has_text texts.old x || has_text other.now x)) }
 {
     for text in other.iter() {
@@ -45,8 +48,8 @@ fn add_action<'a>(
     Ok(())
 }
 
-// The actions of the other map are joined to those of `own`, dependency by dependency.
-pub(crate) fn add_actions<'a>(
+/// The actions of the other map are joined to those of `own`, dependency by dependency. It fails only where memory runs out.
+pub fn add_actions<'a>(
     alloc: Global,
     own: &mut BTreeMap<&'a str, DepAction<'a>>,
     other: &BTreeMap<&'a str, DepAction<'a>>,

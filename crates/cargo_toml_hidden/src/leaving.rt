@@ -2,17 +2,21 @@
 ghost use Rattle.std.specs.Prelude.{◌≡◌, ◌<◌, ◌⊎◌, ◌↔◌, ℕ, Some, IfOk, IsTrue, OnOk, length, map};
 ghost use Rattle.cargo_toml_graph.specs.Action.{Text, IsJoin};
 ghost use Rattle.cargo_toml_graph.specs.Reach.{Among};
-ghost use Rattle.cargo_toml_resolve.specs.Views.{action_at, has_text};
+ghost use Rattle.cargo_toml_features.specs.Views.{action_at, has_text};
 ghost use Rattle.cargo_toml_walk.specs.Numbered.{text_at};
 ghost use Rattle.cargo_toml_hidden.specs.Leaving.{DoesAt, HasTexts, Leaves};
 ghost use Rattle.cargo_toml_hidden.specs.TakingOver.{ChangesIn, TakesActions, TakesOver};
 ghost use Rattle.cargo_toml_hidden.specs.Texts.{texts_of};
 
 use crate::joining::add_actions;
-use cargo_toml_resolve::features::{DepAction, Feature};
+use cargo_toml_features::action::add_text;
+use cargo_toml_features::features::{DepAction, Feature};
 use std::alloc::{AllocError, Global};
 use std::collections::{BTreeMap, BTreeSet};
 use std::mem;
+
+// Up to so many texts are put into a set sooner one by one than by a sort.
+const FEW: usize = 16;
 
 // The texts of the numbers, in their order.
 fn list_of<'m>(
@@ -36,8 +40,24 @@ fn into_set<'m>(alloc: Global, texts: Vec<&'m str>) -> Result<BTreeSet<&'m str>,
     texts.into_iter().collect(alloc)
 }
 
-// The texts of the numbers, as a set.
-pub(crate) fn set_of<'m>(
+// The texts of few numbers, put into a set one after another.
+fn few_of<'m>(
+    alloc: Global,
+    numbers: &[usize],
+    texts: &[&'m str],
+) -> Result<BTreeSet<&'m str>, AllocError>
+    requires { (x : ℕ) → Among numbers.now x → x < length texts.now }
+    ensures { IfOk result (HasTexts (texts_of texts.now) numbers.now) }
+{
+    let mut set = BTreeSet::new(alloc);
+    for x in numbers {
+        add_text(&mut set, texts[*x])?;
+    }
+    Ok(set)
+}
+
+// The texts of many numbers, which are sorted together.
+fn many_of<'m>(
     alloc: Global,
     numbers: &[usize],
     texts: &[&'m str],
@@ -47,6 +67,22 @@ pub(crate) fn set_of<'m>(
 {
     let list = list_of(alloc, numbers, texts)?;
     into_set(alloc, list)
+}
+
+// The texts of the numbers, as a set.
+pub(crate) fn set_of<'m>(
+    alloc: Global,
+    numbers: &[usize],
+    texts: &[&'m str],
+) -> Result<BTreeSet<&'m str>, AllocError>
+    requires { (x : ℕ) → Among numbers.now x → x < length texts.now }
+    ensures { IfOk result (HasTexts (texts_of texts.now) numbers.now) }
+{
+    if numbers.len() <= FEW {
+        few_of(alloc, numbers, texts)
+    } else {
+        many_of(alloc, numbers, texts)
+    }
 }
 
 // The actions of the features in the passed places are joined to `own`.

@@ -1,13 +1,14 @@
 //! Hidden features are removed from features that stand in the byte order of their names.
-ghost use Rattle.std.specs.Prelude.{◌≡◌, ◌↔◌, ◌<◌, ◌≤◌, ℕ, Bool, IfOk, IsSome, IsTrue, Some, length, slice_get, true, false};
+ghost use Rattle.std.specs.Prelude.{◌≡◌, ◌↔◌, ◌<◌, ◌≤◌, ℕ, Bool, IfOk, IsSome, IsTrue, Some, [], length, slice_get, true, false};
 ghost use Rattle.std.specs.Option.{IsSomeAnd};
 ghost use Rattle.cargo_toml_graph.specs.Action.{Text};
-ghost use Rattle.cargo_toml_graph.specs.Graph.{Table};
+ghost use Rattle.cargo_toml_graph.specs.Graph.{IsUnremoved, Table};
 ghost use Rattle.cargo_toml_walk.specs.Numbered.{text_at};
 ghost use Rattle.cargo_toml_walk.specs.Numbers.{IsWanted, Leads, list_at};
-ghost use Rattle.cargo_toml_resolve.specs.declared.features.Feature.{Feature};
-ghost use Rattle.cargo_toml_resolve.specs.InOrder.{AreInOrder, AreTable};
-ghost use Rattle.cargo_toml_resolve.specs.Views.{value_at};
+ghost use Rattle.cargo_toml_features.specs.declared.features.Feature.{Feature};
+ghost use Rattle.cargo_toml_features.specs.InOrder.{AreInOrder, AreTable, feature_at, resolution_among};
+ghost use Rattle.cargo_toml_features.specs.Reached.{IsKeyed};
+ghost use Rattle.cargo_toml_features.specs.Views.{value_at};
 ghost use Rattle.cargo_toml_hidden.specs.Leaving.{HasTexts};
 ghost use Rattle.cargo_toml_hidden.specs.Left.{AreLeft};
 ghost use Rattle.cargo_toml_hidden.specs.Numbering.{IsFlagged};
@@ -17,7 +18,7 @@ use crate::elimination::place;
 use crate::numbering::{Graph, number};
 use crate::publishing::hashed_kept;
 use crate::rows::hashed_rows;
-use cargo_toml_resolve::features::Feature;
+use cargo_toml_features::features::Feature;
 use std::alloc::{AllocError, Global};
 use std::collections::{BTreeSet, HashMap};
 use std::hash::BuildHasher;
@@ -29,6 +30,31 @@ pub struct Left<'m, S: BuildHasher> {
     pub features: HashMap<&'m str, Feature<'m>, S>,
     /// What stands for each removed feature, by its name.
     pub hidden: HashMap<&'m str, BTreeSet<&'m str>, S>,
+}
+
+/// All features by their names, and nothing that stands for a removed one. It fails only where memory runs out, or the clone
+/// of `state` does.
+pub fn keep_all<'m, S: BuildHasher + Clone>(
+    alloc: Global,
+    state: &S,
+    features: Vec<Feature<'m>>,
+    flags: &[bool],
+) -> Result<Left<'m, S>, AllocError>
+    requires in_order { AreInOrder features.items }
+    requires count { length flags.now ≡ length features.items }
+    requires none_flagged { (i : ℕ) → ¬ IsWanted flags.now true i }
+    ensures same { IfOk result (λ l. (f : Text) → value_at l.features f ≡ feature_at features.entry.items f) }
+    ensures empty { IfOk result (λ l. l.hidden.entries ≡ []) }
+    ensures keyed { IfOk result (λ l. IsKeyed l.features) }
+    ensures all { IfOk result (λ l. (t : Table) (removed : Text → Bool) →
+        IsUnremoved t (resolution_among features.entry.items) → ((f : Text) → ¬ IsTrue (removed f)) →
+        AreLeft t removed features.entry.items l.features l.hidden) }
+{
+    let hidden = HashMap::with_hasher(alloc, state.clone()?);
+    Ok(Left {
+        features: hashed_kept(state.clone()?, alloc, features, flags)?,
+        hidden,
+    })
 }
 
 // What stands in places, by names.
@@ -52,6 +78,7 @@ fn publish<'m, S: BuildHasher + Clone>(
         IsWanted flags.now false i → value_at l.features v.key.now ≡ Some v) }
     ensures only { IfOk result (λ l. (f : Text) → IsSome (value_at l.features f) → (i : ℕ) × (v : Feature) ×
         (slice_get features.entry.items i ≡ Some v) × IsWanted flags.now false i × (v.key.now ≡ f)) }
+    ensures keyed { IfOk result (λ l. IsKeyed l.features) }
     ensures rows { IfOk result (λ l. (i : ℕ) → i < length rows.now → IsWanted flags.now true i →
         IsSomeAnd (value_at l.hidden (text_at (texts_of texts.now) i)) (HasTexts (texts_of texts.now) (list_at rows.now i))) }
     ensures only_rows { IfOk result (λ l. (r : Text) → IsSome (value_at l.hidden r) →
@@ -72,7 +99,8 @@ pub fn take_out<'m, S: BuildHasher + Clone>(
 ) -> Result<Left<'m, S>, AllocError>
     requires in_order { AreInOrder features.items }
     requires len { length flags.now ≡ length features.items }
-    ensures { IfOk result (λ l. (t : Table) (removed : Text → Bool) → AreTable t features.entry.items →
+    ensures keyed { IfOk result (λ l. IsKeyed l.features) }
+    ensures taken { IfOk result (λ l. (t : Table) (removed : Text → Bool) → AreTable t features.entry.items →
         ((f : Text) → IsTrue (removed f) ↔ IsFlagged features.entry.items flags.now f) →
         AreLeft t removed features.entry.items l.features l.hidden) }
 {
@@ -98,4 +126,52 @@ pub fn take_out<'m, S: BuildHasher + Clone>(
         flags.as_slice(),
         texts.as_slice(),
     )
+}
+
+/// What is left of features in the byte order of their names, once those are taken out whose flag stands. It fails only where
+/// memory runs out, or the clone of `state` does.
+pub fn left_of<'m, S: BuildHasher + Clone>(
+    alloc: Global,
+    state: &S,
+    features: Vec<Feature<'m>>,
+    flags: &[bool],
+) -> Result<Left<'m, S>, AllocError>
+    requires in_order { AreInOrder features.items }
+    requires count { length flags.now ≡ length features.items }
+    ensures keyed { IfOk result (λ l. IsKeyed l.features) }
+    ensures outcome { IfOk result (λ l. (t : Table) (removed : Text → Bool) →
+        IsUnremoved t (resolution_among features.entry.items) →
+        ((f : Text) → IsTrue (removed f) ↔ IsFlagged features.entry.items flags.now f) →
+        AreLeft t removed features.entry.items l.features l.hidden) }
+{
+    // Most manifests have no hidden feature: then nothing is numbered and no path is walked.
+    if flags.contains(&true) {
+        take_out(alloc, state, features, flags)
+    } else {
+        keep_all(alloc, state, features, flags)
+    }
+}
+
+/// The same where what enables features may not have been told: then they are taken out whatever flags stand, since that finds
+/// what enables those that are left.
+pub fn left_after<'m, S: BuildHasher + Clone>(
+    alloc: Global,
+    state: &S,
+    features: Vec<Feature<'m>>,
+    flags: &[bool],
+    has_enablers: bool,
+) -> Result<Left<'m, S>, AllocError>
+    requires in_order { AreInOrder features.items }
+    requires count { length flags.now ≡ length features.items }
+    ensures keyed { IfOk result (λ l. IsKeyed l.features) }
+    ensures outcome { IfOk result (λ l. (t : Table) (removed : Text → Bool) → AreTable t features.entry.items →
+        (has_enablers ≡ true → IsUnremoved t (resolution_among features.entry.items)) →
+        ((f : Text) → IsTrue (removed f) ↔ IsFlagged features.entry.items flags.now f) →
+        AreLeft t removed features.entry.items l.features l.hidden) }
+{
+    if has_enablers {
+        left_of(alloc, state, features, flags)
+    } else {
+        take_out(alloc, state, features, flags)
+    }
 }

@@ -10,7 +10,6 @@ pub mod leaving;
 pub mod left;
 pub mod numbering;
 pub mod publishing;
-pub mod removal;
 pub mod resolution;
 pub mod rows;
 

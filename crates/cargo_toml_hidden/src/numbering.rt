@@ -5,15 +5,16 @@ ghost use Rattle.cargo_toml_graph.specs.Admitted.{is_below};
 ghost use Rattle.cargo_toml_graph.specs.Graph.{IsPlain};
 ghost use Rattle.cargo_toml_graph.specs.Reach.{Among};
 ghost use Rattle.cargo_toml_graph.specs.Removal.{IsAscending};
-ghost use Rattle.cargo_toml_resolve.specs.InOrder.{AreInOrder, names_of, table_among};
-ghost use Rattle.cargo_toml_resolve.specs.Views.{action_at, action_of, has_text};
+ghost use Rattle.cargo_toml_features.specs.InOrder.{AreInOrder, names_of, table_among};
+ghost use Rattle.cargo_toml_features.specs.Views.{action_at, action_of, has_text};
 ghost use Rattle.cargo_toml_walk.specs.Numbers.{IsWanted, Leads};
 ghost use Rattle.cargo_toml_walk.specs.Numbered.{IsNumbered, text_at};
 ghost use Rattle.cargo_toml_hidden.specs.Numbering.{AreParted, AreTextsOf, IsFlagged, IsTarget, is_named, names_at};
 ghost use Rattle.cargo_toml_hidden.specs.Texts.{texts_of};
 
-use cargo_toml_resolve::features::{DepAction, Feature};
-use cargo_toml_walk::texts::{in_order, place_of};
+use cargo_toml_features::features::{DepAction, Feature};
+use cargo_toml_resolve::places::place_near;
+use cargo_toml_walk::texts::in_order;
 use std::alloc::{AllocError, Global};
 use std::collections::{BTreeMap, BTreeSet};
 
@@ -28,6 +29,8 @@ pub struct Graph<'m> {
     pub names: Vec<Vec<usize>>,
     /// For each number whether it is removed.
     pub flags: Vec<bool>,
+    ghost edges_inside: { (a b : ℕ) → Leads edges.items a b → b < length edges.items },
+    ghost names_inside: { (a x : ℕ) → Leads names.items a x → x < length flags.items },
 }
 
 fn keys_of<'m>(alloc: Global, features: &[Feature<'m>]) -> Result<Vec<&'m str>, AllocError>
@@ -40,29 +43,26 @@ fn keys_of<'m>(alloc: Global, features: &[Feature<'m>]) -> Result<Vec<&'m str>, 
     Ok(keys)
 }
 
-fn is_key(keys: &[&str], text: &str) -> bool
-    requires { IsAscending (λ a b. IsTrue (is_below a b)) (texts_of keys.now) }
-    ensures { IsTrue result ↔ Among (texts_of keys.now) text.now }
-{
-    place_of(keys, text).is_some()
-}
-
-// The named texts that are no keys are put at the end.
+// The named texts that are no keys are put at the end. The first name is looked for at `near` first; the answer is where to look
+// for one that follows.
 fn push_others<'m>(
     others: &mut Vec<&'m str>,
     named: &BTreeSet<&'m str>,
     keys: &[&'m str],
-) -> Result<(), AllocError>
+    mut near: usize,
+) -> Result<usize, AllocError>
     requires { IsAscending (λ a b. IsTrue (is_below a b)) (texts_of keys.now) }
     ensures { OnOk result ((x : Text) → Among (texts_of others.new.items) x ↔ (Among (texts_of others.old.items) x
         ⊎ (IsTrue (has_text named.now x) × (¬ Among (texts_of keys.now) x)))) }
 {
     for name in named.iter() {
-        if !is_key(keys, *name) {
+        if let Some(place) = place_near(keys, *name, near) {
+            near = place.saturating_add(1);
+        } else {
             others.push(*name)?;
         }
     }
-    Ok(())
+    Ok(near)
 }
 
 // What features name that is no key, in byte order.
@@ -77,8 +77,9 @@ fn others_of<'m>(
     ensures ascending { IfOk result (λ v. IsAscending (λ a b. IsTrue (is_below a b)) (texts_of v.items)) }
 {
     let mut others = Vec::with_capacity(alloc, features.len())?;
+    let mut near = 0;
     for feature in features {
-        push_others(&mut others, &feature.enables_features, keys)?;
+        near = push_others(&mut others, &feature.enables_features, keys, near)?;
     }
     Ok(in_order(others))
 }
@@ -94,25 +95,26 @@ fn all_texts<'m>(alloc: Global, features: &[Feature<'m>]) -> Result<Vec<&'m str>
     Ok(texts)
 }
 
-// The number of a text: its place among the first `count` texts, or else among those after them.
-fn number_of(texts: &[&str], count: usize, text: &str) -> Option<usize>
+// The number of a text: its place among the first `count` texts, or else among those after them. It is looked for at `near` first.
+fn number_of(texts: &[&str], count: usize, text: &str, near: usize) -> Option<usize>
     requires { AreParted count (texts_of texts.now) }
     ensures found { IfSome result (λ i. (i < length texts.now) × (text_at (texts_of texts.now) i ≡ text.now)) }
     ensures missing { result ≡ None → ¬ Among (texts_of texts.now) text.now }
 {
-    if let Some(place) = place_of(&texts[..count], text) {
+    if let Some(place) = place_near(&texts[..count], text, near) {
         return Some(place);
     }
-    let place = place_of(&texts[count..], text)?;
+    let place = place_near(&texts[count..], text, near.saturating_sub(count))?;
     Some(count + place)
 }
 
-// The numbers of what a feature names.
+// The numbers of what a feature names. The first name is looked for at `near` first.
 fn name_row(
     alloc: Global,
     named: &BTreeSet<&str>,
     texts: &[&str],
     count: usize,
+    mut near: usize,
 ) -> Result<Vec<usize>, AllocError>
     requires { AreParted count (texts_of texts.now) }
     ensures { IfOk result (λ row. (x : ℕ) → Among row.items x
@@ -120,11 +122,20 @@ fn name_row(
 {
     let mut row = Vec::with_capacity(alloc, named.len())?;
     for name in named.iter() {
-        if let Some(number) = number_of(texts, count, *name) {
+        if let Some(number) = number_of(texts, count, *name, near) {
             row.push(number)?;
+            near = number.saturating_add(1);
         }
     }
     Ok(row)
+}
+
+// Where a name is looked for after those of a row.
+fn after(row: &[usize], near: usize) -> usize {
+    match row.last() {
+        Some(last) => last.saturating_add(1),
+        None => near,
+    }
 }
 
 // What each feature names, by numbers.
@@ -139,8 +150,16 @@ fn name_rows(
         ↔ ((x < length texts.now) × IsTrue (names_at features.now i (text_at (texts_of texts.now) x)))) }
 {
     let mut rows = Vec::with_capacity(alloc, features.len())?;
+    let mut near = 0;
     for feature in features {
-        let row = name_row(alloc, &feature.enables_features, texts, features.len())?;
+        let row = name_row(
+            alloc,
+            &feature.enables_features,
+            texts,
+            features.len(),
+            near,
+        )?;
+        near = after(row.as_slice(), near);
         rows.push(row)?;
     }
     Ok(rows)
@@ -164,39 +183,49 @@ fn named_targets(
     Ok(row)
 }
 
-// The feature of this name, if there is one other than the one in place `own`, is put at the end.
-fn push_target(row: &mut Vec<usize>, key: &str, keys: &[&str], own: usize) -> Result<(), AllocError>
+// The feature of this name, if there is one other than the one in place `own`, is put at the end. It is looked for at `near`
+// first; the answer is where to look for one that follows.
+fn push_target(
+    row: &mut Vec<usize>,
+    key: &str,
+    keys: &[&str],
+    own: usize,
+    near: usize,
+) -> Result<usize, AllocError>
     requires { IsAscending (λ a b. IsTrue (is_below a b)) (texts_of keys.now) }
     ensures { OnOk result ((x : ℕ) → Among row.new.items x ↔ (Among row.old.items x
         ⊎ ((x < length keys.now) × (x ≢ own) × (text_at (texts_of keys.now) x ≡ key.now)))) }
 {
-    if let Some(target) = place_of(keys, key) {
-        if target != own {
-            row.push(target)?;
-        }
+    let Some(target) = place_near(keys, key, near) else {
+        return Ok(near);
+    };
+    if target != own {
+        row.push(target)?;
     }
-    Ok(())
+    Ok(target.saturating_add(1))
 }
 
-// A plain action enables the feature of the key's name.
+// A plain action enables the feature of the key's name, which is looked for at `near` first. The answer is as of `push_target`.
 fn push_action(
     row: &mut Vec<usize>,
     key: &str,
     action: &DepAction<'_>,
     keys: &[&str],
     own: usize,
-) -> Result<(), AllocError>
+    near: usize,
+) -> Result<usize, AllocError>
     requires { IsAscending (λ a b. IsTrue (is_below a b)) (texts_of keys.now) }
     ensures { OnOk result ((x : ℕ) → Among row.new.items x ↔ (Among row.old.items x
         ⊎ (((x < length keys.now) × (x ≢ own) × (text_at (texts_of keys.now) x ≡ key.now)) × IsPlain (Some (action_of action.now))))) }
 {
-    if !action.is_conditional && !action.is_dep_only {
-        push_target(row, key, keys, own)?;
+    if action.is_conditional || action.is_dep_only {
+        return Ok(near);
     }
-    Ok(())
+    push_target(row, key, keys, own, near)
 }
 
-// Those that the actions enable, other than the one in place `own`.
+// Those that the actions enable, other than the one in place `own`. An implied feature acts on the dependency of its own name,
+// so the first is looked for there.
 fn push_actions(
     row: &mut Vec<usize>,
     actions: &BTreeMap<&str, DepAction<'_>>,
@@ -207,8 +236,9 @@ fn push_actions(
     ensures { OnOk result ((x : ℕ) → Among row.new.items x ↔ (Among row.old.items x
         ⊎ ((x < length keys.now) × (x ≢ own) × IsPlain (action_at actions.now (text_at (texts_of keys.now) x))))) }
 {
+    let mut near = own;
     for (key, action) in actions.iter() {
-        push_action(row, *key, action, keys, own)?;
+        near = push_action(row, *key, action, keys, own, near)?;
     }
     Ok(())
 }
@@ -278,8 +308,6 @@ pub fn number<'m>(
     ensures vertices { IfOk result (λ g. (i : ℕ) → i < length features.now →
         text_at (texts_of g.texts.items) i ≡ text_at (names_of features.now) i) }
     ensures names_len { IfOk result (λ g. length g.names.items ≡ length features.now) }
-    ensures edges_inside { IfOk result (λ g. (a b : ℕ) → Leads g.edges.items a b → b < length g.edges.items) }
-    ensures names_inside { IfOk result (λ g. (a x : ℕ) → Leads g.names.items a x → x < length g.flags.items) }
 {
     let texts = all_texts(alloc, features)?;
     let names = name_rows(alloc, features, texts.as_slice())?;

@@ -2,28 +2,42 @@
 ghost use Rattle.std.specs.Prelude.{Bool, map, IfOk};
 ghost use Rattle.cargo_toml_graph.specs.Action.{Text};
 ghost use Rattle.cargo_toml_graph.specs.Reach.{IsOnce};
-ghost use Rattle.cargo_toml_resolve.specs.FirstTarget.{HaveTargets};
+ghost use Rattle.cargo_toml_features.specs.FirstTarget.{HaveTargets};
 ghost use Rattle.cargo_toml_resolve.specs.OwnBins.{own_of, requirement_of};
-ghost use Rattle.cargo_toml_resolve.specs.Reached.{IsKeyed};
-ghost use Rattle.cargo_toml_resolve.specs.Reading.{listed_of};
-ghost use Rattle.cargo_toml_resolve.specs.Resolved.{IsAnswer};
-ghost use Rattle.cargo_toml_resolve.specs.Views.{answer_of, entry_of};
+ghost use Rattle.cargo_toml_features.specs.Reached.{IsKeyed};
+ghost use Rattle.cargo_toml_features.specs.Views.{listed_of, answer_of, entry_of};
+ghost use Rattle.cargo_toml_features.specs.Resolved.{IsAnswer};
 ghost use Rattle.cargo_toml_hidden.specs.Filter.{HasNameFilter, Tells};
 
-use crate::filter::hidden_names;
-use crate::removal::remove_all;
-use cargo_toml_resolve::admit::Listing;
+use crate::filter::is_hidden;
+use crate::flags::hidden_flags;
+use crate::left::{Left, left_after};
+use crate::publishing::hashed_dependencies;
+use cargo_toml_features::admit::Listing;
+use cargo_toml_features::features::{Features, ParseDependency};
 use cargo_toml_resolve::bins::Requirement;
-use cargo_toml_resolve::features::{Features, ParseDependency};
+use cargo_toml_resolve::resolution::Unremoved;
 use cargo_toml_resolve::resolve_all;
 use std::alloc::{AllocError, Global};
 use std::hash::BuildHasher;
 
+// Whether a feature that is hidden is listed. An implied one may be hidden, too.
+fn lists_hidden<F: Fn(&str) -> bool>(filter: Option<&F>, listings: &[Listing<'_>]) -> bool
+    requires { HasNameFilter F.Fn filter }
+{
+    for listing in listings {
+        if is_hidden(filter, listing.name) {
+            return true;
+        }
+    }
+    false
+}
+
 /// Resolves features as they are listed, with entries of whatever dependency tables and what binaries require, and removes
 /// those whose names begin with `_`, but for the ones that the filter keeps.
 ///
-/// Each name is listed once. Each map of the answer gets a clone of `state`. It fails only where memory runs out, or the
-/// clone does.
+/// Each name is listed once. Each map of the answer gets a clone of `state`; nothing is hashed before the answer stands. It
+/// fails only where memory runs out, or the clone does.
 pub fn resolve<'m: 'd, 'd, F: Fn(&str) -> bool, S: BuildHasher + Clone>(
     alloc: Global,
     state: &S,
@@ -40,19 +54,22 @@ pub fn resolve<'m: 'd, 'd, F: Fn(&str) -> bool, S: BuildHasher + Clone>(
     ensures keyed { IfOk result (λ a. IsKeyed a.features) }
     ensures targets { IfOk result (λ a. HaveTargets a.dependencies) }
 {
-    let all = resolve_all(alloc, state, listings, entries, requirements)?;
-    let names = hidden_names(alloc, &all.features, filter)?;
-    let Features {
-        mut features,
-        dependencies,
-        mut hidden_features,
-        ..
-    } = all;
-    remove_all(alloc, &mut features, &mut hidden_features, names.as_slice())?;
-    Ok(Features {
+    // Where hidden features are taken out, what enables the others is found anew.
+    let wants_enablers = !lists_hidden(filter, listings);
+    let Unremoved {
         features,
         dependencies,
-        removed_hidden_features: !names.is_empty(),
+    } = resolve_all(alloc, listings, entries, requirements, wants_enablers)?;
+    let flags = hidden_flags(alloc, features.as_slice(), filter)?;
+    let Left {
+        features: kept,
+        hidden: hidden_features,
+    } = left_after(alloc, state, features, flags.as_slice(), wants_enablers)?;
+    let dependencies = hashed_dependencies(state.clone()?, alloc, dependencies)?;
+    Ok(Features {
+        features: kept,
+        dependencies,
+        removed_hidden_features: flags.contains(&true),
         hidden_features,
     })
 }

@@ -3,7 +3,7 @@ ghost use Rattle.std.specs.Prelude.{◌≡◌, ◌<◌, ◌≤◌, ℕ, true, If
 ghost use Rattle.std.specs.Option.{IsSomeAnd};
 ghost use Rattle.cargo_toml_graph.specs.Action.{Text};
 ghost use Rattle.cargo_toml_graph.specs.Reach.{Among};
-ghost use Rattle.cargo_toml_resolve.specs.Views.{value_at};
+ghost use Rattle.cargo_toml_features.specs.Views.{value_at};
 ghost use Rattle.cargo_toml_walk.specs.Numbered.{text_at};
 ghost use Rattle.cargo_toml_walk.specs.Numbers.{IsWanted, Leads, list_at};
 ghost use Rattle.cargo_toml_hidden.specs.Leaving.{HasTexts};

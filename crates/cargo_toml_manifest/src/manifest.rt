@@ -5,12 +5,12 @@ ghost use Rattle.toml.specs.View.{view, table_view};
 ghost use Rattle.toml.specs.Parse.{parse_document};
 ghost use Rattle.cargo_toml_tables.specs.Badges.{badges_meaning};
 ghost use Rattle.cargo_toml_parts.specs.Faults.{IsShape, wrong_shape};
+ghost use Rattle.cargo_toml_parts.specs.declared.inheritable.Inheritable.TheVariants.{Set};
 ghost use Rattle.cargo_toml_parts.specs.Inherits.{inheritable_map, inheritable_of, inheritable_refuses};
 ghost use Rattle.cargo_toml_tables.specs.Lints.{lint_meaning, lint_of};
 ghost use Rattle.cargo_toml_tables.specs.Profiles.{profiles_meaning};
-ghost use Rattle.cargo_toml_parts.specs.Reads.{IsReading, fault_at, given_at, map_of, map_meaning, plain};
+ghost use Rattle.cargo_toml_parts.specs.Reads.{Faulty, IsReading, given_of, map_of, map_meaning, plain};
 ghost use Rattle.cargo_toml_parts.specs.Readings.{Goes};
-ghost use Rattle.cargo_toml_parts.specs.Keys.{inherited_at};
 ghost use Rattle.cargo_toml_manifest.specs.Manifests.{ManifestMeaning, manifest_meaning, manifest_of, manifest_faults, manifest_reads, manifest_refuses, zero_rule_applies, by_zero_rule, no_profiles, profiles_reads, profiles_refuse, no_badges, badges_reads};
 ghost use Rattle.cargo_toml_package.specs.Packages.{package_meaning};
 ghost use Rattle.cargo_toml_manifest.specs.Texts.{IsFromText, IsFromBytes, any_tree, any_refuses};
@@ -23,7 +23,7 @@ use cargo_toml_dependencies::{DepsSet, FeatureSet, PatchSet, TargetDepsSet};
 use cargo_toml_package::Package;
 use cargo_toml_parts::copying::Copying;
 use cargo_toml_parts::floats::table_has_no_float;
-use cargo_toml_parts::read::{Read, as_table};
+use cargo_toml_parts::read::{Read, take, wrong_shape};
 use cargo_toml_parts::reading::Reading;
 use cargo_toml_parts::value::floats_unsupported;
 use cargo_toml_parts::{Error, FromValue, Inheritable};
@@ -254,7 +254,7 @@ impl<Metadata: FromValue> Manifest<Metadata> {
         if !table_has_no_float(&table) {
             return Err(floats_unsupported());
         }
-        read_table(alloc, &table)
+        read_table(alloc, table)
     }
 }
 
@@ -268,35 +268,41 @@ impl<Metadata: FromValue> Read for Manifest<Metadata> {
     ghost refuses = { manifest_refuses Metadata.from_tree Metadata.from_refuses };
 
     fn read(alloc: Global, value: &Value) -> Result<Manifest<Metadata>, Error> {
-        read_table(alloc, as_table(value)?)
+        Manifest::read_owned(alloc, value.clone()?)
+    }
+
+    fn read_owned(alloc: Global, value: Value) -> Result<Manifest<Metadata>, Error> {
+        match value {
+            Value::Table(table) => read_table(alloc, table),
+            _ => Err(wrong_shape()),
+        }
     }
 }
 
-fn read_table<Metadata: FromValue>(
-    alloc: Global,
-    table: &Table,
-) -> Result<Manifest<Metadata>, Error>
-    ensures { IsReading (manifest_meaning Metadata.meaning) (manifest_of Metadata.from_tree (table_view table.now))
-        (manifest_faults Metadata.from_tree Metadata.from_refuses (table_view table.now)) result }
+// Each key is taken out of the table, so that its tree is released once it has been read.
+fn read_table<Metadata: FromValue>(alloc: Global, table: Table) -> Result<Manifest<Metadata>, Error>
+    ensures { IsReading (manifest_meaning Metadata.meaning) (manifest_of Metadata.from_tree (table_view table))
+        (manifest_faults Metadata.from_tree Metadata.from_refuses (table_view table)) result }
 {
+    let mut rest = table;
     let mut reading = Reading::new(alloc);
-    let package = reading.optional(table, "package");
-    let workspace = reading.optional(table, "workspace");
-    let dependencies = reading.map(table, "dependencies");
-    let dev_dependencies = reading.map(table, "dev-dependencies");
-    let build_dependencies = reading.map(table, "build-dependencies");
-    let target = reading.map(table, "target");
-    let features = features(&mut reading, table);
-    let replace = reading.map(table, "replace");
-    let patch = reading.map(table, "patch");
-    let lib = reading.optional(table, "lib");
-    let profile = profiles(&mut reading, table);
-    let badges = badges(&mut reading, table);
-    let bin = reading.list(table, "bin");
-    let bench = reading.list(table, "bench");
-    let test = reading.list(table, "test");
-    let example = reading.list(table, "example");
-    let lints = lints(&mut reading, table);
+    let package = reading.optional_of(take(&mut rest, "package"));
+    let workspace = reading.optional_of(take(&mut rest, "workspace"));
+    let dependencies = reading.map_of(take(&mut rest, "dependencies"));
+    let dev_dependencies = reading.map_of(take(&mut rest, "dev-dependencies"));
+    let build_dependencies = reading.map_of(take(&mut rest, "build-dependencies"));
+    let target = reading.map_of(take(&mut rest, "target"));
+    let features = features(&mut reading, take(&mut rest, "features"));
+    let replace = reading.map_of(take(&mut rest, "replace"));
+    let patch = reading.map_of(take(&mut rest, "patch"));
+    let lib = reading.optional_of(take(&mut rest, "lib"));
+    let profile = profiles(&mut reading, take(&mut rest, "profile"));
+    let badges = badges(&mut reading, take(&mut rest, "badges"));
+    let bin = reading.list_of(take(&mut rest, "bin"));
+    let bench = reading.list_of(take(&mut rest, "bench"));
+    let test = reading.list_of(take(&mut rest, "test"));
+    let example = reading.list_of(take(&mut rest, "example"));
+    let lints = lints(&mut reading, take(&mut rest, "lints"));
     reading.finish(Manifest {
         package: option_by_zero_rule(package),
         workspace,
@@ -318,37 +324,37 @@ fn read_table<Metadata: FromValue>(
     })
 }
 
-// The profiles, none where their key is missing.
-fn profiles(reading: &mut Reading, table: &Table) -> Profiles
+// The profiles, none where there is no value.
+fn profiles(reading: &mut Reading, value: Option<Value>) -> Profiles
     ensures { Goes reading.old.fault reading.new.fault
-        (given_at "profile" no_profiles profiles_reads (table_view table.now))
+        (given_of profiles_reads no_profiles (option_map view value))
         (profiles_meaning result)
-        (fault_at "profile" profiles_reads profiles_refuse (table_view table.now)) }
+        (Faulty profiles_reads profiles_refuse (option_map view value)) }
 {
     let none = Profiles::default(reading.alloc);
-    reading.given(table, "profile", none)
+    reading.given_of(value, none)
 }
 
-// The badges, none where their key is missing.
-fn badges(reading: &mut Reading, table: &Table) -> Badges
+// The badges, none where there is no value.
+fn badges(reading: &mut Reading, value: Option<Value>) -> Badges
     ensures { Goes reading.old.fault reading.new.fault
-        (given_at "badges" no_badges badges_reads (table_view table.now))
+        (given_of badges_reads no_badges (option_map view value))
         (badges_meaning result)
-        (fault_at "badges" badges_reads plain (table_view table.now)) }
+        (Faulty badges_reads plain (option_map view value)) }
 {
     let none = Badges::default();
-    reading.given(table, "badges", none)
+    reading.given_of(value, none)
 }
 
-// The lints, none where their key is missing.
-fn lints(reading: &mut Reading, table: &Table) -> Inheritable<LintGroups>
+// The lints, none where there is no value.
+fn lints(reading: &mut Reading, value: Option<Value>) -> Inheritable<LintGroups>
     ensures { Goes reading.old.fault reading.new.fault
-        (inherited_at "lints" [] (map_of (map_of lint_of)) (table_view table.now))
+        (given_of (inheritable_of (map_of (map_of lint_of))) (Set []) (option_map view value))
         (inheritable_map (map_meaning (map_meaning lint_meaning)) result)
-        (fault_at "lints" (inheritable_of (map_of (map_of lint_of))) inheritable_refuses (table_view table.now)) }
+        (Faulty (inheritable_of (map_of (map_of lint_of))) inheritable_refuses (option_map view value)) }
 {
     let none = Inheritable::Set(LintGroups::new(reading.alloc));
-    reading.given(table, "lints", none)
+    reading.given_of(value, none)
 }
 
 // Whether the version is 0.0.0, without pre-release and build metadata, and the package could be published everywhere.

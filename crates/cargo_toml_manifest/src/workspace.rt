@@ -8,7 +8,7 @@ ghost use Rattle.cargo_toml_manifest.specs.Workspaces.{WorkspaceMeaning, workspa
 use cargo_toml_dependencies::DepsSet;
 use cargo_toml_package::PackageTemplate;
 use cargo_toml_parts::copying::Copying;
-use cargo_toml_parts::read::{Read, as_table};
+use cargo_toml_parts::read::{Read, take, wrong_shape};
 use cargo_toml_parts::reading::Reading;
 use cargo_toml_parts::{Error, FromValue};
 use cargo_toml_settings::Resolver;
@@ -114,20 +114,21 @@ impl<Metadata> Workspace<Metadata> {
 
 fn read_table<Metadata: FromValue>(
     alloc: Global,
-    table: &Table,
+    table: Table,
 ) -> Result<Workspace<Metadata>, Error>
-    ensures { IsReading (workspace_meaning Metadata.meaning) (workspace_of Metadata.from_tree (table_view table.now))
-        (workspace_faults Metadata.from_tree Metadata.from_refuses (table_view table.now)) result }
+    ensures { IsReading (workspace_meaning Metadata.meaning) (workspace_of Metadata.from_tree (table_view table))
+        (workspace_faults Metadata.from_tree Metadata.from_refuses (table_view table)) result }
 {
+    let mut rest = table;
     let mut reading = Reading::new(alloc);
-    let members = reading.list(table, "members");
-    let default_members = reading.list(table, "default-members");
-    let package = reading.optional(table, "package");
-    let exclude = reading.list(table, "exclude");
-    let metadata = reading.metadata(table, "metadata");
-    let resolver = reading.optional(table, "resolver");
-    let dependencies = reading.map(table, "dependencies");
-    let lints = reading.map(table, "lints");
+    let members = reading.list_of(take(&mut rest, "members"));
+    let default_members = reading.list_of(take(&mut rest, "default-members"));
+    let package = reading.optional_of(take(&mut rest, "package"));
+    let exclude = reading.list_of(take(&mut rest, "exclude"));
+    let metadata = reading.metadata_of(take(&mut rest, "metadata"));
+    let resolver = reading.optional_of(take(&mut rest, "resolver"));
+    let dependencies = reading.map_of(take(&mut rest, "dependencies"));
+    let lints = reading.map_of(take(&mut rest, "lints"));
     reading.finish(Workspace {
         members,
         default_members,
@@ -149,8 +150,15 @@ impl<Metadata: FromValue> Read for Workspace<Metadata> {
 
     ghost refuses = { workspace_refuses Metadata.from_tree Metadata.from_refuses };
 
-    #[tactic(auto, unfolding(crate::specs::Workspaces::workspace_reads, crate::specs::Workspaces::workspace_refuses))]
     fn read(alloc: Global, value: &Value) -> Result<Workspace<Metadata>, Error> {
-        read_table(alloc, as_table(value)?)
+        Workspace::read_owned(alloc, value.clone()?)
+    }
+
+    #[tactic(auto, unfolding(crate::specs::Workspaces::workspace_reads, crate::specs::Workspaces::workspace_refuses))]
+    fn read_owned(alloc: Global, value: Value) -> Result<Workspace<Metadata>, Error> {
+        match value {
+            Value::Table(table) => read_table(alloc, table),
+            _ => Err(wrong_shape()),
+        }
     }
 }

@@ -2,11 +2,11 @@
 use Rattle.std.proofs.Common.{◌≡◌, ◌⊎◌, ◌&&◌, ◌||◌, not, Bool, true, false, cond, List, [], ◌++◌, map, Option, Some, None, IsTrue, IfSome, is_some, option_map, bytes_eq, Bor, refl, sym, ap, ap₂, subst, inl, inr, ◌∙◌}
 use Rattle.std.proofs.lemmas.Bool.{false≢true, false_from_ne_true, or_cases, or_left, or_right, and_parts, and_from}
 use Rattle.std.proofs.lemmas.Slice.Eq.{bytes_eq-Decides}
-use Rattle.std.specs.HashMap.{HashMap}
 use Rattle.std.specs.List.{list_any}
 use Rattle.std.specs.Option.{option_map_or}
-use Rattle.cargo_toml_resolve.specs.declared.features.Feature.{Feature}
-use Rattle.cargo_toml_resolve.specs.declared.features.Features.{Features}
+use Rattle.cargo_toml_features.specs.declared.features.Feature.{Feature}
+use Rattle.cargo_toml_features.specs.declared.features.FeatureDependency.{FeatureDependency}
+use Rattle.cargo_toml_features.specs.InOrder.{AreTable, feature_at, resolution_among, sorted_at}
 use Rattle.cargo_toml_resolve.specs.declared.read.Mentions.{Mentions}
 use Rattle.cargo_toml_graph.specs.Action.{Text, Action}
 use Rattle.cargo_toml_graph.specs.Admitted.{Listed, is_explicit, joined_action}
@@ -15,19 +15,20 @@ use Rattle.cargo_toml_graph.specs.Graph.{Table, Resolution, Edge, IsPlain, IsUnr
 use Rattle.cargo_toml_resolve.specs.Implying.{Becomes, ImpliesAll, is_optional_at, is_offered}
 use Rattle.cargo_toml_resolve.specs.Reading.{IsRead, IsFresh, AreFresh}
 use Rattle.cargo_toml_resolve.specs.Requiring.{Required, RequiredAll}
-use Rattle.cargo_toml_resolve.specs.Recorded.{Entry, Recorded, is_mentioned, is_reserved, entries_at, recorded_of, first_target, without_redundant}
+use Rattle.cargo_toml_features.specs.Recorded.{Entry, Recorded, is_mentioned, is_reserved, entries_at, recorded_of, first_target, without_redundant}
 use Rattle.cargo_toml_resolve.specs.Recording.{recorded_at, is_mentioned_in}
 use Rattle.cargo_toml_resolve.specs.Redundant.{IsRecordOf, Thinned, ThinnedAll}
-use Rattle.cargo_toml_resolve.specs.Reached.{IsKeyed}
-use Rattle.cargo_toml_resolve.specs.Resolved.{table_of, plain, SameRecorded}
-use Rattle.cargo_toml_resolve.specs.Views.{has_text, action_at, value_at, table_in, resolution_of}
-use Rattle.cargo_toml_resolve.proofs.TextKeys.{none_in}
+use Rattle.cargo_toml_features.specs.Resolved.{table_of, plain, SameRecorded}
+use Rattle.cargo_toml_features.specs.Views.{has_text, action_at}
+use Rattle.cargo_toml_resolve.specs.Slots.{held_in, table_held, resolution_held, AreKeyed}
+use Rattle.cargo_toml_resolve.specs.declared.slots.Slots.{Slots}
+use Rattle.cargo_toml_features.proofs.TextKeys.{none_in}
 
 -- tables that say the same
-record Same (t u : Table) : Type 0 where
-  has : (f : Text) → t.has f ≡ u.has f
-  names : (f x : Text) → t.names f x ≡ u.names f x
-  action : (f k : Text) → t.action f k ≡ u.action f k
+pub record Same (t u : Table) : Type 0 where
+  pub has : (f : Text) → t.has f ≡ u.has f
+  pub names : (f x : Text) → t.names f x ≡ u.names f x
+  pub action : (f k : Text) → t.action f k ≡ u.action f k
 
 edge_alike : (t u : Table) → Same t u → (f g : Text) → Edge t f g → Edge u f g
 edge_alike t u s f g e = record {
@@ -63,13 +64,10 @@ or_not true i = refl
 or_not false true = refl
 or_not false false = refl
 
--- the enablers that are set are the sources of edges
-module _ {S : Type 0} (old new : HashMap (Bor Text) Feature S) (none : (f e : Text) → (resolution_of old).enabled_by f e ≡ false) (h : EnabledAll (λ q e. leads_at old e q && not (bytes_eq q e)) old new) where
-  abbrev by : Text → Text → Bool
-  by q e = leads_at old e q && not (bytes_eq q e)
-
-  has_now : (f : Text) → is_some (value_at new f) ≡ is_some (value_at old f)
-  has_now f = go (value_at old f) (value_at new f) (h.at f)
+-- new enablers change nothing else
+module _ (by : Text → Text → Bool) (old new : Slots Feature) (h : EnabledAll by old new) where
+  has_now : (f : Text) → is_some (held_in new f) ≡ is_some (held_in old f)
+  has_now f = go (held_in old f) (held_in new f) (h.at f)
     where
       go : (o o' : Option Feature) → Relates (Enabled (by f)) o o' → is_some o' ≡ is_some o
       go None None r = refl
@@ -77,8 +75,8 @@ module _ {S : Type 0} (old new : HashMap (Bor Text) Feature S) (none : (f e : Te
       go (Some a) None r = absurd r
       go (Some a) (Some b) r = refl
 
-  names_now : (f x : Text) → (table_in new).names f x ≡ (table_in old).names f x
-  names_now f x = go (value_at old f) (value_at new f) (h.at f)
+  names_now : (f x : Text) → (table_held new).names f x ≡ (table_held old).names f x
+  names_now f x = go (held_in old f) (held_in new f) (h.at f)
     where
       go : (o o' : Option Feature) → Relates (Enabled (by f)) o o' → option_map_or (λ v. has_text v.enables_features x) o' false ≡ option_map_or (λ v. has_text v.enables_features x) o false
       go None None r = refl
@@ -86,8 +84,8 @@ module _ {S : Type 0} (old new : HashMap (Bor Text) Feature S) (none : (f e : Te
       go (Some a) None r = absurd r
       go (Some a) (Some b) r = rw r.names
 
-  action_now : (f k : Text) → (table_in new).action f k ≡ (table_in old).action f k
-  action_now f k = go (value_at old f) (value_at new f) (h.at f)
+  action_now : (f k : Text) → (table_held new).action f k ≡ (table_held old).action f k
+  action_now f k = go (held_in old f) (held_in new f) (h.at f)
     where
       go : (o o' : Option Feature) → Relates (Enabled (by f)) o o' → option_map_or (λ v. action_at v.enables_deps k) o' None ≡ option_map_or (λ v. action_at v.enables_deps k) o None
       go None None r = refl
@@ -95,8 +93,13 @@ module _ {S : Type 0} (old new : HashMap (Bor Text) Feature S) (none : (f e : Te
       go (Some a) None r = absurd r
       go (Some a) (Some b) r = rw r.actions
 
-  enablers_now : (f e : Text) → (resolution_of new).enabled_by f e ≡ (is_some (value_at old f) && by f e)
-  enablers_now f e = go (value_at old f) (value_at new f) (h.at f) (none f e)
+-- the enablers that are set are the sources of edges
+module _ (old new : Slots Feature) (none : (f e : Text) → (resolution_held old).enabled_by f e ≡ false) (h : EnabledAll (λ q e. leads_at old e q && not (bytes_eq q e)) old new) where
+  abbrev by : Text → Text → Bool
+  by q e = leads_at old e q && not (bytes_eq q e)
+
+  enablers_now : (f e : Text) → (resolution_held new).enabled_by f e ≡ (is_some (held_in old f) && by f e)
+  enablers_now f e = go (held_in old f) (held_in new f) (h.at f) (none f e)
     where
       go : (o o' : Option Feature) → Relates (Enabled (by f)) o o' → option_map_or (λ v. has_text v.enabled_by e) o false ≡ false → option_map_or (λ v. has_text v.enabled_by e) o' false ≡ (is_some o && by f e)
       go None None r n = refl
@@ -115,11 +118,11 @@ module _ {S : Type 0} (old new : HashMap (Bor Text) Feature S) (none : (f e : Te
   leads-true None f l = absurd (false≢true l.0)
   leads-true (Some v) f l = elim (l.1) [ inl n ↦ or_left _ _ n | inr p ↦ or_right _ _ (is_plain-true _ p) ]
 
-  edge_is : (f e : Text) → (is_some (value_at old f) && by f e) ≡ true → Edge (table_in old) e f
+  edge_is : (f e : Text) → (is_some (held_in old f) && by f e) ≡ true → Edge (table_held old) e f
   edge_is f e w =
-      let a = and_parts (is_some (value_at old f)) (by f e) w in
+      let a = and_parts (is_some (held_in old f)) (by f e) w in
       let b = and_parts (leads_at old e f) (not (bytes_eq f e)) a.1 in
-      let l = leads_is (value_at old e) f b.0 in
+      let l = leads_is (held_in old e) f b.0 in
       record {
         source = l.0;
         target = a.0;
@@ -127,22 +130,22 @@ module _ {S : Type 0} (old new : HashMap (Bor Text) Feature S) (none : (f e : Te
         leads = l.1;
       }
 
-  edge-true : (f e : Text) → Edge (table_in old) e f → (is_some (value_at old f) && by f e) ≡ true
-  edge-true f e d = and_from _ _ d.target (and_from _ _ (leads-true (value_at old e) f (d.source, d.leads))
+  edge-true : (f e : Text) → Edge (table_held old) e f → (is_some (held_in old f) && by f e) ≡ true
+  edge-true f e d = and_from _ _ d.target (and_from _ _ (leads-true (held_in old e) f (d.source, d.leads))
       (ap not (false_from_ne_true _ (λ on. d.apart (sym ((bytes_eq-Decides f e).0 on))))))
 
-  unremoved : IsUnremoved (table_in old) (resolution_of new)
+  unremoved : IsUnremoved (table_held old) (resolution_held new)
   unremoved = record {
-    has = has_now;
-    names = names_now;
-    action = action_now;
+    has = has_now by old new h;
+    names = names_now by old new h;
+    action = action_now by old new h;
     enabled_by = λ f e. (λ y. edge_is f e (sym (enablers_now f e) ∙ y), λ d. enablers_now f e ∙ edge-true f e d);
   }
 
 -- the features without what dependencies have anyway
-module _ {S : Type 0} (entries : Text → List Entry) (old new : HashMap (Bor Text) Feature S) (h : ThinnedAll entries old new) where
-  has_thinned : (f : Text) → is_some (value_at new f) ≡ is_some (value_at old f)
-  has_thinned f = go (value_at old f) (value_at new f) (h.at f)
+module _ (entries : Text → List Entry) (old new : Slots Feature) (h : ThinnedAll entries old new) where
+  has_thinned : (f : Text) → is_some (held_in new f) ≡ is_some (held_in old f)
+  has_thinned f = go (held_in old f) (held_in new f) (h.at f)
     where
       go : (o o' : Option Feature) → Relates (Thinned entries) o o' → is_some o' ≡ is_some o
       go None None r = refl
@@ -150,8 +153,8 @@ module _ {S : Type 0} (entries : Text → List Entry) (old new : HashMap (Bor Te
       go (Some a) None r = absurd r
       go (Some a) (Some b) r = refl
 
-  names_thinned : (f x : Text) → (table_in new).names f x ≡ (table_in old).names f x
-  names_thinned f x = go (value_at old f) (value_at new f) (h.at f)
+  names_thinned : (f x : Text) → (table_held new).names f x ≡ (table_held old).names f x
+  names_thinned f x = go (held_in old f) (held_in new f) (h.at f)
     where
       go : (o o' : Option Feature) → Relates (Thinned entries) o o' → option_map_or (λ v. has_text v.enables_features x) o' false ≡ option_map_or (λ v. has_text v.enables_features x) o false
       go None None r = refl
@@ -159,8 +162,8 @@ module _ {S : Type 0} (entries : Text → List Entry) (old new : HashMap (Bor Te
       go (Some a) None r = absurd r
       go (Some a) (Some b) r = rw r.names
 
-  action_thinned : (f k : Text) → (table_in new).action f k ≡ option_map (without_redundant (first_target (entries k))) ((table_in old).action f k)
-  action_thinned f k = go (value_at old f) (value_at new f) (h.at f)
+  action_thinned : (f k : Text) → (table_held new).action f k ≡ option_map (without_redundant (first_target (entries k))) ((table_held old).action f k)
+  action_thinned f k = go (held_in old f) (held_in new f) (h.at f)
     where
       go : (o o' : Option Feature) → Relates (Thinned entries) o o' → option_map_or (λ v. action_at v.enables_deps k) o' None ≡ option_map (without_redundant (first_target (entries k))) (option_map_or (λ v. action_at v.enables_deps k) o None)
       go None None r = refl
@@ -169,9 +172,9 @@ module _ {S : Type 0} (entries : Text → List Entry) (old new : HashMap (Bor Te
       go (Some a) (Some b) r = r.actions k
 
   fresh_thinned : AreFresh old → AreFresh new
-  fresh_thinned fresh f v s = subst (λ o. IfSome o (IsFresh f)) s (go (value_at old f) (value_at new f) refl (h.at f))
+  fresh_thinned fresh f v s = subst (λ o. IfSome o (IsFresh f)) s (go (held_in old f) (held_in new f) refl (h.at f))
     where
-      go : (o o' : Option Feature) → value_at old f ≡ o → Relates (Thinned entries) o o' → IfSome o' (IsFresh f)
+      go : (o o' : Option Feature) → held_in old f ≡ o → Relates (Thinned entries) o o' → IfSome o' (IsFresh f)
       go None None s r = tt
       go None (Some b) s r = absurd r
       go (Some a) None s r = absurd r
@@ -180,9 +183,9 @@ module _ {S : Type 0} (entries : Text → List Entry) (old new : HashMap (Bor Te
           record { key = ap (λ q. q.now) r.key ∙ k.key; explicit = r.explicit ∙ k.explicit; enabled_by = ap (λ q. q.keys) r.enabled_by ∙ k.enabled_by; bins = ap (λ q. q.items) r.bins ∙ k.bins }
 
 -- the table with the implied features
-module _ {S : Type 0} (implied : Text → Bool) (old new : HashMap (Bor Text) Feature S) (h : ImpliesAll implied old new) where
-  has_after : (f : Text) → is_some (value_at new f) ≡ (is_some (value_at old f) || implied f)
-  has_after f = go (implied f) (value_at old f) (value_at new f) (h.at f)
+module _ (implied : Text → Bool) (old new : Slots Feature) (h : ImpliesAll implied old new) where
+  has_after : (f : Text) → is_some (held_in new f) ≡ (is_some (held_in old f) || implied f)
+  has_after f = go (implied f) (held_in old f) (held_in new f) (h.at f)
     where
       go : (t : Bool) (o o' : Option Feature) → Becomes t f o o' → is_some o' ≡ (is_some o || t)
       go true None None b = absurd b
@@ -191,8 +194,8 @@ module _ {S : Type 0} (implied : Text → Bool) (old new : HashMap (Bor Text) Fe
       go true (Some v) o' b = ap is_some b
       go false (Some v) o' b = ap is_some b
 
-  names_after : (f x : Text) → (table_in new).names f x ≡ (table_in old).names f x
-  names_after f x = go (implied f) (value_at old f) (value_at new f) (h.at f)
+  names_after : (f x : Text) → (table_held new).names f x ≡ (table_held old).names f x
+  names_after f x = go (implied f) (held_in old f) (held_in new f) (h.at f)
     where
       go : (t : Bool) (o o' : Option Feature) → Becomes t f o o' → option_map_or (λ v. has_text v.enables_features x) o' false ≡ option_map_or (λ v. has_text v.enables_features x) o false
       go true None None b = absurd b
@@ -201,8 +204,8 @@ module _ {S : Type 0} (implied : Text → Bool) (old new : HashMap (Bor Text) Fe
       go true (Some v) o' b = rw b
       go false (Some v) o' b = rw b
 
-  action_after : (f k : Text) → (table_in new).action f k ≡ cond (is_some (value_at old f)) ((table_in old).action f k) (cond (implied f && bytes_eq k f) (Some plain) None)
-  action_after f k = go (implied f) (value_at old f) (value_at new f) (h.at f)
+  action_after : (f k : Text) → (table_held new).action f k ≡ cond (is_some (held_in old f)) ((table_held old).action f k) (cond (implied f && bytes_eq k f) (Some plain) None)
+  action_after f k = go (implied f) (held_in old f) (held_in new f) (h.at f)
     where
       go : (t : Bool) (o o' : Option Feature) → Becomes t f o o' → option_map_or (λ v. action_at v.enables_deps k) o' None ≡ cond (is_some o) (option_map_or (λ v. action_at v.enables_deps k) o None) (cond (t && bytes_eq k f) (Some plain) None)
       go true None None b = absurd b
@@ -211,8 +214,8 @@ module _ {S : Type 0} (implied : Text → Bool) (old new : HashMap (Bor Text) Fe
       go true (Some v) o' b = rw b
       go false (Some v) o' b = rw b
 
-  enablers_after : ((f e : Text) → (resolution_of old).enabled_by f e ≡ false) → (f e : Text) → (resolution_of new).enabled_by f e ≡ false
-  enablers_after none f e = go (implied f) (value_at old f) (value_at new f) (h.at f) (none f e)
+  enablers_after : ((f e : Text) → (resolution_held old).enabled_by f e ≡ false) → (f e : Text) → (resolution_held new).enabled_by f e ≡ false
+  enablers_after none f e = go (implied f) (held_in old f) (held_in new f) (h.at f) (none f e)
     where
       go : (t : Bool) (o o' : Option Feature) → Becomes t f o o' → option_map_or (λ v. has_text v.enabled_by e) o false ≡ false → option_map_or (λ v. has_text v.enabled_by e) o' false ≡ false
       go true None None b n = absurd b
@@ -234,9 +237,9 @@ record IsTold (f : Text) (mark : Bool) (own : List Text) (v : Feature) : Type 0 
   explicit : v.explicit ≡ mark
 
 -- binaries change neither what features say nor which enable them
-module _ {S : Type 0} (own : Text → List Text) (old new : HashMap (Bor Text) Feature S) (h : RequiredAll own old new) where
-  has_required : (f : Text) → is_some (value_at new f) ≡ is_some (value_at old f)
-  has_required f = go (value_at old f) (value_at new f) (h.at f)
+module _ (own : Text → List Text) (old new : Slots Feature) (h : RequiredAll own old new) where
+  has_required : (f : Text) → is_some (held_in new f) ≡ is_some (held_in old f)
+  has_required f = go (held_in old f) (held_in new f) (h.at f)
     where
       go : (o o' : Option Feature) → Relates (Required (own f)) o o' → is_some o' ≡ is_some o
       go None None r = refl
@@ -244,8 +247,8 @@ module _ {S : Type 0} (own : Text → List Text) (old new : HashMap (Bor Text) F
       go (Some a) None r = absurd r
       go (Some a) (Some b) r = refl
 
-  names_required : (f x : Text) → (table_in new).names f x ≡ (table_in old).names f x
-  names_required f x = go (value_at old f) (value_at new f) (h.at f)
+  names_required : (f x : Text) → (table_held new).names f x ≡ (table_held old).names f x
+  names_required f x = go (held_in old f) (held_in new f) (h.at f)
     where
       go : (o o' : Option Feature) → Relates (Required (own f)) o o' → option_map_or (λ v. has_text v.enables_features x) o' false ≡ option_map_or (λ v. has_text v.enables_features x) o false
       go None None r = refl
@@ -253,8 +256,8 @@ module _ {S : Type 0} (own : Text → List Text) (old new : HashMap (Bor Text) F
       go (Some a) None r = absurd r
       go (Some a) (Some b) r = rw r.names
 
-  action_required : (f k : Text) → (table_in new).action f k ≡ (table_in old).action f k
-  action_required f k = go (value_at old f) (value_at new f) (h.at f)
+  action_required : (f k : Text) → (table_held new).action f k ≡ (table_held old).action f k
+  action_required f k = go (held_in old f) (held_in new f) (h.at f)
     where
       go : (o o' : Option Feature) → Relates (Required (own f)) o o' → option_map_or (λ v. action_at v.enables_deps k) o' None ≡ option_map_or (λ v. action_at v.enables_deps k) o None
       go None None r = refl
@@ -262,8 +265,8 @@ module _ {S : Type 0} (own : Text → List Text) (old new : HashMap (Bor Text) F
       go (Some a) None r = absurd r
       go (Some a) (Some b) r = rw r.actions
 
-  enablers_required : (f e : Text) → (resolution_of new).enabled_by f e ≡ (resolution_of old).enabled_by f e
-  enablers_required f e = go (value_at old f) (value_at new f) (h.at f)
+  enablers_required : (f e : Text) → (resolution_held new).enabled_by f e ≡ (resolution_held old).enabled_by f e
+  enablers_required f e = go (held_in old f) (held_in new f) (h.at f)
     where
       go : (o o' : Option Feature) → Relates (Required (own f)) o o' → option_map_or (λ v. has_text v.enabled_by e) o' false ≡ option_map_or (λ v. has_text v.enabled_by e) o false
       go None None r = refl
@@ -271,7 +274,7 @@ module _ {S : Type 0} (own : Text → List Text) (old new : HashMap (Bor Text) F
       go (Some a) None r = absurd r
       go (Some a) (Some b) r = rw r.enabled_by
 
-  unremoved_required : (t : Table) → IsUnremoved t (resolution_of old) → IsUnremoved t (resolution_of new)
+  unremoved_required : (t : Table) → IsUnremoved t (resolution_held old) → IsUnremoved t (resolution_held new)
   unremoved_required t u = record {
     has = λ f. has_required f ∙ u.has f;
     names = λ f x. names_required f x ∙ u.names f x;
@@ -279,8 +282,8 @@ module _ {S : Type 0} (own : Text → List Text) (old new : HashMap (Bor Text) F
     enabled_by = λ f e. (λ y. (u.enabled_by f e).0 (sym (enablers_required f e) ∙ y), λ d. enablers_required f e ∙ (u.enabled_by f e).1 d);
   }
 
-  told_required : (f : Text) (mark : Bool) → IfSome (value_at old f) (IsMarked f mark) → IfSome (value_at new f) (IsTold f mark (own f))
-  told_required f mark = go (value_at old f) (value_at new f) (h.at f)
+  told_required : (f : Text) (mark : Bool) → IfSome (held_in old f) (IsMarked f mark) → IfSome (held_in new f) (IsTold f mark (own f))
+  told_required f mark = go (held_in old f) (held_in new f) (h.at f)
     where
       go : (o o' : Option Feature) → Relates (Required (own f)) o o' → IfSome o (IsMarked f mark) → IfSome o' (IsTold f mark (own f))
       go None None r m = tt
@@ -292,8 +295,8 @@ module _ {S : Type 0} (own : Text → List Text) (old new : HashMap (Bor Text) F
         explicit = r.explicit ∙ m.explicit;
       }
 
-  pub keyed_required : IsKeyed old → IsKeyed new
-  keyed_required k f = go (value_at old f) (value_at new f) (h.at f) (k f)
+  pub keyed_required : AreKeyed old → AreKeyed new
+  keyed_required k f = go (held_in old f) (held_in new f) (h.at f) (k f)
     where
       go : (o o' : Option Feature) → Relates (Required (own f)) o o' → IfSome o (λ v. v.key.now ≡ f) → IfSome o' (λ v. v.key.now ≡ f)
       go None None r m = tt
@@ -309,10 +312,10 @@ same_recorded a b e = subst (SameRecorded a) e (own a)
     own (Some r) = (refl, λ t. refl)
 
 -- each feature stands under its own key from the reading of lists on
-pub keyed_from : {S : Type 0} (implied : Text → Bool) (by : Text → Text → Bool) (read middle last : HashMap (Bor Text) Feature S) → AreFresh read → ImpliesAll implied read middle → EnabledAll by middle last → IsKeyed last
-keyed_from implied by read middle last fresh i e f = enabled_one (value_at middle f) (value_at last f) (e.at f) (implied_one (implied f) (value_at read f) (value_at middle f) refl (i.at f))
+pub keyed_from : (implied : Text → Bool) (by : Text → Text → Bool) (read middle last : Slots Feature) → AreFresh read → ImpliesAll implied read middle → EnabledAll by middle last → AreKeyed last
+keyed_from implied by read middle last fresh i e f = enabled_one (held_in middle f) (held_in last f) (e.at f) (implied_one (implied f) (held_in read f) (held_in middle f) refl (i.at f))
   where
-    implied_one : (b : Bool) (o o' : Option Feature) → value_at read f ≡ o → Becomes b f o o' → IfSome o' (λ v. v.key.now ≡ f)
+    implied_one : (b : Bool) (o o' : Option Feature) → held_in read f ≡ o → Becomes b f o o' → IfSome o' (λ v. v.key.now ≡ f)
     implied_one true None None s b = tt
     implied_one true None (Some v) s b = b.key
     implied_one false None o' s b = subst (λ o. IfSome o (λ v. v.key.now ≡ f)) (sym b) tt
@@ -325,12 +328,11 @@ keyed_from implied by read middle last fresh i e f = enabled_one (value_at middl
     enabled_one (Some v) None r k = absurd r
     enabled_one (Some v) (Some w) r k = ap (λ q. q.now) r.key ∙ k
 
-module _ {S H : Type 0} (listed : Listed) (entries : List Entry) (own : Text → List Text) (mentions : Mentions S H) (thinned implied enabled : HashMap (Bor Text) Feature S) (a : Features S H)
-    (r : IsRead listed (table_in mentions.features) (value_at mentions.acted)) (fresh : AreFresh mentions.features)
-    (thins : (entries : Text → List Entry) → IsRecordOf a.dependencies entries → ThinnedAll entries mentions.features thinned) (i : ImpliesAll (is_offered mentions.acted entries) thinned implied)
-    (e : EnabledAll (λ q e. leads_at implied e q && not (bytes_eq q e)) implied enabled) (b : RequiredAll own enabled a.features)
-    (recorded : ((k : Text) → is_mentioned_in mentions k ≡ is_mentioned listed k) → (k : Text) → recorded_at a.dependencies k ≡ recorded_of (entries_at listed entries k))
-    (hidden : a.hidden_features.entries ≡ []) (removed : a.removed_hidden_features ≡ false) where
+module _ (wanted : Bool) (listed : Listed) (entries : List Entry) (own : Text → List Text) (mentions : Mentions) (thinned implied enabled last : Slots Feature) (deps : Slots FeatureDependency)
+    (r : IsRead listed (table_held mentions.features) (sorted_at mentions.acted)) (fresh : AreFresh mentions.features)
+    (thins : (entries : Text → List Entry) → IsRecordOf deps entries → ThinnedAll entries mentions.features thinned) (i : ImpliesAll (is_offered mentions.acted entries) thinned implied)
+    (e : EnabledAll (λ q e. wanted && (leads_at implied e q && not (bytes_eq q e))) implied enabled) (b : RequiredAll own enabled last)
+    (recorded : ((k : Text) → is_mentioned_in mentions k ≡ is_mentioned listed k) → (k : Text) → recorded_at deps k ≡ recorded_of (entries_at listed entries k)) where
   abbrev t : Table
   t = table_of listed entries
 
@@ -347,21 +349,21 @@ module _ {S H : Type 0} (listed : Listed) (entries : List Entry) (own : Text →
   abbrev left : Text → Action → Action
   left k = without_redundant (first_target (entries_at listed entries k))
 
-  has_still : (f : Text) → is_some (value_at thinned f) ≡ is_explicit listed f
+  has_still : (f : Text) → is_some (held_in thinned f) ≡ is_explicit listed f
   has_still f = has_thinned (entries_at listed entries) mentions.features thinned less f ∙ r.has f
 
-  action_still : (f k : Text) → (table_in thinned).action f k ≡ option_map (left k) (joined_action listed f k)
+  action_still : (f k : Text) → (table_held thinned).action f k ≡ option_map (left k) (joined_action listed f k)
   action_still f k = action_thinned (entries_at listed entries) mentions.features thinned less f k ∙ ap (option_map (left k)) (r.action f k)
 
   offered_is : (f : Text) → is_offered mentions.acted entries f ≡ (list_any (is_optional_at f) entries && not (is_reserved listed f))
   offered_is f = ap (λ b. list_any (is_optional_at f) entries && not b) (r.reserved f)
 
-  same : Same (table_in implied) t
+  same : Same (table_held implied) t
   same = record {
     has = λ f. has_after (is_offered mentions.acted entries) thinned implied i f ∙ ap (λ b. b || is_offered mentions.acted entries f) (has_still f) ∙ ap (λ b. is_explicit listed f || b) (offered_is f) ∙ or_not (is_explicit listed f) _;
     names = λ f x. names_after (is_offered mentions.acted entries) thinned implied i f x ∙ names_thinned (entries_at listed entries) mentions.features thinned less f x ∙ r.names f x;
     action = λ f k.
-        action_after (is_offered mentions.acted entries) thinned implied i f k ∙ ap (λ b. cond b ((table_in thinned).action f k) (cond (is_offered mentions.acted entries f && bytes_eq k f) (Some plain) None)) (has_still f)
+        action_after (is_offered mentions.acted entries) thinned implied i f k ∙ ap (λ b. cond b ((table_held thinned).action f k) (cond (is_offered mentions.acted entries f && bytes_eq k f) (Some plain) None)) (has_still f)
         ∙ ap (λ o. cond (is_explicit listed f) o (cond (is_offered mentions.acted entries f && bytes_eq k f) (Some plain) None)) (action_still f k)
         ∙ ap (λ b. cond (is_explicit listed f) (option_map (left k) (joined_action listed f k)) (cond (b && bytes_eq k f) (Some plain) None)) (offered_is f)
         ∙ go (left k) refl (is_explicit listed f) (joined_action listed f k) (list_any (is_optional_at f) entries && not (is_reserved listed f)) (bytes_eq k f);
@@ -373,54 +375,88 @@ module _ {S H : Type 0} (listed : Listed) (entries : List Entry) (own : Text →
       go w p false o true false = refl
       go w p false o false b = refl
 
-  no_enablers : (f e : Text) → (resolution_of thinned).enabled_by f e ≡ false
-  no_enablers f e = go (value_at thinned f) refl
+  no_enablers : (f e : Text) → (resolution_held thinned).enabled_by f e ≡ false
+  no_enablers f e = go (held_in thinned f) refl
     where
-      go : (o : Option Feature) → value_at thinned f ≡ o → option_map_or (λ v. has_text v.enabled_by e) o false ≡ false
+      go : (o : Option Feature) → held_in thinned f ≡ o → option_map_or (λ v. has_text v.enabled_by e) o false ≡ false
       go None s = refl
       go (Some v) s = none_in v.enabled_by (fresh_still f v s).enabled_by e
 
-  pub whole : IsUnremoved t (resolution_of a.features)
-  whole = unremoved_required own enabled a.features b t (unremoved_alike (table_in implied) t (resolution_of enabled) same
-      (unremoved implied enabled (enablers_after (is_offered mentions.acted entries) thinned implied i no_enablers) e))
+  pub whole : wanted ≡ true → IsUnremoved t (resolution_held last)
+  whole wants = unremoved_required own enabled last b t (unremoved_alike (table_held implied) t (resolution_held enabled) same
+      (unremoved implied enabled (enablers_after (is_offered mentions.acted entries) thinned implied i no_enablers)
+      (subst (λ w. EnabledAll (λ q e. w && (leads_at implied e q && not (bytes_eq q e))) implied enabled) wants e)))
 
-  marked : (f : Text) → IfSome (value_at enabled f) (IsMarked f (is_explicit listed f))
-  marked f = later (value_at implied f) (value_at enabled f) (e.at f) (middle (is_offered mentions.acted entries f) (value_at thinned f) (value_at implied f) refl (i.at f))
+  -- whatever enablers are set, the features make the table
+  abbrev set : Text → Text → Bool
+  set q e = wanted && (leads_at implied e q && not (bytes_eq q e))
+
+  pub same_last : Same (table_held last) t
+  same_last = record {
+    has = λ f. has_required own enabled last b f ∙ has_now set implied enabled e f ∙ same.has f;
+    names = λ f x. names_required own enabled last b f x ∙ names_now set implied enabled e f x ∙ same.names f x;
+    action = λ f k. action_required own enabled last b f k ∙ action_now set implied enabled e f k ∙ same.action f k;
+  }
+
+  marked : (f : Text) → IfSome (held_in enabled f) (IsMarked f (is_explicit listed f))
+  marked f = later (held_in implied f) (held_in enabled f) (e.at f) (middle (is_offered mentions.acted entries f) (held_in thinned f) (held_in implied f) refl (i.at f))
     where
-      listed_one : (v : Feature) → value_at thinned f ≡ Some v → IsMarked f (is_explicit listed f) v
+      listed_one : (v : Feature) → held_in thinned f ≡ Some v → IsMarked f (is_explicit listed f) v
       listed_one v s =
           let k = fresh_still f v s in
           record { key = k.key; bins = k.bins; explicit = k.explicit ∙ sym (ap is_some s) ∙ has_still f }
 
-      middle : (b : Bool) (o o' : Option Feature) → value_at thinned f ≡ o → Becomes b f o o' → IfSome o' (IsMarked f (is_explicit listed f))
+      middle : (b : Bool) (o o' : Option Feature) → held_in thinned f ≡ o → Becomes b f o o' → IfSome o' (IsMarked f (is_explicit listed f))
       middle true None None s b = absurd b
       middle true None (Some v) s b = record { key = b.key; bins = b.bins; explicit = b.explicit ∙ sym (ap is_some s) ∙ has_still f }
       middle false None o' s b = subst (λ o. IfSome o (IsMarked f (is_explicit listed f))) (sym b) tt
       middle true (Some v) o' s b = subst (λ o. IfSome o (IsMarked f (is_explicit listed f))) (sym b) (listed_one v s)
       middle false (Some v) o' s b = subst (λ o. IfSome o (IsMarked f (is_explicit listed f))) (sym b) (listed_one v s)
 
-      later : (o o' : Option Feature) → Relates (Enabled (λ q. leads_at implied q f && not (bytes_eq f q))) o o' → IfSome o (IsMarked f (is_explicit listed f)) → IfSome o' (IsMarked f (is_explicit listed f))
+      later : (o o' : Option Feature) → Relates (Enabled (λ q. wanted && (leads_at implied q f && not (bytes_eq f q)))) o o' → IfSome o (IsMarked f (is_explicit listed f)) → IfSome o' (IsMarked f (is_explicit listed f))
       later None None k m = tt
       later None (Some w) k m = absurd k
       later (Some v) None k m = absurd k
       later (Some v) (Some w) k m = record { key = ap (λ q. q.now) k.key ∙ m.key; bins = ap (λ q. q.items) k.bins ∙ m.bins; explicit = k.explicit ∙ m.explicit }
 
-  told : (f : Text) → IfSome (value_at a.features f) (IsTold f (is_explicit listed f) (own f))
-  told f = told_required own enabled a.features b f (is_explicit listed f) (marked f)
+  told : (f : Text) → IfSome (held_in last f) (IsTold f (is_explicit listed f) (own f))
+  told f = told_required own enabled last b f (is_explicit listed f) (marked f)
 
-  pub explicit_told : (f : Text) → IfSome (value_at a.features f) (λ v. v.explicit ≡ is_explicit listed f)
-  explicit_told f = go (value_at a.features f) (told f)
+  pub explicit_told : (f : Text) → IfSome (held_in last f) (λ v. v.explicit ≡ is_explicit listed f)
+  explicit_told f = go (held_in last f) (told f)
     where
       go : (o : Option Feature) → IfSome o (IsTold f (is_explicit listed f) (own f)) → IfSome o (λ v. v.explicit ≡ is_explicit listed f)
       go None k = tt
       go (Some v) k = k.explicit
 
-  pub bins_told : (f : Text) → IfSome (value_at a.features f) (λ v. map (λ b. b.now) v.required_by_bins.items ≡ own f)
-  bins_told f = go (value_at a.features f) (told f)
+  pub bins_told : (f : Text) → IfSome (held_in last f) (λ v. map (λ b. b.now) v.required_by_bins.items ≡ own f)
+  bins_told f = go (held_in last f) (told f)
     where
       go : (o : Option Feature) → IfSome o (IsTold f (is_explicit listed f) (own f)) → IfSome o (λ v. map (λ b. b.now) v.required_by_bins.items ≡ own f)
       go None k = tt
       go (Some v) k = k.bins
 
-  pub dependencies_told : (k : Text) → SameRecorded (recorded_at a.dependencies k) (recorded_of (entries_at listed entries k))
-  dependencies_told k = same_recorded (recorded_at a.dependencies k) (recorded_of (entries_at listed entries k)) (recorded mentioned k)
+  pub dependencies_told : (k : Text) → SameRecorded (recorded_at deps k) (recorded_of (entries_at listed entries k))
+  dependencies_told k = same_recorded (recorded_at deps k) (recorded_of (entries_at listed entries k)) (recorded mentioned k)
+
+-- a list that has the same under each name
+module _ (s : Slots Feature) (vs : List Feature) (same_held : (f : Text) → feature_at vs f ≡ held_in s f) where
+  pub unremoved_among : (t : Table) → IsUnremoved t (resolution_held s) → IsUnremoved t (resolution_among vs)
+  unremoved_among t u = record {
+    has = λ f. ap is_some (same_held f) ∙ u.has f;
+    names = λ f x. ap (λ o. option_map_or (λ v. has_text v.enables_features x) o false) (same_held f) ∙ u.names f x;
+    action = λ f k. ap (λ o. option_map_or (λ v. action_at v.enables_deps k) o None) (same_held f) ∙ u.action f k;
+    enabled_by = λ f e.
+        let now : (resolution_among vs).enabled_by f e ≡ (resolution_held s).enabled_by f e = ap (λ o. option_map_or (λ v. has_text v.enabled_by e) o false) (same_held f) in
+        (λ y. (u.enabled_by f e).0 (sym now ∙ y), λ d. now ∙ (u.enabled_by f e).1 d);
+  }
+
+  pub table_among : (t : Table) → Same (table_held s) t → AreTable t vs
+  table_among t u = record {
+    has = λ f. ap is_some (same_held f) ∙ u.has f;
+    names = λ f x. ap (λ o. option_map_or (λ v. has_text v.enables_features x) o false) (same_held f) ∙ u.names f x;
+    action = λ f k. ap (λ o. option_map_or (λ v. action_at v.enables_deps k) o None) (same_held f) ∙ u.action f k;
+  }
+
+  pub told_among : (P : Feature → Type 0) (f : Text) → IfSome (held_in s f) P → IfSome (feature_at vs f) P
+  told_among P f before = subst (λ o. IfSome o P) (sym (same_held f)) before

@@ -11,7 +11,7 @@ use Rattle.std.specs.Ordering.{is_eq}
 use Rattle.cargo_toml_dependencies.specs.Dependencies.{is_optional, package_of}
 use Rattle.cargo_toml_graph.specs.Action.{Text}
 use Rattle.cargo_toml_graph.specs.Admitted.{Listed}
-use Rattle.cargo_toml_resolve.specs.Recorded.{Entry, Recorded, target_cmp, is_mentioned, counting, entries_at, recorded_of}
+use Rattle.cargo_toml_features.specs.Recorded.{Entry, Recorded, target_cmp, is_mentioned, counting, entries_at, recorded_of}
 use Rattle.cargo_toml_resolve.specs.Recording.{recorded_with, recorded_after}
 
 abbrev at_key : Text → Entry → Bool

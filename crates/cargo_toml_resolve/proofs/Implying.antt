@@ -1,29 +1,32 @@
 -- Features implied one after another.
-use Rattle.std.proofs.Common.{◌≡◌, ◌&&◌, ◌||◌, not, Bool, true, false, cond, List, [], ◌∷◌, ◌++◌, Option, Some, None, is_some, option_map, bytes_eq, Bor, refl, sym, ap, subst, ◌∙◌}
+use Rattle.std.proofs.Common.{◌≡◌, ◌<◌, ◌&&◌, ◌||◌, not, ℕ, Bool, true, false, cond, List, [], ◌∷◌, ◌++◌, length, map, get_or, IsTrue, Option, Some, None, is_some, option_map, bytes_eq, Bor, refl, sym, ap, subst, ◌∙◌}
 use Rattle.std.proofs.Math.Bool.{and-or_distrib_right}
-use Rattle.std.proofs.lemmas.Bool.{false≢true}
-use Rattle.std.proofs.lemmas.List.Folds.{list_any-append}
+use Rattle.std.proofs.lemmas.Bool.{and_from, false≢true}
+use Rattle.std.proofs.lemmas.List.{get_or-map, length-map}
+use Rattle.std.proofs.lemmas.List.Folds.{list_any-append, list_any_at}
 use Rattle.std.proofs.lemmas.Slice.Eq.{bytes_eq-Decides}
 use Rattle.std.proofs.lemmas.Map.Text.{btree_map_updates_str}
 use Rattle.std.specs.BTreeMap as tree
 use Rattle.std.specs.BTreeMap.{BTreeMap}
 use Rattle.std.specs.BTreeSet.{BTreeSet}
 use Rattle.std.specs.Cmp.Lexicographic.{slice_cmp}
-use Rattle.std.specs.HashMap.{HashMap}
 use Rattle.std.specs.List.{list_any}
 use Rattle.std.specs.Map.{lookup}
 use Rattle.std.specs.Option.{IsSomeAnd, UnwrapsOrElse}
 use Rattle.std.specs.Ordering.{nat_cmp}
-use Rattle.cargo_toml_dependencies.specs.Dependencies.{is_optional}
-use Rattle.cargo_toml_resolve.specs.declared.features.DepAction.{DepAction}
-use Rattle.cargo_toml_resolve.specs.declared.features.Feature.{Feature}
+use Rattle.cargo_toml_dependencies.specs.Dependencies.{dependency_meaning, is_optional}
+use Rattle.cargo_toml_features.specs.declared.features.DepAction.{DepAction}
+use Rattle.cargo_toml_features.specs.declared.features.Feature.{Feature}
+use Rattle.cargo_toml_features.specs.declared.features.ParseDependency.{ParseDependency}
 use Rattle.cargo_toml_graph.specs.Action.{Text}
 use Rattle.cargo_toml_resolve.specs.Implying.{IsImplied, Becomes, ImpliesAll, is_optional_at, is_offered, is_reserved_in}
-use Rattle.cargo_toml_resolve.specs.Recorded.{Entry}
-use Rattle.cargo_toml_resolve.specs.Resolved.{plain}
-use Rattle.cargo_toml_resolve.specs.Views.{action_of, action_at, value_at}
+use Rattle.cargo_toml_features.specs.Recorded.{Entry}
+use Rattle.cargo_toml_features.specs.Resolved.{plain}
+use Rattle.cargo_toml_features.specs.Views.{action_of, action_at, entry_of}
+use Rattle.cargo_toml_resolve.specs.Slots.{held_in}
+use Rattle.cargo_toml_resolve.specs.declared.slots.Slots.{Slots}
 use Rattle.cargo_toml_graph.proofs.Texts.{bytes_eq_sym}
-use Rattle.cargo_toml_resolve.proofs.TextKeys.{none_in}
+use Rattle.cargo_toml_features.proofs.TextKeys.{none_in}
 
 -- what a list of entries holds at a text
 abbrev feature_at : List (Bor Text × Feature) → Text → Option Feature
@@ -60,40 +63,41 @@ twice true s q (Some v) b c h k = kept s q b c v h k
 twice false true q (Some v) b c h k = kept true q b c v h k
 twice false false q (Some v) b c h k = kept false q b c v h k
 
-module _ {S : Type 0} where
-  implied_more : (p r s : Text → Bool) (a b c : HashMap (Bor Text) Feature S) → ((q : Text) → s q ≡ (p q || r q)) → ImpliesAll p a b → ImpliesAll r b c → ImpliesAll s a c
-  implied_more p r s a b c same h k = record { at = λ q. subst (λ t. Becomes t q (value_at a q) (value_at c q)) (sym (same q)) (twice (p q) (r q) q (value_at a q) (value_at b q) (value_at c q) (h.at q) (k.at q)) }
+module _ where
+  implied_more : (p r s : Text → Bool) (a b c : Slots Feature) → ((q : Text) → s q ≡ (p q || r q)) → ImpliesAll p a b → ImpliesAll r b c → ImpliesAll s a c
+  implied_more p r s a b c same h k = record { at = λ q. subst (λ t. Becomes t q (held_in a q) (held_in c q)) (sym (same q)) (twice (p q) (r q) q (held_in a q) (held_in b q) (held_in c q) (h.at q) (k.at q)) }
 
   -- the entries es, and then e
-  pub implied_next : (acted : HashMap (Bor Text) Bool S) (es : List Entry) (e : Entry) (a b c : HashMap (Bor Text) Feature S)
+  pub implied_next : (acted : BTreeMap (Bor Text) Bool) (es : List Entry) (e : Entry) (a b c : Slots Feature)
       → ImpliesAll (is_offered acted es) a b → ImpliesAll (is_offered acted (e ∷ [])) b c → ImpliesAll (is_offered acted (es ++ e ∷ [])) a c
   implied_next acted es e a b c = implied_more (is_offered acted es) (is_offered acted (e ∷ [])) (is_offered acted (es ++ e ∷ [])) a b c
       (λ q. ap (λ t. t && not (is_reserved_in acted q)) (list_any-append (is_optional_at q) es (e ∷ [])) ∙ and-or_distrib_right (list_any (is_optional_at q) es) (list_any (is_optional_at q) (e ∷ [])) (not (is_reserved_in acted q)))
 
-  -- the optional entry e implies a feature where none has its key; the map is told by its entries, since it has no name after `entry`
-  pub implied_here : (e : Entry) (acted : HashMap (Bor Text) Bool S) (m : HashMap (Bor Text) Feature S) (new : List (Bor Text × Feature)) (w : Feature)
-      → ((q : Text) → bytes_eq e.key q ≡ false → feature_at new q ≡ feature_at m.entries q)
-      → feature_at new e.key ≡ Some w
-      → UnwrapsOrElse (feature_at m.entries e.key) (IsImplied e.key) w
-      → is_optional e.dependency ≡ true → is_reserved_in acted e.key ≡ false
-      → (q : Text) → Becomes (is_offered acted (e ∷ []) q) q (value_at m q) (feature_at new q)
-  implied_here e acted m new w others there is optional free q = go (bytes_eq e.key q) refl
+  -- the feature of the key is put where none is
+  pub implied_put : (key : Text) (m n : Slots Feature) (w : Feature) → held_in m key ≡ None → IsImplied key w
+      → ((q : Text) → held_in n q ≡ cond (bytes_eq q key) (Some w) (held_in m q)) → ImpliesAll (λ q. bytes_eq q key) m n
+  implied_put key m n w none is put = record { at = λ q. go q (bytes_eq q key) refl }
     where
-      offered : is_offered acted (e ∷ []) e.key ≡ true
-      offered =
-          let self = (bytes_eq-Decides e.key e.key).1 refl in
-          rw (self, optional, free)
+      go : (q : Text) (t : Bool) → bytes_eq q key ≡ t → Becomes (bytes_eq q key) q (held_in m q) (held_in n q)
+      go q true on = subst (λ v. Becomes (bytes_eq v key) v (held_in m v) (held_in n v)) (sym ((bytes_eq-Decides q key).0 on)) at_key
+        where
+          self : bytes_eq key key ≡ true
+          self = (bytes_eq-Decides key key).1 refl
 
-      here : (o : Option Feature) → UnwrapsOrElse o (IsImplied e.key) w → Becomes true e.key o (Some w)
-      here None i = i
-      here (Some v) h = ap Some h
+          at_key : Becomes (bytes_eq key key) key (held_in m key) (held_in n key)
+          at_key = subst (λ t. Becomes t key (held_in m key) (held_in n key)) (sym self)
+              (subst (λ o. Becomes true key o (held_in n key)) (sym none)
+              (subst (Becomes true key None) (sym (put key ∙ ap (λ t. cond t (Some w) (held_in m key)) self)) is))
+      go q false off = subst (Becomes (bytes_eq q key) q (held_in m q)) (sym (put q ∙ ap (λ t. cond t (Some w) (held_in m q)) off))
+          (stays (bytes_eq q key) q (held_in m q) (λ y. absurd (false≢true (sym off ∙ y))))
 
-      go : (t : Bool) → bytes_eq e.key q ≡ t → Becomes (is_offered acted (e ∷ []) q) q (value_at m q) (feature_at new q)
-      go true on = subst (λ v. Becomes (is_offered acted (e ∷ []) v) v (value_at m v) (feature_at new v)) ((bytes_eq-Decides e.key q).0 on)
-          (subst (λ t. Becomes t e.key (value_at m e.key) (feature_at new e.key)) (sym offered)
-          (subst (Becomes true e.key (value_at m e.key)) (sym there) (here (value_at m e.key) is)))
-      go false off = subst (Becomes (is_offered acted (e ∷ []) q) q (value_at m q)) (sym (others q off))
-          (stays (is_offered acted (e ∷ []) q) q (value_at m q) (λ y. absurd (false≢true (sym (ap (λ t. ((t && is_optional e.dependency) || false) && not (is_reserved_in acted q)) off) ∙ y))))
+  -- where the key has a feature, it stays
+  pub implied_there : (key : Text) (m : Slots Feature) → is_some (held_in m key) ≡ true → ImpliesAll (λ q. bytes_eq q key) m m
+  implied_there key m there = record { at = λ q. stays (bytes_eq q key) q (held_in m q) (λ y. subst (λ v. is_some (held_in m v) ≡ true) (sym ((bytes_eq-Decides q key).0 y)) there) }
+
+  -- an entry that isn't optional, or is reserved, implies nothing
+  pub offers_none : (e : Entry) (acted : BTreeMap (Bor Text) Bool) (m : Slots Feature) → ((q : Text) → is_offered acted (e ∷ []) q ≡ false) → ImpliesAll (is_offered acted (e ∷ [])) m m
+  offers_none e acted m off = record { at = λ q. stays (is_offered acted (e ∷ []) q) q (held_in m q) (λ y. absurd (false≢true (sym (off q) ∙ y))) }
 
 -- the one plain action
 pub plain_made : (key : Text) (m n : BTreeMap (Bor Text) DepAction) (s : BTreeSet (Bor Text)) → m.entries ≡ [] → s.keys ≡ []
@@ -107,3 +111,10 @@ plain_made key m n s none empty u k =
     go : (t : Bool) → option_map action_of (cond t (Some (record { is_conditional = false; is_dep_only = false; dep_features = s })) None) ≡ cond t (Some plain) None
     go true = λ i. Some (record { is_conditional = false; is_dep_only = false; features = λ x. none_in s empty x i })
     go false = refl
+
+-- an optional entry is among those of its key
+pub offered_there : (es : List ParseDependency) (i : ℕ) (p : ParseDependency) → i < length es → p ≡ get_or es i p → IsTrue (is_optional (dependency_meaning p.dep.now))
+    → IsTrue (list_any (is_optional_at p.key.now) (map entry_of es))
+offered_there es i p below is optional =
+    list_any_at (is_optional_at p.key.now) (map entry_of es) i (entry_of p) (subst (λ n. i < n) (sym (length-map es entry_of)) below)
+    (ap (is_optional_at p.key.now) (get_or-map entry_of es i p (entry_of p) below ∙ ap entry_of (sym is)) ∙ and_from _ _ ((bytes_eq-Decides p.key.now p.key.now).1 refl) optional)

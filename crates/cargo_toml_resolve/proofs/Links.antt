@@ -1,25 +1,28 @@
 -- Links gathered one after another.
-use Rattle.std.proofs.Common.{◌≡◌, ℕ, ◌+◌, ◌<◌, take, length, get_or, ◌&&◌, ◌||◌, not, Bool, true, false, List, [], ◌∷◌, ◌++◌, map, Option, Some, None, is_some, option_map, bytes_eq, Bor, refl, sym, ap, ap₂, ◌∙◌}
-use Rattle.std.proofs.Math.Bool.{or-false, or_assoc, and-false, and-or_distrib_right}
+use Rattle.std.proofs.Common.{◌≡◌, ℕ, ◌+◌, ◌<◌, take, length, get_or, ◌&&◌, ◌||◌, not, Bool, true, false, List, [], ◌∷◌, ◌++◌, map, Option, Some, None, is_some, option_map, bytes_eq, Bor, refl, sym, ap, ap₂, subst, ◌∙◌}
+use Rattle.std.proofs.Math.Bool.{or-false, or_assoc, and-or_distrib_right}
 use Rattle.std.proofs.lemmas.List.Folds.{list_any-append, list_any_more}
 use Rattle.std.proofs.lemmas.Slice.Eq.{bytes_eq-Decides}
-use Rattle.std.proofs.lemmas.List.{map-append}
+use Rattle.std.proofs.lemmas.List.{length-map, map-append}
 use Rattle.std.proofs.lemmas.Map.Text.{is_eq-slice_cmp}
 use Rattle.std.proofs.lemmas.Map.Made.{is_some-lookup}
 use Rattle.std.specs.BTreeMap.{BTreeMap, is_at}
-use Rattle.std.specs.HashMap.{HashMap}
 use Rattle.std.specs.Option.{option_map_or}
 use Rattle.std.specs.Cmp.Lexicographic.{slice_cmp}
 use Rattle.std.specs.List.{list_any}
 use Rattle.std.specs.Map.{lookup}
 use Rattle.std.specs.Map.Iter.{deref_pair}
 use Rattle.std.specs.Ordering.{nat_cmp}
-use Rattle.cargo_toml_resolve.specs.declared.features.DepAction.{DepAction}
-use Rattle.cargo_toml_resolve.specs.declared.features.Feature.{Feature}
+use Rattle.cargo_toml_features.specs.declared.features.DepAction.{DepAction}
+use Rattle.cargo_toml_features.specs.declared.features.Feature.{Feature}
 use Rattle.cargo_toml_resolve.specs.declared.enable.Link.{Link}
 use Rattle.cargo_toml_graph.specs.Action.{Text, Action}
-use Rattle.cargo_toml_resolve.specs.Enabling.{is_plain, leads, leads_at, is_linked, AddsLinks}
-use Rattle.cargo_toml_resolve.specs.Views.{action_of, action_at, value_at}
+use Rattle.cargo_toml_resolve.specs.Enabling.{is_plain, leads, is_linked, AddsLinks}
+use Rattle.cargo_toml_features.specs.Views.{action_of, action_at}
+use Rattle.cargo_toml_resolve.specs.Slots.{held_among, names_in}
+use Rattle.cargo_toml_resolve.specs.declared.slots.Slots.{Slots}
+use Rattle.cargo_toml_resolve.proofs.PlaceByPlace.{told_more}
+use Rattle.cargo_toml_walk.specs.Numbered.{text_at}
 
 -- a link between two texts
 pub link_added : (ls : List Link) (l : Link) → bytes_eq l.target.now l.source.now ≡ false → AddsLinks (λ q. bytes_eq q l.target.now) l.source.now ls (ls ++ l ∷ [])
@@ -95,47 +98,49 @@ all_plain m yielded all q =
 pub alike_added : (p r : Text → Bool) (source : Text) (a b : List Link) → ((q : Text) → p q ≡ r q) → AddsLinks p source a b → AddsLinks r source a b
 alike_added p r source a b same h q e = h q e ∙ ap (λ t. is_linked a q e || (t && (bytes_eq e source && not (bytes_eq q e)))) (same q)
 
-module _ {S : Type 0} (m : HashMap (Bor Text) Feature S) where
-  -- the links of the features so far
-  abbrev pub linked_so_far : List (Bor (Bor Text) × Bor Feature) → Text → Text → Bool
-  linked_so_far yielded q e = is_text_in (map (λ x. x.0.now) yielded) e && (leads_at m e q && not (bytes_eq q e))
+module _ (s : Slots Feature) where
+  -- the links of the features in the first places
+  abbrev pub linked_so_far : ℕ → Text → Text → Bool
+  linked_so_far i q e = option_map_or (λ v. leads v q) (held_among (take i (names_in s)) s.values.items e) false && not (bytes_eq q e)
 
-  -- one more feature
-  pub feature_linked : (yielded : List (Bor (Bor Text) × Bor Feature)) (k : Bor (Bor Text)) (v : Bor Feature) (a b : List Link) → value_at m k.now.now ≡ Some v.now
-      → ((q e : Text) → is_linked a q e ≡ linked_so_far yielded q e) → AddsLinks (leads v.now) k.now.now a b → (q e : Text) → is_linked b q e ≡ linked_so_far (yielded ++ (k, v) ∷ []) q e
-  feature_linked yielded k v a b there h more q e =
-      more q e ∙ ap (λ t. t || (leads v.now q && (bytes_eq e k.now.now && not (bytes_eq q e)))) (h q e)
-      ∙ go (bytes_eq e k.now.now) refl (is_text_in (map (λ x. x.0.now) yielded) e)
-      ∙ sym (ap (λ t. t && (leads_at m e q && not (bytes_eq q e))) (ap (λ ks. is_text_in ks e) (map-append (λ (x : Bor (Bor Text) × Bor Feature). x.0.now) yielded ((k, v) ∷ [])) ∙ text_in_more (map (λ x. x.0.now) yielded) k.now e))
-    where
-      mine : bytes_eq e k.now.now ≡ true → leads v.now q ≡ leads_at m e q
-      mine s = sym (ap (λ f. leads_at m f q) ((bytes_eq-Decides e k.now.now).0 s) ∙ ap (λ o. option_map_or (λ w. leads w q) o false) there)
+  module _ (i : ℕ) (below : i < length s.names.items) where
+    led_more : (o : Option Feature) → o ≡ get_or s.values.items i o → (q e : Text) → linked_so_far (i + 1) q e
+        ≡ ((option_map_or (λ v. leads v q) (held_among (take i (names_in s)) s.values.items e) false || (bytes_eq e (text_at (names_in s) i) && option_map_or (λ v. leads v q) o false)) && not (bytes_eq q e))
+    led_more o is q e = ap (λ t. t && not (bytes_eq q e))
+        (told_more (λ v. leads v q) (names_in s) s.values.items i o s.ascend (s.count ∙ sym (length-map s.names.items (λ (n : Bor Text). n.now)))
+        (subst (λ k. i < k) (sym (length-map s.names.items (λ (n : Bor Text). n.now))) below) e
+        ∙ ap (λ v. option_map_or (λ v. leads v q) (held_among (take i (names_in s)) s.values.items e) false || (bytes_eq e (text_at (names_in s) i) && option_map_or (λ v. leads v q) v false)) (sym is))
 
-      tests : (t l n : Bool) → ((t && (l && n)) || (l && n)) ≡ ((t || true) && (l && n))
-      tests true true true = refl
-      tests true true false = refl
-      tests true false n = refl
-      tests false l n = refl
+    -- one more feature
+    pub feature_linked : (v : Feature) (o : Option Feature) (source : Text) (a b : List Link) → o ≡ get_or s.values.items i o → o ≡ Some v → text_at (names_in s) i ≡ source
+        → ((q e : Text) → is_linked a q e ≡ linked_so_far i q e) → AddsLinks (leads v) source a b → (q e : Text) → is_linked b q e ≡ linked_so_far (i + 1) q e
+    feature_linked v o source a b is there name h more q e =
+        more q e ∙ ap (λ t. t || (leads v q && (bytes_eq e source && not (bytes_eq q e)))) (h q e)
+        ∙ tests (option_map_or (λ v. leads v q) (held_among (take i (names_in s)) s.values.items e) false) (bytes_eq e source) (leads v q) (not (bytes_eq q e))
+        ∙ sym (led_more o is q e ∙ ap₂ (λ t p. (option_map_or (λ v. leads v q) (held_among (take i (names_in s)) s.values.items e) false || (bytes_eq e t && option_map_or (λ v. leads v q) p false)) && not (bytes_eq q e)) name there)
+      where
+        tests : (l t m n : Bool) → ((l && n) || (m && (t && n))) ≡ ((l || (t && m)) && n)
+        tests true t m true = refl
+        tests true true true false = refl
+        tests true true false false = refl
+        tests true false true false = refl
+        tests true false false false = refl
+        tests false true true n = refl
+        tests false true false n = refl
+        tests false false true n = refl
+        tests false false false n = refl
 
-      go : (s : Bool) → bytes_eq e k.now.now ≡ s → (t : Bool) → ((t && (leads_at m e q && not (bytes_eq q e))) || (leads v.now q && (bytes_eq e k.now.now && not (bytes_eq q e)))) ≡ ((t || bytes_eq e k.now.now) && (leads_at m e q && not (bytes_eq q e)))
-      go true s t =
-          ap₂ (λ l i. (t && (leads_at m e q && not (bytes_eq q e))) || (l && (i && not (bytes_eq q e)))) (mine s) s
-          ∙ tests t (leads_at m e q) (not (bytes_eq q e)) ∙ sym (ap (λ i. (t || i) && (leads_at m e q && not (bytes_eq q e))) s)
-      go false s t =
-          ap (λ i. (t && (leads_at m e q && not (bytes_eq q e))) || (leads v.now q && (i && not (bytes_eq q e)))) s
-          ∙ ap (λ i. (t && (leads_at m e q && not (bytes_eq q e))) || i) (and-false (leads v.now q)) ∙ or-false _
-          ∙ sym (ap (λ i. (t || i) && (leads_at m e q && not (bytes_eq q e))) s ∙ ap (λ i. i && (leads_at m e q && not (bytes_eq q e))) (or-false t))
-
-  -- once all features have had their turn
-  pub all_linked : (yielded : List (Bor (Bor Text) × Bor Feature)) → map deref_pair yielded ≡ m.entries → (q e : Text) → linked_so_far yielded q e ≡ (leads_at m e q && not (bytes_eq q e))
-  all_linked yielded all q e =
-      ap (λ ks. is_text_in ks e && (leads_at m e q && not (bytes_eq q e))) (keys_shown yielded ∙ ap (map (λ (x : Bor Text × Feature). x.0)) all)
-      ∙ ap (λ t. t && (leads_at m e q && not (bytes_eq q e))) (ap (λ f. list_any f (map (λ x. x.0) m.entries)) (λ i k. is_eq-slice_cmp e k.now i) ∙ sym (is_some-lookup (λ (k : Bor Text). bytes_eq e k.now) m.entries))
-      ∙ go (value_at m e)
-    where
-      go : (o : Option Feature) → (is_some o && (option_map_or (λ v. leads v q) o false && not (bytes_eq q e))) ≡ (option_map_or (λ v. leads v q) o false && not (bytes_eq q e))
-      go None = refl
-      go (Some v) = refl
+    -- a place without a feature
+    pub none_linked : (o : Option Feature) (a : List Link) → o ≡ get_or s.values.items i o → o ≡ None
+        → ((q e : Text) → is_linked a q e ≡ linked_so_far i q e) → (q e : Text) → is_linked a q e ≡ linked_so_far (i + 1) q e
+    none_linked o a is gone h q e =
+        h q e ∙ tests (option_map_or (λ v. leads v q) (held_among (take i (names_in s)) s.values.items e) false) (bytes_eq e (text_at (names_in s) i)) (not (bytes_eq q e))
+        ∙ sym (led_more o is q e ∙ ap (λ p. (option_map_or (λ v. leads v q) (held_among (take i (names_in s)) s.values.items e) false || (bytes_eq e (text_at (names_in s) i) && option_map_or (λ v. leads v q) p false)) && not (bytes_eq q e)) gone)
+      where
+        tests : (l t n : Bool) → (l && n) ≡ ((l || (t && false)) && n)
+        tests true t n = refl
+        tests false true n = refl
+        tests false false n = refl
 
 -- what an index past the end reads
 abbrev pub blank : Link

@@ -1,26 +1,27 @@
 -- The lists of all features, read one after another.
-use Rattle.std.proofs.Common.{◌≡◌, ◌≢◌, ◌+◌, ◌<◌, ℕ, Bool, true, false, cond, ◌||◌, List, [], ◌∷◌, ◌++◌, map, fold, take, drop, length, get_or, is_some, MatchOption, Option, Some, None, unwrap_or, codes, bytes_eq, string_bytes, Bor, refl, sym, ap, subst, ◌∙◌, inl, inr, suc, add-one}
-use Rattle.std.specs.List.{list_any}
+use Rattle.std.proofs.Common.{◌≡◌, ◌≢◌, ◌+◌, ◌<◌, ℕ, Bool, true, false, cond, ◌||◌, List, [], ◌∷◌, ◌++◌, map, fold, take, drop, length, get_or, is_some, MatchOption, Option, Some, None, unwrap_or, IsTrue, codes, bytes_eq, string_bytes, refl, sym, ap, subst, ◌∙◌, inl, inr, suc, add-one, ap₂}
+use Rattle.std.specs.List.{list_any, AllByRecursion}
 use Rattle.std.specs.Map.{lookup}
 use Rattle.std.specs.Option.{option_map_or, option_or, IsSomeAnd}
-use Rattle.std.specs.HashMap.{HashMap}
-use Rattle.std.proofs.lemmas.Bool.{false_from_ne_true}
-use Rattle.std.proofs.lemmas.List.{map_push, map-append, take_more, take-append-drop}
-use Rattle.std.specs.List.{AllByRecursion}
-use Rattle.std.proofs.Common.{ap₂}
+use Rattle.std.proofs.lemmas.Bool.{false_from_ne_true, or_right}
+use Rattle.std.proofs.lemmas.List.{get_or-map, length-map, map_push, map-append, take_more, take-append-drop}
+use Rattle.std.proofs.lemmas.List.Folds.{list_any_at}
+use Rattle.std.proofs.lemmas.Map.Made.{is_some-lookup}
 use Rattle.std.proofs.lemmas.List.Sums.{fold_push}
 use Rattle.std.proofs.lemmas.Slice.Eq.{bytes_eq-Decides}
 use Rattle.std.proofs.Math.Seq.{drop-cons}
-use Rattle.cargo_toml_resolve.specs.declared.features.Feature.{Feature}
-use Rattle.cargo_toml_resolve.specs.declared.admit.Listing.{Listing}
+use Rattle.cargo_toml_features.specs.declared.features.Feature.{Feature}
+use Rattle.cargo_toml_features.specs.declared.admit.Listing.{Listing}
 use Rattle.cargo_toml_graph.specs.Action.{Text, Action, item_of}
-use Rattle.cargo_toml_graph.specs.Admitted.{Listed, items, item_names, joined_action}
+use Rattle.cargo_toml_graph.specs.Admitted.{Listed, is_explicit, items, item_names, joined_action}
 use Rattle.cargo_toml_graph.specs.Reach.{Among, IsOnce}
 use Rattle.cargo_toml_resolve.specs.ReadFeature.{joined_in, noted, IsListed}
-use Rattle.cargo_toml_resolve.specs.Reading.{listed_of, IsRead}
-use Rattle.cargo_toml_resolve.specs.Recorded.{is_reserved}
-use Rattle.cargo_toml_resolve.specs.Views.{value_at, table_in, has_text, action_at}
-use Rattle.cargo_toml_resolve.proofs.Listings.{listed_one, names_listed}
+use Rattle.cargo_toml_features.specs.Views.{listed_of, has_text, action_at}
+use Rattle.cargo_toml_resolve.specs.Reading.{IsRead}
+use Rattle.cargo_toml_features.specs.Recorded.{is_reserved}
+use Rattle.cargo_toml_resolve.specs.Slots.{held_in, table_held}
+use Rattle.cargo_toml_resolve.specs.declared.slots.Slots.{Slots}
+use Rattle.cargo_toml_features.proofs.Listings.{listed_one, names_listed}
 use Rattle.cargo_toml_graph.proofs.Texts.{bytes_eq_refl}
 
 -- what stands under f, where the table lists these actions for it, if any
@@ -30,8 +31,8 @@ Holds f None (Some v) = ⊥
 Holds f (Some actions) None = ⊥
 Holds f (Some actions) (Some v) = IsListed f (map item_of actions) v
 
-pub record HasRead {S : Type 0} (listed : Listed) (m : HashMap (Bor Text) Feature S) : Type 0 where
-  pub at : (f : Text) → Holds f (lookup (bytes_eq f) listed) (value_at m f)
+pub record HasRead (listed : Listed) (m : Slots Feature) : Type 0 where
+  pub at : (f : Text) → Holds f (lookup (bytes_eq f) listed) (held_in m f)
 
 -- what all actions on k come to
 abbrev pub noted_in : Listed → Text → Option Bool
@@ -80,18 +81,18 @@ module _ (ls : List Listing) (i : ℕ) (l : Listing) (below : i < length ls) (is
       (subst IsOnce (ap (map (λ l. l.name.now)) split ∙ map-append (λ l. l.name.now) (take i ls) (l ∷ drop (i + 1) ls) ∙ ap (λ ns. ns ++ l.name.now ∷ map (λ l. l.name.now) (drop (i + 1) ls)) (sym (names_listed (take i ls)))) once)
 
   -- one more feature is read
-  pub read_more : {S : Type 0} (m m' : HashMap (Bor Text) Feature S) (v : Feature) → HasRead (listed_of (take i ls)) m
-      → IsListed l.name.now (map item_of (map string_bytes l.actions.now)) v → ((f : Text) → value_at m' f ≡ cond (bytes_eq f l.name.now) (Some v) (value_at m f)) → HasRead (listed_of (take (i + 1) ls)) m'
-  read_more m m' v before listed put = record { at = λ f. subst (λ es. Holds f (lookup (bytes_eq f) es) (value_at m' f)) (sym one_more) (subst (λ o. Holds f o (value_at m' f)) (sym (lookup_push f (listed_of (take i ls)) (listed_one l))) (subst (Holds f _) (sym (put f)) (go f (bytes_eq f l.name.now) refl))) }
+  pub read_more : (m m' : Slots Feature) (v : Feature) → HasRead (listed_of (take i ls)) m
+      → IsListed l.name.now (map item_of (map string_bytes l.actions.now)) v → ((f : Text) → held_in m' f ≡ cond (bytes_eq f l.name.now) (Some v) (held_in m f)) → HasRead (listed_of (take (i + 1) ls)) m'
+  read_more m m' v before listed put = record { at = λ f. subst (λ es. Holds f (lookup (bytes_eq f) es) (held_in m' f)) (sym one_more) (subst (λ o. Holds f o (held_in m' f)) (sym (lookup_push f (listed_of (take i ls)) (listed_one l))) (subst (Holds f _) (sym (put f)) (go f (bytes_eq f l.name.now) refl))) }
     where
       or_none : (o : Option (List Text)) → option_or o None ≡ o
       or_none None = refl
       or_none (Some ts) = refl
 
-      go : (f : Text) (b : Bool) → bytes_eq f l.name.now ≡ b → Holds f (option_or (lookup (bytes_eq f) (listed_of (take i ls))) (cond b (Some (map string_bytes l.actions.now)) None)) (cond b (Some v) (value_at m f))
+      go : (f : Text) (b : Bool) → bytes_eq f l.name.now ≡ b → Holds f (option_or (lookup (bytes_eq f) (listed_of (take i ls))) (cond b (Some (map string_bytes l.actions.now)) None)) (cond b (Some v) (held_in m f))
       go f true e = subst (λ n. Holds n (option_or (lookup (bytes_eq n) (listed_of (take i ls))) (Some (map string_bytes l.actions.now))) (Some v)) (sym ((bytes_eq-Decides f l.name.now).0 e))
           (subst (λ o. Holds l.name.now (option_or o (Some (map string_bytes l.actions.now))) (Some v)) (sym not_before) listed)
-      go f false e = subst (λ o. Holds f o (value_at m f)) (sym (or_none (lookup (bytes_eq f) (listed_of (take i ls))))) (before.at f)
+      go f false e = subst (λ o. Holds f o (held_in m f)) (sym (or_none (lookup (bytes_eq f) (listed_of (take i ls))))) (before.at f)
 
   pub noted_next : (k : Text) (before now : Option Bool) → before ≡ noted_in (listed_of (take i ls)) k → now ≡ noted before (joined_in (map item_of (map string_bytes l.actions.now)) k) → now ≡ noted_in (listed_of (take (i + 1) ls)) k
   noted_next k before now before_is now_is =
@@ -193,10 +194,10 @@ module _ (listed : Listed) (once : IsOnce (map (λ e. e.0) listed)) (k : Text) w
   noted_is_dep_only : unwrap_or (noted_in listed k) false ≡ is_reserved listed k
   noted_is_dep_only = noted_dep_only k None listed ∙ sym (list_any_same _ _ listed (weaken _ _ (λ e same. ap (λ o. option_map_or (λ a. a.is_dep_only) o false) same) listed joined_each))
 
-module _ {S : Type 0} (listed : Listed) (m m' : HashMap (Bor Text) Feature S) (read : HasRead listed m)
-    (others : (f : Text) → bytes_eq f (codes "default") ≡ false → value_at m' f ≡ value_at m f)
-    (default : MatchOption (value_at m (codes "default")) (IsSomeAnd (value_at m' (codes "default")) (IsListed (codes "default") [])) (λ v. value_at m' (codes "default") ≡ Some v)) where
-  holds_all : (f : Text) → Holds f (with_default listed f) (value_at m' f)
+module _ (listed : Listed) (m m' : Slots Feature) (read : HasRead listed m)
+    (others : (f : Text) → bytes_eq f (codes "default") ≡ false → held_in m' f ≡ held_in m f)
+    (default : MatchOption (held_in m (codes "default")) (IsSomeAnd (held_in m' (codes "default")) (IsListed (codes "default") [])) (λ v. held_in m' (codes "default") ≡ Some v)) where
+  holds_all : (f : Text) → Holds f (with_default listed f) (held_in m' f)
   holds_all f = go (bytes_eq f (codes "default")) refl
     where
       or_none : (o : Option (List Text)) → option_or o None ≡ o
@@ -210,19 +211,29 @@ module _ {S : Type 0} (listed : Listed) (m m' : HashMap (Bor Text) Feature S) (r
       here (Some ts) None v' h d = absurd h
       here (Some ts) (Some v) v' h d = subst (Holds (codes "default") (Some ts)) (sym d) h
 
-      go : (b : Bool) → bytes_eq f (codes "default") ≡ b → Holds f (option_or (lookup (bytes_eq f) listed) (cond b (Some []) None)) (value_at m' f)
-      go true e = subst (λ q. Holds q (option_or (lookup (bytes_eq q) listed) (Some [])) (value_at m' q)) (sym ((bytes_eq-Decides f (codes "default")).0 e))
-          (here (lookup (bytes_eq (codes "default")) listed) (value_at m (codes "default")) (value_at m' (codes "default")) (read.at (codes "default")) default)
-      go false e = subst (λ o. Holds f o (value_at m' f)) (sym (or_none (lookup (bytes_eq f) listed))) (subst (Holds f (lookup (bytes_eq f) listed)) (sym (others f e)) (read.at f))
+      go : (b : Bool) → bytes_eq f (codes "default") ≡ b → Holds f (option_or (lookup (bytes_eq f) listed) (cond b (Some []) None)) (held_in m' f)
+      go true e = subst (λ q. Holds q (option_or (lookup (bytes_eq q) listed) (Some [])) (held_in m' q)) (sym ((bytes_eq-Decides f (codes "default")).0 e))
+          (here (lookup (bytes_eq (codes "default")) listed) (held_in m (codes "default")) (held_in m' (codes "default")) (read.at (codes "default")) default)
+      go false e = subst (λ o. Holds f o (held_in m' f)) (sym (or_none (lookup (bytes_eq f) listed))) (subst (Holds f (lookup (bytes_eq f) listed)) (sym (others f e)) (read.at f))
 
-  pub all_read : (acted : Text → Option Bool) → ((k : Text) → acted k ≡ noted_in listed k) → IsOnce (map (λ e. e.0) listed) → IsRead listed (table_in m') acted
+  pub all_read : (acted : Text → Option Bool) → ((k : Text) → acted k ≡ noted_in listed k) → IsOnce (map (λ e. e.0) listed) → IsRead listed (table_held m') acted
   all_read acted acted_is once = record {
-    has = λ f. holds_some f (with_default listed f) (value_at m' f) (holds_all f) ∙ default_some (bytes_eq f (codes "default")) (lookup (bytes_eq f) listed);
-    names = λ f x. holds_names f x (with_default listed f) (value_at m' f) (holds_all f) ∙ ap (λ is. list_any (item_names x) is) (lists f);
-    action = λ f k. holds_action f k (with_default listed f) (value_at m' f) (holds_all f) ∙ ap (λ is. joined_in is k) (lists f);
+    has = λ f. holds_some f (with_default listed f) (held_in m' f) (holds_all f) ∙ default_some (bytes_eq f (codes "default")) (lookup (bytes_eq f) listed);
+    names = λ f x. holds_names f x (with_default listed f) (held_in m' f) (holds_all f) ∙ ap (λ is. list_any (item_names x) is) (lists f);
+    action = λ f k. holds_action f k (with_default listed f) (held_in m' f) (holds_all f) ∙ ap (λ is. joined_in is k) (lists f);
     acted_on = λ k. ap is_some (acted_is k) ∙ noted_is_some listed once k;
     reserved = λ k. ap (λ o. unwrap_or o false) (acted_is k) ∙ noted_is_dep_only listed once k;
   }
     where
       lists : (f : Text) → map item_of (unwrap_or (with_default listed f) []) ≡ items listed f
       lists f = ap (map item_of) (default_list (bytes_eq f (codes "default")) (lookup (bytes_eq f) listed))
+
+-- what is listed is explicit
+pub explicit_there : (ls : List Listing) (i : ℕ) (l : Listing) → i < length ls → l ≡ get_or ls i l → IsTrue (is_explicit (listed_of ls) l.name.now)
+explicit_there ls i l below is =
+    or_right (bytes_eq l.name.now (codes "default")) _ (is_some-lookup (bytes_eq l.name.now) (listed_of ls) ∙ ap (list_any (bytes_eq l.name.now)) (names_listed ls) ∙ listed_at)
+  where
+    listed_at : list_any (bytes_eq l.name.now) (map (λ (x : Listing). x.name.now) ls) ≡ true
+    listed_at =
+        list_any_at (bytes_eq l.name.now) (map (λ (x : Listing). x.name.now) ls) i l.name.now (subst (λ n. i < n) (sym (length-map ls (λ (x : Listing). x.name.now))) below)
+        (ap (bytes_eq l.name.now) (get_or-map (λ (x : Listing). x.name.now) ls i l l.name.now below ∙ ap (λ (x : Listing). x.name.now) (sym is)) ∙ bytes_eq_refl l.name.now)

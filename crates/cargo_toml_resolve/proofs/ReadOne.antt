@@ -4,34 +4,36 @@ use Rattle.std.specs.declared.alloc.Global.{Global}
 use Rattle.std.proofs.lemmas.List.{map_push, take_more}
 use Rattle.std.proofs.lemmas.List.Sums.{fold_push}
 use Rattle.std.specs.Map.{lookup}
-use Rattle.std.specs.HashMap.{HashMap}
 use Rattle.std.proofs.lemmas.Slice.Eq.{bytes_eq-Decides}
 use Rattle.cargo_toml_graph.specs.Action.{Text, Action, Item, join_option, item_of}
-use Rattle.cargo_toml_resolve.specs.ActionText.{action_in}
+use Rattle.cargo_toml_features.specs.ActionText.{action_in}
 use Rattle.cargo_toml_graph.specs.Admitted.{action_on}
 use Rattle.cargo_toml_resolve.specs.ReadFeature.{joined_in, noted}
-use Rattle.cargo_toml_resolve.specs.Views.{value_at}
-use Rattle.cargo_toml_resolve.specs.declared.action.ActionText.{ActionText}
+use Rattle.cargo_toml_features.specs.InOrder.{sorted_at}
+use Rattle.std.specs.BTreeMap.{BTreeMap, is_at}
+use Rattle.std.specs.Cmp.Lexicographic.{slice_cmp}
+use Rattle.std.specs.Ordering.{nat_cmp}
+use Rattle.cargo_toml_features.specs.declared.action.ActionText.{ActionText}
 use Rattle.cargo_toml_graph.proofs.Texts.{bytes_eq_sym}
 
 -- what a list of entries holds at a text
 abbrev entry_at : List (Bor Text × Bool) → Text → Option Bool
-entry_at es k = lookup (λ q. bytes_eq k q.now) es
+entry_at es k = lookup (is_at (λ q. slice_cmp nat_cmp k q.now)) es
 
 -- an action is noted at its key; the map is told by its entries, since it has no name after `entry`
-pub noted_at : {S : Type 0} (old : HashMap (Bor Text) Bool S) (new : List (Bor Text × Bool)) (t : ActionText) (held made : Bool)
+pub noted_at : (old : BTreeMap (Bor Text) Bool) (new : List (Bor Text × Bool)) (t : ActionText) (held made : Bool)
     → ((k : Text) → bytes_eq t.target.now k ≡ false → entry_at new k ≡ entry_at old.entries k)
     → entry_at new t.target.now ≡ Some made
     → held ≡ unwrap_or (entry_at old.entries t.target.now) false → made ≡ (held || t.is_dep_only)
-    → (k : Text) → entry_at new k ≡ noted (value_at old k) (cond (bytes_eq k t.target.now) (Some (action_in t)) None)
+    → (k : Text) → entry_at new k ≡ noted (sorted_at old k) (cond (bytes_eq k t.target.now) (Some (action_in t)) None)
 noted_at old new t held made others there held_is made_is k = go (bytes_eq k t.target.now) refl
   where
     here : (o : Option Bool) → held ≡ unwrap_or o false → Some made ≡ noted o (Some (action_in t))
     here None e = ap Some (made_is ∙ ap (λ h. h || t.is_dep_only) e)
     here (Some b) e = ap Some (made_is ∙ ap (λ h. h || t.is_dep_only) e)
 
-    go : (b : Bool) → bytes_eq k t.target.now ≡ b → entry_at new k ≡ noted (value_at old k) (cond b (Some (action_in t)) None)
-    go true e = subst (λ q. entry_at new q ≡ noted (value_at old q) (Some (action_in t))) (sym ((bytes_eq-Decides k t.target.now).0 e)) (there ∙ here (entry_at old.entries t.target.now) held_is)
+    go : (b : Bool) → bytes_eq k t.target.now ≡ b → entry_at new k ≡ noted (sorted_at old k) (cond b (Some (action_in t)) None)
+    go true e = subst (λ q. entry_at new q ≡ noted (sorted_at old q) (Some (action_in t))) (sym ((bytes_eq-Decides k t.target.now).0 e)) (there ∙ here (entry_at old.entries t.target.now) held_is)
     go false e = others k (bytes_eq_sym t.target.now k ∙ e)
 
 noted_both : (o : Option Bool) (a b : Option Action) → noted (noted o a) b ≡ noted o (join_option a b)

@@ -3,18 +3,16 @@ use Rattle.std.proofs.Common.{◌≡◌, ◌++◌, ◌+◌, ◌<◌, ℕ, length
 use Rattle.std.proofs.lemmas.List.{append_assoc, append-nil, map-append, take_more}
 use Rattle.std.proofs.lemmas.List.Elements.{filter-append}
 use Rattle.std.proofs.lemmas.Slice.Eq.{bytes_eq-Decides}
-use Rattle.std.proofs.lemmas.Map.Text.{hash_map_updates_str}
-use Rattle.std.specs.HashMap as hash
 use Rattle.std.specs.List.{filter}
-use Rattle.std.specs.HashMap.{HashMap}
 use Rattle.cargo_toml_resolve.specs.declared.bins.Requirement.{Requirement}
-use Rattle.cargo_toml_resolve.specs.declared.features.Feature.{Feature}
+use Rattle.cargo_toml_features.specs.declared.features.Feature.{Feature}
 use Rattle.cargo_toml_graph.specs.Action.{Text}
 use Rattle.cargo_toml_graph.proofs.Texts.{bytes_eq_sym}
 use Rattle.cargo_toml_resolve.specs.Enabling.{Relates}
 use Rattle.cargo_toml_resolve.specs.OwnBins.{own_of, requirement_of}
 use Rattle.cargo_toml_resolve.specs.Requiring.{Required, RequiredAll}
-use Rattle.cargo_toml_resolve.specs.Views.{value_at}
+use Rattle.cargo_toml_resolve.specs.Slots.{held_in}
+use Rattle.cargo_toml_resolve.specs.declared.slots.Slots.{Slots}
 
 nothing : (own : List Text) → own ≡ [] → (o : Option Feature) → Relates (Required own) o o
 nothing own none None = tt
@@ -42,12 +40,12 @@ both p q r same (Some a) (Some b) (Some c) h k = record {
   bins = k.bins ∙ ap (λ xs. xs ++ q) h.bins ∙ append_assoc (map (λ (t : Bor Text). t.now) a.required_by_bins.items) p q ∙ ap (λ xs. map (λ (t : Bor Text). t.now) a.required_by_bins.items ++ xs) (sym same);
 }
 
-module _ {S : Type 0} where
-  pub required_more : (p q r : Text → List Text) (a b c : HashMap (Bor Text) Feature S) → ((x : Text) → r x ≡ p x ++ q x) → RequiredAll p a b → RequiredAll q b c → RequiredAll r a c
-  required_more p q r a b c same h k = record { at = λ x. both (p x) (q x) (r x) (same x) (value_at a x) (value_at b x) (value_at c x) (h.at x) (k.at x) }
+module _ where
+  pub required_more : (p q r : Text → List Text) (a b c : Slots Feature) → ((x : Text) → r x ≡ p x ++ q x) → RequiredAll p a b → RequiredAll q b c → RequiredAll r a c
+  required_more p q r a b c same h k = record { at = λ x. both (p x) (q x) (r x) (same x) (held_in a x) (held_in b x) (held_in c x) (h.at x) (k.at x) }
 
   -- one binary at one feature
-  module _ (key by : Text) (m : HashMap (Bor Text) Feature S) where
+  module _ (key by : Text) (m : Slots Feature) where
     one : (q : Text) (t : Bool) → bytes_eq q key ≡ t → own_of ((key, by) ∷ []) q ≡ cond t (by ∷ []) []
     one q t is = ap (λ b. map (λ (r : Text × Text). r.1) (cond b ((key, by) ∷ []) [])) is ∙ pick t
       where
@@ -55,29 +53,29 @@ module _ {S : Type 0} where
         pick true = refl
         pick false = refl
 
-    pub required_nowhere : value_at m key ≡ None → RequiredAll (own_of ((key, by) ∷ [])) m m
+    pub required_nowhere : held_in m key ≡ None → RequiredAll (own_of ((key, by) ∷ [])) m m
     required_nowhere gone = record { at = λ q. go q (bytes_eq q key) refl }
       where
-        go : (q : Text) (t : Bool) → bytes_eq q key ≡ t → Relates (Required (own_of ((key, by) ∷ []) q)) (value_at m q) (value_at m q)
-        go q true on = subst (λ o. Relates (Required (own_of ((key, by) ∷ []) q)) o o) (sym (ap (value_at m) ((bytes_eq-Decides q key).0 on) ∙ gone)) tt
-        go q false off = nothing (own_of ((key, by) ∷ []) q) (one q false off) (value_at m q)
+        go : (q : Text) (t : Bool) → bytes_eq q key ≡ t → Relates (Required (own_of ((key, by) ∷ []) q)) (held_in m q) (held_in m q)
+        go q true on = subst (λ o. Relates (Required (own_of ((key, by) ∷ []) q)) o o) (sym (ap (held_in m) ((bytes_eq-Decides q key).0 on) ∙ gone)) tt
+        go q false off = nothing (own_of ((key, by) ∷ []) q) (one q false off) (held_in m q)
 
-    pub required_at : (n : HashMap (Bor Text) Feature S) (old w : Feature) → value_at m key ≡ Some old → hash.UpdatesBy (λ x y. bytes_eq x.now y.now) (λ q. bytes_eq key q.now) m n (Some w)
+    pub required_back : (n : Slots Feature) → held_in m key ≡ None → ((q : Text) → held_in n q ≡ held_in m q) → RequiredAll (own_of ((key, by) ∷ [])) m n
+    required_back n gone same = record { at = λ q. subst (λ o. Relates (Required (own_of ((key, by) ∷ []) q)) (held_in m q) o) (sym (same q)) ((required_nowhere gone).at q) }
+
+    pub required_at : (n : Slots Feature) (old w : Feature) → held_in m key ≡ Some old → ((q : Text) → held_in n q ≡ cond (bytes_eq key q) (Some w) (held_in m q))
         → Required (by ∷ []) old w → RequiredAll (own_of ((key, by) ∷ [])) m n
-    required_at n old w was u is = record { at = λ q. go q (bytes_eq q key) refl }
+    required_at n old w was after is = record { at = λ q. go q (bytes_eq q key) refl }
       where
-        after : (q : Text) → value_at n q ≡ cond (bytes_eq key q) (Some w) (value_at m q)
-        after q = hash_map_updates_str key m n (Some w) u q
-
-        go : (q : Text) (t : Bool) → bytes_eq q key ≡ t → Relates (Required (own_of ((key, by) ∷ []) q)) (value_at m q) (value_at n q)
+        go : (q : Text) (t : Bool) → bytes_eq q key ≡ t → Relates (Required (own_of ((key, by) ∷ []) q)) (held_in m q) (held_in n q)
         go q true on =
-            subst (λ own. Relates (Required own) (value_at m q) (value_at n q)) (sym (one q true on))
-            (subst (λ o. Relates (Required (by ∷ [])) (value_at m q) o) (sym (after q ∙ ap (λ t. cond t (Some w) (value_at m q)) (bytes_eq_sym key q ∙ on)))
-            (subst (λ o. Relates (Required (by ∷ [])) o (Some w)) (sym (ap (value_at m) ((bytes_eq-Decides q key).0 on) ∙ was)) is))
+            subst (λ own. Relates (Required own) (held_in m q) (held_in n q)) (sym (one q true on))
+            (subst (λ o. Relates (Required (by ∷ [])) (held_in m q) o) (sym (after q ∙ ap (λ t. cond t (Some w) (held_in m q)) (bytes_eq_sym key q ∙ on)))
+            (subst (λ o. Relates (Required (by ∷ [])) o (Some w)) (sym (ap (held_in m) ((bytes_eq-Decides q key).0 on) ∙ was)) is))
         go q false off =
-            subst (λ own. Relates (Required own) (value_at m q) (value_at n q)) (sym (one q false off))
-            (subst (λ o. Relates (Required []) (value_at m q) o) (sym (after q ∙ ap (λ t. cond t (Some w) (value_at m q)) (bytes_eq_sym key q ∙ off)))
-            (nothing [] refl (value_at m q)))
+            subst (λ own. Relates (Required own) (held_in m q) (held_in n q)) (sym (one q false off))
+            (subst (λ o. Relates (Required []) (held_in m q) o) (sym (after q ∙ ap (λ t. cond t (Some w) (held_in m q)) (bytes_eq_sym key q ∙ off)))
+            (nothing [] refl (held_in m q)))
 
 -- one requirement more
 pub own_more : (r s : List (Text × Text)) (q : Text) → own_of (r ++ s) q ≡ own_of r q ++ own_of s q

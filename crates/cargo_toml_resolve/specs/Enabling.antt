@@ -2,12 +2,12 @@
 use Rattle.std.specs.Prelude.{◌≡◌, ◌&&◌, ◌||◌, not, Bool, false, List, Option, Some, None, bytes_eq}
 use Rattle.std.specs.Option.{option_map_or}
 use Rattle.std.specs.List.{list_any}
-use Rattle.std.specs.Borrow.{Bor}
-use Rattle.std.specs.HashMap.{HashMap}
-use Rattle.cargo_toml_resolve.specs.declared.features.Feature.{Feature}
+use Rattle.cargo_toml_features.specs.declared.features.Feature.{Feature}
 use Rattle.cargo_toml_resolve.specs.declared.enable.Link.{Link}
 use Rattle.cargo_toml_graph.specs.Action.{Text, Action}
-use Rattle.cargo_toml_resolve.specs.Views.{has_text, action_at, value_at}
+use Rattle.cargo_toml_features.specs.Views.{has_text, action_at}
+use Rattle.cargo_toml_resolve.specs.Slots.{held_in}
+use Rattle.cargo_toml_resolve.specs.declared.slots.Slots.{Slots}
 
 abbrev pub is_plain : Option Action → Bool
 is_plain o = option_map_or (λ a. not a.is_conditional && not a.is_dep_only) o false
@@ -16,8 +16,8 @@ is_plain o = option_map_or (λ a. not a.is_conditional && not a.is_dep_only) o f
 abbrev pub leads : Feature → Text → Bool
 leads v x = has_text v.enables_features x || is_plain (action_at v.enables_deps x)
 
-abbrev pub leads_at : {S : Type 0} → HashMap (Bor Text) Feature S → Text → Text → Bool
-leads_at m f x = option_map_or (λ v. leads v x) (value_at m f) false
+abbrev pub leads_at : Slots Feature → Text → Text → Bool
+leads_at m f x = option_map_or (λ v. leads v x) (held_in m f) false
 
 -- one of the links leads from e to q
 abbrev pub is_linked : List Link → Text → Text → Bool
@@ -43,5 +43,5 @@ pub record Enabled (by : Text → Bool) (old new : Feature) : Type 0 where
   pub enabled_by : (e : Text) → has_text new.enabled_by e ≡ (has_text old.enabled_by e || by e)
 
 -- so did each feature
-pub record EnabledAll {S : Type 0} (by : Text → Text → Bool) (old new : HashMap (Bor Text) Feature S) : Type 0 where
-  pub at : (q : Text) → Relates (Enabled (by q)) (value_at old q) (value_at new q)
+pub record EnabledAll (by : Text → Text → Bool) (old new : Slots Feature) : Type 0 where
+  pub at : (q : Text) → Relates (Enabled (by q)) (held_in old q) (held_in new q)

@@ -3,13 +3,16 @@ use Rattle.std.specs.Prelude.{◌≡◌, ◌&&◌, not, Bool, true, false, List,
 use Rattle.std.specs.Option.{IsSomeAnd}
 use Rattle.std.specs.List.{list_any}
 use Rattle.std.specs.Borrow.{Bor}
-use Rattle.std.specs.HashMap.{HashMap}
 use Rattle.cargo_toml_dependencies.specs.Dependencies.{is_optional}
-use Rattle.cargo_toml_resolve.specs.declared.features.Feature.{Feature}
+use Rattle.cargo_toml_features.specs.declared.features.Feature.{Feature}
 use Rattle.cargo_toml_graph.specs.Action.{Text}
-use Rattle.cargo_toml_resolve.specs.Recorded.{Entry}
-use Rattle.cargo_toml_resolve.specs.Resolved.{plain}
-use Rattle.cargo_toml_resolve.specs.Views.{has_text, action_at, value_at}
+use Rattle.cargo_toml_features.specs.Recorded.{Entry}
+use Rattle.cargo_toml_features.specs.Resolved.{plain}
+use Rattle.cargo_toml_features.specs.Views.{has_text, action_at}
+use Rattle.cargo_toml_resolve.specs.Slots.{held_in}
+use Rattle.cargo_toml_resolve.specs.declared.slots.Slots.{Slots}
+use Rattle.std.specs.BTreeMap.{BTreeMap}
+use Rattle.cargo_toml_features.specs.InOrder.{sorted_at}
 
 -- the implied feature of the key q: it names nothing, and has one plain action on itself
 pub record IsImplied (q : Text) (v : Feature) : Type 0 where
@@ -32,12 +35,12 @@ abbrev pub is_optional_at : Text → Entry → Bool
 is_optional_at q e = bytes_eq e.key q && is_optional e.dependency
 
 -- some action on k is dep-only
-abbrev pub is_reserved_in : {S : Type 0} → HashMap (Bor Text) Bool S → Text → Bool
-is_reserved_in acted k = unwrap_or (value_at acted k) false
+abbrev pub is_reserved_in : BTreeMap (Bor Text) Bool → Text → Bool
+is_reserved_in acted k = unwrap_or (sorted_at acted k) false
 
 -- some entry is optional, and its key is not reserved
-abbrev pub is_offered : {S : Type 0} → HashMap (Bor Text) Bool S → List Entry → Text → Bool
+abbrev pub is_offered : BTreeMap (Bor Text) Bool → List Entry → Text → Bool
 is_offered acted entries q = list_any (is_optional_at q) entries && not (is_reserved_in acted q)
 
-pub record ImpliesAll {S : Type 0} (implied : Text → Bool) (old new : HashMap (Bor Text) Feature S) : Type 0 where
-  pub at : (q : Text) → Becomes (implied q) q (value_at old q) (value_at new q)
+pub record ImpliesAll (implied : Text → Bool) (old new : Slots Feature) : Type 0 where
+  pub at : (q : Text) → Becomes (implied q) q (held_in old q) (held_in new q)

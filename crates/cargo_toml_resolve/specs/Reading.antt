@@ -1,20 +1,14 @@
 -- The features as they stand once their lists are read, before dependencies are looked at.
-use Rattle.std.specs.Prelude.{◌≡◌, Bool, true, false, List, [], Option, Some, is_some, unwrap_or, string_bytes, map}
+use Rattle.std.specs.Prelude.{◌≡◌, Bool, true, false, List, [], Option, Some, is_some, unwrap_or}
 use Rattle.std.specs.List.{list_any}
-use Rattle.std.specs.Borrow.{Bor}
-use Rattle.std.specs.HashMap.{HashMap}
-use Rattle.cargo_toml_resolve.specs.declared.features.Feature.{Feature}
-use Rattle.cargo_toml_resolve.specs.declared.admit.Listing.{Listing}
+use Rattle.cargo_toml_features.specs.declared.features.Feature.{Feature}
 use Rattle.cargo_toml_graph.specs.Action.{Text}
 use Rattle.cargo_toml_graph.specs.Admitted as listing
 use Rattle.cargo_toml_graph.specs.Admitted.{Listed, is_explicit, joined_action}
 use Rattle.cargo_toml_graph.specs.Graph.{Table}
-use Rattle.cargo_toml_resolve.specs.Recorded.{is_reserved}
-use Rattle.cargo_toml_resolve.specs.Views.{value_at}
-
--- what the listings of a table list
-abbrev pub listed_of : List Listing → Listed
-listed_of ls = map (λ l. (l.name.now, map string_bytes l.actions.now)) ls
+use Rattle.cargo_toml_features.specs.Recorded.{is_reserved}
+use Rattle.cargo_toml_resolve.specs.Slots.{held_in}
+use Rattle.cargo_toml_resolve.specs.declared.slots.Slots.{Slots}
 
 -- the features are those that the table lists, and `acted` tells of each key that one acts on whether it is reserved
 pub record IsRead (listed : Listed) (t : Table) (acted : Text → Option Bool) : Type 0 where
@@ -31,5 +25,5 @@ pub record IsFresh (f : Text) (v : Feature) : Type 0 where
   pub enabled_by : v.enabled_by.keys ≡ []
   pub bins : v.required_by_bins.items ≡ []
 
-abbrev pub AreFresh : {S : Type 0} → HashMap (Bor Text) Feature S → Type 0
-AreFresh m = (f : Text) (v : Feature) → value_at m f ≡ Some v → IsFresh f v
+abbrev pub AreFresh : Slots Feature → Type 0
+AreFresh m = (f : Text) (v : Feature) → held_in m f ≡ Some v → IsFresh f v

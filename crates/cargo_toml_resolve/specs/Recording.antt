@@ -2,18 +2,19 @@
 use Rattle.std.specs.Prelude.{Bool, ◌&&◌, ◌||◌, if◌then◌else◌, Option, Some, None, is_some, option_map, unwrap_or, bytes_eq}
 use Rattle.std.specs.Option.{option_or}
 use Rattle.std.specs.Ordering.{is_eq}
-use Rattle.std.specs.Borrow.{Bor}
-use Rattle.std.specs.HashMap.{HashMap}
 use Rattle.cargo_toml_dependencies.specs.Dependencies.{is_optional, package_of}
-use Rattle.cargo_toml_resolve.specs.declared.features.FeatureDependency.{FeatureDependency}
+use Rattle.cargo_toml_features.specs.declared.features.FeatureDependency.{FeatureDependency}
 use Rattle.cargo_toml_resolve.specs.declared.read.Mentions.{Mentions}
 use Rattle.cargo_toml_graph.specs.Action.{Text}
-use Rattle.cargo_toml_resolve.specs.Recorded.{Entry, Recorded, target_cmp}
-use Rattle.cargo_toml_resolve.specs.Views.{recorded_in, value_at}
+use Rattle.cargo_toml_features.specs.Recorded.{Entry, Recorded, target_cmp}
+use Rattle.cargo_toml_features.specs.Views.{recorded_in}
+use Rattle.cargo_toml_resolve.specs.Slots.{held_in}
+use Rattle.cargo_toml_resolve.specs.declared.slots.Slots.{Slots}
+use Rattle.cargo_toml_features.specs.InOrder.{sorted_at}
 
 -- what a map of dependencies records of a key
-abbrev pub recorded_at : {S : Type 0} → HashMap (Bor Text) FeatureDependency S → Text → Option Recorded
-recorded_at m k = option_map recorded_in (value_at m k)
+abbrev pub recorded_at : Slots FeatureDependency → Text → Option Recorded
+recorded_at m k = option_map recorded_in (held_in m k)
 
 -- what e records of its key before its target
 abbrev pub recorded_nowhere : Entry → Recorded
@@ -38,10 +39,14 @@ recorded_with None e = recorded_first e
 recorded_with (Some r) e = recorded_next r e
 
 -- k is a feature, or one acts on it
-abbrev pub is_mentioned_in : {S H : Type 0} → Mentions S H → Text → Bool
-is_mentioned_in m k = is_some (value_at m.features k) || is_some (value_at m.acted k)
+abbrev pub is_mentioned_in : Mentions → Text → Bool
+is_mentioned_in m k = is_some (held_in m.features k) || is_some (sorted_at m.acted k)
 
 -- what is recorded of q after e, where o was recorded of q before: e counts if its key is recorded already or mentioned, or e
 -- is optional
 abbrev pub recorded_after : (Text → Bool) → Entry → Text → Option Recorded → Option Recorded
 recorded_after mentioned e q o = if bytes_eq e.key q && (is_some o || (is_optional e.dependency || mentioned q)) then Some (recorded_with o e) else o
+
+-- an entry of the key k that counts by itself, by which keys are mentioned
+abbrev pub counts_at : (Text → Bool) → Text → Entry → Bool
+counts_at mentioned k e = bytes_eq e.key k && (is_optional e.dependency || mentioned k)

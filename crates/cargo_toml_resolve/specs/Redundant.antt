@@ -1,17 +1,17 @@
 -- Actions without the features that dependencies have anyway: words of a step of resolving, on which no public contract rests.
 use Rattle.std.specs.Prelude.{◌≡◌, List, option_map}
-use Rattle.std.specs.Borrow.{Bor}
-use Rattle.std.specs.HashMap.{HashMap}
-use Rattle.cargo_toml_resolve.specs.declared.features.Feature.{Feature}
-use Rattle.cargo_toml_resolve.specs.declared.features.FeatureDependency.{FeatureDependency}
+use Rattle.cargo_toml_features.specs.declared.features.Feature.{Feature}
+use Rattle.cargo_toml_features.specs.declared.features.FeatureDependency.{FeatureDependency}
 use Rattle.cargo_toml_graph.specs.Action.{Text}
 use Rattle.cargo_toml_resolve.specs.Enabling.{Relates}
-use Rattle.cargo_toml_resolve.specs.Recorded.{Entry, first_target, recorded_of, without_redundant}
+use Rattle.cargo_toml_features.specs.Recorded.{Entry, first_target, recorded_of, without_redundant}
 use Rattle.cargo_toml_resolve.specs.Recording.{recorded_at}
-use Rattle.cargo_toml_resolve.specs.Views.{action_at, value_at}
+use Rattle.cargo_toml_features.specs.Views.{action_at}
+use Rattle.cargo_toml_resolve.specs.Slots.{held_in}
+use Rattle.cargo_toml_resolve.specs.declared.slots.Slots.{Slots}
 
 -- of each key the map records what these entries say
-abbrev pub IsRecordOf : {S : Type 0} → HashMap (Bor Text) FeatureDependency S → (Text → List Entry) → Type 0
+abbrev pub IsRecordOf : Slots FeatureDependency → (Text → List Entry) → Type 0
 IsRecordOf m entries = (k : Text) → recorded_at m k ≡ recorded_of (entries k)
 
 -- each action of the feature lost what is redundant by the entries of its key, and nothing else changed
@@ -24,5 +24,5 @@ pub record Thinned (entries : Text → List Entry) (old new : Feature) : Type 0 
   pub explicit : new.explicit ≡ old.explicit
 
 -- so did each feature
-pub record ThinnedAll {S : Type 0} (entries : Text → List Entry) (old new : HashMap (Bor Text) Feature S) : Type 0 where
-  pub at : (q : Text) → Relates (Thinned entries) (value_at old q) (value_at new q)
+pub record ThinnedAll (entries : Text → List Entry) (old new : Slots Feature) : Type 0 where
+  pub at : (q : Text) → Relates (Thinned entries) (held_in old q) (held_in new q)

@@ -1,11 +1,10 @@
 -- Features that learn which binaries require them: words of a step of resolving, on which no public contract rests.
 use Rattle.std.specs.Prelude.{◌≡◌, ◌++◌, List, map}
-use Rattle.std.specs.Borrow.{Bor}
-use Rattle.std.specs.HashMap.{HashMap}
-use Rattle.cargo_toml_resolve.specs.declared.features.Feature.{Feature}
+use Rattle.cargo_toml_features.specs.declared.features.Feature.{Feature}
 use Rattle.cargo_toml_graph.specs.Action.{Text}
 use Rattle.cargo_toml_resolve.specs.Enabling.{Relates}
-use Rattle.cargo_toml_resolve.specs.Views.{value_at}
+use Rattle.cargo_toml_resolve.specs.Slots.{held_in}
+use Rattle.cargo_toml_resolve.specs.declared.slots.Slots.{Slots}
 
 -- the feature gained these binaries, and nothing else changed
 pub record Required (more : List Text) (old new : Feature) : Type 0 where
@@ -17,5 +16,5 @@ pub record Required (more : List Text) (old new : Feature) : Type 0 where
   pub bins : map (λ b. b.now) new.required_by_bins.items ≡ map (λ b. b.now) old.required_by_bins.items ++ more
 
 -- so did each feature
-pub record RequiredAll {S : Type 0} (own : Text → List Text) (old new : HashMap (Bor Text) Feature S) : Type 0 where
-  pub at : (q : Text) → Relates (Required (own q)) (value_at old q) (value_at new q)
+pub record RequiredAll (own : Text → List Text) (old new : Slots Feature) : Type 0 where
+  pub at : (q : Text) → Relates (Required (own q)) (held_in old q) (held_in new q)

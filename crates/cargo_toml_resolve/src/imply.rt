@@ -1,13 +1,19 @@
 //! Which features optional dependencies imply.
-ghost use Rattle.std.specs.Prelude.{◌≡◌, ◌&&◌, ◌∷◌, [], not, is_some, map, IfOk, OnOk};
+ghost use Rattle.std.specs.Prelude.{◌≡◌, ◌<◌, ◌∷◌, [], bytes_eq, length, map, IfOk, IsTrue, OnOk};
+ghost use Rattle.std.specs.List.{list_any};
 ghost use Rattle.cargo_toml_dependencies.specs.Dependencies.{dependency_meaning, is_optional};
-ghost use Rattle.cargo_toml_resolve.specs.Implying.{IsImplied, ImpliesAll, is_offered, is_reserved_in};
-ghost use Rattle.cargo_toml_resolve.specs.Views.{entry_of, value_at};
+ghost use Rattle.cargo_toml_resolve.specs.Implying.{IsImplied, ImpliesAll, is_offered, is_optional_at, is_reserved_in};
+ghost use Rattle.cargo_toml_resolve.specs.Slots.{HaveSameNames, names_in};
+ghost use Rattle.cargo_toml_features.specs.Views.{entry_of};
+ghost use Rattle.cargo_toml_walk.specs.Numbered.{text_at};
+ghost use Rattle.cargo_toml_graph.specs.Action.{Text};
+ghost use Rattle.cargo_toml_graph.specs.Reach.{Among};
 
-use crate::features::{DepAction, Feature, ParseDependency};
+use crate::places::place_near;
+use crate::slots::Slots;
+use cargo_toml_features::features::{DepAction, Feature, ParseDependency};
 use std::alloc::{AllocError, Global};
-use std::collections::{BTreeMap, BTreeSet, HashMap};
-use std::hash::BuildHasher;
+use std::collections::{BTreeMap, BTreeSet};
 
 fn implied_feature(alloc: Global, key: &str) -> Result<Feature<'_>, AllocError>
     ensures { IfOk result (IsImplied key.now) }
@@ -29,40 +35,73 @@ fn implied_feature(alloc: Global, key: &str) -> Result<Feature<'_>, AllocError>
     })
 }
 
-// Whether some action on the key is dep-only. Of an empty map no key is looked up.
-fn is_reserved<'m, S: BuildHasher>(acted: &HashMap<&'m str, bool, S>, key: &str) -> bool
+// Whether some action on the key is dep-only.
+fn is_reserved(acted: &BTreeMap<&str, bool>, key: &str) -> bool
     ensures { result ≡ is_reserved_in acted.now key.now }
 {
-    !acted.is_empty() && acted.get(key).copied().unwrap_or(false)
+    acted.get(key).copied().unwrap_or(false)
 }
 
-fn imply<'m, S: BuildHasher>(
+// The key implies a feature at its place, where none is there.
+fn imply_at<'m>(
     alloc: Global,
-    features: &mut HashMap<&'m str, Feature<'m>, S>,
-    acted: &HashMap<&'m str, bool, S>,
-    entry: &ParseDependency<'m, '_>,
+    features: &mut Slots<'m, Feature<'m>>,
+    place: usize,
+    key: &'m str,
 ) -> Result<(), AllocError>
-    ensures { OnOk result (ImpliesAll (is_offered acted.now (entry_of entry.now ∷ [])) features.old features.new) }
+    requires place { place < length features.old.names.items }
+    requires named { text_at (names_in features.old) place ≡ key.now }
+    ensures implied { OnOk result (ImpliesAll (λ q. bytes_eq q key.now) features.old features.new) }
+    ensures same_names { OnOk result (HaveSameNames features.old features.new) }
 {
-    if entry.dep.optional() && !is_reserved(acted, entry.key) {
-        features
-            .entry(entry.key)?
-            .or_try_insert_with(|| implied_feature(alloc, entry.key))?;
+    if features.values[place].is_none() {
+        let feature = implied_feature(alloc, key)?;
+        features.put(place, feature);
     }
     Ok(())
 }
 
-// Adds the features that optional dependencies imply.
-pub fn imply_all<'m, S: BuildHasher>(
+// Adds the feature that the entry implies, if it does. The answer is the place after it, or else `near`, where it is looked
+// for first. The key of an optional entry is a name.
+fn imply<'m>(
     alloc: Global,
-    features: &mut HashMap<&'m str, Feature<'m>, S>,
-    acted: &HashMap<&'m str, bool, S>,
+    features: &mut Slots<'m, Feature<'m>>,
+    acted: &BTreeMap<&'m str, bool>,
+    entry: &ParseDependency<'m, '_>,
+    near: usize,
+) -> Result<usize, AllocError>
+    requires named { IsTrue (is_optional (dependency_meaning entry.now.dep.now))
+        → Among (names_in features.old) entry.now.key.now }
+    ensures implied { OnOk result
+        (ImpliesAll (is_offered acted.now (entry_of entry.now ∷ [])) features.old features.new) }
+    ensures same_names { OnOk result (HaveSameNames features.old features.new) }
+{
+    if !entry.dep.optional() || is_reserved(acted, entry.key) {
+        return Ok(near);
+    }
+    let Some(place) = place_near(features.names.as_slice(), entry.key, near) else {
+        unreachable!()
+    };
+    imply_at(alloc, features, place, entry.key)?;
+    Ok(place.saturating_add(1))
+}
+
+// Adds the features that optional dependencies imply. The keys of optional entries are among the names.
+pub fn imply_all<'m>(
+    alloc: Global,
+    features: &mut Slots<'m, Feature<'m>>,
+    acted: &BTreeMap<&'m str, bool>,
     entries: &[ParseDependency<'m, '_>],
 ) -> Result<(), AllocError>
-    ensures { OnOk result (ImpliesAll (is_offered acted.now (map entry_of entries.now)) features.old features.new) }
+    requires named { (k : Text) → IsTrue (list_any (is_optional_at k) (map entry_of entries.now))
+        → Among (names_in features.old) k }
+    ensures implied { OnOk result
+        (ImpliesAll (is_offered acted.now (map entry_of entries.now)) features.old features.new) }
+    ensures same_names { OnOk result (HaveSameNames features.old features.new) }
 {
+    let mut near = 0;
     for entry in entries {
-        imply(alloc, features, acted, entry)?;
+        near = imply(alloc, features, acted, entry, near)?;
     }
     Ok(())
 }

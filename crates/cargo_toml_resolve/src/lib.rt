@@ -3,20 +3,15 @@
 //! [`resolve_all`] is the whole of it; hidden features are removed after it. Callers use it by `cargo_toml::features::Resolver`.
 #![tactic(auto)]
 
-mod action;
-pub mod admit;
 pub mod bins;
 mod enable;
-pub mod entries;
-pub mod examples;
-pub mod features;
 mod imply;
-mod laws;
-pub mod questions;
+mod names;
+pub mod places;
 mod read;
 pub mod record;
-pub mod recursive;
 mod redundant;
 pub mod resolution;
+pub mod slots;
 
 pub use resolution::resolve_all;

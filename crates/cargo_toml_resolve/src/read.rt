@@ -1,28 +1,34 @@
 //! What the lists of features say.
-ghost use Rattle.std.specs.Prelude.{◌≡◌, ◌∷◌, ◌++◌, [], List, if◌then◌else◌, bytes_eq, string_bytes, codes, map, false, IfOk, OnOk, Some, None, MatchOption};
+ghost use Rattle.std.specs.Prelude.{◌≡◌, ◌∷◌, ◌++◌, [], List, if◌then◌else◌, bytes_eq, string_bytes, codes, map, false, IfOk, IsTrue, OnOk, Some, None, MatchOption};
+ghost use Rattle.std.specs.List.{list_any};
 ghost use Rattle.std.specs.Option.{IsSomeAnd};
 ghost use Rattle.cargo_toml_graph.specs.Action.{Text, Item, item_of};
-ghost use Rattle.cargo_toml_resolve.specs.ActionText.{action_in};
-ghost use Rattle.cargo_toml_graph.specs.Admitted.{action_on};
-ghost use Rattle.cargo_toml_graph.specs.Reach.{IsOnce};
-ghost use Rattle.cargo_toml_resolve.specs.Reading.{listed_of, IsRead, AreFresh};
-ghost use Rattle.cargo_toml_resolve.specs.ReadFeature.{joined_in, noted, IsListed};
-ghost use Rattle.cargo_toml_resolve.specs.Views.{table_in, value_at};
+ghost use Rattle.cargo_toml_features.specs.ActionText.{action_in};
+ghost use Rattle.cargo_toml_graph.specs.Admitted.{action_on, is_explicit};
+ghost use Rattle.cargo_toml_graph.specs.Reach.{Among, IsOnce};
+ghost use Rattle.cargo_toml_features.specs.Views.{listed_of};
+ghost use Rattle.cargo_toml_resolve.specs.Reading.{IsRead, AreFresh};
+ghost use Rattle.cargo_toml_resolve.specs.ReadFeature.{joined_in, noted, IsGathered, IsListed};
+ghost use Rattle.cargo_toml_features.specs.InOrder.{sorted_at};
+ghost use Rattle.cargo_toml_features.specs.Views.{has_text};
+ghost use Rattle.cargo_toml_resolve.specs.Ascending.{Ascend};
+ghost use Rattle.cargo_toml_resolve.specs.Slots.{HaveSameNames, held_in, names_in, table_held};
 
-use crate::action::{ActionText, add_text, join_action, read_action};
-use crate::admit::Listing;
-use crate::features::Feature;
+use crate::places::{empty_slots, place_near};
+use crate::slots::Slots;
+use cargo_toml_features::action::{ActionText, add_text, join_action, read_action};
+use cargo_toml_features::admit::Listing;
+use cargo_toml_features::features::Feature;
 use std::alloc::{AllocError, Global};
-use std::collections::{BTreeMap, BTreeSet, HashMap};
-use std::hash::BuildHasher;
+use std::collections::{BTreeMap, BTreeSet};
 
 /// What the lists of features say, before dependencies are looked at.
 #[derive(Drop)]
-pub struct Mentions<'m, S: BuildHasher> {
-    /// The features by name.
-    pub features: HashMap<&'m str, Feature<'m>, S>,
+pub struct Mentions<'m> {
+    /// The features by name, and the names of features that may come to be.
+    pub features: Slots<'m, Feature<'m>>,
     /// For each key that a feature acts on, whether some action on it is dep-only (`dep:key`).
-    pub acted: HashMap<&'m str, bool, S>,
+    pub acted: BTreeMap<&'m str, bool>,
 }
 
 // A feature whose list is empty.
@@ -40,12 +46,12 @@ fn empty_feature(alloc: Global, key: &str) -> Feature<'_>
 }
 
 // Notes an action on its target.
-fn note_action<'m, S: BuildHasher>(
-    acted: &mut HashMap<&'m str, bool, S>,
+fn note_action<'m>(
+    acted: &mut BTreeMap<&'m str, bool>,
     action: ActionText<'m>,
 ) -> Result<(), AllocError>
-    ensures { OnOk result ((k : Text) → value_at acted.new k
-        ≡ noted (value_at acted.old k)
+    ensures { OnOk result ((k : Text) → sorted_at acted.new k
+        ≡ noted (sorted_at acted.old k)
         (if bytes_eq k action.entry.target.now then Some (action_in action.entry) else None)) }
 {
     let is_dep_only = acted.entry(action.target)?.or_insert(false);
@@ -53,101 +59,142 @@ fn note_action<'m, S: BuildHasher>(
     Ok(())
 }
 
-// Reads one more text of the feature's list.
-fn add_item<'m, S: BuildHasher>(
+// Reads one more text of the feature's list. A name goes to the end of `named`.
+fn add_item<'m>(
     alloc: Global,
     feature: &mut Feature<'m>,
-    acted: &mut HashMap<&'m str, bool, S>,
+    named: &mut Vec<&'m str>,
+    acted: &mut BTreeMap<&'m str, bool>,
     text: &'m str,
 ) -> Result<(), AllocError>
-    ensures listed { OnOk result ((f : Text) (items : List Item)
-        → IsListed f items feature.old → IsListed f (items ++ item_of text.now ∷ []) feature.new) }
+    ensures gathered { OnOk result ((f : Text) (items : List Item)
+        → IsGathered f items (map (λ t. t.now) named.old.items) feature.old
+        → IsGathered f (items ++ item_of text.now ∷ []) (map (λ t. t.now) named.new.items) feature.new) }
     ensures noted { OnOk result
-        ((k : Text) → value_at acted.new k ≡ noted (value_at acted.old k) (action_on k (item_of text.now))) }
+        ((k : Text) → sorted_at acted.new k ≡ noted (sorted_at acted.old k) (action_on k (item_of text.now))) }
 {
     let action = read_action(text);
     if action.acts() {
         join_action(alloc, &mut feature.enables_deps, action)?;
         note_action(acted, action)?;
     } else {
-        add_text(&mut feature.enables_features, action.target)?;
+        named.push(action.target)?;
     }
     Ok(())
 }
 
-// Reads the list of one feature.
-fn read_list<'m, S: BuildHasher>(
+// The texts one after another, as a set.
+fn inserted<'m>(alloc: Global, texts: &[&'m str]) -> Result<BTreeSet<&'m str>, AllocError>
+    ensures { IfOk result (λ s. (x : Text) → has_text s x ≡ list_any (bytes_eq x) (map (λ t. t.now) texts.now)) }
+{
+    let mut set = BTreeSet::new(alloc);
+    for text in texts {
+        add_text(&mut set, *text)?;
+    }
+    Ok(set)
+}
+
+// The texts as a set, which is made in one go.
+fn collected<'m>(alloc: Global, texts: &[&'m str]) -> Result<BTreeSet<&'m str>, AllocError>
+    ensures { IfOk result (λ s. (x : Text) → has_text s x ≡ list_any (bytes_eq x) (map (λ t. t.now) texts.now)) }
+{
+    texts.iter().copied().collect(alloc)
+}
+
+// The texts as a set. Few are inserted, which takes less memory than to sort them.
+fn set_of<'m>(alloc: Global, texts: &[&'m str]) -> Result<BTreeSet<&'m str>, AllocError>
+    ensures { IfOk result (λ s. (x : Text) → has_text s x ≡ list_any (bytes_eq x) (map (λ t. t.now) texts.now)) }
+{
+    if texts.len() > 16 {
+        collected(alloc, texts)
+    } else {
+        inserted(alloc, texts)
+    }
+}
+
+// Reads the list of one feature. The names that it has are gathered in `named`, whatever was there.
+fn read_list<'m>(
     alloc: Global,
-    acted: &mut HashMap<&'m str, bool, S>,
+    named: &mut Vec<&'m str>,
+    acted: &mut BTreeMap<&'m str, bool>,
     listing: Listing<'m>,
 ) -> Result<Feature<'m>, AllocError>
     ensures listed { IfOk result
         (IsListed listing.entry.name.now (map item_of (map string_bytes listing.entry.actions.now))) }
     ensures noted { OnOk result
-        ((k : Text) → value_at acted.new k ≡ noted (value_at acted.old k)
+        ((k : Text) → sorted_at acted.new k ≡ noted (sorted_at acted.old k)
         (joined_in (map item_of (map string_bytes listing.entry.actions.now)) k)) }
 {
+    named.clear();
     let mut feature = empty_feature(alloc, listing.name);
     for text in listing.actions {
-        add_item(alloc, &mut feature, acted, text.as_str())?;
+        add_item(alloc, &mut feature, named, acted, text.as_str())?;
     }
+    feature.enables_features = set_of(alloc, named.as_slice())?;
     Ok(feature)
 }
 
-// Puts a feature under its name.
-fn put_feature<'m, S: BuildHasher>(
-    features: &mut HashMap<&'m str, Feature<'m>, S>,
-    name: &'m str,
+// Puts a feature under its name, which is one of the names. The answer is the place after it; it is looked for at `near` first.
+fn put_feature<'m>(
+    features: &mut Slots<'m, Feature<'m>>,
+    name: &str,
     feature: Feature<'m>,
-) -> Result<(), AllocError>
-    ensures { OnOk result ((f : Text) → value_at features.new f
-        ≡ (if bytes_eq f name.now then Some feature.entry else value_at features.old f)) }
+    near: usize,
+) -> usize
+    requires named { Among (names_in features.old) name.now }
+    ensures held { (f : Text) → held_in features.new f
+        ≡ (if bytes_eq f name.now then Some feature.entry else held_in features.old f) }
+    ensures same_names { HaveSameNames features.old features.new }
 {
-    features.insert(name, feature)?;
-    Ok(())
+    let Some(place) = place_near(features.names.as_slice(), name, near) else {
+        unreachable!()
+    };
+    features.put(place, feature);
+    place.saturating_add(1)
 }
 
 // Adds the feature `default` where it isn't listed.
-fn add_default<'m, S: BuildHasher>(
-    alloc: Global,
-    features: &mut HashMap<&'m str, Feature<'m>, S>,
-) -> Result<(), AllocError>
-    ensures others { OnOk result ((f : Text) → bytes_eq f (codes "default") ≡ false
-        → value_at features.new f ≡ value_at features.old f) }
-    ensures default { OnOk result
-        (MatchOption (value_at features.old (codes "default"))
-        (IsSomeAnd (value_at features.new (codes "default")) (IsListed (codes "default") []))
-        (λ v. value_at features.new (codes "default") ≡ Some v)) }
+fn add_default<'m>(alloc: Global, features: &mut Slots<'m, Feature<'m>>)
+    requires named { Among (names_in features.old) (codes "default") }
+    ensures others { (f : Text) → bytes_eq f (codes "default") ≡ false
+        → held_in features.new f ≡ held_in features.old f }
+    ensures default { MatchOption (held_in features.old (codes "default"))
+        (IsSomeAnd (held_in features.new (codes "default")) (IsListed (codes "default") []))
+        (λ v. held_in features.new (codes "default") ≡ Some v) }
+    ensures same_names { HaveSameNames features.old features.new }
 {
-    if !features.contains_key("default") {
-        put_feature(features, "default", empty_feature(alloc, "default"))?;
+    if features.get("default").is_none() {
+        let feature = empty_feature(alloc, "default");
+        put_feature(features, "default", feature, 0);
     }
-    Ok(())
 }
 
-/// Reads the lists of all features, of which each name is listed once, and adds `default` where it isn't listed.
+/// Reads the lists of all features, of which each name is listed once, and adds `default` where it isn't listed. All these are
+/// among the names.
 ///
-/// Each map gets a clone of `state`. It fails only where memory runs out, or the clone does.
-pub fn read_features<'m, S: BuildHasher + Clone>(
+/// It fails only where memory runs out.
+pub fn read_features<'m>(
     alloc: Global,
-    state: &S,
+    names: Vec<&'m str>,
     listings: &[Listing<'m>],
-) -> Result<Mentions<'m, S>, AllocError>
-    requires { IsOnce (map (λ l. l.name.now) listings.now) }
+) -> Result<Mentions<'m>, AllocError>
+    requires once { IsOnce (map (λ l. l.name.now) listings.now) }
+    requires ascend { Ascend (map (λ n. n.now) names.items) }
+    requires explicit { (f : Text) → IsTrue (is_explicit (listed_of listings.now) f)
+        → Among (map (λ n. n.now) names.items) f }
     ensures read { IfOk result (λ r.
-        IsRead (listed_of listings.now) (table_in r.features) (value_at r.acted)) }
+        IsRead (listed_of listings.now) (table_held r.features) (sorted_at r.acted)) }
     ensures fresh { IfOk result (λ r. AreFresh r.features) }
+    ensures names { IfOk result (λ r. r.features.names.items ≡ names.entry.items) }
 {
-    let mut features = HashMap::with_capacity_and_hasher(
-        alloc,
-        listings.len() + 1,
-        state.clone()?,
-    )?;
-    let mut acted = HashMap::with_hasher(alloc, state.clone()?);
+    let mut features = empty_slots(alloc, names)?;
+    let mut acted = BTreeMap::new(alloc);
+    let mut named = Vec::new(alloc);
+    let mut near = 0;
     for listing in listings {
-        let feature = read_list(alloc, &mut acted, *listing)?;
-        put_feature(&mut features, listing.name, feature)?;
+        let feature = read_list(alloc, &mut named, &mut acted, *listing)?;
+        near = put_feature(&mut features, listing.name, feature, near);
     }
-    add_default(alloc, &mut features)?;
+    add_default(alloc, &mut features);
     Ok(Mentions { features, acted })
 }

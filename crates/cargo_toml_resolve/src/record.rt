@@ -1,17 +1,23 @@
 //! Which dependencies features can speak of.
-ghost use Rattle.std.specs.Prelude.{◌≡◌, ◌||◌, IfOk, OnOk, Option, Some, bytes_eq, if◌then◌else◌, is_some, map, option_map};
+ghost use Rattle.std.specs.Prelude.{◌≡◌, ◌↔◌, ◌<◌, ◌||◌, IfOk, IsTrue, OnOk, Some, bytes_eq, if◌then◌else◌, length, map};
+ghost use Rattle.std.specs.List.{list_any};
 ghost use Rattle.cargo_toml_dependencies.specs.Dependencies.{dependency_meaning, is_optional};
 ghost use Rattle.cargo_toml_graph.specs.Action.{Text};
+ghost use Rattle.cargo_toml_graph.specs.Reach.{Among};
 ghost use Rattle.cargo_toml_graph.specs.Admitted.{Listed};
-ghost use Rattle.cargo_toml_resolve.specs.Recorded.{is_mentioned, entries_at, recorded_of};
-ghost use Rattle.cargo_toml_resolve.specs.Recording.{recorded_at, recorded_nowhere, recorded_next, recorded_with, is_mentioned_in, recorded_after};
-ghost use Rattle.cargo_toml_resolve.specs.Views.{entry_of, recorded_in, target_of, value_at};
+ghost use Rattle.cargo_toml_features.specs.Recorded.{is_mentioned, entries_at, recorded_of};
+ghost use Rattle.cargo_toml_resolve.specs.Recording.{counts_at, recorded_at, recorded_nowhere, recorded_next, recorded_with, is_mentioned_in, recorded_after};
+ghost use Rattle.cargo_toml_resolve.specs.Slots.{HaveSameNames, names_in};
+ghost use Rattle.cargo_toml_features.specs.Views.{entry_of, recorded_in, target_of};
+ghost use Rattle.cargo_toml_walk.specs.Numbered.{text_at};
 
-use crate::features::{FeatureDependency, ParseDependency, TargetKey};
+use crate::names::ascending;
+use crate::places::{empty_slots, place_near};
 use crate::read::Mentions;
+use crate::slots::Slots;
+use cargo_toml_features::features::{FeatureDependency, ParseDependency, TargetKey};
 use std::alloc::{AllocError, Global};
-use std::collections::{BTreeMap, HashMap};
-use std::hash::BuildHasher;
+use std::collections::BTreeMap;
 
 fn target_key<'m>(entry: &ParseDependency<'m, '_>) -> TargetKey<'m>
     ensures { target_of result ≡ (entry_of entry.now).target }
@@ -50,88 +56,95 @@ fn add_target<'m: 'd, 'd>(
     Ok(())
 }
 
-// Whether the map has the key. Of an empty map no key is looked up.
-fn has_key<V, S: BuildHasher>(map: &HashMap<&str, V, S>, key: &str) -> bool
-    ensures { result ≡ is_some (value_at map.now key.now) }
-{
-    !map.is_empty() && map.contains_key(key)
-}
-
 // Whether an entry counts by itself.
-fn counts<'m, S: BuildHasher>(mentions: &Mentions<'m, S>, entry: &ParseDependency<'m, '_>) -> bool
+fn counts<'m>(mentions: &Mentions<'m>, entry: &ParseDependency<'m, '_>) -> bool
     ensures { result ≡ (is_optional (dependency_meaning entry.now.dep.now)
         || is_mentioned_in mentions.now entry.now.key.now) }
 {
     entry.dep.optional()
-        || has_key(&mentions.features, entry.key)
-        || has_key(&mentions.acted, entry.key)
+        || mentions.features.get(entry.key).is_some()
+        || mentions.acted.contains_key(entry.key)
 }
 
-// Records an entry that counts by itself.
-fn record_counting<'m: 'd, 'd, S: BuildHasher>(
+// The keys of the entries that count by themselves, once for each.
+fn counting_keys<'m: 'd, 'd>(
     alloc: Global,
-    dependencies: &mut HashMap<&'d str, FeatureDependency<'d>, S>,
+    mentions: &Mentions<'m>,
+    entries: &[ParseDependency<'m, 'd>],
+) -> Result<Vec<&'d str>, AllocError>
+    ensures { IfOk result (λ v. (k : Text) → Among (map (λ t. t.now) v.items) k
+        ↔ IsTrue (list_any (counts_at (is_mentioned_in mentions.now) k) (map entry_of entries.now))) }
+{
+    let mut keys = Vec::with_capacity(alloc, entries.len())?;
+    for entry in entries {
+        if counts(mentions, entry) {
+            keys.push(entry.key)?;
+        }
+    }
+    Ok(keys)
+}
+
+// Records an entry at the place of its key.
+fn record_at<'m: 'd, 'd>(
+    alloc: Global,
+    dependencies: &mut Slots<'d, FeatureDependency<'d>>,
+    place: usize,
     entry: &ParseDependency<'m, 'd>,
 ) -> Result<(), AllocError>
-    ensures { OnOk result ((q : Text) → recorded_at dependencies.new q
+    requires place { place < length dependencies.old.names.items }
+    requires named { text_at (names_in dependencies.old) place ≡ entry.now.key.now }
+    ensures recorded { OnOk result ((q : Text) → recorded_at dependencies.new q
         ≡ (if bytes_eq entry.now.key.now q then Some (recorded_with (recorded_at dependencies.old q) (entry_of entry.now))
         else recorded_at dependencies.old q)) }
+    ensures same_names { OnOk result (HaveSameNames dependencies.old dependencies.new) }
 {
     let first = without_targets(alloc, entry);
-    add_target(dependencies.entry(entry.key)?.or_insert(first), entry)?;
+    let mut dependency = dependencies.values[place].take().unwrap_or(first);
+    add_target(&mut dependency, entry)?;
+    dependencies.put(place, dependency);
     Ok(())
 }
 
-// Records an entry that counts only where its key is recorded already. Of an empty map no key is looked up.
-fn record_later<'m: 'd, 'd, S: BuildHasher>(
-    dependencies: &mut HashMap<&'d str, FeatureDependency<'d>, S>,
-    entry: &ParseDependency<'m, 'd>,
-) -> Result<(), AllocError>
-    ensures { OnOk result ((q : Text) → recorded_at dependencies.new q
-        ≡ (if bytes_eq entry.now.key.now q
-        then option_map (λ r. recorded_next r (entry_of entry.now)) (recorded_at dependencies.old q)
-        else recorded_at dependencies.old q)) }
-{
-    if dependencies.is_empty() {
-        return Ok(());
-    }
-    match dependencies.get_mut(entry.key) {
-        Some(dependency) => add_target(dependency, entry),
-        None => Ok(()),
-    }
-}
-
-fn record_entry<'m: 'd, 'd, S: BuildHasher>(
+// Records an entry if it counts. The answer is the place after it, or else `near`, where it is looked for first. The key of an
+// entry that counts by itself is a name.
+fn record_entry<'m: 'd, 'd>(
     alloc: Global,
-    dependencies: &mut HashMap<&'d str, FeatureDependency<'d>, S>,
-    mentions: &Mentions<'m, S>,
+    dependencies: &mut Slots<'d, FeatureDependency<'d>>,
+    mentions: &Mentions<'m>,
     entry: &ParseDependency<'m, 'd>,
-) -> Result<(), AllocError>
-    ensures { OnOk result ((q : Text) → recorded_at dependencies.new q
+    near: usize,
+) -> Result<usize, AllocError>
+    requires named { IsTrue (is_optional (dependency_meaning entry.now.dep.now)
+        || is_mentioned_in mentions.now entry.now.key.now) → Among (names_in dependencies.old) entry.now.key.now }
+    ensures recorded { OnOk result ((q : Text) → recorded_at dependencies.new q
         ≡ recorded_after (is_mentioned_in mentions.now) (entry_of entry.now) q (recorded_at dependencies.old q)) }
+    ensures same_names { OnOk result (HaveSameNames dependencies.old dependencies.new) }
 {
-    if counts(mentions, entry) {
-        record_counting(alloc, dependencies, entry)
-    } else {
-        record_later(dependencies, entry)
+    let Some(place) = place_near(dependencies.names.as_slice(), entry.key, near) else {
+        return Ok(near);
+    };
+    let next = place.saturating_add(1);
+    if dependencies.values[place].is_some() || counts(mentions, entry) {
+        record_at(alloc, dependencies, place, entry)?;
     }
+    Ok(next)
 }
 
-/// The dependencies of the entries that count. It fails only where memory runs out, or the clone of `state` does.
-pub fn record_dependencies<'m: 'd, 'd, S: BuildHasher + Clone>(
+/// The dependencies of the entries that count. It fails only where memory runs out.
+pub fn record_dependencies<'m: 'd, 'd>(
     alloc: Global,
-    state: &S,
-    mentions: &Mentions<'m, S>,
+    mentions: &Mentions<'m>,
     entries: &[ParseDependency<'m, 'd>],
-) -> Result<HashMap<&'d str, FeatureDependency<'d>, S>, AllocError>
-    ensures { IfOk result (λ m. (listed : Listed) → ((k : Text) → is_mentioned_in mentions.now k ≡ is_mentioned listed k) →
-        (k : Text) → recorded_at m k ≡ recorded_of (entries_at listed (map entry_of entries.now) k)) }
+) -> Result<Slots<'d, FeatureDependency<'d>>, AllocError>
+    ensures recorded { IfOk result (λ s. (listed : Listed)
+        → ((k : Text) → is_mentioned_in mentions.now k ≡ is_mentioned listed k) →
+        (k : Text) → recorded_at s k ≡ recorded_of (entries_at listed (map entry_of entries.now) k)) }
 {
-    // Most of what is recorded is optional. The map grows where features mention more.
-    let room = entries.iter().filter(|entry| entry.dep.optional()).count();
-    let mut dependencies = HashMap::with_capacity_and_hasher(alloc, room, state.clone()?)?;
+    let names = ascending(counting_keys(alloc, mentions, entries)?);
+    let mut dependencies = empty_slots(alloc, names)?;
+    let mut near = 0;
     for entry in entries {
-        record_entry(alloc, &mut dependencies, mentions, entry)?;
+        near = record_entry(alloc, &mut dependencies, mentions, entry, near)?;
     }
     Ok(dependencies)
 }

@@ -3,19 +3,20 @@ ghost use Rattle.std.specs.Prelude.{◌≡◌, List, Some, bytes_eq, map, option
 ghost use Rattle.std.specs.List.{list_any};
 ghost use Rattle.cargo_toml_dependencies.specs.Dependencies.{dependency_meaning};
 ghost use Rattle.cargo_toml_graph.specs.Action.{Text};
-ghost use Rattle.cargo_toml_resolve.specs.Recorded.{Entry, first_target, is_redundant, recorded_of, without_redundant};
+ghost use Rattle.cargo_toml_features.specs.Recorded.{Entry, first_target, is_redundant, recorded_of, without_redundant};
 ghost use Rattle.cargo_toml_resolve.specs.Recording.{recorded_at};
+ghost use Rattle.cargo_toml_resolve.specs.Enabling.{Relates};
 ghost use Rattle.cargo_toml_resolve.specs.Redundant.{IsRecordOf, Thinned, ThinnedAll};
-ghost use Rattle.cargo_toml_resolve.specs.Views.{action_of};
+ghost use Rattle.cargo_toml_resolve.specs.Slots.{HaveSameNames};
+ghost use Rattle.cargo_toml_features.specs.Views.{action_of};
 
-use crate::features::{DepAction, Feature, FeatureDependency};
+use crate::slots::Slots;
 use cargo_toml_dependencies::Dependency;
-use std::collections::HashMap;
-use std::hash::BuildHasher;
+use cargo_toml_features::features::{DepAction, Feature, FeatureDependency};
 
 // The dependency of the key's first target, where the key is recorded.
-fn first_dependency<'d, S: BuildHasher>(
-    dependencies: &HashMap<&str, FeatureDependency<'d>, S>,
+fn first_dependency<'d>(
+    dependencies: &Slots<'_, FeatureDependency<'d>>,
     key: &str,
 ) -> Option<&'d Dependency>
     ensures { (es : List Entry) → recorded_at dependencies.now key.now ≡ recorded_of es
@@ -52,10 +53,10 @@ fn thin_action(action: &mut DepAction<'_>, dependency: &Dependency)
 }
 
 // The same of the action on the key, by the dependency of its first target.
-fn thin_action_on<S: BuildHasher>(
+fn thin_action_on(
     key: &str,
     action: &mut DepAction<'_>,
-    dependencies: &HashMap<&str, FeatureDependency<'_>, S>,
+    dependencies: &Slots<'_, FeatureDependency<'_>>,
 )
     ensures { (es : List Entry) → recorded_at dependencies.now key.now ≡ recorded_of es
         → action_of action.new ≡ without_redundant (first_target es) (action_of action.old) }
@@ -66,10 +67,7 @@ fn thin_action_on<S: BuildHasher>(
 }
 
 // The same of each action of the feature. `retain` lends each value to be written, and keeps all.
-fn thin_feature<S: BuildHasher>(
-    feature: &mut Feature<'_>,
-    dependencies: &HashMap<&str, FeatureDependency<'_>, S>,
-)
+fn thin_actions(feature: &mut Feature<'_>, dependencies: &Slots<'_, FeatureDependency<'_>>)
     ensures { (entries : Text → List Entry) → IsRecordOf dependencies.now entries
         → Thinned entries feature.old feature.new }
 {
@@ -79,17 +77,36 @@ fn thin_feature<S: BuildHasher>(
     });
 }
 
+// The same; a feature without actions stays as it is.
+fn thin_feature(feature: &mut Feature<'_>, dependencies: &Slots<'_, FeatureDependency<'_>>)
+    ensures { (entries : Text → List Entry) → IsRecordOf dependencies.now entries
+        → Thinned entries feature.old feature.new }
+{
+    if !feature.enables_deps.is_empty() {
+        thin_actions(feature, dependencies);
+    }
+}
+
+fn thin_value(value: &mut Option<Feature<'_>>, dependencies: &Slots<'_, FeatureDependency<'_>>)
+    ensures { (entries : Text → List Entry) → IsRecordOf dependencies.now entries
+        → Relates (Thinned entries) value.old value.new }
+{
+    if let Some(feature) = value {
+        thin_feature(feature, dependencies);
+    }
+}
+
 /// Takes out of each feature's actions the dependency features that are on anyway. A feature `default` is where the
 /// dependency's first target has its default features, and any other where that target lists it.
-pub fn drop_redundant<S: BuildHasher>(
-    features: &mut HashMap<&str, Feature<'_>, S>,
-    dependencies: &HashMap<&str, FeatureDependency<'_>, S>,
+pub fn drop_redundant(
+    features: &mut Slots<'_, Feature<'_>>,
+    dependencies: &Slots<'_, FeatureDependency<'_>>,
 )
-    ensures { (entries : Text → List Entry) → IsRecordOf dependencies.now entries
+    ensures thinned { (entries : Text → List Entry) → IsRecordOf dependencies.now entries
         → ThinnedAll entries features.old features.new }
+    ensures same_names { HaveSameNames features.old features.new }
 {
-    features.retain(|_, feature| {
-        thin_feature(feature, dependencies);
-        true
-    });
+    for value in features.values.iter_mut() {
+        thin_value(value, dependencies);
+    }
 }

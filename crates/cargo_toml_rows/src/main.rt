@@ -3,6 +3,7 @@
 //! The words of the command line name the rows, as KIND/NAME. A line for each says that all is as expected, or what came instead.
 #![tactic(auto)]
 
+mod bodies;
 mod completed;
 mod custom;
 mod files;
@@ -34,6 +35,8 @@ enum Kind {
     Whole,
     /// The same where `_a` alone of the hidden names is kept.
     Kept,
+    /// Whether the same is printed of the features of manifests where they are resolved by the plain body.
+    Bodies,
     /// What is recorded of its dependencies.
     Dependencies,
     /// What is reported of it by a caller.
@@ -59,6 +62,7 @@ fn kind_of(word: &str) -> Option<Kind> {
         "custom" => Some(Kind::Custom),
         "whole" => Some(Kind::Whole),
         "kept" => Some(Kind::Kept),
+        "bodies" => Some(Kind::Bodies),
         "dependencies" => Some(Kind::Dependencies),
         "report" => Some(Kind::Report),
         "recursion" => Some(Kind::Recursion),
@@ -80,7 +84,7 @@ fn expected_file(kind: Kind) -> &'static str {
         Kind::Dependencies => "/recorded",
         Kind::Report => "/reported",
         Kind::Recursion => "/enabled",
-        Kind::Values => "",
+        Kind::Values | Kind::Bodies => "",
         Kind::Complete => "/completed",
         Kind::Parsed => "/parsed",
         Kind::Files => "/printed",
@@ -97,6 +101,7 @@ fn answer<R: Files + AllocGlobal>(
     let alloc = rt.alloc();
     match kind {
         Kind::Values => return values::lines(alloc, folder, expected),
+        Kind::Bodies => return bodies::lines(rt, expected),
         Kind::Files => return files::answers(rt, folder),
         _ => {}
     }

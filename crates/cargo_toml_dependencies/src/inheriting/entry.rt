@@ -1,11 +1,11 @@
 // What one inherited dependency becomes.
-ghost use Rattle.std.specs.Prelude.{ℕ, ◌≡◌, ◌++◌, List, [], IfOk, OnOk, Some, map, ok_or, option_map, string_bytes};
+ghost use Rattle.std.specs.Prelude.{ℕ, ◌≡◌, ◌++◌, ◌||◌, IsTrue, List, [], IfOk, OnOk, Some, map, ok_or, option_map, string_bytes};
 ghost use Rattle.std.specs.Option.{option_copied};
 ghost use Rattle.std.specs.Path.{path_join};
 ghost use Rattle.cargo_toml_parts.specs.FaultValues.{fault_of, inherited_unknown_value};
 ghost use Rattle.cargo_toml_parts.specs.Versions.{requirement_meaning};
 ghost use Rattle.cargo_toml_dependencies.specs.Dependencies.{dependency_meaning, detail_meaning, inherited_meaning};
-ghost use Rattle.cargo_toml_dependencies.specs.Inheriting.{adds_nothing, from_template, missing_template, plain_detail, with_entry};
+ghost use Rattle.cargo_toml_dependencies.specs.Inheriting.{IsShort, adds_nothing, from_template, missing_template, plain_detail, short_detail, with_entry};
 
 use crate::dependency::{Dependency, DependencyDetail, InheritedDependencyDetail};
 use cargo_toml_parts::copying::Copying;
@@ -39,6 +39,20 @@ fn joined_texts(alloc: Global, front: &[String], back: &[String]) -> Result<Vec<
     add_texts(&mut texts, front)?;
     add_texts(&mut texts, back)?;
     Ok(texts)
+}
+
+// The texts of a list, and behind them those of another, which mostly is empty.
+fn extended_texts(
+    alloc: Global,
+    texts: &Vec<String>,
+    more: &[String],
+) -> Result<Vec<String>, AllocError>
+    ensures { IfOk result (λ all. map string_bytes all.items ≡ map string_bytes texts.now.items ++ map string_bytes more.now) }
+{
+    if more.is_empty() {
+        return Ok(texts.clone()?);
+    }
+    joined_texts(alloc, texts.as_slice(), more)
 }
 
 // Puts copies of the texts behind those of the list.
@@ -97,23 +111,121 @@ fn with_entry(
     })
 }
 
+// The same in a box. It is kept out of line, so that a short detail isn't handled as widely.
+#[inline(never)]
+fn boxed_with_entry(
+    alloc: Global,
+    base: &str,
+    entry: &InheritedDependencyDetail,
+    template: &DependencyDetail,
+) -> Result<Box<DependencyDetail>, AllocError>
+    ensures { IfOk result (λ d. detail_meaning d.value
+        ≡ with_entry base.now (inherited_meaning entry.now) (detail_meaning template.now)) }
+{
+    Ok(Box::new(alloc, with_entry(alloc, base, entry, template)?)?)
+}
+
+// Whether a detail of the workspace tells no more than a requirement, features and flags, as most do.
+fn is_short(template: &DependencyDetail) -> bool
+    ensures { IsTrue result → IsShort (detail_meaning template.now) }
+{
+    template.package.is_none()
+        && template.registry.is_none()
+        && template.registry_index.is_none()
+        && template.path.is_none()
+        && template.git.is_none()
+        && template.branch.is_none()
+        && template.tag.is_none()
+        && template.rev.is_none()
+        && template.unstable.is_empty()
+}
+
+// A detail that tells no more than these. It is filled in where it stays, and not moved there.
+#[inline(always)]
+fn short_detail(
+    alloc: Global,
+    version: Option<VersionReq>,
+    features: Vec<String>,
+    optional: bool,
+    default_features: bool,
+) -> Result<Box<DependencyDetail>, AllocError>
+    ensures { IfOk result (λ d. detail_meaning d.value
+        ≡ short_detail (option_map requirement_meaning version) (map string_bytes features.items) optional default_features) }
+{
+    let mut detail = Box::new(alloc, DependencyDetail::default(alloc))?;
+    detail.version = version;
+    detail.features = features;
+    detail.optional = optional;
+    detail.default_features = default_features;
+    detail.inherited = true;
+    Ok(detail)
+}
+
+// A copy of a requirement, if there is one.
+fn copied_requirement(
+    alloc: Global,
+    requirement: Option<&VersionReq>,
+) -> Result<Option<VersionReq>, AllocError>
+    ensures { IfOk result (λ copied. option_map requirement_meaning copied
+        ≡ option_map requirement_meaning (option_copied requirement.entry)) }
+{
+    match requirement {
+        Some(requirement) => Ok(Some(requirement.duplicate(alloc)?)),
+        None => Ok(None),
+    }
+}
+
+// What a member's entry makes of the requirement, the features and the flags of a detail.
+fn short_with_entry(
+    alloc: Global,
+    entry: &InheritedDependencyDetail,
+    template: &DependencyDetail,
+) -> Result<Box<DependencyDetail>, AllocError>
+    ensures { IfOk result (λ d. detail_meaning d.value
+        ≡ short_detail (option_map requirement_meaning template.now.version)
+        (map string_bytes template.now.features.items ++ map string_bytes entry.now.features.items)
+        (template.now.optional || entry.now.optional) template.now.default_features) }
+{
+    let version = copied_requirement(alloc, template.version.as_ref())?;
+    let features = extended_texts(alloc, &template.features, entry.features.as_slice())?;
+    let optional = template.optional || entry.optional;
+    short_detail(
+        alloc,
+        version,
+        features,
+        optional,
+        template.default_features,
+    )
+}
+
+// What a member's entry makes of a detail of the workspace.
+fn detail_with_entry(
+    alloc: Global,
+    base: &str,
+    entry: &InheritedDependencyDetail,
+    template: &DependencyDetail,
+) -> Result<Box<DependencyDetail>, AllocError>
+    ensures { IfOk result (λ d. detail_meaning d.value
+        ≡ with_entry base.now (inherited_meaning entry.now) (detail_meaning template.now)) }
+{
+    if is_short(template) {
+        return short_with_entry(alloc, entry, template);
+    }
+    boxed_with_entry(alloc, base, entry, template)
+}
+
 // A detail of which the workspace tells the requirement alone, with what a member's entry adds.
 fn requirement_with_entry(
     alloc: Global,
     entry: &InheritedDependencyDetail,
     requirement: &VersionReq,
-) -> Result<DependencyDetail, AllocError>
-    ensures { IfOk result (λ d. detail_meaning d
+) -> Result<Box<DependencyDetail>, AllocError>
+    ensures { IfOk result (λ d. detail_meaning d.value
         ≡ with_entry [] (inherited_meaning entry.now) (plain_detail (requirement_meaning requirement.now))) }
 {
     let version = requirement.duplicate(alloc)?;
     let features = entry.features.duplicate(alloc)?;
-    let mut detail = DependencyDetail::default(alloc);
-    detail.version = Some(version);
-    detail.features = features;
-    detail.optional = entry.optional;
-    detail.inherited = true;
-    Ok(detail)
+    short_detail(alloc, Some(version), features, entry.optional, true)
 }
 
 // Whether the entry asks for nothing beside what the workspace tells.
@@ -146,15 +258,15 @@ pub fn from_template(
     match template {
         Dependency::Inherited(_) => Ok(None),
         Dependency::Detailed(detail) => {
-            let detail = with_entry(alloc, base, entry, detail)?;
-            Ok(Some(Dependency::Detailed(Box::new(alloc, detail)?)))
+            let detail = detail_with_entry(alloc, base, entry, detail)?;
+            Ok(Some(Dependency::Detailed(detail)))
         }
         Dependency::Simple(requirement) => {
             if adds_nothing(entry) {
                 return Ok(Some(Dependency::Simple(requirement.duplicate(alloc)?)));
             }
             let detail = requirement_with_entry(alloc, entry, requirement)?;
-            Ok(Some(Dependency::Detailed(Box::new(alloc, detail)?)))
+            Ok(Some(Dependency::Detailed(detail)))
         }
     }
 }

@@ -7,8 +7,7 @@ ghost use Rattle.cargo_toml_dependencies.specs.Inheriting.{any_target_left, inhe
 ghost use Rattle.cargo_toml_dependencies.specs.Replacing.{entries_meaning, next_target, replaced_target, replaced_targets, targets_meaning};
 ghost use Rattle.cargo_toml_dependencies.specs.Targets.{target_meaning};
 
-use super::{any_inherited, replace, replacements};
-use crate::dependency::Dependency;
+use super::{Made, any_inherited, replace, replacements};
 use crate::target::{DepsSet, Target, TargetDepsSet};
 use cargo_toml_parts::error::Error;
 use std::alloc::Global;
@@ -18,11 +17,11 @@ use std::vec::IntoIter;
 #[derive(Drop)]
 pub struct NewTarget {
     /// Those of the table `dependencies`, in the order of their keys.
-    pub dependencies: Vec<Dependency>,
+    pub dependencies: Made,
     /// Those of the table `build-dependencies`.
-    pub build_dependencies: Vec<Dependency>,
+    pub build_dependencies: Made,
     /// Those of the table `dev-dependencies`.
-    pub dev_dependencies: Vec<Dependency>,
+    pub dev_dependencies: Made,
 }
 
 // What the inherited dependencies of a target become.

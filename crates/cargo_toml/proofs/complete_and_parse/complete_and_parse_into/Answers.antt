@@ -2,9 +2,9 @@ use Rattle.std.proofs.Common.{Bool, refl}
 use Rattle.cargo_toml_graph.specs.Action.{Text}
 use Rattle.cargo_toml_hidden.specs.Filter.{Tells}
 use Rattle.cargo_toml_manifest.specs.Manifests.{manifest_meaning}
-use Rattle.cargo_toml_resolve.specs.FirstTarget.{HaveTargets}
-use Rattle.cargo_toml_resolve.specs.Reached.{IsKeyed}
-use Rattle.cargo_toml_resolve.specs.Views.{answer_of}
+use Rattle.cargo_toml_features.specs.FirstTarget.{HaveTargets}
+use Rattle.cargo_toml_features.specs.Reached.{IsKeyed}
+use Rattle.cargo_toml_features.specs.Views.{answer_of}
 use Rattle.cargo_toml.specs.Filtered.{filter_of}
 use Rattle.cargo_toml.specs.Parsed.{IsParsed}
 use Rattle.cargo_toml.proofs.Lent.{refused_alike, given_alike, is_answered, outcome_with, wrapped_with, resolved_with}

@@ -1,7 +1,7 @@
 use Rattle.std.proofs.Common.{◌≡◌, true, rules, tests}
 use Rattle.std.proofs.lemmas.Map.Iter.{rest_more, rest_all}
 use Rattle.std.specs.Map.Iter.{deref_pair}
-use Rattle.cargo_toml_resolve.proofs.TextKeys.{inserted}
+use Rattle.cargo_toml_features.proofs.TextKeys.{inserted}
 use Rattle.cargo_toml_bench.specs.Alone.{is_alone}
 use Rattle.cargo_toml_bench.proofs.Gathering.{alone_from, gathered, all_gathered}
 use Rattle.cargo_toml_bench.proofs.report.unreferenced_names.Goals as goal

@@ -1,7 +1,8 @@
-use Rattle.std.proofs.Common.{◌≡◌, Some, map, string_bytes}
+use Rattle.std.proofs.Common.{◌≡◌, ◌++◌, Some, map, string_bytes}
 use Rattle.cargo_toml_parts.specs.Reads.{map_meaning}
 use Rattle.cargo_toml_dependencies.specs.Dependencies.{dependency_meaning}
 use Rattle.cargo_toml_dependencies.specs.Near.{AreEntriesOf}
+use Rattle.cargo_toml_dependencies.specs.Replacing.{made_meaning}
 use Rattle.cargo_toml_dependencies.proofs.Inherited.{behind, needed}
 use Rattle.cargo_toml_dependencies.proofs.inheriting.made_by.Given as goal
 
@@ -9,5 +10,5 @@ abbrev pub invariant-loop-key : goal.invariant-loop-key
 invariant-loop-key l =
     let templates = map_meaning dependency_meaning l.templates in
     (needed (Some templates) l.base (map_meaning dependency_meaning l.dependencies)
-    ≡ behind (map dependency_meaning l.made.items) (needed (Some templates) l.base (map (λ e. (string_bytes e.0, dependency_meaning e.1)) l.key-iterator)))
+    ≡ behind (made_meaning l.full ++ map dependency_meaning l.block.items) (needed (Some templates) l.base (map (λ e. (string_bytes e.0, dependency_meaning e.1)) l.key-iterator)))
     × AreEntriesOf templates l.near

@@ -1,7 +1,7 @@
 use Rattle.std.proofs.Common.{◌≡◌, ◌<◌, ◌&&◌, ℕ, Bool, codes, false, length, nat_eq, not}
 use Rattle.std.specs.List.{slice_index_or, starts_with}
 use Rattle.cargo_toml_graph.specs.Action.{Text}
-use Rattle.cargo_toml_resolve.specs.InOrder.{names_of}
+use Rattle.cargo_toml_features.specs.InOrder.{names_of}
 use Rattle.cargo_toml_walk.specs.Numbered.{text_at}
 use Rattle.cargo_toml_hidden.specs.Filter.{Tells}
 use Rattle.cargo_toml_hidden.proofs.flags.hidden_flags.Given as goal

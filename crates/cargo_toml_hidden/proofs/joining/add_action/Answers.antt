@@ -1,6 +1,6 @@
 use Rattle.std.proofs.Common.{ap, arith, unwrap_or, ◌∙◌, true, false}
 use Rattle.std.proofs.lemmas.Map.Text.{text_keys}
-use Rattle.cargo_toml_resolve.specs.Views.{action_of}
+use Rattle.cargo_toml_features.specs.Views.{action_of}
 use Rattle.cargo_toml_hidden.proofs.Actions.{joined_at}
 use Rattle.cargo_toml_hidden.proofs.joining.add_action.Goals as goal
 

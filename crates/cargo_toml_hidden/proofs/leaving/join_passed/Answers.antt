@@ -1,6 +1,6 @@
 use Rattle.std.proofs.Common.{rules, ◌<◌, get_or, length}
 use Rattle.std.proofs.lemmas.Option.{slice_get-get_or}
-use Rattle.cargo_toml_resolve.specs.Views.{action_at}
+use Rattle.cargo_toml_features.specs.Views.{action_at}
 use Rattle.cargo_toml_walk.proofs.Steps.{among_at}
 use Rattle.cargo_toml_hidden.proofs.Passers.{begin_join, next_join, end_join}
 use Rattle.cargo_toml_hidden.proofs.leaving.join_passed.Goals as goal

@@ -1,7 +1,7 @@
 use Rattle.std.proofs.Common.{◌≡◌, ◌⊎◌, Some, take}
 use Rattle.cargo_toml_graph.specs.Action.{Text, IsJoin}
 use Rattle.cargo_toml_graph.specs.Reach.{Among}
-use Rattle.cargo_toml_resolve.specs.Views.{action_at}
+use Rattle.cargo_toml_features.specs.Views.{action_at}
 use Rattle.cargo_toml_hidden.specs.Leaving.{DoesAt}
 use Rattle.cargo_toml_hidden.proofs.leaving.join_passed.Given as goal
 

@@ -22,8 +22,8 @@ publish-requires-clause-once g c =
     fits : (i : ℕ) → i < length c.in_ok-texts.field-0.texts.items → i < length (texts_of c.in_ok-texts.field-0.texts.items)
     fits i lt = subst (λ n. i < n) (sym (length-map c.in_ok-texts.field-0.texts.items (λ (k : Bor Text). k.now))) lt
 
-pub returns : goal.returns
-returns g c =
+pub returns-clause-taken : goal.returns-clause-taken
+returns-clause-taken g c =
     let f = c.in_ok-texts.field-0 in
     let vs = c.args.features.items in
     let new = c.place.new.features.items in

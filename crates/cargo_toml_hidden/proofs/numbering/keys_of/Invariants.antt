@@ -1,5 +1,5 @@
 use Rattle.std.proofs.Common.{◌≡◌, take}
-use Rattle.cargo_toml_resolve.specs.InOrder.{names_of}
+use Rattle.cargo_toml_features.specs.InOrder.{names_of}
 use Rattle.cargo_toml_hidden.specs.Texts.{texts_of}
 use Rattle.cargo_toml_hidden.proofs.numbering.keys_of.Given as goal
 

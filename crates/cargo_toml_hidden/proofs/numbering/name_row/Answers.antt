@@ -6,8 +6,8 @@ use Rattle.cargo_toml_hidden.proofs.NumberRows.{HasNumbers, all_numbers, number_
 use Rattle.cargo_toml_hidden.proofs.NumberTexts.{one_number}
 use Rattle.cargo_toml_hidden.proofs.numbering.name_row.Goals as goal
 
-pub loop-name-preserved-in-Continue-branch-2 : goal.loop-name-preserved-in-Continue-branch-2
-loop-name-preserved-in-Continue-branch-2 c =
+pub loop-name-preserved-in-Some-number_of : goal.loop-name-preserved-in-Some-number_of
+loop-name-preserved-in-Some-number_of c =
     subst (HasNumbers c.args.texts.now (Among (seen (c.loop-name.yielded ++ c.in-Some.name ∷ [])))) (sym c.in_ok-push.ensures.items)
     (number_put c.args.texts.now c.loop-name.yielded c.in-Some.name c.loop-name.row.items c.loop-name.invariant (one_number c.args.count c.args.texts.now c.requires) c.in-Some-number_of.number c.in-Some-number_of.ensures.found)
 

@@ -4,7 +4,7 @@ use Rattle.std.specs.Option.{option_map_or}
 use Rattle.cargo_toml_graph.specs.Reach.{Among}
 use Rattle.cargo_toml_walk.specs.Numbered.{text_at}
 use Rattle.cargo_toml_walk.proofs.Filling.{IsFilled, one_more_filled}
-use Rattle.cargo_toml_resolve.specs.Views.{has_text}
+use Rattle.cargo_toml_features.specs.Views.{has_text}
 use Rattle.cargo_toml_hidden.specs.Numbering.{names_at}
 use Rattle.cargo_toml_hidden.specs.Texts.{texts_of}
 use Rattle.cargo_toml_hidden.proofs.numbering.name_rows.Goals as goal

@@ -19,11 +19,3 @@ returns-clause-numbered c =
     c.in_ok-names.ensures.len (named_by vs c.in_ok-names.names.items c.as_slice.result.now ts c.as_slice.ensures.value c.in_ok-names.ensures.rows)
     c.in_ok-edges.ensures.len (targets_by vs c.in_ok-edges.edges.items c.as_slice-3.result.now c.in_ok-names.names.items _ c.as_slice-3.ensures.value (keys_are vs c.as_slice-2.result.now ts c.as_slice-2.ensures.value c.in_ok-texts.ensures) c.in_ok-edges.ensures.rows)
     (size ∙ sym (length-map ts (λ (t : Bor Text). t.now))) c.in_ok-flags.ensures.flags
-
-pub returns-clause-edges_inside : goal.returns-clause-edges_inside
-returns-clause-edges_inside c = λ a b l. (((returns-clause-numbered c).leads a b (has_row c.in_ok-edges.edges.items a b l)).0 l).0
-
-pub returns-clause-names_inside : goal.returns-clause-names_inside
-returns-clause-names_inside c = λ a x l.
-    let n = returns-clause-numbered c in
-    subst (λ k. x < k) (sym n.flag_count) (n.labels_inside a x l)

@@ -1,7 +1,7 @@
 use Rattle.std.proofs.Common.{ap, ◌∙◌, cond, Some}
 use Rattle.std.proofs.lemmas.Map.Text.{hash_map_updates_str}
 use Rattle.cargo_toml_graph.proofs.Texts.{bytes_eq_sym}
-use Rattle.cargo_toml_resolve.specs.Views.{value_at}
+use Rattle.cargo_toml_features.specs.Views.{value_at}
 use Rattle.cargo_toml_hidden.proofs.publishing.put.Goals as goal
 
 pub returns : goal.returns

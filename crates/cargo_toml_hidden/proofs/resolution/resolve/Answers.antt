@@ -1,34 +1,36 @@
-use Rattle.std.proofs.Common.{◌==◌, ◌↔◌, map, not, IsTrue, sym, ap, subst, ◌∙◌}
+use Rattle.std.proofs.Common.{◌≡◌, ◌↔◌, ◌<◌, ◌&&◌, ℕ, IsTrue, codes, false, length, map, nat_eq, not, option_map, sym, ap, subst, ◌∙◌}
+use Rattle.std.specs.List.{slice_index_or, starts_with}
 use Rattle.cargo_toml_graph.specs.Action.{Text}
-use Rattle.cargo_toml_graph.specs.Admitted.{is_below}
-use Rattle.cargo_toml_graph.specs.Removal.{IsAscending, is_removed}
-use Rattle.cargo_toml_graph.specs.Reach.{Among, IsOnce}
+use Rattle.cargo_toml_graph.specs.Graph.{Table}
+use Rattle.cargo_toml_graph.specs.Removal.{is_removed}
+use Rattle.cargo_toml_features.specs.InOrder.{names_of}
 use Rattle.cargo_toml_resolve.specs.OwnBins.{own_of, requirement_of}
-use Rattle.cargo_toml_resolve.specs.Reading.{listed_of}
-use Rattle.cargo_toml_resolve.specs.Views.{entry_of, table_in}
-use Rattle.cargo_toml_hidden.specs.Removing.{texts_of}
-use Rattle.cargo_toml_hidden.proofs.Resolving.{answers, ascending_once, keyed_still, some_is}
+use Rattle.cargo_toml_features.specs.Views.{listed_of, entry_of, recorded_in}
+use Rattle.cargo_toml_features.specs.Recorded.{entries_at, recorded_of}
+use Rattle.cargo_toml_features.specs.Resolved.{SameRecorded, table_of}
+use Rattle.cargo_toml_walk.specs.Numbered.{text_at}
+use Rattle.cargo_toml_hidden.specs.Numbering.{IsFlagged}
+use Rattle.cargo_toml_hidden.proofs.AnsweringLeft.{answers, some_flagged}
+use Rattle.cargo_toml_hidden.proofs.InPlace.{removed_is}
 use Rattle.cargo_toml_hidden.proofs.resolution.resolve.Goals as goal
-
-pub remove_all-requires-clause-there : goal.remove_all-requires-clause-there
-remove_all-requires-clause-there g c = λ v i. c.in_ok-names.ensures.known v (subst (λ xs. Among (texts_of xs) v) c.as_slice.ensures.value i)
-
-pub remove_all-requires-clause-once : goal.remove_all-requires-clause-once
-remove_all-requires-clause-once g c = subst (λ xs. IsOnce (texts_of xs)) (sym c.as_slice.ensures.value) (ascending_once (texts_of c.in_ok-names.names.items) c.in_ok-names.ensures.ascending)
-
-pub returns-clause-keyed : goal.returns-clause-keyed
-returns-clause-keyed g c = keyed_still c.in_ok-all.all.features c.remove_all.new.features c.in_ok-all.ensures.keyed c.in_ok-remove_all.ensures.keys
 
 pub returns-clause-resolved : goal.returns-clause-resolved
 returns-clause-resolved g c = λ keep tells.
-    let all = c.in_ok-all.ensures in
-    let names = c.in_ok-names.ensures in
-    let gone = c.in_ok-remove_all.ensures in
-    let same = c.as_slice.ensures.value in
-    answers {S = g.row.S.Denot} {H = g.row.S-Hasher.Denot} (listed_of c.args.listings.now) (map entry_of c.args.entries.now) (own_of (map requirement_of c.args.requirements.now)) keep c.in_ok-all.all.features
-    (record { features = c.remove_all.new.features; dependencies = c.in_ok-all.all.dependencies; removed_hidden_features = not c.is_empty.result; hidden_features = c.remove_all.new.hidden })
-    (texts_of c.as_slice.result.now) all.unremoved all.keyed all.explicit all.bins all.dependencies
-    (subst (λ xs. (f : Text) → Among (texts_of xs) f ↔ IsTrue (is_removed (table_in c.in_ok-all.all.features) keep f)) (sym same) (names.removed keep tells))
-    (subst (λ xs. IsAscending (λ a b. IsTrue (is_below a b)) (texts_of xs)) (sym same) names.ascending)
-    gone.left gone.keys gone.explicit gone.bins gone.redirected gone.redirects
-    (some_is c.is_empty.result c.as_slice.result.now (c.is_empty.ensures ∙ ap (λ n. n == 0) (sym c.as_slice.ensures.len)))
+    let listed = listed_of c.args.listings.now in
+    let entries = map entry_of c.args.entries.now in
+    let t : Table = table_of listed entries in
+    let all = c.in_ok-features.ensures in
+    let vs = c.in_ok-features.field-0.features.items in
+    let flags = c.in_ok-flags.flags.items in
+    let len : length flags ≡ length vs = c.in_ok-flags.ensures.len ∙ ap length c.as_slice.ensures.value in
+    let flag_is : (i : ℕ) → i < length vs → slice_index_or flags i false ≡ (starts_with nat_eq (text_at (names_of vs) i) (codes "_") && not (keep (text_at (names_of vs) i))) =
+    subst (λ xs. (i : ℕ) → i < length xs → slice_index_or flags i false ≡ (starts_with nat_eq (text_at (names_of xs) i) (codes "_") && not (keep (text_at (names_of xs) i)))) c.as_slice.ensures.value
+    (c.in_ok-flags.ensures.flags keep tells) in
+    let is : (f : Text) → IsTrue (is_removed t keep f) ↔ IsFlagged vs flags f = removed_is t vs all.table all.in_order keep flags flag_is in
+    answers {S = g.row.S.Denot} {H = g.row.S-Hasher.Denot} listed entries (own_of (map requirement_of c.args.requirements.now)) keep vs
+    (record { features = c.in_ok-kept.field-0.features; dependencies = c.in_ok-dependencies.dependencies; removed_hidden_features = c.contains.result; hidden_features = c.in_ok-kept.field-0.hidden })
+    all.table all.explicit all.bins
+    (λ k. subst (λ o. SameRecorded (option_map recorded_in o) (recorded_of (entries_at listed entries k))) (sym (c.in_ok-dependencies.ensures.same k)) (all.dependencies k))
+    (c.in_ok-kept.ensures.outcome t (is_removed t keep) all.table all.unremoved (subst (λ fs. (f : Text) → IsTrue (is_removed t keep f) ↔ IsFlagged vs fs f) (sym c.as_slice-2.ensures.value) is))
+    (some_flagged c.contains.result vs c.deref.result.now (λ f. IsTrue (is_removed t keep f)) (ap length c.deref.ensures.value ∙ len) c.contains.ensures.cases
+    (subst (λ fs. (f : Text) → IsTrue (is_removed t keep f) ↔ IsFlagged vs fs f) (sym c.deref.ensures.value) is))

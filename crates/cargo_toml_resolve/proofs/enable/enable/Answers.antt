@@ -1,12 +1,10 @@
-use Rattle.std.proofs.Common.{◌≡◌, Some, is_some, refl, ap, sym, ◌∙◌}
-use Rattle.std.specs.Option.{option_copied_mut}
-use Rattle.cargo_toml_resolve.specs.Views.{value_at}
-use Rattle.cargo_toml_resolve.proofs.TextKeys.{inserted}
-use Rattle.cargo_toml_resolve.proofs.Enabling.{enabled_at}
+use Rattle.std.proofs.Common.{refl}
+use Rattle.cargo_toml_resolve.proofs.Enabling.{enabled_back}
+use Rattle.cargo_toml_resolve.proofs.HeldValues.{unfound}
 use Rattle.cargo_toml_resolve.proofs.enable.enable.Goals as goal
 
-pub returns-in_ok-insert : goal.returns-in_ok-insert
-returns-in_ok-insert g c =
-    let there : value_at c.args.features.now c.args.link.now.target.now ≡ Some c.in-Some.feature.now = sym c.get_mut.ensures.value ∙ ap option_copied_mut c.in-Some.is in
-    enabled_at c.args.link.now.target.now c.args.link.now.source.now c.args.features.now _ c.in-Some.feature.now _ there ((c.get_mut.follows.holds _).3 (ap is_some there))
-    (record { key = refl; names = refl; actions = refl; bins = refl; explicit = refl; enabled_by = λ e. inserted c.args.link.now.source.now c.in-Some.feature.now.enabled_by c.insert.new.self c.in_ok-insert.ensures.updates e })
+pub returns-in_default-clause-enabled : goal.returns-in_default-clause-enabled
+returns-in_default-clause-enabled c =
+    let s = c.args.features.now in
+    let target = c.args.link.now.target.now in
+    enabled_back target c.args.link.now.source.now s s (unfound s c.as_slice.result.now target c.as_slice.ensures.value (c.place_near.ensures.missing c.in_default.is)) (λ q. refl)

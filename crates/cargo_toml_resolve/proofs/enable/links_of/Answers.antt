@@ -1,20 +1,23 @@
-use Rattle.std.proofs.Common.{rules, ◌≡◌, Some, Bor, map, ◌∙◌}
-use Rattle.std.proofs.lemmas.Map.Iter.{hash_map_turn, iter_end}
-use Rattle.std.specs.Cmp.Lexicographic.{on_texts_equal}
-use Rattle.std.specs.Map.Iter.{deref_pair}
+use Rattle.std.proofs.Common.{rules, ◌≡◌, ◌<◌, [], length, Bor, sym, ap, ◌∙◌}
+use Rattle.std.proofs.lemmas.List.{get_or-map}
 use Rattle.cargo_toml_graph.specs.Action.{Text}
-use Rattle.cargo_toml_resolve.specs.Views.{value_at}
-use Rattle.cargo_toml_resolve.proofs.Links.{feature_linked, all_linked}
+use Rattle.cargo_toml_resolve.specs.Slots.{names_in}
+use Rattle.cargo_toml_resolve.proofs.Links.{feature_linked, none_linked}
+use Rattle.cargo_toml_walk.specs.Numbered.{text_at}
 use Rattle.cargo_toml_resolve.proofs.enable.links_of.Goals as goal
+use Rattle.cargo_toml_resolve.proofs.enable.links_of.Goals.{in-Some+in_ok-push_links, in_default}
 
-pub loop-name-preserved : goal.loop-name-preserved
-loop-name-preserved g c =
-    let there : value_at c.args.features.now c.in-Some.name.now.now ≡ Some c.in-Some.feature.now =
-    (hash_map_turn deref_pair c.loop-name.yielded c.into_iter-name-iterator.result c.loop-name.name-iterator c.next.new.self c.next.result (c.in-Some.name, c.in-Some.feature) c.loop-name.yielded_by c.in-Some.is c.next.ensures.steps
-    (on_texts_equal (λ (k : Bor Text). k.now)) c.args.features.now c.into_iter-name-iterator.ensures.into_iter_gives.0 c.into_iter-name-iterator.ensures.into_iter_gives.4).1 in
-    feature_linked c.args.features.now c.loop-name.yielded c.in-Some.name c.in-Some.feature c.loop-name.links.items c.push_links.new.links.items there c.loop-name.invariant c.in_ok-push_links.ensures
-
-pub returns : goal.returns
-returns g c = λ q e.
-    let all : map deref_pair c.loop-name.yielded ≡ c.args.features.now.entries = search (rules, iter_end) in
-    c.loop-name.invariant q e ∙ all_linked c.args.features.now c.loop-name.yielded all q e
+pub loop-place-preserved : goal.loop-place-preserved
+loop-place-preserved c =
+    let s = c.args.features.now in
+    let i = c.loop-place.place in
+    let o = c.index.result.now in
+    let below : i < length s.names.items = search rules in
+    elim c.match-index.branch [
+      | in-Some+in_ok-push_links w ↦
+          let r = w.index-in-Some.result.now in
+          let name : text_at (names_in s) i ≡ r.now = get_or-map (λ (t : Bor Text). t.now) s.names.items i r [] below ∙ ap (λ (t : Bor Text). t.now) (sym w.index-in-Some.ensures) in
+          rw (w.links-is) (feature_linked s i below w.in-Some.feature o r.now c.loop-place.links.items w.push_links.new.links.items c.index.ensures w.in-Some.is name c.loop-place.invariant w.in_ok-push_links.ensures)
+      | in_default w ↦
+          rw (w.links-is) (none_linked s i below o c.loop-place.links.items c.index.ensures w.in_default.is c.loop-place.invariant)
+    ]

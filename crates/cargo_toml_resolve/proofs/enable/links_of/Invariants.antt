@@ -4,5 +4,5 @@ use Rattle.cargo_toml_resolve.specs.Enabling.{is_linked}
 use Rattle.cargo_toml_resolve.proofs.Links.{linked_so_far}
 use Rattle.cargo_toml_resolve.proofs.enable.links_of.Given as goal
 
-abbrev pub invariant-loop-name : goal.invariant-loop-name
-invariant-loop-name g l = (q e : Text) → is_linked l.links.items q e ≡ linked_so_far l.features l.yielded q e
+abbrev pub invariant-loop-place : goal.invariant-loop-place
+invariant-loop-place l = (q e : Text) → is_linked l.links.items q e ≡ linked_so_far l.features l.place q e

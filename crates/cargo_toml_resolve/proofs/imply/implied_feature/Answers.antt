@@ -1,6 +1,6 @@
 use Rattle.std.proofs.Common.{refl}
 use Rattle.cargo_toml_resolve.proofs.Implying.{plain_made}
-use Rattle.cargo_toml_resolve.proofs.TextKeys.{none_in}
+use Rattle.cargo_toml_features.proofs.TextKeys.{none_in}
 use Rattle.cargo_toml_resolve.proofs.imply.implied_feature.Goals as goal
 
 pub returns : goal.returns

@@ -2,8 +2,8 @@ use Rattle.std.proofs.Common.{ap, sym, ◌∙◌, cond, Some, None}
 use Rattle.std.specs.Option.{option_or}
 use Rattle.std.specs.Ordering.{is_eq}
 use Rattle.cargo_toml_dependencies.specs.Dependencies.{dependency_meaning}
-use Rattle.cargo_toml_resolve.specs.Recorded.{target_cmp}
-use Rattle.cargo_toml_resolve.proofs.Targets.{at, target_added, target_kept}
+use Rattle.cargo_toml_features.specs.Recorded.{target_cmp}
+use Rattle.cargo_toml_features.proofs.Targets.{at, target_added, target_kept}
 use Rattle.cargo_toml_resolve.proofs.record.add_target.Goals as goal
 
 pub returns-in_ok-insert : goal.returns-in_ok-insert

@@ -1,11 +1,15 @@
 use Rattle.std.proofs.Common.{◌≡◌, map, take}
 use Rattle.cargo_toml_graph.specs.Action.{Text}
 use Rattle.cargo_toml_graph.specs.Admitted.{Listed}
-use Rattle.cargo_toml_resolve.specs.Recorded.{is_mentioned, entries_at, recorded_of}
+use Rattle.cargo_toml_features.specs.Recorded.{is_mentioned, entries_at, recorded_of}
 use Rattle.cargo_toml_resolve.specs.Recording.{recorded_at, is_mentioned_in}
-use Rattle.cargo_toml_resolve.specs.Views.{entry_of}
+use Rattle.cargo_toml_resolve.specs.Slots.{HaveSameNames}
+use Rattle.cargo_toml_features.specs.Views.{entry_of}
 use Rattle.cargo_toml_resolve.proofs.record.record_dependencies.Given as goal
 
 abbrev pub invariant-loop-entry : goal.invariant-loop-entry
-invariant-loop-entry g l = (listed : Listed) → ((k : Text) → is_mentioned_in l.mentions k ≡ is_mentioned listed k) →
-    (k : Text) → recorded_at l.dependencies k ≡ recorded_of (entries_at listed (map entry_of (take l.entry-index l.entries)) k)
+invariant-loop-entry l = record {
+  recorded : (listed : Listed) → ((k : Text) → is_mentioned_in l.mentions k ≡ is_mentioned listed k) →
+      (k : Text) → recorded_at l.dependencies k ≡ recorded_of (entries_at listed (map entry_of (take l.entry-index l.entries)) k);
+  same_names : HaveSameNames l.initial.dependencies l.dependencies;
+}

@@ -1,7 +1,7 @@
 use Rattle.std.proofs.Common.{not, Some, rules}
 use Rattle.std.proofs.lemmas.Fn.{filter_same}
 use Rattle.cargo_toml_dependencies.specs.Dependencies.{dependency_meaning}
-use Rattle.cargo_toml_resolve.specs.Recorded.{is_redundant}
+use Rattle.cargo_toml_features.specs.Recorded.{is_redundant}
 use Rattle.cargo_toml_resolve.proofs.Thinning.{has_filtered}
 use Rattle.cargo_toml_resolve.proofs.redundant.thin_action.Goals as goal
 

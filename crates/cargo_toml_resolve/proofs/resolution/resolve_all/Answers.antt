@@ -1,48 +1,102 @@
-use Rattle.std.proofs.Common.{◌&&◌, not, bytes_eq, false, refl, map}
+use Rattle.std.proofs.Common.{◌≡◌, ◌&&◌, not, bytes_eq, map}
+use Rattle.cargo_toml_graph.specs.Admitted.{is_explicit}
 use Rattle.cargo_toml_resolve.specs.Enabling.{leads_at}
 use Rattle.cargo_toml_resolve.specs.Implying.{is_offered}
 use Rattle.cargo_toml_resolve.specs.OwnBins.{own_of, requirement_of}
-use Rattle.cargo_toml_resolve.specs.Reading.{listed_of}
-use Rattle.cargo_toml_resolve.specs.Recorded.{entries_at}
-use Rattle.cargo_toml_resolve.specs.Views.{entry_of}
-use Rattle.cargo_toml_resolve.proofs.Answering.{whole, explicit_told, bins_told, dependencies_told, fresh_still, keyed_from, keyed_required}
-use Rattle.cargo_toml_resolve.proofs.FirstTarget.{have_targets}
+use Rattle.cargo_toml_features.specs.Views.{listed_of, entry_of}
+use Rattle.cargo_toml_features.specs.Recorded.{entries_at}
+use Rattle.cargo_toml_features.specs.Resolved.{table_of}
+use Rattle.cargo_toml_resolve.proofs.Answering.{whole, explicit_told, bins_told, dependencies_told, fresh_still, keyed_from, keyed_required, same_last, table_among, told_among, unremoved_among}
+use Rattle.cargo_toml_resolve.proofs.HeldTargets.{have_targets}
 use Rattle.cargo_toml_resolve.proofs.resolution.resolve_all.Goals as goal
 
+pub into_features-requires : goal.into_features-requires
+into_features-requires c = record {
+  keyed =
+      let listed = listed_of c.args.listings.now in
+      let entries = map entry_of c.args.entries.now in
+      let own = own_of (map requirement_of c.args.requirements.now) in
+      let mentions = c.in_ok-mentions.mentions in
+      let thinned = c.drop_redundant.new.features in
+      let implied = c.imply_all.new.features in
+      let enabled = c.set_wanted_enablers.new.features in
+      let last = c.require_all.new.features in
+      let deps = c.in_ok-dependencies.dependencies in
+      keyed_required own enabled last c.in_ok-require_all.ensures.required
+      (keyed_from (is_offered mentions.acted entries) (λ q e. c.args.wants_enablers && (leads_at implied e q && not (bytes_eq q e))) thinned implied enabled
+      (fresh_still c.args.wants_enablers listed entries own mentions thinned implied enabled last deps c.in_ok-mentions.ensures.read c.in_ok-mentions.ensures.fresh c.drop_redundant.ensures.thinned c.in_ok-imply_all.ensures.implied c.in_ok-set_wanted_enablers.ensures.enabled c.in_ok-require_all.ensures.required (c.in_ok-dependencies.ensures.recorded listed))
+      c.in_ok-imply_all.ensures.implied c.in_ok-set_wanted_enablers.ensures.enabled);
+}
+
+pub returns-clause-table : goal.returns-clause-table
+returns-clause-table c =
+    let listed = listed_of c.args.listings.now in
+    let entries = map entry_of c.args.entries.now in
+    let own = own_of (map requirement_of c.args.requirements.now) in
+    let mentions = c.in_ok-mentions.mentions in
+    let thinned = c.drop_redundant.new.features in
+    let implied = c.imply_all.new.features in
+    let enabled = c.set_wanted_enablers.new.features in
+    let last = c.require_all.new.features in
+    let deps = c.in_ok-dependencies.dependencies in
+    table_among last c.in_ok-features.features.items c.in_ok-features.ensures.same (table_of listed entries)
+    (same_last c.args.wants_enablers listed entries own mentions thinned implied enabled last deps c.in_ok-mentions.ensures.read c.in_ok-mentions.ensures.fresh c.drop_redundant.ensures.thinned c.in_ok-imply_all.ensures.implied c.in_ok-set_wanted_enablers.ensures.enabled c.in_ok-require_all.ensures.required (c.in_ok-dependencies.ensures.recorded listed))
+
 pub returns-clause-unremoved : goal.returns-clause-unremoved
-returns-clause-unremoved g c =
-    whole (listed_of c.args.listings.now) (map entry_of c.args.entries.now) (own_of (map requirement_of c.args.requirements.now)) c.in_ok-mentions.mentions c.drop_redundant.new.features c.imply_all.new.features c.set_enabled_by.new.features
-    (record { features = c.require_all.new.features; dependencies = c.in_ok-dependencies.dependencies; removed_hidden_features = false; hidden_features = c.with_hasher.result })
-    c.in_ok-mentions.ensures.read c.in_ok-mentions.ensures.fresh c.drop_redundant.ensures c.in_ok-imply_all.ensures c.in_ok-set_enabled_by.ensures c.in_ok-require_all.ensures (c.in_ok-dependencies.ensures (listed_of c.args.listings.now)) c.with_hasher.ensures.empty refl
+returns-clause-unremoved c = λ wants.
+    let listed = listed_of c.args.listings.now in
+    let entries = map entry_of c.args.entries.now in
+    let own = own_of (map requirement_of c.args.requirements.now) in
+    let mentions = c.in_ok-mentions.mentions in
+    let thinned = c.drop_redundant.new.features in
+    let implied = c.imply_all.new.features in
+    let enabled = c.set_wanted_enablers.new.features in
+    let last = c.require_all.new.features in
+    let deps = c.in_ok-dependencies.dependencies in
+    unremoved_among last c.in_ok-features.features.items c.in_ok-features.ensures.same (table_of listed entries)
+    (whole c.args.wants_enablers listed entries own mentions thinned implied enabled last deps c.in_ok-mentions.ensures.read c.in_ok-mentions.ensures.fresh c.drop_redundant.ensures.thinned c.in_ok-imply_all.ensures.implied c.in_ok-set_wanted_enablers.ensures.enabled c.in_ok-require_all.ensures.required (c.in_ok-dependencies.ensures.recorded listed) wants)
 
 pub returns-clause-explicit : goal.returns-clause-explicit
-returns-clause-explicit g c =
-    explicit_told (listed_of c.args.listings.now) (map entry_of c.args.entries.now) (own_of (map requirement_of c.args.requirements.now)) c.in_ok-mentions.mentions c.drop_redundant.new.features c.imply_all.new.features c.set_enabled_by.new.features
-    (record { features = c.require_all.new.features; dependencies = c.in_ok-dependencies.dependencies; removed_hidden_features = false; hidden_features = c.with_hasher.result })
-    c.in_ok-mentions.ensures.read c.in_ok-mentions.ensures.fresh c.drop_redundant.ensures c.in_ok-imply_all.ensures c.in_ok-set_enabled_by.ensures c.in_ok-require_all.ensures (c.in_ok-dependencies.ensures (listed_of c.args.listings.now)) c.with_hasher.ensures.empty refl
+returns-clause-explicit c = λ f.
+    let listed = listed_of c.args.listings.now in
+    let entries = map entry_of c.args.entries.now in
+    let own = own_of (map requirement_of c.args.requirements.now) in
+    let mentions = c.in_ok-mentions.mentions in
+    let thinned = c.drop_redundant.new.features in
+    let implied = c.imply_all.new.features in
+    let enabled = c.set_wanted_enablers.new.features in
+    let last = c.require_all.new.features in
+    let deps = c.in_ok-dependencies.dependencies in
+    told_among last c.in_ok-features.features.items c.in_ok-features.ensures.same (λ v. v.explicit ≡ is_explicit listed f) f
+    (explicit_told c.args.wants_enablers listed entries own mentions thinned implied enabled last deps c.in_ok-mentions.ensures.read c.in_ok-mentions.ensures.fresh c.drop_redundant.ensures.thinned c.in_ok-imply_all.ensures.implied c.in_ok-set_wanted_enablers.ensures.enabled c.in_ok-require_all.ensures.required (c.in_ok-dependencies.ensures.recorded listed) f)
 
 pub returns-clause-bins : goal.returns-clause-bins
-returns-clause-bins g c =
-    bins_told (listed_of c.args.listings.now) (map entry_of c.args.entries.now) (own_of (map requirement_of c.args.requirements.now)) c.in_ok-mentions.mentions c.drop_redundant.new.features c.imply_all.new.features c.set_enabled_by.new.features
-    (record { features = c.require_all.new.features; dependencies = c.in_ok-dependencies.dependencies; removed_hidden_features = false; hidden_features = c.with_hasher.result })
-    c.in_ok-mentions.ensures.read c.in_ok-mentions.ensures.fresh c.drop_redundant.ensures c.in_ok-imply_all.ensures c.in_ok-set_enabled_by.ensures c.in_ok-require_all.ensures (c.in_ok-dependencies.ensures (listed_of c.args.listings.now)) c.with_hasher.ensures.empty refl
+returns-clause-bins c = λ f.
+    let listed = listed_of c.args.listings.now in
+    let entries = map entry_of c.args.entries.now in
+    let own = own_of (map requirement_of c.args.requirements.now) in
+    let mentions = c.in_ok-mentions.mentions in
+    let thinned = c.drop_redundant.new.features in
+    let implied = c.imply_all.new.features in
+    let enabled = c.set_wanted_enablers.new.features in
+    let last = c.require_all.new.features in
+    let deps = c.in_ok-dependencies.dependencies in
+    told_among last c.in_ok-features.features.items c.in_ok-features.ensures.same (λ v. map (λ b. b.now) v.required_by_bins.items ≡ own f) f
+    (bins_told c.args.wants_enablers listed entries own mentions thinned implied enabled last deps c.in_ok-mentions.ensures.read c.in_ok-mentions.ensures.fresh c.drop_redundant.ensures.thinned c.in_ok-imply_all.ensures.implied c.in_ok-set_wanted_enablers.ensures.enabled c.in_ok-require_all.ensures.required (c.in_ok-dependencies.ensures.recorded listed) f)
 
 pub returns-clause-dependencies : goal.returns-clause-dependencies
-returns-clause-dependencies g c =
-    dependencies_told (listed_of c.args.listings.now) (map entry_of c.args.entries.now) (own_of (map requirement_of c.args.requirements.now)) c.in_ok-mentions.mentions c.drop_redundant.new.features c.imply_all.new.features c.set_enabled_by.new.features
-    (record { features = c.require_all.new.features; dependencies = c.in_ok-dependencies.dependencies; removed_hidden_features = false; hidden_features = c.with_hasher.result })
-    c.in_ok-mentions.ensures.read c.in_ok-mentions.ensures.fresh c.drop_redundant.ensures c.in_ok-imply_all.ensures c.in_ok-set_enabled_by.ensures c.in_ok-require_all.ensures (c.in_ok-dependencies.ensures (listed_of c.args.listings.now)) c.with_hasher.ensures.empty refl
-
-pub returns-clause-keyed : goal.returns-clause-keyed
-returns-clause-keyed g c =
-    keyed_required (own_of (map requirement_of c.args.requirements.now)) c.set_enabled_by.new.features c.require_all.new.features c.in_ok-require_all.ensures
-    (keyed_from (is_offered c.in_ok-mentions.mentions.acted (map entry_of c.args.entries.now)) (λ q e. leads_at c.imply_all.new.features e q && not (bytes_eq q e))
-    c.drop_redundant.new.features c.imply_all.new.features c.set_enabled_by.new.features
-    (fresh_still (listed_of c.args.listings.now) (map entry_of c.args.entries.now) (own_of (map requirement_of c.args.requirements.now)) c.in_ok-mentions.mentions c.drop_redundant.new.features c.imply_all.new.features c.set_enabled_by.new.features
-    (record { features = c.require_all.new.features; dependencies = c.in_ok-dependencies.dependencies; removed_hidden_features = false; hidden_features = c.with_hasher.result })
-    c.in_ok-mentions.ensures.read c.in_ok-mentions.ensures.fresh c.drop_redundant.ensures c.in_ok-imply_all.ensures c.in_ok-set_enabled_by.ensures c.in_ok-require_all.ensures (c.in_ok-dependencies.ensures (listed_of c.args.listings.now)) c.with_hasher.ensures.empty refl)
-    c.in_ok-imply_all.ensures c.in_ok-set_enabled_by.ensures)
+returns-clause-dependencies c =
+    let listed = listed_of c.args.listings.now in
+    let entries = map entry_of c.args.entries.now in
+    let own = own_of (map requirement_of c.args.requirements.now) in
+    let mentions = c.in_ok-mentions.mentions in
+    let thinned = c.drop_redundant.new.features in
+    let implied = c.imply_all.new.features in
+    let enabled = c.set_wanted_enablers.new.features in
+    let last = c.require_all.new.features in
+    let deps = c.in_ok-dependencies.dependencies in
+    dependencies_told c.args.wants_enablers listed entries own mentions thinned implied enabled last deps c.in_ok-mentions.ensures.read c.in_ok-mentions.ensures.fresh c.drop_redundant.ensures.thinned c.in_ok-imply_all.ensures.implied c.in_ok-set_wanted_enablers.ensures.enabled c.in_ok-require_all.ensures.required (c.in_ok-dependencies.ensures.recorded listed)
 
 pub returns-clause-targets : goal.returns-clause-targets
-returns-clause-targets g c =
-    have_targets c.in_ok-dependencies.dependencies c.len-count.ensures.unique (entries_at (listed_of c.args.listings.now) (map entry_of c.args.entries.now)) (returns-clause-dependencies g c)
+returns-clause-targets c =
+    have_targets c.in_ok-dependencies.dependencies (entries_at (listed_of c.args.listings.now) (map entry_of c.args.entries.now)) (returns-clause-dependencies c)

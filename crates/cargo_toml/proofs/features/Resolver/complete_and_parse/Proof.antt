@@ -40,11 +40,11 @@ use denote.Triple.Spec.{triple_of}
 use denote.Triple.Table.{framed}
 use denote.Triple.Walked.{Stays, stay_dropped, walk_of, Goes-dropped}
 use denote.Builtin.{unit}
-use Rattle.std.specs.Prelude.{OnErr, OnOk, IfErr, IfOk, Err}
+use Rattle.std.specs.Prelude.{OnErr, OnOk, IfErr, IfOk, Err, Bool, false, IfSome, option_map}
 use Rattle.std.specs.contracts.result.Result as Result
 use Rattle.std.proofs.result.Result.TheLaws.{the_row_laws as result_laws}
-use Rattle.cargo_toml_resolve.proofs.features.Features.TheLaws as Features-laws
-use Rattle.cargo_toml_resolve.specs.contracts.features.Features as Features
+use Rattle.cargo_toml_features.proofs.features.Features.TheLaws as Features-laws
+use Rattle.cargo_toml_features.specs.contracts.features.Features as Features
 use Rattle.cargo_toml_parts.specs.contracts.error.Error as Error
 use Rattle.cargo_toml_parts.proofs.error.Error.TheLaws as Error-laws
 use Rattle.cargo_toml_parts.specs.declared.error.Error.{Memory}
@@ -69,10 +69,9 @@ use Rattle.cargo_toml.specs.contracts.features.Resolver.complete_and_parse.{ende
 use Rattle.cargo_toml.specs.contracts.features.Resolver.complete_and_parse.Key.{name as #self}
 use Rattle.cargo_toml.proofs.features.Resolver.complete_and_parse.Statement.{statement}
 use Rattle.cargo_toml.proofs.features.Resolver.complete_and_parse.Code as code
-use Rattle.std.specs.Prelude.{Bool, false, IfSome, option_map}
 use Rattle.cargo_toml_graph.specs.Action.{Text}
 use Rattle.cargo_toml_hidden.specs.Filter.{HasNameFilter, Tells}
-use Rattle.cargo_toml_manifest.specs.Choosing.{handed_of}
+use Rattle.cargo_toml_manifest.specs.Choosing.{handed_of, RootsTold}
 use Rattle.cargo_toml_manifest.specs.Manifests.{ManifestMeaning, manifest_meaning}
 use Rattle.cargo_toml_manifest.specs.Told.{heard as heard_of}
 use Rattle.cargo_toml_manifest.specs.Completing.{GivenBy, IsLasting, IsWrapped, Meets, complete}
@@ -80,10 +79,9 @@ use Rattle.cargo_toml_manifest.specs.Inheriting.{needs}
 use Rattle.cargo_toml_package.specs.Filled.{IsFilled}
 use Rattle.cargo_toml.specs.Filtered.{filter_of}
 use Rattle.cargo_toml.specs.Parsed.{IsParsed}
-use Rattle.cargo_toml_resolve.specs.FirstTarget.{HaveTargets}
-use Rattle.cargo_toml_resolve.specs.Reached.{IsKeyed}
-use Rattle.cargo_toml_resolve.specs.Views.{answer_of}
-use Rattle.cargo_toml_manifest.specs.Choosing.{RootsTold}
+use Rattle.cargo_toml_features.specs.FirstTarget.{HaveTargets}
+use Rattle.cargo_toml_features.specs.Reached.{IsKeyed}
+use Rattle.cargo_toml_features.specs.Views.{answer_of}
 use Rattle.cargo_toml_discovery.specs.Told.{Told}
 
 pub complete_and_parse_spec : {M : Type 1} → statement M

@@ -2,13 +2,12 @@ use Rattle.std.proofs.Common.{◌≡◌, Bool, List, map, ap, ap₂, subst, ◌�
 use Rattle.cargo_toml_graph.specs.Action.{Text}
 use Rattle.cargo_toml_graph.specs.Admitted.{Listed, admitted}
 use Rattle.cargo_toml_manifest.specs.Manifests.{ManifestMeaning, manifest_meaning}
-use Rattle.cargo_toml_resolve.specs.declared.admit.TheConstants.{MAX_ITEMS}
-use Rattle.cargo_toml_resolve.specs.Entries.{entries_of}
+use Rattle.cargo_toml_features.specs.declared.admit.TheConstants.{MAX_ITEMS}
+use Rattle.cargo_toml_features.specs.Entries.{entries_of}
 use Rattle.cargo_toml_resolve.specs.OwnBins.{own_of, requirement_of}
-use Rattle.cargo_toml_resolve.specs.Reading.{listed_of}
-use Rattle.cargo_toml_resolve.specs.Recorded.{Entry}
-use Rattle.cargo_toml_resolve.specs.Resolved.{Answer, IsAnswer}
-use Rattle.cargo_toml_resolve.specs.Views.{answer_of, entry_of}
+use Rattle.cargo_toml_features.specs.Views.{listed_of, answer_of, entry_of}
+use Rattle.cargo_toml_features.specs.Recorded.{Entry}
+use Rattle.cargo_toml_features.specs.Resolved.{Answer, IsAnswer}
 use Rattle.cargo_toml.specs.Parsed.{IsParsed, parsed_entries, requirements}
 use Rattle.cargo_toml_hidden.proofs.AgainstAll.{none_left, keeps_enabling, loses_nothing}
 use Rattle.cargo_toml.proofs.features.Resolver.parse.Goals as goal

@@ -1,10 +1,9 @@
 use Rattle.std.proofs.Common.{[], map, ap, subst, ◌∙◌}
 use Rattle.cargo_toml_graph.specs.Admitted.{Listed, admitted}
-use Rattle.cargo_toml_resolve.specs.declared.admit.TheConstants.{MAX_ITEMS}
-use Rattle.cargo_toml_resolve.specs.Reading.{listed_of}
-use Rattle.cargo_toml_resolve.specs.Resolved.{IsAnswer}
-use Rattle.cargo_toml_resolve.specs.Views.{answer_of, entry_of}
-use Rattle.cargo_toml_resolve.proofs.Agreement.{settled}
+use Rattle.cargo_toml_features.specs.declared.admit.TheConstants.{MAX_ITEMS}
+use Rattle.cargo_toml_features.specs.Views.{listed_of, answer_of, entry_of}
+use Rattle.cargo_toml_features.specs.Resolved.{IsAnswer}
+use Rattle.cargo_toml_features.proofs.Agreement.{settled}
 use Rattle.cargo_toml.proofs.features.Resolver.parse_custom.Goals as goal
 
 pub returns-clause-resolved : goal.returns-clause-resolved

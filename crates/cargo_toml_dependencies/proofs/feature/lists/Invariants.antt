@@ -1,8 +1,0 @@
-use Rattle.std.proofs.Common.{[], map, string_bytes}
-use Rattle.cargo_toml_dependencies.specs.Features.{feature_of}
-use Rattle.cargo_toml_parts.proofs.Readers.{OthersSoFar}
-use Rattle.cargo_toml_parts.specs.Reads.{plain}
-use Rattle.cargo_toml_dependencies.proofs.feature.lists.Given as goal
-
-abbrev pub invariant-loop-key : goal.invariant-loop-key
-invariant-loop-key l = OthersSoFar _ _ (λ v. map string_bytes v.items) feature_of plain [] l.initial.key-iterator l.key-iterator l.all.entries

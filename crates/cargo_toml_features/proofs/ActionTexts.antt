@@ -1,0 +1,95 @@
+-- The parts of an action text, and one more action on a dependency.
+use Rattle.std.proofs.Common.{◌≡◌, ◌<◌, ◌+◌, ℕ, Bool, true, false, cond, ◌&&◌, ◌||◌, not, List, [], ◌∷◌, length, take, nat_eq, Option, Some, None, is_some, IfSome, option_map, bytes_eq, codes, Bor, arith, refl, sym, ap, ◌∙◌, subst, unwrap_or}
+use Rattle.std.specs.List.{starts_with, ends_with, before_first, after_first, list_any, position_or_len}
+use Rattle.std.specs.Option.{option_map_or}
+use Rattle.std.specs.BTreeMap.{BTreeMap, is_at}
+use Rattle.std.specs.Map.{lookup}
+use Rattle.std.specs.BTreeSet.{BTreeSet}
+use Rattle.std.specs.Cmp.Lexicographic.{slice_cmp}
+use Rattle.std.specs.Ordering.{nat_cmp}
+use Rattle.std.proofs.Math.Seq.{take-length}
+use Rattle.cargo_toml_graph.specs.Action.{Text, Action, join, join_option, without_start, without_end, is_slash, item_of}
+use Rattle.cargo_toml_graph.specs.Action.Item.{Name, On}
+use Rattle.cargo_toml_features.specs.ActionText.{action_in, item_in}
+use Rattle.cargo_toml_features.specs.Views.{has_text, action_of, action_at}
+use Rattle.cargo_toml_features.specs.declared.action.ActionText.{ActionText}
+use Rattle.cargo_toml_features.specs.declared.features.DepAction.{DepAction}
+use Rattle.std.proofs.lemmas.Slice.Eq.{bytes_eq-Decides}
+use Rattle.cargo_toml_graph.proofs.Texts.{bytes_eq_sym}
+use Rattle.cargo_toml_features.proofs.TextKeys.{none_in}
+
+-- where no element passes, the search runs to the end
+pub none_found : (p : ℕ → Bool) (xs : List ℕ) → position_or_len p xs ≡ length xs → list_any p xs ≡ false
+none_found p [] e = refl
+none_found p (x ∷ xs) e = go (p x) (none_found p xs) e
+  where
+    go : (b : Bool) → (position_or_len p xs ≡ length xs → list_any p xs ≡ false) → cond (not b) (1 + position_or_len p xs) 0 ≡ length (x ∷ xs) → (b || list_any p xs) ≡ false
+    go true rest h = absurd (omega (arith, h))
+    go false rest h = rest (omega (arith, h))
+
+pub one_found : (p : ℕ → Bool) (xs : List ℕ) → position_or_len p xs < length xs → list_any p xs ≡ true
+one_found p [] h = absurd (omega (arith, h))
+one_found p (x ∷ xs) h = go (p x) (one_found p xs) h
+  where
+    go : (b : Bool) → (position_or_len p xs < length xs → list_any p xs ≡ true) → cond (not b) (1 + position_or_len p xs) 0 < length (x ∷ xs) → (b || list_any p xs) ≡ true
+    go true rest h = refl
+    go false rest h = rest (omega (arith, h))
+
+pub all_before : (p : ℕ → Bool) (xs : List ℕ) → position_or_len p xs ≡ length xs → xs ≡ before_first p xs
+all_before p xs e = sym (ap (λ n. take n xs) e ∙ take-length xs)
+
+-- which features an action text asks for
+asked : (text : Text) (after : Option (Bor Text)) → is_some after ≡ list_any is_slash text → IfSome after (λ f. f.now ≡ after_first is_slash text) → (x : Text)
+    → option_map_or (λ f. bytes_eq x f.now) after false ≡ (list_any is_slash text && bytes_eq x (after_first is_slash text))
+asked text None has is x = ap (λ h. h && bytes_eq x (after_first is_slash text)) has
+asked text (Some f) has is x = ap (bytes_eq x) is ∙ ap (λ h. h && bytes_eq x (after_first is_slash text)) has
+
+-- the parts that the code takes are those of the definition
+pub apart : (text front marked : Text) (t : ActionText) → front ≡ before_first is_slash text
+    → is_some t.dep_feature ≡ list_any is_slash text → IfSome t.dep_feature (λ f. f.now ≡ after_first is_slash text)
+    → marked ≡ without_start (codes "dep:") front → t.is_dep_only ≡ starts_with nat_eq front (codes "dep:")
+    → t.target.now ≡ without_end (codes "?") marked → t.is_conditional ≡ ends_with nat_eq marked (codes "?")
+    → item_in t ≡ item_of text
+apart text front marked t front_is has after marked_is dep_only target conditional = λ i.
+    cond (only i || has i) (On (key i) (record { is_conditional = maybe i; is_dep_only = only i; features = λ x. asked text t.dep_feature has after x i })) (Name (key i))
+  where
+    only : t.is_dep_only ≡ starts_with nat_eq (before_first is_slash text) (codes "dep:")
+    only = dep_only ∙ ap (λ bs. starts_with nat_eq bs (codes "dep:")) front_is
+
+    whole : marked ≡ without_start (codes "dep:") (before_first is_slash text)
+    whole = marked_is ∙ ap (without_start (codes "dep:")) front_is
+
+    maybe : t.is_conditional ≡ ends_with nat_eq (without_start (codes "dep:") (before_first is_slash text)) (codes "?")
+    maybe = conditional ∙ ap (λ bs. ends_with nat_eq bs (codes "?")) whole
+
+    key : t.target.now ≡ without_end (codes "?") (without_start (codes "dep:") (before_first is_slash text))
+    key = target ∙ ap (without_end (codes "?")) whole
+
+-- what stands in place of no action changes nothing
+pub joined_first : (s : BTreeSet (Bor Text)) (t : ActionText) → s.keys ≡ [] → join (record { is_conditional = true; is_dep_only = false; features = has_text s }) (action_in t) ≡ action_in t
+joined_first s t none = λ i. record { is_conditional = t.is_conditional; is_dep_only = t.is_dep_only; features = λ x. ap (λ b. b || (action_in t).features x) (none_in s none x) i }
+
+pub join_none : (o : Option Action) → join_option o None ≡ o
+join_none None = refl
+join_none (Some a) = refl
+
+-- what a list of entries holds at a text
+abbrev entry_at : List (Bor Text × DepAction) → Text → Option DepAction
+entry_at es k = lookup (is_at (λ q. slice_cmp nat_cmp k q.now)) es
+
+-- one more action on the key of t; the map is told by its entries, since it has no name after `entry`
+pub joined_at : (old : BTreeMap (Bor Text) DepAction) (new : List (Bor Text × DepAction)) (t : ActionText) (s : BTreeSet (Bor Text)) (held made : DepAction)
+    → ((k : Text) → bytes_eq t.target.now k ≡ false → entry_at new k ≡ entry_at old.entries k)
+    → entry_at new t.target.now ≡ Some made
+    → s.keys ≡ [] → held ≡ unwrap_or (entry_at old.entries t.target.now) (record { is_conditional = true; is_dep_only = false; dep_features = s })
+    → action_of made ≡ join (action_of held) (action_in t)
+    → (k : Text) → option_map action_of (entry_at new k) ≡ join_option (action_at old k) (cond (bytes_eq k t.target.now) (Some (action_in t)) None)
+joined_at old new t s held made others there none held_is made_is k = go (bytes_eq k t.target.now) refl
+  where
+    here : (o : Option DepAction) → held ≡ unwrap_or o (record { is_conditional = true; is_dep_only = false; dep_features = s }) → Some (action_of made) ≡ join_option (option_map action_of o) (Some (action_in t))
+    here None e = ap Some (made_is ∙ ap (λ h. join (action_of h) (action_in t)) e ∙ joined_first s t none)
+    here (Some o) e = ap Some (made_is ∙ ap (λ h. join (action_of h) (action_in t)) e)
+
+    go : (b : Bool) → bytes_eq k t.target.now ≡ b → option_map action_of (entry_at new k) ≡ join_option (action_at old k) (cond b (Some (action_in t)) None)
+    go true e = subst (λ q. option_map action_of (entry_at new q) ≡ join_option (action_at old q) (Some (action_in t))) (sym ((bytes_eq-Decides k t.target.now).0 e)) (ap (option_map action_of) there ∙ here (entry_at old.entries t.target.now) held_is)
+    go false e = ap (option_map action_of) (others k (bytes_eq_sym t.target.now k ∙ e)) ∙ sym (join_none (action_at old k))

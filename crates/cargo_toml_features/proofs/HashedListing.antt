@@ -1,0 +1,71 @@
+-- Each hashed table has a listing: its entries, put in order one after another.
+use Rattle.std.proofs.Common.{◌≡◌, ◌&&◌, Bool, true, false, T, cond, List, [], ◌∷◌, map, option_map, string_bytes, String, Vec, Some, bytes_eq, refl, sym, ap₂, ◌∙◌}
+use Rattle.std.proofs.lemmas.Cmp.{nat_list_cmp_total}
+use Rattle.std.proofs.lemmas.Map.Text.{is_eq-slice_cmp}
+use Rattle.std.specs.Cmp.Lexicographic.{slice_cmp}
+use Rattle.std.specs.FinMap.Entries.{put, find, below_all, is_sorted, is_sorted-put, find-put}
+use Rattle.std.specs.HashMap.{HashMap}
+use Rattle.std.specs.List.{AllByRecursion}
+use Rattle.std.specs.List.Sorted.{IsStrictlySortedBy}
+use Rattle.std.specs.Map.{lookup}
+use Rattle.std.specs.Ordering.{nat_cmp, is_lt}
+use Rattle.std.specs.declared.alloc.Global.{Global}
+use Rattle.std.specs.declared.cmp.Ordering.{Ordering}
+use Rattle.std.specs.declared.cmp.Ordering.TheVariants.{Less, Equal, Greater}
+use Rattle.cargo_toml_graph.specs.Action.{Text}
+use Rattle.cargo_toml_graph.specs.Admitted.{Listed}
+use Rattle.cargo_toml_features.specs.Hashed.{IsListingOf}
+
+abbrev Entries : Type 0
+Entries = List (String Global × Vec (String Global) Global)
+
+abbrev in_turn : Entries → Listed
+in_turn [] = []
+in_turn (e ∷ es) = put (slice_cmp nat_cmp) (string_bytes e.0) (map string_bytes e.1.items) (in_turn es)
+
+sorted : (es : Entries) → T (is_sorted (slice_cmp nat_cmp) (in_turn es))
+sorted [] = tt
+sorted (e ∷ es) = is_sorted-put (slice_cmp nat_cmp) nat_list_cmp_total (string_bytes e.0) (map string_bytes e.1.items) (in_turn es) (sorted es)
+
+found : (f : Text) (es : Entries) → find (slice_cmp nat_cmp) f (in_turn es) ≡ option_map (λ v. map string_bytes v.items) (lookup (λ k. bytes_eq f (string_bytes k)) es)
+found f [] = refl
+found f (e ∷ es) =
+    find-put (slice_cmp nat_cmp) nat_list_cmp_total f (string_bytes e.0) (map string_bytes e.1.items) (in_turn es)
+    ∙ ap₂ (λ b o. cond b (Some (map string_bytes e.1.items)) o) (is_eq-slice_cmp f (string_bytes e.0)) (found f es)
+    ∙ go (bytes_eq f (string_bytes e.0))
+  where
+    go : (b : Bool) → cond b (Some (map string_bytes e.1.items)) (option_map (λ (v : Vec (String Global) Global). map string_bytes v.items) (lookup (λ (k : String Global). bytes_eq f (string_bytes k)) es))
+        ≡ option_map (λ (v : Vec (String Global) Global). map string_bytes v.items) (cond b (Some e.1) (lookup (λ (k : String Global). bytes_eq f (string_bytes k)) es))
+    go true = refl
+    go false = refl
+
+by_bytes : (f : Text) (ls : Listed) → lookup (bytes_eq f) ls ≡ find (slice_cmp nat_cmp) f ls
+by_bytes f [] = refl
+by_bytes f (e ∷ ls) = ap₂ (λ b o. cond b (Some e.1) o) (sym (is_eq-slice_cmp f e.0)) (by_bytes f ls)
+
+both : (a b : Bool) → T (a && b) → T a × T b
+both true b h = (tt, h)
+both false b h = absurd h
+
+less : (o : Ordering) → T (is_lt o) → o ≡ Less
+less Less h = refl
+less Equal h = absurd h
+less Greater h = absurd h
+
+below : (k : Text) (ls : Listed) → T (below_all (slice_cmp nat_cmp) k ls) → AllByRecursion (λ y. slice_cmp nat_cmp k y ≡ Less) (map (λ e. e.0) ls)
+below k [] h = tt
+below k (e ∷ ls) h = let p = both _ _ h in (less _ p.0, below k ls p.1)
+
+rising : (ls : Listed) → T (is_sorted (slice_cmp nat_cmp) ls) → IsStrictlySortedBy (slice_cmp nat_cmp) (map (λ e. e.0) ls)
+unfolding IsStrictlySortedBy
+rising [] h = tt
+rising (e ∷ ls) h = let p = both _ _ h in (below e.0 ls p.0, rising ls p.1)
+
+pub has_listing : {S : Type 0} (m : HashMap (String Global) (Vec (String Global) Global) S) → (listed : Listed) × IsListingOf m listed
+has_listing m = (
+  in_turn m.entries,
+  record {
+    in_order = rising (in_turn m.entries) (sorted m.entries);
+    holds = λ f. by_bytes f (in_turn m.entries) ∙ found f m.entries;
+  },
+)

@@ -1,0 +1,278 @@
+-- The invariant of the walk, and what is found and listed at its end.
+use Rattle.std.proofs.Common.{◌≡◌, ◌≢◌, ◌+◌, ◌<◌, ◌⊎◌, ◌&&◌, Bool, true, false, cond, List, [], ◌∷◌, ◌++◌, map, Option, Some, None, is_some, IsTrue, IsFalse, IfSome, Bor, bytes_eq, refl, sym, ap, ap₂, subst, inl, inr, ◌∙◌, length, arith, length-append}
+use Rattle.std.proofs.lemmas.Bool.{false≢true, cases_Bool, or_cases, or_left, or_right}
+use Rattle.std.proofs.lemmas.List.{map-append, append-nil}
+use Rattle.std.proofs.lemmas.Slice.Eq.{bytes_eq-Decides}
+use Rattle.std.specs.Option.{option_map_or}
+use Rattle.std.specs.Map.{lookup}
+use Rattle.std.specs.HashMap.{HashMap}
+use Rattle.cargo_toml_features.specs.declared.features.Feature.{Feature}
+use Rattle.cargo_toml_graph.specs.Action.{Text, Action}
+use Rattle.cargo_toml_graph.specs.Reach.{Among, IsOnce}
+use Rattle.cargo_toml_graph.specs.Graph.{Table}
+use Rattle.cargo_toml_graph.specs.Recursive.{Enables, ArePairs}
+use Rattle.cargo_toml_graph.specs.Recursive.Enables.{itself, further}
+use Rattle.cargo_toml_features.specs.Reached.{Found, Lists, AreEnabled, ComeFrom, HaveNoEmpty, pairs_at}
+use Rattle.cargo_toml_features.specs.Views.{value_at, has_text, action_of, action_at, table_in}
+use Rattle.cargo_toml_features.specs.Visits.{unconditional, is_pending, AreHeld, PushesNamed, PutsFound, AddsActions}
+use Rattle.cargo_toml_features.proofs.Pending.{is_pending-push}
+use Rattle.cargo_toml_features.proofs.Work.{work, work_drops, work_less}
+
+-- a feature of this name is found
+abbrev pub is_found : {S : Type 0} → Found S → Text → Bool
+is_found F x = is_some (value_at F x)
+
+-- one pair for each found feature whose action on k isn't conditional
+pub record ArePairsOf (t : Table) (found : Text → Type 0) (k : Text) (pairs : List (Text × Action)) : Type 0 where
+  pub sound : (g : Text) (a : Action) → Among pairs (g, a) → found g × (t.action g k ≡ Some a) × IsFalse a.is_conditional
+  pub complete : (g : Text) (a : Action) → found g → t.action g k ≡ Some a → IsFalse a.is_conditional → Among pairs (g, a)
+  pub once : IsOnce (map (λ p. p.0) pairs)
+
+-- what is found or pending is enabled, and what a found feature names is found or pending
+pub record Walks {S : Type 0} (m : HashMap (Bor Text) Feature S) (s : Text) (F : Found S) (E : Lists S) (L : List (Bor Feature)) : Type 0 where
+  pub begun : IsTrue (is_found F s) ⊎ IsTrue (is_pending L s)
+  pub found : (x : Text) → IsTrue (is_found F x) → Enables (table_in m) s x
+  pub pending : (x : Text) → IsTrue (is_pending L x) → Enables (table_in m) s x
+  pub held : AreHeld m L
+  pub same : ComeFrom m F
+  pub closed : (x y : Text) → IsTrue (is_found F x) → IsTrue ((table_in m).names x y) → IsTrue ((table_in m).has y) → IsTrue (is_found F y) ⊎ IsTrue (is_pending L y)
+  pub pairs : (k : Text) → ArePairsOf (table_in m) (λ g. IsTrue (is_found F g)) k (pairs_at E k)
+  pub no_empty : HaveNoEmpty E
+
+-- ---- lists of pairs
+among-append : {K : Type 0} (xs ys : List K) (v : K) → Among (xs ++ ys) v → Among xs v ⊎ Among ys v
+among-append [] ys v h = inr h
+among-append (x ∷ xs) ys v (inl e) = inl (inl e)
+among-append (x ∷ xs) ys v (inr h) = elim (among-append xs ys v h) [ inl a ↦ inl (inr a) | inr b ↦ inr b ]
+
+among_front : {K : Type 0} (xs ys : List K) (v : K) → Among xs v → Among (xs ++ ys) v
+among_front [] ys v h = absurd h
+among_front (x ∷ xs) ys v (inl e) = inl e
+among_front (x ∷ xs) ys v (inr h) = inr (among_front xs ys v h)
+
+among_back : {K : Type 0} (xs ys : List K) (v : K) → Among ys v → Among (xs ++ ys) v
+among_back [] ys v h = h
+among_back (x ∷ xs) ys v h = inr (among_back xs ys v h)
+
+once-push : {K : Type 0} (xs : List K) (v : K) → IsOnce xs → (¬ Among xs v) → IsOnce (xs ++ v ∷ [])
+once-push [] v o n = (λ h. h, tt)
+once-push (x ∷ xs) v o n = (λ h. elim (among-append xs (v ∷ []) x h) [ inl a ↦ o.0 a | inr b ↦ elim b [ inl e ↦ n (inl (sym e)) | inr b ↦ b ] ], once-push xs v o.1 (λ h. n (inr h)))
+
+with_action : (pairs : List (Text × Action)) (g : Text) → Among (map (λ p. p.0) pairs) g → (a : Action) × Among pairs (g, a)
+with_action [] g h = absurd h
+with_action (p ∷ pairs) g (inl e) = (p.1, inl (ap (λ x. (x, p.1)) e))
+with_action (p ∷ pairs) g (inr h) = let r = with_action pairs g h in (r.0, inr r.1)
+
+-- one more feature f is found, and its action o is listed
+module _ (t : Table) (found found' : Text → Type 0) (f k : Text) (old : List (Text × Action)) (h : ArePairsOf t found k old)
+    (new : ¬ found f) (grows : (x : Text) → found x → found' x) (here : found' f) (only : (x : Text) → found' x → (x ≡ f) ⊎ found x) where
+  sound_before : (g : Text) (a : Action) → Among old (g, a) → found' g × (t.action g k ≡ Some a) × IsFalse a.is_conditional
+  sound_before g a i = let s = h.sound g a i in (grows g s.0, s.1, s.2)
+
+  nothing_listed : ((a : Action) → t.action f k ≡ Some a → IsTrue a.is_conditional) → ArePairsOf t found' k (old ++ [])
+  nothing_listed none = subst (ArePairsOf t found' k) (sym (append-nil old)) (record {
+    sound = sound_before;
+    complete = λ g a i e plain. elim (only g i) [
+      | inl s ↦ absurd (false≢true (sym plain ∙ none a (ap (λ x. t.action x k) (sym s) ∙ e)))
+      | inr i ↦ h.complete g a i e plain
+    ];
+    once = h.once;
+  })
+
+  one_listed : (b : Action) → t.action f k ≡ Some b → IsFalse b.is_conditional → ArePairsOf t found' k (old ++ (f, b) ∷ [])
+  one_listed b at plain = record {
+    sound = λ g a i. elim (among-append old ((f, b) ∷ []) (g, a) i) [
+      | inl i ↦ sound_before g a i
+      | inr i ↦ elim i [ inl e ↦ (subst found' (sym (ap (λ p. p.0) e)) here, ap (λ p. t.action p.0 k) e ∙ at ∙ ap (λ p. Some p.1) (sym e), ap (λ p. p.1.is_conditional) e ∙ plain) | inr i ↦ absurd i ]
+    ];
+    complete = λ g a i e plain. elim (only g i) [
+      | inl s ↦ among_back old ((f, b) ∷ []) (g, a) (inl (same_pair g a s (sym e ∙ ap (λ x. t.action x k) s ∙ at)))
+      | inr i ↦ among_front old ((f, b) ∷ []) (g, a) (h.complete g a i e plain)
+    ];
+    once = subst IsOnce (sym (map-append (λ (p : Text × Action). p.0) old ((f, b) ∷ []))) (once-push (map (λ p. p.0) old) f h.once (λ i. let r = with_action old f i in new (h.sound f r.0 r.1).0));
+  }
+    where
+      some_same : {X : Type 0} {x y : X} → Some x ≡ Some y → x ≡ y
+      some_same e = cc
+
+      paired : Text → Action → Text × Action
+      paired g a = (g, a)
+
+      same_pair : (g : Text) (a : Action) → g ≡ f → Some a ≡ Some b → paired g a ≡ paired f b
+      same_pair g a s e = ap₂ paired s (some_same e)
+
+  pub pairs_joined : (o : Option Action) → t.action f k ≡ o → ArePairsOf t found' k (old ++ unconditional f o)
+  pairs_joined None at = nothing_listed (λ a e. absurd (none_some (sym at ∙ e)))
+    where
+      none_some : {X : Type 0} {x : X} → None ≡ Some x → ⊥
+      none_some e = cc
+  pairs_joined (Some b) at = go b.is_conditional refl
+    where
+      some_same : {X : Type 0} {x y : X} → Some x ≡ Some y → x ≡ y
+      some_same e = cc
+
+      go : (c : Bool) → b.is_conditional ≡ c → ArePairsOf t found' k (old ++ cond c [] ((f, b) ∷ []))
+      go true e = nothing_listed (λ a i. ap (λ x. x.is_conditional) (some_same (sym i ∙ at)) ∙ e)
+      go false e = one_listed b at e
+
+-- ---- the walk
+module _ {S : Type 0} (m : HashMap (Bor Text) Feature S) (s : Text) where
+  held_parts : (L : List (Bor Feature)) (v : Bor Feature) → AreHeld m (L ++ v ∷ []) → AreHeld m L × (value_at m v.now.key.now ≡ Some v.now)
+  held_parts [] v a = (tt, a.0)
+  held_parts (x ∷ L) v a = let r = held_parts L v a.1 in ((a.0, r.0), r.1)
+
+  split_pending : (L : List (Bor Feature)) (v : Bor Feature) (x : Text) → IsTrue (is_pending (L ++ v ∷ []) x) → IsTrue (is_pending L x) ⊎ (x ≡ v.now.key.now)
+  split_pending L v x e = elim (or_cases (is_pending L x) (bytes_eq x v.now.key.now) (sym (is_pending-push L v x) ∙ e)) [ inl a ↦ inl a | inr b ↦ inr ((bytes_eq-Decides x v.now.key.now).0 b) ]
+
+  was_pending : (L : List (Bor Feature)) (v : Bor Feature) (x : Text) → IsTrue (is_pending L x) → IsTrue (is_pending (L ++ v ∷ []) x)
+  was_pending L v x e = is_pending-push L v x ∙ or_left _ _ e
+
+  last_pending : (L : List (Bor Feature)) (v : Bor Feature) → IsTrue (is_pending (L ++ v ∷ []) v.now.key.now)
+  last_pending L v = is_pending-push L v v.now.key.now ∙ or_right _ _ ((bytes_eq-Decides v.now.key.now v.now.key.now).1 refl)
+
+  -- the feature v of the map is put among those that are found
+  module _ (F F' : Found S) (v : Bor Feature) (u : PutsFound v F F') where
+    at_new : IsTrue (is_found F' v.now.key.now)
+    at_new = ap is_some u.here
+
+    grows : (x : Text) → IsTrue (is_found F x) → IsTrue (is_found F' x)
+    grows x e = elim (cases_Bool (bytes_eq v.now.key.now x)) [
+      | inl i ↦ subst (λ y. IsTrue (is_found F' y)) ((bytes_eq-Decides v.now.key.now x).0 i) at_new
+      | inr i ↦ ap is_some (u.others x i) ∙ e
+    ]
+
+    only : (x : Text) → IsTrue (is_found F' x) → (x ≡ v.now.key.now) ⊎ IsTrue (is_found F x)
+    only x e = elim (cases_Bool (bytes_eq v.now.key.now x)) [
+      | inl i ↦ inl (sym ((bytes_eq-Decides v.now.key.now x).0 i))
+      | inr i ↦ inr (sym (ap is_some (u.others x i)) ∙ e)
+    ]
+
+    still_same : value_at m v.now.key.now ≡ Some v.now → ComeFrom m F → ComeFrom m F'
+    still_same here same x = elim (cases_Bool (bytes_eq v.now.key.now x)) [
+      | inl i ↦ subst (λ y. IfSome (value_at F' y) (λ z. value_at m y ≡ Some z.now)) ((bytes_eq-Decides v.now.key.now x).0 i) (subst (λ o. IfSome o (λ z. value_at m v.now.key.now ≡ Some z.now)) (sym u.here) here)
+      | inr i ↦ subst (λ o. IfSome o (λ z. value_at m x ≡ Some z.now)) (sym (u.others x i)) (same x)
+    ]
+
+  -- a feature that was found before is put there again
+  module _ (F F' : Found S) (E : Lists S) (L : List (Bor Feature)) (v : Bor Feature) (w : Walks m s F E (L ++ v ∷ [])) (old : IsTrue (is_found F v.now.key.now))
+      (u : PutsFound v F F') where
+    was_found : (x : Text) → IsTrue (is_found F' x) → IsTrue (is_found F x)
+    was_found x e = elim (only F F' v u x e) [ inl i ↦ ap (is_found F) i ∙ old | inr f ↦ f ]
+
+    found_or_left : (x : Text) → IsTrue (is_pending (L ++ v ∷ []) x) → IsTrue (is_found F' x) ⊎ IsTrue (is_pending L x)
+    found_or_left x l = elim (split_pending L v x l) [ inl a ↦ inr a | inr e ↦ inl (ap (is_found F') e ∙ at_new F F' v u) ]
+
+    same_pairs : (k : Text) → ArePairsOf (table_in m) (λ g. IsTrue (is_found F' g)) k (pairs_at E k)
+    same_pairs k = let p = w.pairs k in record {
+      sound = λ g a i. let r = p.sound g a i in (grows F F' v u g r.0, r.1, r.2);
+      complete = λ g a f. p.complete g a (was_found g f);
+      once = p.once;
+    }
+
+    pub walks_on : Walks m s F' E L
+    walks_on = record {
+      begun = elim w.begun [ inl f ↦ inl (grows F F' v u s f) | inr l ↦ found_or_left s l ];
+      found = λ x e. w.found x (was_found x e);
+      pending = λ x e. w.pending x (was_pending L v x e);
+      held = (held_parts L v w.held).0;
+      same = still_same F F' v u (held_parts L v w.held).1 w.same;
+      closed = λ x y f n h. elim (w.closed x y (was_found x f) n h) [ inl g ↦ inl (grows F F' v u y g) | inr l ↦ found_or_left y l ];
+      pairs = same_pairs;
+      no_empty = w.no_empty;
+    }
+
+    pub walks_on_less : work (is_found F') m.entries + length L < work (is_found F) m.entries + length (L ++ v ∷ [])
+    walks_on_less =
+        let less = work_less (is_found F) (is_found F') (grows F F' v u) m.entries in
+        let last = length-append L (v ∷ []) in
+        omega (arith, less, last)
+
+  -- a feature that is visited now
+  module _ (F F' : Found S) (E E' : Lists S) (L L' : List (Bor Feature)) (v : Bor Feature) (w : Walks m s F E (L ++ v ∷ [])) (new : is_found F v.now.key.now ≡ false)
+      (u : PutsFound v F F') (listed : AddsActions v.now E E') (kept : HaveNoEmpty E → HaveNoEmpty E') (pushed : PushesNamed m v.now L L') where
+    here : value_at m v.now.key.now ≡ Some v.now
+    here = (held_parts L v w.held).1
+
+    named : (y : Text) → (table_in m).names v.now.key.now y ≡ has_text v.now.enables_features y
+    named y = ap (λ o. option_map_or (λ f. has_text f.enables_features y) o false) here
+
+    acts : (k : Text) → (table_in m).action v.now.key.now k ≡ action_at v.now.enables_deps k
+    acts k = ap (λ o. option_map_or (λ f. action_at f.enables_deps k) o None) here
+
+    enabled : Enables (table_in m) s v.now.key.now
+    enabled = w.pending v.now.key.now (last_pending L v)
+
+    found_or_pending : (x : Text) → IsTrue (is_pending (L ++ v ∷ []) x) → IsTrue (is_found F' x) ⊎ IsTrue (is_pending L' x)
+    found_or_pending x l = elim (split_pending L v x l) [ inl a ↦ inr (pushed.pending x ∙ or_left _ _ a) | inr e ↦ inl (ap (is_found F') e ∙ at_new F F' v u) ]
+
+    by_name : (x : Text) (a b : Bool) → (a && b) ≡ true → (a ≡ true) × (b ≡ true)
+    by_name x true b e = (refl, e)
+    by_name x false b e = absurd (false≢true e)
+
+    both : (a b : Bool) → a ≡ true → b ≡ true → (a && b) ≡ true
+    both a b e e' = ap (λ x. x && b) e ∙ e'
+
+    pub visited : Walks m s F' E' L'
+    visited = record {
+      begun = elim w.begun [ inl f ↦ inl (grows F F' v u s f) | inr l ↦ found_or_pending s l ];
+      found = λ x e. elim (only F F' v u x e) [ inl i ↦ subst (Enables (table_in m) s) (sym i) enabled | inr f ↦ w.found x f ];
+      pending = λ x e. elim (or_cases (is_pending L x) (has_text v.now.enables_features x && is_some (value_at m x)) (sym (pushed.pending x) ∙ e)) [
+        | inl a ↦ w.pending x (was_pending L v x a)
+        | inr b ↦ let p = by_name x _ _ b in further enabled (named x ∙ p.0) p.1
+      ];
+      held = pushed.held (held_parts L v w.held).0;
+      same = still_same F F' v u here w.same;
+      closed = λ x y f n h. elim (only F F' v u x f) [
+        | inl i ↦ inr (pushed.pending y ∙ or_right _ _ (both _ _ (sym (named y) ∙ subst (λ z. IsTrue ((table_in m).names z y)) i n) h))
+        | inr f ↦ elim (w.closed x y f n h) [ inl g ↦ inl (grows F F' v u y g) | inr l ↦ found_or_pending y l ]
+      ];
+      pairs = λ k. subst (ArePairsOf (table_in m) (λ g. IsTrue (is_found F' g)) k) (sym (listed k))
+          (pairs_joined (table_in m) (λ g. IsTrue (is_found F g)) (λ g. IsTrue (is_found F' g)) v.now.key.now k (pairs_at E k) (w.pairs k) (λ i. false≢true (sym new ∙ i)) (grows F F' v u) (at_new F F' v u) (only F F' v u) (action_at v.now.enables_deps k) (acts k));
+      no_empty = kept w.no_empty;
+    }
+
+    -- less is left to do
+    pub visited_less : work (is_found F') m.entries + length L' < work (is_found F) m.entries + length (L ++ v ∷ [])
+    visited_less =
+        let drops = work_drops (is_found F) (is_found F') (grows F F' v u) v.now.key.now v.now new (at_new F F' v u) m.entries here in
+        let more = pushed.count in
+        let last = length-append L (v ∷ []) in
+        omega (arith, drops, more, last)
+
+  -- the start is pending, and nothing is found
+  pub begins : (F : Found S) (E : Lists S) (L : List (Bor Feature)) (v : Bor Feature) → F.entries ≡ [] → E.entries ≡ [] → L ≡ v ∷ [] → value_at m s ≡ Some v.now → v.now.key.now ≡ s → Walks m s F E L
+  begins F E L v no_found no_lists one here own = record {
+    begun = inr (ap (λ l. is_pending l s) one ∙ or_left _ _ ((bytes_eq-Decides s v.now.key.now).1 (sym own)));
+    found = λ x e. absurd (false≢true (sym (not_found x) ∙ e));
+    pending = λ x e. elim (or_cases (bytes_eq x v.now.key.now) false (sym (ap (λ l. is_pending l x) one) ∙ e)) [ inl i ↦ subst (Enables (table_in m) s) (sym ((bytes_eq-Decides x v.now.key.now).0 i ∙ own)) itself | inr i ↦ absurd (false≢true i) ];
+    held = subst (AreHeld m) (sym one) (ap (value_at m) own ∙ here, tt);
+    same = λ x. subst (λ o. IfSome o (λ z. value_at m x ≡ Some z.now)) (sym (nothing_at F no_found x)) tt;
+    closed = λ x y e n t. absurd (false≢true (sym (not_found x) ∙ e));
+    pairs = λ k. subst (ArePairsOf (table_in m) (λ g. IsTrue (is_found F g)) k) (sym (no_pairs k)) (record { sound = λ g a i. absurd i; complete = λ g a i e p. absurd (false≢true (sym (not_found g) ∙ i)); once = tt });
+    no_empty = λ k. subst (λ o. IfSome o (λ v. v.items ≢ [])) (sym (nothing_at E no_lists k)) tt;
+  }
+    where
+      nothing_at : {X : Type 0} (n : HashMap (Bor Text) X S) → n.entries ≡ [] → (x : Text) → value_at n x ≡ None
+      nothing_at n empty x = ap (λ es. lookup (λ k. bytes_eq x k.now) es) empty
+
+      not_found : (x : Text) → is_found F x ≡ false
+      not_found x = ap is_some (nothing_at F no_found x)
+
+      no_pairs : (k : Text) → pairs_at E k ≡ []
+      no_pairs k = ap (λ o. map (λ p. (p.0.now, action_of p.1.now)) (option_map_or (λ v. v.items) o [])) (nothing_at E no_lists k)
+
+  -- nothing is pending
+  module _ (F : Found S) (E : Lists S) (w : Walks m s F E []) where
+    all_found : {y : Text} → Enables (table_in m) s y → IsTrue (is_found F y)
+    all_found itself = elim w.begun [ inl f ↦ f | inr l ↦ absurd (false≢true l) ]
+    all_found (further {g} {x} e n h) = elim (w.closed g x (all_found e) n h) [ inl f ↦ f | inr l ↦ absurd (false≢true l) ]
+
+    pub all_enabled : AreEnabled m s F
+    all_enabled x = (w.found x, all_found)
+
+    pub all_pairs : (k : Text) → ArePairs (table_in m) s k (pairs_at E k)
+    all_pairs k = record {
+      sound = λ g a i. let p = (w.pairs k).sound g a i in (w.found g p.0, p.1, p.2);
+      complete = λ g a e. (w.pairs k).complete g a (all_found e.0) e.1 e.2;
+      once = (w.pairs k).once;
+    }

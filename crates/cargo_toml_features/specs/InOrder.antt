@@ -1,0 +1,51 @@
+-- Features as a list in the byte order of their names, and maps in that order.
+use Rattle.std.specs.Prelude.{◌≡◌, false, List, Option, None, IsTrue, bytes_eq, is_some, map}
+use Rattle.std.specs.List.{find}
+use Rattle.std.specs.Option.{option_map_or}
+use Rattle.std.specs.Borrow.{Bor}
+use Rattle.std.specs.BTreeMap as tree
+use Rattle.std.specs.BTreeMap.{BTreeMap}
+use Rattle.std.specs.Cmp.Lexicographic.{slice_cmp}
+use Rattle.std.specs.Ordering.{nat_cmp}
+use Rattle.cargo_toml_features.specs.declared.features.Feature.{Feature}
+use Rattle.cargo_toml_graph.specs.Action.{Text}
+use Rattle.cargo_toml_graph.specs.Admitted.{is_below}
+use Rattle.cargo_toml_graph.specs.Graph.{Table, Resolution}
+use Rattle.cargo_toml_graph.specs.Removal.{IsAscending}
+use Rattle.cargo_toml_features.specs.Views.{action_at, has_text}
+
+-- what a map in order holds under a text
+abbrev pub sorted_at : {X : Type 0} → BTreeMap (Bor Text) X → Text → Option X
+sorted_at m f = tree.get_by (λ k. slice_cmp nat_cmp f k.now) m
+
+abbrev pub names_of : List Feature → List Text
+names_of vs = map (λ v. v.key.now) vs
+
+-- each name is below those after it
+abbrev pub AreInOrder : List Feature → Type 0
+AreInOrder vs = IsAscending (λ a b. IsTrue (is_below a b)) (names_of vs)
+
+-- the feature of a name
+abbrev pub feature_at : List Feature → Text → Option Feature
+feature_at vs f = find (λ v. bytes_eq f v.key.now) vs
+
+-- the features of a list, as a table
+abbrev pub table_among : List Feature → Table
+table_among vs = record {
+  has = λ f. is_some (feature_at vs f);
+  names = λ f x. option_map_or (λ v. has_text v.enables_features x) (feature_at vs f) false;
+  action = λ f k. option_map_or (λ v. action_at v.enables_deps k) (feature_at vs f) None;
+}
+
+-- the same with the enablers that they tell
+abbrev pub resolution_among : List Feature → Resolution
+resolution_among vs = record {
+  table = table_among vs;
+  enabled_by = λ f e. option_map_or (λ v. has_text v.enabled_by e) (feature_at vs f) false;
+}
+
+-- they make the table
+pub record AreTable (t : Table) (vs : List Feature) : Type 0 where
+  pub has : (f : Text) → is_some (feature_at vs f) ≡ t.has f
+  pub names : (f x : Text) → (table_among vs).names f x ≡ t.names f x
+  pub action : (f k : Text) → (table_among vs).action f k ≡ t.action f k

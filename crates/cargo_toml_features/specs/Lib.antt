@@ -1,0 +1,14 @@
+pub mod ActionText
+pub mod Reached
+pub mod Visits
+pub mod NonDefault
+pub mod Recorded
+pub mod Resolved
+pub mod Views
+pub mod FirstTarget
+pub mod Examples
+pub mod Entries
+pub mod TargetLaws
+pub mod Hashed
+pub mod InOrder
+pub mod Agreement

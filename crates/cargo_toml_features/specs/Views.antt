@@ -1,0 +1,87 @@
+-- What the maps of a resolution hold, by the bytes of their keys, and what a manifest lists.
+use Rattle.std.specs.Prelude.{Bool, false, List, [], Option, None, bytes_eq, is_some, option_map, map, string_bytes, String, Vec}
+use Rattle.std.specs.Option.{option_map_or, option_copied}
+use Rattle.std.specs.Borrow.{Bor}
+use Rattle.std.specs.declared.alloc.Global.{Global}
+use Rattle.std.specs.Cmp.Lexicographic.{slice_cmp}
+use Rattle.std.specs.Ordering.{nat_cmp}
+use Rattle.std.specs.HashMap as hash
+use Rattle.std.specs.HashMap.{HashMap}
+use Rattle.std.specs.BTreeMap as tree
+use Rattle.std.specs.BTreeMap.{BTreeMap}
+use Rattle.std.specs.BTreeSet as sorted
+use Rattle.std.specs.BTreeSet.{BTreeSet}
+use Rattle.cargo_toml_dependencies.specs.Dependencies.{dependency_meaning}
+use Rattle.cargo_toml_features.specs.declared.admit.Listing.{Listing}
+use Rattle.cargo_toml_features.specs.declared.features.DepAction.{DepAction}
+use Rattle.cargo_toml_features.specs.declared.features.Feature.{Feature}
+use Rattle.cargo_toml_features.specs.declared.features.FeatureDependency.{FeatureDependency}
+use Rattle.cargo_toml_features.specs.declared.features.Features.{Features}
+use Rattle.cargo_toml_features.specs.declared.features.ParseDependency.{ParseDependency}
+use Rattle.cargo_toml_features.specs.declared.features.TargetKey.{TargetKey}
+use Rattle.cargo_toml_graph.specs.Action.{Text, Action}
+use Rattle.cargo_toml_graph.specs.Admitted.{Listed}
+use Rattle.cargo_toml_graph.specs.Graph.{Resolution, Table}
+use Rattle.cargo_toml_features.specs.Recorded.{Entry, Recorded, Target, target_cmp}
+use Rattle.cargo_toml_features.specs.Resolved.{Answer}
+
+-- a set of texts, as a test
+abbrev pub has_text : BTreeSet (Bor Text) → Text → Bool
+has_text s x = sorted.contains_by (λ k. slice_cmp nat_cmp x k.now) s
+
+-- what a hashed map holds under a text
+abbrev pub value_at : {X S : Type 0} → HashMap (Bor Text) X S → Text → Option X
+value_at m f = hash.get_by (λ k. bytes_eq f k.now) m
+
+abbrev pub action_of : DepAction → Action
+action_of a = record { is_conditional = a.is_conditional; is_dep_only = a.is_dep_only; features = has_text a.dep_features }
+
+abbrev pub action_at : BTreeMap (Bor Text) DepAction → Text → Option Action
+action_at m k = option_map action_of (tree.get_by (λ q. slice_cmp nat_cmp k q.now) m)
+
+-- a map of features, as a table and its enablers
+abbrev pub table_in : {S : Type 0} → HashMap (Bor Text) Feature S → Table
+table_in m = record {
+  has = λ f. is_some (value_at m f);
+  names = λ f x. option_map_or (λ v. has_text v.enables_features x) (value_at m f) false;
+  action = λ f k. option_map_or (λ v. action_at v.enables_deps k) (value_at m f) None;
+}
+
+abbrev pub resolution_of : {S : Type 0} → HashMap (Bor Text) Feature S → Resolution
+resolution_of m = record {
+  table = table_in m;
+  enabled_by = λ f e. option_map_or (λ v. has_text v.enabled_by e) (value_at m f) false;
+}
+
+abbrev pub target_of : TargetKey → Target
+target_of k = (k.kind, option_copied k.target)
+
+abbrev pub recorded_in : FeatureDependency → Recorded
+recorded_in d = record {
+  crate_name = d.crate_name.now;
+  targets = λ t. option_map (λ x. dependency_meaning x.now) (tree.get_by (λ k. target_cmp t (target_of k)) d.targets);
+}
+
+-- the whole answer
+abbrev pub answer_of : {S H : Type 0} → Features S H → Answer
+answer_of a = record {
+  resolution = resolution_of a.features;
+  key = λ f. option_map (λ v. v.key.now) (value_at a.features f);
+  explicit = λ f. option_map_or (λ v. v.explicit) (value_at a.features f) false;
+  bins = λ f. option_map_or (λ v. map (λ t. t.now) v.required_by_bins.items) (value_at a.features f) [];
+  dependencies = λ k. option_map recorded_in (value_at a.dependencies k);
+  redirects = λ r. option_map has_text (value_at a.hidden_features r);
+  removed_some = a.removed_hidden_features;
+}
+
+-- the features of a manifest, as they are listed
+abbrev pub listed_in : BTreeMap (String Global) (Vec (String Global) Global) → Listed
+listed_in m = map (λ e. (string_bytes e.0, map string_bytes e.1.items)) m.entries
+
+-- what the listings of a table list
+abbrev pub listed_of : List Listing → Listed
+listed_of ls = map (λ l. (l.name.now, map string_bytes l.actions.now)) ls
+
+-- an entry that a caller hands in
+abbrev pub entry_of : ParseDependency → Entry
+entry_of e = record { key = e.key.now; target = (e.kind, option_copied e.target); dependency = dependency_meaning e.dep.now }

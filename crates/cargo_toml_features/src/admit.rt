@@ -1,0 +1,96 @@
+//! Which features of a table count, in what order.
+ghost use Rattle.std.specs.Prelude.{◌≡◌, ◌∷◌, ◌++◌, ◌||◌, [], IfOk, OnOk, if◌then◌else◌, bytes_eq, codes, length, map, nat_lt, string_bytes, take};
+ghost use Rattle.cargo_toml_graph.specs.Action.{Text};
+ghost use Rattle.cargo_toml_graph.specs.Admitted.{Listed, admitted};
+ghost use Rattle.cargo_toml_graph.specs.Reach.{IsOnce};
+ghost use Rattle.cargo_toml_features.specs.Views.{listed_of, listed_in};
+ghost use Rattle.cargo_toml_features.specs.Hashed.{IsListingOf, actions_at, sorted_actions_at};
+
+use std::alloc::{AllocError, Global};
+use std::collections::{BTreeMap, HashMap};
+use std::hash::BuildHasher;
+
+/// How many names of a table of features count, how many actions of a feature, and how many keys of a table of dependencies.
+pub const MAX_ITEMS: usize = 2048;
+
+/// A feature as a table lists it: its name and its actions.
+#[derive(Debug, Clone, Copy)]
+pub struct Listing<'m> {
+    pub name: &'m str,
+    pub actions: &'m [String],
+}
+
+fn first_actions(actions: &[String], limit: usize) -> &[String]
+    ensures { result.now ≡ take limit actions.now }
+{
+    &actions[..limit.min(actions.len())]
+}
+
+// Adds a feature with its first actions, where there is room for it or it is `default`.
+fn add_listing<'m>(
+    listings: &mut Vec<Listing<'m>>,
+    name: &'m str,
+    actions: &'m [String],
+    limit: usize,
+) -> Result<(), AllocError>
+    ensures { OnOk result (listed_of listings.new.items
+        ≡ (if nat_lt (length listings.old.items) limit || bytes_eq name.now (codes "default")
+        then listed_of listings.old.items ++ (name.now, take limit (map string_bytes actions.now)) ∷ []
+        else listed_of listings.old.items)) }
+{
+    if listings.len() < limit || name == "default" {
+        let actions = first_actions(actions, limit);
+        listings.push(Listing { name, actions })?;
+    }
+    Ok(())
+}
+
+/// Of a table's features those that are admitted: the first `limit` names in byte order and always `default`, each with its
+/// first `limit` actions. They stand in the byte order of their names. It fails only where memory runs out.
+pub fn listings<'m>(
+    alloc: Global,
+    table: &'m BTreeMap<String, Vec<String>>,
+    limit: usize,
+) -> Result<Vec<Listing<'m>>, AllocError>
+    ensures all { IfOk result (λ v. listed_of v.items ≡ admitted limit (listed_in table.now)) }
+    ensures once { IfOk result (λ v. IsOnce (map (λ l. l.name.now) v.items)) }
+{
+    let mut listings = Vec::with_capacity(alloc, table.len().min(limit))?;
+    for (name, actions) in table {
+        add_listing(&mut listings, name.as_str(), actions.as_slice(), limit)?;
+    }
+    Ok(listings)
+}
+
+// The features of a hashed table, in the byte order of their names.
+fn in_order<'m, S: BuildHasher>(
+    alloc: Global,
+    table: &'m HashMap<String, Vec<String>, S>,
+) -> Result<BTreeMap<&'m str, &'m [String]>, AllocError>
+    ensures { IfOk result (λ m. (f : Text) → sorted_actions_at m f ≡ actions_at table.now f) }
+{
+    let mut sorted = BTreeMap::new(alloc);
+    for (name, actions) in table {
+        sorted.insert(name.as_str(), actions.as_slice())?;
+    }
+    Ok(sorted)
+}
+
+/// The same of a hashed table, whatever the order of its walk. It fails only where memory runs out.
+pub fn hashed_listings<'m, S: BuildHasher>(
+    alloc: Global,
+    table: &'m HashMap<String, Vec<String>, S>,
+    limit: usize,
+) -> Result<Vec<Listing<'m>>, AllocError>
+    ensures all { IfOk result (λ v. (listed : Listed) → IsListingOf table.now listed
+        → listed_of v.items ≡ admitted limit listed) }
+    ensures once { IfOk result (λ v. IsOnce (map (λ l. l.name.now) v.items)) }
+    ensures listed { IfOk result (λ _. (listed : Listed) × IsListingOf table.now listed) }
+{
+    let sorted = in_order(alloc, table)?;
+    let mut listings = Vec::with_capacity(alloc, sorted.len().min(limit))?;
+    for (name, actions) in &sorted {
+        add_listing(&mut listings, *name, *actions, limit)?;
+    }
+    Ok(listings)
+}

@@ -1,0 +1,28 @@
+// Laws of the orders of kinds and targets and of answers, each as the contract of a function.
+ghost use Rattle.std.specs.Prelude.{Bool, List};
+ghost use Rattle.cargo_toml_graph.specs.Action.{Text};
+ghost use Rattle.cargo_toml_graph.specs.Admitted.{Listed};
+ghost use Rattle.cargo_toml_features.specs.Agreement as agreement;
+ghost use Rattle.cargo_toml_features.specs.Recorded.{Entry};
+ghost use Rattle.cargo_toml_features.specs.Resolved.{Answer, IsAnswer};
+ghost use Rattle.cargo_toml_features.specs.TargetLaws.{Agree, IsKindEquality, IsKindOrder, IsTargetEquality, IsTargetOrder};
+
+use crate::features::{Kind, TargetKey};
+
+fn kinds()
+    ensures order { IsKindOrder ⟦<Kind as Ord>⟧.cmp }
+    ensures equality { IsKindEquality ⟦<Kind as PartialEq>⟧.eq }
+    ensures agree { Agree ⟦<Kind as Ord>⟧.cmp ⟦<Kind as PartialEq>⟧.eq }
+{}
+
+fn targets<'a>()
+    ensures order { IsTargetOrder ⟦<TargetKey<'a> as Ord>⟧.cmp }
+    ensures equality { IsTargetEquality ⟦<TargetKey<'a> as PartialEq>⟧.eq }
+    ensures agree { Agree ⟦<TargetKey<'a> as Ord>⟧.cmp ⟦<TargetKey<'a> as PartialEq>⟧.eq }
+{}
+
+// What is listed, the entries and what is kept settle an answer, but for its binaries.
+fn answers()
+    ensures { (listed : Listed) (entries : List Entry) (own others : Text → List Text) (keep : Text → Bool) (a b : Answer) →
+        IsAnswer listed entries own keep a → IsAnswer listed entries others keep b → agreement.Agree a b }
+{}

@@ -1,0 +1,6 @@
+mod AllNames
+mod Turns
+mod Taken
+mod InTurn
+mod Hiding
+mod Resolving

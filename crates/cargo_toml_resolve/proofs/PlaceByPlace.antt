@@ -1,0 +1,91 @@
+-- Values in places, of which one after another has its turn.
+use Rattle.std.proofs.Common.{◌≡◌, ◌<◌, ◌+◌, ◌&&◌, ◌||◌, ℕ, zero, suc, Bool, true, false, cond, List, [], ◌∷◌, length, set, take, get_or, get_or-set_same, get_or-set_other, below_more, Option, None, IsTrue, bytes_eq, refl, sym, subst, arith, ◌∙◌}
+use Rattle.std.proofs.Math.Bool.{or-false}
+use Rattle.std.specs.Option.{option_map_or}
+use Rattle.std.proofs.lemmas.List.{length-set}
+use Rattle.std.proofs.lemmas.Slice.Eq.{bytes_eq-Decides}
+use Rattle.cargo_toml_graph.specs.Action.{Text}
+use Rattle.cargo_toml_graph.specs.Admitted.{is_below}
+use Rattle.cargo_toml_graph.proofs.RedirectsInOrder.{below_one_way}
+use Rattle.cargo_toml_resolve.specs.Ascending.{Ascend}
+use Rattle.cargo_toml_resolve.specs.Slots.{held_among}
+use Rattle.cargo_toml_walk.specs.Numbered.{text_at}
+use Rattle.cargo_toml_walk.proofs.Places.{among_at}
+
+module _ {V : Type 0} where
+  -- whether a test holds of the value under a name, by what stands in the first places
+  module _ (P : V → Bool) where
+    abbrev told : Option V → Bool
+    told o = option_map_or P o false
+
+    told_next : (ns : List Text) (vs : List (Option V)) (i : ℕ) (d : Option V) → Ascend ns → length vs ≡ length ns → i < length ns
+        → (f : Text) → told (held_among (take (suc i) ns) vs f) ≡ (told (held_among (take i ns) vs f) || (bytes_eq f (text_at ns i) && told (get_or vs i d)))
+    told_next [] vs i d up same below f = absurd (omega arith)
+    told_next (n ∷ ns) [] i d up same below f = absurd (omega arith)
+    told_next (n ∷ ns) (v ∷ vs) zero d up same below f = go (bytes_eq f n)
+      where
+        go : (t : Bool) → told (cond t v None) ≡ (t && told v)
+        go true = refl
+        go false = refl
+    told_next (n ∷ ns) (v ∷ vs) (suc i) d up same below f = go (bytes_eq f n) refl (bytes_eq f (text_at ns i)) refl (told_next ns vs i d up.1 (omega arith) (omega arith) f)
+      where
+        inside : i < length ns
+        inside = omega arith
+
+        go : (s : Bool) → bytes_eq f n ≡ s → (t : Bool) → bytes_eq f (text_at ns i) ≡ t
+            → told (held_among (take (suc i) ns) vs f) ≡ (told (held_among (take i ns) vs f) || (t && told (get_or vs i d)))
+            → told (cond s v (held_among (take (suc i) ns) vs f)) ≡ (told (cond s v (held_among (take i ns) vs f)) || (t && told (get_or vs i d)))
+        go true on true there later = absurd (below_one_way n n itself itself)
+          where
+            itself : IsTrue (is_below n n)
+            itself = subst (λ x. IsTrue (is_below n x)) (sym ((bytes_eq-Decides f (text_at ns i)).0 there) ∙ (bytes_eq-Decides f n).0 on) (up.0 (text_at ns i) (among_at ns i [] inside))
+        go true on false there later = sym (or-false (told v))
+        go false off t there later = later
+
+    pub told_more : (ns : List Text) (vs : List (Option V)) (i : ℕ) (d : Option V) → Ascend ns → length vs ≡ length ns → i < length ns
+        → (f : Text) → told (held_among (take (i + 1) ns) vs f) ≡ (told (held_among (take i ns) vs f) || (bytes_eq f (text_at ns i) && told (get_or vs i d)))
+    told_more ns vs i d up same below f =
+        let next : suc i ≡ i + 1 = omega arith in
+        subst (λ k. told (held_among (take k ns) vs f) ≡ (told (held_among (take i ns) vs f) || (bytes_eq f (text_at ns i) && told (get_or vs i d)))) next
+        (told_next ns vs i d up same below f)
+
+  -- two values under each name, related where those in each place are
+  pub held_related : (R : Option V → Option V → Type 0) → R None None → (ns : List Text) (vs ws : List (Option V)) → length ws ≡ length vs
+      → ((i : ℕ) → i < length vs → R (get_or vs i None) (get_or ws i None)) → (f : Text) → R (held_among ns vs f) (held_among ns ws f)
+  held_related R none [] vs ws same each f = none
+  held_related R none (n ∷ ns) [] [] same each f = none
+  held_related R none (n ∷ ns) [] (w ∷ ws) same each f = absurd (omega arith)
+  held_related R none (n ∷ ns) (v ∷ vs) [] same each f = absurd (omega arith)
+  held_related R none (n ∷ ns) (v ∷ vs) (w ∷ ws) same each f = go (bytes_eq f n) (held_related R none ns vs ws (omega arith) (λ i below. each (suc i) (omega arith)) f)
+    where
+      go : (t : Bool) → R (held_among ns vs f) (held_among ns ws f) → R (cond t v (held_among ns vs f)) (cond t w (held_among ns ws f))
+      go true later = each 0 (omega arith)
+      go false later = later
+
+  -- of values in places, those below i have had their turn, and the others are as they were
+  pub record TurnedUpTo (R : Option V → Option V → Type 0) (i : ℕ) (old new : List (Option V)) : Type 0 where
+    pub count : length new ≡ length old
+    pub turned : (j : ℕ) → j < i → R (get_or old j None) (get_or new j None)
+    pub rest : (j : ℕ) → (¬ (j < i)) → get_or new j None ≡ get_or old j None
+
+  -- what a place holds doesn't hang on what is read past the end
+  pub read_alike : (vs : List V) (i : ℕ) (d e : V) → i < length vs → get_or vs i d ≡ get_or vs i e
+  read_alike [] i d e below = absurd (omega arith)
+  read_alike (v ∷ vs) zero d e below = refl
+  read_alike (v ∷ vs) (suc i) d e below = read_alike vs i d e (omega arith)
+
+  module _ (R : Option V → Option V → Type 0) where
+    pub none_turned : (old : List (Option V)) → TurnedUpTo R 0 old old
+    none_turned old = record { count = refl; turned = λ j below. absurd (omega arith); rest = λ j above. refl }
+
+    pub one_turned : (i : ℕ) (old mid : List (Option V)) (o : Option V) → TurnedUpTo R i old mid → i < length mid → R (get_or mid i None) o → TurnedUpTo R (i + 1) old (set mid i o)
+    one_turned i old mid o h below is = record {
+      count = length-set mid i o ∙ h.count;
+      turned = below_more (λ j. R (get_or old j None) (get_or (set mid i o) j None)) i
+          (λ j under. subst (R (get_or old j None)) (sym (get_or-set_other mid i j o None (omega arith))) (h.turned j under))
+          (subst (λ a. R a (get_or (set mid i o) i None)) (h.rest i (omega arith)) (subst (R (get_or mid i None)) (sym (get_or-set_same mid i o None below)) is));
+      rest = λ j above. get_or-set_other mid i j o None (omega arith) ∙ h.rest j (λ under. above (omega arith));
+    }
+
+    pub all_turned : (i : ℕ) (ns : List Text) (old new : List (Option V)) → R None None → (¬ (i < length new)) → TurnedUpTo R i old new → (f : Text) → R (held_among ns old f) (held_among ns new f)
+    all_turned i ns old new none end h = held_related R none ns old new h.count (λ j below. let count = h.count in h.turned j (omega arith))

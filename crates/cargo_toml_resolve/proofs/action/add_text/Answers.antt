@@ -1,5 +1,0 @@
-use Rattle.cargo_toml_resolve.proofs.TextKeys.{inserted}
-use Rattle.cargo_toml_resolve.proofs.action.add_text.Goals as goal
-
-pub returns : goal.returns
-returns c = inserted c.args.text.now c.args.set.now c.insert.new.self c.in_ok-insert.ensures.updates

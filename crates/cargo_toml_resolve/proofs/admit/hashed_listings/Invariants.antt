@@ -1,8 +1,0 @@
-use Rattle.std.proofs.Common.{◌≡◌, [], map}
-use Rattle.cargo_toml_graph.proofs.Cut.{cut}
-use Rattle.cargo_toml_resolve.specs.Reading.{listed_of}
-use Rattle.cargo_toml_resolve.proofs.Hashed.{sorted_entry}
-use Rattle.cargo_toml_resolve.proofs.admit.hashed_listings.Given as goal
-
-abbrev pub invariant-loop-name : goal.invariant-loop-name
-invariant-loop-name g l = cut l.limit (listed_of l.listings.items) (map sorted_entry l.name-iterator) ≡ cut l.limit [] (map sorted_entry l.initial.name-iterator)

@@ -1,5 +1,0 @@
-use Rattle.cargo_toml_resolve.proofs.Hashed.{IsPut}
-use Rattle.cargo_toml_resolve.proofs.admit.in_order.Given as goal
-
-abbrev pub invariant-loop-name : goal.invariant-loop-name
-invariant-loop-name g l = IsPut l.table l.yielded l.sorted

@@ -1,7 +1,0 @@
-use Rattle.std.proofs.Common.{arith}
-use Rattle.std.proofs.lemmas.Grind.{common_steps}
-use Rattle.cargo_toml_resolve.proofs.FirstEntries.{one_more}
-use Rattle.cargo_toml_resolve.proofs.entries.add_first.Goals as goal
-
-pub loop-key-preserved : goal.loop-key-preserved
-loop-key-preserved c = grind (arith, common_steps, one_more)

@@ -2,6 +2,7 @@ pub mod Added
 pub mod Entries
 pub mod Inherited
 pub mod Lasting
+pub mod Left
 pub mod Near
 pub mod Replaced
 pub mod SameCopies

@@ -1,5 +1,5 @@
 -- What is left of a table once keys were taken out of it: its members with other keys.
-use Rattle.std.proofs.Common.{◌≡◌, true, false, Bool, cond, is_eq, Option, Some, None, List, ◌∷◌, [], ℕ, map, nat_cmp, String, Global, string_bytes, refl, sym, ap, ◌∙◌, inl}
+use Rattle.std.proofs.Common.{◌≡◌, true, false, Bool, cond, Option, Some, None, List, ◌∷◌, [], ℕ, map, nat_cmp, String, Global, string_bytes, refl, sym, ap, ◌∙◌, inl}
 use Rattle.std.specs.BTreeMap.{is_at}
 use Rattle.std.specs.Cmp.Lexicographic.{slice_cmp}
 use Rattle.std.specs.Map.{lookup, remove_entry}

@@ -1,15 +1,15 @@
 -- What is left of a table once keys were taken out of it: its members with other keys.
-use Rattle.std.proofs.Common.{◌≡◌, true, false, Bool, cond, Option, Some, None, List, ◌∷◌, [], ℕ, map, nat_cmp, String, Global, string_bytes, refl, sym, ap, ◌∙◌, inl}
+use Rattle.std.proofs.Common.{◌≡◌, true, false, Bool, cond, Option, Some, None, List, ◌∷◌, [], ◌++◌, ℕ, map, nat_cmp, String, Global, string_bytes, refl, sym, ap, ◌∙◌, inl}
 use Rattle.std.specs.BTreeMap.{is_at}
 use Rattle.std.specs.Cmp.Lexicographic.{slice_cmp}
 use Rattle.std.specs.Map.{lookup, remove_entry}
 use Rattle.std.specs.Str.{bytes_eq}
 use Rattle.std.proofs.lemmas.Map.Text.{is_eq-slice_cmp}
-use Rattle.toml.specs.Data.{Data}
+use Rattle.toml.specs.Data.{Data, Members, no_members, member}
 use Rattle.toml.specs.View.{view, members_view}
 use Rattle.toml.proofs.Views.{Entry}
 use Rattle.cargo_toml_parts.specs.declared.error.Error.{Error}
-use Rattle.cargo_toml_parts.specs.Reads.{others_read}
+use Rattle.cargo_toml_parts.specs.Reads.{is_among, others_read}
 use Rattle.cargo_toml_parts.specs.Readings.{Goes}
 
 -- the entries with other keys than the names
@@ -51,6 +51,28 @@ others_left names k es fs taken none = left names k es (ap (lookup (at k)) (sym 
 pub all_left : (es : List Entry) → others_read [] Some (members_view es) ≡ Some (map (λ e. (string_bytes e.0, view e.1)) es)
 all_left [] = refl
 all_left (e ∷ es) = rw (all_left es) refl
+
+-- names in another order leave the same
+or_swap : (a b : Bool) → cond a true b ≡ cond b true a
+or_swap true true = refl
+or_swap true false = refl
+or_swap false true = refl
+or_swap false false = refl
+
+among_at : (b c d : Bool) → cond b true (cond c true d) ≡ cond (cond b true c) true d
+among_at true c d = refl
+among_at false c d = refl
+
+among_both : (xs ys : List (List ℕ)) (k : List ℕ) → is_among (xs ++ ys) k ≡ cond (is_among xs k) true (is_among ys k)
+among_both [] ys k = refl
+among_both (x ∷ xs) ys k = rw (among_both xs ys k) (among_at (bytes_eq x k) (is_among xs k) (is_among ys k))
+
+among_swap : (xs ys : List (List ℕ)) (k : List ℕ) → is_among (xs ++ ys) k ≡ is_among (ys ++ xs) k
+among_swap xs ys k = among_both xs ys k ∙ or_swap (is_among xs k) (is_among ys k) ∙ sym (among_both ys xs k)
+
+pub others_swap : (key : List ℕ) (xs ys : List (List ℕ)) (ms : Members) → others_read (key ∷ xs ++ ys) (λ d. Some d) ms ≡ others_read (key ∷ ys ++ xs) (λ d. Some d) ms
+others_swap key xs ys no_members = refl
+others_swap key xs ys (member k d ms) = rw (among_swap xs ys k, others_swap key xs ys ms) refl
 
 -- what is known without reading
 pub known : {M : Type 0} (a : Option Error) (o : Option M) (m : M) (blames : Error → Type 0) → o ≡ Some m → Goes a a o m blames

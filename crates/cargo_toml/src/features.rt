@@ -46,6 +46,9 @@ pub struct Resolver<'config, F, S> {
 
 impl Resolver<'static, fn(&str) -> bool, BuildHasherDefault<FoldHasher>> {
     /// A resolver with the fixed state of hashed maps and no filter: all features whose names begin with `_` are removed.
+    ///
+    /// The seed of that state is known, so a stranger can choose names that collide in the maps of an answer, which then take time quadratic
+    /// in the number of these names. [`Resolver::new_with_hasher_and_filter`] takes a random state.
     pub fn new() -> Self
         ensures unfiltered { filter_of result ≡ None }
     {
@@ -58,7 +61,7 @@ impl Resolver<'static, fn(&str) -> bool, BuildHasherDefault<FoldHasher>> {
 
 impl<'config, F: Fn(&str) -> bool, S> Resolver<'config, F, S> {
     /// A resolver with this state of hashed maps and this filter, which is asked for names that begin with `_`: features for
-    /// which it answers false are removed.
+    /// which it answers false are removed. Who reads what strangers wrote hands in a random state, as `RandomState::new(rt)?`.
     ///
     /// The filter may be called on every text, and answers each in one way. How often it is asked, and in which order, is open.
     pub fn new_with_hasher_and_filter(state: S, should_keep_hidden_feature: &'config F) -> Self

@@ -61,12 +61,12 @@ fn write_features<S: BuildHasher>(
     text: &mut String,
     features: &HashMap<&str, Feature<'_>, S>,
 ) -> Result<(), Error> {
-    let mut names: Vec<&str> = features.keys().copied().collect(alloc)?;
-    names.sort()?;
-    for name in names {
-        if let Some(feature) = features.get(name) {
-            write_feature(text, feature)?;
-        }
+    let in_order: BTreeMap<&str, &Feature<'_>> = features
+        .iter()
+        .map(|(name, feature)| (*name, feature))
+        .collect(alloc)?;
+    for (_, feature) in &in_order {
+        write_feature(text, *feature)?;
     }
     Ok(())
 }
@@ -76,12 +76,12 @@ fn write_hidden<S: BuildHasher>(
     text: &mut String,
     hidden: &HashMap<&str, BTreeSet<&str>, S>,
 ) -> Result<(), Error> {
-    let mut names: Vec<&str> = hidden.keys().copied().collect(alloc)?;
-    names.sort()?;
-    for name in names {
-        if let Some(stands_for) = hidden.get(name) {
-            write_redirect(text, name, stands_for)?;
-        }
+    let in_order: BTreeMap<&str, &BTreeSet<&str>> = hidden
+        .iter()
+        .map(|(name, stands_for)| (*name, stands_for))
+        .collect(alloc)?;
+    for (name, stands_for) in &in_order {
+        write_redirect(text, *name, *stands_for)?;
     }
     Ok(())
 }

@@ -86,6 +86,15 @@ fn parse(manifest: &Manifest, count: u64) -> Measured {
     })
 }
 
+/// From the text to the answer.
+fn answer(bytes: &[u8], count: u64) -> Measured {
+    repeat(count, || {
+        let manifest = Manifest::from_slice(black_box(bytes)).expect("a manifest");
+        let answer = Resolver::new().parse(&manifest);
+        answer.features.len() + answer.dependencies.len() + answer.hidden_features.len()
+    })
+}
+
 /// Its features and normal dependencies, as if they stood in no manifest.
 fn custom(manifest: &Manifest, count: u64) -> Measured {
     let table: HashMap<String, Vec<String>> = manifest.features.clone().into_iter().collect();
@@ -125,6 +134,7 @@ fn run(words: &[&str]) -> Result<Measured, Error> {
     let count = words.last().and_then(|word| word.parse().ok()).ok_or(Error::Other("COUNT is a number"))?;
     match words {
         ["read", file, _] => Ok(read(&std::fs::read(file)?, count)),
+        ["answer", file, _] => Ok(answer(&std::fs::read(file)?, count)),
         ["write", file, _] => Ok(write(&manifest(file)?, count)),
         ["text", file, _] => Ok(text(&manifest(file)?, count)),
         // the state of its hashed maps is random anyway

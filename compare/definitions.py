@@ -1,0 +1,192 @@
+"""What `cargo-toml features FILE` has to print, by the definitions of docs/DEFINITIONS.md, written once more and by other means.
+
+Nothing here follows the crate's code: enablers, names and actions are found as paths in the whole graph of features, none of which is
+taken out.
+"""
+
+import tomllib
+
+LIMIT = 2048
+
+
+def in_order(texts):
+    """Texts in the order of their bytes."""
+    return sorted(texts, key=lambda text: text.encode())
+
+
+def mention(text):
+    """What one text of a feature's list says: a name; or a key, whether conditionally, whether dep-only, and a dependency feature."""
+    front, slash, feature = text.partition("/")
+    name = front.removeprefix("dep:")
+    is_dep_only = name != front
+    key = name.removesuffix("?")
+    if not is_dep_only and not slash:
+        return key, None
+    return key, (key != name, is_dep_only, frozenset([feature] if slash else []))
+
+
+def join(one, other):
+    if one is None or other is None:
+        return one or other
+    return one[0] and other[0], one[1] or other[1], one[2] | other[2]
+
+
+def dependency_tables(manifest):
+    """The tables of dependencies in the order in which they count, each with its kind and target."""
+    targets = manifest.get("target", {})
+    yield manifest.get("dependencies", {}), (0, None)
+    yield manifest.get("build-dependencies", {}), (1, None)
+    for target in in_order(targets):
+        yield targets[target].get("dependencies", {}), (0, target)
+        yield targets[target].get("build-dependencies", {}), (1, target)
+    yield manifest.get("dev-dependencies", {}), (2, None)
+    for target in in_order(targets):
+        yield targets[target].get("dev-dependencies", {}), (2, target)
+
+
+def entries_of(manifest):
+    return [(key, at, table[key]) for table, at in dependency_tables(manifest) for key in in_order(table)[:LIMIT]]
+
+
+def is_optional(dependency):
+    return isinstance(dependency, dict) and dependency.get("optional", False)
+
+
+def is_redundant(dependency, feature):
+    """Whether a dependency that is written as a table has the feature anyway."""
+    if not isinstance(dependency, dict):
+        return False
+    return feature == "default" and dependency.get("default-features", True) or feature in dependency.get("features", [])
+
+
+def first_targets(entries, mentioned):
+    """For each recorded key the first dependency at its least target."""
+    recorded = {}
+    for key, (kind, target), dependency in entries:
+        if is_optional(dependency) or key in mentioned or key in recorded:
+            place = (kind, target is not None, (target or "").encode())
+            recorded.setdefault(key, {}).setdefault(place, dependency)
+    return {key: targets[min(targets)] for key, targets in recorded.items()}
+
+
+class Graph:
+    """The features of a manifest, and the edges between them."""
+
+    def __init__(self, manifest):
+        table = manifest.get("features", {})
+        listed = in_order(table)[:LIMIT]
+        self.explicit = {*listed, "default"}
+        self.names = {feature: set() for feature in self.explicit}
+        self.actions = {feature: {} for feature in self.explicit}
+        for feature in self.explicit:
+            for text in table.get(feature, [])[:LIMIT]:
+                key, action = mention(text)
+                if action:
+                    self.actions[feature][key] = join(self.actions[feature].get(key), action)
+                else:
+                    self.names[feature].add(key)
+        self.add_dependencies(entries_of(manifest))
+        self.own_bins = {feature: [] for feature in self.names}
+        for product in manifest.get("bin", []):
+            for feature in product.get("required-features", []):
+                if feature in self.own_bins:
+                    self.own_bins[feature].append(product.get("name", manifest["package"]["name"]))
+        self.edges = {feature: self.targets(feature) for feature in self.names}
+
+    def add_dependencies(self, entries):
+        """Implied features; and what a dependency has anyway is left out of actions."""
+        acted = {key for actions in self.actions.values() for key in actions}
+        reserved = {key for actions in self.actions.values() for key, action in actions.items() if action[1]}
+        recorded = first_targets(entries, self.explicit | acted)
+        for actions in self.actions.values():
+            for key, (is_conditional, is_dep_only, features) in actions.items():
+                left = {feature for feature in features if not is_redundant(recorded.get(key), feature)}
+                actions[key] = is_conditional, is_dep_only, frozenset(left)
+        for key, _, dependency in entries:
+            if is_optional(dependency) and key not in reserved and key not in self.names:
+                self.names[key] = set()
+                self.actions[key] = {key: (False, False, frozenset())}
+
+    def targets(self, feature):
+        plain = {key for key, action in self.actions[feature].items() if not action[0] and not action[1]}
+        return {target for target in self.names[feature] | plain if target in self.names and target != feature}
+
+    def reached(self, feature, inner):
+        """What a path of at least one edge leads to, whose inner features are all among these."""
+        found, left = set(), [*self.edges[feature]]
+        while left:
+            target = left.pop()
+            if target not in found:
+                found.add(target)
+                left += self.edges[target] if target in inner else []
+        return found
+
+
+def listed(items):
+    return ", ".join(items) if items else "-"
+
+
+def written_action(key, action):
+    marks = "?" * action[0] + "!" * action[1]
+    return key + marks + "".join(f"/{feature}" for feature in in_order(action[2]))
+
+
+class Expected:
+    """The lines of a manifest. Of binaries, which removed features pass on in an order of their own, only what is certain is held."""
+
+    def __init__(self, manifest, keeps=lambda name: False):
+        self.graph = graph = Graph(manifest)
+        self.removed = {feature for feature in graph.names if feature.startswith("_") and not keeps(feature)}
+        self.kept = in_order(graph.names.keys() - self.removed)
+        self.reached = {feature: graph.reached(feature, self.removed) for feature in graph.names}
+
+    def spoken_by(self, feature):
+        """The feature, and the removed ones that it reaches through removed ones."""
+        return {feature} | self.reached[feature] & self.removed
+
+    def line(self, feature):
+        graph = self.graph
+        names, actions = set(), {}
+        for source in self.spoken_by(feature):
+            names |= graph.names[source] - self.removed
+            for key, action in graph.actions[source].items():
+                actions[key] = join(actions.get(key), action)
+        enablers = [source for source in self.kept if feature in self.reached[source]]
+        origin = "explicit" if feature in graph.explicit else "implied"
+        deps = [written_action(key, actions[key]) for key in in_order(actions)]
+        return f"feature {feature} | {origin} | names: {listed(in_order(names))} | deps: {listed(deps)} | by: {listed(enablers)} | bins: "
+
+    def has_bins(self, feature, bins):
+        """Its own, then some that removed features pass on, without doubling; of one that names it itself the first ten are among them."""
+        graph, own = self.graph, self.graph.own_bins[feature]
+        passed = bins[len(own) :]
+        sources = {source for source in self.removed if any(feature in graph.names[inner] for inner in self.spoken_by(source))}
+        allowed = {name for source in sources for name in graph.own_bins[source]} - {*own}
+        wanted = {name for source in self.removed if feature in graph.names[source] for name in graph.own_bins[source][:10]}
+        return bins[: len(own)] == own and len({*passed}) == len(passed) and {*passed} <= allowed and wanted <= {*bins}
+
+    def redirect(self, feature):
+        smaller = {source for source in self.removed if source.encode() < feature.encode()}
+        sources = {feature} | self.graph.reached(feature, smaller) & smaller
+        names = {name for source in sources for name in self.graph.names[source]} - smaller
+        return f"hidden {feature} | {listed(in_order(names))}"
+
+    def difference(self, text):
+        """The first line that isn't as it should be, and what should stand there, or nothing."""
+        lines, hidden = text.splitlines(), in_order(self.removed)
+        if len(lines) != len(self.kept) + len(hidden):
+            return f"{len(lines)} lines", f"{len(self.kept)} features and {len(hidden)} removed ones"
+        for line, feature in zip(lines, self.kept):
+            head = self.line(feature)
+            bins = line[len(head) :]
+            if not line.startswith(head) or not self.has_bins(feature, [] if bins == "-" else bins.split(", ")):
+                return line, head
+        for line, feature in zip(lines[len(self.kept) :], hidden):
+            if line != self.redirect(feature):
+                return line, self.redirect(feature)
+        return None
+
+
+def difference(file, text):
+    with open(file, "rb") as opened:
+        return Expected(tomllib.load(opened)).difference(text)

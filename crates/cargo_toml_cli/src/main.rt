@@ -1,38 +1,12 @@
 //! `cargo-toml features FILE` prints what the features of a manifest enable, and `cargo-toml complete FILE` what is found around it.
 #![tactic(auto)]
 
-ghost use Rattle.std.specs.Prelude.{◌≡◌, IfSome, IfNone, map, string_bytes};
-ghost use Rattle.cargo_toml_cli.specs.Words.{words_of};
-ghost use Rattle.cargo_toml_cli.specs.declared.arguments.Command.{Command};
-
-mod arguments;
-mod outcome;
-#[cfg(test)]
-mod tests;
-
-use arguments::Command;
 use cargo_toml::{Error, Manifest};
-use cargo_toml_print::{print_complete, print_features};
-use outcome::Outcome;
+use cargo_toml_print::{Command, Outcome, command, print_complete, print_features};
 use std::io::Write;
 use std::process::ExitCode;
 use std::rt::{Env, Files};
 use std::{env, fs, io};
-
-/// What the words, without the program's own name, ask for; `None` where they are no command.
-pub fn command(words: &[String]) -> Option<Command<'_>>
-    ensures some { IfSome result (λ c. map string_bytes words.now ≡ words_of c) }
-    ensures none { IfNone result ((c : Command) → ¬ (map string_bytes words.now ≡ words_of c)) }
-{
-    match words {
-        [verb, file] => match verb.as_str() {
-            "features" => Some(Command::Features(file.as_str())),
-            "complete" => Some(Command::Complete(file.as_str())),
-            _ => None,
-        },
-        _ => None,
-    }
-}
 
 /// Prints the features of the manifest in a file.
 fn features<R: Files + Print + AllocGlobal>(rt: &R, file: &str) -> Result<(), Error> {

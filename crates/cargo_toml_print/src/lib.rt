@@ -1,21 +1,27 @@
-//! What the program `cargo-toml` writes, as a library: what checks it against stored lines writes by the same code.
+//! What the program `cargo-toml` is asked, writes and tells at its end, as a library: what checks it against stored lines writes by the same code.
 #![tactic(auto)]
 
 ghost use Rattle.std.specs.Prelude.{IfErr};
 ghost use Rattle.std.specs.Io.KnownBytes.{Keeps};
 ghost use Rattle.cargo_toml_print.specs.Printing.{IsOfManifest};
 
+mod arguments;
 mod completion;
 mod items;
+mod outcome;
+mod words;
 
+pub use arguments::Command;
 use cargo_toml::features::{DepAction, Feature, Features, Resolver};
 use cargo_toml::{Error, Manifest};
 pub use completion::print_complete;
 use items::{separate, write_none};
+pub use outcome::Outcome;
 use std::alloc::Global;
 use std::collections::{BTreeMap, BTreeSet, HashMap};
 use std::hash::BuildHasher;
 use std::io::{Read, Write};
+pub use words::command;
 
 /// Reads a manifest from `input` and writes to `output` a line for each of its features, and then one for each that is removed
 /// since it is hidden.

@@ -8,6 +8,7 @@ mod manifests;
 mod packages;
 mod parsing;
 mod printing;
+mod program;
 mod values;
 mod written;
 

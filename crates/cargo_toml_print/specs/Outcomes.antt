@@ -5,8 +5,8 @@ use Rattle.std.specs.declared.io.ErrorKind.TheVariants as io
 use Rattle.std.specs.IoError.{error_kind}
 use Rattle.cargo_toml.specs.Error.{Error, Memory}
 use Rattle.cargo_toml.specs.Faults.{text_of}
-use Rattle.cargo_toml_cli.specs.declared.outcome.Outcome.{Outcome}
-use Rattle.cargo_toml_cli.specs.declared.outcome.Outcome.TheVariants.{Done, Refused, NotACommand}
+use Rattle.cargo_toml_print.specs.declared.outcome.Outcome.{Outcome}
+use Rattle.cargo_toml_print.specs.declared.outcome.Outcome.TheVariants.{Done, Refused, NotACommand}
 
 -- the end of a run whose command was done or refused
 abbrev pub outcome_of : Result ⊤ Error → Outcome

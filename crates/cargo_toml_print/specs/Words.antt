@@ -1,7 +1,7 @@
 -- What the words of the command line ask for.
 use Rattle.std.specs.Prelude.{ℕ, List, [], ◌∷◌, codes}
-use Rattle.cargo_toml_cli.specs.declared.arguments.Command.{Command}
-use Rattle.cargo_toml_cli.specs.declared.arguments.Command.TheVariants.{Features, Complete}
+use Rattle.cargo_toml_print.specs.declared.arguments.Command.{Command}
+use Rattle.cargo_toml_print.specs.declared.arguments.Command.TheVariants.{Features, Complete}
 
 -- the words of a command: a verb and a file
 abbrev pub words_of : Command → List (List ℕ)

@@ -1,7 +1,8 @@
 //! What the words of the command line ask for, and what the program tells at its end.
-use super::*;
+use cargo_toml::Error;
+use cargo_toml_print::{Command, Outcome, command, print_features};
 use std::alloc::AllocError;
-use std::process;
+use std::io;
 use std::process::Abort;
 use std::test::Fail;
 
@@ -55,24 +56,6 @@ fn told_of_a_manifest(rt: HostRuntime) -> Result<(), Fail> {
         1,
         "error: value has the wrong shape\n",
     )?;
-    Ok(())
-}
-
-#[test]
-fn told_of_a_file(rt: HostRuntime) -> Result<(), Fail> {
-    let folder = format!(in rt.alloc(); "/tmp/cargo-toml-{}", process::id(rt.process()))?;
-    let file = format!(in rt.alloc(); "{folder}/Cargo.toml")?;
-    let mut output = Vec::new(rt.alloc());
-    let absent = Outcome::of_command(complete(&rt, file.as_str(), &mut output));
-    assert_eq!(rt; absent.status(), 1);
-    fs::create_dir_all(&rt, folder.as_str())?;
-    let text = "package = { name = \"p\", version = \"1.0.0\" }";
-    fs::write(&rt, file.as_str(), text)?;
-    let done = Outcome::of_command(complete(&rt, file.as_str(), &mut output));
-    fs::remove_dir_all(&rt, folder.as_str())?;
-    assert_told(&rt, &done, 0, "")?;
-    let lines = b"build | -\nreadme | <default>\n";
-    assert_eq!(rt; output.as_slice(), lines.as_slice());
     Ok(())
 }
 

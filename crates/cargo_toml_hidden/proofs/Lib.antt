@@ -1,4 +1,4 @@
-mod Put
+pub mod Put
 pub mod Sets
 mod Actions
 pub mod InOrder
@@ -25,3 +25,4 @@ mod HashedSlots
 mod AnsweringLeft
 mod PutAlong
 mod BinTurns
+mod KnownBins

@@ -1,5 +1,5 @@
 -- The texts of numbers: the names of features, and after them others.
-use Rattle.std.proofs.Common.{◌≡◌, ◌↔◌, ◌<◌, ◌≤◌, ◌+◌, ◌-◌, ℕ, Bool, true, false, List, [], ◌++◌, length, map, take, drop, IsTrue, IfSome, Option, Some, None, is_some, Bor, refl, sym, ap, subst, inl, inr, ◌∙◌, arith}
+use Rattle.std.proofs.Common.{◌≡◌, ◌↔◌, ◌<◌, ◌≤◌, ◌+◌, ◌-◌, ℕ, Bool, true, false, List, [], ◌++◌, length, map, take, drop, IsTrue, Bor, refl, sym, ap, subst, inl, inr, ◌∙◌, arith}
 use Rattle.std.proofs.lemmas.Bool.{false≢true, cases_lt}
 use Rattle.std.proofs.lemmas.List.{length-append, length-map, length-take-le, length-drop, take_at, drop_at, map-append, take-map, drop-map, take_rest, get_or-take, get_or-drop, get_or_append_left, get_or-append_right}
 use Rattle.cargo_toml_graph.specs.Action.{Text}

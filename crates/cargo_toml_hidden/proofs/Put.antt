@@ -1,16 +1,10 @@
 -- Binaries, put one after another.
-use Rattle.std.proofs.Common.{◌≡◌, ◌||◌, ◌+◌, ◌<◌, ℕ, take, length, get_or, if◌then◌else◌, List, [], ◌∷◌, ◌++◌, bytes_eq, refl, ap, ap₂, ◌∙◌}
+use Rattle.std.proofs.Common.{◌≡◌, ◌+◌, ◌<◌, ℕ, take, length, get_or, if◌then◌else◌, List, [], ◌∷◌, ◌++◌, refl, ap, ◌∙◌}
 use Rattle.std.proofs.lemmas.List.{map_more}
 use Rattle.std.specs.Borrow.{Bor}
-use Rattle.std.specs.List.{list_any}
 use Rattle.cargo_toml_graph.specs.Action.{Text}
 use Rattle.cargo_toml_graph.specs.Removal.{is_among, put_all}
-use Rattle.cargo_toml_graph.proofs.Texts.{bytes_eq_sym}
 use Rattle.cargo_toml_hidden.specs.Texts.{texts_of}
-
-pub among_texts : (ks : List (Bor Text)) (x : Text) → list_any (λ k. bytes_eq k.now x) ks ≡ is_among (texts_of ks) x
-among_texts [] x = refl
-among_texts (k ∷ ks) x = ap₂ (λ a b. a || b) (bytes_eq_sym k.now x) (among_texts ks x)
 
 put_last : (xs ys : List Text) (y : Text) → put_all xs (ys ++ y ∷ []) ≡ put_all (put_all xs ys) (y ∷ [])
 put_last xs [] y = refl

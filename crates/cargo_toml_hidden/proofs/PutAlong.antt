@@ -1,7 +1,7 @@
 -- Binaries that are put into the lists of features, place after place.
-use Rattle.std.proofs.Common.{◌≡◌, ◌≢◌, ◌⊎◌, ◌↔◌, ◌<◌, ◌≤◌, ℕ, zero, suc, cond, List, [], ◌∷◌, ◌++◌, length, get_or, set, slice_get, Option, Some, Bor, unwrap_or, refl, sym, ap, subst, inl, inr, ◌∙◌, arith, length-set}
+use Rattle.std.proofs.Common.{◌≡◌, ◌≢◌, ◌⊎◌, ◌↔◌, ◌<◌, ◌≤◌, ℕ, zero, suc, cond, List, [], ◌∷◌, ◌++◌, length, get_or, set, slice_get, Option, Some, Bor, refl, sym, ap, subst, inl, inr, ◌∙◌, arith, length-set}
 use Rattle.std.proofs.lemmas.Bool.{cases_eq}
-use Rattle.std.proofs.lemmas.Option.{slice_get-get_or, slice_get_read, slice_get_within}
+use Rattle.std.proofs.lemmas.Option.{same_Some, slice_get-get_or, slice_get_read, slice_get_within}
 use Rattle.std.specs.Option.{option_map_or}
 use Rattle.cargo_toml_graph.specs.Action.{Text}
 use Rattle.cargo_toml_graph.specs.Reach.{Among}
@@ -21,12 +21,12 @@ put_again : (xs ys : List Text) → put_all (put_all xs ys) ys ≡ put_all xs ys
 put_again xs ys = put_none (put_all xs ys) ys (λ x i. put_puts xs ys x i)
 
 module _ {X : Type 0} where
-  get_set : (xs : List X) (i : ℕ) (x : X) → i < length xs → slice_get (set xs i x) i ≡ Some x
+  pub get_set : (xs : List X) (i : ℕ) (x : X) → i < length xs → slice_get (set xs i x) i ≡ Some x
   get_set [] i x lt = absurd (omega arith)
   get_set (y ∷ ys) zero x lt = refl
   get_set (y ∷ ys) (suc i) x lt = get_set ys i x (omega arith)
 
-  get_set_other : (xs : List X) (i j : ℕ) (x : X) → j ≢ i → slice_get (set xs i x) j ≡ slice_get xs j
+  pub get_set_other : (xs : List X) (i j : ℕ) (x : X) → j ≢ i → slice_get (set xs i x) j ≡ slice_get xs j
   get_set_other [] i j x ne = refl
   get_set_other (y ∷ ys) zero zero x ne = absurd (ne refl)
   get_set_other (y ∷ ys) zero (suc j) x ne = refl
@@ -36,12 +36,8 @@ module _ {X : Type 0} where
 itself : (v : Feature) → IsSameButBins v v
 itself v = record { key = refl; explicit = refl; names = refl; actions = refl; enabled_by = refl }
 
--- one element is the other
-one_of : (v w : Feature) → Some v ≡ Some w → v ≡ w
-one_of v w e = ap (λ o. unwrap_or o v) e
-
 pub same_features : (vs : List Feature) → AreSameButBins vs vs
-same_features vs = record { len = refl; each = λ i v w old new. subst (IsSameButBins v) (one_of v w (sym old ∙ new)) (itself v) }
+same_features vs = record { len = refl; each = λ i v w old new. subst (IsSameButBins v) (same_Some v w (sym old ∙ new)) (itself v) }
 
 pub then_same : (vs ws us : List Feature) → AreSameButBins vs ws → AreSameButBins ws us → AreSameButBins vs us
 then_same vs ws us a b = record {
@@ -60,14 +56,14 @@ same_set vs i v w lt read s = record {
   len = length-set vs i w;
   each = λ j a b old new. elim (cases_eq j i) [
     | inl is ↦
-        let first : v ≡ a = one_of v a (sym read ∙ sym (ap (slice_get vs) is) ∙ old) in
-        let second : w ≡ b = one_of w b (sym (get_set vs i w lt) ∙ sym (ap (slice_get (set vs i w)) is) ∙ new) in
+        let first : v ≡ a = same_Some v a (sym read ∙ sym (ap (slice_get vs) is) ∙ old) in
+        let second : w ≡ b = same_Some w b (sym (get_set vs i w lt) ∙ sym (ap (slice_get (set vs i w)) is) ∙ new) in
         subst (λ x. IsSameButBins x b) first (subst (IsSameButBins v) second s)
-    | inr other ↦ subst (IsSameButBins a) (one_of a b (sym old ∙ sym (get_set_other vs i j w other) ∙ new)) (itself a)
+    | inr other ↦ subst (IsSameButBins a) (same_Some a b (sym old ∙ sym (get_set_other vs i j w other) ∙ new)) (itself a)
   ];
 }
 
-abbrev list_in : Option Feature → List Text
+abbrev pub list_in : Option Feature → List Text
 list_in o = option_map_or (λ v. texts_of v.required_by_bins.items) o []
 
 pub bins_read : (vs : List Feature) (i : ℕ) (v : Feature) → i < length vs → v ≡ get_or vs i v → bins_of vs i ≡ texts_of v.required_by_bins.items

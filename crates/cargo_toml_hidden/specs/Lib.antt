@@ -8,3 +8,4 @@ pub mod Passing
 pub mod Walking
 pub mod Left
 pub mod Puts
+pub mod KnownBins

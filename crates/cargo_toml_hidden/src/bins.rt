@@ -1,15 +1,20 @@
 //! The binaries of removed features are passed on.
-ghost use Rattle.std.specs.Prelude.{◌≡◌, ◌<◌, ◌≤◌, ◌∷◌, [], ℕ, List, Vec, length, take, true, false, IfOk, OnOk};
+ghost use Rattle.std.specs.Prelude.{◌≡◌, ◌<◌, ◌≤◌, ◌∷◌, ◌||◌, [], ℕ, List, Vec, bytes_eq, length, not, take, true, false, IfOk, OnOk};
 ghost use Rattle.std.specs.declared.alloc.Global.{Global};
+ghost use Rattle.cargo_toml_graph.specs.Action.{Text};
 ghost use Rattle.cargo_toml_graph.specs.Reach.{Among};
 ghost use Rattle.cargo_toml_graph.specs.Removal.{put_all};
 ghost use Rattle.cargo_toml_walk.specs.Numbers.{IsWanted};
+ghost use Rattle.cargo_toml_features.specs.Views.{has_text};
+ghost use Rattle.cargo_toml_hidden.specs.KnownBins.{AreKnown, Knows};
 ghost use Rattle.cargo_toml_hidden.specs.Passing.{bins_of, AreRedirects, AreSameButBins, HasBinsAt};
 ghost use Rattle.cargo_toml_hidden.specs.Puts.{Puts};
 ghost use Rattle.cargo_toml_hidden.specs.Texts.{texts_of};
 
+use crate::leaving::into_set;
 use cargo_toml_features::features::Feature;
-use std::alloc::AllocError;
+use std::alloc::{AllocError, Global};
+use std::collections::BTreeSet;
 
 /// A copy of the first ten, for the lists may change while it is read. It fails only where memory runs out.
 pub fn first_ten<'m>(bins: &Vec<&'m str>) -> Result<Vec<&'m str>, AllocError>
@@ -19,64 +24,118 @@ pub fn first_ten<'m>(bins: &Vec<&'m str>) -> Result<Vec<&'m str>, AllocError>
     bins[..count].to_vec(*bins.allocator())
 }
 
-// The binary is put at the end, unless it is there.
-fn put_bin<'m>(own: &mut Vec<&'m str>, bin: &'m str) -> Result<(), AllocError>
-    ensures { OnOk result (texts_of own.new.items ≡ put_all (texts_of own.old.items) (bin.now ∷ [])) }
+// The binaries of a list, as a set.
+fn known_in<'m>(alloc: Global, bins: &Vec<&'m str>) -> Result<BTreeSet<&'m str>, AllocError>
+    ensures { IfOk result (λ s. Knows s (texts_of bins.now.items)) }
 {
-    if !own.contains(&bin) {
+    into_set(alloc, bins.to_vec(alloc)?)
+}
+
+// The binaries of each feature, as a set, by places.
+fn known_bins<'m>(
+    alloc: Global,
+    features: &[Feature<'m>],
+) -> Result<Vec<BTreeSet<&'m str>>, AllocError>
+    ensures { IfOk result (λ v. AreKnown v.items features.now) }
+{
+    let mut known = Vec::with_capacity(alloc, features.len())?;
+    for feature in features {
+        known.push(known_in(alloc, &feature.required_by_bins)?)?;
+    }
+    Ok(known)
+}
+
+// The binary is put into the set; the answer tells whether it wasn't there.
+fn add_known<'m>(known: &mut BTreeSet<&'m str>, bin: &'m str) -> Result<bool, AllocError>
+    ensures is_new { IfOk result (λ is_new. is_new ≡ not (has_text known.old bin.now)) }
+    ensures added { OnOk result ((x : Text) → has_text known.new x ≡ (has_text known.old x || bytes_eq x bin.now)) }
+{
+    Ok(known.insert(bin)?)
+}
+
+// The binary is put at the end, unless it is there. A set tells whether it is, since a feature may come to have thousands.
+fn put_bin<'m>(
+    own: &mut Vec<&'m str>,
+    known: &mut BTreeSet<&'m str>,
+    bin: &'m str,
+) -> Result<(), AllocError>
+    requires { Knows known.old (texts_of own.old.items) }
+    ensures put { OnOk result (texts_of own.new.items ≡ put_all (texts_of own.old.items) (bin.now ∷ [])) }
+    ensures known { OnOk result (Knows known.new (texts_of own.new.items)) }
+{
+    if add_known(known, bin)? {
         own.push(bin)?;
     }
     Ok(())
 }
 
-/// Each binary is put at the end, unless it is there. It fails only where memory runs out.
-pub fn put_bins<'m>(own: &mut Vec<&'m str>, bins: &[&'m str]) -> Result<(), AllocError>
-    ensures { OnOk result (texts_of own.new.items ≡ put_all (texts_of own.old.items) (texts_of bins.now)) }
+// Each binary is put at the end, unless it is there.
+fn put_bins<'m>(
+    own: &mut Vec<&'m str>,
+    known: &mut BTreeSet<&'m str>,
+    bins: &[&'m str],
+) -> Result<(), AllocError>
+    requires { Knows known.old (texts_of own.old.items) }
+    ensures put { OnOk result (texts_of own.new.items ≡ put_all (texts_of own.old.items) (texts_of bins.now)) }
+    ensures known { OnOk result (Knows known.new (texts_of own.new.items)) }
 {
     for bin in bins {
-        put_bin(own, *bin)?;
+        put_bin(own, known, *bin)?;
     }
     Ok(())
 }
 
 fn put_at<'m>(
     features: &mut Vec<Feature<'m>>,
+    known: &mut Vec<BTreeSet<&'m str>>,
     at: usize,
     bins: &[&'m str],
 ) -> Result<(), AllocError>
-    requires { at < length features.old.items }
-    ensures { OnOk result (Puts (λ y. y ≡ at) (texts_of bins.now) features.old.items features.new.items) }
+    requires at { at < length features.old.items }
+    requires known { AreKnown known.old.items features.old.items }
+    ensures put { OnOk result (Puts (λ y. y ≡ at) (texts_of bins.now) features.old.items features.new.items) }
+    ensures known { OnOk result (AreKnown known.new.items features.new.items) }
 {
     let feature = &mut features[at];
-    put_bins(&mut feature.required_by_bins, bins)
+    put_bins(&mut feature.required_by_bins, &mut known[at], bins)
 }
 
 // The binaries are put into the lists of the features that the row names; it may name what is no feature, too.
 fn put_along<'m>(
     features: &mut Vec<Feature<'m>>,
+    known: &mut Vec<BTreeSet<&'m str>>,
     row: &[usize],
     bins: &[&'m str],
 ) -> Result<(), AllocError>
-    ensures { OnOk result (Puts (Among row.now) (texts_of bins.now) features.old.items features.new.items) }
+    requires { AreKnown known.old.items features.old.items }
+    ensures put { OnOk result (Puts (Among row.now) (texts_of bins.now) features.old.items features.new.items) }
+    ensures known { OnOk result (AreKnown known.new.items features.new.items) }
 {
     for at in row {
         if *at < features.len() {
-            put_at(features, *at, bins)?;
+            put_at(features, known, *at, bins)?;
         }
     }
     Ok(())
 }
 
 // The feature in place r passes its first ten binaries on along the row.
-fn pass_from<'m>(features: &mut Vec<Feature<'m>>, r: usize, row: &[usize]) -> Result<(), AllocError>
-    requires { r < length features.old.items }
-    ensures { OnOk result (Puts (Among row.now) (take 10 (bins_of features.old.items r)) features.old.items features.new.items) }
+fn pass_from<'m>(
+    features: &mut Vec<Feature<'m>>,
+    known: &mut Vec<BTreeSet<&'m str>>,
+    r: usize,
+    row: &[usize],
+) -> Result<(), AllocError>
+    requires r { r < length features.old.items }
+    requires known { AreKnown known.old.items features.old.items }
+    ensures put { OnOk result (Puts (Among row.now) (take 10 (bins_of features.old.items r)) features.old.items features.new.items) }
+    ensures known { OnOk result (AreKnown known.new.items features.new.items) }
 {
     let bins = first_ten(&features[r].required_by_bins)?;
     if bins.is_empty() {
         return Ok(());
     }
-    put_along(features, row, bins.as_slice())
+    put_along(features, known, row, bins.as_slice())
 }
 
 /// Removed features pass their binaries on to those that their rows name, in the order of their places: at its turn each its
@@ -84,6 +143,7 @@ fn pass_from<'m>(features: &mut Vec<Feature<'m>>, r: usize, row: &[usize]) -> Re
 ///
 /// A kept feature passes nothing on. It fails only where memory runs out.
 pub(crate) fn pass_bins<'m>(
+    alloc: Global,
     features: &mut Vec<Feature<'m>>,
     rows: &[Vec<usize>],
     flags: &[bool],
@@ -96,10 +156,11 @@ pub(crate) fn pass_bins<'m>(
         → (f : ℕ) → f < length features.old.items → IsWanted flags.now false f
         → HasBinsAt edges names flags.now (bins_of features.old.items) f (bins_of features.new.items f)) }
 {
+    let mut known = known_bins(alloc, features.as_slice())?;
     let size = features.len();
     for r in 0..size {
         if flags[r] {
-            pass_from(features, r, rows[r].as_slice())?;
+            pass_from(features, &mut known, r, rows[r].as_slice())?;
         }
     }
     Ok(())

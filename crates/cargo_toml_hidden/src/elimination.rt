@@ -165,6 +165,6 @@ pub(crate) fn place<'m>(
 {
     let walked = walk(alloc, edges, names, flags)?;
     leave_all(alloc, features, &walked, flags, texts)?;
-    pass_bins(features, walked.rows.as_slice(), flags)?;
+    pass_bins(alloc, features, walked.rows.as_slice(), flags)?;
     Ok(walked.rows)
 }

@@ -34,7 +34,11 @@ fn list_of<'m>(
     Ok(list)
 }
 
-fn into_set<'m>(alloc: Global, texts: Vec<&'m str>) -> Result<BTreeSet<&'m str>, AllocError>
+// The texts of a list, as a set.
+pub(crate) fn into_set<'m>(
+    alloc: Global,
+    texts: Vec<&'m str>,
+) -> Result<BTreeSet<&'m str>, AllocError>
     ensures { IfOk result (λ s. (x : Text) → IsTrue (has_text s x) ↔ Among (texts_of texts.entry.items) x) }
 {
     texts.into_iter().collect(alloc)

@@ -1,3 +1,4 @@
+mod Put
 mod AllNames
 mod Turns
 mod Taken

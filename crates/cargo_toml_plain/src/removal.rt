@@ -6,8 +6,9 @@ ghost use Rattle.cargo_toml_graph.specs.Removal.{SameKept, is_among, pass_all, p
 ghost use Rattle.cargo_toml_plain.specs.Removing.{texts_of, passed_on, key_at, explicit_at, bins_at, TakesNames, Loses, ChangesAt, LosesAll, TakesOut, Redirects};
 ghost use Rattle.cargo_toml_features.specs.Views.{has_text, action_of, action_at, resolution_of, value_at};
 
+use crate::bins::put_bins;
 use cargo_toml_features::features::Feature;
-use cargo_toml_hidden::bins::{first_ten, put_bins};
+use cargo_toml_hidden::bins::first_ten;
 use cargo_toml_hidden::joining::{add_actions, add_all};
 use std::alloc::{AllocError, Global};
 use std::collections::{BTreeSet, HashMap};

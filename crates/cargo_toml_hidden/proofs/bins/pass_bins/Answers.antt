@@ -2,6 +2,7 @@ use Rattle.std.proofs.Common.{rules, ◌<◌, true, false, take, length, sym, su
 use Rattle.cargo_toml_graph.specs.Reach.{Among}
 use Rattle.cargo_toml_walk.specs.Numbers.{IsWanted, Leads}
 use Rattle.cargo_toml_walk.proofs.Steps.{list_read}
+use Rattle.cargo_toml_hidden.specs.KnownBins.{AreKnown}
 use Rattle.cargo_toml_hidden.specs.Passing.{bins_of}
 use Rattle.cargo_toml_hidden.specs.Puts.{Puts}
 use Rattle.cargo_toml_hidden.proofs.PutAlong.{same_features, then_same}
@@ -11,6 +12,7 @@ use Rattle.cargo_toml_hidden.proofs.bins.pass_bins.Goals.{then-flags-r+in_ok-pas
 
 pub loop-r-init : goal.loop-r-init
 loop-r-init c = record {
+  known = subst (AreKnown c.in_ok-known.known.items) c.as_slice.ensures.value c.in_ok-known.ensures;
   same = same_features c.args.features.now.items;
   turned = λ edges names len h. no_turn edges names c.args.flags.now (bins_of c.args.features.now.items);
 }
@@ -27,22 +29,24 @@ loop-r-preserved c =
           let there : r < length rows = search rules in
           let gone : IsWanted flags true r = search rules in
           let new = w.pass_from.new.features.items in
-          let read = w.as_slice.ensures.value ∙ sym (list_read rows r w.index-rows-r.result there w.index-rows-r.is) in
-          let puts : Puts (Leads rows r) (take 10 (bins_of mid r)) mid new = subst (λ row. Puts (Among row) (take 10 (bins_of mid r)) mid new) read w.in_ok-pass_from.ensures in
-          rw (w.features-is) (record {
+          let read = w.as_slice-then-flags-r.ensures.value ∙ sym (list_read rows r w.index-rows-r.result there w.index-rows-r.is) in
+          let puts : Puts (Leads rows r) (take 10 (bins_of mid r)) mid new = subst (λ row. Puts (Among row) (take 10 (bins_of mid r)) mid new) read w.in_ok-pass_from.ensures.put in
+          rw (w.features-is) (rw (w.known-is) (record {
+            known = w.in_ok-pass_from.ensures.known;
             same = then_same old mid new c.loop-r.invariant.same puts.same;
             turned = λ edges names len h.
                 let inside : r < length edges = omega arith in
                 let same = c.loop-r.invariant.same.len in
                 one_turn edges names flags (bins_of old) rows h r inside gone (bins_of mid) (c.loop-r.invariant.turned edges names len h) (bins_of new)
                 (λ y below. puts.lists y (subst (λ n. y < n) (len ∙ sym same) below));
-          })
+          }))
       | else-flags-r w ↦
           let kept : IsWanted flags false r = search rules in
-          rw (w.features-is) (record {
+          rw (w.features-is) (rw (w.known-is) (record {
+            known = c.loop-r.invariant.known;
             same = c.loop-r.invariant.same;
             turned = λ edges names len h. kept_turn edges names flags (bins_of old) r (bins_of mid) kept (c.loop-r.invariant.turned edges names len h);
-          })
+          }))
     ]
 
 pub returns-clause-bins : goal.returns-clause-bins

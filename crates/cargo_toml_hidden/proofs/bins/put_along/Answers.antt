@@ -8,7 +8,10 @@ use Rattle.cargo_toml_hidden.proofs.bins.put_along.Goals as goal
 use Rattle.cargo_toml_hidden.proofs.bins.put_along.Goals.{then-at-len+in_ok-put_at, else-at-len}
 
 pub loop-at-init : goal.loop-at-init
-loop-at-init c = put_nowhere (texts_of c.args.bins.now) c.args.features.now.items
+loop-at-init c = record { put = put_nowhere (texts_of c.args.bins.now) c.args.features.now.items; known = c.requires }
+
+pub put_at-requires-clause-known : goal.put_at-requires-clause-known
+put_at-requires-clause-known c = c.loop-at.invariant.known
 
 pub loop-at-preserved : goal.loop-at-preserved
 loop-at-preserved c =
@@ -16,15 +19,21 @@ loop-at-preserved c =
     let i = c.loop-at.at-index in
     let bins = texts_of c.args.bins.now in
     elim c.if-at-len.branch [
-      | then-at-len+in_ok-put_at w ↦ rw (w.features-is) (then_put (Among (take i row)) (λ y. y ≡ get_or row i 0) (Among (take (i + 1) row)) bins c.args.features.now.items c.loop-at.features.items c.loop-at.invariant
-          w.put_at.new.features.items (λ y. among_more row i y c.loop-at-test.true) w.in_ok-put_at.ensures)
+      | then-at-len+in_ok-put_at w ↦ rw (w.features-is) (rw (w.known-is) (record {
+        put = then_put (Among (take i row)) (λ y. y ≡ get_or row i 0) (Among (take (i + 1) row)) bins c.args.features.now.items c.loop-at.features.items c.loop-at.invariant.put
+            w.put_at.new.features.items (λ y. among_more row i y c.loop-at-test.true) w.in_ok-put_at.ensures.put;
+        known = w.in_ok-put_at.ensures.known;
+      }))
       | else-at-len w ↦
-          let past : length c.args.features.now.items ≤ get_or row i 0 = (let same = c.loop-at.invariant.same.len in let out = w.if-at-len.false in let len = c.len.ensures in omega (arith, same, out, len)) in
-          rw (w.features-is) (put_past (Among (take i row)) (λ y. y ≡ get_or row i 0) (Among (take (i + 1) row)) bins c.args.features.now.items c.loop-at.features.items c.loop-at.invariant
-          (λ y. among_more row i y c.loop-at-test.true) (λ y is. omega (arith, past, is)))
+          let past : length c.args.features.now.items ≤ get_or row i 0 = (let same = c.loop-at.invariant.put.same.len in let out = w.if-at-len.false in let len = c.len.ensures in omega (arith, same, out, len)) in
+          rw (w.features-is) (rw (w.known-is) (record {
+            put = put_past (Among (take i row)) (λ y. y ≡ get_or row i 0) (Among (take (i + 1) row)) bins c.args.features.now.items c.loop-at.features.items c.loop-at.invariant.put
+                (λ y. among_more row i y c.loop-at-test.true) (λ y is. omega (arith, past, is));
+            known = c.loop-at.invariant.known;
+          }))
     ]
 
-pub returns : goal.returns
-returns c =
+pub returns-clause-put : goal.returns-clause-put
+returns-clause-put c =
     let all : take c.loop-at.at-index c.args.row.now ≡ c.args.row.now = take_all c.loop-at.at-index c.args.row.now c.loop-at-test.false in
-    subst (λ row. Puts (Among row) (texts_of c.args.bins.now) c.args.features.now.items c.loop-at.features.items) all c.loop-at.invariant
+    subst (λ row. Puts (Among row) (texts_of c.args.bins.now) c.args.features.now.items c.loop-at.features.items) all c.loop-at.invariant.put

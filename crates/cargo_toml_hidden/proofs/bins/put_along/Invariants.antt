@@ -1,8 +1,12 @@
 use Rattle.std.proofs.Common.{take}
 use Rattle.cargo_toml_graph.specs.Reach.{Among}
+use Rattle.cargo_toml_hidden.specs.KnownBins.{AreKnown}
 use Rattle.cargo_toml_hidden.specs.Puts.{Puts}
 use Rattle.cargo_toml_hidden.specs.Texts.{texts_of}
 use Rattle.cargo_toml_hidden.proofs.bins.put_along.Given as goal
 
 abbrev pub invariant-loop-at : goal.invariant-loop-at
-invariant-loop-at l = Puts (Among (take l.at-index l.row)) (texts_of l.bins) l.initial.features.items l.features.items
+invariant-loop-at l = record {
+  put : Puts (Among (take l.at-index l.row)) (texts_of l.bins) l.initial.features.items l.features.items;
+  known : AreKnown l.known.items l.features.items;
+}

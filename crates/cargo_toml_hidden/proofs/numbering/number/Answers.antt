@@ -1,7 +1,6 @@
-use Rattle.std.proofs.Common.{rules, ◌≡◌, ◌<◌, Bor, length, sym, subst, ◌∙◌}
+use Rattle.std.proofs.Common.{rules, ◌≡◌, Bor, length, sym, subst, ◌∙◌}
 use Rattle.std.proofs.lemmas.List.{length-map}
 use Rattle.cargo_toml_graph.specs.Action.{Text}
-use Rattle.cargo_toml_walk.proofs.Filling.{has_row}
 use Rattle.cargo_toml_walk.proofs.Places.{Ascends}
 use Rattle.cargo_toml_hidden.specs.Texts.{texts_of}
 use Rattle.cargo_toml_hidden.proofs.NumberingGraph.{graph_stands, keys_are, named_by, targets_by}

@@ -1,19 +1,14 @@
 -- Sets that tell which binaries stand in the lists of features.
-use Rattle.std.proofs.Common.{◌≡◌, ◌⊎◌, ◌<◌, ◌||◌, ◌+◌, ℕ, zero, suc, Bool, true, false, cond, not, List, [], ◌∷◌, ◌++◌, length, get_or, set, slice_get, Some, Bor, bytes_eq, IsTrue, refl, sym, ap, subst, inl, inr, ◌↔◌, ◌∙◌, length-set, length-append}
-use Rattle.std.proofs.lemmas.Bool.{cases_eq, false≢true, false_from_ne_true}
-use Rattle.std.proofs.lemmas.Option.{none-some, same_Some, slice_get_read}
+use Rattle.std.proofs.Common.{◌≡◌, ◌||◌, ℕ, Bool, true, false, cond, not, List, [], ◌∷◌, ◌++◌, length, slice_get, Some, Bor, bytes_eq, IsTrue, refl, sym, ap, subst, inl, inr, ◌↔◌, ◌∙◌}
+use Rattle.std.proofs.lemmas.Bool.{false≢true, false_from_ne_true}
 use Rattle.std.proofs.lemmas.Slice.Eq.{bytes_eq-Decides}
-use Rattle.std.specs.BTreeSet.{BTreeSet}
+use Rattle.std.specs.BTreeSet.{BTreeSet, btree_set_len}
 use Rattle.cargo_toml_graph.specs.Action.{Text}
 use Rattle.cargo_toml_graph.specs.Reach.{Among}
 use Rattle.cargo_toml_graph.specs.Removal.{is_among, put_all}
 use Rattle.cargo_toml_graph.proofs.BinLists.{is_among-true, among-true}
-use Rattle.cargo_toml_features.specs.declared.features.Feature.{Feature}
 use Rattle.cargo_toml_features.specs.Views.{has_text}
-use Rattle.cargo_toml_hidden.specs.KnownBins.{AreKnown, Knows}
-use Rattle.cargo_toml_hidden.specs.Passing.{bins_of}
-use Rattle.cargo_toml_hidden.specs.Texts.{texts_of}
-use Rattle.cargo_toml_hidden.proofs.PutAlong.{bins_read, get_set, get_set_other, list_in}
+use Rattle.cargo_toml_hidden.specs.KnownBins.{Knows, MayKnow}
 
 or_none : (a : Bool) → (a || false) ≡ a
 or_none true = refl
@@ -62,52 +57,12 @@ knows_all s xs all x = go (is_among xs x) refl
     go true e = (all x).1 (is_among-true xs x e) ∙ sym e
     go false e = false_from_ne_true (has_text s x) (λ t. false≢true (sym e ∙ among-true xs x ((all x).0 t))) ∙ sym e
 
--- the set in place i, and the feature there
-pub known_here : (ss : List (BTreeSet (Bor Text))) (vs : List Feature) (i : ℕ) (s : BTreeSet (Bor Text)) (v : Feature) → AreKnown ss vs → i < length vs → s ≡ get_or ss i s → v ≡ get_or vs i v → Knows s (texts_of v.required_by_bins.items)
-known_here ss vs i s v known lt set_is feature_is =
-    subst (Knows s) (bins_read vs i v lt feature_is) (known.each i s (slice_get_read ss (length ss) i s refl (subst (λ n. i < n) (sym known.len) lt) set_is))
+-- a set that isn't empty is filled
+pub filled : (s : BTreeSet (Bor Text)) (xs : List Text) (is_empty : Bool) → IsTrue is_empty ↔ (btree_set_len s ≡ 0) → is_empty ≡ false → MayKnow s xs → Knows s xs
+filled s xs b tells not_empty (inl none) = absurd (false≢true (sym not_empty ∙ tells.1 none))
+filled s xs b tells not_empty (inr known) = known
 
--- both change in one place
-pub known_set : (ss : List (BTreeSet (Bor Text))) (vs : List Feature) (i : ℕ) (s : BTreeSet (Bor Text)) (w : Feature) → AreKnown ss vs → i < length vs → Knows s (texts_of w.required_by_bins.items) → AreKnown (set ss i s) (set vs i w)
-known_set ss vs i s w known lt here = record {
-  len = length-set ss i s ∙ known.len ∙ sym (length-set vs i w);
-  each = λ y t there. elim (cases_eq y i) [
-    | inl e ↦
-        let inside : i < length ss = subst (λ n. i < n) (sym known.len) lt in
-        let same : s ≡ t = same_Some s t (sym (get_set ss i s inside) ∙ sym (ap (slice_get (set ss i s)) e) ∙ there) in
-        let list : bins_of (set vs i w) y ≡ texts_of w.required_by_bins.items = ap (bins_of (set vs i w)) e ∙ ap list_in (get_set vs i w lt) in
-        subst (λ z. Knows z (bins_of (set vs i w) y)) same (subst (Knows s) (sym list) here)
-    | inr ne ↦
-        let list : bins_of (set vs i w) y ≡ bins_of vs y = ap list_in (get_set_other vs i y w ne) in
-        subst (Knows t) (sym list) (known.each y t (sym (get_set_other ss i y s ne) ∙ there))
-  ];
-}
-
--- the sets of the features before place i
-pub record AreKnownBelow (ss : List (BTreeSet (Bor Text))) (vs : List Feature) (i : ℕ) : Type 0 where
-  pub count : length ss ≡ i
-  pub each : (y : ℕ) (s : BTreeSet (Bor Text)) → slice_get ss y ≡ Some s → Knows s (bins_of vs y)
-
-module _ {X : Type 0} where
-  get_push : (xs : List X) (x t : X) (y : ℕ) → slice_get (xs ++ x ∷ []) y ≡ Some t → (slice_get xs y ≡ Some t) ⊎ ((y ≡ length xs) × (x ≡ t))
-  get_push [] x t zero e = inr (refl, same_Some x t e)
-  get_push [] x t (suc y) e = inl e
-  get_push (z ∷ xs) x t zero e = inl e
-  get_push (z ∷ xs) x t (suc y) e = elim (get_push xs x t y e) [ inl i ↦ inl i | inr h ↦ inr (ap suc h.0, h.1) ]
-
-pub known_next : (ss : List (BTreeSet (Bor Text))) (vs : List Feature) (i : ℕ) (s : BTreeSet (Bor Text)) (v : Feature) → AreKnownBelow ss vs i → i < length vs → v ≡ get_or vs i v → Knows s (texts_of v.required_by_bins.items) → AreKnownBelow (ss ++ s ∷ []) vs (i + 1)
-known_next ss vs i s v below lt is here = record {
-  count = length-append ss (s ∷ []) ∙ ap (λ n. n + 1) below.count;
-  each = λ y t there. elim (get_push ss s t y there) [
-    | inl old ↦ below.each y t old
-    | inr new ↦
-        let list : bins_of vs y ≡ texts_of v.required_by_bins.items = ap (bins_of vs) (new.0 ∙ below.count) ∙ bins_read vs i v lt is in
-        subst (λ z. Knows z (bins_of vs y)) new.1 (subst (Knows s) (sym list) here)
-  ];
-}
-
-pub known_none : (vs : List Feature) → AreKnownBelow [] vs 0
-known_none vs = record { count = refl; each = λ y s there. absurd (none-some s there) }
-
-pub all_known : (ss : List (BTreeSet (Bor Text))) (vs : List Feature) (i : ℕ) → i ≡ length vs → AreKnownBelow ss vs i → AreKnown ss vs
-all_known ss vs i end below = record { len = below.count ∙ end; each = below.each }
+-- so many sets, none of which is filled
+pub record AreBlank (ss : List (BTreeSet (Bor Text))) (n : ℕ) : Type 0 where
+  pub count : length ss ≡ n
+  pub each : (y : ℕ) (s : BTreeSet (Bor Text)) → slice_get ss y ≡ Some s → btree_set_len s ≡ 0

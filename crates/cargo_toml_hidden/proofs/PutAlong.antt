@@ -1,5 +1,5 @@
 -- Binaries that are put into the lists of features, place after place.
-use Rattle.std.proofs.Common.{◌≡◌, ◌≢◌, ◌⊎◌, ◌↔◌, ◌<◌, ◌≤◌, ℕ, zero, suc, cond, List, [], ◌∷◌, ◌++◌, length, get_or, set, slice_get, Option, Some, Bor, refl, sym, ap, subst, inl, inr, ◌∙◌, arith, length-set}
+use Rattle.std.proofs.Common.{◌≡◌, ◌⊎◌, ◌↔◌, ◌<◌, ◌≤◌, ℕ, cond, List, [], ◌∷◌, ◌++◌, length, get_or, slice_get, Option, Some, Bor, refl, sym, ap, subst, inl, inr, ◌∙◌, arith}
 use Rattle.std.proofs.lemmas.Bool.{cases_eq}
 use Rattle.std.proofs.lemmas.Option.{same_Some, slice_get-get_or, slice_get_read, slice_get_within}
 use Rattle.std.specs.Option.{option_map_or}
@@ -20,19 +20,6 @@ put_none xs (y ∷ ys) there = ap (λ b. put_all (cond b xs (xs ++ y ∷ [])) ys
 put_again : (xs ys : List Text) → put_all (put_all xs ys) ys ≡ put_all xs ys
 put_again xs ys = put_none (put_all xs ys) ys (λ x i. put_puts xs ys x i)
 
-module _ {X : Type 0} where
-  pub get_set : (xs : List X) (i : ℕ) (x : X) → i < length xs → slice_get (set xs i x) i ≡ Some x
-  get_set [] i x lt = absurd (omega arith)
-  get_set (y ∷ ys) zero x lt = refl
-  get_set (y ∷ ys) (suc i) x lt = get_set ys i x (omega arith)
-
-  pub get_set_other : (xs : List X) (i j : ℕ) (x : X) → j ≢ i → slice_get (set xs i x) j ≡ slice_get xs j
-  get_set_other [] i j x ne = refl
-  get_set_other (y ∷ ys) zero zero x ne = absurd (ne refl)
-  get_set_other (y ∷ ys) zero (suc j) x ne = refl
-  get_set_other (y ∷ ys) (suc i) zero x ne = refl
-  get_set_other (y ∷ ys) (suc i) (suc j) x ne = get_set_other ys i j x (λ e. ne (ap suc e))
-
 itself : (v : Feature) → IsSameButBins v v
 itself v = record { key = refl; explicit = refl; names = refl; actions = refl; enabled_by = refl }
 
@@ -51,36 +38,11 @@ then_same vs ws us a b = record {
       record { key = t.key ∙ s.key; explicit = t.explicit ∙ s.explicit; names = t.names ∙ s.names; actions = t.actions ∙ s.actions; enabled_by = t.enabled_by ∙ s.enabled_by };
 }
 
-same_set : (vs : List Feature) (i : ℕ) (v w : Feature) → i < length vs → slice_get vs i ≡ Some v → IsSameButBins v w → AreSameButBins vs (set vs i w)
-same_set vs i v w lt read s = record {
-  len = length-set vs i w;
-  each = λ j a b old new. elim (cases_eq j i) [
-    | inl is ↦
-        let first : v ≡ a = same_Some v a (sym read ∙ sym (ap (slice_get vs) is) ∙ old) in
-        let second : w ≡ b = same_Some w b (sym (get_set vs i w lt) ∙ sym (ap (slice_get (set vs i w)) is) ∙ new) in
-        subst (λ x. IsSameButBins x b) first (subst (IsSameButBins v) second s)
-    | inr other ↦ subst (IsSameButBins a) (same_Some a b (sym old ∙ sym (get_set_other vs i j w other) ∙ new)) (itself a)
-  ];
-}
-
-abbrev pub list_in : Option Feature → List Text
+abbrev list_in : Option Feature → List Text
 list_in o = option_map_or (λ v. texts_of v.required_by_bins.items) o []
 
 pub bins_read : (vs : List Feature) (i : ℕ) (v : Feature) → i < length vs → v ≡ get_or vs i v → bins_of vs i ≡ texts_of v.required_by_bins.items
 bins_read vs i v lt is = ap list_in (slice_get_read vs (length vs) i v refl lt is)
-
--- the binaries are put into one list
-pub put_here : (vs : List Feature) (i : ℕ) (v w : Feature) (bins : List Text) → i < length vs → v ≡ get_or vs i v → IsSameButBins v w
-    → texts_of w.required_by_bins.items ≡ put_all (texts_of v.required_by_bins.items) bins → Puts (λ y. y ≡ i) bins vs (set vs i w)
-put_here vs i v w bins lt is same put =
-    let read : slice_get vs i ≡ Some v = slice_get_read vs (length vs) i v refl lt is in
-    record {
-      same = same_set vs i v w lt read same;
-      lists = λ y below. elim (cases_eq y i) [
-        | inl e ↦ inl (e, ap (bins_of (set vs i w)) e ∙ ap list_in (get_set vs i w lt) ∙ put ∙ sym (ap (λ xs. put_all xs bins) (ap (bins_of vs) e ∙ bins_read vs i v lt is)))
-        | inr ne ↦ inr (ne, ap list_in (get_set_other vs i y w ne))
-      ];
-    }
 
 -- no place is named
 pub put_nowhere : (bins : List Text) (vs : List Feature) → Puts (λ y. ⊥) bins vs vs

@@ -6,7 +6,7 @@ ghost use Rattle.cargo_toml_graph.specs.Reach.{Among};
 ghost use Rattle.cargo_toml_graph.specs.Removal.{put_all};
 ghost use Rattle.cargo_toml_walk.specs.Numbers.{IsWanted};
 ghost use Rattle.cargo_toml_features.specs.Views.{has_text};
-ghost use Rattle.cargo_toml_hidden.specs.KnownBins.{AreKnown, Knows};
+ghost use Rattle.cargo_toml_hidden.specs.KnownBins.{AreKnown, Knows, MayKnow};
 ghost use Rattle.cargo_toml_hidden.specs.Passing.{bins_of, AreRedirects, AreSameButBins, HasBinsAt};
 ghost use Rattle.cargo_toml_hidden.specs.Puts.{Puts};
 ghost use Rattle.cargo_toml_hidden.specs.Texts.{texts_of};
@@ -25,13 +25,14 @@ pub fn first_ten<'m>(bins: &Vec<&'m str>) -> Result<Vec<&'m str>, AllocError>
 }
 
 // The binaries of a list, as a set.
-fn known_in<'m>(alloc: Global, bins: &Vec<&'m str>) -> Result<BTreeSet<&'m str>, AllocError>
+fn known_in<'m>(bins: &Vec<&'m str>) -> Result<BTreeSet<&'m str>, AllocError>
     ensures { IfOk result (λ s. Knows s (texts_of bins.now.items)) }
 {
+    let alloc = *bins.allocator();
     into_set(alloc, bins.to_vec(alloc)?)
 }
 
-// The binaries of each feature, as a set, by places.
+// A set for each feature, by places. Most features never come to have another binary, so none is filled yet.
 fn known_bins<'m>(
     alloc: Global,
     features: &[Feature<'m>],
@@ -39,10 +40,21 @@ fn known_bins<'m>(
     ensures { IfOk result (λ v. AreKnown v.items features.now) }
 {
     let mut known = Vec::with_capacity(alloc, features.len())?;
-    for feature in features {
-        known.push(known_in(alloc, &feature.required_by_bins)?)?;
+    for _ in features {
+        known.push(BTreeSet::new(alloc))?;
     }
     Ok(known)
+}
+
+// The set is filled, unless it is already.
+fn know<'m>(known: &mut BTreeSet<&'m str>, bins: &Vec<&'m str>) -> Result<(), AllocError>
+    requires { MayKnow known.old (texts_of bins.now.items) }
+    ensures { OnOk result (Knows known.new (texts_of bins.now.items)) }
+{
+    if known.is_empty() {
+        *known = known_in(bins)?;
+    }
+    Ok(())
 }
 
 // The binary is put into the set; the answer tells whether it wasn't there.
@@ -97,7 +109,9 @@ fn put_at<'m>(
     ensures known { OnOk result (AreKnown known.new.items features.new.items) }
 {
     let feature = &mut features[at];
-    put_bins(&mut feature.required_by_bins, &mut known[at], bins)
+    let known = &mut known[at];
+    know(known, &feature.required_by_bins)?;
+    put_bins(&mut feature.required_by_bins, known, bins)
 }
 
 // The binaries are put into the lists of the features that the row names; it may name what is no feature, too.

@@ -1,5 +1,5 @@
-use Rattle.cargo_toml_hidden.proofs.KnownBins.{AreKnownBelow}
+use Rattle.cargo_toml_hidden.proofs.KnownBins.{AreBlank}
 use Rattle.cargo_toml_hidden.proofs.bins.known_bins.Given as goal
 
-abbrev pub invariant-loop-feature : goal.invariant-loop-feature
-invariant-loop-feature l = AreKnownBelow l.known.items l.features l.feature-index
+abbrev pub invariant-loop : goal.invariant-loop
+invariant-loop l = AreBlank l.known.items l.index

@@ -1,7 +1,7 @@
-"""What `cargo-toml features FILE` has to print, by the definitions of docs/DEFINITIONS.md, written once more and by other means.
+"""What `cargo-toml features` has to print, by the definitions of docs/DEFINITIONS.md.
 
-Nothing here follows the crate's code: enablers, names and actions are found as paths in the whole graph of features, none of which is
-taken out.
+They are written once more and by other means. Nothing here follows the crate's code: enablers, names
+and actions are found as paths in the whole graph of features, none of which is taken out.
 """
 
 import tomllib
@@ -44,8 +44,9 @@ def dependency_tables(manifest):
         yield targets[target].get("dev-dependencies", {}), (2, target)
 
 
-def entries_of(manifest):
-    return [(key, at, table[key]) for table, at in dependency_tables(manifest) for key in in_order(table)[:LIMIT]]
+def entries_of(manifest, limit):
+    tables = dependency_tables(manifest)
+    return [(key, at, table[key]) for table, at in tables for key in in_order(table)[:limit]]
 
 
 def is_optional(dependency):
@@ -70,22 +71,22 @@ def first_targets(entries, mentioned):
 
 
 class Graph:
-    """The features of a manifest, and the edges between them."""
+    """The features of a manifest at a limit of items, and the edges between them."""
 
-    def __init__(self, manifest):
+    def __init__(self, manifest, limit):
         table = manifest.get("features", {})
-        listed = in_order(table)[:LIMIT]
+        listed = in_order(table)[:limit]
         self.explicit = {*listed, "default"}
         self.names = {feature: set() for feature in self.explicit}
         self.actions = {feature: {} for feature in self.explicit}
         for feature in self.explicit:
-            for text in table.get(feature, [])[:LIMIT]:
+            for text in table.get(feature, [])[:limit]:
                 key, action = mention(text)
                 if action:
                     self.actions[feature][key] = join(self.actions[feature].get(key), action)
                 else:
                     self.names[feature].add(key)
-        self.add_dependencies(entries_of(manifest))
+        self.add_dependencies(entries_of(manifest, limit))
         self.own_bins = {feature: [] for feature in self.names}
         for product in manifest.get("bin", []):
             for feature in product.get("required-features", []):
@@ -132,13 +133,14 @@ def written_action(key, action):
 
 
 class Expected:
-    """The lines of a manifest. Of binaries, which removed features pass on in an order of their own, only what is certain is held."""
+    """The lines of a manifest."""
 
-    def __init__(self, manifest, keeps=lambda name: False):
-        self.graph = graph = Graph(manifest)
+    def __init__(self, manifest, limit=LIMIT, keeps=lambda name: False):
+        self.graph = graph = Graph(manifest, limit)
         self.removed = {feature for feature in graph.names if feature.startswith("_") and not keeps(feature)}
         self.kept = in_order(graph.names.keys() - self.removed)
         self.reached = {feature: graph.reached(feature, self.removed) for feature in graph.names}
+        self.bins = self.passed_on()
 
     def spoken_by(self, feature):
         """The feature, and the removed ones that it reaches through removed ones."""
@@ -154,22 +156,29 @@ class Expected:
         enablers = [source for source in self.kept if feature in self.reached[source]]
         origin = "explicit" if feature in graph.explicit else "implied"
         deps = [written_action(key, actions[key]) for key in in_order(actions)]
-        return f"feature {feature} | {origin} | names: {listed(in_order(names))} | deps: {listed(deps)} | by: {listed(enablers)} | bins: "
+        line = f"feature {feature} | {origin} | names: {listed(in_order(names))} | deps: {listed(deps)}"
+        return f"{line} | by: {listed(enablers)} | bins: {listed(self.bins[feature])}"
 
-    def has_bins(self, feature, bins):
-        """Its own, then some that removed features pass on, without doubling; of one that names it itself the first ten are among them."""
-        graph, own = self.graph, self.graph.own_bins[feature]
-        passed = bins[len(own) :]
-        sources = {source for source in self.removed if any(feature in graph.names[inner] for inner in self.spoken_by(source))}
-        allowed = {name for source in sources for name in graph.own_bins[source]} - {*own}
-        wanted = {name for source in self.removed if feature in graph.names[source] for name in graph.own_bins[source][:10]}
-        return bins[: len(own)] == own and len({*passed}) == len(passed) and {*passed} <= allowed and wanted <= {*bins}
+    def passed_on(self):
+        """The binaries of each feature: in byte order each removed one passes the first ten of its
+        list, as it then stands, on to what it then names."""
+        lists = {feature: [*own] for feature, own in self.graph.own_bins.items()}
+        for source in in_order(self.removed):
+            first = lists[source][:10]
+            for target in self.names_at_turn(source) & lists.keys():
+                for name in first:
+                    if name not in lists[target]:
+                        lists[target].append(name)
+        return lists
 
-    def redirect(self, feature):
+    def names_at_turn(self, feature):
+        """What a removed feature names once the smaller ones are taken out."""
         smaller = {source for source in self.removed if source.encode() < feature.encode()}
         sources = {feature} | self.graph.reached(feature, smaller) & smaller
-        names = {name for source in sources for name in self.graph.names[source]} - smaller
-        return f"hidden {feature} | {listed(in_order(names))}"
+        return {name for source in sources for name in self.graph.names[source]} - smaller
+
+    def redirect(self, feature):
+        return f"hidden {feature} | {listed(in_order(self.names_at_turn(feature)))}"
 
     def difference(self, text):
         """The first line that isn't as it should be, and what should stand there, or nothing."""
@@ -177,16 +186,14 @@ class Expected:
         if len(lines) != len(self.kept) + len(hidden):
             return f"{len(lines)} lines", f"{len(self.kept)} features and {len(hidden)} removed ones"
         for line, feature in zip(lines, self.kept):
-            head = self.line(feature)
-            bins = line[len(head) :]
-            if not line.startswith(head) or not self.has_bins(feature, [] if bins == "-" else bins.split(", ")):
-                return line, head
+            if line != self.line(feature):
+                return line, self.line(feature)
         for line, feature in zip(lines[len(self.kept) :], hidden):
             if line != self.redirect(feature):
                 return line, self.redirect(feature)
         return None
 
 
-def difference(file, text):
+def difference(file, text, limit):
     with open(file, "rb") as opened:
-        return Expected(tomllib.load(opened)).difference(text)
+        return Expected(tomllib.load(opened), limit or LIMIT).difference(text)

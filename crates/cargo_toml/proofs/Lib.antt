@@ -1,2 +1,4 @@
 mod Lent
 mod Words
+mod Mentions
+mod CompleteBins

@@ -1,14 +1,15 @@
 -- What resolving the features of a manifest answers.
-use Rattle.std.specs.Prelude.{Bool, List, [], map, unwrap_or}
+use Rattle.std.specs.Prelude.{◌≤◌, ℕ, Bool, IsTrue, List, [], count_by, map, unwrap_or}
 use Rattle.std.specs.List.{flat_map}
 use Rattle.std.specs.Option.{option_map_or}
 use Rattle.cargo_toml_graph.specs.Action.{Text}
 use Rattle.cargo_toml_graph.specs.Admitted.{Listed, admitted}
+use Rattle.cargo_toml_graph.specs.Bins.{IsComplete}
 use Rattle.cargo_toml_graph.specs.Graph.{Table}
+use Rattle.cargo_toml_graph.specs.Removal.{is_removed}
 use Rattle.cargo_toml_tables.specs.Products.{ProductMeaning}
 use Rattle.cargo_toml_manifest.specs.Inheriting.{own_tables}
 use Rattle.cargo_toml_manifest.specs.Manifests.{ManifestMeaning}
-use Rattle.cargo_toml_features.specs.declared.admit.TheConstants.{MAX_ITEMS}
 use Rattle.cargo_toml_features.specs.Entries.{entries_of}
 use Rattle.cargo_toml_resolve.specs.OwnBins.{own_of}
 use Rattle.cargo_toml_features.specs.Recorded.{Entry}
@@ -18,24 +19,35 @@ use Rattle.cargo_toml_features.specs.Resolved.{Answer, IsAnswer, table_of}
 abbrev pub requirements_by : Text → ProductMeaning → List (Text × Text)
 requirements_by name b = map (λ f. (f, unwrap_or b.name name)) b.required_features
 
--- the answer for features in byte order of their names, these entries and what binaries require, where the names are kept
--- that `keep` tells
-abbrev pub IsAnswerFor : Listed → List Entry → (Text → List Text) → (Text → Bool) → Answer → Type 0
-IsAnswerFor listed entries own keep a = IsAnswer (admitted MAX_ITEMS listed) entries own keep a
+-- what the binaries require, binary by binary and mention by mention; nothing without a package
+abbrev pub requirements : {M : Type 0} → ManifestMeaning M → List (Text × Text)
+requirements m = option_map_or (λ p. flat_map (requirements_by p.name) m.bin) m.«package» []
 
-module _ {M : Type 0} (m : ManifestMeaning M) where
-  -- the dependencies that count, in their order
-  abbrev pub parsed_entries : List Entry
-  parsed_entries = entries_of MAX_ITEMS (own_tables m) m.target
+-- where so many names count, actions of a feature, and keys of a table of dependencies
+module _ (limit : ℕ) where
+  -- the answer for features in byte order of their names, these entries and what binaries require,
+  -- where the names are kept that `keep` tells
+  abbrev pub IsAnswerFor : Listed → List Entry → (Text → List Text) → (Text → Bool) → Answer
+      → Type 0
+  IsAnswerFor listed entries own keep a = IsAnswer (admitted limit listed) entries own keep a
 
-  -- what the binaries require, binary by binary and mention by mention; nothing without a package
-  abbrev pub requirements : List (Text × Text)
-  requirements = option_map_or (λ p. flat_map (requirements_by p.name) m.bin) m.«package» []
+  module _ {M : Type 0} (m : ManifestMeaning M) where
+    -- the dependencies that count, in their order
+    abbrev pub parsed_entries : List Entry
+    parsed_entries = entries_of limit (own_tables m) m.target
 
-  -- what each feature that counts says
-  abbrev pub parsed_table : Table
-  parsed_table = table_of (admitted MAX_ITEMS m.features) parsed_entries
+    -- what each feature that counts says
+    abbrev pub parsed_table : Table
+    parsed_table = table_of (admitted limit m.features) parsed_entries
 
-  -- the answer for the manifest, where the names are kept that `keep` tells
-  abbrev pub IsParsed : (Text → Bool) → Answer → Type 0
-  IsParsed keep a = IsAnswerFor m.features parsed_entries (own_of requirements) keep a
+    -- the answer for the manifest, where the names are kept that `keep` tells
+    abbrev pub IsParsed : (Text → Bool) → Answer → Type 0
+    IsParsed keep a = IsAnswerFor m.features parsed_entries (own_of (requirements m)) keep a
+
+    -- with at most ten mentions of removed features, each binary that requires one of these requires
+    -- each kept feature to which naming alone leads from it through removed ones
+    abbrev pub AreBinsComplete : (Text → Bool) → Answer → Type 0
+    AreBinsComplete keep a =
+        count_by (λ q. is_removed parsed_table keep q.0) (requirements m) ≤ 10 → (f : Text) →
+        IsTrue (a.resolution.table.has f) → IsComplete parsed_table
+        (λ r. IsTrue (is_removed parsed_table keep r)) (own_of (requirements m)) f (a.bins f)

@@ -13,7 +13,7 @@ ghost use Rattle.cargo_toml_manifest.specs.Told.{heard};
 ghost use Rattle.cargo_toml_features.specs.FirstTarget.{HaveTargets};
 ghost use Rattle.cargo_toml_features.specs.Reached.{IsKeyed};
 ghost use Rattle.cargo_toml_features.specs.Views.{answer_of};
-ghost use Rattle.cargo_toml.specs.Filtered.{filter_of};
+ghost use Rattle.cargo_toml.specs.Filtered.{filter_of, limit_of};
 ghost use Rattle.cargo_toml.specs.Lent.{IsLentAfter, IsLentAs, IsLentOn, with_lent};
 ghost use Rattle.cargo_toml.specs.Parsed.{IsParsed};
 
@@ -62,7 +62,9 @@ pub fn complete_and_parse_into<
         (λ hint. heard Fs.Roots.ARE_READ (Fs.root_for fs hint)) (Fs.names_at fs))) }
     ensures wrapped { IfSome (with_lent result slot.new) (λ r. IfErr r IsWrapped) }
     ensures resolved { IfSome (with_lent result slot.new) (λ r. IfOk r (λ p. (keep : Text → Bool) →
-        Tells F.Fn (filter_of resolver.now) keep → IsParsed (manifest_meaning (λ m. m) p.0.now) keep (answer_of p.1))) }
+        Tells F.Fn (filter_of resolver.now) keep →
+        IsParsed (limit_of resolver.now) (manifest_meaning (λ m. m) p.0.now) keep
+        (answer_of p.1))) }
     ensures keyed { IfSome (with_lent result slot.new) (λ r. IfOk r (λ p. IsKeyed p.1.features)) }
     ensures targets { IfSome (with_lent result slot.new) (λ r. IfOk r (λ p. HaveTargets p.1.dependencies)) }
 {
@@ -115,7 +117,7 @@ impl<'config, F: Fn(&str) -> bool, S: BuildHasher + Clone + Drop> Resolver<'conf
             (option_map handed_of workspace.entry) (manifest_meaning (λ m. m) p.0.now)) }
         ensures wrapped { IfErr result IsWrapped }
         ensures resolved { IfOk result (λ p. (keep : Text → Bool) → Tells F.Fn (filter_of self.now) keep →
-            IsParsed (manifest_meaning (λ m. m) p.0.now) keep (answer_of p.1)) }
+            IsParsed (limit_of self.now) (manifest_meaning (λ m. m) p.0.now) keep (answer_of p.1)) }
         ensures keyed { IfOk result (λ p. IsKeyed p.1.features) }
         ensures targets { IfOk result (λ p. HaveTargets p.1.dependencies) }
     {
@@ -136,7 +138,7 @@ impl<'config, F: Fn(&str) -> bool, S: BuildHasher + Clone + Drop> Resolver<'conf
         ensures memory { OnOk completed (IfErr result (λ e. e ≡ Memory)) }
         ensures lent { IfOk result (λ p. p.0 ≡ manifest.entry) }
         ensures resolved { IfOk result (λ p. (keep : Text → Bool) → Tells F.Fn (filter_of self.now) keep →
-            IsParsed (manifest_meaning (λ m. m) p.0.now) keep (answer_of p.1)) }
+            IsParsed (limit_of self.now) (manifest_meaning (λ m. m) p.0.now) keep (answer_of p.1)) }
         ensures keyed { IfOk result (λ p. IsKeyed p.1.features) }
         ensures targets { IfOk result (λ p. HaveTargets p.1.dependencies) }
     {

@@ -10,3 +10,4 @@ pub mod Texts
 mod Filters
 mod Kept
 mod SameAnswers
+mod AtLimit

@@ -1,14 +1,24 @@
 -- Two answers to one manifest.
-use Rattle.std.proofs.Common.{Bool}
+use Rattle.std.proofs.Common.{◌≡◌, ℕ, Bool, IsTrue}
 use Rattle.cargo_toml.specs.Action.{Text}
 use Rattle.cargo_toml.specs.Admitted.{admitted}
 use Rattle.cargo_toml.specs.Agreement.{Agree}
-use Rattle.cargo_toml.specs.Limits.{MAX_ITEMS}
 use Rattle.cargo_toml.specs.Manifests.{ManifestMeaning}
 use Rattle.cargo_toml.specs.OwnBins.{own_of}
-use Rattle.cargo_toml.specs.Parsed.{IsParsed, parsed_entries, requirements}
+use Rattle.cargo_toml.specs.Parsed.{IsParsed, parsed_entries, parsed_table, requirements}
+use Rattle.cargo_toml.specs.Removal.{is_removed}
 use Rattle.cargo_toml.specs.Resolved.{Answer}
+use Rattle.cargo_toml_graph.proofs.InByteOrder.{passed_once}
 use Rattle.cargo_toml_features.proofs.Agreement.{settled}
 
-pub parsed_agree : {M : Type 0} (m : ManifestMeaning M) (keep : Text → Bool) (a b : Answer) → IsParsed m keep a → IsParsed m keep b → Agree a b
-parsed_agree m keep a b h k = settled (admitted MAX_ITEMS m.features) (parsed_entries m) (own_of (requirements m)) (own_of (requirements m)) keep a b h k
+module _ {M : Type 0} (limit : ℕ) (m : ManifestMeaning M) (keep : Text → Bool) (a b : Answer) where
+  pub parsed_agree : IsParsed limit m keep a → IsParsed limit m keep b → Agree a b
+  parsed_agree h k = settled (admitted limit m.features) (parsed_entries limit m)
+      (own_of (requirements m)) (own_of (requirements m)) keep a b h k
+
+  pub parsed_bins : IsParsed limit m keep a → IsParsed limit m keep b → (f : Text) →
+      IsTrue (a.resolution.table.has f) → a.bins f ≡ b.bins f
+  parsed_bins h k f there =
+      let t = parsed_table limit m in
+      passed_once t (λ r. IsTrue (is_removed t keep r)) (own_of (requirements m)) a.bins b.bins
+      h.passed_on k.passed_on f ((h.kept.resolved.kept f).0 there)

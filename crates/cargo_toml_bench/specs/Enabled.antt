@@ -3,6 +3,7 @@ use Rattle.std.specs.Prelude.{◌↔◌, ℕ, Bool, IsTrue, List}
 use Rattle.toml.specs.Data.{Data}
 use Rattle.cargo_toml.specs.Action.{Text}
 use Rattle.cargo_toml.specs.Graph.{Table}
+use Rattle.cargo_toml.specs.Limits.{MAX_ITEMS}
 use Rattle.cargo_toml.specs.Manifests.{ManifestMeaning}
 use Rattle.cargo_toml.specs.Parsed.{parsed_table}
 use Rattle.cargo_toml.specs.Recursive.{Enables}
@@ -14,7 +15,7 @@ HasEnabling t f g = IsTrue (t.has f) × Enables t f g
 
 -- so the answer tells of a manifest
 abbrev pub IsAnswered : {M : Type 0} → ManifestMeaning M → Text → Text → Bool → Type 0
-IsAnswered m f g answer = IsTrue answer ↔ HasEnabling (parsed_table m) f g
+IsAnswered m f g answer = IsTrue answer ↔ HasEnabling (parsed_table MAX_ITEMS m) f g
 
 -- the answer tells so of the manifest that the bytes spell
 pub record IsAnsweredFrom (bytes : List ℕ) (f g : Text) (answer : Bool) : Type 0 where

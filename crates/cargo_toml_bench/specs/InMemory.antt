@@ -1,22 +1,23 @@
 -- What a file system in memory tells.
-use Rattle.std.specs.Prelude.{ℕ, List, [], ◌∷◌, map, Bool, true, false, if◌then◌else◌, Option, Some, None, option_map, is_some, String, string_bytes}
+use Rattle.std.specs.Prelude.{ℕ, List, [], ◌∷◌, map, Bool, true, false, if◌then◌else◌, Option, Some, None, option_map, is_some, Result, Ok, Err, String, string_bytes}
 use Rattle.std.specs.Str.{bytes_eq}
 use Rattle.std.specs.declared.alloc.Global.{Global}
 use Rattle.toml.specs.Data.{Data}
 use Rattle.toml.specs.Parse.{parse_document}
+use Rattle.cargo_toml.specs.Error.{Error}
+use Rattle.cargo_toml.specs.FaultValues.{fault_of}
 use Rattle.cargo_toml.specs.Manifests.{ManifestMeaning, manifest_reads}
 use Rattle.cargo_toml.specs.Texts.{any_tree, document_reads}
 use Rattle.cargo_toml.specs.Told.{ToldRoot, root, no_root, open_root}
 use Rattle.cargo_toml.specs.ToldFolders.{Told, names, absent, denied, open_path}
 use Rattle.cargo_toml_bench.specs.declared.in_memory.Answer.{Answer}
-use Rattle.cargo_toml_bench.specs.declared.in_memory.Answer.TheVariants.{Names, Denied, Open, NoMemory}
+use Rattle.cargo_toml_bench.specs.declared.in_memory.Answer.TheVariants.{Names, Denied, Open}
 use Rattle.cargo_toml_bench.specs.declared.in_memory.Root.{Root}
 
 abbrev pub told_of : Answer → Told
 told_of (Names texts) = names (map string_bytes texts.items)
-told_of (Denied kind) = denied kind
+told_of (Denied fault) = denied (fault_of fault)
 told_of (Open texts) = open_path
-told_of NoMemory = open_path
 
 abbrev pub told_of_answer : Option Answer → Told
 told_of_answer None = absent
@@ -35,9 +36,9 @@ told_manifest (Some m) path = if is_some m.workspace then root m path else no_ro
 abbrev pub told_bytes : List ℕ → List ℕ → ToldRoot
 told_bytes bytes path = told_manifest (document_reads (manifest_reads any_tree) (parse_document bytes)) path
 
-abbrev pub told_text : Option (String Global) → List ℕ → ToldRoot
-told_text None path = open_root
-told_text (Some text) path = told_bytes (string_bytes text) path
+abbrev pub told_text : Result (String Global) Error → List ℕ → ToldRoot
+told_text (Err fault) path = open_root
+told_text (Ok text) path = told_bytes (string_bytes text) path
 
 abbrev pub told_by : Root → ToldRoot
 told_by r = told_text r.text (string_bytes r.path)

@@ -3,6 +3,7 @@ use Rattle.std.specs.Prelude.{◌↔◌, List, ℕ, Bool, false, IsTrue, Option}
 use Rattle.cargo_toml.specs.Action.{Text}
 use Rattle.cargo_toml.specs.Choosing.{Handed, RootsTold}
 use Rattle.cargo_toml.specs.Completing.{GivenBy}
+use Rattle.cargo_toml.specs.Limits.{MAX_ITEMS}
 use Rattle.cargo_toml.specs.Manifests.{ManifestMeaning}
 use Rattle.cargo_toml.specs.Parsed.{IsParsed}
 use Rattle.cargo_toml.specs.Resolved.{Answer}
@@ -14,5 +15,5 @@ pub record IsToldOfMember {M : Type 0} (m : ManifestMeaning M) (handed : Option 
   pub completed : ManifestMeaning M
   pub given : GivenBy m handed roots told completed
   pub resolved : Answer
-  pub parsed : IsParsed completed (λ _. false) resolved
+  pub parsed : IsParsed MAX_ITEMS completed (λ _. false) resolved
   pub exact : IsTrue answer ↔ HasEnabling resolved.resolution.table name other

@@ -6,6 +6,7 @@ use Rattle.toml.specs.Data.{Data}
 use Rattle.toml.specs.Parse.{parse_document}
 use Rattle.cargo_toml.specs.Error.{Error, Io, Memory}
 use Rattle.cargo_toml.specs.Faults.{IsOther}
+use Rattle.cargo_toml.specs.Limits.{MAX_ITEMS}
 use Rattle.cargo_toml.specs.Manifests.{ManifestMeaning, manifest_reads, manifest_refuses}
 use Rattle.cargo_toml.specs.Texts.{any_tree, any_refuses, document_reads, document_refuses}
 use Rattle.cargo_toml.specs.Action.{Text}
@@ -50,5 +51,5 @@ pub record IsReport (bytes : List ℕ) (text : Text) : Type 0 where
   pub manifest : ManifestMeaning Data
   pub spelled : Spells bytes manifest
   pub unreferenced : List Text
-  pub exact : AreUnreferenced (parsed_table manifest) unreferenced
+  pub exact : AreUnreferenced (parsed_table MAX_ITEMS manifest) unreferenced
   pub whole : text ≡ report_text (optional_keys manifest.dependencies) unreferenced

@@ -1,10 +1,11 @@
 //! A manifest's features, resolved by the body that callers get and by the plain one beside it.
-ghost use Rattle.std.specs.Prelude.{◌≡◌, ◌++◌, Bool, IfErr, IfOk, OnOk, map};
+ghost use Rattle.std.specs.Prelude.{◌≡◌, ◌++◌, Bool, IfErr, IfOk, IsTrue, OnOk, map};
 ghost use Rattle.std.specs.List.{flat_map};
 ghost use Rattle.cargo_toml.specs.Action.{Text};
 ghost use Rattle.cargo_toml.specs.Agreement.{Agree};
 ghost use Rattle.cargo_toml.specs.Error.{Memory};
 ghost use Rattle.cargo_toml.specs.Filter.{HasNameFilter, Tells};
+ghost use Rattle.cargo_toml.specs.Limits.{MAX_ITEMS};
 ghost use Rattle.cargo_toml.specs.Manifests.{manifest_meaning};
 ghost use Rattle.cargo_toml.specs.OwnBins.{requirement_of};
 ghost use Rattle.cargo_toml.specs.Parsed.{IsParsed, requirements, requirements_by};
@@ -22,12 +23,14 @@ use std::hash::BuildHasherDefault;
 
 /// Resolves the features of a manifest by both bodies, without the hidden ones: first as callers do, then by the plain body.
 ///
-/// Both tell the same of all but the binaries that require features. The one refusal is [`Error::Memory`].
+/// Both tell the same, and of each feature the same binaries. The one refusal is [`Error::Memory`].
 pub fn resolve_by_both<'m, M>(
     alloc: Global,
     manifest: &'m Manifest<M>,
 ) -> Result<(Answer<'m>, Answer<'m>), Error>
     ensures agree { IfOk result (λ p. Agree (answer_of p.0) (answer_of p.1)) }
+    ensures bins { IfOk result (λ p. (f : Text) → IsTrue ((answer_of p.0).resolution.table.has f) →
+        (answer_of p.0).bins f ≡ (answer_of p.1).bins f) }
     ensures refused { IfErr result (λ e. e ≡ Memory) }
 {
     let resolver = Resolver::new();
@@ -43,6 +46,8 @@ pub fn resolve_by_both_keeping_a<'m, M>(
     manifest: &'m Manifest<M>,
 ) -> Result<(Answer<'m>, Answer<'m>), Error>
     ensures agree { IfOk result (λ p. Agree (answer_of p.0) (answer_of p.1)) }
+    ensures bins { IfOk result (λ p. (f : Text) → IsTrue ((answer_of p.0).resolution.table.has f) →
+        (answer_of p.0).bins f ≡ (answer_of p.1).bins f) }
     ensures refused { IfErr result (λ e. e ≡ Memory) }
 {
     let called = resolve_keeping_a(alloc, manifest)?;
@@ -59,7 +64,7 @@ fn resolve_plainly<'m, M, F: Fn(&str) -> bool>(
 ) -> Result<Answer<'m>, Error>
     requires { HasNameFilter F.Fn filter }
     ensures resolved { IfOk result (λ a. (keep : Text → Bool) → Tells F.Fn filter.entry keep →
-        IsParsed (manifest_meaning (λ m. m) manifest.now) keep (answer_of a)) }
+        IsParsed MAX_ITEMS (manifest_meaning (λ m. m) manifest.now) keep (answer_of a)) }
     ensures refused { IfErr result (λ e. e ≡ Memory) }
 {
     let listings = listings(alloc, &manifest.features, MAX_ITEMS)?;

@@ -11,7 +11,7 @@ ghost use Rattle.cargo_toml.specs.RealFiles.{IsPathFault, IsReadAndCompleted};
 ghost use Rattle.cargo_toml.specs.Texts.{any_refuses, any_tree};
 
 use crate::in_memory::InMemory;
-use cargo_toml::{Edition, Error, Manifest};
+use cargo_toml::{AbstractFilesystem, Edition, Error, Manifest};
 use std::alloc::Global;
 use std::rt::Files;
 
@@ -30,8 +30,24 @@ pub fn complete_member(
     ensures unchanged { OnErr result (member.new ≡ member.old) }
 {
     let workspace = Manifest::from_slice(alloc, workspace)?;
-    let files = InMemory::new(alloc);
-    member.complete_from_abstract_filesystem(alloc, &files, Some((&workspace, path)))
+    complete_among(alloc, member, &InMemory::new(alloc), &workspace, path)
+}
+
+/// Completes the manifest of a member from that of its workspace, among these files.
+///
+/// Refused as completion is. The member is then as it was.
+pub fn complete_among<Fs: AbstractFilesystem + Drop>(
+    alloc: Global,
+    member: &mut Manifest,
+    files: &Fs,
+    workspace: &Manifest,
+    path: &str,
+) -> Result<(), Error>
+    ensures nothing_left { OnOk result (needs (manifest_meaning (λ m. m) member.new) ≡ false) }
+    ensures filled { OnOk result (IfSome member.new.«package» IsFilled) }
+    ensures unchanged { OnErr result (member.new ≡ member.old) }
+{
+    member.complete_from_abstract_filesystem(alloc, files, Some((workspace, path)))
 }
 
 /// The manifest of a member, read of bytes and completed in the same way.

@@ -15,12 +15,10 @@ use std::io;
 pub enum Answer {
     /// These names, which are told.
     Names(Vec<String>),
-    /// A fault of this kind, which is told.
-    Denied(io::ErrorKind),
+    /// This fault, which is told.
+    Denied(Error),
     /// These names, of which nothing is told.
     Open(Vec<String>),
-    /// Want of memory.
-    NoMemory,
 }
 
 /// The workspace that a hint leads to.
@@ -30,8 +28,9 @@ pub struct Root {
     pub hint: Option<String>,
     /// The path that is answered.
     pub path: String,
-    /// The text of its manifest. Without one, want of memory is answered.
-    pub text: Option<String>,
+    /// The text of its manifest, or the fault that is answered in place of one, of which nothing is
+    /// told.
+    pub text: Result<String, Error>,
 }
 
 /// Folders with their answers, and roots. A path that isn't listed is absent, and a hint that isn't leads nowhere. Of two of one
@@ -83,8 +82,7 @@ fn names_of(alloc: Global, answer: Option<&Answer>) -> Result<HashSet<String>, E
     };
     match answer {
         Answer::Names(names) | Answer::Open(names) => Ok(set_of(alloc, names.as_slice())?),
-        Answer::Denied(kind) => Err(Error::Io(io::Error::from(*kind))),
-        Answer::NoMemory => Err(Error::Memory),
+        Answer::Denied(fault) => Err(fault.clone()?),
     }
 }
 
@@ -114,8 +112,8 @@ fn read_root(alloc: Global, root: Option<&Root>) -> Result<(Vec<u8>, String), Er
         return Err(Error::Io(io::Error::from(io::ErrorKind::NotFound)));
     };
     match &root.text {
-        Some(text) => read_text(alloc, text.as_str(), root.path.as_str()),
-        None => Err(Error::Memory),
+        Ok(text) => read_text(alloc, text.as_str(), root.path.as_str()),
+        Err(fault) => Err(fault.clone()?),
     }
 }
 

@@ -2,6 +2,7 @@
 ghost use Rattle.std.specs.Prelude.{◌≡◌, true, bytes_eq, codes, IfErr, IfOk};
 ghost use Rattle.cargo_toml.specs.Error.{Memory};
 ghost use Rattle.cargo_toml.specs.Kept.{KeepsEnabling, LosesNothing};
+ghost use Rattle.cargo_toml.specs.Limits.{MAX_ITEMS};
 ghost use Rattle.cargo_toml.specs.Manifests.{manifest_meaning};
 ghost use Rattle.cargo_toml.specs.Parsed.{IsParsed};
 ghost use Rattle.cargo_toml.specs.Reached.{IsKeyed};
@@ -30,7 +31,8 @@ pub(crate) fn keep_a(name: &str) -> bool
 /// Resolves the features of a manifest by a filter that keeps every name, so that none is removed. The one refusal is
 /// [`Error::Memory`].
 pub fn resolve_whole<'m, M>(alloc: Global, manifest: &'m Manifest<M>) -> Result<Answer<'m>, Error>
-    ensures resolved { IfOk result (λ a. IsParsed (manifest_meaning (λ m. m) manifest.now) (λ _. true) (answer_of a)) }
+    ensures resolved { IfOk result (λ a.
+        IsParsed MAX_ITEMS (manifest_meaning (λ m. m) manifest.now) (λ _. true) (answer_of a)) }
     ensures keyed { IfOk result (λ a. IsKeyed a.features) }
     ensures refused { IfErr result (λ e. e ≡ Memory) }
 {
@@ -45,7 +47,8 @@ pub fn resolve_keeping_a<'m, M>(
     alloc: Global,
     manifest: &'m Manifest<M>,
 ) -> Result<Answer<'m>, Error>
-    ensures resolved { IfOk result (λ a. IsParsed (manifest_meaning (λ m. m) manifest.now) (λ n. bytes_eq n (codes "_a"))
+    ensures resolved { IfOk result (λ a.
+        IsParsed MAX_ITEMS (manifest_meaning (λ m. m) manifest.now) (λ n. bytes_eq n (codes "_a"))
         (answer_of a)) }
     ensures refused { IfErr result (λ e. e ≡ Memory) }
 {

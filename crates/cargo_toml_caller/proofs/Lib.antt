@@ -1,1 +1,3 @@
 mod Unfiltered
+mod AtLimit
+mod Kept

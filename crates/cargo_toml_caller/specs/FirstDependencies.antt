@@ -10,4 +10,5 @@ use Rattle.cargo_toml.specs.Recorded.{entries_at, first_target}
 
 -- the first of the entries of the key that count; nothing where none does
 abbrev pub first_under : {M : Type 0} → ManifestMeaning M → Text → Option DependencyMeaning
-first_under m key = first_target (entries_at (admitted MAX_ITEMS m.features) (parsed_entries m) key)
+first_under m key =
+    first_target (entries_at (admitted MAX_ITEMS m.features) (parsed_entries MAX_ITEMS m) key)

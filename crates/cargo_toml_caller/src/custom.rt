@@ -4,6 +4,7 @@ ghost use Rattle.cargo_toml.specs.Admitted.{Listed};
 ghost use Rattle.cargo_toml.specs.Agreement.{Agree};
 ghost use Rattle.cargo_toml.specs.Error.{Memory};
 ghost use Rattle.cargo_toml.specs.Hashed.{IsListingOf};
+ghost use Rattle.cargo_toml.specs.Limits.{MAX_ITEMS};
 ghost use Rattle.cargo_toml.specs.Manifests.{manifest_meaning};
 ghost use Rattle.cargo_toml.specs.Parsed.{parsed_entries};
 ghost use Rattle.cargo_toml.specs.Views.{answer_of, entry_of};
@@ -51,7 +52,8 @@ pub fn resolve_twice<'m: 'd, 'd, M, S: BuildHasher>(
     dependencies: &[ParseDependency<'m, 'd>],
 ) -> Result<Twice<'m, 'd>, Error>
     ensures agree { IfOk result (λ r. let m = manifest_meaning (λ m. m) manifest.now in
-        IsListingOf features.now m.features → map entry_of dependencies.now ≡ parsed_entries m
+        IsListingOf features.now m.features
+        → map entry_of dependencies.now ≡ parsed_entries MAX_ITEMS m
         → Agree (answer_of r.0) (answer_of r.1)) }
     ensures refused { IfErr result (λ e. e ≡ Memory) }
 {

@@ -4,6 +4,7 @@
 pub mod audience;
 pub mod custom;
 pub mod dependencies;
+pub mod limited;
 #[cfg(test)]
 mod tests;
 

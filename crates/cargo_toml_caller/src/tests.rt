@@ -2,6 +2,7 @@
 use super::*;
 use crate::custom::is_named;
 use crate::dependencies::{is_optional_at, kind_from};
+use crate::limited::resolve_limited;
 use cargo_toml::SemVer;
 use cargo_toml::features::Kind;
 use std::alloc::AllocError;
@@ -83,6 +84,18 @@ fn first_dependencies(rt: HostRuntime) -> Result<(), Fail> {
     let manifest = manifest(alloc, text)?;
     assert_eq!(rt; is_optional_at(alloc, &*manifest, "a")?, Some(true));
     assert_eq!(rt; is_optional_at(alloc, &*manifest, "f")?, None);
+    Ok(())
+}
+
+// Of `_internal`, `_other` and `a` the first two count, and the filter keeps the first.
+#[test]
+fn limit_and_filter(rt: HostRuntime) -> Result<(), Fail> {
+    let alloc = rt.alloc();
+    let manifest = manifest(alloc, b"[features]\n_internal = []\n_other = []\na = []\n")?;
+    let resolved = resolve_limited(alloc, &*manifest, 2)?;
+    assert_eq!(rt; resolved.features.len(), 2);
+    assert!(rt; resolved.features.contains_key("_internal"));
+    assert!(rt; resolved.features.contains_key("default"));
     Ok(())
 }
 

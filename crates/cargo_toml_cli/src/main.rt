@@ -1,5 +1,8 @@
-//! `cargo-toml features FILE` prints what the features of a manifest enable, and `cargo-toml complete FILE` what is found around it.
+//! `cargo-toml features FILE` prints what the features of a manifest enable, with `--max N` before
+//! FILE at a limit of N items, and `cargo-toml complete FILE` what is found around it.
 #![tactic(auto)]
+
+ghost use Rattle.std.specs.Prelude.{◌≤◌};
 
 use cargo_toml::{Error, Manifest};
 use cargo_toml_print::{Command, Outcome, command, print_complete, print_features};
@@ -8,11 +11,17 @@ use std::process::ExitCode;
 use std::rt::{Env, Files};
 use std::{env, fs, io};
 
-/// Prints the features of the manifest in a file.
-fn features<R: Files + Print + AllocGlobal>(rt: &R, file: &str) -> Result<(), Error> {
+/// Prints the features of the manifest in a file, at this limit of items.
+fn features<R: Files + Print + AllocGlobal>(
+    rt: &R,
+    file: &str,
+    max_items: usize,
+) -> Result<(), Error>
+    requires { 1 ≤ max_items }
+{
     let mut input = fs::open(rt, file)?;
     let mut output = io::writer(rt);
-    print_features(rt.alloc(), &mut input, &mut output)
+    print_features(rt.alloc(), &mut input, &mut output, max_items)
 }
 
 /// Writes what is found around the manifest in a file.
@@ -22,8 +31,19 @@ fn complete<R: Files + AllocGlobal, W: Write>(
     output: &mut W,
 ) -> Result<(), Error> {
     let alloc = rt.alloc();
-    let manifest = Box::new(alloc, Manifest::from_path(rt, alloc, file)?)?;
+    let mut manifest = manifest_in(rt, file)?;
+    manifest.complete_from_path(rt, alloc, file)?;
     print_complete(alloc, &*manifest, output)
+}
+
+/// The manifest in a file, on the heap. It is wide, and so no call that does more than this holds it
+/// on the stack.
+fn manifest_in<R: Files + AllocGlobal>(rt: &R, file: &str) -> Result<Box<Manifest>, Error> {
+    let text = fs::read_to_string(rt, file)?;
+    match Manifest::from_str(rt.alloc(), text.as_str()) {
+        Ok(manifest) => Ok(Box::new(rt.alloc(), manifest)?),
+        Err(fault) => Err(fault),
+    }
 }
 
 /// The words of the command line without the program's own name.
@@ -44,7 +64,9 @@ fn run<R: Env + Files + Print + AllocGlobal>(rt: &R) -> Outcome {
         Err(fault) => return Outcome::of_words(fault),
     };
     match command(words.as_slice()) {
-        Some(Command::Features(file)) => Outcome::of_command(features(rt, file)),
+        Some(Command::Features(file, max_items)) => {
+            Outcome::of_command(features(rt, file, max_items))
+        }
         Some(Command::Complete(file)) => {
             Outcome::of_command(complete(rt, file, &mut io::writer(rt)))
         }

@@ -21,7 +21,7 @@ answer_at (a ∷ ans) p = if bytes_eq p a.0 then Some a.1 else answer_at ans p
 abbrev pub filled_by : Told → Option (List Text) → Told
 filled_by (names ts) a = names ts
 filled_by absent a = absent
-filled_by (denied kind) a = denied kind
+filled_by (denied fault) a = denied fault
 filled_by open_path None = open_path
 filled_by open_path (Some ts) = names ts
 

@@ -36,18 +36,23 @@ abbrev pub is_not_found : ErrorKind → Bool
 is_not_found NotFound = true
 is_not_found _ = false
 
+-- the fault is that of a folder that isn't there
+abbrev pub is_absence : Fault → Bool
+is_absence (io kind) = is_not_found kind
+is_absence _ = false
+
 -- the names in a folder, in order; an absent folder counts as empty
 abbrev pub names_at : Told → Seen (List Text)
 names_at (names ts) = seen (ordered ts)
 names_at absent = seen []
-names_at (denied kind) = if is_not_found kind then seen [] else faulty (io kind ∷ [])
+names_at (denied fault) = if is_absence fault then seen [] else faulty (fault ∷ [])
 names_at open_path = unclear
 
 -- the names in the folder of the package, which must be there
 abbrev pub root_names : Told → Seen (List Text)
 root_names (names ts) = seen (ordered ts)
 root_names absent = faulty (io NotFound ∷ [])
-root_names (denied kind) = faulty (io kind ∷ [])
+root_names (denied fault) = faulty (fault ∷ [])
 root_names open_path = unclear
 
 -- the fault is one of these

@@ -2,7 +2,7 @@
 use Rattle.std.specs.Prelude.{◌≡◌, ◌↔◌, Bool, false, if◌then◌else◌, ◌&&◌, ◌||◌, List, is_some, option_map, IsTrue, Option, Some, None, bytes_eq, IfSome}
 use Rattle.cargo_toml_graph.specs.Action.{Text, Action}
 use Rattle.cargo_toml_graph.specs.Admitted.{Listed, is_explicit, is_below, names, joined_action}
-use Rattle.cargo_toml_graph.specs.Bins.{HasBins}
+use Rattle.cargo_toml_graph.specs.Bins.{ArePassedOn, HasBins}
 use Rattle.cargo_toml_graph.specs.Graph.{Table, Resolution, IsResolved}
 use Rattle.cargo_toml_features.specs.Recorded.{Entry, Recorded, Target, is_implied, entries_at, recorded_of, first_target, without_redundant}
 use Rattle.cargo_toml_graph.specs.Redirects.{RedirectsTo}
@@ -53,10 +53,11 @@ pub record IsKeptAnswer (listed : Listed) (entries : List Entry) (keep : Text �
   pub dependencies : (k : Text) → SameRecorded (a.dependencies k) (recorded_of (entries_at listed entries k))
   pub some : IsTrue a.removed_some ↔ ((r : Text) × IsTrue (is_removed (table_of listed entries) keep r))
 
--- and so are the binaries that require features, of which own are the binaries' own mentions, and what stands for each feature
--- that is taken out
+-- and so are the binaries that require features, of which own are the binaries' own mentions: by paths, and as they are passed on
+-- in byte order; and what stands for each feature that is taken out
 pub record IsAnswer (listed : Listed) (entries : List Entry) (own : Text → List Text) (keep : Text → Bool) (a : Answer) : Type 0 where
   pub kept : IsKeptAnswer listed entries keep a
   pub bins : (f : Text) → IsTrue (a.resolution.table.has f) → HasBins (table_of listed entries) (λ r. IsTrue (is_removed (table_of listed entries) keep r)) own f (a.bins f)
+  pub passed_on : ArePassedOn (table_of listed entries) (λ r. IsTrue (is_removed (table_of listed entries) keep r)) own a.bins
   pub redirected : (r : Text) → is_some (a.redirects r) ≡ is_removed (table_of listed entries) keep r
   pub redirects : (r : Text) → IfSome (a.redirects r) (λ names. (x : Text) → IsTrue (names x) ↔ RedirectsTo (table_of listed entries) (λ s. IsTrue (is_removed (table_of listed entries) keep s)) (λ s b. IsTrue (is_below s b)) r x)

@@ -1,11 +1,13 @@
 //! The features of a manifest, and the dependencies that they speak of.
 use cargo_toml_dependencies::Dependency;
 use std::collections::{BTreeMap, BTreeSet, HashMap};
-use std::hash::BuildHasher;
+use std::hash::{BuildHasher, BuildHasherDefault, FoldHasher};
 
 /// The features of a manifest, resolved.
+///
+/// `S` is the state of its hashed maps; where it is not written, it is the fixed one.
 #[derive(Debug, Drop)]
-pub struct Features<'m, 'd, S: BuildHasher> {
+pub struct Features<'m, 'd, S: BuildHasher = BuildHasherDefault<FoldHasher>> {
     /// The features by name, those that optional dependencies imply included.
     pub features: HashMap<&'m str, Feature<'m>, S>,
     /// The dependencies that features can speak of, by key.

@@ -15,5 +15,6 @@ pub mod AgainstAll
 pub mod BinLists
 pub mod PassedBins
 pub mod RedirectsInOrder
+pub mod InByteOrder
 pub mod Cut
 pub mod WorkedExamples

@@ -18,7 +18,7 @@ use Rattle.cargo_toml_graph.proofs.BinLists.{among-first, among-either, among-ta
 abbrev Names : Table → Text → Text → Type 0
 Names t b y = IsTrue (t.names b y)
 
-grown_weaker : {own : List Text} {P Q : Text → Type 0} {bins : List Text} → ((x : Text) → P x → Q x) → Grown own P bins → Grown own Q bins
+pub grown_weaker : {own : List Text} {P Q : Text → Type 0} {bins : List Text} → ((x : Text) → P x → Q x) → Grown own P bins → Grown own Q bins
 grown_weaker w g = record { passed = g.passed; whole = g.whole; once = g.once; fresh = g.fresh; cause = λ x i. w x (g.cause x i) }
 
 -- naming alone through S is some gathered feature's naming
@@ -152,7 +152,7 @@ module _ (t : Table) (own : Text → List Text) (all : List Text) where
       (complete_step t own S inside m h r at.0 at.1 bins hb small hc) f k
 
 -- sets with the same members
-passed_alike : (t : Table) (own : Text → List Text) (S S' : Text → Type 0) → ((v : Text) → S v → S' v) → (f x : Text) → IsPassed t S own f x → IsPassed t S' own f x
+pub passed_alike : (t : Table) (own : Text → List Text) (S S' : Text → Type 0) → ((v : Text) → S v → S' v) → (f x : Text) → IsPassed t S own f x → IsPassed t S' own f x
 passed_alike t own S S' into f x p = (p.0, into p.0 p.1, p.2, label_within (Names t) S S' into p.0 f p.3)
 
 -- nothing is passed on before anything is removed

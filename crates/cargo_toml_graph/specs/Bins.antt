@@ -1,8 +1,10 @@
 -- The binaries that require a feature, where removed features pass theirs on.
-use Rattle.std.specs.Prelude.{◌≡◌, ◌+◌, ℕ, List, [], ◌∷◌, ◌++◌, take, length, IsTrue}
+use Rattle.std.specs.Prelude.{◌≡◌, ◌↔◌, ◌+◌, ℕ, List, [], ◌∷◌, ◌++◌, take, length, IsTrue}
 use Rattle.cargo_toml_graph.specs.Action.{Text}
+use Rattle.cargo_toml_graph.specs.Admitted.{is_below}
 use Rattle.cargo_toml_graph.specs.Reach.{Among, IsOnce, Reaches, GathersLabel}
-use Rattle.cargo_toml_graph.specs.Graph.{Table, Edge}
+use Rattle.cargo_toml_graph.specs.Graph.{Table, Edge, IsKept}
+use Rattle.cargo_toml_graph.specs.Removal.{IsAscending, pass_all, unremoved}
 
 -- bins are own, then texts without doubling that are not in own, of each of which P holds
 pub record Grown (own : List Text) (P : Text → Type 0) (bins : List Text) : Type 0 where
@@ -11,6 +13,11 @@ pub record Grown (own : List Text) (P : Text → Type 0) (bins : List Text) : Ty
   pub once : IsOnce passed
   pub fresh : (x : Text) → Among passed x → ¬ Among own x
   pub cause : (x : Text) → Among passed x → P x
+
+-- the removed features, in byte order
+pub record AreInByteOrder (Removed : Text → Type 0) (order : List Text) : Type 0 where
+  pub ascending : IsAscending (λ a b. IsTrue (is_below a b)) order
+  pub members : (r : Text) → Among order r ↔ Removed r
 
 module _ (t : Table) (Removed : Text → Type 0) (own : Text → List Text) where
   -- r, or a removed feature that it reaches through removed ones, names f, and x requires r
@@ -21,6 +28,13 @@ module _ (t : Table) (Removed : Text → Type 0) (own : Text → List Text) wher
   pub record HasBins (f : Text) (bins : List Text) : Type 0 where
     pub lists : Grown (own f) (IsPassed f) bins
     pub direct : (r x : Text) → Removed r → IsTrue (t.names r f) → Among (take 10 (own r)) x → Among bins x
+
+  -- the binaries of all kept features: in byte order each removed one passes the first ten of its list, as it then stands, on to
+  -- each feature that it then names
+  pub record ArePassedOn (bins : Text → List Text) : Type 0 where
+    pub order : List Text
+    pub in_order : AreInByteOrder Removed order
+    pub lists : (f : Text) → IsKept t Removed f → bins f ≡ pass_all order (unremoved t) own f
 
   -- where naming alone leads from r to f through removed features, each binary that requires r requires f
   abbrev pub IsComplete : Text → List Text → Type 0

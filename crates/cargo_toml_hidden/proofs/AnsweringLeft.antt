@@ -1,16 +1,17 @@
 -- From all that is resolved, and what is left of it once hidden features are taken out, to the whole answer.
 use mathlib.Core.Bool.{beq}
-use Rattle.std.proofs.Common.{arith, ◌≡◌, ◌↔◌, ◌<◌, ◌&&◌, Bool, length, true, false, List, [], not, Bor, map, codes, nat_eq, Option, Some, None, IsTrue, IfSome, is_some, option_map, refl, sym, ap, subst, ◌∙◌}
+use Rattle.std.proofs.Common.{arith, ◌≡◌, ◌↔◌, ◌<◌, Bool, length, true, false, List, [], Bor, map, Option, Some, None, IsTrue, IfSome, is_some, option_map, refl, sym, ap, subst, ◌∙◌}
 use Rattle.std.proofs.lemmas.Bool.{false≢true}
 use Rattle.std.specs.BTreeSet.{BTreeSet}
-use Rattle.std.specs.List.{IsAnyAnswer, slice_index_or, starts_with}
+use Rattle.std.specs.List.{IsAnyAnswer, slice_index_or}
 use Rattle.std.specs.Option.{option_map_or}
 use Rattle.cargo_toml_graph.specs.Action.{Text}
 use Rattle.cargo_toml_graph.specs.Admitted.{Listed, is_below, is_explicit}
-use Rattle.cargo_toml_graph.specs.Bins.{HasBins}
+use Rattle.cargo_toml_graph.specs.Bins.{ArePassedOn}
 use Rattle.cargo_toml_graph.specs.Graph.{Table}
 use Rattle.cargo_toml_graph.specs.Redirects.{RedirectsTo}
-use Rattle.cargo_toml_graph.specs.Removal.{is_removed}
+use Rattle.cargo_toml_graph.specs.Removal.{is_removed, unremoved}
+use Rattle.cargo_toml_graph.proofs.InByteOrder.{alike_itself, passed_all_alike, passed_has, removed_there}
 use Rattle.cargo_toml_walk.specs.Numbered.{text_at}
 use Rattle.cargo_toml_features.specs.declared.features.Feature.{Feature}
 use Rattle.cargo_toml_features.specs.declared.features.Features.{Features}
@@ -23,7 +24,6 @@ use Rattle.cargo_toml_hidden.specs.KeptFeatures.{IsNamedAlike, own_bins}
 use Rattle.cargo_toml_hidden.specs.Left.{AreLeft}
 use Rattle.cargo_toml_hidden.specs.Numbering.{IsFlagged}
 use Rattle.cargo_toml_hidden.proofs.InPlace.{found_stands}
-use Rattle.cargo_toml_hidden.proofs.SameKept.{bins_same}
 
 module _ {S H : Type 0} (listed : Listed) (entries : List Entry) (own : Text → List Text) (keep : Text → Bool) (vs : List Feature) (a : Features S H)
     (start : AreTable (table_of listed entries) vs)
@@ -69,19 +69,13 @@ module _ {S H : Type 0} (listed : Listed) (entries : List Entry) (own : Text →
       go None y e = absurd (false≢true y)
       go (Some v) y e = e
 
-  there_is : (f : Text) → R f → IsTrue (t.has f)
-  there_is f = go (t.has f) (starts_with nat_eq f (codes "_")) (not (keep f))
-    where
-      go : (h s k : Bool) → ((h && s) && k) ≡ true → h ≡ true
-      go true s k e = refl
-      go false s k e = absurd (false≢true e)
-
-  bins_at : (f : Text) → IsTrue (is_some (value_at a.features f)) → HasBins t R own f (option_map_or (λ v. map (λ b. b.now) v.required_by_bins.items) (value_at a.features f) [])
-  bins_at f y = go (value_at a.features f) y (kept.bins f)
-    where
-      go : (o : Option Feature) → IsTrue (is_some o) → IfSome o (λ w. HasBins t R (own_bins vs) f (map (λ b. b.now) w.required_by_bins.items)) → HasBins t R own f (option_map_or (λ v. map (λ (b : Bor Text). b.now) v.required_by_bins.items) o [])
-      go None e h = absurd (false≢true e)
-      go (Some w) e h = bins_same t R R (λ v r. r) (λ v r. r) there_is (own_bins vs) own own_at f (map (λ b. b.now) w.required_by_bins.items) ((kept.resolved.kept f).0 y).0 h
+  passed_on : ArePassedOn t R own (answer_of a).bins
+  passed_on = record {
+    order = kept.bins.order;
+    in_order = kept.bins.in_order;
+    lists = λ f k. kept.bins.lists f k
+        ∙ passed_all_alike (λ v. IsTrue (t.has v)) kept.bins.order (unremoved t) (unremoved t) (own_bins vs) own (alike_itself (unremoved t)) (λ v i. removed_there t keep v ((kept.bins.in_order.members v).0 i)) own_at f k.0;
+  }
 
   redirected : (r : Text) → is_some (option_map has_text (value_at a.hidden_features r)) ≡ is_removed t keep r
   redirected r = go (value_at a.hidden_features r) ∙ kept.redirected r
@@ -107,7 +101,8 @@ module _ {S H : Type 0} (listed : Listed) (entries : List Entry) (own : Text →
       dependencies = dependencies;
       some = some;
     };
-    bins = bins_at;
+    bins = λ f y. passed_has t R own (removed_there t keep) (answer_of a).bins passed_on f ((kept.resolved.kept f).0 y);
+    passed_on = passed_on;
     redirected = redirected;
     redirects = redirects;
   }

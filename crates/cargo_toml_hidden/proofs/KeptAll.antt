@@ -1,20 +1,18 @@
 -- Where no feature is removed, all are left.
 use Rattle.std.proofs.Common.{◌≡◌, ◌↔◌, ℕ, Bool, false, List, [], Option, Some, None, Bor, IfOk, IfSome, IsSome, IsTrue, Result, Ok, Err, is_some, map, slice_get, refl, sym, ap, subst, ◌∙◌}
-use Rattle.std.proofs.lemmas.List.{append-nil}
 use Rattle.std.proofs.lemmas.Bool.{false≢true, false_from_ne_true}
 use Rattle.std.specs.BTreeSet.{BTreeSet}
 use Rattle.std.specs.HashMap.{HashMap}
 use Rattle.std.specs.Option.{option_map_or}
 use Rattle.cargo_toml_graph.specs.Action.{Text}
 use Rattle.cargo_toml_graph.specs.Admitted.{is_below}
-use Rattle.cargo_toml_graph.specs.Bins.{HasBins}
 use Rattle.cargo_toml_graph.specs.Graph.{IsUnremoved, Table}
 use Rattle.cargo_toml_graph.specs.Redirects.{RedirectsTo}
 use Rattle.cargo_toml_graph.proofs.Unremoved.{resolved_unremoved}
 use Rattle.cargo_toml_features.specs.declared.features.Feature.{Feature}
 use Rattle.cargo_toml_features.specs.InOrder.{AreInOrder, AreTable, feature_at, resolution_among}
 use Rattle.cargo_toml_features.specs.Views.{action_at, has_text, resolution_of, value_at}
-use Rattle.cargo_toml_hidden.specs.KeptFeatures.{IsNamedAlike, own_bins}
+use Rattle.cargo_toml_hidden.specs.KeptFeatures.{IsNamedAlike}
 use Rattle.cargo_toml_hidden.specs.Left.{AreLeft}
 use Rattle.cargo_toml_hidden.proofs.InPlace.{found_stands, stands_found}
 
@@ -55,7 +53,11 @@ module _ {S : Type 0} (vs : List Feature) (up : AreInOrder vs) (m : HashMap (Bor
   all_left t removed hidden empty none h = record {
     resolved = resolved_unremoved t (resolution_of m) (λ f. IsTrue (removed f)) none (unremoved_by vs m same_at t h);
     own = λ f. own_at f (value_at m f) (same_at f);
-    bins = λ f. bins_at f (value_at m f) (same_at f);
+    bins = record {
+      order = [];
+      in_order = record { ascending = tt; members = λ r. (λ i. absurd i, λ y. absurd (none r y)) };
+      lists = λ f k. ap (λ (o : Option Feature). option_map_or (λ v. map (λ b. b.now) v.required_by_bins.items) o []) (same_at f);
+    };
     redirected = λ r. ap is_some (empty r) ∙ sym (false_from_ne_true (removed r) (none r));
     redirects = λ r. subst (λ o. IfSome o (λ names. (x : Text) → IsTrue (has_text names x) ↔ RedirectsTo t (λ s. IsTrue (removed s)) (λ a b. IsTrue (is_below a b)) r x)) (sym (empty r)) tt;
   }
@@ -63,22 +65,6 @@ module _ {S : Type 0} (vs : List Feature) (up : AreInOrder vs) (m : HashMap (Bor
       own_at : (f : Text) (o : Option Feature) → o ≡ feature_at vs f → IfSome o (λ w. (v : Feature) × (feature_at vs f ≡ Some v) × IsNamedAlike v w)
       own_at f None e = tt
       own_at f (Some w) e = (w, sym e, record { key = refl; explicit = refl })
-
-      own_is : (f : Text) (w : Feature) → Some w ≡ feature_at vs f → own_bins vs f ≡ map (λ b. b.now) w.required_by_bins.items
-      own_is f w e = ap (λ (o : Option Feature). option_map_or (λ v. map (λ b. b.now) v.required_by_bins.items) o []) (sym e)
-
-      bins_at : (f : Text) (o : Option Feature) → o ≡ feature_at vs f → IfSome o (λ w. HasBins t (λ r. IsTrue (removed r)) (own_bins vs) f (map (λ b. b.now) w.required_by_bins.items))
-      bins_at f None e = tt
-      bins_at f (Some w) e = record {
-        lists = record {
-          passed = [];
-          whole = sym (own_is f w e) ∙ sym (append-nil (own_bins vs f));
-          once = tt;
-          fresh = λ x i. absurd i;
-          cause = λ x i. absurd i;
-        };
-        direct = λ r x gone n i. absurd (none r gone);
-      }
 
 -- a weaker fact of one result
 pub if_ok_weaker : {X Y : Type 0} (r : Result X Y) (A Q : X → Type 0) → ((x : X) → A x → Q x) → IfOk r A → IfOk r Q

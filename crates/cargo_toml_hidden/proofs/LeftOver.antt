@@ -1,22 +1,22 @@
 -- From what stands in places to what is left by name.
-use Rattle.std.proofs.Common.{◌≡◌, ◌↔◌, ◌<◌, ℕ, Bool, true, false, List, length, map, Option, Some, None, Bor, Vec, IsTrue, IsSome, IfSome, IfOk, Result, Ok, Err, is_some, slice_get, refl, sym, ap, subst, ◌∙◌, arith}
+use Rattle.std.proofs.Common.{◌≡◌, ◌↔◌, ◌<◌, ℕ, Bool, true, false, List, [], length, map, Option, Some, None, Bor, Vec, IsTrue, IsSome, IfSome, IfOk, Result, Ok, Err, is_some, slice_get, refl, sym, ap, subst, ◌∙◌, arith}
 use Rattle.std.proofs.lemmas.Bool.{false≢true}
 use Rattle.std.specs.BTreeSet.{BTreeSet}
 use Rattle.std.specs.HashMap.{HashMap}
-use Rattle.std.specs.Option.{IsSomeAnd}
+use Rattle.std.specs.Option.{IsSomeAnd, option_map_or}
 use Rattle.std.specs.declared.alloc.Global.{Global}
 use Rattle.cargo_toml_graph.specs.Action.{Text}
 use Rattle.cargo_toml_graph.specs.Admitted.{is_below}
-use Rattle.cargo_toml_graph.specs.Bins.{HasBins}
 use Rattle.cargo_toml_graph.specs.Graph.{Table, IsKept}
 use Rattle.cargo_toml_graph.specs.Redirects.{RedirectsTo}
+use Rattle.cargo_toml_graph.specs.Removal.{pass_all, unremoved}
 use Rattle.cargo_toml_walk.specs.Numbers.{IsWanted, Leads, list_at}
 use Rattle.cargo_toml_walk.specs.Numbered.{HasNumber, IsNumbered, text_at}
 use Rattle.cargo_toml_walk.proofs.Numbered as numbered
 use Rattle.cargo_toml_features.specs.declared.features.Feature.{Feature}
 use Rattle.cargo_toml_features.specs.InOrder.{AreInOrder, AreTable, feature_at, names_of, table_among}
 use Rattle.cargo_toml_features.specs.Views.{has_text, value_at}
-use Rattle.cargo_toml_hidden.specs.KeptFeatures.{IsKeptFeature, IsNamedAlike, StandFor, own_bins}
+use Rattle.cargo_toml_hidden.specs.KeptFeatures.{ArePassedAt, IsKeptFeature, IsNamedAlike, StandFor, own_bins}
 use Rattle.cargo_toml_hidden.specs.Leaving.{HasTexts}
 use Rattle.cargo_toml_hidden.specs.Left.{AreLeft}
 use Rattle.cargo_toml_hidden.specs.Numbering.{IsFlagged}
@@ -69,7 +69,7 @@ module _ (t : Table) (removed : Text → Bool) (old new : List Feature) (texts :
 
   module _ {S : Type 0} (m : HashMap (Bor Text) Feature S) (hidden : HashMap (Bor Text) (BTreeSet (Bor Text)) S) (rows_len : length rows ≡ length old)
       (kept : (i : ℕ) (w : Feature) → IsWanted flags false i → slice_get new i ≡ Some w → IsKeptFeature t R (text_at texts i) w)
-      (bins : (i : ℕ) (w : Feature) → IsWanted flags false i → slice_get new i ≡ Some w → HasBins t R (own_bins old) (text_at texts i) (map (λ b. b.now) w.required_by_bins.items))
+      (bins : ArePassedAt t removed (own_bins old) texts flags new)
       (rows_are : (r : ℕ) (x : Text) → r < length edges → IsWanted flags true r → HasNumber texts (length texts) (Leads rows r) x ↔ RedirectsTo t R (λ a b. IsTrue (is_below a b)) (text_at texts r) x)
       (held : (i : ℕ) (v : Feature) → slice_get new i ≡ Some v → IsWanted flags false i → value_at m v.key.now ≡ Some v)
       (only : (f : Text) → IsSome (value_at m f) → (i : ℕ) × (v : Feature) × (slice_get new i ≡ Some v) × IsWanted flags false i × (v.key.now ≡ f))
@@ -140,12 +140,21 @@ module _ (t : Table) (removed : Text → Bool) (old new : List Feature) (texts :
           λ d. (h z).1 ((rows_are i z lt on).1 d),
         )
 
+    list_there : (f : Text) (o : Option Feature) → IsSomeAnd o (IsKeptFeature t R f) → IfSome o (λ w. map (λ b. b.now) w.required_by_bins.items ≡ pass_all bins.order (unremoved t) (own_bins old) f) →
+        option_map_or (λ v. map (λ (b : Bor Text). b.now) v.required_by_bins.items) o [] ≡ pass_all bins.order (unremoved t) (own_bins old) f
+    list_there f None k h = absurd k
+    list_there f (Some w) k h = h
+
     pub are_left : AreLeft t removed old m hidden
     are_left = record {
       resolved = resolved_is t removed m kept_by_name gone missing;
       own = own_by_name;
-      bins = λ f. with_place f (λ w. HasBins t R (own_bins old) f (map (λ b. b.now) w.required_by_bins.items))
-          (λ i w at off named. subst (λ x. HasBins t R (own_bins old) x (map (λ b. b.now) w.required_by_bins.items)) named (bins i w off at));
+      bins = record {
+        order = bins.order;
+        in_order = bins.in_order;
+        lists = λ f k. list_there f (value_at m f) (kept_by_name f k) (with_place f (λ w. map (λ b. b.now) w.required_by_bins.items ≡ pass_all bins.order (unremoved t) (own_bins old) f)
+            (λ i w at off named. subst (λ x. map (λ b. b.now) w.required_by_bins.items ≡ pass_all bins.order (unremoved t) (own_bins old) x) named (bins.lists i w off at)));
+      };
       redirected = redirected;
       redirects = redirects;
     }
@@ -159,7 +168,7 @@ pub record NumberedBy (vs : List Feature) (flagged : List Bool) (texts : List (B
 -- what placing tells
 pub record PlacedBy (t : Table) (removed : Text → Bool) (old new : List Feature) (edges names rows : List (Vec ℕ Global)) (texts : List (Bor Text)) (flags : List Bool) : Type 0 where
   pub kept : StandFor t removed old (texts_of texts) edges names flags → (i : ℕ) (w : Feature) → IsWanted flags false i → slice_get new i ≡ Some w → IsKeptFeature t (λ v. IsTrue (removed v)) (text_at (texts_of texts) i) w
-  pub bins : StandFor t removed old (texts_of texts) edges names flags → (i : ℕ) (w : Feature) → IsWanted flags false i → slice_get new i ≡ Some w → HasBins t (λ v. IsTrue (removed v)) (own_bins old) (text_at (texts_of texts) i) (map (λ b. b.now) w.required_by_bins.items)
+  pub bins : StandFor t removed old (texts_of texts) edges names flags → ArePassedAt t removed (own_bins old) (texts_of texts) flags new
   pub rows_are : StandFor t removed old (texts_of texts) edges names flags → (r : ℕ) (x : Text) → r < length edges → IsWanted flags true r →
       HasNumber (texts_of texts) (length (texts_of texts)) (Leads rows r) x ↔ RedirectsTo t (λ v. IsTrue (removed v)) (λ a b. IsTrue (is_below a b)) (text_at (texts_of texts) r) x
 

@@ -13,6 +13,7 @@ pub mod NumberingGraph
 mod Answered
 mod Walked
 mod LeavingAll
+mod PassedPlaces
 mod Placing
 mod TextSets
 mod Passers

@@ -1,10 +1,13 @@
 -- What is left of features once some are removed, feature by feature.
-use Rattle.std.specs.Prelude.{◌≡◌, ◌↔◌, ◌<◌, ℕ, Bool, List, length, IsTrue, Vec, [], map}
+use Rattle.std.specs.Prelude.{◌≡◌, ◌↔◌, ◌<◌, ℕ, Bool, false, List, length, IsTrue, Vec, [], map, slice_get, Some}
 use Rattle.std.specs.Option.{option_map_or}
 use Rattle.std.specs.declared.alloc.Global.{Global}
 use Rattle.cargo_toml_graph.specs.Action.{Text, IsJoin}
+use Rattle.cargo_toml_graph.specs.Bins.{AreInByteOrder}
 use Rattle.cargo_toml_graph.specs.Graph.{Table, IsEnabledBy, KeepsName, Says}
+use Rattle.cargo_toml_graph.specs.Removal.{pass_all, unremoved}
 use Rattle.cargo_toml_walk.specs.Numbered.{IsNumbered, text_at}
+use Rattle.cargo_toml_walk.specs.Numbers.{IsWanted}
 use Rattle.cargo_toml_features.specs.declared.features.Feature.{Feature}
 use Rattle.cargo_toml_features.specs.InOrder.{AreInOrder, AreTable, feature_at, names_of}
 use Rattle.cargo_toml_features.specs.Views.{action_at, has_text}
@@ -31,3 +34,9 @@ pub record IsNamedAlike (old new : Feature) : Type 0 where
 -- the binaries that a feature of this name requires itself
 abbrev pub own_bins : List Feature → Text → List Text
 own_bins vs f = option_map_or (λ v. map (λ b. b.now) v.required_by_bins.items) (feature_at vs f) []
+
+-- the kept features in their places have the binaries that the removed ones pass on in byte order
+pub record ArePassedAt (t : Table) (removed : Text → Bool) (own : Text → List Text) (texts : List Text) (flags : List Bool) (vs : List Feature) : Type 0 where
+  pub order : List Text
+  pub in_order : AreInByteOrder (λ v. IsTrue (removed v)) order
+  pub lists : (i : ℕ) (v : Feature) → IsWanted flags false i → slice_get vs i ≡ Some v → map (λ b. b.now) v.required_by_bins.items ≡ pass_all order (unremoved t) own (text_at texts i)

@@ -1,13 +1,11 @@
 //! The binaries of removed features are passed on.
-ghost use Rattle.std.specs.Prelude.{◌≡◌, ◌<◌, ◌≤◌, ◌∷◌, ◌||◌, [], ℕ, List, Vec, bytes_eq, length, not, take, true, false, IfOk, OnOk};
-ghost use Rattle.std.specs.declared.alloc.Global.{Global};
+ghost use Rattle.std.specs.Prelude.{◌≡◌, ◌<◌, ◌≤◌, ◌∷◌, ◌||◌, [], ℕ, bytes_eq, length, not, take, IfOk, OnOk};
 ghost use Rattle.cargo_toml_graph.specs.Action.{Text};
 ghost use Rattle.cargo_toml_graph.specs.Reach.{Among};
 ghost use Rattle.cargo_toml_graph.specs.Removal.{put_all};
-ghost use Rattle.cargo_toml_walk.specs.Numbers.{IsWanted};
 ghost use Rattle.cargo_toml_features.specs.Views.{has_text};
 ghost use Rattle.cargo_toml_hidden.specs.KnownBins.{AreKnown, Knows, MayKnow};
-ghost use Rattle.cargo_toml_hidden.specs.Passing.{bins_of, AreRedirects, AreSameButBins, HasBinsAt};
+ghost use Rattle.cargo_toml_hidden.specs.Passing.{bins_of, passed_below, AreSameButBins};
 ghost use Rattle.cargo_toml_hidden.specs.Puts.{Puts};
 ghost use Rattle.cargo_toml_hidden.specs.Texts.{texts_of};
 
@@ -165,10 +163,8 @@ pub(crate) fn pass_bins<'m>(
     requires rows { length rows.now ≡ length features.old.items }
     requires flags { length features.old.items ≤ length flags.now }
     ensures others { OnOk result (AreSameButBins features.old.items features.new.items) }
-    ensures bins { OnOk result ((edges names : List (Vec ℕ Global)) → length edges ≡ length features.old.items
-        → length names ≡ length features.old.items → AreRedirects edges names flags.now rows.now
-        → (f : ℕ) → f < length features.old.items → IsWanted flags.now false f
-        → HasBinsAt edges names flags.now (bins_of features.old.items) f (bins_of features.new.items f)) }
+    ensures bins { OnOk result ((y : ℕ) → y < length features.old.items → bins_of features.new.items y
+        ≡ passed_below rows.now flags.now (length features.old.items) (bins_of features.old.items) y) }
 {
     let mut known = known_bins(alloc, features.as_slice())?;
     let size = features.len();

@@ -1,14 +1,13 @@
 //! Removed features are taken out by walks over their graph, and leave to others what they said.
-ghost use Rattle.std.specs.Prelude.{◌≡◌, ◌↔◌, ◌<◌, ◌≤◌, ℕ, Bool, IfOk, IsTrue, OnOk, Some, length, map, slice_get, true, false};
+ghost use Rattle.std.specs.Prelude.{◌≡◌, ◌↔◌, ◌<◌, ◌≤◌, ℕ, Bool, IfOk, IsTrue, OnOk, Some, length, slice_get, true, false};
 ghost use Rattle.cargo_toml_graph.specs.Action.{Text};
 ghost use Rattle.cargo_toml_graph.specs.Admitted.{is_below};
-ghost use Rattle.cargo_toml_graph.specs.Bins.{HasBins};
 ghost use Rattle.cargo_toml_graph.specs.Graph.{Table};
 ghost use Rattle.cargo_toml_graph.specs.Redirects.{RedirectsTo};
 ghost use Rattle.cargo_toml_walk.specs.Numbered.{HasNumber, text_at};
 ghost use Rattle.cargo_toml_walk.specs.Numbers.{IsWanted, Leads, list_at};
 ghost use Rattle.cargo_toml_features.specs.declared.features.Feature.{Feature};
-ghost use Rattle.cargo_toml_hidden.specs.KeptFeatures.{IsKeptFeature, IsNamedAlike, StandFor, own_bins};
+ghost use Rattle.cargo_toml_hidden.specs.KeptFeatures.{ArePassedAt, IsKeptFeature, IsNamedAlike, StandFor, own_bins};
 ghost use Rattle.cargo_toml_hidden.specs.Leaving.{Leaves, LeavesAll};
 ghost use Rattle.cargo_toml_hidden.specs.Texts.{texts_of};
 ghost use Rattle.cargo_toml_hidden.specs.Walking.{AreEnablers, AreNamed, ArePassed, AreRows, AreWithin};
@@ -152,9 +151,7 @@ pub(crate) fn place<'m>(
         IsKeptFeature t (λ v. IsTrue (removed v)) (text_at (texts_of texts.now) i) w) }
     ensures bins { OnOk result ((t : Table) (removed : Text → Bool) →
         StandFor t removed features.old.items (texts_of texts.now) edges.items names.items flags.now →
-        (i : ℕ) (w : Feature) → IsWanted flags.now false i → slice_get features.new.items i ≡ Some w →
-        HasBins t (λ v. IsTrue (removed v)) (own_bins features.old.items) (text_at (texts_of texts.now) i)
-        (map (λ b. b.now) w.required_by_bins.items)) }
+        ArePassedAt t removed (own_bins features.old.items) (texts_of texts.now) flags.now features.new.items) }
     ensures rows { IfOk result (λ rows. (t : Table) (removed : Text → Bool) →
         StandFor t removed features.old.items (texts_of texts.now) edges.items names.items flags.now →
         (r : ℕ) (x : Text) → r < length edges.items → IsWanted flags.now true r →

@@ -1,6 +1,8 @@
 -- Files on the disk: where they are looked for, which root is found among them, and what faults they give.
 use Rattle.std.specs.Prelude.{◌≡◌, ◌⊎◌, ℕ, suc, zero, List, ◌++◌, codes, length, ◌==◌, if◌then◌else◌, Bool, true, false, Option, Some, None, option_and_then, is_some, Result, Ok, Err, IsUtf8}
-use Rattle.std.specs.Path.{path_parent}
+use Rattle.std.specs.Prelude.{Box}
+use Rattle.std.specs.Path.{path_join, path_parent}
+use Rattle.std.specs.declared.alloc.Global.{Global}
 use Rattle.std.specs.declared.io.ErrorKind.{ErrorKind}
 use Rattle.std.specs.declared.io.ErrorKind.TheVariants.{NotFound, NotADirectory}
 use Rattle.toml.specs.Data.{Data}
@@ -67,8 +69,8 @@ IsNoWorkspace bytes path e =
     × (fault_of e ≡ workspace_integrity (expected_workspace path)))
 
 -- a workspace's manifest of these bytes, or why they are none
-abbrev pub IsWorkspaceOf : List ℕ → List ℕ → Result (Manifest Value) Error → Type 0
-IsWorkspaceOf bytes path (Ok m) = (is_some m.workspace ≡ true) × IsFromSlice bytes (Ok m)
+abbrev pub IsWorkspaceOf : List ℕ → List ℕ → Result (Box (Manifest Value) Global) Error → Type 0
+IsWorkspaceOf bytes path (Ok m) = (is_some m.value.workspace ≡ true) × IsFromSlice bytes (Ok m.value)
 IsWorkspaceOf bytes path (Err e) = (e ≡ Memory) ⊎ IsNoWorkspace bytes path e
 
 -- why the search above a folder finds no root: no memory, a fault of reading, or a file that is no workspace's manifest
@@ -77,7 +79,7 @@ IsSearchFault e = (e ≡ Memory) ⊎ (IsInput e ⊎ ((bytes path : List ℕ) × 
 
 -- what a file is to that search: a workspace's manifest, a file with a fault, or nothing
 abbrev pub IsCandidate : Result Candidate Error → Type 0
-IsCandidate (Ok (Root m)) = IsRootManifest m
+IsCandidate (Ok (Root m)) = IsRootManifest m.value
 IsCandidate (Ok (Other e)) = IsSearchFault e
 IsCandidate (Ok Absent) = Unit {0}
 IsCandidate (Err e) = IsSearchFault e
@@ -97,6 +99,19 @@ parent_after (suc n) path = option_and_then path_parent (parent_after n path)
 -- the folder is written in the path, above it
 abbrev pub IsAbove : List ℕ → List ℕ → Type 0
 IsAbove path above = (n : ℕ) × (parent_after (suc n) path ≡ Some above)
+
+-- the path of a root: the folder that the hint leads to, or else the file in a folder above
+abbrev pub IsRootPath : List ℕ → Option (List ℕ) → List ℕ → Type 0
+IsRootPath folder (Some hint) path = path ≡ path_join folder hint
+IsRootPath folder None path =
+    (above : List ℕ) × (IsAbove folder above × (path ≡ path_join above (codes "Cargo.toml")))
+
+-- why there is no root: a fault of the file that the hint leads to, or else of the search above
+-- the folder
+abbrev pub IsRootFault : List ℕ → Option (List ℕ) → Error → Type 0
+IsRootFault folder (Some hint) e =
+    IsHintFault (path_join (path_join folder hint) (codes "Cargo.toml")) e
+IsRootFault folder None e = IsSearchFault e
 
 abbrev pub bad_path : Fault
 bad_path = other (codes "bad path")

@@ -1,7 +1,12 @@
 -- What is read of a text and of bytes.
-use Rattle.std.specs.Prelude.{◌⊎◌, ℕ, List, codes, Option, Some, None, Result, IsErrAnd, IsUtf8}
+use Rattle.std.specs.Prelude.{◌⊎◌, ℕ, List, String, codes, Option, Some, None, Result}
+use Rattle.std.specs.Prelude.{IsErrAnd, IsUtf8}
+use Rattle.std.specs.BTreeMap.{BTreeMap}
+use Rattle.std.specs.declared.alloc.Global.{Global}
 use Rattle.toml.specs.Data.{Data, Members, table}
 use Rattle.toml.specs.Parse.{parse_document}
+use Rattle.toml.specs.View.{table_view}
+use Rattle.toml.specs.declared.value.Value.{Value}
 use Rattle.cargo_toml_parts.specs.declared.error.Error.{Error}
 use Rattle.cargo_toml_parts.specs.Faults.{IsOther, IsToml}
 use Rattle.cargo_toml_parts.specs.Floats.{without_floats, floats_or}
@@ -27,6 +32,16 @@ abbrev pub IsFromBytes : {X M : Type 0} → (X → M) → (Data → Option M) �
 IsFromBytes meaning reads refuses bytes result =
     ((¬ IsUtf8 bytes) × IsErrAnd result (IsOther (codes "utf8")))
     ⊎ (IsUtf8 bytes × IsFromText meaning reads refuses (parse_document bytes) result)
+
+-- a table as a tree, and the answer to a text or to bytes of which the tree alone is wanted
+abbrev pub tree_of : BTreeMap (String Global) Value → Data
+tree_of t = table (table_view t)
+
+abbrev pub IsTree : Option Members → Result (BTreeMap (String Global) Value) Error → Type 0
+IsTree document result = IsFromText tree_of (λ d. Some d) (λ d e. ⊥) document result
+
+abbrev pub IsTreeOfBytes : List ℕ → Result (BTreeMap (String Global) Value) Error → Type 0
+IsTreeOfBytes bytes result = IsFromBytes tree_of (λ d. Some d) (λ d e. ⊥) bytes result
 
 -- the metadata of type `Value`: any tree that holds no float
 abbrev pub any_tree : Data → Option Data

@@ -30,7 +30,7 @@ HasTexts set texts = (text : List ℕ) → contains_text set text ≡ list_any (
 abbrev pub AnswersNames : {S : Type 0} → Told → Result (HashSet (String Global) S) Error → Type 0
 AnswersNames (names texts) result = MatchResult result (λ set. HasTexts set texts) (λ e. e ≡ Memory)
 AnswersNames absent result = IsErrAnd result (λ e. (e ≡ Memory) ⊎ (fault_of e ≡ io NotFound))
-AnswersNames (denied kind) result = IsErrAnd result (λ e. (e ≡ Memory) ⊎ (fault_of e ≡ io kind))
+AnswersNames (denied fault) result = IsErrAnd result (λ e. (e ≡ Memory) ⊎ (fault_of e ≡ fault))
 AnswersNames open_path result = Unit {0}
 
 -- the bytes are those of a manifest with a workspace

@@ -58,14 +58,18 @@ pub trait AbstractFilesystem {
 
     /// The names in a folder, whose path is as seen from the folder of the manifest; the empty path is that folder.
     ///
-    /// A path where nothing is, or no folder, is `Error::Io` of the kind `NotFound`. Another fault of reading it is an
-    /// `Error::Io` of its kind, and want of memory `Error::Memory`.
+    /// A path where nothing is, or no folder, is `Error::Io` of the kind `NotFound`. Another fault of
+    /// reading it is an `Error::Io` of its kind, and out of memory `Error::Memory`. An implementor may
+    /// refuse with a fault of its own, too.
     fn file_names_in(&self, alloc: Global, rel_path: &str) -> Result<HashSet<String>, Error>
         ensures { AnswersNames (names_at self.now rel_path.now) result };
 
     /// The bytes of the `Cargo.toml` of the workspace's root, and their path.
     ///
-    /// The hint is what the package says of its workspace, where it does. Where this call is left out, it is refused with
+    /// The path should be absolute. Its folder becomes the base of what is inherited, as the
+    /// path of a readme, and nobody could tell where a relative base begins.
+    ///
+    /// The hint is that of `parse_root_workspace`. Where this call is left out, it is refused with
     /// `Error::Io` of the kind `Unsupported`. (An implementor that leaves it out and yet says `OwnRoot` gets
     /// `Error::Memory`.)
     fn read_root_workspace(
@@ -86,6 +90,11 @@ pub trait AbstractFilesystem {
     }
 
     /// The manifest of the workspace's root, which has a workspace table, and its path.
+    ///
+    /// The hint is the key `workspace` of the package: the path of the root's folder as seen from
+    /// the manifest's, such as `../`, without `Cargo.toml`. `None` means that the package does not
+    /// have that key: the root is then to be looked for in the folders above the manifest's. The
+    /// path in the answer should be absolute, as that of `read_root_workspace`.
     ///
     /// Where this call is left out, it is what `read_root_workspace` and `Manifest::from_slice` answer. A fault of reading
     /// is then told as `Error::Workspace` with the hint as its path, and a fault of the bytes with their path; so is a

@@ -162,6 +162,9 @@ impl<Metadata: Drop> Manifest<Metadata> {
     /// workspace table; else, where something is left to it, the root that `fs` finds by what the package says of its
     /// workspace. It gives dependencies, lints and fields of the package; where nothing is left to it, these stay as they are.
     ///
+    /// Where no workspace is handed in, `N` has to be named, and any type of metadata does:
+    /// `complete_from_abstract_filesystem::<Value, _>(alloc, fs, None)`.
+    ///
     /// Where there is a package, `fs` is asked for the names in its folder, in `src`, in `src/bin`, `examples`, `tests` and
     /// `benches` unless the package turns that off, and in the folders in these, each once. They tell the library, binaries,
     /// examples, tests and benchmarks as Cargo finds them, the build script and the readme; the lists are put in order of name

@@ -1,9 +1,10 @@
 //! Real files around a manifest.
-ghost use Rattle.std.specs.Prelude.{◌≡◌, ◌⊎◌, IfErr};
+ghost use Rattle.std.specs.Prelude.{◌≡◌, ◌⊎◌, IfErr, IfOk, string_bytes};
 ghost use Rattle.std.specs.IoError.{error_kind};
+ghost use Rattle.std.specs.Option.{option_copied};
 ghost use Rattle.cargo_toml_parts.specs.declared.error.Error.{Memory};
 ghost use Rattle.cargo_toml_parts.specs.FaultValues.{fault_of, io};
-ghost use Rattle.cargo_toml_manifest.specs.RealFiles.{IsInput, folder_of, listed_as, or_here};
+ghost use Rattle.cargo_toml_manifest.specs.RealFiles.{IsInput, IsRootFault, IsRootManifest, IsRootPath, folder_of, listed_as, or_here};
 
 use crate::afs::{AbstractFilesystem, NoRoot};
 use crate::lookup::{root_above, root_by_hint};
@@ -72,7 +73,9 @@ impl<R: Files + AllocGlobal> AbstractFilesystem for Filesystem<'_, R> {
 
     /// The names in the folder on the disk. A name that is absent or no folder is `Error::Io` of the kind `NotFound`; a folder
     /// or an entry that can't be read, or whose name is not UTF-8, is `Error::Io` of its kind.
-    fn file_names_in(&self, alloc: Global, rel_path: &str) -> Result<HashSet<String>, Error> {
+    fn file_names_in(&self, alloc: Global, rel_path: &str) -> Result<HashSet<String>, Error>
+        ensures faults { IfErr result (λ e. (e ≡ Memory) ⊎ IsInput e) }
+    {
         let folder = join(alloc, self.path, rel_path)?;
         names_in(self.rt, alloc, folder.as_str())
     }
@@ -82,7 +85,13 @@ impl<R: Files + AllocGlobal> AbstractFilesystem for Filesystem<'_, R> {
         &self,
         alloc: Global,
         hint: Option<&str>,
-    ) -> Result<(Manifest, String), Error> {
+    ) -> Result<(Manifest, String), Error>
+        ensures found { IfOk result (λ root. IsRootManifest root.0) }
+        ensures path { IfOk result (λ root.
+            IsRootPath (folder_of self.now) (option_copied hint.entry) (string_bytes root.1)) }
+        ensures refused { IfErr result
+            (IsRootFault (folder_of self.now) (option_copied hint.entry)) }
+    {
         match hint {
             Some(hint) => root_by_hint(self.rt, alloc, self.path, hint),
             None => root_above(self.rt, alloc, self.path),

@@ -165,7 +165,7 @@ pub fn no_parts(alloc: Global) -> NewParts
     ensures tables { result.tables.dependencies.items ≡ [] × (result.tables.build_dependencies.items ≡ [] × result.tables.dev_dependencies.items ≡ []) }
     ensures targets { result.targets.items ≡ [] }
     ensures lints { result.lints ≡ None }
-    ensures fields { result.package ≡ None }
+    ensures fields { result.«package» ≡ None }
 {
     NewParts {
         tables: NewTarget {

@@ -1,6 +1,8 @@
 //! The search for the root of a workspace among real files.
-ghost use Rattle.std.specs.Prelude.{◌≡◌, ℕ, List, codes, IfErr, IfOk, string_bytes};
+ghost use Rattle.std.specs.Prelude.{◌≡◌, ◌⊎◌, ℕ, List, codes, Ok, Err, IfErr, IfOk, string_bytes};
 ghost use Rattle.std.specs.Path.{path_join};
+ghost use Rattle.cargo_toml_parts.specs.declared.error.Error.{Memory};
+ghost use Rattle.cargo_toml_manifest.specs.Roots.{IsFromSlice};
 ghost use Rattle.cargo_toml_manifest.specs.RealFiles.{IsAbove, IsCandidate, IsHintFault, IsRootManifest, IsSearchFault, IsWorkspaceOf, is_absent};
 
 use crate::afs::wrapped;
@@ -18,11 +20,23 @@ fn is_absent(kind: io::ErrorKind) -> bool
     matches!(kind, io::ErrorKind::NotFound | io::ErrorKind::NotADirectory)
 }
 
+// The manifest of the bytes of a file, on the heap: it is wide, and on the stack the manifest that
+// is being completed is there already.
+fn boxed(alloc: Global, bytes: &[u8]) -> Result<Box<Manifest>, Error>
+    ensures read { IfOk result (λ manifest. IsFromSlice bytes.now (Ok manifest.value)) }
+    ensures refused { IfErr result (λ e. (e ≡ Memory) ⊎ IsFromSlice bytes.now (Err e)) }
+{
+    match Manifest::from_slice(alloc, bytes) {
+        Ok(manifest) => Ok(Box::new(alloc, manifest)?),
+        Err(fault) => Err(fault),
+    }
+}
+
 // The manifest of a workspace of the bytes of a file.
-fn workspace_of(alloc: Global, bytes: &[u8], path: &str) -> Result<Manifest, Error>
+fn workspace_of(alloc: Global, bytes: &[u8], path: &str) -> Result<Box<Manifest>, Error>
     ensures { IsWorkspaceOf bytes.now path.now result }
 {
-    let manifest = Manifest::from_slice(alloc, bytes)?;
+    let manifest = boxed(alloc, bytes)?;
     if manifest.workspace.is_none() {
         let fault = format!(in alloc; "Manifest at {path} was expected to be a workspace.")?;
         return Err(Error::WorkspaceIntegrity(fault));
@@ -49,7 +63,10 @@ pub fn root_by_hint<R: Files + AllocGlobal>(
     let root = join(alloc, folder, hint)?;
     let file = join(alloc, root.as_str(), "Cargo.toml")?;
     match fs::read(rt, file.as_str()) {
-        Ok(bytes) => Ok((workspace_of(alloc, bytes.as_slice(), file.as_str())?, root)),
+        Ok(bytes) => Ok((
+            Box::into_inner(workspace_of(alloc, bytes.as_slice(), file.as_str())?),
+            root,
+        )),
         Err(fault) => Err(wrapped(alloc, Error::from(fault), Some(file.as_str()))),
     }
 }
@@ -58,7 +75,7 @@ pub fn root_by_hint<R: Files + AllocGlobal>(
 #[derive(Drop)]
 enum Candidate {
     // The manifest of a workspace.
-    Root(Manifest),
+    Root(Box<Manifest>),
     // No such manifest, for this fault.
     Other(Error),
     // Nothing.
@@ -104,7 +121,7 @@ pub fn root_above<R: Files + AllocGlobal>(
     for above in ancestors(nearest) {
         let file = join(alloc, above.as_str(), "Cargo.toml")?;
         match look_at(rt, alloc, file.as_str())? {
-            Candidate::Root(manifest) => return Ok((manifest, file)),
+            Candidate::Root(manifest) => return Ok((Box::into_inner(manifest), file)),
             Candidate::Other(fault) => last = fault,
             Candidate::Absent => {}
         }

@@ -10,10 +10,11 @@ ghost use Rattle.cargo_toml_parts.specs.Inherits.{inheritable_map, inheritable_o
 ghost use Rattle.cargo_toml_tables.specs.Lints.{lint_meaning, lint_of};
 ghost use Rattle.cargo_toml_tables.specs.Profiles.{profiles_meaning};
 ghost use Rattle.cargo_toml_parts.specs.Reads.{Faulty, IsReading, given_of, map_of, map_meaning, plain};
-ghost use Rattle.cargo_toml_parts.specs.Readings.{Goes};
+ghost use Rattle.cargo_toml_parts.specs.Readings.{Ends, Goes};
 ghost use Rattle.cargo_toml_manifest.specs.Manifests.{ManifestMeaning, manifest_meaning, manifest_of, manifest_faults, manifest_reads, manifest_refuses, zero_rule_applies, by_zero_rule, no_profiles, profiles_reads, profiles_refuse, no_badges, badges_reads};
 ghost use Rattle.cargo_toml_package.specs.Packages.{package_meaning};
 ghost use Rattle.cargo_toml_manifest.specs.Texts.{IsFromText, IsFromBytes, any_tree, any_refuses};
+ghost use Rattle.cargo_toml_manifest.specs.Texts.{IsTree, IsTreeOfBytes};
 
 mod questions;
 
@@ -209,6 +210,11 @@ impl<Metadata> Manifest<Metadata> {
 impl Manifest {
     /// The manifest that these bytes spell.
     ///
+    /// No other file is read, so the manifest may be incomplete: what its package leaves
+    /// to a workspace is missing, and so is what Cargo finds in the package's folders.
+    /// `complete_from_path` adds both, and `from_path` reads a file and adds them. Before that, a
+    /// getter of the package may be called only where its value is not left to the workspace.
+    ///
     /// Bytes that are not UTF-8 are `Error::Other("utf8")`. A text that `toml` refuses is `Error::Parse` of its fault. A
     /// document that holds a float at any depth is `Error::Parse` of the shape `floats are not supported`; one that has
     /// another fault is `Error::Parse` of the shape that names it, one of several. Want of memory is `Error::Memory`.
@@ -216,15 +222,18 @@ impl Manifest {
         ensures { IsFromBytes (manifest_meaning view) (manifest_reads any_tree)
             (manifest_refuses any_tree any_refuses) bytes.now result }
     {
-        Manifest::from_slice_with_metadata(alloc, bytes)
+        read_table(alloc, tree_of_bytes(alloc, bytes)?)
     }
 
     /// The manifest that this text spells. It refuses as `from_slice` does a text's bytes.
+    ///
+    /// As there, no file is read: `complete_from_path` adds what the package leaves to a workspace
+    /// and what Cargo finds in its folders, and `from_path` reads a file and adds both.
     pub fn from_str(alloc: Global, text: &str) -> Result<Manifest, Error>
         ensures { IsFromText (manifest_meaning view) (manifest_reads any_tree)
             (manifest_refuses any_tree any_refuses) (parse_document text.now) result }
     {
-        Self::from_text(alloc, text)
+        read_table(alloc, tree_of(alloc, text)?)
     }
 }
 
@@ -240,21 +249,40 @@ impl<Metadata: FromValue> Manifest<Metadata> {
         ensures { IsFromBytes (manifest_meaning Metadata.meaning) (manifest_reads Metadata.from_tree)
             (manifest_refuses Metadata.from_tree Metadata.from_refuses) bytes.now result }
     {
-        match str::from_utf8(bytes) {
-            Ok(text) => Manifest::from_text(alloc, text),
-            Err(_) => Err(Error::Other("utf8")),
-        }
+        let tree = tree_of_bytes(alloc, bytes)?;
+        read_table(alloc, tree)
     }
 
     pub(crate) fn from_text(alloc: Global, text: &str) -> Result<Manifest<Metadata>, Error>
         ensures { IsFromText (manifest_meaning Metadata.meaning) (manifest_reads Metadata.from_tree)
             (manifest_refuses Metadata.from_tree Metadata.from_refuses) (parse_document text.now) result }
     {
-        let table = toml::table_from_str(alloc, text)?;
-        if !table_has_no_float(&table) {
-            return Err(floats_unsupported());
-        }
-        read_table(alloc, table)
+        let tree = tree_of(alloc, text)?;
+        read_table(alloc, tree)
+    }
+}
+
+// A manifest is wide. So no layer stands between these calls and the reading of its keys: each
+// would hold a manifest of its own on the stack. The trees are made beside them.
+
+// The tree that a text spells, in which no float stands.
+fn tree_of(alloc: Global, text: &str) -> Result<Table, Error>
+    ensures { IsTree (parse_document text.now) result }
+{
+    let tree = toml::table_from_str(alloc, text)?;
+    if !table_has_no_float(&tree) {
+        return Err(floats_unsupported());
+    }
+    Ok(tree)
+}
+
+// The tree that these bytes spell, in which no float stands.
+fn tree_of_bytes(alloc: Global, bytes: &[u8]) -> Result<Table, Error>
+    ensures { IsTreeOfBytes bytes.now result }
+{
+    match str::from_utf8(bytes) {
+        Ok(text) => tree_of(alloc, text),
+        Err(_) => Err(Error::Other("utf8")),
     }
 }
 
@@ -303,28 +331,48 @@ fn read_table<Metadata: FromValue>(alloc: Global, table: Table) -> Result<Manife
     let test = reading.list_of(take(&mut rest, "test"));
     let example = reading.list_of(take(&mut rest, "example"));
     let lints = lints(&mut reading, take(&mut rest, "lints"));
-    reading.finish(Manifest {
-        package: option_by_zero_rule(package),
-        workspace,
-        dependencies,
-        dev_dependencies,
-        build_dependencies,
-        target,
-        features,
-        replace,
-        patch,
-        lib,
-        profile,
-        badges,
-        bin,
-        bench,
-        test,
-        example,
-        lints,
-    })
+    ended(
+        reading,
+        Manifest {
+            package: option_by_zero_rule(package),
+            workspace,
+            dependencies,
+            dev_dependencies,
+            build_dependencies,
+            target,
+            features,
+            replace,
+            patch,
+            lib,
+            profile,
+            badges,
+            bin,
+            bench,
+            test,
+            example,
+            lints,
+        },
+    )
 }
 
-// The profiles, none where there is no value.
+// The manifest, unless a fault was met, as `Reading::finish` has it. Its copies of a wide value
+// are kept out of what stands on the stack while the keys are read.
+#[inline(never)]
+fn ended<Metadata: Drop>(
+    reading: Reading,
+    whole: Manifest<Metadata>,
+) -> Result<Manifest<Metadata>, Error>
+    ensures { Ends reading.fault whole result }
+{
+    match reading.fault {
+        None => Ok(whole),
+        Some(fault) => Err(fault),
+    }
+}
+
+// The profiles, none where there is no value. As `ended`, this and the next two are kept out of what
+// stands on the stack while the other keys are read.
+#[inline(never)]
 fn profiles(reading: &mut Reading, value: Option<Value>) -> Profiles
     ensures { Goes reading.old.fault reading.new.fault
         (given_of profiles_reads no_profiles (option_map view value))
@@ -336,6 +384,7 @@ fn profiles(reading: &mut Reading, value: Option<Value>) -> Profiles
 }
 
 // The badges, none where there is no value.
+#[inline(never)]
 fn badges(reading: &mut Reading, value: Option<Value>) -> Badges
     ensures { Goes reading.old.fault reading.new.fault
         (given_of badges_reads no_badges (option_map view value))
@@ -347,6 +396,7 @@ fn badges(reading: &mut Reading, value: Option<Value>) -> Badges
 }
 
 // The lints, none where there is no value.
+#[inline(never)]
 fn lints(reading: &mut Reading, value: Option<Value>) -> Inheritable<LintGroups>
     ensures { Goes reading.old.fault reading.new.fault
         (given_of (inheritable_of (map_of (map_of lint_of))) (Set []) (option_map view value))

@@ -52,7 +52,7 @@ impl<Metadata: Clone> Clone for Workspace<Metadata> {
     ghost is_clone = { λ x copy.
         ⟦<Vec<String> as Clone>⟧.is_clone x.members copy.members
         × (⟦<Vec<String> as Clone>⟧.is_clone x.default_members copy.default_members
-        × (⟦<Option<PackageTemplate> as Clone>⟧.is_clone x.package copy.package
+        × (⟦<Option<PackageTemplate> as Clone>⟧.is_clone x.«package» copy.«package»
         × (⟦<Vec<String> as Clone>⟧.is_clone x.exclude copy.exclude
         × (⟦<Option<Metadata> as Clone>⟧.is_clone x.metadata copy.metadata
         × (⟦<Option<Resolver> as Clone>⟧.is_clone x.resolver copy.resolver
@@ -62,7 +62,7 @@ impl<Metadata: Clone> Clone for Workspace<Metadata> {
     ghost is_infallible = { λ x.
         ⟦<Vec<String> as Clone>⟧.is_infallible x.members
         × (⟦<Vec<String> as Clone>⟧.is_infallible x.default_members
-        × (⟦<Option<PackageTemplate> as Clone>⟧.is_infallible x.package
+        × (⟦<Option<PackageTemplate> as Clone>⟧.is_infallible x.«package»
         × (⟦<Vec<String> as Clone>⟧.is_infallible x.exclude
         × (⟦<Option<Metadata> as Clone>⟧.is_infallible x.metadata
         × (⟦<Option<Resolver> as Clone>⟧.is_infallible x.resolver

@@ -10,31 +10,26 @@ use Rattle.cargo_toml_features.specs.declared.features.Feature.{Feature}
 use Rattle.cargo_toml_features.specs.declared.features.Features.{Features}
 use Rattle.cargo_toml_graph.specs.Action.{Text}
 use Rattle.cargo_toml_graph.specs.Admitted.{Listed, is_below, is_explicit}
-use Rattle.cargo_toml_graph.specs.Bins.{HasBins}
+use Rattle.cargo_toml_graph.specs.Bins.{ArePassedOn}
 use Rattle.cargo_toml_graph.specs.Graph.{IsKept, IsResolved, IsUnremoved, Resolution, Table}
 use Rattle.cargo_toml_graph.specs.Reach.{Among, IsOnce}
 use Rattle.cargo_toml_graph.specs.Redirects.{RedirectsTo}
-use Rattle.cargo_toml_graph.specs.Removal.{IsAscending, SameKept, is_among, is_removed, pass_all, without_all}
+use Rattle.cargo_toml_graph.specs.Removal.{IsAscending, SameKept, is_among, is_removed, pass_all, unremoved, without_all}
 use Rattle.cargo_toml_graph.proofs.BinLists.{among-true, is_among-true}
 use Rattle.cargo_toml_graph.proofs.Elimination.{all_taken_out}
+use Rattle.cargo_toml_graph.proofs.InByteOrder.{ascending_once, by_true, passed_all_alike, passed_has, removed_there, unremoved_alike}
 use Rattle.cargo_toml_graph.proofs.Members.{label_within, resolved_alike}
-use Rattle.cargo_toml_graph.proofs.PassedBins.{bins_are}
-use Rattle.cargo_toml_graph.proofs.RedirectsInOrder.{below_one_way, redirect_by_bytes}
+use Rattle.cargo_toml_graph.proofs.RedirectsInOrder.{redirect_by_bytes}
 use Rattle.cargo_toml_features.specs.InOrder.{feature_at, resolution_among}
 use Rattle.cargo_toml_features.specs.Reached.{IsKeyed}
 use Rattle.cargo_toml_features.specs.Recorded.{Entry, entries_at, recorded_of}
 use Rattle.cargo_toml_features.specs.Resolved.{IsAnswer, SameRecorded, table_of}
 use Rattle.cargo_toml_features.specs.Views.{action_at, answer_of, has_text, resolution_of, table_in, value_at}
 use Rattle.cargo_toml_plain.specs.Removing.{bins_at, explicit_at, key_at, texts_of}
-use Rattle.cargo_toml_hidden.proofs.SameKept.{bins_same, resolved_same}
+use Rattle.cargo_toml_hidden.proofs.SameKept.{resolved_same}
 
 abbrev Below : Text → Text → Type 0
 Below a b = IsTrue (is_below a b)
-
--- a list in ascending order has each text once
-pub ascending_once : (xs : List Text) → IsAscending (λ a b. IsTrue (is_below a b)) xs → IsOnce xs
-ascending_once [] a = tt
-ascending_once (x ∷ xs) a = ((λ i. let b = a.0 x i in below_one_way x x b b), ascending_once xs a.1)
 
 -- no flag stands where each is the same
 pub none_stands : (n : ℕ) (i : ℕ) → ¬ IsWanted (replicate n false) true i
@@ -90,12 +85,6 @@ stands [] x i = absurd i
 stands (y ∷ ys) x (inl e) = record { before = []; after = ys; whole = ap (λ z. z ∷ ys) (sym e) }
 stands (y ∷ ys) x (inr i) = let s = stands ys x i in record { before = y ∷ s.before; after = s.after; whole = ap (λ zs. y ∷ zs) s.whole }
 
-by_true : (a b : Bool) → IsTrue a ↔ IsTrue b → a ≡ b
-by_true false false e = refl
-by_true false true e = absurd (false≢true (e.1 refl))
-by_true true false e = absurd (false≢true (e.0 refl))
-by_true true true e = refl
-
 module _ {S H : Type 0} (listed : Listed) (entries : List Entry) (own : Text → List Text) (keep : Text → Bool) (old : HashMap (Bor Text) Feature S) (a : Features S H) (rs : List Text)
     (start : IsUnremoved (table_of listed entries) (resolution_of old)) (keyed : IsKeyed old)
     (explicit : (f : Text) → IfSome (value_at old f) (λ v. v.explicit ≡ is_explicit listed f))
@@ -128,11 +117,7 @@ module _ {S H : Type 0} (listed : Listed) (entries : List Entry) (own : Text →
   back f r = (removed f).1 (same_removed f ∙ r)
 
   there : (f : Text) → Among rs f → IsTrue (t.has f)
-  there f i = has_first (t.has f) (starts_with nat_eq f (codes "_")) (not (keep f)) (into f i)
-    where
-      has_first : (h s k : Bool) → ((h && s) && k) ≡ true → h ≡ true
-      has_first true s k e = refl
-      has_first false s k e = absurd (false≢true e)
+  there f i = removed_there t keep f (into f i)
 
   once : IsOnce rs
   once = ascending_once rs ascending
@@ -170,11 +155,13 @@ module _ {S H : Type 0} (listed : Listed) (entries : List Entry) (own : Text →
       go None h e = absurd (false≢true h)
       go (Some v) h e = e
 
-  bins_has : (f : Text) → IsTrue (is_some (value_at a.features f)) → HasBins t R own f (bins_at a.features f)
-  bins_has f h =
-      let k = kept f h in
-      subst (HasBins t R own f) (sym (passed f h))
-      (bins_same t (Among rs) R into back there (bins_at old) own own_is f (pass_all rs m (bins_at old) f) k.0 (bins_are t (bins_at old) rs m start there once f k))
+  passed_on : ArePassedOn t R own (answer_of a).bins
+  passed_on = record {
+    order = rs;
+    in_order = record { ascending = ascending; members = λ r. (λ i. into r i, λ y. back r y) };
+    lists = λ f k. passed f ((resolved.kept f).1 k)
+        ∙ passed_all_alike (λ v. IsTrue (t.has v)) rs m (unremoved t) (bins_at old) own (unremoved_alike t m start) there own_is f k.0;
+  }
 
   redirected : (r : Text) → is_some (option_map has_text (value_at a.hidden_features r)) ≡ is_removed t keep r
   redirected r = mapped (value_at a.hidden_features r) ∙ told r ∙ by_true (is_among rs r) (is_removed t keep r) (λ e. into r (is_among-true rs r e), λ e. among-true rs r (back r e))
@@ -211,7 +198,8 @@ module _ {S H : Type 0} (listed : Listed) (entries : List Entry) (own : Text →
       dependencies = dependencies;
       some = (λ y. let s = some.0 y in (s.0, into s.0 s.1), λ s. some.1 (s.0, back s.0 s.1));
     };
-    bins = bins_has;
+    bins = λ f h. passed_has t R own (removed_there t keep) (answer_of a).bins passed_on f ((resolved.kept f).0 h);
+    passed_on = passed_on;
     redirected = redirected;
     redirects = redirect_is;
   }

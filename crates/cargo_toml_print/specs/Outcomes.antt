@@ -20,7 +20,7 @@ status_of (Refused e) = 1
 status_of NotACommand = 2
 
 abbrev pub usage : List ℕ
-usage = codes "usage: cargo-toml features FILE | complete FILE"
+usage = codes "usage: cargo-toml features [--max N] FILE | complete FILE"
 
 abbrev pub line : List ℕ → List ℕ
 line text = text ++ 10 ∷ []

@@ -1,7 +1,7 @@
 //! What the program `cargo-toml` is asked, writes and tells at its end, as a library: what checks it against stored lines writes by the same code.
 #![tactic(auto)]
 
-ghost use Rattle.std.specs.Prelude.{IfErr};
+ghost use Rattle.std.specs.Prelude.{◌≤◌, IfErr};
 ghost use Rattle.std.specs.Io.KnownBytes.{Keeps};
 ghost use Rattle.cargo_toml_print.specs.Printing.{IsOfManifest};
 
@@ -24,7 +24,7 @@ use std::io::{Read, Write};
 pub use words::command;
 
 /// Reads a manifest from `input` and writes to `output` a line for each of its features, and then one for each that is removed
-/// since it is hidden.
+/// since it is hidden, as a resolver tells of them whose limit of items is `max_items`, at least 1.
 ///
 /// Refuses as `Manifest::from_slice` does, with `Io` where `input` can't be read or `output` can't be written, and with `Memory`
 /// for want of memory. Nothing is written before all lines stand, so that a fault of the manifest leaves `output` as it was.
@@ -32,22 +32,37 @@ pub fn print_features<R: Read, W: Write>(
     alloc: Global,
     input: &mut R,
     output: &mut W,
+    max_items: usize,
 ) -> Result<(), Error>
+    requires { 1 ≤ max_items }
     ensures unwritten { IfErr result (λ e. IsOfManifest e → Keeps (W.contents output.old) (W.contents output.new)) }
 {
     let mut bytes = Vec::new(alloc);
     input.read_to_end(&mut bytes)?;
-    let lines = lines_of(alloc, bytes.as_slice())?;
+    let lines = lines_of(alloc, bytes.as_slice(), max_items)?;
     output.write_all(lines.as_bytes())?;
     output.flush()?;
     Ok(())
 }
 
 /// The lines of the manifest that the bytes spell.
-fn lines_of(alloc: Global, bytes: &[u8]) -> Result<String, Error> {
-    let manifest = Manifest::from_slice(alloc, bytes)?;
-    let features = Resolver::new().parse(alloc, &manifest)?;
+fn lines_of(alloc: Global, bytes: &[u8], max_items: usize) -> Result<String, Error>
+    requires { 1 ≤ max_items }
+{
+    let manifest = manifest_of(alloc, bytes)?;
+    let features = Resolver::new()
+        .with_max_items(max_items)
+        .parse(alloc, &*manifest)?;
     feature_lines(alloc, &features)
+}
+
+/// The manifest that the bytes spell, on the heap. It is wide, and so no call that does more than
+/// this holds it on the stack.
+fn manifest_of(alloc: Global, bytes: &[u8]) -> Result<Box<Manifest>, Error> {
+    match Manifest::from_slice(alloc, bytes) {
+        Ok(manifest) => Ok(Box::new(alloc, manifest)?),
+        Err(fault) => Err(fault),
+    }
 }
 
 /// The lines that the program prints of resolved features: one for each feature, and then one for each that was removed with

@@ -59,7 +59,7 @@ impl fmt::Display for Outcome {
             Outcome::Done => Ok(()),
             Outcome::Refused(fault) => write!(f, "error: {fault}\n"),
             Outcome::NotACommand => {
-                f.write_str("usage: cargo-toml features FILE | complete FILE\n")
+                f.write_str("usage: cargo-toml features [--max N] FILE | complete FILE\n")
             }
         }
     }

@@ -1,14 +1,15 @@
 //! What completion makes of a manifest: with a workspace that is handed in, with its own, or with a root that is told.
 use crate::manifests::{read, with_lines};
+use crate::recorder::Recorder;
 use cargo_toml::features::Resolver;
-use cargo_toml::{Error, Manifest, Value};
+use cargo_toml::{AbstractFilesystem, Error, Manifest, ParseFault, Value};
 use cargo_toml_bench::in_memory::{Answer, InMemory, Root};
 use std::alloc::Global;
 use std::rt::Files;
 use std::{fs, io};
 
 /// The text of a file in the folder of the row, if it is there.
-fn text_of<R: Files + AllocGlobal>(
+pub fn text_of<R: Files + AllocGlobal>(
     rt: &R,
     folder: &str,
     name: &str,
@@ -29,19 +30,38 @@ fn texts(alloc: Global, words: &str) -> Result<Vec<String>, Error> {
     Ok(texts)
 }
 
-fn answer_of(alloc: Global, words: &str) -> Result<Answer, Error> {
-    match words {
-        "!denied" => Ok(Answer::Denied(io::ErrorKind::PermissionDenied)),
-        "!no-memory" => Ok(Answer::NoMemory),
-        _ => match words.strip_prefix("!open") {
-            Some(words) => Ok(Answer::Open(texts(alloc, words)?)),
-            None => Ok(Answer::Names(texts(alloc, words)?)),
-        },
+/// The fault that a word stands for.
+fn fault_of(alloc: Global, word: &str) -> Result<Error, Error> {
+    match word {
+        "!absent" => Ok(Error::Io(io::Error::from(io::ErrorKind::NotFound))),
+        "!denied" => Ok(Error::Io(io::Error::from(io::ErrorKind::PermissionDenied))),
+        "!no-memory" => Ok(Error::Memory),
+        "!other" => Ok(Error::Other("own")),
+        "!shape" => Ok(Error::Parse(ParseFault::Shape("own"))),
+        "!integrity" => Ok(Error::WorkspaceIntegrity(String::from_str(alloc, "own")?)),
+        "!inherited" => Ok(Error::InheritedUnknownValue),
+        "!workspace" => {
+            let path = Some(String::from_str(alloc, "/own")?);
+            Ok(Error::Workspace(Box::new(alloc, (Error::Other("own"), path))?))
+        }
+        _ => Err(Error::Other("no such fault")),
     }
 }
 
-/// The folders around the manifest, a line each: `PATH: NAME NAME ..`, with `!open` before the names of which nothing is told, and
-/// `!denied` or `!no-memory` in place of names. The folder of the manifest is the empty path. Other folders are absent.
+/// What is answered of a folder, by its words in the file `files`.
+pub fn answer_of(alloc: Global, words: &str) -> Result<Answer, Error> {
+    if words.starts_with("!open") {
+        return Ok(Answer::Open(texts(alloc, words.trim_start_matches("!open"))?));
+    }
+    if words.starts_with('!') {
+        return Ok(Answer::Denied(fault_of(alloc, words)?));
+    }
+    Ok(Answer::Names(texts(alloc, words)?))
+}
+
+/// The folders around the manifest, a line each: `PATH: NAME NAME ..`, with `!open` before names of
+/// which nothing is told, or a fault in place of names. The folder of the manifest is the empty
+/// path. Other folders are absent.
 fn folders(alloc: Global, lines: &str) -> Result<Vec<(String, Answer)>, Error> {
     let mut folders = Vec::new(alloc);
     for line in lines.split_terminator('\n') {
@@ -54,9 +74,20 @@ fn folders(alloc: Global, lines: &str) -> Result<Vec<(String, Answer)>, Error> {
     Ok(folders)
 }
 
-/// The files around the manifest: the folders in the file `files`, and the one root, if the row has one. The file `root` names its path,
-/// `hint` the hint that leads to it; `Root.toml` is its manifest, without which want of memory is answered.
-fn files_around<R: Files + AllocGlobal>(rt: &R, folder: &str) -> Result<InMemory, Error> {
+/// The text of the root's manifest, `Root.toml`, or else the fault in the file `refused`.
+fn root_text<R: Files + AllocGlobal>(rt: &R, folder: &str) -> Result<Result<String, Error>, Error> {
+    if let Some(text) = text_of(rt, folder, "Root.toml")? {
+        return Ok(Ok(text));
+    }
+    match text_of(rt, folder, "refused")? {
+        Some(word) => Ok(Err(fault_of(rt.alloc(), word.as_str().trim_end_matches('\n'))?)),
+        None => Err(Error::Other("a root without a text or a fault")),
+    }
+}
+
+/// The files around the manifest: the folders in the file `files`, and the one root, if the row has
+/// one. The file `root` names its path, `hint` the hint that leads to it.
+pub fn files_around<R: Files + AllocGlobal>(rt: &R, folder: &str) -> Result<InMemory, Error> {
     let alloc = rt.alloc();
     let mut files = InMemory::new(alloc);
     if let Some(lines) = text_of(rt, folder, "files")? {
@@ -64,22 +95,32 @@ fn files_around<R: Files + AllocGlobal>(rt: &R, folder: &str) -> Result<InMemory
     }
     if let Some(path) = text_of(rt, folder, "root")? {
         let hint = text_of(rt, folder, "hint")?;
-        let text = text_of(rt, folder, "Root.toml")?;
+        let text = root_text(rt, folder)?;
         files.roots.push(Root { hint, path, text })?;
     }
     Ok(files)
 }
 
-/// Completes the manifest, with the workspace of the files `Workspace.toml` and `path` where the row has them.
-fn complete<R: Files + AllocGlobal>(
+/// Completes the manifest where no workspace is handed in.
+pub fn complete_alone<Fs: AbstractFilesystem + Drop>(
+    alloc: Global,
+    manifest: &mut Manifest,
+    files: &Fs,
+) -> Result<(), Error> {
+    manifest.complete_from_abstract_filesystem::<Value, &Fs>(alloc, files, None)
+}
+
+/// Completes the manifest, with the workspace of the files `Workspace.toml` and `path` where the
+/// row has them.
+fn complete<R: Files + AllocGlobal, Fs: AbstractFilesystem + Drop>(
     rt: &R,
     folder: &str,
     manifest: &mut Manifest,
-    files: &InMemory,
+    files: Fs,
 ) -> Result<(), Error> {
     let alloc = rt.alloc();
     let Some(path) = text_of(rt, folder, "path")? else {
-        return manifest.complete_from_abstract_filesystem::<Value, _>(alloc, files, None);
+        return complete_alone(alloc, manifest, &files);
     };
     let Some(text) = text_of(rt, folder, "Workspace.toml")? else {
         return Err(Error::Other("a path without a workspace"));
@@ -88,8 +129,8 @@ fn complete<R: Files + AllocGlobal>(
     manifest.complete_from_abstract_filesystem(alloc, files, Some((&*workspace, path.as_str())))
 }
 
-/// What came of completing: the fields of the manifest, or why it is refused, in words and by its parts, and whether the manifest is then
-/// as it was.
+/// What came of completing: the fields of the manifest, or why it is refused, in words and by its
+/// parts, and whether the manifest is then as it was. Where it asked as nobody may, what is wrong.
 fn outcome_text<R: Files + AllocGlobal>(
     rt: &R,
     folder: &str,
@@ -97,16 +138,35 @@ fn outcome_text<R: Files + AllocGlobal>(
 ) -> Result<String, Error> {
     let alloc = rt.alloc();
     let files = files_around(rt, folder)?;
+    let recorder = Recorder::new(alloc, &files);
     let mut manifest = read(alloc, bytes)?;
     let before = format!(in alloc; "{manifest:?}")?;
-    let outcome = complete(rt, folder, &mut *manifest, &files);
+    let outcome = complete(rt, folder, &mut *manifest, &recorder);
     let after = format!(in alloc; "{manifest:?}")?;
+    let is_handed = text_of(rt, folder, "path")?.is_some();
+    if let Some(objection) = recorder.objection(manifest.package.is_some(), is_handed)? {
+        return Ok(String::from_str(alloc, objection)?);
+    }
     match outcome {
         Ok(()) => Ok(after),
         Err(fault) if after == before => {
             Ok(format!(in alloc; "refused, unchanged: {fault}\n{fault:?}")?)
         }
         Err(fault) => Ok(format!(in alloc; "refused, changed: {fault}")?),
+    }
+}
+
+/// What came of completing without a workspace: the fields of the manifest, or by its parts why it
+/// is refused, and whether the manifest is then as it was.
+pub fn completed_text(alloc: Global, bytes: &[u8], files: &InMemory) -> Result<String, Error> {
+    let mut manifest = read(alloc, bytes)?;
+    let before = format!(in alloc; "{manifest:?}")?;
+    let outcome = complete_alone(alloc, &mut *manifest, files);
+    let after = format!(in alloc; "{manifest:?}")?;
+    match outcome {
+        Ok(()) => Ok(after),
+        Err(fault) if after == before => Ok(format!(in alloc; "refused, unchanged: {fault:?}")?),
+        Err(fault) => Ok(format!(in alloc; "refused, changed: {fault:?}")?),
     }
 }
 

@@ -1,6 +1,8 @@
 //! What comes of calls that look at real files, in a fresh folder that is removed again.
+use crate::completed::complete_alone;
 use crate::manifests::{read, text_of, with_lines};
-use crate::tree::{fresh_folder, make_tree};
+use crate::templates;
+use crate::tree::{fresh_folder, make_tree, reopen};
 use cargo_toml::{AbstractFilesystem, Error, Filesystem, Manifest, Value};
 use cargo_toml_print::print_complete;
 use std::alloc::Global;
@@ -11,13 +13,14 @@ use std::rt::Files;
 pub fn answers<R: Files + AllocGlobal>(rt: &R, row: &str) -> Result<String, Error> {
     let folder = fresh_folder(rt)?;
     let answers = answers_in(rt, row, folder.as_str());
+    reopen(rt, folder.as_str(), text_in(rt, row, "tree")?.as_str())?;
     fs::remove_dir_all(rt, folder.as_str())?;
     Ok(answers?.replace(rt.alloc(), folder.as_str(), "T")?)
 }
 
 fn text_in<R: Files + AllocGlobal>(rt: &R, row: &str, name: &str) -> Result<String, Error> {
     let path = format!(in rt.alloc(); "{row}/{name}")?;
-    Ok(fs::read_to_string(rt, path.as_str())?)
+    templates::read_to_string(rt, path.as_str())
 }
 
 fn answers_in<R: Files + AllocGlobal>(rt: &R, row: &str, folder: &str) -> Result<String, Error> {
@@ -92,11 +95,12 @@ fn read_file<R: Files + AllocGlobal>(rt: &R, file: &str) -> Result<Box<Manifest>
     read(rt.alloc(), fs::read(rt, file)?.as_slice())
 }
 
-/// What comes of completing the manifest in a file by its own workspace.
-fn completed<R: Files + AllocGlobal>(
-    rt: &R,
+/// What comes of completing the manifest in a file by its own workspace. With `by_reference` the
+/// path is that of a folder, whose files are lent.
+fn completed<'a, R: Files + AllocGlobal>(
+    rt: &'a R,
     call: &str,
-    path: &str,
+    path: &'a str,
     file: &str,
     field: &str,
 ) -> Result<String, Error> {
@@ -105,6 +109,10 @@ fn completed<R: Files + AllocGlobal>(
     let before = format!(in alloc; "{manifest:?}")?;
     let outcome = match call {
         "complete_from_path" => manifest.complete_from_path(rt, alloc, path),
+        "by_reference" => {
+            let files = Filesystem::new(rt, path);
+            complete_alone(alloc, &mut *manifest, &files)
+        }
         _ => manifest.complete_from_path_and_workspace::<Value, R>(rt, alloc, path, None),
     };
     told(alloc, &*manifest, before.as_str(), outcome, field)

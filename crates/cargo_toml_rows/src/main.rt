@@ -6,17 +6,22 @@
 mod bodies;
 mod completed;
 mod custom;
+mod damaged;
+mod failing;
 mod files;
 mod manifests;
 mod paths;
+mod recorder;
 mod resolved;
+mod templates;
 mod tree;
 mod values;
+mod words;
 
 use cargo_toml::Error;
 use std::alloc::Global;
+use std::env;
 use std::rt::Files;
-use std::{env, fs};
 
 /// What is asked of a row.
 #[derive(Clone, Copy)]
@@ -27,8 +32,14 @@ enum Kind {
     Fields,
     /// Why the manifest is refused.
     Refuse,
+    /// What comes of each of its beginnings.
+    Beginnings,
+    /// What comes of it with any one byte replaced.
+    Replaced,
     /// What is printed of its features.
     Features,
+    /// The same at a limit of items. The file `max` holds the number.
+    Limited,
     /// The same of its features and dependencies where they stand in no manifest.
     Custom,
     /// The same where every hidden name is kept.
@@ -47,10 +58,14 @@ enum Kind {
     Values,
     /// What completion makes of the manifest.
     Complete,
+    /// What completion makes of it where one of its folders fails.
+    Failing,
     /// What is resolved of the manifest that completion makes.
     Parsed,
     /// What comes of real files.
     Files,
+    /// What words of a command line ask for.
+    Words,
 }
 
 fn kind_of(word: &str) -> Option<Kind> {
@@ -58,7 +73,10 @@ fn kind_of(word: &str) -> Option<Kind> {
         "read" => Some(Kind::Read),
         "fields" => Some(Kind::Fields),
         "refuse" => Some(Kind::Refuse),
+        "beginnings" => Some(Kind::Beginnings),
+        "replaced" => Some(Kind::Replaced),
         "features" => Some(Kind::Features),
+        "limited" => Some(Kind::Limited),
         "custom" => Some(Kind::Custom),
         "whole" => Some(Kind::Whole),
         "kept" => Some(Kind::Kept),
@@ -68,8 +86,10 @@ fn kind_of(word: &str) -> Option<Kind> {
         "recursion" => Some(Kind::Recursion),
         "values" | "paths" => Some(Kind::Values),
         "complete" => Some(Kind::Complete),
+        "failing" => Some(Kind::Failing),
         "parsed" => Some(Kind::Parsed),
         "files" => Some(Kind::Files),
+        "words" => Some(Kind::Words),
         _ => None,
     }
 }
@@ -80,12 +100,15 @@ fn expected_file(kind: Kind) -> &'static str {
         Kind::Read => "/written.toml",
         Kind::Fields => "/fields",
         Kind::Refuse => "/fault",
-        Kind::Features | Kind::Custom | Kind::Whole | Kind::Kept => "/lines",
+        Kind::Beginnings => "/beginnings",
+        Kind::Replaced => "/replaced",
+        Kind::Features | Kind::Limited | Kind::Custom | Kind::Whole | Kind::Kept => "/lines",
         Kind::Dependencies => "/recorded",
         Kind::Report => "/reported",
         Kind::Recursion => "/enabled",
-        Kind::Values | Kind::Bodies => "",
+        Kind::Values | Kind::Bodies | Kind::Words => "",
         Kind::Complete => "/completed",
+        Kind::Failing => "/failing",
         Kind::Parsed => "/parsed",
         Kind::Files => "/printed",
     }
@@ -103,21 +126,26 @@ fn answer<R: Files + AllocGlobal>(
         Kind::Values => return values::lines(alloc, folder, expected),
         Kind::Bodies => return bodies::lines(rt, expected),
         Kind::Files => return files::answers(rt, folder),
+        Kind::Words => return words::lines(alloc, expected),
         _ => {}
     }
     let path = format!(in alloc; "{folder}/Cargo.toml")?;
-    let manifest = fs::read(rt, path.as_str())?;
+    let manifest = templates::read(rt, path.as_str())?;
     match kind {
         Kind::Read => manifests::written(alloc, manifest.as_slice()),
         Kind::Fields => manifests::fields(alloc, manifest.as_slice(), expected),
         Kind::Refuse => manifests::fault(alloc, manifest.as_slice()),
+        Kind::Beginnings => damaged::beginnings(alloc, manifest.as_slice()),
+        Kind::Replaced => damaged::replaced(alloc, manifest.as_slice()),
         Kind::Features => manifests::features(alloc, manifest.as_slice()),
+        Kind::Limited => limited(rt, folder, manifest.as_slice()),
         Kind::Custom => custom::lines(alloc, manifest.as_slice()),
         Kind::Whole => manifests::whole(alloc, manifest.as_slice()),
         Kind::Kept => manifests::kept(alloc, manifest.as_slice()),
         Kind::Report => manifests::report(alloc, manifest.as_slice()),
         Kind::Recursion => enabled(rt, folder, manifest.as_slice()),
         Kind::Complete => completed::fields(rt, folder, manifest.as_slice(), expected),
+        Kind::Failing => failing::lines(rt, folder, manifest.as_slice()),
         Kind::Parsed => completed::resolved(rt, folder, manifest.as_slice(), expected),
         _ => resolved::recorded(alloc, manifest.as_slice()),
     }
@@ -125,15 +153,24 @@ fn answer<R: Files + AllocGlobal>(
 
 fn enabled<R: Files + AllocGlobal>(rt: &R, folder: &str, manifest: &[u8]) -> Result<String, Error> {
     let path = format!(in rt.alloc(); "{folder}/start")?;
-    let start = fs::read_to_string(rt, path.as_str())?;
+    let start = templates::read_to_string(rt, path.as_str())?;
     resolved::enabled(rt.alloc(), manifest, start.as_str().trim_end_matches('\n'))
+}
+
+fn limited<R: Files + AllocGlobal>(rt: &R, folder: &str, manifest: &[u8]) -> Result<String, Error> {
+    let path = format!(in rt.alloc(); "{folder}/max")?;
+    let number = templates::read_to_string(rt, path.as_str())?;
+    match number.as_str().trim_end_matches('\n').parse() {
+        Ok(max_items) => manifests::limited(rt.alloc(), manifest, max_items),
+        Err(_) => Err(Error::Other("no limit")),
+    }
 }
 
 /// What is said of a row.
 fn verdict<R: Files + AllocGlobal>(rt: &R, kind: Kind, row: &str) -> Result<String, Error> {
     let alloc = rt.alloc();
     let path = format!(in alloc; "{row}{}", expected_file(kind))?;
-    let expected = fs::read_to_string(rt, path.as_str())?;
+    let expected = templates::read_to_string(rt, path.as_str())?;
     match answer(rt, kind, row, expected.as_str()) {
         Ok(got) if got == expected => Ok(String::from_str(alloc, "as expected")?),
         Ok(got) => Ok(got),

@@ -1,4 +1,5 @@
 //! What comes of a manifest, as text.
+
 use cargo_toml::{Error, Manifest, ParseFault, ToValue, Value};
 use cargo_toml_bench::report::print_report;
 use cargo_toml_bench::whole::{resolve_keeping_a, resolve_whole};
@@ -87,9 +88,17 @@ pub fn text_of(alloc: Global, bytes: &[u8]) -> Result<String, Error> {
 
 /// What the program `cargo-toml` prints of the manifest's features.
 pub fn features(alloc: Global, bytes: &[u8]) -> Result<String, Error> {
+    limited(alloc, bytes, 2048)
+}
+
+/// What it prints of them at a limit of items, which is at least 1.
+pub fn limited(alloc: Global, bytes: &[u8], max_items: usize) -> Result<String, Error> {
+    if max_items == 0 {
+        return Err(Error::Other("no limit"));
+    }
     let mut input = bytes;
     let mut output = Vec::new(alloc);
-    print_features(alloc, &mut input, &mut output)?;
+    print_features(alloc, &mut input, &mut output, max_items)?;
     text_of(alloc, output.as_slice())
 }
 

@@ -1,8 +1,9 @@
 //! A tree of real files that is made for a row.
 use cargo_toml::Error;
 use cargo_toml_paths::parent;
+use std::fs::Permissions;
 use std::io::Write;
-use std::os::unix::fs::symlink;
+use std::os::unix::fs::{PermissionsExt, symlink};
 use std::rt::Files;
 use std::{fs, io};
 
@@ -19,8 +20,13 @@ pub fn fresh_folder<R: Files + AllocGlobal>(rt: &R) -> Result<String, Error> {
     Err(Error::Other("every name of a fresh folder is taken"))
 }
 
-/// Makes in the folder what the lines say, with the folders above. A line is the path of a file, of a folder if it ends in a slash,
-/// or of a link, as `PATH -> WHERE IT LEADS`. Lines that begin with two spaces are the text of the file before them.
+/// Makes in the folder what the lines say, with the folders above. A line is the path of
+/// - a file,
+/// - a folder, as `PATH/`,
+/// - a folder that can't be read, as `PATH !denied`,
+/// - a link, as `PATH -> WHERE IT LEADS`.
+///
+/// In it `\n` is a line feed. Lines that begin with two spaces are the text of the file before.
 pub fn make_tree<R: Files + AllocGlobal>(rt: &R, folder: &str, lines: &str) -> Result<(), Error> {
     let mut file = None;
     for line in lines.split_terminator('\n') {
@@ -41,27 +47,50 @@ fn push_line<F: Write>(file: &mut Option<F>, text: &str) -> Result<(), Error> {
     Ok(())
 }
 
+/// Lets each folder be read again that can't be, so that all can be removed.
+pub fn reopen<R: Files + AllocGlobal>(rt: &R, folder: &str, lines: &str) -> Result<(), Error> {
+    for line in lines.split_terminator('\n') {
+        if let Some(name) = line.strip_suffix(DENIED) {
+            let path = format!(in rt.alloc(); "{folder}/{name}")?;
+            fs::set_permissions(rt, path.as_str(), Permissions::from_mode(0o700))?;
+        }
+    }
+    Ok(())
+}
+
+/// What stands behind the path of a folder that can't be read.
+const DENIED: &str = " !denied";
+
 /// Makes what a line says; the file is answered, for its text.
 fn make<R: Files + AllocGlobal>(
     rt: &R,
     folder: &str,
     line: &str,
 ) -> Result<Option<R::File>, Error> {
-    let (name, original) = match line.split_once(" -> ") {
-        Some((name, original)) => (name, Some(original)),
+    let line = format!(in rt.alloc(); "{folder}/{line}")?.replace(rt.alloc(), "\\n", "\n")?;
+    make_at(rt, line.as_str())
+}
+
+fn make_at<R: Files + AllocGlobal>(rt: &R, line: &str) -> Result<Option<R::File>, Error> {
+    let (path, original) = match line.split_once(" -> ") {
+        Some((path, original)) => (path, Some(original)),
         None => (line, None),
     };
-    let path = format!(in rt.alloc(); "{folder}/{name}")?;
-    if let Some(above) = parent(path.as_str()) {
+    if let Some(above) = parent(path) {
         fs::create_dir_all(rt, above)?;
     }
     if let Some(original) = original {
-        symlink(rt, original, path.as_str())?;
+        symlink(rt, original, path)?;
         return Ok(None);
     }
-    if name.ends_with('/') {
-        fs::create_dir(rt, path.as_str())?;
+    if let Some(path) = path.strip_suffix(DENIED) {
+        fs::create_dir(rt, path)?;
+        fs::set_permissions(rt, path, Permissions::from_mode(0))?;
         return Ok(None);
     }
-    Ok(Some(fs::create(rt, path.as_str())?))
+    if path.ends_with('/') {
+        fs::create_dir(rt, path)?;
+        return Ok(None);
+    }
+    Ok(Some(fs::create(rt, path)?))
 }

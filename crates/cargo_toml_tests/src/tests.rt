@@ -9,6 +9,7 @@ mod packages;
 mod parsing;
 mod printing;
 mod program;
+mod refusing;
 mod values;
 mod written;
 

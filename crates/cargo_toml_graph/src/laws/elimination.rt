@@ -2,7 +2,7 @@
 ghost use Rattle.std.specs.Prelude.{◌↔◌, ◌≡◌, ◌≤◌, ◌++◌, ◌∷◌, Bool, IsFalse, IsTrue, List};
 ghost use Rattle.cargo_toml_graph.specs.Action.{Text};
 ghost use Rattle.cargo_toml_graph.specs.Admitted.{is_below};
-ghost use Rattle.cargo_toml_graph.specs.Bins.{HasBins, IsComplete, mentions};
+ghost use Rattle.cargo_toml_graph.specs.Bins.{ArePassedOn, HasBins, IsComplete, mentions};
 ghost use Rattle.cargo_toml_graph.specs.Graph.{IsKept, IsResolved, IsUnremoved, Resolution, Table};
 ghost use Rattle.cargo_toml_graph.specs.Kept.{KeepsEnabling, LosesNothing, NoneIsLeft};
 ghost use Rattle.cargo_toml_graph.specs.Reach.{Among, IsOnce};
@@ -71,4 +71,18 @@ pub fn bins_are_passed_on()
     ensures complete { (t : Table) (own : Text → List Text) (removed : List Text) (m : Resolution) → IsUnremoved t m →
         ((v : Text) → Among removed v → IsTrue (t.has v)) → IsOnce removed → mentions own removed ≤ 10 →
         (f : Text) → IsKept t (Among removed) f → IsComplete t (Among removed) own f (pass_all removed m own f) }
+{}
+
+/// Binaries that are passed on in byte order are one function of the table, of what is removed and of what binaries mention.
+pub fn bins_in_byte_order_are_settled()
+    ensures one { (t : Table) (own : Text → List Text) (removed : Text → Bool) (a b : Text → List Text) →
+        ArePassedOn t (λ v. IsTrue (removed v)) own a → ArePassedOn t (λ v. IsTrue (removed v)) own b →
+        (f : Text) → IsKept t (λ v. IsTrue (removed v)) f → a f ≡ b f }
+    ensures bins { (t : Table) (own : Text → List Text) (removed : Text → Bool) (bins : Text → List Text) →
+        ArePassedOn t (λ v. IsTrue (removed v)) own bins → ((v : Text) → IsTrue (removed v) → IsTrue (t.has v)) →
+        (f : Text) → IsKept t (λ v. IsTrue (removed v)) f → HasBins t (λ v. IsTrue (removed v)) own f (bins f) }
+    ensures complete { (t : Table) (own : Text → List Text) (removed : Text → Bool) (bins : Text → List Text) →
+        (passed : ArePassedOn t (λ v. IsTrue (removed v)) own bins) → ((v : Text) → IsTrue (removed v) → IsTrue (t.has v)) →
+        mentions own passed.order ≤ 10 →
+        (f : Text) → IsKept t (λ v. IsTrue (removed v)) f → IsComplete t (λ v. IsTrue (removed v)) own f (bins f) }
 {}

@@ -1,4 +1,4 @@
-//! Completion over an implementor of a caller's own, which tells nothing.
+//! Completion over implementors of a caller's own, which tell nothing.
 use super::manifest;
 use cargo_toml::{AbstractFilesystem, Error, NoRoot, Value};
 use std::alloc::Global;

@@ -33,7 +33,10 @@ impl FromValue for Level {
     }
 }
 
-fn with_metadata<M: FromValue>(alloc: Global, bytes: &[u8]) -> Result<Box<Manifest<M>>, Error> {
+pub(super) fn with_metadata<M: FromValue>(
+    alloc: Global,
+    bytes: &[u8],
+) -> Result<Box<Manifest<M>>, Error> {
     Ok(boxed(alloc, Manifest::from_slice_with_metadata(alloc, bytes)?)?)
 }
 

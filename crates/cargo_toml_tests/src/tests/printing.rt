@@ -11,11 +11,11 @@ fn nothing_is_printed_of_what_is_no_manifest(rt: HostRuntime) -> Result<(), Fail
     let alloc = rt.alloc();
     let mut output = Vec::new(alloc);
     output.push(b'#')?;
-    let refused = print_features(alloc, &mut b"\xff".as_slice(), &mut output);
+    let refused = print_features(alloc, &mut b"\xff".as_slice(), &mut output, 2048);
     assert!(rt; matches!(refused, Err(Error::Other("utf8"))));
-    let refused = print_features(alloc, &mut b"[package".as_slice(), &mut output);
+    let refused = print_features(alloc, &mut b"[package".as_slice(), &mut output, 2048);
     assert!(rt; matches!(refused, Err(Error::Parse(ParseFault::Toml(_)))));
-    let refused = print_features(alloc, &mut b"[package]\n".as_slice(), &mut output);
+    let refused = print_features(alloc, &mut b"[package]\n".as_slice(), &mut output, 2048);
     assert!(rt; matches!(refused, Err(Error::Parse(ParseFault::Shape(_)))));
     assert_eq!(rt; output.as_slice(), b"#".as_slice());
     Ok(())
@@ -65,9 +65,9 @@ fn is_broken(outcome: Result<(), Error>) -> bool {
 fn input_and_output_that_fail(rt: HostRuntime) {
     let alloc = rt.alloc();
     let mut output = Vec::new(alloc);
-    assert!(rt; is_broken(print_features(alloc, &mut Broken { given: false }, &mut output)));
+    assert!(rt; is_broken(print_features(alloc, &mut Broken { given: false }, &mut output, 2048)));
     assert!(rt; output.is_empty());
-    assert!(rt; is_broken(print_features(alloc, &mut b"".as_slice(), &mut Full)));
+    assert!(rt; is_broken(print_features(alloc, &mut b"".as_slice(), &mut Full, 2048)));
 }
 
 #[test]

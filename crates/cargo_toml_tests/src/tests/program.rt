@@ -12,10 +12,15 @@ fn words_of_commands(rt: HostRuntime) -> Result<(), Fail> {
     let mut words = Vec::new(alloc);
     words.push(String::from_str(alloc, "features")?)?;
     assert_eq!(rt; command(words.as_slice()), None);
-    words.push(String::from_str(alloc, "F")?)?;
-    assert_eq!(rt; command(words.as_slice()), Some(Command::Features("F")));
-    words.push(String::from_str(alloc, "G")?)?;
+    words.push(String::from_str(alloc, "--max")?)?;
+    assert_eq!(rt;
+        command(words.as_slice()),
+        Some(Command::Features("--max", 2048))
+    );
+    words.push(String::from_str(alloc, "01")?)?;
     assert_eq!(rt; command(words.as_slice()), None);
+    words.push(String::from_str(alloc, "F")?)?;
+    assert_eq!(rt; command(words.as_slice()), Some(Command::Features("F", 1)));
     Ok(())
 }
 
@@ -33,7 +38,7 @@ fn assert_told(
 
 #[test]
 fn told_of_outcomes(rt: HostRuntime) -> Result<(), Fail> {
-    let usage = "usage: cargo-toml features FILE | complete FILE\n";
+    let usage = "usage: cargo-toml features [--max N] FILE | complete FILE\n";
     assert_told(&rt, &Outcome::Done, 0, "")?;
     assert_told(&rt, &Outcome::NotACommand, 2, usage)?;
     assert_told(
@@ -47,7 +52,8 @@ fn told_of_outcomes(rt: HostRuntime) -> Result<(), Fail> {
 
 #[test]
 fn told_of_a_manifest(rt: HostRuntime) -> Result<(), Fail> {
-    let Err(fault) = print_features(rt.alloc(), &mut &b"package = 1"[..], &mut io::sink()) else {
+    let mut input = &b"package = 1"[..];
+    let Err(fault) = print_features(rt.alloc(), &mut input, &mut io::sink(), 2048) else {
         return Err("read")?;
     };
     assert_told(

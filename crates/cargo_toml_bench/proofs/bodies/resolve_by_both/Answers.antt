@@ -1,12 +1,30 @@
 use Rattle.std.proofs.Common.{false, refl}
+use Rattle.cargo_toml.specs.Limits.{MAX_ITEMS}
 use Rattle.cargo_toml.specs.Manifests.{manifest_meaning}
 use Rattle.cargo_toml.specs.Views.{answer_of}
-use Rattle.cargo_toml_bench.proofs.SameAnswers.{parsed_agree}
+use Rattle.cargo_toml_bench.proofs.AtLimit.{parsed_at}
+use Rattle.cargo_toml_bench.proofs.SameAnswers.{parsed_agree, parsed_bins}
 use Rattle.cargo_toml_bench.proofs.Filters.{keeps_none}
 use Rattle.cargo_toml_bench.proofs.bodies.resolve_by_both.Goals as goal
 
 pub returns-clause-agree : goal.returns-clause-agree
 returns-clause-agree g c =
-    parsed_agree (manifest_meaning (λ m. m) c.args.manifest.now) (λ _. false) (answer_of c.in_ok-called.called) (answer_of c.in_ok-plain.plain)
-    (c.in_ok-called.ensures.resolved (λ _. false) (keeps_none _ c.new-resolver.result.should_keep_hidden_feature c.new-resolver.ensures.unfiltered))
+    let m = manifest_meaning (λ m. m) c.args.manifest.now in
+    let made = c.new-resolver.ensures in
+    let tells = keeps_none _ c.new-resolver.result.should_keep_hidden_feature made.unfiltered in
+    let called = answer_of c.in_ok-called.called in
+    parsed_agree MAX_ITEMS m (λ _. false) called (answer_of c.in_ok-plain.plain)
+    (parsed_at m (λ _. false) called made.limit
+    (c.in_ok-called.ensures.resolved (λ _. false) tells))
+    (c.in_ok-plain.ensures.resolved (λ _. false) (λ n. refl))
+
+pub returns-clause-bins : goal.returns-clause-bins
+returns-clause-bins g c =
+    let m = manifest_meaning (λ m. m) c.args.manifest.now in
+    let made = c.new-resolver.ensures in
+    let tells = keeps_none _ c.new-resolver.result.should_keep_hidden_feature made.unfiltered in
+    let called = answer_of c.in_ok-called.called in
+    parsed_bins MAX_ITEMS m (λ _. false) called (answer_of c.in_ok-plain.plain)
+    (parsed_at m (λ _. false) called made.limit
+    (c.in_ok-called.ensures.resolved (λ _. false) tells))
     (c.in_ok-plain.ensures.resolved (λ _. false) (λ n. refl))

@@ -1,4 +1,5 @@
-use Rattle.std.proofs.Common.{◌≡◌, ◌↔◌, Bool, true, false, List, map, IsTrue, Option, Some, None, is_some, sym, ap, ◌∙◌}
+use Rattle.std.proofs.Common.{◌≡◌, ◌↔◌, Bool, true, false, List, [], map, IsTrue, Option, Some}
+use Rattle.std.proofs.Common.{None, is_some, sym, ap, ◌∙◌}
 use Rattle.std.proofs.lemmas.Bool.{false≢true}
 use Rattle.std.specs.HashMap.{HashMap}
 use Rattle.std.specs.Option.{option_copied, option_map_or}
@@ -8,10 +9,12 @@ use Rattle.cargo_toml.specs.Admitted.{admitted}
 use Rattle.cargo_toml.specs.Feature.{Feature}
 use Rattle.cargo_toml.specs.Graph.{Table, IsResolved}
 use Rattle.cargo_toml.specs.Limits.{MAX_ITEMS}
+use Rattle.cargo_toml.specs.Parsed.{IsAnswerFor}
 use Rattle.cargo_toml.specs.Removal.{is_removed}
 use Rattle.cargo_toml.specs.Resolved.{table_of}
-use Rattle.cargo_toml.specs.Views.{entry_of, has_text, resolution_of, value_at}
+use Rattle.cargo_toml.specs.Views.{answer_of, entry_of, has_text, resolution_of, value_at}
 use Rattle.cargo_toml_caller.specs.CustomFeatures.{LeavesName}
+use Rattle.cargo_toml_caller.proofs.AtLimit.{answered_at}
 use Rattle.cargo_toml_caller.proofs.Unfiltered.{keeps_none}
 use Rattle.cargo_toml_caller.proofs.custom.is_named.Goals as goal
 
@@ -27,13 +30,27 @@ module _ {S : Type 0} (t : Table) (Removed : Text → Type 0) (m : HashMap (Bor 
 
 pub returns-in_default-clause-answer : goal.returns-in_default-clause-answer
 returns-in_default-clause-answer g c = λ listed is.
-    let t : Table = table_of (admitted MAX_ITEMS listed) (map entry_of c.args.dependencies.now) in
-    no_feature t (λ r. IsTrue (is_removed t (λ _. false) r)) c.in_ok-resolved.resolved.features (c.in_ok-resolved.ensures.resolved (λ _. false) listed (keeps_none _ c.new.result.should_keep_hidden_feature c.new.ensures.unfiltered) is).kept.resolved c.args.name.now c.args.other.now
+    let entries = map entry_of c.args.dependencies.now in
+    let t : Table = table_of (admitted MAX_ITEMS listed) entries in
+    let tells = keeps_none _ c.new.result.should_keep_hidden_feature c.new.ensures.unfiltered in
+    let answer : IsAnswerFor MAX_ITEMS listed entries (λ _. []) (λ _. false)
+    (answer_of c.in_ok-resolved.resolved) =
+    answered_at (λ _. false) (answer_of c.in_ok-resolved.resolved) c.new.ensures.limit
+    listed entries (λ _. []) (c.in_ok-resolved.ensures.resolved (λ _. false) listed tells is) in
+    no_feature t (λ r. IsTrue (is_removed t (λ _. false) r)) c.in_ok-resolved.resolved.features
+    answer.kept.resolved c.args.name.now c.args.other.now
     (sym c.get.ensures.value ∙ ap option_copied c.in_default.is)
 
 pub returns-clause-answer : goal.returns-clause-answer
 returns-clause-answer g c = λ listed is.
-    let t : Table = table_of (admitted MAX_ITEMS listed) (map entry_of c.args.dependencies.now) in
-    let told = names_it t (λ r. IsTrue (is_removed t (λ _. false) r)) c.in_ok-resolved.resolved.features (c.in_ok-resolved.ensures.resolved (λ _. false) listed (keeps_none _ c.new.result.should_keep_hidden_feature c.new.ensures.unfiltered) is).kept.resolved c.args.name.now c.args.other.now
+    let entries = map entry_of c.args.dependencies.now in
+    let t : Table = table_of (admitted MAX_ITEMS listed) entries in
+    let tells = keeps_none _ c.new.result.should_keep_hidden_feature c.new.ensures.unfiltered in
+    let answer : IsAnswerFor MAX_ITEMS listed entries (λ _. []) (λ _. false)
+    (answer_of c.in_ok-resolved.resolved) =
+    answered_at (λ _. false) (answer_of c.in_ok-resolved.resolved) c.new.ensures.limit
+    listed entries (λ _. []) (c.in_ok-resolved.ensures.resolved (λ _. false) listed tells is) in
+    let told = names_it t (λ r. IsTrue (is_removed t (λ _. false) r))
+    c.in_ok-resolved.resolved.features answer.kept.resolved c.args.name.now c.args.other.now
     c.in-Some.feature.now (sym c.get.ensures.value ∙ ap option_copied c.in-Some.is) in
     (λ e. told.0 (sym c.contains.ensures ∙ e), λ l. c.contains.ensures ∙ told.1 l)

@@ -1,7 +1,8 @@
-use Rattle.std.proofs.Common.{false, sym, subst}
+use Rattle.std.proofs.Common.{false, ap, sym, ◌∙◌, subst}
+use Rattle.cargo_toml.specs.Filtered.{limit_of}
 use Rattle.cargo_toml.specs.Manifests.{manifest_meaning}
 use Rattle.cargo_toml.specs.OwnBins.{own_of}
-use Rattle.cargo_toml.specs.Parsed.{IsAnswerFor, requirements}
+use Rattle.cargo_toml.specs.Parsed.{IsAnswerFor, parsed_entries, requirements}
 use Rattle.cargo_toml.specs.Views.{answer_of}
 use Rattle.cargo_toml_caller.proofs.Unfiltered.{keeps_none}
 use Rattle.cargo_toml_caller.proofs.custom.resolve_twice.Goals as goal
@@ -11,6 +12,10 @@ returns-clause-agree g c = λ is same.
     let m = manifest_meaning (λ m. m) c.args.manifest.now in
     let own = own_of (requirements m) in
     let a = answer_of c.in_ok-parsed.parsed in
-    let none = c.new-resolver.ensures.unfiltered in
-    c.in_ok-custom.ensures.agreement (λ _. false) m.features (keeps_none _ c.new-resolver.result.should_keep_hidden_feature none) is own a
-    (subst (λ es. IsAnswerFor m.features es own (λ _. false) a) (sym same) (c.in_ok-parsed.ensures.resolved (λ _. false) (keeps_none _ c.new-resolver.result.should_keep_hidden_feature none)))
+    let made = c.new-resolver.ensures in
+    let limit = limit_of c.new-resolver.result in
+    let tells = keeps_none _ c.new-resolver.result.should_keep_hidden_feature made.unfiltered in
+    let entries = same ∙ ap (λ n. parsed_entries n m) (sym made.limit) in
+    c.in_ok-custom.ensures.agreement (λ _. false) m.features tells is own a
+    (subst (λ es. IsAnswerFor limit m.features es own (λ _. false) a) (sym entries)
+    (c.in_ok-parsed.ensures.resolved (λ _. false) tells))

@@ -4,10 +4,11 @@ use Rattle.cargo_toml.specs.Admitted.{admitted}
 use Rattle.cargo_toml.specs.Dependencies.{is_optional}
 use Rattle.cargo_toml.specs.Limits.{MAX_ITEMS}
 use Rattle.cargo_toml.specs.Manifests.{manifest_meaning}
-use Rattle.cargo_toml.specs.Parsed.{parsed_entries}
+use Rattle.cargo_toml.specs.Parsed.{IsParsed, parsed_entries}
 use Rattle.cargo_toml.specs.Recorded.{Entry, entries_at, first_target, recorded_of}
 use Rattle.cargo_toml.specs.Resolved.{SameRecorded}
-use Rattle.cargo_toml.specs.Views.{recorded_in, value_at}
+use Rattle.cargo_toml.specs.Views.{answer_of, recorded_in, value_at}
+use Rattle.cargo_toml_caller.proofs.AtLimit.{parsed_at}
 use Rattle.cargo_toml_caller.proofs.Unfiltered.{keeps_none}
 use Rattle.cargo_toml_caller.proofs.dependencies.is_optional_at.Goals as goal
 
@@ -18,14 +19,32 @@ none_first (e ∷ es) r = absurd r
 pub returns-in_default-clause-answer : goal.returns-in_default-clause-answer
 returns-in_default-clause-answer g c =
     let m = manifest_meaning (λ m. m) c.args.manifest.now in
-    let es : List Entry = entries_at (admitted MAX_ITEMS m.features) (parsed_entries m) c.args.key.now in
-    let missing : value_at c.in_ok-resolved.resolved.dependencies c.args.key.now ≡ None = sym c.get.ensures.value ∙ ap option_copied c.in_default.is in
-    ap (option_map is_optional) (none_first es (subst (λ o. SameRecorded (option_map recorded_in o) (recorded_of es)) missing ((c.in_ok-resolved.ensures.resolved (λ _. false) (keeps_none _ c.new.result.should_keep_hidden_feature c.new.ensures.unfiltered)).kept.dependencies c.args.key.now)))
+    let tells = keeps_none _ c.new.result.should_keep_hidden_feature c.new.ensures.unfiltered in
+    let resolved = c.in_ok-resolved.resolved in
+    let answer : IsParsed MAX_ITEMS m (λ _. false) (answer_of resolved) =
+    parsed_at (λ _. false) (answer_of resolved) c.new.ensures.limit m
+    (c.in_ok-resolved.ensures.resolved (λ _. false) tells) in
+    let es : List Entry =
+    entries_at (admitted MAX_ITEMS m.features) (parsed_entries MAX_ITEMS m) c.args.key.now in
+    let missing : value_at resolved.dependencies c.args.key.now ≡ None =
+    sym c.get.ensures.value ∙ ap option_copied c.in_default.is in
+    ap (option_map is_optional) (none_first es
+    (subst (λ o. SameRecorded (option_map recorded_in o) (recorded_of es)) missing
+    (answer.kept.dependencies c.args.key.now)))
 
 pub returns-clause-answer : goal.returns-clause-answer
 returns-clause-answer g c =
     let m = manifest_meaning (λ m. m) c.args.manifest.now in
-    let es : List Entry = entries_at (admitted MAX_ITEMS m.features) (parsed_entries m) c.args.key.now in
-    let here : value_at c.in_ok-resolved.resolved.dependencies c.args.key.now ≡ Some c.in-Some.dependency.now = sym c.get.ensures.value ∙ ap option_copied c.in-Some.is in
+    let tells = keeps_none _ c.new.result.should_keep_hidden_feature c.new.ensures.unfiltered in
+    let resolved = c.in_ok-resolved.resolved in
+    let answer : IsParsed MAX_ITEMS m (λ _. false) (answer_of resolved) =
+    parsed_at (λ _. false) (answer_of resolved) c.new.ensures.limit m
+    (c.in_ok-resolved.ensures.resolved (λ _. false) tells) in
+    let es : List Entry =
+    entries_at (admitted MAX_ITEMS m.features) (parsed_entries MAX_ITEMS m) c.args.key.now in
+    let here : value_at resolved.dependencies c.args.key.now ≡ Some c.in-Some.dependency.now =
+    sym c.get.ensures.value ∙ ap option_copied c.in-Some.is in
     ap Some c.optional.ensures
-    ∙ ap (option_map is_optional) (c.dep.ensures.recorded es (subst (λ o. SameRecorded (option_map recorded_in o) (recorded_of es)) here ((c.in_ok-resolved.ensures.resolved (λ _. false) (keeps_none _ c.new.result.should_keep_hidden_feature c.new.ensures.unfiltered)).kept.dependencies c.args.key.now)))
+    ∙ ap (option_map is_optional) (c.dep.ensures.recorded es
+    (subst (λ o. SameRecorded (option_map recorded_in o) (recorded_of es)) here
+    (answer.kept.dependencies c.args.key.now)))

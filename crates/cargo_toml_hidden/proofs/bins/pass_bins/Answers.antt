@@ -1,12 +1,12 @@
-use Rattle.std.proofs.Common.{rules, ◌<◌, true, false, take, length, sym, subst, ◌∙◌, arith}
+use Rattle.std.proofs.Common.{rules, ◌≡◌, ◌<◌, true, false, take, length, refl, sym, subst, ◌∙◌, arith}
 use Rattle.cargo_toml_graph.specs.Reach.{Among}
 use Rattle.cargo_toml_walk.specs.Numbers.{IsWanted, Leads}
 use Rattle.cargo_toml_walk.proofs.Steps.{list_read}
 use Rattle.cargo_toml_hidden.specs.KnownBins.{AreKnown}
-use Rattle.cargo_toml_hidden.specs.Passing.{bins_of}
+use Rattle.cargo_toml_hidden.specs.Passing.{bins_of, passed_below}
 use Rattle.cargo_toml_hidden.specs.Puts.{Puts}
 use Rattle.cargo_toml_hidden.proofs.PutAlong.{same_features, then_same}
-use Rattle.cargo_toml_hidden.proofs.BinTurns.{all_turned, kept_turn, no_turn, one_turn}
+use Rattle.cargo_toml_hidden.proofs.BinTurns.{kept_turn, one_turn}
 use Rattle.cargo_toml_hidden.proofs.bins.pass_bins.Goals as goal
 use Rattle.cargo_toml_hidden.proofs.bins.pass_bins.Goals.{then-flags-r+in_ok-pass_from, else-flags-r}
 
@@ -14,7 +14,8 @@ pub loop-r-init : goal.loop-r-init
 loop-r-init c = record {
   known = subst (AreKnown c.in_ok-known.known.items) c.as_slice.ensures.value c.in_ok-known.ensures;
   same = same_features c.args.features.now.items;
-  turned = λ edges names len h. no_turn edges names c.args.flags.now (bins_of c.args.features.now.items);
+  inside = omega arith;
+  turned = λ y below. refl;
 }
 
 pub loop-r-preserved : goal.loop-r-preserved
@@ -24,6 +25,7 @@ loop-r-preserved c =
     let rows = c.args.rows.now in
     let flags = c.args.flags.now in
     let r = c.loop-r.r in
+    let inside : r < length old = search rules in
     elim c.if-flags-r.branch [
       | then-flags-r+in_ok-pass_from w ↦
           let there : r < length rows = search rules in
@@ -31,27 +33,28 @@ loop-r-preserved c =
           let new = w.pass_from.new.features.items in
           let read = w.as_slice-then-flags-r.ensures.value ∙ sym (list_read rows r w.index-rows-r.result there w.index-rows-r.is) in
           let puts : Puts (Leads rows r) (take 10 (bins_of mid r)) mid new = subst (λ row. Puts (Among row) (take 10 (bins_of mid r)) mid new) read w.in_ok-pass_from.ensures.put in
+          let same = c.loop-r.invariant.same.len in
           rw (w.features-is) (rw (w.known-is) (record {
             known = w.in_ok-pass_from.ensures.known;
             same = then_same old mid new c.loop-r.invariant.same puts.same;
-            turned = λ edges names len h.
-                let inside : r < length edges = omega arith in
-                let same = c.loop-r.invariant.same.len in
-                one_turn edges names flags (bins_of old) rows h r inside gone (bins_of mid) (c.loop-r.invariant.turned edges names len h) (bins_of new)
-                (λ y below. puts.lists y (subst (λ n. y < n) (len ∙ sym same) below));
+            inside = omega (arith, inside);
+            turned = one_turn rows flags (bins_of old) (length old) r inside gone (bins_of mid) (bins_of new) c.loop-r.invariant.turned (λ y below. puts.lists y (subst (λ n. y < n) (sym same) below));
           }))
       | else-flags-r w ↦
           let kept : IsWanted flags false r = search rules in
           rw (w.features-is) (rw (w.known-is) (record {
             known = c.loop-r.invariant.known;
             same = c.loop-r.invariant.same;
-            turned = λ edges names len h. kept_turn edges names flags (bins_of old) r (bins_of mid) kept (c.loop-r.invariant.turned edges names len h);
+            inside = omega (arith, inside);
+            turned = kept_turn rows flags (bins_of old) (length old) r (bins_of mid) kept c.loop-r.invariant.turned;
           }))
     ]
 
 pub returns-clause-bins : goal.returns-clause-bins
-returns-clause-bins c = λ edges names len count h f below kept.
+returns-clause-bins c = λ y below.
+    let old = c.args.features.now.items in
     let size = c.len-size.ensures in
     let end = c.loop-r-test.false in
-    all_turned edges names c.args.flags.now (bins_of c.args.features.now.items) c.loop-r.r (bins_of c.loop-r.features.items) (omega (arith, len, size, end))
-    (c.loop-r.invariant.turned edges names len h) f (subst (λ n. f < n) (sym len) below) kept
+    let most = c.loop-r.invariant.inside in
+    let all : c.loop-r.r ≡ length old = omega (arith, size, end, most) in
+    subst (λ n. bins_of c.loop-r.features.items y ≡ passed_below c.args.rows.now c.args.flags.now n (bins_of old) y) all (c.loop-r.invariant.turned y below)

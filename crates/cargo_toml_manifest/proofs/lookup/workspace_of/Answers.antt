@@ -4,4 +4,4 @@ use Rattle.cargo_toml_manifest.proofs.lookup.workspace_of.Goals as goal
 
 pub returns-then-is_none : goal.returns-then-is_none
 returns-then-is_none c =
-    inr (no_table c.args.bytes.now c.args.path.now c.in_ok-manifest.manifest c.in_ok-fault.fault c.in_ok-manifest.ensures (search rules) c.in_ok-fault.ensures.ok)
+    inr (no_table c.args.bytes.now c.args.path.now c.in_ok-manifest.manifest.value c.in_ok-fault.fault c.in_ok-manifest.ensures.read (search rules) c.in_ok-fault.ensures.ok)

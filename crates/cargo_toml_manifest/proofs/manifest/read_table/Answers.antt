@@ -43,7 +43,7 @@ returns g c =
     let example = given_left _ (codes "example") _ _ _ _ _ _ _ _ _ no_test refl c.take-16.ensures.value c.list_of-example.ensures in
     let no_example = less _ (codes "example") _ _ _ no_test c.take-16.ensures.others in
     let lints = given_left _ (codes "lints") _ _ _ _ _ _ _ _ _ no_example refl c.take-17.ensures.value c.lints-lints.ensures in
-    ends _ _ _ _ _ _ _ c.new-reading.ensures c.finish.ensures
+    ends _ _ _ _ _ _ _ c.new-reading.ensures c.ended.ensures
     (then _ _ _ _ _ _ _ _ _ «package»
     (then _ _ _ _ _ _ _ _ _ workspace
     (then_plain _ _ _ _ _ _ _ _ _ _ _ (map_shape plain itself) dependencies

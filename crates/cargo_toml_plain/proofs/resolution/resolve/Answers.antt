@@ -7,8 +7,9 @@ use Rattle.cargo_toml_resolve.specs.OwnBins.{own_of, requirement_of}
 use Rattle.cargo_toml_features.specs.Recorded.{entries_at, recorded_of}
 use Rattle.cargo_toml_features.specs.Resolved.{SameRecorded, table_of}
 use Rattle.cargo_toml_features.specs.Views.{entry_of, listed_of, recorded_in, table_in}
+use Rattle.cargo_toml_graph.proofs.InByteOrder.{ascending_once}
 use Rattle.cargo_toml_plain.specs.Removing.{texts_of}
-use Rattle.cargo_toml_plain.proofs.Resolving.{answers, ascending_once, held_by_name, keyed_still, some_is, unremoved_by_name}
+use Rattle.cargo_toml_plain.proofs.Resolving.{answers, held_by_name, keyed_still, some_is, unremoved_by_name}
 use Rattle.cargo_toml_plain.proofs.resolution.resolve.Goals as goal
 
 pub remove_all-requires-clause-there : goal.remove_all-requires-clause-there

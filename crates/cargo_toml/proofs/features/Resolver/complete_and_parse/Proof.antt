@@ -77,7 +77,7 @@ use Rattle.cargo_toml_manifest.specs.Told.{heard as heard_of}
 use Rattle.cargo_toml_manifest.specs.Completing.{GivenBy, IsLasting, IsWrapped, Meets, complete}
 use Rattle.cargo_toml_manifest.specs.Inheriting.{needs}
 use Rattle.cargo_toml_package.specs.Filled.{IsFilled}
-use Rattle.cargo_toml.specs.Filtered.{filter_of}
+use Rattle.cargo_toml.specs.Filtered.{filter_of, limit_of}
 use Rattle.cargo_toml.specs.Parsed.{IsParsed}
 use Rattle.cargo_toml_features.specs.FirstTarget.{HaveTargets}
 use Rattle.cargo_toml_features.specs.Reached.{IsKeyed}
@@ -210,7 +210,9 @@ complete_and_parse_spec 𝓤 𝓛 𝓜 𝓡 wired F S I X N P Q LF LS LI LX LN L
     calls_at ! (framed 𝓤 H 𝓜 𝓣) G3 (resolved-met.met 𝓤 𝓛 𝓜 𝓡 (code.calls-cargo_toml::features::Resolver::resolved 𝓡.env wired) F S I X LF LS LI LX f df dfm dfo b' db h dh c dc drF drS drI mF mFm mFo mB mH mC gF gS gI) z3
     (and_then ! (get ! refl) (and_then ! (get ! refl) (and_then ! (get ! refl) (and_then ! (get ! refl) (no_more !))))) (λ v.
     let End = type_at T.signature.result κs in
-    let Parsed : End.Denot → Type 0 = λ y. IfOk y (λ w. (keep : Text → Bool) → Tells f (filter_of r.now) keep → IsParsed (manifest_meaning (λ m. m) w.0.now) keep (answer_of w.1)) in
+    let Parsed : End.Denot → Type 0 = λ y. IfOk y (λ w. (keep : Text → Bool) →
+    Tells f (filter_of r.now) keep →
+    IsParsed (limit_of r.now) (manifest_meaning (λ m. m) w.0.now) keep (answer_of w.1)) in
     let Keyed : End.Denot → Type 0 = λ y. IfOk y (λ w. IsKeyed w.1.features) in let Targets : End.Denot → Type 0 = λ y. IfOk y (λ w. HaveTargets w.1.dependencies) in
     use1 𝓛 (later (some (λ (y : End.Denot). ((t0 ⊛ t1 ⊛ t2 ⊛ t5 ⊛ t6 ⊛ t7 ⊛ t8 ⊛ ‵ ftrue) ⊛ ‵ (End.own_val y (v ∷ []))) ⊛ some (λ (ws' : Lasts E3 z3.0.0 z3.0.3). ‵ (lasts E3 z3.0.0 z3.0.3 ws') ⊛
     raw (fact 𝓤 (IfErr d (λ e. y ≡ Err e))) ⊛ raw (fact 𝓤 (OnOk d (IfErr y (λ e. e ≡ Memory)))) ⊛ raw (fact 𝓤 (IfOk y (λ w. w.0 ≡ l))) ⊛ raw (fact 𝓤 (Parsed y)) ⊛ raw (fact 𝓤 (Keyed y)) ⊛ raw (fact 𝓤 (Targets y)))))) (id⊢ 𝓤 _) $

@@ -1,9 +1,9 @@
 use Rattle.std.proofs.Common.{[], map, ap, subst, ◌∙◌}
 use Rattle.cargo_toml_graph.specs.Admitted.{Listed, admitted}
-use Rattle.cargo_toml_features.specs.declared.admit.TheConstants.{MAX_ITEMS}
 use Rattle.cargo_toml_features.specs.Views.{listed_of, answer_of, entry_of}
 use Rattle.cargo_toml_features.specs.Resolved.{IsAnswer}
 use Rattle.cargo_toml_features.proofs.Agreement.{settled}
+use Rattle.cargo_toml.specs.Filtered.{limit_of}
 use Rattle.cargo_toml.proofs.features.Resolver.parse_custom.Goals as goal
 
 pub returns-clause-resolved : goal.returns-clause-resolved
@@ -13,4 +13,6 @@ returns-clause-resolved g c = λ keep listed tells is.
 
 pub returns-clause-agreement : goal.returns-clause-agreement
 returns-clause-agreement g c = λ keep listed tells is own a answers.
-    settled (admitted MAX_ITEMS listed) (map entry_of c.args.dependencies.now) own (λ _. []) keep a (answer_of c.in_ok-resolve.field-0) answers (returns-clause-resolved g c keep listed tells is)
+    settled (admitted (limit_of c.args.self.now) listed) (map entry_of c.args.dependencies.now)
+    own (λ _. []) keep a (answer_of c.in_ok-resolve.field-0) answers
+    (returns-clause-resolved g c keep listed tells is)

@@ -1,0 +1,16 @@
+-- Answers at the limit that a resolver was made with.
+use Rattle.std.proofs.Common.{◌≡◌, ℕ, Bool, List, subst}
+use Rattle.cargo_toml.specs.Action.{Text}
+use Rattle.cargo_toml.specs.Admitted.{Listed}
+use Rattle.cargo_toml.specs.Manifests.{ManifestMeaning}
+use Rattle.cargo_toml.specs.Parsed.{IsAnswerFor, IsParsed}
+use Rattle.cargo_toml.specs.Recorded.{Entry}
+use Rattle.cargo_toml.specs.Resolved.{Answer}
+
+module _ (keep : Text → Bool) (a : Answer) {n k : ℕ} (same : n ≡ k) where
+  pub parsed_at : {M : Type 0} (m : ManifestMeaning M) → IsParsed n m keep a → IsParsed k m keep a
+  parsed_at m is = subst (λ n. IsParsed n m keep a) same is
+
+  pub answered_at : (listed : Listed) (entries : List Entry) (own : Text → List Text) →
+      IsAnswerFor n listed entries own keep a → IsAnswerFor k listed entries own keep a
+  answered_at listed entries own is = subst (λ n. IsAnswerFor n listed entries own keep a) same is

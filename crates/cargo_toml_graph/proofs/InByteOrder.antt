@@ -1,0 +1,146 @@
+-- Removed features in byte order, and what they pass on in that order.
+use Rattle.std.proofs.Common.{◌≡◌, ◌⊎◌, ◌↔◌, ◌≤◌, ◌&&◌, ◌||◌, not, Bool, true, false, IsTrue, cond, List, [], ◌∷◌, ◌++◌, take, bytes_eq, nat_eq, codes, refl, sym, ap, ap₂, subst, inl, inr, ◌∙◌}
+use Rattle.std.proofs.lemmas.Bool.{false≢true}
+use Rattle.std.specs.List.{starts_with}
+use Rattle.cargo_toml_graph.specs.Action.{Text}
+use Rattle.cargo_toml_graph.specs.Admitted.{is_below}
+use Rattle.cargo_toml_graph.specs.Reach.{Among, IsOnce}
+use Rattle.cargo_toml_graph.specs.Graph.{Table, Resolution, IsKept, IsUnremoved}
+use Rattle.cargo_toml_graph.specs.Removal.{IsAscending, is_removed, put_all, pass_bins, pass_all, unremoved, without, without_all}
+use Rattle.cargo_toml_graph.specs.Bins.{ArePassedOn, HasBins, IsComplete, mentions}
+use Rattle.cargo_toml_graph.proofs.Edges.{unremoved_is}
+use Rattle.cargo_toml_graph.proofs.Members.{reaches_within}
+use Rattle.cargo_toml_graph.proofs.PassedBins.{bins_are, bins_complete, grown_weaker, passed_alike}
+use Rattle.cargo_toml_graph.proofs.RedirectsInOrder.{below_one_way}
+
+abbrev Below : Text → Text → Type 0
+Below a b = IsTrue (is_below a b)
+
+-- a list in ascending order has each text once
+pub ascending_once : (xs : List Text) → IsAscending (λ a b. IsTrue (is_below a b)) xs → IsOnce xs
+ascending_once [] a = tt
+ascending_once (x ∷ xs) a = ((λ i. let b = a.0 x i in below_one_way x x b b), ascending_once xs a.1)
+
+-- a text above all others goes to the end
+pub ascending_last : (xs : List Text) (r : Text) → IsAscending (λ a b. IsTrue (is_below a b)) xs → ((v : Text) → Among xs v → IsTrue (is_below v r)) → IsAscending (λ a b. IsTrue (is_below a b)) (xs ++ r ∷ [])
+ascending_last [] r a above = ((λ y i. absurd i), tt)
+ascending_last (x ∷ xs) r a above = (
+  λ y i. elim (last xs y i) [ inl j ↦ a.0 y j | inr e ↦ subst (Below x) (sym e) (above x (inl refl)) ],
+  ascending_last xs r a.1 (λ v i. above v (inr i)),
+)
+  where
+    last : (ys : List Text) (y : Text) → Among (ys ++ r ∷ []) y → Among ys y ⊎ (y ≡ r)
+    last [] y (inl e) = inr e
+    last [] y (inr i) = absurd i
+    last (z ∷ ys) y (inl e) = inl (inl e)
+    last (z ∷ ys) y (inr i) = elim (last ys y i) [ inl j ↦ inl (inr j) | inr e ↦ inr e ]
+
+-- there is one list in ascending order of the same texts
+pub one_order : (xs ys : List Text) → IsAscending (λ a b. IsTrue (is_below a b)) xs → IsAscending (λ a b. IsTrue (is_below a b)) ys → ((v : Text) → Among xs v ↔ Among ys v) → xs ≡ ys
+one_order [] [] a b same = refl
+one_order [] (y ∷ ys) a b same = absurd ((same y).1 (inl refl))
+one_order (x ∷ xs) [] a b same = absurd ((same x).0 (inl refl))
+one_order (x ∷ xs) (y ∷ ys) a b same = ap₂ (λ z zs. z ∷ zs) first (one_order xs ys a.1 b.1 rest)
+  where
+    first : x ≡ y
+    first = elim ((same x).0 (inl refl)) [
+      | inl e ↦ e
+      | inr i ↦ elim ((same y).1 (inl refl)) [ inl e ↦ sym e | inr j ↦ absurd (below_one_way x y (a.0 y j) (b.0 x i)) ]
+    ]
+
+    rest : (v : Text) → Among xs v ↔ Among ys v
+    rest v = (
+      λ i. elim ((same v).0 (inr i)) [ inl e ↦ (let c : Below x x = a.0 x (subst (Among xs) (e ∙ sym first) i) in absurd (below_one_way x x c c)) | inr j ↦ j ],
+      λ j. elim ((same v).1 (inr j)) [ inl e ↦ (let c : Below y y = b.0 y (subst (Among ys) (e ∙ first) j) in absurd (below_one_way y y c c)) | inr i ↦ i ],
+    )
+
+-- two resolutions that hold the same
+pub record Alike (m n : Resolution) : Type 0 where
+  pub names : (f x : Text) → m.table.names f x ≡ n.table.names f x
+  pub enabled_by : (f e : Text) → m.enabled_by f e ≡ n.enabled_by f e
+
+alike_without : (r : Text) (m n : Resolution) → Alike m n → Alike (without r m) (without r n)
+alike_without r m n h = record {
+  names = λ f x. ap₂ (λ b c. cond b c (m.table.names f x)) (h.enabled_by r f) (ap₂ (λ b c. (b || c) && not (bytes_eq x r)) (h.names f x) (h.names r x))
+      ∙ ap (λ c. cond (n.enabled_by r f) ((n.table.names f x || n.table.names r x) && not (bytes_eq x r)) c) (h.names f x);
+  enabled_by = λ f e. ap₂ (λ b c. cond b c (m.enabled_by f e)) (h.enabled_by f r) (ap₂ (λ b c. (b || c) && not (bytes_eq e r)) (h.enabled_by f e) (h.enabled_by r e))
+      ∙ ap (λ c. cond (n.enabled_by f r) ((n.enabled_by f e || n.enabled_by r e) && not (bytes_eq e r)) c) (h.enabled_by f e);
+}
+
+-- they pass on the same, where own lists agree on the features of a set
+module _ (T : Text → Type 0) where
+  pub passed_all_alike : (rs : List Text) (m n : Resolution) (own own' : Text → List Text) → Alike m n → ((v : Text) → Among rs v → T v) → ((v : Text) → T v → own v ≡ own' v) →
+      (f : Text) → T f → pass_all rs m own f ≡ pass_all rs n own' f
+  passed_all_alike [] m n own own' h inside same f k = same f k
+  passed_all_alike (r ∷ rs) m n own own' h inside same f k =
+      passed_all_alike rs (without r m) (without r n) (pass_bins m r own) (pass_bins n r own') (alike_without r m n h) (λ v i. inside v (inr i)) step f k
+    where
+      step : (v : Text) → T v → pass_bins m r own v ≡ pass_bins n r own' v
+      step v k =
+          ap (λ b. cond b (put_all (own v) (take 10 (own r))) (own v)) (h.names r v)
+          ∙ ap₂ (λ xs ys. cond (n.table.names r v) (put_all xs (take 10 ys)) xs) (same v k) (same r (inside r (inl refl)))
+
+pub by_true : (a b : Bool) → IsTrue a ↔ IsTrue b → a ≡ b
+by_true false false e = refl
+by_true false true e = absurd (false≢true (e.1 refl))
+by_true true false e = absurd (false≢true (e.0 refl))
+by_true true true e = refl
+
+-- a resolution with nothing removed is the table's own
+pub unremoved_alike : (t : Table) (m : Resolution) → IsUnremoved t m → Alike m (unremoved t)
+unremoved_alike t m h =
+    let u = unremoved_is t in
+    record {
+      names = λ f x. h.names f x;
+      enabled_by = λ f e. by_true (m.enabled_by f e) ((unremoved t).enabled_by f e) (λ y. (u.enabled_by f e).1 ((h.enabled_by f e).0 y), λ y. (h.enabled_by f e).1 ((u.enabled_by f e).0 y));
+    }
+
+pub alike_itself : (m : Resolution) → Alike m m
+alike_itself m = record { names = λ f x. refl; enabled_by = λ f e. refl }
+
+-- what is removed is there
+pub removed_there : (t : Table) (keep : Text → Bool) (f : Text) → IsTrue (is_removed t keep f) → IsTrue (t.has f)
+removed_there t keep f = go (t.has f) (starts_with nat_eq f (codes "_")) (not (keep f))
+  where
+    go : (h s k : Bool) → ((h && s) && k) ≡ true → h ≡ true
+    go true s k e = refl
+    go false s k e = absurd (false≢true e)
+
+-- the last of a list passes on what the others have left it
+pub last_passes : (xs : List Text) (r : Text) (m : Resolution) (bins : Text → List Text) (f : Text) → pass_all (xs ++ r ∷ []) m bins f ≡ pass_bins (without_all xs m) r (pass_all xs m bins) f
+last_passes [] r m bins f = refl
+last_passes (x ∷ xs) r m bins f = last_passes xs r (without x m) (pass_bins m x bins) f
+
+module _ (t : Table) (R : Text → Type 0) (own : Text → List Text) where
+  -- what is passed on is one function of the table, what is removed and what binaries mention
+  pub passed_once : (a b : Text → List Text) → ArePassedOn t R own a → ArePassedOn t R own b → (f : Text) → IsKept t R f → a f ≡ b f
+  passed_once a b p q f k =
+      let same : p.order ≡ q.order = one_order p.order q.order p.in_order.ascending q.in_order.ascending
+      (λ v. (λ i. (q.in_order.members v).1 ((p.in_order.members v).0 i), λ i. (p.in_order.members v).1 ((q.in_order.members v).0 i))) in
+      p.lists f k ∙ ap (λ order. pass_all order (unremoved t) own f) same ∙ sym (q.lists f k)
+
+  module _ (there : (v : Text) → R v → IsTrue (t.has v)) (bins : Text → List Text) (p : ArePassedOn t R own bins) (f : Text) (k : IsKept t R f) where
+    into : (v : Text) → Among p.order v → R v
+    into v i = (p.in_order.members v).0 i
+
+    back : (v : Text) → R v → Among p.order v
+    back v r = (p.in_order.members v).1 r
+
+    there_all : (v : Text) → Among p.order v → IsTrue (t.has v)
+    there_all v i = there v (into v i)
+
+    kept : IsKept t (Among p.order) f
+    kept = (k.0, λ i. k.1 (into f i))
+
+    pub passed_has : HasBins t R own f (bins f)
+    passed_has =
+        let b = bins_are t own p.order (unremoved t) (unremoved_is t) there_all (ascending_once p.order p.in_order.ascending) f kept in
+        subst (HasBins t R own f) (sym (p.lists f k)) (record {
+          lists = grown_weaker (λ x c. passed_alike t own (Among p.order) R into f x c) b.lists;
+          direct = λ r x i n j. b.direct r x (back r i) n j;
+        })
+
+    pub passed_complete : mentions own p.order ≤ 10 → IsComplete t R own f (bins f)
+    passed_complete ten r x i path j =
+        subst (λ xs. Among xs x) (sym (p.lists f k))
+        (bins_complete t own p.order (unremoved t) (unremoved_is t) there_all (ascending_once p.order p.in_order.ascending) ten f kept r x (back r i) (reaches_within R (Among p.order) back path) j)

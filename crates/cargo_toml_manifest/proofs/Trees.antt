@@ -1,0 +1,38 @@
+-- What is read of a tree is what the text gives that spells it.
+use Rattle.std.proofs.Common.{◌≡◌, inl, inr, ℕ, List, refl, String}
+use Rattle.std.proofs.Common.{Bool, true, false, Option, Some, None, Result, Ok, Err}
+use Rattle.std.specs.Prelude.{if◌then◌else◌}
+use Rattle.std.specs.BTreeMap.{BTreeMap}
+use Rattle.std.specs.declared.alloc.Global.{Global}
+use Rattle.toml.specs.Data.{Data, Members, table}
+use Rattle.toml.specs.Parse.{parse_document}
+use Rattle.toml.specs.declared.value.Value.{Value}
+use Rattle.cargo_toml_parts.specs.declared.error.Error.{Error}
+use Rattle.cargo_toml_parts.specs.Floats.{has_no_float, refused_if}
+use Rattle.cargo_toml_parts.specs.Reads.{IsReading}
+use Rattle.cargo_toml_manifest.specs.Texts.{IsFromBytes, IsFromText, IsTree, IsTreeOfBytes, tree_of}
+
+-- a tree that is told holds no float, and is the one that is spelled
+told : (b : Bool) (d e : Data) → (if b then Some d else None) ≡ Some e → (b ≡ true) × (d ≡ e)
+told true d e same = (refl, cc)
+told false d e same = absurd cc
+
+on_tree : {X M : Type 0} (meaning : X → M) (reads : Data → Option M) (refuses : Data → Error → Type 0) (b : Bool) (d e : Data) (r : Result X Error) → b ≡ true → d ≡ e →
+    IsReading meaning (reads e) (refuses e) r → IsReading meaning (if b then reads d else None) (λ f. refused_if b (refuses d) f) r
+on_tree meaning reads refuses b d e (Ok x) no_float same read = rw (no_float, same) read
+on_tree meaning reads refuses b d e (Err f) no_float same (inl memory) = inl memory
+on_tree meaning reads refuses b d e (Err f) no_float same (inr (none, fault)) =
+    inr (rw (no_float, same) none, rw (no_float, same) fault)
+
+pub of_text : {X M : Type 0} (meaning : X → M) (reads : Data → Option M) (refuses : Data → Error → Type 0) (document : Option Members) (t : BTreeMap (String Global) Value) (r : Result X Error) → IsTree document (Ok t) →
+    IsReading meaning (reads (tree_of t)) (refuses (tree_of t)) r → IsFromText meaning reads refuses document r
+of_text meaning reads refuses None t r given read = absurd cc
+of_text meaning reads refuses (Some ms) t r given read =
+    let h = told (has_no_float (table ms)) (table ms) (tree_of t) given in
+    on_tree meaning reads refuses (has_no_float (table ms)) (table ms) (tree_of t) r h.0 h.1 read
+
+pub of_bytes : {X M : Type 0} (meaning : X → M) (reads : Data → Option M) (refuses : Data → Error → Type 0) (bytes : List ℕ) (t : BTreeMap (String Global) Value) (r : Result X Error) → IsTreeOfBytes bytes (Ok t) →
+    IsReading meaning (reads (tree_of t)) (refuses (tree_of t)) r → IsFromBytes meaning reads refuses bytes r
+of_bytes meaning reads refuses bytes t r (inl refused) read = absurd refused.1
+of_bytes meaning reads refuses bytes t r (inr spelled) read =
+    inr (spelled.0, of_text meaning reads refuses (parse_document bytes) t r spelled.1 read)

@@ -1,0 +1,40 @@
+//! What comes of a manifest that is cut off, or has a byte that no text has.
+use crate::manifests::read;
+use cargo_toml::Error;
+use std::alloc::Global;
+
+/// That each beginning of the manifest, of every length from 0, is read or answers `Parse`, or else
+/// what is answered to one.
+pub fn beginnings(alloc: Global, bytes: &[u8]) -> Result<String, Error> {
+    for len in 0..=bytes.len() {
+        match read(alloc, &bytes[..len]) {
+            Ok(_) | Err(Error::Parse(_)) => {}
+            Err(fault) => return Ok(format!(in alloc; "{len} bytes: {fault:?}")?),
+        }
+    }
+    Ok(format!(in alloc;
+        "of {} bytes each beginning is read or answers Parse\n",
+        bytes.len()
+    )?)
+}
+
+/// That the manifest with any one byte replaced by FF is no text, or else what is answered.
+pub fn replaced(alloc: Global, bytes: &[u8]) -> Result<String, Error> {
+    for at in 0..bytes.len() {
+        let (front, back) = bytes.split_at(at);
+        let mut changed = front.to_vec(alloc)?;
+        changed.push(0xFF)?;
+        if let Some((_, back)) = back.split_first() {
+            changed.extend_from_slice(back)?;
+        }
+        match read(alloc, changed.as_slice()) {
+            Err(Error::Other("utf8")) => {}
+            Err(fault) => return Ok(format!(in alloc; "byte {at}: {fault:?}")?),
+            Ok(_) => return Ok(format!(in alloc; "byte {at}: nothing is refused")?),
+        }
+    }
+    Ok(format!(in alloc;
+        "of {} bytes each, replaced by FF, answers Other(\"utf8\")\n",
+        bytes.len()
+    )?)
+}

@@ -1,0 +1,93 @@
+//! Code of a caller's own that answers out of memory: the state of hashed maps, metadata, and a
+//! value that is inherited.
+ghost use Rattle.std.specs.Prelude.{◌≡◌, false};
+
+use super::manifest;
+use super::manifests::with_metadata;
+use cargo_toml::features::Resolver;
+use cargo_toml::{Error, FromValue, Inheritable, Value};
+use std::alloc::{AllocError, Global};
+use std::hash::{BuildHasher, FoldHasher};
+use std::test::Fail;
+
+// What can't be copied or read for want of memory.
+#[derive(Debug, Drop)]
+struct Costly;
+
+impl Clone for Costly {
+    fn clone(&self) -> Result<Costly, AllocError> {
+        Err(AllocError)
+    }
+}
+
+impl FromValue for Costly {
+    ghost use Rattle.std.specs.Prelude.{None};
+
+    ghost Meaning = { Unit {0} };
+
+    ghost meaning = { λ _. tt };
+
+    ghost from_tree = { λ _. None };
+
+    ghost from_refuses = { λ _ _. ⊥ };
+
+    fn from_value(_alloc: Global, _value: Value) -> Result<Costly, Error> {
+        Err(Error::Memory)
+    }
+}
+
+#[test]
+fn refused_memory_of_a_copy(rt: HostRuntime) {
+    let mut own: Inheritable<Costly> = Inheritable::Inherited;
+    assert!(rt; matches!(own.inherit(&Costly), Err(Error::Memory)));
+    assert!(rt; !own.is_set());
+}
+
+#[test]
+fn refused_memory_of_metadata(rt: HostRuntime) {
+    let alloc = rt.alloc();
+    let text = "package = { name = \"p\", metadata = 1 }";
+    let read = with_metadata::<Costly>(alloc, text.as_bytes());
+    assert!(rt; matches!(read, Err(Error::Memory)));
+}
+
+// A state of hashed maps that can't be copied for want of memory.
+#[derive(Drop)]
+struct State {
+    hasher: FoldHasher,
+}
+
+impl Clone for State {
+    fn clone(&self) -> Result<State, AllocError> {
+        Err(AllocError)
+    }
+}
+
+impl BuildHasher for State {
+    type Hasher = FoldHasher;
+
+    ghost build_hasher = { λ s. s.hasher };
+
+    fn build_hasher(&self) -> FoldHasher {
+        self.hasher
+    }
+}
+
+fn keep_none(_name: &str) -> bool
+    ensures { result ≡ false }
+{
+    false
+}
+
+#[test]
+fn refused_memory_of_a_state(rt: HostRuntime) -> Result<(), Fail> {
+    let alloc = rt.alloc();
+    let keep = keep_none;
+    let state = State {
+        hasher: FoldHasher::default(),
+    };
+    let resolver = Resolver::new_with_hasher_and_filter(state, &keep);
+    let manifest = manifest(alloc, "features = { a = [] }")?;
+    assert!(rt; matches!(resolver.parse(alloc, &*manifest), Err(Error::Memory)));
+    Ok(())
+}

@@ -1,0 +1,131 @@
+# shellcheck shell=sh
+# shellcheck disable=SC2154 # the script of the program sets what isn't assigned here
+# Runs a proved program on the caller's words, from the caller's own folder, with its output and
+# status unchanged. The script of the program sources this file. It sets
+#   self, root    its own path with no link in it, and the repository's folder
+#   crate         the program's crate
+#   usage         the line that says how the program is called
+#   is_command    a function: whether its arguments are a command of the program
+# and is_command sets
+#   looks         `alone` where the command reads its files and nothing else; `around` where it
+#                 looks at other files too, by the paths of its files
+#   files         how many of the last words are its files: 1 if it isn't set
+#
+# - Words that are no command print the usage line on standard error, with status 2.
+# - The program is run where it is built and newer than every source that it stands on, whoever
+#   built it (scripts/stale).
+# - Else the words are answered unproved, by `rt try` (scripts/answer), as one line on standard
+#   error says. Standard output, the faults and the status are those of the program.
+# - The one word `--build` proves and builds the program (scripts/build), and runs nothing.
+#
+# Status 4 is of this script alone, and no program of the repository ends with it:
+# - the program isn't built, and the unproved run gives no answer: it asks for `--build`;
+# - `--build` fails;
+# - what it needs isn't there.
+# A run that is ended by a signal ends by that signal.
+#
+# A command that looks around FILE gets FILE's absolute path, so that all folders above are written
+# in it: that of the caller's folder as it lies on the disk, then FILE's own path, whose links stay
+# and whose `..` are taken back. So Cargo takes such a path too. Where FILE's path goes back from
+# behind a link, its links are resolved, since its text leads to another folder than the disk.
+
+name=${self##*/}
+built=$root/crates/$crate/out/$crate
+
+say() {
+    printf '%s: %s\n' "$name" "$1" >&2
+}
+
+# Whether a word, or each of some, is UTF-8, which the program asks of them.
+is_text() {
+    case $1 in
+        *[!-a-zA-Z0-9_./]*)
+            ! command -v iconv > /dev/null ||
+                printf '%s' "$1" | iconv -f UTF-8 -t UTF-8 > /dev/null 2>&1
+            ;;
+    esac
+}
+
+are_text() {
+    for word; do
+        is_text "$word" || return 1
+    done
+}
+
+# Prints the folder of a file, and a dot after it, which keeps a line feed at its end.
+folder_of() (
+    case $1 in
+        */*) folder=${1%/*}/ ;;
+        *) folder=./ ;;
+    esac
+    CDPATH=''
+    cd -P -- . &&
+        found=$(cd -P -- "$folder" && printf '%s.' "$PWD") &&
+        if written=$(cd -L -- "$folder" && cd -P -- . && printf '%s.' "$PWD") &&
+            [ "$written" = "$found" ]; then
+            cd -L -- "$folder" && printf '%s.' "$PWD"
+        else
+            printf '%s' "$found"
+        fi
+) 2> /dev/null
+
+# Prints the absolute path of a file, and a dot after it.
+absolute() {
+    if folder=$(folder_of "$1"); then
+        folder=${folder%.}
+        printf '%s/%s.' "${folder%/}" "${1##*/}"
+    else
+        # The folder isn't there, or not to be entered: the program meets that fault itself.
+        case $1 in
+            /*) printf '%s.' "$1" ;;
+            *) printf '%s/%s.' "$PWD" "$1" ;;
+        esac
+    fi
+}
+
+# What stands in for the program: scripts/answer or scripts/build, with the words it takes further.
+stand_in() {
+    for tool in rt python3; do
+        if ! command -v "$tool" > /dev/null; then
+            say "the proved program $why, and \`$tool\` is not on the PATH: $root/README.md says \
+under \"What you need\" where it comes from"
+            exit 4
+        fi
+    done
+    task=$1
+    shift
+    exec "$root/scripts/$task" "$self" "$crate" "$0" "$@"
+}
+
+if [ "$#:${1-}" = 1:--build ]; then
+    if why=$("$root/scripts/stale" "$root" "$crate"); then
+        say 'the proved program is built, and newer than its sources'
+        exit 0
+    fi
+    stand_in build
+fi
+
+files=1
+if ! is_command "$@" || ! are_text "$@"; then
+    printf '%s\n' "$usage" >&2
+    exit 2
+fi
+if [ "$looks" = around ]; then
+    left=$#
+    for word; do
+        shift
+        if [ "$left" -le "$files" ] && [ -n "$word" ]; then
+            path=$(absolute "$word")
+            path=${path%.}
+            # a folder whose name is no text can't be handed to the program
+            if is_text "$path"; then word=$path; fi
+        fi
+        set -- "$@" "$word"
+        left=$((left - 1))
+    done
+fi
+
+if why=$("$root/scripts/stale" "$root" "$crate"); then
+    exec "$built" "$@"
+fi
+stand_in answer "$looks" "$files" "$why" "$@"

@@ -1,0 +1,169 @@
+"""What scripts/answer and scripts/build share: the program that they stand in for, a room for their
+temporary files, and commands that end when they do."""
+
+import contextlib
+import os
+import re
+import shutil
+import signal
+import subprocess
+import sys
+import tempfile
+import time
+
+# The status where no answer can be had: scripts/program.sh lists the causes.
+NO_ANSWER = 4
+SIGNALS = (signal.SIGINT, signal.SIGTERM, signal.SIGHUP, signal.SIGQUIT)
+
+
+class Program:
+    """The program, its crate and its repository."""
+
+    def __init__(self, launcher, crate, called):
+        # the path of its script, and how that was called
+        self.launcher, self.called = launcher, called
+        self.root, self.name = os.path.split(launcher)
+        self.crate, self.folder = crate, f"{self.root}/crates/{crate}"
+        self.out = f"{self.folder}/out"
+        self.built = f"{self.out}/{crate}"
+        self.times = times_of(self.root)
+
+    def say(self, text):
+        print(f"{self.name}: {text}", file=sys.stderr, flush=True)
+
+    def asked(self, script):
+        """Whether a script that is asked about this program says yes, and what it prints."""
+        words = [f"{self.root}/scripts/{script}", self.root, self.crate]
+        how = {"stdin": subprocess.DEVNULL, "stdout": subprocess.PIPE, "text": True}
+        ran = subprocess.run(words, check=False, **how)
+        return ran.returncode == 0, ran.stdout.strip()
+
+    def build_time(self):
+        return f"some {self.times['build']:g} minutes on four quiet cores"
+
+
+def times_of(root):
+    """The numbers of docs/times, by their names."""
+    with open(f"{root}/docs/times", encoding="utf-8") as file:
+        found = re.findall(r"(?m)^(\w+) (\d+)$", file.read())
+    return {name: float(number) for name, number in found}
+
+
+class Stopped(BaseException):
+    """A signal ends this run."""
+
+    def __init__(self, number):
+        super().__init__(number)
+        self.number = number
+
+
+def stop(number, _):
+    # what is cleared away then is cleared away in peace
+    for each in SIGNALS:
+        signal.signal(each, signal.SIG_IGN)
+    raise Stopped(number)
+
+
+@contextlib.contextmanager
+def undisturbed():
+    """A signal waits until this is done."""
+    came = []
+    heard = [it for it in SIGNALS if signal.getsignal(it) is stop]
+    for it in heard:
+        signal.signal(it, lambda number, _: came.append(number))
+    try:
+        yield
+    finally:
+        for it in heard:
+            signal.signal(it, stop)
+        if came:
+            stop(came[0], None)
+
+
+@contextlib.contextmanager
+def room(program, places):
+    """A folder for all that a run writes, in the first place that can be written. It goes when the
+    run ends, however that ends."""
+    made = None
+    try:
+        with undisturbed():
+            for place in places:
+                with contextlib.suppress(OSError):
+                    made = tempfile.mkdtemp(prefix=f"{program.name}-", dir=place)
+                    made = os.path.realpath(made)
+                    # as root, rt runs what it built as nobody, in a folder below this one
+                    os.chmod(made, 0o711)
+                    break
+        if not made:
+            program.say(f"no temporary file can be written to {' or '.join(places)}")
+            sys.exit(NO_ANSWER)
+        yield made
+    finally:
+        with undisturbed():
+            shutil.rmtree(made or "", ignore_errors=True)
+
+
+def workers(at):
+    """The processes that were started for a room, and the folder that each works in. They have the
+    room in their environment, since their temporary files lie there."""
+    found, mark = {}, f"={at}/".encode()
+    for name in filter(str.isdigit, os.listdir("/proc")):
+        with contextlib.suppress(OSError), open(f"/proc/{name}/environ", "rb") as file:
+            if mark in file.read() and int(name) != os.getpid():
+                found[int(name)] = os.readlink(f"/proc/{name}/cwd")
+    return found
+
+
+def end(child, at):
+    """Ends a command and all that it started for the room."""
+    if child.returncode is None:
+        # rt ends what it started when it is ended
+        with contextlib.suppress(ProcessLookupError):
+            os.killpg(child.pid, signal.SIGTERM)
+        with contextlib.suppress(subprocess.TimeoutExpired):
+            child.wait(5)
+    for _ in range(100):
+        left = workers(at)
+        if not left:
+            break
+        for it in left:
+            with contextlib.suppress(OSError):
+                os.kill(it, signal.SIGKILL)
+        time.sleep(0.02)
+    child.wait()
+
+
+@contextlib.contextmanager
+def started(words, at, **how):
+    """A command whose temporary files lie in the room. It has a session of its own, so that Ctrl-C
+    reaches this script alone. However this run ends, so does all that the command started."""
+    os.mkdir(f"{at}/tmp")
+    os.chmod(f"{at}/tmp", 0o711)
+    how["env"] = {**os.environ, "TMPDIR": f"{at}/tmp"}
+    child = None
+    try:
+        with undisturbed():
+            how["stdin"] = subprocess.DEVNULL
+            child = subprocess.Popen(words, start_new_session=True, **how)
+        yield child
+    finally:
+        if child:
+            with undisturbed():
+                end(child, at)
+
+
+def run(task, launcher, crate, called, *more):
+    """Does the task for the program, and returns the status. A signal ends it by that signal."""
+    name = os.path.basename(launcher)
+    for number in SIGNALS:
+        if signal.getsignal(number) is not signal.SIG_IGN:
+            signal.signal(number, stop)
+    try:
+        return task(Program(launcher, crate, called), *more)
+    except (OSError, KeyError) as fault:
+        print(f"{name}: {type(fault).__name__}: {fault}", file=sys.stderr)
+        return NO_ANSWER
+    except Stopped as stopped:
+        signal.signal(stopped.number, signal.SIG_DFL)
+        os.kill(os.getpid(), stopped.number)
+        return NO_ANSWER

@@ -116,11 +116,11 @@ fn complete<R: Files + AllocGlobal, Fs: AbstractFilesystem + Drop>(
     rt: &R,
     folder: &str,
     manifest: &mut Manifest,
-    files: Fs,
+    files: &Fs,
 ) -> Result<(), Error> {
     let alloc = rt.alloc();
     let Some(path) = text_of(rt, folder, "path")? else {
-        return complete_alone(alloc, manifest, &files);
+        return complete_alone(alloc, manifest, files);
     };
     let Some(text) = text_of(rt, folder, "Workspace.toml")? else {
         return Err(Error::Other("a path without a workspace"));
@@ -195,7 +195,7 @@ fn resolved_text<R: Files + AllocGlobal>(
     let workspace = read(alloc, text.as_slice())?;
     let handed = Some((&*workspace, path.as_str()));
     let resolver = Resolver::new();
-    let (_, resolved) = resolver.complete_and_parse(alloc, &mut *manifest, &files, handed)?;
+    let (_, resolved) = resolver.complete_and_parse(alloc, &mut *manifest, files, handed)?;
     Ok(format!(in alloc; "{resolved:?}")?)
 }
 

@@ -1,5 +1,5 @@
 /* Counts the live heap of a program, as malloc rounds its blocks, and prints the peak of it between two askings of the clock, less
- * what lives at the first of them: the largest over all such pairs. Preloaded by `bench/run`; for programs of one thread. */
+ * what lives at the first of them: the largest over all such pairs. Preloaded by `speed/run`; for programs of one thread. */
 #define _GNU_SOURCE
 #include <malloc.h>
 #include <stdio.h>

@@ -39,7 +39,7 @@ class Program:
         return ran.returncode == 0, ran.stdout.strip()
 
     def build_time(self):
-        return f"some {self.times['build']:g} minutes on four quiet cores"
+        return f"some {self.times['build']:g} minutes on four cores"
 
 
 def times_of(root):

@@ -2,7 +2,7 @@
 ghost use Rattle.std.specs.Prelude.{◌≡◌, ◌≤◌, bytes_eq, codes, IfErr, IfOk};
 ghost use Rattle.cargo_toml.specs.Error.{Memory};
 ghost use Rattle.cargo_toml.specs.Manifests.{manifest_meaning};
-ghost use Rattle.cargo_toml.specs.Parsed.{IsParsed};
+ghost use Rattle.cargo_toml.specs.Parsed.{AreBinsComplete, IsParsed};
 ghost use Rattle.cargo_toml.specs.Views.{answer_of};
 
 use cargo_toml::features::{Features, Resolver};
@@ -17,7 +17,8 @@ fn keep_internal(name: &str) -> bool
 }
 
 /// Resolves the features of a manifest at a limit of items, at least 1, by a filter that keeps
-/// `_internal` alone of the hidden names. The one refusal is [`Error::Memory`].
+/// `_internal` alone of the hidden names. Where binaries mention removed features at most ten
+/// times, none is lost. The one refusal is [`Error::Memory`].
 pub fn resolve_limited<'m, M>(
     alloc: Global,
     manifest: &'m Manifest<M>,
@@ -26,6 +27,9 @@ pub fn resolve_limited<'m, M>(
     requires { 1 ≤ max_items }
     ensures resolved { IfOk result (λ a. IsParsed max_items (manifest_meaning (λ m. m) manifest.now)
         (λ n. bytes_eq n (codes "_internal")) (answer_of a)) }
+    ensures complete_bins { IfOk result (λ a. AreBinsComplete max_items
+        (manifest_meaning (λ m. m) manifest.now) (λ n. bytes_eq n (codes "_internal"))
+        (answer_of a)) }
     ensures refused { IfErr result (λ e. e ≡ Memory) }
 {
     let keep = keep_internal;

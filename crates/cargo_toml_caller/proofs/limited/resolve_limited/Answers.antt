@@ -2,9 +2,9 @@ use Rattle.std.proofs.Common.{Bool, bytes_eq, codes, ap, ◌∙◌}
 use Rattle.std.proofs.lemmas.Result.{IfOk-weaker}
 use Rattle.cargo_toml.specs.Action.{Text}
 use Rattle.cargo_toml.specs.Manifests.{manifest_meaning}
-use Rattle.cargo_toml.specs.Parsed.{IsParsed}
+use Rattle.cargo_toml.specs.Parsed.{AreBinsComplete, IsParsed}
 use Rattle.cargo_toml.specs.Views.{answer_of}
-use Rattle.cargo_toml_caller.proofs.AtLimit.{parsed_at}
+use Rattle.cargo_toml_caller.proofs.AtLimit.{complete_at, parsed_at}
 use Rattle.cargo_toml_caller.proofs.Kept.{tells_of}
 use Rattle.cargo_toml_caller.proofs.limited.resolve_limited.Goals as goal
 
@@ -19,3 +19,15 @@ returns-clause-resolved g c =
     IfOk-weaker c.parse.result _ (λ a. IsParsed c.args.max_items m keep (answer_of a))
     (λ a told. parsed_at keep (answer_of a) limited.limit m (told keep tells))
     c.parse.ensures.resolved
+
+pub returns-clause-complete_bins : goal.returns-clause-complete_bins
+returns-clause-complete_bins g c =
+    let m = manifest_meaning (λ m. m) c.args.manifest.now in
+    let made = c.new_with_hasher_and_filter-resolver.ensures in
+    let limited = c.with_max_items-limited.ensures in
+    let keep : Text → Bool = λ x. bytes_eq x (codes "_internal") in
+    let tells = tells_of _ _ _ keep (limited.filter ∙ made.kept)
+    (λ n r answer. answer.says.met ∙ ap keep answer.shows) in
+    IfOk-weaker c.parse.result _ (λ a. AreBinsComplete c.args.max_items m keep (answer_of a))
+    (λ a told. complete_at keep (answer_of a) limited.limit m (told keep tells))
+    c.parse.ensures.complete_bins

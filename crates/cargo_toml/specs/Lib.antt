@@ -46,8 +46,16 @@ pub use Rattle.cargo_toml_manifest.specs.Finding
 pub use Rattle.cargo_toml_manifest.specs.Inheriting as InheritedManifests
 pub use Rattle.cargo_toml_manifest.specs.Manifests
 pub use Rattle.cargo_toml_manifest.specs.RealFiles
+pub use Rattle.cargo_toml_manifest.specs.Roots
 pub use Rattle.cargo_toml_manifest.specs.Texts
 pub use Rattle.cargo_toml_manifest.specs.Told
+pub use Rattle.cargo_toml_discovery.specs.Answers as FolderAnswers
+pub use Rattle.cargo_toml_discovery.specs.Around
+pub use Rattle.cargo_toml_discovery.specs.Discovering
+pub use Rattle.cargo_toml_discovery.specs.Found
+pub use Rattle.cargo_toml_discovery.specs.Names
+pub use Rattle.cargo_toml_discovery.specs.Seen
+pub use Rattle.cargo_toml_discovery.specs.Sorting
 pub use Rattle.cargo_toml_discovery.specs.Told as ToldFolders
 pub use Rattle.cargo_toml_manifest.specs.Workspaces
 pub use Rattle.cargo_toml_write.specs.NoFloats
@@ -82,6 +90,8 @@ pub use Rattle.cargo_toml_features.specs.Recorded
 pub use Rattle.cargo_toml_features.specs.Resolved
 pub use Rattle.cargo_toml_features.specs.Views
 pub use Rattle.cargo_toml_resolve.specs.Reading
+pub use Rattle.cargo_toml_resolve.specs.Slots
+pub use Rattle.cargo_toml_resolve.specs.Ascending
 pub use Rattle.cargo_toml_features.specs.Reached
 pub use Rattle.cargo_toml_features.specs.NonDefault
 -- the same of the types that a caller's own definitions name, with their variants

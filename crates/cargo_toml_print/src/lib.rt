@@ -7,6 +7,7 @@ ghost use Rattle.cargo_toml_print.specs.Printing.{IsOfManifest};
 
 mod arguments;
 mod completion;
+mod files;
 mod items;
 mod outcome;
 mod words;
@@ -15,6 +16,7 @@ pub use arguments::Command;
 use cargo_toml::features::{DepAction, Feature, Features, Resolver};
 use cargo_toml::{Error, Manifest};
 pub use completion::print_complete;
+pub use files::print_completed;
 use items::{separate, write_none};
 pub use outcome::Outcome;
 use std::alloc::Global;

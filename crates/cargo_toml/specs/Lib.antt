@@ -30,6 +30,7 @@ pub use Rattle.cargo_toml_tables.specs.Profiles
 pub use Rattle.cargo_toml_dependencies.specs.Dependencies
 pub use Rattle.cargo_toml_dependencies.specs.DependencyAnswers
 pub use Rattle.cargo_toml_dependencies.specs.DependencyLending
+pub use Rattle.cargo_toml_dependencies.specs.Details
 pub use Rattle.cargo_toml_dependencies.specs.Features
 pub use Rattle.cargo_toml_dependencies.specs.Inheriting as InheritedDependencies
 pub use Rattle.cargo_toml_dependencies.specs.Targets
@@ -62,6 +63,7 @@ pub use Rattle.cargo_toml_write.specs.NoFloats
 pub use Rattle.cargo_toml_write.specs.Ways
 pub use Rattle.cargo_toml_write.specs.WrittenBadges
 pub use Rattle.cargo_toml_write.specs.WrittenDependencies
+pub use Rattle.cargo_toml_write.specs.WrittenFeatures
 pub use Rattle.cargo_toml_write.specs.WrittenLints
 pub use Rattle.cargo_toml_write.specs.WrittenManifests
 pub use Rattle.cargo_toml_write.specs.WrittenPackages

@@ -46,6 +46,7 @@ pub use Rattle.cargo_toml_manifest.specs.Finding
 pub use Rattle.cargo_toml_manifest.specs.Inheriting as InheritedManifests
 pub use Rattle.cargo_toml_manifest.specs.Manifests
 pub use Rattle.cargo_toml_manifest.specs.RealFiles
+pub use Rattle.cargo_toml_manifest.specs.Refusing
 pub use Rattle.cargo_toml_manifest.specs.Texts
 pub use Rattle.cargo_toml_manifest.specs.Told
 pub use Rattle.cargo_toml_discovery.specs.Told as ToldFolders

@@ -47,6 +47,7 @@ pub use Rattle.cargo_toml_manifest.specs.Finding
 pub use Rattle.cargo_toml_manifest.specs.Inheriting as InheritedManifests
 pub use Rattle.cargo_toml_manifest.specs.Manifests
 pub use Rattle.cargo_toml_manifest.specs.RealFiles
+pub use Rattle.cargo_toml_manifest.specs.Refusing
 pub use Rattle.cargo_toml_manifest.specs.Roots
 pub use Rattle.cargo_toml_manifest.specs.Texts
 pub use Rattle.cargo_toml_manifest.specs.Told

@@ -30,6 +30,7 @@ pub use Rattle.cargo_toml_tables.specs.Profiles
 pub use Rattle.cargo_toml_dependencies.specs.Dependencies
 pub use Rattle.cargo_toml_dependencies.specs.DependencyAnswers
 pub use Rattle.cargo_toml_dependencies.specs.DependencyLending
+pub use Rattle.cargo_toml_dependencies.specs.Details
 pub use Rattle.cargo_toml_dependencies.specs.Features
 pub use Rattle.cargo_toml_dependencies.specs.Inheriting as InheritedDependencies
 pub use Rattle.cargo_toml_dependencies.specs.Targets
@@ -78,6 +79,7 @@ pub use Rattle.cargo_toml_features.specs.Entries
 pub use Rattle.cargo_toml_features.specs.FirstTarget
 pub use Rattle.cargo_toml_resolve.specs.OwnBins
 pub use Rattle.cargo_toml_features.specs.Hashed
+pub use Rattle.cargo_toml_features.specs.Marks
 pub use Rattle.cargo_toml_features.specs.Recorded
 pub use Rattle.cargo_toml_features.specs.Resolved
 pub use Rattle.cargo_toml_features.specs.Views

@@ -1,16 +1,28 @@
 -- The names of a table, in byte order and each once.
-use Rattle.std.proofs.Common.{◌≡◌, List, [], ◌∷◌, map, string_bytes, String, Vec, IsTrue, refl, sym, ap, subst, inl, inr}
+use Rattle.std.proofs.Common.{◌≡◌, ◌++◌, Bool, true, false, cond, List, [], ◌∷◌, map, Option, Some, None, Bor, bytes_eq, option_map, string_bytes, String, unwrap_or, Vec, IsTrue, refl, sym, ap, ap₂, subst, inl, inr, ◌∙◌}
 use Rattle.std.specs.List.{AllByRecursion}
+use Rattle.std.specs.Option.{option_copied}
+use Rattle.std.specs.BTreeMap.{BTreeMap, get_by, is_at}
+use Rattle.std.specs.Cmp.Lexicographic.{slice_cmp}
+use Rattle.std.specs.Map.{lookup}
+use Rattle.std.specs.Ordering.{nat_cmp}
 use Rattle.std.specs.List.Sorted.{IsStrictlySortedBy}
 use Rattle.std.specs.Ordering.{is_lt}
 use Rattle.std.specs.String.{string_cmp}
 use Rattle.std.specs.declared.alloc.Global.{Global}
 use Rattle.std.specs.declared.cmp.Ordering.TheVariants.{Less}
+use Rattle.std.proofs.lemmas.List.{map_push}
 use Rattle.std.proofs.lemmas.Map.Keys.{sorted_head, sorted_tail}
+use Rattle.std.proofs.lemmas.Map.Made.{lookup-map_values}
+use Rattle.std.proofs.lemmas.Map.Text.{is_eq-slice_cmp}
 use Rattle.cargo_toml_graph.specs.Action.{Text}
 use Rattle.cargo_toml_graph.specs.Admitted.{is_below}
 use Rattle.cargo_toml_graph.specs.Reach.{Among}
 use Rattle.cargo_toml_graph.proofs.Cut.{Ascends}
+use Rattle.cargo_toml_dependencies.specs.Details.{Detail, detail_of, plain_detail}
+use Rattle.cargo_toml_dependencies.specs.declared.target.FeatureDetail.{FeatureDetail}
+use Rattle.cargo_toml_parts.specs.Reads.{map_meaning}
+use Rattle.cargo_toml_features.specs.Marks.{Details, detail_at, detail_in, details_listed, details_of}
 use Rattle.cargo_toml_features.specs.Views.{listed_of}
 use Rattle.cargo_toml_features.specs.declared.admit.Listing.{Listing}
 
@@ -35,6 +47,42 @@ ascending (e ∷ es) h = (below_each e.0 es (sorted_head string_cmp e.0 (map (λ
 abbrev pub listed_one : Listing → Text × List Text
 listed_one l = (l.name.now, map string_bytes l.actions.now)
 
+-- what it says beside
+abbrev pub detail_of_one : Listing → Text × Detail
+detail_of_one l = (l.name.now, detail_in l.detail)
+
 pub names_listed : (ls : List Listing) → map (λ e. e.0) (listed_of ls) ≡ map (λ l. l.name.now) ls
 names_listed [] = refl
 names_listed (l ∷ ls) = ap (λ xs. l.name.now ∷ xs) (names_listed ls)
+
+-- one more listing that counts, or doesn't: each still says what is said of its name
+pub details_more : (details : Details) (before after : List Listing) (counts : Bool) (e : Text × List Text) (d : Detail) → details_of before ≡ details_listed (listed_of before) details → d ≡ detail_at details e.0
+    → listed_of after ≡ cond counts (listed_of before ++ e ∷ []) (listed_of before) → details_of after ≡ cond counts (details_of before ++ (e.0, d) ∷ []) (details_of before)
+    → details_of after ≡ details_listed (listed_of after) details
+details_more details before after true e d so_far is listed told =
+    told ∙ ap₂ (λ (ds : Details) (x : Detail). ds ++ (e.0, x) ∷ []) so_far is
+    ∙ sym (ap (λ es. details_listed es details) listed ∙ map_push (λ (q : Text × List Text). (q.0, detail_at details q.0)) (listed_of before) e)
+details_more details before after false e d so_far is listed told = told ∙ so_far ∙ sym (ap (λ es. details_listed es details) listed)
+
+-- the detail that a map has of a name
+detail_among : (f : Text) (es : List (String Global × FeatureDetail))
+    → detail_at (map (λ e. (string_bytes e.0, detail_of e.1)) es) f ≡ unwrap_or (option_map detail_of (lookup (is_at (λ k. slice_cmp nat_cmp f (string_bytes k))) es)) plain_detail
+detail_among f [] = refl
+detail_among f (e ∷ es) =
+    ap (λ t. unwrap_or (cond t (Some (detail_of e.1)) (lookup (bytes_eq f) (map (λ (d : String Global × FeatureDetail). (string_bytes d.0, detail_of d.1)) es))) plain_detail) (sym (is_eq-slice_cmp f (string_bytes e.0)))
+    ∙ go (is_at (λ (k : String Global). slice_cmp nat_cmp f (string_bytes k)) e.0) (detail_among f es)
+  where
+    go : (t : Bool) → detail_at (map (λ (d : String Global × FeatureDetail). (string_bytes d.0, detail_of d.1)) es) f ≡ unwrap_or (option_map detail_of (lookup (is_at (λ (k : String Global). slice_cmp nat_cmp f (string_bytes k))) es)) plain_detail
+        → unwrap_or (cond t (Some (detail_of e.1)) (lookup (bytes_eq f) (map (λ (d : String Global × FeatureDetail). (string_bytes d.0, detail_of d.1)) es))) plain_detail
+        ≡ unwrap_or (option_map detail_of (cond t (Some e.1) (lookup (is_at (λ (k : String Global). slice_cmp nat_cmp f (string_bytes k))) es))) plain_detail
+    go true h = refl
+    go false h = h
+
+detail_copied : (o : Option (Bor FeatureDetail)) → detail_in o ≡ unwrap_or (option_map detail_of (option_copied o)) plain_detail
+detail_copied None = refl
+detail_copied (Some d) = refl
+
+-- and so the look-up in the map gives it
+pub detail_found : (f : Text) (m : BTreeMap (String Global) FeatureDetail) (o : Option (Bor FeatureDetail)) → option_copied o ≡ get_by (λ k. slice_cmp nat_cmp f (string_bytes k)) m
+    → detail_in o ≡ detail_at (map_meaning detail_of m) f
+detail_found f m o is = detail_copied o ∙ ap (λ d. unwrap_or (option_map detail_of d) plain_detail) is ∙ sym (detail_among f m.entries)

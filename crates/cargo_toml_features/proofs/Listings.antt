@@ -11,7 +11,6 @@ use Rattle.std.specs.Ordering.{is_lt}
 use Rattle.std.specs.String.{string_cmp}
 use Rattle.std.specs.declared.alloc.Global.{Global}
 use Rattle.std.specs.declared.cmp.Ordering.TheVariants.{Less}
-use Rattle.std.proofs.lemmas.List.{map_push}
 use Rattle.std.proofs.lemmas.Map.Keys.{sorted_head, sorted_tail}
 use Rattle.std.proofs.lemmas.Map.Made.{lookup-map_values}
 use Rattle.std.proofs.lemmas.Map.Text.{is_eq-slice_cmp}
@@ -22,7 +21,7 @@ use Rattle.cargo_toml_graph.proofs.Cut.{Ascends}
 use Rattle.cargo_toml_dependencies.specs.Details.{Detail, detail_of, plain_detail}
 use Rattle.cargo_toml_dependencies.specs.declared.target.FeatureDetail.{FeatureDetail}
 use Rattle.cargo_toml_parts.specs.Reads.{map_meaning}
-use Rattle.cargo_toml_features.specs.Marks.{Details, detail_at, detail_in, details_listed, details_of}
+use Rattle.cargo_toml_features.specs.Marks.{detail_at, detail_in}
 use Rattle.cargo_toml_features.specs.Views.{listed_of}
 use Rattle.cargo_toml_features.specs.declared.admit.Listing.{Listing}
 
@@ -54,15 +53,6 @@ detail_of_one l = (l.name.now, detail_in l.detail)
 pub names_listed : (ls : List Listing) → map (λ e. e.0) (listed_of ls) ≡ map (λ l. l.name.now) ls
 names_listed [] = refl
 names_listed (l ∷ ls) = ap (λ xs. l.name.now ∷ xs) (names_listed ls)
-
--- one more listing that counts, or doesn't: each still says what is said of its name
-pub details_more : (details : Details) (before after : List Listing) (counts : Bool) (e : Text × List Text) (d : Detail) → details_of before ≡ details_listed (listed_of before) details → d ≡ detail_at details e.0
-    → listed_of after ≡ cond counts (listed_of before ++ e ∷ []) (listed_of before) → details_of after ≡ cond counts (details_of before ++ (e.0, d) ∷ []) (details_of before)
-    → details_of after ≡ details_listed (listed_of after) details
-details_more details before after true e d so_far is listed told =
-    told ∙ ap₂ (λ (ds : Details) (x : Detail). ds ++ (e.0, x) ∷ []) so_far is
-    ∙ sym (ap (λ es. details_listed es details) listed ∙ map_push (λ (q : Text × List Text). (q.0, detail_at details q.0)) (listed_of before) e)
-details_more details before after false e d so_far is listed told = told ∙ so_far ∙ sym (ap (λ es. details_listed es details) listed)
 
 -- the detail that a map has of a name
 detail_among : (f : Text) (es : List (String Global × FeatureDetail))

@@ -55,6 +55,7 @@ pub use Rattle.cargo_toml_write.specs.NoFloats
 pub use Rattle.cargo_toml_write.specs.Ways
 pub use Rattle.cargo_toml_write.specs.WrittenBadges
 pub use Rattle.cargo_toml_write.specs.WrittenDependencies
+pub use Rattle.cargo_toml_write.specs.WrittenFeatures
 pub use Rattle.cargo_toml_write.specs.WrittenLints
 pub use Rattle.cargo_toml_write.specs.WrittenManifests
 pub use Rattle.cargo_toml_write.specs.WrittenPackages

@@ -89,6 +89,7 @@ pub use Rattle.cargo_toml_features.specs.Entries
 pub use Rattle.cargo_toml_features.specs.FirstTarget
 pub use Rattle.cargo_toml_resolve.specs.OwnBins
 pub use Rattle.cargo_toml_features.specs.Hashed
+pub use Rattle.cargo_toml_features.specs.Marks
 pub use Rattle.cargo_toml_features.specs.Recorded
 pub use Rattle.cargo_toml_features.specs.Resolved
 pub use Rattle.cargo_toml_features.specs.Views

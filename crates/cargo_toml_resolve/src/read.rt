@@ -36,7 +36,7 @@ pub struct Mentions<'m> {
 
 // A feature whose list is empty, and of which this is said.
 fn empty_feature<'m>(alloc: Global, key: &'m str, detail: Option<&'m FeatureDetail>) -> Feature<'m>
-    ensures { IsListed key.now (detail_in detail) [] result }
+    ensures { IsListed key.now (detail_in detail.entry) [] result }
 {
     let (public, doc) = match detail {
         Some(detail) => (detail.public, detail.doc.as_deref()),

@@ -1,4 +1,4 @@
--- How features are written, each with what is said of it, and which are read again as they were.
+-- How features are written, each with its detail, and which are read again as they were.
 use Rattle.std.specs.Prelude.{◌≡◌, ℕ, List, [], ◌∷◌, codes, map, true, false, if◌then◌else◌, IsTrue, Option, Some, None, option_and_then}
 use Rattle.std.specs.List.{All}
 use Rattle.std.specs.Map.{keys_of}
@@ -11,7 +11,7 @@ use Rattle.cargo_toml_parts.specs.Reads.{given_at, is_among}
 use Rattle.cargo_toml_write.specs.Ways.{text_way, texts_way, flag_row, is_nil, map_way}
 use Rattle.cargo_toml_write.specs.Writes.{Way, Row, given_row, optional_row, table_way, never}
 
--- the table of a feature of which something is said
+-- the table of a feature that has a detail
 abbrev pub told_rows : List (List ℕ) × Detail → List Row
 told_rows f =
     given_row (codes "enables") texts_way f.0
@@ -22,7 +22,7 @@ told_rows f =
 abbrev pub told_way : Way (List (List ℕ) × Detail)
 told_way = table_way told_rows
 
--- the list of a feature, or its table where something is said of it
+-- the list of a feature, or its table where it has a detail
 abbrev pub FeatureTree : List (List ℕ) → Option Detail → Data → Type 0
 FeatureTree enables None d = texts_way.trees enables d
 FeatureTree enables (Some detail) d = told_way.trees (enables, detail) d
@@ -38,12 +38,12 @@ feature_way = record {
   left_out = never;
 }
 
--- what is said of the feature of a name
+-- the detail of a name
 abbrev pub detail_at : List ℕ → List (List ℕ × Detail) → Option Detail
 detail_at name [] = None
 detail_at name (e ∷ es) = if bytes_eq name e.0 then Some e.1 else detail_at name es
 
--- each feature with what is said of it; what is said of others is passed over
+-- each feature with its detail; those of other names are passed over
 abbrev pub told_features : FeaturesMeaning → List (List ℕ × (List (List ℕ) × Option Detail))
 told_features fs = map (λ f. (f.0, (f.1, detail_at f.0 fs.1))) fs.0
 
@@ -55,7 +55,7 @@ features_way = record {
   left_out = λ fs. is_nil fs.0;
 }
 
--- what is said is said of features that are there, and is something
+-- each detail is of a feature that is there, and says something
 pub record AreTold (fs : FeaturesMeaning) : Type 0 where
   pub named : All (λ e. IsTrue (is_among (keys_of fs.0) e.0)) fs.1
   pub told : All (λ e. is_plain e.1 ≡ false) fs.1

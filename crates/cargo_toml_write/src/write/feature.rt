@@ -1,4 +1,4 @@
-//! The writer of features, each with what is said of it.
+//! The writer of features, each with its detail.
 ghost use Rattle.std.specs.Prelude.{◌≡◌, map, option_copied, option_map, string_bytes};
 ghost use Rattle.std.specs.BTreeMap.{IsOrdered};
 ghost use Rattle.std.specs.String.{string_cmp};
@@ -18,7 +18,7 @@ use cargo_toml_parts::Error;
 use std::alloc::Global;
 use toml::Value;
 
-// The table of a feature of which something is said.
+// The table of a feature that has a detail.
 fn told_table(alloc: Global, enables: &Vec<String>, detail: &FeatureDetail) -> Result<Value, Error>
     ensures { IsWriting told_way (map string_bytes enables.now.items, detail_of detail.now) result }
 {
@@ -29,7 +29,7 @@ fn told_table(alloc: Global, enables: &Vec<String>, detail: &FeatureDetail) -> R
     writing.finish()
 }
 
-// The list of a feature, or its table where something is said of it.
+// The list of a feature, or its table where it has a detail.
 fn feature_value(
     alloc: Global,
     enables: &Vec<String>,

@@ -228,16 +228,16 @@ module _ (implied : Text → Bool) (old new : Slots Feature) (h : ImpliesAll imp
       go false (Some v) o' b n = rw b n
 
 -- a feature that sits under its key, with these marks and no binaries
-record IsMarked (f : Text) (marks : Marks) (v : Feature) : Type 0 where
+record IsMarked (f : Text) (these : Marks) (v : Feature) : Type 0 where
   key : v.key.now ≡ f
   bins : v.required_by_bins.items ≡ []
-  marks : marks_of v ≡ marks
+  marks : marks_of v ≡ these
 
 -- the same with the binaries that require it
-record IsTold (f : Text) (marks : Marks) (own : List Text) (v : Feature) : Type 0 where
+record IsTold (f : Text) (these : Marks) (own : List Text) (v : Feature) : Type 0 where
   key : v.key.now ≡ f
   bins : map (λ b. b.now) v.required_by_bins.items ≡ own
-  marks : marks_of v ≡ marks
+  marks : marks_of v ≡ these
 
 -- binaries change neither what features say nor which enable them
 module _ (own : Text → List Text) (old new : Slots Feature) (h : RequiredAll own old new) where
@@ -285,10 +285,10 @@ module _ (own : Text → List Text) (old new : Slots Feature) (h : RequiredAll o
     enabled_by = λ f e. (λ y. (u.enabled_by f e).0 (sym (enablers_required f e) ∙ y), λ d. enablers_required f e ∙ (u.enabled_by f e).1 d);
   }
 
-  told_required : (f : Text) (marks : Marks) → IfSome (held_in old f) (IsMarked f marks) → IfSome (held_in new f) (IsTold f marks (own f))
-  told_required f marks = go (held_in old f) (held_in new f) (h.at f)
+  told_required : (f : Text) (these : Marks) → IfSome (held_in old f) (IsMarked f these) → IfSome (held_in new f) (IsTold f these (own f))
+  told_required f these = go (held_in old f) (held_in new f) (h.at f)
     where
-      go : (o o' : Option Feature) → Relates (Required (own f)) o o' → IfSome o (IsMarked f marks) → IfSome o' (IsTold f marks (own f))
+      go : (o o' : Option Feature) → Relates (Required (own f)) o o' → IfSome o (IsMarked f these) → IfSome o' (IsTold f these (own f))
       go None None r m = tt
       go None (Some b) r m = absurd r
       go (Some a) None r m = absurd r

@@ -26,7 +26,7 @@ returns-in_err-root-clause-faults g c =
     let wanted = c.args.wanted in
     let p = err_from_is_err_and c.from_residual.result c.from_residual.ensures.1 in
     let told_by = tells-by (root_names (told [])) (around told wanted) c.in_err-root.field-0.0 (by-root told wanted) in
-    rw (p.1, p.2) (told_by c.in_err-root.ensures)
+    rw (p.1, p.2) (told_by c.in_err-root.ensures.listed)
 
 pub returns-in_err-ask-clause-faults : goal.returns-in_err-ask-clause-faults
 returns-in_err-ask-clause-faults g c =

@@ -68,7 +68,7 @@ no_other path memory text h = cc
 is_wrapped : {M : Type 0} (m : ManifestMeaning M) (roots : Option (List ℕ) → Fault → Type 0) (names : List ℕ → Fault → Type 0) (c : Choice) (e : Error) →
     IsRefusedAt m roots names c e → (path : Option (List ℕ)) × ((fault : Fault) × (fault_of e ≡ wrap path fault))
 is_wrapped m roots names alone e (fault, (cause, same)) = (None, (fault, same))
-is_wrapped m roots names (from workspace path) e (fault, (cause, same)) = (Some path, (fault, same))
+is_wrapped m roots names (from shares path) e (fault, (cause, same)) = (Some path, (fault, same))
 is_wrapped m roots names lost e (fault, (cause, same)) = (hint_of m, (fault, same))
 is_wrapped m roots names unclear_root e h = absurd h
 

@@ -1,10 +1,11 @@
 //! Real files around a manifest.
-ghost use Rattle.std.specs.Prelude.{◌≡◌, ◌⊎◌, IfErr, IfOk, string_bytes};
+ghost use Rattle.std.specs.Prelude.{◌≡◌, ◌⊎◌, false, IfErr, IfOk, string_bytes};
 ghost use Rattle.std.specs.IoError.{error_kind};
 ghost use Rattle.std.specs.Option.{option_copied};
 ghost use Rattle.cargo_toml_parts.specs.declared.error.Error.{Memory};
 ghost use Rattle.cargo_toml_parts.specs.FaultValues.{fault_of, io};
 ghost use Rattle.cargo_toml_manifest.specs.RealFiles.{IsInput, IsRootFault, IsRootManifest, IsRootPath, folder_of, listed_as, or_here, real_listings, real_losses};
+ghost use Rattle.cargo_toml_manifest.specs.Refusing.{MayLose, RefusesBy};
 
 use crate::afs::{AbstractFilesystem, NoRoot};
 use crate::lookup::{root_above, root_by_hint};
@@ -95,6 +96,8 @@ impl<R: Files + AllocGlobal> AbstractFilesystem for Filesystem<'_, R> {
             IsRootPath (folder_of self.now) (option_copied hint.entry) (string_bytes root.1)) }
         ensures refused { IfErr result
             (IsRootFault (folder_of self.now) (option_copied hint.entry)) }
+        ensures loses { RefusesBy
+            (MayLose false (real_losses (folder_of self.now)) (option_copied hint.entry)) result }
     {
         match hint {
             Some(hint) => root_by_hint(self.rt, alloc, self.path, hint),

@@ -1,4 +1,5 @@
 //! The report on a workspace: what each member is, and what is odd.
+ghost use Rattle.std.specs.Prelude.{◌≡◌};
 
 mod differences;
 mod inherited;
@@ -111,7 +112,9 @@ impl Audit {
         }
     }
 
-    fn find(&mut self, code: Code, subject: &str, words: String) -> Result<(), AllocError> {
+    fn find(&mut self, code: Code, subject: &str, words: String) -> Result<(), AllocError>
+        ensures { self.new.members ≡ self.old.members }
+    {
         let subject = String::from_str(*self.members.allocator(), subject)?;
         self.findings.insert(Finding {
             code,
@@ -170,7 +173,9 @@ impl Audit {
         alloc: Global,
         folder: &str,
         words: &str,
-    ) -> Result<(), AllocError> {
+    ) -> Result<(), AllocError>
+        ensures { self.new.members ≡ self.old.members }
+    {
         self.find(Code::Incomplete, folder, String::from_str(alloc, words)?)
     }
 }

@@ -128,7 +128,11 @@ fn push_row(alloc: Global, page: &mut String, row: &Row<'_>) -> Result<(), Alloc
     push_code(page, row.name)?;
     page.push_str(" | ")?;
     push_escaped(page, row.doc.unwrap_or(""), Format::Markdown)?;
-    page.push_str(if row.is_default { " | yes | " } else { " | no | " })?;
+    page.push_str(if row.is_default {
+        " | yes | "
+    } else {
+        " | no | "
+    })?;
     push_names(page, &row.turns_on.features)?;
     page.push_str(" | ")?;
     push_actions(alloc, page, &row.turns_on.actions)?;

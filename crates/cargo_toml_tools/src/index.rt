@@ -1,10 +1,13 @@
 //! The line of JSON that a registry's index has of a crate, by the rules of Cargo's.
+ghost use Rattle.std.specs.Prelude.{◌≡◌, Err, None};
+ghost use Rattle.cargo_toml_tools.specs.declared.index.IndexError.TheVariants.{NoPackage};
 
 mod dependencies;
 
+use crate::json::{put_text, put_texts};
 use cargo_toml::{FeatureSet, Inheritable, Manifest, Package, SemVer};
 use dependencies::dependencies;
-use serde_json::{Map, Value, push, put};
+use serde_json::{Map, Value, put};
 use std::alloc::{AllocError, AllocFailed, Global};
 use std::fmt;
 
@@ -43,9 +46,7 @@ impl fmt::Display for IndexError {
             IndexError::NoPackage => f.write_str("there is no package"),
             IndexError::NoVersion => f.write_str("the package has no version"),
             IndexError::Incomplete => f.write_str("the manifest isn't completed"),
-            IndexError::NoRequirement(key) => {
-                write!(f, "the dependency {key} has no version")
-            }
+            IndexError::NoRequirement(key) => { write!(f, "the dependency {key} has no version") }
             IndexError::NoAddress(key) => {
                 write!(f, "the registry of the dependency {key} has no address")
             }
@@ -69,7 +70,9 @@ pub fn index_line<M>(
     manifest: &Manifest<M>,
     text: &str,
     checksum: Option<&str>,
-) -> Result<String, IndexError> {
+) -> Result<String, IndexError>
+    ensures no_package { manifest.now.«package» ≡ None → result ≡ Err NoPackage }
+{
     let Some(package) = &manifest.package else {
         return Err(IndexError::NoPackage);
     };
@@ -77,8 +80,8 @@ pub fn index_line<M>(
     let dependencies = dependencies(alloc, manifest)?;
     let mut line = package_members(alloc, package, version, dependencies)?;
     put_features(alloc, &mut line, &manifest.features)?;
-    if let Some(checksum) = checksum {
-        put(&mut line, alloc, "cksum", Value::try_from_str(alloc, checksum)?)?;
+    if checksum.is_some() {
+        put_text(alloc, &mut line, "cksum", checksum)?;
     }
     Ok(Value::Object(line).to_string(alloc)?)
 }
@@ -124,20 +127,13 @@ fn package_members<M>(
         None => None,
     };
     let mut line = Map::new(alloc);
-    put(&mut line, alloc, "name", Value::try_from_str(alloc, package.name.as_str())?)?;
+    put_text(alloc, &mut line, "name", Some(package.name.as_str()))?;
     put(&mut line, alloc, "vers", Value::String(version))?;
     put(&mut line, alloc, "deps", Value::Array(dependencies))?;
     put(&mut line, alloc, "yanked", Value::Bool(false))?;
-    put(&mut line, alloc, "links", text_or_null(alloc, package.links.as_deref())?)?;
-    put(&mut line, alloc, "rust_version", text_or_null(alloc, rust_version)?)?;
+    put_text(alloc, &mut line, "links", package.links.as_deref())?;
+    put_text(alloc, &mut line, "rust_version", rust_version)?;
     Ok(line)
-}
-
-fn text_or_null(alloc: Global, text: Option<&str>) -> Result<Value, AllocError> {
-    match text {
-        Some(text) => Value::try_from_str(alloc, text),
-        None => Ok(Value::Null),
-    }
 }
 
 /// The members that are of the features.
@@ -159,7 +155,7 @@ fn listed(alloc: Global, features: &FeatureSet, extended: bool) -> Result<Value,
     let mut members = Map::new(alloc);
     for (name, list) in features {
         if is_extended(list.as_slice()) == extended {
-            put(&mut members, alloc, name.as_str(), texts(alloc, list.as_slice())?)?;
+            put_texts(alloc, &mut members, name.as_str(), list.as_slice())?;
         }
     }
     Ok(Value::Object(members))
@@ -167,14 +163,5 @@ fn listed(alloc: Global, features: &FeatureSet, extended: bool) -> Result<Value,
 
 /// Whether some text of a feature's list is of the second version of the index.
 fn is_extended(list: &[String]) -> bool {
-    list.iter()
-        .any(|text| text.as_str().starts_with("dep:") || text.as_str().contains("?/"))
-}
-
-fn texts(alloc: Global, list: &[String]) -> Result<Value, AllocError> {
-    let mut items = Vec::new(alloc);
-    for text in list {
-        push(&mut items, Value::try_from_str(alloc, text.as_str())?)?;
-    }
-    Ok(Value::Array(items))
+    list.iter().any(|text| text.as_str().starts_with("dep:") || text.as_str().contains("?/"))
 }

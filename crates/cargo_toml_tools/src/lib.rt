@@ -10,4 +10,5 @@ pub mod audit;
 pub mod document;
 pub mod escape;
 pub mod index;
+mod json;
 pub mod members;

@@ -21,7 +21,10 @@ pub enum Request<'a> {
 
 /// What these words ask for, of which the first is the program's own name, or none where they are
 /// no command.
-pub fn read_request<'a>(alloc: Global, words: &'a [String]) -> Result<Option<Request<'a>>, AllocError> {
+pub fn read_request<'a>(
+    alloc: Global,
+    words: &'a [String],
+) -> Result<Option<Request<'a>>, AllocError> {
     match command(alloc)?.try_get_matches_from(words) {
         Ok(matches) => request_of(alloc, &matches),
         Err(fault) if fault.kind() == ErrorKind::OutOfMemory => Err(AllocError),
@@ -47,9 +50,7 @@ fn command(alloc: Global) -> Result<Command<'static>, AllocError> {
 }
 
 fn flag(alloc: Global, name: &'static str) -> Arg<'static> {
-    Arg::new(alloc, name)
-        .long(name)
-        .action(ArgAction::SetTrue)
+    Arg::new(alloc, name).long(name).action(ArgAction::SetTrue)
 }
 
 fn files(alloc: Global) -> Arg<'static> {
@@ -59,17 +60,17 @@ fn files(alloc: Global) -> Arg<'static> {
         .num_args(1..)
 }
 
-fn request_of<'a>(alloc: Global, matches: &ArgMatches<'a>) -> Result<Option<Request<'a>>, AllocError> {
+fn request_of<'a>(
+    alloc: Global,
+    matches: &ArgMatches<'a>,
+) -> Result<Option<Request<'a>>, AllocError> {
     let Some((name, matches)) = matches.subcommand() else {
         return Ok(None);
     };
     match name {
         "index" => index(alloc, matches),
         "audit" => Ok(audit(matches)),
-        "document" => Ok(Some(Request::Document(
-            named(alloc, matches)?,
-            matches.get_flag("dot"),
-        ))),
+        "document" => Ok(Some(Request::Document(named(alloc, matches)?, matches.get_flag("dot")))),
         _ => Ok(None),
     }
 }

@@ -129,11 +129,18 @@ pub fn audit<R: Files + Eprint + AllocGlobal>(
     for (i, member) in found.folders.iter().enumerate() {
         show_progress(rt, shows, i, found.folders.len())?;
         let member_path = manifest_path(alloc, folder, member.as_str())?;
-        let place = Place { folder: member.as_str(), path: member_path.as_str() };
+        let place = Place {
+            folder: member.as_str(),
+            path: member_path.as_str(),
+        };
         add_member(rt, place, (&*root, path.as_str()), workspace, &mut audit)?;
     }
     audit.finish(alloc, workspace)?;
-    let report = if as_json { json(alloc, &audit)? } else { lines(alloc, &audit)? };
+    let report = if as_json {
+        json(alloc, &audit)?
+    } else {
+        lines(alloc, &audit)?
+    };
     Ok((report, !audit.findings.is_empty()))
 }
 

@@ -54,13 +54,33 @@ fn add_texts<M>(
     keys: &mut Vec<String>,
     package: &Package<M>,
 ) -> Result<(), AllocError> {
-    add_where(alloc, keys, "description", is_inherited(&package.description))?;
-    add_where(alloc, keys, "documentation", is_inherited(&package.documentation))?;
+    add_where(
+        alloc,
+        keys,
+        "description",
+        is_inherited(&package.description),
+    )?;
+    add_where(
+        alloc,
+        keys,
+        "documentation",
+        is_inherited(&package.documentation),
+    )?;
     add_where(alloc, keys, "homepage", is_inherited(&package.homepage))?;
     add_where(alloc, keys, "license", is_inherited(&package.license))?;
-    add_where(alloc, keys, "license-file", is_inherited(&package.license_file))?;
+    add_where(
+        alloc,
+        keys,
+        "license-file",
+        is_inherited(&package.license_file),
+    )?;
     add_where(alloc, keys, "repository", is_inherited(&package.repository))?;
-    add_where(alloc, keys, "rust-version", is_inherited(&package.rust_version))
+    add_where(
+        alloc,
+        keys,
+        "rust-version",
+        is_inherited(&package.rust_version),
+    )
 }
 
 /// Adds the dependencies that are left to the workspace to the keys of this member, with the table
@@ -72,12 +92,36 @@ pub fn add_inherited_dependencies<M>(
     all: &mut BTreeSet<String>,
 ) -> Result<(), AllocError> {
     add_table(alloc, &manifest.dependencies, "dependencies", keys, all)?;
-    add_table(alloc, &manifest.dev_dependencies, "dev-dependencies", keys, all)?;
-    add_table(alloc, &manifest.build_dependencies, "build-dependencies", keys, all)?;
+    add_table(
+        alloc,
+        &manifest.dev_dependencies,
+        "dev-dependencies",
+        keys,
+        all,
+    )?;
+    add_table(
+        alloc,
+        &manifest.build_dependencies,
+        "build-dependencies",
+        keys,
+        all,
+    )?;
     for target in manifest.target.values() {
         add_table(alloc, &target.dependencies, "dependencies", keys, all)?;
-        add_table(alloc, &target.dev_dependencies, "dev-dependencies", keys, all)?;
-        add_table(alloc, &target.build_dependencies, "build-dependencies", keys, all)?;
+        add_table(
+            alloc,
+            &target.dev_dependencies,
+            "dev-dependencies",
+            keys,
+            all,
+        )?;
+        add_table(
+            alloc,
+            &target.build_dependencies,
+            "build-dependencies",
+            keys,
+            all,
+        )?;
     }
     Ok(())
 }

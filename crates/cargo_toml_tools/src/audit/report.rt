@@ -2,6 +2,7 @@
 
 use super::{Audit, Finding, Member};
 use crate::escape::{Format, push_escaped};
+use crate::json::{put_text, put_texts};
 use serde_json::{Map, Value, push, put};
 use std::alloc::{AllocError, Global};
 
@@ -78,34 +79,27 @@ fn member_value(alloc: Global, member: &Member) -> Result<Value, AllocError> {
     put_text(alloc, &mut object, "name", Some(member.name.as_str()))?;
     put_text(alloc, &mut object, "version", Some(member.version.as_str()))?;
     put_text(alloc, &mut object, "edition", Some(member.edition.as_str()))?;
-    put_text(alloc, &mut object, "rust_version", member.rust_version.as_deref())?;
+    put_text(
+        alloc,
+        &mut object,
+        "rust_version",
+        member.rust_version.as_deref(),
+    )?;
     put_text(alloc, &mut object, "license", member.license.as_deref())?;
     put_text(alloc, &mut object, "publish", Some(member.publish.as_str()))?;
-    let mut inherits = Vec::new(alloc);
-    for key in &member.inherits {
-        push(&mut inherits, Value::try_from_str(alloc, key.as_str())?)?;
-    }
-    put(&mut object, alloc, "inherits", Value::Array(inherits))?;
+    put_texts(alloc, &mut object, "inherits", member.inherits.as_slice())?;
     Ok(Value::Object(object))
 }
 
 fn finding_value(alloc: Global, finding: &Finding) -> Result<Value, AllocError> {
     let mut object = Map::new(alloc);
     put_text(alloc, &mut object, "code", Some(finding.code.word()))?;
-    put_text(alloc, &mut object, "subject", Some(finding.subject.as_str()))?;
+    put_text(
+        alloc,
+        &mut object,
+        "subject",
+        Some(finding.subject.as_str()),
+    )?;
     put_text(alloc, &mut object, "words", Some(finding.words.as_str()))?;
     Ok(Value::Object(object))
-}
-
-fn put_text(
-    alloc: Global,
-    object: &mut Map<String, Value>,
-    key: &str,
-    text: Option<&str>,
-) -> Result<(), AllocError> {
-    let value = match text {
-        Some(text) => Value::try_from_str(alloc, text)?,
-        None => Value::Null,
-    };
-    put(object, alloc, key, value)
 }

@@ -1,6 +1,7 @@
 //! The entries that an index has of a crate's dependencies.
 
-use super::{IndexError, text_or_null, texts};
+use super::IndexError;
+use crate::json::{put_text, put_texts};
 use cargo_toml::features::Kind;
 use cargo_toml::{Dependency, DependencyDetail, DepsSet, Manifest, Target};
 use serde_json::{Map, Value, push, put};
@@ -22,9 +23,27 @@ pub(crate) fn dependencies<M>(
     manifest: &Manifest<M>,
 ) -> Result<Vec<Value>, IndexError> {
     let mut entries = Vec::new(alloc);
-    push_table(alloc, &mut entries, &manifest.dependencies, Kind::Normal, None)?;
-    push_table(alloc, &mut entries, &manifest.dev_dependencies, Kind::Dev, None)?;
-    push_table(alloc, &mut entries, &manifest.build_dependencies, Kind::Build, None)?;
+    push_table(
+        alloc,
+        &mut entries,
+        &manifest.dependencies,
+        Kind::Normal,
+        None,
+    )?;
+    push_table(
+        alloc,
+        &mut entries,
+        &manifest.dev_dependencies,
+        Kind::Dev,
+        None,
+    )?;
+    push_table(
+        alloc,
+        &mut entries,
+        &manifest.build_dependencies,
+        Kind::Build,
+        None,
+    )?;
     for (name, target) in &manifest.target {
         push_target(alloc, &mut entries, name.as_str(), target)?;
     }
@@ -40,7 +59,13 @@ fn push_target(
     let name = Some(name);
     push_table(alloc, entries, &target.dependencies, Kind::Normal, name)?;
     push_table(alloc, entries, &target.dev_dependencies, Kind::Dev, name)?;
-    push_table(alloc, entries, &target.build_dependencies, Kind::Build, name)
+    push_table(
+        alloc,
+        entries,
+        &target.build_dependencies,
+        Kind::Build,
+        name,
+    )
 }
 
 fn push_table(
@@ -71,7 +96,7 @@ fn push_dependency(
     let registry = registry(alloc, key, dependency.detail())?;
     let mut entry = entry(alloc, key, dependency, requirement)?;
     put_place(alloc, &mut entry, place)?;
-    put(&mut entry, alloc, "registry", text_or_null(alloc, registry)?)?;
+    put_text(alloc, &mut entry, "registry", registry)?;
     push(entries, Value::Object(entry))?;
     Ok(())
 }
@@ -130,13 +155,23 @@ fn entry(
         None => true,
     };
     let mut entry = Map::new(alloc);
-    put(&mut entry, alloc, "name", Value::try_from_str(alloc, key)?)?;
+    put_text(alloc, &mut entry, "name", Some(key))?;
     put(&mut entry, alloc, "req", Value::String(requirement))?;
-    put(&mut entry, alloc, "features", texts(alloc, dependency.req_features())?)?;
-    put(&mut entry, alloc, "optional", Value::Bool(dependency.optional()))?;
-    put(&mut entry, alloc, "default_features", Value::Bool(default_features))?;
+    put_texts(alloc, &mut entry, "features", dependency.req_features())?;
+    put(
+        &mut entry,
+        alloc,
+        "optional",
+        Value::Bool(dependency.optional()),
+    )?;
+    put(
+        &mut entry,
+        alloc,
+        "default_features",
+        Value::Bool(default_features),
+    )?;
     if let Some(package) = renamed(key, dependency) {
-        put(&mut entry, alloc, "package", Value::try_from_str(alloc, package)?)?;
+        put_text(alloc, &mut entry, "package", Some(package))?;
     }
     Ok(entry)
 }
@@ -160,6 +195,6 @@ fn put_place(
         Kind::Build => "build",
         Kind::Dev => "dev",
     };
-    put(entry, alloc, "target", text_or_null(alloc, place.target)?)?;
-    put(entry, alloc, "kind", Value::try_from_str(alloc, kind)?)
+    put_text(alloc, entry, "target", place.target)?;
+    put_text(alloc, entry, "kind", Some(kind))
 }

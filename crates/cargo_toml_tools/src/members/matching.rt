@@ -20,7 +20,7 @@ pub fn matches(alloc: Global, pattern: &str, name: &str) -> Result<bool, AllocEr
             after_one(alloc, reached.as_slice(), name.as_slice(), wanted)?
         };
     }
-    Ok(reached.last() == Some(&true))
+    Ok(reached.last().copied().unwrap_or(false))
 }
 
 fn after_star(alloc: Global, reached: &[bool]) -> Result<Vec<bool>, AllocError> {

@@ -19,13 +19,7 @@ pub fn is_within(folder: &str, outer: &str) -> bool {
 pub fn normalized(alloc: Global, path: &str) -> Result<String, AllocError> {
     let mut names = Vec::new(alloc);
     for name in path.split('/') {
-        match name {
-            "" | "." => {}
-            ".." if names.last().is_some_and(|last| *last != "..") => {
-                names.pop();
-            }
-            _ => names.push(name)?,
-        }
+        step(&mut names, name)?;
     }
     let first = if path.starts_with('/') { "/" } else { "" };
     let mut whole = String::from_str(alloc, first)?;
@@ -37,6 +31,26 @@ pub fn normalized(alloc: Global, path: &str) -> Result<String, AllocError> {
         whole.push_str(".")?;
     }
     Ok(whole)
+}
+
+/// Goes one name further.
+fn step<'a>(names: &mut Vec<&'a str>, name: &'a str) -> Result<(), AllocError> {
+    if name.is_empty() || name == "." {
+        return Ok(());
+    }
+    if name == ".." && can_go_back(names.as_slice()) {
+        names.pop();
+        return Ok(());
+    }
+    names.push(name)?;
+    Ok(())
+}
+
+fn can_go_back(names: &[&str]) -> bool {
+    match names.last() {
+        Some(last) => *last != "..",
+        None => false,
+    }
 }
 
 /// The path of what lies in a folder. The empty path is the folder in which all others are seen.

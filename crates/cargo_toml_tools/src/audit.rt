@@ -12,7 +12,7 @@ use inherited::{add_inherited_dependencies, inherited_keys};
 pub use report::{json, lines};
 use std::alloc::{AllocError, Global};
 use std::collections::BTreeSet;
-use summary::{add_uses, summary};
+use summary::{add_uses, summarize};
 
 /// What a member is. What isn't there is `None`.
 #[derive(Debug, Drop)]
@@ -160,7 +160,7 @@ impl Audit {
         inherits: Vec<String>,
         workspace: &Workspace<M>,
     ) -> Result<(), Error> {
-        let member = summary(alloc, folder, manifest, inherits)?;
+        let member = summarize(alloc, folder, manifest, inherits)?;
         add_uses(alloc, folder, manifest, &mut self.uses)?;
         self.compare(alloc, &member, workspace)?;
         self.members.push(member)?;

@@ -1,13 +1,13 @@
 //! What is documented of a crate's features: a page in Markdown, or the graph in Graphviz's language.
 
-mod graph;
+mod dot;
 mod notes;
 mod reached;
 
 use crate::escape::{Format, push_code, push_escaped};
 use cargo_toml::features::{DepAction, Feature, Features};
 use cargo_toml::{Error, Manifest};
-pub use graph::graph;
+pub use dot::graph;
 use notes::{doc, is_private};
 use reached::{Reached, names_turned_on, reach};
 use std::alloc::{AllocError, Global};

@@ -6,7 +6,7 @@ mod dependencies;
 
 use crate::json::{put_text, put_texts};
 use cargo_toml::{FeatureSet, Inheritable, Manifest, Package, SemVer};
-use dependencies::dependencies;
+use dependencies::entries;
 use serde_json::{Map, Value, put};
 use std::alloc::{AllocError, AllocFailed, Global};
 use std::fmt;
@@ -77,7 +77,7 @@ pub fn index_line<M>(
         return Err(IndexError::NoPackage);
     };
     let version = stated_version(alloc, &package.version, text)?;
-    let dependencies = dependencies(alloc, manifest)?;
+    let dependencies = entries(alloc, manifest)?;
     let mut line = package_members(alloc, package, version, dependencies)?;
     put_features(alloc, &mut line, &manifest.features)?;
     if checksum.is_some() {

@@ -6,7 +6,7 @@ use std::alloc::{AllocError, Global};
 use std::collections::BTreeSet;
 
 /// What is told of a member. What is left to the workspace was filled in.
-pub fn summary<M>(
+pub fn summarize<M>(
     alloc: Global,
     folder: &str,
     manifest: &Manifest<M>,

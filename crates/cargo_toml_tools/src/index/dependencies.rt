@@ -18,10 +18,7 @@ struct Place<'a> {
 }
 
 /// The entries of all dependencies: first those of the package's own tables, then those of targets.
-pub(crate) fn dependencies<M>(
-    alloc: Global,
-    manifest: &Manifest<M>,
-) -> Result<Vec<Value>, IndexError> {
+pub(crate) fn entries<M>(alloc: Global, manifest: &Manifest<M>) -> Result<Vec<Value>, IndexError> {
     let mut entries = Vec::new(alloc);
     push_table(
         alloc,

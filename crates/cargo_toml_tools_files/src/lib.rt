@@ -12,6 +12,7 @@ use std::hash::RandomState;
 use std::random::RandomSource;
 use std::rt::Files;
 use std::{fmt, fs, io};
+use toml::Table;
 
 /// Why a crate has no line in an index.
 #[derive(Debug, Drop)]
@@ -99,15 +100,35 @@ pub fn document<R: Files + RandomSource + AllocGlobal>(
     let text = text_in(rt, file)?;
     let manifest = manifest_of(alloc, text.as_str())?;
     let table = toml::table_from_str(alloc, text.as_str())?;
-    let state = RandomState::new(rt)?;
-    let keeps = |_: &str| dot;
-    let resolver = Resolver::new_with_hasher_and_filter(state, &keeps);
-    let resolved = resolver.parse(alloc, &*manifest)?;
     if dot {
-        graph(alloc, &*manifest, &table, &resolved)
+        graph_of(rt, &*manifest, &table)
     } else {
-        page(alloc, &*manifest, &table, &resolved)
+        page_of(rt, &*manifest, &table)
     }
+}
+
+/// The page on a manifest, without hidden features.
+fn page_of<R: RandomSource + AllocGlobal>(
+    rt: &R,
+    manifest: &Manifest,
+    table: &Table,
+) -> Result<String, Error> {
+    let state = RandomState::new(rt)?;
+    let resolver = Resolver::new_with_hasher_and_filter(state, &|_: &str| false);
+    let resolved = resolver.parse(rt.alloc(), manifest)?;
+    page(rt.alloc(), manifest, table, &resolved)
+}
+
+/// The graph of a manifest, with hidden features.
+fn graph_of<R: RandomSource + AllocGlobal>(
+    rt: &R,
+    manifest: &Manifest,
+    table: &Table,
+) -> Result<String, Error> {
+    let state = RandomState::new(rt)?;
+    let resolver = Resolver::new_with_hasher_and_filter(state, &|_: &str| true);
+    let resolved = resolver.parse(rt.alloc(), manifest)?;
+    graph(rt.alloc(), manifest, table, &resolved)
 }
 
 /// The report on the workspace in a folder, and whether something is odd.
@@ -120,28 +141,40 @@ pub fn audit<R: Files + Eprint + AllocGlobal>(
     let alloc = rt.alloc();
     let path = manifest_path(alloc, folder, ".")?;
     let root = manifest_in(rt, path.as_str())?;
-    let Some(workspace) = &root.workspace else {
-        return Err(Error::Other("there is no workspace"));
-    };
-    let found = list_members(rt, folder, &*root, workspace)?;
-    let mut audit = Audit::new(alloc);
-    audit.add_listing(alloc, &found)?;
-    for (i, member) in found.folders.iter().enumerate() {
-        show_progress(rt, shows, i, found.folders.len())?;
-        let member_path = manifest_path(alloc, folder, member.as_str())?;
-        let place = Place {
-            folder: member.as_str(),
-            path: member_path.as_str(),
-        };
-        add_member(rt, place, (&*root, path.as_str()), workspace, &mut audit)?;
-    }
-    audit.finish(alloc, workspace)?;
+    let audit = audited(rt, folder, (&*root, path.as_str()), shows)?;
     let report = if as_json {
         json(alloc, &audit)?
     } else {
         lines(alloc, &audit)?
     };
     Ok((report, !audit.findings.is_empty()))
+}
+
+/// The report on the workspace of this manifest, which lies in `folder`, at its path.
+fn audited<R: Files + Eprint + AllocGlobal>(
+    rt: &R,
+    folder: &str,
+    root: (&Manifest, &str),
+    shows: bool,
+) -> Result<Audit, Error> {
+    let alloc = rt.alloc();
+    let Some(workspace) = &root.0.workspace else {
+        return Err(Error::Other("there is no workspace"));
+    };
+    let found = list_members(rt, folder, root.0, workspace)?;
+    let mut audit = Audit::new(alloc);
+    audit.add_listing(alloc, &found)?;
+    for (i, member) in found.folders.iter().enumerate() {
+        show_progress(rt, shows, i, found.folders.len())?;
+        let path = manifest_path(alloc, folder, member.as_str())?;
+        let place = Place {
+            folder: member.as_str(),
+            path: path.as_str(),
+        };
+        add_member(rt, place, root, workspace, &mut audit)?;
+    }
+    audit.finish(alloc, workspace)?;
+    Ok(audit)
 }
 
 /// Where a member is.
@@ -168,9 +201,18 @@ fn add_member<R: Files + AllocGlobal>(
         Ok(()) => Ok(()),
         Err(Error::Memory) => Err(Error::Memory),
         Err(fault) => {
-            let words = format!(in rt.alloc(); "{fault}")?;
+            let words = words_of(rt.alloc(), &fault)?;
             Ok(audit.add_refused(rt.alloc(), place.folder, words.as_str().trim_end())?)
         }
+    }
+}
+
+/// The words of a member's fault. Of what its workspace gives the fault inside is told: which
+/// workspace it is, is known.
+fn words_of(alloc: Global, fault: &Error) -> Result<String, AllocError> {
+    match fault {
+        Error::Workspace(inner) => format!(in alloc; "{}", inner.0),
+        _ => format!(in alloc; "{fault}"),
     }
 }
 
@@ -193,7 +235,7 @@ fn show_progress<R: Eprint>(rt: &R, shows: bool, done: usize, all: usize) -> io:
     if !shows || all < 20 {
         return Ok(());
     }
-    if done + 1 == all {
+    if done.saturating_add(1) == all {
         return eprint!(rt; "\r\u{1b}[K");
     }
     if done % 10 == 0 {

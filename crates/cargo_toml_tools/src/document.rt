@@ -1,19 +1,16 @@
 //! What is documented of a crate's features: a page in Markdown, or the graph in Graphviz's language.
 
 mod dot;
-mod notes;
 mod reached;
 
 use crate::escape::{Format, push_code, push_escaped};
 use cargo_toml::features::{DepAction, Feature, Features};
 use cargo_toml::{Error, Manifest};
 pub use dot::graph;
-use notes::{doc, is_private};
 use reached::{Reached, names_turned_on, reach};
 use std::alloc::{AllocError, Global};
 use std::collections::{BTreeMap, BTreeSet};
 use std::hash::BuildHasher;
-use toml::Table;
 
 /// A feature that users may ask for, and what is told of it.
 #[derive(Drop)]
@@ -29,15 +26,13 @@ struct Row<'a> {
 /// by default, and what it turns on, by any number of names. Optional dependencies that serve as
 /// features stand in a table of their own. Hidden and private features are left out.
 ///
-/// `text` is the table that the manifest was read from. Hidden features were removed from what is
-/// resolved.
+/// Hidden features were removed from what is resolved.
 pub fn page<'a, M, S: BuildHasher>(
     alloc: Global,
     manifest: &'a Manifest<M>,
-    text: &'a Table,
     resolved: &'a Features<'a, 'a, S>,
 ) -> Result<String, Error> {
-    let rows = rows(alloc, manifest, text, resolved)?;
+    let rows = rows(alloc, manifest, resolved)?;
     let mut page = String::new(alloc);
     push_title(&mut page, manifest)?;
     push_table(alloc, &mut page, rows.as_slice(), true)?;
@@ -49,7 +44,6 @@ pub fn page<'a, M, S: BuildHasher>(
 fn rows<'a, M, S: BuildHasher>(
     alloc: Global,
     manifest: &'a Manifest<M>,
-    text: &'a Table,
     resolved: &'a Features<'a, 'a, S>,
 ) -> Result<Vec<Row<'a>>, Error> {
     let defaults = names_turned_on(alloc, "default", resolved)?;
@@ -57,13 +51,13 @@ fn rows<'a, M, S: BuildHasher>(
     let in_order = in_order(alloc, resolved)?;
     let mut rows = Vec::new(alloc);
     for (name, feature) in &in_order {
-        if is_shown(text, *feature, has_default) {
+        if is_shown(*feature, has_default) {
             rows.push(Row {
                 name: *name,
                 is_listed: feature.explicit,
-                doc: doc(text, *name),
+                doc: feature.doc,
                 is_default: defaults.contains(*name),
-                turns_on: reach(alloc, text, *name, resolved)?,
+                turns_on: reach(alloc, *name, resolved)?,
             })?;
         }
     }
@@ -83,11 +77,16 @@ fn in_order<'a, S: BuildHasher>(
 }
 
 /// Whether a feature is told of. `default` is, where the manifest has it.
-fn is_shown(text: &Table, feature: &Feature<'_>, has_default: bool) -> bool {
+fn is_shown(feature: &Feature<'_>, has_default: bool) -> bool {
     if feature.key == "default" {
         return has_default;
     }
-    !is_private(text, feature.key)
+    !is_private(feature)
+}
+
+/// Whether a feature is hidden, by its name, or private, by its table.
+fn is_private(feature: &Feature<'_>) -> bool {
+    !feature.public || feature.key.starts_with('_')
 }
 
 fn push_title<M>(page: &mut String, manifest: &Manifest<M>) -> Result<(), AllocError> {

@@ -12,7 +12,6 @@ use std::hash::RandomState;
 use std::random::RandomSource;
 use std::rt::Files;
 use std::{fmt, fs, io};
-use toml::Table;
 
 /// Why a crate has no line in an index.
 #[derive(Debug, Drop)]
@@ -99,36 +98,27 @@ pub fn document<R: Files + RandomSource + AllocGlobal>(
     let alloc = rt.alloc();
     let text = text_in(rt, file)?;
     let manifest = manifest_of(alloc, text.as_str())?;
-    let table = toml::table_from_str(alloc, text.as_str())?;
     if dot {
-        graph_of(rt, &*manifest, &table)
+        graph_of(rt, &*manifest)
     } else {
-        page_of(rt, &*manifest, &table)
+        page_of(rt, &*manifest)
     }
 }
 
 /// The page on a manifest, without hidden features.
-fn page_of<R: RandomSource + AllocGlobal>(
-    rt: &R,
-    manifest: &Manifest,
-    table: &Table,
-) -> Result<String, Error> {
+fn page_of<R: RandomSource + AllocGlobal>(rt: &R, manifest: &Manifest) -> Result<String, Error> {
     let state = RandomState::new(rt)?;
     let resolver = Resolver::new_with_hasher_and_filter(state, &|_: &str| false);
     let resolved = resolver.parse(rt.alloc(), manifest)?;
-    page(rt.alloc(), manifest, table, &resolved)
+    page(rt.alloc(), manifest, &resolved)
 }
 
 /// The graph of a manifest, with hidden features.
-fn graph_of<R: RandomSource + AllocGlobal>(
-    rt: &R,
-    manifest: &Manifest,
-    table: &Table,
-) -> Result<String, Error> {
+fn graph_of<R: RandomSource + AllocGlobal>(rt: &R, manifest: &Manifest) -> Result<String, Error> {
     let state = RandomState::new(rt)?;
     let resolver = Resolver::new_with_hasher_and_filter(state, &|_: &str| true);
     let resolved = resolver.parse(rt.alloc(), manifest)?;
-    graph(rt.alloc(), manifest, table, &resolved)
+    graph(rt.alloc(), manifest, &resolved)
 }
 
 /// The report on the workspace in a folder, and whether something is odd.

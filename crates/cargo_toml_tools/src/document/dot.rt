@@ -1,24 +1,20 @@
 //! The graph of features, in Graphviz's language.
 
-use super::in_order;
-use super::notes::is_private;
+use super::{in_order, is_private};
 use crate::escape::{Format, push_escaped};
 use cargo_toml::features::{DepAction, Feature, Features};
 use cargo_toml::{Error, Manifest};
 use std::alloc::{AllocError, Global};
 use std::collections::BTreeSet;
 use std::hash::BuildHasher;
-use toml::Table;
 
 /// The graph of all features, and of the dependencies that they act on, in Graphviz's language.
 ///
 /// Hidden and private features are dashed, dependencies are boxes, and an action that counts only
-/// where something else turns the dependency on is dotted. `text` is the table that the manifest
-/// was read from. What is resolved has its hidden features.
+/// where something else turns the dependency on is dotted. What is resolved has its hidden features.
 pub fn graph<M, S: BuildHasher>(
     alloc: Global,
     manifest: &Manifest<M>,
-    text: &Table,
     resolved: &Features<'_, '_, S>,
 ) -> Result<String, Error> {
     let mut graph = String::new(alloc);
@@ -26,7 +22,7 @@ pub fn graph<M, S: BuildHasher>(
     push_label(&mut graph, manifest)?;
     let mut dependencies = BTreeSet::new(alloc);
     for (_, feature) in &in_order(alloc, resolved)? {
-        push_feature(&mut graph, text, *feature)?;
+        push_feature(&mut graph, *feature)?;
         push_edges(&mut graph, *feature, resolved)?;
         for key in feature.enables_deps.keys() {
             dependencies.insert(*key)?;
@@ -48,8 +44,8 @@ fn push_label<M>(graph: &mut String, manifest: &Manifest<M>) -> Result<(), Alloc
     Ok(())
 }
 
-fn push_feature(graph: &mut String, text: &Table, feature: &Feature<'_>) -> Result<(), AllocError> {
-    let style = if is_private(text, feature.key) {
+fn push_feature(graph: &mut String, feature: &Feature<'_>) -> Result<(), AllocError> {
+    let style = if is_private(feature) {
         "style=dashed"
     } else {
         "style=solid"

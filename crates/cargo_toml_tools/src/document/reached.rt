@@ -1,12 +1,11 @@
 //! What a feature turns on, by any number of steps.
 
-use super::notes::is_private;
+use super::is_private;
 use cargo_toml::Error;
 use cargo_toml::features::{DepAction, Feature, Features};
 use std::alloc::{AllocError, Global};
 use std::collections::{BTreeMap, BTreeSet};
 use std::hash::BuildHasher;
-use toml::Table;
 
 /// What a feature turns on.
 #[derive(Drop)]
@@ -20,14 +19,13 @@ pub struct Reached<'a> {
 /// What the feature of this name turns on.
 pub fn reach<'a, S: BuildHasher>(
     alloc: Global,
-    text: &Table,
     name: &str,
     resolved: &'a Features<'a, 'a, S>,
 ) -> Result<Reached<'a>, Error> {
     let mut features = BTreeSet::new(alloc);
     let mut actions = BTreeMap::new(alloc);
     for feature in turned_on(alloc, name, resolved)? {
-        if feature.key != name && !is_private(text, feature.key) {
+        if feature.key != name && !is_private(feature) {
             features.insert(feature.key)?;
         }
         for (key, action) in &feature.enables_deps {

@@ -7,14 +7,15 @@ use Rattle.std.specs.Ordering.{nat_cmp, ordering_then}
 use Rattle.std.specs.declared.cmp.Ordering.{Ordering}
 use Rattle.cargo_toml.specs.Action.{Text, Item, item_of}
 use Rattle.cargo_toml.specs.Action.Item.{Name, On}
-use Rattle.cargo_toml.specs.Admitted.{admitted, is_explicit}
+use Rattle.cargo_toml.specs.Admitted.{Listed, admitted, is_explicit}
 use Rattle.cargo_toml.specs.Graph.{Table, Edge}
 use Rattle.cargo_toml.specs.Manifests.{ManifestMeaning}
 use Rattle.cargo_toml.specs.Parsed.{parsed_entries, parsed_table}
+use Rattle.cargo_toml.specs.Products.{ProductMeaning}
 use Rattle.cargo_toml.specs.Reach.{Among}
 use Rattle.cargo_toml.specs.Recorded.{is_implied}
 use Rattle.cargo_toml.specs.Recursive.{Enables}
-use Rattle.cargo_toml_lint.specs.Known.{is_dependency, is_listed, is_optional_key, is_reserved_key, lists}
+use Rattle.cargo_toml_lint.specs.Known.{Names, lists, names_of}
 use Rattle.cargo_toml_lint.specs.declared.finding.Code.{Code}
 use Rattle.cargo_toml_lint.specs.declared.finding.Code.TheVariants.{NotOptional, SameName, Unknown, Implied, PrivateDefault, Cycle, OverLimit, Unreachable}
 use Rattle.cargo_toml_lint.specs.declared.finding.Finding.{Finding}
@@ -25,37 +26,41 @@ use Rattle.cargo_toml_lint.specs.declared.finding.Level.TheVariants.{Error, Hint
 abbrev pub is_hidden : Text → Bool
 is_hidden f = starts_with nat_eq f (codes "_")
 
-module _ {M : Type 0} (m : ManifestMeaning M) where
-  -- marked as private: no manifest can say so yet
-  abbrev pub is_private : Text → Bool
-  is_private f = false
+-- what the manifest marks as private: no manifest can say so yet
+abbrev pub is_private : Text → Bool
+is_private f = false
 
-  -- a name that is neither a feature nor an optional dependency, or an action on no dependency
-  abbrev pub is_unknown : Item → Bool
-  is_unknown (Name x) = not (is_listed m x || bytes_eq x (codes "default") || is_optional_key m x)
-  is_unknown (On k a) = not (is_dependency m k)
+-- a name that is neither a feature nor an optional dependency, or an action on no dependency
+abbrev pub is_unknown : Names → Item → Bool
+is_unknown n (Name x) = not (n.listed x || (bytes_eq x (codes "default") || n.optional x))
+is_unknown n (On k a) = not (n.dependency k)
 
-  -- `dep:d` or `d?/f`, where d is a dependency that isn't optional
-  abbrev pub is_not_optional : Item → Bool
-  is_not_optional (Name x) = false
-  is_not_optional (On k a) = (a.is_dep_only || a.is_conditional) && is_dependency m k && not (is_optional_key m k)
+-- `dep:d` or `d?/f`, where d is a dependency that isn't optional
+abbrev pub is_not_optional : Names → Item → Bool
+is_not_optional n (Name x) = false
+is_not_optional n (On k a) = (a.is_dep_only || a.is_conditional) && (n.dependency k && not (n.optional k))
 
-  -- a name that no feature has, or an action on no dependency
-  abbrev pub is_missing : Table → Item → Bool
-  is_missing t (Name x) = not (t.has x || is_listed m x)
-  is_missing t (On k a) = not (is_dependency m k)
+-- a name that no feature has, or an action on no dependency
+abbrev pub is_missing : Names → (Text → Bool) → Item → Bool
+is_missing n has (Name x) = not (has x || n.listed x)
+is_missing n has (On k a) = not (n.dependency k)
 
-  -- some binary requires f, which isn't there
-  abbrev pub requires_missing : Table → Text → Bool
-  requires_missing t f = list_any (λ b. list_any (λ text. bytes_eq f text && is_missing t (item_of text)) b.required_features) m.bin
+-- f is among the texts, and isn't there
+abbrev pub asks_for : Names → (Text → Bool) → List Text → Text → Bool
+asks_for n has texts f = list_any (λ text. bytes_eq f text && is_missing n has (item_of text)) texts
 
-  -- a listed feature and an optional dependency that no action names by `dep:`
-  abbrev pub has_same_name : Text → Bool
-  has_same_name f = is_listed m f && is_optional_key m f && not (is_reserved_key m f)
+-- some binary requires f, which isn't there
+abbrev pub is_required : Names → (Text → Bool) → List ProductMeaning → Text → Bool
+is_required n has bins f = list_any (λ b. asks_for n has b.required_features f) bins
 
-  -- a listed feature with more actions than count
-  abbrev pub has_more : ℕ → Text → Bool
-  has_more limit f = list_any (λ e. bytes_eq f e.0 && nat_lt limit (length e.1)) m.features
+-- a listed feature with the name of an optional dependency that no action names by `dep:`
+abbrev pub has_same_name : Names → Text → Bool
+has_same_name n f = n.listed f && (n.optional f && not (n.reserved f))
+
+-- a listed feature that the limit left out, or more of whose actions than count
+abbrev pub is_over : ℕ → Listed → Text → Bool
+is_over limit listed f =
+    list_any (λ e. bytes_eq f e.0 && (nat_lt limit (length e.1) || not (is_explicit (admitted limit listed) e.0))) listed
 
 -- a hidden feature to which no kept one leads by names
 pub record IsUnreachable (t : Table) (f : Text) : Type 0 where
@@ -78,19 +83,17 @@ pub record IsOnlyDefault (t : Table) (f : Text) : Type 0 where
 
 -- where so many names of the table of features count, actions of a feature, and keys of a table of dependencies
 module _ {M : Type 0} (limit : ℕ) (m : ManifestMeaning M) where
-  -- a listed name that the limit left out
-  abbrev pub is_left_out : Text → Bool
-  is_left_out f = is_listed m f && not (is_explicit (admitted limit m.features) f)
-
   -- what a finding of the code says of f
   abbrev pub Holds : Code → Text → Type 0
-  Holds NotOptional f = IsTrue (lists m (is_not_optional m) f)
-  Holds SameName f = IsTrue (has_same_name m f)
-  Holds Unknown f = IsTrue (lists m (is_unknown m) f) ⊎ IsTrue (requires_missing m (parsed_table limit m) f)
+  Holds NotOptional f = IsTrue (lists m.features (is_not_optional (names_of m)) f)
+  Holds SameName f = IsTrue (has_same_name (names_of m) f)
+  Holds Unknown f =
+      IsTrue (lists m.features (is_unknown (names_of m)) f)
+      ⊎ IsTrue (is_required (names_of m) (parsed_table limit m).has m.bin f)
   Holds Implied f = IsTrue (is_implied (admitted limit m.features) (parsed_entries limit m) f)
-  Holds PrivateDefault f = IsTrue (is_hidden f || is_private m f) × IsOnlyDefault (parsed_table limit m) f
+  Holds PrivateDefault f = IsTrue (is_hidden f || is_private f) × IsOnlyDefault (parsed_table limit m) f
   Holds Cycle f = IsCyclic (parsed_table limit m) f
-  Holds OverLimit f = IsTrue (is_left_out f) ⊎ IsTrue (has_more m limit f)
+  Holds OverLimit f = IsTrue (is_over limit m.features f)
   Holds Unreachable f = IsUnreachable (parsed_table limit m) f
 
 -- the level of a code, and its place among them in byte order of level and code

@@ -2,3 +2,4 @@ pub mod Items
 pub mod Findings
 pub mod Known
 pub mod Names
+pub mod Steps

@@ -1,4 +1,13 @@
 //! What is found of the graph of features.
+ghost use Rattle.std.specs.Prelude.{◌≡◌, ◌⊎◌, ◌↔◌, ◌&&◌, ◌||◌, false, IfOk, IsTrue, OnOk, nat_eq};
+ghost use Rattle.std.specs.Option.{option_map_or};
+ghost use Rattle.cargo_toml.specs.Action.{Text};
+ghost use Rattle.cargo_toml.specs.Reached.{IsKeyed};
+ghost use Rattle.cargo_toml.specs.Recursive.{Enables};
+ghost use Rattle.cargo_toml.specs.Views.{has_text, resolution_of, table_in, value_at};
+ghost use Rattle.cargo_toml_lint.specs.Findings.{IsUnreachable, is_hidden, is_private};
+ghost use Rattle.cargo_toml_lint.specs.Steps.{IsReached, IsRing, implied_at, only_default, private_default_at};
+
 use cargo_toml::Error;
 use cargo_toml::features::Feature;
 use std::alloc::{AllocError, Global};
@@ -9,125 +18,97 @@ use std::hash::BuildHasher;
 pub(crate) type FeatureMap<'m, S> = HashMap<&'m str, Feature<'m>, S>;
 
 /// Whether users aren't meant to ask for the feature, by its name.
-pub(crate) fn is_hidden(name: &str) -> bool {
+pub(crate) fn is_hidden(name: &str) -> bool
+    ensures { result ≡ is_hidden name.now }
+{
     name.starts_with('_')
 }
 
 // Whether the manifest marks the feature as private. No manifest can say so yet, so none is.
-fn is_private(_name: &str) -> bool {
+fn is_private(_name: &str) -> bool
+    ensures { result ≡ false }
+{
     false
+}
+
+/// The names of the features.
+pub(crate) fn names<'m, S: BuildHasher>(
+    alloc: Global,
+    features: &FeatureMap<'m, S>,
+) -> Result<BTreeSet<&'m str>, AllocError>
+    ensures { IfOk result (λ s. (f : Text) → has_text s f ≡ (table_in features.now).has f) }
+{
+    let mut names = BTreeSet::new(alloc);
+    for (name, _) in features {
+        names.insert(*name)?;
+    }
+    Ok(names)
+}
+
+// Whether an optional dependency implies the feature of this name.
+fn is_implied<S: BuildHasher>(features: &FeatureMap<'_, S>, name: &str) -> bool
+    ensures { result ≡ implied_at features.now name.now }
+{
+    match features.get(name) {
+        Some(feature) => !feature.explicit,
+        None => false,
+    }
 }
 
 /// The features that optional dependencies imply.
 pub(crate) fn implied<'m, S: BuildHasher>(
     alloc: Global,
+    names: &BTreeSet<&'m str>,
     features: &FeatureMap<'m, S>,
-) -> Result<BTreeSet<&'m str>, AllocError> {
-    let mut names = BTreeSet::new(alloc);
-    for (name, feature) in features {
-        if !feature.explicit {
-            names.insert(*name)?;
+) -> Result<BTreeSet<&'m str>, AllocError>
+    requires { (f : Text) → has_text names.now f ≡ (table_in features.now).has f }
+    ensures { IfOk result (λ s. (f : Text) → IsTrue (has_text s f) ↔ IsTrue (implied_at features.now f)) }
+{
+    let mut found = BTreeSet::new(alloc);
+    for name in names {
+        if is_implied(features, *name) {
+            found.insert(*name)?;
         }
     }
-    Ok(names)
+    Ok(found)
 }
 
-// Whether `default` enables the feature, and nothing else does.
-fn is_only_default(feature: &Feature<'_>) -> bool {
+// Whether `default` enables the feature, and no other does.
+fn is_only_default(feature: &Feature<'_>) -> bool
+    ensures { result ≡ only_default feature.now }
+{
     let mut others = feature.non_default_enabled_by();
-    feature.enabled_by.contains("default") && others.next().is_none()
+    let is_only = others.next().is_none();
+    feature.enabled_by.contains("default") && is_only
+}
+
+// Whether the feature of this name is hidden or private, and `default` enables it and no other.
+fn is_private_default<S: BuildHasher>(features: &FeatureMap<'_, S>, name: &str) -> bool
+    ensures { result ≡ private_default_at features.now name.now }
+{
+    if !is_hidden(name) && !is_private(name) {
+        return false;
+    }
+    match features.get(name) {
+        Some(feature) => is_only_default(feature),
+        None => false,
+    }
 }
 
 /// The hidden or private features that `default` enables and nothing else does.
 pub(crate) fn private_default<'m, S: BuildHasher>(
     alloc: Global,
+    names: &BTreeSet<&'m str>,
     features: &FeatureMap<'m, S>,
-) -> Result<BTreeSet<&'m str>, AllocError> {
-    let mut names = BTreeSet::new(alloc);
-    for (name, feature) in features {
-        if (is_hidden(*name) || is_private(*name)) && is_only_default(feature) {
-            names.insert(*name)?;
+) -> Result<BTreeSet<&'m str>, AllocError>
+    requires { (f : Text) → has_text names.now f ≡ (table_in features.now).has f }
+    ensures { IfOk result (λ s. (f : Text) → IsTrue (has_text s f) ↔ IsTrue (private_default_at features.now f)) }
+{
+    let mut found = BTreeSet::new(alloc);
+    for name in names {
+        if is_private_default(features, *name) {
+            found.insert(*name)?;
         }
     }
-    Ok(names)
-}
-
-// Whether the feature names the one of this name.
-fn names_back(enabled: Option<&&Feature<'_>>, name: &str) -> bool {
-    match enabled {
-        Some(feature) => feature.enables_features.contains(name),
-        None => false,
-    }
-}
-
-// Whether the feature enables itself through others, by names.
-fn is_cyclic<'m, S: BuildHasher + Clone>(
-    alloc: Global,
-    feature: &Feature<'m>,
-    features: &FeatureMap<'m, S>,
-) -> Result<bool, Error> {
-    let (enabled, _dependencies) = feature.enables_recursive(alloc, features)?;
-    for name in &feature.enabled_by {
-        if names_back(enabled.get(*name), feature.key) {
-            return Ok(true);
-        }
-    }
-    Ok(false)
-}
-
-/// The features that enable themselves through others, by names.
-pub(crate) fn cyclic<'m, S: BuildHasher + Clone>(
-    alloc: Global,
-    features: &FeatureMap<'m, S>,
-) -> Result<BTreeSet<&'m str>, Error> {
-    let mut names = BTreeSet::new(alloc);
-    for (name, feature) in features {
-        if is_cyclic(alloc, feature, features)? {
-            names.insert(*name)?;
-        }
-    }
-    Ok(names)
-}
-
-// Adds the features that a feature enables, by names.
-fn add_enabled<'m, S: BuildHasher + Clone>(
-    alloc: Global,
-    reached: &mut BTreeSet<&'m str>,
-    feature: &Feature<'m>,
-    features: &FeatureMap<'m, S>,
-) -> Result<(), Error> {
-    let (enabled, _dependencies) = feature.enables_recursive(alloc, features)?;
-    for (name, _) in &enabled {
-        reached.insert(*name)?;
-    }
-    Ok(())
-}
-
-// The features that those for users enable, by names.
-fn reached_by_users<'m, S: BuildHasher + Clone>(
-    alloc: Global,
-    features: &FeatureMap<'m, S>,
-) -> Result<BTreeSet<&'m str>, Error> {
-    let mut reached = BTreeSet::new(alloc);
-    for (name, feature) in features {
-        if !is_hidden(*name) {
-            add_enabled(alloc, &mut reached, feature, features)?;
-        }
-    }
-    Ok(reached)
-}
-
-/// The hidden features to which no kept one leads, by names.
-pub(crate) fn unreachable<'m, S: BuildHasher + Clone>(
-    alloc: Global,
-    features: &FeatureMap<'m, S>,
-) -> Result<BTreeSet<&'m str>, Error> {
-    let reached = reached_by_users(alloc, features)?;
-    let mut names = BTreeSet::new(alloc);
-    for (name, _) in features {
-        if is_hidden(*name) && !reached.contains(*name) {
-            names.insert(*name)?;
-        }
-    }
-    Ok(names)
+    Ok(found)
 }

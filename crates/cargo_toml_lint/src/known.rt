@@ -1,16 +1,17 @@
 //! Which names a manifest has: of features, of dependencies, and those that `dep:` names.
-ghost use Rattle.std.specs.Prelude.{◌≡◌, ◌&&◌, ◌||◌, IfOk, OnOk, bytes_eq, map, not, string_bytes};
+ghost use Rattle.std.specs.Prelude.{◌≡◌, ◌||◌, IfOk, OnOk, bytes_eq, codes, map, string_bytes};
 ghost use Rattle.std.specs.List.{list_any};
 ghost use Rattle.cargo_toml.specs.Action.{Text, item_of};
-ghost use Rattle.cargo_toml.specs.Dependencies.{dependency_meaning, is_optional};
+ghost use Rattle.cargo_toml.specs.Dependencies.{dependency_meaning};
 ghost use Rattle.cargo_toml.specs.Manifests.{manifest_meaning};
 ghost use Rattle.cargo_toml.specs.Reads.{map_meaning};
+ghost use Rattle.cargo_toml.specs.Targets.{target_meaning};
 ghost use Rattle.cargo_toml.specs.Views.{has_text};
-ghost use Rattle.cargo_toml_lint.specs.Known.{has_entry, is_dependency, is_listed, is_optional_key, is_reserved_key, reserves, says, tables_in};
-ghost use Rattle.cargo_toml_lint.specs.Names.{AreKnown, tried};
+ghost use Rattle.cargo_toml_lint.specs.Known.{has_entry, names_of, reserves, says, tables, tables_in};
+ghost use Rattle.cargo_toml_lint.specs.Names.{listed_by, names_in, tried};
 
 use crate::action::read_action;
-use cargo_toml::{DepsSet, FeatureSet, Manifest, TargetDepsSet};
+use cargo_toml::{Dependency, DepsSet, FeatureSet, Manifest, Target, TargetDepsSet};
 use std::alloc::{AllocError, Global};
 use std::collections::BTreeSet;
 
@@ -27,6 +28,13 @@ pub(crate) struct Known<'m> {
     pub reserved: BTreeSet<&'m str>,
 }
 
+// Whether the dependency counts, where all do or the optional ones alone.
+fn is_tried(are_all: bool, dependency: &Dependency) -> bool
+    ensures { result ≡ tried are_all (dependency_meaning dependency.now) }
+{
+    are_all || dependency.optional()
+}
+
 // Adds the keys of a table, or those of its optional dependencies alone.
 fn add_table<'m>(
     keys: &mut BTreeSet<&'m str>,
@@ -37,29 +45,25 @@ fn add_table<'m>(
         || has_entry (tried are_all) k (map_meaning dependency_meaning table.now))) }
 {
     for (key, dependency) in table {
-        if are_all || dependency.optional() {
+        if is_tried(are_all, dependency) {
             keys.insert(key.as_str())?;
         }
     }
     Ok(())
 }
 
-// Adds those of three tables.
-fn add_tables<'m>(
+// Adds those of the tables of a target.
+fn add_target<'m>(
     keys: &mut BTreeSet<&'m str>,
-    normal: &'m DepsSet,
-    build: &'m DepsSet,
-    dev: &'m DepsSet,
+    target: &'m Target,
     are_all: bool,
 ) -> Result<(), AllocError>
     ensures { OnOk result ((k : Text) → has_text keys.new k ≡ (has_text keys.old k
-        || (has_entry (tried are_all) k (map_meaning dependency_meaning normal.now)
-        || (has_entry (tried are_all) k (map_meaning dependency_meaning build.now)
-        || has_entry (tried are_all) k (map_meaning dependency_meaning dev.now))))) }
+        || list_any (has_entry (tried are_all) k) (tables_in (target_meaning target.now)))) }
 {
-    add_table(keys, normal, are_all)?;
-    add_table(keys, build, are_all)?;
-    add_table(keys, dev, are_all)
+    add_table(keys, &target.dependencies, are_all)?;
+    add_table(keys, &target.build_dependencies, are_all)?;
+    add_table(keys, &target.dev_dependencies, are_all)
 }
 
 // Adds those of each target.
@@ -69,16 +73,11 @@ fn add_targets<'m>(
     are_all: bool,
 ) -> Result<(), AllocError>
     ensures { OnOk result ((k : Text) → has_text keys.new k ≡ (has_text keys.old k
-        || list_any (λ t. list_any (has_entry (tried are_all) k) (tables_in t.1)) (map_meaning target_meaning targets.now))) }
+        || list_any (λ t. list_any (has_entry (tried are_all) k) (tables_in t.1))
+        (map_meaning target_meaning targets.now))) }
 {
     for (_, target) in targets {
-        add_tables(
-            keys,
-            &target.dependencies,
-            &target.build_dependencies,
-            &target.dev_dependencies,
-            are_all,
-        )?;
+        add_target(keys, target, are_all)?;
     }
     Ok(())
 }
@@ -93,13 +92,9 @@ fn keys_of<'m, M>(
         ≡ list_any (has_entry (tried are_all) k) (tables (manifest_meaning (λ m. m) manifest.now))) }
 {
     let mut keys = BTreeSet::new(alloc);
-    add_tables(
-        &mut keys,
-        &manifest.dependencies,
-        &manifest.build_dependencies,
-        &manifest.dev_dependencies,
-        are_all,
-    )?;
+    add_table(&mut keys, &manifest.dependencies, are_all)?;
+    add_table(&mut keys, &manifest.build_dependencies, are_all)?;
+    add_table(&mut keys, &manifest.dev_dependencies, are_all)?;
     add_targets(&mut keys, &manifest.target, are_all)?;
     Ok(keys)
 }
@@ -135,12 +130,33 @@ pub(crate) fn known_names<'m, M>(
     alloc: Global,
     manifest: &'m Manifest<M>,
 ) -> Result<Known<'m>, AllocError>
-    ensures { IfOk result (AreKnown (manifest_meaning (λ m. m) manifest.now)) }
+    ensures names { IfOk result (λ known. names_in known ≡ names_of (manifest_meaning (λ m. m) manifest.now)) }
+    ensures listed { IfOk result (λ known. listed_by known ≡ (manifest_meaning (λ m. m) manifest.now).features) }
 {
+    let dependencies = keys_of(alloc, manifest, true)?;
+    let optional = keys_of(alloc, manifest, false)?;
+    let reserved = reserved_keys(alloc, &manifest.features)?;
     Ok(Known {
         features: &manifest.features,
-        dependencies: keys_of(alloc, manifest, true)?,
-        optional: keys_of(alloc, manifest, false)?,
-        reserved: reserved_keys(alloc, &manifest.features)?,
+        dependencies,
+        optional,
+        reserved,
     })
+}
+
+impl Known<'_> {
+    /// Whether the table of features has the name.
+    pub(crate) fn lists(&self, name: &str) -> bool
+        ensures { result ≡ (names_in self.now).listed name.now }
+    {
+        self.features.contains_key(name)
+    }
+
+    /// Whether the name is that of a feature or of an optional dependency.
+    pub(crate) fn has_name(&self, name: &str) -> bool
+        ensures { result ≡ ((names_in self.now).listed name.now
+            || (bytes_eq name.now (codes "default") || (names_in self.now).optional name.now)) }
+    {
+        self.lists(name) || name == "default" || self.optional.contains(name)
+    }
 }

@@ -6,8 +6,9 @@ mod adding;
 mod finding;
 mod graph;
 mod known;
-mod lint;
+mod linting;
 mod lists;
+mod walks;
 
 pub use finding::{Code, Finding, Level};
-pub use lint::{MAX_ITEMS, lint, lint_limited};
+pub use linting::{MAX_ITEMS, lint, lint_limited};

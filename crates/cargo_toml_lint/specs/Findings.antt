@@ -151,11 +151,11 @@ abbrev pub IsFound : List Finding → Code → Text → Type 0
 IsFound xs c f = Among (map about xs) (c, f)
 
 -- by level and code, then by feature, each in byte order
-abbrev pub finding_cmp : Finding → Finding → Ordering
-finding_cmp a b = ordering_then (nat_cmp (rank a.code) (rank b.code)) (slice_cmp nat_cmp a.feature.now b.feature.now)
+abbrev pub about_cmp : Code × Text → Code × Text → Ordering
+about_cmp a b = ordering_then (nat_cmp (rank a.0) (rank b.0)) (slice_cmp nat_cmp a.1 b.1)
 
 abbrev pub AreInOrder : List Finding → Type 0
-AreInOrder xs = IsStrictlySortedBy finding_cmp xs
+AreInOrder xs = IsStrictlySortedBy about_cmp (map about xs)
 
 -- a finding has the level and the words of its code
 abbrev pub IsTold : Finding → Type 0

@@ -1,9 +1,9 @@
 -- What the steps of linting find in what was gathered and resolved: no public contract rests on it.
 use Rattle.std.specs.Prelude.{◌≡◌, ◌⊎◌, ◌↔◌, ◌<◌, ◌+◌, ◌==◌, ℕ, Bool, false, ◌&&◌, ◌||◌, not, nat_lt, length, List, IsTrue, IsFalse, bytes_eq, codes}
-use Rattle.std.specs.BTreeSet.{BTreeSet}
 use Rattle.std.specs.Borrow.{Bor}
 use Rattle.std.specs.HashMap.{HashMap}
 use Rattle.std.specs.List.{AllByRecursion, list_any}
+use Rattle.std.specs.List.Sorted.{IsStrictlySortedBy}
 use Rattle.std.specs.Option.{option_map_or}
 use Rattle.cargo_toml.specs.Action.{Text}
 use Rattle.cargo_toml.specs.Admitted.{Listed}
@@ -11,9 +11,10 @@ use Rattle.cargo_toml.specs.Feature.{Feature}
 use Rattle.cargo_toml.specs.Graph.{Table, Resolution}
 use Rattle.cargo_toml.specs.NonDefault.{without_default}
 use Rattle.cargo_toml.specs.Products.{ProductMeaning}
+use Rattle.cargo_toml.specs.Reach.{Among}
 use Rattle.cargo_toml.specs.Recursive.{Enables}
 use Rattle.cargo_toml.specs.Views.{has_text, resolution_of, table_in, value_at}
-use Rattle.cargo_toml_lint.specs.Findings.{AreInOrder, IsFound, IsTold, IsUnreachable, has_same_name, is_hidden, is_not_optional, is_private, is_required, is_unknown, rank}
+use Rattle.cargo_toml_lint.specs.Findings.{IsTold, IsUnreachable, about_cmp, has_same_name, is_hidden, is_not_optional, is_private, is_required, is_unknown, rank}
 use Rattle.cargo_toml_lint.specs.Known.{lists}
 use Rattle.cargo_toml_lint.specs.Names.{listed_by, names_in}
 use Rattle.cargo_toml_lint.specs.declared.finding.Code.{Code}
@@ -57,24 +58,31 @@ module _ {S : Type 0} (m : HashMap (Bor Text) Feature S) where
   HoldsIn known bins limit OverLimit f = IsTrue (over_at limit (listed_by known) f)
   HoldsIn known bins limit Unreachable f = IsUnreachable (table_in m) f
 
--- the findings are in order, and of codes below this place
-pub record AreBelow (r : ℕ) (xs : List Finding) : Type 0 where
-  pub in_order : AreInOrder xs
-  pub below : AllByRecursion (λ x. rank x.code < r) xs
+-- codes with features, as findings tell them
+abbrev pub Abouts : Type 0
+Abouts = List (Code × Text)
+
+-- they are in order, and of codes below this place
+pub record AreBelow (r : ℕ) (xs : Abouts) : Type 0 where
+  pub in_order : IsStrictlySortedBy about_cmp xs
+  pub below : AllByRecursion (λ x. rank x.0 < r) xs
 
 -- so the code holds of f, and no other
 abbrev pub At : Code → (Text → Type 0) → Code → Text → Type 0
 At d P c f = (c ≡ d) × P f
 
--- from findings of codes below r to such of codes below s: those of P are added
-pub record Adds (r s : ℕ) (P : Code → Text → Type 0) (old new : List Finding) : Type 0 where
-  pub found : (c : Code) (f : Text) → IsFound new c f ↔ (IsFound old c f ⊎ P c f)
+-- from codes below r to such below s: those of P are added
+pub record Adds (r s : ℕ) (P : Code → Text → Type 0) (old new : Abouts) : Type 0 where
+  pub found : (c : Code) (f : Text) → Among new (c, f) ↔ (Among old (c, f) ⊎ P c f)
   pub below : AreBelow r old → AreBelow s new
-  pub told : AllByRecursion IsTold old → AllByRecursion IsTold new
 
--- one code after another, and two
-abbrev pub AddsOne : Code → (Text → Type 0) → List Finding → List Finding → Type 0
+-- those of one code
+abbrev pub AddsOne : Code → (Text → Type 0) → Abouts → Abouts → Type 0
 AddsOne d P old new = Adds (rank d) (rank d + 1) (At d P) old new
+
+-- each has the level and the words of its code
+abbrev pub AreTold : List Finding → Type 0
+AreTold xs = AllByRecursion IsTold xs
 
 module _ {S : Type 0} (m : HashMap (Bor Text) Feature S) where
   -- what is found of the lists

@@ -1,9 +1,9 @@
 //! Findings of one code, added to those of others.
-ghost use Rattle.std.specs.Prelude.{◌≡◌, IsTrue, OnOk};
+ghost use Rattle.std.specs.Prelude.{◌≡◌, IsTrue, OnOk, map};
 ghost use Rattle.cargo_toml.specs.Action.{Text};
 ghost use Rattle.cargo_toml.specs.Views.{has_text};
-ghost use Rattle.cargo_toml_lint.specs.Findings.{IsTold};
-ghost use Rattle.cargo_toml_lint.specs.Steps.{AddsOne};
+ghost use Rattle.cargo_toml_lint.specs.Findings.{IsTold, about};
+ghost use Rattle.cargo_toml_lint.specs.Steps.{AddsOne, AreTold};
 
 use crate::finding::{Code, Finding};
 use std::alloc::AllocError;
@@ -29,7 +29,9 @@ pub(crate) fn add_findings<'m>(
     code: Code,
     names: &BTreeSet<&'m str>,
 ) -> Result<(), AllocError>
-    ensures { OnOk result (AddsOne code (λ f. IsTrue (has_text names.now f)) findings.old.items findings.new.items) }
+    ensures added { OnOk result (AddsOne code (λ f. IsTrue (has_text names.now f))
+        (map about findings.old.items) (map about findings.new.items)) }
+    ensures told { OnOk result (AreTold findings.old.items → AreTold findings.new.items) }
 {
     for name in names {
         findings.push(finding_of(code, *name))?;

@@ -106,7 +106,7 @@ fn add_reserved<'m>(reserved: &mut BTreeSet<&'m str>, texts: &'m [String]) -> Re
 {
     for text in texts {
         let action = read_action(text.as_str());
-        if action.is_dep_only {
+        if action.acts && action.is_dep_only {
             reserved.insert(action.target)?;
         }
     }

@@ -9,8 +9,8 @@ ghost use Rattle.cargo_toml.specs.Products.{product_meaning};
 ghost use Rattle.cargo_toml.specs.Reached.{IsKeyed};
 ghost use Rattle.cargo_toml.specs.Views.{answer_of, has_text, table_in};
 ghost use Rattle.cargo_toml_lint.specs.declared.finding.Code.{Code};
-ghost use Rattle.cargo_toml_lint.specs.Findings.{AreInOrder, Holds, IsFound, IsTold};
-ghost use Rattle.cargo_toml_lint.specs.Steps.{Adds, AreErrors, AreHints, AreWarnings, HoldsIn};
+ghost use Rattle.cargo_toml_lint.specs.Findings.{AreInOrder, Holds, IsFound, IsTold, about};
+ghost use Rattle.cargo_toml_lint.specs.Steps.{Adds, AreErrors, AreHints, AreTold, AreWarnings, HoldsIn};
 
 use crate::adding::add_findings;
 use crate::finding::{Code, Finding};
@@ -61,8 +61,9 @@ fn add_errors<'m, S: BuildHasher>(
     features: &FeatureMap<'m, S>,
     bins: &'m [Product],
 ) -> Result<(), AllocError>
-    ensures { OnOk result (Adds 0 3 (AreErrors features.now known.now (map product_meaning bins.now))
-        findings.old.items findings.new.items) }
+    ensures added { OnOk result (Adds 0 3 (AreErrors features.now known.now (map product_meaning bins.now))
+        (map about findings.old.items) (map about findings.new.items)) }
+    ensures told { OnOk result (AreTold findings.old.items → AreTold findings.new.items) }
 {
     let not_optional = not_optional(alloc, known)?;
     add_findings(findings, Code::NotOptional, &not_optional)?;
@@ -80,7 +81,9 @@ fn add_hints<'m, S: BuildHasher>(
     features: &FeatureMap<'m, S>,
 ) -> Result<(), AllocError>
     requires { (f : Text) → has_text names.now f ≡ (table_in features.now).has f }
-    ensures { OnOk result (Adds 3 5 (AreHints features.now) findings.old.items findings.new.items) }
+    ensures added { OnOk result (Adds 3 5 (AreHints features.now)
+        (map about findings.old.items) (map about findings.new.items)) }
+    ensures told { OnOk result (AreTold findings.old.items → AreTold findings.new.items) }
 {
     let implied = implied(alloc, names, features)?;
     add_findings(findings, Code::Implied, &implied)?;
@@ -99,7 +102,9 @@ fn add_warnings<'m, S: BuildHasher + Clone>(
 ) -> Result<(), Error>
     requires keyed { IsKeyed features.now }
     requires names { (f : Text) → has_text names.now f ≡ (table_in features.now).has f }
-    ensures added { OnOk result (Adds 5 8 (AreWarnings features.now known.now limit) findings.old.items findings.new.items) }
+    ensures added { OnOk result (Adds 5 8 (AreWarnings features.now known.now limit)
+        (map about findings.old.items) (map about findings.new.items)) }
+    ensures told { OnOk result (AreTold findings.old.items → AreTold findings.new.items) }
     ensures refused { IfErr result (λ e. e ≡ Memory) }
 {
     let cyclic = cyclic(alloc, names, features)?;

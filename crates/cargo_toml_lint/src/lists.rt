@@ -1,5 +1,5 @@
 //! What is found of the lists of features, and of what binaries require.
-ghost use Rattle.std.specs.Prelude.{◌≡◌, ◌&&◌, ◌||◌, IfOk, OnOk, length, map, nat_lt, not, string_bytes};
+ghost use Rattle.std.specs.Prelude.{◌≡◌, ◌↔◌, ◌&&◌, ◌||◌, IfOk, IsTrue, OnOk, length, map, nat_lt, not, string_bytes};
 ghost use Rattle.std.specs.List.{list_any};
 ghost use Rattle.cargo_toml.specs.Action.{Text, item_of};
 ghost use Rattle.cargo_toml.specs.Products.{product_meaning};
@@ -92,16 +92,23 @@ pub(crate) fn not_optional<'m>(
     Ok(names)
 }
 
+// Whether a feature and an optional dependency have the name, which no action names by `dep:`.
+fn is_same_name(known: &Known<'_>, name: &str) -> bool
+    ensures { result ≡ has_same_name (names_in known.now) name.now }
+{
+    known.lists(name) && known.optional.contains(name) && !known.reserved.contains(name)
+}
+
 /// The listed features with the name of an optional dependency that no action names by `dep:`.
 pub(crate) fn same_name<'m>(
     alloc: Global,
     known: &Known<'m>,
 ) -> Result<BTreeSet<&'m str>, AllocError>
-    ensures { IfOk result (λ s. (f : Text) → has_text s f ≡ has_same_name (names_in known.now) f) }
+    ensures { IfOk result (λ s. (f : Text) → IsTrue (has_text s f) ↔ IsTrue (has_same_name (names_in known.now) f)) }
 {
     let mut names = BTreeSet::new(alloc);
     for name in &known.optional {
-        if known.lists(*name) && !known.reserved.contains(*name) {
+        if is_same_name(known, *name) {
             names.insert(*name)?;
         }
     }

@@ -1,5 +1,5 @@
 //! What is found of the graph of features by walking it: by names, and to any depth.
-ghost use Rattle.std.specs.Prelude.{◌≡◌, ◌⊎◌, ◌↔◌, ◌||◌, false, IfOk, IfErr, IsTrue, OnOk, is_some};
+ghost use Rattle.std.specs.Prelude.{◌≡◌, ◌⊎◌, ◌↔◌, ◌&&◌, ◌||◌, false, IfOk, IfErr, IsTrue, OnOk, is_some, not};
 ghost use Rattle.std.specs.List.{list_any};
 ghost use Rattle.std.specs.Option.{option_map_or};
 ghost use Rattle.cargo_toml.specs.Action.{Text};
@@ -7,7 +7,7 @@ ghost use Rattle.cargo_toml.specs.Error.{Memory};
 ghost use Rattle.cargo_toml.specs.Reached.{IsKeyed};
 ghost use Rattle.cargo_toml.specs.Recursive.{Enables};
 ghost use Rattle.cargo_toml.specs.Views.{has_text, resolution_of, table_in, value_at};
-ghost use Rattle.cargo_toml_lint.specs.Findings.{IsUnreachable};
+ghost use Rattle.cargo_toml_lint.specs.Findings.{IsUnreachable, is_hidden};
 ghost use Rattle.cargo_toml_lint.specs.Steps.{IsReached, IsRing};
 
 use crate::graph::{FeatureMap, is_hidden};
@@ -138,6 +138,17 @@ fn reached_by_users<'m, S: BuildHasher + Clone>(
     Ok(reached)
 }
 
+// Whether the feature of this name is hidden, and not among those that are reached.
+fn is_left_alone<S: BuildHasher>(
+    features: &FeatureMap<'_, S>,
+    reached: &BTreeSet<&str>,
+    name: &str,
+) -> bool
+    ensures { result ≡ ((table_in features.now).has name.now && (is_hidden name.now && not (has_text reached.now name.now))) }
+{
+    features.contains_key(name) && is_hidden(name) && !reached.contains(name)
+}
+
 /// The hidden features to which no kept one leads, by names.
 pub(crate) fn unreachable<'m, S: BuildHasher + Clone>(
     alloc: Global,
@@ -152,7 +163,7 @@ pub(crate) fn unreachable<'m, S: BuildHasher + Clone>(
     let reached = reached_by_users(alloc, names, features)?;
     let mut found = BTreeSet::new(alloc);
     for name in names {
-        if is_hidden(*name) && !reached.contains(*name) {
+        if is_left_alone(features, &reached, *name) {
             found.insert(*name)?;
         }
     }

@@ -1,6 +1,7 @@
 -- What a loop over a list gathers.
-use Rattle.std.proofs.Common.{◌≡◌, ◌⊎◌, ◌↔◌, ◌||◌, ◌&&◌, Bool, true, false, List, [], ◌∷◌, ◌++◌, Bor, bytes_eq, IsTrue, refl, sym, ap, subst, inl, inr, ◌∙◌}
-use Rattle.std.proofs.Math.Bool.{or-false, or_assoc}
+use Rattle.std.proofs.Common.{◌≡◌, ◌⊎◌, ◌↔◌, ◌||◌, ◌&&◌, ◌<◌, ◌+◌, ℕ, Bool, true, false, List, [], ◌∷◌, ◌++◌, map, take, length, get_or, Bor, bytes_eq, IsTrue, refl, sym, ap, subst, inl, inr, ◌∙◌}
+use Rattle.std.proofs.Math.Bool.{and-true, or-false, or_assoc}
+use Rattle.std.proofs.lemmas.List.{map_push, take_more}
 use Rattle.std.proofs.lemmas.Bool.{false≢true, or_cases, or_left, or_right}
 use Rattle.std.proofs.lemmas.List.Folds.{list_any-append}
 use Rattle.std.proofs.lemmas.Map.Text.{is_eq-slice_cmp}
@@ -80,3 +81,30 @@ module _ (P : Text → Type 0) where
 
   pub gathered : (left : List (Bor Text)) (s : BTreeSet (Bor Text)) → left ≡ [] → Gathers P left s → (f : Text) → IsTrue (has_text s f) ↔ P f
   gathered left s none g f = (g.sound f, λ p. elim (g.complete f p) [ inl h ↦ h | inr i ↦ absurd (false≢true (ap (λ xs. has_in xs f) none ∙ i)) ])
+
+-- ---- one step of a loop
+-- a key is put into a set where the test holds
+pub put_if : (old new same test : Bool) → test ≡ true → new ≡ (old || same) → new ≡ (old || (same && test))
+put_if old new same test is put = put ∙ ap (λ b. old || b) (sym (ap (λ b. same && b) is ∙ and-true same))
+
+-- one more of the first elements
+pub any_more : {X Y : Type 0} (p : Y → Bool) (g : X → Y) (xs : List X) (i : ℕ) (x : X) → i < length xs → x ≡ get_or xs i x →
+    list_any p (map g (take (i + 1) xs)) ≡ (list_any p (map g (take i xs)) || p (g x))
+any_more p g xs i x below read =
+    ap (λ ys. list_any p (map g ys)) (take_more xs i x below ∙ ap (λ y. take i xs ++ y ∷ []) (sym read))
+    ∙ ap (list_any p) (map_push g (take i xs) x) ∙ list_any-append p (map g (take i xs)) (g x ∷ [])
+    ∙ ap (λ b. list_any p (map g (take i xs)) || b) (or-false (p (g x)))
+
+-- one more hit, after those that were there
+pub more_hits : (start before old new hit now : Bool) → old ≡ (start || before) → new ≡ (old || hit) → now ≡ (before || hit) → new ≡ (start || now)
+more_hits start before old new hit now had put is = put ∙ ap (λ b. b || hit) had ∙ or_assoc start before hit ∙ ap (λ b. start || b) (sym is)
+
+pub no_hit : (start before old hit now : Bool) → old ≡ (start || before) → hit ≡ false → now ≡ (before || hit) → old ≡ (start || now)
+no_hit start before old hit now had miss is = had ∙ ap (λ b. start || b) (sym (is ∙ ap (λ b. before || b) miss ∙ or-false before))
+
+-- a test of an early answer over what is left
+pub hit_settles : {A : Type 0} (p : A → Bool) (x : A) (left rest : List A) (all : Bool) → left ≡ x ∷ rest → p x ≡ true → list_any p left ≡ all → all ≡ true
+hit_settles p x left rest all is hit before = sym before ∙ ap (list_any p) is ∙ or_left (p x) (list_any p rest) hit
+
+pub miss_passes : {A : Type 0} (p : A → Bool) (x : A) (left rest : List A) (all : Bool) → left ≡ x ∷ rest → p x ≡ false → list_any p left ≡ all → list_any p rest ≡ all
+miss_passes p x left rest all is miss before = ap (λ b. b || list_any p rest) (sym miss) ∙ ap (list_any p) (sym is) ∙ before

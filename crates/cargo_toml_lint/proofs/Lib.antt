@@ -1,6 +1,6 @@
 pub mod Gathered
 pub mod Items
-pub mod Adding
+pub mod Added
 pub mod Names
-pub mod Walks
+pub mod Walked
 pub mod Whole

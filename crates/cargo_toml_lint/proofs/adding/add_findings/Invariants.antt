@@ -1,7 +1,7 @@
 use Rattle.std.proofs.Common.{◌≡◌, ◌++◌, map}
 use Rattle.cargo_toml_lint.specs.Findings.{about}
 use Rattle.cargo_toml_lint.specs.Steps.{AreTold}
-use Rattle.cargo_toml_lint.proofs.Adding.{with_code}
+use Rattle.cargo_toml_lint.proofs.Added.{with_code}
 use Rattle.cargo_toml_lint.proofs.adding.add_findings.Given as goal
 
 abbrev pub invariant-loop-name : goal.invariant-loop-name

@@ -1,5 +1,5 @@
 use Rattle.cargo_toml.specs.Views.{table_in}
-use Rattle.cargo_toml_lint.proofs.Walks.{Reaching}
+use Rattle.cargo_toml_lint.proofs.Walked.{Reaching}
 use Rattle.cargo_toml_lint.proofs.walks.reached_by_users.Given as goal
 
 abbrev pub invariant-loop-name : goal.invariant-loop-name

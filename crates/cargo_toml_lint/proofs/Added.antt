@@ -1,19 +1,24 @@
 -- Findings of one code after those of others.
-use Rattle.std.proofs.Common.{◌≡◌, ◌⊎◌, ◌↔◌, ◌<◌, ◌≤◌, ◌+◌, ℕ, List, [], ◌∷◌, ◌++◌, map, Bor, IsTrue, Bool, true, false, arith, refl, sym, ap, subst, inl, inr, ◌∙◌}
+use Rattle.std.proofs.Common.{◌≡◌, ◌⊎◌, ◌↔◌, ◌<◌, ◌≤◌, ◌+◌, ℕ, List, [], ◌∷◌, ◌++◌, map, Bor, IsTrue, Bool, true, false, arith, append-nil, refl, sym, ap, subst, inl, inr, ◌∙◌}
 use Rattle.std.proofs.lemmas.Bool.{false≢true, or_cases, or_left, or_right, lt-ltb}
 use Rattle.std.proofs.lemmas.Map.Text.{is_eq-slice_cmp}
 use Rattle.std.proofs.lemmas.Slice.Eq.{bytes_eq-Decides}
 use Rattle.std.specs.Cmp.Lexicographic.{slice_cmp}
+use Rattle.std.specs.HashMap.{HashMap}
 use Rattle.std.specs.List.{AllByRecursion, list_any}
 use Rattle.std.specs.List.Sorted.{IsStrictlySortedBy}
 use Rattle.std.specs.Ordering.{nat_cmp, ordering_then}
 use Rattle.std.specs.declared.cmp.Ordering.{Ordering}
 use Rattle.std.specs.declared.cmp.Ordering.TheVariants.{Less, Equal}
 use Rattle.cargo_toml.specs.Action.{Text}
+use Rattle.cargo_toml.specs.Feature.{Feature}
+use Rattle.cargo_toml.specs.Products.{ProductMeaning}
 use Rattle.cargo_toml.specs.Reach.{Among}
 use Rattle.cargo_toml_lint.specs.Findings.{about_cmp, rank}
-use Rattle.cargo_toml_lint.specs.Steps.{Abouts, Adds, AddsOne, AreBelow, At}
+use Rattle.cargo_toml_lint.specs.Steps.{Abouts, Adds, AddsOne, AreBelow, AreErrors, AreHints, AreWarnings, At, HoldsIn}
 use Rattle.cargo_toml_lint.specs.declared.finding.Code.{Code}
+use Rattle.cargo_toml_lint.specs.declared.finding.Code.TheVariants.{NotOptional, SameName, Unknown, Implied, PrivateDefault, Cycle, OverLimit, Unreachable}
+use Rattle.cargo_toml_lint.specs.declared.known.Known.{Known}
 use Rattle.cargo_toml_lint.proofs.Gathered.{has_in}
 
 -- ---- who is among two lists
@@ -130,3 +135,48 @@ adds_as d same h = record {
   );
   below = h.below;
 }
+
+-- an equation of tests, both ways
+pub same_as : {a b : Bool} → a ≡ b → IsTrue a ↔ IsTrue b
+same_as e = (λ h. sym e ∙ h, λ h. e ∙ h)
+
+-- once no key is left
+pub all_added : (now start : Abouts) (d : Code) (left ks : List (Bor Text)) → left ≡ [] → now ++ with_code d left ≡ start ++ with_code d ks → now ≡ start ++ with_code d ks
+all_added now start d left ks none e = sym (append-nil now) ∙ ap (λ xs. now ++ with_code d xs) (sym none) ∙ e
+
+-- nothing is in order, and below each place
+pub none_below : (xs : Abouts) → xs ≡ [] → AreBelow 0 xs
+unfolding IsStrictlySortedBy
+none_below xs none = subst (AreBelow 0) (sym none) (record { in_order = tt; below = tt })
+
+-- what errors, hints and warnings say, is what the codes say
+module _ {S : Type 0} (m : HashMap (Bor Text) Feature S) (known : Known) (bins : List ProductMeaning) (limit : ℕ) where
+  abbrev AreAll : Code → Text → Type 0
+  AreAll c f = (AreErrors m known bins c f ⊎ AreHints m c f) ⊎ AreWarnings m known limit c f
+
+  said : (c : Code) (f : Text) → AreAll c f → HoldsIn m known bins limit c f
+  said c f (inl (inl (inl (inl h)))) = subst (λ d. HoldsIn m known bins limit d f) (sym h.0) h.1
+  said c f (inl (inl (inl (inr h)))) = subst (λ d. HoldsIn m known bins limit d f) (sym h.0) h.1
+  said c f (inl (inl (inr h))) = subst (λ d. HoldsIn m known bins limit d f) (sym h.0) h.1
+  said c f (inl (inr (inl h))) = subst (λ d. HoldsIn m known bins limit d f) (sym h.0) h.1
+  said c f (inl (inr (inr h))) = subst (λ d. HoldsIn m known bins limit d f) (sym h.0) h.1
+  said c f (inr (inl (inl h))) = subst (λ d. HoldsIn m known bins limit d f) (sym h.0) h.1
+  said c f (inr (inl (inr h))) = subst (λ d. HoldsIn m known bins limit d f) (sym h.0) h.1
+  said c f (inr (inr h)) = subst (λ d. HoldsIn m known bins limit d f) (sym h.0) h.1
+
+  say : (c : Code) (f : Text) → HoldsIn m known bins limit c f → AreAll c f
+  say NotOptional f h = inl (inl (inl (inl (refl, h))))
+  say SameName f h = inl (inl (inl (inr (refl, h))))
+  say Unknown f h = inl (inl (inr (refl, h)))
+  say Implied f h = inl (inr (inl (refl, h)))
+  say PrivateDefault f h = inl (inr (inr (refl, h)))
+  say Cycle f h = inr (inl (inl (refl, h)))
+  say OverLimit f h = inr (inl (inr (refl, h)))
+  say Unreachable f h = inr (inr (refl, h))
+
+  -- findings that began with none
+  pub all_codes : {r s : ℕ} (old new : Abouts) → old ≡ [] → Adds r s AreAll old new → (c : Code) (f : Text) → Among new (c, f) ↔ HoldsIn m known bins limit c f
+  all_codes old new none added c f = (
+    λ i. elim ((added.found c f).0 i) [ inl j ↦ absurd (subst (λ xs. Among xs (c, f)) none j) | inr h ↦ said c f h ],
+    λ h. (added.found c f).1 (inr (say c f h)),
+  )

@@ -1,5 +1,6 @@
 -- The parts of an action text, and tests of it.
 use Rattle.std.proofs.Common.{◌≡◌, Bool, true, false, cond, ◌&&◌, ◌||◌, not, nat_eq, bytes_eq, codes, refl, sym, ap, ◌∙◌}
+use Rattle.std.proofs.Math.Bool.{and-false}
 use Rattle.std.specs.List.{starts_with, ends_with, before_first, after_first, list_any}
 use Rattle.cargo_toml.specs.Action.{Text, Item, without_start, without_end, is_slash, item_of}
 use Rattle.cargo_toml.specs.Action.Item.{Name, On}
@@ -60,3 +61,10 @@ module _ (text : Text) (t : ActionText) (is : item_in text t ≡ item_of text) w
 
   pub reserved_name : (k : Text) → t.acts ≡ false → reserves k (item_of text) ≡ false
   reserved_name k e = tested (reserves k) false e
+
+  pub not_reserved : (k : Text) → t.is_dep_only ≡ false → reserves k (item_of text) ≡ false
+  not_reserved k e = go t.acts refl
+    where
+      go : (acts : Bool) → t.acts ≡ acts → reserves k (item_of text) ≡ false
+      go true is = reserved_action k is ∙ ap (λ b. bytes_eq k t.target.now && b) e ∙ and-false (bytes_eq k t.target.now)
+      go false is = reserved_name k is

@@ -4,3 +4,4 @@ pub mod Added
 pub mod Names
 pub mod Walked
 pub mod Whole
+pub mod Exact

@@ -209,3 +209,21 @@ module _ {S : Type 0} (m : HashMap (Bor Text) Feature S) (listed : Listed) (entr
 
   pub over_is : (limit : ℕ) (all : Listed) (f : Text) → over_at m limit all f ≡ list_any (λ e. bytes_eq f e.0 && (nat_lt limit (length e.1) || not (is_explicit listed e.0))) all
   over_is limit all f = λ i. list_any (λ e. bytes_eq f e.0 && (nat_lt limit (length e.1) || not (explicit_is e.0 i))) all
+
+-- what is told of a name is told of a feature
+module _ {S : Type 0} (m : HashMap (Bor Text) Feature S) where
+  there_is : (f : Text) (test : Feature → Bool) → IsTrue (option_map_or test (value_at m f) false) → IsTrue ((table_in m).has f)
+  there_is f test h = go (value_at m f) h
+    where
+      go : (o : Option Feature) → IsTrue (option_map_or test o false) → IsTrue (is_some o)
+      go None h = h
+      go (Some v) h = refl
+
+  pub implied_has : (f : Text) → IsTrue (implied_at m f) → IsTrue ((table_in m).has f)
+  implied_has f h = there_is f (λ v. not v.explicit) h
+
+  pub private_has : (f : Text) → IsTrue (private_default_at m f) → IsTrue ((table_in m).has f)
+  private_has f h = there_is f only_default (and_parts (is_hidden f || is_private f) _ h).1
+
+  pub ring_has : (f : Text) → IsRing (resolution_of m) f → IsTrue ((table_in m).has f)
+  ring_has f r = there_is f (λ v. has_text v.enabled_by r.0) r.1

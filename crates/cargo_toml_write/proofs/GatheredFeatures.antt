@@ -11,18 +11,14 @@ use Rattle.cargo_toml_dependencies.specs.Details.{Detail, detail_of}
 use Rattle.cargo_toml_parts.specs.declared.error.Error.{Error}
 use Rattle.cargo_toml_parts.specs.Reads.{map_meaning, pairs_meaning}
 use Rattle.cargo_toml_write.specs.Ways.{texts_way}
-use Rattle.cargo_toml_write.specs.WrittenFeatures.{detail_at, feature_way, told_features, told_way}
+use Rattle.cargo_toml_write.specs.WrittenFeatures.{detail_at, feature_way, told_features}
 use Rattle.cargo_toml_write.specs.Writes.{IsWriting}
 use Rattle.cargo_toml_write.proofs.Entries.{meant}
 
--- a list, and a table
+-- a feature without a detail is written as its list
 pub as_list : (enables : List (List ℕ)) (r : Result Value Error) → IsWriting texts_way enables r → IsWriting feature_way (enables, None) r
 as_list enables (Ok v) written = written
 as_list enables (Err e) fault = fault
-
-pub as_table : (enables : List (List ℕ)) (detail : Detail) (r : Result Value Error) → IsWriting told_way (enables, detail) r → IsWriting feature_way (enables, Some detail) r
-as_table enables detail (Ok v) written = written
-as_table enables detail (Err e) fault = fault
 
 -- what is said of a name, looked up in the map
 choose : (b : Bool) (x : FeatureDetail) (r : Option FeatureDetail) (s : Option Detail) → s ≡ option_map detail_of r → cond b (Some (detail_of x)) s ≡ option_map detail_of (cond b (Some x) r)

@@ -42,7 +42,7 @@ returns-in_err-feature_value c =
     ∙ sym (detail_at-map c.as_str-in-loop-name.result.now c.args.details.now)
     ∙ ap (λ (n : List ℕ). detail_at n details) c.as_str-in-loop-name.ensures.value in
     let p = err_from_is_err_and c.from_residual-in_err-feature_value.result c.from_residual-in_err-feature_value.ensures.1 in
-    let refused = subst (λ (o : Option Detail). IsWriting feature_way (map string_bytes c.in-Some.enables.now.items, o) (Err _)) said c.in_err-feature_value.ensures in
+    let refused = subst (λ (o : Option Detail). IsWriting feature_way (map string_bytes c.in-Some.enables.now.items, o) (Err c.in_err-feature_value.field-0.0)) said c.in_err-feature_value.ensures in
     rw (p.1, p.2, ← told-by_name details c.args.lists.now.entries) (gather_err feature_way (with_detail details) _ _ c.loop-name.pairs.items (c.in-Some.name.now, (c.in-Some.name.now, c.in-Some.enables.now)) _ so_far refused)
 
 pub returns : goal.returns

@@ -11,4 +11,4 @@ mod Filters
 mod Kept
 mod SameAnswers
 mod AtLimit
-mod Documented
+mod UserFacing

@@ -1,4 +1,4 @@
-use Rattle.cargo_toml_bench.proofs.Documented.{IsTold}
+use Rattle.cargo_toml_bench.proofs.UserFacing.{IsTold}
 use Rattle.cargo_toml_bench.proofs.documented.documented.Given as goal
 
 abbrev pub invariant-loop-name : goal.invariant-loop-name

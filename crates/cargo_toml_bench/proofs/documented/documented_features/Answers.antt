@@ -5,7 +5,7 @@ use Rattle.cargo_toml.specs.Manifests.{manifest_meaning}
 use Rattle.cargo_toml.specs.Parsed.{IsParsed}
 use Rattle.cargo_toml.specs.Views.{answer_of}
 use Rattle.cargo_toml_bench.proofs.AtLimit.{parsed_at}
-use Rattle.cargo_toml_bench.proofs.Documented.{documented_is}
+use Rattle.cargo_toml_bench.proofs.UserFacing.{documented_is}
 use Rattle.cargo_toml_bench.proofs.Filters.{keeps_none}
 use Rattle.cargo_toml_bench.proofs.documented.documented_features.Goals as goal
 

@@ -106,15 +106,15 @@ module _ {S : Type 0} (m : HashMap (Bor Text) Feature S) where
   pub told_none : (yielded : Walked) (k : Bor (Bor Text)) (v : Bor Feature) (s : Said) → value_at m k.now.now ≡ Some v.now → shown v.now ≡ None → IsTold m yielded s → IsTold m (yielded ++ (k, v) ∷ []) s
   told_none yielded k v s there is before = told_next yielded k v s s there (λ f. go f (bytes_eq k.now.now f) refl) before
     where
-      nothing : (t : Bool) → cond t (None {A = Option Text}) None ≡ None
-      nothing true = refl
-      nothing false = refl
+      nothing : (t : Bool) (o : Option (Option Text)) → o ≡ None → cond t o None ≡ None
+      nothing true o e = e
+      nothing false o e = refl
 
       go : (f : Text) (t : Bool) → bytes_eq k.now.now f ≡ t → said_at s f ≡ cond t (shown v.now) (said_at s f)
       go f true on =
           before f
-          ∙ ap (λ o. cond (is_walked yielded f) o None) (ap (option_and_then shown) (ap (value_at m) (sym ((bytes_eq-Decides k.now.now f).0 on)) ∙ there) ∙ is)
-          ∙ nothing (is_walked yielded f) ∙ sym is
+          ∙ nothing (is_walked yielded f) (shown_at m f) (ap (option_and_then shown) (ap (value_at m) (sym ((bytes_eq-Decides k.now.now f).0 on)) ∙ there) ∙ is)
+          ∙ sym is
       go f false off = refl
 
   keys_shown : (xs : Walked) → map (λ e. e.0.now) xs ≡ map (λ (e : Bor Text × Feature). e.0) (map deref_pair xs)

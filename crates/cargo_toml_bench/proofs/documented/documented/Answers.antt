@@ -10,8 +10,8 @@ use Rattle.cargo_toml_bench.specs.Documented.{shown}
 use Rattle.cargo_toml_bench.proofs.UserFacing.{all_told, shown_by, told_none, told_one}
 use Rattle.cargo_toml_bench.proofs.documented.documented.Goals as goal
 
-pub loop-name-preserved-then-is_user_facing : goal.loop-name-preserved-then-is_user_facing
-loop-name-preserved-then-is_user_facing g c =
+pub loop-name-preserved-in_ok-insert : goal.loop-name-preserved-in_ok-insert
+loop-name-preserved-in_ok-insert g c =
     let there : value_at c.args.features.now c.in-Some.name.now.now ≡ Some c.in-Some.feature.now =
     (hash_map_turn deref_pair c.loop-name.yielded c.into_iter-name-iterator.result c.loop-name.name-iterator c.next.new.self c.next.result (c.in-Some.name, c.in-Some.feature) c.loop-name.yielded_by c.in-Some.is c.next.ensures.steps
     (on_texts_equal (λ (k : Bor Text). k.now)) c.args.features.now c.into_iter-name-iterator.ensures.into_iter_gives.0 c.into_iter-name-iterator.ensures.into_iter_gives.4).1 in

@@ -4,6 +4,7 @@ They are written once more and by other means. Nothing here follows the crate's 
 and actions are found as paths in the whole graph of features, none of which is taken out.
 """
 
+import itertools
 import tomllib
 
 LIMIT = 2048
@@ -23,6 +24,17 @@ def mention(text):
     if not is_dep_only and not slash:
         return key, None
     return key, (key != name, is_dep_only, frozenset([feature] if slash else []))
+
+
+def enabled_by(written):
+    """The texts of a feature, which is written as a list or as a table."""
+    return written.get("enables", []) if isinstance(written, dict) else written
+
+
+def said_of(written):
+    """Whether a feature is public, and its text or nothing."""
+    table = written if isinstance(written, dict) else {}
+    return table.get("public", True), table.get("doc")
 
 
 def join(one, other):
@@ -77,10 +89,12 @@ class Graph:
         table = manifest.get("features", {})
         listed = in_order(table)[:limit]
         self.explicit = {*listed, "default"}
+        # Nothing is said of a feature that isn't listed: of an implied one, and of `default` where it is added.
+        self.said = {feature: said_of(table[feature]) for feature in self.explicit & table.keys()}
         self.names = {feature: set() for feature in self.explicit}
         self.actions = {feature: {} for feature in self.explicit}
         for feature in self.explicit:
-            for text in table.get(feature, [])[:limit]:
+            for text in enabled_by(table.get(feature, []))[:limit]:
                 key, action = mention(text)
                 if action:
                     self.actions[feature][key] = join(self.actions[feature].get(key), action)
@@ -157,7 +171,9 @@ class Expected:
         origin = "explicit" if feature in graph.explicit else "implied"
         deps = [written_action(key, actions[key]) for key in in_order(actions)]
         line = f"feature {feature} | {origin} | names: {listed(in_order(names))} | deps: {listed(deps)}"
-        return f"{line} | by: {listed(enablers)} | bins: {listed(self.bins[feature])}"
+        line = f"{line} | by: {listed(enablers)} | bins: {listed(self.bins[feature])}"
+        is_public, text = graph.said.get(feature, (True, None))
+        return line + " | private" * (not is_public) + (f" | doc: {text}" if text is not None else "")
 
     def passed_on(self):
         """The binaries of each feature: in byte order each removed one passes the first ten of its
@@ -182,15 +198,13 @@ class Expected:
 
     def difference(self, text):
         """The first line that isn't as it should be, and what should stand there, or nothing."""
-        lines, hidden = text.splitlines(), in_order(self.removed)
-        if len(lines) != len(self.kept) + len(hidden):
-            return f"{len(lines)} lines", f"{len(self.kept)} features and {len(hidden)} removed ones"
-        for line, feature in zip(lines, self.kept):
-            if line != self.line(feature):
-                return line, self.line(feature)
-        for line, feature in zip(lines[len(self.kept) :], hidden):
-            if line != self.redirect(feature):
-                return line, self.redirect(feature)
+        hidden = in_order(self.removed)
+        wanted = [*map(self.line, self.kept), *map(self.redirect, hidden)]
+        # a feature's text is printed as it is, so it may be of several lines
+        lines, wanted = text.split("\n"), "".join(line + "\n" for line in wanted).split("\n")
+        for line, other in itertools.zip_longest(lines, wanted, fillvalue="no line"):
+            if line != other:
+                return line, other
         return None
 
 

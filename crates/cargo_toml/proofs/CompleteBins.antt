@@ -5,15 +5,16 @@ use Rattle.cargo_toml_graph.specs.Admitted.{Listed}
 use Rattle.cargo_toml_graph.specs.Bins.{IsComplete}
 use Rattle.cargo_toml_graph.specs.Removal.{is_removed}
 use Rattle.cargo_toml_graph.proofs.InByteOrder.{ascending_once, passed_complete, removed_there}
+use Rattle.cargo_toml_features.specs.Marks.{Details}
 use Rattle.cargo_toml_features.specs.Recorded.{Entry}
 use Rattle.cargo_toml_features.specs.Resolved.{Answer, IsAnswer, table_of}
 use Rattle.cargo_toml_resolve.specs.OwnBins.{own_of}
 use Rattle.cargo_toml.proofs.Mentions.{mentions_counted}
 
-pub complete_bins : (listed : Listed) (entries : List Entry) (required : List (Text × Text)) (keep : Text → Bool) (a : Answer) → IsAnswer listed entries (own_of required) keep a →
+pub complete_bins : (listed : Listed) (entries : List Entry) (details : Details) (required : List (Text × Text)) (keep : Text → Bool) (a : Answer) → IsAnswer listed entries details (own_of required) keep a →
     count_by (λ q. is_removed (table_of listed entries) keep q.0) required ≤ 10 → (f : Text) → IsTrue (a.resolution.table.has f) →
     IsComplete (table_of listed entries) (λ r. IsTrue (is_removed (table_of listed entries) keep r)) (own_of required) f (a.bins f)
-complete_bins listed entries required keep a is few f there =
+complete_bins listed entries details required keep a is few f there =
     let t = table_of listed entries in
     let p = is.passed_on in
     let once = ascending_once p.order p.in_order.ascending in

@@ -16,7 +16,7 @@ use Rattle.cargo_toml_discovery.specs.Told.{Told}
 use Rattle.cargo_toml_package.specs.Filled.{IsFilled}
 use Rattle.cargo_toml_manifest.specs.declared.manifest.Manifest.{Manifest}
 use Rattle.cargo_toml_manifest.specs.Choosing.{Handed, RootsTold}
-use Rattle.cargo_toml_manifest.specs.Completing.{Outcome, gives, refuses, no_workspace, untold, GivenBy, IsLasting, IsWrapped, Meets, complete}
+use Rattle.cargo_toml_manifest.specs.Completing.{Outcome, gives, refuses, no_workspace, untold, GivenBy, IsLasting, Meets, complete}
 use Rattle.cargo_toml_manifest.specs.Inheriting.{needs}
 use Rattle.cargo_toml_manifest.specs.Manifests.{ManifestMeaning, manifest_meaning}
 use Rattle.cargo_toml.specs.Lent.{with_lent, IsCompleted, IsLeftAfter}
@@ -51,10 +51,10 @@ pub outcome_with : {T X Y A : Type 0} (f : T → A) (g : X → A) (o : Outcome A
 outcome_with f g o t x (Ok y) same h refused = given_alike f (λ p. g p.0) o t (x, y) same h
 outcome_with f g o t x (Err e) same h refused = memory_after f (λ p. g p.0) o t e refused h
 
-pub wrapped_with : {X Y : Type 0} (x : X) (r : Result Y Error) → IfErr r (λ e. e ≡ Memory) →
-    IfSome (with_lent (Some x) (Some r)) (λ a. IfErr a IsWrapped)
-wrapped_with x (Ok y) refused = tt
-wrapped_with x (Err e) refused = inl refused
+pub wrapped_with : {X Y : Type 0} (why : Error → Type 0) (x : X) (r : Result Y Error) → ((e : Error) → e ≡ Memory → why e) →
+    IfErr r (λ e. e ≡ Memory) → IfSome (with_lent (Some x) (Some r)) (λ a. IfErr a why)
+wrapped_with why x (Ok y) memory refused = tt
+wrapped_with why x (Err e) memory refused = memory e refused
 
 pub resolved_with : {X Y : Type 0} (P : X → Y → Type 0) (x : X) (r : Result Y Error) → IfOk r (P x) →
     IfSome (with_lent (Some x) (Some r)) (λ a. IfOk a (λ p. P p.0 p.1))
@@ -67,15 +67,15 @@ pub rests_so : {M : Type 1} {𝓤 : Ura M} (𝓛 : Logic 𝓤) (R : RattleType) 
 unfolding such_by
 rests_so {𝓤 = 𝓤} 𝓛 R γ P Q weaker = ex_e 𝓤 _ (λ s. ex_i 𝓤 (λ (y : (p : (R.Denot → R.Denot) × R.Denot) × ((w : R.Denot) → ⊤) × Q p.1). sem 𝓛 (follows_by R.Denot R.Denot R.coded.code R.coded.code γ none y.0.0 y.0.1)) (s.0, s.1, weaker s.0.1 s.2))
 
--- what completing says, with the answer `d`, of a manifest that it leaves as `new`
-pub record Completing {M : Type 0} (old new : Manifest M) (handed : Option Handed) (roots : RootsTold) (told : Text → Told) (d : Result (Unit {0}) Error) : Type 0 where
+-- what completing says, with the answer `d`, of a manifest that it leaves as `new`, where a refusal is such a one
+pub record Completing {M : Type 0} (old new : Manifest M) (handed : Option Handed) (roots : RootsTold) (told : Text → Told) (why : Error → Type 0) (d : Result (Unit {0}) Error) : Type 0 where
   pub outcome : Meets (λ _. manifest_meaning (λ m. m) new) (complete (manifest_meaning (λ m. m) old) handed roots told) d
   pub unchanged : OnErr d (new ≡ old)
   pub given : OnOk d (GivenBy (manifest_meaning (λ m. m) old) handed roots told (manifest_meaning (λ m. m) new))
   pub needs_nothing : OnOk d (needs (manifest_meaning (λ m. m) new) ≡ false)
   pub filled : OnOk d (IfSome new.«package» IsFilled)
   pub again : OnOk d (IsLasting (manifest_meaning (λ m. m) old) handed (manifest_meaning (λ m. m) new))
-  pub wrapped : IfErr d IsWrapped
+  pub wrapped : IfErr d why
 
 -- what is said after it of the manifest, lent as `p`, and of both together, answered by `y`
 pub record Answering {M Y : Type 0} (new : Manifest M) (d : Result (Unit {0}) Error) (p : Bor (Manifest M)) (y : Result (Bor (Manifest M) × Y) Error) : Type 0 where
@@ -94,7 +94,7 @@ lent_after P new d p (Err e) holds a = tt
 abbrev meaning : {M : Type 0} → Manifest M → ManifestMeaning M
 meaning = manifest_meaning (λ m. m)
 
-completed : {M : Type 0} (old new : Manifest M) (handed : Option Handed) (roots : RootsTold) (told : Text → Told) → Completing old new handed roots told (Ok tt)
+completed : {M : Type 0} {why : Error → Type 0} (old new : Manifest M) (handed : Option Handed) (roots : RootsTold) (told : Text → Told) → Completing old new handed roots told why (Ok tt)
     → IsCompleted old handed roots told new
 completed old new handed roots told c = record {
   outcome = given_alike (λ (_ : Unit {0}). meaning new) meaning (complete (meaning old) handed roots told) tt new refl c.outcome;
@@ -104,21 +104,22 @@ completed old new handed roots told c = record {
   again = c.again;
 }
 
-module _ {M Y : Type 0} (old new : Manifest M) (handed : Option Handed) (roots : RootsTold) (told : Text → Told) where
-  pub left_after : (d : Result (Unit {0}) Error) (p : Bor (Manifest M)) (y : Result (Bor (Manifest M) × Y) Error) → Completing old new handed roots told d → Answering new d p y
+module _ {M Y : Type 0} {why : Error → Type 0} (old new : Manifest M) (handed : Option Handed) (roots : RootsTold) (told : Text → Told) where
+  pub left_after : (d : Result (Unit {0}) Error) (p : Bor (Manifest M)) (y : Result (Bor (Manifest M) × Y) Error) → Completing old new handed roots told why d → Answering new d p y
       → (left : Manifest M) → left ≡ p.now → IsLeftAfter old handed roots told y left
   left_after d p (Ok q) c a left is = is ∙ ap (λ r. r.now) (sym a.lent)
   left_after (Ok u) p (Err e) c a left is = inr (a.memory, subst (IsCompleted old handed roots told) (sym (is ∙ a.same)) (completed old new handed roots told c))
   left_after (Err fault) p (Err e) c a left is = inl (is ∙ a.same ∙ c.unchanged)
 
-  pub outcome_after : (d : Result (Unit {0}) Error) (p : Bor (Manifest M)) (y : Result (Bor (Manifest M) × Y) Error) → Completing old new handed roots told d → Answering new d p y
+  pub outcome_after : (d : Result (Unit {0}) Error) (p : Bor (Manifest M)) (y : Result (Bor (Manifest M) × Y) Error) → Completing old new handed roots told why d → Answering new d p y
       → Meets (λ q. meaning q.0.now) (complete (meaning old) handed roots told) y
   outcome_after (Ok u) p (Ok q) c a = given_alike (λ (_ : Unit {0}). meaning new) (λ (q : Bor (Manifest M) × Y). meaning q.0.now) (complete (meaning old) handed roots told) tt q (ap (λ r. meaning r.now) a.lent ∙ ap meaning a.same) c.outcome
   outcome_after (Ok u) p (Err e) c a = memory_after (λ (_ : Unit {0}). meaning new) (λ (q : Bor (Manifest M) × Y). meaning q.0.now) (complete (meaning old) handed roots told) tt e a.memory c.outcome
   outcome_after (Err fault) p y c a = subst (Meets (λ (q : Bor (Manifest M) × Y). meaning q.0.now) (complete (meaning old) handed roots told)) (sym a.refused)
       (refused_alike (λ (_ : Unit {0}). meaning new) (λ (q : Bor (Manifest M) × Y). meaning q.0.now) (complete (meaning old) handed roots told) fault c.outcome)
 
-  pub wrapped_after : (d : Result (Unit {0}) Error) (p : Bor (Manifest M)) (y : Result (Bor (Manifest M) × Y) Error) → Completing old new handed roots told d → Answering new d p y → IfErr y IsWrapped
-  wrapped_after (Ok u) p (Ok q) c a = tt
-  wrapped_after (Ok u) p (Err e) c a = inl a.memory
-  wrapped_after (Err fault) p y c a = subst (λ r. IfErr r IsWrapped) (sym a.refused) c.wrapped
+  pub wrapped_after : (d : Result (Unit {0}) Error) (p : Bor (Manifest M)) (y : Result (Bor (Manifest M) × Y) Error) → ((e : Error) → e ≡ Memory → why e)
+      → Completing old new handed roots told why d → Answering new d p y → IfErr y why
+  wrapped_after (Ok u) p (Ok q) memory c a = tt
+  wrapped_after (Ok u) p (Err e) memory c a = memory e a.memory
+  wrapped_after (Err fault) p y memory c a = subst (λ r. IfErr r why) (sym a.refused) c.wrapped

@@ -30,6 +30,7 @@ pub use Rattle.cargo_toml_tables.specs.Profiles
 pub use Rattle.cargo_toml_dependencies.specs.Dependencies
 pub use Rattle.cargo_toml_dependencies.specs.DependencyAnswers
 pub use Rattle.cargo_toml_dependencies.specs.DependencyLending
+pub use Rattle.cargo_toml_dependencies.specs.Details
 pub use Rattle.cargo_toml_dependencies.specs.Features
 pub use Rattle.cargo_toml_dependencies.specs.Inheriting as InheritedDependencies
 pub use Rattle.cargo_toml_dependencies.specs.Targets
@@ -46,14 +47,24 @@ pub use Rattle.cargo_toml_manifest.specs.Finding
 pub use Rattle.cargo_toml_manifest.specs.Inheriting as InheritedManifests
 pub use Rattle.cargo_toml_manifest.specs.Manifests
 pub use Rattle.cargo_toml_manifest.specs.RealFiles
+pub use Rattle.cargo_toml_manifest.specs.Refusing
+pub use Rattle.cargo_toml_manifest.specs.Roots
 pub use Rattle.cargo_toml_manifest.specs.Texts
 pub use Rattle.cargo_toml_manifest.specs.Told
+pub use Rattle.cargo_toml_discovery.specs.Answers as FolderAnswers
+pub use Rattle.cargo_toml_discovery.specs.Around
+pub use Rattle.cargo_toml_discovery.specs.Discovering
+pub use Rattle.cargo_toml_discovery.specs.Found
+pub use Rattle.cargo_toml_discovery.specs.Names
+pub use Rattle.cargo_toml_discovery.specs.Seen
+pub use Rattle.cargo_toml_discovery.specs.Sorting
 pub use Rattle.cargo_toml_discovery.specs.Told as ToldFolders
 pub use Rattle.cargo_toml_manifest.specs.Workspaces
 pub use Rattle.cargo_toml_write.specs.NoFloats
 pub use Rattle.cargo_toml_write.specs.Ways
 pub use Rattle.cargo_toml_write.specs.WrittenBadges
 pub use Rattle.cargo_toml_write.specs.WrittenDependencies
+pub use Rattle.cargo_toml_write.specs.WrittenFeatures
 pub use Rattle.cargo_toml_write.specs.WrittenLints
 pub use Rattle.cargo_toml_write.specs.WrittenManifests
 pub use Rattle.cargo_toml_write.specs.WrittenPackages
@@ -78,10 +89,13 @@ pub use Rattle.cargo_toml_features.specs.Entries
 pub use Rattle.cargo_toml_features.specs.FirstTarget
 pub use Rattle.cargo_toml_resolve.specs.OwnBins
 pub use Rattle.cargo_toml_features.specs.Hashed
+pub use Rattle.cargo_toml_features.specs.Marks
 pub use Rattle.cargo_toml_features.specs.Recorded
 pub use Rattle.cargo_toml_features.specs.Resolved
 pub use Rattle.cargo_toml_features.specs.Views
 pub use Rattle.cargo_toml_resolve.specs.Reading
+pub use Rattle.cargo_toml_resolve.specs.Slots
+pub use Rattle.cargo_toml_resolve.specs.Ascending
 pub use Rattle.cargo_toml_features.specs.Reached
 pub use Rattle.cargo_toml_features.specs.NonDefault
 -- the same of the types that a caller's own definitions name, with their variants

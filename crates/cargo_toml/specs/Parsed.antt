@@ -12,6 +12,7 @@ use Rattle.cargo_toml_manifest.specs.Inheriting.{own_tables}
 use Rattle.cargo_toml_manifest.specs.Manifests.{ManifestMeaning}
 use Rattle.cargo_toml_features.specs.Entries.{entries_of}
 use Rattle.cargo_toml_resolve.specs.OwnBins.{own_of}
+use Rattle.cargo_toml_features.specs.Marks.{Details}
 use Rattle.cargo_toml_features.specs.Recorded.{Entry}
 use Rattle.cargo_toml_features.specs.Resolved.{Answer, IsAnswer, table_of}
 
@@ -25,11 +26,12 @@ requirements m = option_map_or (λ p. flat_map (requirements_by p.name) m.bin) m
 
 -- where so many names count, actions of a feature, and keys of a table of dependencies
 module _ (limit : ℕ) where
-  -- the answer for features in byte order of their names, these entries and what binaries require,
-  -- where the names are kept that `keep` tells
-  abbrev pub IsAnswerFor : Listed → List Entry → (Text → List Text) → (Text → Bool) → Answer
-      → Type 0
-  IsAnswerFor listed entries own keep a = IsAnswer (admitted limit listed) entries own keep a
+  -- the answer for features in byte order of their names, these entries, what is said of features
+  -- beside and what binaries require, where the names are kept that `keep` tells
+  abbrev pub IsAnswerFor : Listed → List Entry → Details → (Text → List Text) → (Text → Bool)
+      → Answer → Type 0
+  IsAnswerFor listed entries details own keep a =
+      IsAnswer (admitted limit listed) entries details own keep a
 
   module _ {M : Type 0} (m : ManifestMeaning M) where
     -- the dependencies that count, in their order
@@ -42,7 +44,8 @@ module _ (limit : ℕ) where
 
     -- the answer for the manifest, where the names are kept that `keep` tells
     abbrev pub IsParsed : (Text → Bool) → Answer → Type 0
-    IsParsed keep a = IsAnswerFor m.features parsed_entries (own_of (requirements m)) keep a
+    IsParsed keep a =
+        IsAnswerFor m.features parsed_entries m.feature_details (own_of (requirements m)) keep a
 
     -- with at most ten mentions of removed features, each binary that requires one of these requires
     -- each kept feature to which naming alone leads from it through removed ones

@@ -6,9 +6,10 @@ ghost use Rattle.cargo_toml_graph.specs.Action.{Text};
 ghost use Rattle.cargo_toml_hidden.specs.Filter.{HasNameFilter, Tells};
 ghost use Rattle.cargo_toml_package.specs.Filled.{IsFilled};
 ghost use Rattle.cargo_toml_manifest.specs.Choosing.{handed_of};
-ghost use Rattle.cargo_toml_manifest.specs.Completing.{GivenBy, IsLasting, IsWrapped, Meets, complete};
+ghost use Rattle.cargo_toml_manifest.specs.Completing.{GivenBy, IsLasting, Meets, complete};
 ghost use Rattle.cargo_toml_manifest.specs.Inheriting.{needs};
 ghost use Rattle.cargo_toml_manifest.specs.Manifests.{manifest_meaning};
+ghost use Rattle.cargo_toml_manifest.specs.Refusing.{IsRefusedBy, MayLose};
 ghost use Rattle.cargo_toml_manifest.specs.Told.{heard};
 ghost use Rattle.cargo_toml_features.specs.FirstTarget.{HaveTargets};
 ghost use Rattle.cargo_toml_features.specs.Reached.{IsKeyed};
@@ -60,7 +61,10 @@ pub fn complete_and_parse_into<
     ensures outcome { IfSome (with_lent result slot.new) (Meets (λ p. manifest_meaning (λ m. m) p.0.now)
         (complete (manifest_meaning (λ m. m) manifest.old) (option_map handed_of workspace.entry)
         (λ hint. heard Fs.Roots.ARE_READ (Fs.root_for fs hint)) (Fs.names_at fs))) }
-    ensures wrapped { IfSome (with_lent result slot.new) (λ r. IfErr r IsWrapped) }
+    ensures wrapped { IfSome (with_lent result slot.new) (λ r. IfErr r (IsRefusedBy
+        (manifest_meaning (λ m. m) manifest.old) (option_map handed_of workspace.entry)
+        (λ hint. heard Fs.Roots.ARE_READ (Fs.root_for fs hint))
+        (MayLose Fs.Roots.ARE_READ (Fs.may_refuse_root fs)) (Fs.may_refuse fs))) }
     ensures resolved { IfSome (with_lent result slot.new) (λ r. IfOk r (λ p. (keep : Text → Bool) →
         Tells F.Fn (filter_of resolver.now) keep →
         IsParsed (limit_of resolver.now) (manifest_meaning (λ m. m) p.0.now) keep
@@ -115,7 +119,9 @@ impl<'config, F: Fn(&str) -> bool, S: BuildHasher + Clone + Drop> Resolver<'conf
         ensures filled { IfOk result (λ p. IfSome p.0.now.package IsFilled) }
         ensures again { IfOk result (λ p. IsLasting (manifest_meaning (λ m. m) manifest.old)
             (option_map handed_of workspace.entry) (manifest_meaning (λ m. m) p.0.now)) }
-        ensures wrapped { IfErr result IsWrapped }
+        ensures wrapped { IfErr result (IsRefusedBy (manifest_meaning (λ m. m) manifest.old)
+            (option_map handed_of workspace.entry) (λ hint. heard Fs.Roots.ARE_READ (Fs.root_for fs hint))
+            (MayLose Fs.Roots.ARE_READ (Fs.may_refuse_root fs)) (Fs.may_refuse fs)) }
         ensures resolved { IfOk result (λ p. (keep : Text → Bool) → Tells F.Fn (filter_of self.now) keep →
             IsParsed (limit_of self.now) (manifest_meaning (λ m. m) p.0.now) keep (answer_of p.1)) }
         ensures keyed { IfOk result (λ p. IsKeyed p.1.features) }

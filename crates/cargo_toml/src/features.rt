@@ -14,6 +14,7 @@ ghost use Rattle.cargo_toml_features.specs.declared.admit.TheConstants.{MAX_ITEM
 ghost use Rattle.cargo_toml_features.specs.Entries.{tables_meaning};
 ghost use Rattle.cargo_toml_features.specs.FirstTarget.{HaveTargets};
 ghost use Rattle.cargo_toml_features.specs.Hashed.{IsListingOf};
+ghost use Rattle.cargo_toml_features.specs.Marks.{Details};
 ghost use Rattle.cargo_toml_features.specs.Reached.{IsKeyed};
 ghost use Rattle.cargo_toml_features.specs.Resolved.{Answer};
 ghost use Rattle.cargo_toml_features.specs.Views.{answer_of, entry_of};
@@ -121,6 +122,10 @@ impl<'config, F: Fn(&str) -> bool, S: BuildHasher + Clone> Resolver<'config, F, 
     /// - of each feature's list the first n texts;
     /// - of each table of dependencies the first n keys.
     ///
+    /// A feature that counts and that the manifest lists is public, and has a text, as the manifest's
+    /// `feature_details` say of its name. Any other is public and has no text: one that a dependency
+    /// implies, and `default` where it isn't listed. What is said of a removed feature goes with it.
+    ///
     /// Every text is borrowed from the manifest. Each feature stands under its own key, as
     /// [`Feature::enables_recursive`] asks, and each dependency has a target, as
     /// [`FeatureDependency::dep`] asks.
@@ -173,7 +178,8 @@ impl<'config, F: Fn(&str) -> bool, S: BuildHasher + Clone> Resolver<'config, F, 
         ensures targets { IfOk result (λ a. HaveTargets a.dependencies) }
         ensures refused { IfErr result (λ e. e ≡ Memory) }
     {
-        let listings = listings(alloc, &manifest.features, self.max_items)?;
+        let details = &manifest.feature_details;
+        let listings = listings(alloc, &manifest.features, details, self.max_items)?;
         let entries = entries_of(alloc, tables_of(manifest), self.max_items)?;
         let requirements = requirements(alloc, manifest)?;
         Ok(resolve(
@@ -189,8 +195,9 @@ impl<'config, F: Fn(&str) -> bool, S: BuildHasher + Clone> Resolver<'config, F, 
     /// Resolves features and dependencies that stand in no manifest, as those of a registry's index.
     ///
     /// It answers as [`Resolver::parse`] does of the same features and of these entries in their
-    /// order, of which each counts, however many there are. In one point it differs: no binary
-    /// requires a feature. The walk of the hashed table changes nothing: of its names those count
+    /// order, of which each counts, however many there are. In two points it differs: no binary
+    /// requires a feature, and each feature is public and has no text. The walk of the hashed table
+    /// changes nothing: of its names those count
     /// that come first in byte order, up to the limit, and `default`. Features borrow from the
     /// table and from the entries' keys, dependencies from the entries.
     ///
@@ -204,13 +211,13 @@ impl<'config, F: Fn(&str) -> bool, S: BuildHasher + Clone> Resolver<'config, F, 
         requires { HasNameFilter F.Fn (filter_of self.now) }
         ensures resolved { IfOk result (λ a. (keep : Text → Bool) (listed : Listed) →
             Tells F.Fn (filter_of self.now) keep → IsListingOf features.now listed →
-            IsAnswerFor (limit_of self.now) listed (map entry_of dependencies.now) (λ _. []) keep
-            (answer_of a)) }
+            IsAnswerFor (limit_of self.now) listed (map entry_of dependencies.now) [] (λ _. [])
+            keep (answer_of a)) }
         ensures agreement { IfOk result (λ b. (keep : Text → Bool) (listed : Listed) →
             Tells F.Fn (filter_of self.now) keep → IsListingOf features.now listed →
-            (own : Text → List Text) (a : Answer) →
-            IsAnswerFor (limit_of self.now) listed (map entry_of dependencies.now) own keep a →
-            Agree a (answer_of b)) }
+            (details : Details) (own : Text → List Text) (a : Answer) →
+            IsAnswerFor (limit_of self.now) listed (map entry_of dependencies.now) details own keep
+            a → Agree a (answer_of b)) }
         ensures listed { IfOk result (λ _. (listed : Listed) × IsListingOf features.now listed) }
         ensures keyed { IfOk result (λ a. IsKeyed a.features) }
         ensures targets { IfOk result (λ a. HaveTargets a.dependencies) }

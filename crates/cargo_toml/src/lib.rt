@@ -9,8 +9,8 @@ pub mod features;
 mod requirements;
 
 pub use cargo_toml_dependencies::{
-    Dependency, DependencyDetail, DepsSet, FeatureSet, InheritedDependencyDetail, PatchSet, Target,
-    TargetDepsSet,
+    Dependency, DependencyDetail, DepsSet, FeatureDetail, FeatureDetails, FeatureSet,
+    InheritedDependencyDetail, PatchSet, Target, TargetDepsSet,
 };
 pub use cargo_toml_manifest::{
     AbstractFilesystem, Filesystem, Manifest, NoRoot, OwnRoot, Roots, Workspace,

@@ -11,3 +11,4 @@ mod Filters
 mod Kept
 mod SameAnswers
 mod AtLimit
+mod UserFacing

@@ -14,7 +14,7 @@ use Rattle.cargo_toml_features.proofs.Agreement.{settled}
 module _ {M : Type 0} (limit : ℕ) (m : ManifestMeaning M) (keep : Text → Bool) (a b : Answer) where
   pub parsed_agree : IsParsed limit m keep a → IsParsed limit m keep b → Agree a b
   parsed_agree h k = settled (admitted limit m.features) (parsed_entries limit m)
-      (own_of (requirements m)) (own_of (requirements m)) keep a b h k
+      m.feature_details m.feature_details (own_of (requirements m)) (own_of (requirements m)) keep a b h k
 
   pub parsed_bins : IsParsed limit m keep a → IsParsed limit m keep b → (f : Text) →
       IsTrue (a.resolution.table.has f) → a.bins f ≡ b.bins f

@@ -30,14 +30,14 @@ pub nothing_removed : (t : Table) (f : Text) → ¬ IsTrue (is_removed t (λ _. 
 nothing_removed t f removed = false≢true (and_parts _ _ removed).1
 
 -- a set without texts, and one with a text
-no_keys : (s : BTreeSet (Bor Text)) → IsTrue (btree_set_len s == 0) → s.keys ≡ []
+pub no_keys : (s : BTreeSet (Bor Text)) → IsTrue (btree_set_len s == 0) → s.keys ≡ []
 no_keys s e = go s.keys (eqb-true _ _ e)
   where
     go : (ks : List (Bor Text)) → length ks ≡ 0 → ks ≡ []
     go [] none = refl
     go (k ∷ ks) none = absurd (omega arith)
 
-no_texts : (s : BTreeSet (Bor Text)) → ((e : Text) → ¬ IsTrue (has_text s e)) → IsTrue (btree_set_len s == 0)
+pub no_texts : (s : BTreeSet (Bor Text)) → ((e : Text) → ¬ IsTrue (has_text s e)) → IsTrue (btree_set_len s == 0)
 no_texts s none = (Decides-eqb (btree_set_len s) 0).1 (go s.keys refl)
   where
     go : (ks : List (Bor Text)) → s.keys ≡ ks → length s.keys ≡ 0

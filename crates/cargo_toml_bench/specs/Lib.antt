@@ -5,3 +5,4 @@ pub mod Enabled
 pub mod Rewriting
 pub mod InMemory
 pub mod Members
+pub mod Documented

@@ -67,7 +67,8 @@ fn resolve_plainly<'m, M, F: Fn(&str) -> bool>(
         IsParsed MAX_ITEMS (manifest_meaning (λ m. m) manifest.now) keep (answer_of a)) }
     ensures refused { IfErr result (λ e. e ≡ Memory) }
 {
-    let listings = listings(alloc, &manifest.features, MAX_ITEMS)?;
+    let details = &manifest.feature_details;
+    let listings = listings(alloc, &manifest.features, details, MAX_ITEMS)?;
     let tables = Tables {
         dependencies: &manifest.dependencies,
         build_dependencies: &manifest.build_dependencies,

@@ -89,7 +89,7 @@ pub fn edition_of_file<'a, R: Files + AllocGlobal>(
 ) -> Result<Option<Edition>, Error>
     ensures edition { IfOk result (λ e. (m : Manifest Value) × IsReadAndCompleted view (manifest_reads any_tree) m
         × (e ≡ option_and_then (λ p. value_of p.edition) m.«package»)) }
-    ensures refused { IfErr result (IsPathFault (manifest_meaning view) (manifest_reads any_tree)
+    ensures refused { IfErr result (IsPathFault path.now (manifest_meaning view) (manifest_reads any_tree)
         (manifest_refuses any_tree any_refuses)) }
 {
     let manifest = Manifest::from_path(rt, rt.alloc(), path)?;

@@ -3,6 +3,7 @@
 
 pub mod bodies;
 pub mod completing;
+pub mod documented;
 pub mod enabled;
 pub mod in_memory;
 pub mod members;

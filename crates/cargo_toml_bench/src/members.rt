@@ -1,10 +1,10 @@
 //! Features of members of a workspace, once these are completed.
 ghost use Rattle.std.specs.Prelude.{◌≡◌, ◌⊎◌, false, IfErr, IfOk, OnOk, option_map};
 ghost use Rattle.cargo_toml.specs.Choosing.{handed_of};
-ghost use Rattle.cargo_toml.specs.Completing.{IsWrapped};
 ghost use Rattle.cargo_toml.specs.Error.{Memory};
 ghost use Rattle.cargo_toml.specs.InheritedManifests.{needs};
 ghost use Rattle.cargo_toml.specs.Manifests.{manifest_meaning};
+ghost use Rattle.cargo_toml.specs.Refusing.{IsRefusedBy, MayLose};
 ghost use Rattle.cargo_toml.specs.Told.{heard};
 ghost use Rattle.cargo_toml_bench.specs.Members.{IsToldOfMember};
 
@@ -25,7 +25,9 @@ pub fn enables_in_member<Fs: AbstractFilesystem + Drop>(
 ) -> Result<bool, Error>
     ensures answer { IfOk result (IsToldOfMember (manifest_meaning (λ m. m) member.old) (option_map handed_of workspace.entry)
         (λ hint. heard Fs.Roots.ARE_READ (Fs.root_for files hint)) (Fs.names_at files) name.now other.now) }
-    ensures refused { IfErr result IsWrapped }
+    ensures refused { IfErr result (IsRefusedBy (manifest_meaning (λ m. m) member.old)
+        (option_map handed_of workspace.entry) (λ hint. heard Fs.Roots.ARE_READ (Fs.root_for files hint))
+        (MayLose Fs.Roots.ARE_READ (Fs.may_refuse_root files)) (Fs.may_refuse files)) }
 {
     let resolver = Resolver::new();
     let (_completed, resolved) = resolver.complete_and_parse(alloc, member, files, workspace)?;

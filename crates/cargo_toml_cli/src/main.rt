@@ -4,9 +4,8 @@
 
 ghost use Rattle.std.specs.Prelude.{◌≤◌};
 
-use cargo_toml::{Error, Manifest};
-use cargo_toml_print::{Command, Outcome, command, print_complete, print_features};
-use std::io::Write;
+use cargo_toml::Error;
+use cargo_toml_print::{Command, Outcome, command, print_completed, print_features};
 use std::process::ExitCode;
 use std::rt::{Env, Files};
 use std::{env, fs, io};
@@ -22,28 +21,6 @@ fn features<R: Files + Print + AllocGlobal>(
     let mut input = fs::open(rt, file)?;
     let mut output = io::writer(rt);
     print_features(rt.alloc(), &mut input, &mut output, max_items)
-}
-
-/// Writes what is found around the manifest in a file.
-fn complete<R: Files + AllocGlobal, W: Write>(
-    rt: &R,
-    file: &str,
-    output: &mut W,
-) -> Result<(), Error> {
-    let alloc = rt.alloc();
-    let mut manifest = manifest_in(rt, file)?;
-    manifest.complete_from_path(rt, alloc, file)?;
-    print_complete(alloc, &*manifest, output)
-}
-
-/// The manifest in a file, on the heap. It is wide, and so no call that does more than this holds it
-/// on the stack.
-fn manifest_in<R: Files + AllocGlobal>(rt: &R, file: &str) -> Result<Box<Manifest>, Error> {
-    let text = fs::read_to_string(rt, file)?;
-    match Manifest::from_str(rt.alloc(), text.as_str()) {
-        Ok(manifest) => Ok(Box::new(rt.alloc(), manifest)?),
-        Err(fault) => Err(fault),
-    }
 }
 
 /// The words of the command line without the program's own name.
@@ -68,7 +45,7 @@ fn run<R: Env + Files + Print + AllocGlobal>(rt: &R) -> Outcome {
             Outcome::of_command(features(rt, file, max_items))
         }
         Some(Command::Complete(file)) => {
-            Outcome::of_command(complete(rt, file, &mut io::writer(rt)))
+            Outcome::of_command(print_completed(rt, file, &mut io::writer(rt)))
         }
         None => Outcome::NotACommand,
     }

@@ -1,4 +1,5 @@
 pub mod Added
+pub mod Apart
 pub mod Entries
 pub mod Inherited
 pub mod Lasting

@@ -1,5 +1,5 @@
 -- The first of a dependency's targets, by the order of their keys, is the first target of the entries that were recorded.
-use Rattle.std.proofs.Common.{◌≡◌, ◌<◌, Ordering, Less, Equal, Greater, Bool, true, false, cond, List, [], ◌∷◌, fold, find, length, Option, Some, None, option_map, is_some, IsSome, IfSome, Bor, refl, sym, ap, ap₂, subst, arith, ◌∙◌}
+use Rattle.std.proofs.Common.{◌≡◌, ◌<◌, Ordering, Less, Equal, Greater, Bool, true, false, cond, List, [], ◌∷◌, fold, find, length, Option, Some, None, option_map, is_some, IsSome, Bor, refl, sym, ap, ap₂, subst, arith, ◌∙◌}
 use Rattle.std.proofs.lemmas.Bool.{false≢true, false_from_ne_true}
 use Rattle.std.proofs.lemmas.Cmp.{upto, tied_itself, alike_right, on_total}
 use Rattle.std.specs.Cmp.{IsTotalOrder}
@@ -14,7 +14,6 @@ use Rattle.cargo_toml_features.specs.contracts.features.TargetKeyOrd.TheImpl as 
 use Rattle.cargo_toml_features.specs.contracts.features.TargetKeyOrd.TheImpl.Laws as laws
 use Rattle.cargo_toml_features.specs.declared.features.FeatureDependency.{FeatureDependency}
 use Rattle.cargo_toml_features.specs.declared.features.TargetKey.{TargetKey}
-use Rattle.cargo_toml_graph.specs.Action.{Text}
 use Rattle.cargo_toml_features.specs.FirstTarget.{HasTarget, IsFirst}
 use Rattle.cargo_toml_features.specs.Recorded.{Entry, Target, target_cmp, recorded_of, first_target}
 use Rattle.cargo_toml_features.specs.Resolved.{SameRecorded}

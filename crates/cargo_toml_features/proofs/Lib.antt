@@ -14,4 +14,5 @@ mod FirstEntries
 mod OneListing
 mod Hashed
 pub mod Agreement
+pub mod Marked
 pub mod HashedListing

@@ -1,16 +1,26 @@
 -- The names of a table, in byte order and each once.
-use Rattle.std.proofs.Common.{◌≡◌, List, [], ◌∷◌, map, string_bytes, String, Vec, IsTrue, refl, sym, ap, subst, inl, inr}
+use Rattle.std.proofs.Common.{◌≡◌, Bool, true, false, cond, List, [], ◌∷◌, map, Option, Some, None, Bor, bytes_eq, option_map, string_bytes, String, unwrap_or, Vec, IsTrue, refl, sym, ap, subst, inl, inr, ◌∙◌}
 use Rattle.std.specs.List.{AllByRecursion}
+use Rattle.std.specs.Option.{option_copied}
+use Rattle.std.specs.BTreeMap.{BTreeMap, get_by, is_at}
+use Rattle.std.specs.Cmp.Lexicographic.{slice_cmp}
+use Rattle.std.specs.Map.{lookup}
+use Rattle.std.specs.Ordering.{nat_cmp}
 use Rattle.std.specs.List.Sorted.{IsStrictlySortedBy}
 use Rattle.std.specs.Ordering.{is_lt}
 use Rattle.std.specs.String.{string_cmp}
 use Rattle.std.specs.declared.alloc.Global.{Global}
 use Rattle.std.specs.declared.cmp.Ordering.TheVariants.{Less}
 use Rattle.std.proofs.lemmas.Map.Keys.{sorted_head, sorted_tail}
+use Rattle.std.proofs.lemmas.Map.Text.{is_eq-slice_cmp}
 use Rattle.cargo_toml_graph.specs.Action.{Text}
 use Rattle.cargo_toml_graph.specs.Admitted.{is_below}
 use Rattle.cargo_toml_graph.specs.Reach.{Among}
 use Rattle.cargo_toml_graph.proofs.Cut.{Ascends}
+use Rattle.cargo_toml_dependencies.specs.Details.{Detail, detail_of, plain_detail}
+use Rattle.cargo_toml_dependencies.specs.declared.target.FeatureDetail.{FeatureDetail}
+use Rattle.cargo_toml_parts.specs.Reads.{map_meaning}
+use Rattle.cargo_toml_features.specs.Marks.{detail_at, detail_in}
 use Rattle.cargo_toml_features.specs.Views.{listed_of}
 use Rattle.cargo_toml_features.specs.declared.admit.Listing.{Listing}
 
@@ -35,6 +45,33 @@ ascending (e ∷ es) h = (below_each e.0 es (sorted_head string_cmp e.0 (map (λ
 abbrev pub listed_one : Listing → Text × List Text
 listed_one l = (l.name.now, map string_bytes l.actions.now)
 
+-- what it says beside
+abbrev pub detail_of_one : Listing → Text × Detail
+detail_of_one l = (l.name.now, detail_in l.detail)
+
 pub names_listed : (ls : List Listing) → map (λ e. e.0) (listed_of ls) ≡ map (λ l. l.name.now) ls
 names_listed [] = refl
 names_listed (l ∷ ls) = ap (λ xs. l.name.now ∷ xs) (names_listed ls)
+
+-- the detail that a map has of a name
+detail_among : (f : Text) (es : List (String Global × FeatureDetail))
+    → detail_at (map (λ e. (string_bytes e.0, detail_of e.1)) es) f ≡ unwrap_or (option_map detail_of (lookup (is_at (λ k. slice_cmp nat_cmp f (string_bytes k))) es)) plain_detail
+detail_among f [] = refl
+detail_among f (e ∷ es) =
+    ap (λ t. unwrap_or (cond t (Some (detail_of e.1)) (lookup (bytes_eq f) (map (λ (d : String Global × FeatureDetail). (string_bytes d.0, detail_of d.1)) es))) plain_detail) (sym (is_eq-slice_cmp f (string_bytes e.0)))
+    ∙ go (is_at (λ (k : String Global). slice_cmp nat_cmp f (string_bytes k)) e.0) (detail_among f es)
+  where
+    go : (t : Bool) → detail_at (map (λ (d : String Global × FeatureDetail). (string_bytes d.0, detail_of d.1)) es) f ≡ unwrap_or (option_map detail_of (lookup (is_at (λ (k : String Global). slice_cmp nat_cmp f (string_bytes k))) es)) plain_detail
+        → unwrap_or (cond t (Some (detail_of e.1)) (lookup (bytes_eq f) (map (λ (d : String Global × FeatureDetail). (string_bytes d.0, detail_of d.1)) es))) plain_detail
+        ≡ unwrap_or (option_map detail_of (cond t (Some e.1) (lookup (is_at (λ (k : String Global). slice_cmp nat_cmp f (string_bytes k))) es))) plain_detail
+    go true h = refl
+    go false h = h
+
+detail_copied : (o : Option (Bor FeatureDetail)) → detail_in o ≡ unwrap_or (option_map detail_of (option_copied o)) plain_detail
+detail_copied None = refl
+detail_copied (Some d) = refl
+
+-- and so the look-up in the map gives it
+pub detail_found : (f : Text) (m : BTreeMap (String Global) FeatureDetail) (o : Option (Bor FeatureDetail)) → option_copied o ≡ get_by (λ k. slice_cmp nat_cmp f (string_bytes k)) m
+    → detail_in o ≡ detail_at (map_meaning detail_of m) f
+detail_found f m o is = detail_copied o ∙ ap (λ d. unwrap_or (option_map detail_of d) plain_detail) is ∙ sym (detail_among f m.entries)

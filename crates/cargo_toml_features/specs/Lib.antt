@@ -3,6 +3,7 @@ pub mod Reached
 pub mod Visits
 pub mod NonDefault
 pub mod Recorded
+pub mod Marks
 pub mod Resolved
 pub mod Views
 pub mod FirstTarget

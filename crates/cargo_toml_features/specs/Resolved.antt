@@ -4,6 +4,7 @@ use Rattle.cargo_toml_graph.specs.Action.{Text, Action}
 use Rattle.cargo_toml_graph.specs.Admitted.{Listed, is_explicit, is_below, names, joined_action}
 use Rattle.cargo_toml_graph.specs.Bins.{ArePassedOn, HasBins}
 use Rattle.cargo_toml_graph.specs.Graph.{Table, Resolution, IsResolved}
+use Rattle.cargo_toml_features.specs.Marks.{Details, Marks, marks_in}
 use Rattle.cargo_toml_features.specs.Recorded.{Entry, Recorded, Target, is_implied, entries_at, recorded_of, first_target, without_redundant}
 use Rattle.cargo_toml_graph.specs.Redirects.{RedirectsTo}
 use Rattle.cargo_toml_graph.specs.Removal.{is_removed}
@@ -27,12 +28,12 @@ module _ (listed : Listed) (entries : List Entry) where
     action = λ f k. option_map (without_redundant (first_target (entries_at listed entries k))) (joined_table.action f k);
   }
 
--- what a resolution answers: under each name its feature and the key that it tells, under each key its dependency, under each
--- removed name its redirect
+-- what a resolution answers: under each name its feature, the key that it tells and its marks, under each key its dependency,
+-- under each removed name its redirect
 pub record Answer : Type 0 where
   pub resolution : Resolution
   pub key : Text → Option Text
-  pub explicit : Text → Bool
+  pub marks : Text → Marks
   pub bins : Text → List Text
   pub dependencies : Text → Option Recorded
   pub redirects : Text → Option (Text → Bool)
@@ -45,18 +46,18 @@ SameRecorded (Some a) (Some b) = (a.crate_name ≡ b.crate_name) × ((t : Target
 SameRecorded _ _ = ⊥
 
 -- the listed features and the entries are resolved, with the features taken out that the filter doesn't keep: which features
--- are left, under their own keys and with the marks of the explicit ones, and the recorded dependencies
-pub record IsKeptAnswer (listed : Listed) (entries : List Entry) (keep : Text → Bool) (a : Answer) : Type 0 where
+-- are left, under their own keys and with their marks, and the recorded dependencies
+pub record IsKeptAnswer (listed : Listed) (entries : List Entry) (details : Details) (keep : Text → Bool) (a : Answer) : Type 0 where
   pub resolved : IsResolved (table_of listed entries) (λ f. IsTrue (is_removed (table_of listed entries) keep f)) a.resolution
   pub keyed : (f : Text) → IfSome (a.key f) (λ k. k ≡ f)
-  pub explicit : (f : Text) → IsTrue (a.resolution.table.has f) → a.explicit f ≡ is_explicit listed f
+  pub marks : (f : Text) → IsTrue (a.resolution.table.has f) → a.marks f ≡ marks_in listed details f
   pub dependencies : (k : Text) → SameRecorded (a.dependencies k) (recorded_of (entries_at listed entries k))
   pub some : IsTrue a.removed_some ↔ ((r : Text) × IsTrue (is_removed (table_of listed entries) keep r))
 
 -- and so are the binaries that require features, of which own are the binaries' own mentions: by paths, and as they are passed on
 -- in byte order; and what stands for each feature that is taken out
-pub record IsAnswer (listed : Listed) (entries : List Entry) (own : Text → List Text) (keep : Text → Bool) (a : Answer) : Type 0 where
-  pub kept : IsKeptAnswer listed entries keep a
+pub record IsAnswer (listed : Listed) (entries : List Entry) (details : Details) (own : Text → List Text) (keep : Text → Bool) (a : Answer) : Type 0 where
+  pub kept : IsKeptAnswer listed entries details keep a
   pub bins : (f : Text) → IsTrue (a.resolution.table.has f) → HasBins (table_of listed entries) (λ r. IsTrue (is_removed (table_of listed entries) keep r)) own f (a.bins f)
   pub passed_on : ArePassedOn (table_of listed entries) (λ r. IsTrue (is_removed (table_of listed entries) keep r)) own a.bins
   pub redirected : (r : Text) → is_some (a.redirects r) ≡ is_removed (table_of listed entries) keep r

@@ -12,6 +12,7 @@ use Rattle.std.specs.BTreeMap.{BTreeMap}
 use Rattle.std.specs.BTreeSet as sorted
 use Rattle.std.specs.BTreeSet.{BTreeSet}
 use Rattle.cargo_toml_dependencies.specs.Dependencies.{dependency_meaning}
+use Rattle.cargo_toml_dependencies.specs.Details.{plain_detail}
 use Rattle.cargo_toml_features.specs.declared.admit.Listing.{Listing}
 use Rattle.cargo_toml_features.specs.declared.features.DepAction.{DepAction}
 use Rattle.cargo_toml_features.specs.declared.features.Feature.{Feature}
@@ -22,6 +23,7 @@ use Rattle.cargo_toml_features.specs.declared.features.TargetKey.{TargetKey}
 use Rattle.cargo_toml_graph.specs.Action.{Text, Action}
 use Rattle.cargo_toml_graph.specs.Admitted.{Listed}
 use Rattle.cargo_toml_graph.specs.Graph.{Resolution, Table}
+use Rattle.cargo_toml_features.specs.Marks.{marked, marks_of}
 use Rattle.cargo_toml_features.specs.Recorded.{Entry, Recorded, Target, target_cmp}
 use Rattle.cargo_toml_features.specs.Resolved.{Answer}
 
@@ -67,7 +69,7 @@ abbrev pub answer_of : {S H : Type 0} → Features S H → Answer
 answer_of a = record {
   resolution = resolution_of a.features;
   key = λ f. option_map (λ v. v.key.now) (value_at a.features f);
-  explicit = λ f. option_map_or (λ v. v.explicit) (value_at a.features f) false;
+  marks = λ f. option_map_or marks_of (value_at a.features f) (marked false plain_detail);
   bins = λ f. option_map_or (λ v. map (λ t. t.now) v.required_by_bins.items) (value_at a.features f) [];
   dependencies = λ k. option_map recorded_in (value_at a.dependencies k);
   redirects = λ r. option_map has_text (value_at a.hidden_features r);

@@ -1,11 +1,15 @@
-//! Which features of a table count, in what order.
+//! Which features of a table count, in what order, and what is said of them.
 ghost use Rattle.std.specs.Prelude.{◌≡◌, ◌∷◌, ◌++◌, ◌||◌, [], IfOk, OnOk, if◌then◌else◌, bytes_eq, codes, length, map, nat_lt, string_bytes, take};
 ghost use Rattle.cargo_toml_graph.specs.Action.{Text};
 ghost use Rattle.cargo_toml_graph.specs.Admitted.{Listed, admitted};
 ghost use Rattle.cargo_toml_graph.specs.Reach.{IsOnce};
+ghost use Rattle.cargo_toml_parts.specs.Reads.{map_meaning};
+ghost use Rattle.cargo_toml_dependencies.specs.Details.{detail_of};
+ghost use Rattle.cargo_toml_features.specs.Marks.{detail_at, detail_in, details_listed, details_of};
 ghost use Rattle.cargo_toml_features.specs.Views.{listed_of, listed_in};
 ghost use Rattle.cargo_toml_features.specs.Hashed.{IsListingOf, actions_at, sorted_actions_at};
 
+use cargo_toml_dependencies::{FeatureDetail, FeatureDetails, FeatureSet};
 use std::alloc::{AllocError, Global};
 use std::collections::{BTreeMap, HashMap};
 use std::hash::BuildHasher;
@@ -13,11 +17,12 @@ use std::hash::BuildHasher;
 /// How many names of a table of features count, how many actions of a feature, and how many keys of a table of dependencies.
 pub const MAX_ITEMS: usize = 2048;
 
-/// A feature as a table lists it: its name and its actions.
+/// A feature as a table lists it: its name and its actions, and what else is said of it, if anything.
 #[derive(Debug, Clone, Copy)]
 pub struct Listing<'m> {
     pub name: &'m str,
     pub actions: &'m [String],
+    pub detail: Option<&'m FeatureDetail>,
 }
 
 fn first_actions(actions: &[String], limit: usize) -> &[String]
@@ -29,35 +34,57 @@ fn first_actions(actions: &[String], limit: usize) -> &[String]
 // Adds a feature with its first actions, where there is room for it or it is `default`.
 fn add_listing<'m>(
     listings: &mut Vec<Listing<'m>>,
-    name: &'m str,
-    actions: &'m [String],
+    listing: Listing<'m>,
     limit: usize,
 ) -> Result<(), AllocError>
-    ensures { OnOk result (listed_of listings.new.items
-        ≡ (if nat_lt (length listings.old.items) limit || bytes_eq name.now (codes "default")
-        then listed_of listings.old.items ++ (name.now, take limit (map string_bytes actions.now)) ∷ []
+    ensures listed { OnOk result (listed_of listings.new.items
+        ≡ (if nat_lt (length listings.old.items) limit || bytes_eq listing.entry.name.now (codes "default")
+        then listed_of listings.old.items
+        ++ (listing.entry.name.now, take limit (map string_bytes listing.entry.actions.now)) ∷ []
         else listed_of listings.old.items)) }
+    ensures details { OnOk result (details_of listings.new.items
+        ≡ (if nat_lt (length listings.old.items) limit || bytes_eq listing.entry.name.now (codes "default")
+        then details_of listings.old.items ++ (listing.entry.name.now, detail_in listing.entry.detail) ∷ []
+        else details_of listings.old.items)) }
 {
-    if listings.len() < limit || name == "default" {
-        let actions = first_actions(actions, limit);
-        listings.push(Listing { name, actions })?;
+    if listings.len() < limit || listing.name == "default" {
+        let actions = first_actions(listing.actions, limit);
+        listings.push(Listing { actions, ..listing })?;
     }
     Ok(())
 }
 
+// A feature of a table, with the detail of its name.
+fn listing_of<'m>(name: &'m str, actions: &'m [String], details: &'m FeatureDetails) -> Listing<'m>
+    ensures name { result.name.now ≡ name.now }
+    ensures actions { result.actions.now ≡ actions.now }
+    ensures detail { detail_in result.detail ≡ detail_at (map_meaning detail_of details.now) name.now }
+{
+    Listing {
+        name,
+        actions,
+        detail: details.get(name),
+    }
+}
+
 /// Of a table's features those that are admitted: the first `limit` names in byte order and always `default`, each with its
-/// first `limit` actions. They stand in the byte order of their names. It fails only where memory runs out.
+/// first `limit` actions, and with the detail of its name. They stand in the byte order of their names. It fails only where
+/// memory runs out.
 pub fn listings<'m>(
     alloc: Global,
-    table: &'m BTreeMap<String, Vec<String>>,
+    table: &'m FeatureSet,
+    details: &'m FeatureDetails,
     limit: usize,
 ) -> Result<Vec<Listing<'m>>, AllocError>
     ensures all { IfOk result (λ v. listed_of v.items ≡ admitted limit (listed_in table.now)) }
+    ensures details { IfOk result (λ v.
+        details_of v.items ≡ details_listed (listed_of v.items) (map_meaning detail_of details.now)) }
     ensures once { IfOk result (λ v. IsOnce (map (λ l. l.name.now) v.items)) }
 {
     let mut listings = Vec::with_capacity(alloc, table.len().min(limit))?;
     for (name, actions) in table {
-        add_listing(&mut listings, name.as_str(), actions.as_slice(), limit)?;
+        let listing = listing_of(name.as_str(), actions.as_slice(), details);
+        add_listing(&mut listings, listing, limit)?;
     }
     Ok(listings)
 }
@@ -76,7 +103,7 @@ fn in_order<'m, S: BuildHasher>(
     Ok(sorted)
 }
 
-/// The same of a hashed table, whatever the order of its walk. It fails only where memory runs out.
+/// The same of a hashed table, whatever the order of its walk, without details. It fails only where memory runs out.
 pub fn hashed_listings<'m, S: BuildHasher>(
     alloc: Global,
     table: &'m HashMap<String, Vec<String>, S>,
@@ -84,13 +111,19 @@ pub fn hashed_listings<'m, S: BuildHasher>(
 ) -> Result<Vec<Listing<'m>>, AllocError>
     ensures all { IfOk result (λ v. (listed : Listed) → IsListingOf table.now listed
         → listed_of v.items ≡ admitted limit listed) }
+    ensures details { IfOk result (λ v. details_of v.items ≡ details_listed (listed_of v.items) []) }
     ensures once { IfOk result (λ v. IsOnce (map (λ l. l.name.now) v.items)) }
     ensures listed { IfOk result (λ _. (listed : Listed) × IsListingOf table.now listed) }
 {
     let sorted = in_order(alloc, table)?;
     let mut listings = Vec::with_capacity(alloc, sorted.len().min(limit))?;
     for (name, actions) in &sorted {
-        add_listing(&mut listings, *name, *actions, limit)?;
+        let listing = Listing {
+            name: *name,
+            actions: *actions,
+            detail: None,
+        };
+        add_listing(&mut listings, listing, limit)?;
     }
     Ok(listings)
 }

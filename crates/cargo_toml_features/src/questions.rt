@@ -52,13 +52,13 @@ impl<'a> Feature<'a> {
         !self.enabled_by.is_empty()
     }
 
-    /// Whether users are meant to ask for this feature: its name doesn't begin with `_`, and the manifest lists it or no
-    /// other feature enables it.
+    /// Whether users are meant to ask for this feature: it is public, its name doesn't begin with `_`, and the manifest lists
+    /// it or no other feature enables it.
     pub fn is_user_facing(&self) -> bool
         ensures { IsTrue result ↔ ((IsTrue self.now.explicit ⊎ (btree_set_len self.now.enabled_by ≡ 0))
-            × IsFalse (starts_with nat_eq self.now.key.now (codes "_"))) }
+            × IsFalse (starts_with nat_eq self.now.key.now (codes "_")) × IsTrue self.now.public) }
     {
-        (self.explicit || !self.is_referenced()) && !self.key.starts_with('_')
+        (self.explicit || !self.is_referenced()) && !self.key.starts_with('_') && self.public
     }
 
     /// The names of the features that enable this one directly, in byte order, but for `default`.

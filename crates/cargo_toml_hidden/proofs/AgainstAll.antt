@@ -8,6 +8,7 @@ use Rattle.cargo_toml_graph.specs.Kept.{KeepsEnabling, LosesNothing, NoneIsLeft}
 use Rattle.cargo_toml_graph.specs.Removal.{is_removed}
 use Rattle.cargo_toml_graph.proofs.AgainstAll as graph
 use Rattle.cargo_toml_graph.proofs.Closure as closure
+use Rattle.cargo_toml_features.specs.Marks.{Details}
 use Rattle.cargo_toml_features.specs.Recorded.{Entry}
 use Rattle.cargo_toml_features.specs.Resolved.{Answer, IsAnswer, table_of}
 
@@ -20,8 +21,8 @@ none_removed t v = go (t.has v) (starts_with nat_eq v (codes "_"))
     go true false = refl
     go true true = refl
 
-module _ (listed : Listed) (entries : List Entry) (own : Text → List Text) (keep : Text → Bool) where
-  pub none_left : (a : Answer) → IsAnswer listed entries own keep a → NoneIsLeft (λ r. IsSome (a.redirects r)) a.resolution
+module _ (listed : Listed) (entries : List Entry) (details : Details) (own : Text → List Text) (keep : Text → Bool) where
+  pub none_left : (a : Answer) → IsAnswer listed entries details own keep a → NoneIsLeft (λ r. IsSome (a.redirects r)) a.resolution
   none_left a h =
       let left = closure.none_left (table_of listed entries) (is_removed (table_of listed entries) keep) a.resolution h.kept.resolved in
       record {
@@ -30,7 +31,7 @@ module _ (listed : Listed) (entries : List Entry) (own : Text → List Text) (ke
         enabled_by = λ f r there gone. left.enabled_by f r there (sym (h.redirected r) ∙ gone);
       }
 
-  module _ (full a : Answer) (all : IsAnswer listed entries own (λ _. true) full) (h : IsAnswer listed entries own keep a) where
+  module _ (full a : Answer) (all : IsAnswer listed entries details own (λ _. true) full) (h : IsAnswer listed entries details own keep a) where
     pub keeps_enabling : KeepsEnabling full.resolution a.resolution
     keeps_enabling = graph.keeps_enabling (table_of listed entries) (is_removed (table_of listed entries) keep) (is_removed (table_of listed entries) (λ _. true))
         full.resolution a.resolution (none_removed (table_of listed entries)) all.kept.resolved h.kept.resolved

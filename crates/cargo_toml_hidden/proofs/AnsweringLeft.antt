@@ -6,17 +6,19 @@ use Rattle.std.specs.BTreeSet.{BTreeSet}
 use Rattle.std.specs.List.{IsAnyAnswer, slice_index_or}
 use Rattle.std.specs.Option.{option_map_or}
 use Rattle.cargo_toml_graph.specs.Action.{Text}
-use Rattle.cargo_toml_graph.specs.Admitted.{Listed, is_below, is_explicit}
+use Rattle.cargo_toml_graph.specs.Admitted.{Listed, is_below}
 use Rattle.cargo_toml_graph.specs.Bins.{ArePassedOn}
 use Rattle.cargo_toml_graph.specs.Graph.{Table}
 use Rattle.cargo_toml_graph.specs.Redirects.{RedirectsTo}
 use Rattle.cargo_toml_graph.specs.Removal.{is_removed, unremoved}
 use Rattle.cargo_toml_graph.proofs.InByteOrder.{alike_itself, passed_all_alike, passed_has, removed_there}
 use Rattle.cargo_toml_walk.specs.Numbered.{text_at}
+use Rattle.cargo_toml_dependencies.specs.Details.{plain_detail}
 use Rattle.cargo_toml_features.specs.declared.features.Feature.{Feature}
 use Rattle.cargo_toml_features.specs.declared.features.Features.{Features}
 use Rattle.cargo_toml_features.specs.InOrder.{AreTable, feature_at, names_of}
 use Rattle.cargo_toml_features.specs.Reached.{IsKeyed}
+use Rattle.cargo_toml_features.specs.Marks.{Details, marked, marks_in, marks_of}
 use Rattle.cargo_toml_features.specs.Recorded.{Entry, entries_at, recorded_of}
 use Rattle.cargo_toml_features.specs.Resolved.{IsAnswer, SameRecorded, table_of}
 use Rattle.cargo_toml_features.specs.Views.{answer_of, has_text, value_at}
@@ -25,9 +27,9 @@ use Rattle.cargo_toml_hidden.specs.Left.{AreLeft}
 use Rattle.cargo_toml_hidden.specs.Numbering.{IsFlagged}
 use Rattle.cargo_toml_hidden.proofs.InPlace.{found_stands}
 
-module _ {S H : Type 0} (listed : Listed) (entries : List Entry) (own : Text → List Text) (keep : Text → Bool) (vs : List Feature) (a : Features S H)
+module _ {S H : Type 0} (listed : Listed) (entries : List Entry) (details : Details) (own : Text → List Text) (keep : Text → Bool) (vs : List Feature) (a : Features S H)
     (start : AreTable (table_of listed entries) vs)
-    (explicit : (f : Text) → IfSome (feature_at vs f) (λ v. v.explicit ≡ is_explicit listed f))
+    (marks : (f : Text) → IfSome (feature_at vs f) (λ v. marks_of v ≡ marks_in listed details f))
     (bins : (f : Text) → IfSome (feature_at vs f) (λ v. map (λ b. b.now) v.required_by_bins.items ≡ own f))
     (dependencies : (k : Text) → SameRecorded ((answer_of a).dependencies k) (recorded_of (entries_at listed entries k)))
     (kept : AreLeft (table_of listed entries) (is_removed (table_of listed entries) keep) vs a.features a.hidden_features)
@@ -55,12 +57,12 @@ module _ {S H : Type 0} (listed : Listed) (entries : List Entry) (own : Text →
       go None k = tt
       go (Some v) k = k
 
-  explicit_at : (f : Text) → IsTrue (is_some (value_at a.features f)) → option_map_or (λ v. v.explicit) (value_at a.features f) false ≡ is_explicit listed f
-  explicit_at f = go (value_at a.features f) (kept.own f)
+  marks_at : (f : Text) → IsTrue (is_some (value_at a.features f)) → option_map_or marks_of (value_at a.features f) (marked false plain_detail) ≡ marks_in listed details f
+  marks_at f = go (value_at a.features f) (kept.own f)
     where
-      go : (o : Option Feature) → IfSome o (Stays f) → IsTrue (is_some o) → option_map_or (λ v. v.explicit) o false ≡ is_explicit listed f
+      go : (o : Option Feature) → IfSome o (Stays f) → IsTrue (is_some o) → option_map_or marks_of o (marked false plain_detail) ≡ marks_in listed details f
       go None s y = absurd (false≢true y)
-      go (Some w) s y = s.2.explicit ∙ subst (λ o. IfSome o (λ v. v.explicit ≡ is_explicit listed f)) s.1 (explicit f)
+      go (Some w) s y = s.2.marks ∙ subst (λ o. IfSome o (λ v. marks_of v ≡ marks_in listed details f)) s.1 (marks f)
 
   own_at : (f : Text) → IsTrue (t.has f) → own_bins vs f ≡ own f
   own_at f there = go (feature_at vs f) (start.has f ∙ there) (bins f)
@@ -92,12 +94,12 @@ module _ {S H : Type 0} (listed : Listed) (entries : List Entry) (own : Text →
       go None h = tt
       go (Some names) h = h
 
-  pub answers : IsAnswer listed entries own keep (answer_of a)
+  pub answers : IsAnswer listed entries details own keep (answer_of a)
   answers = record {
     kept = record {
       resolved = kept.resolved;
       keyed = key_at;
-      explicit = explicit_at;
+      marks = marks_at;
       dependencies = dependencies;
       some = some;
     };

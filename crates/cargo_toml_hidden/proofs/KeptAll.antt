@@ -64,7 +64,7 @@ module _ {S : Type 0} (vs : List Feature) (up : AreInOrder vs) (m : HashMap (Bor
     where
       own_at : (f : Text) (o : Option Feature) → o ≡ feature_at vs f → IfSome o (λ w. (v : Feature) × (feature_at vs f ≡ Some v) × IsNamedAlike v w)
       own_at f None e = tt
-      own_at f (Some w) e = (w, sym e, record { key = refl; explicit = refl })
+      own_at f (Some w) e = (w, sym e, record { key = refl; marks = refl })
 
 -- a weaker fact of one result
 pub if_ok_weaker : {X Y : Type 0} (r : Result X Y) (A Q : X → Type 0) → ((x : X) → A x → Q x) → IfOk r A → IfOk r Q

@@ -8,6 +8,7 @@ use Rattle.cargo_toml_graph.specs.Reach.{Among}
 use Rattle.cargo_toml_graph.proofs.Joins.{join_alike}
 use Rattle.cargo_toml_walk.specs.Numbers.{IsWanted, Leads, list_at}
 use Rattle.cargo_toml_features.specs.declared.features.Feature.{Feature}
+use Rattle.cargo_toml_features.specs.Marks.{marks_of}
 use Rattle.cargo_toml_features.specs.Views.{action_at}
 use Rattle.cargo_toml_hidden.specs.Leaving.{HasActions, Holds, KeepsOwn, Leaves, LeavesAll}
 
@@ -19,7 +20,7 @@ keeps_itself vs i v w at at' =
     let same : w ≡ v = some_same (sym at ∙ at') in
     record {
       key = ap (λ (u : Feature). u.key) same;
-      explicit = ap (λ (u : Feature). u.explicit) same;
+      marks = ap marks_of same;
       bins = ap (λ (u : Feature). u.required_by_bins) same;
     }
 

@@ -41,14 +41,14 @@ still_holds {vs} {texts} {i} {passed} {named} {enablers} {v} {w} {u} h same = re
   enabled_by = subst (λ s. HasTexts texts enablers s) (sym same.enabled_by) h.enabled_by;
 }
 
--- a feature that is left keeps its name and its mark
+-- a feature that is left keeps its name and its marks
 pub named_alike_there : {Z : Type 0} (flags : List Bool) (passed named enablers : List (Vec ℕ Z)) (texts : List Text) (old left new : List Feature) →
     LeavesAll flags passed named enablers texts old left → AreSameButBins left new → (i : ℕ) (v w : Feature) → slice_get old i ≡ Some v → slice_get new i ≡ Some w → IsNamedAlike v w
 named_alike_there flags passed named enablers texts old left new l s i v w at at' =
     let u = stood left new s.len i w at' in
     let own = l.own i v u.0 at u.1 in
     let same = s.each i u.0 w u.1 at' in
-    record { key = same.key ∙ own.key; explicit = same.explicit ∙ own.explicit }
+    record { key = same.key ∙ own.key; marks = same.marks ∙ own.marks }
 
 module _ (t : Table) (removed : Text → Bool) (old left new : List Feature) (texts : List Text) (edges names : List (Vec ℕ Global)) (flags : List Bool)
     (stand : StandFor t removed old texts edges names flags) where

@@ -21,7 +21,7 @@ put_again : (xs ys : List Text) → put_all (put_all xs ys) ys ≡ put_all xs ys
 put_again xs ys = put_none (put_all xs ys) ys (λ x i. put_puts xs ys x i)
 
 itself : (v : Feature) → IsSameButBins v v
-itself v = record { key = refl; explicit = refl; names = refl; actions = refl; enabled_by = refl }
+itself v = record { key = refl; marks = refl; names = refl; actions = refl; enabled_by = refl }
 
 pub same_features : (vs : List Feature) → AreSameButBins vs vs
 same_features vs = record { len = refl; each = λ i v w old new. subst (IsSameButBins v) (same_Some v w (sym old ∙ new)) (itself v) }
@@ -35,7 +35,7 @@ then_same vs ws us a b = record {
       let there : slice_get ws i ≡ Some w = slice_get-get_or ws i v inside in
       let s = a.each i v w old there in
       let t = b.each i w u there new in
-      record { key = t.key ∙ s.key; explicit = t.explicit ∙ s.explicit; names = t.names ∙ s.names; actions = t.actions ∙ s.actions; enabled_by = t.enabled_by ∙ s.enabled_by };
+      record { key = t.key ∙ s.key; marks = t.marks ∙ s.marks; names = t.names ∙ s.names; actions = t.actions ∙ s.actions; enabled_by = t.enabled_by ∙ s.enabled_by };
 }
 
 abbrev list_in : Option Feature → List Text

@@ -10,6 +10,7 @@ use Rattle.cargo_toml_walk.specs.Numbered.{IsNumbered, text_at}
 use Rattle.cargo_toml_walk.specs.Numbers.{IsWanted}
 use Rattle.cargo_toml_features.specs.declared.features.Feature.{Feature}
 use Rattle.cargo_toml_features.specs.InOrder.{AreInOrder, AreTable, feature_at, names_of}
+use Rattle.cargo_toml_features.specs.Marks.{marks_of}
 use Rattle.cargo_toml_features.specs.Views.{action_at, has_text}
 
 -- v holds what the kept feature f does
@@ -26,10 +27,10 @@ pub record StandFor (t : Table) (removed : Text → Bool) (vs : List Feature) (t
   pub count : length edges ≡ length vs
   pub vertices : (i : ℕ) → i < length vs → text_at texts i ≡ text_at (names_of vs) i
 
--- it has the name of the other, and its mark
+-- it has the name of the other, and its marks
 pub record IsNamedAlike (old new : Feature) : Type 0 where
   pub key : new.key ≡ old.key
-  pub explicit : new.explicit ≡ old.explicit
+  pub marks : marks_of new ≡ marks_of old
 
 -- the binaries that a feature of this name requires itself
 abbrev pub own_bins : List Feature → Text → List Text

@@ -7,6 +7,7 @@ use Rattle.cargo_toml_graph.specs.Action.{Text, Action, IsJoin}
 use Rattle.cargo_toml_graph.specs.Reach.{Among}
 use Rattle.cargo_toml_features.specs.declared.features.DepAction.{DepAction}
 use Rattle.cargo_toml_features.specs.declared.features.Feature.{Feature}
+use Rattle.cargo_toml_features.specs.Marks.{marks_of}
 use Rattle.cargo_toml_features.specs.Views.{has_text, action_at}
 use Rattle.cargo_toml_walk.specs.Numbers.{IsWanted, list_at}
 use Rattle.cargo_toml_walk.specs.Numbered.{HasNumber}
@@ -37,7 +38,7 @@ pub record Holds (vs : List Feature) (texts : List Text) (i : ℕ) (passed named
 -- what a feature says of itself stays
 pub record KeepsOwn (old new : Feature) : Type 0 where
   pub key : new.key ≡ old.key
-  pub explicit : new.explicit ≡ old.explicit
+  pub marks : marks_of new ≡ marks_of old
   pub bins : new.required_by_bins ≡ old.required_by_bins
 
 -- the feature in place i changes so, and no other does

@@ -6,6 +6,7 @@ use Rattle.cargo_toml_graph.specs.Action.{Text}
 use Rattle.cargo_toml_graph.specs.Removal.{put_all}
 use Rattle.cargo_toml_walk.specs.Numbers.{list_at}
 use Rattle.cargo_toml_features.specs.declared.features.Feature.{Feature}
+use Rattle.cargo_toml_features.specs.Marks.{marks_of}
 
 -- the binaries that require the feature in place i, none past the end
 abbrev pub bins_of : List Feature → ℕ → List Text
@@ -23,7 +24,7 @@ passed_below rows flags (suc n) lists = if slice_index_or flags n false then pas
 -- what a feature holds beside its binaries stays
 pub record IsSameButBins (old new : Feature) : Type 0 where
   pub key : new.key ≡ old.key
-  pub explicit : new.explicit ≡ old.explicit
+  pub marks : marks_of new ≡ marks_of old
   pub names : new.enables_features ≡ old.enables_features
   pub actions : new.enables_deps ≡ old.enables_deps
   pub enabled_by : new.enabled_by ≡ old.enabled_by

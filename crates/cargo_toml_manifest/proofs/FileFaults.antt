@@ -1,6 +1,6 @@
 -- Which faults reading real files and searching among them give.
-use Rattle.std.proofs.Common.{◌≡◌, ◌⊎◌, inl, inr, sym, ap, ◌∙◌, ℕ, List, false, Some, Ok, String, string_bytes}
-use Rattle.std.specs.Prelude.{is_some}
+use Rattle.std.proofs.Common.{◌≡◌, ◌⊎◌, inl, inr, refl, sym, ap, ◌∙◌, ℕ, List, false, Option, Some, Result, Ok, Err, String, string_bytes}
+use Rattle.std.specs.Prelude.{is_some, IfErr}
 use Rattle.std.specs.IoError.{error_kind}
 use Rattle.std.specs.declared.alloc.Global.{Global}
 use Rattle.std.specs.declared.io.Error.{Error as IoError}
@@ -11,7 +11,8 @@ use Rattle.cargo_toml_parts.specs.declared.error.Error.TheVariants.{rolls-Io, ro
 use Rattle.cargo_toml_parts.specs.Faults.{IsFromIo}
 use Rattle.cargo_toml_parts.specs.FaultValues.{Fault, fault_of, fault_step, io, workspace_integrity}
 use Rattle.cargo_toml_parts.specs.Wrapping.{wrap}
-use Rattle.cargo_toml_manifest.specs.RealFiles.{IsHintFault, IsInput, IsNoWorkspace, IsSearchFault, expected_workspace}
+use Rattle.cargo_toml_manifest.specs.RealFiles.{IsHintFault, IsInput, IsNoWorkspace, IsRootFault, IsSearchFault, expected_workspace, real_losses}
+use Rattle.cargo_toml_manifest.specs.Refusing.{MayLose, RefusesBy}
 use Rattle.cargo_toml_manifest.specs.Roots.{IsFromSlice}
 use Rattle.cargo_toml_manifest.specs.declared.manifest.Manifest.{Manifest}
 use Rattle.cargo_toml_manifest.proofs.Rooted.{memory_wrapped}
@@ -49,3 +50,9 @@ hint_fault bytes file e (inr fault) = inr (inr (bytes, fault))
 pub search_fault : (bytes file : List ℕ) (e : Error) → (e ≡ Memory) ⊎ IsNoWorkspace bytes file e → IsSearchFault e
 search_fault bytes file e (inl memory) = inl memory
 search_fault bytes file e (inr fault) = inr (inr (bytes, file, fault))
+
+-- why no root is found may stand in place of the root
+pub loses : {T : Type 0} (folder : List ℕ) (hint : Option (List ℕ)) (r : Result T Error) → IfErr r (IsRootFault folder hint) →
+    RefusesBy (MayLose false (real_losses folder) hint) r
+loses folder hint (Ok x) h = tt
+loses folder hint (Err e) h = inr (inl (e, (h, refl)))

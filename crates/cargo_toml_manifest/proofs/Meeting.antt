@@ -64,13 +64,13 @@ sharing : (workspace : Option (Workspace Value)) → option_map shared (option_m
 sharing None = refl
 sharing (Some w) = refl
 
-abbrev Found : Type 0
+abbrev pub Found : Type 0
 Found = Manifest Value × String Global
 
-found_choice : (x : Found) → told_choice (root (manifest_meaning view x.0) (string_bytes x.1)) ≡ from (shared_of x.0.workspace) (string_bytes x.1)
+pub found_choice : (x : Found) → told_choice (root (manifest_meaning view x.0) (string_bytes x.1)) ≡ from (shared_of x.0.workspace) (string_bytes x.1)
 found_choice x = ap (λ (s : Option Shared). from s (string_bytes x.1)) (sharing x.0.workspace)
 
-as_told : (m : ManifestMeaning _) (path : List ℕ) (x : Found) → (manifest_meaning view x.0 ≡ m) × (string_bytes x.1 ≡ path) → root m path ≡ root (manifest_meaning view x.0) (string_bytes x.1)
+pub as_told : (m : ManifestMeaning _) (path : List ℕ) (x : Found) → (manifest_meaning view x.0 ≡ m) × (string_bytes x.1 ≡ path) → root m path ≡ root (manifest_meaning view x.0) (string_bytes x.1)
 as_told m path x h = sym (ap (λ (n : ManifestMeaning _). root n (string_bytes x.1)) h.0 ∙ ap (λ (p : List ℕ). root m p) h.1)
 
 -- completion by a root that was found
@@ -108,12 +108,12 @@ given_by_root m n no_root told x a h = cc
 given_by_root m n open_root told x a h = (root (manifest_meaning view x.0) (string_bytes x.1), inr refl, chosen m n told _ _ (found_choice x) h)
 
 -- this answer in place of what isn't told
-abbrev answered_by : ToldRoot → ToldRoot → ToldRoot
+abbrev pub answered_by : ToldRoot → ToldRoot → ToldRoot
 answered_by answer (root m path) = root m path
 answered_by answer no_root = no_root
 answered_by answer open_root = answer
 
-answered : (roots : RootsTold) (answer : ToldRoot) → AnswersRoots roots (λ hint. answered_by answer (roots hint))
+pub answered : (roots : RootsTold) (answer : ToldRoot) → AnswersRoots roots (λ hint. answered_by answer (roots hint))
 answered roots answer hint = answers_at (roots hint)
   where
     answers_at : (t : ToldRoot) → (t ≡ answered_by answer t) ⊎ (t ≡ open_root)
@@ -121,7 +121,7 @@ answered roots answer hint = answers_at (roots hint)
     answers_at no_root = inl refl
     answers_at open_root = inr refl
 
-answer_there : (told answer : ToldRoot) → (told ≡ answer) ⊎ (told ≡ open_root) → answered_by answer told ≡ answer
+pub answer_there : (told answer : ToldRoot) → (told ≡ answer) ⊎ (told ≡ open_root) → answered_by answer told ≡ answer
 answer_there (root m path) answer (inl h) = h
 answer_there no_root answer (inl h) = h
 answer_there open_root answer (inl h) = refl
@@ -129,7 +129,7 @@ answer_there (root m path) answer (inr h) = cc
 answer_there no_root answer (inr h) = cc
 answer_there open_root answer (inr h) = refl
 
-told_itself : (roots : RootsTold) → AnswersRoots roots roots
+pub told_itself : (roots : RootsTold) → AnswersRoots roots roots
 told_itself roots hint = inl refl
 
 -- by what is told of roots alone
@@ -138,13 +138,13 @@ pub given_as_told : {M : Type 0} (m n : ManifestMeaning M) (handed : Option Hand
 given_as_told m n handed roots told h = (roots, told_itself roots, h)
 
 -- from where it inherits without a workspace that is handed in
-own_by_root : {M : Type 0} (o : Option (WorkspaceMeaning M)) (b : Bool) (t u : ToldRoot) → o ≡ None → b ≡ true → t ≡ u → own_choice (option_map shared o) b t ≡ told_choice u
+pub own_by_root : {M : Type 0} (o : Option (WorkspaceMeaning M)) (b : Bool) (t u : ToldRoot) → o ≡ None → b ≡ true → t ≡ u → own_choice (option_map shared o) b t ≡ told_choice u
 own_by_root o b t u table needed same = rw (table, needed, same) refl
 
-own_alone : {M : Type 0} (o : Option (WorkspaceMeaning M)) (b : Bool) (t : ToldRoot) → o ≡ None → b ≡ false → own_choice (option_map shared o) b t ≡ alone
+pub own_alone : {M : Type 0} (o : Option (WorkspaceMeaning M)) (b : Bool) (t : ToldRoot) → o ≡ None → b ≡ false → own_choice (option_map shared o) b t ≡ alone
 own_alone o b t table needed = rw (table, needed) refl
 
-own_by_table : {M : Type 0} (o : Option (WorkspaceMeaning M)) (w : WorkspaceMeaning M) (b : Bool) (t : ToldRoot) → o ≡ Some w → own_choice (option_map shared o) b t ≡ from (Some (shared w)) []
+pub own_by_table : {M : Type 0} (o : Option (WorkspaceMeaning M)) (w : WorkspaceMeaning M) (b : Bool) (t : ToldRoot) → o ≡ Some w → own_choice (option_map shared o) b t ≡ from (Some (shared w)) []
 own_by_table o w b t table = rw table refl
 
 -- by the root of its hint, where it has no table and needs one

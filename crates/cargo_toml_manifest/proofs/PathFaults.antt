@@ -1,14 +1,19 @@
 -- A manifest that was read, or why it could not be completed.
-use Rattle.std.proofs.Common.{◌≡◌, inl, inr, refl, ℕ, List, Option, Some, None, Result, Ok, Err}
+use Rattle.std.proofs.Common.{◌≡◌, inl, inr, refl, sym, ap, ◌∙◌, subst, false, ℕ, List, Option, Some, None, Result, Ok, Err}
 use Rattle.std.specs.Prelude.{◌↔◌, IfErr, IfOk, IsErrAnd, IsSome, OnOk}
+use Rattle.std.specs.Path.{path_parent}
 use Rattle.std.specs.Result.{result_and}
 use Rattle.toml.specs.Data.{Data}
-use Rattle.cargo_toml_parts.specs.declared.error.Error.{Error}
-use Rattle.cargo_toml_parts.specs.FaultValues.{fault_of}
+use Rattle.cargo_toml_parts.specs.declared.error.Error.{Error, Memory}
+use Rattle.cargo_toml_parts.specs.FaultValues.{Fault, fault_of, toml, shape, io, workspace, inherited_unknown_value, workspace_integrity, other, memory}
+use Rattle.cargo_toml_parts.specs.Wrapping.{wrap}
+use Rattle.cargo_toml_manifest.specs.Choosing.{Choice, Handed, RootsTold, alone, choice, from, hint_of, lost, unclear_root}
 use Rattle.cargo_toml_manifest.specs.Completing.{GivenBy, Meets, complete}
 use Rattle.cargo_toml_manifest.specs.Manifests.{ManifestMeaning, manifest_meaning}
-use Rattle.cargo_toml_manifest.specs.RealFiles.{IsCompletionFault, IsPathFault, IsReadAndCompleted, IsReadFromText, bad_path, real_folders, real_roots}
+use Rattle.cargo_toml_manifest.specs.Refusing.{IsRefusedAt, IsRefusedBy, MayLose}
+use Rattle.cargo_toml_manifest.specs.RealFiles.{IsCompletionFault, IsPathFault, IsReadAndCompleted, IsReadFromText, bad_path, or_here, real_folders, real_listings, real_losses, real_roots}
 use Rattle.cargo_toml_manifest.specs.declared.manifest.Manifest.{Manifest}
+use Rattle.cargo_toml_manifest.proofs.Faults.{fault_of-memory}
 use Rattle.cargo_toml_manifest.proofs.Meeting.{refused_again}
 
 -- what holds once it is completed, holds of the answer
@@ -21,20 +26,64 @@ pub given : {T X M : Type 0} (meaning : X → M) (reads : Data → Option (Manif
     IsReadFromText (manifest_meaning meaning) reads read →
     OnOk r (GivenBy (manifest_meaning (λ m. m) read) None real_roots real_folders (manifest_meaning (λ m. m) new)) →
     IfOk (result_and r (Ok new)) (IsReadAndCompleted meaning reads)
-given meaning reads read new (Ok t) from h = (read, from, h)
-given meaning reads read new (Err e) from h = tt
+given meaning reads read new (Ok t) text_of h = (read, text_of, h)
+given meaning reads read new (Err e) text_of h = tt
 
 -- the refusal of a manifest that some text reads as
-pub refused : {T X M : Type 0} (meaning : Manifest X → ManifestMeaning M) (reads : Data → Option (ManifestMeaning M))
+pub refused : {T X M : Type 0} (path : List ℕ) (meaning : Manifest X → ManifestMeaning M) (reads : Data → Option (ManifestMeaning M))
     (refuses : Data → Error → Type 0) (f : T → ManifestMeaning X) (read new : Manifest X) (parent : Option (List ℕ))
     (r : Result T Error) →
     IsReadFromText meaning reads read →
     (IsSome parent → Meets f (complete (manifest_meaning (λ m. m) read) None real_roots real_folders) r) →
     (parent ≡ None) ↔ IsErrAnd r (λ e. fault_of e ≡ bad_path) →
-    IfErr r IsCompletionFault →
-    IfErr (result_and r (Ok new)) (IsPathFault meaning reads refuses)
-refused meaning reads refuses f read new parent (Ok t) from outcome bad why = tt
-refused meaning reads refuses f read new None (Err e) from outcome bad why = inr (inr (inr (inl (bad.0 refl))))
-refused meaning reads refuses f read new (Some folder) (Err e) from outcome bad (inl at) = inr (inr (inr (inl at)))
-refused meaning reads refuses f read new (Some folder) (Err e) from outcome bad (inr wrapped) =
-    inr (inr (inr (inr (read, from, (refused_again f (manifest_meaning (λ m. m)) _ e (outcome refl), wrapped)))))
+    IfErr r (IsCompletionFault path (manifest_meaning (λ m. m) read) None) →
+    IfErr (result_and r (Ok new)) (IsPathFault path meaning reads refuses)
+refused path meaning reads refuses f read new parent (Ok t) text_of outcome bad why = tt
+refused path meaning reads refuses f read new None (Err e) text_of outcome bad why = inr (inr (inr (inl (bad.0 refl))))
+refused path meaning reads refuses f read new (Some folder) (Err e) text_of outcome bad (inl at) = inr (inr (inr (inl at)))
+refused path meaning reads refuses f read new (Some folder) (Err e) text_of outcome bad (inr around) =
+    inr (inr (inr (inr (read, text_of, (refused_again f (manifest_meaning (λ m. m)) _ e (outcome refl), around)))))
+
+-- the refusal of completion in the folder of a path is one around that
+pub around_path : {T M : Type 0} (path folder there : List ℕ) (m : ManifestMeaning M) (handed : Option Handed) (r : Result T Error) →
+    path_parent path ≡ Some folder → there ≡ or_here folder →
+    IfErr r (IsRefusedBy m handed real_roots (MayLose false (real_losses there)) real_listings) →
+    IfErr r (IsCompletionFault path m handed)
+around_path path folder there m handed (Ok t) parent here h = tt
+around_path path folder there m handed (Err e) parent here h =
+    inr (folder, (parent, subst (λ (f : List ℕ). IsRefusedBy m handed real_roots (MayLose false (real_losses f)) real_listings e) here h))
+
+-- a fault with the path of a workspace is no other
+no_other : (path : Option (List ℕ)) (fault : Fault) (text : List ℕ) → wrap path fault ≡ other text → ⊥
+no_other path (toml e) text h = cc
+no_other path (shape t) text h = cc
+no_other path (io kind) text h = cc
+no_other path (workspace inner at) text h = cc
+no_other path inherited_unknown_value text h = cc
+no_other path (workspace_integrity t) text h = cc
+no_other path (other t) text h = cc
+no_other path memory text h = cc
+
+-- a refusal by a choice has the path of a workspace, where there is one
+is_wrapped : {M : Type 0} (m : ManifestMeaning M) (roots : Option (List ℕ) → Fault → Type 0) (names : List ℕ → Fault → Type 0) (c : Choice) (e : Error) →
+    IsRefusedAt m roots names c e → (path : Option (List ℕ)) × ((fault : Fault) × (fault_of e ≡ wrap path fault))
+is_wrapped m roots names alone e (fault, (cause, same)) = (None, (fault, same))
+is_wrapped m roots names (from shares path) e (fault, (cause, same)) = (Some path, (fault, same))
+is_wrapped m roots names lost e (fault, (cause, same)) = (hint_of m, (fault, same))
+is_wrapped m roots names unclear_root e h = absurd h
+
+no_bad_fault : {M : Type 0} (m : ManifestMeaning M) (handed : Option Handed) (told : RootsTold) (roots : Option (List ℕ) → Fault → Type 0)
+    (names : List ℕ → Fault → Type 0) (e : Error) → IsRefusedBy m handed told roots names e → fault_of e ≡ bad_path → ⊥
+no_bad_fault m handed told roots names e (inl is) bad =
+    let h : memory ≡ bad_path = sym fault_of-memory ∙ ap fault_of (sym is) ∙ bad in no_other None memory _ h
+no_bad_fault m handed told roots names e (inr (answered, (known, at))) bad =
+    let w = is_wrapped m roots names (choice m handed answered) e at in
+    no_other w.0 w.1.0 _ (sym w.1.1 ∙ bad)
+
+-- where the path names a file, completion never says that it does not
+pub no_bad_path : {M T : Type 0} (m : ManifestMeaning M) (handed : Option Handed) (told : RootsTold) (roots : Option (List ℕ) → Fault → Type 0)
+    (names : List ℕ → Fault → Type 0) (parent : Option (List ℕ)) (folder : List ℕ) (r : Result T Error) → parent ≡ Some folder →
+    IfErr r (IsRefusedBy m handed told roots names) → (parent ≡ None) ↔ IsErrAnd r (λ e. fault_of e ≡ bad_path)
+no_bad_path m handed told roots names parent folder (Ok t) is h = ((λ none. let k : None ≡ Some folder = sym none ∙ is in cc), (λ bad. absurd bad))
+no_bad_path m handed told roots names parent folder (Err e) is h =
+    ((λ none. let k : None ≡ Some folder = sym none ∙ is in cc), (λ bad. absurd (no_bad_fault m handed told roots names e h bad)))

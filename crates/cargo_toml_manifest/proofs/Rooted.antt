@@ -16,7 +16,7 @@ use Rattle.cargo_toml_manifest.specs.Texts.{any_tree, document_reads}
 use Rattle.cargo_toml_manifest.specs.Told.{ToldRoot, root, no_root, open_root, IsRootIn, ReadsRoot, AnswersRoot}
 use Rattle.cargo_toml_manifest.proofs.Faults.{memory_alone, fault_of-memory}
 
-abbrev Read : Type 0
+abbrev pub Read : Type 0
 Read = Vec ℕ Global × String Global
 
 abbrev Found : Type 0

@@ -68,7 +68,3 @@ GivenByRoot m lookup told n =
 abbrev pub IsLasting : {M : Type 0} → ManifestMeaning M → Option Handed → ManifestMeaning M → Type 0
 IsLasting m handed n =
     (roots : RootsTold) (told : Text → Told) → complete m handed roots told ≡ gives n → complete n handed roots told ≡ gives n
-
--- the fault of completion: want of memory, or a fault that has the path of a workspace, where there is one
-abbrev pub IsWrapped : Error → Type 0
-IsWrapped e = (e ≡ Memory) ⊎ ((path : Option (List ℕ)) × ((fault : Fault) × (fault_of e ≡ wrap path fault)))

@@ -5,6 +5,7 @@ pub mod Inheriting
 pub mod Installing
 pub mod Manifests
 pub mod RealFiles
+pub mod Refusing
 pub mod Roots
 pub mod Texts
 pub mod Told

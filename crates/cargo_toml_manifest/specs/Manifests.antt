@@ -6,7 +6,8 @@ use Rattle.cargo_toml_parts.specs.declared.inheritable.Inheritable.{Inheritable}
 use Rattle.cargo_toml_parts.specs.declared.inheritable.Inheritable.TheVariants.{Set, Inherited}
 use Rattle.cargo_toml_tables.specs.Badges.{BadgesMeaning, badges_meaning, badges_of}
 use Rattle.cargo_toml_dependencies.specs.Dependencies.{DependencyMeaning, dependency_meaning, dependency_of}
-use Rattle.cargo_toml_dependencies.specs.Features.{feature_of}
+use Rattle.cargo_toml_dependencies.specs.Details.{Detail, detail_of}
+use Rattle.cargo_toml_dependencies.specs.Features.{features_of, no_features}
 use Rattle.cargo_toml_parts.specs.Inherits.{inheritable_map, inheritable_of, inheritable_refuses}
 use Rattle.cargo_toml_tables.specs.Lints.{LintMeaning, lint_meaning, lint_of}
 use Rattle.cargo_toml_tables.specs.Products.{ProductMeaning, product_meaning, product_of}
@@ -39,6 +40,7 @@ pub record ManifestMeaning (M : Type 0) : Type 0 where
   pub test : List ProductMeaning
   pub example : List ProductMeaning
   pub lints : Inheritable (List (List ℕ × List (List ℕ × LintMeaning)))
+  pub feature_details : List (List ℕ × Detail)
 
 abbrev pub manifest_meaning : {X M : Type 0} → (X → M) → Manifest X → ManifestMeaning M
 manifest_meaning f m = record {
@@ -59,6 +61,7 @@ manifest_meaning f m = record {
   test = map product_meaning m.test.items;
   example = map product_meaning m.example.items;
   lints = inheritable_map (map_meaning (map_meaning lint_meaning)) m.lints;
+  feature_details = map_meaning detail_of m.feature_details;
 }
 
 -- the version is 0.0.0, without pre-release and build metadata
@@ -111,7 +114,7 @@ manifest_of metadata_of ms = do
   dev_dependencies ← map_at "dev-dependencies" dependency_of ms
   build_dependencies ← map_at "build-dependencies" dependency_of ms
   target ← map_at "target" target_reads ms
-  features ← map_at "features" feature_of ms
+  features ← given_at "features" no_features features_of ms
   replace ← map_at "replace" dependency_of ms
   patch ← map_at "patch" (map_of dependency_of) ms
   lib ← optional_at "lib" product_reads ms
@@ -129,7 +132,7 @@ manifest_of metadata_of ms = do
     dev_dependencies = dev_dependencies;
     build_dependencies = build_dependencies;
     target = target;
-    features = features;
+    features = features.0;
     replace = replace;
     patch = patch;
     lib = lib;
@@ -140,6 +143,7 @@ manifest_of metadata_of ms = do
     test = test;
     example = example;
     lints = lints;
+    feature_details = features.1;
   })
 
 -- what may be wrong with a manifest
@@ -151,7 +155,7 @@ manifest_faults metadata_of metadata_refuses ms e =
     ⊎ fault_at "dev-dependencies" (map_of dependency_of) plain ms e
     ⊎ fault_at "build-dependencies" (map_of dependency_of) plain ms e
     ⊎ fault_at "target" (map_of target_reads) plain ms e
-    ⊎ fault_at "features" (map_of feature_of) plain ms e
+    ⊎ fault_at "features" features_of plain ms e
     ⊎ fault_at "replace" (map_of dependency_of) plain ms e
     ⊎ fault_at "patch" (map_of (map_of dependency_of)) plain ms e
     ⊎ fault_at "lib" product_reads plain ms e

@@ -11,9 +11,10 @@ use Rattle.toml.specs.declared.value.Value.{Value}
 use Rattle.cargo_toml_parts.specs.declared.error.Error.{Error, Memory}
 use Rattle.cargo_toml_parts.specs.FaultValues.{Fault, fault_of, io, other, workspace, workspace_integrity}
 use Rattle.cargo_toml_discovery.specs.Told.{Told, open_path}
-use Rattle.cargo_toml_manifest.specs.Choosing.{RootsTold}
-use Rattle.cargo_toml_manifest.specs.Completing.{GivenBy, IsWrapped, Meets, complete}
+use Rattle.cargo_toml_manifest.specs.Choosing.{Handed, RootsTold}
+use Rattle.cargo_toml_manifest.specs.Completing.{GivenBy, Meets, complete}
 use Rattle.cargo_toml_manifest.specs.Manifests.{ManifestMeaning, manifest_meaning}
+use Rattle.cargo_toml_manifest.specs.Refusing.{IsRefusedBy, MayLose}
 use Rattle.cargo_toml_manifest.specs.Roots.{IsFromSlice}
 use Rattle.cargo_toml_manifest.specs.Texts.{IsFromText, document_reads}
 use Rattle.cargo_toml_manifest.specs.Told.{open_root}
@@ -48,9 +49,17 @@ abbrev pub listed_as : ErrorKind → ErrorKind
 listed_as NotADirectory = NotFound
 listed_as kind = kind
 
--- the error is a fault of reading a file or a folder
+-- the fault is one of reading a file or a folder
+abbrev pub IsInputFault : Fault → Type 0
+IsInputFault fault = (kind : ErrorKind) × (fault ≡ io kind)
+
+-- the error is such a fault
 abbrev pub IsInput : Error → Type 0
-IsInput e = (kind : ErrorKind) × (fault_of e ≡ io kind)
+IsInput e = IsInputFault (fault_of e)
+
+-- the faults that stand in place of names among real files
+abbrev pub real_listings : List ℕ → Fault → Type 0
+real_listings path = IsInputFault
 
 abbrev pub expected_workspace : List ℕ → List ℕ
 expected_workspace path = codes "Manifest at " ++ path ++ codes " was expected to be a workspace."
@@ -113,23 +122,34 @@ IsRootFault folder (Some hint) e =
     IsHintFault (path_join (path_join folder hint) (codes "Cargo.toml")) e
 IsRootFault folder None e = IsSearchFault e
 
+-- the faults that stand in place of a root among real files, as seen from a folder
+abbrev pub real_losses : List ℕ → Option (List ℕ) → Fault → Type 0
+real_losses folder hint fault = (e : Error) × (IsRootFault folder hint e × (fault_of e ≡ fault))
+
 abbrev pub bad_path : Fault
 bad_path = other (codes "bad path")
 
+-- the refusal of completing a manifest among the real files around this path
+abbrev pub IsRefusedAround : {M : Type 0} → List ℕ → ManifestMeaning M → Option Handed → Error → Type 0
+IsRefusedAround path m handed e =
+    (folder : List ℕ)
+    × ((path_parent path ≡ Some folder)
+    × IsRefusedBy m handed real_roots (MayLose false (real_losses (or_here folder))) real_listings e)
+
 -- why real files complete no manifest: the path of its file names none, or a fault of completion
-abbrev pub IsCompletionFault : Error → Type 0
-IsCompletionFault e = (fault_of e ≡ bad_path) ⊎ IsWrapped e
+abbrev pub IsCompletionFault : {M : Type 0} → List ℕ → ManifestMeaning M → Option Handed → Error → Type 0
+IsCompletionFault path m handed e = (fault_of e ≡ bad_path) ⊎ IsRefusedAround path m handed e
 
 -- some text reads as this manifest
 abbrev pub IsReadFromText : {X M : Type 0} → (Manifest X → ManifestMeaning M) → (Data → Option (ManifestMeaning M)) → Manifest X → Type 0
 IsReadFromText meaning reads m =
     (text : List ℕ) × IsUtf8 text × (document_reads reads (parse_document text) ≡ Some (meaning m))
 
--- completing this manifest among real files, with no workspace handed in, may be refused with this fault
-abbrev pub IsRefusalOf : {X : Type 0} → Manifest X → Error → Type 0
-IsRefusalOf m e =
+-- completing this manifest among the real files around this path, with no workspace handed in, may be refused with this fault
+abbrev pub IsRefusalOf : {X : Type 0} → List ℕ → Manifest X → Error → Type 0
+IsRefusalOf path m e =
     Meets (manifest_meaning (λ m. m)) (complete (manifest_meaning (λ m. m) m) None real_roots real_folders) (Err e)
-    × IsWrapped e
+    × IsRefusedAround path (manifest_meaning (λ m. m) m) None e
 
 -- some text reads as a manifest which completion among real files makes into this one
 abbrev pub IsReadAndCompleted : {X M : Type 0} → (X → M) → (Data → Option (ManifestMeaning M)) → Manifest X → Type 0
@@ -138,15 +158,16 @@ IsReadAndCompleted meaning reads new =
     × GivenBy (manifest_meaning (λ m. m) read) None real_roots real_folders (manifest_meaning (λ m. m) new)
 
 -- some text reads as a manifest whose completion among real files may be refused with this fault
-abbrev pub IsReadAndRefused : {X M : Type 0} → (Manifest X → ManifestMeaning M) → (Data → Option (ManifestMeaning M)) → Error → Type 0
-IsReadAndRefused meaning reads e = (read : Manifest _) × IsReadFromText meaning reads read × IsRefusalOf read e
+abbrev pub IsReadAndRefused : {X M : Type 0} → List ℕ → (Manifest X → ManifestMeaning M) → (Data → Option (ManifestMeaning M)) → Error → Type 0
+IsReadAndRefused path meaning reads e =
+    (read : Manifest _) × IsReadFromText meaning reads read × IsRefusalOf path read e
 
 -- why a file gives no completed manifest: no memory, a fault of reading, one of some text, a path that names no file,
 -- or the fault of completing a manifest that some text reads as
-abbrev pub IsPathFault : {X M : Type 0} → (Manifest X → ManifestMeaning M) → (Data → Option (ManifestMeaning M)) → (Data → Error → Type 0) → Error → Type 0
-IsPathFault meaning reads refuses e =
+abbrev pub IsPathFault : {X M : Type 0} → List ℕ → (Manifest X → ManifestMeaning M) → (Data → Option (ManifestMeaning M)) → (Data → Error → Type 0) → Error → Type 0
+IsPathFault path meaning reads refuses e =
     (e ≡ Memory)
     ⊎ (IsInput e
     ⊎ (((text : List ℕ) × IsUtf8 text × IsFromText meaning reads refuses (parse_document text) (Err e))
     ⊎ ((fault_of e ≡ bad_path)
-    ⊎ IsReadAndRefused meaning reads e)))
+    ⊎ IsReadAndRefused path meaning reads e)))

@@ -3,8 +3,9 @@ ghost use Rattle.std.specs.Prelude.{◌≡◌, ◌⊎◌, ℕ, List, Bool, true,
 ghost use Rattle.std.specs.Option.{option_copied};
 ghost use Rattle.cargo_toml_parts.specs.declared.error.Error.{Memory};
 ghost use Rattle.cargo_toml_parts.specs.Answers.{Gives};
-ghost use Rattle.cargo_toml_parts.specs.FaultValues.{fault_of, workspace, workspace_integrity};
+ghost use Rattle.cargo_toml_parts.specs.FaultValues.{Fault, fault_of, workspace, workspace_integrity};
 ghost use Rattle.cargo_toml_parts.specs.Wrapping.{wrap};
+ghost use Rattle.cargo_toml_manifest.specs.Refusing.{MayLose, ReadsBy, RefusesBy};
 ghost use Rattle.cargo_toml_manifest.specs.Roots.{IsRootOf, not_a_workspace};
 ghost use Rattle.cargo_toml_discovery.specs.Told.{Told, open_path};
 ghost use Rattle.cargo_toml_manifest.specs.Told.{ToldRoot, open_root, heard, AnswersNames, ReadsRoot, AnswersRoot};
@@ -44,7 +45,8 @@ impl Roots for OwnRoot {
 /// The files around a manifest: what a folder holds, and where the root of the workspace is.
 ///
 /// Of each path and each hint an implementor may tell, for proofs alone, what it answers; by default it tells nothing. What
-/// it tells its calls then answer, want of memory aside.
+/// it tells its calls then answer, want of memory aside. It may state too, in the same way, which faults its calls may give;
+/// by default these are all. A refusal of completion then has no other cause.
 pub trait AbstractFilesystem {
     /// `OwnRoot` where `read_root_workspace` is written, and `NoRoot` where it is left out. With `NoRoot` nothing is told
     /// of a root but that there is none.
@@ -56,13 +58,20 @@ pub trait AbstractFilesystem {
     /// What is told of the workspace that a hint leads to.
     ghost root_for: { Self → Option (List ℕ) → ToldRoot } = { λ _ _. open_root };
 
+    /// Which faults may stand in place of the names at a path, as seen from the folder of the manifest.
+    ghost may_refuse: { Self → List ℕ → Fault → Type 0 } = { λ _ _ _. Unit {0} };
+
+    /// Which faults may stand in place of the root that a hint leads to, as `parse_root_workspace` gives them.
+    ghost may_refuse_root: { Self → Option (List ℕ) → Fault → Type 0 } = { λ _ _ _. Unit {0} };
+
     /// The names in a folder, whose path is as seen from the folder of the manifest; the empty path is that folder.
     ///
     /// A path where nothing is, or no folder, is `Error::Io` of the kind `NotFound`. Another fault of
     /// reading it is an `Error::Io` of its kind, and out of memory `Error::Memory`. An implementor may
     /// refuse with a fault of its own, too.
     fn file_names_in(&self, alloc: Global, rel_path: &str) -> Result<HashSet<String>, Error>
-        ensures { AnswersNames (names_at self.now rel_path.now) result };
+        ensures answers { AnswersNames (names_at self.now rel_path.now) result }
+        ensures refused { RefusesBy (may_refuse self.now rel_path.now) result };
 
     /// The bytes of the `Cargo.toml` of the workspace's root, and their path.
     ///
@@ -77,7 +86,8 @@ pub trait AbstractFilesystem {
         _alloc: Global,
         _hint: Option<&str>,
     ) -> Result<(Vec<u8>, String), Error>
-        ensures { ReadsRoot (heard Self.Roots.ARE_READ (root_for self.now (option_copied _hint.entry))) result }
+        ensures answers { ReadsRoot (heard Self.Roots.ARE_READ (root_for self.now (option_copied _hint.entry))) result }
+        ensures refused { ReadsBy Self.Roots.ARE_READ (may_refuse_root self.now) (option_copied _hint.entry) result }
     {
         if Self::Roots::ARE_READ {
             return Err(Error::Memory);
@@ -104,7 +114,9 @@ pub trait AbstractFilesystem {
         alloc: Global,
         hint: Option<&str>,
     ) -> Result<(Manifest, String), Error>
-        ensures { AnswersRoot (heard Self.Roots.ARE_READ (root_for self.now (option_copied hint.entry))) result }
+        ensures answers { AnswersRoot (heard Self.Roots.ARE_READ (root_for self.now (option_copied hint.entry))) result }
+        ensures refused { RefusesBy (MayLose Self.Roots.ARE_READ (may_refuse_root self.now) (option_copied hint.entry))
+            result }
     {
         root_of(alloc, hint, self.read_root_workspace(alloc, hint))
     }
@@ -116,6 +128,10 @@ impl<T: AbstractFilesystem> AbstractFilesystem for &T {
     ghost names_at = { λ fs path. T.names_at fs.now path };
 
     ghost root_for = { λ fs hint. T.root_for fs.now hint };
+
+    ghost may_refuse = { λ fs path. T.may_refuse fs.now path };
+
+    ghost may_refuse_root = { λ fs hint. T.may_refuse_root fs.now hint };
 
     fn file_names_in(&self, alloc: Global, rel_path: &str) -> Result<HashSet<String>, Error> {
         (**self).file_names_in(alloc, rel_path)

@@ -1,15 +1,17 @@
 //! Completing a manifest from its workspace and from its folders.
-ghost use Rattle.std.specs.Prelude.{◌≡◌, Some, None, Ok, Result, false, IfErr, IfOk, IfSome, OnErr, OnOk, option_map};
+ghost use Rattle.std.specs.Prelude.{◌≡◌, ◌⊎◌, Some, None, Ok, Result, false, IfErr, IfOk, IfSome, OnErr, OnOk, option_map};
 ghost use Rattle.std.specs.Option.{option_copied};
+ghost use Rattle.cargo_toml_parts.specs.declared.error.Error.{Memory};
 ghost use Rattle.cargo_toml_parts.specs.Answers.{Gives};
 ghost use Rattle.cargo_toml_parts.specs.FaultValues.{Fault};
 ghost use Rattle.cargo_toml_discovery.specs.Answers.{Answers, filled};
 ghost use Rattle.cargo_toml_package.specs.Filled.{IsFilled};
 ghost use Rattle.cargo_toml_manifest.specs.Choosing.{from, handed_of, hint_of, shared_of, told_choice};
-ghost use Rattle.cargo_toml_manifest.specs.Completing.{GivenBy, GivenByRoot, IsLasting, IsWrapped, Meets, complete, complete_by, gives, then_found};
+ghost use Rattle.cargo_toml_manifest.specs.Completing.{GivenBy, GivenByRoot, IsLasting, Meets, complete, complete_by, gives, then_found};
 ghost use Rattle.cargo_toml_manifest.specs.Inheriting.{needs};
 ghost use Rattle.cargo_toml_manifest.specs.Installing.{completed, installed};
 ghost use Rattle.cargo_toml_manifest.specs.Manifests.{ManifestMeaning, manifest_meaning};
+ghost use Rattle.cargo_toml_manifest.specs.Refusing.{IsCause, IsRefusedAt, IsRefusedBy, IsRefusedByRoot, IsToldWith, MayLose};
 ghost use Rattle.cargo_toml_manifest.specs.Told.{heard};
 
 use crate::afs::{AbstractFilesystem, wrapped};
@@ -36,7 +38,10 @@ fn completion<Metadata, Fs: AbstractFilesystem>(
         (stated : Result (ManifestMeaning Metadata) Fault) → Gives (installed m) parts stated →
         IfOk result (λ new. (answers : Answers) ×
         (then_found (option_copied path.entry) (filled (Fs.names_at fs.now) answers) stated ≡ gives (completed m new))) }
-    ensures wrapped { IfErr result IsWrapped }
+    ensures wrapped { let m = manifest_meaning (λ m. m) manifest.now in
+        (stated : Result (ManifestMeaning Metadata) Fault) → Gives (installed m) parts stated →
+        IfErr result (λ e. (e ≡ Memory)
+        ⊎ IsToldWith (option_copied path.entry) (IsCause stated (Fs.may_refuse fs.now)) e) }
 {
     let parts = match parts {
         Ok(parts) => parts,
@@ -63,7 +68,10 @@ fn completion_at<Metadata, N, Fs: AbstractFilesystem>(
         IfOk result (λ new. (answers : Answers) ×
         (complete_by m (from (shared_of (option_copied workspace.entry)) path.now) (filled (Fs.names_at fs.now) answers)
         ≡ gives (completed m new))) }
-    ensures wrapped { IfErr result IsWrapped }
+    ensures wrapped { let m = manifest_meaning (λ m. m) manifest.now in
+        IfErr result (λ e. (e ≡ Memory)
+        ⊎ IsRefusedAt m (MayLose Fs.Roots.ARE_READ (Fs.may_refuse_root fs.now)) (Fs.may_refuse fs.now)
+        (from (shared_of (option_copied workspace.entry)) path.now) e) }
 {
     let parts = new_parts(alloc, manifest, workspace, workspace_folder(path));
     completion(alloc, manifest, parts, fs, Some(path))
@@ -92,7 +100,9 @@ fn completion_by_hint<Metadata, Fs: AbstractFilesystem>(
     ensures given { let m = manifest_meaning (λ m. m) manifest.now in
         IfOk result (λ new. GivenByRoot m (heard Fs.Roots.ARE_READ (Fs.root_for fs.now (hint_of m))) (Fs.names_at fs.now)
         (completed m new)) }
-    ensures wrapped { IfErr result IsWrapped }
+    ensures wrapped { let m = manifest_meaning (λ m. m) manifest.now in
+        IfErr result (IsRefusedByRoot m (heard Fs.Roots.ARE_READ (Fs.root_for fs.now (hint_of m)))
+        (MayLose Fs.Roots.ARE_READ (Fs.may_refuse_root fs.now)) (Fs.may_refuse fs.now)) }
 {
     let hint = hint_of(manifest);
     match fs.parse_root_workspace(alloc, hint) {
@@ -119,7 +129,9 @@ fn own_completion<Metadata, Fs: AbstractFilesystem>(
     ensures given { let m = manifest_meaning (λ m. m) manifest.now in
         IfOk result (λ new. GivenBy m None (λ hint. heard Fs.Roots.ARE_READ (Fs.root_for fs.now hint)) (Fs.names_at fs.now)
         (completed m new)) }
-    ensures wrapped { IfErr result IsWrapped }
+    ensures wrapped { let m = manifest_meaning (λ m. m) manifest.now in
+        IfErr result (IsRefusedBy m None (λ hint. heard Fs.Roots.ARE_READ (Fs.root_for fs.now hint))
+        (MayLose Fs.Roots.ARE_READ (Fs.may_refuse_root fs.now)) (Fs.may_refuse fs.now)) }
 {
     match &manifest.workspace {
         Some(workspace) => completion_at(alloc, manifest, Some(workspace), "", fs),
@@ -147,7 +159,10 @@ fn completion_for<Metadata, N, Fs: AbstractFilesystem>(
     ensures given { let m = manifest_meaning (λ m. m) manifest.now in
         IfOk result (λ new. GivenBy m (option_map handed_of workspace.entry)
         (λ hint. heard Fs.Roots.ARE_READ (Fs.root_for fs.now hint)) (Fs.names_at fs.now) (completed m new)) }
-    ensures wrapped { IfErr result IsWrapped }
+    ensures wrapped { let m = manifest_meaning (λ m. m) manifest.now in
+        IfErr result (IsRefusedBy m (option_map handed_of workspace.entry)
+        (λ hint. heard Fs.Roots.ARE_READ (Fs.root_for fs.now hint))
+        (MayLose Fs.Roots.ARE_READ (Fs.may_refuse_root fs.now)) (Fs.may_refuse fs.now)) }
 {
     match workspace {
         Some((root, path)) => completion_at(alloc, manifest, root.workspace.as_ref(), path, fs),
@@ -177,7 +192,8 @@ impl<Metadata: Drop> Manifest<Metadata> {
     /// it is one already: what `fs` answers in place of a root; `WorkspaceIntegrity` for a dependency that the workspace
     /// lacks, for lints without a workspace table and for a field of the package that is still left; `InheritedUnknownValue`
     /// for a dependency that the workspace itself leaves to another; and after all these what `fs` answers in place of names.
-    /// Want of memory is `Error::Memory`. A refusal leaves the manifest as it was.
+    /// Want of memory is `Error::Memory`. A refusal leaves the manifest as it was. What `fs` answers is one of the faults that it
+    /// may give.
     pub fn complete_from_abstract_filesystem<N, Fs: AbstractFilesystem + Drop>(
         &mut self,
         alloc: Global,
@@ -195,7 +211,9 @@ impl<Metadata: Drop> Manifest<Metadata> {
         ensures filled { OnOk result (IfSome self.new.package IsFilled) }
         ensures again { OnOk result (IsLasting (manifest_meaning (λ m. m) self.old) (option_map handed_of workspace.entry)
             (manifest_meaning (λ m. m) self.new)) }
-        ensures wrapped { IfErr result IsWrapped }
+        ensures wrapped { IfErr result (IsRefusedBy (manifest_meaning (λ m. m) self.old)
+            (option_map handed_of workspace.entry) (λ hint. heard Fs.Roots.ARE_READ (Fs.root_for fs hint))
+            (MayLose Fs.Roots.ARE_READ (Fs.may_refuse_root fs)) (Fs.may_refuse fs)) }
     {
         let Completion { parts, found } = completion_for(alloc, self, &fs, workspace)?;
         install_parts(self, parts);

@@ -1,10 +1,11 @@
 //! Real files around a manifest.
-ghost use Rattle.std.specs.Prelude.{◌≡◌, ◌⊎◌, IfErr, IfOk, string_bytes};
+ghost use Rattle.std.specs.Prelude.{◌≡◌, ◌⊎◌, false, IfErr, IfOk, string_bytes};
 ghost use Rattle.std.specs.IoError.{error_kind};
 ghost use Rattle.std.specs.Option.{option_copied};
 ghost use Rattle.cargo_toml_parts.specs.declared.error.Error.{Memory};
 ghost use Rattle.cargo_toml_parts.specs.FaultValues.{fault_of, io};
-ghost use Rattle.cargo_toml_manifest.specs.RealFiles.{IsInput, IsRootFault, IsRootManifest, IsRootPath, folder_of, listed_as, or_here};
+ghost use Rattle.cargo_toml_manifest.specs.RealFiles.{IsInput, IsRootFault, IsRootManifest, IsRootPath, folder_of, listed_as, or_here, real_listings, real_losses};
+ghost use Rattle.cargo_toml_manifest.specs.Refusing.{MayLose, RefusesBy};
 
 use crate::afs::{AbstractFilesystem, NoRoot};
 use crate::lookup::{root_above, root_by_hint};
@@ -67,9 +68,13 @@ fn names_in<R: Files + AllocGlobal>(
     Ok(names)
 }
 
-/// What stands on the disk. Nothing is told of it.
+/// What stands on the disk. Nothing is told of it but which faults it gives.
 impl<R: Files + AllocGlobal> AbstractFilesystem for Filesystem<'_, R> {
     type Roots = NoRoot;
+
+    ghost may_refuse = { λ _ path. real_listings path };
+
+    ghost may_refuse_root = { λ files hint. real_losses (folder_of files) hint };
 
     /// The names in the folder on the disk. A name that is absent or no folder is `Error::Io` of the kind `NotFound`; a folder
     /// or an entry that can't be read, or whose name is not UTF-8, is `Error::Io` of its kind.
@@ -91,6 +96,8 @@ impl<R: Files + AllocGlobal> AbstractFilesystem for Filesystem<'_, R> {
             IsRootPath (folder_of self.now) (option_copied hint.entry) (string_bytes root.1)) }
         ensures refused { IfErr result
             (IsRootFault (folder_of self.now) (option_copied hint.entry)) }
+        ensures loses { RefusesBy
+            (MayLose false (real_losses (folder_of self.now)) (option_copied hint.entry)) result }
     {
         match hint {
             Some(hint) => root_by_hint(self.rt, alloc, self.path, hint),

@@ -11,6 +11,7 @@ ghost use Rattle.cargo_toml_package.specs.Packages.{package_meaning};
 ghost use Rattle.cargo_toml_manifest.specs.Finding.{found_around, stated_by, wanted_by, with_found};
 ghost use Rattle.cargo_toml_manifest.specs.Installing.{installed, taken};
 ghost use Rattle.cargo_toml_manifest.specs.Manifests.{manifest_meaning};
+ghost use Rattle.cargo_toml_manifest.specs.Refusing.{IsListed, RefusesBy};
 
 use crate::afs::AbstractFilesystem;
 use crate::gather::gather;
@@ -122,6 +123,7 @@ pub fn find<Metadata, Fs: AbstractFilesystem>(
         ⊎ (found_around m (Fs.names_at fs.now) ≡ seen (with_found m found))) }
     ensures faults { IfErr result
         (Tells (found_around (installed (manifest_meaning (λ m. m) manifest.now) parts.now) (Fs.names_at fs.now))) }
+    ensures refused { RefusesBy (IsListed (Fs.may_refuse fs.now)) result }
 {
     let Some(package) = &manifest.package else {
         return Ok(None);

@@ -40,7 +40,7 @@ impl<Metadata: Drop> Manifest<Metadata> {
         ensures filled { OnOk result (IfSome self.new.package IsFilled) }
         ensures again { OnOk result (IsLasting (manifest_meaning (λ m. m) self.old) None
             (manifest_meaning (λ m. m) self.new)) }
-        ensures refused { IfErr result IsCompletionFault }
+        ensures refused { IfErr result (IsCompletionFault path.now (manifest_meaning (λ m. m) self.old) None) }
     {
         self.complete_from_path_and_workspace(rt, alloc, path, None::<(&Manifest<Value>, &str)>)
     }
@@ -53,7 +53,8 @@ impl<Metadata: Drop> Manifest<Metadata> {
     /// file itself is not read.
     ///
     /// A path that names no file, as the empty one and `/`, is refused as `Error::Other("bad path")`. Other refusals are those of
-    /// `complete_from_abstract_filesystem`: `Error::Workspace` and `Error::Memory`. A refusal leaves the manifest as it was.
+    /// `complete_from_abstract_filesystem`: `Error::Workspace` and `Error::Memory`. What the files answer in place of names is
+    /// `Error::Io`, and in place of a root what `Filesystem::parse_root_workspace` refuses with. A refusal leaves the manifest as it was.
     pub fn complete_from_path_and_workspace<'a, N, R: Files + AllocGlobal>(
         &mut self,
         rt: &'a R,
@@ -72,7 +73,8 @@ impl<Metadata: Drop> Manifest<Metadata> {
         ensures filled { OnOk result (IfSome self.new.package IsFilled) }
         ensures again { OnOk result (IsLasting (manifest_meaning (λ m. m) self.old) (option_map handed_of workspace.entry)
             (manifest_meaning (λ m. m) self.new)) }
-        ensures refused { IfErr result IsCompletionFault }
+        ensures refused { IfErr result (IsCompletionFault path.now (manifest_meaning (λ m. m) self.old)
+            (option_map handed_of workspace.entry)) }
     {
         let Some(folder) = parent(path) else {
             return Err(Error::Other("bad path"));
@@ -97,7 +99,7 @@ impl Manifest {
         ensures given { IfOk result (IsReadAndCompleted view (manifest_reads any_tree)) }
         ensures needs { IfOk result (λ new. needs (manifest_meaning (λ m. m) new) ≡ false) }
         ensures filled { IfOk result (λ new. IfSome new.package IsFilled) }
-        ensures refused { IfErr result (IsPathFault (manifest_meaning view) (manifest_reads any_tree)
+        ensures refused { IfErr result (IsPathFault path.now (manifest_meaning view) (manifest_reads any_tree)
             (manifest_refuses any_tree any_refuses)) }
     {
         Manifest::from_path_with_metadata(rt, alloc, path)
@@ -117,7 +119,7 @@ impl<Metadata: FromValue> Manifest<Metadata> {
         ensures given { IfOk result (IsReadAndCompleted Metadata.meaning (manifest_reads Metadata.from_tree)) }
         ensures needs { IfOk result (λ new. needs (manifest_meaning (λ m. m) new) ≡ false) }
         ensures filled { IfOk result (λ new. IfSome new.package IsFilled) }
-        ensures refused { IfErr result (IsPathFault (manifest_meaning Metadata.meaning) (manifest_reads Metadata.from_tree)
+        ensures refused { IfErr result (IsPathFault path.now (manifest_meaning Metadata.meaning) (manifest_reads Metadata.from_tree)
             (manifest_refuses Metadata.from_tree Metadata.from_refuses)) }
     {
         let text = fs::read_to_string(rt, path)?;

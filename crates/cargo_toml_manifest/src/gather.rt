@@ -6,6 +6,7 @@ ghost use Rattle.cargo_toml_discovery.specs.Answers.{answers_of, around_in, fill
 ghost use Rattle.cargo_toml_discovery.specs.Around.{around, entries_at};
 ghost use Rattle.cargo_toml_discovery.specs.Gathering.{Fits, Grows, Has, HasEach, HasProducts, Listed, MayTellOneOf, RootListed};
 ghost use Rattle.cargo_toml_discovery.specs.Seen.{Tells, names_at, seen};
+ghost use Rattle.cargo_toml_manifest.specs.Refusing.{IsListed, RefusesBy};
 
 use crate::afs::AbstractFilesystem;
 use cargo_toml_discovery::listings::{Listings, Wanted, sorted_names};
@@ -20,7 +21,8 @@ fn listing<Fs: AbstractFilesystem>(
     fs: &Fs,
     path: &str,
 ) -> Result<BTreeSet<String>, Error>
-    ensures { Listed (Fs.names_at fs.now path.now) result }
+    ensures listed { Listed (Fs.names_at fs.now path.now) result }
+    ensures refused { RefusesBy (Fs.may_refuse fs.now path.now) result }
 {
     match fs.file_names_in(alloc, path) {
         Ok(names) => Ok(sorted_names(alloc, names)?),
@@ -33,7 +35,8 @@ fn listing<Fs: AbstractFilesystem>(
 
 // The names in the folder of the package, in order.
 fn root_listing<Fs: AbstractFilesystem>(alloc: Global, fs: &Fs) -> Result<BTreeSet<String>, Error>
-    ensures { RootListed (Fs.names_at fs.now []) result }
+    ensures listed { RootListed (Fs.names_at fs.now []) result }
+    ensures refused { RefusesBy (Fs.may_refuse fs.now []) result }
 {
     let names = fs.file_names_in(alloc, "")?;
     Ok(sorted_names(alloc, names)?)
@@ -49,6 +52,7 @@ fn ask<Fs: AbstractFilesystem>(
     ensures grows { OnOk result (Grows (Fs.names_at fs.now) (answers_of listings.old) (answers_of listings.new)) }
     ensures has { OnOk result (Has (answers_of listings.new) path.now) }
     ensures faults { IfErr result (Tells (names_at (Fs.names_at fs.now path.now))) }
+    ensures refused { RefusesBy (Fs.may_refuse fs.now path.now) result }
 {
     if listings.names_at(path).is_some() {
         return Ok(());
@@ -68,6 +72,7 @@ fn ask_each<Fs: AbstractFilesystem>(
     ensures grows { OnOk result (Grows (Fs.names_at fs.now) (answers_of listings.old) (answers_of listings.new)) }
     ensures has { OnOk result (HasEach (answers_of listings.new) (map string_bytes paths.now)) }
     ensures faults { IfErr result (λ e. (e ≡ Memory) ⊎ MayTellOneOf (Fs.names_at fs.now) (map string_bytes paths.now) (fault_of e)) }
+    ensures refused { RefusesBy (IsListed (Fs.may_refuse fs.now)) result }
 {
     for path in paths {
         ask(alloc, fs, path.as_str(), listings)?;
@@ -87,6 +92,7 @@ fn ask_products<Fs: AbstractFilesystem>(
     ensures has { OnOk result (HasProducts is_wanted dir.now (answers_of listings.new)) }
     ensures faults { Fits (Fs.names_at fs.now) (answers_of listings.old) →
         IfErr result (Tells (entries_at (Fs.names_at fs.now) is_wanted dir.now)) }
+    ensures refused { RefusesBy (IsListed (Fs.may_refuse fs.now)) result }
 {
     if !is_wanted {
         return Ok(());
@@ -109,6 +115,7 @@ pub fn gather<Fs: AbstractFilesystem>(
 ) -> Result<Listings, Error>
     ensures asked { IfOk result (λ l. around (filled (Fs.names_at fs.now) (answers_of l)) wanted ≡ seen (around_in (answers_of l) wanted)) }
     ensures faults { IfErr result (Tells (around (Fs.names_at fs.now) wanted)) }
+    ensures refused { RefusesBy (IsListed (Fs.may_refuse fs.now)) result }
 {
     let mut listings = Listings::new(alloc);
     let root = root_listing(alloc, fs)?;

@@ -20,7 +20,7 @@ mod questions;
 
 use crate::workspace::Workspace;
 use cargo_toml_dependencies::feature::features;
-use cargo_toml_dependencies::{DepsSet, FeatureSet, PatchSet, TargetDepsSet};
+use cargo_toml_dependencies::{DepsSet, FeatureDetails, FeatureSet, PatchSet, TargetDepsSet};
 use cargo_toml_package::Package;
 use cargo_toml_parts::copying::Copying;
 use cargo_toml_parts::floats::table_has_no_float;
@@ -96,6 +96,10 @@ pub struct Manifest<Metadata = Value> {
 
     /// The lints, by tool and then by name, which may be left to the workspace. Missing: `Set` of none.
     pub lints: Inheritable<LintGroups>,
+
+    /// What is said of features beside what they enable: an entry for each whose table has a `doc`,
+    /// or `public` as false. One of a name that isn't in `features` is passed over.
+    pub feature_details: FeatureDetails,
 }
 
 impl<Metadata: Clone> Clone for Manifest<Metadata> {
@@ -116,7 +120,8 @@ impl<Metadata: Clone> Clone for Manifest<Metadata> {
         × (⟦<Vec<Product> as Clone>⟧.is_clone x.bench copy.bench
         × (⟦<Vec<Product> as Clone>⟧.is_clone x.test copy.test
         × (⟦<Vec<Product> as Clone>⟧.is_clone x.example copy.example
-        × ⟦<Inheritable<LintGroups> as Clone>⟧.is_clone x.lints copy.lints))))))))))))))) };
+        × (⟦<Inheritable<LintGroups> as Clone>⟧.is_clone x.lints copy.lints
+        × ⟦<FeatureDetails as Clone>⟧.is_clone x.feature_details copy.feature_details)))))))))))))))) };
 
     ghost is_infallible = { λ x.
         ⟦<Option<Package<Metadata>> as Clone>⟧.is_infallible x.package
@@ -135,7 +140,8 @@ impl<Metadata: Clone> Clone for Manifest<Metadata> {
         × (⟦<Vec<Product> as Clone>⟧.is_infallible x.bench
         × (⟦<Vec<Product> as Clone>⟧.is_infallible x.test
         × (⟦<Vec<Product> as Clone>⟧.is_infallible x.example
-        × ⟦<Inheritable<LintGroups> as Clone>⟧.is_infallible x.lints))))))))))))))) };
+        × (⟦<Inheritable<LintGroups> as Clone>⟧.is_infallible x.lints
+        × ⟦<FeatureDetails as Clone>⟧.is_infallible x.feature_details)))))))))))))))) };
 
     fn clone(&self) -> Result<Manifest<Metadata>, AllocError> {
         let alloc = *self.bin.allocator();
@@ -157,6 +163,7 @@ impl<Metadata: Clone> Clone for Manifest<Metadata> {
         let test = copying.of(&self.test, Vec::new(alloc));
         let example = copying.of(&self.example, Vec::new(alloc));
         let lints = copying.of(&self.lints, Inheritable::Inherited);
+        let feature_details = copying.of(&self.feature_details, BTreeMap::new(alloc));
         copying.finish(Manifest {
             package,
             workspace,
@@ -175,6 +182,7 @@ impl<Metadata: Clone> Clone for Manifest<Metadata> {
             test,
             example,
             lints,
+            feature_details,
         })
     }
 }
@@ -203,6 +211,7 @@ impl<Metadata> Manifest<Metadata> {
             test: Vec::new(alloc),
             example: Vec::new(alloc),
             lints: Inheritable::Set(BTreeMap::new(alloc)),
+            feature_details: BTreeMap::new(alloc),
         }
     }
 }
@@ -320,7 +329,7 @@ fn read_table<Metadata: FromValue>(alloc: Global, table: Table) -> Result<Manife
     let dev_dependencies = reading.map_of(take(&mut rest, "dev-dependencies"));
     let build_dependencies = reading.map_of(take(&mut rest, "build-dependencies"));
     let target = reading.map_of(take(&mut rest, "target"));
-    let features = features(&mut reading, take(&mut rest, "features"));
+    let (features, feature_details) = features(&mut reading, take(&mut rest, "features"));
     let replace = reading.map_of(take(&mut rest, "replace"));
     let patch = reading.map_of(take(&mut rest, "patch"));
     let lib = reading.optional_of(take(&mut rest, "lib"));
@@ -351,6 +360,7 @@ fn read_table<Metadata: FromValue>(alloc: Global, table: Table) -> Result<Manife
             test,
             example,
             lints,
+            feature_details,
         },
     )
 }

@@ -15,7 +15,7 @@ use Rattle.cargo_toml_graph.proofs.BinLists.{among-second}
 use Rattle.cargo_toml_graph.proofs.Texts.{apart_false, bytes_eq_sym}
 use Rattle.cargo_toml_features.specs.declared.features.Feature.{Feature}
 use Rattle.cargo_toml_features.specs.Views.{has_text, resolution_of, value_at}
-use Rattle.cargo_toml_plain.specs.Removing.{key_at, explicit_at, bins_at, TakesOut, Redirects}
+use Rattle.cargo_toml_plain.specs.Removing.{key_at, marks_at, bins_at, TakesOut, Redirects}
 
 same_then : (l m n : Resolution) → SameKept l m → SameKept m n → SameKept l n
 same_then l m n h k = record {
@@ -95,7 +95,7 @@ module _ {S : Type 0} where
   pub record SoFar (done : List Text) (old now : HashMap (Bor Text) Feature S) (hidden : Redirected S) : Type 0 where
     pub left : SameKept (without_all done (resolution_of old)) (resolution_of now)
     pub keys : (f : Text) → IsSome (value_at now f) → key_at now f ≡ key_at old f
-    pub explicit : (f : Text) → IsSome (value_at now f) → explicit_at now f ≡ explicit_at old f
+    pub marks : (f : Text) → IsSome (value_at now f) → marks_at now f ≡ marks_at old f
     pub bins : (f : Text) → IsSome (value_at now f) → bins_at now f ≡ pass_all done (resolution_of old) (bins_at old) f
     pub redirected : (r : Text) → is_some (value_at hidden r) ≡ is_among done r
     pub redirects : (before after : List Text) (r : Text) → done ≡ before ++ r ∷ after
@@ -105,7 +105,7 @@ module _ {S : Type 0} where
   none_yet m hidden none = record {
     left = record { has = λ f. refl; names = λ f x t. refl; action = λ f k t. refl; enabled_by = λ f e t. refl };
     keys = λ f t. refl;
-    explicit = λ f t. refl;
+    marks = λ f t. refl;
     bins = λ f t. refl;
     redirected = λ r. ap (λ es. is_some (lookup (λ (k : Bor Text). bytes_eq r k.now) es)) none;
     redirects = λ before after r e. absurd (go before r after e);
@@ -159,7 +159,7 @@ module _ {S : Type 0} where
           left = subst (λ m. SameKept m (resolution_of now')) (sym (without_last done r (resolution_of old)))
               (same_then (without r (without_all done (resolution_of old))) (without r (resolution_of now)) (resolution_of now') (same_without r (without_all done (resolution_of old)) (resolution_of now) still h.left) t.left);
           keys = λ f i. t.keys f i ∙ h.keys f (was f i);
-          explicit = λ f i. t.explicit f i ∙ h.explicit f (was f i);
+          marks = λ f i. t.marks f i ∙ h.marks f (was f i);
           bins = λ f i.
               t.bins f i
               ∙ (λ k. cond (sym (h.left.names r f still) k) (put_all (h.bins f (was f i) k) (take 10 (h.bins r there_now k))) (h.bins f (was f i) k))

@@ -6,10 +6,11 @@ use Rattle.std.specs.BTreeSet.{BTreeSet}
 use Rattle.std.specs.List.{starts_with}
 use Rattle.std.specs.Option.{option_map_or}
 use Rattle.cargo_toml_walk.specs.Numbers.{IsWanted}
+use Rattle.cargo_toml_dependencies.specs.Details.{plain_detail}
 use Rattle.cargo_toml_features.specs.declared.features.Feature.{Feature}
 use Rattle.cargo_toml_features.specs.declared.features.Features.{Features}
 use Rattle.cargo_toml_graph.specs.Action.{Text}
-use Rattle.cargo_toml_graph.specs.Admitted.{Listed, is_below, is_explicit}
+use Rattle.cargo_toml_graph.specs.Admitted.{Listed, is_below}
 use Rattle.cargo_toml_graph.specs.Bins.{ArePassedOn}
 use Rattle.cargo_toml_graph.specs.Graph.{IsKept, IsResolved, IsUnremoved, Resolution, Table}
 use Rattle.cargo_toml_graph.specs.Reach.{Among, IsOnce}
@@ -22,10 +23,11 @@ use Rattle.cargo_toml_graph.proofs.Members.{label_within, resolved_alike}
 use Rattle.cargo_toml_graph.proofs.RedirectsInOrder.{redirect_by_bytes}
 use Rattle.cargo_toml_features.specs.InOrder.{feature_at, resolution_among}
 use Rattle.cargo_toml_features.specs.Reached.{IsKeyed}
+use Rattle.cargo_toml_features.specs.Marks.{Details, marked, marks_in, marks_of}
 use Rattle.cargo_toml_features.specs.Recorded.{Entry, entries_at, recorded_of}
 use Rattle.cargo_toml_features.specs.Resolved.{IsAnswer, SameRecorded, table_of}
 use Rattle.cargo_toml_features.specs.Views.{action_at, answer_of, has_text, resolution_of, table_in, value_at}
-use Rattle.cargo_toml_plain.specs.Removing.{bins_at, explicit_at, key_at, texts_of}
+use Rattle.cargo_toml_plain.specs.Removing.{bins_at, key_at, marks_at, texts_of}
 use Rattle.cargo_toml_hidden.proofs.SameKept.{resolved_same}
 
 abbrev Below : Text → Text → Type 0
@@ -85,15 +87,15 @@ stands [] x i = absurd i
 stands (y ∷ ys) x (inl e) = record { before = []; after = ys; whole = ap (λ z. z ∷ ys) (sym e) }
 stands (y ∷ ys) x (inr i) = let s = stands ys x i in record { before = y ∷ s.before; after = s.after; whole = ap (λ zs. y ∷ zs) s.whole }
 
-module _ {S H : Type 0} (listed : Listed) (entries : List Entry) (own : Text → List Text) (keep : Text → Bool) (old : HashMap (Bor Text) Feature S) (a : Features S H) (rs : List Text)
+module _ {S H : Type 0} (listed : Listed) (entries : List Entry) (details : Details) (own : Text → List Text) (keep : Text → Bool) (old : HashMap (Bor Text) Feature S) (a : Features S H) (rs : List Text)
     (start : IsUnremoved (table_of listed entries) (resolution_of old)) (keyed : IsKeyed old)
-    (explicit : (f : Text) → IfSome (value_at old f) (λ v. v.explicit ≡ is_explicit listed f))
+    (marks : (f : Text) → IfSome (value_at old f) (λ v. marks_of v ≡ marks_in listed details f))
     (bins : (f : Text) → IfSome (value_at old f) (λ v. map (λ b. b.now) v.required_by_bins.items ≡ own f))
     (dependencies : (k : Text) → SameRecorded ((answer_of a).dependencies k) (recorded_of (entries_at listed entries k)))
     (removed : (f : Text) → Among rs f ↔ IsTrue (is_removed (table_in old) keep f)) (ascending : IsAscending (λ a b. IsTrue (is_below a b)) rs)
     (left : SameKept (without_all rs (resolution_of old)) (resolution_of a.features))
     (keys : (f : Text) → IsSome (value_at a.features f) → key_at a.features f ≡ key_at old f)
-    (marks : (f : Text) → IsSome (value_at a.features f) → explicit_at a.features f ≡ explicit_at old f)
+    (marks_stay : (f : Text) → IsSome (value_at a.features f) → marks_at a.features f ≡ marks_at old f)
     (passed : (f : Text) → IsSome (value_at a.features f) → bins_at a.features f ≡ pass_all rs (resolution_of old) (bins_at old) f)
     (told : (r : Text) → is_some (value_at a.hidden_features r) ≡ is_among rs r)
     (redirects : (before after : List Text) (r : Text) → rs ≡ before ++ r ∷ after → IfSome (value_at a.hidden_features r) (λ names. (x : Text) → has_text names x ≡ (without_all before (resolution_of old)).table.names r x))
@@ -141,10 +143,10 @@ module _ {S H : Type 0} (listed : Listed) (entries : List Entry) (own : Text →
       go None k = tt
       go (Some v) k = k
 
-  explicit_is : (f : Text) → IsTrue (is_some (value_at a.features f)) → explicit_at a.features f ≡ is_explicit listed f
-  explicit_is f h = marks f h ∙ go (value_at old f) (was f (kept f h).0) (explicit f)
+  marks_are : (f : Text) → IsTrue (is_some (value_at a.features f)) → marks_at a.features f ≡ marks_in listed details f
+  marks_are f h = marks_stay f h ∙ go (value_at old f) (was f (kept f h).0) (marks f)
     where
-      go : (o : Option Feature) → IsTrue (is_some o) → IfSome o (λ v. v.explicit ≡ is_explicit listed f) → option_map_or (λ v. v.explicit) o false ≡ is_explicit listed f
+      go : (o : Option Feature) → IsTrue (is_some o) → IfSome o (λ v. marks_of v ≡ marks_in listed details f) → option_map_or marks_of o (marked false plain_detail) ≡ marks_in listed details f
       go None h e = absurd (false≢true h)
       go (Some v) h e = e
 
@@ -189,12 +191,12 @@ module _ {S H : Type 0} (listed : Listed) (entries : List Entry) (own : Text →
             λ n. named ∙ exact.1 (label_within (λ b z. IsTrue (t.names b z)) (λ v. R v × Below v r) (Earlier r (s.before ++ r ∷ s.after)) (λ v p. (subst (λ xs. Among xs v) s.whole (back v p.0), p.1)) r x n.0, λ p. n.1 (into x (subst (λ xs. Among xs x) (sym s.whole) p.0), p.1)),
           )
 
-  pub answers : IsAnswer listed entries own keep (answer_of a)
+  pub answers : IsAnswer listed entries details own keep (answer_of a)
   answers = record {
     kept = record {
       resolved = resolved;
       keyed = keyed_at;
-      explicit = explicit_is;
+      marks = marks_are;
       dependencies = dependencies;
       some = (λ y. let s = some.0 y in (s.0, into s.0 s.1), λ s. some.1 (s.0, back s.0 s.1));
     };

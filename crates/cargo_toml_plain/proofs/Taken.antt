@@ -11,6 +11,8 @@ use Rattle.cargo_toml_graph.specs.Removal.{SameKept, put_all, without}
 use Rattle.cargo_toml_graph.proofs.Texts.{bytes_eq_sym}
 use Rattle.cargo_toml_features.specs.declared.features.Feature.{Feature}
 use Rattle.cargo_toml_resolve.specs.Enabling.{Relates}
+use Rattle.cargo_toml_dependencies.specs.Details.{plain_detail}
+use Rattle.cargo_toml_features.specs.Marks.{marked, marks_of}
 use Rattle.cargo_toml_features.specs.Views.{has_text, action_at, resolution_of, value_at}
 use Rattle.cargo_toml_plain.specs.Removing.{texts_of, bins_at, Loses, LosesAll, TakesOut, Redirects}
 use Rattle.cargo_toml_plain.proofs.Turns.{at_key, elsewhere}
@@ -85,7 +87,7 @@ module _ {S : Type 0} (key : Text) (old mid new : HashMap (Bor Text) Feature S) 
   taken_out = record {
     left = left_now;
     keys = λ f there. each_now f there (λ o o'. option_map (λ v. v.key.now) o' ≡ option_map (λ v. v.key.now) o) (λ a b l. ap (λ k. Some k.now) l.own_key);
-    explicit = λ f there. each_now f there (λ o o'. option_map_or (λ v. v.explicit) o' false ≡ option_map_or (λ v. v.explicit) o false) (λ a b l. l.explicit);
+    marks = λ f there. each_now f there (λ o o'. option_map_or marks_of o' (marked false plain_detail) ≡ option_map_or marks_of o (marked false plain_detail)) (λ a b l. l.marks);
     bins = λ f there.
         each_now f there (λ o o'. option_map_or (λ v. texts_of v.required_by_bins.items) o' [] ≡ cond (has_text gone.enables_features f) (put_all (option_map_or (λ v. texts_of v.required_by_bins.items) o []) (take 10 (texts_of gone.required_by_bins.items))) (option_map_or (λ v. texts_of v.required_by_bins.items) o [])) (λ a b l. l.bins)
         ∙ sym (ap₂ (λ t bins. cond t (put_all (bins_at old f) (take 10 bins)) (bins_at old f)) (of_gone (λ v. has_text v.enables_features f) false) (of_gone (λ v. texts_of v.required_by_bins.items) []));

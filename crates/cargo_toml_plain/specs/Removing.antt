@@ -4,11 +4,13 @@ use Rattle.std.specs.Option.{option_map_or}
 use Rattle.std.specs.Borrow.{Bor}
 use Rattle.std.specs.BTreeSet.{BTreeSet}
 use Rattle.std.specs.HashMap.{HashMap}
+use Rattle.cargo_toml_dependencies.specs.Details.{plain_detail}
 use Rattle.cargo_toml_features.specs.declared.features.Feature.{Feature}
 use Rattle.cargo_toml_graph.specs.Action.{Text, join_option}
 use Rattle.cargo_toml_graph.specs.Graph.{Resolution}
 use Rattle.cargo_toml_graph.specs.Removal.{SameKept, pass_bins, put_all, without}
 use Rattle.cargo_toml_resolve.specs.Enabling.{Relates}
+use Rattle.cargo_toml_features.specs.Marks.{Marks, marked, marks_of}
 use Rattle.cargo_toml_features.specs.Views.{has_text, action_at, resolution_of, value_at}
 
 abbrev pub texts_of : List (Bor Text) → List Text
@@ -19,8 +21,8 @@ module _ {S : Type 0} (m : HashMap (Bor Text) Feature S) (f : Text) where
   abbrev pub key_at : Option Text
   key_at = option_map (λ v. v.key.now) (value_at m f)
 
-  abbrev pub explicit_at : Bool
-  explicit_at = option_map_or (λ v. v.explicit) (value_at m f) false
+  abbrev pub marks_at : Marks
+  marks_at = option_map_or marks_of (value_at m f) (marked false plain_detail)
 
   -- the binaries that require it
   abbrev pub bins_at : List Text
@@ -33,7 +35,7 @@ passed_on own gone key x = (has_text own x || has_text gone x) && not (bytes_eq 
 -- what the feature `name` names once `gone`, whose name is `key`, is taken out, and how it acts: a parent takes over both
 pub record TakesNames (gone : Feature) (key name : Text) (old new : Feature) : Type 0 where
   pub own_key : new.key ≡ old.key
-  pub explicit : new.explicit ≡ old.explicit
+  pub marks : marks_of new ≡ marks_of old
   pub enabled_by : new.enabled_by ≡ old.enabled_by
   pub bins : new.required_by_bins ≡ old.required_by_bins
   pub names : (x : Text) → has_text new.enables_features x
@@ -44,7 +46,7 @@ pub record TakesNames (gone : Feature) (key name : Text) (old new : Feature) : T
 -- what the feature `name` becomes by that
 pub record Loses (gone : Feature) (key name : Text) (old new : Feature) : Type 0 where
   pub own_key : new.key ≡ old.key
-  pub explicit : new.explicit ≡ old.explicit
+  pub marks : marks_of new ≡ marks_of old
   -- a parent names what it named, and acts as it did
   pub names : (x : Text) → has_text new.enables_features x
       ≡ (if has_text gone.enabled_by name then passed_on old.enables_features gone.enables_features key x else has_text old.enables_features x)
@@ -70,7 +72,7 @@ pub record LosesAll {S : Type 0} (gone : Feature) (key : Text) (old new : HashMa
 pub record TakesOut {S : Type 0} (key : Text) (old new : HashMap (Bor Text) Feature S) : Type 0 where
   pub left : SameKept (without key (resolution_of old)) (resolution_of new)
   pub keys : (f : Text) → IsSome (value_at new f) → key_at new f ≡ key_at old f
-  pub explicit : (f : Text) → IsSome (value_at new f) → explicit_at new f ≡ explicit_at old f
+  pub marks : (f : Text) → IsSome (value_at new f) → marks_at new f ≡ marks_at old f
   pub bins : (f : Text) → IsSome (value_at new f) → bins_at new f ≡ pass_bins (resolution_of old) key (bins_at old) f
 
 -- what r names goes to its redirect, and all others stay

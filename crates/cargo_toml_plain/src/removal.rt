@@ -3,7 +3,7 @@ ghost use Rattle.std.specs.Prelude.{◌≡◌, ◌∷◌, ◌++◌, ◌||◌, if
 ghost use Rattle.cargo_toml_graph.specs.Action.{Text, join, join_option};
 ghost use Rattle.cargo_toml_graph.specs.Reach.{Among, IsOnce};
 ghost use Rattle.cargo_toml_graph.specs.Removal.{SameKept, is_among, pass_all, put_all, without_all};
-ghost use Rattle.cargo_toml_plain.specs.Removing.{texts_of, passed_on, key_at, explicit_at, bins_at, TakesNames, Loses, ChangesAt, LosesAll, TakesOut, Redirects};
+ghost use Rattle.cargo_toml_plain.specs.Removing.{texts_of, passed_on, key_at, marks_at, bins_at, TakesNames, Loses, ChangesAt, LosesAll, TakesOut, Redirects};
 ghost use Rattle.cargo_toml_features.specs.Views.{has_text, action_of, action_at, resolution_of, value_at};
 
 use crate::bins::put_bins;
@@ -187,8 +187,8 @@ pub fn remove_all<'m, S: BuildHasher>(
         (resolution_of features.new)) }
     ensures keys { OnOk result ((f : Text) → IsSome (value_at features.new f)
         → key_at features.new f ≡ key_at features.old f) }
-    ensures explicit { OnOk result ((f : Text) → IsSome (value_at features.new f)
-        → explicit_at features.new f ≡ explicit_at features.old f) }
+    ensures marks { OnOk result ((f : Text) → IsSome (value_at features.new f)
+        → marks_at features.new f ≡ marks_at features.old f) }
     ensures bins { OnOk result ((f : Text) → IsSome (value_at features.new f) → bins_at features.new f
         ≡ pass_all (texts_of removed.now) (resolution_of features.old) (bins_at features.old) f) }
     ensures redirected { OnOk result ((r : Text) → is_some (value_at hidden.new r)

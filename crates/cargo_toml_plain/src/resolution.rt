@@ -5,6 +5,7 @@ ghost use Rattle.cargo_toml_graph.specs.Reach.{IsOnce};
 ghost use Rattle.cargo_toml_features.specs.FirstTarget.{HaveTargets};
 ghost use Rattle.cargo_toml_features.specs.InOrder.{AreInOrder, feature_at};
 ghost use Rattle.cargo_toml_resolve.specs.OwnBins.{own_of, requirement_of};
+ghost use Rattle.cargo_toml_features.specs.Marks.{details_of};
 ghost use Rattle.cargo_toml_features.specs.Reached.{IsKeyed};
 ghost use Rattle.cargo_toml_features.specs.Resolved.{IsAnswer};
 ghost use Rattle.cargo_toml_features.specs.Views.{answer_of, entry_of, listed_of, value_at};
@@ -52,8 +53,8 @@ pub fn resolve<'m: 'd, 'd, F: Fn(&str) -> bool, S: BuildHasher + Clone>(
     requires once { IsOnce (map (λ l. l.name.now) listings.now) }
     requires filter { HasNameFilter F.Fn filter }
     ensures resolved { IfOk result (λ a. (keep : Text → Bool) → Tells F.Fn filter.entry keep →
-        IsAnswer (listed_of listings.now) (map entry_of entries.now) (own_of (map requirement_of requirements.now)) keep
-        (answer_of a)) }
+        IsAnswer (listed_of listings.now) (map entry_of entries.now) (details_of listings.now)
+        (own_of (map requirement_of requirements.now)) keep (answer_of a)) }
     ensures keyed { IfOk result (λ a. IsKeyed a.features) }
     ensures targets { IfOk result (λ a. HaveTargets a.dependencies) }
 {

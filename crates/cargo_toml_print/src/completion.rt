@@ -28,7 +28,10 @@ pub fn print_complete<Metadata, W: Write>(
 }
 
 /// The lines of the products, list by list, and then those of the package.
-fn completion_lines<Metadata>(alloc: Global, manifest: &Manifest<Metadata>) -> Result<String, Error>
+pub fn completion_lines<Metadata>(
+    alloc: Global,
+    manifest: &Manifest<Metadata>,
+) -> Result<String, Error>
     ensures { IfErr result IsOfOutput }
 {
     let mut text = String::new(alloc);

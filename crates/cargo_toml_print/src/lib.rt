@@ -7,6 +7,7 @@ ghost use Rattle.cargo_toml_print.specs.Printing.{IsOfManifest};
 
 mod arguments;
 mod completion;
+mod files;
 mod items;
 mod outcome;
 mod words;
@@ -15,6 +16,7 @@ pub use arguments::Command;
 use cargo_toml::features::{DepAction, Feature, Features, Resolver};
 use cargo_toml::{Error, Manifest};
 pub use completion::print_complete;
+pub use files::print_completed;
 use items::{separate, write_none};
 pub use outcome::Outcome;
 use std::alloc::Global;
@@ -133,7 +135,20 @@ fn write_feature(text: &mut String, feature: &Feature<'_>) -> Result<(), Error> 
     write_set(text, &feature.enabled_by)?;
     text.push_str(" | bins: ")?;
     write_list(text, feature.required_by_bins.as_slice())?;
+    write_detail(text, feature)?;
     text.push_str("\n")?;
+    Ok(())
+}
+
+// That users aren't meant to name the feature, and its text as it is, line feeds and all.
+fn write_detail(text: &mut String, feature: &Feature<'_>) -> Result<(), Error> {
+    if !feature.public {
+        text.push_str(" | private")?;
+    }
+    if let Some(doc) = feature.doc {
+        text.push_str(" | doc: ")?;
+        text.push_str(doc)?;
+    }
     Ok(())
 }
 

@@ -1,8 +1,9 @@
 -- From the features that are read to all that are resolved, before any is removed.
-use Rattle.std.proofs.Common.{◌≡◌, ◌⊎◌, ◌&&◌, ◌||◌, not, Bool, true, false, cond, List, [], ◌++◌, map, Option, Some, None, IsTrue, IfSome, is_some, option_map, bytes_eq, Bor, refl, sym, ap, ap₂, subst, inl, inr, ◌∙◌}
+use Rattle.std.proofs.Common.{◌≡◌, ◌⊎◌, ◌&&◌, ◌||◌, not, Bool, true, false, cond, List, [], ◌++◌, map, Option, Some, None, IsTrue, IfSome, is_some, option_map, bytes_eq, codes, Bor, refl, sym, ap, ap₂, subst, inl, inr, ◌∙◌}
 use Rattle.std.proofs.lemmas.Bool.{false≢true, false_from_ne_true, or_cases, or_left, or_right, and_parts, and_from}
 use Rattle.std.proofs.lemmas.Slice.Eq.{bytes_eq-Decides}
 use Rattle.std.specs.List.{list_any}
+use Rattle.std.specs.Map.{lookup}
 use Rattle.std.specs.Option.{option_map_or}
 use Rattle.cargo_toml_features.specs.declared.features.Feature.{Feature}
 use Rattle.cargo_toml_features.specs.declared.features.FeatureDependency.{FeatureDependency}
@@ -19,6 +20,8 @@ use Rattle.cargo_toml_features.specs.Recorded.{Entry, Recorded, is_mentioned, is
 use Rattle.cargo_toml_resolve.specs.Recording.{recorded_at, is_mentioned_in}
 use Rattle.cargo_toml_resolve.specs.Redundant.{IsRecordOf, Thinned, ThinnedAll}
 use Rattle.cargo_toml_features.specs.Resolved.{table_of, plain, SameRecorded}
+use Rattle.cargo_toml_dependencies.specs.Details.{plain_detail}
+use Rattle.cargo_toml_features.specs.Marks.{Details, Marks, detail_at, detail_listed, marked, marks_in, marks_of}
 use Rattle.cargo_toml_features.specs.Views.{has_text, action_at}
 use Rattle.cargo_toml_resolve.specs.Slots.{held_in, table_held, resolution_held, AreKeyed}
 use Rattle.cargo_toml_resolve.specs.declared.slots.Slots.{Slots}
@@ -171,16 +174,16 @@ module _ (entries : Text → List Entry) (old new : Slots Feature) (h : ThinnedA
       go (Some a) None r = absurd r
       go (Some a) (Some b) r = r.actions k
 
-  fresh_thinned : AreFresh old → AreFresh new
-  fresh_thinned fresh f v s = subst (λ o. IfSome o (IsFresh f)) s (go (held_in old f) (held_in new f) refl (h.at f))
+  fresh_thinned : (listed : Listed) (details : Details) → AreFresh listed details old → AreFresh listed details new
+  fresh_thinned listed details fresh f v s = subst (λ o. IfSome o (IsFresh f (detail_listed listed details f))) s (go (held_in old f) (held_in new f) refl (h.at f))
     where
-      go : (o o' : Option Feature) → held_in old f ≡ o → Relates (Thinned entries) o o' → IfSome o' (IsFresh f)
+      go : (o o' : Option Feature) → held_in old f ≡ o → Relates (Thinned entries) o o' → IfSome o' (IsFresh f (detail_listed listed details f))
       go None None s r = tt
       go None (Some b) s r = absurd r
       go (Some a) None s r = absurd r
       go (Some a) (Some b) s r =
           let k = fresh f a s in
-          record { key = ap (λ q. q.now) r.key ∙ k.key; explicit = r.explicit ∙ k.explicit; enabled_by = ap (λ q. q.keys) r.enabled_by ∙ k.enabled_by; bins = ap (λ q. q.items) r.bins ∙ k.bins }
+          record { key = ap (λ q. q.now) r.key ∙ k.key; marks = r.marks ∙ k.marks; enabled_by = ap (λ q. q.keys) r.enabled_by ∙ k.enabled_by; bins = ap (λ q. q.items) r.bins ∙ k.bins }
 
 -- the table with the implied features
 module _ (implied : Text → Bool) (old new : Slots Feature) (h : ImpliesAll implied old new) where
@@ -224,17 +227,17 @@ module _ (implied : Text → Bool) (old new : Slots Feature) (h : ImpliesAll imp
       go true (Some v) o' b n = rw b n
       go false (Some v) o' b n = rw b n
 
--- a feature that sits under its key, with this mark and no binaries
-record IsMarked (f : Text) (mark : Bool) (v : Feature) : Type 0 where
+-- a feature that sits under its key, with these marks and no binaries
+record IsMarked (f : Text) (these : Marks) (v : Feature) : Type 0 where
   key : v.key.now ≡ f
   bins : v.required_by_bins.items ≡ []
-  explicit : v.explicit ≡ mark
+  marks : marks_of v ≡ these
 
 -- the same with the binaries that require it
-record IsTold (f : Text) (mark : Bool) (own : List Text) (v : Feature) : Type 0 where
+record IsTold (f : Text) (these : Marks) (own : List Text) (v : Feature) : Type 0 where
   key : v.key.now ≡ f
   bins : map (λ b. b.now) v.required_by_bins.items ≡ own
-  explicit : v.explicit ≡ mark
+  marks : marks_of v ≡ these
 
 -- binaries change neither what features say nor which enable them
 module _ (own : Text → List Text) (old new : Slots Feature) (h : RequiredAll own old new) where
@@ -282,17 +285,17 @@ module _ (own : Text → List Text) (old new : Slots Feature) (h : RequiredAll o
     enabled_by = λ f e. (λ y. (u.enabled_by f e).0 (sym (enablers_required f e) ∙ y), λ d. enablers_required f e ∙ (u.enabled_by f e).1 d);
   }
 
-  told_required : (f : Text) (mark : Bool) → IfSome (held_in old f) (IsMarked f mark) → IfSome (held_in new f) (IsTold f mark (own f))
-  told_required f mark = go (held_in old f) (held_in new f) (h.at f)
+  told_required : (f : Text) (these : Marks) → IfSome (held_in old f) (IsMarked f these) → IfSome (held_in new f) (IsTold f these (own f))
+  told_required f these = go (held_in old f) (held_in new f) (h.at f)
     where
-      go : (o o' : Option Feature) → Relates (Required (own f)) o o' → IfSome o (IsMarked f mark) → IfSome o' (IsTold f mark (own f))
+      go : (o o' : Option Feature) → Relates (Required (own f)) o o' → IfSome o (IsMarked f these) → IfSome o' (IsTold f these (own f))
       go None None r m = tt
       go None (Some b) r m = absurd r
       go (Some a) None r m = absurd r
       go (Some a) (Some b) r m = record {
         key = ap (λ q. q.now) r.key ∙ m.key;
         bins = r.bins ∙ ap (λ xs. map (λ (b : Bor Text). b.now) xs ++ own f) m.bins;
-        explicit = r.explicit ∙ m.explicit;
+        marks = r.marks ∙ m.marks;
       }
 
   pub keyed_required : AreKeyed old → AreKeyed new
@@ -312,8 +315,8 @@ same_recorded a b e = subst (SameRecorded a) e (own a)
     own (Some r) = (refl, λ t. refl)
 
 -- each feature stands under its own key from the reading of lists on
-pub keyed_from : (implied : Text → Bool) (by : Text → Text → Bool) (read middle last : Slots Feature) → AreFresh read → ImpliesAll implied read middle → EnabledAll by middle last → AreKeyed last
-keyed_from implied by read middle last fresh i e f = enabled_one (held_in middle f) (held_in last f) (e.at f) (implied_one (implied f) (held_in read f) (held_in middle f) refl (i.at f))
+pub keyed_from : (listed : Listed) (details : Details) (implied : Text → Bool) (by : Text → Text → Bool) (read middle last : Slots Feature) → AreFresh listed details read → ImpliesAll implied read middle → EnabledAll by middle last → AreKeyed last
+keyed_from listed details implied by read middle last fresh i e f = enabled_one (held_in middle f) (held_in last f) (e.at f) (implied_one (implied f) (held_in read f) (held_in middle f) refl (i.at f))
   where
     implied_one : (b : Bool) (o o' : Option Feature) → held_in read f ≡ o → Becomes b f o o' → IfSome o' (λ v. v.key.now ≡ f)
     implied_one true None None s b = tt
@@ -328,8 +331,8 @@ keyed_from implied by read middle last fresh i e f = enabled_one (held_in middle
     enabled_one (Some v) None r k = absurd r
     enabled_one (Some v) (Some w) r k = ap (λ q. q.now) r.key ∙ k
 
-module _ (wanted : Bool) (listed : Listed) (entries : List Entry) (own : Text → List Text) (mentions : Mentions) (thinned implied enabled last : Slots Feature) (deps : Slots FeatureDependency)
-    (r : IsRead listed (table_held mentions.features) (sorted_at mentions.acted)) (fresh : AreFresh mentions.features)
+module _ (wanted : Bool) (listed : Listed) (entries : List Entry) (details : Details) (own : Text → List Text) (mentions : Mentions) (thinned implied enabled last : Slots Feature) (deps : Slots FeatureDependency)
+    (r : IsRead listed (table_held mentions.features) (sorted_at mentions.acted)) (fresh : AreFresh listed details mentions.features)
     (thins : (entries : Text → List Entry) → IsRecordOf deps entries → ThinnedAll entries mentions.features thinned) (i : ImpliesAll (is_offered mentions.acted entries) thinned implied)
     (e : EnabledAll (λ q e. wanted && (leads_at implied e q && not (bytes_eq q e))) implied enabled) (b : RequiredAll own enabled last)
     (recorded : ((k : Text) → is_mentioned_in mentions k ≡ is_mentioned listed k) → (k : Text) → recorded_at deps k ≡ recorded_of (entries_at listed entries k)) where
@@ -342,8 +345,8 @@ module _ (wanted : Bool) (listed : Listed) (entries : List Entry) (own : Text �
   less : ThinnedAll (entries_at listed entries) mentions.features thinned
   less = thins (entries_at listed entries) (recorded mentioned)
 
-  pub fresh_still : AreFresh thinned
-  fresh_still = fresh_thinned (entries_at listed entries) mentions.features thinned less fresh
+  pub fresh_still : AreFresh listed details thinned
+  fresh_still = fresh_thinned (entries_at listed entries) mentions.features thinned less listed details fresh
 
   -- what is left of an action on k
   abbrev left : Text → Action → Action
@@ -398,41 +401,53 @@ module _ (wanted : Bool) (listed : Listed) (entries : List Entry) (own : Text �
     action = λ f k. action_required own enabled last b f k ∙ action_now set implied enabled e f k ∙ same.action f k;
   }
 
-  marked : (f : Text) → IfSome (held_in enabled f) (IsMarked f (is_explicit listed f))
-  marked f = later (held_in implied f) (held_in enabled f) (e.at f) (middle (is_offered mentions.acted entries f) (held_in thinned f) (held_in implied f) refl (i.at f))
+  -- the marks of one that stays from the lists on, and of one that is implied
+  listed_marks : (f : Text) → is_explicit listed f ≡ true → marked true (detail_listed listed details f) ≡ marks_in listed details f
+  listed_marks f on = ap (λ b. marked b (detail_listed listed details f)) (sym on)
+
+  implied_marks : (f : Text) → is_explicit listed f ≡ false → marked false plain_detail ≡ marks_in listed details f
+  implied_marks f off = ap₂ marked (sym off) (sym (go (bytes_eq f (codes "default")) (is_some (lookup (bytes_eq f) listed)) off))
     where
-      listed_one : (v : Feature) → held_in thinned f ≡ Some v → IsMarked f (is_explicit listed f) v
+      go : (d l : Bool) → (d || l) ≡ false → cond l (detail_at details f) plain_detail ≡ plain_detail
+      go true l e = absurd (false≢true (sym e))
+      go false true e = absurd (false≢true (sym e))
+      go false false e = refl
+
+  marked_all : (f : Text) → IfSome (held_in enabled f) (IsMarked f (marks_in listed details f))
+  marked_all f = later (held_in implied f) (held_in enabled f) (e.at f) (middle (is_offered mentions.acted entries f) (held_in thinned f) (held_in implied f) refl (i.at f))
+    where
+      listed_one : (v : Feature) → held_in thinned f ≡ Some v → IsMarked f (marks_in listed details f) v
       listed_one v s =
           let k = fresh_still f v s in
-          record { key = k.key; bins = k.bins; explicit = k.explicit ∙ sym (ap is_some s) ∙ has_still f }
+          record { key = k.key; bins = k.bins; marks = k.marks ∙ listed_marks f (sym (has_still f) ∙ ap is_some s) }
 
-      middle : (b : Bool) (o o' : Option Feature) → held_in thinned f ≡ o → Becomes b f o o' → IfSome o' (IsMarked f (is_explicit listed f))
+      middle : (b : Bool) (o o' : Option Feature) → held_in thinned f ≡ o → Becomes b f o o' → IfSome o' (IsMarked f (marks_in listed details f))
       middle true None None s b = absurd b
-      middle true None (Some v) s b = record { key = b.key; bins = b.bins; explicit = b.explicit ∙ sym (ap is_some s) ∙ has_still f }
-      middle false None o' s b = subst (λ o. IfSome o (IsMarked f (is_explicit listed f))) (sym b) tt
-      middle true (Some v) o' s b = subst (λ o. IfSome o (IsMarked f (is_explicit listed f))) (sym b) (listed_one v s)
-      middle false (Some v) o' s b = subst (λ o. IfSome o (IsMarked f (is_explicit listed f))) (sym b) (listed_one v s)
+      middle true None (Some v) s b = record { key = b.key; bins = b.bins; marks = b.marks ∙ implied_marks f (sym (has_still f) ∙ ap is_some s) }
+      middle false None o' s b = subst (λ o. IfSome o (IsMarked f (marks_in listed details f))) (sym b) tt
+      middle true (Some v) o' s b = subst (λ o. IfSome o (IsMarked f (marks_in listed details f))) (sym b) (listed_one v s)
+      middle false (Some v) o' s b = subst (λ o. IfSome o (IsMarked f (marks_in listed details f))) (sym b) (listed_one v s)
 
-      later : (o o' : Option Feature) → Relates (Enabled (λ q. wanted && (leads_at implied q f && not (bytes_eq f q)))) o o' → IfSome o (IsMarked f (is_explicit listed f)) → IfSome o' (IsMarked f (is_explicit listed f))
+      later : (o o' : Option Feature) → Relates (Enabled (λ q. wanted && (leads_at implied q f && not (bytes_eq f q)))) o o' → IfSome o (IsMarked f (marks_in listed details f)) → IfSome o' (IsMarked f (marks_in listed details f))
       later None None k m = tt
       later None (Some w) k m = absurd k
       later (Some v) None k m = absurd k
-      later (Some v) (Some w) k m = record { key = ap (λ q. q.now) k.key ∙ m.key; bins = ap (λ q. q.items) k.bins ∙ m.bins; explicit = k.explicit ∙ m.explicit }
+      later (Some v) (Some w) k m = record { key = ap (λ q. q.now) k.key ∙ m.key; bins = ap (λ q. q.items) k.bins ∙ m.bins; marks = k.marks ∙ m.marks }
 
-  told : (f : Text) → IfSome (held_in last f) (IsTold f (is_explicit listed f) (own f))
-  told f = told_required own enabled last b f (is_explicit listed f) (marked f)
+  told : (f : Text) → IfSome (held_in last f) (IsTold f (marks_in listed details f) (own f))
+  told f = told_required own enabled last b f (marks_in listed details f) (marked_all f)
 
-  pub explicit_told : (f : Text) → IfSome (held_in last f) (λ v. v.explicit ≡ is_explicit listed f)
-  explicit_told f = go (held_in last f) (told f)
+  pub marks_told : (f : Text) → IfSome (held_in last f) (λ v. marks_of v ≡ marks_in listed details f)
+  marks_told f = go (held_in last f) (told f)
     where
-      go : (o : Option Feature) → IfSome o (IsTold f (is_explicit listed f) (own f)) → IfSome o (λ v. v.explicit ≡ is_explicit listed f)
+      go : (o : Option Feature) → IfSome o (IsTold f (marks_in listed details f) (own f)) → IfSome o (λ v. marks_of v ≡ marks_in listed details f)
       go None k = tt
-      go (Some v) k = k.explicit
+      go (Some v) k = k.marks
 
   pub bins_told : (f : Text) → IfSome (held_in last f) (λ v. map (λ b. b.now) v.required_by_bins.items ≡ own f)
   bins_told f = go (held_in last f) (told f)
     where
-      go : (o : Option Feature) → IfSome o (IsTold f (is_explicit listed f) (own f)) → IfSome o (λ v. map (λ b. b.now) v.required_by_bins.items ≡ own f)
+      go : (o : Option Feature) → IfSome o (IsTold f (marks_in listed details f) (own f)) → IfSome o (λ v. map (λ b. b.now) v.required_by_bins.items ≡ own f)
       go None k = tt
       go (Some v) k = k.bins
 

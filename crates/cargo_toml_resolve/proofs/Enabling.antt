@@ -12,7 +12,7 @@ use Rattle.cargo_toml_graph.proofs.Texts.{bytes_eq_sym}
 
 nothing : (by : Text → Bool) → ((e : Text) → by e ≡ false) → (o : Option Feature) → Relates (Enabled by) o o
 nothing by none None = tt
-nothing by none (Some a) = record { key = refl; names = refl; actions = refl; bins = refl; explicit = refl; enabled_by = λ e. sym (ap (λ t. has_text a.enabled_by e || t) (none e) ∙ or-false _) }
+nothing by none (Some a) = record { key = refl; names = refl; actions = refl; bins = refl; marks = refl; enabled_by = λ e. sym (ap (λ t. has_text a.enabled_by e || t) (none e) ∙ or-false _) }
 
 both : (p q r : Text → Bool) → ((e : Text) → r e ≡ (p e || q e)) → (a b c : Option Feature) → Relates (Enabled p) a b → Relates (Enabled q) b c → Relates (Enabled r) a c
 both p q r same None None None h k = tt
@@ -25,7 +25,7 @@ both p q r same (Some a) (Some b) (Some c) h k = record {
   names = k.names ∙ h.names;
   actions = k.actions ∙ h.actions;
   bins = k.bins ∙ h.bins;
-  explicit = k.explicit ∙ h.explicit;
+  marks = k.marks ∙ h.marks;
   enabled_by = λ e. k.enabled_by e ∙ ap (λ t. t || q e) (h.enabled_by e) ∙ or_assoc (has_text a.enabled_by e) (p e) (q e) ∙ ap (λ t. has_text a.enabled_by e || t) (sym (same e));
 }
 

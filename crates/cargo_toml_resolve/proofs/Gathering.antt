@@ -11,6 +11,7 @@ use Rattle.std.specs.BTreeSet.{BTreeSet}
 use Rattle.std.specs.Cmp.Lexicographic.{slice_cmp}
 use Rattle.std.specs.Ordering.{nat_cmp}
 use Rattle.std.specs.List.{list_any}
+use Rattle.cargo_toml_dependencies.specs.Details.{Detail}
 use Rattle.cargo_toml_features.specs.declared.action.ActionText.{ActionText}
 use Rattle.cargo_toml_features.specs.declared.features.DepAction.{DepAction}
 use Rattle.cargo_toml_features.specs.declared.features.Feature.{Feature}
@@ -32,21 +33,21 @@ join_none : (o : Option Action) → join_option o None ≡ o
 join_none None = refl
 join_none (Some a) = refl
 
-module _ (f : Text) (items : List Item) (named : List Text) (v : Feature) (h : IsGathered f items named v) where
+module _ (f : Text) (d : Detail) (items : List Item) (named : List Text) (v : Feature) (h : IsGathered f d items named v) where
   joined : (i : Item) (k : Text) → joined_in (items ++ i ∷ []) k ≡ join_option (joined_in items k) (action_on k i)
   joined i k = fold_push (λ o j. join_option o (action_on k j)) None items i
 
   -- one more action
-  pub gathered_on : (i : Item) (key : Text) (a : Action) → i ≡ On key a → (d : BTreeMap (Bor Text) DepAction)
-      → ((q : Text) → action_at d q ≡ join_option (action_at v.enables_deps q) (cond (bytes_eq q key) (Some a) None)) → IsGathered f (items ++ i ∷ []) named (record v { enables_deps = d })
-  gathered_on i key a is d more = record {
-    fresh = record { key = h.fresh.key; explicit = h.fresh.explicit; enabled_by = h.fresh.enabled_by; bins = h.fresh.bins };
+  pub gathered_on : (i : Item) (key : Text) (a : Action) → i ≡ On key a → (deps : BTreeMap (Bor Text) DepAction)
+      → ((q : Text) → action_at deps q ≡ join_option (action_at v.enables_deps q) (cond (bytes_eq q key) (Some a) None)) → IsGathered f d (items ++ i ∷ []) named (record v { enables_deps = deps })
+  gathered_on i key a is deps more = record {
+    fresh = record { key = h.fresh.key; marks = h.fresh.marks; enabled_by = h.fresh.enabled_by; bins = h.fresh.bins };
     names = λ x. h.names x ∙ sym (list_any-append (item_names x) items (i ∷ []) ∙ ap (λ j. list_any (item_names x) items || (item_names x j || false)) is ∙ or-false _);
     action = λ k. more k ∙ ap (λ o. join_option o (cond (bytes_eq k key) (Some a) None)) (h.action k) ∙ sym (joined i k ∙ ap (λ j. join_option (joined_in items k) (action_on k j)) is);
   }
 
   -- one more name
-  pub gathered_name : (i : Item) (y : Text) → i ≡ Name y → (more : List Text) → more ≡ named ++ y ∷ [] → IsGathered f (items ++ i ∷ []) more v
+  pub gathered_name : (i : Item) (y : Text) → i ≡ Name y → (more : List Text) → more ≡ named ++ y ∷ [] → IsGathered f d (items ++ i ∷ []) more v
   gathered_name i y is more more_is = record {
     fresh = h.fresh;
     names = λ x.
@@ -80,10 +81,10 @@ more_texts ks i s n lt h more x =
     ∙ list_any-append (bytes_eq x) (map (λ u. u.now) (take i ks)) ((get_or ks i no_text).now ∷ []) ∙ ap (λ b. list_any (bytes_eq x) (map (λ u. u.now) (take i ks)) || b) (or-false _))
 
 -- a feature whose names were gathered, once it has them
-pub has_gathered : (f : Text) (items : List Item) (named : List Text) (v : Feature) (s : BTreeSet (Bor Text)) → IsGathered f items named v
-    → ((x : Text) → has_text s x ≡ list_any (bytes_eq x) named) → IsListed f items (record v { enables_features = s })
-has_gathered f items named v s h has = record {
-  fresh = record { key = h.fresh.key; explicit = h.fresh.explicit; enabled_by = h.fresh.enabled_by; bins = h.fresh.bins };
+pub has_gathered : (f : Text) (d : Detail) (items : List Item) (named : List Text) (v : Feature) (s : BTreeSet (Bor Text)) → IsGathered f d items named v
+    → ((x : Text) → has_text s x ≡ list_any (bytes_eq x) named) → IsListed f d items (record v { enables_features = s })
+has_gathered f d items named v s h has = record {
+  fresh = record { key = h.fresh.key; marks = h.fresh.marks; enabled_by = h.fresh.enabled_by; bins = h.fresh.bins };
   names = λ x. has x ∙ h.names x;
   action = h.action;
 }

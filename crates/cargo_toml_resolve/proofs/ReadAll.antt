@@ -3,7 +3,7 @@ use Rattle.std.proofs.Common.{◌≡◌, ◌≢◌, ◌+◌, ◌<◌, ℕ, Bool,
 use Rattle.std.specs.List.{list_any, AllByRecursion}
 use Rattle.std.specs.Map.{lookup}
 use Rattle.std.specs.Option.{option_map_or, option_or, IsSomeAnd}
-use Rattle.std.proofs.lemmas.Bool.{false_from_ne_true, or_right}
+use Rattle.std.proofs.lemmas.Bool.{false≢true, false_from_ne_true, or_right}
 use Rattle.std.proofs.lemmas.List.{get_or-map, length-map, map_push, map-append, take_more, take-append-drop}
 use Rattle.std.proofs.lemmas.List.Folds.{list_any_at}
 use Rattle.std.proofs.lemmas.Map.Made.{is_some-lookup}
@@ -16,23 +16,25 @@ use Rattle.cargo_toml_graph.specs.Action.{Text, Action, item_of}
 use Rattle.cargo_toml_graph.specs.Admitted.{Listed, is_explicit, items, item_names, joined_action}
 use Rattle.cargo_toml_graph.specs.Reach.{Among, IsOnce}
 use Rattle.cargo_toml_resolve.specs.ReadFeature.{joined_in, noted, IsListed}
+use Rattle.cargo_toml_dependencies.specs.Details.{Detail, plain_detail}
+use Rattle.cargo_toml_features.specs.Marks.{Details, detail_at, detail_in, detail_listed, details_of}
 use Rattle.cargo_toml_features.specs.Views.{listed_of, has_text, action_at}
-use Rattle.cargo_toml_resolve.specs.Reading.{IsRead}
+use Rattle.cargo_toml_resolve.specs.Reading.{AreFresh, IsFresh, IsRead}
 use Rattle.cargo_toml_features.specs.Recorded.{is_reserved}
 use Rattle.cargo_toml_resolve.specs.Slots.{held_in, table_held}
 use Rattle.cargo_toml_resolve.specs.declared.slots.Slots.{Slots}
 use Rattle.cargo_toml_features.proofs.Listings.{listed_one, names_listed}
 use Rattle.cargo_toml_graph.proofs.Texts.{bytes_eq_refl}
 
--- what stands under f, where the table lists these actions for it, if any
-abbrev Holds : Text → Option (List Text) → Option Feature → Type 0
-Holds f None None = Unit {0}
-Holds f None (Some v) = ⊥
-Holds f (Some actions) None = ⊥
-Holds f (Some actions) (Some v) = IsListed f (map item_of actions) v
+-- what stands under f, where the table lists these actions for it, if any, and says d of it
+abbrev Holds : Text → Detail → Option (List Text) → Option Feature → Type 0
+Holds f d None None = Unit {0}
+Holds f d None (Some v) = ⊥
+Holds f d (Some actions) None = ⊥
+Holds f d (Some actions) (Some v) = IsListed f d (map item_of actions) v
 
-pub record HasRead (listed : Listed) (m : Slots Feature) : Type 0 where
-  pub at : (f : Text) → Holds f (lookup (bytes_eq f) listed) (held_in m f)
+pub record HasRead (listed : Listed) (details : Details) (m : Slots Feature) : Type 0 where
+  pub at : (f : Text) → Holds f (detail_at details f) (lookup (bytes_eq f) listed) (held_in m f)
 
 -- what all actions on k come to
 abbrev pub noted_in : Listed → Text → Option Bool
@@ -80,19 +82,34 @@ module _ (ls : List Listing) (i : ℕ) (l : Listing) (below : i < length ls) (is
   not_before = new_name (listed_of (take i ls)) (map (λ l. l.name.now) (drop (i + 1) ls)) l.name.now
       (subst IsOnce (ap (map (λ l. l.name.now)) split ∙ map-append (λ l. l.name.now) (take i ls) (l ∷ drop (i + 1) ls) ∙ ap (λ ns. ns ++ l.name.now ∷ map (λ l. l.name.now) (drop (i + 1) ls)) (sym (names_listed (take i ls)))) once)
 
+  -- what the listings say of the name is what this one says
+  said_here : detail_at (details_of ls) l.name.now ≡ detail_in l.detail
+  said_here = ap (λ xs. detail_at (details_of xs) l.name.now) split ∙ ap (λ o. unwrap_or o plain_detail) (found_behind (take i ls) not_before)
+    where
+      found_behind : (before : List Listing) → lookup (bytes_eq l.name.now) (listed_of before) ≡ None → lookup (bytes_eq l.name.now) (details_of (before ++ l ∷ drop (i + 1) ls)) ≡ Some (detail_in l.detail)
+      found_behind [] none = ap (λ b. cond b (Some (detail_in l.detail)) (lookup (bytes_eq l.name.now) (details_of (drop (i + 1) ls)))) (bytes_eq_refl l.name.now)
+      found_behind (x ∷ xs) none = go (bytes_eq l.name.now x.name.now) (found_behind xs) none
+        where
+          go : (b : Bool) → (lookup (bytes_eq l.name.now) (listed_of xs) ≡ None → lookup (bytes_eq l.name.now) (details_of (xs ++ l ∷ drop (i + 1) ls)) ≡ Some (detail_in l.detail))
+              → cond b (Some (map string_bytes x.actions.now)) (lookup (bytes_eq l.name.now) (listed_of xs)) ≡ None
+              → cond b (Some (detail_in x.detail)) (lookup (bytes_eq l.name.now) (details_of (xs ++ l ∷ drop (i + 1) ls))) ≡ Some (detail_in l.detail)
+          go true later some = absurd (false≢true (sym (ap is_some some)))
+          go false later none = later none
+
   -- one more feature is read
-  pub read_more : (m m' : Slots Feature) (v : Feature) → HasRead (listed_of (take i ls)) m
-      → IsListed l.name.now (map item_of (map string_bytes l.actions.now)) v → ((f : Text) → held_in m' f ≡ cond (bytes_eq f l.name.now) (Some v) (held_in m f)) → HasRead (listed_of (take (i + 1) ls)) m'
-  read_more m m' v before listed put = record { at = λ f. subst (λ es. Holds f (lookup (bytes_eq f) es) (held_in m' f)) (sym one_more) (subst (λ o. Holds f o (held_in m' f)) (sym (lookup_push f (listed_of (take i ls)) (listed_one l))) (subst (Holds f _) (sym (put f)) (go f (bytes_eq f l.name.now) refl))) }
+  pub read_more : (m m' : Slots Feature) (v : Feature) → HasRead (listed_of (take i ls)) (details_of ls) m
+      → IsListed l.name.now (detail_in l.detail) (map item_of (map string_bytes l.actions.now)) v → ((f : Text) → held_in m' f ≡ cond (bytes_eq f l.name.now) (Some v) (held_in m f)) → HasRead (listed_of (take (i + 1) ls)) (details_of ls) m'
+  read_more m m' v before listed put = record { at = λ f. subst (λ es. Holds f (detail_at (details_of ls) f) (lookup (bytes_eq f) es) (held_in m' f)) (sym one_more) (subst (λ o. Holds f (detail_at (details_of ls) f) o (held_in m' f)) (sym (lookup_push f (listed_of (take i ls)) (listed_one l))) (subst (Holds f (detail_at (details_of ls) f) _) (sym (put f)) (go f (bytes_eq f l.name.now) refl))) }
     where
       or_none : (o : Option (List Text)) → option_or o None ≡ o
       or_none None = refl
       or_none (Some ts) = refl
 
-      go : (f : Text) (b : Bool) → bytes_eq f l.name.now ≡ b → Holds f (option_or (lookup (bytes_eq f) (listed_of (take i ls))) (cond b (Some (map string_bytes l.actions.now)) None)) (cond b (Some v) (held_in m f))
-      go f true e = subst (λ n. Holds n (option_or (lookup (bytes_eq n) (listed_of (take i ls))) (Some (map string_bytes l.actions.now))) (Some v)) (sym ((bytes_eq-Decides f l.name.now).0 e))
-          (subst (λ o. Holds l.name.now (option_or o (Some (map string_bytes l.actions.now))) (Some v)) (sym not_before) listed)
-      go f false e = subst (λ o. Holds f o (held_in m f)) (sym (or_none (lookup (bytes_eq f) (listed_of (take i ls))))) (before.at f)
+      go : (f : Text) (b : Bool) → bytes_eq f l.name.now ≡ b → Holds f (detail_at (details_of ls) f) (option_or (lookup (bytes_eq f) (listed_of (take i ls))) (cond b (Some (map string_bytes l.actions.now)) None)) (cond b (Some v) (held_in m f))
+      go f true e = subst (λ n. Holds n (detail_at (details_of ls) n) (option_or (lookup (bytes_eq n) (listed_of (take i ls))) (Some (map string_bytes l.actions.now))) (Some v)) (sym ((bytes_eq-Decides f l.name.now).0 e))
+          (subst (λ o. Holds l.name.now (detail_at (details_of ls) l.name.now) (option_or o (Some (map string_bytes l.actions.now))) (Some v)) (sym not_before)
+          (subst (λ d. IsListed l.name.now d (map item_of (map string_bytes l.actions.now)) v) (sym said_here) listed))
+      go f false e = subst (λ o. Holds f (detail_at (details_of ls) f) o (held_in m f)) (sym (or_none (lookup (bytes_eq f) (listed_of (take i ls))))) (before.at f)
 
   pub noted_next : (k : Text) (before now : Option Bool) → before ≡ noted_in (listed_of (take i ls)) k → now ≡ noted before (joined_in (map item_of (map string_bytes l.actions.now)) k) → now ≡ noted_in (listed_of (take (i + 1) ls)) k
   noted_next k before now before_is now_is =
@@ -100,23 +117,27 @@ module _ (ls : List Listing) (i : ℕ) (l : Listing) (below : i < length ls) (is
       ∙ sym (ap (λ es. noted_in es k) one_more ∙ fold_push (λ o e. noted o (joined_in (map item_of e.1) k)) None (listed_of (take i ls)) (listed_one l))
 
 -- what one list holds, by its look-up
-holds_some : (f : Text) (o : Option (List Text)) (v : Option Feature) → Holds f o v → is_some v ≡ is_some o
-holds_some f None None h = refl
-holds_some f None (Some v) h = absurd h
-holds_some f (Some ts) None h = absurd h
-holds_some f (Some ts) (Some v) h = refl
+holds_some : (f : Text) (d : Detail) (o : Option (List Text)) (v : Option Feature) → Holds f d o v → is_some v ≡ is_some o
+holds_some f d None None h = refl
+holds_some f d None (Some v) h = absurd h
+holds_some f d (Some ts) None h = absurd h
+holds_some f d (Some ts) (Some v) h = refl
 
-holds_names : (f x : Text) (o : Option (List Text)) (v : Option Feature) → Holds f o v → option_map_or (λ w. has_text w.enables_features x) v false ≡ list_any (item_names x) (map item_of (unwrap_or o []))
-holds_names f x None None h = refl
-holds_names f x None (Some v) h = absurd h
-holds_names f x (Some ts) None h = absurd h
-holds_names f x (Some ts) (Some v) h = h.names x
+holds_names : (f x : Text) (d : Detail) (o : Option (List Text)) (v : Option Feature) → Holds f d o v → option_map_or (λ w. has_text w.enables_features x) v false ≡ list_any (item_names x) (map item_of (unwrap_or o []))
+holds_names f x d None None h = refl
+holds_names f x d None (Some v) h = absurd h
+holds_names f x d (Some ts) None h = absurd h
+holds_names f x d (Some ts) (Some v) h = h.names x
 
-holds_action : (f k : Text) (o : Option (List Text)) (v : Option Feature) → Holds f o v → option_map_or (λ w. action_at w.enables_deps k) v None ≡ joined_in (map item_of (unwrap_or o [])) k
-holds_action f k None None h = refl
-holds_action f k None (Some v) h = absurd h
-holds_action f k (Some ts) None h = absurd h
-holds_action f k (Some ts) (Some v) h = h.action k
+holds_action : (f k : Text) (d : Detail) (o : Option (List Text)) (v : Option Feature) → Holds f d o v → option_map_or (λ w. action_at w.enables_deps k) v None ≡ joined_in (map item_of (unwrap_or o [])) k
+holds_action f k d None None h = refl
+holds_action f k d None (Some v) h = absurd h
+holds_action f k d (Some ts) None h = absurd h
+holds_action f k d (Some ts) (Some v) h = h.action k
+
+holds_fresh : (f : Text) (d : Detail) (o : Option (List Text)) (v : Feature) → Holds f d o (Some v) → IsFresh f d v
+holds_fresh f d None v h = absurd h
+holds_fresh f d (Some ts) v h = h.fresh
 
 -- the default feature lists nothing where it isn't listed
 abbrev with_default : Listed → Text → Option (List Text)
@@ -194,33 +215,39 @@ module _ (listed : Listed) (once : IsOnce (map (λ e. e.0) listed)) (k : Text) w
   noted_is_dep_only : unwrap_or (noted_in listed k) false ≡ is_reserved listed k
   noted_is_dep_only = noted_dep_only k None listed ∙ sym (list_any_same _ _ listed (weaken _ _ (λ e same. ap (λ o. option_map_or (λ a. a.is_dep_only) o false) same) listed joined_each))
 
-module _ (listed : Listed) (m m' : Slots Feature) (read : HasRead listed m)
+module _ (listed : Listed) (details : Details) (m m' : Slots Feature) (read : HasRead listed details m)
     (others : (f : Text) → bytes_eq f (codes "default") ≡ false → held_in m' f ≡ held_in m f)
-    (default : MatchOption (held_in m (codes "default")) (IsSomeAnd (held_in m' (codes "default")) (IsListed (codes "default") [])) (λ v. held_in m' (codes "default") ≡ Some v)) where
-  holds_all : (f : Text) → Holds f (with_default listed f) (held_in m' f)
+    (default : MatchOption (held_in m (codes "default")) (IsSomeAnd (held_in m' (codes "default")) (IsListed (codes "default") plain_detail [])) (λ v. held_in m' (codes "default") ≡ Some v)) where
+  holds_all : (f : Text) → Holds f (detail_listed listed details f) (with_default listed f) (held_in m' f)
   holds_all f = go (bytes_eq f (codes "default")) refl
     where
-      or_none : (o : Option (List Text)) → option_or o None ≡ o
-      or_none None = refl
-      or_none (Some ts) = refl
+      here : (d : Detail) (o : Option (List Text)) (v v' : Option Feature) → Holds (codes "default") d o v → MatchOption v (IsSomeAnd v' (IsListed (codes "default") plain_detail [])) (λ w. v' ≡ Some w) → Holds (codes "default") (cond (is_some o) d plain_detail) (option_or o (Some [])) v'
+      here d None None None h a = absurd a
+      here d None None (Some v) h a = a
+      here d None (Some v) v' h a = absurd h
+      here d (Some ts) None v' h a = absurd h
+      here d (Some ts) (Some v) v' h a = subst (Holds (codes "default") d (Some ts)) (sym a) h
 
-      here : (o : Option (List Text)) (v v' : Option Feature) → Holds (codes "default") o v → MatchOption v (IsSomeAnd v' (IsListed (codes "default") [])) (λ w. v' ≡ Some w) → Holds (codes "default") (option_or o (Some [])) v'
-      here None None None h d = absurd d
-      here None None (Some v) h d = d
-      here None (Some v) v' h d = absurd h
-      here (Some ts) None v' h d = absurd h
-      here (Some ts) (Some v) v' h d = subst (Holds (codes "default") (Some ts)) (sym d) h
+      there : (d : Detail) (o : Option (List Text)) (v : Option Feature) → Holds f d o v → Holds f (cond (is_some o) d plain_detail) (option_or o None) v
+      there d None None h = tt
+      there d None (Some v) h = absurd h
+      there d (Some ts) None h = absurd h
+      there d (Some ts) (Some v) h = h
 
-      go : (b : Bool) → bytes_eq f (codes "default") ≡ b → Holds f (option_or (lookup (bytes_eq f) listed) (cond b (Some []) None)) (held_in m' f)
-      go true e = subst (λ q. Holds q (option_or (lookup (bytes_eq q) listed) (Some [])) (held_in m' q)) (sym ((bytes_eq-Decides f (codes "default")).0 e))
-          (here (lookup (bytes_eq (codes "default")) listed) (held_in m (codes "default")) (held_in m' (codes "default")) (read.at (codes "default")) default)
-      go false e = subst (λ o. Holds f o (held_in m' f)) (sym (or_none (lookup (bytes_eq f) listed))) (subst (Holds f (lookup (bytes_eq f) listed)) (sym (others f e)) (read.at f))
+      go : (b : Bool) → bytes_eq f (codes "default") ≡ b → Holds f (detail_listed listed details f) (option_or (lookup (bytes_eq f) listed) (cond b (Some []) None)) (held_in m' f)
+      go true e = subst (λ q. Holds q (detail_listed listed details q) (option_or (lookup (bytes_eq q) listed) (Some [])) (held_in m' q)) (sym ((bytes_eq-Decides f (codes "default")).0 e))
+          (here (detail_at details (codes "default")) (lookup (bytes_eq (codes "default")) listed) (held_in m (codes "default")) (held_in m' (codes "default")) (read.at (codes "default")) default)
+      go false e = there (detail_at details f) (lookup (bytes_eq f) listed) (held_in m' f) (subst (Holds f (detail_at details f) (lookup (bytes_eq f) listed)) (sym (others f e)) (read.at f))
+
+  -- each feature that is held is as its list and its details say
+  pub all_fresh : AreFresh listed details m'
+  all_fresh f v is = holds_fresh f (detail_listed listed details f) (with_default listed f) v (subst (Holds f (detail_listed listed details f) (with_default listed f)) is (holds_all f))
 
   pub all_read : (acted : Text → Option Bool) → ((k : Text) → acted k ≡ noted_in listed k) → IsOnce (map (λ e. e.0) listed) → IsRead listed (table_held m') acted
   all_read acted acted_is once = record {
-    has = λ f. holds_some f (with_default listed f) (held_in m' f) (holds_all f) ∙ default_some (bytes_eq f (codes "default")) (lookup (bytes_eq f) listed);
-    names = λ f x. holds_names f x (with_default listed f) (held_in m' f) (holds_all f) ∙ ap (λ is. list_any (item_names x) is) (lists f);
-    action = λ f k. holds_action f k (with_default listed f) (held_in m' f) (holds_all f) ∙ ap (λ is. joined_in is k) (lists f);
+    has = λ f. holds_some f (detail_listed listed details f) (with_default listed f) (held_in m' f) (holds_all f) ∙ default_some (bytes_eq f (codes "default")) (lookup (bytes_eq f) listed);
+    names = λ f x. holds_names f x (detail_listed listed details f) (with_default listed f) (held_in m' f) (holds_all f) ∙ ap (λ is. list_any (item_names x) is) (lists f);
+    action = λ f k. holds_action f k (detail_listed listed details f) (with_default listed f) (held_in m' f) (holds_all f) ∙ ap (λ is. joined_in is k) (lists f);
     acted_on = λ k. ap is_some (acted_is k) ∙ noted_is_some listed once k;
     reserved = λ k. ap (λ o. unwrap_or o false) (acted_is k) ∙ noted_is_dep_only listed once k;
   }

@@ -21,7 +21,7 @@ nothing own none (Some a) = record {
   names = refl;
   actions = refl;
   enabled_by = refl;
-  explicit = refl;
+  marks = refl;
   bins = sym (ap (λ xs. map (λ (b : Bor Text). b.now) a.required_by_bins.items ++ xs) none ∙ append-nil _);
 }
 
@@ -36,7 +36,7 @@ both p q r same (Some a) (Some b) (Some c) h k = record {
   names = k.names ∙ h.names;
   actions = k.actions ∙ h.actions;
   enabled_by = k.enabled_by ∙ h.enabled_by;
-  explicit = k.explicit ∙ h.explicit;
+  marks = k.marks ∙ h.marks;
   bins = k.bins ∙ ap (λ xs. xs ++ q) h.bins ∙ append_assoc (map (λ (t : Bor Text). t.now) a.required_by_bins.items) p q ∙ ap (λ xs. map (λ (t : Bor Text). t.now) a.required_by_bins.items ++ xs) (sym same);
 }
 

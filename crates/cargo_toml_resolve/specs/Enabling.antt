@@ -5,6 +5,7 @@ use Rattle.std.specs.List.{list_any}
 use Rattle.cargo_toml_features.specs.declared.features.Feature.{Feature}
 use Rattle.cargo_toml_resolve.specs.declared.enable.Link.{Link}
 use Rattle.cargo_toml_graph.specs.Action.{Text, Action}
+use Rattle.cargo_toml_features.specs.Marks.{marks_of}
 use Rattle.cargo_toml_features.specs.Views.{has_text, action_at}
 use Rattle.cargo_toml_resolve.specs.Slots.{held_in}
 use Rattle.cargo_toml_resolve.specs.declared.slots.Slots.{Slots}
@@ -39,7 +40,7 @@ pub record Enabled (by : Text → Bool) (old new : Feature) : Type 0 where
   pub names : new.enables_features ≡ old.enables_features
   pub actions : new.enables_deps ≡ old.enables_deps
   pub bins : new.required_by_bins ≡ old.required_by_bins
-  pub explicit : new.explicit ≡ old.explicit
+  pub marks : marks_of new ≡ marks_of old
   pub enabled_by : (e : Text) → has_text new.enabled_by e ≡ (has_text old.enabled_by e || by e)
 
 -- so did each feature

@@ -4,8 +4,10 @@ use Rattle.std.specs.Option.{IsSomeAnd}
 use Rattle.std.specs.List.{list_any}
 use Rattle.std.specs.Borrow.{Bor}
 use Rattle.cargo_toml_dependencies.specs.Dependencies.{is_optional}
+use Rattle.cargo_toml_dependencies.specs.Details.{plain_detail}
 use Rattle.cargo_toml_features.specs.declared.features.Feature.{Feature}
 use Rattle.cargo_toml_graph.specs.Action.{Text}
+use Rattle.cargo_toml_features.specs.Marks.{marked, marks_of}
 use Rattle.cargo_toml_features.specs.Recorded.{Entry}
 use Rattle.cargo_toml_features.specs.Resolved.{plain}
 use Rattle.cargo_toml_features.specs.Views.{has_text, action_at}
@@ -14,14 +16,14 @@ use Rattle.cargo_toml_resolve.specs.declared.slots.Slots.{Slots}
 use Rattle.std.specs.BTreeMap.{BTreeMap}
 use Rattle.cargo_toml_features.specs.InOrder.{sorted_at}
 
--- the implied feature of the key q: it names nothing, and has one plain action on itself
+-- the implied feature of the key q: it names nothing, has one plain action on itself, and nothing is said of it
 pub record IsImplied (q : Text) (v : Feature) : Type 0 where
   pub key : v.key.now ≡ q
   pub names : (x : Text) → has_text v.enables_features x ≡ false
   pub action : (k : Text) → action_at v.enables_deps k ≡ (if bytes_eq k q then Some plain else None)
   pub enabled_by : v.enabled_by.keys ≡ []
   pub bins : v.required_by_bins.items ≡ []
-  pub explicit : v.explicit ≡ false
+  pub marks : marks_of v ≡ marked false plain_detail
 
 -- what stands at q once it was implied, if it was: where a feature had the name, it stays
 abbrev pub Becomes : Bool → Text → Option Feature → Option Feature → Type 0

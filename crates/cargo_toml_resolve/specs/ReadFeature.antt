@@ -1,6 +1,7 @@
 -- One feature as its list is read.
 use Rattle.std.specs.Prelude.{◌≡◌, Bool, ◌||◌, List, Option, Some, None, bytes_eq, fold}
 use Rattle.std.specs.List.{list_any}
+use Rattle.cargo_toml_dependencies.specs.Details.{Detail}
 use Rattle.cargo_toml_features.specs.declared.features.Feature.{Feature}
 use Rattle.cargo_toml_graph.specs.Action.{Text, Action, Item, join_option}
 use Rattle.cargo_toml_graph.specs.Admitted.{item_names, action_on}
@@ -11,15 +12,15 @@ use Rattle.cargo_toml_features.specs.Views.{has_text, action_at}
 abbrev pub joined_in : List Item → Text → Option Action
 joined_in items k = fold (λ o i. join_option o (action_on k i)) None items
 
--- the feature f, whose list says these items
-pub record IsListed (f : Text) (items : List Item) (v : Feature) : Type 0 where
-  pub fresh : IsFresh f v
+-- the feature f, of which d is said and whose list says these items
+pub record IsListed (f : Text) (d : Detail) (items : List Item) (v : Feature) : Type 0 where
+  pub fresh : IsFresh f d v
   pub names : (x : Text) → has_text v.enables_features x ≡ list_any (item_names x) items
   pub action : (k : Text) → action_at v.enables_deps k ≡ joined_in items k
 
 -- the same while the names that the list gives are gathered beside the feature
-pub record IsGathered (f : Text) (items : List Item) (named : List Text) (v : Feature) : Type 0 where
-  pub fresh : IsFresh f v
+pub record IsGathered (f : Text) (d : Detail) (items : List Item) (named : List Text) (v : Feature) : Type 0 where
+  pub fresh : IsFresh f d v
   pub names : (x : Text) → list_any (bytes_eq x) named ≡ list_any (item_names x) items
   pub action : (k : Text) → action_at v.enables_deps k ≡ joined_in items k
 

@@ -1,11 +1,13 @@
 -- The features as they stand once their lists are read, before dependencies are looked at.
 use Rattle.std.specs.Prelude.{◌≡◌, Bool, true, false, List, [], Option, Some, is_some, unwrap_or}
 use Rattle.std.specs.List.{list_any}
+use Rattle.cargo_toml_dependencies.specs.Details.{Detail}
 use Rattle.cargo_toml_features.specs.declared.features.Feature.{Feature}
 use Rattle.cargo_toml_graph.specs.Action.{Text}
 use Rattle.cargo_toml_graph.specs.Admitted as listing
 use Rattle.cargo_toml_graph.specs.Admitted.{Listed, is_explicit, joined_action}
 use Rattle.cargo_toml_graph.specs.Graph.{Table}
+use Rattle.cargo_toml_features.specs.Marks.{Details, detail_listed, marked, marks_of}
 use Rattle.cargo_toml_features.specs.Recorded.{is_reserved}
 use Rattle.cargo_toml_resolve.specs.Slots.{held_in}
 use Rattle.cargo_toml_resolve.specs.declared.slots.Slots.{Slots}
@@ -18,12 +20,12 @@ pub record IsRead (listed : Listed) (t : Table) (acted : Text → Option Bool) :
   pub acted_on : (k : Text) → is_some (acted k) ≡ list_any (λ e. is_some (joined_action listed e.0 k)) listed
   pub reserved : (k : Text) → unwrap_or (acted k) false ≡ is_reserved listed k
 
--- a feature with this key that the manifest lists, of which neither enablers nor binaries are known yet
-pub record IsFresh (f : Text) (v : Feature) : Type 0 where
+-- a feature with this key that the manifest lists, of which d is said and neither enablers nor binaries are known yet
+pub record IsFresh (f : Text) (d : Detail) (v : Feature) : Type 0 where
   pub key : v.key.now ≡ f
-  pub explicit : v.explicit ≡ true
+  pub marks : marks_of v ≡ marked true d
   pub enabled_by : v.enabled_by.keys ≡ []
   pub bins : v.required_by_bins.items ≡ []
 
-abbrev pub AreFresh : Slots Feature → Type 0
-AreFresh m = (f : Text) (v : Feature) → held_in m f ≡ Some v → IsFresh f v
+abbrev pub AreFresh : Listed → Details → Slots Feature → Type 0
+AreFresh listed details m = (f : Text) (v : Feature) → held_in m f ≡ Some v → IsFresh f (detail_listed listed details f) v

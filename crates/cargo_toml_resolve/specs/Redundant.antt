@@ -4,6 +4,7 @@ use Rattle.cargo_toml_features.specs.declared.features.Feature.{Feature}
 use Rattle.cargo_toml_features.specs.declared.features.FeatureDependency.{FeatureDependency}
 use Rattle.cargo_toml_graph.specs.Action.{Text}
 use Rattle.cargo_toml_resolve.specs.Enabling.{Relates}
+use Rattle.cargo_toml_features.specs.Marks.{marks_of}
 use Rattle.cargo_toml_features.specs.Recorded.{Entry, first_target, recorded_of, without_redundant}
 use Rattle.cargo_toml_resolve.specs.Recording.{recorded_at}
 use Rattle.cargo_toml_features.specs.Views.{action_at}
@@ -21,7 +22,7 @@ pub record Thinned (entries : Text → List Entry) (old new : Feature) : Type 0 
   pub actions : (k : Text) → action_at new.enables_deps k ≡ option_map (without_redundant (first_target (entries k))) (action_at old.enables_deps k)
   pub enabled_by : new.enabled_by ≡ old.enabled_by
   pub bins : new.required_by_bins ≡ old.required_by_bins
-  pub explicit : new.explicit ≡ old.explicit
+  pub marks : marks_of new ≡ marks_of old
 
 -- so did each feature
 pub record ThinnedAll (entries : Text → List Entry) (old new : Slots Feature) : Type 0 where

@@ -15,6 +15,7 @@ use cargo_toml_features::features::{DepAction, Feature, ParseDependency};
 use std::alloc::{AllocError, Global};
 use std::collections::{BTreeMap, BTreeSet};
 
+// The feature that the optional dependency of a key implies. Nothing is said of it, whatever is said of features of that name.
 fn implied_feature(alloc: Global, key: &str) -> Result<Feature<'_>, AllocError>
     ensures { IfOk result (IsImplied key.now) }
 {
@@ -32,6 +33,8 @@ fn implied_feature(alloc: Global, key: &str) -> Result<Feature<'_>, AllocError>
         enabled_by: BTreeSet::new(alloc),
         required_by_bins: Vec::new(alloc),
         explicit: false,
+        public: true,
+        doc: None,
     })
 }
 

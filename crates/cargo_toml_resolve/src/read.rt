@@ -6,6 +6,8 @@ ghost use Rattle.cargo_toml_graph.specs.Action.{Text, Item, item_of};
 ghost use Rattle.cargo_toml_features.specs.ActionText.{action_in};
 ghost use Rattle.cargo_toml_graph.specs.Admitted.{action_on, is_explicit};
 ghost use Rattle.cargo_toml_graph.specs.Reach.{Among, IsOnce};
+ghost use Rattle.cargo_toml_dependencies.specs.Details.{Detail, plain_detail};
+ghost use Rattle.cargo_toml_features.specs.Marks.{detail_in, details_of};
 ghost use Rattle.cargo_toml_features.specs.Views.{listed_of};
 ghost use Rattle.cargo_toml_resolve.specs.Reading.{IsRead, AreFresh};
 ghost use Rattle.cargo_toml_resolve.specs.ReadFeature.{joined_in, noted, IsGathered, IsListed};
@@ -16,6 +18,7 @@ ghost use Rattle.cargo_toml_resolve.specs.Slots.{HaveSameNames, held_in, names_i
 
 use crate::places::{empty_slots, place_near};
 use crate::slots::Slots;
+use cargo_toml_dependencies::FeatureDetail;
 use cargo_toml_features::action::{ActionText, add_text, join_action, read_action};
 use cargo_toml_features::admit::Listing;
 use cargo_toml_features::features::Feature;
@@ -31,10 +34,14 @@ pub struct Mentions<'m> {
     pub acted: BTreeMap<&'m str, bool>,
 }
 
-// A feature whose list is empty.
-fn empty_feature(alloc: Global, key: &str) -> Feature<'_>
-    ensures { IsListed key.now [] result }
+// A feature whose list is empty, and of which this is said.
+fn empty_feature<'m>(alloc: Global, key: &'m str, detail: Option<&'m FeatureDetail>) -> Feature<'m>
+    ensures { IsListed key.now (detail_in detail.entry) [] result }
 {
+    let (public, doc) = match detail {
+        Some(detail) => (detail.public, detail.doc.as_deref()),
+        None => (true, None),
+    };
     Feature {
         key,
         enables_deps: BTreeMap::new(alloc),
@@ -42,6 +49,8 @@ fn empty_feature(alloc: Global, key: &str) -> Feature<'_>
         enabled_by: BTreeSet::new(alloc),
         required_by_bins: Vec::new(alloc),
         explicit: true,
+        public,
+        doc,
     }
 }
 
@@ -67,9 +76,9 @@ fn add_item<'m>(
     acted: &mut BTreeMap<&'m str, bool>,
     text: &'m str,
 ) -> Result<(), AllocError>
-    ensures gathered { OnOk result ((f : Text) (items : List Item)
-        → IsGathered f items (map (λ t. t.now) named.old.items) feature.old
-        → IsGathered f (items ++ item_of text.now ∷ []) (map (λ t. t.now) named.new.items) feature.new) }
+    ensures gathered { OnOk result ((f : Text) (d : Detail) (items : List Item)
+        → IsGathered f d items (map (λ t. t.now) named.old.items) feature.old
+        → IsGathered f d (items ++ item_of text.now ∷ []) (map (λ t. t.now) named.new.items) feature.new) }
     ensures noted { OnOk result
         ((k : Text) → sorted_at acted.new k ≡ noted (sorted_at acted.old k) (action_on k (item_of text.now))) }
 {
@@ -120,13 +129,13 @@ fn read_list<'m>(
     listing: Listing<'m>,
 ) -> Result<Feature<'m>, AllocError>
     ensures listed { IfOk result
-        (IsListed listing.entry.name.now (map item_of (map string_bytes listing.entry.actions.now))) }
+        (IsListed listing.entry.name.now (detail_in listing.entry.detail) (map item_of (map string_bytes listing.entry.actions.now))) }
     ensures noted { OnOk result
         ((k : Text) → sorted_at acted.new k ≡ noted (sorted_at acted.old k)
         (joined_in (map item_of (map string_bytes listing.entry.actions.now)) k)) }
 {
     named.clear();
-    let mut feature = empty_feature(alloc, listing.name);
+    let mut feature = empty_feature(alloc, listing.name, listing.detail);
     for text in listing.actions {
         add_item(alloc, &mut feature, named, acted, text.as_str())?;
     }
@@ -153,18 +162,18 @@ fn put_feature<'m>(
     place.saturating_add(1)
 }
 
-// Adds the feature `default` where it isn't listed.
+// Adds the feature `default` where it isn't listed; nothing is said of it then.
 fn add_default<'m>(alloc: Global, features: &mut Slots<'m, Feature<'m>>)
     requires named { Among (names_in features.old) (codes "default") }
     ensures others { (f : Text) → bytes_eq f (codes "default") ≡ false
         → held_in features.new f ≡ held_in features.old f }
     ensures default { MatchOption (held_in features.old (codes "default"))
-        (IsSomeAnd (held_in features.new (codes "default")) (IsListed (codes "default") []))
+        (IsSomeAnd (held_in features.new (codes "default")) (IsListed (codes "default") plain_detail []))
         (λ v. held_in features.new (codes "default") ≡ Some v) }
     ensures same_names { HaveSameNames features.old features.new }
 {
     if features.get("default").is_none() {
-        let feature = empty_feature(alloc, "default");
+        let feature = empty_feature(alloc, "default", None);
         put_feature(features, "default", feature, 0);
     }
 }
@@ -184,7 +193,8 @@ pub fn read_features<'m>(
         → Among (map (λ n. n.now) names.items) f }
     ensures read { IfOk result (λ r.
         IsRead (listed_of listings.now) (table_held r.features) (sorted_at r.acted)) }
-    ensures fresh { IfOk result (λ r. AreFresh r.features) }
+    ensures fresh { IfOk result (λ r.
+        AreFresh (listed_of listings.now) (details_of listings.now) r.features) }
     ensures names { IfOk result (λ r. r.features.names.items ≡ names.entry.items) }
 {
     let mut features = empty_slots(alloc, names)?;

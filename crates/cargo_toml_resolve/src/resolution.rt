@@ -1,12 +1,12 @@
 //! From what a manifest lists to all that is resolved, before any feature is removed.
 ghost use Rattle.std.specs.Prelude.{◌≡◌, map, option_map, true, IfOk, IfSome};
 ghost use Rattle.cargo_toml_graph.specs.Action.{Text};
-ghost use Rattle.cargo_toml_graph.specs.Admitted.{is_explicit};
 ghost use Rattle.cargo_toml_graph.specs.Graph.{IsUnremoved};
 ghost use Rattle.cargo_toml_graph.specs.Reach.{IsOnce};
 ghost use Rattle.cargo_toml_resolve.specs.Slots.{HeldHaveTargets, held_in};
 ghost use Rattle.cargo_toml_features.specs.InOrder.{AreInOrder, AreTable, feature_at, resolution_among};
 ghost use Rattle.cargo_toml_resolve.specs.OwnBins.{own_of, requirement_of};
+ghost use Rattle.cargo_toml_features.specs.Marks.{details_of, marks_in, marks_of};
 ghost use Rattle.cargo_toml_features.specs.Views.{listed_of, entry_of, recorded_in};
 ghost use Rattle.cargo_toml_features.specs.Recorded.{entries_at, recorded_of};
 ghost use Rattle.cargo_toml_features.specs.Resolved.{SameRecorded, table_of};
@@ -50,8 +50,8 @@ pub fn resolve_all<'m: 'd, 'd>(
     ensures table { IfOk result (λ a. AreTable (table_of (listed_of listings.now) (map entry_of entries.now)) a.features.items) }
     ensures unremoved { IfOk result (λ a. wants_enablers ≡ true →
         IsUnremoved (table_of (listed_of listings.now) (map entry_of entries.now)) (resolution_among a.features.items)) }
-    ensures explicit { IfOk result (λ a. (f : Text) → IfSome (feature_at a.features.items f) (λ v.
-        v.explicit ≡ is_explicit (listed_of listings.now) f)) }
+    ensures marks { IfOk result (λ a. (f : Text) → IfSome (feature_at a.features.items f) (λ v.
+        marks_of v ≡ marks_in (listed_of listings.now) (details_of listings.now) f)) }
     ensures bins { IfOk result (λ a. (f : Text) → IfSome (feature_at a.features.items f) (λ v.
         map (λ b. b.now) v.required_by_bins.items ≡ own_of (map requirement_of requirements.now) f)) }
     ensures dependencies { IfOk result (λ a. (k : Text) →

@@ -52,6 +52,8 @@ enum Kind {
     Dependencies,
     /// What is reported of it by a caller.
     Report,
+    /// Which of its features a caller documents, each with its text.
+    Documented,
     /// What one of its features enables at last. The file `start` names the feature.
     Recursion,
     /// What values of one type read as, and how these are written, or what comes of paths.
@@ -83,6 +85,7 @@ fn kind_of(word: &str) -> Option<Kind> {
         "bodies" => Some(Kind::Bodies),
         "dependencies" => Some(Kind::Dependencies),
         "report" => Some(Kind::Report),
+        "documented" => Some(Kind::Documented),
         "recursion" => Some(Kind::Recursion),
         "values" | "paths" => Some(Kind::Values),
         "complete" => Some(Kind::Complete),
@@ -105,6 +108,7 @@ fn expected_file(kind: Kind) -> &'static str {
         Kind::Features | Kind::Limited | Kind::Custom | Kind::Whole | Kind::Kept => "/lines",
         Kind::Dependencies => "/recorded",
         Kind::Report => "/reported",
+        Kind::Documented => "/documented",
         Kind::Recursion => "/enabled",
         Kind::Values | Kind::Bodies | Kind::Words => "",
         Kind::Complete => "/completed",
@@ -143,6 +147,7 @@ fn answer<R: Files + AllocGlobal>(
         Kind::Whole => manifests::whole(alloc, manifest.as_slice()),
         Kind::Kept => manifests::kept(alloc, manifest.as_slice()),
         Kind::Report => manifests::report(alloc, manifest.as_slice()),
+        Kind::Documented => manifests::documented(alloc, manifest.as_slice()),
         Kind::Recursion => enabled(rt, folder, manifest.as_slice()),
         Kind::Complete => completed::fields(rt, folder, manifest.as_slice(), expected),
         Kind::Failing => failing::lines(rt, folder, manifest.as_slice()),

@@ -1,6 +1,7 @@
 //! What comes of a manifest, as text.
 
 use cargo_toml::{Error, Manifest, ParseFault, ToValue, Value};
+use cargo_toml_bench::documented::documented_features;
 use cargo_toml_bench::report::print_report;
 use cargo_toml_bench::whole::{resolve_keeping_a, resolve_whole};
 use cargo_toml_print::{feature_lines, print_features};
@@ -121,4 +122,20 @@ pub fn report(alloc: Global, bytes: &[u8]) -> Result<String, Error> {
     let mut output = Vec::new(alloc);
     print_report(alloc, bytes, &mut output)?;
     text_of(alloc, output.as_slice())
+}
+
+/// The features that users are meant to ask for, each with its text.
+pub fn documented(alloc: Global, bytes: &[u8]) -> Result<String, Error> {
+    let manifest = read(alloc, bytes)?;
+    let documented = documented_features(alloc, &*manifest)?;
+    let mut text = String::new(alloc);
+    for (name, said) in &documented {
+        text.push_str(*name)?;
+        if let Some(doc) = *said {
+            text.push_str(": ")?;
+            text.push_str(doc)?;
+        }
+        text.push_str("\n")?;
+    }
+    Ok(text)
 }

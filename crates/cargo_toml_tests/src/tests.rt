@@ -5,6 +5,7 @@ mod dependencies;
 mod faults;
 mod features;
 mod manifests;
+mod marks;
 mod packages;
 mod parsing;
 mod printing;

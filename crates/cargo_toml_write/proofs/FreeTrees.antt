@@ -17,8 +17,9 @@ use Rattle.cargo_toml_write.specs.NoFloats.{HoldsNoFloat, EachValue, DetailHolds
 use Rattle.cargo_toml_write.specs.Ways.{text_way, truth_way, number_way, version_way, requirement_way, free_way, texts_way, list_way, map_way, inheritable_way, is_nil}
 use Rattle.cargo_toml_write.specs.WrittenBadges.{badges_way}
 use Rattle.cargo_toml_write.specs.WrittenDependencies.{known_rows, detail_rows, detail_way, dependency_way, dependencies_way, target_rows, target_way}
+use Rattle.cargo_toml_write.specs.WrittenFeatures.{features_way}
 use Rattle.cargo_toml_write.specs.WrittenLints.{is_level_alone, members_of, lint_table, table_lint_way, lint_way, lint_groups_way}
-use Rattle.cargo_toml_write.specs.WrittenManifests.{manifest_rows, manifest_way}
+use Rattle.cargo_toml_write.specs.WrittenManifests.{all_features, manifest_rows, manifest_way}
 use Rattle.cargo_toml_write.specs.WrittenPackages.{package_rows, package_way}
 use Rattle.cargo_toml_write.specs.WrittenProducts.{product_way}
 use Rattle.cargo_toml_write.specs.WrittenProfiles.{profile_rows, profile_way, known_profiles, profiles_rows, profiles_way, has_no_profile}
@@ -26,7 +27,7 @@ use Rattle.cargo_toml_write.specs.WrittenSettings.{edition_way, resolver_way, le
 use Rattle.cargo_toml_write.specs.WrittenTemplates.{template_way}
 use Rattle.cargo_toml_write.specs.WrittenWorkspaces.{workspace_rows, workspace_way}
 use Rattle.cargo_toml_write.specs.Writes.{Way, HasTree}
-use Rattle.cargo_toml_write.proofs.TotalTrees.{edition_tree, resolver_tree, level_tree, file_tree, publish_tree, debug_tree, strip_tree, lto_tree, badges_tree, product_tree, inherited_tree, template_tree}
+use Rattle.cargo_toml_write.proofs.TotalTrees.{edition_tree, resolver_tree, level_tree, file_tree, publish_tree, debug_tree, strip_tree, lto_tree, badges_tree, features_tree, product_tree, inherited_tree, template_tree}
 use Rattle.cargo_toml_write.proofs.Trees.{AreHeld, Exact, has_table, table_has, text_tree, truth_tree, number_tree, version_tree, requirement_tree, texts_tree, list_tree, map_tree, inheritable_tree, optional_all, required_all, given_all, flag_all, optional_held, optional_only, required_held, required_only, given_held, given_only, entries_held, entries_only, free_exact, map_exact, map_left, inheritable_exact, inheritable_left}
 
 both_parts : (a b : Bool) → IsTrue (a && b) → IsTrue a × IsTrue b
@@ -450,7 +451,7 @@ manifest_held metadata e m h = (
           (
             given_held (map_way target_way) (map_exact target_way target_exact) m.target h.target,
             (
-              given_all (map_way texts_way) (map_tree texts_way texts_tree) m.features,
+              given_all features_way features_tree (all_features m),
               (
                 given_held dependencies_way dependencies_exact m.replace h.replace,
                 (

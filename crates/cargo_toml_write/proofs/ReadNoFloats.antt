@@ -17,7 +17,7 @@ use Rattle.cargo_toml_parts.specs.Keys.{inherited_at, inherited_text_at, inherit
 use Rattle.cargo_toml_parts.specs.Numbers.{u16_of, i8_of}
 use Rattle.cargo_toml_parts.specs.Reads.{array_of, map_of, required_at, optional_at, text_at, given_at, flag_at, list_at, map_at, others_read}
 use Rattle.cargo_toml_parts.specs.Versions.{requirement_of, version_of}
-use Rattle.cargo_toml_dependencies.specs.Features.{feature_of}
+use Rattle.cargo_toml_dependencies.specs.Features.{features_of, no_features}
 use Rattle.cargo_toml_package.specs.Templates.{template_reads}
 use Rattle.cargo_toml_settings.specs.declared.settings.Edition.TheVariants.{E2015}
 use Rattle.cargo_toml_settings.specs.ProfileSettings.{debug_of, strip_of, lto_of}
@@ -193,7 +193,7 @@ module _ {M : Type 0} (Metadata : M → Type 0) (metadata_of : Data → Option M
       (bind {P = ManifestHoldsNoFloat Metadata} (map_at "dev-dependencies" dependency_of ms) _ (map_at_reads {P = DependencyHoldsNoFloat} "dev-dependencies" dependency_of dependency_read ms h) (λ dev_dependencies h_dev_dependencies.
       (bind {P = ManifestHoldsNoFloat Metadata} (map_at "build-dependencies" dependency_of ms) _ (map_at_reads {P = DependencyHoldsNoFloat} "build-dependencies" dependency_of dependency_read ms h) (λ build_dependencies h_build_dependencies.
       (bind {P = ManifestHoldsNoFloat Metadata} (map_at "target" target_reads ms) _ (map_at_reads {P = TargetHoldsNoFloat} "target" target_reads target_read ms h) (λ target h_target.
-      (skip {P = ManifestHoldsNoFloat Metadata} (map_at "features" feature_of ms) _ (λ features.
+      (skip {P = ManifestHoldsNoFloat Metadata} (given_at "features" no_features features_of ms) _ (λ features.
       (bind {P = ManifestHoldsNoFloat Metadata} (map_at "replace" dependency_of ms) _ (map_at_reads {P = DependencyHoldsNoFloat} "replace" dependency_of dependency_read ms h) (λ replace h_replace.
       (bind {P = ManifestHoldsNoFloat Metadata} (map_at "patch" (map_of dependency_of) ms) _ (map_at_reads {P = EachValue DependencyHoldsNoFloat} "patch" (map_of dependency_of) (map_reads dependency_of dependency_read) ms h) (λ patch h_patch.
       (skip {P = ManifestHoldsNoFloat Metadata} (optional_at "lib" product_reads ms) _ (λ lib.

@@ -3,7 +3,7 @@ use Rattle.std.proofs.Common.{◌≡◌, ◌⊎◌, inl, inr, sym, ◌∙◌, re
 use Rattle.toml.specs.Data.{Data, Members, no_members}
 use Rattle.toml.specs.declared.value.Value.{Value}
 use Rattle.cargo_toml_parts.specs.declared.error.Error.{Error, Memory}
-use Rattle.cargo_toml_write.specs.Writes.{Way, IsWriting, Row, required_row, optional_row, AreWritten, AreRefused, Goes, Ends, put, table_way}
+use Rattle.cargo_toml_write.specs.Writes.{Way, IsWriting, Row, required_row, optional_row, given_row, AreWritten, AreRefused, Goes, Ends, put, table_way}
 
 -- some rows and then others
 are_both : (rs qs : List Row) (old mid new : Members) → AreWritten rs old mid → AreWritten qs mid new → AreWritten (rs ++ qs) old new
@@ -87,3 +87,8 @@ pub then_same : {X : Type 0} (way : Way X) (key : List ℕ) (x : Option X) (rows
     → Goes (optional_row key way (option_map (λ (y : X). y) x) ∷ []) a old b mid → Goes rows b mid c new → Goes (optional_row key way x ∷ rows) a old c new
 then_same {X = X} way key x rows a b c old mid new first rest =
     then (optional_row key way x) rows a b c old mid new (subst (λ (y : Option X). Goes (optional_row key way y ∷ []) a old b mid) (plain-map x) first) rest
+
+-- a row of a value that is told in another way
+pub given_as : {X : Type 0} (key : List ℕ) (way : Way X) (x y : X) (a b : Option Error) (old new : Members)
+    → x ≡ y → Goes (given_row key way x ∷ []) a old b new → Goes (given_row key way y ∷ []) a old b new
+given_as {X = X} key way x y a b old new same goes = subst (λ (z : X). Goes (given_row key way z ∷ []) a old b new) same goes

@@ -1,7 +1,8 @@
 -- Each value of a type that holds nothing free has a tree.
-use Rattle.std.proofs.Common.{refl, true, false}
-use Rattle.toml.specs.Data.{string, boolean}
+use Rattle.std.proofs.Common.{refl, true, false, ℕ, List, Option, Some, None}
+use Rattle.toml.specs.Data.{Data, string, boolean}
 use Rattle.cargo_toml_dependencies.specs.Dependencies.{InheritedMeaning}
+use Rattle.cargo_toml_dependencies.specs.Details.{Detail}
 use Rattle.cargo_toml_package.specs.Templates.{TemplateMeaning}
 use Rattle.cargo_toml_settings.specs.Settings.{edition_text, resolver_text, everywhere, among}
 use Rattle.cargo_toml_tables.specs.declared.badge.MaintenanceStatus.{MaintenanceStatus}
@@ -10,10 +11,11 @@ use Rattle.cargo_toml_tables.specs.Products.{ProductMeaning}
 use Rattle.cargo_toml_write.specs.Ways.{text_way, version_way, texts_way}
 use Rattle.cargo_toml_write.specs.WrittenBadges.{badge_rows, badge_way, maintenance_rows, maintenance_way, badges_rows, badges_way}
 use Rattle.cargo_toml_write.specs.WrittenDependencies.{inherited_rows, inherited_way}
+use Rattle.cargo_toml_write.specs.WrittenFeatures.{FeatureTree, feature_way, features_way, told_features, told_rows}
 use Rattle.cargo_toml_write.specs.WrittenProducts.{product_rows, product_way}
 use Rattle.cargo_toml_write.specs.WrittenSettings.{edition_way, resolver_way, level_text, level_way, status_text, status_way, file_tree as tree_of_file, file_way, publish_way, debug_tree as tree_of_debug, debug_way, strip_tree as tree_of_strip, strip_way, lto_tree as tree_of_lto, lto_way}
 use Rattle.cargo_toml_write.specs.WrittenTemplates.{template_rows, template_way}
-use Rattle.cargo_toml_write.proofs.Trees.{AreHeld, Total, has_table, exactly_tree, text_tree, version_tree, texts_tree, optional_all, required_all, given_all, flag_all}
+use Rattle.cargo_toml_write.proofs.Trees.{AreHeld, Total, has_table, exactly_tree, text_tree, version_tree, texts_tree, map_tree, optional_all, required_all, given_all, flag_all}
 
 pub edition_tree : Total edition_way
 edition_tree = exactly_tree (λ x. string (edition_text x))
@@ -216,3 +218,25 @@ template_rows_held t = (
 
 pub template_tree : Total template_way
 template_tree t = has_table template_rows t (template_rows_held t)
+
+told_rows_held : (f : List (List ℕ) × Detail) → AreHeld (told_rows f)
+told_rows_held f = (
+  given_all texts_way texts_tree f.0,
+  (
+    flag_all true f.1.public,
+    (
+      optional_all text_way text_tree f.1.doc,
+      tt,
+    ),
+  ),
+)
+
+feature_either : (enables : List (List ℕ)) (detail : Option Detail) → (d : Data) × FeatureTree enables detail d
+feature_either enables None = texts_tree enables
+feature_either enables (Some detail) = has_table told_rows (enables, detail) (told_rows_held (enables, detail))
+
+feature_tree : Total feature_way
+feature_tree f = feature_either f.0 f.1
+
+pub features_tree : Total features_way
+features_tree fs = map_tree feature_way feature_tree (told_features fs)

@@ -1,9 +1,10 @@
 -- What is written of each type holds no float.
-use Rattle.std.specs.Prelude.{codes, Bool, true, false, IsTrue, MatchBool, refl}
+use Rattle.std.specs.Prelude.{ℕ, List, codes, Option, Some, None, Bool, true, false, IsTrue, MatchBool, refl}
 use Rattle.std.proofs.Common.{sym, subst}
 use Rattle.toml.specs.Data.{Data, string, integer}
 use Rattle.cargo_toml_dependencies.specs.Dependencies.{InheritedMeaning, DetailMeaning, DependencyMeaning}
 use Rattle.cargo_toml_dependencies.specs.Dependencies as kind
+use Rattle.cargo_toml_dependencies.specs.Details.{Detail}
 use Rattle.cargo_toml_dependencies.specs.Targets.{TargetMeaning}
 use Rattle.cargo_toml_manifest.specs.Manifests.{ManifestMeaning}
 use Rattle.cargo_toml_manifest.specs.Workspaces.{WorkspaceMeaning}
@@ -23,8 +24,9 @@ use Rattle.cargo_toml_write.specs.FloatlessLaws.{AreFloatless, exactly_floatless
 use Rattle.cargo_toml_write.specs.Ways.{text_way, truth_way, number_way, version_way, requirement_way, free_way, texts_way, list_way, map_way, inheritable_way}
 use Rattle.cargo_toml_write.specs.WrittenBadges.{badge_rows, badge_way, maintenance_rows, maintenance_way, badges_rows, badges_way}
 use Rattle.cargo_toml_write.specs.WrittenDependencies.{inherited_rows, inherited_way, known_rows, detail_rows, detail_way, dependency_way, dependencies_way, target_rows, target_way}
+use Rattle.cargo_toml_write.specs.WrittenFeatures.{FeatureTree, feature_way, features_way, told_features, told_rows, told_way}
 use Rattle.cargo_toml_write.specs.WrittenLints.{is_level_alone, members_of, lint_table, table_lint_way, lint_way, lint_groups_way}
-use Rattle.cargo_toml_write.specs.WrittenManifests.{manifest_rows, manifest_way}
+use Rattle.cargo_toml_write.specs.WrittenManifests.{all_features, manifest_rows, manifest_way}
 use Rattle.cargo_toml_write.specs.WrittenPackages.{package_rows, package_way}
 use Rattle.cargo_toml_write.specs.WrittenProducts.{product_rows, product_way}
 use Rattle.cargo_toml_write.specs.WrittenProfiles.{profile_rows, profile_way, known_profiles, profiles_rows, profiles_way}
@@ -529,6 +531,32 @@ each_of_workspace metadata h w = (
 pub workspace_floatless : {M : Type 0} (metadata : Way M) → IsFloatless metadata → IsFloatless (workspace_way metadata)
 workspace_floatless metadata h = table_floatless (workspace_rows metadata) (each_of_workspace metadata h)
 
+-- features
+each_of_told : (f : List (List ℕ) × Detail) → AreFloatless (told_rows f)
+each_of_told f = (
+  given texts_way texts_floatless f.0,
+  (
+    flagged true f.1.public,
+    (
+      optional text_way text_floatless f.1.doc,
+      tt,
+    ),
+  ),
+)
+
+told_floatless : IsFloatless told_way
+told_floatless = table_floatless told_rows each_of_told
+
+feature_either : (enables : List (List ℕ)) (detail : Option Detail) (d : Data) → FeatureTree enables detail d → Floatless d
+feature_either enables None d tree = texts_floatless enables d tree
+feature_either enables (Some detail) d tree = told_floatless (enables, detail) d tree
+
+feature_floatless : IsFloatless feature_way
+feature_floatless f d tree = feature_either f.0 f.1 d tree
+
+pub features_floatless : IsFloatless features_way
+features_floatless fs d tree = map_floatless feature_way feature_floatless (told_features fs) d tree
+
 each_of_manifest : {M : Type 0} (metadata : Way M) → IsFloatless metadata → (m : ManifestMeaning M) → AreFloatless (manifest_rows metadata m)
 each_of_manifest metadata h m = (
   optional (package_way metadata) (package_floatless metadata h) m.«package»,
@@ -543,7 +571,7 @@ each_of_manifest metadata h m = (
           (
             given (map_way target_way) (map_floatless target_way target_floatless) m.target,
             (
-              given (map_way texts_way) (map_floatless texts_way texts_floatless) m.features,
+              given features_way features_floatless (all_features m),
               (
                 given dependencies_way dependencies_floatless m.replace,
                 (

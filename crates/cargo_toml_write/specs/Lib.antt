@@ -6,6 +6,7 @@ pub mod Pairs
 pub mod Ways
 pub mod WrittenBadges
 pub mod WrittenDependencies
+pub mod WrittenFeatures
 pub mod WrittenLints
 pub mod WrittenManifests
 pub mod WrittenPackages

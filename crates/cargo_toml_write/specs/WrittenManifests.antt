@@ -1,15 +1,21 @@
 -- How manifests are written.
 use Rattle.std.specs.Prelude.{List, [], ◌∷◌, codes}
+use Rattle.cargo_toml_dependencies.specs.Features.{FeaturesMeaning}
 use Rattle.cargo_toml_manifest.specs.Manifests.{ManifestMeaning}
-use Rattle.cargo_toml_write.specs.Ways.{texts_way, list_way, map_way, inheritable_way}
+use Rattle.cargo_toml_write.specs.Ways.{list_way, map_way, inheritable_way}
 use Rattle.cargo_toml_write.specs.WrittenBadges.{badges_way}
 use Rattle.cargo_toml_write.specs.WrittenDependencies.{dependencies_way, target_way}
+use Rattle.cargo_toml_write.specs.WrittenFeatures.{features_way}
 use Rattle.cargo_toml_write.specs.WrittenLints.{lint_groups_way}
 use Rattle.cargo_toml_write.specs.WrittenPackages.{package_way}
 use Rattle.cargo_toml_write.specs.WrittenProducts.{product_way}
 use Rattle.cargo_toml_write.specs.WrittenProfiles.{profiles_way}
 use Rattle.cargo_toml_write.specs.WrittenWorkspaces.{workspace_way}
 use Rattle.cargo_toml_write.specs.Writes.{Way, Row, optional_row, given_row, table_way}
+
+-- its features, and what is said of them
+abbrev pub all_features : {M : Type 0} → ManifestMeaning M → FeaturesMeaning
+all_features m = (m.features, m.feature_details)
 
 -- the rows of a manifest, whose metadata are written in the given way
 abbrev pub manifest_rows : {M : Type 0} → Way M → ManifestMeaning M → List Row
@@ -20,7 +26,7 @@ manifest_rows metadata m =
     ∷ given_row (codes "dev-dependencies") dependencies_way m.dev_dependencies
     ∷ given_row (codes "build-dependencies") dependencies_way m.build_dependencies
     ∷ given_row (codes "target") (map_way target_way) m.target
-    ∷ given_row (codes "features") (map_way texts_way) m.features
+    ∷ given_row (codes "features") features_way (all_features m)
     ∷ given_row (codes "replace") dependencies_way m.replace
     ∷ given_row (codes "patch") (map_way dependencies_way) m.patch
     ∷ optional_row (codes "lib") product_way m.lib

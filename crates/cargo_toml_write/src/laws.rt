@@ -13,8 +13,9 @@ ghost use Rattle.cargo_toml_tables.specs.Profiles.{ProfileMeaning, ProfilesMeani
 ghost use Rattle.cargo_toml_write.specs.NoFloats.{HoldsNoFloat, DetailHoldsNoFloat, DependencyHoldsNoFloat, TargetHoldsNoFloat, ProfileHoldsNoFloat, ProfilesHoldsNoFloat, LintHoldsNoFloat, PackageHoldsNoFloat, WorkspaceHoldsNoFloat, ManifestHoldsNoFloat};
 ghost use Rattle.cargo_toml_write.specs.Ways.{free_way};
 ghost use Rattle.cargo_toml_write.specs.WrittenDependencies.{detail_way, dependency_way, target_way};
+ghost use Rattle.cargo_toml_write.specs.WrittenFeatures.{AreTold};
 ghost use Rattle.cargo_toml_write.specs.WrittenLints.{lint_way};
-ghost use Rattle.cargo_toml_write.specs.WrittenManifests.{manifest_way};
+ghost use Rattle.cargo_toml_write.specs.WrittenManifests.{all_features, manifest_way};
 ghost use Rattle.cargo_toml_write.specs.WrittenPackages.{package_way};
 ghost use Rattle.cargo_toml_write.specs.WrittenProfiles.{profile_way, profiles_way};
 ghost use Rattle.cargo_toml_write.specs.WrittenWorkspaces.{workspace_way};
@@ -66,4 +67,13 @@ pub fn read_manifests_are_written()
     ensures of_document { (document : Option Members) (m : ManifestMeaning Data)
         → document_reads (manifest_reads any_tree) document ≡ Some m
         → ManifestHoldsNoFloat (HasTree free_way) m }
+{}
+
+/// The features of a manifest that was read are such as are read again: each detail is of one of
+/// them, and says something.
+pub fn read_features_are_told()
+    ensures of_tree { (d : Data) (m : ManifestMeaning Data)
+        → without_floats (manifest_reads any_tree) d ≡ Some m → AreTold (all_features m) }
+    ensures of_document { (document : Option Members) (m : ManifestMeaning Data)
+        → document_reads (manifest_reads any_tree) document ≡ Some m → AreTold (all_features m) }
 {}

@@ -7,6 +7,7 @@ ghost use Rattle.cargo_toml_write.specs.Writes.{Way, IsWriting, IsFloatless, put
 pub mod badge;
 pub mod collections;
 pub mod dependency;
+mod feature;
 pub mod lint;
 pub mod manifest;
 pub mod package;

@@ -13,6 +13,8 @@ fn implied<'a>(alloc: Global, key: &'a str) -> Feature<'a> {
         enabled_by: BTreeSet::new(alloc),
         required_by_bins: Vec::new(alloc),
         explicit: false,
+        public: true,
+        doc: None,
     }
 }
 

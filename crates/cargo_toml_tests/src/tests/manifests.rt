@@ -1,9 +1,9 @@
 //! The calls that read a manifest, metadata of a caller's own, and what types are where nothing is given.
 use super::{boxed, manifest};
 use cargo_toml::{
-    Badges, DependencyDetail, Error, FromValue, Inheritable, InheritedDependencyDetail,
-    Maintenance, MaintenanceStatus, Manifest, Package, PackageTemplate, Product, Profile, Profiles,
-    Publish, SemVer, Target, Value, Workspace,
+    Badges, DependencyDetail, Error, FeatureDetail, FromValue, Inheritable,
+    InheritedDependencyDetail, Maintenance, MaintenanceStatus, Manifest, Package, PackageTemplate,
+    Product, Profile, Profiles, Publish, SemVer, Target, Value, Workspace,
 };
 use std::alloc::Global;
 use std::test::Fail;
@@ -88,6 +88,8 @@ fn defaults(rt: HostRuntime) -> Result<(), Fail> {
     let inherited = boxed(alloc, InheritedDependencyDetail::default(alloc))?;
     assert!(rt; is_empty_table(alloc, &*inherited)?);
     assert_eq!(rt; Maintenance::default().status, MaintenanceStatus::None);
+    let detail = FeatureDetail::default();
+    assert!(rt; detail.public && detail.doc.is_none());
     Ok(())
 }
 

@@ -1,8 +1,8 @@
 //! What is written of values that no text reads as.
 use super::boxed;
 use cargo_toml::{
-    DependencyDetail, Error, Lint, LintLevel, Manifest, Package, PackageTemplate, Profile,
-    Profiles, SemVer, ToValue, Value, Workspace,
+    DependencyDetail, Error, FeatureDetail, Lint, LintLevel, Manifest, Package, PackageTemplate,
+    Profile, Profiles, SemVer, ToValue, Value, Workspace,
 };
 use std::alloc::{AllocError, Global};
 use std::collections::BTreeMap;
@@ -37,6 +37,25 @@ fn default_manifest_written(rt: HostRuntime) -> Result<(), Fail> {
     assert_eq!(rt; tree(alloc, &*workspace)?.as_str(), "{ members = [] }");
     let template = boxed(alloc, PackageTemplate::default())?;
     assert_eq!(rt; tree(alloc, &*template)?.as_str(), "{}");
+    Ok(())
+}
+
+// What is said of a feature is written where the feature is there, and as a table even where it says
+// nothing.
+#[test]
+fn details_written(rt: HostRuntime) -> Result<(), Fail> {
+    let alloc = rt.alloc();
+    let mut manifest: Box<Manifest> = boxed(alloc, Manifest::default(alloc))?;
+    let name = String::from_str(alloc, "f")?;
+    let detail = FeatureDetail::default();
+    drop(manifest.feature_details.insert(name, detail)?);
+    assert_eq!(rt; tree(alloc, &*manifest)?.as_str(), "{}");
+    let name = String::from_str(alloc, "f")?;
+    drop(manifest.features.insert(name, Vec::new(alloc))?);
+    assert_eq!(rt;
+        tree(alloc, &*manifest)?.as_str(),
+        "{ features = { f = {} } }"
+    );
     Ok(())
 }
 

@@ -4,10 +4,12 @@ ghost use Rattle.cargo_toml_manifest.specs.Manifests.{ManifestMeaning, manifest_
 ghost use Rattle.cargo_toml_parts.specs.declared.error.Error.{Error};
 ghost use Rattle.cargo_toml_write.specs.FloatlessTypes.{manifest_floatless};
 ghost use Rattle.cargo_toml_write.specs.NoFloats.{ManifestHoldsNoFloat};
-ghost use Rattle.cargo_toml_write.specs.WrittenManifests.{manifest_way};
-ghost use Rattle.cargo_toml_write.specs.Writes.{HasTree, IsWriting};
+ghost use Rattle.cargo_toml_write.specs.WrittenFeatures.{AreTold, features_in};
+ghost use Rattle.cargo_toml_write.specs.WrittenManifests.{all_features, manifest_way};
+ghost use Rattle.cargo_toml_write.specs.Writes.{HasTree, IsReadAgain, IsWriting};
 
 use crate::write::ToValue;
+use crate::write::feature::Features;
 use crate::write::writing::Writing;
 use cargo_toml_manifest::Manifest;
 use cargo_toml_parts::{Error, FromValue};
@@ -27,10 +29,15 @@ impl<Metadata: FromValue + ToValue> ToValue for Manifest<Metadata> {
     fn to_value(&self, alloc: Global) -> Result<Value, Error>
         ensures written { IsWriting (manifest_way Metadata.way)
             (manifest_meaning Metadata.ToValue.meaning self.now) result }
+        ensures features_again { AreTold
+            (all_features (manifest_meaning Metadata.ToValue.meaning self.now))
+            → IsReadAgain features_in
+            (all_features (manifest_meaning Metadata.ToValue.meaning self.now)) result }
         ensures memory { ManifestHoldsNoFloat (HasTree Metadata.way)
             (manifest_meaning Metadata.ToValue.meaning self.now)
             → IfErr result (λ e. e ≡ Error.Memory) }
     {
+        let features = Features::of(&self.features, &self.feature_details);
         let mut writing = Writing::new(alloc);
         writing.optional("package", &self.package);
         writing.optional("workspace", &self.workspace);
@@ -38,7 +45,7 @@ impl<Metadata: FromValue + ToValue> ToValue for Manifest<Metadata> {
         writing.given("dev-dependencies", &self.dev_dependencies);
         writing.given("build-dependencies", &self.build_dependencies);
         writing.given("target", &self.target);
-        writing.given("features", &self.features);
+        writing.given("features", &features);
         writing.given("replace", &self.replace);
         writing.given("patch", &self.patch);
         writing.optional("lib", &self.lib);

@@ -1,4 +1,4 @@
-use Rattle.std.proofs.Common.{Bool, refl}
+use Rattle.std.proofs.Common.{Bool, inl, refl}
 use Rattle.cargo_toml_graph.specs.Action.{Text}
 use Rattle.cargo_toml_hidden.specs.Filter.{Tells}
 use Rattle.cargo_toml_manifest.specs.Manifests.{manifest_meaning}
@@ -44,7 +44,7 @@ returns g c =
         again = c.in-Ok.ensures.again;
         memory = c.parse.ensures.refused;
         outcome = outcome_with _ (λ m. meaning m.now) _ _ _ c.parse.result refl c.in-Ok.ensures.outcome c.parse.ensures.refused;
-        wrapped = wrapped_with _ c.parse.result c.parse.ensures.refused;
+        wrapped = wrapped_with _ _ c.parse.result (λ e memory. inl memory) c.parse.ensures.refused;
         resolved = resolved_with (λ m a. (keep : Text → Bool) →
             Tells g.F.Fn (filter_of c.args.resolver.now) keep →
             IsParsed (limit_of c.args.resolver.now) (meaning m.now) keep (answer_of a))

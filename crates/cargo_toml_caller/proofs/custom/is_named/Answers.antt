@@ -33,10 +33,10 @@ returns-in_default-clause-answer g c = λ listed is.
     let entries = map entry_of c.args.dependencies.now in
     let t : Table = table_of (admitted MAX_ITEMS listed) entries in
     let tells = keeps_none _ c.new.result.should_keep_hidden_feature c.new.ensures.unfiltered in
-    let answer : IsAnswerFor MAX_ITEMS listed entries (λ _. []) (λ _. false)
+    let answer : IsAnswerFor MAX_ITEMS listed entries [] (λ _. []) (λ _. false)
     (answer_of c.in_ok-resolved.resolved) =
     answered_at (λ _. false) (answer_of c.in_ok-resolved.resolved) c.new.ensures.limit
-    listed entries (λ _. []) (c.in_ok-resolved.ensures.resolved (λ _. false) listed tells is) in
+    listed entries [] (λ _. []) (c.in_ok-resolved.ensures.resolved (λ _. false) listed tells is) in
     no_feature t (λ r. IsTrue (is_removed t (λ _. false) r)) c.in_ok-resolved.resolved.features
     answer.kept.resolved c.args.name.now c.args.other.now
     (sym c.get.ensures.value ∙ ap option_copied c.in_default.is)
@@ -46,10 +46,10 @@ returns-clause-answer g c = λ listed is.
     let entries = map entry_of c.args.dependencies.now in
     let t : Table = table_of (admitted MAX_ITEMS listed) entries in
     let tells = keeps_none _ c.new.result.should_keep_hidden_feature c.new.ensures.unfiltered in
-    let answer : IsAnswerFor MAX_ITEMS listed entries (λ _. []) (λ _. false)
+    let answer : IsAnswerFor MAX_ITEMS listed entries [] (λ _. []) (λ _. false)
     (answer_of c.in_ok-resolved.resolved) =
     answered_at (λ _. false) (answer_of c.in_ok-resolved.resolved) c.new.ensures.limit
-    listed entries (λ _. []) (c.in_ok-resolved.ensures.resolved (λ _. false) listed tells is) in
+    listed entries [] (λ _. []) (c.in_ok-resolved.ensures.resolved (λ _. false) listed tells is) in
     let told = names_it t (λ r. IsTrue (is_removed t (λ _. false) r))
     c.in_ok-resolved.resolved.features answer.kept.resolved c.args.name.now c.args.other.now
     c.in-Some.feature.now (sym c.get.ensures.value ∙ ap option_copied c.in-Some.is) in

@@ -16,6 +16,7 @@ returns-clause-agree g c = λ is same.
     let limit = limit_of c.new-resolver.result in
     let tells = keeps_none _ c.new-resolver.result.should_keep_hidden_feature made.unfiltered in
     let entries = same ∙ ap (λ n. parsed_entries n m) (sym made.limit) in
-    c.in_ok-custom.ensures.agreement (λ _. false) m.features tells is own a
-    (subst (λ es. IsAnswerFor limit m.features es own (λ _. false) a) (sym entries)
+    c.in_ok-custom.ensures.agreement (λ _. false) m.features tells is
+    m.feature_details own a
+    (subst (λ es. IsAnswerFor limit m.features es m.feature_details own (λ _. false) a) (sym entries)
     (c.in_ok-parsed.ensures.resolved (λ _. false) tells))

@@ -1,11 +1,13 @@
 use Rattle.std.proofs.Common.{ap, sym, ◌∙◌, Ok}
 use Rattle.std.specs.Prelude.{option_map}
-use Rattle.std.proofs.lemmas.Result.{IfOk-weaker}
+use Rattle.std.proofs.lemmas.Result.{IfErr-weaker, IfOk-weaker}
 use Rattle.cargo_toml_manifest.specs.Choosing.{RootsTold}
 use Rattle.cargo_toml_manifest.specs.Installing.{completed}
 use Rattle.cargo_toml_manifest.specs.Manifests.{manifest_meaning}
+use Rattle.cargo_toml_manifest.specs.Refusing.{MayLose}
 use Rattle.cargo_toml_manifest.specs.Told.{heard}
 use Rattle.cargo_toml_manifest.specs.Workspaces.{workspace_meaning}
+use Rattle.cargo_toml_manifest.proofs.Causes.{refused_alone, refused_by_hint, refused_by_table}
 use Rattle.cargo_toml_manifest.proofs.Meeting.{given_alone, given_by_hint, given_by_table, met_alone}
 use Rattle.cargo_toml_manifest.proofs.Unchanged.{installed-none}
 use Rattle.cargo_toml_manifest.proofs.complete.own_completion.Goals as goal
@@ -67,3 +69,46 @@ returns-else-needs_workspace_inheritance-clause-given g c =
     IfOk-weaker c.completion.result _ _
     (λ new e. given_alone m (completed m new) roots (g.Fs.AbstractFilesystem.names_at c.args.fs.now) table needed e)
     (c.completion.ensures.given (Ok m) (ap (λ n. Ok n) (sym same)))
+
+pub returns-in-Some-clause-wrapped : goal.returns-in-Some-clause-wrapped
+returns-in-Some-clause-wrapped g c =
+    let m = manifest_meaning (λ m. m) c.args.manifest.now in
+    let told : RootsTold = λ hint. heard g.Fs.Roots.Roots.ARE_READ (g.Fs.AbstractFilesystem.root_for c.args.fs.now hint) in
+    let roots = MayLose g.Fs.Roots.Roots.ARE_READ (g.Fs.AbstractFilesystem.may_refuse_root c.args.fs.now) in
+    let names = g.Fs.AbstractFilesystem.may_refuse c.args.fs.now in
+    let table = ap (option_map (workspace_meaning (λ x. x))) c.in-Some.is in
+    IfErr-weaker c.completion_at.result _ _
+    (λ e w. refused_by_table m roots names e told (workspace_meaning (λ x. x) c.in-Some.workspace) table w)
+    c.completion_at.ensures.wrapped
+
+pub returns-then-needs_workspace_inheritance-clause-wrapped : goal.returns-then-needs_workspace_inheritance-clause-wrapped
+returns-then-needs_workspace_inheritance-clause-wrapped g c =
+    let m = manifest_meaning (λ m. m) c.args.manifest.now in
+    let told : RootsTold = λ hint. heard g.Fs.Roots.Roots.ARE_READ (g.Fs.AbstractFilesystem.root_for c.args.fs.now hint) in
+    let roots = MayLose g.Fs.Roots.Roots.ARE_READ (g.Fs.AbstractFilesystem.may_refuse_root c.args.fs.now) in
+    let names = g.Fs.AbstractFilesystem.may_refuse c.args.fs.now in
+    let table = ap (option_map (workspace_meaning (λ x. x))) c.in-None.is in
+    let needed = sym c.needs_workspace_inheritance.ensures ∙ c.if-needs_workspace_inheritance.true in
+    IfErr-weaker c.completion_by_hint.result _ _
+    (λ e w. refused_by_hint m roots names e told table needed w)
+    c.completion_by_hint.ensures.wrapped
+
+pub returns-else-needs_workspace_inheritance-clause-wrapped : goal.returns-else-needs_workspace_inheritance-clause-wrapped
+returns-else-needs_workspace_inheritance-clause-wrapped g c =
+    let m = manifest_meaning (λ m. m) c.args.manifest.now in
+    let told : RootsTold = λ hint. heard g.Fs.Roots.Roots.ARE_READ (g.Fs.AbstractFilesystem.root_for c.args.fs.now hint) in
+    let roots = MayLose g.Fs.Roots.Roots.ARE_READ (g.Fs.AbstractFilesystem.may_refuse_root c.args.fs.now) in
+    let names = g.Fs.AbstractFilesystem.may_refuse c.args.fs.now in
+    let table = ap (option_map (workspace_meaning (λ x. x))) c.in-None.is in
+    let needed = sym c.needs_workspace_inheritance.ensures ∙ c.if-needs_workspace_inheritance.false in
+    let none = c.no_parts.ensures in
+    let same = installed-none m c.no_parts.result (record {
+      dependencies = none.tables.0;
+      build_dependencies = none.tables.1.0;
+      dev_dependencies = none.tables.1.1;
+      targets = none.targets;
+      lints = none.lints;
+      fields = none.fields;
+    }) in
+    IfErr-weaker c.completion.result _ _ (λ e w. refused_alone m roots names e told table needed w)
+    (c.completion.ensures.wrapped (Ok m) (ap (λ n. Ok n) (sym same)))

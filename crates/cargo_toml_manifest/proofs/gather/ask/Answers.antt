@@ -11,4 +11,4 @@ returns-clause-grows g c =
     let new = answers_of c.keep.new.self in
     let none = is_some-seen c.names_at.result ∙ sym c.is_some.ensures ∙ c.if-is_some.false in
     let missing = ap is_some (sym c.names_at.ensures) ∙ none in
-    grows-one told old new c.args.path.now (texts_in c.in_ok-names.names) missing c.in_ok-keep.ensures.ok c.in_ok-names.ensures
+    grows-one told old new c.args.path.now (texts_in c.in_ok-names.names) missing c.in_ok-keep.ensures.ok c.in_ok-names.ensures.listed

@@ -17,7 +17,7 @@ first g c =
     let told = g.Fs.AbstractFilesystem.names_at c.args.fs.now in
     let root = texts_in c.in_ok-root.root in
     let before = answers_of c.new-listings.result in
-    let start = started told before (answers_of c.keep.new.self) root c.new-listings.ensures c.in_ok-keep.ensures.ok c.in_ok-root.ensures in
+    let start = started told before (answers_of c.keep.new.self) root c.new-listings.ensures c.in_ok-keep.ensures.ok c.in_ok-root.ensures.listed in
     (c.in_ok-ask.ensures.grows.1 start.0, c.in_ok-ask.ensures.grows.0 [] root start.1)
 
 pub returns-in_err-root-clause-faults : goal.returns-in_err-root-clause-faults
@@ -26,7 +26,7 @@ returns-in_err-root-clause-faults g c =
     let wanted = c.args.wanted in
     let p = err_from_is_err_and c.from_residual.result c.from_residual.ensures.1 in
     let told_by = tells-by (root_names (told [])) (around told wanted) c.in_err-root.field-0.0 (by-root told wanted) in
-    rw (p.1, p.2) (told_by c.in_err-root.ensures)
+    rw (p.1, p.2) (told_by c.in_err-root.ensures.listed)
 
 pub returns-in_err-ask-clause-faults : goal.returns-in_err-ask-clause-faults
 returns-in_err-ask-clause-faults g c =
@@ -102,5 +102,5 @@ returns-clause-asked g c =
     let examples = has_products-grows told a2 a4 wanted.examples (codes "examples") from2 c.in_ok-ask_products-2.ensures.has in
     let tests = has_products-grows told a3 a4 wanted.tests (codes "tests") from3 c.in_ok-ask_products-3.ensures.has in
     let benches = c.in_ok-ask_products-4.ensures.has in
-    let root_is = has_root told a4 root (from0.0 [] root start.1) c.in_ok-root.ensures in
+    let root_is = has_root told a4 root (from0.0 [] root start.1) c.in_ok-root.ensures.listed in
     all-told told a4 wanted (from0.1 start.0) root_is (src, (bins, (examples, (tests, benches))))

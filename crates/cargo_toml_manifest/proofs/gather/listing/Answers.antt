@@ -8,17 +8,17 @@ use Rattle.cargo_toml_manifest.proofs.Faults.{no_absence, no_input}
 use Rattle.cargo_toml_manifest.proofs.gather.listing.Goals.{in_default-via-in-Io+else-eq, in_default-via-in_default}
 use Rattle.cargo_toml_manifest.proofs.gather.listing.Goals as goal
 
-pub returns-in_ok-sorted_names-in-Ok : goal.returns-in_ok-sorted_names-in-Ok
-returns-in_ok-sorted_names-in-Ok g c =
+pub returns-in_ok-sorted_names-in-Ok-clause-listed : goal.returns-in_ok-sorted_names-in-Ok-clause-listed
+returns-in_ok-sorted_names-in-Ok-clause-listed g c =
     let told = g.Fs.AbstractFilesystem.names_at c.args.fs.now c.args.path.now in
     let sorted = c.in_ok-sorted_names-in-Ok.ensures in
-    heard told c.in-Ok.names c.in_ok-sorted_names-in-Ok.field-0 c.in-Ok.ensures (sorted.ordered, sorted.names)
+    heard told c.in-Ok.names c.in_ok-sorted_names-in-Ok.field-0 c.in-Ok.ensures.answers (sorted.ordered, sorted.names)
 
-pub returns-in_default : goal.returns-in_default
-returns-in_default g c =
+pub returns-in_default-clause-listed : goal.returns-in_default-clause-listed
+returns-in_default-clause-listed g c =
     let told = g.Fs.AbstractFilesystem.names_at c.args.fs.now c.args.path.now in
     let fault = c.in-Err.fault in
-    fault_tells _ told fault c.in-Err.ensures
+    fault_tells _ told fault c.in-Err.ensures.answers
     (elim c.in_default.branch [
       | in_default-via-in-Io+else-eq w ↦
           let kind = ap (λ (k : ErrorKind). sameb the_type k NotFound) w.kind.ensures in

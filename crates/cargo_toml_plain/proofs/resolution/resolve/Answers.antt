@@ -1,9 +1,10 @@
 use Rattle.std.proofs.Common.{refl, ◌≡◌, ◌==◌, ◌↔◌, map, not, option_map, IsTrue, sym, ap, subst, ◌∙◌}
 use Rattle.cargo_toml_graph.specs.Action.{Text}
-use Rattle.cargo_toml_graph.specs.Admitted.{is_below, is_explicit}
+use Rattle.cargo_toml_graph.specs.Admitted.{is_below}
 use Rattle.cargo_toml_graph.specs.Removal.{IsAscending, is_removed}
 use Rattle.cargo_toml_graph.specs.Reach.{Among, IsOnce}
 use Rattle.cargo_toml_resolve.specs.OwnBins.{own_of, requirement_of}
+use Rattle.cargo_toml_features.specs.Marks.{details_of, marks_in, marks_of}
 use Rattle.cargo_toml_features.specs.Recorded.{entries_at, recorded_of}
 use Rattle.cargo_toml_features.specs.Resolved.{SameRecorded, table_of}
 use Rattle.cargo_toml_features.specs.Views.{entry_of, listed_of, recorded_in, table_in}
@@ -33,13 +34,13 @@ returns-clause-resolved g c = λ keep tells.
     let names = c.in_ok-names.ensures in
     let gone = c.in_ok-remove_all.ensures in
     let same = c.as_slice.ensures.value in
-    answers {S = g.row.S.Denot} {H = g.row.S-Hasher.Denot} listed entries own keep old
+    answers {S = g.row.S.Denot} {H = g.row.S-Hasher.Denot} listed entries (details_of c.args.listings.now) own keep old
     (record { features = c.remove_all.new.features; dependencies = c.in_ok-dependencies.dependencies; removed_hidden_features = not c.is_empty.result; hidden_features = c.remove_all.new.hidden })
     (texts_of c.as_slice.result.now) (unremoved_by_name vs old by_name (table_of listed entries) (all.unremoved refl)) c.in_ok-by_name.ensures.keyed
-    (held_by_name vs old by_name (λ f v. v.explicit ≡ is_explicit listed f) all.explicit)
+    (held_by_name vs old by_name (λ f v. marks_of v ≡ marks_in listed (details_of c.args.listings.now) f) all.marks)
     (held_by_name vs old by_name (λ f v. map (λ b. b.now) v.required_by_bins.items ≡ own f) all.bins)
     (λ k. subst (λ o. SameRecorded (option_map recorded_in o) (recorded_of (entries_at listed entries k))) (sym (c.in_ok-dependencies.ensures.same k)) (all.dependencies k))
     (subst (λ xs. (f : Text) → Among (texts_of xs) f ↔ IsTrue (is_removed (table_in old) keep f)) (sym same) (names.removed keep tells))
     (subst (λ xs. IsAscending (λ a b. IsTrue (is_below a b)) (texts_of xs)) (sym same) names.ascending)
-    gone.left gone.keys gone.explicit gone.bins gone.redirected gone.redirects
+    gone.left gone.keys gone.marks gone.bins gone.redirected gone.redirects
     (some_is c.is_empty.result c.as_slice.result.now (c.is_empty.ensures ∙ ap (λ n. n == 0) (sym c.as_slice.ensures.len)))

@@ -16,7 +16,7 @@ returns-in_ok-push-clause-required c =
     let w : Feature = record c.in-Some.feature { required_by_bins = c.push.new.self } in
     required_at key c.args.bin.now s _ c.in-Some.feature w (value_there s c.args.place c.requires.place c.index_mut.result.now c.index_mut.ensures.value ∙ c.in-Some.is)
     (λ q. value_put s c.args.place c.requires.place (Some w) q ∙ ap (λ t. cond t (Some w) (held_in s q)) (bytes_eq_sym q key))
-    (record { key = refl; names = refl; actions = refl; enabled_by = refl; explicit = refl; bins = ap (map (λ (b : Bor Text). b.now)) c.in_ok-push.ensures.items ∙ map-append (λ (b : Bor Text). b.now) _ _ })
+    (record { key = refl; names = refl; actions = refl; enabled_by = refl; marks = refl; bins = ap (map (λ (b : Bor Text). b.now)) c.in_ok-push.ensures.items ∙ map-append (λ (b : Bor Text). b.now) _ _ })
 
 pub returns-in_default-clause-required : goal.returns-in_default-clause-required
 returns-in_default-clause-required c =

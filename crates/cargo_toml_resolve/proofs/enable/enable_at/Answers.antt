@@ -15,7 +15,7 @@ returns-in_ok-insert-clause-enabled c =
     let w : Feature = record c.in-Some.feature { enabled_by = c.insert.new.self } in
     enabled_at key c.args.source.now s _ c.in-Some.feature w (value_there s c.args.place c.requires.place c.index_mut.result.now c.index_mut.ensures.value ∙ c.in-Some.is)
     (λ q. value_put s c.args.place c.requires.place (Some w) q ∙ ap (λ t. cond t (Some w) (held_in s q)) (bytes_eq_sym q key))
-    (record { key = refl; names = refl; actions = refl; bins = refl; explicit = refl; enabled_by = λ e. inserted c.args.source.now c.in-Some.feature.enabled_by c.insert.new.self c.in_ok-insert.ensures.updates e })
+    (record { key = refl; names = refl; actions = refl; bins = refl; marks = refl; enabled_by = λ e. inserted c.args.source.now c.in-Some.feature.enabled_by c.insert.new.self c.in_ok-insert.ensures.updates e })
 
 pub returns-in_default-clause-enabled : goal.returns-in_default-clause-enabled
 returns-in_default-clause-enabled c =

@@ -10,5 +10,5 @@ returns c = record {
   action = plain_made c.args.key.now c.new-enables_deps.result c.insert.new.self c.new.result c.new-enables_deps.ensures.empty c.new.ensures.empty c.in_ok-insert.ensures.updates;
   enabled_by = c.new-3.ensures.empty;
   bins = c.new-4.ensures.items;
-  explicit = refl;
+  marks = refl;
 }

@@ -6,12 +6,12 @@ use Rattle.cargo_toml_resolve.proofs.Gathering.{acting, naming, gathered_on, gat
 use Rattle.cargo_toml_resolve.proofs.read.add_item.Goals as goal
 
 pub returns-in_ok-note_action-clause-gathered : goal.returns-in_ok-note_action-clause-gathered
-returns-in_ok-note_action-clause-gathered c = λ f items h.
+returns-in_ok-note_action-clause-gathered c = λ f d items h.
     let t = c.read_action-action.result in
-    gathered_on f items _ c.args.feature.now h (item_of c.args.text.now) t.target.now (action_in t) (sym c.read_action-action.ensures ∙ acting t (sym c.if-acts.true ∙ c.acts.ensures)) c.join_action.new.deps c.in_ok-join_action.ensures
+    gathered_on f d items _ c.args.feature.now h (item_of c.args.text.now) t.target.now (action_in t) (sym c.read_action-action.ensures ∙ acting t (sym c.if-acts.true ∙ c.acts.ensures)) c.join_action.new.deps c.in_ok-join_action.ensures
 
 pub returns-in_ok-push-clause-gathered : goal.returns-in_ok-push-clause-gathered
-returns-in_ok-push-clause-gathered c = λ f items h.
+returns-in_ok-push-clause-gathered c = λ f d items h.
     let t = c.read_action-action.result in
-    gathered_name f items _ c.args.feature.now h (item_of c.args.text.now) t.target.now (sym c.read_action-action.ensures ∙ naming t (sym c.if-acts.false ∙ c.acts.ensures)) _
+    gathered_name f d items _ c.args.feature.now h (item_of c.args.text.now) t.target.now (sym c.read_action-action.ensures ∙ naming t (sym c.if-acts.false ∙ c.acts.ensures)) _
     (ap (map (λ (k : Bor Text). k.now)) c.in_ok-push.ensures.items ∙ map_push (λ (k : Bor Text). k.now) c.args.named.now.items t.target)

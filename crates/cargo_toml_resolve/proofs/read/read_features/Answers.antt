@@ -2,10 +2,11 @@ use Rattle.std.proofs.Common.{◌≡◌, Bor, map, take, sym, subst, ap, ◌∙�
 use Rattle.std.proofs.lemmas.List.{take_all}
 use Rattle.cargo_toml_graph.specs.Reach.{Among, IsOnce}
 use Rattle.cargo_toml_graph.specs.Action.{Text}
+use Rattle.cargo_toml_features.specs.Marks.{details_of}
 use Rattle.cargo_toml_features.specs.Views.{listed_of}
 use Rattle.cargo_toml_features.specs.InOrder.{sorted_at}
 use Rattle.cargo_toml_features.proofs.Listings.{names_listed}
-use Rattle.cargo_toml_resolve.proofs.ReadAll.{HasRead, noted_in, read_more, noted_next, all_read, explicit_there}
+use Rattle.cargo_toml_resolve.proofs.ReadAll.{HasRead, noted_in, read_more, noted_next, all_fresh, all_read, explicit_there}
 use Rattle.cargo_toml_resolve.proofs.HeldValues.{same_then}
 use Rattle.cargo_toml_resolve.proofs.read.read_features.Goals as goal
 
@@ -32,8 +33,16 @@ pub returns-clause-read : goal.returns-clause-read
 returns-clause-read c =
     let ls = c.args.listings.now in
     let all : take c.loop-listing.listing-index ls ≡ ls = take_all _ ls (omega arith) in
-    all_read (listed_of ls) c.loop-listing.features c.add_default.new.features
-    (subst (λ xs. HasRead (listed_of xs) c.loop-listing.features) all c.loop-listing.invariant.features)
+    all_read (listed_of ls) (details_of ls) c.loop-listing.features c.add_default.new.features
+    (subst (λ xs. HasRead (listed_of xs) (details_of ls) c.loop-listing.features) all c.loop-listing.invariant.features)
     c.add_default.ensures.others c.add_default.ensures.default (sorted_at c.loop-listing.acted)
     (λ k. c.loop-listing.invariant.acted k ∙ ap (λ xs. noted_in (listed_of xs) k) all)
     (subst IsOnce (sym (names_listed ls)) c.requires.once)
+
+pub returns-clause-fresh : goal.returns-clause-fresh
+returns-clause-fresh c =
+    let ls = c.args.listings.now in
+    let all : take c.loop-listing.listing-index ls ≡ ls = take_all _ ls (omega arith) in
+    all_fresh (listed_of ls) (details_of ls) c.loop-listing.features c.add_default.new.features
+    (subst (λ xs. HasRead (listed_of xs) (details_of ls) c.loop-listing.features) all c.loop-listing.invariant.features)
+    c.add_default.ensures.others c.add_default.ensures.default

@@ -3,6 +3,7 @@ use Rattle.std.proofs.lemmas.List.{take_all}
 use Rattle.std.specs.List.{list_any}
 use Rattle.cargo_toml_graph.specs.Action.{Text, item_of}
 use Rattle.cargo_toml_resolve.specs.ReadFeature.{joined_in, noted, IsGathered, IsListed}
+use Rattle.cargo_toml_features.specs.Marks.{detail_in}
 use Rattle.cargo_toml_features.specs.InOrder.{sorted_at}
 use Rattle.cargo_toml_resolve.proofs.Gathering.{has_gathered}
 use Rattle.cargo_toml_resolve.proofs.ReadOne.{items_more, noted_more}
@@ -15,7 +16,7 @@ loop-text-preserved c =
     let items = map item_of (map string_bytes (take i texts)) in
     let more = items_more texts i c.text-item.result c.as_str.result.now c.loop-text-test.true c.text-item.is c.as_str.ensures.value in
     record {
-      gathered = subst (λ is. IsGathered c.args.listing.name.now is (map (λ t. t.now) c.add_item.new.named.items) c.add_item.new.feature) (sym more) (c.in_ok-add_item.ensures.gathered c.args.listing.name.now items c.loop-text.invariant.gathered);
+      gathered = subst (λ is. IsGathered c.args.listing.name.now (detail_in c.args.listing.detail) is (map (λ t. t.now) c.add_item.new.named.items) c.add_item.new.feature) (sym more) (c.in_ok-add_item.ensures.gathered c.args.listing.name.now (detail_in c.args.listing.detail) items c.loop-text.invariant.gathered);
       acted = λ k.
           noted_more (sorted_at c.args.acted.now k) (sorted_at c.loop-text.acted k) (sorted_at c.add_item.new.acted k) items (item_of c.as_str.result.now) k (c.loop-text.invariant.acted k) (c.in_ok-add_item.ensures.noted k)
           ∙ ap (λ is. noted (sorted_at c.args.acted.now k) (joined_in is k)) (sym more);
@@ -26,6 +27,6 @@ returns-clause-listed c =
     let texts = c.args.listing.actions.now in
     let all : take c.loop-text.text-index texts ≡ texts = take_all _ texts (omega arith) in
     let set = c.in_ok-feature.field-0 in
-    subst (λ ts. IsListed c.args.listing.name.now (map item_of (map string_bytes ts)) (record c.loop-text.feature { enables_features = set })) all
-    (has_gathered c.args.listing.name.now (map item_of (map string_bytes (take c.loop-text.text-index texts))) (map (λ t. t.now) c.loop-text.named.items) c.loop-text.feature set c.loop-text.invariant.gathered
+    subst (λ ts. IsListed c.args.listing.name.now (detail_in c.args.listing.detail) (map item_of (map string_bytes ts)) (record c.loop-text.feature { enables_features = set })) all
+    (has_gathered c.args.listing.name.now (detail_in c.args.listing.detail) (map item_of (map string_bytes (take c.loop-text.text-index texts))) (map (λ t. t.now) c.loop-text.named.items) c.loop-text.feature set c.loop-text.invariant.gathered
     (λ x. c.in_ok-feature.ensures x ∙ ap (λ ks. list_any (bytes_eq x) (map (λ (k : Bor Text). k.now) ks)) c.as_slice.ensures.value))

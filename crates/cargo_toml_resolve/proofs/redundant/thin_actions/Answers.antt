@@ -24,7 +24,7 @@ returns c = λ entries recorded. record {
       (looked_up Changes (is_at (λ q. slice_cmp nat_cmp k q.now)) _ _ (λ q v b w f' t. search rules) before.entries after.entries c.retain.ensures.filtered);
   enabled_by = refl;
   bins = refl;
-  explicit = refl;
+  marks = refl;
 }
   where
     Changes : Bor Text → DepAction → DepAction → Type 0

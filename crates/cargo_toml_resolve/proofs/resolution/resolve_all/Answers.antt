@@ -1,12 +1,12 @@
 use Rattle.std.proofs.Common.{◌≡◌, ◌&&◌, not, bytes_eq, map}
-use Rattle.cargo_toml_graph.specs.Admitted.{is_explicit}
 use Rattle.cargo_toml_resolve.specs.Enabling.{leads_at}
 use Rattle.cargo_toml_resolve.specs.Implying.{is_offered}
 use Rattle.cargo_toml_resolve.specs.OwnBins.{own_of, requirement_of}
+use Rattle.cargo_toml_features.specs.Marks.{details_of, marks_in, marks_of}
 use Rattle.cargo_toml_features.specs.Views.{listed_of, entry_of}
 use Rattle.cargo_toml_features.specs.Recorded.{entries_at}
 use Rattle.cargo_toml_features.specs.Resolved.{table_of}
-use Rattle.cargo_toml_resolve.proofs.Answering.{whole, explicit_told, bins_told, dependencies_told, fresh_still, keyed_from, keyed_required, same_last, table_among, told_among, unremoved_among}
+use Rattle.cargo_toml_resolve.proofs.Answering.{whole, marks_told, bins_told, dependencies_told, fresh_still, keyed_from, keyed_required, same_last, table_among, told_among, unremoved_among}
 use Rattle.cargo_toml_resolve.proofs.HeldTargets.{have_targets}
 use Rattle.cargo_toml_resolve.proofs.resolution.resolve_all.Goals as goal
 
@@ -15,6 +15,7 @@ into_features-requires c = record {
   keyed =
       let listed = listed_of c.args.listings.now in
       let entries = map entry_of c.args.entries.now in
+      let details = details_of c.args.listings.now in
       let own = own_of (map requirement_of c.args.requirements.now) in
       let mentions = c.in_ok-mentions.mentions in
       let thinned = c.drop_redundant.new.features in
@@ -23,8 +24,8 @@ into_features-requires c = record {
       let last = c.require_all.new.features in
       let deps = c.in_ok-dependencies.dependencies in
       keyed_required own enabled last c.in_ok-require_all.ensures.required
-      (keyed_from (is_offered mentions.acted entries) (λ q e. c.args.wants_enablers && (leads_at implied e q && not (bytes_eq q e))) thinned implied enabled
-      (fresh_still c.args.wants_enablers listed entries own mentions thinned implied enabled last deps c.in_ok-mentions.ensures.read c.in_ok-mentions.ensures.fresh c.drop_redundant.ensures.thinned c.in_ok-imply_all.ensures.implied c.in_ok-set_wanted_enablers.ensures.enabled c.in_ok-require_all.ensures.required (c.in_ok-dependencies.ensures.recorded listed))
+      (keyed_from listed details (is_offered mentions.acted entries) (λ q e. c.args.wants_enablers && (leads_at implied e q && not (bytes_eq q e))) thinned implied enabled
+      (fresh_still c.args.wants_enablers listed entries details own mentions thinned implied enabled last deps c.in_ok-mentions.ensures.read c.in_ok-mentions.ensures.fresh c.drop_redundant.ensures.thinned c.in_ok-imply_all.ensures.implied c.in_ok-set_wanted_enablers.ensures.enabled c.in_ok-require_all.ensures.required (c.in_ok-dependencies.ensures.recorded listed))
       c.in_ok-imply_all.ensures.implied c.in_ok-set_wanted_enablers.ensures.enabled);
 }
 
@@ -32,6 +33,7 @@ pub returns-clause-table : goal.returns-clause-table
 returns-clause-table c =
     let listed = listed_of c.args.listings.now in
     let entries = map entry_of c.args.entries.now in
+    let details = details_of c.args.listings.now in
     let own = own_of (map requirement_of c.args.requirements.now) in
     let mentions = c.in_ok-mentions.mentions in
     let thinned = c.drop_redundant.new.features in
@@ -40,12 +42,13 @@ returns-clause-table c =
     let last = c.require_all.new.features in
     let deps = c.in_ok-dependencies.dependencies in
     table_among last c.in_ok-features.features.items c.in_ok-features.ensures.same (table_of listed entries)
-    (same_last c.args.wants_enablers listed entries own mentions thinned implied enabled last deps c.in_ok-mentions.ensures.read c.in_ok-mentions.ensures.fresh c.drop_redundant.ensures.thinned c.in_ok-imply_all.ensures.implied c.in_ok-set_wanted_enablers.ensures.enabled c.in_ok-require_all.ensures.required (c.in_ok-dependencies.ensures.recorded listed))
+    (same_last c.args.wants_enablers listed entries details own mentions thinned implied enabled last deps c.in_ok-mentions.ensures.read c.in_ok-mentions.ensures.fresh c.drop_redundant.ensures.thinned c.in_ok-imply_all.ensures.implied c.in_ok-set_wanted_enablers.ensures.enabled c.in_ok-require_all.ensures.required (c.in_ok-dependencies.ensures.recorded listed))
 
 pub returns-clause-unremoved : goal.returns-clause-unremoved
 returns-clause-unremoved c = λ wants.
     let listed = listed_of c.args.listings.now in
     let entries = map entry_of c.args.entries.now in
+    let details = details_of c.args.listings.now in
     let own = own_of (map requirement_of c.args.requirements.now) in
     let mentions = c.in_ok-mentions.mentions in
     let thinned = c.drop_redundant.new.features in
@@ -54,12 +57,13 @@ returns-clause-unremoved c = λ wants.
     let last = c.require_all.new.features in
     let deps = c.in_ok-dependencies.dependencies in
     unremoved_among last c.in_ok-features.features.items c.in_ok-features.ensures.same (table_of listed entries)
-    (whole c.args.wants_enablers listed entries own mentions thinned implied enabled last deps c.in_ok-mentions.ensures.read c.in_ok-mentions.ensures.fresh c.drop_redundant.ensures.thinned c.in_ok-imply_all.ensures.implied c.in_ok-set_wanted_enablers.ensures.enabled c.in_ok-require_all.ensures.required (c.in_ok-dependencies.ensures.recorded listed) wants)
+    (whole c.args.wants_enablers listed entries details own mentions thinned implied enabled last deps c.in_ok-mentions.ensures.read c.in_ok-mentions.ensures.fresh c.drop_redundant.ensures.thinned c.in_ok-imply_all.ensures.implied c.in_ok-set_wanted_enablers.ensures.enabled c.in_ok-require_all.ensures.required (c.in_ok-dependencies.ensures.recorded listed) wants)
 
-pub returns-clause-explicit : goal.returns-clause-explicit
-returns-clause-explicit c = λ f.
+pub returns-clause-marks : goal.returns-clause-marks
+returns-clause-marks c = λ f.
     let listed = listed_of c.args.listings.now in
     let entries = map entry_of c.args.entries.now in
+    let details = details_of c.args.listings.now in
     let own = own_of (map requirement_of c.args.requirements.now) in
     let mentions = c.in_ok-mentions.mentions in
     let thinned = c.drop_redundant.new.features in
@@ -67,13 +71,14 @@ returns-clause-explicit c = λ f.
     let enabled = c.set_wanted_enablers.new.features in
     let last = c.require_all.new.features in
     let deps = c.in_ok-dependencies.dependencies in
-    told_among last c.in_ok-features.features.items c.in_ok-features.ensures.same (λ v. v.explicit ≡ is_explicit listed f) f
-    (explicit_told c.args.wants_enablers listed entries own mentions thinned implied enabled last deps c.in_ok-mentions.ensures.read c.in_ok-mentions.ensures.fresh c.drop_redundant.ensures.thinned c.in_ok-imply_all.ensures.implied c.in_ok-set_wanted_enablers.ensures.enabled c.in_ok-require_all.ensures.required (c.in_ok-dependencies.ensures.recorded listed) f)
+    told_among last c.in_ok-features.features.items c.in_ok-features.ensures.same (λ v. marks_of v ≡ marks_in listed details f) f
+    (marks_told c.args.wants_enablers listed entries details own mentions thinned implied enabled last deps c.in_ok-mentions.ensures.read c.in_ok-mentions.ensures.fresh c.drop_redundant.ensures.thinned c.in_ok-imply_all.ensures.implied c.in_ok-set_wanted_enablers.ensures.enabled c.in_ok-require_all.ensures.required (c.in_ok-dependencies.ensures.recorded listed) f)
 
 pub returns-clause-bins : goal.returns-clause-bins
 returns-clause-bins c = λ f.
     let listed = listed_of c.args.listings.now in
     let entries = map entry_of c.args.entries.now in
+    let details = details_of c.args.listings.now in
     let own = own_of (map requirement_of c.args.requirements.now) in
     let mentions = c.in_ok-mentions.mentions in
     let thinned = c.drop_redundant.new.features in
@@ -82,12 +87,13 @@ returns-clause-bins c = λ f.
     let last = c.require_all.new.features in
     let deps = c.in_ok-dependencies.dependencies in
     told_among last c.in_ok-features.features.items c.in_ok-features.ensures.same (λ v. map (λ b. b.now) v.required_by_bins.items ≡ own f) f
-    (bins_told c.args.wants_enablers listed entries own mentions thinned implied enabled last deps c.in_ok-mentions.ensures.read c.in_ok-mentions.ensures.fresh c.drop_redundant.ensures.thinned c.in_ok-imply_all.ensures.implied c.in_ok-set_wanted_enablers.ensures.enabled c.in_ok-require_all.ensures.required (c.in_ok-dependencies.ensures.recorded listed) f)
+    (bins_told c.args.wants_enablers listed entries details own mentions thinned implied enabled last deps c.in_ok-mentions.ensures.read c.in_ok-mentions.ensures.fresh c.drop_redundant.ensures.thinned c.in_ok-imply_all.ensures.implied c.in_ok-set_wanted_enablers.ensures.enabled c.in_ok-require_all.ensures.required (c.in_ok-dependencies.ensures.recorded listed) f)
 
 pub returns-clause-dependencies : goal.returns-clause-dependencies
 returns-clause-dependencies c =
     let listed = listed_of c.args.listings.now in
     let entries = map entry_of c.args.entries.now in
+    let details = details_of c.args.listings.now in
     let own = own_of (map requirement_of c.args.requirements.now) in
     let mentions = c.in_ok-mentions.mentions in
     let thinned = c.drop_redundant.new.features in
@@ -95,7 +101,7 @@ returns-clause-dependencies c =
     let enabled = c.set_wanted_enablers.new.features in
     let last = c.require_all.new.features in
     let deps = c.in_ok-dependencies.dependencies in
-    dependencies_told c.args.wants_enablers listed entries own mentions thinned implied enabled last deps c.in_ok-mentions.ensures.read c.in_ok-mentions.ensures.fresh c.drop_redundant.ensures.thinned c.in_ok-imply_all.ensures.implied c.in_ok-set_wanted_enablers.ensures.enabled c.in_ok-require_all.ensures.required (c.in_ok-dependencies.ensures.recorded listed)
+    dependencies_told c.args.wants_enablers listed entries details own mentions thinned implied enabled last deps c.in_ok-mentions.ensures.read c.in_ok-mentions.ensures.fresh c.drop_redundant.ensures.thinned c.in_ok-imply_all.ensures.implied c.in_ok-set_wanted_enablers.ensures.enabled c.in_ok-require_all.ensures.required (c.in_ok-dependencies.ensures.recorded listed)
 
 pub returns-clause-targets : goal.returns-clause-targets
 returns-clause-targets c =

@@ -3,7 +3,7 @@
 -- makes the answer of both. What is left is carried to the end, where the facts of the three calls say it of the answer.
 -- F is the filter, S the state of the maps and I its hasher, X and N the metadata of the manifest and of the one that is handed in, P the folders and Q their
 -- roots. The lifetimes: 0 self, 1 the filter, 2 the manifest, 3 and 4 what is handed in, 5 to 11 these seven types. `tK` is the token of lifetime K.
-use Rattle.std.proofs.Common.{◌≡◌, ℕ, List, [], ◌∷◌, ◌++◌, refl, sym, ap, subst}
+use Rattle.std.proofs.Common.{◌≡◌, ℕ, List, [], ◌∷◌, ◌++◌, inl, refl, sym, ap, subst}
 use Rattle.std.proofs.raw_atomic.Walks.{proved_at, leaves}
 use mir.Syntax.{a_type, dcons, dnil, named}
 use mir.Val.{Val, vptr}
@@ -74,7 +74,8 @@ use Rattle.cargo_toml_hidden.specs.Filter.{HasNameFilter, Tells}
 use Rattle.cargo_toml_manifest.specs.Choosing.{handed_of, RootsTold}
 use Rattle.cargo_toml_manifest.specs.Manifests.{ManifestMeaning, manifest_meaning}
 use Rattle.cargo_toml_manifest.specs.Told.{heard as heard_of}
-use Rattle.cargo_toml_manifest.specs.Completing.{GivenBy, IsLasting, IsWrapped, Meets, complete}
+use Rattle.cargo_toml_manifest.specs.Completing.{GivenBy, IsLasting, Meets, complete}
+use Rattle.cargo_toml_manifest.specs.Refusing.{IsRefusedBy, MayLose}
 use Rattle.cargo_toml_manifest.specs.Inheriting.{needs}
 use Rattle.cargo_toml_package.specs.Filled.{IsFilled}
 use Rattle.cargo_toml.specs.Filtered.{filter_of, limit_of}
@@ -109,6 +110,7 @@ complete_and_parse_spec 𝓤 𝓛 𝓜 𝓡 wired F S I X N P Q LF LS LI LX LN L
     let r = a.0 in let m = a.1.1.0 in let b = m.ref_ptr.0 in let o = m.ref_ptr.1 in let γ = m.ghost_name in let MR = Manifest.the_row (param 3 X) in
     let old = m.now in let meaning : MR.Denot → ManifestMeaning X.Denot = manifest_meaning (λ m. m) in
     let handed = option_map handed_of a.1.1.1.1.0 in let roots : RootsTold = λ hint. heard_of q.ARE_READ (p.root_for a.1.1.1.0 hint) in let told : Text → Told = p.names_at a.1.1.1.0 in
+    let Why : Error.the_row.Denot → Type 0 = IsRefusedBy (meaning old) handed roots (MayLose q.ARE_READ (p.may_refuse_root a.1.1.1.0)) (p.may_refuse a.1.1.1.0) in
     let e0 = shr_Tells (named 0) κ0 (Resolver.the_row (named_lft 12 1 tt κs) (param 0 F) (param 1 S)) r us.0 are.0 in let e2 = mut_Tells (named 2) κ2 MR m us.1.1.0 are.1.1.0 in
     let s1 = single 𝓛 (row_at 1 Rs) Global-laws.the_row_laws a.1.0 us.1.0 are.1.0 in let s3 = single 𝓛 (row_at 3 Rs) (param_laws 5 P LP) a.1.1.1.0 us.1.1.1.0 are.1.1.1.0 in
     let HandedRows : List RattleType = (shr_ref_field (named_lft 12 3 tt κs) (Manifest.the_row (param 4 N)) tt).row ∷ (str-field (named_lft 12 4 tt κs)).row ∷ [] in
@@ -165,10 +167,10 @@ complete_and_parse_spec 𝓤 𝓛 𝓜 𝓡 wired F S I X N P Q LF LS LI LX LN L
     let Done = Result.the_row unit Error.the_row in let LD = result_laws unit Error.the_row (of_field unit-field unit-laws refl (copy_shared unit-field unit-copy)) Error-laws.the_row_laws in
     use1 𝓛 (later (some (λ (d : Done.Denot). ((‵ (flft α s) ⊛ t3 ⊛ t4 ⊛ ‵ (flft κ8 (Share.right q8)) ⊛ t9 ⊛ t10 ⊛ t11 ⊛ ‵ ftrue) ⊛ ‵ (Done.own_val d (v6 ∷ []))) ⊛ some (λ (ws : Lasts E1 z1.0.0 z1.0.3). ‵ (lasts E1 z1.0.0 z1.0.3 ws) ⊛
     raw (fact 𝓤 (Meets (λ (_ : Unit {0}). meaning ws.0) (complete (meaning old) handed roots told) d)) ⊛ raw (fact 𝓤 (OnErr d (ws.0 ≡ old))) ⊛ raw (fact 𝓤 (OnOk d (GivenBy (meaning old) handed roots told (meaning ws.0)))) ⊛
-    raw (fact 𝓤 (OnOk d (needs (meaning ws.0) ≡ false))) ⊛ raw (fact 𝓤 (OnOk d (IfSome ws.0.«package» IsFilled))) ⊛ raw (fact 𝓤 (OnOk d (IsLasting (meaning old) handed (meaning ws.0)))) ⊛ raw (fact 𝓤 (IfErr d IsWrapped)))))) (id⊢ 𝓤 _) $
+    raw (fact 𝓤 (OnOk d (needs (meaning ws.0) ≡ false))) ⊛ raw (fact 𝓤 (OnOk d (IfSome ws.0.«package» IsFilled))) ⊛ raw (fact 𝓤 (OnOk d (IsLasting (meaning old) handed (meaning ws.0)))) ⊛ raw (fact 𝓤 (IfErr d Why)))))) (id⊢ 𝓤 _) $
     await ! tt $ pick ! (λ d. split ! $ split ! $ move ! (2 ∷ []) $ pick ! (λ ws. let new = ws.0 in split ! $ move ! (1 ∷ []) $
     split ! $ heard ! _ (λ outcome. split ! $ heard ! _ (λ unchanged. split ! $ heard ! _ (λ given. split ! $ heard ! _ (λ needs_nothing. split ! $ heard ! _ (λ filled. split ! $ heard ! _ (λ again. heard ! _ (λ wrapped.
-    let done : Completing old new handed roots told d = record { outcome = outcome; unchanged = unchanged; given = given; needs_nothing = needs_nothing; filled = filled; again = again; wrapped = wrapped } in
+    let done : Completing old new handed roots told Why d = record { outcome = outcome; unchanged = unchanged; given = given; needs_nothing = needs_nothing; filled = filled; again = again; wrapped = wrapped } in
     -- [the last values; the tokens; the answer; what the lender keeps; the way back; self; alloc; the tokens of 0, 1, 5, 6 and 7]
     fsplit ! $ fsplit ! $ move ! (1 ∷ 2 ∷ []) $ drop ! $ drop ! $ move ! (1 ∷ []) $
     split ! $ move ! (1 ∷ []) $ split ! $ move ! (1 ∷ []) $ split ! $ move ! (1 ∷ []) $ split ! $ move ! (1 ∷ []) $ split ! $ move ! (1 ∷ []) $ split ! $ move ! (1 ∷ []) $ split ! $ move ! (1 ∷ []) $ drop ! $
@@ -223,7 +225,7 @@ complete_and_parse_spec 𝓤 𝓛 𝓜 𝓡 wired F S I X N P Q LF LS LI LX LN L
     let after : Answering new d l y = record { same = same; refused = refused; memory = memory; lent = lent } in
     move ! (2 ∷ []) $ use1 𝓛 (‵ (IsLentAfter (param 3 X) m handed roots told y)) (rests_so 𝓛 MR γ (λ left. left ≡ l.now) (IsLeftAfter old handed roots told y) (left_after old new handed roots told d l y done after)) $
     use0 𝓛 (raw (fact 𝓤 (Targets y))) (fact_i 𝓤 _ (emp 𝓤) targets) $ use0 𝓛 (raw (fact 𝓤 (Keyed y))) (fact_i 𝓤 _ (emp 𝓤) keyed) $ join ! $ use0 𝓛 (raw (fact 𝓤 (Parsed y))) (fact_i 𝓤 _ (emp 𝓤) parsed) $ join ! $
-    use0 𝓛 (raw (fact 𝓤 (IfErr y IsWrapped))) (fact_i 𝓤 _ (emp 𝓤) (wrapped_after old new handed roots told d l y done after)) $ join ! $
+    use0 𝓛 (raw (fact 𝓤 (IfErr y Why))) (fact_i 𝓤 _ (emp 𝓤) (wrapped_after old new handed roots told d l y (λ e memory. inl memory) done after)) $ join ! $
     use0 𝓛 (raw (fact 𝓤 (IfOk y (λ w. IsLasting (meaning old) handed (meaning w.0.now))))) (fact_i 𝓤 _ (emp 𝓤) (lent_after (λ x. IsLasting (meaning old) handed (meaning x)) new d l y done.again after)) $ join ! $
     use0 𝓛 (raw (fact 𝓤 (IfOk y (λ w. IfSome w.0.now.«package» IsFilled)))) (fact_i 𝓤 _ (emp 𝓤) (lent_after (λ x. IfSome x.«package» IsFilled) new d l y done.filled after)) $ join ! $
     use0 𝓛 (raw (fact 𝓤 (IfOk y (λ w. needs (meaning w.0.now) ≡ false)))) (fact_i 𝓤 _ (emp 𝓤) (lent_after (λ x. needs (meaning x) ≡ false) new d l y done.needs_nothing after)) $ join ! $

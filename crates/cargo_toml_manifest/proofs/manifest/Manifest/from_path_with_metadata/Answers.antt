@@ -40,7 +40,7 @@ returns-clause-refused g c =
     let from : IsReadFromText (manifest_meaning meaning) (manifest_reads tree) c.in_ok-manifest.manifest
     = (c.as_str.result.now, c.as_str.utf8, c.in_ok-manifest.ensures) in
     rw c.and.ensures (
-    refused (manifest_meaning meaning) (manifest_reads tree) (manifest_refuses tree g.Metadata.FromValue.from_refuses)
+    refused c.args.path.now (manifest_meaning meaning) (manifest_reads tree) (manifest_refuses tree g.Metadata.FromValue.from_refuses)
     (λ _. manifest_meaning (λ m. m) c.complete_from_path.new.self) c.in_ok-manifest.manifest
     c.complete_from_path.new.self (path_parent c.args.path.now) c.complete_from_path.result from
     c.complete_from_path.ensures.outcome c.complete_from_path.ensures.bad_path c.complete_from_path.ensures.refused

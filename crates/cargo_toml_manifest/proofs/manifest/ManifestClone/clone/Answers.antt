@@ -20,5 +20,6 @@ returns g c = record {
       (both _ _ _ _ _ _ _ c.of-bench.ensures
       (both _ _ _ _ _ _ _ c.of-test.ensures
       (both _ _ _ _ _ _ _ c.of-example.ensures
-      c.of-lints.ensures)))))))))))))))) (λ w. w) (λ w. w);
+      (both _ _ _ _ _ _ _ c.of-lints.ensures
+      c.of-feature_details.ensures))))))))))))))))) (λ w. w) (λ w. w);
 }

@@ -1,0 +1,105 @@
+-- What has to do with a refusal of completion.
+use Rattle.std.proofs.Common.{◌≡◌, ◌⊎◌, inl, inr, sym, ap, ◌∙◌, refl, subst, ℕ, List, true, false, Option, Some, None, Result, Ok, Err, [], String, string_bytes}
+use Rattle.std.specs.Prelude.{IfErr}
+use Rattle.std.specs.declared.alloc.Global.{Global}
+use Rattle.std.specs.declared.io.ErrorKind.TheVariants.{Unsupported}
+use Rattle.std.specs.declared.io.Error.{Error as IoError}
+use Rattle.std.specs.IoError.{error_kind}
+use Rattle.toml.specs.declared.value.Value.{Value}
+use Rattle.toml.specs.View.{view}
+use Rattle.cargo_toml_parts.specs.declared.error.Error.{Error, Memory, Io}
+use Rattle.cargo_toml_parts.specs.FaultValues.{Fault, fault_of, io}
+use Rattle.cargo_toml_parts.specs.Wrapping.{wrap}
+use Rattle.cargo_toml_manifest.specs.Choosing.{AnswersRoots, Choice, Handed, RootsTold, alone, choice, from, hint_of, lost, shared_of, told_choice}
+use Rattle.cargo_toml_manifest.specs.Inheriting.{shared, needs}
+use Rattle.cargo_toml_manifest.specs.Manifests.{ManifestMeaning, manifest_meaning}
+use Rattle.cargo_toml_manifest.specs.Refusing.{IsCause, IsListed, IsRefusedAt, IsRefusedBy, IsRefusedByRoot, IsToldWith, MayLose, ReadsBy, RefusesBy}
+use Rattle.cargo_toml_manifest.specs.Roots.{IsRootOf}
+use Rattle.cargo_toml_manifest.specs.Told.{ToldRoot, root, no_root, open_root, AnswersRoot}
+use Rattle.cargo_toml_manifest.specs.Workspaces.{WorkspaceMeaning}
+use Rattle.cargo_toml_manifest.specs.declared.manifest.Manifest.{Manifest}
+use Rattle.cargo_toml_manifest.proofs.FileFaults.{io_fault}
+use Rattle.cargo_toml_manifest.proofs.Meeting.{answer_there, answered, answered_by, as_told, found_choice, own_alone, own_by_root, own_by_table, told_itself, Found}
+use Rattle.cargo_toml_manifest.proofs.Rooted.{Read, memory_wrapped}
+
+-- no root is read by a call that is left out
+pub never_read : (reads : _) (may : Option (List ℕ) → Fault → Type 0) (hint : Option (List ℕ)) (f : IoError) → reads ≡ false → error_kind f ≡ Unsupported →
+    (Io f ≡ Memory) ⊎ MayLose reads may hint (wrap hint (fault_of (Io f)))
+never_read reads may hint f none kind = inr (inr (none, ap (wrap hint) (io_fault f ∙ ap io kind)))
+
+-- what becomes of a root that was read, or of the fault in its place, may stand in place of the root
+pub lost_by : (reads : _) (may : Option (List ℕ) → Fault → Type 0) (hint : Option (List ℕ)) (read : Result Read Error) (found : Result Found Error) →
+    ReadsBy reads may hint read → IsRootOf hint read found → RefusesBy (MayLose reads may hint) found
+lost_by reads may hint (Ok r) (Ok x) h k = tt
+lost_by reads may hint (Ok r) (Err e) h (inl memory) = inl memory
+lost_by reads may hint (Ok r) (Err e) h (inr none) = elim (h e none) [ inl memory ↦ inl memory | inr fault ↦ inr (inl fault) ]
+lost_by reads may hint (Err own) (Ok x) h k = absurd k
+lost_by reads may hint (Err own) (Err e) h (inl memory) = inl memory
+lost_by reads may hint (Err own) (Err e) (inl memory) (inr same) = inl (memory_wrapped hint own e memory same)
+lost_by reads may hint (Err own) (Err e) (inr fault) (inr same) = inr (subst (λ (f : Fault). MayLose reads may hint f) (sym same) fault)
+
+-- a fault of inheritance, once it has its path
+pub told_parts : {M : Type 0} (path : Option (List ℕ)) (names : List ℕ → Fault → Type 0) (stated : Result (ManifestMeaning M) Fault) (own e : Error) →
+    (own ≡ Memory) ⊎ (stated ≡ Err (fault_of own)) → (e ≡ Memory) ⊎ (fault_of e ≡ wrap path (fault_of own)) →
+    (e ≡ Memory) ⊎ IsToldWith path (IsCause stated names) e
+told_parts path names stated own e h (inl memory) = inl memory
+told_parts path names stated own e (inl memory) (inr same) = inl (memory_wrapped path own e memory same)
+told_parts {M = M} path names stated own e (inr is) (inr same) =
+    inr (fault_of own, (subst (λ (r : Result (ManifestMeaning M) Fault). IsCause r names (fault_of own)) (sym is) refl, same))
+
+-- a fault in place of names, once it has its path
+pub told_listing : {M : Type 0} (path : Option (List ℕ)) (names : List ℕ → Fault → Type 0) (m : ManifestMeaning M) (stated : Result (ManifestMeaning M) Fault) (own e : Error) →
+    stated ≡ Ok m → (own ≡ Memory) ⊎ IsListed names (fault_of own) → (e ≡ Memory) ⊎ (fault_of e ≡ wrap path (fault_of own)) →
+    (e ≡ Memory) ⊎ IsToldWith path (IsCause stated names) e
+told_listing path names m stated own e is h (inl memory) = inl memory
+told_listing path names m stated own e is (inl memory) (inr same) = inl (memory_wrapped path own e memory same)
+told_listing {M = M} path names m stated own e is (inr listed) (inr same) =
+    inr (fault_of own, (subst (λ (r : Result (ManifestMeaning M) Fault). IsCause r names (fault_of own)) (sym is) listed, same))
+
+chosen_so : {M : Type 0} (m : ManifestMeaning M) (roots : Option (List ℕ) → Fault → Type 0) (names : List ℕ → Fault → Type 0) (c d : Choice) (e : Error) → c ≡ d →
+    IsRefusedAt m roots names d e → IsRefusedAt m roots names c e
+chosen_so m roots names c d e same h = subst (λ (x : Choice). IsRefusedAt m roots names x e) (sym same) h
+
+module _ {M : Type 0} (m : ManifestMeaning M) (roots : Option (List ℕ) → Fault → Type 0) (names : List ℕ → Fault → Type 0) (e : Error) where
+  -- by a root that was found
+  pub refused_by_root : (root_told : ToldRoot) (x : Found) → AnswersRoot root_told (Ok x) →
+      (e ≡ Memory) ⊎ IsRefusedAt m roots names (from (shared_of x.0.workspace) (string_bytes x.1)) e → IsRefusedByRoot m root_told roots names e
+  refused_by_root root_told x a (inl memory) = inl memory
+  refused_by_root (root r path) x a (inr h) =
+      inr (root (manifest_meaning view x.0) (string_bytes x.1), (inl (as_told r path x a), chosen_so m roots names _ _ e (found_choice x) h))
+  refused_by_root no_root x a (inr h) = cc
+  refused_by_root open_root x a (inr h) =
+      inr (root (manifest_meaning view x.0) (string_bytes x.1), (inr refl, chosen_so m roots names _ _ e (found_choice x) h))
+
+  -- because none was
+  pub refused_lost : (root_told : ToldRoot) (own : Error) → AnswersRoot root_told (Err own) → (own ≡ Memory) ⊎ roots (hint_of m) (fault_of own) →
+      (e ≡ Memory) ⊎ (fault_of e ≡ wrap (hint_of m) (fault_of own)) → IsRefusedByRoot m root_told roots names e
+  refused_lost root_told own a h (inl memory) = inl memory
+  refused_lost root_told own a (inl memory) (inr same) = inl (memory_wrapped (hint_of m) own e memory same)
+  refused_lost (root r path) own a (inr fault) (inr same) = inl (memory_wrapped (hint_of m) own e a same)
+  refused_lost no_root own a (inr fault) (inr same) = inr (no_root, (inl refl, (fault_of own, (fault, same))))
+  refused_lost open_root own a (inr fault) (inr same) = inr (no_root, (inr refl, (fault_of own, (fault, same))))
+
+  -- by what is told of roots alone
+  pub refused_as_told : (handed : Option Handed) (told : RootsTold) (c : Choice) → choice m handed told ≡ c →
+      (e ≡ Memory) ⊎ IsRefusedAt m roots names c e → IsRefusedBy m handed told roots names e
+  refused_as_told handed told c same (inl memory) = inl memory
+  refused_as_told handed told c same (inr h) = inr (told, (told_itself told, chosen_so m roots names _ _ e same h))
+
+  -- by the root of its hint, where it has no table and needs one
+  pub refused_by_hint : (told : RootsTold) → m.workspace ≡ None → needs m ≡ true →
+      IsRefusedByRoot m (told (hint_of m)) roots names e → IsRefusedBy m None told roots names e
+  refused_by_hint told table needed (inl memory) = inl memory
+  refused_by_hint told table needed (inr (answer, (known, h))) =
+      let here = answer_there (told (hint_of m)) answer known in
+      inr ((λ hint. answered_by answer (told hint)), (answered told answer, chosen_so m roots names _ _ e (own_by_root m.workspace (needs m) _ _ table needed here) h))
+
+  -- by its own table
+  pub refused_by_table : (told : RootsTold) (w : WorkspaceMeaning M) → m.workspace ≡ Some w →
+      (e ≡ Memory) ⊎ IsRefusedAt m roots names (from (Some (shared w)) []) e → IsRefusedBy m None told roots names e
+  refused_by_table told w table h = refused_as_told None told _ (own_by_table m.workspace w (needs m) (told (hint_of m)) table) h
+
+  -- and alone, where nothing is inherited
+  pub refused_alone : (told : RootsTold) → m.workspace ≡ None → needs m ≡ false →
+      (e ≡ Memory) ⊎ IsRefusedAt m roots names alone e → IsRefusedBy m None told roots names e
+  refused_alone told table needed h = refused_as_told None told _ (own_alone m.workspace (needs m) (told (hint_of m)) table needed) h

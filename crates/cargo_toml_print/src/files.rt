@@ -1,0 +1,42 @@
+//! What the program writes of a manifest in a file, completed from the files around it.
+ghost use Rattle.std.specs.Prelude.{IfErr};
+ghost use Rattle.std.specs.Io.KnownBytes.{Keeps};
+ghost use Rattle.cargo_toml_print.specs.Printing.{IsOfManifest};
+
+use crate::completion::completion_lines;
+use cargo_toml::{Error, Manifest};
+use std::fs;
+use std::io::Write;
+use std::rt::Files;
+
+/// Reads the manifest in a file, completes it from the files around it, and writes the lines of
+/// `print_complete` to `output`. Who calls it holds no manifest.
+///
+/// Refuses as `Manifest::from_str` and `Manifest::complete_from_path` do, with `Io` where the file
+/// can't be read or `output` can't be written, and with `Memory` where memory runs out. Nothing is
+/// written before all lines stand, so a fault of the manifest leaves `output` as it was.
+pub fn print_completed<R: Files + AllocGlobal, W: Write>(
+    rt: &R,
+    file: &str,
+    output: &mut W,
+) -> Result<(), Error>
+    ensures unwritten { IfErr result (λ e. IsOfManifest e →
+        Keeps (W.contents output.old) (W.contents output.new)) }
+{
+    let mut manifest = manifest_in(rt, file)?;
+    manifest.complete_from_path(rt, rt.alloc(), file)?;
+    let lines = completion_lines(rt.alloc(), &*manifest)?;
+    output.write_all(lines.as_bytes())?;
+    output.flush()?;
+    Ok(())
+}
+
+/// The manifest in a file, on the heap. It is wide, and so no call that does more than this holds it
+/// on the stack.
+fn manifest_in<R: Files + AllocGlobal>(rt: &R, file: &str) -> Result<Box<Manifest>, Error> {
+    let text = fs::read_to_string(rt, file)?;
+    match Manifest::from_str(rt.alloc(), text.as_str()) {
+        Ok(manifest) => Ok(Box::new(rt.alloc(), manifest)?),
+        Err(fault) => Err(fault),
+    }
+}

@@ -1,9 +1,7 @@
--- what resolving a manifest answers, and by which filter
-pub mod Filtered
-pub mod Parsed
--- what is left of a manifest that is lent on
-pub mod Lent
 -- a caller names each of these as a file of this crate
+pub use Rattle.cargo_toml_resolver.specs.Filtered
+pub use Rattle.cargo_toml_resolver.specs.Parsed
+pub use Rattle.cargo_toml_resolver.specs.Lent
 pub use Rattle.cargo_toml_paths.specs.Paths
 pub use Rattle.cargo_toml_parts.specs.Answers
 pub use Rattle.cargo_toml_parts.specs.Copies

@@ -4,9 +4,7 @@
 //! says what their contracts rest on.
 #![tactic(auto)]
 
-mod complete_and_parse;
 pub mod features;
-mod requirements;
 
 pub use cargo_toml_dependencies::{
     Dependency, DependencyDetail, DepsSet, FeatureDetail, FeatureDetails, FeatureSet,

@@ -3,8 +3,8 @@ use Rattle.std.specs.Prelude.{◌≡◌, ◌⊎◌, ℕ, List, [], ◌∷◌, �
 use Rattle.std.specs.declared.io.Error.{Error as IoError}
 use Rattle.std.specs.declared.io.ErrorKind.TheVariants as io
 use Rattle.std.specs.IoError.{error_kind}
-use Rattle.cargo_toml.specs.Error.{Error, Memory}
-use Rattle.cargo_toml.specs.Faults.{text_of}
+use Rattle.cargo_toml_parts.specs.declared.error.Error.{Error, Memory}
+use Rattle.cargo_toml_parts.specs.Faults.{text_of}
 use Rattle.cargo_toml_print.specs.declared.outcome.Outcome.{Outcome}
 use Rattle.cargo_toml_print.specs.declared.outcome.Outcome.TheVariants.{Done, Refused, NotACommand}
 

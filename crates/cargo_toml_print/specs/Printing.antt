@@ -1,6 +1,6 @@
 -- Which faults come before anything is printed.
-use Rattle.cargo_toml.specs.Error.{Error, out-Error}
-use Rattle.cargo_toml.specs.Error.TheOpen.{Error-F}
+use Rattle.cargo_toml_parts.specs.declared.error.Error.{Error, out-Error}
+use Rattle.cargo_toml_parts.specs.declared.error.Error.TheOpen.{Error-F}
 
 -- the fault is neither of input or output nor want of memory, so that it is one of what was read
 abbrev pub IsOfManifest : Error → Type 0

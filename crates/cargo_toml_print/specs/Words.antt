@@ -1,7 +1,7 @@
 -- What the words of the command line ask for.
 use Rattle.std.specs.Prelude.{◌≡◌, ◌⊎◌, ◌≤◌, ℕ, List, [], ◌∷◌, length, codes, ⊤}
 use Rattle.std.specs.Str.Parse.{IsNumeral, digits_value}
-use Rattle.cargo_toml.specs.Limits.{MAX_ITEMS}
+use Rattle.cargo_toml_features.specs.declared.admit.TheConstants.{MAX_ITEMS}
 use Rattle.cargo_toml_print.specs.declared.arguments.Command.{Command}
 use Rattle.cargo_toml_print.specs.declared.arguments.Command.TheVariants.{Features, Complete}
 

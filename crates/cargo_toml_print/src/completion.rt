@@ -4,7 +4,11 @@ ghost use Rattle.std.specs.Io.KnownBytes.{Appends};
 ghost use Rattle.cargo_toml_print.specs.Printing.{IsOfOutput};
 
 use crate::items::{separate, write_none};
-use cargo_toml::{Error, Inheritable, Manifest, OptionalFile, Package, Product};
+use cargo_toml_manifest::Manifest;
+use cargo_toml_package::Package;
+use cargo_toml_parts::{Error, Inheritable};
+use cargo_toml_settings::OptionalFile;
+use cargo_toml_tables::Product;
 use std::alloc::Global;
 use std::io::Write;
 

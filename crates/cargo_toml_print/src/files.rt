@@ -4,7 +4,8 @@ ghost use Rattle.std.specs.Io.KnownBytes.{Keeps};
 ghost use Rattle.cargo_toml_print.specs.Printing.{IsOfManifest};
 
 use crate::completion::completion_lines;
-use cargo_toml::{Error, Manifest};
+use cargo_toml_manifest::Manifest;
+use cargo_toml_parts::Error;
 use std::fs;
 use std::io::Write;
 use std::rt::Files;

@@ -2,7 +2,7 @@
 ghost use Rattle.std.specs.Prelude.{IfErr};
 ghost use Rattle.cargo_toml_print.specs.Printing.{IsOfOutput};
 
-use cargo_toml::Error;
+use cargo_toml_parts::Error;
 
 /// Writes what stands before an item: nothing before the first one.
 pub fn separate(text: &mut String, is_first: bool) -> Result<(), Error>

@@ -13,8 +13,9 @@ mod outcome;
 mod words;
 
 pub use arguments::Command;
-use cargo_toml::features::{DepAction, Feature, Features, Resolver};
-use cargo_toml::{Error, Manifest};
+use cargo_toml_manifest::Manifest;
+use cargo_toml_parts::Error;
+use cargo_toml_resolver::features::{DepAction, Feature, Features, Resolver};
 pub use completion::print_complete;
 pub use files::print_completed;
 use items::{separate, write_none};

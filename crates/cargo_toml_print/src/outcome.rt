@@ -2,7 +2,7 @@
 ghost use Rattle.std.specs.Prelude.{◌≡◌};
 ghost use Rattle.cargo_toml_print.specs.Outcomes.{IsOfWords, outcome_of, status_of, text_of_outcome};
 
-use cargo_toml::Error;
+use cargo_toml_parts::Error;
 use std::{fmt, io};
 
 /// How a run of the program ended.

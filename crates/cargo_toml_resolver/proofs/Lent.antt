@@ -19,7 +19,7 @@ use Rattle.cargo_toml_manifest.specs.Choosing.{Handed, RootsTold}
 use Rattle.cargo_toml_manifest.specs.Completing.{Outcome, gives, refuses, no_workspace, untold, GivenBy, IsLasting, Meets, complete}
 use Rattle.cargo_toml_manifest.specs.Inheriting.{needs}
 use Rattle.cargo_toml_manifest.specs.Manifests.{ManifestMeaning, manifest_meaning}
-use Rattle.cargo_toml.specs.Lent.{with_lent, IsCompleted, IsLeftAfter}
+use Rattle.cargo_toml_resolver.specs.Lent.{with_lent, IsCompleted, IsLeftAfter}
 
 -- a refusal is one by the same outcome, whatever a success would have been
 pub refused_alike : {T U A : Type 0} (f : T → A) (g : U → A) (o : Outcome A) (e : Error) → Meets f o (Err e) → Meets g o (Err e)

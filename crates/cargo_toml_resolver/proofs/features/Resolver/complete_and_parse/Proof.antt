@@ -48,27 +48,27 @@ use Rattle.cargo_toml_features.specs.contracts.features.Features as Features
 use Rattle.cargo_toml_parts.specs.contracts.error.Error as Error
 use Rattle.cargo_toml_parts.proofs.error.Error.TheLaws as Error-laws
 use Rattle.cargo_toml_parts.specs.declared.error.Error.{Memory}
-use Rattle.cargo_toml.specs.Lent.{IsLentAs, IsLentAfter, IsLeftAfter}
-use Rattle.cargo_toml.proofs.Lent.{rests_so, Completing, Answering, left_after, lent_after, outcome_after, wrapped_after}
+use Rattle.cargo_toml_resolver.specs.Lent.{IsLentAs, IsLentAfter, IsLeftAfter}
+use Rattle.cargo_toml_resolver.proofs.Lent.{rests_so, Completing, Answering, left_after, lent_after, outcome_after, wrapped_after}
 use denote.Text.{str-field}
-use Rattle.cargo_toml.proofs.Words.{slot_at, row_at, single, ref_laws, global_makes, local_at}
+use Rattle.cargo_toml_resolver.proofs.Words.{slot_at, row_at, single, ref_laws, global_makes, local_at}
 use borrow.Table.Str.{str_laws}
 use borrow.Table.OneValue.{wt_as}
 use Rattle.std.proofs.option.Option.TheLaws.{the_row_laws as option_laws}
 use Rattle.cargo_toml_manifest.specs.contracts.manifest.Manifest as Manifest
-use Rattle.cargo_toml.specs.contracts.features.Resolver as Resolver
+use Rattle.cargo_toml_resolver.specs.contracts.features.Resolver as Resolver
 use Rattle.cargo_toml_manifest.specs.contracts.manifest.Manifest.complete_from_abstract_filesystem as complete_from
 use Rattle.cargo_toml_manifest.proofs.manifest.Manifest.complete_from_abstract_filesystem.Met as complete_from-met
-use Rattle.cargo_toml.specs.contracts.complete_and_parse.shared as shared
-use Rattle.cargo_toml.proofs.complete_and_parse.shared.Met as shared-met
-use Rattle.cargo_toml.specs.contracts.features.Resolver.resolved as resolved
-use Rattle.cargo_toml.proofs.features.Resolver.resolved.Met as resolved-met
+use Rattle.cargo_toml_resolver.specs.contracts.complete_and_parse.shared as shared
+use Rattle.cargo_toml_resolver.proofs.complete_and_parse.shared.Met as shared-met
+use Rattle.cargo_toml_resolver.specs.contracts.features.Resolver.resolved as resolved
+use Rattle.cargo_toml_resolver.proofs.features.Resolver.resolved.Met as resolved-met
 use Rattle.cargo_toml_manifest.proofs.manifest.Manifest.TheLaws as Manifest-laws
 use Rattle.std.proofs.alloc.Global.TheLaws as Global-laws
-use Rattle.cargo_toml.specs.contracts.features.Resolver.complete_and_parse.{ended, clauses}
-use Rattle.cargo_toml.specs.contracts.features.Resolver.complete_and_parse.Key.{name as #self}
-use Rattle.cargo_toml.proofs.features.Resolver.complete_and_parse.Statement.{statement}
-use Rattle.cargo_toml.proofs.features.Resolver.complete_and_parse.Code as code
+use Rattle.cargo_toml_resolver.specs.contracts.features.Resolver.complete_and_parse.{ended, clauses}
+use Rattle.cargo_toml_resolver.specs.contracts.features.Resolver.complete_and_parse.Key.{name as #self}
+use Rattle.cargo_toml_resolver.proofs.features.Resolver.complete_and_parse.Statement.{statement}
+use Rattle.cargo_toml_resolver.proofs.features.Resolver.complete_and_parse.Code as code
 use Rattle.cargo_toml_graph.specs.Action.{Text}
 use Rattle.cargo_toml_hidden.specs.Filter.{HasNameFilter, Tells}
 use Rattle.cargo_toml_manifest.specs.Choosing.{handed_of, RootsTold}
@@ -78,8 +78,8 @@ use Rattle.cargo_toml_manifest.specs.Completing.{GivenBy, IsLasting, Meets, comp
 use Rattle.cargo_toml_manifest.specs.Refusing.{IsRefusedBy, MayLose}
 use Rattle.cargo_toml_manifest.specs.Inheriting.{needs}
 use Rattle.cargo_toml_package.specs.Filled.{IsFilled}
-use Rattle.cargo_toml.specs.Filtered.{filter_of, limit_of}
-use Rattle.cargo_toml.specs.Parsed.{IsParsed}
+use Rattle.cargo_toml_resolver.specs.Filtered.{filter_of, limit_of}
+use Rattle.cargo_toml_resolver.specs.Parsed.{IsParsed}
 use Rattle.cargo_toml_features.specs.FirstTarget.{HaveTargets}
 use Rattle.cargo_toml_features.specs.Reached.{IsKeyed}
 use Rattle.cargo_toml_features.specs.Views.{answer_of}

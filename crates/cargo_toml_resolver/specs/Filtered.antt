@@ -1,7 +1,7 @@
 -- What a resolver was made with.
 use Rattle.std.specs.Prelude.{ℕ, Option}
 use Rattle.std.specs.Borrow.{Bor}
-use Rattle.cargo_toml.specs.declared.features.Resolver.{Resolver}
+use Rattle.cargo_toml_resolver.specs.declared.features.Resolver.{Resolver}
 
 module _ {F S : Type 0} (r : Resolver F S) where
   -- the filter, if any

@@ -2,8 +2,8 @@ use Rattle.std.proofs.Common.{◌≡◌, map, take}
 use Rattle.std.specs.List.{flat_map}
 use Rattle.cargo_toml_resolve.specs.OwnBins.{requirement_of}
 use Rattle.cargo_toml_tables.specs.Products.{product_meaning}
-use Rattle.cargo_toml.specs.Parsed.{requirements_by}
-use Rattle.cargo_toml.proofs.requirements.requirements_of.Given as goal
+use Rattle.cargo_toml_resolver.specs.Parsed.{requirements_by}
+use Rattle.cargo_toml_resolver.proofs.requirements.requirements_of.Given as goal
 
 abbrev pub invariant-loop-bin : goal.invariant-loop-bin
 invariant-loop-bin l = map requirement_of l.requirements.items ≡ flat_map (requirements_by l.package_name) (map product_meaning (take l.bin-index l.bins))

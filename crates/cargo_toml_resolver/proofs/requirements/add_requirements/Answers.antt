@@ -4,7 +4,7 @@ use Rattle.std.proofs.Math.Seq.{take-length}
 use Rattle.cargo_toml_graph.specs.Action.{Text}
 use Rattle.cargo_toml_resolve.specs.OwnBins.{requirement_of}
 use Rattle.cargo_toml_tables.specs.Products.{product_meaning}
-use Rattle.cargo_toml.proofs.requirements.add_requirements.Goals as goal
+use Rattle.cargo_toml_resolver.proofs.requirements.add_requirements.Goals as goal
 
 text_or : (o : Option (Bor Text)) (d : Bor Text) → (unwrap_or o d).now ≡ unwrap_or (option_map (λ t. t.now) o) d.now
 text_or None d = refl

@@ -4,7 +4,7 @@ ghost use Rattle.std.specs.List.{flat_map};
 ghost use Rattle.cargo_toml_manifest.specs.Manifests.{manifest_meaning};
 ghost use Rattle.cargo_toml_resolve.specs.OwnBins.{requirement_of};
 ghost use Rattle.cargo_toml_tables.specs.Products.{product_meaning};
-ghost use Rattle.cargo_toml.specs.Parsed.{requirements, requirements_by};
+ghost use Rattle.cargo_toml_resolver.specs.Parsed.{requirements, requirements_by};
 
 use cargo_toml_manifest::Manifest;
 use cargo_toml_resolve::bins::Requirement;

@@ -1,6 +1,6 @@
 use Rattle.std.proofs.Common.{◌≡◌, ◌++◌, map, string_bytes, take}
 use Rattle.cargo_toml_resolve.specs.OwnBins.{requirement_of}
-use Rattle.cargo_toml.proofs.requirements.add_requirements.Given as goal
+use Rattle.cargo_toml_resolver.proofs.requirements.add_requirements.Given as goal
 
 abbrev pub invariant-loop-feature : goal.invariant-loop-feature
 invariant-loop-feature l =

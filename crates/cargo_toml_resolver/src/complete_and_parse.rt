@@ -14,9 +14,9 @@ ghost use Rattle.cargo_toml_manifest.specs.Told.{heard};
 ghost use Rattle.cargo_toml_features.specs.FirstTarget.{HaveTargets};
 ghost use Rattle.cargo_toml_features.specs.Reached.{IsKeyed};
 ghost use Rattle.cargo_toml_features.specs.Views.{answer_of};
-ghost use Rattle.cargo_toml.specs.Filtered.{filter_of, limit_of};
-ghost use Rattle.cargo_toml.specs.Lent.{IsLentAfter, IsLentAs, IsLentOn, with_lent};
-ghost use Rattle.cargo_toml.specs.Parsed.{IsParsed};
+ghost use Rattle.cargo_toml_resolver.specs.Filtered.{filter_of, limit_of};
+ghost use Rattle.cargo_toml_resolver.specs.Lent.{IsLentAfter, IsLentAs, IsLentOn, with_lent};
+ghost use Rattle.cargo_toml_resolver.specs.Parsed.{IsParsed};
 
 use crate::features::{Features, Resolver};
 use cargo_toml_manifest::{AbstractFilesystem, Manifest};

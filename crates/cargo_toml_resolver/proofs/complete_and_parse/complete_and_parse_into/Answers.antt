@@ -5,10 +5,10 @@ use Rattle.cargo_toml_manifest.specs.Manifests.{manifest_meaning}
 use Rattle.cargo_toml_features.specs.FirstTarget.{HaveTargets}
 use Rattle.cargo_toml_features.specs.Reached.{IsKeyed}
 use Rattle.cargo_toml_features.specs.Views.{answer_of}
-use Rattle.cargo_toml.specs.Filtered.{filter_of, limit_of}
-use Rattle.cargo_toml.specs.Parsed.{IsParsed}
-use Rattle.cargo_toml.proofs.Lent.{refused_alike, given_alike, is_answered, outcome_with, wrapped_with, resolved_with}
-use Rattle.cargo_toml.proofs.complete_and_parse.complete_and_parse_into.Goals as goal
+use Rattle.cargo_toml_resolver.specs.Filtered.{filter_of, limit_of}
+use Rattle.cargo_toml_resolver.specs.Parsed.{IsParsed}
+use Rattle.cargo_toml_resolver.proofs.Lent.{refused_alike, given_alike, is_answered, outcome_with, wrapped_with, resolved_with}
+use Rattle.cargo_toml_resolver.proofs.complete_and_parse.complete_and_parse_into.Goals as goal
 
 pub returns-in-Err : goal.returns-in-Err
 returns-in-Err g c = (

@@ -9,11 +9,11 @@ use Rattle.cargo_toml_features.specs.Marks.{Details, details_listed, details_of}
 use Rattle.cargo_toml_features.specs.Recorded.{Entry}
 use Rattle.cargo_toml_features.specs.Resolved.{Answer, IsAnswer}
 use Rattle.cargo_toml_features.proofs.Marked.{told_by_listed}
-use Rattle.cargo_toml.specs.Filtered.{limit_of}
-use Rattle.cargo_toml.specs.Parsed.{IsParsed, parsed_entries, requirements}
+use Rattle.cargo_toml_resolver.specs.Filtered.{limit_of}
+use Rattle.cargo_toml_resolver.specs.Parsed.{IsParsed, parsed_entries, requirements}
 use Rattle.cargo_toml_hidden.proofs.AgainstAll.{none_left, keeps_enabling, loses_nothing}
-use Rattle.cargo_toml.proofs.CompleteBins.{complete_bins}
-use Rattle.cargo_toml.proofs.features.Resolver.parse.Goals as goal
+use Rattle.cargo_toml_resolver.proofs.CompleteBins.{complete_bins}
+use Rattle.cargo_toml_resolver.proofs.features.Resolver.parse.Goals as goal
 
 -- the answer for what stands in a manifest is the answer for the manifest
 module _ {M : Type 0} (limit : ℕ) (m : ManifestMeaning M) (keep : Text → Bool) (a : Answer) where

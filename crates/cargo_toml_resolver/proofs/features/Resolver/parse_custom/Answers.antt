@@ -5,8 +5,8 @@ use Rattle.cargo_toml_features.specs.Views.{listed_of, answer_of, entry_of}
 use Rattle.cargo_toml_features.specs.Resolved.{IsAnswer}
 use Rattle.cargo_toml_features.proofs.Agreement.{settled}
 use Rattle.cargo_toml_features.proofs.Marked.{told_by_listed}
-use Rattle.cargo_toml.specs.Filtered.{limit_of}
-use Rattle.cargo_toml.proofs.features.Resolver.parse_custom.Goals as goal
+use Rattle.cargo_toml_resolver.specs.Filtered.{limit_of}
+use Rattle.cargo_toml_resolver.proofs.features.Resolver.parse_custom.Goals as goal
 
 pub returns-clause-resolved : goal.returns-clause-resolved
 returns-clause-resolved g c = λ keep listed tells is.

@@ -9,7 +9,7 @@ use Rattle.cargo_toml_features.specs.Marks.{Details}
 use Rattle.cargo_toml_features.specs.Recorded.{Entry}
 use Rattle.cargo_toml_features.specs.Resolved.{Answer, IsAnswer, table_of}
 use Rattle.cargo_toml_resolve.specs.OwnBins.{own_of}
-use Rattle.cargo_toml.proofs.Mentions.{mentions_counted}
+use Rattle.cargo_toml_resolver.proofs.Mentions.{mentions_counted}
 
 pub complete_bins : (listed : Listed) (entries : List Entry) (details : Details) (required : List (Text × Text)) (keep : Text → Bool) (a : Answer) → IsAnswer listed entries details (own_of required) keep a →
     count_by (λ q. is_removed (table_of listed entries) keep q.0) required ≤ 10 → (f : Text) → IsTrue (a.resolution.table.has f) →

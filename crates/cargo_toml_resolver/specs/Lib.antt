@@ -1,0 +1,5 @@
+-- what resolving a manifest answers, and by which filter
+pub mod Filtered
+pub mod Parsed
+-- what is left of a manifest that is lent on
+pub mod Lent

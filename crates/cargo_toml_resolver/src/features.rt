@@ -1,0 +1,244 @@
+//! What the features of a manifest enable, and which features enable them.
+ghost use Rattle.std.specs.Prelude.{◌≡◌, ◌≤◌, [], Bool, List, None, Some, map, true, IfOk, IfErr, IsSome};
+ghost use Rattle.cargo_toml_parts.specs.declared.error.Error.{Memory};
+ghost use Rattle.cargo_toml_parts.specs.Reads.{map_meaning};
+ghost use Rattle.cargo_toml_dependencies.specs.Targets.{target_meaning};
+ghost use Rattle.cargo_toml_manifest.specs.Inheriting.{own_tables};
+ghost use Rattle.cargo_toml_manifest.specs.Manifests.{manifest_meaning};
+ghost use Rattle.cargo_toml_graph.specs.Action.{Text};
+ghost use Rattle.cargo_toml_graph.specs.Admitted.{Listed};
+ghost use Rattle.cargo_toml_graph.specs.Kept.{KeepsEnabling, LosesNothing, NoneIsLeft};
+ghost use Rattle.cargo_toml_hidden.specs.Filter.{HasNameFilter, IsNameFilter, Tells};
+ghost use Rattle.cargo_toml_features.specs.Agreement.{Agree};
+ghost use Rattle.cargo_toml_features.specs.declared.admit.TheConstants.{MAX_ITEMS};
+ghost use Rattle.cargo_toml_features.specs.Entries.{tables_meaning};
+ghost use Rattle.cargo_toml_features.specs.FirstTarget.{HaveTargets};
+ghost use Rattle.cargo_toml_features.specs.Hashed.{IsListingOf};
+ghost use Rattle.cargo_toml_features.specs.Marks.{Details};
+ghost use Rattle.cargo_toml_features.specs.Reached.{IsKeyed};
+ghost use Rattle.cargo_toml_features.specs.Resolved.{Answer};
+ghost use Rattle.cargo_toml_features.specs.Views.{answer_of, entry_of};
+ghost use Rattle.cargo_toml_resolver.specs.Filtered.{filter_of, limit_of, state_of};
+ghost use Rattle.cargo_toml_resolver.specs.Parsed.{AreBinsComplete, IsAnswerFor, IsParsed};
+
+pub use crate::complete_and_parse::complete_and_parse_into;
+use crate::requirements::requirements;
+use cargo_toml_features::admit::{MAX_ITEMS, hashed_listings, listings};
+use cargo_toml_features::entries::{Tables, entries_of};
+pub use cargo_toml_features::features::{
+    DepAction, Feature, FeatureDependency, Features, Kind, ParseDependency, TargetKey,
+};
+pub use cargo_toml_features::questions::NonDefaultEnabledBy;
+pub use cargo_toml_features::recursive::DependenciesEnabledByFeatures;
+use cargo_toml_hidden::resolve;
+use cargo_toml_manifest::Manifest;
+use cargo_toml_parts::Error;
+use std::alloc::Global;
+use std::collections::HashMap;
+use std::hash::{BuildHasher, BuildHasherDefault, FoldHasher};
+
+/// Resolves the features of manifests.
+///
+/// `S` is the state of the hashed maps in an answer: each map that is made gets a copy of it.
+/// `F` is the type of the filter. Where neither is written, they are those of [`Resolver::new`].
+#[derive(Drop)]
+pub struct Resolver<'config, F = fn(&str) -> bool, S = BuildHasherDefault<FoldHasher>> {
+    should_keep_hidden_feature: Option<&'config F>,
+    state: S,
+    max_items: usize,
+}
+
+impl Resolver<'static, fn(&str) -> bool, BuildHasherDefault<FoldHasher>> {
+    /// A resolver with the fixed state of hashed maps, a limit of 2048 items and no filter: all
+    /// features whose names begin with `_` are removed.
+    ///
+    /// The seed of that state is known, so a stranger can choose names that collide in the maps of an answer, which then take time quadratic
+    /// in the number of these names. [`Resolver::new_with_hasher_and_filter`] takes a random state.
+    pub fn new() -> Self
+        ensures unfiltered { filter_of result ≡ None }
+        ensures limit { limit_of result ≡ MAX_ITEMS }
+    {
+        Resolver {
+            should_keep_hidden_feature: None,
+            state: BuildHasherDefault::new(),
+            max_items: MAX_ITEMS,
+        }
+    }
+}
+
+impl<'config, F: Fn(&str) -> bool, S> Resolver<'config, F, S> {
+    /// A resolver with this state of hashed maps, a limit of 2048 items and this filter, which is
+    /// asked for names that begin with `_`: features for which it answers false are removed. Who
+    /// reads what strangers wrote hands in a random state, as `RandomState::new(rt)?`.
+    ///
+    /// The filter may be called on every text, and answers each in one way. How often it is asked, and in which order, is open.
+    pub fn new_with_hasher_and_filter(state: S, should_keep_hidden_feature: &'config F) -> Self
+        requires { IsNameFilter F.Fn should_keep_hidden_feature.now }
+        ensures kept { filter_of result ≡ Some should_keep_hidden_feature.entry }
+        ensures state { state_of result ≡ state }
+        ensures limit { limit_of result ≡ MAX_ITEMS }
+    {
+        Resolver {
+            should_keep_hidden_feature: Some(should_keep_hidden_feature),
+            state,
+            max_items: MAX_ITEMS,
+        }
+    }
+}
+
+impl<'config, F, S> Resolver<'config, F, S> {
+    /// The same resolver with another limit of items than 2048. Its filter and its state stay; of
+    /// several calls the last counts. The limit is at least 1.
+    ///
+    /// So many names of the table of features count, and always `default`; so many texts of each
+    /// feature's list; so many keys of each table of dependencies. The ten binaries that a removed
+    /// feature passes on are no such items.
+    pub fn with_max_items(self, max_items: usize) -> Self
+        requires { 1 ≤ max_items }
+        ensures limit { limit_of result ≡ max_items }
+        ensures filter { filter_of result ≡ filter_of self.entry }
+        ensures state { state_of result ≡ state_of self.entry }
+    {
+        Resolver { max_items, ..self }
+    }
+}
+
+impl<'config, F: Fn(&str) -> bool, S: BuildHasher + Clone> Resolver<'config, F, S> {
+    /// Resolves the features of a manifest, as Cargo understands `[features]` and optional dependencies.
+    ///
+    /// The answer has the features that the manifest lists, and `default`, each with what its list names and what it does
+    /// to dependencies. It has a feature for each optional dependency whose key no feature has and no `dep:` keeps for
+    /// itself. It has the dependencies that are optional, that a feature acts on, or whose key a feature has, with each
+    /// target that they stand under: normal and build dependencies come before those of targets, and dev dependencies last.
+    /// Each feature tells which others enable it: those that name it, and those that act on the dependency of its name
+    /// neither conditionally nor by `dep:`. And it tells which binaries require it, once for each mention.
+    ///
+    /// Features of a dependency that its first target asks for anyway are left out of actions: `default`, unless it turns
+    /// default features off, and those that it lists.
+    ///
+    /// The limit n of items is 2048 unless [`Resolver::with_max_items`] set another. So many count:
+    ///
+    /// - of the table of features the first n names in byte order, and `default`;
+    /// - of each feature's list the first n texts;
+    /// - of each table of dependencies the first n keys.
+    ///
+    /// A feature that counts and that the manifest lists is public, and has a text, as the manifest's
+    /// `feature_details` say of its name. Any other is public and has no text: one that a dependency
+    /// implies, and `default` where it isn't listed. What is said of a removed feature goes with it.
+    ///
+    /// Every text is borrowed from the manifest. Each feature stands under its own key, as
+    /// [`Feature::enables_recursive`] asks, and each dependency has a target, as
+    /// [`FeatureDependency::dep`] asks.
+    ///
+    /// Features whose names begin with `_` are then removed, but for those that the filter keeps. What a removed feature says,
+    /// those that enable it say in its place, through any number of removed ones: they name what it names and act as it acts,
+    /// and are enablers of what it enables.
+    ///
+    /// In byte order of their names, each removed feature passes its binaries on to each feature that it
+    /// then names: the first ten of its list, as it then stands. So where binaries mention removed
+    /// features at most ten times, none is lost on its way along names.
+    ///
+    /// `removed_hidden_features` tells whether some feature was removed, and `hidden_features` has a set for each: what it
+    /// names, where smaller removed names are replaced by what they stand for.
+    ///
+    /// Beside an answer at the same limit, by a filter that keeps every name:
+    ///
+    /// - between features of this answer the transitive closure of `enabled_by` is the same;
+    /// - what [`Feature::enables_recursive`] tells of one of them loses no feature of this answer
+    ///   and no dependency.
+    ///
+    /// No name of a removed feature is left in `enables_features` or `enabled_by`.
+    ///
+    /// The one refusal is [`Error::Memory`], where there was no room for the answer.
+    pub fn parse<'m, M>(
+        &self,
+        alloc: Global,
+        manifest: &'m Manifest<M>,
+    ) -> Result<Features<'m, 'm, S>, Error>
+        requires { HasNameFilter F.Fn (filter_of self.now) }
+        ensures resolved { IfOk result (λ a. (keep : Text → Bool) →
+            Tells F.Fn (filter_of self.now) keep →
+            IsParsed (limit_of self.now) (manifest_meaning (λ m. m) manifest.now) keep
+            (answer_of a)) }
+        ensures no_removed_name { IfOk result (λ a. (keep : Text → Bool) → Tells F.Fn (filter_of self.now) keep →
+            NoneIsLeft (λ r. IsSome ((answer_of a).redirects r)) (answer_of a).resolution) }
+        ensures closure { IfOk result (λ a. (keep : Text → Bool) (full : Answer) →
+            Tells F.Fn (filter_of self.now) keep →
+            IsParsed (limit_of self.now) (manifest_meaning (λ m. m) manifest.now) (λ _. true) full →
+            KeepsEnabling full.resolution (answer_of a).resolution) }
+        ensures nothing_lost { IfOk result (λ a. (keep : Text → Bool) (full : Answer) →
+            Tells F.Fn (filter_of self.now) keep →
+            IsParsed (limit_of self.now) (manifest_meaning (λ m. m) manifest.now) (λ _. true) full →
+            LosesNothing full.resolution (answer_of a).resolution) }
+        ensures complete_bins { IfOk result (λ a. (keep : Text → Bool) →
+            Tells F.Fn (filter_of self.now) keep →
+            AreBinsComplete (limit_of self.now) (manifest_meaning (λ m. m) manifest.now) keep
+            (answer_of a)) }
+        ensures keyed { IfOk result (λ a. IsKeyed a.features) }
+        ensures targets { IfOk result (λ a. HaveTargets a.dependencies) }
+        ensures refused { IfErr result (λ e. e ≡ Memory) }
+    {
+        let details = &manifest.feature_details;
+        let listings = listings(alloc, &manifest.features, details, self.max_items)?;
+        let entries = entries_of(alloc, tables_of(manifest), self.max_items)?;
+        let requirements = requirements(alloc, manifest)?;
+        Ok(resolve(
+            alloc,
+            &self.state,
+            self.should_keep_hidden_feature,
+            listings.as_slice(),
+            entries.as_slice(),
+            requirements.as_slice(),
+        )?)
+    }
+
+    /// Resolves features and dependencies that stand in no manifest, as those of a registry's index.
+    ///
+    /// It answers as [`Resolver::parse`] does of the same features and of these entries in their
+    /// order, of which each counts, however many there are. In two points it differs: no binary
+    /// requires a feature, and each feature is public and has no text. The walk of the hashed table
+    /// changes nothing: of its names those count
+    /// that come first in byte order, up to the limit, and `default`. Features borrow from the
+    /// table and from the entries' keys, dependencies from the entries.
+    ///
+    /// The one refusal is [`Error::Memory`], where there was no room for the answer.
+    pub fn parse_custom<'m: 'd, 'd, S2: BuildHasher>(
+        &self,
+        alloc: Global,
+        features: &'m HashMap<String, Vec<String>, S2>,
+        dependencies: &[ParseDependency<'m, 'd>],
+    ) -> Result<Features<'m, 'd, S>, Error>
+        requires { HasNameFilter F.Fn (filter_of self.now) }
+        ensures resolved { IfOk result (λ a. (keep : Text → Bool) (listed : Listed) →
+            Tells F.Fn (filter_of self.now) keep → IsListingOf features.now listed →
+            IsAnswerFor (limit_of self.now) listed (map entry_of dependencies.now) [] (λ _. [])
+            keep (answer_of a)) }
+        ensures agreement { IfOk result (λ b. (keep : Text → Bool) (listed : Listed) →
+            Tells F.Fn (filter_of self.now) keep → IsListingOf features.now listed →
+            (details : Details) (own : Text → List Text) (a : Answer) →
+            IsAnswerFor (limit_of self.now) listed (map entry_of dependencies.now) details own keep
+            a → Agree a (answer_of b)) }
+        ensures listed { IfOk result (λ _. (listed : Listed) × IsListingOf features.now listed) }
+        ensures keyed { IfOk result (λ a. IsKeyed a.features) }
+        ensures targets { IfOk result (λ a. HaveTargets a.dependencies) }
+        ensures refused { IfErr result (λ e. e ≡ Memory) }
+    {
+        let listings = hashed_listings(alloc, features, self.max_items)?;
+        let filter = self.should_keep_hidden_feature;
+        let listings = listings.as_slice();
+        Ok(resolve(alloc, &self.state, filter, listings, dependencies, &[])?)
+    }
+}
+
+// The tables of a manifest's dependencies.
+fn tables_of<M>(manifest: &Manifest<M>) -> Tables<'_>
+    ensures own { tables_meaning result ≡ own_tables (manifest_meaning (λ m. m) manifest.now) }
+    ensures targets { map_meaning target_meaning result.target.now ≡ (manifest_meaning (λ m. m) manifest.now).target }
+{
+    Tables {
+        dependencies: &manifest.dependencies,
+        build_dependencies: &manifest.build_dependencies,
+        dev_dependencies: &manifest.dev_dependencies,
+        target: &manifest.target,
+    }
+}

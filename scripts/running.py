@@ -137,7 +137,7 @@ def end(child, at):
 def started(words, at, **how):
     """A command whose temporary files lie in the room. It has a session of its own, so that Ctrl-C
     reaches this script alone. However this run ends, so does all that the command started."""
-    os.mkdir(f"{at}/tmp")
+    os.makedirs(f"{at}/tmp", exist_ok=True)
     os.chmod(f"{at}/tmp", 0o711)
     how["env"] = {**os.environ, "TMPDIR": f"{at}/tmp"}
     child = None

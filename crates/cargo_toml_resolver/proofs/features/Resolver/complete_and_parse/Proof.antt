@@ -185,7 +185,7 @@ complete_and_parse_spec 𝓤 𝓛 𝓜 𝓡 wired F S I X N P Q LF LS LI LX LN L
     let z2 : G2.Ghost = (((κ2, (κ8, tt)), (q2, (q8, tt)), (le.1.1.1.1.0, tt), (record { ref_ptr = (b, o); ghost_name = γ; now = new }, tt), (v2 ∷ [], tt)), tt) in
     nothing ! $ use0 𝓛 (raw (fact 𝓤 (κ8 ⊑ X.lives))) (fact_i 𝓤 (κ8 ⊑ X.lives) (emp 𝓤) inX) $ join ! $ nothing ! $ move ! (4 ∷ 0 ∷ []) $ join ! $ nothing ! $ move ! (4 ∷ 0 ∷ []) $ join ! $ move ! (4 ∷ 0 ∷ []) $ join ! $ join ! $ join ! $
     use1 𝓛 (raw (G2.pre z2)) (id⊢ 𝓤 _) $
-    calls_at ! (framed 𝓤 H 𝓜 𝓣) G2 (shared-met.met 𝓤 𝓛 𝓜 𝓡 (code.calls-cargo_toml::complete_and_parse::shared 𝓡.env wired) X LX) z2 (and_then ! (get ! refl) (no_more !)) (λ v10.
+    calls_at ! (framed 𝓤 H 𝓜 𝓣) G2 (shared-met.met 𝓤 𝓛 𝓜 𝓡 (code.calls-cargo_toml_resolver::complete_and_parse::shared 𝓡.env wired) X LX) z2 (and_then ! (get ! refl) (no_more !)) (λ v10.
     use1 𝓛 (later (some (λ (l : Bor MR.Denot). ((t2 ⊛ t8 ⊛ ‵ ftrue) ⊛ ‵ (Shr.own_val l (v10 ∷ []))) ⊛ some (λ (ws' : Lasts E2 z2.0.0 z2.0.3). ‵ (lasts E2 z2.0.0 z2.0.3 ws') ⊛
     ‵ (IsLentAs (param 0 X) z2.0.3.0 l) ⊛ raw (fact 𝓤 (l.now ≡ new)))))) (id⊢ 𝓤 _) $
     await ! tt $ pick ! (λ l. split ! $ split ! $ move ! (2 ∷ []) $ pick ! (λ ws'. split ! $ drop ! $ split ! $ move ! (1 ∷ []) $ heard ! _ (λ same.
@@ -209,7 +209,7 @@ complete_and_parse_spec 𝓤 𝓛 𝓜 𝓡 wired F S I X N P Q LF LS LI LX LN L
     nothing ! $ move ! (13 ∷ 0 ∷ []) $ join ! $ move ! (6 ∷ 0 ∷ []) $ join ! $ move ! (2 ∷ 0 ∷ []) $ join ! $ move ! (10 ∷ 0 ∷ []) $ join ! $
     nothing ! $ move ! (3 ∷ 0 ∷ []) $ join ! $ move ! (14 ∷ 0 ∷ []) $ join ! $ move ! (13 ∷ 0 ∷ []) $ join ! $ move ! (12 ∷ 0 ∷ []) $ join ! $ move ! (3 ∷ 0 ∷ []) $ join ! $ move ! (10 ∷ 0 ∷ []) $ join ! $ move ! (9 ∷ 0 ∷ []) $ join ! $ join ! $ join ! $
     use1 𝓛 (raw (G3.pre z3)) (id⊢ 𝓤 _) $
-    calls_at ! (framed 𝓤 H 𝓜 𝓣) G3 (resolved-met.met 𝓤 𝓛 𝓜 𝓡 (code.calls-cargo_toml::features::Resolver::resolved 𝓡.env wired) F S I X LF LS LI LX f df dfm dfo b' db h dh c dc drF drS drI mF mFm mFo mB mH mC gF gS gI) z3
+    calls_at ! (framed 𝓤 H 𝓜 𝓣) G3 (resolved-met.met 𝓤 𝓛 𝓜 𝓡 (code.calls-cargo_toml_resolver::features::Resolver::resolved 𝓡.env wired) F S I X LF LS LI LX f df dfm dfo b' db h dh c dc drF drS drI mF mFm mFo mB mH mC gF gS gI) z3
     (and_then ! (get ! refl) (and_then ! (get ! refl) (and_then ! (get ! refl) (and_then ! (get ! refl) (no_more !))))) (λ v.
     let End = type_at T.signature.result κs in
     let Parsed : End.Denot → Type 0 = λ y. IfOk y (λ w. (keep : Text → Bool) →

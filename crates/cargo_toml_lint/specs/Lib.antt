@@ -1,0 +1,5 @@
+pub mod Items
+pub mod Findings
+pub mod Known
+pub mod Names
+pub mod Steps

@@ -1,9 +1,9 @@
 #!/usr/bin/env python3
 """Holds what `cargo-toml-tools` prints against the rules of docs/TOOLS.md, read once more.
 
-    compare/tools.py index|document|graph FILE..      # prints what is wanted of these manifests
-    compare/tools.py audit|report FOLDER..            # and of these workspaces
-    compare/tools.py --compare index|document|graph FILE..      # holds the program against that
+    compare/tools.py index|lint|document|graph FILE..     # prints what is wanted of these manifests
+    compare/tools.py audit|report FOLDER..                # and of these workspaces
+    compare/tools.py --compare index|lint|document|graph FILE..     # holds the program against that
 
 Nothing here follows the program's code. Features are found by definitions.py.
 """
@@ -16,7 +16,7 @@ import subprocess
 import sys
 import tomllib
 
-from definitions import Graph, in_order, join
+from definitions import Graph, enabled_by, in_order, join, mention
 
 HERE = os.path.dirname(os.path.realpath(__file__))
 PROGRAM = os.path.join(os.path.dirname(HERE), "cargo-toml-tools")
@@ -277,6 +277,97 @@ class Document:
         return text + "}\n"
 
 
+# lint
+
+
+WORDS_OF = {
+    "not-optional": ("error", "uses `dep:` or `?` on a dependency that isn't optional"),
+    "same-name": (
+        "error",
+        "has the name of an optional dependency that no feature names by `dep:`",
+    ),
+    "unknown": ("error", "names or requires what the manifest doesn't have"),
+    "implied": (
+        "hint",
+        "an optional dependency that no feature names by `dep:` is a feature for users",
+    ),
+    "private-default": ("hint", "only `default` enables this hidden feature"),
+    "cycle": ("warning", "enables itself through others"),
+    "over-limit": ("warning", "has a name or actions beyond the limit"),
+    "unreachable": ("warning", "no feature for users leads to this hidden one"),
+}
+
+
+class Lint:
+    """What is odd of a manifest's features, each as the name of a finding's code and a feature."""
+
+    def __init__(self, manifest, limit=LIMIT):
+        self.lists = {k: enabled_by(v) for k, v in manifest.get("features", {}).items()}
+        self.graph = Graph(manifest | {"features": self.lists}, limit)
+        entries = [one for _, _, _, table in tables(manifest) for one in table.items()]
+        self.dependencies = {key for key, _ in entries}
+        self.optional = {key for key, one in entries if detail(one).get("optional", False)}
+        mentions = [mention(text) for texts in self.lists.values() for text in texts]
+        self.reserved = {key for key, action in mentions if action and action[1]}
+        self.required = [text for bin in manifest.get("bin", []) for text in bin.get("required-features", [])]
+        self.limit = limit
+
+    def led_to(self, name):
+        """The features to which this one leads by one name or more."""
+        found, left = set(), [name]
+        while left:
+            for other in self.graph.names[left.pop()] & self.graph.names.keys() - found:
+                found.add(other)
+                left.append(other)
+        return found
+
+    def is_unknown(self, text, names):
+        key, action = mention(text)
+        return key not in (self.dependencies if action else names)
+
+    def is_not_optional(self, text):
+        key, action = mention(text)
+        return bool(action) and (action[0] or action[1]) and key in self.dependencies - self.optional
+
+    def found(self):
+        graph, lists = self.graph, self.lists
+        hidden = {name for name in graph.names if name.startswith("_")}
+        names = lists.keys() | {"default"} | self.optional
+        there = lists.keys() | graph.names.keys()
+        led_to = {name: self.led_to(name) for name in graph.names}
+        enablers = {name: {one for one in graph.names if name in graph.edges[one]} for name in hidden}
+        of_users = set().union(*(led_to[name] for name in graph.names.keys() - hidden))
+        over = {name for name in lists if name not in graph.explicit or len(lists[name]) > self.limit}
+        return {
+            "not-optional": {name for name in lists if any(map(self.is_not_optional, lists[name]))},
+            "same-name": lists.keys() & self.optional - self.reserved,
+            "unknown": {name for name in lists if any(self.is_unknown(text, names) for text in lists[name])}
+            | {text for text in self.required if self.is_unknown(text, there)},
+            "implied": graph.names.keys() - graph.explicit,
+            "private-default": {name for name in hidden if enablers[name] == {"default"}},
+            "cycle": {name for name in graph.names if any(name in led_to[one] for one in led_to[name] - {name})},
+            "over-limit": over,
+            "unreachable": hidden - of_users,
+        }
+
+    def lines(self, name=None):
+        """The lines, each with the name of the file in front where one is given, and the status."""
+        text, status = "", 0
+        found = self.found()
+        for code in sorted(found, key=lambda code: (WORDS_OF[code][0], code)):
+            level, words = WORDS_OF[code]
+            front = "" if name is None else for_line(name) + ": "
+            for feature in in_order(found[code]):
+                text += f"{front}{level} | {code} | {for_line(feature)} | {words}\n"
+                status = 0 if level == "hint" else 3
+        return text, status
+
+
+def lint(path):
+    text, status = Lint(load(path)).lines()
+    return f"{text}status {status}\n"
+
+
 # audit
 
 
@@ -409,6 +500,7 @@ def report(root):
 
 TOOLS = {
     "index": index,
+    "lint": lint,
     "document": lambda path: Document(path).page(),
     "graph": lambda path: Document(path).dot(),
     "audit": audit,

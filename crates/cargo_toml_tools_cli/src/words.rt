@@ -6,13 +6,15 @@ use std::alloc::{AllocError, Global};
 
 /// How the program is called.
 pub const USAGE: &str = "usage: cargo-toml-tools index [--checksum HEX] FILE.. | \
-    audit [--json] FOLDER | document [--dot] FILE..\n";
+    lint FILE.. | audit [--json] FOLDER | document [--dot] FILE..\n";
 
 /// What the program is asked to do.
 #[derive(Debug, Drop)]
 pub enum Request<'a> {
     /// The lines that an index has of these crates. A checksum is that of the only one.
     Index(Vec<&'a str>, Option<&'a str>),
+    /// What is amiss with these crates' features.
+    Lint(Vec<&'a str>),
     /// The report on the workspace in this folder, as JSON or as lines.
     Audit(&'a str, bool),
     /// What is documented of these crates' features, as a graph or as a page.
@@ -36,6 +38,7 @@ fn command(alloc: Global) -> Result<Command<'static>, AllocError> {
     let index = Command::new(alloc, "index")
         .arg(Arg::new(alloc, "checksum").long("checksum"))?
         .arg(files(alloc))?;
+    let lint = Command::new(alloc, "lint").arg(files(alloc))?;
     let audit = Command::new(alloc, "audit")
         .arg(flag(alloc, "json"))?
         .arg(Arg::new(alloc, "folder").required(true))?;
@@ -45,6 +48,7 @@ fn command(alloc: Global) -> Result<Command<'static>, AllocError> {
     Command::new(alloc, "cargo-toml-tools")
         .disable_help_subcommand(true)
         .subcommand(index)?
+        .subcommand(lint)?
         .subcommand(audit)?
         .subcommand(document)
 }
@@ -69,6 +73,7 @@ fn request_of<'a>(
     };
     match name {
         "index" => index(alloc, matches),
+        "lint" => Ok(Some(Request::Lint(named(alloc, matches)?))),
         "audit" => Ok(audit(matches)),
         "document" => Ok(Some(Request::Document(named(alloc, matches)?, matches.get_flag("dot")))),
         _ => Ok(None),

@@ -7,7 +7,7 @@
 
 use cargo_toml::Error;
 use cargo_toml_tools::escape::fault_line;
-use cargo_toml_tools_files::{audit, document, index};
+use cargo_toml_tools_files::{audit, document, index, lint};
 use std::alloc::Global;
 use std::random::RandomSource;
 use std::rt::Files;
@@ -28,10 +28,10 @@ fn told<F: fmt::Display + Drop>(
     }
 }
 
-/// What came of an audit, with the status at its end.
+/// What came of an audit or of lint, with the status at its end.
 fn reported(
     alloc: Global,
-    folder: &str,
+    file: &str,
     made: Result<(String, bool), Error>,
 ) -> Result<String, Error> {
     match made {
@@ -39,7 +39,7 @@ fn reported(
             let status = if odd { 3 } else { 0 };
             Ok(format!(in alloc; "{report}status {status}\n")?)
         }
-        Err(fault) => told(alloc, folder, Err(fault)),
+        Err(fault) => told(alloc, file, Err(fault)),
     }
 }
 
@@ -66,6 +66,7 @@ fn answer<R: Files + RandomSource + Eprint + AllocGlobal>(
             let checksum = checksum.as_ref().map(|text| text.as_str().trim_end());
             told(alloc, "FILE", index(rt, file.as_str(), checksum))
         }
+        "lint" => reported(alloc, "FILE", lint(rt, file.as_str(), false)),
         "document" => told(alloc, "FILE", document(rt, file.as_str(), false)),
         "graph" => told(alloc, "FILE", document(rt, file.as_str(), true)),
         "audit" => reported(alloc, "FOLDER", audit(rt, row, false, false)),

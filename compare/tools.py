@@ -3,7 +3,7 @@
 
     compare/tools.py index|lint|document|graph FILE..     # prints what is wanted of these manifests
     compare/tools.py audit|report FOLDER..                # and of these workspaces
-    compare/tools.py --compare index|lint|document|graph FILE..     # holds the program against that
+    compare/tools.py --compare TOOL FILE|FOLDER..         # holds the program against that
 
 Nothing here follows the program's code. Features are found by definitions.py.
 """
@@ -506,7 +506,16 @@ TOOLS = {
     "audit": audit,
     "report": report,
 }
-WORDS = {"index": ["index"], "document": ["document"], "graph": ["document", "--dot"]}
+WORDS = {
+    "index": ["index"],
+    "lint": ["lint"],
+    "document": ["document"],
+    "graph": ["document", "--dot"],
+    "audit": ["audit"],
+    "report": ["audit", "--json"],
+}
+# the tools whose status says what they found
+TELLING = ["lint", "audit", "report"]
 
 
 def wanted(tool, path):
@@ -521,11 +530,14 @@ def compare(tool, paths):
     differ = 0
     for path in paths:
         done = subprocess.run([PROGRAM, *WORDS[tool], path], capture_output=True, text=True, check=False)
-        if (done.stdout or done.stderr) != (want := wanted(tool, path)):
+        told = done.stdout or done.stderr
+        if tool in TELLING and not done.stderr:
+            told += f"status {done.returncode}\n"
+        if told != (want := wanted(tool, path)):
             differ += 1
             if differ <= 3:
-                print(path, done.stdout or done.stderr, want, sep="\n")
-    print(f"{len(paths)} manifests, {differ} differ")
+                print(path, told, want, sep="\n")
+    print(f"{len(paths)} of {tool}, {differ} differ")
     return differ
 
 

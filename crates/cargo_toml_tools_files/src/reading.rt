@@ -31,7 +31,10 @@ pub(crate) fn completed_of<R: Files + AllocGlobal>(
 }
 
 /// The manifest in this file.
-pub(crate) fn manifest_in<R: Files + AllocGlobal>(rt: &R, path: &str) -> Result<Box<Manifest>, Error> {
+pub(crate) fn manifest_in<R: Files + AllocGlobal>(
+    rt: &R,
+    path: &str,
+) -> Result<Box<Manifest>, Error> {
     let text = text_in(rt, path)?;
     manifest_of(rt.alloc(), text.as_str())
 }

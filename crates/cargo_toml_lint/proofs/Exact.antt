@@ -38,9 +38,9 @@ module _ {M S H : Type 0} (limit : ℕ) (m : ManifestMeaning M) (a : Features S 
   holds_is Unknown f =
       both (same_as (λ i. lists (listed i) (is_unknown (names i)) f || (ap (λ n. is_required n (table_in a.features).has m.bin f) names ∙ required_is a.features (parsed_table limit m) Removed none parsed.kept.resolved (names_of m) m.bin f) i))
       (either _ _)
-  holds_is Implied f = implied_is a.features (admitted limit m.features) (parsed_entries limit m) Removed none parsed.kept.resolved parsed.kept.explicit f
-  holds_is PrivateDefault f = private_is a.features (parsed_table limit m) Removed none parsed.kept.resolved f
+  holds_is Implied f = implied_is a.features (admitted limit m.features) (parsed_entries limit m) m.feature_details Removed none parsed.kept.resolved parsed.kept.marks f
+  holds_is PrivateDefault f = private_is a.features (admitted limit m.features) (parsed_entries limit m) m.feature_details Removed none parsed.kept.resolved parsed.kept.marks f
   holds_is Cycle f = cyclic_is a.features (parsed_table limit m) Removed none parsed.kept.resolved f
   holds_is OverLimit f =
-      same_as (ap (λ ls. over_at a.features limit ls f) listed ∙ over_is a.features (admitted limit m.features) (parsed_entries limit m) Removed none parsed.kept.resolved parsed.kept.explicit limit m.features f)
+      same_as (ap (λ ls. over_at a.features limit ls f) listed ∙ over_is a.features (admitted limit m.features) (parsed_entries limit m) m.feature_details Removed none parsed.kept.resolved parsed.kept.marks limit m.features f)
   holds_is Unreachable f = unreachable_is a.features (parsed_table limit m) Removed none parsed.kept.resolved f

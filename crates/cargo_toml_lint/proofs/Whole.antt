@@ -9,8 +9,10 @@ use Rattle.std.specs.List.{list_any}
 use Rattle.std.specs.Option.{option_map_or}
 use Rattle.cargo_toml.specs.Action.{Text}
 use Rattle.cargo_toml.specs.Admitted.{Listed, is_explicit}
+use Rattle.cargo_toml.specs.Details.{plain_detail}
 use Rattle.cargo_toml.specs.Feature.{Feature}
 use Rattle.cargo_toml.specs.Graph.{Table, Edge, IsKept, IsResolved}
+use Rattle.cargo_toml.specs.Marks.{Details, Marks, marked, marks_in, marks_of}
 use Rattle.cargo_toml.specs.NonDefault.{without_default}
 use Rattle.cargo_toml.specs.Products.{ProductMeaning}
 use Rattle.cargo_toml.specs.Reach.{Gathers, Reaches}
@@ -148,38 +150,31 @@ module _ {S : Type 0} (m : HashMap (Bor Text) Feature S) (t : Table) (Removed : 
     λ u. record { known = held f u.known; hidden = u.hidden; left_alone = λ k h kept e. u.left_alone k (there k h) kept (enables_in (there k h) e) },
   )
 
-  only_default_is : (f : Text) → IsTrue (option_map_or only_default (value_at m f) false) ↔ IsOnlyDefault t f
-  only_default_is f = go (value_at m f) refl
-    where
-      go : (o : Option Feature) → value_at m f ≡ o → IsTrue (option_map_or only_default o false) ↔ IsOnlyDefault t f
-      go None is = (λ y. absurd (false≢true y), λ u. absurd (false≢true (sym (ap is_some is) ∙ held f u.default_does.target)))
-      go (Some v) is =
-          let known : IsTrue (t.has f) = there f (ap is_some is) in
-          let told : (e : Text) → (resolution_of m).enabled_by f e ≡ has_text v.enabled_by e = λ e. ap (λ o. option_map_or (λ (u : Feature). has_text u.enabled_by e) o false) is in (
-            λ y.
-                let p = and_parts (has_text v.enabled_by (codes "default")) (length (without_default v.enabled_by.keys) == 0) y in
-                record {
-                  default_does = (enablers f (codes "default") known).0 (told (codes "default") ∙ p.0);
-                  no_other = λ e d. only_keys v.enabled_by.keys (eqb-true _ _ p.1) e (sym (told e) ∙ (enablers f e known).1 d);
-                },
-            λ u. and_from (has_text v.enabled_by (codes "default")) (length (without_default v.enabled_by.keys) == 0)
-                (sym (told (codes "default")) ∙ (enablers f (codes "default") known).1 u.default_does)
-                ((Decides-eqb _ 0).1 (no_keys v.enabled_by.keys (λ e h. u.no_other e ((enablers f e known).0 (told e ∙ h))))),
-          )
-
-  pub private_is : (f : Text) → IsTrue (private_default_at m f) ↔ (IsTrue (is_hidden f || is_private f) × IsOnlyDefault t f)
-  private_is f = (
-    λ y. let p = and_parts (is_hidden f || is_private f) _ y in (p.0, (only_default_is f).0 p.1),
-    λ h. and_from (is_hidden f || is_private f) _ h.0 ((only_default_is f).1 h.1),
-  )
+  only_default_is : (f : Text) (v : Feature) → value_at m f ≡ Some v → IsTrue (only_default v) ↔ IsOnlyDefault t f
+  only_default_is f v is =
+      let known : IsTrue (t.has f) = there f (ap is_some is) in
+      let told : (e : Text) → (resolution_of m).enabled_by f e ≡ has_text v.enabled_by e = λ e. ap (λ o. option_map_or (λ (u : Feature). has_text u.enabled_by e) o false) is in (
+        λ y.
+            let p = and_parts (has_text v.enabled_by (codes "default")) (length (without_default v.enabled_by.keys) == 0) y in
+            record {
+              default_does = (enablers f (codes "default") known).0 (told (codes "default") ∙ p.0);
+              no_other = λ e d. only_keys v.enabled_by.keys (eqb-true _ _ p.1) e (sym (told e) ∙ (enablers f e known).1 d);
+            },
+        λ u. and_from (has_text v.enabled_by (codes "default")) (length (without_default v.enabled_by.keys) == 0)
+            (sym (told (codes "default")) ∙ (enablers f (codes "default") known).1 u.default_does)
+            ((Decides-eqb _ 0).1 (no_keys v.enabled_by.keys (λ e h. u.no_other e ((enablers f e known).0 (told e ∙ h))))),
+      )
 
   pub required_is : (n : Names) (bins : List ProductMeaning) (f : Text) → is_required n (table_in m).has bins f ≡ is_required n t.has bins f
   required_is n bins f = λ i. is_required n (λ x. has_same x i) bins f
 
-module _ {S : Type 0} (m : HashMap (Bor Text) Feature S) (listed : Listed) (entries : List Entry) (Removed : Text → Type 0) (none : (f : Text) → ¬ Removed f) (resolved : IsResolved (table_of listed entries) Removed (resolution_of m))
-    (explicit : (f : Text) → IsTrue ((table_in m).has f) → explicit_at m f ≡ is_explicit listed f) where
+module _ {S : Type 0} (m : HashMap (Bor Text) Feature S) (listed : Listed) (entries : List Entry) (details : Details) (Removed : Text → Type 0) (none : (f : Text) → ¬ Removed f) (resolved : IsResolved (table_of listed entries) Removed (resolution_of m))
+    (marks : (f : Text) → IsTrue ((table_in m).has f) → option_map_or marks_of (value_at m f) (marked false plain_detail) ≡ marks_in listed details f) where
   known_as : (f : Text) → (table_in m).has f ≡ (is_explicit listed f || is_implied listed entries f)
   known_as f = has_same m (table_of listed entries) Removed none resolved f
+
+  mark : (f : Text) (v : Feature) → value_at m f ≡ Some v → marks_of v ≡ marks_in listed details f
+  mark f v is = subst (λ o. option_map_or marks_of o (marked false plain_detail) ≡ marks_in listed details f) is (marks f (ap is_some is))
 
   pub explicit_is : (f : Text) → explicit_at m f ≡ is_explicit listed f
   explicit_is f = go (value_at m f) refl
@@ -188,7 +183,22 @@ module _ {S : Type 0} (m : HashMap (Bor Text) Feature S) (listed : Listed) (entr
       go None is =
           ap (λ o. option_map_or (λ (v : Feature). v.explicit) o false) is
           ∙ sym (false_from_ne_true (is_explicit listed f) (λ e. false≢true (sym (ap is_some is) ∙ known_as f ∙ or_left _ _ e)))
-      go (Some v) is = explicit f (ap is_some is)
+      go (Some v) is = ap (λ o. option_map_or (λ (v : Feature). v.explicit) o false) is ∙ ap (λ (k : Marks). k.explicit) (mark f v is)
+
+  pub private_is : (f : Text) → IsTrue (private_default_at m f) ↔ (IsTrue (is_hidden f || is_private listed details f) × IsOnlyDefault (table_of listed entries) f)
+  private_is f = go (value_at m f) refl
+    where
+      go : (o : Option Feature) → value_at m f ≡ o → IsTrue (option_map_or (λ v. (is_hidden f || not v.public) && only_default v) o false) ↔ (IsTrue (is_hidden f || is_private listed details f) × IsOnlyDefault (table_of listed entries) f)
+      go None is = (
+        λ y. absurd (false≢true y),
+        λ h. absurd (false≢true (sym (ap is_some is) ∙ held m (table_of listed entries) Removed none resolved f h.1.default_does.target)),
+      )
+      go (Some v) is =
+          let shut : (is_hidden f || not v.public) ≡ (is_hidden f || is_private listed details f) = ap (λ (k : Marks). is_hidden f || not k.public) (mark f v is) in
+          let only = only_default_is m (table_of listed entries) Removed none resolved f v is in (
+            λ y. let p = and_parts (is_hidden f || not v.public) (only_default v) y in (sym shut ∙ p.0, only.0 p.1),
+            λ h. and_from (is_hidden f || not v.public) (only_default v) (shut ∙ h.0) (only.1 h.1),
+          )
 
   pub implied_is : (f : Text) → IsTrue (implied_at m f) ↔ IsTrue (is_implied listed entries f)
   implied_is f = go (value_at m f) refl
@@ -223,7 +233,7 @@ module _ {S : Type 0} (m : HashMap (Bor Text) Feature S) where
   implied_has f h = there_is f (λ v. not v.explicit) h
 
   pub private_has : (f : Text) → IsTrue (private_default_at m f) → IsTrue ((table_in m).has f)
-  private_has f h = there_is f only_default (and_parts (is_hidden f || is_private f) _ h).1
+  private_has f h = there_is f (λ v. (is_hidden f || not v.public) && only_default v) h
 
   pub ring_has : (f : Text) → IsRing (resolution_of m) f → IsTrue ((table_in m).has f)
   ring_has f r = there_is f (λ v. has_text v.enabled_by r.0) r.1

@@ -1,5 +1,5 @@
 -- What is found in the maps of an answer, of the table of a manifest.
-use Rattle.std.proofs.Common.{◌≡◌, ◌≢◌, ◌⊎◌, ◌↔◌, ◌||◌, ◌&&◌, ◌==◌, not, Bool, true, false, ℕ, List, [], ◌∷◌, length, filter, Option, Some, None, is_some, Bor, IsTrue, IsFalse, bytes_eq, codes, nat_lt, arith, refl, sym, ap, subst, inl, inr, ◌∙◌}
+use Rattle.std.proofs.Common.{◌≡◌, ◌≢◌, ◌⊎◌, ◌↔◌, ◌||◌, ◌&&◌, ◌==◌, not, cond, Bool, true, false, ℕ, List, [], ◌∷◌, length, Option, Some, None, is_some, Bor, IsTrue, IsFalse, bytes_eq, codes, nat_lt, arith, refl, sym, ap, subst, inl, inr, ◌∙◌}
 use Rattle.std.proofs.lemmas.Bool.{false≢true, and_parts, and_from, not-true, not_from_false, not_from_true, false_from_ne_true, true_from_ne_false, or_cases, or_left, or_right, cases_Bool, eqb-true}
 use Rattle.std.proofs.lemmas.Bool.Decides.{Decides-eqb}
 use Rattle.std.proofs.lemmas.Map.Text.{is_eq-slice_cmp}
@@ -42,29 +42,30 @@ same_truth false false h = refl
 abbrev is_default : Text → Bool
 is_default e = bytes_eq e (codes "default")
 
+skips_default : (k : Bor Text) (ks : List (Bor Text)) → is_default k.now ≡ true → without_default (k ∷ ks) ≡ without_default ks
+skips_default k ks is = ap (λ b. cond (not b) (k ∷ without_default ks) (without_default ks)) is
+
+keeps_other : (k : Bor Text) (ks : List (Bor Text)) → is_default k.now ≡ false → without_default (k ∷ ks) ≡ k ∷ without_default ks
+keeps_other k ks is = ap (λ b. cond (not b) (k ∷ without_default ks) (without_default ks)) is
+
 only_keys : (ks : List (Bor Text)) → length (without_default ks) ≡ 0 → (e : Text) → IsTrue (has_in ks e) → e ≡ codes "default"
 only_keys [] none e h = absurd (false≢true h)
-only_keys (k ∷ ks) none e h = go (is_default k.now) refl
+only_keys (k ∷ ks) none e h = go (λ n i. only_keys ks n e i) (is_default k.now) refl
   where
-    go : (d : Bool) → is_default k.now ≡ d → e ≡ codes "default"
-    go true is = elim (at_head k ks e h) [
+    go : (length (without_default ks) ≡ 0 → IsTrue (has_in ks e) → e ≡ codes "default") → (d : Bool) → is_default k.now ≡ d → e ≡ codes "default"
+    go rest true is = elim (at_head k ks e h) [
       | inl s ↦ s ∙ (bytes_eq-Decides k.now (codes "default")).0 is
-      | inr i ↦ only_keys ks (sym (ap length (kept k ks is)) ∙ none) e i
+      | inr i ↦ rest (sym (ap length (skips_default k ks is)) ∙ none) i
     ]
-      where
-        kept : (k : Bor Text) (ks : List (Bor Text)) → is_default k.now ≡ true → without_default (k ∷ ks) ≡ without_default ks
-        kept k ks is = rw is refl
-    go false is = absurd (some k ks is none)
-      where
-        some : (k : Bor Text) (ks : List (Bor Text)) → is_default k.now ≡ false → ¬ (length (without_default (k ∷ ks)) ≡ 0)
-        some k ks is h = let e : without_default (k ∷ ks) ≡ k ∷ without_default ks = rw is refl in absurd (omega (arith, sym (ap length e) ∙ h))
+    go rest false is =
+        let some : length (k ∷ without_default ks) ≡ 0 = sym (ap length (keeps_other k ks is)) ∙ none in
+        absurd (omega arith)
 
 no_keys : (ks : List (Bor Text)) → ((e : Text) → IsTrue (has_in ks e) → e ≡ codes "default") → length (without_default ks) ≡ 0
 no_keys [] all = refl
 no_keys (k ∷ ks) all =
     let is : is_default k.now ≡ true = (bytes_eq-Decides k.now (codes "default")).1 (all k.now (or_left _ _ (is_eq-slice_cmp k.now k.now ∙ (bytes_eq-Decides k.now k.now).1 refl))) in
-    let rest : length (without_default ks) ≡ 0 = no_keys ks (λ e h. all e (or_right _ _ h)) in
-    rw is rest
+    ap length (skips_default k ks is) ∙ no_keys ks (λ e h. all e (or_right _ _ h))
 
 -- ---- what a feature enables
 enables_more : {t : Table} {f g h : Text} → Enables t f g → Enables t g h → Enables t f h
@@ -204,7 +205,7 @@ module _ {S : Type 0} (m : HashMap (Bor Text) Feature S) (listed : Listed) (entr
   implied_is f = go (value_at m f) refl
     where
       unlisted : IsTrue (is_implied listed entries f) → IsFalse (is_explicit listed f)
-      unlisted h = not-true _ (and_parts (not (is_reserved listed f)) (not (is_explicit listed f)) (and_parts _ _ h).1).1
+      unlisted h = not-true (is_explicit listed f) (and_parts _ _ h).1
 
       go : (o : Option Feature) → value_at m f ≡ o → IsTrue (option_map_or (λ v. not v.explicit) o false) ↔ IsTrue (is_implied listed entries f)
       go None is = (λ y. absurd (false≢true y), λ h. absurd (false≢true (sym (ap is_some is) ∙ known_as f ∙ or_right _ _ h)))

@@ -32,7 +32,7 @@ pub(crate) fn names<'m, S: BuildHasher>(
     ensures { IfOk result (λ s. (f : Text) → has_text s f ≡ (table_in features.now).has f) }
 {
     let mut names = BTreeSet::new(alloc);
-    for (name, _) in features {
+    for name in features.keys() {
         names.insert(*name)?;
     }
     Ok(names)

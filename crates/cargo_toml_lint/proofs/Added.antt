@@ -1,6 +1,7 @@
 -- Findings of one code after those of others.
-use Rattle.std.proofs.Common.{◌≡◌, ◌⊎◌, ◌↔◌, ◌<◌, ◌≤◌, ◌+◌, ℕ, List, [], ◌∷◌, ◌++◌, map, Bor, IsTrue, Bool, true, false, arith, append-nil, refl, sym, ap, subst, inl, inr, ◌∙◌}
+use Rattle.std.proofs.Common.{◌≡◌, ◌⊎◌, ◌↔◌, ◌<◌, ◌≤◌, ◌+◌, ℕ, List, [], ◌∷◌, ◌++◌, map, Bor, IsTrue, Bool, true, false, arith, append_assoc, append-nil, refl, sym, ap, subst, inl, inr, ◌∙◌}
 use Rattle.std.proofs.lemmas.Bool.{false≢true, or_cases, or_left, or_right, lt-ltb}
+use Rattle.std.proofs.lemmas.List.{map_push}
 use Rattle.std.proofs.lemmas.Map.Text.{is_eq-slice_cmp}
 use Rattle.std.proofs.lemmas.Slice.Eq.{bytes_eq-Decides}
 use Rattle.std.specs.Cmp.Lexicographic.{slice_cmp}
@@ -14,10 +15,11 @@ use Rattle.cargo_toml.specs.Action.{Text}
 use Rattle.cargo_toml.specs.Feature.{Feature}
 use Rattle.cargo_toml.specs.Products.{ProductMeaning}
 use Rattle.cargo_toml.specs.Reach.{Among}
-use Rattle.cargo_toml_lint.specs.Findings.{about_cmp, rank}
-use Rattle.cargo_toml_lint.specs.Steps.{Abouts, Adds, AddsOne, AreBelow, AreErrors, AreHints, AreWarnings, At, HoldsIn}
+use Rattle.cargo_toml_lint.specs.Findings.{IsTold, about, about_cmp, rank}
+use Rattle.cargo_toml_lint.specs.Steps.{Abouts, Adds, AddsOne, AreBelow, AreErrors, AreHints, AreTold, AreWarnings, At, HoldsIn}
 use Rattle.cargo_toml_lint.specs.declared.finding.Code.{Code}
 use Rattle.cargo_toml_lint.specs.declared.finding.Code.TheVariants.{NotOptional, SameName, Unknown, Implied, PrivateDefault, Cycle, OverLimit, Unreachable}
+use Rattle.cargo_toml_lint.specs.declared.finding.Finding.{Finding}
 use Rattle.cargo_toml_lint.specs.declared.known.Known.{Known}
 use Rattle.cargo_toml_lint.proofs.Gathered.{has_in}
 
@@ -112,6 +114,18 @@ adds_one d ks old new is ordered = record {
     below = both_all _ old (with_code d ks) (each_all (λ x. rank x.0 < rank d) (λ x. rank x.0 < rank d + 1) old (λ x h. omega arith) b.below) (code_below d ks);
   });
 }
+
+-- one more finding
+pub one_added : (d : Code) (k : Bor Text) (left rest : List (Bor Text)) (old new : List Finding) (x : Finding) (all : Abouts) → left ≡ k ∷ rest → new ≡ old ++ x ∷ []
+    → x.code ≡ d → x.feature.now ≡ k.now → map about old ++ with_code d left ≡ all → map about new ++ with_code d rest ≡ all
+one_added d k left rest old new x all is put code feature before =
+    ap (λ xs. map about xs ++ with_code d rest) put ∙ ap (λ ys. ys ++ with_code d rest) (map_push about old x)
+    ∙ append_assoc (map about old) (about x ∷ []) (with_code d rest)
+    ∙ (λ i. map about old ++ (code i, feature i) ∷ with_code d rest)
+    ∙ ap (λ ks. map about old ++ with_code d ks) (sym is) ∙ before
+
+pub one_told : (old new : List Finding) (x : Finding) → new ≡ old ++ x ∷ [] → IsTold x → AreTold old → AreTold new
+one_told old new x put told all = subst AreTold (sym put) (both_all IsTold old (x ∷ []) all (told, tt))
 
 -- one after the other
 pub adds_both : {r s u : ℕ} {P Q : Code → Text → Type 0} {a b c : Abouts} → Adds r s P a b → Adds s u Q b c → Adds r u (λ d f. P d f ⊎ Q d f) a c

@@ -1,8 +1,8 @@
 -- What a loop over a list gathers.
-use Rattle.std.proofs.Common.{◌≡◌, ◌⊎◌, ◌↔◌, ◌||◌, ◌&&◌, ◌<◌, ◌+◌, ℕ, Bool, true, false, List, [], ◌∷◌, ◌++◌, map, take, length, get_or, Bor, bytes_eq, IsTrue, refl, sym, ap, subst, inl, inr, ◌∙◌}
+use Rattle.std.proofs.Common.{◌≡◌, ◌⊎◌, ◌↔◌, ◌||◌, ◌&&◌, ◌<◌, ◌≤◌, ◌+◌, ◌==◌, not, ℕ, Bool, true, false, Option, Some, None, MatchOption, is_some, arith, List, [], ◌∷◌, ◌++◌, map, take, length, get_or, Bor, bytes_eq, IsTrue, refl, sym, ap, subst, inl, inr, ◌∙◌}
 use Rattle.std.proofs.Math.Bool.{and-true, or-false, or_assoc}
-use Rattle.std.proofs.lemmas.List.{map_push, take_more}
-use Rattle.std.proofs.lemmas.Bool.{false≢true, or_cases, or_left, or_right}
+use Rattle.std.proofs.lemmas.List.{map_push, take_all, take_more}
+use Rattle.std.proofs.lemmas.Bool.{false≢true, ne_eqb, or_cases, or_left, or_right}
 use Rattle.std.proofs.lemmas.List.Folds.{list_any-append}
 use Rattle.std.proofs.lemmas.Map.Text.{is_eq-slice_cmp}
 use Rattle.std.proofs.lemmas.Slice.Eq.{bytes_eq-Decides}
@@ -15,6 +15,10 @@ use Rattle.cargo_toml.specs.Action.{Text}
 use Rattle.cargo_toml.specs.Views.{has_text}
 
 module _ {A : Type 0} (hits : A → Bool) where
+  -- none is taken up yet
+  pub starts : (old : Bool) (left all : List A) → old ≡ false → left ≡ all → (old || list_any hits left) ≡ list_any hits all
+  starts old left all none is = ap (λ t. t || list_any hits left) none ∙ ap (list_any hits) is
+
   -- one element is taken up
   pub goes_on : (old new : Bool) (x : A) (left rest : List A) (all : Bool) → left ≡ x ∷ rest → new ≡ (old || hits x) →
       (old || list_any hits left) ≡ all → (new || list_any hits rest) ≡ all
@@ -48,10 +52,10 @@ pub record Gathers (P : Text → Type 0) (left : List (Bor Text)) (s : BTreeSet 
   pub complete : (f : Text) → P f → IsTrue (has_text s f) ⊎ IsTrue (has_in left f)
 
 module _ (P : Text → Type 0) where
-  pub begun : (ks : List (Bor Text)) (s : BTreeSet (Bor Text)) → s.keys ≡ [] → ((f : Text) → P f → IsTrue (has_in ks f)) → Gathers P ks s
-  begun ks s none all = record {
+  pub begun : (ks all : List (Bor Text)) (s : BTreeSet (Bor Text)) → ks ≡ all → s.keys ≡ [] → ((f : Text) → P f → IsTrue (has_in all f)) → Gathers P ks s
+  begun ks all s is none each = record {
     sound = λ f h. absurd (false≢true (ap (λ xs. has_in xs f) (sym none) ∙ h));
-    complete = λ f p. inr (all f p);
+    complete = λ f p. inr (ap (λ xs. has_in xs f) is ∙ each f p);
   }
 
   pub skipped : (k : Bor Text) (left rest : List (Bor Text)) (s : BTreeSet (Bor Text)) → left ≡ k ∷ rest → ¬ P k.now → Gathers P left s → Gathers P rest s
@@ -95,6 +99,14 @@ any_more p g xs i x below read =
     ∙ ap (list_any p) (map_push g (take i xs) x) ∙ list_any-append p (map g (take i xs)) (g x ∷ [])
     ∙ ap (λ b. list_any p (map g (take i xs)) || b) (or-false (p (g x)))
 
+-- each of the elements
+pub all_seen : {X Y : Type 0} (p : Y → Bool) (g : X → Y) (xs : List X) (i : ℕ) → length xs ≤ i → list_any p (map g (take i xs)) ≡ list_any p (map g xs)
+all_seen p g xs i past = ap (λ ys. list_any p (map g ys)) (take_all i xs past)
+
+pub any_map : {X Y : Type 0} (p : Y → Bool) (g : X → Y) (xs : List X) → list_any p (map g xs) ≡ list_any (λ x. p (g x)) xs
+any_map p g [] = refl
+any_map p g (x ∷ xs) = ap (λ b. p (g x) || b) (any_map p g xs)
+
 -- one more hit, after those that were there
 pub more_hits : (start before old new hit now : Bool) → old ≡ (start || before) → new ≡ (old || hit) → now ≡ (before || hit) → new ≡ (start || now)
 more_hits start before old new hit now had put is = put ∙ ap (λ b. b || hit) had ∙ or_assoc start before hit ∙ ap (λ b. start || b) (sym is)
@@ -108,3 +120,10 @@ hit_settles p x left rest all is hit before = sym before ∙ ap (list_any p) is 
 
 pub miss_passes : {A : Type 0} (p : A → Bool) (x : A) (left rest : List A) (all : Bool) → left ≡ x ∷ rest → p x ≡ false → list_any p left ≡ all → list_any p rest ≡ all
 miss_passes p x left rest all is miss before = ap (λ b. b || list_any p rest) (sym miss) ∙ ap (list_any p) (sym is) ∙ before
+
+-- whether an iterator over what is left has nothing to give
+pub none_left : {K : Type 0} (ks rest : List K) (r : Option K) (none : Bool) → is_some r ≡ not none → MatchOption r ((ks ≡ []) × (rest ≡ [])) (λ x. ks ≡ x ∷ rest) → none ≡ (length ks == 0)
+none_left ks rest None true said left = sym (ap (λ xs. length xs == 0) left.0)
+none_left ks rest None false said left = absurd (false≢true said)
+none_left ks rest (Some x) true said left = absurd (false≢true (sym said))
+none_left ks rest (Some x) false said left = sym (ne_eqb (length ks) 0 (λ e. omega (arith, ap length left)))

@@ -14,11 +14,15 @@ use Rattle.cargo_toml_lint.proofs.Gathered.{any_flat}
 pub listed_in : {X Y : Type 0} (g : X → Y) (f : Text) (es : List (String Global × X)) →
     is_some (lookup (is_at (λ k. slice_cmp nat_cmp f (string_bytes k))) es) ≡ list_any (λ e. bytes_eq f e.0) (map (λ e. (string_bytes e.0, g e.1)) es)
 listed_in g f [] = refl
-listed_in g f (e ∷ es) = go (is_at (λ k. slice_cmp nat_cmp f (string_bytes k)) e.0) (is_eq-slice_cmp f (string_bytes e.0))
+listed_in {X} {Y} g f (e ∷ es) = go (listed_in g f es) (is_at (λ k. slice_cmp nat_cmp f (string_bytes k)) e.0) (is_eq-slice_cmp f (string_bytes e.0))
   where
-    go : (b : Bool) → b ≡ bytes_eq f (string_bytes e.0) → is_some (cond b (Some e.1) (lookup (is_at (λ k. slice_cmp nat_cmp f (string_bytes k))) es)) ≡ (bytes_eq f (string_bytes e.0) || list_any (λ e. bytes_eq f e.0) (map (λ e. (string_bytes e.0, g e.1)) es))
-    go true same = ap (λ b. b || list_any (λ e. bytes_eq f e.0) (map (λ e. (string_bytes e.0, g e.1)) es)) same
-    go false same = listed_in g f es ∙ ap (λ b. b || list_any (λ e. bytes_eq f e.0) (map (λ e. (string_bytes e.0, g e.1)) es)) same
+    rest : Bool
+    rest = list_any (λ (e : Text × Y). bytes_eq f e.0) (map (λ (e : String Global × X). (string_bytes e.0, g e.1)) es)
+
+    go : is_some (lookup (is_at (λ k. slice_cmp nat_cmp f (string_bytes k))) es) ≡ rest → (b : Bool) → b ≡ bytes_eq f (string_bytes e.0)
+        → is_some (cond b (Some e.1) (lookup (is_at (λ k. slice_cmp nat_cmp f (string_bytes k))) es)) ≡ (bytes_eq f (string_bytes e.0) || rest)
+    go before true same = ap (λ b. b || rest) same
+    go before false same = before ∙ ap (λ b. b || rest) same
 
 -- three tables, then those of each target
 pub all_tables : {A B : Type 0} (p : A → Bool) (g : B → List A) (a b c : A) (bs : List B) (none one two three all : Bool) →

@@ -106,10 +106,10 @@ pub record Reaching (t : Table) (left : List (Bor Text)) (s : BTreeSet (Bor Text
   pub complete : (x k : Text) → IsTrue (t.has k) → IsFalse (is_hidden k) → Enables t k x → IsTrue (has_text s x) ⊎ IsTrue (has_in left k)
 
 module _ (t : Table) where
-  pub reach_begun : (ks : List (Bor Text)) (s : BTreeSet (Bor Text)) → s.keys ≡ [] → ((f : Text) → IsTrue (t.has f) → IsTrue (has_in ks f)) → Reaching t ks s
-  reach_begun ks s none all = record {
+  pub reach_begun : (ks all : List (Bor Text)) (s : BTreeSet (Bor Text)) → ks ≡ all → s.keys ≡ [] → ((f : Text) → IsTrue (t.has f) → IsTrue (has_in all f)) → Reaching t ks s
+  reach_begun ks all s is none each = record {
     sound = λ x h. absurd (false≢true (ap (λ xs. has_in xs x) (sym none) ∙ h));
-    complete = λ x k h p e. inr (all k h);
+    complete = λ x k h p e. inr (ap (λ xs. has_in xs k) is ∙ each k h);
   }
 
   pub reach_skipped : (k : Bor Text) (left rest : List (Bor Text)) (s : BTreeSet (Bor Text)) → left ≡ k ∷ rest → IsTrue (is_hidden k.now) → Reaching t left s → Reaching t rest s

@@ -1,5 +1,5 @@
 -- What is found in the maps of an answer, of the table of a manifest.
-use Rattle.std.proofs.Common.{◌≡◌, ◌≢◌, ◌⊎◌, ◌↔◌, ◌||◌, ◌&&◌, ◌==◌, not, Bool, true, false, ℕ, List, [], ◌∷◌, length, filter, Option, Some, None, is_some, Bor, IsTrue, IsFalse, bytes_eq, codes, nat_lt, arith, refl, sym, ap, subst, inl, inr, ◌∙◌}
+use Rattle.std.proofs.Common.{◌≡◌, ◌≢◌, ◌⊎◌, ◌↔◌, ◌||◌, ◌&&◌, ◌==◌, not, cond, Bool, true, false, ℕ, List, [], ◌∷◌, length, Option, Some, None, is_some, Bor, IsTrue, IsFalse, bytes_eq, codes, nat_lt, arith, refl, sym, ap, subst, inl, inr, ◌∙◌}
 use Rattle.std.proofs.lemmas.Bool.{false≢true, and_parts, and_from, not-true, not_from_false, not_from_true, false_from_ne_true, true_from_ne_false, or_cases, or_left, or_right, cases_Bool, eqb-true}
 use Rattle.std.proofs.lemmas.Bool.Decides.{Decides-eqb}
 use Rattle.std.proofs.lemmas.Map.Text.{is_eq-slice_cmp}
@@ -9,8 +9,10 @@ use Rattle.std.specs.List.{list_any}
 use Rattle.std.specs.Option.{option_map_or}
 use Rattle.cargo_toml.specs.Action.{Text}
 use Rattle.cargo_toml.specs.Admitted.{Listed, is_explicit}
+use Rattle.cargo_toml.specs.Details.{plain_detail}
 use Rattle.cargo_toml.specs.Feature.{Feature}
 use Rattle.cargo_toml.specs.Graph.{Table, Edge, IsKept, IsResolved}
+use Rattle.cargo_toml.specs.Marks.{Details, Marks, marked, marks_in, marks_of}
 use Rattle.cargo_toml.specs.NonDefault.{without_default}
 use Rattle.cargo_toml.specs.Products.{ProductMeaning}
 use Rattle.cargo_toml.specs.Reach.{Gathers, Reaches}
@@ -40,29 +42,30 @@ same_truth false false h = refl
 abbrev is_default : Text → Bool
 is_default e = bytes_eq e (codes "default")
 
+skips_default : (k : Bor Text) (ks : List (Bor Text)) → is_default k.now ≡ true → without_default (k ∷ ks) ≡ without_default ks
+skips_default k ks is = ap (λ b. cond (not b) (k ∷ without_default ks) (without_default ks)) is
+
+keeps_other : (k : Bor Text) (ks : List (Bor Text)) → is_default k.now ≡ false → without_default (k ∷ ks) ≡ k ∷ without_default ks
+keeps_other k ks is = ap (λ b. cond (not b) (k ∷ without_default ks) (without_default ks)) is
+
 only_keys : (ks : List (Bor Text)) → length (without_default ks) ≡ 0 → (e : Text) → IsTrue (has_in ks e) → e ≡ codes "default"
 only_keys [] none e h = absurd (false≢true h)
-only_keys (k ∷ ks) none e h = go (is_default k.now) refl
+only_keys (k ∷ ks) none e h = go (λ n i. only_keys ks n e i) (is_default k.now) refl
   where
-    go : (d : Bool) → is_default k.now ≡ d → e ≡ codes "default"
-    go true is = elim (at_head k ks e h) [
+    go : (length (without_default ks) ≡ 0 → IsTrue (has_in ks e) → e ≡ codes "default") → (d : Bool) → is_default k.now ≡ d → e ≡ codes "default"
+    go rest true is = elim (at_head k ks e h) [
       | inl s ↦ s ∙ (bytes_eq-Decides k.now (codes "default")).0 is
-      | inr i ↦ only_keys ks (sym (ap length (kept k ks is)) ∙ none) e i
+      | inr i ↦ rest (sym (ap length (skips_default k ks is)) ∙ none) i
     ]
-      where
-        kept : (k : Bor Text) (ks : List (Bor Text)) → is_default k.now ≡ true → without_default (k ∷ ks) ≡ without_default ks
-        kept k ks is = rw is refl
-    go false is = absurd (some k ks is none)
-      where
-        some : (k : Bor Text) (ks : List (Bor Text)) → is_default k.now ≡ false → ¬ (length (without_default (k ∷ ks)) ≡ 0)
-        some k ks is h = let e : without_default (k ∷ ks) ≡ k ∷ without_default ks = rw is refl in absurd (omega (arith, sym (ap length e) ∙ h))
+    go rest false is =
+        let some : length (k ∷ without_default ks) ≡ 0 = sym (ap length (keeps_other k ks is)) ∙ none in
+        absurd (omega arith)
 
 no_keys : (ks : List (Bor Text)) → ((e : Text) → IsTrue (has_in ks e) → e ≡ codes "default") → length (without_default ks) ≡ 0
 no_keys [] all = refl
 no_keys (k ∷ ks) all =
     let is : is_default k.now ≡ true = (bytes_eq-Decides k.now (codes "default")).1 (all k.now (or_left _ _ (is_eq-slice_cmp k.now k.now ∙ (bytes_eq-Decides k.now k.now).1 refl))) in
-    let rest : length (without_default ks) ≡ 0 = no_keys ks (λ e h. all e (or_right _ _ h)) in
-    rw is rest
+    ap length (skips_default k ks is) ∙ no_keys ks (λ e h. all e (or_right _ _ h))
 
 -- ---- what a feature enables
 enables_more : {t : Table} {f g h : Text} → Enables t f g → Enables t g h → Enables t f h
@@ -148,38 +151,31 @@ module _ {S : Type 0} (m : HashMap (Bor Text) Feature S) (t : Table) (Removed : 
     λ u. record { known = held f u.known; hidden = u.hidden; left_alone = λ k h kept e. u.left_alone k (there k h) kept (enables_in (there k h) e) },
   )
 
-  only_default_is : (f : Text) → IsTrue (option_map_or only_default (value_at m f) false) ↔ IsOnlyDefault t f
-  only_default_is f = go (value_at m f) refl
-    where
-      go : (o : Option Feature) → value_at m f ≡ o → IsTrue (option_map_or only_default o false) ↔ IsOnlyDefault t f
-      go None is = (λ y. absurd (false≢true y), λ u. absurd (false≢true (sym (ap is_some is) ∙ held f u.default_does.target)))
-      go (Some v) is =
-          let known : IsTrue (t.has f) = there f (ap is_some is) in
-          let told : (e : Text) → (resolution_of m).enabled_by f e ≡ has_text v.enabled_by e = λ e. ap (λ o. option_map_or (λ (u : Feature). has_text u.enabled_by e) o false) is in (
-            λ y.
-                let p = and_parts (has_text v.enabled_by (codes "default")) (length (without_default v.enabled_by.keys) == 0) y in
-                record {
-                  default_does = (enablers f (codes "default") known).0 (told (codes "default") ∙ p.0);
-                  no_other = λ e d. only_keys v.enabled_by.keys (eqb-true _ _ p.1) e (sym (told e) ∙ (enablers f e known).1 d);
-                },
-            λ u. and_from (has_text v.enabled_by (codes "default")) (length (without_default v.enabled_by.keys) == 0)
-                (sym (told (codes "default")) ∙ (enablers f (codes "default") known).1 u.default_does)
-                ((Decides-eqb _ 0).1 (no_keys v.enabled_by.keys (λ e h. u.no_other e ((enablers f e known).0 (told e ∙ h))))),
-          )
-
-  pub private_is : (f : Text) → IsTrue (private_default_at m f) ↔ (IsTrue (is_hidden f || is_private f) × IsOnlyDefault t f)
-  private_is f = (
-    λ y. let p = and_parts (is_hidden f || is_private f) _ y in (p.0, (only_default_is f).0 p.1),
-    λ h. and_from (is_hidden f || is_private f) _ h.0 ((only_default_is f).1 h.1),
-  )
+  only_default_is : (f : Text) (v : Feature) → value_at m f ≡ Some v → IsTrue (only_default v) ↔ IsOnlyDefault t f
+  only_default_is f v is =
+      let known : IsTrue (t.has f) = there f (ap is_some is) in
+      let told : (e : Text) → (resolution_of m).enabled_by f e ≡ has_text v.enabled_by e = λ e. ap (λ o. option_map_or (λ (u : Feature). has_text u.enabled_by e) o false) is in (
+        λ y.
+            let p = and_parts (has_text v.enabled_by (codes "default")) (length (without_default v.enabled_by.keys) == 0) y in
+            record {
+              default_does = (enablers f (codes "default") known).0 (told (codes "default") ∙ p.0);
+              no_other = λ e d. only_keys v.enabled_by.keys (eqb-true _ _ p.1) e (sym (told e) ∙ (enablers f e known).1 d);
+            },
+        λ u. and_from (has_text v.enabled_by (codes "default")) (length (without_default v.enabled_by.keys) == 0)
+            (sym (told (codes "default")) ∙ (enablers f (codes "default") known).1 u.default_does)
+            ((Decides-eqb _ 0).1 (no_keys v.enabled_by.keys (λ e h. u.no_other e ((enablers f e known).0 (told e ∙ h))))),
+      )
 
   pub required_is : (n : Names) (bins : List ProductMeaning) (f : Text) → is_required n (table_in m).has bins f ≡ is_required n t.has bins f
   required_is n bins f = λ i. is_required n (λ x. has_same x i) bins f
 
-module _ {S : Type 0} (m : HashMap (Bor Text) Feature S) (listed : Listed) (entries : List Entry) (Removed : Text → Type 0) (none : (f : Text) → ¬ Removed f) (resolved : IsResolved (table_of listed entries) Removed (resolution_of m))
-    (explicit : (f : Text) → IsTrue ((table_in m).has f) → explicit_at m f ≡ is_explicit listed f) where
+module _ {S : Type 0} (m : HashMap (Bor Text) Feature S) (listed : Listed) (entries : List Entry) (details : Details) (Removed : Text → Type 0) (none : (f : Text) → ¬ Removed f) (resolved : IsResolved (table_of listed entries) Removed (resolution_of m))
+    (marks : (f : Text) → IsTrue ((table_in m).has f) → option_map_or marks_of (value_at m f) (marked false plain_detail) ≡ marks_in listed details f) where
   known_as : (f : Text) → (table_in m).has f ≡ (is_explicit listed f || is_implied listed entries f)
   known_as f = has_same m (table_of listed entries) Removed none resolved f
+
+  mark : (f : Text) (v : Feature) → value_at m f ≡ Some v → marks_of v ≡ marks_in listed details f
+  mark f v is = subst (λ o. option_map_or marks_of o (marked false plain_detail) ≡ marks_in listed details f) is (marks f (ap is_some is))
 
   pub explicit_is : (f : Text) → explicit_at m f ≡ is_explicit listed f
   explicit_is f = go (value_at m f) refl
@@ -188,13 +184,28 @@ module _ {S : Type 0} (m : HashMap (Bor Text) Feature S) (listed : Listed) (entr
       go None is =
           ap (λ o. option_map_or (λ (v : Feature). v.explicit) o false) is
           ∙ sym (false_from_ne_true (is_explicit listed f) (λ e. false≢true (sym (ap is_some is) ∙ known_as f ∙ or_left _ _ e)))
-      go (Some v) is = explicit f (ap is_some is)
+      go (Some v) is = ap (λ o. option_map_or (λ (v : Feature). v.explicit) o false) is ∙ ap (λ (k : Marks). k.explicit) (mark f v is)
+
+  pub private_is : (f : Text) → IsTrue (private_default_at m f) ↔ (IsTrue (is_hidden f || is_private listed details f) × IsOnlyDefault (table_of listed entries) f)
+  private_is f = go (value_at m f) refl
+    where
+      go : (o : Option Feature) → value_at m f ≡ o → IsTrue (option_map_or (λ v. (is_hidden f || not v.public) && only_default v) o false) ↔ (IsTrue (is_hidden f || is_private listed details f) × IsOnlyDefault (table_of listed entries) f)
+      go None is = (
+        λ y. absurd (false≢true y),
+        λ h. absurd (false≢true (sym (ap is_some is) ∙ held m (table_of listed entries) Removed none resolved f h.1.default_does.target)),
+      )
+      go (Some v) is =
+          let shut : (is_hidden f || not v.public) ≡ (is_hidden f || is_private listed details f) = ap (λ (k : Marks). is_hidden f || not k.public) (mark f v is) in
+          let only = only_default_is m (table_of listed entries) Removed none resolved f v is in (
+            λ y. let p = and_parts (is_hidden f || not v.public) (only_default v) y in (sym shut ∙ p.0, only.0 p.1),
+            λ h. and_from (is_hidden f || not v.public) (only_default v) (shut ∙ h.0) (only.1 h.1),
+          )
 
   pub implied_is : (f : Text) → IsTrue (implied_at m f) ↔ IsTrue (is_implied listed entries f)
   implied_is f = go (value_at m f) refl
     where
       unlisted : IsTrue (is_implied listed entries f) → IsFalse (is_explicit listed f)
-      unlisted h = not-true _ (and_parts (not (is_reserved listed f)) (not (is_explicit listed f)) (and_parts _ _ h).1).1
+      unlisted h = not-true (is_explicit listed f) (and_parts _ _ h).1
 
       go : (o : Option Feature) → value_at m f ≡ o → IsTrue (option_map_or (λ v. not v.explicit) o false) ↔ IsTrue (is_implied listed entries f)
       go None is = (λ y. absurd (false≢true y), λ h. absurd (false≢true (sym (ap is_some is) ∙ known_as f ∙ or_right _ _ h)))
@@ -223,7 +234,7 @@ module _ {S : Type 0} (m : HashMap (Bor Text) Feature S) where
   implied_has f h = there_is f (λ v. not v.explicit) h
 
   pub private_has : (f : Text) → IsTrue (private_default_at m f) → IsTrue ((table_in m).has f)
-  private_has f h = there_is f only_default (and_parts (is_hidden f || is_private f) _ h).1
+  private_has f h = there_is f (λ v. (is_hidden f || not v.public) && only_default v) h
 
   pub ring_has : (f : Text) → IsRing (resolution_of m) f → IsTrue ((table_in m).has f)
   ring_has f r = there_is f (λ v. has_text v.enabled_by r.0) r.1

@@ -10,6 +10,7 @@ use Rattle.cargo_toml.specs.Action.Item.{Name, On}
 use Rattle.cargo_toml.specs.Admitted.{Listed, admitted, is_explicit}
 use Rattle.cargo_toml.specs.Graph.{Table, Edge}
 use Rattle.cargo_toml.specs.Manifests.{ManifestMeaning}
+use Rattle.cargo_toml.specs.Marks.{Details, marks_in}
 use Rattle.cargo_toml.specs.Parsed.{parsed_entries, parsed_table}
 use Rattle.cargo_toml.specs.Products.{ProductMeaning}
 use Rattle.cargo_toml.specs.Reach.{Among}
@@ -26,9 +27,10 @@ use Rattle.cargo_toml_lint.specs.declared.finding.Level.TheVariants.{Error, Hint
 abbrev pub is_hidden : Text → Bool
 is_hidden f = starts_with nat_eq f (codes "_")
 
--- what the manifest marks as private: no manifest can say so yet
-abbrev pub is_private : Text → Bool
-is_private f = false
+-- what the manifest marks as private: of a feature that isn't listed, an added `default` or an
+-- implied one, nothing is said
+abbrev pub is_private : Listed → Details → Text → Bool
+is_private listed details f = not (marks_in listed details f).public
 
 -- a name that is neither a feature nor an optional dependency, or an action on no dependency
 abbrev pub is_unknown : Names → Item → Bool
@@ -91,7 +93,9 @@ module _ {M : Type 0} (limit : ℕ) (m : ManifestMeaning M) where
       IsTrue (lists m.features (is_unknown (names_of m)) f)
       ⊎ IsTrue (is_required (names_of m) (parsed_table limit m).has m.bin f)
   Holds Implied f = IsTrue (is_implied (admitted limit m.features) (parsed_entries limit m) f)
-  Holds PrivateDefault f = IsTrue (is_hidden f || is_private f) × IsOnlyDefault (parsed_table limit m) f
+  Holds PrivateDefault f =
+      IsTrue (is_hidden f || is_private (admitted limit m.features) m.feature_details f)
+      × IsOnlyDefault (parsed_table limit m) f
   Holds Cycle f = IsCyclic (parsed_table limit m) f
   Holds OverLimit f = IsTrue (is_over limit m.features f)
   Holds Unreachable f = IsUnreachable (parsed_table limit m) f
@@ -138,7 +142,7 @@ words_of NotOptional = codes "uses `dep:` or `?` on a dependency that isn't opti
 words_of SameName = codes "has the name of an optional dependency that no feature names by `dep:`"
 words_of Unknown = codes "names or requires what the manifest doesn't have"
 words_of Implied = codes "an optional dependency that no feature names by `dep:` is a feature for users"
-words_of PrivateDefault = codes "only `default` enables this hidden feature"
+words_of PrivateDefault = codes "only `default` enables this hidden or private feature"
 words_of Cycle = codes "enables itself through others"
 words_of OverLimit = codes "has a name or actions beyond the limit"
 words_of Unreachable = codes "no feature for users leads to this hidden one"

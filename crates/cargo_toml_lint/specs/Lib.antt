@@ -1,4 +1,3 @@
-pub mod Items
 pub mod Findings
 pub mod Known
 pub mod Names

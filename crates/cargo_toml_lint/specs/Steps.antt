@@ -14,7 +14,7 @@ use Rattle.cargo_toml.specs.Products.{ProductMeaning}
 use Rattle.cargo_toml.specs.Reach.{Among}
 use Rattle.cargo_toml.specs.Recursive.{Enables}
 use Rattle.cargo_toml.specs.Views.{has_text, resolution_of, table_in, value_at}
-use Rattle.cargo_toml_lint.specs.Findings.{IsTold, IsUnreachable, about_cmp, has_same_name, is_hidden, is_not_optional, is_private, is_required, is_unknown, rank}
+use Rattle.cargo_toml_lint.specs.Findings.{IsTold, IsUnreachable, about_cmp, has_same_name, is_hidden, is_not_optional, is_required, is_unknown, rank}
 use Rattle.cargo_toml_lint.specs.Known.{lists}
 use Rattle.cargo_toml_lint.specs.Names.{listed_by, names_in}
 use Rattle.cargo_toml_lint.specs.declared.finding.Code.{Code}
@@ -42,7 +42,7 @@ module _ {S : Type 0} (m : HashMap (Bor Text) Feature S) where
   implied_at f = option_map_or (λ v. not v.explicit) (value_at m f) false
 
   abbrev pub private_default_at : Text → Bool
-  private_default_at f = (is_hidden f || is_private f) && option_map_or only_default (value_at m f) false
+  private_default_at f = option_map_or (λ v. (is_hidden f || not v.public) && only_default v) (value_at m f) false
 
   abbrev pub over_at : ℕ → Listed → Text → Bool
   over_at limit listed f = list_any (λ e. bytes_eq f e.0 && (nat_lt limit (length e.1) || not (explicit_at e.0))) listed

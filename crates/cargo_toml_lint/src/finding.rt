@@ -26,7 +26,7 @@ pub enum Code {
     Unknown,
     /// An optional dependency that no action names by `dep:`, so that its key is a feature.
     Implied,
-    /// `default` enables the feature, which is hidden, and nothing else does.
+    /// `default` enables the feature, which is hidden or private, and nothing else does.
     PrivateDefault,
     /// The feature enables itself through others.
     Cycle,
@@ -90,7 +90,7 @@ impl Code {
             Code::Implied => {
                 "an optional dependency that no feature names by `dep:` is a feature for users"
             }
-            Code::PrivateDefault => "only `default` enables this hidden feature",
+            Code::PrivateDefault => "only `default` enables this hidden or private feature",
             Code::Cycle => "enables itself through others",
             Code::OverLimit => "has a name or actions beyond the limit",
             Code::Unreachable => "no feature for users leads to this hidden one",

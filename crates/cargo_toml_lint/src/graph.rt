@@ -5,7 +5,7 @@ ghost use Rattle.cargo_toml.specs.Action.{Text};
 ghost use Rattle.cargo_toml.specs.Reached.{IsKeyed};
 ghost use Rattle.cargo_toml.specs.Recursive.{Enables};
 ghost use Rattle.cargo_toml.specs.Views.{has_text, resolution_of, table_in, value_at};
-ghost use Rattle.cargo_toml_lint.specs.Findings.{IsUnreachable, is_hidden, is_private};
+ghost use Rattle.cargo_toml_lint.specs.Findings.{is_hidden};
 ghost use Rattle.cargo_toml_lint.specs.Steps.{IsReached, IsRing, implied_at, only_default, private_default_at};
 
 use cargo_toml::Error;
@@ -24,13 +24,6 @@ pub(crate) fn is_hidden(name: &str) -> bool
     name.starts_with('_')
 }
 
-// Whether the manifest marks the feature as private. No manifest can say so yet, so none is.
-fn is_private(_name: &str) -> bool
-    ensures { result ≡ false }
-{
-    false
-}
-
 /// The names of the features.
 pub(crate) fn names<'m, S: BuildHasher>(
     alloc: Global,
@@ -39,7 +32,7 @@ pub(crate) fn names<'m, S: BuildHasher>(
     ensures { IfOk result (λ s. (f : Text) → has_text s f ≡ (table_in features.now).has f) }
 {
     let mut names = BTreeSet::new(alloc);
-    for (name, _) in features {
+    for name in features.keys() {
         names.insert(*name)?;
     }
     Ok(names)
@@ -86,11 +79,8 @@ fn is_only_default(feature: &Feature<'_>) -> bool
 fn is_private_default<S: BuildHasher>(features: &FeatureMap<'_, S>, name: &str) -> bool
     ensures { result ≡ private_default_at features.now name.now }
 {
-    if !is_hidden(name) && !is_private(name) {
-        return false;
-    }
     match features.get(name) {
-        Some(feature) => is_only_default(feature),
+        Some(feature) => (is_hidden(name) || !feature.public) && is_only_default(feature),
         None => false,
     }
 }

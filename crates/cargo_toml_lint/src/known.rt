@@ -10,8 +10,8 @@ ghost use Rattle.cargo_toml.specs.Views.{has_text};
 ghost use Rattle.cargo_toml_lint.specs.Known.{has_entry, names_of, reserves, says, tables, tables_in};
 ghost use Rattle.cargo_toml_lint.specs.Names.{listed_by, names_in, tried};
 
-use crate::action::read_action;
 use cargo_toml::{Dependency, DepsSet, FeatureSet, Manifest, Target, TargetDepsSet};
+use cargo_toml_features::action::read_action;
 use std::alloc::{AllocError, Global};
 use std::collections::BTreeSet;
 
@@ -76,7 +76,7 @@ fn add_targets<'m>(
         || list_any (λ t. list_any (has_entry (tried are_all) k) (tables_in t.1))
         (map_meaning target_meaning targets.now))) }
 {
-    for (_, target) in targets {
+    for target in targets.values() {
         add_target(keys, target, are_all)?;
     }
     Ok(())
@@ -106,7 +106,7 @@ fn add_reserved<'m>(reserved: &mut BTreeSet<&'m str>, texts: &'m [String]) -> Re
 {
     for text in texts {
         let action = read_action(text.as_str());
-        if action.acts && action.is_dep_only {
+        if action.is_dep_only {
             reserved.insert(action.target)?;
         }
     }
@@ -119,7 +119,7 @@ fn reserved_keys(alloc: Global, features: &FeatureSet) -> Result<BTreeSet<&str>,
         (map_meaning (λ v. map string_bytes v.items) features.now)) }
 {
     let mut reserved = BTreeSet::new(alloc);
-    for (_, texts) in features {
+    for texts in features.values() {
         add_reserved(&mut reserved, texts.as_slice())?;
     }
     Ok(reserved)

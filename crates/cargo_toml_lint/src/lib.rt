@@ -1,7 +1,6 @@
 //! What is amiss with the features of a manifest: the findings of each code, exactly.
 #![tactic(auto)]
 
-mod action;
 mod adding;
 mod finding;
 mod graph;

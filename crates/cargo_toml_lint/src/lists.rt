@@ -9,10 +9,10 @@ ghost use Rattle.cargo_toml_lint.specs.Known.{lists, says};
 ghost use Rattle.cargo_toml_lint.specs.Names.{listed_by, names_in};
 ghost use Rattle.cargo_toml_lint.specs.Steps.{explicit_at, over_at};
 
-use crate::action::read_action;
 use crate::graph::FeatureMap;
 use crate::known::Known;
 use cargo_toml::Product;
+use cargo_toml_features::action::read_action;
 use std::alloc::{AllocError, Global};
 use std::collections::BTreeSet;
 use std::hash::BuildHasher;
@@ -23,7 +23,7 @@ fn is_unknown(known: &Known<'_>, text: &str) -> bool
     ensures { result ≡ is_unknown (names_in known.now) (item_of text.now) }
 {
     let action = read_action(text);
-    if action.acts {
+    if action.acts() {
         !known.dependencies.contains(action.target)
     } else {
         !known.has_name(action.target)
@@ -42,7 +42,7 @@ fn is_not_optional(known: &Known<'_>, text: &str) -> bool
     ensures { result ≡ is_not_optional (names_in known.now) (item_of text.now) }
 {
     let action = read_action(text);
-    if action.acts && (action.is_dep_only || action.is_conditional) {
+    if action.acts() && (action.is_dep_only || action.is_conditional) {
         is_never_optional(known, action.target)
     } else {
         false
@@ -54,7 +54,7 @@ fn is_missing<S: BuildHasher>(known: &Known<'_>, features: &FeatureMap<'_, S>, t
     ensures { result ≡ is_missing (names_in known.now) (table_in features.now).has (item_of text.now) }
 {
     let action = read_action(text);
-    if action.acts {
+    if action.acts() {
         !known.dependencies.contains(action.target)
     } else {
         !features.contains_key(action.target) && !known.lists(action.target)
@@ -140,8 +140,9 @@ fn add_missing<'m, S: BuildHasher>(
         || asks_for (names_in known.now) (table_in features.now).has (map string_bytes required.now) f)) }
 {
     for text in required {
-        if is_missing(known, features, text.as_str()) {
-            names.insert(text.as_str())?;
+        let text = text.as_str();
+        if is_missing(known, features, text) {
+            names.insert(text)?;
         }
     }
     Ok(())
@@ -204,8 +205,9 @@ pub(crate) fn over_limit<'m, S: BuildHasher>(
 {
     let mut names = BTreeSet::new(alloc);
     for (name, texts) in known.features {
-        if is_over(features, name.as_str(), texts.as_slice(), limit) {
-            names.insert(name.as_str())?;
+        let name = name.as_str();
+        if is_over(features, name, texts.as_slice(), limit) {
+            names.insert(name)?;
         }
     }
     Ok(names)

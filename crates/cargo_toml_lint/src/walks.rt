@@ -92,7 +92,7 @@ fn add_names<'m, S: BuildHasher>(
     ensures { OnOk result ((x : Text) → has_text reached.new x
         ≡ (has_text reached.old x || is_some (value_at enabled.now x))) }
 {
-    for (name, _) in enabled {
+    for name in enabled.keys() {
         reached.insert(*name)?;
     }
     Ok(())

@@ -14,5 +14,5 @@ returns-clause-added g c = λ x.
     let here = sym c.get.ensures.value ∙ ap option_copied c.in-Some.is in
     let v = c.in-Some.feature.now in
     enabled_added c.args.features.now c.args.name.now v here (key_of c.args.features.now c.requires c.args.name.now v here)
-    c.in_ok-enabled.field-0.0 c.in_ok-enabled.ensures.features c.in_ok-enabled.ensures.values
+    c.in_ok-enabled.enabled c.in_ok-enabled.ensures.features c.in_ok-enabled.ensures.values
     (has_text c.args.reached.now x) (has_text c.add_names.new.reached x) x (c.in_ok-add_names.ensures x)

@@ -11,10 +11,10 @@ use Rattle.cargo_toml_lint.proofs.Gathered.{begun, gathered, skipped, taken}
 use Rattle.cargo_toml_lint.proofs.walks.cyclic.Goals as goal
 
 pub loop-name-init : goal.loop-name-init
-loop-name-init g c = begun (IsRing (resolution_of c.args.features.now)) _ _ c.new.ensures.empty (λ f r. c.requires.names f ∙ ring_has c.args.features.now f r)
+loop-name-init g c = begun (IsRing (resolution_of c.args.features.now)) _ c.args.names.now.keys _ c.into_iter-name-iterator.ensures.into_iter_gives.0 c.new-found.ensures.empty (λ f r. c.requires.names f ∙ ring_has c.args.features.now f r)
 
-pub loop-name-preserved-then-is_cyclic : goal.loop-name-preserved-then-is_cyclic
-loop-name-preserved-then-is_cyclic g c =
+pub loop-name-preserved-in_ok-insert : goal.loop-name-preserved-in_ok-insert
+loop-name-preserved-in_ok-insert g c =
     taken (IsRing (resolution_of c.args.features.now)) c.in-Some.name.now _ _ c.loop-name.found c.insert.new.self
     (rest_more deref _ _ _ c.in-Some.name c.in-Some.is c.next.ensures.steps)
     (c.in_ok-is_cyclic.ensures.cyclic.0 c.if-is_cyclic.true)

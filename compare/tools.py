@@ -291,7 +291,7 @@ WORDS_OF = {
         "hint",
         "an optional dependency that no feature names by `dep:` is a feature for users",
     ),
-    "private-default": ("hint", "only `default` enables this hidden feature"),
+    "private-default": ("hint", "only `default` enables this hidden or private feature"),
     "cycle": ("warning", "enables itself through others"),
     "over-limit": ("warning", "has a name or actions beyond the limit"),
     "unreachable": ("warning", "no feature for users leads to this hidden one"),
@@ -303,7 +303,7 @@ class Lint:
 
     def __init__(self, manifest, limit=LIMIT):
         self.lists = {k: enabled_by(v) for k, v in manifest.get("features", {}).items()}
-        self.graph = Graph(manifest | {"features": self.lists}, limit)
+        self.graph = Graph(manifest, limit)
         entries = [one for _, _, _, table in tables(manifest) for one in table.items()]
         self.dependencies = {key for key, _ in entries}
         self.optional = {key for key, one in entries if detail(one).get("optional", False)}
@@ -332,10 +332,11 @@ class Lint:
     def found(self):
         graph, lists = self.graph, self.lists
         hidden = {name for name in graph.names if name.startswith("_")}
+        private = {name for name, (is_public, _) in graph.said.items() if not is_public}
         names = lists.keys() | {"default"} | self.optional
         there = lists.keys() | graph.names.keys()
         led_to = {name: self.led_to(name) for name in graph.names}
-        enablers = {name: {one for one in graph.names if name in graph.edges[one]} for name in hidden}
+        enablers = {name: {one for one in graph.names if name in graph.edges[one]} for name in hidden | private}
         of_users = set().union(*(led_to[name] for name in graph.names.keys() - hidden))
         over = {name for name in lists if name not in graph.explicit or len(lists[name]) > self.limit}
         return {
@@ -344,7 +345,7 @@ class Lint:
             "unknown": {name for name in lists if any(self.is_unknown(text, names) for text in lists[name])}
             | {text for text in self.required if self.is_unknown(text, there)},
             "implied": graph.names.keys() - graph.explicit,
-            "private-default": {name for name in hidden if enablers[name] == {"default"}},
+            "private-default": {name for name in enablers if enablers[name] == {"default"}},
             "cycle": {name for name in graph.names if any(name in led_to[one] for one in led_to[name] - {name})},
             "over-limit": over,
             "unreachable": hidden - of_users,

@@ -1,1 +1,2 @@
+pub mod Documented
 pub mod Escapes

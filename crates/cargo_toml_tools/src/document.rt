@@ -1,4 +1,6 @@
 //! What is documented of a crate's features: a page in Markdown, or the graph in Graphviz's language.
+ghost use Rattle.std.specs.Prelude.{◌≡◌};
+ghost use Rattle.cargo_toml_tools.specs.Documented.{is_private, is_shown};
 
 mod dot;
 mod reached;
@@ -76,16 +78,17 @@ fn in_order<'a, S: BuildHasher>(
         .collect(alloc)
 }
 
-/// Whether a feature is told of. `default` is, where the manifest has it.
-fn is_shown(feature: &Feature<'_>, has_default: bool) -> bool {
-    if feature.key == "default" {
-        return has_default;
-    }
-    !is_private(feature)
+/// Whether a feature is told of: it isn't private, and `default` is told of where the manifest has it.
+fn is_shown(feature: &Feature<'_>, has_default: bool) -> bool
+    ensures { result ≡ is_shown has_default feature.now }
+{
+    !is_private(feature) && (has_default || feature.key != "default")
 }
 
 /// Whether a feature is hidden, by its name, or private, by its table.
-fn is_private(feature: &Feature<'_>) -> bool {
+fn is_private(feature: &Feature<'_>) -> bool
+    ensures { result ≡ is_private feature.now }
+{
     !feature.public || feature.key.starts_with('_')
 }
 

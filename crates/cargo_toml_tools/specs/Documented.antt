@@ -1,7 +1,7 @@
 -- Which features are documented.
 use Rattle.std.specs.Prelude.{◌&&◌, ◌||◌, Bool, bytes_eq, codes, nat_eq, not}
 use Rattle.std.specs.List.{starts_with}
-use Rattle.cargo_toml_features.specs.declared.features.Feature.{Feature}
+use Rattle.cargo_toml.specs.Feature.{Feature}
 
 -- hidden by its name, or private by its table
 abbrev pub is_private : Feature → Bool

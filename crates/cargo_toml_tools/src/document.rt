@@ -1,4 +1,4 @@
-//! What is documented of a crate's features: a page in Markdown, or the graph in Graphviz's language.
+//! What is documented of a crate's features: a page in Markdown, or the graph for Graphviz.
 ghost use Rattle.std.specs.Prelude.{◌≡◌};
 ghost use Rattle.cargo_toml_tools.specs.Documented.{is_private, is_shown};
 
@@ -78,7 +78,7 @@ fn in_order<'a, S: BuildHasher>(
         .collect(alloc)
 }
 
-/// Whether a feature is told of: it isn't private, and `default` is told of where the manifest has it.
+/// Whether a feature is told of: one that isn't private, and `default` where the manifest has it.
 fn is_shown(feature: &Feature<'_>, has_default: bool) -> bool
     ensures { result ≡ is_shown has_default feature.now }
 {

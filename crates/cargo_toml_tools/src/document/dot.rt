@@ -11,7 +11,7 @@ use std::hash::BuildHasher;
 /// The graph of all features, and of the dependencies that they act on, in Graphviz's language.
 ///
 /// Hidden and private features are dashed, dependencies are boxes, and an action that counts only
-/// where something else turns the dependency on is dotted. What is resolved has its hidden features.
+/// where something else turns the dependency on is dotted. What is resolved has hidden features.
 pub fn graph<M, S: BuildHasher>(
     alloc: Global,
     manifest: &Manifest<M>,

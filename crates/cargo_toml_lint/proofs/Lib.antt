@@ -1,0 +1,9 @@
+pub mod Gathered
+pub mod Items
+pub mod Added
+pub mod Names
+pub mod Tables
+pub mod Walked
+pub mod Whole
+pub mod Exact
+pub mod Resolving

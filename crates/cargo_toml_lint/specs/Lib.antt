@@ -1,0 +1,4 @@
+pub mod Findings
+pub mod Known
+pub mod Names
+pub mod Steps

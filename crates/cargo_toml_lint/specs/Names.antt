@@ -1,0 +1,25 @@
+-- The names that are gathered of a manifest: words of steps, on which no public contract rests.
+use Rattle.std.specs.Prelude.{Bool, ◌||◌, map, string_bytes}
+use Rattle.cargo_toml.specs.Admitted.{Listed}
+use Rattle.cargo_toml.specs.Dependencies.{DependencyMeaning, is_optional}
+use Rattle.cargo_toml.specs.Reads.{map_meaning}
+use Rattle.cargo_toml.specs.Views.{has_text}
+use Rattle.cargo_toml_lint.specs.Known.{Names, is_name}
+use Rattle.cargo_toml_lint.specs.declared.known.Known.{Known}
+
+-- all dependencies, or the optional ones alone
+abbrev pub tried : Bool → DependencyMeaning → Bool
+tried are_all d = are_all || is_optional d
+
+-- the features as they are listed
+abbrev pub listed_by : Known → Listed
+listed_by known = map_meaning (λ v. map string_bytes v.items) known.features.now
+
+-- the names that the sets hold
+abbrev pub names_in : Known → Names
+names_in known = record {
+  listed = is_name (listed_by known);
+  dependency = has_text known.dependencies;
+  optional = has_text known.optional;
+  reserved = has_text known.reserved;
+}

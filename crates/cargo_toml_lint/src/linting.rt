@@ -1,0 +1,185 @@
+//! What is found of a manifest.
+ghost use Rattle.std.specs.Prelude.{◌≡◌, ◌≤◌, ◌⊎◌, ◌↔◌, [], true, IfErr, IfOk, OnOk, map};
+ghost use Rattle.std.specs.List.{AllByRecursion};
+ghost use Rattle.cargo_toml.specs.Action.{Text};
+ghost use Rattle.cargo_toml.specs.Error.{Memory};
+ghost use Rattle.cargo_toml.specs.Manifests.{manifest_meaning};
+ghost use Rattle.cargo_toml.specs.Parsed.{IsParsed};
+ghost use Rattle.cargo_toml.specs.Products.{product_meaning};
+ghost use Rattle.cargo_toml.specs.Reached.{IsKeyed};
+ghost use Rattle.cargo_toml.specs.Views.{answer_of, has_text, table_in};
+ghost use Rattle.cargo_toml_lint.specs.declared.finding.Code.{Code};
+ghost use Rattle.cargo_toml_lint.specs.Findings.{AreInOrder, Holds, IsFound, IsTold, about};
+ghost use Rattle.cargo_toml_lint.specs.Steps.{Adds, AreErrors, AreHints, AreTold, AreWarnings, HoldsIn};
+
+use crate::adding::add_findings;
+use crate::finding::{Code, Finding};
+use crate::graph::{FeatureMap, implied, names, private_default};
+use crate::known::{Known, known_names};
+use crate::lists::{not_optional, over_limit, same_name, unknown};
+use crate::walks::{cyclic, unreachable};
+use cargo_toml::features::{Features, Resolver};
+use cargo_toml::{Error, Manifest, Product};
+use std::alloc::{AllocError, Global};
+use std::collections::BTreeSet;
+use std::hash::BuildHasher;
+
+/// How many names of the table of features count, how many actions of a feature, and how many keys
+/// of a table of dependencies: as many as for a resolver whose limit nobody sets.
+pub const MAX_ITEMS: usize = 2048;
+
+fn keep_every(_name: &str) -> bool
+    ensures { result ≡ true }
+{
+    true
+}
+
+// The features of a manifest, with none removed.
+fn resolve_whole<'m, M, S: BuildHasher + Clone + Drop>(
+    alloc: Global,
+    state: S,
+    manifest: &'m Manifest<M>,
+    limit: usize,
+) -> Result<Features<'m, 'm, S>, Error>
+    requires { 1 ≤ limit }
+    ensures resolved { IfOk result (λ a.
+        IsParsed limit (manifest_meaning (λ m. m) manifest.now) (λ _. true) (answer_of a)) }
+    ensures keyed { IfOk result (λ a. IsKeyed a.features) }
+    ensures refused { IfErr result (λ e. e ≡ Memory) }
+{
+    let keep = keep_every;
+    let resolver = Resolver::new_with_hasher_and_filter(state, &keep);
+    let limited = resolver.with_max_items(limit);
+    limited.parse(alloc, manifest)
+}
+
+// Adds what Cargo refuses.
+fn add_errors<'m, S: BuildHasher>(
+    alloc: Global,
+    findings: &mut Vec<Finding<'m>>,
+    known: &Known<'m>,
+    features: &FeatureMap<'m, S>,
+    bins: &'m [Product],
+) -> Result<(), AllocError>
+    ensures added { OnOk result (Adds 0 3 (AreErrors features.now known.now (map product_meaning bins.now))
+        (map about findings.old.items) (map about findings.new.items)) }
+    ensures told { OnOk result (AreTold findings.old.items → AreTold findings.new.items) }
+{
+    let not_optional = not_optional(alloc, known)?;
+    add_findings(findings, Code::NotOptional, &not_optional)?;
+    let same_name = same_name(alloc, known)?;
+    add_findings(findings, Code::SameName, &same_name)?;
+    let unknown = unknown(alloc, known, features, bins)?;
+    add_findings(findings, Code::Unknown, &unknown)
+}
+
+// Adds what is shown to users.
+fn add_hints<'m, S: BuildHasher>(
+    alloc: Global,
+    findings: &mut Vec<Finding<'m>>,
+    names: &BTreeSet<&'m str>,
+    features: &FeatureMap<'m, S>,
+) -> Result<(), AllocError>
+    requires { (f : Text) → has_text names.now f ≡ (table_in features.now).has f }
+    ensures added { OnOk result (Adds 3 5 (AreHints features.now)
+        (map about findings.old.items) (map about findings.new.items)) }
+    ensures told { OnOk result (AreTold findings.old.items → AreTold findings.new.items) }
+{
+    let implied = implied(alloc, names, features)?;
+    add_findings(findings, Code::Implied, &implied)?;
+    let private_default = private_default(alloc, names, features)?;
+    add_findings(findings, Code::PrivateDefault, &private_default)
+}
+
+// Adds what can't be meant.
+fn add_warnings<'m, S: BuildHasher + Clone>(
+    alloc: Global,
+    findings: &mut Vec<Finding<'m>>,
+    known: &Known<'m>,
+    names: &BTreeSet<&'m str>,
+    features: &FeatureMap<'m, S>,
+    limit: usize,
+) -> Result<(), Error>
+    requires keyed { IsKeyed features.now }
+    requires names { (f : Text) → has_text names.now f ≡ (table_in features.now).has f }
+    ensures added { OnOk result (Adds 5 8 (AreWarnings features.now known.now limit)
+        (map about findings.old.items) (map about findings.new.items)) }
+    ensures told { OnOk result (AreTold findings.old.items → AreTold findings.new.items) }
+    ensures refused { IfErr result (λ e. e ≡ Memory) }
+{
+    let cyclic = cyclic(alloc, names, features)?;
+    add_findings(findings, Code::Cycle, &cyclic)?;
+    let over_limit = over_limit(alloc, known, features, limit)?;
+    add_findings(findings, Code::OverLimit, &over_limit)?;
+    let unreachable = unreachable(alloc, names, features)?;
+    add_findings(findings, Code::Unreachable, &unreachable)?;
+    Ok(())
+}
+
+// What is found in the features that were resolved.
+fn found_in<'m, S: BuildHasher + Clone>(
+    alloc: Global,
+    known: &Known<'m>,
+    features: &FeatureMap<'m, S>,
+    bins: &'m [Product],
+    limit: usize,
+) -> Result<Vec<Finding<'m>>, Error>
+    requires { IsKeyed features.now }
+    ensures exact { IfOk result (λ v. (c : Code) (f : Text) → IsFound v.items c f
+        ↔ HoldsIn features.now known.now (map product_meaning bins.now) limit c f) }
+    ensures in_order { IfOk result (λ v. AreInOrder v.items) }
+    ensures told { IfOk result (λ v. AllByRecursion IsTold v.items) }
+    ensures refused { IfErr result (λ e. e ≡ Memory) }
+{
+    let names = names(alloc, features)?;
+    let mut findings = Vec::new(alloc);
+    add_errors(alloc, &mut findings, known, features, bins)?;
+    add_hints(alloc, &mut findings, &names, features)?;
+    add_warnings(alloc, &mut findings, known, &names, features, limit)?;
+    Ok(findings)
+}
+
+/// What is found of the features of a manifest at a limit of items, which is at least 1.
+///
+/// There is a finding of a code for a feature exactly where what the code says holds of it, and one
+/// alone. They stand in byte order of level, code and feature. The one refusal is
+/// [`Error::Memory`].
+pub fn lint_limited<'m, M, S: BuildHasher + Clone + Drop>(
+    alloc: Global,
+    state: S,
+    manifest: &'m Manifest<M>,
+    limit: usize,
+) -> Result<Vec<Finding<'m>>, Error>
+    requires { 1 ≤ limit }
+    ensures exact { IfOk result (λ v. (c : Code) (f : Text) → IsFound v.items c f
+        ↔ Holds limit (manifest_meaning (λ m. m) manifest.now) c f) }
+    ensures in_order { IfOk result (λ v. AreInOrder v.items) }
+    ensures told { IfOk result (λ v. AllByRecursion IsTold v.items) }
+    ensures refused { IfErr result (λ e. e ≡ Memory) }
+{
+    let resolved = resolve_whole(alloc, state, manifest, limit)?;
+    let known = known_names(alloc, manifest)?;
+    found_in(
+        alloc,
+        &known,
+        &resolved.features,
+        manifest.bin.as_slice(),
+        limit,
+    )
+}
+
+/// The same at the limit of [`MAX_ITEMS`]. Who reads what strangers wrote hands in a random state,
+/// as `RandomState::new(rt)?`.
+pub fn lint<'m, M, S: BuildHasher + Clone + Drop>(
+    alloc: Global,
+    state: S,
+    manifest: &'m Manifest<M>,
+) -> Result<Vec<Finding<'m>>, Error>
+    ensures exact { IfOk result (λ v. (c : Code) (f : Text) → IsFound v.items c f
+        ↔ Holds 2048 (manifest_meaning (λ m. m) manifest.now) c f) }
+    ensures in_order { IfOk result (λ v. AreInOrder v.items) }
+    ensures told { IfOk result (λ v. AllByRecursion IsTold v.items) }
+    ensures refused { IfErr result (λ e. e ≡ Memory) }
+{
+    lint_limited(alloc, state, manifest, MAX_ITEMS)
+}

@@ -1,0 +1,171 @@
+//! What is found of the graph of features by walking it: by names, and to any depth.
+ghost use Rattle.std.specs.Prelude.{◌≡◌, ◌⊎◌, ◌↔◌, ◌&&◌, ◌||◌, false, IfOk, IfErr, IsTrue, OnOk, is_some, not};
+ghost use Rattle.std.specs.List.{list_any};
+ghost use Rattle.std.specs.Option.{option_map_or};
+ghost use Rattle.cargo_toml.specs.Action.{Text};
+ghost use Rattle.cargo_toml.specs.Error.{Memory};
+ghost use Rattle.cargo_toml.specs.Reached.{IsKeyed};
+ghost use Rattle.cargo_toml.specs.Recursive.{Enables};
+ghost use Rattle.cargo_toml.specs.Views.{has_text, resolution_of, table_in, value_at};
+ghost use Rattle.cargo_toml_lint.specs.Findings.{IsUnreachable, is_hidden};
+ghost use Rattle.cargo_toml_lint.specs.Steps.{IsReached, IsRing};
+
+use crate::graph::{FeatureMap, is_hidden};
+use cargo_toml::Error;
+use cargo_toml::features::Feature;
+use std::alloc::{AllocError, Global};
+use std::collections::{BTreeSet, HashMap};
+use std::hash::BuildHasher;
+
+// Whether the feature that is found under `other` names the one of this name.
+fn names_back<S: BuildHasher>(
+    enabled: &HashMap<&str, &Feature<'_>, S>,
+    other: &str,
+    name: &str,
+) -> bool
+    ensures { result ≡ option_map_or (λ v. has_text v.now.enables_features name.now) (value_at enabled.now other.now) false }
+{
+    match enabled.get(other) {
+        Some(feature) => feature.enables_features.contains(name),
+        None => false,
+    }
+}
+
+// Whether one of the enablers that are found names the feature.
+fn is_named_back<S: BuildHasher>(
+    enabled: &HashMap<&str, &Feature<'_>, S>,
+    feature: &Feature<'_>,
+) -> bool
+    ensures { result ≡ list_any (λ k. option_map_or (λ v. has_text v.now.enables_features feature.now.key.now)
+        (value_at enabled.now k.now) false) feature.now.enabled_by.keys }
+{
+    for other in &feature.enabled_by {
+        if names_back(enabled, *other, feature.key) {
+            return true;
+        }
+    }
+    false
+}
+
+// Whether the feature of this name enables itself through others, by names.
+fn is_cyclic<'m, S: BuildHasher + Clone>(
+    alloc: Global,
+    features: &FeatureMap<'m, S>,
+    name: &str,
+) -> Result<bool, Error>
+    requires { IsKeyed features.now }
+    ensures cyclic { IfOk result (λ b. IsTrue b ↔ IsRing (resolution_of features.now) name.now) }
+    ensures refused { IfErr result (λ e. e ≡ Memory) }
+{
+    let Some(feature) = features.get(name) else {
+        return Ok(false);
+    };
+    let (enabled, _dependencies) = feature.enables_recursive(alloc, features)?;
+    Ok(is_named_back(&enabled, feature))
+}
+
+/// The features that enable themselves through others, by names.
+pub(crate) fn cyclic<'m, S: BuildHasher + Clone>(
+    alloc: Global,
+    names: &BTreeSet<&'m str>,
+    features: &FeatureMap<'m, S>,
+) -> Result<BTreeSet<&'m str>, Error>
+    requires keyed { IsKeyed features.now }
+    requires names { (f : Text) → has_text names.now f ≡ (table_in features.now).has f }
+    ensures cyclic { IfOk result (λ s. (f : Text) → IsTrue (has_text s f) ↔ IsRing (resolution_of features.now) f) }
+    ensures refused { IfErr result (λ e. e ≡ Memory) }
+{
+    let mut found = BTreeSet::new(alloc);
+    for name in names {
+        if is_cyclic(alloc, features, *name)? {
+            found.insert(*name)?;
+        }
+    }
+    Ok(found)
+}
+
+// Adds the names of a map.
+fn add_names<'m, S: BuildHasher>(
+    reached: &mut BTreeSet<&'m str>,
+    enabled: &HashMap<&'m str, &Feature<'m>, S>,
+) -> Result<(), AllocError>
+    ensures { OnOk result ((x : Text) → has_text reached.new x
+        ≡ (has_text reached.old x || is_some (value_at enabled.now x))) }
+{
+    for name in enabled.keys() {
+        reached.insert(*name)?;
+    }
+    Ok(())
+}
+
+// Adds the features that the one of this name enables, by names.
+fn add_enabled<'m, S: BuildHasher + Clone>(
+    alloc: Global,
+    reached: &mut BTreeSet<&'m str>,
+    features: &FeatureMap<'m, S>,
+    name: &str,
+) -> Result<(), Error>
+    requires { IsKeyed features.now }
+    ensures added { OnOk result ((x : Text) → IsTrue (has_text reached.new x)
+        ↔ (IsTrue (has_text reached.old x) ⊎ (IsTrue ((table_in features.now).has name.now) × Enables (table_in features.now) name.now x))) }
+    ensures refused { IfErr result (λ e. e ≡ Memory) }
+{
+    let Some(feature) = features.get(name) else {
+        return Ok(());
+    };
+    let (enabled, _dependencies) = feature.enables_recursive(alloc, features)?;
+    add_names(reached, &enabled)?;
+    Ok(())
+}
+
+// The features that those for users enable, by names.
+fn reached_by_users<'m, S: BuildHasher + Clone>(
+    alloc: Global,
+    names: &BTreeSet<&'m str>,
+    features: &FeatureMap<'m, S>,
+) -> Result<BTreeSet<&'m str>, Error>
+    requires keyed { IsKeyed features.now }
+    requires names { (f : Text) → has_text names.now f ≡ (table_in features.now).has f }
+    ensures reached { IfOk result (λ s. (x : Text) → IsTrue (has_text s x) ↔ IsReached (table_in features.now) x) }
+    ensures refused { IfErr result (λ e. e ≡ Memory) }
+{
+    let mut reached = BTreeSet::new(alloc);
+    for name in names {
+        if !is_hidden(*name) {
+            add_enabled(alloc, &mut reached, features, *name)?;
+        }
+    }
+    Ok(reached)
+}
+
+// Whether the feature of this name is hidden, and not among those that are reached.
+fn is_left_alone<S: BuildHasher>(
+    features: &FeatureMap<'_, S>,
+    reached: &BTreeSet<&str>,
+    name: &str,
+) -> bool
+    ensures { result ≡ ((table_in features.now).has name.now && (is_hidden name.now && not (has_text reached.now name.now))) }
+{
+    features.contains_key(name) && is_hidden(name) && !reached.contains(name)
+}
+
+/// The hidden features to which no kept one leads, by names.
+pub(crate) fn unreachable<'m, S: BuildHasher + Clone>(
+    alloc: Global,
+    names: &BTreeSet<&'m str>,
+    features: &FeatureMap<'m, S>,
+) -> Result<BTreeSet<&'m str>, Error>
+    requires keyed { IsKeyed features.now }
+    requires names { (f : Text) → has_text names.now f ≡ (table_in features.now).has f }
+    ensures unreachable { IfOk result (λ s. (f : Text) → IsTrue (has_text s f) ↔ IsUnreachable (table_in features.now) f) }
+    ensures refused { IfErr result (λ e. e ≡ Memory) }
+{
+    let reached = reached_by_users(alloc, names, features)?;
+    let mut found = BTreeSet::new(alloc);
+    for name in names {
+        if is_left_alone(features, &reached, *name) {
+            found.insert(*name)?;
+        }
+    }
+    Ok(found)
+}

@@ -1,0 +1,2 @@
+pub mod Documented
+pub mod Escapes

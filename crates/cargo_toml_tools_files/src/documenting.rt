@@ -1,0 +1,40 @@
+//! What is documented of features.
+
+use crate::reading::manifest_in;
+use cargo_toml::features::Resolver;
+use cargo_toml::{Error, Manifest};
+use cargo_toml_tools::document::{graph, page};
+use std::hash::RandomState;
+use std::random::RandomSource;
+use std::rt::Files;
+
+/// What is documented of the features of the crate of this file: the graph where `dot` is set, and
+/// else a page.
+pub fn document<R: Files + RandomSource + AllocGlobal>(
+    rt: &R,
+    file: &str,
+    dot: bool,
+) -> Result<String, Error> {
+    let manifest = manifest_in(rt, file)?;
+    if dot {
+        graph_of(rt, &*manifest)
+    } else {
+        page_of(rt, &*manifest)
+    }
+}
+
+/// The page on a manifest, without hidden features.
+fn page_of<R: RandomSource + AllocGlobal>(rt: &R, manifest: &Manifest) -> Result<String, Error> {
+    let state = RandomState::new(rt)?;
+    let resolver = Resolver::new_with_hasher_and_filter(state, &|_: &str| false);
+    let resolved = resolver.parse(rt.alloc(), manifest)?;
+    page(rt.alloc(), manifest, &resolved)
+}
+
+/// The graph of a manifest, with hidden features.
+fn graph_of<R: RandomSource + AllocGlobal>(rt: &R, manifest: &Manifest) -> Result<String, Error> {
+    let state = RandomState::new(rt)?;
+    let resolver = Resolver::new_with_hasher_and_filter(state, &|_: &str| true);
+    let resolved = resolver.parse(rt.alloc(), manifest)?;
+    graph(rt.alloc(), manifest, &resolved)
+}

@@ -1,9 +1,10 @@
 -- Findings of one code after those of others.
 use Rattle.std.proofs.Common.{◌≡◌, ◌⊎◌, ◌↔◌, ◌<◌, ◌≤◌, ◌+◌, ℕ, List, [], ◌∷◌, ◌++◌, map, Bor, IsTrue, Bool, true, false, arith, append_assoc, append-nil, refl, sym, ap, subst, inl, inr, ◌∙◌}
-use Rattle.std.proofs.lemmas.Bool.{false≢true, or_cases, or_left, or_right, lt-ltb}
+use Rattle.std.proofs.lemmas.Bool.{false≢true, or_cases, or_left, or_right}
 use Rattle.std.proofs.lemmas.List.{map_push}
 use Rattle.std.proofs.lemmas.Map.Text.{is_eq-slice_cmp}
 use Rattle.std.proofs.lemmas.Slice.Eq.{bytes_eq-Decides}
+use Rattle.std.specs.Cmp.{nat_cmp_is}
 use Rattle.std.specs.Cmp.Lexicographic.{slice_cmp}
 use Rattle.std.specs.HashMap.{HashMap}
 use Rattle.std.specs.List.{AllByRecursion, list_any}
@@ -66,16 +67,10 @@ each_all P Q [] so all = tt
 each_all P Q (x ∷ xs) so all = (so x all.0, each_all P Q xs so all.1)
 
 lower : (c d : Code) (f g : Text) → rank c < rank d → about_cmp (c, f) (d, g) ≡ Less
-lower c d f g h = ap (λ o. ordering_then o (slice_cmp nat_cmp f g)) (less (rank c) (rank d) h)
-  where
-    less : (a b : ℕ) → a < b → nat_cmp a b ≡ Less
-    less a b below = rw (lt-ltb a b below) refl
-
-equal : (n : ℕ) → nat_cmp n n ≡ Equal
-equal n = grind arith
+lower c d f g h = ap (λ o. ordering_then o (slice_cmp nat_cmp f g)) (sym (nat_cmp_is (rank c) (rank d) Less h))
 
 alike : (d : Code) (f g : Text) → slice_cmp nat_cmp f g ≡ Less → about_cmp (d, f) (d, g) ≡ Less
-alike d f g h = ap (λ o. ordering_then o (slice_cmp nat_cmp f g)) (equal (rank d)) ∙ h
+alike d f g h = ap (λ o. ordering_then o (slice_cmp nat_cmp f g)) (sym (nat_cmp_is (rank d) (rank d) Equal refl)) ∙ h
 
 below_all : (x : Code × Text) (d : Code) (ks : List (Bor Text)) → rank x.0 < rank d → AllByRecursion (λ y. about_cmp x y ≡ Less) (with_code d ks)
 below_all x d [] h = tt

@@ -84,7 +84,7 @@ module _ (P : Text → Type 0) where
   }
 
   pub gathered : (left : List (Bor Text)) (s : BTreeSet (Bor Text)) → left ≡ [] → Gathers P left s → (f : Text) → IsTrue (has_text s f) ↔ P f
-  gathered left s none g f = (g.sound f, λ p. elim (g.complete f p) [ inl h ↦ h | inr i ↦ absurd (false≢true (ap (λ xs. has_in xs f) none ∙ i)) ])
+  gathered left s none g f = (g.sound f, λ p. elim (g.complete f p) [ inl h ↦ h | inr i ↦ absurd (false≢true (sym (ap (λ xs. has_in xs f) none) ∙ i)) ])
 
 -- ---- one step of a loop
 -- a key is put into a set where the test holds

@@ -12,7 +12,7 @@ use Rattle.cargo_toml_lint.proofs.Gathered.{any_flat}
 
 -- a map of texts has the name
 pub listed_in : {X Y : Type 0} (g : X → Y) (f : Text) (es : List (String Global × X)) →
-    is_some (lookup (is_at (λ k. slice_cmp nat_cmp f (string_bytes k))) es) ≡ list_any (λ e. bytes_eq f e.0) (map (λ e. (string_bytes e.0, g e.1)) es)
+    is_some (lookup (is_at (λ k. slice_cmp nat_cmp f (string_bytes k))) es) ≡ list_any (λ (e : Text × Y). bytes_eq f e.0) (map (λ (e : String Global × X). (string_bytes e.0, g e.1)) es)
 listed_in g f [] = refl
 listed_in {X} {Y} g f (e ∷ es) = go (listed_in g f es) (is_at (λ k. slice_cmp nat_cmp f (string_bytes k)) e.0) (is_eq-slice_cmp f (string_bytes e.0))
   where

@@ -137,7 +137,7 @@ module _ (t : Table) where
   pub all_reached : (left : List (Bor Text)) (s : BTreeSet (Bor Text)) → left ≡ [] → Reaching t left s → (x : Text) → IsTrue (has_text s x) ↔ IsReached t x
   all_reached left s none g x = (
     g.sound x,
-    λ r. elim (g.complete x r.0 r.1 r.2 r.3) [ inl h ↦ h | inr i ↦ absurd (false≢true (ap (λ xs. has_in xs r.0) none ∙ i)) ],
+    λ r. elim (g.complete x r.0 r.1 r.2 r.3) [ inl h ↦ h | inr i ↦ absurd (false≢true (sym (ap (λ xs. has_in xs r.0) none) ∙ i)) ],
   )
 
   -- a feature that is hidden and not reached

@@ -204,9 +204,6 @@ module _ {S : Type 0} (m : HashMap (Bor Text) Feature S) (listed : Listed) (entr
   pub implied_is : (f : Text) → IsTrue (implied_at m f) ↔ IsTrue (is_implied listed entries f)
   implied_is f = go (value_at m f) refl
     where
-      unlisted : IsTrue (is_implied listed entries f) → IsFalse (is_explicit listed f)
-      unlisted h = not-true (is_explicit listed f) (and_parts _ _ h).1
-
       go : (o : Option Feature) → value_at m f ≡ o → IsTrue (option_map_or (λ v. not v.explicit) o false) ↔ IsTrue (is_implied listed entries f)
       go None is = (λ y. absurd (false≢true y), λ h. absurd (false≢true (sym (ap is_some is) ∙ known_as f ∙ or_right _ _ h)))
       go (Some v) is =
@@ -215,7 +212,7 @@ module _ {S : Type 0} (m : HashMap (Bor Text) Feature S) (listed : Listed) (entr
               | inl e ↦ absurd (false≢true (sym (not-true _ y) ∙ told ∙ e))
               | inr h ↦ h
             ],
-            λ h. not_from_false _ (told ∙ unlisted h),
+            λ h. not_from_false _ (told ∙ not-true (is_explicit listed f) (and_parts _ _ h).1),
           )
 
   pub over_is : (limit : ℕ) (all : Listed) (f : Text) → over_at m limit all f ≡ list_any (λ e. bytes_eq f e.0 && (nat_lt limit (length e.1) || not (is_explicit listed e.0))) all

@@ -11,7 +11,7 @@ use Rattle.cargo_toml_lint.proofs.graph.names.Goals as goal
 
 pub loop-name-init : goal.loop-name-init
 loop-name-init g c = λ f.
-    starts (λ (k : Bor Text). bytes_eq f k.now) _ _ _ (none_in c.new-names.result c.new-names.ensures.empty f) c.keys.ensures.rest
+    starts (λ (k : Bor Text). bytes_eq f k.now) _ _ _ (none_in c.new-names.result c.new-names.ensures.empty f) (c.into_iter-name-iterator.ensures.into_iter_gives ∙ c.keys-name-items.ensures.rest)
 
 pub loop-name-preserved : goal.loop-name-preserved
 loop-name-preserved g c = λ f.

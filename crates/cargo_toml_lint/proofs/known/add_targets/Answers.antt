@@ -14,7 +14,7 @@ use Rattle.cargo_toml_lint.proofs.known.add_targets.Goals as goal
 
 pub loop-target-init : goal.loop-target-init
 loop-target-init c = λ k.
-    ap (λ ts. has_text c.args.keys.now k || list_any (λ (t : Target). list_any (has_entry (tried c.args.are_all) k) (tables_in (target_meaning t))) ts) c.values.ensures.rest
+    ap (λ ts. has_text c.args.keys.now k || list_any (λ (t : Target). list_any (has_entry (tried c.args.are_all) k) (tables_in (target_meaning t))) ts) (c.into_iter-target-iterator.ensures.into_iter_gives ∙ c.values-target-items.ensures.rest)
 
 pub loop-target-preserved : goal.loop-target-preserved
 loop-target-preserved c = λ k.

@@ -11,7 +11,7 @@ use Rattle.cargo_toml_lint.proofs.known.reserved_keys.Goals as goal
 
 pub loop-texts-init : goal.loop-texts-init
 loop-texts-init c = λ k.
-    starts (λ (v : Vec (String Global) Global). says (reserves k) (map string_bytes v.items)) _ _ _ (none_in c.new-reserved.result c.new-reserved.ensures.empty k) c.values.ensures.rest
+    starts (λ (v : Vec (String Global) Global). says (reserves k) (map string_bytes v.items)) _ _ _ (none_in c.new-reserved.result c.new-reserved.ensures.empty k) (c.into_iter-texts-iterator.ensures.into_iter_gives ∙ c.values-texts-items.ensures.rest)
 
 pub loop-texts-preserved : goal.loop-texts-preserved
 loop-texts-preserved c = λ k.

@@ -11,7 +11,7 @@ use Rattle.cargo_toml_lint.proofs.Gathered.{ends, goes_on}
 use Rattle.cargo_toml_lint.proofs.walks.add_names.Goals as goal
 
 pub loop-name-init : goal.loop-name-init
-loop-name-init g c = λ x. ap (λ ks. has_text c.args.reached.now x || list_any (λ (k : Bor Text). bytes_eq x k.now) ks) c.keys.ensures.rest
+loop-name-init g c = λ x. ap (λ ks. has_text c.args.reached.now x || list_any (λ (k : Bor Text). bytes_eq x k.now) ks) (c.into_iter-name-iterator.ensures.into_iter_gives ∙ c.keys-name-items.ensures.rest)
 
 pub loop-name-preserved : goal.loop-name-preserved
 loop-name-preserved g c = λ x.

@@ -8,9 +8,11 @@ pub returns-then-contains : goal.returns-then-contains
 returns-then-contains c =
     none_left c.non_default_enabled_by-others.result c.next.new.self c.next.result c.is_none-is_only.result c.is_none-is_only.ensures c.next.ensures.steps
     ∙ ap (λ (ks : List (Bor Text)). length ks == 0) c.non_default_enabled_by-others.ensures.names
-    ∙ ap (λ b. b && (length (without_default c.args.feature.now.enabled_by.keys) == 0)) (sym (sym c.contains.ensures ∙ c.if-contains.true))
+    ∙ ap (λ b. b && (length (without_default c.args.feature.now.enabled_by.keys) == 0))
+    (sym (sym c.contains.ensures ∙ c.if-contains.true))
 
 pub returns-else-contains : goal.returns-else-contains
 returns-else-contains c =
     c.if-contains.false
-    ∙ ap (λ b. b && (length (without_default c.args.feature.now.enabled_by.keys) == 0)) (sym (sym c.contains.ensures ∙ c.if-contains.false))
+    ∙ ap (λ b. b && (length (without_default c.args.feature.now.enabled_by.keys) == 0))
+    (sym (sym c.contains.ensures ∙ c.if-contains.false))

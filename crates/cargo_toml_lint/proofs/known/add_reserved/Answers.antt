@@ -12,14 +12,20 @@ pub loop-text-preserved : goal.loop-text-preserved
 loop-text-preserved c = λ k.
     let action = c.read_action-action.result in
     let is = c.read_action-action.ensures ∙ ap item_of c.as_str.ensures.value in
-    let more = any_more (λ (text : Text). reserves k (item_of text)) string_bytes c.args.texts.now c.loop-text.text-index c.text-item.result (omega arith) c.text-item.is in
+    let more = any_more (λ (text : Text). reserves k
+    (item_of text)) string_bytes c.args.texts.now c.loop-text.text-index c.text-item.result
+    (omega arith) c.text-item.is in
     elim c.if-action.branch [
-      | then-action+in_ok-insert w ↦ more_hits (has_text c.args.reserved.now k) _ (has_text c.loop-text.reserved k) (has_text c.if-action.reserved k) _ _
+      | then-action+in_ok-insert w ↦ more_hits (has_text c.args.reserved.now k) _
+          (has_text c.loop-text.reserved k) (has_text c.if-action.reserved k) _ _
           (c.loop-text.invariant k)
-          (ap (λ s. has_text s k) w.reserved-is ∙ inserted action.target.now c.loop-text.reserved w.insert.new.self w.in_ok-insert.ensures.updates k
-          ∙ ap (λ b. has_text c.loop-text.reserved k || b) (sym (reserved_hit (string_bytes c.text-item.result) action is k w.if-action.true)))
+          (ap (λ s. has_text s k) w.reserved-is
+          ∙ inserted action.target.now c.loop-text.reserved w.insert.new.self w.in_ok-insert.ensures.updates k
+          ∙ ap (λ b. has_text c.loop-text.reserved k || b)
+          (sym (reserved_hit (string_bytes c.text-item.result) action is k w.if-action.true)))
           more
       | else-action w ↦ ap (λ s. has_text s k) w.reserved-is
-          ∙ no_hit (has_text c.args.reserved.now k) _ (has_text c.loop-text.reserved k) _ _ (c.loop-text.invariant k)
+          ∙ no_hit (has_text c.args.reserved.now k) _ (has_text c.loop-text.reserved k) _ _
+          (c.loop-text.invariant k)
           (reserved_miss (string_bytes c.text-item.result) action is k w.if-action.false) more
     ]

@@ -11,7 +11,8 @@ use Rattle.cargo_toml_lint.proofs.Gathered.{begun, gathered, skipped, taken}
 use Rattle.cargo_toml_lint.proofs.walks.cyclic.Goals as goal
 
 pub loop-name-init : goal.loop-name-init
-loop-name-init g c = begun (IsRing (resolution_of c.args.features.now)) _ c.args.names.now.keys _ c.into_iter-name-iterator.ensures.into_iter_gives.0 c.new-found.ensures.empty (λ f r. c.requires.names f ∙ ring_has c.args.features.now f r)
+loop-name-init g c = begun (IsRing
+    (resolution_of c.args.features.now)) _ c.args.names.now.keys _ c.into_iter-name-iterator.ensures.into_iter_gives.0 c.new-found.ensures.empty (λ f r. c.requires.names f ∙ ring_has c.args.features.now f r)
 
 pub loop-name-preserved-in_ok-insert : goal.loop-name-preserved-in_ok-insert
 loop-name-preserved-in_ok-insert g c =
@@ -29,4 +30,6 @@ loop-name-preserved g c =
     c.loop-name.invariant
 
 pub returns-clause-cyclic : goal.returns-clause-cyclic
-returns-clause-cyclic g c = gathered (IsRing (resolution_of c.args.features.now)) _ c.loop-name.found (rest_all deref _ _ _ c.in-None.is c.next.ensures.steps) c.loop-name.invariant
+returns-clause-cyclic g c =
+    gathered (IsRing (resolution_of c.args.features.now)) _ c.loop-name.found
+    (rest_all deref _ _ _ c.in-None.is c.next.ensures.steps) c.loop-name.invariant

@@ -1,5 +1,6 @@
 -- Features as a list in the byte order of their names, and maps in that order.
-use Rattle.std.specs.Prelude.{◌≡◌, false, List, [], Option, None, IfSome, IsTrue, bytes_eq, is_some, map}
+use Rattle.std.specs.Prelude.{◌≡◌, false, List, [], Option, None, IfSome, IsTrue, bytes_eq}
+use Rattle.std.specs.Prelude.{is_some, map}
 use Rattle.std.specs.List.{find}
 use Rattle.std.specs.Option.{option_map_or}
 use Rattle.std.specs.Borrow.{Bor}

@@ -22,6 +22,7 @@ use Rattle.cargo_toml_hidden.specs.Enabling.{AreSameButEnablers, Enables, IsSame
 use Rattle.cargo_toml_hidden.specs.KeptFeatures.{IsNamedAlike, own_bins}
 use Rattle.cargo_toml_hidden.specs.Left.{AreLeft}
 use Rattle.cargo_toml_hidden.specs.TakingOver.{ChangesIn}
+use Rattle.cargo_toml_hidden.specs.Texts.{texts_of}
 use Rattle.cargo_toml_hidden.proofs.InPlace.{found_stands, has_place, name_in, one_place, stands_found, stands_in}
 use Rattle.cargo_toml_hidden.proofs.TakingOver.{then_set, unchanged}
 
@@ -139,12 +140,12 @@ pub none_learnt : (vs : List Feature) → HaveLearnt 0 vs vs
 none_learnt vs = record { same = same_features vs; learn = nobody_learns (LeaderBelow vs 0) vs (no_leader vs) }
 
 -- then the next, of which the row tells where it leads
-pub next_learnt : (n : ℕ) (keys : List Text) (vs ws us : List Feature) (row : List ℕ) (u : Feature) → n < length vs → keys ≡ names_of vs → slice_get ws n ≡ Some u
-    → ((x : ℕ) → Among row x ↔ (Among [] x ⊎ ((x < length keys) × (x ≢ n) × LeadsTo u (text_at keys x))))
-    → HaveLearnt n vs ws → Enables (Among row) (text_at keys n) ws us → HaveLearnt (n + 1) vs us
+pub next_learnt : (n : ℕ) (keys : List (Bor Text)) (vs ws us : List Feature) (row : List ℕ) (u : Feature) → n < length vs → texts_of keys ≡ names_of vs → slice_get ws n ≡ Some u
+    → ((x : ℕ) → Among row x ↔ (Among [] x ⊎ ((x < length keys) × (x ≢ n) × LeadsTo u (text_at (texts_of keys) x))))
+    → HaveLearnt n vs ws → Enables (Among row) (text_at (texts_of keys) n) ws us → HaveLearnt (n + 1) vs us
 next_learnt n keys vs ws us row u lt are there rows h more = record {
   same = then_same vs ws us h.same more.same;
-  learn = then_learn (LeaderBelow vs n) (λ y e. (e ≡ text_at keys n) × Among row y) (LeaderBelow vs (n + 1)) vs ws us h.same.len both h.learn more.learn;
+  learn = then_learn (LeaderBelow vs n) (λ y e. (e ≡ text_at (texts_of keys) n) × Among row y) (LeaderBelow vs (n + 1)) vs ws us h.same.len both h.learn more.learn;
 }
   where
     first : (v : Feature) × (slice_get vs n ≡ Some v)
@@ -160,23 +161,26 @@ next_learnt n keys vs ws us row u lt are there rows h more = record {
     )
 
     long : length keys ≡ length vs
-    long = ap length are ∙ length-map vs (λ (v : Feature). v.key.now)
+    long = sym (length-map keys (λ (t : Bor Text). t.now)) ∙ ap length are ∙ length-map vs (λ (v : Feature). v.key.now)
 
-    both : (y : ℕ) (e : Text) → y < length vs → LeaderBelow vs (n + 1) y e ↔ (LeaderBelow vs n y e ⊎ ((e ≡ text_at keys n) × Among row y))
+    key : (y : ℕ) → text_at (names_of vs) y ≡ text_at (texts_of keys) y
+    key y = ap (λ ks. text_at ks y) (sym are)
+
+    both : (y : ℕ) (e : Text) → y < length vs → LeaderBelow vs (n + 1) y e ↔ (LeaderBelow vs n y e ⊎ ((e ≡ text_at (texts_of keys) n) × Among row y))
     both y e below = (
       λ l. elim (cases_eq l.0 n) [
         | inl is ↦
             let s = subst (λ j. Leader vs j y e) is l.2 in
             let w : first.0 ≡ s.2.0 = same_Some first.0 s.2.0 (sym first.1 ∙ s.2.1) in
-            inr (sym s.1 ∙ ap (λ ks. text_at ks n) (sym are), (rows y).1 (inr (subst (λ m. y < m) (sym long) below, s.0,
-              (led (text_at keys y)).1 (subst (λ ks. LeadsTo first.0 (text_at ks y)) (sym are) (subst (λ x. LeadsTo x (text_at (names_of vs) y)) (sym w) s.2.2)))))
+            inr (sym s.1 ∙ key n, (rows y).1 (inr (subst (λ m. y < m) (sym long) below, s.0,
+              (led (text_at (texts_of keys) y)).1 (subst (LeadsTo first.0) (key y) (subst (λ x. LeadsTo x (text_at (names_of vs) y)) (sym w) s.2.2)))))
         | inr ne ↦ inl (l.0, (let less = l.1 in omega (arith, less, ne)), l.2)
       ],
       λ s. elim s [
         | inl l ↦ (l.0, (let less = l.1 in omega (arith, less)), l.2)
         | inr r ↦ elim ((rows y).0 r.1) [
           | inl none ↦ absurd none
-          | inr t ↦ (n, omega arith, (t.1, ap (λ ks. text_at ks n) (sym are) ∙ sym r.0, (first.0, first.1, subst (λ ks. LeadsTo first.0 (text_at ks y)) are ((led (text_at keys y)).0 t.2))))
+          | inr t ↦ (n, omega arith, (t.1, key n ∙ sym r.0, (first.0, first.1, subst (LeadsTo first.0) (sym (key y)) ((led (text_at (texts_of keys) y)).0 t.2))))
         ]
       ],
     )

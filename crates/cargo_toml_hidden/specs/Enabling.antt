@@ -17,7 +17,8 @@ pub record IsSameButEnablers (old new : Feature) : Type 0 where
 -- in each place
 pub record AreSameButEnablers (old new : List Feature) : Type 0 where
   pub len : length new ≡ length old
-  pub each : (i : ℕ) (v w : Feature) → slice_get old i ≡ Some v → slice_get new i ≡ Some w → IsSameButEnablers v w
+  pub each : (i : ℕ) (v w : Feature) → slice_get old i ≡ Some v → slice_get new i ≡ Some w →
+      IsSameButEnablers v w
 
 -- the feature names x, or acts on it plainly
 abbrev pub LeadsTo : Feature → Text → Type 0
@@ -25,13 +26,15 @@ LeadsTo v x = IsTrue (has_text v.enables_features x) ⊎ IsPlain (action_at v.en
 
 -- the enablers of the new feature are those of the old one, and the texts of which By holds
 abbrev pub Learns : (Text → Type 0) → Feature → Feature → Type 0
-Learns By old new = (e : Text) → IsTrue (has_text new.enabled_by e) ↔ (IsTrue (has_text old.enabled_by e) ⊎ By e)
+Learns By old new = (e : Text) →
+    IsTrue (has_text new.enabled_by e) ↔ (IsTrue (has_text old.enabled_by e) ⊎ By e)
 
 -- so in each place, by what holds of it
 abbrev pub LearnEach : (ℕ → Text → Type 0) → List Feature → List Feature → Type 0
-LearnEach By old new = (y : ℕ) (v w : Feature) → slice_get old y ≡ Some v → slice_get new y ≡ Some w → Learns (By y) v w
+LearnEach By old new = (y : ℕ) (v w : Feature) → slice_get old y ≡ Some v → slice_get new y ≡ Some w →
+    Learns (By y) v w
 
--- the source is put among the enablers of the features in the named places, and nothing else changes
+-- the source is put among the enablers of the features in the named places; nothing else changes
 pub record Enables (Named : ℕ → Type 0) (source : Text) (old new : List Feature) : Type 0 where
   pub same : AreSameButEnablers old new
   pub learn : LearnEach (λ y e. (e ≡ source) × Named y) old new

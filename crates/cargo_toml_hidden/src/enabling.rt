@@ -4,7 +4,8 @@ ghost use Rattle.cargo_toml_graph.specs.Admitted.{is_below};
 ghost use Rattle.cargo_toml_graph.specs.Graph.{IsUnremoved, Table};
 ghost use Rattle.cargo_toml_graph.specs.Reach.{Among};
 ghost use Rattle.cargo_toml_graph.specs.Removal.{IsAscending};
-ghost use Rattle.cargo_toml_features.specs.InOrder.{AreInOrder, AreTable, HaveNoEnablers, resolution_among};
+ghost use Rattle.cargo_toml_features.specs.InOrder.{AreInOrder, AreTable, HaveNoEnablers};
+ghost use Rattle.cargo_toml_features.specs.InOrder.{resolution_among};
 ghost use Rattle.cargo_toml_features.specs.Views.{has_text};
 ghost use Rattle.cargo_toml_walk.specs.Numbered.{text_at};
 ghost use Rattle.cargo_toml_hidden.specs.Enabling.{AreSameButEnablers, Enables, LeadsTo};
@@ -16,8 +17,8 @@ use cargo_toml_features::features::Feature;
 use std::alloc::{AllocError, Global};
 use std::collections::BTreeSet;
 
-// Those of these names, other than the one in place `own`. The first name is looked for at `near` first; the answer is as of
-// `push_target`.
+// The features of these names, other than the one in place `own`. The first name is looked for at
+// `near` first; the answer is as of `push_target`.
 fn push_names(
     row: &mut Vec<usize>,
     named: &BTreeSet<&str>,
@@ -27,7 +28,8 @@ fn push_names(
 ) -> Result<usize, AllocError>
     requires { IsAscending (λ a b. IsTrue (is_below a b)) (texts_of keys.now) }
     ensures { OnOk result ((x : ℕ) → Among row.new.items x ↔ (Among row.old.items x
-        ⊎ ((x < length keys.now) × (x ≢ own) × IsTrue (has_text named.now (text_at (texts_of keys.now) x))))) }
+        ⊎ ((x < length keys.now) × (x ≢ own)
+        × IsTrue (has_text named.now (text_at (texts_of keys.now) x))))) }
 {
     if named.is_empty() {
         return Ok(near);
@@ -38,8 +40,8 @@ fn push_names(
     Ok(near)
 }
 
-// The features that the one in place `own` enables: those that it names, and those that it acts on plainly. The first name is
-// looked for at `near` first; the answer is as of `push_target`.
+// The features that the one in place `own` enables: those that it names, and those that it acts on
+// plainly. The first name is looked for at `near` first; the answer is as of `push_target`.
 fn push_targets(
     row: &mut Vec<usize>,
     feature: &Feature<'_>,
@@ -49,7 +51,8 @@ fn push_targets(
 ) -> Result<usize, AllocError>
     requires { IsAscending (λ a b. IsTrue (is_below a b)) (texts_of keys.now) }
     ensures { OnOk result ((x : ℕ) → Among row.new.items x ↔ (Among row.old.items x
-        ⊎ ((x < length keys.now) × (x ≢ own) × LeadsTo feature.now (text_at (texts_of keys.now) x)))) }
+        ⊎ ((x < length keys.now) × (x ≢ own)
+        × LeadsTo feature.now (text_at (texts_of keys.now) x)))) }
 {
     let near = push_names(row, &feature.enables_features, keys, own, near)?;
     push_actions(row, &feature.enables_deps, keys, own)?;
@@ -63,7 +66,8 @@ fn enable_at<'m>(
     source: &'m str,
 ) -> Result<(), AllocError>
     requires { at < length features.old.items }
-    ensures { OnOk result (Enables (λ y. y ≡ at) source.now features.old.items features.new.items) }
+    ensures { OnOk result
+        (Enables (λ y. y ≡ at) source.now features.old.items features.new.items) }
 {
     let feature = &mut features[at];
     add_text(&mut feature.enabled_by, source)?;
@@ -77,7 +81,8 @@ fn enable_along<'m>(
     source: &'m str,
 ) -> Result<(), AllocError>
     requires { (y : ℕ) → Among row.now y → y < length features.old.items }
-    ensures { OnOk result (Enables (Among row.now) source.now features.old.items features.new.items) }
+    ensures { OnOk result
+        (Enables (Among row.now) source.now features.old.items features.new.items) }
 {
     for at in row {
         enable_at(features, *at, source)?;
@@ -85,9 +90,11 @@ fn enable_along<'m>(
     Ok(())
 }
 
-/// Each feature learns which others enable it: those that name it, and those that act plainly on the dependency of its name.
+/// Each feature learns which others enable it: those that name it, and those that act plainly on
+/// the dependency of its name.
 ///
-/// The features stand in byte order, and none of them knows an enabler yet. It fails only where memory runs out.
+/// The features stand in byte order, and none of them knows an enabler yet. It fails only where
+/// memory runs out.
 pub fn set_enablers<'m>(
     alloc: Global,
     features: &mut Vec<Feature<'m>>,

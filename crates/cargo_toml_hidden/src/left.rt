@@ -6,7 +6,8 @@ ghost use Rattle.cargo_toml_graph.specs.Graph.{IsUnremoved, Table};
 ghost use Rattle.cargo_toml_walk.specs.Numbered.{text_at};
 ghost use Rattle.cargo_toml_walk.specs.Numbers.{IsWanted, Leads, list_at};
 ghost use Rattle.cargo_toml_features.specs.declared.features.Feature.{Feature};
-ghost use Rattle.cargo_toml_features.specs.InOrder.{AreInOrder, AreTable, HaveNoEnablers, feature_at, resolution_among};
+ghost use Rattle.cargo_toml_features.specs.InOrder.{AreInOrder, AreTable, HaveNoEnablers};
+ghost use Rattle.cargo_toml_features.specs.InOrder.{feature_at, resolution_among};
 ghost use Rattle.cargo_toml_features.specs.Reached.{IsKeyed};
 ghost use Rattle.cargo_toml_features.specs.Views.{value_at};
 ghost use Rattle.cargo_toml_hidden.specs.Leaving.{HasTexts};
@@ -141,15 +142,16 @@ fn keep_enabled<'m, S: BuildHasher + Clone>(
     requires count { length flags.now ≡ length features.items }
     requires none_flagged { (i : ℕ) → ¬ IsWanted flags.now true i }
     ensures keyed { IfOk result (λ l. IsKeyed l.features) }
-    ensures all { IfOk result (λ l. (t : Table) (removed : Text → Bool) → AreTable t features.entry.items →
-        ((f : Text) → ¬ IsTrue (removed f)) → AreLeft t removed features.entry.items l.features l.hidden) }
+    ensures all { IfOk result (λ l. (t : Table) (removed : Text → Bool) →
+        AreTable t features.entry.items → ((f : Text) → ¬ IsTrue (removed f)) →
+        AreLeft t removed features.entry.items l.features l.hidden) }
 {
     set_enablers(alloc, &mut features)?;
     keep_all(alloc, state, features, flags)
 }
 
-/// What is left of features in the byte order of their names, once those are taken out whose flag stands. It fails only where
-/// memory runs out, or the clone of `state` does.
+/// What is left of features in the byte order of their names, once those are taken out whose flag
+/// stands. It fails only where memory runs out, or the clone of `state` does.
 pub fn left_of<'m, S: BuildHasher + Clone>(
     alloc: Global,
     state: &S,
@@ -160,12 +162,13 @@ pub fn left_of<'m, S: BuildHasher + Clone>(
     requires no_enablers { HaveNoEnablers features.items }
     requires count { length flags.now ≡ length features.items }
     ensures keyed { IfOk result (λ l. IsKeyed l.features) }
-    ensures outcome { IfOk result (λ l. (t : Table) (removed : Text → Bool) → AreTable t features.entry.items →
+    ensures outcome { IfOk result (λ l. (t : Table) (removed : Text → Bool) →
+        AreTable t features.entry.items →
         ((f : Text) → IsTrue (removed f) ↔ IsFlagged features.entry.items flags.now f) →
         AreLeft t removed features.entry.items l.features l.hidden) }
 {
-    // Most manifests have no hidden feature: then nothing is numbered and no path is walked. Where there is one, its removal
-    // finds what enables the others.
+    // Most manifests have no hidden feature: then nothing is numbered and no path is walked. Where
+    // there is one, its removal finds what enables the others.
     if flags.contains(&true) {
         take_out(alloc, state, features, flags)
     } else {

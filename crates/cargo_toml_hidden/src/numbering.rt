@@ -187,8 +187,8 @@ fn named_targets(
     Ok(row)
 }
 
-/// The feature of this name, if there is one other than the one in place `own`, is put at the end. It is looked for at `near`
-/// first; the answer is where to look for one that follows.
+/// The feature of this name, if there is one other than the one in place `own`, is put at the end.
+/// It is looked for at `near` first; the answer is where to look for one that follows.
 pub(crate) fn push_target(
     row: &mut Vec<usize>,
     key: &str,
@@ -228,8 +228,8 @@ fn push_action(
     push_target(row, key, keys, own, near)
 }
 
-/// Those that the actions enable, other than the one in place `own`. An implied feature acts on the dependency of its own name,
-/// so the first is looked for there.
+/// Those that the actions enable, other than the one in place `own`. An implied feature acts on the
+/// dependency of its own name, so the first is looked for there.
 pub(crate) fn push_actions(
     row: &mut Vec<usize>,
     actions: &BTreeMap<&str, DepAction<'_>>,
@@ -240,7 +240,7 @@ pub(crate) fn push_actions(
     ensures { OnOk result ((x : ℕ) → Among row.new.items x ↔ (Among row.old.items x
         ⊎ ((x < length keys.now) × (x ≢ own) × IsPlain (action_at actions.now (text_at (texts_of keys.now) x))))) }
 {
-    // Most features act on nothing, and to begin a walk over an empty map costs more than this test.
+    // Most features act on nothing, and to begin a walk over an empty map costs more than this.
     if actions.is_empty() {
         return Ok(());
     }

@@ -51,8 +51,8 @@ fn thin_action(action: &mut DepAction<'_>, dependency: &Dependency)
         .retain(|feature| !is_redundant(dependency, *feature));
 }
 
-// The same of the action on the key, by the dependency of its first target. Most actions ask for no feature of it: then it
-// isn't looked up.
+// The same of the action on the key, by the dependency of its first target. Most actions ask for no
+// feature of it: then it isn't looked up.
 fn thin_action_on(
     key: &str,
     action: &mut DepAction<'_>,

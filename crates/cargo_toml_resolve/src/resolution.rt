@@ -3,7 +3,8 @@ ghost use Rattle.std.specs.Prelude.{◌≡◌, map, option_map, IfOk, IfSome};
 ghost use Rattle.cargo_toml_graph.specs.Action.{Text};
 ghost use Rattle.cargo_toml_graph.specs.Reach.{IsOnce};
 ghost use Rattle.cargo_toml_resolve.specs.Slots.{HeldHaveTargets, held_in};
-ghost use Rattle.cargo_toml_features.specs.InOrder.{AreInOrder, AreTable, HaveNoEnablers, feature_at};
+ghost use Rattle.cargo_toml_features.specs.InOrder.{AreInOrder, AreTable, HaveNoEnablers};
+ghost use Rattle.cargo_toml_features.specs.InOrder.{feature_at};
 ghost use Rattle.cargo_toml_resolve.specs.OwnBins.{own_of, requirement_of};
 ghost use Rattle.cargo_toml_features.specs.Marks.{details_of, marks_in, marks_of};
 ghost use Rattle.cargo_toml_features.specs.Views.{listed_of, entry_of, recorded_in};
@@ -34,8 +35,8 @@ pub struct Unremoved<'m, 'd> {
 /// Resolves features as they are listed, with entries of whatever dependency tables and what binaries require, and removes
 /// none of them.
 ///
-/// Each name is listed once. What enables a feature isn't told: where features are removed, that is found anew. It fails only
-/// where memory runs out.
+/// Each name is listed once. What enables a feature isn't told: where features are removed, that is
+/// found anew. It fails only where memory runs out.
 pub fn resolve_all<'m: 'd, 'd>(
     alloc: Global,
     listings: &[Listing<'m>],

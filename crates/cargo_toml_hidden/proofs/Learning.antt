@@ -1,8 +1,8 @@
 -- Enablers that features learn, place by place.
 use Rattle.std.proofs.Common.{◌≡◌, ◌≢◌, ◌↔◌, ◌⊎◌, ◌<◌, ◌+◌, ◌||◌, ◌∷◌, ℕ, suc, Bool, true, false, cond, List, [], length, map, get_or, set, slice_get, Option, Some, None, Bor, IsTrue, IfSome, is_some, bytes_eq, refl, sym, ap, subst, inl, inr, ◌∙◌, arith}
 use Rattle.std.proofs.lemmas.Bool.{cases_eq, false≢true, or_cases, or_left, or_right}
-use Rattle.std.proofs.lemmas.List.{length-map}
-use Rattle.std.proofs.lemmas.Option.{same_Some, slice_get-get_or, slice_get_within, get_or_from_slice_get}
+use Rattle.std.proofs.lemmas.List.{get_or-map, length-map}
+use Rattle.std.proofs.lemmas.Option.{same_Some, slice_get-get_or, slice_get_read, slice_get_within}
 use Rattle.std.proofs.lemmas.Slice.Eq.{bytes_eq-Decides}
 use Rattle.std.specs.BTreeSet.{BTreeSet}
 use Rattle.std.specs.HashMap.{HashMap}
@@ -185,6 +185,21 @@ next_learnt n keys vs ws us row u lt are there rows h more = record {
       ],
     )
 
+-- the same by what a loop reads
+pub one_more_learnt : (n : ℕ) (keys seen : List (Bor Text)) (vs ws us : List Feature) (cleared row given : List ℕ) (u : Feature) (source : Bor Text) → n < length keys → texts_of keys ≡ names_of vs
+    → seen ≡ keys → cleared ≡ [] → given ≡ row → u ≡ get_or ws n u → source ≡ get_or keys n source
+    → ((x : ℕ) → Among row x ↔ (Among cleared x ⊎ ((x < length seen) × (x ≢ n) × LeadsTo u (text_at (texts_of seen) x))))
+    → HaveLearnt n vs ws → Enables (Among given) source.now ws us → HaveLearnt (n + 1) vs us
+one_more_learnt n keys seen vs ws us cleared row given u source lt are saw clear gave read key rows h more =
+    let long : length keys ≡ length vs = sym (length-map keys (λ (t : Bor Text). t.now)) ∙ ap length are ∙ length-map vs (λ (v : Feature). v.key.now) in
+    let inside : n < length vs = subst (λ m. n < m) long lt in
+    next_learnt n keys vs ws us row u inside are (slice_get_read ws (length ws) n u refl (subst (λ m. n < m) (sym h.same.len) inside) read)
+    (subst (λ ys. (x : ℕ) → Among row x ↔ (Among ys x ⊎ ((x < length keys) × (x ≢ n) × LeadsTo u (text_at (texts_of keys) x)))) clear
+    (subst (λ (ks : List (Bor Text)). (x : ℕ) → Among row x ↔ (Among cleared x ⊎ ((x < length ks) × (x ≢ n) × LeadsTo u (text_at (texts_of ks) x)))) saw rows))
+    h
+    (subst (λ e. Enables (Among row) e ws us) (sym (get_or-map (λ (t : Bor Text). t.now) keys n source [] lt ∙ ap (λ (t : Bor Text). t.now) (sym key)))
+    (subst (λ xs. Enables (Among xs) source.now ws us) gave more))
+
 -- under a name stands a feature in one list where one of the same place stands in the other
 abbrev Alike : List Feature → List Feature → Option Feature → Option Feature → Type 0
 Alike vs ws None None = Unit {0}
@@ -197,7 +212,7 @@ alike_at [] [] s f = tt
 alike_at [] (w ∷ ws) s f = absurd (let len = s.len in omega (arith, len))
 alike_at (v ∷ vs) [] s f = absurd (let len = s.len in omega (arith, len))
 alike_at (v ∷ vs) (w ∷ ws) s f =
-    subst (λ k. Alike (v ∷ vs) (w ∷ ws) (feature_at (v ∷ vs) f) (cond (bytes_eq f k) (Some w) (feature_at ws f))) (ap (λ q. q.now) (sym (s.each 0 v w refl refl).key)) (go (bytes_eq f v.key.now))
+    subst (λ k. Alike (v ∷ vs) (w ∷ ws) (feature_at (v ∷ vs) f) (cond (bytes_eq f k) (Some w) (feature_at ws f))) (ap (λ q. q.now) (sym (s.each 0 v w refl refl).key)) (go (alike_at vs ws later f) (bytes_eq f v.key.now))
   where
     later : AreSameButEnablers vs ws
     later = record { len = (let len = s.len in omega (arith, len)); each = λ i a b old new. s.each (suc i) a b old new }
@@ -208,9 +223,9 @@ alike_at (v ∷ vs) (w ∷ ws) s f =
     shift (Some x) None a = a
     shift (Some x) (Some y) a = (suc a.0, a.1, a.2)
 
-    go : (b : Bool) → Alike (v ∷ vs) (w ∷ ws) (cond b (Some v) (feature_at vs f)) (cond b (Some w) (feature_at ws f))
-    go true = (0, refl, refl)
-    go false = shift (feature_at vs f) (feature_at ws f) (alike_at vs ws later f)
+    go : Alike vs ws (feature_at vs f) (feature_at ws f) → (b : Bool) → Alike (v ∷ vs) (w ∷ ws) (cond b (Some v) (feature_at vs f)) (cond b (Some w) (feature_at ws f))
+    go rest true = (0, refl, refl)
+    go rest false = shift (feature_at vs f) (feature_at ws f) rest
 
 keys_still : (vs ws : List Feature) → AreSameButEnablers vs ws → names_of ws ≡ names_of vs
 keys_still [] [] s = refl

@@ -57,7 +57,7 @@ module _ (f : Text) (d : Detail) (items : List Item) (named : List Text) (v : Fe
 
 -- ---- sets of texts
 -- a key of the list is the text x
-abbrev is_text_in : List (Bor Text) → Text → Bool
+abbrev pub is_text_in : List (Bor Text) → Text → Bool
 is_text_in ks x = list_any (is_at (λ k. slice_cmp nat_cmp x k.now)) ks
 
 text_in : (ks : List (Bor Text)) (x : Text) → is_text_in ks x ≡ list_any (bytes_eq x) (map (λ k. k.now) ks)

@@ -13,4 +13,4 @@ pub mod Ascending
 pub mod GatheredKeys
 pub mod ListedNames
 mod HeldTargets
-mod Gathering
+pub mod Gathering

@@ -61,8 +61,7 @@ then_learn A B C vs ws us len both a b y v u old new e =
     let w = there_too vs ws len y v old in
     let c = both y e (slice_get_within vs y v old) in
     let first = a y v w.0 old w.1 e in
-    let last = b y w.0 u w.1 new e in
-    (
+    let last = b y w.0 u w.1 new e in (
       λ t. elim (last.0 t) [
         | inl m ↦ elim (first.0 m) [ inl o ↦ inl o | inr x ↦ inr (c.1 (inl x)) ]
         | inr x ↦ inr (c.1 (inr x))
@@ -77,14 +76,17 @@ then_learn A B C vs ws us len both a b y v u old new e =
 pub one_learns : (vs : List Feature) (i : ℕ) (source : Text) (v : Feature) (by : BTreeSet (Bor Text)) → i < length vs → v ≡ get_or vs i v
     → ((x : Text) → IsTrue (has_text by x) ↔ (IsTrue (has_text v.enabled_by x) ⊎ (x ≡ source))) → Enables (λ y. y ≡ i) source vs (set vs i (record v { enabled_by = by }))
 one_learns vs i source v by lt read gains = record {
-  same = record { len = all.len; each = λ j u w old new. elim (cases_eq j i) [
-    | inl is ↦ let h = here j is u w old new in h.0
-    | inr ne ↦ subst (IsSameButEnablers u) (other j ne u w old new) (itself u)
-  ] };
+  same = record {
+    len = all.len;
+    each = λ j u w old new. elim (cases_eq j i) [
+      | inl is ↦ let h = here j is u w old new in h.0
+      | inr ne ↦ subst (IsSameButEnablers u) (other j ne u w old new) (itself u)
+    ];
+  };
   learn = λ j u w old new e. elim (cases_eq j i) [
     | inl is ↦ let h = here j is u w old new in (λ t. elim ((h.1 e).0 t) [ inl o ↦ inl o | inr x ↦ inr (x, is) ], λ s. (h.1 e).1 (elim s [ inl o ↦ inl o | inr x ↦ inr x.0 ]))
     | inr ne ↦ subst (λ x. IsTrue (has_text x.enabled_by e) ↔ (IsTrue (has_text u.enabled_by e) ⊎ ((e ≡ source) × (j ≡ i)))) (other j ne u w old new)
-      (λ t. inl t, λ s. elim s [ inl o ↦ o | inr x ↦ absurd (ne x.1) ])
+        (λ t. inl t, λ s. elim s [ inl o ↦ o | inr x ↦ absurd (ne x.1) ])
   ];
 }
   where
@@ -172,8 +174,14 @@ next_learnt n keys vs ws us row u lt are there rows h more = record {
         | inl is ↦
             let s = subst (λ j. Leader vs j y e) is l.2 in
             let w : first.0 ≡ s.2.0 = same_Some first.0 s.2.0 (sym first.1 ∙ s.2.1) in
-            inr (sym s.1 ∙ key n, (rows y).1 (inr (subst (λ m. y < m) (sym long) below, s.0,
-              (led (text_at (texts_of keys) y)).1 (subst (LeadsTo first.0) (key y) (subst (λ x. LeadsTo x (text_at (names_of vs) y)) (sym w) s.2.2)))))
+            inr (
+              sym s.1 ∙ key n,
+              (rows y).1 (inr (
+                subst (λ m. y < m) (sym long) below,
+                s.0,
+                (led (text_at (texts_of keys) y)).1 (subst (LeadsTo first.0) (key y) (subst (λ x. LeadsTo x (text_at (names_of vs) y)) (sym w) s.2.2)),
+              )),
+            )
         | inr ne ↦ inl (l.0, (let less = l.1 in omega (arith, less, ne)), l.2)
       ],
       λ s. elim s [
@@ -371,11 +379,15 @@ module _ (t : Table) (vs ws : List Feature) (up : AreInOrder vs) (none : HaveNoE
           let r = found_stands vs e u from in
           let name : text_at (names_of vs) a.0 ≡ f = name_in vs a.0 v a.1 ∙ s.3 in
           let source : text_at (names_of vs) r.0 ≡ e = name_in vs r.0 u r.2 ∙ r.3 in
-          (h.learn a.0 v w a.1 a.2 e).1 (inr (r.0, r.1, (
-            λ same. d.apart (sym source ∙ ap (text_at (names_of vs)) (sym same) ∙ name),
-            source,
-            (u, r.2, subst (LeadsTo u) (sym name) (is_leading e f u from d.leads)),
-          )))
+          (h.learn a.0 v w a.1 a.2 e).1 (inr (
+            r.0,
+            r.1,
+            (
+              λ same. d.apart (sym source ∙ ap (text_at (names_of vs)) (sym same) ∙ name),
+              source,
+              (u, r.2, subst (LeadsTo u) (sym name) (is_leading e f u from d.leads)),
+            ),
+          ))
 
   pub unremoved : IsUnremoved t (resolution_among ws)
   unremoved = record { has = has_still; names = names_still; action = action_still; enabled_by = λ f e. (into_edge f e, from_edge f e) }

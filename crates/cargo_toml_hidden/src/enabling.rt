@@ -95,10 +95,7 @@ fn enable_along<'m>(
 ///
 /// The features stand in byte order, and none of them knows an enabler yet. It fails only where
 /// memory runs out.
-pub fn set_enablers<'m>(
-    alloc: Global,
-    features: &mut Vec<Feature<'m>>,
-) -> Result<(), AllocError>
+pub fn set_enablers<'m>(alloc: Global, features: &mut Vec<Feature<'m>>) -> Result<(), AllocError>
     requires in_order { AreInOrder features.old.items }
     requires no_enablers { HaveNoEnablers features.old.items }
     ensures same { OnOk result (AreSameButEnablers features.old.items features.new.items) }

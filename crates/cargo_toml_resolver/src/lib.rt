@@ -5,4 +5,5 @@
 
 mod complete_and_parse;
 pub mod features;
+mod heap;
 mod requirements;

@@ -1,5 +1,6 @@
 -- The features that users of a package are meant to ask for, each with what its manifest says of it.
-use Rattle.std.specs.Prelude.{◌≡◌, ◌⊎◌, ◌↔◌, ◌&&◌, ◌||◌, ◌==◌, not, if◌then◌else◌, false, IsTrue, Option, Some, None, codes, nat_eq, option_map, option_and_then}
+use Rattle.std.specs.Prelude.{◌≡◌, ◌⊎◌, ◌↔◌, ◌&&◌, ◌||◌, ◌==◌, not, if◌then◌else◌, false, IsTrue}
+use Rattle.std.specs.Prelude.{Option, Some, None, codes, nat_eq, option_map, option_and_then}
 use Rattle.std.specs.Borrow.{Bor}
 use Rattle.std.specs.BTreeMap as tree
 use Rattle.std.specs.BTreeMap.{BTreeMap}

@@ -1,5 +1,6 @@
 -- Which trees say who may rely on a package, and how that is written.
-use Rattle.std.specs.Prelude.{◌≡◌, ◌⊎◌, ℕ, List, codes, IsTrue, Option, Some, None, option_and_then, if◌then◌else◌, IsUtf8, refl}
+use Rattle.std.specs.Prelude.{◌≡◌, ◌⊎◌, ℕ, List, codes, IsTrue, Option, Some}
+use Rattle.std.specs.Prelude.{None, option_and_then, if◌then◌else◌, IsUtf8, refl}
 use Rattle.std.proofs.Common.{sym, subst}
 use Rattle.std.specs.Str.{bytes_eq}
 use Rattle.toml.specs.Data.{Data, string, as_str}
@@ -11,7 +12,8 @@ use Rattle.cargo_toml.specs.Texts.{document_reads, document_refuses}
 use Rattle.cargo_toml.specs.Floats.{has_no_float}
 use Rattle.cargo_toml.specs.Writes.{Way, IsFloatless, never}
 use Rattle.cargo_toml_caller.specs.declared.audience.Audience.{Audience}
-use Rattle.cargo_toml_caller.specs.declared.audience.Audience.TheVariants.{Everyone, Team, Undecided}
+use Rattle.cargo_toml_caller.specs.declared.audience.Audience.TheVariants.{Everyone, Team}
+use Rattle.cargo_toml_caller.specs.declared.audience.Audience.TheVariants.{Undecided}
 
 -- the audience that a text names, and that a tree does
 abbrev pub audience_named : List ℕ → Option Audience

@@ -2,7 +2,8 @@
 ghost use Rattle.std.specs.Prelude.{codes};
 ghost use Rattle.cargo_toml.specs.Faults.{IsOther};
 ghost use Rattle.cargo_toml_caller.specs.declared.audience.Audience.{Audience};
-ghost use Rattle.cargo_toml_caller.specs.Audiences.{audience_reads, audience_refuses, audience_way, audience_floatless};
+ghost use Rattle.cargo_toml_caller.specs.Audiences.{audience_reads, audience_refuses};
+ghost use Rattle.cargo_toml_caller.specs.Audiences.{audience_way, audience_floatless};
 
 use cargo_toml::{Error, FromValue, ToValue, Value};
 use std::alloc::Global;

@@ -16,7 +16,8 @@ ghost use Rattle.cargo_toml.specs.Packages.{package_meaning, package_reads};
 ghost use Rattle.cargo_toml.specs.WrittenManifests.{manifest_way};
 ghost use Rattle.cargo_toml.specs.WrittenPackages.{package_way, VersionAgain};
 ghost use Rattle.cargo_toml.specs.Writes.{IsReadAgain, IsWriting};
-ghost use Rattle.cargo_toml_caller.specs.Audiences.{IsAudienceOf, Refuses, audience_way, audience_reads, audience_in};
+ghost use Rattle.cargo_toml_caller.specs.Audiences.{IsAudienceOf, Refuses, audience_way};
+ghost use Rattle.cargo_toml_caller.specs.Audiences.{audience_reads, audience_in};
 
 pub use audience::Audience;
 use cargo_toml::{Error, Manifest, Package, ToValue, Value};

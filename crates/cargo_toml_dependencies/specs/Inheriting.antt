@@ -1,12 +1,16 @@
 -- What dependencies become that are left to the workspace.
-use Rattle.std.specs.Prelude.{◌≡◌, ℕ, List, [], ◌∷◌, ◌++◌, length, codes, Bool, true, false, not, ◌&&◌, ◌||◌, ◌==◌, if◌then◌else◌, Option, Some, None, option_map, option_and_then, Result, Ok, Err}
+use Rattle.std.specs.Prelude.{◌≡◌, ℕ, List, [], ◌∷◌, ◌++◌, length, codes, Bool, true}
+use Rattle.std.specs.Prelude.{false, not, ◌&&◌, ◌||◌, ◌==◌, if◌then◌else◌, Option}
+use Rattle.std.specs.Prelude.{Some, None, option_map, option_and_then, Result, Ok, Err}
 use Rattle.std.specs.List.{list_any}
 use Rattle.std.specs.Path.{path_join}
 use Rattle.std.specs.Str.{bytes_eq}
 use Rattle.semver.specs.Parse.{Held}
 use Rattle.cargo_toml_parts.specs.Answers.{◌>>=◌, beside, each}
 use Rattle.cargo_toml_parts.specs.FaultValues.{Fault, inherited_unknown_value, workspace_integrity}
-use Rattle.cargo_toml_dependencies.specs.Dependencies.{InheritedMeaning, DetailMeaning, DependencyMeaning, simple, inherited, detailed}
+use Rattle.cargo_toml_dependencies.specs.Dependencies.{InheritedMeaning, DetailMeaning}
+use Rattle.cargo_toml_dependencies.specs.Dependencies.{DependencyMeaning, simple}
+use Rattle.cargo_toml_dependencies.specs.Dependencies.{inherited, detailed}
 use Rattle.cargo_toml_dependencies.specs.Targets.{TargetMeaning}
 
 -- dependencies by key, in the order of the keys

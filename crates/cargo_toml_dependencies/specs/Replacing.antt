@@ -9,7 +9,8 @@ use Rattle.cargo_toml_dependencies.specs.declared.dependency.Dependency.{Depende
 use Rattle.cargo_toml_dependencies.specs.declared.inheriting.blocks.Waiting.{Waiting}
 use Rattle.cargo_toml_dependencies.specs.declared.inheriting.targets.NewTarget.{NewTarget}
 use Rattle.cargo_toml_dependencies.specs.declared.target.Target.{Target}
-use Rattle.cargo_toml_dependencies.specs.Dependencies.{DependencyMeaning, dependency_meaning, inherited}
+use Rattle.cargo_toml_dependencies.specs.Dependencies.{DependencyMeaning}
+use Rattle.cargo_toml_dependencies.specs.Dependencies.{dependency_meaning, inherited}
 use Rattle.cargo_toml_dependencies.specs.Inheriting.{Entries}
 use Rattle.cargo_toml_dependencies.specs.Targets.{TargetMeaning, target_meaning}
 

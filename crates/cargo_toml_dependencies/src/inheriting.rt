@@ -6,9 +6,11 @@ ghost use Rattle.std.specs.Prelude.{◌≡◌, [], IfSome, Some, option_map};
 ghost use Rattle.std.specs.Option.{option_copied};
 ghost use Rattle.cargo_toml_parts.specs.Answers.{Gives};
 ghost use Rattle.cargo_toml_dependencies.specs.Dependencies.{dependency_meaning};
-ghost use Rattle.cargo_toml_dependencies.specs.Inheriting.{Entries, any_left, entry_at, inherited_entries};
+ghost use Rattle.cargo_toml_dependencies.specs.Inheriting.{Entries, any_left, entry_at};
+ghost use Rattle.cargo_toml_dependencies.specs.Inheriting.{inherited_entries};
 ghost use Rattle.cargo_toml_dependencies.specs.Near.{AreEntriesOf};
-ghost use Rattle.cargo_toml_dependencies.specs.Replacing.{entries_meaning, made_meaning, next_for, replaced, rest_for, waiting_meaning};
+ghost use Rattle.cargo_toml_dependencies.specs.Replacing.{entries_meaning, made_meaning, next_for};
+ghost use Rattle.cargo_toml_dependencies.specs.Replacing.{replaced, rest_for, waiting_meaning};
 
 mod blocks;
 mod entry;

@@ -3,7 +3,8 @@ use Rattle.std.specs.Prelude.{Bool, true, false, List, [], ◌∷◌, codes, if�
 use Rattle.cargo_toml_discovery.specs.declared.listings.Wanted.{Wanted}
 use Rattle.cargo_toml_discovery.specs.Found.{Named}
 use Rattle.cargo_toml_discovery.specs.Names.{Text, has_text, in_dir, is_source}
-use Rattle.cargo_toml_discovery.specs.Seen.{Seen, seen, seen_as, pair, and_then, names_at, root_names}
+use Rattle.cargo_toml_discovery.specs.Seen.{Seen, seen, seen_as, pair}
+use Rattle.cargo_toml_discovery.specs.Seen.{and_then, names_at, root_names}
 use Rattle.cargo_toml_discovery.specs.Told.{Told}
 
 -- a name, and whether `main.rs` is among the names in its folder

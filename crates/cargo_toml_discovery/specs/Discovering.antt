@@ -1,5 +1,6 @@
 -- What discovery makes of what a manifest states.
-use Rattle.std.specs.Prelude.{Bool, true, false, List, [], ◌∷◌, ◌&&◌, map, Option, Some, None, option_map, if◌then◌else◌, codes, unwrap_or}
+use Rattle.std.specs.Prelude.{Bool, true, false, List, [], ◌∷◌, ◌&&◌, map, Option}
+use Rattle.std.specs.Prelude.{Some, None, option_map, if◌then◌else◌, codes, unwrap_or}
 use Rattle.std.specs.Option.{option_copied}
 use denote.Ref.{Bor}
 use Rattle.cargo_toml_settings.specs.Settings.{File, flag, path, file_meaning}

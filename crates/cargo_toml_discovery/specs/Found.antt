@@ -1,5 +1,6 @@
 -- What is found in a folder of products.
-use Rattle.std.specs.Prelude.{Bool, true, false, not, ◌&&◌, List, [], ◌∷◌, ◌++◌, map, filter, Option, Some, None, is_some, if◌then◌else◌, codes}
+use Rattle.std.specs.Prelude.{Bool, true, false, not, ◌&&◌, List, [], ◌∷◌, ◌++◌, map}
+use Rattle.std.specs.Prelude.{filter, Option, Some, None, is_some, if◌then◌else◌, codes}
 use Rattle.std.specs.List.{list_any, filter_map}
 use Rattle.std.specs.Option.{option_or}
 use Rattle.std.specs.Ordering.{nat_cmp, is_lt}

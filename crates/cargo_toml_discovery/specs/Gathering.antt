@@ -1,10 +1,12 @@
 -- How names are gathered that discovery needs: what is kept is what was told, and all that is needed is kept.
-use Rattle.std.specs.Prelude.{◌≡◌, Bool, true, false, List, [], ◌∷◌, Some, is_some, codes, String, Result, MatchResult, ◌⊎◌}
+use Rattle.std.specs.Prelude.{◌≡◌, Bool, true, false, List, [], ◌∷◌, Some}
+use Rattle.std.specs.Prelude.{is_some, codes, String, Result, MatchResult, ◌⊎◌}
 use Rattle.std.specs.BTreeSet.{BTreeSet}
 use Rattle.std.specs.declared.alloc.Global.{Global}
 use Rattle.cargo_toml_parts.specs.declared.error.Error.{Error}
 use Rattle.cargo_toml_parts.specs.FaultValues.{Fault}
-use Rattle.cargo_toml_discovery.specs.Answers.{Answers, answer_at, names_in, below, filled, filled_by, texts_in}
+use Rattle.cargo_toml_discovery.specs.Answers.{Answers, answer_at, names_in}
+use Rattle.cargo_toml_discovery.specs.Answers.{below, filled, filled_by, texts_in}
 use Rattle.cargo_toml_discovery.specs.Names.{Text}
 use Rattle.cargo_toml_discovery.specs.Seen.{seen, names_at, root_names, MayTell, Tells}
 use Rattle.cargo_toml_discovery.specs.Told.{Told}

@@ -1,5 +1,6 @@
 -- How the code finds products: a walk over the offers. It gives what `Found` says, so nothing here has to be believed.
-use Rattle.std.specs.Prelude.{◌≡◌, Bool, List, [], ◌∷◌, ◌++◌, option_to_list, Option, None, option_map, if◌then◌else◌, string_bytes, map, filter, Vec}
+use Rattle.std.specs.Prelude.{◌≡◌, Bool, List, [], ◌∷◌, ◌++◌, option_to_list, Option, None}
+use Rattle.std.specs.Prelude.{option_map, if◌then◌else◌, string_bytes, map, filter, Vec}
 use Rattle.std.specs.BTreeMap.{BTreeMap, get_by}
 use Rattle.std.specs.BTreeSet.{BTreeSet, contains_by}
 use Rattle.std.specs.Cmp.Lexicographic.{slice_cmp}
@@ -13,7 +14,8 @@ use Rattle.cargo_toml_tables.specs.Products.{ProductMeaning, product_meaning}
 use Rattle.cargo_toml_tables.specs.declared.product.Product.{Product}
 use Rattle.cargo_toml_discovery.specs.declared.found.Offer as code_offer
 use Rattle.cargo_toml_discovery.specs.declared.listings.Entry as code_entry
-use Rattle.cargo_toml_discovery.specs.Found.{Named, Offered, product_for, has_path, is_path_of, last_waiting, offers}
+use Rattle.cargo_toml_discovery.specs.Found.{Named, Offered, product_for, has_path}
+use Rattle.cargo_toml_discovery.specs.Found.{is_path_of, last_waiting, offers}
 use Rattle.cargo_toml_discovery.specs.Names.{Text}
 
 abbrev pub named_of : code_entry.Entry → Named

@@ -2,7 +2,11 @@
 ghost use Rattle.std.specs.Prelude.{◌≡◌, [], List, Option, None, IfOk, IsTrue, map, codes, is_some};
 ghost use Rattle.std.specs.Option.{option_map, option_copied};
 ghost use Rattle.cargo_toml_discovery.specs.Answers.{answers_of, around_in, entries_if, names_kept};
-ghost use Rattle.cargo_toml_discovery.specs.Discovering.{at_library, build_in, discovered, discovered_meaning, filled_library, file_lent, found_library, library, list_of, main_offer, meanings, product_lent, readme_in, stated_meaning};
+ghost use Rattle.cargo_toml_discovery.specs.Discovering.{at_library, build_in, discovered};
+ghost use Rattle.cargo_toml_discovery.specs.Discovering.{discovered_meaning, filled_library};
+ghost use Rattle.cargo_toml_discovery.specs.Discovering.{file_lent, found_library, library};
+ghost use Rattle.cargo_toml_discovery.specs.Discovering.{list_of, main_offer, meanings};
+ghost use Rattle.cargo_toml_discovery.specs.Discovering.{product_lent, readme_in, stated_meaning};
 ghost use Rattle.cargo_toml_discovery.specs.Found.{Offered};
 ghost use Rattle.cargo_toml_discovery.specs.Names.{has_text};
 ghost use Rattle.cargo_toml_discovery.specs.Walk.{IsOffer};

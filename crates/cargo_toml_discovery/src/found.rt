@@ -1,13 +1,18 @@
 //! Products that are found in a folder.
-ghost use Rattle.std.specs.Prelude.{◌≡◌, ◌++◌, ◌∷◌, ◌||◌, List, map, filter, Option, OnOk, IfOk, IsTrue, string_bytes};
+ghost use Rattle.std.specs.Prelude.{◌≡◌, ◌++◌, ◌∷◌, ◌||◌, List, map, filter};
+ghost use Rattle.std.specs.Prelude.{Option, OnOk, IfOk, IsTrue, string_bytes};
 ghost use Rattle.std.specs.List.{cons_option};
 ghost use Rattle.std.specs.Option.{option_map, option_copied};
 ghost use Rattle.std.specs.Str.{bytes_eq};
 ghost use Rattle.cargo_toml_discovery.specs.Discovering.{meanings, product_lent};
-ghost use Rattle.cargo_toml_discovery.specs.Found.{offer_of, Offered, has_path, is_path_of, is_text, last_waiting, waits_or, product_for, open_offer, offers, found};
+ghost use Rattle.cargo_toml_discovery.specs.Found.{offer_of, Offered, has_path, is_path_of};
+ghost use Rattle.cargo_toml_discovery.specs.Found.{is_text, last_waiting, waits_or};
+ghost use Rattle.cargo_toml_discovery.specs.Found.{product_for, open_offer, offers, found};
 ghost use Rattle.cargo_toml_discovery.specs.Names.{Text};
 ghost use Rattle.cargo_toml_discovery.specs.Sorting.{in_order};
-ghost use Rattle.cargo_toml_discovery.specs.Walk.{named_of, all_named, offer_parts, parts_of_code, waiting_in, is_path_in, walked, all_walked, IsOffer, NamesAscend};
+ghost use Rattle.cargo_toml_discovery.specs.Walk.{named_of, all_named, offer_parts};
+ghost use Rattle.cargo_toml_discovery.specs.Walk.{parts_of_code, waiting_in, is_path_in};
+ghost use Rattle.cargo_toml_discovery.specs.Walk.{walked, all_walked, IsOffer, NamesAscend};
 ghost use Rattle.cargo_toml_tables.specs.Products.{ProductMeaning, product_meaning};
 
 use crate::listings::Entry;

@@ -5,7 +5,8 @@ ghost use Rattle.std.specs.HashSet.{contains_text as has_in};
 ghost use Rattle.std.specs.Option.{option_map, option_copied};
 ghost use Rattle.std.specs.Str.{bytes_eq};
 ghost use Rattle.std.specs.String.{string_cmp};
-ghost use Rattle.cargo_toml_discovery.specs.Answers.{answers_of, answer_at, texts_in, names_kept, below, entries_in};
+ghost use Rattle.cargo_toml_discovery.specs.Answers.{answers_of, answer_at, texts_in};
+ghost use Rattle.cargo_toml_discovery.specs.Answers.{names_kept, below, entries_in};
 ghost use Rattle.cargo_toml_discovery.specs.Names.{Text, has_text};
 ghost use Rattle.cargo_toml_discovery.specs.Walk.{all_named, NamesAscend};
 

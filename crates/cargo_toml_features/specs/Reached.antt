@@ -1,5 +1,6 @@
 -- What recursive enabling asks of a map of features, and what the maps that it answers hold.
-use Rattle.std.specs.Prelude.{◌≡◌, ◌≢◌, ◌⊎◌, ◌↔◌, IsTrue, List, [], Some, IfSome, IsSome, Vec, is_some, map}
+use Rattle.std.specs.Prelude.{◌≡◌, ◌≢◌, ◌⊎◌, ◌↔◌, IsTrue, List, []}
+use Rattle.std.specs.Prelude.{Some, IfSome, IsSome, Vec, is_some, map}
 use Rattle.std.specs.List.{IsAmong}
 use Rattle.std.specs.Option.{option_map_or}
 use Rattle.std.specs.Borrow.{Bor}

@@ -1,11 +1,13 @@
 -- From what a manifest lists to the table of features, and the whole answer.
-use Rattle.std.specs.Prelude.{◌≡◌, ◌↔◌, Bool, false, if◌then◌else◌, ◌&&◌, ◌||◌, List, is_some, option_map, IsTrue, Option, Some, None, bytes_eq, IfSome}
+use Rattle.std.specs.Prelude.{◌≡◌, ◌↔◌, Bool, false, if◌then◌else◌, ◌&&◌, ◌||◌, List, is_some}
+use Rattle.std.specs.Prelude.{option_map, IsTrue, Option, Some, None, bytes_eq, IfSome}
 use Rattle.cargo_toml_graph.specs.Action.{Text, Action}
 use Rattle.cargo_toml_graph.specs.Admitted.{Listed, is_explicit, is_below, names, joined_action}
 use Rattle.cargo_toml_graph.specs.Bins.{ArePassedOn, HasBins}
 use Rattle.cargo_toml_graph.specs.Graph.{Table, Resolution, IsResolved}
 use Rattle.cargo_toml_features.specs.Marks.{Details, Marks, marks_in}
-use Rattle.cargo_toml_features.specs.Recorded.{Entry, Recorded, Target, is_implied, entries_at, recorded_of, first_target, without_redundant}
+use Rattle.cargo_toml_features.specs.Recorded.{Entry, Recorded, Target, is_implied, entries_at}
+use Rattle.cargo_toml_features.specs.Recorded.{recorded_of, first_target, without_redundant}
 use Rattle.cargo_toml_graph.specs.Redirects.{RedirectsTo}
 use Rattle.cargo_toml_graph.specs.Removal.{is_removed}
 

@@ -1,5 +1,6 @@
 -- What the maps of a resolution hold, by the bytes of their keys, and what a manifest lists.
-use Rattle.std.specs.Prelude.{Bool, false, List, [], Option, None, bytes_eq, is_some, option_map, map, string_bytes, String, Vec}
+use Rattle.std.specs.Prelude.{Bool, false, List, [], Option, None, bytes_eq}
+use Rattle.std.specs.Prelude.{is_some, option_map, map, string_bytes, String, Vec}
 use Rattle.std.specs.Option.{option_map_or, option_copied}
 use Rattle.std.specs.Borrow.{Bor}
 use Rattle.std.specs.declared.alloc.Global.{Global}

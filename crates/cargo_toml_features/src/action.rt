@@ -1,7 +1,9 @@
 //! One text of a feature's list, and what it does to a dependency.
-ghost use Rattle.std.specs.Prelude.{◌≡◌, ◌||◌, if◌then◌else◌, nat_eq, codes, bytes_eq, is_some, Some, None, IfSome, OnOk};
+ghost use Rattle.std.specs.Prelude.{◌≡◌, ◌||◌, if◌then◌else◌, nat_eq, codes};
+ghost use Rattle.std.specs.Prelude.{bytes_eq, is_some, Some, None, IfSome, OnOk};
 ghost use Rattle.std.specs.List.{starts_with, ends_with, before_first, after_first, list_any};
-ghost use Rattle.cargo_toml_graph.specs.Action.{Text, join, join_option, without_start, without_end, is_slash, item_of};
+ghost use Rattle.cargo_toml_graph.specs.Action.{Text, join, join_option, without_start};
+ghost use Rattle.cargo_toml_graph.specs.Action.{without_end, is_slash, item_of};
 ghost use Rattle.cargo_toml_features.specs.ActionText.{action_in, item_in};
 ghost use Rattle.cargo_toml_features.specs.Views.{has_text, action_of, action_at};
 

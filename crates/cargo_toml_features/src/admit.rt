@@ -1,5 +1,6 @@
 //! Which features of a table count, in what order, and what is said of them.
-ghost use Rattle.std.specs.Prelude.{◌≡◌, ◌∷◌, ◌++◌, ◌||◌, [], IfOk, OnOk, if◌then◌else◌, bytes_eq, codes, length, map, nat_lt, string_bytes, take};
+ghost use Rattle.std.specs.Prelude.{◌≡◌, ◌∷◌, ◌++◌, ◌||◌, [], IfOk, OnOk, if◌then◌else◌};
+ghost use Rattle.std.specs.Prelude.{bytes_eq, codes, length, map, nat_lt, string_bytes, take};
 ghost use Rattle.cargo_toml_graph.specs.Action.{Text};
 ghost use Rattle.cargo_toml_graph.specs.Admitted.{Listed, admitted};
 ghost use Rattle.cargo_toml_graph.specs.Reach.{IsOnce};

@@ -5,7 +5,8 @@ ghost use Rattle.std.specs.Option.{option_copied};
 ghost use Rattle.cargo_toml_parts.specs.Reads.{map_meaning};
 ghost use Rattle.cargo_toml_dependencies.specs.Dependencies.{dependency_meaning};
 ghost use Rattle.cargo_toml_dependencies.specs.Targets.{target_meaning};
-ghost use Rattle.cargo_toml_features.specs.Entries.{built_entries, dev_entries, entries_of, first_entries, tables_meaning};
+ghost use Rattle.cargo_toml_features.specs.Entries.{built_entries, dev_entries, entries_of};
+ghost use Rattle.cargo_toml_features.specs.Entries.{first_entries, tables_meaning};
 ghost use Rattle.cargo_toml_features.specs.declared.features.Kind.TheVariants.{Normal, Build};
 ghost use Rattle.cargo_toml_features.specs.Views.{entry_of};
 

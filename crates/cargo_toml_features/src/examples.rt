@@ -1,7 +1,8 @@
 //! Worked examples of what listed features and entries of dependencies say together.
 //!
 //! A theorem counts only where a function's contract names it, so each function here does nothing and its contract is an example.
-ghost use Rattle.std.specs.Prelude.{◌≡◌, ◌↔◌, ◌⊎◌, ◌∷◌, [], ℕ, None, Some, bytes_eq, codes, false, option_map, true, IsFalse, IsSome, IsTrue};
+ghost use Rattle.std.specs.Prelude.{◌≡◌, ◌↔◌, ◌⊎◌, ◌∷◌, [], ℕ, None, Some, bytes_eq, codes};
+ghost use Rattle.std.specs.Prelude.{false, option_map, true, IsFalse, IsSome, IsTrue};
 ghost use Rattle.std.specs.Option.{IsSomeAnd};
 ghost use Rattle.cargo_toml_dependencies.specs.Dependencies.{simple};
 ghost use Rattle.cargo_toml_graph.specs.Action.{Text};
@@ -11,8 +12,12 @@ ghost use Rattle.cargo_toml_graph.specs.Graph.{Edge};
 ghost use Rattle.cargo_toml_graph.specs.Reach.{Among};
 ghost use Rattle.cargo_toml_graph.specs.Recursive.{Enables};
 ghost use Rattle.cargo_toml_features.specs.declared.features.Kind.TheVariants.{Build, Dev, Normal};
-ghost use Rattle.cargo_toml_features.specs.Examples.{detail, hidden_conditional, hidden_dep_only, hidden_key, hidden_plain, redundancy, small, small_entries, small_listed, three_kinds, twice};
-ghost use Rattle.cargo_toml_features.specs.Recorded.{entries_at, first_target, is_implied, is_reserved, recorded_of};
+ghost use Rattle.cargo_toml_features.specs.Examples.{detail, hidden_conditional};
+ghost use Rattle.cargo_toml_features.specs.Examples.{hidden_dep_only, hidden_key, hidden_plain};
+ghost use Rattle.cargo_toml_features.specs.Examples.{redundancy, small, small_entries};
+ghost use Rattle.cargo_toml_features.specs.Examples.{small_listed, three_kinds, twice};
+ghost use Rattle.cargo_toml_features.specs.Recorded.{entries_at, first_target, is_implied};
+ghost use Rattle.cargo_toml_features.specs.Recorded.{is_reserved, recorded_of};
 ghost use Rattle.cargo_toml_features.specs.Resolved.{joined_table, plain};
 
 /// Without dependencies a table is what its listed features say.

@@ -6,7 +6,8 @@ ghost use Rattle.cargo_toml_features.specs.Agreement as agreement;
 ghost use Rattle.cargo_toml_features.specs.Marks.{Details};
 ghost use Rattle.cargo_toml_features.specs.Recorded.{Entry};
 ghost use Rattle.cargo_toml_features.specs.Resolved.{Answer, IsAnswer};
-ghost use Rattle.cargo_toml_features.specs.TargetLaws.{Agree, IsKindEquality, IsKindOrder, IsTargetEquality, IsTargetOrder};
+ghost use Rattle.cargo_toml_features.specs.TargetLaws.{Agree, IsKindEquality, IsKindOrder};
+ghost use Rattle.cargo_toml_features.specs.TargetLaws.{IsTargetEquality, IsTargetOrder};
 
 use crate::features::{Kind, TargetKey};
 

@@ -1,5 +1,7 @@
 -- The features that a table lists, as many of them as count, and what each says.
-use Rattle.std.specs.Prelude.{ℕ, Bool, false, if◌then◌else◌, ◌||◌, List, [], map, filter, take, nat_lt, is_some, Option, Some, None, unwrap_or, codes, bytes_eq, fold, count_by}
+use Rattle.std.specs.Prelude.{ℕ, Bool, false, if◌then◌else◌, ◌||◌, List, []}
+use Rattle.std.specs.Prelude.{map, filter, take, nat_lt, is_some, Option, Some}
+use Rattle.std.specs.Prelude.{None, unwrap_or, codes, bytes_eq, fold, count_by}
 use Rattle.std.specs.List.{list_any}
 use Rattle.std.specs.Map.{lookup}
 use Rattle.std.specs.Cmp.Lexicographic.{slice_cmp}

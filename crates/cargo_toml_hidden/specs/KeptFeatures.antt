@@ -1,5 +1,6 @@
 -- What is left of features once some are removed, feature by feature.
-use Rattle.std.specs.Prelude.{◌≡◌, ◌↔◌, ◌<◌, ℕ, Bool, false, List, length, IsTrue, Vec, [], map, slice_get, Some}
+use Rattle.std.specs.Prelude.{◌≡◌, ◌↔◌, ◌<◌, ℕ, Bool, false, List, length}
+use Rattle.std.specs.Prelude.{IsTrue, Vec, [], map, slice_get, Some}
 use Rattle.std.specs.Option.{option_map_or}
 use Rattle.std.specs.declared.alloc.Global.{Global}
 use Rattle.cargo_toml_graph.specs.Action.{Text, IsJoin}

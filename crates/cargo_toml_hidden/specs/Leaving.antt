@@ -1,5 +1,6 @@
 -- What a feature holds once the removed ones that it passes are taken out.
-use Rattle.std.specs.Prelude.{Bool, false, ◌≡◌, ◌≢◌, ◌↔◌, ◌⊎◌, ℕ, List, [], length, Option, Some, Vec, IsTrue, slice_get, option_and_then}
+use Rattle.std.specs.Prelude.{Bool, false, ◌≡◌, ◌≢◌, ◌↔◌, ◌⊎◌, ℕ, List, [], length}
+use Rattle.std.specs.Prelude.{Option, Some, Vec, IsTrue, slice_get, option_and_then}
 use Rattle.std.specs.Borrow.{Bor}
 use Rattle.std.specs.BTreeMap.{BTreeMap}
 use Rattle.std.specs.BTreeSet.{BTreeSet}

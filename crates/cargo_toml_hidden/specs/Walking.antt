@@ -1,6 +1,7 @@
 -- What the walks over a graph of numbers find.
 use Rattle.std.specs.Prelude.{◌≡◌, ◌<◌, ◌≤◌, ◌↔◌, ℕ, Bool, true, false, List, length, Vec}
-use Rattle.cargo_toml_walk.specs.Numbers.{HasLabel, IsEnabledBy, IsPassed, IsRedirect, IsWanted, Leads, PassesAny}
+use Rattle.cargo_toml_walk.specs.Numbers.{HasLabel, IsEnabledBy, IsPassed}
+use Rattle.cargo_toml_walk.specs.Numbers.{IsRedirect, IsWanted, Leads, PassesAny}
 
 module _ {Z : Type 0} (edges names : List (Vec ℕ Z)) (flags : List Bool) where
   -- edges lead to vertices, and each vertex and each label has a flag

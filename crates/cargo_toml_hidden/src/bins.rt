@@ -1,5 +1,6 @@
 //! The binaries of removed features are passed on.
-ghost use Rattle.std.specs.Prelude.{◌≡◌, ◌<◌, ◌≤◌, ◌∷◌, ◌||◌, [], ℕ, bytes_eq, length, not, take, IfOk, OnOk};
+ghost use Rattle.std.specs.Prelude.{◌≡◌, ◌<◌, ◌≤◌, ◌∷◌, ◌||◌, [], ℕ};
+ghost use Rattle.std.specs.Prelude.{bytes_eq, length, not, take, IfOk, OnOk};
 ghost use Rattle.cargo_toml_graph.specs.Action.{Text};
 ghost use Rattle.cargo_toml_graph.specs.Reach.{Among};
 ghost use Rattle.cargo_toml_graph.specs.Removal.{put_all};

@@ -1,5 +1,6 @@
 //! Removed features are taken out by walks over their graph, and leave to others what they said.
-ghost use Rattle.std.specs.Prelude.{◌≡◌, ◌↔◌, ◌<◌, ◌≤◌, ℕ, Bool, IfOk, IsTrue, OnOk, Some, length, slice_get, true, false};
+ghost use Rattle.std.specs.Prelude.{◌≡◌, ◌↔◌, ◌<◌, ◌≤◌, ℕ, Bool, IfOk, IsTrue};
+ghost use Rattle.std.specs.Prelude.{OnOk, Some, length, slice_get, true, false};
 ghost use Rattle.cargo_toml_graph.specs.Action.{Text};
 ghost use Rattle.cargo_toml_graph.specs.Admitted.{is_below};
 ghost use Rattle.cargo_toml_graph.specs.Graph.{Table};
@@ -7,10 +8,12 @@ ghost use Rattle.cargo_toml_graph.specs.Redirects.{RedirectsTo};
 ghost use Rattle.cargo_toml_walk.specs.Numbered.{HasNumber, text_at};
 ghost use Rattle.cargo_toml_walk.specs.Numbers.{IsWanted, Leads, list_at};
 ghost use Rattle.cargo_toml_features.specs.declared.features.Feature.{Feature};
-ghost use Rattle.cargo_toml_hidden.specs.KeptFeatures.{ArePassedAt, IsKeptFeature, IsNamedAlike, StandFor, own_bins};
+ghost use Rattle.cargo_toml_hidden.specs.KeptFeatures.{ArePassedAt, IsKeptFeature};
+ghost use Rattle.cargo_toml_hidden.specs.KeptFeatures.{IsNamedAlike, StandFor, own_bins};
 ghost use Rattle.cargo_toml_hidden.specs.Leaving.{Leaves, LeavesAll};
 ghost use Rattle.cargo_toml_hidden.specs.Texts.{texts_of};
-ghost use Rattle.cargo_toml_hidden.specs.Walking.{AreEnablers, AreNamed, ArePassed, AreRows, AreWithin};
+ghost use Rattle.cargo_toml_hidden.specs.Walking.{AreEnablers, AreNamed};
+ghost use Rattle.cargo_toml_hidden.specs.Walking.{ArePassed, AreRows, AreWithin};
 
 use crate::bins::pass_bins;
 use crate::leaving::leave;

@@ -1,5 +1,6 @@
 //! Which features are removed, by their places.
-ghost use Rattle.std.specs.Prelude.{◌≡◌, ◌<◌, ◌&&◌, ℕ, Bool, IfOk, codes, false, length, nat_eq, not};
+ghost use Rattle.std.specs.Prelude.{◌≡◌, ◌<◌, ◌&&◌, ℕ, Bool, IfOk};
+ghost use Rattle.std.specs.Prelude.{codes, false, length, nat_eq, not};
 ghost use Rattle.std.specs.List.{slice_index_or, starts_with};
 ghost use Rattle.cargo_toml_graph.specs.Action.{Text};
 ghost use Rattle.cargo_toml_features.specs.InOrder.{names_of};

@@ -1,5 +1,6 @@
 //! Features as a graph of numbers.
-ghost use Rattle.std.specs.Prelude.{◌≡◌, ◌≢◌, ◌↔◌, ◌⊎◌, ◌<◌, ◌≤◌, ℕ, IfOk, IfSome, IsTrue, None, OnOk, Some, length, map, true};
+ghost use Rattle.std.specs.Prelude.{◌≡◌, ◌≢◌, ◌↔◌, ◌⊎◌, ◌<◌, ◌≤◌, ℕ, IfOk, IfSome};
+ghost use Rattle.std.specs.Prelude.{IsTrue, None, OnOk, Some, length, map, true};
 ghost use Rattle.cargo_toml_graph.specs.Action.{Text};
 ghost use Rattle.cargo_toml_graph.specs.Admitted.{is_below};
 ghost use Rattle.cargo_toml_graph.specs.Graph.{IsPlain};
@@ -9,7 +10,8 @@ ghost use Rattle.cargo_toml_features.specs.InOrder.{AreInOrder, names_of, table_
 ghost use Rattle.cargo_toml_features.specs.Views.{action_at, action_of, has_text};
 ghost use Rattle.cargo_toml_walk.specs.Numbers.{IsWanted, Leads};
 ghost use Rattle.cargo_toml_walk.specs.Numbered.{IsNumbered, text_at};
-ghost use Rattle.cargo_toml_hidden.specs.Numbering.{AreParted, AreTextsOf, IsFlagged, IsTarget, is_named, names_at};
+ghost use Rattle.cargo_toml_hidden.specs.Numbering.{AreParted, AreTextsOf, IsFlagged};
+ghost use Rattle.cargo_toml_hidden.specs.Numbering.{IsTarget, is_named, names_at};
 ghost use Rattle.cargo_toml_hidden.specs.Texts.{texts_of};
 
 use cargo_toml_features::features::{DepAction, Feature};

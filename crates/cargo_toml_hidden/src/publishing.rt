@@ -1,5 +1,6 @@
 //! What is left of features, in a hashed map.
-ghost use Rattle.std.specs.Prelude.{◌≡◌, ◌≤◌, ℕ, None, Some, bytes_eq, false, if◌then◌else◌, length, map, slice_get, IfOk, IsSome, IsTrue, OnOk};
+ghost use Rattle.std.specs.Prelude.{◌≡◌, ◌≤◌, ℕ, None, Some, bytes_eq, false, if◌then◌else◌};
+ghost use Rattle.std.specs.Prelude.{length, map, slice_get, IfOk, IsSome, IsTrue, OnOk};
 ghost use Rattle.std.specs.Option.{option_or};
 ghost use Rattle.cargo_toml_graph.specs.Action.{Text};
 ghost use Rattle.cargo_toml_graph.specs.Admitted.{is_below};

@@ -8,7 +8,8 @@ use Rattle.cargo_toml_discovery.specs.Answers.{Answers, filled}
 use Rattle.cargo_toml_discovery.specs.Names.{Text}
 use Rattle.cargo_toml_discovery.specs.Seen.{IsOneOf, Seen, seen, faulty, unclear}
 use Rattle.cargo_toml_discovery.specs.Told.{Told}
-use Rattle.cargo_toml_manifest.specs.Choosing.{AnswersRoots, Choice, Handed, RootsTold, alone, from, lost, unclear_root, choice, hint_of, told_choice}
+use Rattle.cargo_toml_manifest.specs.Choosing.{AnswersRoots, Choice, Handed, RootsTold, alone, from}
+use Rattle.cargo_toml_manifest.specs.Choosing.{lost, unclear_root, choice, hint_of, told_choice}
 use Rattle.cargo_toml_manifest.specs.Finding.{found_around}
 use Rattle.cargo_toml_manifest.specs.Inheriting.{inherited_manifest}
 use Rattle.cargo_toml_manifest.specs.Manifests.{ManifestMeaning}

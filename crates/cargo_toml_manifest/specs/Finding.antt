@@ -5,7 +5,8 @@ use Rattle.cargo_toml_parts.specs.declared.inheritable.Inheritable.TheVariants.{
 use Rattle.cargo_toml_settings.specs.Settings.{flag}
 use Rattle.cargo_toml_settings.specs.declared.settings.Edition.TheVariants.{E2015}
 use Rattle.cargo_toml_discovery.specs.Around.{around}
-use Rattle.cargo_toml_discovery.specs.Discovering.{StatedMeaning, DiscoveredMeaning, discovered, discovered_meaning}
+use Rattle.cargo_toml_discovery.specs.Discovering.{StatedMeaning, DiscoveredMeaning}
+use Rattle.cargo_toml_discovery.specs.Discovering.{discovered, discovered_meaning}
 use Rattle.cargo_toml_discovery.specs.Names.{Text}
 use Rattle.cargo_toml_discovery.specs.Seen.{Seen, seen, seen_as}
 use Rattle.cargo_toml_discovery.specs.Told.{Told}

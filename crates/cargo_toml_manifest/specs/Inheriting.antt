@@ -1,12 +1,14 @@
 -- What a manifest becomes whose parts are left to the workspace.
-use Rattle.std.specs.Prelude.{ℕ, List, codes, Bool, false, not, ◌||◌, Option, Some, None, option_map, option_and_then, Result, Ok, Err}
+use Rattle.std.specs.Prelude.{ℕ, List, codes, Bool, false, not, ◌||◌, Option, Some}
+use Rattle.std.specs.Prelude.{None, option_map, option_and_then, Result, Ok, Err}
 use Rattle.std.specs.Option.{option_map_or}
 use Rattle.cargo_toml_parts.specs.Answers.{◌>>=◌}
 use Rattle.cargo_toml_parts.specs.FaultValues.{Fault, workspace_integrity}
 use Rattle.cargo_toml_parts.specs.InheritableValues.{is_set}
 use Rattle.cargo_toml_parts.specs.declared.inheritable.Inheritable.{Inheritable}
 use Rattle.cargo_toml_parts.specs.declared.inheritable.Inheritable.TheVariants.{Set, Inherited}
-use Rattle.cargo_toml_dependencies.specs.Inheriting.{Entries, inherited_target, inherited_targets, any_left, any_target_left}
+use Rattle.cargo_toml_dependencies.specs.Inheriting.{Entries, inherited_target, inherited_targets}
+use Rattle.cargo_toml_dependencies.specs.Inheriting.{any_left, any_target_left}
 use Rattle.cargo_toml_dependencies.specs.Targets.{TargetMeaning}
 use Rattle.cargo_toml_package.specs.Inheriting.{inherited_package, any_field_left}
 use Rattle.cargo_toml_package.specs.Packages.{PackageMeaning}

@@ -1,25 +1,31 @@
 -- What a manifest holds, and which trees are manifests.
-use Rattle.std.specs.Prelude.{◌⊎◌, ℕ, List, [], map, Bool, false, ◌&&◌, ◌==◌, if◌then◌else◌, length, Option, Some, None, option_map, option_and_then, string_bytes}
+use Rattle.std.specs.Prelude.{◌⊎◌, ℕ, List, [], map, Bool, false, ◌&&◌, ◌==◌, if◌then◌else◌, length}
+use Rattle.std.specs.Prelude.{Option, Some, None, option_map, option_and_then, string_bytes}
 use Rattle.toml.specs.Data.{Data, Members, no_members, as_table}
 use Rattle.cargo_toml_parts.specs.declared.error.Error.{Error}
 use Rattle.cargo_toml_parts.specs.declared.inheritable.Inheritable.{Inheritable}
 use Rattle.cargo_toml_parts.specs.declared.inheritable.Inheritable.TheVariants.{Set, Inherited}
 use Rattle.cargo_toml_tables.specs.Badges.{BadgesMeaning, badges_meaning, badges_of}
-use Rattle.cargo_toml_dependencies.specs.Dependencies.{DependencyMeaning, dependency_meaning, dependency_of}
+use Rattle.cargo_toml_dependencies.specs.Dependencies.{DependencyMeaning}
+use Rattle.cargo_toml_dependencies.specs.Dependencies.{dependency_meaning, dependency_of}
 use Rattle.cargo_toml_dependencies.specs.Details.{Detail, detail_of}
 use Rattle.cargo_toml_dependencies.specs.Features.{features_of, no_features}
 use Rattle.cargo_toml_parts.specs.Inherits.{inheritable_map, inheritable_of, inheritable_refuses}
 use Rattle.cargo_toml_tables.specs.Lints.{LintMeaning, lint_meaning, lint_of}
 use Rattle.cargo_toml_tables.specs.Products.{ProductMeaning, product_meaning, product_of}
-use Rattle.cargo_toml_tables.specs.Profiles.{ProfilesMeaning, profiles_meaning, profiles_of, profiles_faults}
-use Rattle.cargo_toml_parts.specs.Reads.{◌>>=◌, array_of, map_of, map_meaning, optional_at, given_at, map_at, fault_at, table_refuses, plain}
+use Rattle.cargo_toml_tables.specs.Profiles.{ProfilesMeaning, profiles_meaning}
+use Rattle.cargo_toml_tables.specs.Profiles.{profiles_of, profiles_faults}
+use Rattle.cargo_toml_parts.specs.Reads.{◌>>=◌, array_of, map_of, map_meaning, optional_at}
+use Rattle.cargo_toml_parts.specs.Reads.{given_at, map_at, fault_at, table_refuses, plain}
 use Rattle.cargo_toml_settings.specs.Settings.{Registries, everywhere, among}
 use Rattle.cargo_toml_dependencies.specs.Targets.{TargetMeaning, target_meaning, target_of}
 use Rattle.cargo_toml_parts.specs.Versions.{Parts}
 use Rattle.cargo_toml_manifest.specs.declared.manifest.Manifest.{Manifest}
 use Rattle.cargo_toml_parts.specs.Keys.{inherited_at}
-use Rattle.cargo_toml_package.specs.Packages.{PackageMeaning, package_meaning, package_reads, package_refuses}
-use Rattle.cargo_toml_manifest.specs.Workspaces.{WorkspaceMeaning, workspace_meaning, workspace_reads, workspace_refuses}
+use Rattle.cargo_toml_package.specs.Packages.{PackageMeaning, package_meaning}
+use Rattle.cargo_toml_package.specs.Packages.{package_reads, package_refuses}
+use Rattle.cargo_toml_manifest.specs.Workspaces.{WorkspaceMeaning, workspace_meaning}
+use Rattle.cargo_toml_manifest.specs.Workspaces.{workspace_reads, workspace_refuses}
 
 -- what a manifest holds, whose metadata are M
 pub record ManifestMeaning (M : Type 0) : Type 0 where

@@ -1,5 +1,7 @@
 -- Files on the disk: where they are looked for, which root is found among them, and what faults they give.
-use Rattle.std.specs.Prelude.{◌≡◌, ◌⊎◌, ℕ, suc, zero, List, ◌++◌, codes, length, ◌==◌, if◌then◌else◌, Bool, true, false, Option, Some, None, option_and_then, is_some, Result, Ok, Err, IsUtf8}
+use Rattle.std.specs.Prelude.{◌≡◌, ◌⊎◌, ℕ, suc, zero, List, ◌++◌, codes, length, ◌==◌}
+use Rattle.std.specs.Prelude.{if◌then◌else◌, Bool, true, false, Option, Some, None}
+use Rattle.std.specs.Prelude.{option_and_then, is_some, Result, Ok, Err, IsUtf8}
 use Rattle.std.specs.Prelude.{Box}
 use Rattle.std.specs.Path.{path_join, path_parent}
 use Rattle.std.specs.declared.alloc.Global.{Global}
@@ -9,7 +11,8 @@ use Rattle.toml.specs.Data.{Data}
 use Rattle.toml.specs.Parse.{parse_document}
 use Rattle.toml.specs.declared.value.Value.{Value}
 use Rattle.cargo_toml_parts.specs.declared.error.Error.{Error, Memory}
-use Rattle.cargo_toml_parts.specs.FaultValues.{Fault, fault_of, io, other, workspace, workspace_integrity}
+use Rattle.cargo_toml_parts.specs.FaultValues.{Fault, fault_of, io, other}
+use Rattle.cargo_toml_parts.specs.FaultValues.{workspace, workspace_integrity}
 use Rattle.cargo_toml_discovery.specs.Told.{Told, open_path}
 use Rattle.cargo_toml_manifest.specs.Choosing.{Handed, RootsTold}
 use Rattle.cargo_toml_manifest.specs.Completing.{GivenBy, Meets, complete}

@@ -1,12 +1,14 @@
 -- Which faults an implementor of `AbstractFilesystem` may give, and what has to do with them where completion is refused.
-use Rattle.std.specs.Prelude.{◌≡◌, ◌⊎◌, ℕ, List, Bool, false, Option, Some, None, Result, Ok, Err, IfErr, MatchResult, String, string_bytes, Vec}
+use Rattle.std.specs.Prelude.{◌≡◌, ◌⊎◌, ℕ, List, Bool, false, Option, Some, None, Result}
+use Rattle.std.specs.Prelude.{Ok, Err, IfErr, MatchResult, String, string_bytes, Vec}
 use Rattle.std.specs.declared.alloc.Global.{Global}
 use Rattle.std.specs.declared.io.ErrorKind.TheVariants.{Unsupported}
 use Rattle.cargo_toml_paths.specs.Paths.{workspace_folder}
 use Rattle.cargo_toml_parts.specs.declared.error.Error.{Error, Memory}
 use Rattle.cargo_toml_parts.specs.FaultValues.{Fault, fault_of, io}
 use Rattle.cargo_toml_parts.specs.Wrapping.{wrap}
-use Rattle.cargo_toml_manifest.specs.Choosing.{AnswersRoots, Choice, Handed, RootsTold, alone, from, lost, unclear_root, choice, hint_of, told_choice}
+use Rattle.cargo_toml_manifest.specs.Choosing.{AnswersRoots, Choice, Handed, RootsTold, alone, from}
+use Rattle.cargo_toml_manifest.specs.Choosing.{lost, unclear_root, choice, hint_of, told_choice}
 use Rattle.cargo_toml_manifest.specs.Inheriting.{inherited_manifest}
 use Rattle.cargo_toml_manifest.specs.Manifests.{ManifestMeaning}
 use Rattle.cargo_toml_manifest.specs.Roots.{IsNoRoot}

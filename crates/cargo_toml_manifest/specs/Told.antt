@@ -1,5 +1,6 @@
 -- What an implementor of `AbstractFilesystem` tells, and what its answers have to be by that.
-use Rattle.std.specs.Prelude.{◌≡◌, ◌⊎◌, ℕ, List, Bool, true, false, Some, is_some, Result, string_bytes, String, Vec, IsUtf8, MatchResult, IsErr, IsErrAnd, IfOk}
+use Rattle.std.specs.Prelude.{◌≡◌, ◌⊎◌, ℕ, List, Bool, true, false, Some, is_some, Result}
+use Rattle.std.specs.Prelude.{string_bytes, String, Vec, IsUtf8, MatchResult, IsErr, IsErrAnd, IfOk}
 use Rattle.std.specs.HashSet.{HashSet, contains_text}
 use Rattle.std.specs.List.{list_any}
 use Rattle.std.specs.Str.{bytes_eq}

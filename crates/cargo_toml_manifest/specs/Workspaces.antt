@@ -1,11 +1,14 @@
 -- What a workspace holds, and which trees are workspaces.
-use Rattle.std.specs.Prelude.{◌⊎◌, ℕ, List, map, Option, Some, option_map, option_and_then, string_bytes}
+use Rattle.std.specs.Prelude.{◌⊎◌, ℕ, List, map, Option, Some}
+use Rattle.std.specs.Prelude.{option_map, option_and_then, string_bytes}
 use Rattle.toml.specs.Data.{Data, Members, as_table}
 use Rattle.cargo_toml_parts.specs.declared.error.Error.{Error}
 use Rattle.cargo_toml_settings.specs.declared.settings.Resolver.{Resolver}
-use Rattle.cargo_toml_dependencies.specs.Dependencies.{DependencyMeaning, dependency_meaning, dependency_of}
+use Rattle.cargo_toml_dependencies.specs.Dependencies.{DependencyMeaning}
+use Rattle.cargo_toml_dependencies.specs.Dependencies.{dependency_meaning, dependency_of}
 use Rattle.cargo_toml_tables.specs.Lints.{LintMeaning, lint_meaning, lint_of}
-use Rattle.cargo_toml_parts.specs.Reads.{◌>>=◌, list_of, map_of, map_meaning, optional_at, list_at, map_at, fault_at, table_refuses, plain}
+use Rattle.cargo_toml_parts.specs.Reads.{◌>>=◌, list_of, map_of, map_meaning, optional_at}
+use Rattle.cargo_toml_parts.specs.Reads.{list_at, map_at, fault_at, table_refuses, plain}
 use Rattle.cargo_toml_manifest.specs.declared.workspace.Workspace.{Workspace}
 use Rattle.cargo_toml_settings.specs.Settings.{resolver_reads}
 use Rattle.cargo_toml_package.specs.Templates.{TemplateMeaning, template_meaning, template_reads}

@@ -3,12 +3,14 @@ ghost use Rattle.std.specs.Prelude.{◌≡◌, ◌⊎◌, ℕ, List, Bool, true,
 ghost use Rattle.std.specs.Option.{option_copied};
 ghost use Rattle.cargo_toml_parts.specs.declared.error.Error.{Memory};
 ghost use Rattle.cargo_toml_parts.specs.Answers.{Gives};
-ghost use Rattle.cargo_toml_parts.specs.FaultValues.{Fault, fault_of, workspace, workspace_integrity};
+ghost use Rattle.cargo_toml_parts.specs.FaultValues.{Fault, fault_of, workspace};
+ghost use Rattle.cargo_toml_parts.specs.FaultValues.{workspace_integrity};
 ghost use Rattle.cargo_toml_parts.specs.Wrapping.{wrap};
 ghost use Rattle.cargo_toml_manifest.specs.Refusing.{MayLose, ReadsBy, RefusesBy};
 ghost use Rattle.cargo_toml_manifest.specs.Roots.{IsRootOf, not_a_workspace};
 ghost use Rattle.cargo_toml_discovery.specs.Told.{Told, open_path};
-ghost use Rattle.cargo_toml_manifest.specs.Told.{ToldRoot, open_root, heard, AnswersNames, ReadsRoot, AnswersRoot};
+ghost use Rattle.cargo_toml_manifest.specs.Told.{ToldRoot, open_root, heard};
+ghost use Rattle.cargo_toml_manifest.specs.Told.{AnswersNames, ReadsRoot, AnswersRoot};
 
 use crate::manifest::Manifest;
 use cargo_toml_parts::Error;

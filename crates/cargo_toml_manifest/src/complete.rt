@@ -1,17 +1,21 @@
 //! Completing a manifest from its workspace and from its folders.
-ghost use Rattle.std.specs.Prelude.{◌≡◌, ◌⊎◌, Some, None, Ok, Result, false, IfErr, IfOk, IfSome, OnErr, OnOk, option_map};
+ghost use Rattle.std.specs.Prelude.{◌≡◌, ◌⊎◌, Some, None, Ok, Result, false};
+ghost use Rattle.std.specs.Prelude.{IfErr, IfOk, IfSome, OnErr, OnOk, option_map};
 ghost use Rattle.std.specs.Option.{option_copied};
 ghost use Rattle.cargo_toml_parts.specs.declared.error.Error.{Memory};
 ghost use Rattle.cargo_toml_parts.specs.Answers.{Gives};
 ghost use Rattle.cargo_toml_parts.specs.FaultValues.{Fault};
 ghost use Rattle.cargo_toml_discovery.specs.Answers.{Answers, filled};
 ghost use Rattle.cargo_toml_package.specs.Filled.{IsFilled};
-ghost use Rattle.cargo_toml_manifest.specs.Choosing.{from, handed_of, hint_of, shared_of, told_choice};
-ghost use Rattle.cargo_toml_manifest.specs.Completing.{GivenBy, GivenByRoot, IsLasting, Meets, complete, complete_by, gives, then_found};
+ghost use Rattle.cargo_toml_manifest.specs.Choosing.{from, handed_of, hint_of};
+ghost use Rattle.cargo_toml_manifest.specs.Choosing.{shared_of, told_choice};
+ghost use Rattle.cargo_toml_manifest.specs.Completing.{GivenBy, GivenByRoot, IsLasting, Meets};
+ghost use Rattle.cargo_toml_manifest.specs.Completing.{complete, complete_by, gives, then_found};
 ghost use Rattle.cargo_toml_manifest.specs.Inheriting.{needs};
 ghost use Rattle.cargo_toml_manifest.specs.Installing.{completed, installed};
 ghost use Rattle.cargo_toml_manifest.specs.Manifests.{ManifestMeaning, manifest_meaning};
-ghost use Rattle.cargo_toml_manifest.specs.Refusing.{IsCause, IsRefusedAt, IsRefusedBy, IsRefusedByRoot, IsToldWith, MayLose};
+ghost use Rattle.cargo_toml_manifest.specs.Refusing.{IsCause, IsRefusedAt, IsRefusedBy};
+ghost use Rattle.cargo_toml_manifest.specs.Refusing.{IsRefusedByRoot, IsToldWith, MayLose};
 ghost use Rattle.cargo_toml_manifest.specs.Told.{heard};
 
 use crate::afs::{AbstractFilesystem, wrapped};

@@ -4,7 +4,9 @@ ghost use Rattle.std.specs.IoError.{error_kind};
 ghost use Rattle.std.specs.Option.{option_copied};
 ghost use Rattle.cargo_toml_parts.specs.declared.error.Error.{Memory};
 ghost use Rattle.cargo_toml_parts.specs.FaultValues.{fault_of, io};
-ghost use Rattle.cargo_toml_manifest.specs.RealFiles.{IsInput, IsRootFault, IsRootManifest, IsRootPath, folder_of, listed_as, or_here, real_listings, real_losses};
+ghost use Rattle.cargo_toml_manifest.specs.RealFiles.{IsInput, IsRootFault, IsRootManifest};
+ghost use Rattle.cargo_toml_manifest.specs.RealFiles.{IsRootPath, folder_of, listed_as};
+ghost use Rattle.cargo_toml_manifest.specs.RealFiles.{or_here, real_listings, real_losses};
 ghost use Rattle.cargo_toml_manifest.specs.Refusing.{MayLose, RefusesBy};
 
 use crate::afs::{AbstractFilesystem, NoRoot};

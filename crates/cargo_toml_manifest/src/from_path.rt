@@ -1,5 +1,6 @@
 //! Manifests in real files, completed from what stands around them.
-ghost use Rattle.std.specs.Prelude.{◌≡◌, ◌↔◌, None, false, option_map, IfErr, IfOk, IfSome, IsErrAnd, IsSome, OnErr, OnOk};
+ghost use Rattle.std.specs.Prelude.{◌≡◌, ◌↔◌, None, false, option_map, IfErr};
+ghost use Rattle.std.specs.Prelude.{IfOk, IfSome, IsErrAnd, IsSome, OnErr, OnOk};
 ghost use Rattle.std.specs.Path.{path_parent};
 ghost use Rattle.toml.specs.View.{view};
 ghost use Rattle.cargo_toml_parts.specs.FaultValues.{fault_of};
@@ -7,8 +8,11 @@ ghost use Rattle.cargo_toml_package.specs.Filled.{IsFilled};
 ghost use Rattle.cargo_toml_manifest.specs.Choosing.{handed_of};
 ghost use Rattle.cargo_toml_manifest.specs.Completing.{GivenBy, IsLasting, Meets, complete};
 ghost use Rattle.cargo_toml_manifest.specs.Inheriting.{needs};
-ghost use Rattle.cargo_toml_manifest.specs.Manifests.{manifest_meaning, manifest_reads, manifest_refuses};
-ghost use Rattle.cargo_toml_manifest.specs.RealFiles.{IsCompletionFault, IsPathFault, IsReadAndCompleted, bad_path, real_folders, real_roots};
+ghost use Rattle.cargo_toml_manifest.specs.Manifests.{manifest_meaning, manifest_reads};
+ghost use Rattle.cargo_toml_manifest.specs.Manifests.{manifest_refuses};
+ghost use Rattle.cargo_toml_manifest.specs.RealFiles.{IsCompletionFault, IsPathFault};
+ghost use Rattle.cargo_toml_manifest.specs.RealFiles.{IsReadAndCompleted, bad_path};
+ghost use Rattle.cargo_toml_manifest.specs.RealFiles.{real_folders, real_roots};
 ghost use Rattle.cargo_toml_manifest.specs.Texts.{any_refuses, any_tree};
 
 use crate::files::Filesystem;

@@ -4,7 +4,8 @@ ghost use Rattle.cargo_toml_parts.specs.FaultValues.{fault_of};
 ghost use Rattle.cargo_toml_parts.specs.declared.error.Error.{Memory};
 ghost use Rattle.cargo_toml_discovery.specs.Answers.{answers_of, around_in, filled};
 ghost use Rattle.cargo_toml_discovery.specs.Around.{around, entries_at};
-ghost use Rattle.cargo_toml_discovery.specs.Gathering.{Fits, Grows, Has, HasEach, HasProducts, Listed, MayTellOneOf, RootListed};
+ghost use Rattle.cargo_toml_discovery.specs.Gathering.{Fits, Grows, Has, HasEach, HasProducts};
+ghost use Rattle.cargo_toml_discovery.specs.Gathering.{Listed, MayTellOneOf, RootListed};
 ghost use Rattle.cargo_toml_discovery.specs.Seen.{Tells, names_at, seen};
 ghost use Rattle.cargo_toml_manifest.specs.Refusing.{IsListed, RefusesBy};
 

@@ -12,7 +12,9 @@ ghost use Rattle.cargo_toml_package.specs.Packages.{package_meaning};
 ghost use Rattle.cargo_toml_package.specs.Templates.{template_meaning};
 ghost use Rattle.cargo_toml_tables.specs.Lints.{lint_meaning};
 ghost use Rattle.cargo_toml_manifest.specs.Choosing.{shared_of};
-ghost use Rattle.cargo_toml_manifest.specs.Inheriting.{own_tables, inherited_lints, inherited_if_there, inherited_from, inherited_manifest};
+ghost use Rattle.cargo_toml_manifest.specs.Inheriting.{own_tables, inherited_lints};
+ghost use Rattle.cargo_toml_manifest.specs.Inheriting.{inherited_if_there, inherited_from};
+ghost use Rattle.cargo_toml_manifest.specs.Inheriting.{inherited_manifest};
 ghost use Rattle.cargo_toml_manifest.specs.Installing.{installed, installed_if_there};
 ghost use Rattle.cargo_toml_manifest.specs.Manifests.{manifest_meaning};
 

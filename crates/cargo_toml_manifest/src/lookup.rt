@@ -3,7 +3,9 @@ ghost use Rattle.std.specs.Prelude.{◌≡◌, ◌⊎◌, ℕ, List, codes, Ok, 
 ghost use Rattle.std.specs.Path.{path_join};
 ghost use Rattle.cargo_toml_parts.specs.declared.error.Error.{Memory};
 ghost use Rattle.cargo_toml_manifest.specs.Roots.{IsFromSlice};
-ghost use Rattle.cargo_toml_manifest.specs.RealFiles.{IsAbove, IsCandidate, IsHintFault, IsRootManifest, IsSearchFault, IsWorkspaceOf, is_absent};
+ghost use Rattle.cargo_toml_manifest.specs.RealFiles.{IsAbove, IsCandidate, IsHintFault};
+ghost use Rattle.cargo_toml_manifest.specs.RealFiles.{IsRootManifest, IsSearchFault};
+ghost use Rattle.cargo_toml_manifest.specs.RealFiles.{IsWorkspaceOf, is_absent};
 
 use crate::afs::wrapped;
 use crate::manifest::Manifest;

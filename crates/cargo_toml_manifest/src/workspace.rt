@@ -3,7 +3,9 @@ ghost use Rattle.std.specs.Prelude.{◌≡◌, Option, Some};
 ghost use Rattle.toml.specs.Data.{Data, no_members};
 ghost use Rattle.toml.specs.View.{table_view};
 ghost use Rattle.cargo_toml_parts.specs.Reads.{IsReading};
-ghost use Rattle.cargo_toml_manifest.specs.Workspaces.{WorkspaceMeaning, workspace_meaning, workspace_of, workspace_faults, workspace_reads, workspace_refuses};
+ghost use Rattle.cargo_toml_manifest.specs.Workspaces.{WorkspaceMeaning, workspace_meaning};
+ghost use Rattle.cargo_toml_manifest.specs.Workspaces.{workspace_of, workspace_faults};
+ghost use Rattle.cargo_toml_manifest.specs.Workspaces.{workspace_reads, workspace_refuses};
 
 use cargo_toml_dependencies::DepsSet;
 use cargo_toml_package::PackageTemplate;

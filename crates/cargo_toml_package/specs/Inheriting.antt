@@ -1,5 +1,6 @@
 -- What a package becomes whose fields are left to the workspace.
-use Rattle.std.specs.Prelude.{ℕ, List, ◌++◌, codes, Bool, false, not, ◌||◌, if◌then◌else◌, Option, Some, option_map, Result, Ok, Err}
+use Rattle.std.specs.Prelude.{ℕ, List, ◌++◌, codes, Bool, false, not, ◌||◌}
+use Rattle.std.specs.Prelude.{if◌then◌else◌, Option, Some, option_map, Result, Ok, Err}
 use Rattle.std.specs.Option.{option_map_or}
 use Rattle.std.specs.Path.{path_join}
 use Rattle.cargo_toml_parts.specs.FaultValues.{Fault, workspace_integrity}

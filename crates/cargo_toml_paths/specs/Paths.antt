@@ -1,5 +1,6 @@
 -- The folder of a workspace.
-use Rattle.std.specs.Prelude.{ℕ, List, [], Bool, false, codes, Option, Some, None, if◌then◌else◌, unwrap_or}
+use Rattle.std.specs.Prelude.{ℕ, List, [], Bool, false, codes, Option}
+use Rattle.std.specs.Prelude.{Some, None, if◌then◌else◌, unwrap_or}
 use Rattle.std.specs.Str.{bytes_eq}
 use Rattle.std.specs.Path.{path_file_name, path_parent}
 

@@ -1,5 +1,6 @@
 -- What features hold while some are taken out, one after another.
-use Rattle.std.specs.Prelude.{◌≡◌, ◌&&◌, ◌||◌, not, if◌then◌else◌, Bool, false, List, [], Option, IsFalse, IfSome, IsSome, bytes_eq, map, option_map, take}
+use Rattle.std.specs.Prelude.{◌≡◌, ◌&&◌, ◌||◌, not, if◌then◌else◌, Bool, false, List, []}
+use Rattle.std.specs.Prelude.{Option, IsFalse, IfSome, IsSome, bytes_eq, map, option_map, take}
 use Rattle.std.specs.Option.{option_map_or}
 use Rattle.std.specs.Borrow.{Bor}
 use Rattle.std.specs.BTreeSet.{BTreeSet}

@@ -1,10 +1,15 @@
 //! Features are taken out one after another, and leave to others what they said.
-ghost use Rattle.std.specs.Prelude.{◌≡◌, ◌∷◌, ◌++◌, ◌||◌, if◌then◌else◌, [], List, None, Some, bytes_eq, is_some, take, IfOk, IfSome, IsSome, OnOk};
+ghost use Rattle.std.specs.Prelude.{◌≡◌, ◌∷◌, ◌++◌, ◌||◌, if◌then◌else◌, [], List, None, Some};
+ghost use Rattle.std.specs.Prelude.{bytes_eq, is_some, take, IfOk, IfSome, IsSome, OnOk};
 ghost use Rattle.cargo_toml_graph.specs.Action.{Text, join, join_option};
 ghost use Rattle.cargo_toml_graph.specs.Reach.{Among, IsOnce};
-ghost use Rattle.cargo_toml_graph.specs.Removal.{SameKept, is_among, pass_all, put_all, without_all};
-ghost use Rattle.cargo_toml_plain.specs.Removing.{texts_of, passed_on, key_at, marks_at, bins_at, TakesNames, Loses, ChangesAt, LosesAll, TakesOut, Redirects};
-ghost use Rattle.cargo_toml_features.specs.Views.{has_text, action_of, action_at, resolution_of, value_at};
+ghost use Rattle.cargo_toml_graph.specs.Removal.{SameKept, is_among, pass_all};
+ghost use Rattle.cargo_toml_graph.specs.Removal.{put_all, without_all};
+ghost use Rattle.cargo_toml_plain.specs.Removing.{texts_of, passed_on, key_at, marks_at};
+ghost use Rattle.cargo_toml_plain.specs.Removing.{bins_at, TakesNames, Loses, ChangesAt};
+ghost use Rattle.cargo_toml_plain.specs.Removing.{LosesAll, TakesOut, Redirects};
+ghost use Rattle.cargo_toml_features.specs.Views.{has_text, action_of, action_at};
+ghost use Rattle.cargo_toml_features.specs.Views.{resolution_of, value_at};
 
 use crate::bins::put_bins;
 use cargo_toml_features::features::Feature;

@@ -1,6 +1,7 @@
 //! How a run of the program ends, and what it tells of that.
 ghost use Rattle.std.specs.Prelude.{◌≡◌};
-ghost use Rattle.cargo_toml_print.specs.Outcomes.{IsOfWords, outcome_of, status_of, text_of_outcome};
+ghost use Rattle.cargo_toml_print.specs.Outcomes.{IsOfWords, outcome_of};
+ghost use Rattle.cargo_toml_print.specs.Outcomes.{status_of, text_of_outcome};
 
 use cargo_toml_parts::Error;
 use std::{fmt, io};

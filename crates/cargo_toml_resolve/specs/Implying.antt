@@ -1,5 +1,6 @@
 -- Features that optional dependencies imply: words of a step of resolving, on which no public contract rests.
-use Rattle.std.specs.Prelude.{◌≡◌, ◌&&◌, not, Bool, true, false, List, [], Option, Some, None, bytes_eq, if◌then◌else◌, unwrap_or}
+use Rattle.std.specs.Prelude.{◌≡◌, ◌&&◌, not, Bool, true, false, List, [], Option}
+use Rattle.std.specs.Prelude.{Some, None, bytes_eq, if◌then◌else◌, unwrap_or}
 use Rattle.std.specs.Option.{IsSomeAnd}
 use Rattle.std.specs.List.{list_any}
 use Rattle.std.specs.Borrow.{Bor}

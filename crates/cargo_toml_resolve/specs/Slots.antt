@@ -1,5 +1,6 @@
 -- Values under names that stand in byte order.
-use Rattle.std.specs.Prelude.{◌≡◌, if◌then◌else◌, false, List, [], ◌∷◌, length, map, Option, None, IfSome, IsTrue, bytes_eq, is_some}
+use Rattle.std.specs.Prelude.{◌≡◌, if◌then◌else◌, false, List, [], ◌∷◌, length}
+use Rattle.std.specs.Prelude.{map, Option, None, IfSome, IsTrue, bytes_eq, is_some}
 use Rattle.std.specs.Option.{option_map_or}
 use Rattle.cargo_toml_features.specs.declared.features.Feature.{Feature}
 use Rattle.cargo_toml_features.specs.declared.features.FeatureDependency.{FeatureDependency}

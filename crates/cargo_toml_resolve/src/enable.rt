@@ -1,7 +1,8 @@
 //! Which features enable which.
 ghost use Rattle.std.specs.Prelude.{◌≡◌, ◌<◌, ◌&&◌, not, bytes_eq, length, IfOk, OnOk, Some};
 ghost use Rattle.cargo_toml_graph.specs.Action.{Text};
-ghost use Rattle.cargo_toml_resolve.specs.Enabling.{is_plain, leads, leads_at, is_linked, AddsLinks, EnabledAll};
+ghost use Rattle.cargo_toml_resolve.specs.Enabling.{is_plain, leads, leads_at};
+ghost use Rattle.cargo_toml_resolve.specs.Enabling.{is_linked, AddsLinks, EnabledAll};
 ghost use Rattle.cargo_toml_features.specs.Views.{has_text, action_of, action_at};
 ghost use Rattle.cargo_toml_resolve.specs.Slots.{HaveSameNames, held_in, names_in};
 ghost use Rattle.cargo_toml_walk.specs.Numbered.{text_at};

@@ -2,7 +2,8 @@
 ghost use Rattle.std.specs.Prelude.{◌≡◌, ◌<◌, ◌∷◌, [], bytes_eq, length, map, IfOk, IsTrue, OnOk};
 ghost use Rattle.std.specs.List.{list_any};
 ghost use Rattle.cargo_toml_dependencies.specs.Dependencies.{dependency_meaning, is_optional};
-ghost use Rattle.cargo_toml_resolve.specs.Implying.{IsImplied, ImpliesAll, is_offered, is_optional_at, is_reserved_in};
+ghost use Rattle.cargo_toml_resolve.specs.Implying.{IsImplied, ImpliesAll, is_offered};
+ghost use Rattle.cargo_toml_resolve.specs.Implying.{is_optional_at, is_reserved_in};
 ghost use Rattle.cargo_toml_resolve.specs.Slots.{HaveSameNames, names_in};
 ghost use Rattle.cargo_toml_features.specs.Views.{entry_of};
 ghost use Rattle.cargo_toml_walk.specs.Numbered.{text_at};

@@ -1,5 +1,7 @@
 //! What the lists of features say.
-ghost use Rattle.std.specs.Prelude.{◌≡◌, ◌∷◌, ◌++◌, [], List, if◌then◌else◌, bytes_eq, string_bytes, codes, map, false, IfOk, IsTrue, OnOk, Some, None, MatchOption};
+ghost use Rattle.std.specs.Prelude.{◌≡◌, ◌∷◌, ◌++◌, [], List, if◌then◌else◌};
+ghost use Rattle.std.specs.Prelude.{bytes_eq, string_bytes, codes, map, false};
+ghost use Rattle.std.specs.Prelude.{IfOk, IsTrue, OnOk, Some, None, MatchOption};
 ghost use Rattle.std.specs.List.{list_any};
 ghost use Rattle.std.specs.Option.{IsSomeAnd};
 ghost use Rattle.cargo_toml_graph.specs.Action.{Text, Item, item_of};

@@ -1,12 +1,15 @@
 //! Which dependencies features can speak of.
-ghost use Rattle.std.specs.Prelude.{◌≡◌, ◌↔◌, ◌<◌, ◌||◌, IfOk, IsTrue, OnOk, Some, bytes_eq, if◌then◌else◌, length, map};
+ghost use Rattle.std.specs.Prelude.{◌≡◌, ◌↔◌, ◌<◌, ◌||◌, IfOk, IsTrue, OnOk};
+ghost use Rattle.std.specs.Prelude.{Some, bytes_eq, if◌then◌else◌, length, map};
 ghost use Rattle.std.specs.List.{list_any};
 ghost use Rattle.cargo_toml_dependencies.specs.Dependencies.{dependency_meaning, is_optional};
 ghost use Rattle.cargo_toml_graph.specs.Action.{Text};
 ghost use Rattle.cargo_toml_graph.specs.Reach.{Among};
 ghost use Rattle.cargo_toml_graph.specs.Admitted.{Listed};
 ghost use Rattle.cargo_toml_features.specs.Recorded.{is_mentioned, entries_at, recorded_of};
-ghost use Rattle.cargo_toml_resolve.specs.Recording.{counts_at, recorded_at, recorded_nowhere, recorded_next, recorded_with, is_mentioned_in, recorded_after};
+ghost use Rattle.cargo_toml_resolve.specs.Recording.{counts_at, recorded_at, recorded_nowhere};
+ghost use Rattle.cargo_toml_resolve.specs.Recording.{recorded_next, recorded_with};
+ghost use Rattle.cargo_toml_resolve.specs.Recording.{is_mentioned_in, recorded_after};
 ghost use Rattle.cargo_toml_resolve.specs.Slots.{HaveSameNames, names_in};
 ghost use Rattle.cargo_toml_features.specs.Views.{entry_of, recorded_in, target_of};
 ghost use Rattle.cargo_toml_walk.specs.Numbered.{text_at};

@@ -3,7 +3,8 @@ ghost use Rattle.std.specs.Prelude.{◌≡◌, List, Some, bytes_eq, map, option
 ghost use Rattle.std.specs.List.{list_any};
 ghost use Rattle.cargo_toml_dependencies.specs.Dependencies.{dependency_meaning};
 ghost use Rattle.cargo_toml_graph.specs.Action.{Text};
-ghost use Rattle.cargo_toml_features.specs.Recorded.{Entry, first_target, is_redundant, recorded_of, without_redundant};
+ghost use Rattle.cargo_toml_features.specs.Recorded.{Entry, first_target, is_redundant};
+ghost use Rattle.cargo_toml_features.specs.Recorded.{recorded_of, without_redundant};
 ghost use Rattle.cargo_toml_resolve.specs.Recording.{recorded_at};
 ghost use Rattle.cargo_toml_resolve.specs.Enabling.{Relates};
 ghost use Rattle.cargo_toml_resolve.specs.Redundant.{IsRecordOf, Thinned, ThinnedAll};

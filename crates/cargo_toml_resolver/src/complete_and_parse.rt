@@ -1,5 +1,6 @@
 //! Completing a manifest, and resolving the features that it then has.
-ghost use Rattle.std.specs.Prelude.{◌≡◌, Bool, false, Err, IfErr, IfOk, IfSome, IsSome, Ok, OnOk, option_map};
+ghost use Rattle.std.specs.Prelude.{◌≡◌, Bool, false, Err, IfErr, IfOk};
+ghost use Rattle.std.specs.Prelude.{IfSome, IsSome, Ok, OnOk, option_map};
 ghost use Rattle.std.specs.Borrow.{sem};
 ghost use Rattle.cargo_toml_parts.specs.declared.error.Error.{Memory};
 ghost use Rattle.cargo_toml_graph.specs.Action.{Text};

@@ -1,5 +1,6 @@
 //! What the features of a manifest enable, and which features enable them.
-ghost use Rattle.std.specs.Prelude.{◌≡◌, ◌≤◌, [], Bool, List, None, Some, map, true, IfOk, IfErr, IsSome};
+ghost use Rattle.std.specs.Prelude.{◌≡◌, ◌≤◌, [], Bool, List, None, Some};
+ghost use Rattle.std.specs.Prelude.{map, true, IfOk, IfErr, IsSome};
 ghost use Rattle.cargo_toml_parts.specs.declared.error.Error.{Memory};
 ghost use Rattle.cargo_toml_parts.specs.Reads.{map_meaning};
 ghost use Rattle.cargo_toml_dependencies.specs.Targets.{target_meaning};

@@ -1,5 +1,6 @@
 -- The settings of a profile: which value says which, and the text for every other value.
-use Rattle.std.specs.Prelude.{ℕ, ℤ, pos, List, [], ◌∷◌, codes, true, false, if◌then◌else◌, Option, Some, None}
+use Rattle.std.specs.Prelude.{ℕ, ℤ, pos, List, [], ◌∷◌, codes, true}
+use Rattle.std.specs.Prelude.{false, if◌then◌else◌, Option, Some, None}
 use Rattle.std.specs.Ordering.{int_eq}
 use Rattle.toml.specs.Data.{Data, string, integer, boolean}
 use Rattle.cargo_toml_parts.specs.declared.error.Error.{Error}

@@ -1,10 +1,12 @@
 -- The enums that stand for one value of a tree.
-use Rattle.std.specs.Prelude.{ℕ, List, [], ◌∷◌, codes, map, if◌then◌else◌, Bool, Option, Some, None, option_and_then, option_map, string_bytes}
+use Rattle.std.specs.Prelude.{ℕ, List, [], ◌∷◌, codes, map, if◌then◌else◌, Bool, Option}
+use Rattle.std.specs.Prelude.{Some, None, option_and_then, option_map, string_bytes}
 use Rattle.std.specs.Str.{bytes_eq}
 use Rattle.toml.specs.Data.{Data, string, boolean, array, as_str}
 use Rattle.cargo_toml_parts.specs.declared.error.Error.{Error}
 use Rattle.cargo_toml_settings.specs.declared.settings.Edition.{Edition}
-use Rattle.cargo_toml_settings.specs.declared.settings.Edition.TheVariants.{E2015, E2018, E2021, E2024}
+use Rattle.cargo_toml_settings.specs.declared.settings.Edition.TheVariants.{E2015, E2018, E2021}
+use Rattle.cargo_toml_settings.specs.declared.settings.Edition.TheVariants.{E2024}
 use Rattle.cargo_toml_settings.specs.declared.settings.Resolver.{Resolver}
 use Rattle.cargo_toml_settings.specs.declared.settings.Resolver.TheVariants.{V1, V2, V3}
 use Rattle.cargo_toml_settings.specs.declared.settings.OptionalFile.{OptionalFile}

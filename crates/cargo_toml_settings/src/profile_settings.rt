@@ -1,7 +1,9 @@
 //! The settings of a profile, each of which is one value of a tree.
 ghost use Rattle.std.specs.Prelude.{◌≡◌, Some, None, MatchResult};
 ghost use Rattle.toml.specs.View.{view};
-ghost use Rattle.cargo_toml_settings.specs.ProfileSettings.{debug_of, debug_fault, debug_refuses, strip_of, strip_fault, strip_refuses, lto_of, lto_fault, lto_refuses};
+ghost use Rattle.cargo_toml_settings.specs.ProfileSettings.{debug_of, debug_fault, debug_refuses};
+ghost use Rattle.cargo_toml_settings.specs.ProfileSettings.{strip_of, strip_fault, strip_refuses};
+ghost use Rattle.cargo_toml_settings.specs.ProfileSettings.{lto_of, lto_fault, lto_refuses};
 
 use cargo_toml_parts::read::Read;
 use cargo_toml_parts::{Error, ParseFault};
@@ -100,7 +102,9 @@ fn lto_setting(value: &Value) -> Result<LtoSetting, &'static str>
 }
 
 impl Read for DebugSetting {
-    ghost use Rattle.cargo_toml_settings.specs.declared.profile_settings.DebugSetting.{DebugSetting};
+    ghost use Rattle.cargo_toml_settings.specs.declared.profile_settings.DebugSetting.{
+      DebugSetting,
+    };
 
     ghost Meaning = { DebugSetting };
 
@@ -138,7 +142,9 @@ impl TryFrom<Value> for DebugSetting {
 }
 
 impl Read for StripSetting {
-    ghost use Rattle.cargo_toml_settings.specs.declared.profile_settings.StripSetting.{StripSetting};
+    ghost use Rattle.cargo_toml_settings.specs.declared.profile_settings.StripSetting.{
+      StripSetting,
+    };
 
     ghost Meaning = { StripSetting };
 

@@ -153,7 +153,8 @@ impl Read for OptionalFile {
 }
 
 impl Read for Publish {
-    ghost use Rattle.cargo_toml_settings.specs.Settings.{Registries, publish_of, publish_meaning, publish_refuses};
+    ghost use Rattle.cargo_toml_settings.specs.Settings.{Registries, publish_of};
+    ghost use Rattle.cargo_toml_settings.specs.Settings.{publish_meaning, publish_refuses};
 
     ghost Meaning = { Registries };
 

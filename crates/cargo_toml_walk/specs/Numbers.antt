@@ -1,5 +1,6 @@
 -- A graph of numbered vertices, and a walk over it.
-use Rattle.std.specs.Prelude.{◌≡◌, ◌≢◌, ◌↔◌, ◌⊎◌, ◌+◌, ◌<◌, ◌≤◌, ℕ, Bool, true, false, List, [], length, take, if◌then◌else◌, nat_eq, slice_get, Vec}
+use Rattle.std.specs.Prelude.{◌≡◌, ◌≢◌, ◌↔◌, ◌⊎◌, ◌+◌, ◌<◌, ◌≤◌, ℕ, Bool, true, false, List}
+use Rattle.std.specs.Prelude.{[], length, take, if◌then◌else◌, nat_eq, slice_get, Vec}
 use Rattle.std.specs.List.{slice_index_or, sum_by}
 use Rattle.std.specs.Option.{option_map_or}
 use Rattle.cargo_toml_graph.specs.Reach.{Among, GathersLabel, Reaches}

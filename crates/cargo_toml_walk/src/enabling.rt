@@ -1,7 +1,8 @@
 //! Which kept vertices reach a kept one through removed ones.
 ghost use Rattle.std.specs.Prelude.{◌≡◌, ◌<◌, ◌≤◌, ◌↔◌, IfOk, IsTrue, OnOk, ℕ, length, false};
 ghost use Rattle.cargo_toml_graph.specs.Reach.{Among};
-ghost use Rattle.cargo_toml_walk.specs.Numbers.{HasLabel, IsEnabledBy, IsPassed, IsWanted, Leads, Links};
+ghost use Rattle.cargo_toml_walk.specs.Numbers.{HasLabel, IsEnabledBy, IsPassed};
+ghost use Rattle.cargo_toml_walk.specs.Numbers.{IsWanted, Leads, Links};
 
 use std::alloc::{AllocError, Global};
 

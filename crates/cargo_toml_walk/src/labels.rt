@@ -1,7 +1,8 @@
 //! The labels that vertices have once removed ones are taken out.
 ghost use Rattle.std.specs.Prelude.{◌≡◌, ◌<◌, ◌≤◌, ◌↔◌, IfOk, OnOk, ℕ, length, false};
 ghost use Rattle.cargo_toml_graph.specs.Reach.{Among};
-ghost use Rattle.cargo_toml_walk.specs.Numbers.{HasLabel, IsFresh, IsWanted, Leads, Marks, OldStamps, PassesAny, Visits};
+ghost use Rattle.cargo_toml_walk.specs.Numbers.{HasLabel, IsFresh, IsWanted, Leads};
+ghost use Rattle.cargo_toml_walk.specs.Numbers.{Marks, OldStamps, PassesAny, Visits};
 
 use crate::walk::visit_row;
 use std::alloc::{AllocError, Global};

@@ -1,7 +1,8 @@
 //! What stands for a removed vertex: the labels that it has once the removed vertices below it are taken out.
 ghost use Rattle.std.specs.Prelude.{◌≡◌, ◌<◌, ◌≤◌, ◌↔◌, IfOk, OnOk, ℕ, length, true, false};
 ghost use Rattle.cargo_toml_graph.specs.Reach.{Among};
-ghost use Rattle.cargo_toml_walk.specs.Numbers.{HasLabel, IsFresh, IsRedirect, IsWanted, Leads, OldStamps, Replaces};
+ghost use Rattle.cargo_toml_walk.specs.Numbers.{HasLabel, IsFresh, IsRedirect};
+ghost use Rattle.cargo_toml_walk.specs.Numbers.{IsWanted, Leads, OldStamps, Replaces};
 
 use crate::labels::kept_labels;
 use crate::walk::passing;

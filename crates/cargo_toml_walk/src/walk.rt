@@ -1,7 +1,8 @@
 //! What each vertex reaches through removed vertices.
 ghost use Rattle.std.specs.Prelude.{◌≡◌, ◌<◌, ◌≤◌, ◌↔◌, IfOk, OnOk, ℕ, length, true, false};
 ghost use Rattle.cargo_toml_graph.specs.Reach.{Among};
-ghost use Rattle.cargo_toml_walk.specs.Numbers.{IsFresh, IsPassed, IsWanted, Leads, Marks, OldStamps, Visits};
+ghost use Rattle.cargo_toml_walk.specs.Numbers.{IsFresh, IsPassed, IsWanted};
+ghost use Rattle.cargo_toml_walk.specs.Numbers.{Leads, Marks, OldStamps, Visits};
 
 use std::alloc::{AllocError, Global};
 

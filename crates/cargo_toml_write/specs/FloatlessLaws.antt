@@ -1,15 +1,20 @@
 -- What is written holds no float: the laws of the ways of which all ways are made, and then of each type.
-use Rattle.std.specs.Prelude.{ℕ, pos, List, [], ◌∷◌, ◌++◌, Bool, true, false, ◌&&◌, IsTrue, Option, Some, None, refl}
+use Rattle.std.specs.Prelude.{ℕ, pos, List, [], ◌∷◌, ◌++◌, Bool, true}
+use Rattle.std.specs.Prelude.{false, ◌&&◌, IsTrue, Option, Some, None, refl}
 use Rattle.std.specs.Cmp.Lexicographic.{slice_cmp}
 use Rattle.std.specs.Ordering.{nat_cmp, match_ordering}
 use Rattle.std.proofs.Common.{sym, subst, Ordering, Less, Equal, Greater}
 use Rattle.std.proofs.lemmas.Bool.{and_from}
 use Rattle.semver.specs.Identifiers.{parts_text}
-use Rattle.toml.specs.Data.{Data, string, boolean, integer, Items, no_items, item, Members, no_members, member}
+use Rattle.toml.specs.Data.{Data, string, boolean, integer, Items}
+use Rattle.toml.specs.Data.{no_items, item, Members, no_members, member}
 use Rattle.cargo_toml_parts.specs.declared.inheritable.Inheritable.TheVariants.{Set, Inherited}
 use Rattle.cargo_toml_parts.specs.Floats.{has_no_float, items_have_no_float, members_have_no_float}
-use Rattle.cargo_toml_write.specs.Ways.{exactly, free_way, requirement_way, list_way, AreItems, entry_rows, map_way, inheritable_way, text_way, truth_way, number_way, version_way, texts_way, unless_missing}
-use Rattle.cargo_toml_write.specs.Writes.{Way, IsFloatless, Row, unless, put, put_some, AreWritten, IsHeld, table_way}
+use Rattle.cargo_toml_write.specs.Ways.{exactly, free_way, requirement_way, list_way, AreItems}
+use Rattle.cargo_toml_write.specs.Ways.{entry_rows, map_way, inheritable_way, text_way, truth_way}
+use Rattle.cargo_toml_write.specs.Ways.{number_way, version_way, texts_way, unless_missing}
+use Rattle.cargo_toml_write.specs.Writes.{Way, IsFloatless, Row, unless, put}
+use Rattle.cargo_toml_write.specs.Writes.{put_some, AreWritten, IsHeld, table_way}
 
 abbrev Floatless : Data → Type 0
 Floatless d = IsTrue (has_no_float d)

@@ -1,8 +1,10 @@
 -- What is written of each type holds no float.
-use Rattle.std.specs.Prelude.{ℕ, List, codes, Option, Some, None, Bool, true, false, IsTrue, MatchBool, refl}
+use Rattle.std.specs.Prelude.{ℕ, List, codes, Option, Some, None, Bool}
+use Rattle.std.specs.Prelude.{true, false, IsTrue, MatchBool, refl}
 use Rattle.std.proofs.Common.{sym, subst}
 use Rattle.toml.specs.Data.{Data, string, integer}
-use Rattle.cargo_toml_dependencies.specs.Dependencies.{InheritedMeaning, DetailMeaning, DependencyMeaning}
+use Rattle.cargo_toml_dependencies.specs.Dependencies.{InheritedMeaning, DetailMeaning}
+use Rattle.cargo_toml_dependencies.specs.Dependencies.{DependencyMeaning}
 use Rattle.cargo_toml_dependencies.specs.Dependencies as kind
 use Rattle.cargo_toml_dependencies.specs.Details.{Detail}
 use Rattle.cargo_toml_dependencies.specs.Targets.{TargetMeaning}
@@ -14,23 +16,41 @@ use Rattle.cargo_toml_parts.specs.Floats.{has_no_float, members_have_no_float}
 use Rattle.cargo_toml_settings.specs.declared.profile_settings.DebugSetting.TheVariants as debug
 use Rattle.cargo_toml_settings.specs.declared.profile_settings.LtoSetting.TheVariants as lto
 use Rattle.cargo_toml_settings.specs.declared.profile_settings.StripSetting.TheVariants as strip
-use Rattle.cargo_toml_settings.specs.Settings.{edition_text, resolver_text, flag, path, everywhere, among}
+use Rattle.cargo_toml_settings.specs.Settings.{edition_text, resolver_text}
+use Rattle.cargo_toml_settings.specs.Settings.{flag, path, everywhere, among}
 use Rattle.cargo_toml_tables.specs.declared.badge.MaintenanceStatus.{MaintenanceStatus}
 use Rattle.cargo_toml_tables.specs.Badges.{BadgeMeaning, BadgesMeaning}
 use Rattle.cargo_toml_tables.specs.Lints.{LintMeaning}
 use Rattle.cargo_toml_tables.specs.Products.{ProductMeaning}
 use Rattle.cargo_toml_tables.specs.Profiles.{ProfileMeaning, ProfilesMeaning}
-use Rattle.cargo_toml_write.specs.FloatlessLaws.{AreFloatless, exactly_floatless, text_floatless, truth_floatless, number_floatless, version_floatless, requirement_floatless, free_floatless, texts_floatless, list_floatless, map_floatless, inheritable_floatless, entries_then, table_floatless, put_floatless, required, optional, given, flagged}
-use Rattle.cargo_toml_write.specs.Ways.{text_way, truth_way, number_way, version_way, requirement_way, free_way, texts_way, list_way, map_way, inheritable_way}
-use Rattle.cargo_toml_write.specs.WrittenBadges.{badge_rows, badge_way, maintenance_rows, maintenance_way, badges_rows, badges_way}
-use Rattle.cargo_toml_write.specs.WrittenDependencies.{inherited_rows, inherited_way, known_rows, detail_rows, detail_way, dependency_way, dependencies_way, target_rows, target_way}
-use Rattle.cargo_toml_write.specs.WrittenFeatures.{FeatureTree, feature_way, features_way, told_features, told_rows, told_way}
-use Rattle.cargo_toml_write.specs.WrittenLints.{is_level_alone, members_of, lint_table, table_lint_way, lint_way, lint_groups_way}
+use Rattle.cargo_toml_write.specs.FloatlessLaws.{AreFloatless, exactly_floatless, text_floatless}
+use Rattle.cargo_toml_write.specs.FloatlessLaws.{truth_floatless, number_floatless}
+use Rattle.cargo_toml_write.specs.FloatlessLaws.{version_floatless, requirement_floatless}
+use Rattle.cargo_toml_write.specs.FloatlessLaws.{free_floatless, texts_floatless, list_floatless}
+use Rattle.cargo_toml_write.specs.FloatlessLaws.{map_floatless, inheritable_floatless}
+use Rattle.cargo_toml_write.specs.FloatlessLaws.{entries_then, table_floatless, put_floatless}
+use Rattle.cargo_toml_write.specs.FloatlessLaws.{required, optional, given, flagged}
+use Rattle.cargo_toml_write.specs.Ways.{text_way, truth_way, number_way, version_way}
+use Rattle.cargo_toml_write.specs.Ways.{requirement_way, free_way, texts_way}
+use Rattle.cargo_toml_write.specs.Ways.{list_way, map_way, inheritable_way}
+use Rattle.cargo_toml_write.specs.WrittenBadges.{badge_rows, badge_way, maintenance_rows}
+use Rattle.cargo_toml_write.specs.WrittenBadges.{maintenance_way, badges_rows, badges_way}
+use Rattle.cargo_toml_write.specs.WrittenDependencies.{inherited_rows, inherited_way, known_rows}
+use Rattle.cargo_toml_write.specs.WrittenDependencies.{detail_rows, detail_way, dependency_way}
+use Rattle.cargo_toml_write.specs.WrittenDependencies.{dependencies_way, target_rows, target_way}
+use Rattle.cargo_toml_write.specs.WrittenFeatures.{FeatureTree, feature_way, features_way}
+use Rattle.cargo_toml_write.specs.WrittenFeatures.{told_features, told_rows, told_way}
+use Rattle.cargo_toml_write.specs.WrittenLints.{is_level_alone, members_of, lint_table}
+use Rattle.cargo_toml_write.specs.WrittenLints.{table_lint_way, lint_way, lint_groups_way}
 use Rattle.cargo_toml_write.specs.WrittenManifests.{all_features, manifest_rows, manifest_way}
 use Rattle.cargo_toml_write.specs.WrittenPackages.{package_rows, package_way}
 use Rattle.cargo_toml_write.specs.WrittenProducts.{product_rows, product_way}
-use Rattle.cargo_toml_write.specs.WrittenProfiles.{profile_rows, profile_way, known_profiles, profiles_rows, profiles_way}
-use Rattle.cargo_toml_write.specs.WrittenSettings.{edition_way, resolver_way, level_way, level_text, status_way, file_way, publish_way, debug_tree, debug_way, strip_tree, strip_way, lto_tree, lto_way, status_text}
+use Rattle.cargo_toml_write.specs.WrittenProfiles.{profile_rows, profile_way, known_profiles}
+use Rattle.cargo_toml_write.specs.WrittenProfiles.{profiles_rows, profiles_way}
+use Rattle.cargo_toml_write.specs.WrittenSettings.{edition_way, resolver_way, level_way}
+use Rattle.cargo_toml_write.specs.WrittenSettings.{level_text, status_way, file_way, publish_way}
+use Rattle.cargo_toml_write.specs.WrittenSettings.{debug_tree, debug_way, strip_tree, strip_way}
+use Rattle.cargo_toml_write.specs.WrittenSettings.{lto_tree, lto_way, status_text}
 use Rattle.cargo_toml_write.specs.WrittenTemplates.{template_rows, template_way}
 use Rattle.cargo_toml_write.specs.WrittenWorkspaces.{workspace_rows, workspace_way}
 use Rattle.cargo_toml_write.specs.Writes.{Way, IsFloatless, put}

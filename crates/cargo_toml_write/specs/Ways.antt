@@ -1,8 +1,10 @@
 -- How texts, truth values, numbers, versions, lists, maps and inherited values are written.
-use Rattle.std.specs.Prelude.{◌≡◌, ◌⊎◌, ℕ, pos, List, [], ◌∷◌, codes, Bool, true, false, IsTrue, Option, Some, None}
+use Rattle.std.specs.Prelude.{◌≡◌, ◌⊎◌, ℕ, pos, List, [], ◌∷◌, codes, Bool}
+use Rattle.std.specs.Prelude.{true, false, IsTrue, Option, Some, None}
 use Rattle.semver.specs.Identifiers.{parts_text}
 use Rattle.semver.specs.Parse.{Held}
-use Rattle.toml.specs.Data.{Data, string, boolean, integer, array, table, Items, no_items, item, no_members, member}
+use Rattle.toml.specs.Data.{Data, string, boolean, integer, array, table}
+use Rattle.toml.specs.Data.{Items, no_items, item, no_members, member}
 use Rattle.cargo_toml_parts.specs.declared.error.Error.{Error}
 use Rattle.cargo_toml_parts.specs.declared.inheritable.Inheritable.{Inheritable}
 use Rattle.cargo_toml_parts.specs.declared.inheritable.Inheritable.TheVariants.{Set, Inherited}

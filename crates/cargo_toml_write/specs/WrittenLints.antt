@@ -1,5 +1,6 @@
 -- How lints are written, and which lints are read again as they were.
-use Rattle.std.specs.Prelude.{◌≡◌, ℕ, List, [], ◌∷◌, Bool, false, pos, codes, ◌&&◌, MatchBool, IsTrue, All}
+use Rattle.std.specs.Prelude.{◌≡◌, ℕ, List, [], ◌∷◌, Bool, false, pos}
+use Rattle.std.specs.Prelude.{codes, ◌&&◌, MatchBool, IsTrue, All}
 use Rattle.std.specs.Ordering.{int_eq}
 use Rattle.toml.specs.Data.{Data, integer, string, table, Members, no_members, member}
 use Rattle.cargo_toml_parts.specs.Faults.{IsOther, floats_unsupported}

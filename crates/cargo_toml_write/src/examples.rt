@@ -4,9 +4,11 @@ ghost use Rattle.toml.specs.Data.{Data, string, boolean, table, no_members, memb
 ghost use Rattle.cargo_toml_manifest.specs.Manifests.{by_zero_rule};
 ghost use Rattle.cargo_toml_manifest.specs.Texts.{any_tree};
 ghost use Rattle.cargo_toml_package.specs.Packages.{package_of, new_package};
-ghost use Rattle.cargo_toml_parts.specs.declared.inheritable.Inheritable.TheVariants.{Set, Inherited};
+ghost use Rattle.cargo_toml_parts.specs.declared.inheritable.Inheritable.TheVariants.{Set};
+ghost use Rattle.cargo_toml_parts.specs.declared.inheritable.Inheritable.TheVariants.{Inherited};
 ghost use Rattle.cargo_toml_settings.specs.Settings.{everywhere};
-ghost use Rattle.cargo_toml_write.specs.Examples.{path_dependency, path_dependency_tree, untested_binary, untested_binary_tree, only_name};
+ghost use Rattle.cargo_toml_write.specs.Examples.{path_dependency, path_dependency_tree};
+ghost use Rattle.cargo_toml_write.specs.Examples.{untested_binary, untested_binary_tree, only_name};
 ghost use Rattle.cargo_toml_write.specs.Ways.{text_way, inheritable_way};
 ghost use Rattle.cargo_toml_write.specs.WrittenDependencies.{dependency_way};
 ghost use Rattle.cargo_toml_write.specs.WrittenProducts.{product_way};

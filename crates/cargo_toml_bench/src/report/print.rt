@@ -4,7 +4,8 @@ ghost use Rattle.std.specs.Io.KnownBytes.{Appends, Keeps};
 ghost use Rattle.toml.specs.View.{view};
 ghost use Rattle.cargo_toml.specs.Action.{Text};
 ghost use Rattle.cargo_toml.specs.Manifests.{manifest_meaning};
-ghost use Rattle.cargo_toml_bench.specs.Printing.{Spells, IsManifest, IsReport, Refuses, RefusesToPrint, line, lines, report_text};
+ghost use Rattle.cargo_toml_bench.specs.Printing.{Spells, IsManifest, IsReport, Refuses};
+ghost use Rattle.cargo_toml_bench.specs.Printing.{RefusesToPrint, line, lines, report_text};
 ghost use Rattle.cargo_toml_bench.specs.Reports.{texts, texts_of};
 
 use crate::report::{Report, make_report};

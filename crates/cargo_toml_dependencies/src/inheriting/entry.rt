@@ -1,11 +1,15 @@
 // What one inherited dependency becomes.
-ghost use Rattle.std.specs.Prelude.{ℕ, ◌≡◌, ◌++◌, ◌||◌, IsTrue, List, [], IfOk, OnOk, Some, map, ok_or, option_map, string_bytes};
+ghost use Rattle.std.specs.Prelude.{ℕ, ◌≡◌, ◌++◌, ◌||◌, IsTrue, List, [], IfOk, OnOk};
+ghost use Rattle.std.specs.Prelude.{Some, map, ok_or, option_map, string_bytes};
 ghost use Rattle.std.specs.Option.{option_copied};
 ghost use Rattle.std.specs.Path.{path_join};
 ghost use Rattle.cargo_toml_parts.specs.FaultValues.{fault_of, inherited_unknown_value};
 ghost use Rattle.cargo_toml_parts.specs.Versions.{requirement_meaning};
-ghost use Rattle.cargo_toml_dependencies.specs.Dependencies.{dependency_meaning, detail_meaning, inherited_meaning};
-ghost use Rattle.cargo_toml_dependencies.specs.Inheriting.{IsShort, adds_nothing, from_template, missing_template, plain_detail, short_detail, with_entry};
+ghost use Rattle.cargo_toml_dependencies.specs.Dependencies.{dependency_meaning};
+ghost use Rattle.cargo_toml_dependencies.specs.Dependencies.{detail_meaning, inherited_meaning};
+ghost use Rattle.cargo_toml_dependencies.specs.Inheriting.{IsShort, adds_nothing, from_template};
+ghost use Rattle.cargo_toml_dependencies.specs.Inheriting.{missing_template, plain_detail};
+ghost use Rattle.cargo_toml_dependencies.specs.Inheriting.{short_detail, with_entry};
 
 use crate::dependency::{Dependency, DependencyDetail, InheritedDependencyDetail};
 use cargo_toml_parts::copying::Copying;

@@ -3,8 +3,11 @@ ghost use Rattle.std.specs.Prelude.{◌≡◌, drop, option_map};
 ghost use Rattle.std.specs.Option.{option_copied};
 ghost use Rattle.std.specs.Vec.Iter.{into_iter_items};
 ghost use Rattle.cargo_toml_parts.specs.Answers.{Gives};
-ghost use Rattle.cargo_toml_dependencies.specs.Inheriting.{any_target_left, inherited_target, inherited_targets, target_left};
-ghost use Rattle.cargo_toml_dependencies.specs.Replacing.{entries_meaning, next_target, replaced_target, replaced_targets, targets_meaning};
+ghost use Rattle.cargo_toml_dependencies.specs.Inheriting.{any_target_left, inherited_target};
+ghost use Rattle.cargo_toml_dependencies.specs.Inheriting.{inherited_targets, target_left};
+ghost use Rattle.cargo_toml_dependencies.specs.Replacing.{entries_meaning, next_target};
+ghost use Rattle.cargo_toml_dependencies.specs.Replacing.{replaced_target, replaced_targets};
+ghost use Rattle.cargo_toml_dependencies.specs.Replacing.{targets_meaning};
 ghost use Rattle.cargo_toml_dependencies.specs.Targets.{target_meaning};
 
 use super::{Made, any_inherited, replace, replacements};

@@ -1,8 +1,12 @@
 //! Worked examples of the definitions.
-ghost use Rattle.std.specs.Prelude.{◌≡◌, ◌↔◌, ◌⊎◌, ◌∷◌, [], bytes_eq, codes, false, true, IsFalse, IsTrue};
+ghost use Rattle.std.specs.Prelude.{◌≡◌, ◌↔◌, ◌⊎◌, ◌∷◌, [], bytes_eq};
+ghost use Rattle.std.specs.Prelude.{codes, false, true, IsFalse, IsTrue};
 ghost use Rattle.cargo_toml_graph.specs.Action.{Text};
-ghost use Rattle.cargo_toml_graph.specs.Admitted.{admitted, is_admitted, is_below, is_explicit, names};
-ghost use Rattle.cargo_toml_graph.specs.Examples.{four, hidden_cycle, hidden_names_itself, hidden_parent, left_of, ring, some_bins, two_hidden};
+ghost use Rattle.cargo_toml_graph.specs.Admitted.{admitted, is_admitted};
+ghost use Rattle.cargo_toml_graph.specs.Admitted.{is_below, is_explicit, names};
+ghost use Rattle.cargo_toml_graph.specs.Examples.{four, hidden_cycle};
+ghost use Rattle.cargo_toml_graph.specs.Examples.{hidden_names_itself, hidden_parent};
+ghost use Rattle.cargo_toml_graph.specs.Examples.{left_of, ring, some_bins, two_hidden};
 ghost use Rattle.cargo_toml_graph.specs.Graph.{KeepsName, IsEnabledBy};
 ghost use Rattle.cargo_toml_graph.specs.Reach.{Among};
 ghost use Rattle.cargo_toml_graph.specs.Recursive.{Enables};

@@ -5,9 +5,11 @@ ghost use Rattle.toml.specs.View.{table_view};
 ghost use Rattle.cargo_toml_parts.specs.declared.inheritable.Inheritable.{Inheritable};
 ghost use Rattle.cargo_toml_parts.specs.Inherits.{inheritable_map};
 ghost use Rattle.cargo_toml_parts.specs.Reads.{map_meaning};
-ghost use Rattle.cargo_toml_write.specs.FloatlessLaws.{inheritable_floatless, list_floatless, map_floatless};
+ghost use Rattle.cargo_toml_write.specs.FloatlessLaws.{inheritable_floatless};
+ghost use Rattle.cargo_toml_write.specs.FloatlessLaws.{list_floatless, map_floatless};
 ghost use Rattle.cargo_toml_write.specs.Pairs.{AreGathered, put_all};
-ghost use Rattle.cargo_toml_write.specs.Ways.{entry_rows, list_way, map_way, inheritable_way, exactly, inherited_tree};
+ghost use Rattle.cargo_toml_write.specs.Ways.{entry_rows, list_way, map_way};
+ghost use Rattle.cargo_toml_write.specs.Ways.{inheritable_way, exactly, inherited_tree};
 ghost use Rattle.cargo_toml_write.specs.Writes.{IsWriting};
 
 use crate::write::{LeftOut, ToValue, put};

@@ -21,7 +21,8 @@ use cargo_toml_resolve::bins::Requirement;
 use std::alloc::{AllocError, Global};
 use std::hash::BuildHasherDefault;
 
-/// Resolves the features of a manifest by both bodies, without the hidden ones: first as callers do, then by the plain body.
+/// Resolves the features of a manifest by both bodies, without the hidden ones: first as callers
+/// do, then by the plain body.
 ///
 /// Both tell the same, and of each feature the same binaries. The one refusal is [`Error::Memory`].
 pub fn resolve_by_both<'m, M>(

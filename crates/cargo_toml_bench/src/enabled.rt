@@ -26,7 +26,8 @@ pub struct Enabled<'f, 'm, S: BuildHasher> {
     pub dependencies: DependenciesEnabledByFeatures<'f, 'm, S>,
 }
 
-/// What the feature `name` enables; `None` where no feature has the name. The one refusal is [`Error::Memory`].
+/// What the feature `name` enables; `None` where no feature has the name. The one refusal is
+/// [`Error::Memory`].
 pub fn find_enabled<'f, 'm, S: BuildHasher + Clone>(
     alloc: Global,
     resolved: &'f Features<'m, 'm, S>,
@@ -52,8 +53,8 @@ pub fn find_enabled<'f, 'm, S: BuildHasher + Clone>(
     }))
 }
 
-/// Whether a manifest has the feature `name`, and asking for it enables the feature `other`. The one refusal is
-/// [`Error::Memory`].
+/// Whether a manifest has the feature `name`, and asking for it enables the feature `other`. The
+/// one refusal is [`Error::Memory`].
 pub fn enables<M>(
     alloc: Global,
     manifest: &Manifest<M>,
@@ -71,8 +72,8 @@ pub fn enables<M>(
     Ok(features.contains_key(other))
 }
 
-/// The same of the manifest that the bytes spell. Refuses as [`Manifest::from_slice`] does, with `Memory` where there was no
-/// room.
+/// The same of the manifest that the bytes spell. Refuses as [`Manifest::from_slice`] does, with
+/// `Memory` where there was no room.
 pub fn enables_from(alloc: Global, bytes: &[u8], name: &str, other: &str) -> Result<bool, Error>
     ensures answer { IfOk result (IsAnsweredFrom bytes.now name.now other.now) }
     ensures refused { IfErr result (Refuses bytes.now) }

@@ -34,8 +34,8 @@ pub struct Root {
     pub text: Result<String, Error>,
 }
 
-/// Folders with their answers, and roots. A path that isn't listed is absent, and a hint that isn't leads nowhere. Of two of one
-/// path, or of one hint, the first counts.
+/// Folders with their answers, and roots. A path that isn't listed is absent, and a hint that isn't
+/// leads nowhere. Of two of one path, or of one hint, the first counts.
 #[derive(Drop)]
 pub struct InMemory {
     /// The folders, by path.

@@ -30,7 +30,8 @@ use std::hash::BuildHasher;
 pub struct Report<'m> {
     /// The keys of the optional dependencies, in byte order.
     pub optional: Vec<&'m str>,
-    /// The names of the features that nothing in the manifest enables, but for `default`, in byte order.
+    /// The names of the features that nothing in the manifest enables, but for
+    /// `default`, in byte order.
     pub unreferenced: Vec<&'m str>,
 }
 
@@ -48,7 +49,8 @@ pub fn make_report<'m, M>(alloc: Global, manifest: &'m Manifest<M>) -> Result<Re
     })
 }
 
-/// The keys of the optional dependencies of a table, in byte order. The one refusal is [`Error::Memory`].
+/// The keys of the optional dependencies of a table, in byte order. The one refusal is
+/// [`Error::Memory`].
 pub fn optional_dependencies<'m>(
     alloc: Global,
     dependencies: &'m DepsSet,
@@ -66,8 +68,8 @@ pub fn optional_dependencies<'m>(
     Ok(optional)
 }
 
-/// The names of the features that nothing in the manifest enables, but for `default`, in byte order. The one refusal is
-/// [`Error::Memory`].
+/// The names of the features that nothing in the manifest enables, but for `default`, in byte
+/// order. The one refusal is [`Error::Memory`].
 pub fn unreferenced_features<'m, M>(
     alloc: Global,
     manifest: &'m Manifest<M>,

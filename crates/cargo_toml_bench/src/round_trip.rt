@@ -1,4 +1,5 @@
-//! What was written is read again as it was: one caller for each family of types of which that is promised.
+//! What was written is read again as it was: one caller for each family of types of
+//! which that is promised.
 ghost use Rattle.std.specs.Prelude.{◌≡◌, IfErr, IfOk};
 ghost use Rattle.semver.specs.Identifiers.{parts_of};
 ghost use Rattle.toml.specs.View.{view};
@@ -101,8 +102,8 @@ pub fn package_again(alloc: Global, written: &Package) -> Result<Package, Error>
     Package::from_value(alloc, written.to_value(alloc)?)
 }
 
-/// A tree of the manifest that these bytes spell: what was read can be written. Refuses as [`Manifest::from_slice`] does, with
-/// `Memory` where there was no room.
+/// A tree of the manifest that these bytes spell: what was read can be written. Refuses as
+/// [`Manifest::from_slice`] does, with `Memory` where there was no room.
 pub fn rewrite(alloc: Global, bytes: &[u8]) -> Result<Value, Error>
     ensures tree { IfOk result (λ v. IsRewritten bytes.now (view v)) }
     ensures refused { IfErr result (Refuses bytes.now) }

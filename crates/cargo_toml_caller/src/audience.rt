@@ -1,4 +1,5 @@
-//! Who may rely on a package: metadata that this crate gives `package.metadata` and `workspace.metadata`.
+//! Who may rely on a package: metadata that this crate gives `package.metadata` and
+//! `workspace.metadata`.
 ghost use Rattle.std.specs.Prelude.{codes};
 ghost use Rattle.cargo_toml.specs.Faults.{IsOther};
 ghost use Rattle.cargo_toml_caller.specs.declared.audience.Audience.{Audience};

@@ -23,10 +23,11 @@ pub use audience::Audience;
 use cargo_toml::{Error, Manifest, Package, ToValue, Value};
 use std::alloc::Global;
 
-/// Who may rely on the package of the manifest that the bytes spell; `None` where there is no package, or its metadata don't
-/// say.
+/// Who may rely on the package of the manifest that the bytes spell; `None` where there is no
+/// package, or its metadata don't say.
 ///
-/// Refuses as [`Manifest::from_slice_with_metadata`] does: among others with the fault of metadata that are no audience.
+/// Refuses as [`Manifest::from_slice_with_metadata`] does: among others with the fault of metadata
+/// that are no audience.
 pub fn audience_of(alloc: Global, bytes: &[u8]) -> Result<Option<Audience>, Error>
     ensures answer { IfOk result (IsAudienceOf bytes.now) }
     ensures refused { IfErr result (Refuses bytes.now) }

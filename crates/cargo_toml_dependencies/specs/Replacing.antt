@@ -14,7 +14,8 @@ use Rattle.cargo_toml_dependencies.specs.Dependencies.{dependency_meaning, inher
 use Rattle.cargo_toml_dependencies.specs.Inheriting.{Entries}
 use Rattle.cargo_toml_dependencies.specs.Targets.{TargetMeaning, target_meaning}
 
--- what the dependencies of a map hold, those of blocks one after the other, and the targets of a map
+-- what the dependencies of a map hold, those of blocks one after the other, and
+-- the targets of a map
 abbrev pub entries_meaning : BTreeMap (String Global) Dependency → Entries
 entries_meaning m = map_meaning dependency_meaning m
 

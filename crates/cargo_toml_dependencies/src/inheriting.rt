@@ -1,7 +1,8 @@
 //! Filling in the dependencies that are left to the workspace.
 //!
-//! It goes in two steps, so that a refusal leaves everything as it was: first the new dependencies are made beside the old
-//! ones, then they are put in their places, which takes no memory and is never refused.
+//! It goes in two steps, so that a refusal leaves everything as it was: first the new
+//! dependencies are made beside the old ones, then they are put in their places, which takes no
+//! memory and is never refused.
 ghost use Rattle.std.specs.Prelude.{◌≡◌, [], IfSome, Some, option_map};
 ghost use Rattle.std.specs.Option.{option_copied};
 ghost use Rattle.cargo_toml_parts.specs.Answers.{Gives};
@@ -27,7 +28,8 @@ pub use targets::{NewTarget, any_target_inherits, replace_targets, target_replac
 /// What inherited dependencies become, in the order of their keys, in blocks one after the other.
 pub type Made = Vec<Vec<Dependency>>;
 
-// How many of the workspace's dependencies are looked at in their order before one of a key is searched for.
+// How many of the workspace's dependencies are looked at in their order before one of a
+// key is searched for.
 const NEAR: usize = 3;
 
 // The dependency of the key, if it is among the next few.
@@ -45,8 +47,8 @@ fn near_at<'a>(near: &mut Iter<'a, String, Dependency>, key: &str) -> Option<&'a
     None
 }
 
-// The workspace's dependencies, to be gone through beside the member's; those of `none`, where so few of them are taken that
-// the next one seldom is among the next few.
+// The workspace's dependencies, to be gone through beside the member's; those of `none`, where so
+// few of them are taken that the next one seldom is among the next few.
 fn near_of<'a>(
     templates: &'a DepsSet,
     none: &'a DepsSet,
@@ -61,8 +63,8 @@ fn near_of<'a>(
     }
 }
 
-// The workspace's dependency of a key. Both tables are gone through in the order of their keys, so it mostly is among the next
-// few of the workspace's.
+// The workspace's dependency of a key. Both tables are gone through in the order of their keys, so
+// it mostly is among the next few of the workspace's.
 fn template_at<'a>(
     templates: &'a DepsSet,
     near: &mut Iter<'a, String, Dependency>,
@@ -78,7 +80,8 @@ fn template_at<'a>(
     }
 }
 
-// Room for what the inherited dependencies become: for all of them, or for none where none is inherited.
+// Room for what the inherited dependencies become: for all of them, or for none where
+// none is inherited.
 fn room_for(dependencies: &DepsSet) -> usize {
     if any_inherited(dependencies) {
         dependencies.len()
@@ -116,11 +119,13 @@ fn made_by(
     Ok(blocks::all(full, block)?)
 }
 
-/// What the inherited dependencies become by those of the workspace, `templates`, in the order of their keys. `base` is the
-/// workspace's folder as seen from the member: paths are joined to it. Hand the answer to `replace`.
+/// What the inherited dependencies become by those of the workspace, `templates`, in the order of
+/// their keys. `base` is the workspace's folder as seen from the member: paths are joined to it.
+/// Hand the answer to `replace`.
 ///
-/// The first fault in the order of the keys counts: `WorkspaceIntegrity` where the workspace lacks the key, and
-/// `InheritedUnknownValue` where its own dependency of that key is inherited. Refused by `Memory` where there was none.
+/// The first fault in the order of the keys counts: `WorkspaceIntegrity` where the workspace lacks
+/// the key, and `InheritedUnknownValue` where its own dependency of that key is inherited. Refused
+/// by `Memory` where there was none.
 pub fn replacements(
     alloc: Global,
     templates: Option<&DepsSet>,
@@ -151,8 +156,9 @@ fn put_next(dependency: &mut Dependency, waiting: &mut Waiting)
     }
 }
 
-/// Puts what was made in the place of the inherited dependencies, in the order of their keys. Other dependencies are left as
-/// they are, and so are inherited ones for which nothing was made. It takes no memory.
+/// Puts what was made in the place of the inherited dependencies, in the order of their keys.
+/// Other dependencies are left as they are, and so are inherited ones for which nothing was made.
+/// It takes no memory.
 pub fn replace(dependencies: &mut DepsSet, made: Made)
     ensures { entries_meaning dependencies.new ≡ replaced (entries_meaning dependencies.old) (made_meaning made) }
 {

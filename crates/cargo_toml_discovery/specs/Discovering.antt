@@ -31,8 +31,8 @@ abbrev pub or_plain_library : List Text → List Text
 or_plain_library [] = codes "lib" ∷ []
 or_plain_library types = types
 
--- the library with what it does not state: the name and the edition of the package, and the crate type `lib`; it
--- requires no feature
+-- the library with what it does not state: the name and the edition of the package, and the crate
+-- type `lib`; it requires no feature
 abbrev pub filled_library : Text → Edition → ProductMeaning → ProductMeaning
 filled_library name edition p = record p {
   name = Some (unwrap_or p.name (underscored name));

@@ -123,6 +123,7 @@ abbrev pub all_found : Edition → List ProductMeaning → List Offered → Opti
 all_found edition ps os extra =
     filter has_path ps ++ (map (product_among edition ps os) os ++ last_product edition ps os extra)
 
--- the products of a folder, in order: those that have a path, and one for each offer of the folder and of one beside it
+-- the products of a folder, in order: those that have a path, and one for each offer of the folder
+-- and of one beside it
 abbrev pub found : Edition → Text → List ProductMeaning → List Named → Option Offered → List ProductMeaning
 found edition dir ps es extra = in_order (all_found edition ps (offers dir (is_path_of ps) es) extra)

@@ -1,4 +1,5 @@
--- How names are gathered that discovery needs: what is kept is what was told, and all that is needed is kept.
+-- How names are gathered that discovery needs: what is kept is what was told, and all that
+-- is needed is kept.
 use Rattle.std.specs.Prelude.{◌≡◌, Bool, true, false, List, [], ◌∷◌, Some}
 use Rattle.std.specs.Prelude.{is_some, codes, String, Result, MatchResult, ◌⊎◌}
 use Rattle.std.specs.BTreeSet.{BTreeSet}
@@ -41,7 +42,8 @@ HasProducts true dir ans = Has ans dir × HasEach ans (below dir (names_in ans d
 abbrev pub HasRoot : (Text → Told) → Answers → Type 0
 HasRoot told ans = root_names (filled told ans []) ≡ seen (names_in ans [])
 
--- every path is kept that a package asks for whose lists of these kinds are wanted, but for its own folder
+-- every path is kept that a package asks for whose lists of these kinds are wanted, but
+-- for its own folder
 abbrev pub HasAll : Wanted → Answers → Type 0
 HasAll wanted ans =
     Has ans (codes "src")

@@ -1,4 +1,5 @@
--- What is seen of a tree of folders: a value, one of some faults, or nothing where an open path is asked for.
+-- What is seen of a tree of folders: a value, one of some faults, or nothing where an open
+-- path is asked for.
 use Rattle.std.specs.Prelude.{◌≡◌, Bool, true, false, List, [], ◌∷◌}
 use Rattle.std.specs.Prelude.{◌++◌, ◌⊎◌, map, Option, if◌then◌else◌}
 use Rattle.std.specs.declared.io.ErrorKind.{ErrorKind}

@@ -1,4 +1,5 @@
--- How the code finds products: a walk over the offers. It gives what `Found` says, so nothing here has to be believed.
+-- How the code finds products: a walk over the offers. It gives what `Found` says, so nothing here
+-- has to be believed.
 use Rattle.std.specs.Prelude.{◌≡◌, Bool, List, [], ◌∷◌, ◌++◌, option_to_list, Option, None}
 use Rattle.std.specs.Prelude.{option_map, if◌then◌else◌, string_bytes, map, filter, Vec}
 use Rattle.std.specs.BTreeMap.{BTreeMap, get_by}
@@ -54,7 +55,8 @@ abbrev pub walk : Edition → (Text → Option ProductMeaning) → List Offered 
 walk edition w [] = []
 walk edition w (o ∷ os) = product_for edition o (w o.name) ∷ walk edition (without w o.name) os
 
--- the products that are placed, and those of the offers that are left, where these products still wait
+-- the products that are placed, and those of the offers that are left, where these
+-- products still wait
 abbrev pub walked : Edition → Vec Product Global → Waiting → List Offered → List ProductMeaning
 walked edition list still os = map product_meaning list.items ++ walk edition (waiting_in still) os
 

@@ -130,10 +130,11 @@ fn filled_library(
     Ok(library)
 }
 
-/// The library of a package of this name and edition: the one that is stated, with the path `src/lib.rs` where it has
-/// none and that file is there, or one that is made there where `autolib` says so. It has the name of the package
-/// with each `-` as `_`, its edition and the crate type `lib` where it states none, and no required features. It is
-/// refused only where there was no memory.
+/// The library of a package of this name and edition: the one that is stated, with the path
+/// `src/lib.rs` where it has none and that file is there, or one that is made there where
+/// `autolib` says so. It has the name of the package with each `-` as `_`, its edition and the
+/// crate type `lib` where it states none, and no required features. It is refused only where
+/// there was no memory.
 pub fn library(
     alloc: Global,
     name: &str,
@@ -170,8 +171,9 @@ fn main_offer(
     Ok(None)
 }
 
-/// A list of products in order of name and path: where `is_wanted`, as it is found in the folder `dir` and by the offer
-/// `extra`, and otherwise just those that are stated. It is refused only where there was no memory.
+/// A list of products in order of name and path: where `is_wanted`, as it is found in the folder
+/// `dir` and by the offer `extra`, and otherwise just those that are stated. It is refused only
+/// where there was no memory.
 pub fn list_of(
     alloc: Global,
     edition: Edition,
@@ -204,8 +206,9 @@ fn copied_file(alloc: Global, file: &OptionalFile) -> Result<OptionalFile, Alloc
     }
 }
 
-/// The build script: the path `build.rs` where none is stated or just that there is one, and that file stands beside
-/// the manifest; otherwise what is stated. It is refused only where there was no memory.
+/// The build script: the path `build.rs` where none is stated or just that there is one, and
+/// that file stands beside the manifest; otherwise what is stated. It is refused only where
+/// there was no memory.
 pub fn build(
     alloc: Global,
     stated: Option<&OptionalFile>,
@@ -225,9 +228,9 @@ pub fn build(
     }
 }
 
-/// The readme: where just that there is one is stated, the first of `README.md`, `README.txt` and `README` that
-/// stands beside the manifest; otherwise, or where none does, what is stated. It is refused only where there was no
-/// memory.
+/// The readme: where just that there is one is stated, the first of `README.md`, `README.txt` and
+/// `README` that stands beside the manifest; otherwise, or where none does, what is stated. It is
+/// refused only where there was no memory.
 pub fn readme(
     alloc: Global,
     stated: &OptionalFile,
@@ -250,8 +253,8 @@ pub fn readme(
     Ok(OptionalFile::Path(String::from_str(alloc, name)?))
 }
 
-/// What discovery makes of what a manifest states, by the names that were told of the folders around it. It is
-/// refused only where there was no memory.
+/// What discovery makes of what a manifest states, by the names that were told of the folders
+/// around it. It is refused only where there was no memory.
 pub fn discover(
     alloc: Global,
     stated: &Stated<'_>,

@@ -274,11 +274,11 @@ fn found_by_walk(
     Ok(list)
 }
 
-/// The products of a folder whose names are these, each once and in byte order: those of `products` that have a path,
-/// one for each offer of the folder whose path none of them has, and one for `extra`, which counts as the last offer.
-/// An offer goes to the last product that has its name and no path, unless an offer before it has that name too, and
-/// else to a new product of this edition. All are in order of name and path. It is refused only where there was no
-/// memory.
+/// The products of a folder whose names are these, each once and in byte order: those of `products`
+/// that have a path, one for each offer of the folder whose path none of them has, and one for
+/// `extra`, which counts as the last offer. An offer goes to the last product that has its name and
+/// no path, unless an offer before it has that name too, and else to a new product of this edition.
+/// All are in order of name and path. It is refused only where there was no memory.
 pub fn found(
     alloc: Global,
     edition: Edition,

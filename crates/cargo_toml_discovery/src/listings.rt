@@ -48,7 +48,8 @@ pub fn sorted_names(alloc: Global, names: HashSet<String>) -> Result<BTreeSet<St
     ensures names { IfOk result (λ s. (t : Text) → contains_text s t ≡ has_in names t) }
     ensures ordered { IfOk result (λ s. IsOrdered string_cmp s) }
 {
-    // All at once: the names are moved, sorted and then built into the set, and none is searched for its place.
+    // All at once: the names are moved, sorted and then built into the set, and none is
+    // searched for its place.
     BTreeSet::from_iter(alloc, names)
 }
 
@@ -79,8 +80,8 @@ impl Listings {
         }
     }
 
-    /// Keeps the names in a folder, in place of those that were kept of it. It is refused only where there was no
-    /// memory.
+    /// Keeps the names in a folder, in place of those that were kept of it. It is refused only
+    /// where there was no memory.
     pub fn keep(
         &mut self,
         alloc: Global,
@@ -94,7 +95,8 @@ impl Listings {
         Ok(())
     }
 
-    /// The paths of the folders in a folder that may hold `main.rs`: those of the names that are no sources.
+    /// The paths of the folders in a folder that may hold `main.rs`: those of the names
+    /// that are no sources.
     pub fn folders_in(&self, alloc: Global, dir: &str) -> Result<Vec<String>, AllocError>
         ensures { IfOk result (λ v. map string_bytes v.items ≡ below dir.now (names_kept self.now dir.now)) }
     {

@@ -31,7 +31,8 @@ detail name features optional = detailed (record {
 abbrev pub entry : Text → Bool → Entry
 entry key optional = record { key = key; target = (Normal, None); dependency = detail None [] optional }
 
--- a manifest of the features default = ["fast"] and fast = ["log/std"], with an optional dependency log
+-- a manifest of the features default = ["fast"] and fast = ["log/std"], with an
+-- optional dependency log
 abbrev pub small_listed : Listed
 small_listed = (codes "default", codes "fast" ∷ []) ∷ (codes "fast", codes "log/std" ∷ []) ∷ []
 
@@ -57,7 +58,8 @@ hidden_conditional = table_of ((codes "_h", codes "opt?/f" ∷ []) ∷ (codes "k
 abbrev pub hidden_dep_only : Table
 hidden_dep_only = table_of ((codes "_a", codes "dep:d" ∷ []) ∷ (codes "_p", codes "d/x" ∷ codes "_a" ∷ []) ∷ (codes "d", []) ∷ (codes "k", codes "_p" ∷ []) ∷ []) (entry (codes "d") true ∷ [])
 
--- entries of the key d in the three kinds: not optional, then optional with the package q, then not optional
+-- entries of the key d in the three kinds: not optional, then optional with the package
+-- q, then not optional
 abbrev pub three_kinds : List Entry
 three_kinds =
     record { key = codes "d"; target = (Normal, None); dependency = simple [] }
@@ -69,7 +71,8 @@ three_kinds =
 abbrev pub twice : List Entry
 twice = record { key = codes "d"; target = (Normal, None); dependency = simple [] } ∷ entry (codes "d") true ∷ []
 
--- x = ["d/default", "d/f"], where d stands without target as given, and for `cfg(unix)` with the feature f
+-- x = ["d/default", "d/f"], where d stands without target as given, and for `cfg(unix)`
+-- with the feature f
 abbrev pub redundancy : DependencyMeaning → Table
 redundancy first = table_of ((codes "x", codes "d/default" ∷ codes "d/f" ∷ []) ∷ []) (
     record { key = codes "d"; target = (Normal, Some (codes "cfg(unix)")); dependency = detail None (codes "f" ∷ []) false }

@@ -1,4 +1,5 @@
--- What is told of a feature beside what it does: its marks. Resolving takes them from where the feature is listed.
+-- What is told of a feature beside what it does: its marks. Resolving takes them from where the
+-- feature is listed.
 use Rattle.std.specs.Prelude.{Bool, if◌then◌else◌, List, map, Option}
 use Rattle.std.specs.Prelude.{Some, None, bytes_eq, is_some, unwrap_or}
 use Rattle.std.specs.Option.{option_copied}
@@ -35,7 +36,8 @@ detail_at details f = unwrap_or (lookup (bytes_eq f) details) plain_detail
 abbrev pub detail_listed : Listed → Details → Text → Detail
 detail_listed listed details f = if is_some (lookup (bytes_eq f) listed) then detail_at details f else plain_detail
 
--- the marks of f: of a feature that isn't listed, an added `default` or an implied one, nothing is said
+-- the marks of f: of a feature that isn't listed, an added `default` or an implied
+-- one, nothing is said
 abbrev pub marks_in : Listed → Details → Text → Marks
 marks_in listed details f = marked (is_explicit listed f) (detail_listed listed details f)
 

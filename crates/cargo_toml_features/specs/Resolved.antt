@@ -30,8 +30,8 @@ module _ (listed : Listed) (entries : List Entry) where
     action = λ f k. option_map (without_redundant (first_target (entries_at listed entries k))) (joined_table.action f k);
   }
 
--- what a resolution answers: under each name its feature, the key that it tells and its marks, under each key its dependency,
--- under each removed name its redirect
+-- what a resolution answers: under each name its feature, the key that it tells and its marks,
+-- under each key its dependency, under each removed name its redirect
 pub record Answer : Type 0 where
   pub resolution : Resolution
   pub key : Text → Option Text
@@ -47,8 +47,9 @@ SameRecorded None None = Unit {0}
 SameRecorded (Some a) (Some b) = (a.crate_name ≡ b.crate_name) × ((t : Target) → a.targets t ≡ b.targets t)
 SameRecorded _ _ = ⊥
 
--- the listed features and the entries are resolved, with the features taken out that the filter doesn't keep: which features
--- are left, under their own keys and with their marks, and the recorded dependencies
+-- the listed features and the entries are resolved, with the features taken out that the filter
+-- doesn't keep: which features are left, under their own keys and with their marks, and the
+-- recorded dependencies
 pub record IsKeptAnswer (listed : Listed) (entries : List Entry) (details : Details) (keep : Text → Bool) (a : Answer) : Type 0 where
   pub resolved : IsResolved (table_of listed entries) (λ f. IsTrue (is_removed (table_of listed entries) keep f)) a.resolution
   pub keyed : (f : Text) → IfSome (a.key f) (λ k. k ≡ f)
@@ -56,8 +57,9 @@ pub record IsKeptAnswer (listed : Listed) (entries : List Entry) (details : Deta
   pub dependencies : (k : Text) → SameRecorded (a.dependencies k) (recorded_of (entries_at listed entries k))
   pub some : IsTrue a.removed_some ↔ ((r : Text) × IsTrue (is_removed (table_of listed entries) keep r))
 
--- and so are the binaries that require features, of which own are the binaries' own mentions: by paths, and as they are passed on
--- in byte order; and what stands for each feature that is taken out
+-- and so are the binaries that require features, of which own are the binaries' own
+-- mentions: by paths, and as they are passed on in byte order; and what stands for each
+-- feature that is taken out
 pub record IsAnswer (listed : Listed) (entries : List Entry) (details : Details) (own : Text → List Text) (keep : Text → Bool) (a : Answer) : Type 0 where
   pub kept : IsKeptAnswer listed entries details keep a
   pub bins : (f : Text) → IsTrue (a.resolution.table.has f) → HasBins (table_of listed entries) (λ r. IsTrue (is_removed (table_of listed entries) keep r)) own f (a.bins f)

@@ -1,4 +1,5 @@
--- What one visit of a feature adds to the lists of pairs and to the features still to visit. No public clause cites it.
+-- What one visit of a feature adds to the lists of pairs and to the features still to visit. No
+-- public clause cites it.
 use Rattle.std.specs.Prelude.{◌≡◌, ◌≤◌, ◌+◌, ◌&&◌, ◌||◌, Bool, false, if◌then◌else◌, List}
 use Rattle.std.specs.Prelude.{[], ◌∷◌, ◌++◌, length, Option, Some, None, bytes_eq, is_some}
 use Rattle.std.specs.Option.{option_map_or}
@@ -38,7 +39,8 @@ pub record PutsFound {S : Type 0} (v : Bor Feature) (old new : Found S) : Type 0
 abbrev pub is_pending : List (Bor Feature) → Text → Bool
 is_pending vs x = list_any (λ v. bytes_eq x v.now.key.now) vs
 
--- the features still to visit, where one of them was taken off to be visited next; none, where there was none to take
+-- the features still to visit, where one of them was taken off to be visited next; none, where
+-- there was none to take
 abbrev pub still : List (Bor Feature) → Option (Bor Feature) → List (Bor Feature)
 still pending None = []
 still pending (Some next) = pending ++ next ∷ []

@@ -13,8 +13,9 @@ use std::collections::{BTreeMap, BTreeSet};
 
 /// One text of a feature's list, taken apart.
 ///
-/// Cargo knows the forms `feature`, `dep:dependency`, `dependency/feature` and `dependency?/feature`. Other mixtures are read
-/// alike: what stands before the first slash loses one `dep:` and then one `?`.
+/// Cargo knows the forms `feature`, `dep:dependency`, `dependency/feature` and
+/// `dependency?/feature`. Other mixtures are read alike: what stands before the first slash loses
+/// one `dep:` and then one `?`.
 #[derive(Debug, Clone, Copy)]
 pub struct ActionText<'a> {
     /// The name of a feature, or the key of a dependency.
@@ -107,8 +108,8 @@ impl<'a> DepAction<'a> {
     }
 }
 
-/// Joins an action into the one that its target has, if any: the two are conditional only where both are, and dep-only where
-/// one is. It fails only where memory runs out.
+/// Joins an action into the one that its target has, if any: the two are conditional only where
+/// both are, and dep-only where one is. It fails only where memory runs out.
 pub fn join_action<'a>(
     alloc: Global,
     deps: &mut BTreeMap<&'a str, DepAction<'a>>,

@@ -15,10 +15,12 @@ use std::alloc::{AllocError, Global};
 use std::collections::{BTreeMap, HashMap};
 use std::hash::BuildHasher;
 
-/// How many names of a table of features count, how many actions of a feature, and how many keys of a table of dependencies.
+/// How many names of a table of features count, how many actions of a feature, and how many keys of
+/// a table of dependencies.
 pub const MAX_ITEMS: usize = 2048;
 
-/// A feature as a table lists it: its name and its actions, and what else is said of it, if anything.
+/// A feature as a table lists it: its name and its actions, and what else is said
+/// of it, if anything.
 #[derive(Debug, Clone, Copy)]
 pub struct Listing<'m> {
     pub name: &'m str,
@@ -68,9 +70,9 @@ fn listing_of<'m>(name: &'m str, actions: &'m [String], details: &'m FeatureDeta
     }
 }
 
-/// Of a table's features those that are admitted: the first `limit` names in byte order and always `default`, each with its
-/// first `limit` actions, and with the detail of its name. They stand in the byte order of their names. It fails only where
-/// memory runs out.
+/// Of a table's features those that are admitted: the first `limit` names in byte order and always
+/// `default`, each with its first `limit` actions, and with the detail of its name. They stand in
+/// the byte order of their names. It fails only where memory runs out.
 pub fn listings<'m>(
     alloc: Global,
     table: &'m FeatureSet,
@@ -104,7 +106,8 @@ fn in_order<'m, S: BuildHasher>(
     Ok(sorted)
 }
 
-/// The same of a hashed table, whatever the order of its walk, without details. It fails only where memory runs out.
+/// The same of a hashed table, whatever the order of its walk, without details. It fails only
+/// where memory runs out.
 pub fn hashed_listings<'m, S: BuildHasher>(
     alloc: Global,
     table: &'m HashMap<String, Vec<String>, S>,

@@ -105,8 +105,9 @@ fn add_targets_dev<'m>(
     Ok(())
 }
 
-/// The entries of all tables in the order in which they count: normal and build dependencies, those of each target, dev
-/// dependencies, those of each target. Of each table the first `limit` count, by key in byte order.
+/// The entries of all tables in the order in which they count: normal and build dependencies, those
+/// of each target, dev dependencies, those of each target. Of each table the first `limit` count,
+/// by key in byte order.
 ///
 /// It fails only where memory runs out.
 pub fn entries_of<'m>(

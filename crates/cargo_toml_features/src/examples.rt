@@ -1,6 +1,7 @@
 //! Worked examples of what listed features and entries of dependencies say together.
 //!
-//! A theorem counts only where a function's contract names it, so each function here does nothing and its contract is an example.
+//! A theorem counts only where a function's contract names it, so each function here does nothing
+//! and its contract is an example.
 ghost use Rattle.std.specs.Prelude.{◌≡◌, ◌↔◌, ◌⊎◌, ◌∷◌, [], ℕ, None, Some, bytes_eq, codes};
 ghost use Rattle.std.specs.Prelude.{false, option_map, true, IsFalse, IsSome, IsTrue};
 ghost use Rattle.std.specs.Option.{IsSomeAnd};
@@ -29,7 +30,8 @@ pub fn features_alone_are_a_table()
         ≡ (features_alone listed).action f k }
 {}
 
-/// `default = ["fast"]`, `fast = ["log/std"]`, and an optional dependency `log`, which implies a feature of its name.
+/// `default = ["fast"]`, `fast = ["log/std"]`, and an optional dependency `log`, which implies a
+/// feature of its name.
 pub fn a_small_table()
     // the features are these three, and no `std`
     ensures features { (f : Text) → IsTrue (small.has f)
@@ -64,7 +66,8 @@ pub fn a_hidden_plain_action_wins()
         ((x : Text) → IsTrue (a.features x) ↔ ((x ≡ codes "a") ⊎ (x ≡ codes "b")))) }
 {}
 
-/// `k = ["_d/x"]`, `_d = ["b"]`: acting plainly on the dependency `_d` leads to the feature `_d`, so `k` names `b` once it is removed.
+/// `k = ["_d/x"]`, `_d = ["b"]`: acting plainly on the dependency `_d` leads to the feature `_d`,
+/// so `k` names `b` once it is removed.
 pub fn a_hidden_feature_named_as_a_dependency()
     ensures names { (x : Text) → IsTrue ((left_of hidden_key (codes "_d" ∷ [])).table.names (codes "k") x)
         ↔ (x ≡ codes "b") }
@@ -80,7 +83,8 @@ pub fn a_hidden_conditional_action()
         ((x : Text) → IsTrue (a.features x) ↔ (x ≡ codes "f"))) }
 {}
 
-/// `d = []`, `_a = ["dep:d"]`, `_p = ["d/x", "_a"]`, `k = ["_p"]`: `k` enables `d` though its joined action turns dep-only.
+/// `d = []`, `_a = ["dep:d"]`, `_p = ["d/x", "_a"]`, `k = ["_p"]`: `k` enables `d` though its
+/// joined action turns dep-only.
 pub fn a_join_that_turns_dep_only()
     ensures enabled_by { (left_of hidden_dep_only (codes "_a" ∷ codes "_p" ∷ [])).enabled_by (codes "d") (codes "k")
         ≡ true }
@@ -88,7 +92,8 @@ pub fn a_join_that_turns_dep_only()
         ((x : Text) → IsTrue (a.features x) ↔ (x ≡ codes "x"))) }
 {}
 
-/// Of the entries of one key those from the first optional one on count; the first of them gives the crate's name.
+/// Of the entries of one key those from the first optional one on count; the first of them
+/// gives the crate's name.
 pub fn entries_of_three_kinds()
     ensures recorded { IsSomeAnd (recorded_of (entries_at [] three_kinds (codes "d"))) (λ r. (r.crate_name ≡ codes "q") ×
         (r.targets (Normal, None) ≡ None) × IsSome (r.targets (Build, None)) × IsSome (r.targets (Dev, None))) }
@@ -97,7 +102,8 @@ pub fn entries_of_three_kinds()
     ensures implied { is_implied [] three_kinds (codes "d") ≡ true }
 {}
 
-/// The first entry of a key and target stays, and a later optional one still implies a feature, unless the key is reserved.
+/// The first entry of a key and target stays, and a later optional one still implies a feature,
+/// unless the key is reserved.
 pub fn entries_of_one_target()
     ensures recorded { IsSomeAnd (recorded_of (entries_at ((codes "k", codes "d/x" ∷ []) ∷ []) twice (codes "d"))) (λ r.
         (r.crate_name ≡ codes "d") × (r.targets (Normal, None) ≡ Some (simple []))) }

@@ -33,8 +33,8 @@ pub struct Feature<'a> {
     pub required_by_bins: Vec<&'a str>,
     /// Whether the manifest lists the feature; `default` always counts as listed.
     pub explicit: bool,
-    /// Whether users of the package are meant to name the feature. It is false only where the manifest lists the feature and
-    /// says so.
+    /// Whether users of the package are meant to name the feature. It is false only where the
+    /// manifest lists the feature and says so.
     pub public: bool,
     /// What the manifest says of the feature, where it lists it.
     pub doc: Option<&'a str>,

@@ -1,4 +1,5 @@
-//! What a feature tells of itself and of those that enable it, and a dependency of its first target.
+//! What a feature tells of itself and of those that enable it, and a dependency
+//! of its first target.
 ghost use Rattle.std.specs.Prelude.{◌≡◌, ◌<◌, ◌⊎◌, ◌↔◌, IsTrue, IsFalse};
 ghost use Rattle.std.specs.Prelude.{List, Option, Some, nat_eq, codes};
 ghost use Rattle.std.specs.Borrow.{Bor};
@@ -53,8 +54,8 @@ impl<'a> Feature<'a> {
         !self.enabled_by.is_empty()
     }
 
-    /// Whether users are meant to ask for this feature: it is public, its name doesn't begin with `_`, and the manifest lists
-    /// it or no other feature enables it.
+    /// Whether users are meant to ask for this feature: it is public, its name doesn't begin with
+    /// `_`, and the manifest lists it or no other feature enables it.
     pub fn is_user_facing(&self) -> bool
         ensures { IsTrue result ↔ ((IsTrue self.now.explicit ⊎ (btree_set_len self.now.enabled_by ≡ 0))
             × IsFalse (starts_with nat_eq self.now.key.now (codes "_")) × IsTrue self.now.public) }
@@ -74,8 +75,8 @@ impl<'a> Feature<'a> {
 }
 
 impl<'d> FeatureDependency<'d> {
-    /// The dependency of the first target: of those of the least kind the one for no platform, else the one for the first
-    /// platform in byte order.
+    /// The dependency of the first target: of those of the least kind the one for no platform, else
+    /// the one for the first platform in byte order.
     ///
     /// There must be a target, as each dependency that a resolver answers has one.
     pub fn dep(&self) -> &'d Dependency

@@ -62,7 +62,8 @@ fn add_actions<'f, 'a, S: BuildHasher>(
     Ok(())
 }
 
-// Pushes the features that the feature names. The first in byte order comes last, so that it is popped first.
+// Pushes the features that the feature names. The first in byte order comes last, so that
+// it is popped first.
 fn push_named<'f, 'a, S: BuildHasher>(
     feature: &'f Feature<'a>,
     features: &'f HashMap<&'a str, Feature<'a>, S>,
@@ -79,8 +80,8 @@ fn push_named<'f, 'a, S: BuildHasher>(
     Ok(())
 }
 
-// Makes room where none is left, for three times as many as there are. By itself the map makes room for as many again, and
-// so moves each twice as often.
+// Makes room where none is left, for three times as many as there are. By itself the map makes room
+// for as many again, and so moves each twice as often.
 fn make_room<'f, 'a, S: BuildHasher>(
     found: &mut HashMap<&'a str, &'f Feature<'a>, S>,
 ) -> Result<(), AllocError>
@@ -123,8 +124,9 @@ fn sole_named<'f, 'a, S: BuildHasher>(
     features.get(*name)
 }
 
-// Adds the features that the feature names to those still to visit, and takes off the one that comes next. A single name
-// is looked up with no walk over the set, and what it stands for isn't pushed: long chains are made of such features.
+// Adds the features that the feature names to those still to visit, and takes off the one that
+// comes next. A single name is looked up with no walk over the set, and what it stands for isn't
+// pushed: long chains are made of such features.
 fn take_next<'f, 'a, S: BuildHasher>(
     feature: &'f Feature<'a>,
     features: &'f HashMap<&'a str, Feature<'a>, S>,
@@ -157,20 +159,24 @@ impl<'a> Feature<'a> {
         &features[self.key]
     }
 
-    /// What Cargo enables where this feature is asked for: the features that it enables, and what they do to dependencies.
+    /// What Cargo enables where this feature is asked for: the features that it enables, and what
+    /// they do to dependencies.
     ///
-    /// The first map has this feature, those that it names, those that they name, and so on, each once and under its name. A
-    /// name that no feature of `features` has is passed over. The second map has under each dependency's key one pair for each
-    /// of these features that acts on it unconditionally: the feature's name and its action. It has no empty list. A
-    /// conditional action, as `dependency?/feature`, isn't listed, since it doesn't enable the dependency.
+    /// The first map has this feature, those that it names, those that they name, and so on, each
+    /// once and under its name. A name that no feature of `features` has is passed over. The second
+    /// map has under each dependency's key one pair for each of these features that acts on it
+    /// unconditionally: the feature's name and its action. It has no empty list. A conditional
+    /// action, as `dependency?/feature`, isn't listed, since it doesn't enable the dependency.
     ///
-    /// Each feature of `features` must stand under its own key, and this feature must be one of them, or `features` must have one
-    /// under its key. That one counts where it differs from this feature.
+    /// Each feature of `features` must stand under its own key, and this feature must be one
+    /// of them, or `features` must have one under its key. That one counts where it differs
+    /// from this feature.
     ///
-    /// The only refusal is [`Error::Memory`]. A feature is visited once, and each of its names is then looked up once; a feature
-    /// may wait for its visit once for each feature that names it. The features are visited depth first, and those that one
-    /// names in byte order; the lists are in this order. Nothing is called in itself, so a long chain of features needs memory
-    /// and no stack.
+    /// The only refusal is [`Error::Memory`]. A feature is visited once, and each of its names
+    /// is then looked up once; a feature may wait for its visit once for each feature that names
+    /// it. The features are visited depth first, and those that one names in byte order; the
+    /// lists are in this order. Nothing is called in itself, so a long chain of features needs
+    /// memory and no stack.
     pub fn enables_recursive<'f, S: BuildHasher + Clone>(
         &'f self,
         alloc: Global,

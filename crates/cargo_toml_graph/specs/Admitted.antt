@@ -31,7 +31,8 @@ action_on k (On q a) = if bytes_eq k q then Some a else None
 abbrev pub is_admitted : ℕ → Listed → Text → Bool
 is_admitted limit listed f = bytes_eq f (codes "default") || nat_lt (count_by (λ e. is_below e.0 f) listed) limit
 
--- the table as far as it is admitted: of its names the first and `default`, of the actions of each the first
+-- the table as far as it is admitted: of its names the first and `default`, of the
+-- actions of each the first
 abbrev pub admitted : ℕ → Listed → Listed
 admitted limit listed = map (λ e. (e.0, take limit e.1)) (filter (λ e. is_admitted limit listed e.0) listed)
 

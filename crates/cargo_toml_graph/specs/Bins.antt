@@ -29,14 +29,15 @@ module _ (t : Table) (Removed : Text → Type 0) (own : Text → List Text) wher
     pub lists : Grown (own f) (IsPassed f) bins
     pub direct : (r x : Text) → Removed r → IsTrue (t.names r f) → Among (take 10 (own r)) x → Among bins x
 
-  -- the binaries of all kept features: in byte order each removed one passes the first ten of its list, as it then stands, on to
-  -- each feature that it then names
+  -- the binaries of all kept features: in byte order each removed one passes the first ten of its
+  -- list, as it then stands, on to each feature that it then names
   pub record ArePassedOn (bins : Text → List Text) : Type 0 where
     pub order : List Text
     pub in_order : AreInByteOrder Removed order
     pub lists : (f : Text) → IsKept t Removed f → bins f ≡ pass_all order (unremoved t) own f
 
-  -- where naming alone leads from r to f through removed features, each binary that requires r requires f
+  -- where naming alone leads from r to f through removed features, each binary that
+  -- requires r requires f
   abbrev pub IsComplete : Text → List Text → Type 0
   IsComplete f bins = (r x : Text) → Removed r → Reaches (λ a b. IsTrue (t.names a b)) Removed r f → Among (own r) x → Among bins x
 

@@ -1,4 +1,5 @@
--- Taking one feature after another out of a resolution: the steps that the laws of elimination speak of.
+-- Taking one feature after another out of a resolution: the steps that the laws of
+-- elimination speak of.
 use Rattle.std.specs.Prelude.{◌≡◌, IsTrue, ◌&&◌, ◌||◌, not, if◌then◌else◌, List, [], ◌∷◌}
 use Rattle.std.specs.Prelude.{◌++◌, take, bytes_eq, nat_eq, codes, Bool, false, Option}
 use Rattle.std.specs.List.{list_any, starts_with}
@@ -21,7 +22,8 @@ is_edge t f g = t.has f && t.has g && not (bytes_eq f g) && (t.names f g || is_p
 abbrev pub unremoved : Table → Resolution
 unremoved t = record { table = t; enabled_by = λ f e. is_edge t e f }
 
--- r is taken out: its parents name what it named and act as it did, and what it enabled is enabled by its parents
+-- r is taken out: its parents name what it named and act as it did, and what it enabled is
+-- enabled by its parents
 abbrev pub without : Text → Resolution → Resolution
 without r m = record {
   table = record {

@@ -29,7 +29,8 @@ HasTexts texts numbers s = (x : Text) → IsTrue (has_text s x) ↔ HasNumber te
 abbrev pub HasActions : List Feature → (ℕ → Type 0) → BTreeMap (Bor Text) DepAction → Type 0
 HasActions vs P m = (k : Text) → IsJoin (DoesAt vs P k) (action_at m k)
 
--- what the feature in place i names, does and is enabled by, where it passes the removed features in the places `passed`
+-- what the feature in place i names, does and is enabled by, where it passes the removed features
+-- in the places `passed`
 pub record Holds (vs : List Feature) (texts : List Text) (i : ℕ) (passed named enablers : List ℕ) (old new : Feature) : Type 0 where
   pub same_names : passed ≡ [] → new.enables_features ≡ old.enables_features
   pub names : passed ≢ [] → HasTexts texts named new.enables_features

@@ -30,7 +30,8 @@ names_at vs i x = option_map_or (λ v. has_text v.enables_features x) (slice_get
 abbrev pub ActsOn : List Feature → ℕ → Text → Type 0
 ActsOn vs i k = IsSomeAnd (slice_get vs i) (λ v. IsPlain (action_at v.enables_deps k))
 
--- the feature in place i enables another one, whose number x its row has or on whose name it acts plainly
+-- the feature in place i enables another one, whose number x its row has or on whose
+-- name it acts plainly
 abbrev pub IsTarget : {Z : Type 0} → List Feature → List (Vec ℕ Z) → List Text → ℕ → ℕ → Type 0
 IsTarget vs names keys i x = (x ≢ i) × (Leads names i x ⊎ ActsOn vs i (text_at keys x))
 

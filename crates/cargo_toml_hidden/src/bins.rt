@@ -15,7 +15,8 @@ use cargo_toml_features::features::Feature;
 use std::alloc::{AllocError, Global};
 use std::collections::BTreeSet;
 
-/// A copy of the first ten, for the lists may change while it is read. It fails only where memory runs out.
+/// A copy of the first ten, for the lists may change while it is read. It fails only
+/// where memory runs out.
 pub fn first_ten<'m>(bins: &Vec<&'m str>) -> Result<Vec<&'m str>, AllocError>
     ensures { IfOk result (λ v. texts_of v.items ≡ take 10 (texts_of bins.now.items)) }
 {
@@ -31,7 +32,8 @@ fn known_in<'m>(bins: &Vec<&'m str>) -> Result<BTreeSet<&'m str>, AllocError>
     into_set(alloc, bins.to_vec(alloc)?)
 }
 
-// A set for each feature, by places. Most features never come to have another binary, so none is filled yet.
+// A set for each feature, by places. Most features never come to have another binary, so
+// none is filled yet.
 fn known_bins<'m>(
     alloc: Global,
     features: &[Feature<'m>],
@@ -64,7 +66,8 @@ fn add_known<'m>(known: &mut BTreeSet<&'m str>, bin: &'m str) -> Result<bool, Al
     Ok(known.insert(bin)?)
 }
 
-// The binary is put at the end, unless it is there. A set tells whether it is, since a feature may come to have thousands.
+// The binary is put at the end, unless it is there. A set tells whether it is, since a feature may
+// come to have thousands.
 fn put_bin<'m>(
     own: &mut Vec<&'m str>,
     known: &mut BTreeSet<&'m str>,
@@ -113,7 +116,8 @@ fn put_at<'m>(
     put_bins(&mut feature.required_by_bins, known, bins)
 }
 
-// The binaries are put into the lists of the features that the row names; it may name what is no feature, too.
+// The binaries are put into the lists of the features that the row names; it may name what
+// is no feature, too.
 fn put_along<'m>(
     features: &mut Vec<Feature<'m>>,
     known: &mut Vec<BTreeSet<&'m str>>,
@@ -151,8 +155,8 @@ fn pass_from<'m>(
     put_along(features, known, row, bins.as_slice())
 }
 
-/// Removed features pass their binaries on to those that their rows name, in the order of their places: at its turn each its
-/// first ten.
+/// Removed features pass their binaries on to those that their rows name, in the order of their
+/// places: at its turn each its first ten.
 ///
 /// A kept feature passes nothing on. It fails only where memory runs out.
 pub(crate) fn pass_bins<'m>(

@@ -130,10 +130,11 @@ fn leave_all<'m>(
     Ok(())
 }
 
-/// In each place what is kept of the feature there, and what stands for the removed ones, by their places.
+/// In each place what is kept of the feature there, and what stands for the removed
+/// ones, by their places.
 ///
-/// The graph of numbers stands for the features' table, each with its flag. A removed feature stays in its place, for whatever
-/// it then holds. It fails only where memory runs out.
+/// The graph of numbers stands for the features' table, each with its flag. A removed feature stays
+/// in its place, for whatever it then holds. It fails only where memory runs out.
 pub(crate) fn place<'m>(
     alloc: Global,
     features: &mut Vec<Feature<'m>>,

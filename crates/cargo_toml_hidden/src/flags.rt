@@ -11,8 +11,9 @@ use crate::filter::is_hidden;
 use cargo_toml_features::features::Feature;
 use std::alloc::{AllocError, Global};
 
-/// Which features are removed, by their places: of those whose names begin with `_` the ones that the filter doesn't keep, and
-/// without a filter all. The filter is asked only for names that begin with `_`. It fails only where memory runs out.
+/// Which features are removed, by their places: of those whose names begin with `_` the ones that
+/// the filter doesn't keep, and without a filter all. The filter is asked only for names that begin
+/// with `_`. It fails only where memory runs out.
 pub fn hidden_flags<F: Fn(&str) -> bool>(
     alloc: Global,
     features: &[Feature<'_>],

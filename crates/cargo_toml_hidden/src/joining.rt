@@ -48,7 +48,8 @@ fn add_action<'a>(
     Ok(())
 }
 
-/// The actions of the other map are joined to those of `own`, dependency by dependency. It fails only where memory runs out.
+/// The actions of the other map are joined to those of `own`, dependency by dependency. It fails
+/// only where memory runs out.
 pub fn add_actions<'a>(
     alloc: Global,
     own: &mut BTreeMap<&'a str, DepAction<'a>>,

@@ -106,7 +106,8 @@ fn join_passed<'m>(
     Ok(())
 }
 
-// What the passed features do is joined to what the one in place `at` does, which does nothing meanwhile.
+// What the passed features do is joined to what the one in place `at` does, which does
+// nothing meanwhile.
 fn take_actions<'m>(
     alloc: Global,
     features: &mut Vec<Feature<'m>>,
@@ -151,11 +152,12 @@ fn take_over<'m>(
     Ok(())
 }
 
-/// Takes removed features out of what the kept one in place `at` holds: those in the places `passed`, which it reaches through
-/// removed ones.
+/// Takes removed features out of what the kept one in place `at` holds: those in the places
+/// `passed`, which it reaches through removed ones.
 ///
-/// It comes to name the texts of `named`, and to do what it and the passed ones do; where it passes none, it names and does
-/// what it did. It is enabled by the texts of `enablers`. It fails only where memory runs out.
+/// It comes to name the texts of `named`, and to do what it and the passed ones do; where it passes
+/// none, it names and does what it did. It is enabled by the texts of `enablers`. It fails only
+/// where memory runs out.
 pub(crate) fn leave<'m>(
     alloc: Global,
     features: &mut Vec<Feature<'m>>,

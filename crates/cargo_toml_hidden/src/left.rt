@@ -34,8 +34,8 @@ pub struct Left<'m, S: BuildHasher> {
     pub hidden: HashMap<&'m str, BTreeSet<&'m str>, S>,
 }
 
-/// All features by their names, and nothing that stands for a removed one. It fails only where memory runs out, or the clone
-/// of `state` does.
+/// All features by their names, and nothing that stands for a removed one. It fails only where
+/// memory runs out, or the clone of `state` does.
 pub fn keep_all<'m, S: BuildHasher + Clone>(
     alloc: Global,
     state: &S,
@@ -92,7 +92,8 @@ fn publish<'m, S: BuildHasher + Clone>(
     })
 }
 
-/// Takes the features out whose flag stands. It fails only where memory runs out, or the clone of `state` does.
+/// Takes the features out whose flag stands. It fails only where memory runs out, or the
+/// clone of `state` does.
 pub fn take_out<'m, S: BuildHasher + Clone>(
     alloc: Global,
     state: &S,
@@ -130,8 +131,8 @@ pub fn take_out<'m, S: BuildHasher + Clone>(
     )
 }
 
-/// What is left of features in the byte order of their names, once those are taken out whose flag stands. It fails only where
-/// memory runs out, or the clone of `state` does.
+/// What is left of features in the byte order of their names, once those are taken out whose flag
+/// stands. It fails only where memory runs out, or the clone of `state` does.
 pub fn left_of<'m, S: BuildHasher + Clone>(
     alloc: Global,
     state: &S,
@@ -154,8 +155,8 @@ pub fn left_of<'m, S: BuildHasher + Clone>(
     }
 }
 
-/// The same where what enables features may not have been told: then they are taken out whatever flags stand, since that finds
-/// what enables those that are left.
+/// The same where what enables features may not have been told: then they are taken out whatever
+/// flags stand, since that finds what enables those that are left.
 pub fn left_after<'m, S: BuildHasher + Clone>(
     alloc: Global,
     state: &S,

@@ -20,7 +20,8 @@ use cargo_toml_walk::texts::in_order;
 use std::alloc::{AllocError, Global};
 use std::collections::{BTreeMap, BTreeSet};
 
-/// Features as a graph of numbers. The features have the numbers of their places; other texts that they name those after them.
+/// Features as a graph of numbers. The features have the numbers of their places; other texts that
+/// they name those after them.
 #[derive(Debug, Drop)]
 pub struct Graph<'m> {
     /// The texts of the numbers.
@@ -45,8 +46,8 @@ fn keys_of<'m>(alloc: Global, features: &[Feature<'m>]) -> Result<Vec<&'m str>, 
     Ok(keys)
 }
 
-// The named texts that are no keys are put at the end. The first name is looked for at `near` first; the answer is where to look
-// for one that follows.
+// The named texts that are no keys are put at the end. The first name is looked for at `near`
+// first; the answer is where to look for one that follows.
 fn push_others<'m>(
     others: &mut Vec<&'m str>,
     named: &BTreeSet<&'m str>,
@@ -97,7 +98,8 @@ fn all_texts<'m>(alloc: Global, features: &[Feature<'m>]) -> Result<Vec<&'m str>
     Ok(texts)
 }
 
-// The number of a text: its place among the first `count` texts, or else among those after them. It is looked for at `near` first.
+// The number of a text: its place among the first `count` texts, or else among those after them. It
+// is looked for at `near` first.
 fn number_of(texts: &[&str], count: usize, text: &str, near: usize) -> Option<usize>
     requires { AreParted count (texts_of texts.now) }
     ensures found { IfSome result (λ i. (i < length texts.now) × (text_at (texts_of texts.now) i ≡ text.now)) }
@@ -185,8 +187,8 @@ fn named_targets(
     Ok(row)
 }
 
-// The feature of this name, if there is one other than the one in place `own`, is put at the end. It is looked for at `near`
-// first; the answer is where to look for one that follows.
+// The feature of this name, if there is one other than the one in place `own`, is put at the end.
+// It is looked for at `near` first; the answer is where to look for one that follows.
 fn push_target(
     row: &mut Vec<usize>,
     key: &str,
@@ -207,7 +209,8 @@ fn push_target(
     Ok(target.saturating_add(1))
 }
 
-// A plain action enables the feature of the key's name, which is looked for at `near` first. The answer is as of `push_target`.
+// A plain action enables the feature of the key's name, which is looked for at `near` first. The
+// answer is as of `push_target`.
 fn push_action(
     row: &mut Vec<usize>,
     key: &str,
@@ -226,8 +229,8 @@ fn push_action(
     push_target(row, key, keys, own, near)
 }
 
-// Those that the actions enable, other than the one in place `own`. An implied feature acts on the dependency of its own name,
-// so the first is looked for there.
+// Those that the actions enable, other than the one in place `own`. An implied feature acts on the
+// dependency of its own name, so the first is looked for there.
 fn push_actions(
     row: &mut Vec<usize>,
     actions: &BTreeMap<&str, DepAction<'_>>,
@@ -295,8 +298,8 @@ fn all_flags(alloc: Global, flags: &[bool], size: usize) -> Result<Vec<bool>, Al
     Ok(all)
 }
 
-/// The features as a graph of numbers, with a flag for each number. An edge leads from a feature to another one that it names
-/// or acts on plainly. It fails only where memory runs out.
+/// The features as a graph of numbers, with a flag for each number. An edge leads from a feature to
+/// another one that it names or acts on plainly. It fails only where memory runs out.
 pub fn number<'m>(
     alloc: Global,
     features: &[Feature<'m>],

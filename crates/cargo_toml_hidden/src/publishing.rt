@@ -45,8 +45,8 @@ fn put_kept<'m, S: BuildHasher>(
     put(by_name, feature.key, feature)
 }
 
-/// The features whose flag doesn't stand by their names, in a hashed map; no two have one name. It fails only where memory runs
-/// out.
+/// The features whose flag doesn't stand by their names, in a hashed map; no two have one name. It
+/// fails only where memory runs out.
 pub fn hashed_kept<'m, S: BuildHasher + Drop>(
     state: S,
     alloc: Global,
@@ -86,7 +86,8 @@ fn put_value<'n, V: Drop, S: BuildHasher>(
     }
 }
 
-/// Values under names that ascend, of which some are without one, in a hashed map. It fails only where memory runs out.
+/// Values under names that ascend, of which some are without one, in a hashed map. It fails only
+/// where memory runs out.
 pub fn hashed<'n, V: Drop, S: BuildHasher + Drop>(
     state: S,
     alloc: Global,

@@ -34,8 +34,8 @@ fn put_row<'m, S: BuildHasher>(
 
 /// What stands for each removed feature, by its name, in a hashed map: the texts of its row.
 ///
-/// The names of the features are the first of `texts`, one for each row, and those whose flag stands are removed. It fails only
-/// where memory runs out.
+/// The names of the features are the first of `texts`, one for each row, and those whose flag
+/// stands are removed. It fails only where memory runs out.
 pub fn hashed_rows<'m, S: BuildHasher + Drop>(
     alloc: Global,
     state: S,

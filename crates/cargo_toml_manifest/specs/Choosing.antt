@@ -9,7 +9,8 @@ use Rattle.cargo_toml_manifest.specs.declared.manifest.Manifest.{Manifest}
 use Rattle.cargo_toml_manifest.specs.declared.workspace.Workspace.{Workspace}
 use denote.Ref.{Bor}
 
--- a workspace that is handed in: what its manifest shares, where it has a workspace table, and the path
+-- a workspace that is handed in: what its manifest shares, where it has a workspace
+-- table, and the path
 abbrev pub Handed : Type 0
 Handed = Option Shared × List ℕ
 
@@ -23,7 +24,8 @@ handed_of handed = (shared_of handed.0.now.workspace, handed.1.now)
 abbrev pub RootsTold : Type 0
 RootsTold = Option (List ℕ) → ToldRoot
 
--- no inheritance; this workspace table, or none, with its path; that none was found; or that nothing is told of it
+-- no inheritance; this workspace table, or none, with its path; that none was found; or that
+-- nothing is told of it
 pub data Choice : Type 0 where
   alone : Choice
   from : Option Shared → List ℕ → Choice

@@ -15,7 +15,8 @@ use Rattle.cargo_toml_manifest.specs.Inheriting.{inherited_manifest}
 use Rattle.cargo_toml_manifest.specs.Manifests.{ManifestMeaning}
 use Rattle.cargo_toml_manifest.specs.Told.{ToldRoot, open_root}
 
--- what completion gives: a value, one of these faults, any fault of the search for a root with this path, or what isn't told
+-- what completion gives: a value, one of these faults, any fault of the search for a root with this
+-- path, or what isn't told
 pub data Outcome (A : Type 0) : Type 0 where
   gives : A → Outcome A
   refuses : List Fault → Outcome A
@@ -39,11 +40,13 @@ complete_by m (from workspace path) told = then_found (Some path) told (inherite
 complete_by m lost told = no_workspace (hint_of m)
 complete_by m unclear_root told = untold
 
--- a manifest after completion, by the workspace that is handed in, if any, and by what is told of roots and of folders
+-- a manifest after completion, by the workspace that is handed in, if any, and by what is told of
+-- roots and of folders
 abbrev pub complete : {M : Type 0} → ManifestMeaning M → Option Handed → RootsTold → (Text → Told) → Outcome (ManifestMeaning M)
 complete m handed roots told = complete_by m (choice m handed roots) told
 
--- an answer is the outcome, or there was no memory; where the outcome isn't told, it is not said here
+-- an answer is the outcome, or there was no memory; where the outcome isn't told,
+-- it is not said here
 abbrev pub Meets : {T A : Type 0} → (T → A) → Outcome A → Result T Error → Type 0
 Meets f untold result = Unit {0}
 Meets f (gives x) (Ok t) = f t ≡ x

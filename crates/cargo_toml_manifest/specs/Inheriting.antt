@@ -50,8 +50,9 @@ own_tables m = record {
   build_dependencies = m.build_dependencies;
 }
 
--- a manifest after inheritance of dependencies from these templates, of lints and of package fields, whose paths are joined to
--- `base`: each part is looked up in what was written, and the first fault in this order counts
+-- a manifest after inheritance of dependencies from these templates, of lints and of package
+-- fields, whose paths are joined to `base`: each part is looked up in what was written, and the
+-- first fault in this order counts
 abbrev pub inherited_from : {M : Type 0} → Option Entries → Option Lints → Option TemplateMeaning → List ℕ → ManifestMeaning M → Result (ManifestMeaning M) Fault
 inherited_from templates groups template base m = do
   tables ← inherited_target templates base (own_tables m)

@@ -1,4 +1,5 @@
--- Files on the disk: where they are looked for, which root is found among them, and what faults they give.
+-- Files on the disk: where they are looked for, which root is found among them, and
+-- what faults they give.
 use Rattle.std.specs.Prelude.{◌≡◌, ◌⊎◌, ℕ, suc, zero, List, ◌++◌, codes, length, ◌==◌}
 use Rattle.std.specs.Prelude.{if◌then◌else◌, Bool, true, false, Option, Some, None}
 use Rattle.std.specs.Prelude.{option_and_then, is_some, Result, Ok, Err, IsUtf8}
@@ -71,7 +72,8 @@ expected_workspace path = codes "Manifest at " ++ path ++ codes " was expected t
 abbrev pub IsRootManifest : Manifest Value → Type 0
 IsRootManifest m = (is_some m.workspace ≡ true) × ((bytes : List ℕ) × IsFromSlice bytes (Ok m))
 
--- the fault of the bytes of a file at this path: their own, or that they are a manifest without a workspace
+-- the fault of the bytes of a file at this path: their own, or that they are a manifest
+-- without a workspace
 abbrev pub IsNoWorkspace : List ℕ → List ℕ → Error → Type 0
 IsNoWorkspace bytes path e =
     IsFromSlice bytes (Err e)
@@ -85,7 +87,8 @@ abbrev pub IsWorkspaceOf : List ℕ → List ℕ → Result (Box (Manifest Value
 IsWorkspaceOf bytes path (Ok m) = (is_some m.value.workspace ≡ true) × IsFromSlice bytes (Ok m.value)
 IsWorkspaceOf bytes path (Err e) = (e ≡ Memory) ⊎ IsNoWorkspace bytes path e
 
--- why the search above a folder finds no root: no memory, a fault of reading, or a file that is no workspace's manifest
+-- why the search above a folder finds no root: no memory, a fault of reading, or a file that is no
+-- workspace's manifest
 abbrev pub IsSearchFault : Error → Type 0
 IsSearchFault e = (e ≡ Memory) ⊎ (IsInput e ⊎ ((bytes path : List ℕ) × IsNoWorkspace bytes path e))
 
@@ -148,7 +151,8 @@ abbrev pub IsReadFromText : {X M : Type 0} → (Manifest X → ManifestMeaning M
 IsReadFromText meaning reads m =
     (text : List ℕ) × IsUtf8 text × (document_reads reads (parse_document text) ≡ Some (meaning m))
 
--- completing this manifest among the real files around this path, with no workspace handed in, may be refused with this fault
+-- completing this manifest among the real files around this path, with no workspace handed in, may
+-- be refused with this fault
 abbrev pub IsRefusalOf : {X : Type 0} → List ℕ → Manifest X → Error → Type 0
 IsRefusalOf path m e =
     Meets (manifest_meaning (λ m. m)) (complete (manifest_meaning (λ m. m) m) None real_roots real_folders) (Err e)
@@ -165,8 +169,8 @@ abbrev pub IsReadAndRefused : {X M : Type 0} → List ℕ → (Manifest X → Ma
 IsReadAndRefused path meaning reads e =
     (read : Manifest _) × IsReadFromText meaning reads read × IsRefusalOf path read e
 
--- why a file gives no completed manifest: no memory, a fault of reading, one of some text, a path that names no file,
--- or the fault of completing a manifest that some text reads as
+-- why a file gives no completed manifest: no memory, a fault of reading, one of some text, a path
+-- that names no file, or the fault of completing a manifest that some text reads as
 abbrev pub IsPathFault : {X M : Type 0} → List ℕ → (Manifest X → ManifestMeaning M) → (Data → Option (ManifestMeaning M)) → (Data → Error → Type 0) → Error → Type 0
 IsPathFault path meaning reads refuses e =
     (e ≡ Memory)

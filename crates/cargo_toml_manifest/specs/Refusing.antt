@@ -1,4 +1,5 @@
--- Which faults an implementor of `AbstractFilesystem` may give, and what has to do with them where completion is refused.
+-- Which faults an implementor of `AbstractFilesystem` may give, and what has to do with them where
+-- completion is refused.
 use Rattle.std.specs.Prelude.{◌≡◌, ◌⊎◌, ℕ, List, Bool, false, Option, Some, None, Result}
 use Rattle.std.specs.Prelude.{Ok, Err, IfErr, MatchResult, String, string_bytes, Vec}
 use Rattle.std.specs.declared.alloc.Global.{Global}
@@ -18,11 +19,13 @@ use Rattle.cargo_toml_manifest.specs.Told.{ToldRoot, open_root}
 abbrev pub RefusesBy : {T : Type 0} → (Fault → Type 0) → Result T Error → Type 0
 RefusesBy may result = IfErr result (λ e. (e ≡ Memory) ⊎ may (fault_of e))
 
--- the fault may stand in place of the root of this hint: it is one of these, or tells that no root is ever read
+-- the fault may stand in place of the root of this hint: it is one of these, or tells that
+-- no root is ever read
 abbrev pub MayLose : Bool → (Option (List ℕ) → Fault → Type 0) → Option (List ℕ) → Fault → Type 0
 MayLose reads may hint fault = may hint fault ⊎ ((reads ≡ false) × (fault ≡ wrap hint (io Unsupported)))
 
--- the bytes of a root, or a refusal: what becomes of it where there is no root may stand in its place
+-- the bytes of a root, or a refusal: what becomes of it where there is no root may
+-- stand in its place
 abbrev pub ReadsBy : Bool → (Option (List ℕ) → Fault → Type 0) → Option (List ℕ) → Result (Vec ℕ Global × String Global) Error → Type 0
 ReadsBy reads may hint result =
     MatchResult result
@@ -33,7 +36,8 @@ ReadsBy reads may hint result =
 abbrev pub IsListed : (List ℕ → Fault → Type 0) → Fault → Type 0
 IsListed names fault = (path : List ℕ) × names path fault
 
--- the cause of a refusal: the fault of what is inherited, and where that has none, one in place of names
+-- the cause of a refusal: the fault of what is inherited, and where that has none,
+-- one in place of names
 abbrev pub IsCause : {M : Type 0} → Result (ManifestMeaning M) Fault → (List ℕ → Fault → Type 0) → Fault → Type 0
 IsCause (Ok m) names fault = IsListed names fault
 IsCause (Err own) names fault = fault ≡ own
@@ -42,7 +46,8 @@ IsCause (Err own) names fault = fault ≡ own
 abbrev pub IsToldWith : Option (List ℕ) → (Fault → Type 0) → Error → Type 0
 IsToldWith path cause e = (fault : Fault) × (cause fault × (fault_of e ≡ wrap path fault))
 
--- the refusal where this is chosen: the path is that of the workspace, or the hint where there is no root
+-- the refusal where this is chosen: the path is that of the workspace, or the hint
+-- where there is no root
 abbrev pub IsRefusedAt : {M : Type 0} → ManifestMeaning M → (Option (List ℕ) → Fault → Type 0) → (List ℕ → Fault → Type 0) → Choice → Error → Type 0
 IsRefusedAt m roots names alone e = IsToldWith None (IsCause (Ok m) names) e
 IsRefusedAt m roots names (from workspace path) e =
@@ -50,7 +55,8 @@ IsRefusedAt m roots names (from workspace path) e =
 IsRefusedAt m roots names lost e = IsToldWith (hint_of m) (roots (hint_of m)) e
 IsRefusedAt m roots names unclear_root e = ⊥
 
--- the refusal of completion: want of memory, or one by some answers in place of roots that aren't told
+-- the refusal of completion: want of memory, or one by some answers in place of
+-- roots that aren't told
 abbrev pub IsRefusedBy : {M : Type 0} → ManifestMeaning M → Option Handed → RootsTold → (Option (List ℕ) → Fault → Type 0) → (List ℕ → Fault → Type 0) → Error → Type 0
 IsRefusedBy m handed told roots names e =
     (e ≡ Memory)

@@ -19,7 +19,8 @@ abbrev pub IsFromSlice : List ℕ → Result (Manifest Value) Error → Type 0
 IsFromSlice bytes result =
     IsFromBytes (manifest_meaning view) (manifest_reads any_tree) (manifest_refuses any_tree any_refuses) bytes result
 
--- the fault of these bytes, which were read at this path: their own, or that they are a manifest without a workspace
+-- the fault of these bytes, which were read at this path: their own, or that they are a manifest
+-- without a workspace
 abbrev pub IsNoRoot : List ℕ → List ℕ → Error → Type 0
 IsNoRoot bytes path fault =
     ((own : Error) × IsFromSlice bytes (Err own) × (fault_of fault ≡ wrap (Some path) (fault_of own)))

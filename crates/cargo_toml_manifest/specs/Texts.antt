@@ -27,7 +27,8 @@ abbrev pub IsFromText : {X M : Type 0} → (X → M) → (Data → Option M) →
 IsFromText meaning reads refuses document result =
     IsReading meaning (document_reads reads document) (document_refuses refuses document) result
 
--- the answer to bytes: those that are no text are refused as such, others are answered as the text that they spell
+-- the answer to bytes: those that are no text are refused as such, others are answered as the
+-- text that they spell
 abbrev pub IsFromBytes : {X M : Type 0} → (X → M) → (Data → Option M) → (Data → Error → Type 0) → List ℕ → Result X Error → Type 0
 IsFromBytes meaning reads refuses bytes result =
     ((¬ IsUtf8 bytes) × IsErrAnd result (IsOther (codes "utf8")))

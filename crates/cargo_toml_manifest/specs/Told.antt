@@ -17,7 +17,8 @@ use Rattle.cargo_toml_manifest.specs.Manifests.{ManifestMeaning, manifest_meanin
 use Rattle.cargo_toml_manifest.specs.Texts.{any_tree, document_reads}
 use Rattle.cargo_toml_discovery.specs.Told.{Told, names, absent, denied, open_path}
 
--- what is told of the workspace that a hint leads to: its manifest and the path of that, that there is none, or nothing
+-- what is told of the workspace that a hint leads to: its manifest and the path of that, that there
+-- is none, or nothing
 pub data ToldRoot : Type 0 where
   root : ManifestMeaning Data → List ℕ → ToldRoot
   no_root : ToldRoot

@@ -27,7 +27,8 @@ use cargo_toml_parts::Error;
 use cargo_toml_paths::workspace_folder;
 use std::alloc::Global;
 
-// What completion puts into a manifest that takes these parts, with the path that is told with a fault.
+// What completion puts into a manifest that takes these parts, with the path that is
+// told with a fault.
 fn completion<Metadata, Fs: AbstractFilesystem>(
     alloc: Global,
     manifest: &Manifest<Metadata>,
@@ -177,27 +178,30 @@ fn completion_for<Metadata, N, Fs: AbstractFilesystem>(
 impl<Metadata: Drop> Manifest<Metadata> {
     /// Puts in what the manifest leaves to its workspace, and what is found in its folders.
     ///
-    /// The workspace is the one that is handed in, with the path of its folder or of its `Cargo.toml`; else the manifest's own
-    /// workspace table; else, where something is left to it, the root that `fs` finds by what the package says of its
-    /// workspace. It gives dependencies, lints and fields of the package; where nothing is left to it, these stay as they are.
+    /// The workspace is the one that is handed in, with the path of its folder or of its
+    /// `Cargo.toml`; else the manifest's own workspace table; else, where something is left to it,
+    /// the root that `fs` finds by what the package says of its workspace. It gives dependencies,
+    /// lints and fields of the package; where nothing is left to it, these stay as they are.
     ///
     /// Where no workspace is handed in, `N` has to be named, and any type of metadata does:
     /// `complete_from_abstract_filesystem::<Value, _>(alloc, fs, None)`.
     ///
-    /// Where there is a package, `fs` is asked for the names in its folder, in `src`, in `src/bin`, `examples`, `tests` and
-    /// `benches` unless the package turns that off, and in the folders in these, each once. They tell the library, binaries,
-    /// examples, tests and benchmarks as Cargo finds them, the build script and the readme; the lists are put in order of name
-    /// and path. A folder that is absent counts as empty, but that of the package must be there.
+    /// Where there is a package, `fs` is asked for the names in its folder, in `src`, in `src/bin`,
+    /// `examples`, `tests` and `benches` unless the package turns that off, and in the folders in
+    /// these, each once. They tell the library, binaries, examples, tests and benchmarks as Cargo
+    /// finds them, the build script and the readme; the lists are put in order of name and path. A
+    /// folder that is absent counts as empty, but that of the package must be there.
     ///
-    /// Afterwards nothing is left to the workspace, every getter of the package may be called, and completing again with the
-    /// same workspace and folders changes nothing.
+    /// Afterwards nothing is left to the workspace, every getter of the package may be called, and
+    /// completing again with the same workspace and folders changes nothing.
     ///
-    /// Each fault is told as `Error::Workspace` with the path of that workspace (with the hint where no root was found), unless
-    /// it is one already: what `fs` answers in place of a root; `WorkspaceIntegrity` for a dependency that the workspace
-    /// lacks, for lints without a workspace table and for a field of the package that is still left; `InheritedUnknownValue`
-    /// for a dependency that the workspace itself leaves to another; and after all these what `fs` answers in place of names.
-    /// Want of memory is `Error::Memory`. A refusal leaves the manifest as it was. What `fs` answers is one of the faults that it
-    /// may give.
+    /// Each fault is told as `Error::Workspace` with the path of that workspace (with the hint
+    /// where no root was found), unless it is one already: what `fs` answers in place of a root;
+    /// `WorkspaceIntegrity` for a dependency that the workspace lacks, for lints without a
+    /// workspace table and for a field of the package that is still left; `InheritedUnknownValue`
+    /// for a dependency that the workspace itself leaves to another; and after all these what `fs`
+    /// answers in place of names. Want of memory is `Error::Memory`. A refusal leaves the manifest
+    /// as it was. What `fs` answers is one of the faults that it may give.
     pub fn complete_from_abstract_filesystem<N, Fs: AbstractFilesystem + Drop>(
         &mut self,
         alloc: Global,

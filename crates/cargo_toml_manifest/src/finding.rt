@@ -1,4 +1,5 @@
-//! What is found in the folders around a manifest: first made, then put in, so that a refusal changes nothing.
+//! What is found in the folders around a manifest: first made, then put in, so that a
+//! refusal changes nothing.
 ghost use Rattle.std.specs.Prelude.{◌≡◌, ◌⊎◌, IfOk, IfErr, unwrap_or};
 ghost use Rattle.std.specs.Option.{option_copied};
 ghost use Rattle.cargo_toml_parts.specs.InheritableValues.{value_of};
@@ -105,8 +106,8 @@ fn found_in<Metadata>(
     discover(alloc, &stated, listings)
 }
 
-/// What is found in the folders around a manifest that takes these parts; `None` where it has no package, and then nothing
-/// is asked for.
+/// What is found in the folders around a manifest that takes these parts; `None` where it has no
+/// package, and then nothing is asked for.
 ///
 /// Refused as `gather` is.
 pub fn find<Metadata, Fs: AbstractFilesystem>(

@@ -27,7 +27,8 @@ use toml::Value;
 impl<Metadata: Drop> Manifest<Metadata> {
     /// Completes the manifest of the file at this path from the real files around it.
     ///
-    /// It is `complete_from_path_and_workspace` where no workspace is handed in, and refuses as that does.
+    /// It is `complete_from_path_and_workspace` where no workspace is handed in, and
+    /// refuses as that does.
     pub fn complete_from_path<'a, R: Files + AllocGlobal>(
         &mut self,
         rt: &'a R,
@@ -49,16 +50,20 @@ impl<Metadata: Drop> Manifest<Metadata> {
         self.complete_from_path_and_workspace(rt, alloc, path, None::<(&Manifest<Value>, &str)>)
     }
 
-    /// Completes the manifest of the file at this path, with a workspace that is handed in, from the real files around it.
+    /// Completes the manifest of the file at this path, with a workspace that is handed in, from
+    /// the real files around it.
     ///
-    /// What is put in is what `complete_from_abstract_filesystem` puts in, over the `Filesystem` of the folder that holds the
-    /// file, and as Cargo does it: the workspace is the one that is handed in with its path; else the manifest's own table;
-    /// else, where something is left to it, the root that `package.workspace` leads to, or the nearest above the folder. The
-    /// file itself is not read.
+    /// What is put in is what `complete_from_abstract_filesystem` puts in, over the `Filesystem`
+    /// of the folder that holds the file, and as Cargo does it: the workspace is the one that is
+    /// handed in with its path; else the manifest's own table; else, where something is left to
+    /// it, the root that `package.workspace` leads to, or the nearest above the folder. The file
+    /// itself is not read.
     ///
-    /// A path that names no file, as the empty one and `/`, is refused as `Error::Other("bad path")`. Other refusals are those of
-    /// `complete_from_abstract_filesystem`: `Error::Workspace` and `Error::Memory`. What the files answer in place of names is
-    /// `Error::Io`, and in place of a root what `Filesystem::parse_root_workspace` refuses with. A refusal leaves the manifest as it was.
+    /// A path that names no file, as the empty one and `/`, is refused as
+    /// `Error::Other("bad path")`. Other refusals are those of `complete_from_abstract_filesystem`:
+    /// `Error::Workspace` and `Error::Memory`. What the files answer in place of names is
+    /// `Error::Io`, and in place of a root what `Filesystem::parse_root_workspace` refuses with. A
+    /// refusal leaves the manifest as it was.
     pub fn complete_from_path_and_workspace<'a, N, R: Files + AllocGlobal>(
         &mut self,
         rt: &'a R,
@@ -90,11 +95,13 @@ impl<Metadata: Drop> Manifest<Metadata> {
 impl Manifest {
     /// The manifest in the file at this path, completed from the real files around it.
     ///
-    /// The text is read as `Manifest::from_str` reads it, and then completed as `complete_from_path` does. So nothing in it is
-    /// left to its workspace, and its products are those that Cargo builds.
+    /// The text is read as `Manifest::from_str` reads it, and then completed as
+    /// `complete_from_path` does. So nothing in it is left to its workspace, and its products are
+    /// those that Cargo builds.
     ///
-    /// A file that can't be read is refused as `Error::Io` of its kind, and one that is not UTF-8 as that of the kind
-    /// `InvalidData`. Other refusals are those of `from_str` and of `complete_from_path`.
+    /// A file that can't be read is refused as `Error::Io` of its kind, and one that is not UTF-8
+    /// as that of the kind `InvalidData`. Other refusals are those of `from_str` and of
+    /// `complete_from_path`.
     pub fn from_path<'a, R: Files + AllocGlobal>(
         rt: &'a R,
         alloc: Global,
@@ -111,8 +118,8 @@ impl Manifest {
 }
 
 impl<Metadata: FromValue> Manifest<Metadata> {
-    /// The manifest in the file at this path, whose free tables `metadata` are read as the type says, completed from the real
-    /// files around it.
+    /// The manifest in the file at this path, whose free tables `metadata` are read as the type
+    /// says, completed from the real files around it.
     ///
     /// It refuses as `from_path` does; a fault that the metadata type tells is handed on as it is.
     pub fn from_path_with_metadata<'a, R: Files + AllocGlobal>(

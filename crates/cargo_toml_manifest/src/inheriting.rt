@@ -1,4 +1,5 @@
-//! What a manifest takes from its workspace: first made, then put in, so that a refusal changes nothing.
+//! What a manifest takes from its workspace: first made, then put in, so that a
+//! refusal changes nothing.
 ghost use Rattle.std.specs.Prelude.{◌≡◌, Option, None, [], option_map};
 ghost use Rattle.std.specs.Option.{option_copied};
 ghost use Rattle.cargo_toml_parts.specs.Answers.{Gives};
@@ -135,11 +136,13 @@ fn parts_from<Metadata>(
     })
 }
 
-/// What a manifest takes from a workspace table, if there is one, with paths joined to `base`, the workspace's folder.
+/// What a manifest takes from a workspace table, if there is one, with paths joined to `base`, the
+/// workspace's folder.
 ///
-/// Refused by the first fault in this order: of `dependencies`, `build-dependencies` and `dev-dependencies`, then of the same
-/// three of each target, by key (see `replacements`); `WorkspaceIntegrity` where lints are left to a workspace without a
-/// table; of the package (see `new_fields`). Want of memory is `Memory`.
+/// Refused by the first fault in this order: of `dependencies`, `build-dependencies` and
+/// `dev-dependencies`, then of the same three of each target, by key (see `replacements`);
+/// `WorkspaceIntegrity` where lints are left to a workspace without a table; of the package (see
+/// `new_fields`). Want of memory is `Memory`.
 pub fn new_parts<Metadata, N>(
     alloc: Global,
     manifest: &Manifest<Metadata>,
@@ -202,8 +205,8 @@ fn put_package<Metadata: Drop>(package: &mut Option<Package<Metadata>>, new: Opt
     }
 }
 
-/// Puts the parts in place of what the manifest left to its workspace. All else stays, and metadata are not touched. It takes no
-/// memory.
+/// Puts the parts in place of what the manifest left to its workspace. All else stays, and metadata
+/// are not touched. It takes no memory.
 pub fn install_parts<Metadata: Drop>(manifest: &mut Manifest<Metadata>, new: NewParts)
     ensures { manifest_meaning (λ m. m) manifest.new ≡ installed (manifest_meaning (λ m. m) manifest.old) new }
 {

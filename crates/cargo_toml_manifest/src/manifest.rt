@@ -41,18 +41,21 @@ use std::collections::BTreeMap;
 use std::str;
 use toml::{Table, Value};
 
-/// A `Cargo.toml`: a package, a workspace or both, with what they depend on and what is built of them.
+/// A `Cargo.toml`: a package, a workspace or both, with what they depend on and
+/// what is built of them.
 ///
-/// `Metadata` is what the free tables `package.metadata` and `workspace.metadata` are read as: any tree, where no type is
-/// named. A key's `_` is written `-` in a manifest. A list or a map whose key is missing is empty, and any other field is
-/// then `None`, unless another value is named at the field; keys that are not listed here are ignored, such as those of
-/// Cargo's unstable features.
+/// `Metadata` is what the free tables `package.metadata` and `workspace.metadata` are read as:
+/// any tree, where no type is named. A key's `_` is written `-` in a manifest. A list or a map
+/// whose key is missing is empty, and any other field is then `None`, unless another value is
+/// named at the field; keys that are not listed here are ignored, such as those of Cargo's
+/// unstable features.
 ///
-/// What is read is what stands in the text alone: libraries and binaries that Cargo finds by their place among the files
-/// are not in it, nor is what a package leaves to its workspace.
+/// What is read is what stands in the text alone: libraries and binaries that Cargo finds by their
+/// place among the files are not in it, nor is what a package leaves to its workspace.
 #[derive(Debug, PartialEq, Drop)]
 pub struct Manifest<Metadata = Value> {
-    /// The package. One that would have the version 0.0.0 and be published everywhere is read as published nowhere.
+    /// The package. One that would have the version 0.0.0 and be published everywhere is read as
+    /// published nowhere.
     pub package: Option<Package<Metadata>>,
 
     /// What the manifest says of its workspace, where it is the workspace's root.
@@ -70,7 +73,8 @@ pub struct Manifest<Metadata = Value> {
     /// What it depends on besides on some platforms alone.
     pub target: TargetDepsSet,
 
-    /// The features that are written down, with what each enables. Optional dependencies make further ones.
+    /// The features that are written down, with what each enables. Optional dependencies
+    /// make further ones.
     pub features: FeatureSet,
 
     /// Packages that stand for others. Cargo has `patch` in its place.
@@ -100,7 +104,8 @@ pub struct Manifest<Metadata = Value> {
     /// The examples that are written down.
     pub example: Vec<Product>,
 
-    /// The lints, by tool and then by name, which may be left to the workspace. Missing: `Set` of none.
+    /// The lints, by tool and then by name, which may be left to the workspace.
+    /// Missing: `Set` of none.
     pub lints: Inheritable<LintGroups>,
 
     /// What is said of features beside what they enable: an entry for each whose table has a `doc`,
@@ -230,9 +235,10 @@ impl Manifest {
     /// `complete_from_path` adds both, and `from_path` reads a file and adds them. Before that, a
     /// getter of the package may be called only where its value is not left to the workspace.
     ///
-    /// Bytes that are not UTF-8 are `Error::Other("utf8")`. A text that `toml` refuses is `Error::Parse` of its fault. A
-    /// document that holds a float at any depth is `Error::Parse` of the shape `floats are not supported`; one that has
-    /// another fault is `Error::Parse` of the shape that names it, one of several. Want of memory is `Error::Memory`.
+    /// Bytes that are not UTF-8 are `Error::Other("utf8")`. A text that `toml` refuses is
+    /// `Error::Parse` of its fault. A document that holds a float at any depth is `Error::Parse` of
+    /// the shape `floats are not supported`; one that has another fault is `Error::Parse` of the
+    /// shape that names it, one of several. Want of memory is `Error::Memory`.
     pub fn from_slice(alloc: Global, bytes: &[u8]) -> Result<Manifest, Error>
         ensures { IsFromBytes (manifest_meaning view) (manifest_reads any_tree)
             (manifest_refuses any_tree any_refuses) bytes.now result }
@@ -255,8 +261,8 @@ impl Manifest {
 impl<Metadata: FromValue> Manifest<Metadata> {
     /// The manifest that these bytes spell, whose free tables `metadata` are read as the type says.
     ///
-    /// It refuses as `from_slice` does; a fault that the metadata type tells is handed on as it is. A float is refused in
-    /// every manifest, whatever that type would make of it.
+    /// It refuses as `from_slice` does; a fault that the metadata type tells is handed on as it is.
+    /// A float is refused in every manifest, whatever that type would make of it.
     pub fn from_slice_with_metadata(
         alloc: Global,
         bytes: &[u8],
@@ -386,8 +392,8 @@ fn ended<Metadata: Drop>(
     }
 }
 
-// The profiles, none where there is no value. As `ended`, this and the next two are kept out of what
-// stands on the stack while the other keys are read.
+// The profiles, none where there is no value. As `ended`, this and the next two are kept out of
+// what stands on the stack while the other keys are read.
 #[inline(never)]
 fn profiles(reading: &mut Reading, value: Option<Value>) -> Profiles
     ensures { Goes reading.old.fault reading.new.fault
@@ -423,7 +429,8 @@ fn lints(reading: &mut Reading, value: Option<Value>) -> Inheritable<LintGroups>
     reading.given_of(value, none)
 }
 
-// Whether the version is 0.0.0, without pre-release and build metadata, and the package could be published everywhere.
+// Whether the version is 0.0.0, without pre-release and build metadata, and the package could be
+// published everywhere.
 fn zero_rule_applies<Metadata>(found: &Package<Metadata>) -> bool
     ensures { result ≡ zero_rule_applies (package_meaning (λ x. x) found.now) }
 {

@@ -21,11 +21,13 @@ use toml::{Table, Value};
 
 /// The table `[workspace]`: which packages belong together, and what they share.
 ///
-/// A manifest may have it beside a package, or without one. A key's `_` is written `-` in a manifest. A list or a map whose
-/// key is missing is empty, and any other field is then `None`; keys that are not listed here are ignored.
+/// A manifest may have it beside a package, or without one. A key's `_` is written `-` in a
+/// manifest. A list or a map whose key is missing is empty, and any other field is then `None`;
+/// keys that are not listed here are ignored.
 #[derive(Debug, PartialEq, Drop)]
 pub struct Workspace<Metadata = Value> {
-    /// The paths of the members' folders, relative to the workspace. Patterns among them stay as they are written.
+    /// The paths of the members' folders, relative to the workspace. Patterns among them stay
+    /// as they are written.
     pub members: Vec<String>,
 
     /// The members that Cargo works on where no package is named.
@@ -96,7 +98,8 @@ impl<Metadata: Clone> Clone for Workspace<Metadata> {
 }
 
 impl<Metadata> Workspace<Metadata> {
-    /// The workspace of an empty table: the lists and maps are empty, and the rest is `None`. It takes no memory.
+    /// The workspace of an empty table: the lists and maps are empty, and the rest is `None`.
+    /// It takes no memory.
     pub fn default(alloc: Global) -> Workspace<Metadata>
         ensures { (reads : Data → Option Metadata)
             → workspace_of reads no_members ≡ Some (workspace_meaning (λ x. x) result) }

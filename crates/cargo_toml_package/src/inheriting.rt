@@ -1,4 +1,5 @@
-//! What a package takes from its workspace: first made, then put in, so that a refusal changes nothing.
+//! What a package takes from its workspace: first made, then put in, so that a
+//! refusal changes nothing.
 ghost use Rattle.std.specs.Prelude.{◌≡◌, IfOk, false, option_map};
 ghost use Rattle.std.specs.Option.{option_copied};
 ghost use Rattle.cargo_toml_parts.specs.Answers.{Gives};
@@ -22,7 +23,8 @@ use filling::Filling;
 use semver::Version;
 use std::alloc::{AllocError, Global};
 
-/// The values that a package takes from its workspace: `None` where it keeps its own, or has no such field.
+/// The values that a package takes from its workspace: `None` where it keeps its own, or
+/// has no such field.
 #[derive(Drop)]
 pub struct NewFields {
     /// In place of the version.
@@ -165,8 +167,8 @@ fn put_if_there<T: Read>(field: &mut Option<Inheritable<T>>, value: Option<T>)
     }
 }
 
-/// Puts these values in place of the package's own. Its other fields stay, and its metadata are not touched. It takes no
-/// memory.
+/// Puts these values in place of the package's own. Its other fields stay, and its metadata are not
+/// touched. It takes no memory.
 pub fn install<M: Drop>(package: &mut Package<M>, new: NewFields)
     ensures { package_meaning (λ m. m) «package».new ≡ installed (package_meaning (λ m. m) «package».old) new }
 {
@@ -228,7 +230,8 @@ fn any_stays<M>(package: &Package<M>, new: &NewFields) -> bool
         || stays(&package.publish, &new.publish)
 }
 
-/// Whether some field is left to the workspace. Where none is, each getter of the package may be called.
+/// Whether some field is left to the workspace. Where none is, each getter of the
+/// package may be called.
 pub fn any_field_inherited<M>(package: &Package<M>) -> bool
     ensures exact { result ≡ any_field_left (package_meaning (λ m. m) «package».now) }
     ensures else_filled { result ≡ false → IsFilled «package».now }
@@ -268,11 +271,11 @@ fn check_none_stays<M>(alloc: Global, package: &Package<M>, new: &NewFields) -> 
     Ok(())
 }
 
-/// What a package takes from the template of its workspace, where there is one. A path of the workspace is joined to `base`,
-/// the workspace's folder.
+/// What a package takes from the template of its workspace, where there is one. A path of the
+/// workspace is joined to `base`, the workspace's folder.
 ///
-/// Refused by `WorkspaceIntegrity`, which tells the package's name, where a field would still be left to the workspace, and by
-/// `Memory`. The package is only read: [`install`] changes it.
+/// Refused by `WorkspaceIntegrity`, which tells the package's name, where a field would still be
+/// left to the workspace, and by `Memory`. The package is only read: [`install`] changes it.
 pub fn new_fields<M>(
     alloc: Global,
     package: &Package<M>,

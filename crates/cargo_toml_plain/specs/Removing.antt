@@ -33,7 +33,8 @@ module _ {S : Type 0} (m : HashMap (Bor Text) Feature S) (f : Text) where
 abbrev pub passed_on : BTreeSet (Bor Text) → BTreeSet (Bor Text) → Text → Text → Bool
 passed_on own gone key x = (has_text own x || has_text gone x) && not (bytes_eq x key)
 
--- what the feature `name` names once `gone`, whose name is `key`, is taken out, and how it acts: a parent takes over both
+-- what the feature `name` names once `gone`, whose name is `key`, is taken out, and how it acts: a
+-- parent takes over both
 pub record TakesNames (gone : Feature) (key name : Text) (old new : Feature) : Type 0 where
   pub own_key : new.key ≡ old.key
   pub marks : marks_of new ≡ marks_of old

@@ -33,8 +33,9 @@ fn hidden_set<'m, F: Fn(&str) -> bool, S: BuildHasher>(
     Ok(names)
 }
 
-/// The names of the features that are removed, in byte order: of those that begin with `_` the ones that the filter doesn't
-/// keep, and without a filter all. The filter is asked only for names that begin with `_`. It fails only where memory runs out.
+/// The names of the features that are removed, in byte order: of those that begin with `_` the ones
+/// that the filter doesn't keep, and without a filter all. The filter is asked only for names that
+/// begin with `_`. It fails only where memory runs out.
 pub fn hidden_names<'m, F: Fn(&str) -> bool, S: BuildHasher>(
     alloc: Global,
     features: &HashMap<&'m str, Feature<'m>, S>,

@@ -176,9 +176,10 @@ fn names_of<'a, S: BuildHasher>(
 
 /// Takes features out one after another, in the order of `removed`.
 ///
-/// At its turn each leaves to others what it says by then. Those that enable it name what it names and act as it acts. Those
-/// that it enables are enabled by what enables it. Those that it names are required by its first ten binaries, too. What it
-/// names itself goes to `hidden`, under its name. It fails only where memory runs out.
+/// At its turn each leaves to others what it says by then. Those that enable it name what it names
+/// and act as it acts. Those that it enables are enabled by what enables it. Those that it names
+/// are required by its first ten binaries, too. What it names itself goes to `hidden`, under its
+/// name. It fails only where memory runs out.
 pub fn remove_all<'m, S: BuildHasher>(
     alloc: Global,
     features: &mut HashMap<&'m str, Feature<'m>, S>,

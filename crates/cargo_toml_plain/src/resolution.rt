@@ -38,10 +38,11 @@ fn all_by_name<'m, S: BuildHasher + Clone>(
     keep_all(alloc, state, features, none_is_hidden.as_slice())
 }
 
-/// Answers as [`cargo_toml_hidden::resolve`] does, more slowly and in a way that is easy to follow: to compare with.
+/// Answers as [`cargo_toml_hidden::resolve`] does, more slowly and in a way that is easy to
+/// follow: to compare with.
 ///
-/// Each name is listed once. Each map of the answer gets a clone of `state`. It fails only where memory runs out, or the
-/// clone does.
+/// Each name is listed once. Each map of the answer gets a clone of `state`. It fails only where
+/// memory runs out, or the clone does.
 pub fn resolve<'m: 'd, 'd, F: Fn(&str) -> bool, S: BuildHasher + Clone>(
     alloc: Global,
     state: &S,

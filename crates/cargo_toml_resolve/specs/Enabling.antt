@@ -1,4 +1,5 @@
--- Features that learn which features enable them: words of a step of resolving, on which no public contract rests.
+-- Features that learn which features enable them: words of a step of resolving, on which no
+-- public contract rests.
 use Rattle.std.specs.Prelude.{◌≡◌, ◌&&◌, ◌||◌, not, Bool, false, List, Option, Some, None, bytes_eq}
 use Rattle.std.specs.Option.{option_map_or}
 use Rattle.std.specs.List.{list_any}

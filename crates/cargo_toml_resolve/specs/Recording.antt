@@ -1,4 +1,5 @@
--- Entries of dependency tables, recorded one after another: words of a step of resolving, on which no public contract rests.
+-- Entries of dependency tables, recorded one after another: words of a step of resolving, on which
+-- no public contract rests.
 use Rattle.std.specs.Prelude.{Bool, ◌&&◌, ◌||◌, if◌then◌else◌, Option, Some}
 use Rattle.std.specs.Prelude.{None, is_some, option_map, unwrap_or, bytes_eq}
 use Rattle.std.specs.Option.{option_or}
@@ -43,8 +44,8 @@ recorded_with (Some r) e = recorded_next r e
 abbrev pub is_mentioned_in : Mentions → Text → Bool
 is_mentioned_in m k = is_some (held_in m.features k) || is_some (sorted_at m.acted k)
 
--- what is recorded of q after e, where o was recorded of q before: e counts if its key is recorded already or mentioned, or e
--- is optional
+-- what is recorded of q after e, where o was recorded of q before: e counts if its key is recorded
+-- already or mentioned, or e is optional
 abbrev pub recorded_after : (Text → Bool) → Entry → Text → Option Recorded → Option Recorded
 recorded_after mentioned e q o = if bytes_eq e.key q && (is_some o || (is_optional e.dependency || mentioned q)) then Some (recorded_with o e) else o
 

@@ -1,4 +1,5 @@
--- Actions without the features that dependencies have anyway: words of a step of resolving, on which no public contract rests.
+-- Actions without the features that dependencies have anyway: words of a step of resolving, on
+-- which no public contract rests.
 use Rattle.std.specs.Prelude.{◌≡◌, List, option_map}
 use Rattle.cargo_toml_features.specs.declared.features.Feature.{Feature}
 use Rattle.cargo_toml_features.specs.declared.features.FeatureDependency.{FeatureDependency}
@@ -15,7 +16,8 @@ use Rattle.cargo_toml_resolve.specs.declared.slots.Slots.{Slots}
 abbrev pub IsRecordOf : Slots FeatureDependency → (Text → List Entry) → Type 0
 IsRecordOf m entries = (k : Text) → recorded_at m k ≡ recorded_of (entries k)
 
--- each action of the feature lost what is redundant by the entries of its key, and nothing else changed
+-- each action of the feature lost what is redundant by the entries of its key, and
+-- nothing else changed
 pub record Thinned (entries : Text → List Entry) (old new : Feature) : Type 0 where
   pub key : new.key ≡ old.key
   pub names : new.enables_features ≡ old.enables_features

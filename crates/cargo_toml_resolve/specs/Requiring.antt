@@ -1,4 +1,5 @@
--- Features that learn which binaries require them: words of a step of resolving, on which no public contract rests.
+-- Features that learn which binaries require them: words of a step of resolving, on which no
+-- public contract rests.
 use Rattle.std.specs.Prelude.{◌≡◌, ◌++◌, List, map}
 use Rattle.cargo_toml_features.specs.declared.features.Feature.{Feature}
 use Rattle.cargo_toml_features.specs.Marks.{marks_of}

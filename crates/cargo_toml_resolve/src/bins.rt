@@ -36,8 +36,8 @@ fn require_at<'m>(
     Ok(())
 }
 
-// Adds the binary to the feature that it requires, if there is one of that name. The answer is where the name stood, or else
-// `near`, where it is looked for first.
+// Adds the binary to the feature that it requires, if there is one of that name. The answer is
+// where the name stood, or else `near`, where it is looked for first.
 fn require<'m>(
     features: &mut Slots<'m, Feature<'m>>,
     requirement: &Requirement<'m>,

@@ -150,8 +150,8 @@ fn enable_at<'a>(
     Ok(())
 }
 
-// The link's target learns of its source, if there is such a feature. The answer is the place after it, or else `near`,
-// where it is looked for first.
+// The link's target learns of its source, if there is such a feature. The answer is the place after
+// it, or else `near`, where it is looked for first.
 fn enable<'a>(
     features: &mut Slots<'a, Feature<'a>>,
     link: &Link<'a>,

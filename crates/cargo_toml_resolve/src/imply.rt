@@ -16,7 +16,8 @@ use cargo_toml_features::features::{DepAction, Feature, ParseDependency};
 use std::alloc::{AllocError, Global};
 use std::collections::{BTreeMap, BTreeSet};
 
-// The feature that the optional dependency of a key implies. Nothing is said of it, whatever is said of features of that name.
+// The feature that the optional dependency of a key implies. Nothing is said of it, whatever is
+// said of features of that name.
 fn implied_feature(alloc: Global, key: &str) -> Result<Feature<'_>, AllocError>
     ensures { IfOk result (IsImplied key.now) }
 {
@@ -65,8 +66,8 @@ fn imply_at<'m>(
     Ok(())
 }
 
-// Adds the feature that the entry implies, if it does. The answer is the place after it, or else `near`, where it is looked
-// for first. The key of an optional entry is a name.
+// Adds the feature that the entry implies, if it does. The answer is the place after it, or else
+// `near`, where it is looked for first. The key of an optional entry is a name.
 fn imply<'m>(
     alloc: Global,
     features: &mut Slots<'m, Feature<'m>>,
@@ -90,7 +91,8 @@ fn imply<'m>(
     Ok(place.saturating_add(1))
 }
 
-// Adds the features that optional dependencies imply. The keys of optional entries are among the names.
+// Adds the features that optional dependencies imply. The keys of optional entries
+// are among the names.
 pub fn imply_all<'m>(
     alloc: Global,
     features: &mut Slots<'m, Feature<'m>>,

@@ -98,8 +98,8 @@ fn optional_keys<'m>(
     Ok(keys)
 }
 
-/// The names that features may have: those that are listed, `default`, and the keys of optional entries. They stand in byte
-/// order, each once. It fails only where memory runs out.
+/// The names that features may have: those that are listed, `default`, and the keys of optional
+/// entries. They stand in byte order, each once. It fails only where memory runs out.
 pub fn names_of_all<'m>(
     alloc: Global,
     listings: &[Listing<'m>],

@@ -37,8 +37,8 @@ fn stands_at(names: &[&str], place: usize, name: &str) -> bool
     place < names.len() && names[place] == name
 }
 
-/// Where a name stands, if it does. It is looked for at `near` and the place before it first: where names are looked up in
-/// their order and `near` is the place after the last one, they stand there.
+/// Where a name stands, if it does. It is looked for at `near` and the place before it first: where
+/// names are looked up in their order and `near` is the place after the last one, they stand there.
 pub fn place_near(names: &[&str], name: &str, near: usize) -> Option<usize>
     requires { Ascend (map (λ n. n.now) names.now) }
     ensures found { IfSome result (λ i. (i < length names.now) × (text_at (map (λ n. n.now) names.now) i ≡ name.now)) }
@@ -74,7 +74,8 @@ impl<'n, V: Drop> Slots<'n, V> {
     }
 }
 
-/// The features, in the byte order of their names, where each stands under its own key. It fails only where memory runs out.
+/// The features, in the byte order of their names, where each stands under its own key. It fails
+/// only where memory runs out.
 pub fn into_features<'m>(
     alloc: Global,
     slots: Slots<'m, Feature<'m>>,

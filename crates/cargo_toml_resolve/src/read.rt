@@ -145,7 +145,8 @@ fn read_list<'m>(
     Ok(feature)
 }
 
-// Puts a feature under its name, which is one of the names. The answer is the place after it; it is looked for at `near` first.
+// Puts a feature under its name, which is one of the names. The answer is the place after it; it is
+// looked for at `near` first.
 fn put_feature<'m>(
     features: &mut Slots<'m, Feature<'m>>,
     name: &str,
@@ -180,8 +181,8 @@ fn add_default<'m>(alloc: Global, features: &mut Slots<'m, Feature<'m>>)
     }
 }
 
-/// Reads the lists of all features, of which each name is listed once, and adds `default` where it isn't listed. All these are
-/// among the names.
+/// Reads the lists of all features, of which each name is listed once, and adds `default` where it
+/// isn't listed. All these are among the names.
 ///
 /// It fails only where memory runs out.
 pub fn read_features<'m>(

@@ -108,8 +108,8 @@ fn record_at<'m: 'd, 'd>(
     Ok(())
 }
 
-// Records an entry if it counts. The answer is the place after it, or else `near`, where it is looked for first. The key of an
-// entry that counts by itself is a name.
+// Records an entry if it counts. The answer is the place after it, or else `near`, where it is
+// looked for first. The key of an entry that counts by itself is a name.
 fn record_entry<'m: 'd, 'd>(
     alloc: Global,
     dependencies: &mut Slots<'d, FeatureDependency<'d>>,

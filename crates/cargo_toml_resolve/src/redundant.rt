@@ -97,8 +97,9 @@ fn thin_value(value: &mut Option<Feature<'_>>, dependencies: &Slots<'_, FeatureD
     }
 }
 
-/// Takes out of each feature's actions the dependency features that are on anyway. A feature `default` is where the
-/// dependency's first target has its default features, and any other where that target lists it.
+/// Takes out of each feature's actions the dependency features that are on anyway. A feature
+/// `default` is where the dependency's first target has its default features, and any other where
+/// that target lists it.
 pub fn drop_redundant(
     features: &mut Slots<'_, Feature<'_>>,
     dependencies: &Slots<'_, FeatureDependency<'_>>,

@@ -34,11 +34,11 @@ pub struct Unremoved<'m, 'd> {
     pub dependencies: Slots<'d, FeatureDependency<'d>>,
 }
 
-/// Resolves features as they are listed, with entries of whatever dependency tables and what binaries require, and removes
-/// none of them.
+/// Resolves features as they are listed, with entries of whatever dependency tables and what
+/// binaries require, and removes none of them.
 ///
-/// Each name is listed once. What enables a feature is told where that is wanted; it costs a look-up for each name in a list.
-/// It fails only where memory runs out.
+/// Each name is listed once. What enables a feature is told where that is wanted; it costs a
+/// look-up for each name in a list. It fails only where memory runs out.
 pub fn resolve_all<'m: 'd, 'd>(
     alloc: Global,
     listings: &[Listing<'m>],
@@ -62,8 +62,8 @@ pub fn resolve_all<'m: 'd, 'd>(
 {
     let names = names_of_all(alloc, listings, entries)?;
     let mentions = read_features(alloc, names, listings)?;
-    // Before features are implied: an entry that isn't optional would count as mentioned, if an optional entry of its key
-    // that comes later had made a feature of that name.
+    // Before features are implied: an entry that isn't optional would count as mentioned, if an
+    // optional entry of its key that comes later had made a feature of that name.
     let dependencies = record_dependencies(alloc, &mentions, entries)?;
     let Mentions {
         mut features,

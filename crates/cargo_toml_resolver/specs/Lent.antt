@@ -49,7 +49,8 @@ module _ {M : Type 0} (old : Manifest M) (handed : Option Handed) (roots : Roots
     pub filled : IfSome new.«package» IsFilled
     pub again : IsLasting (meaning old) handed (meaning new)
 
-  -- after a success the manifest is as it is lent; after a refusal it is as it was or, for want of memory alone, completed
+  -- after a success the manifest is as it is lent; after a refusal it is as it was or, for want of
+  -- memory alone, completed
   abbrev pub IsLeftAfter : {Y : Type 0} → Result (Bor (Manifest M) × Y) Error → Manifest M → Type 0
   IsLeftAfter (Ok p) new = new ≡ p.0.now
   IsLeftAfter (Err e) new = (new ≡ old) ⊎ ((e ≡ Memory) × IsCompleted new)

@@ -25,11 +25,12 @@ use cargo_toml_parts::Error;
 use std::alloc::Global;
 use std::hash::BuildHasher;
 
-/// Completes a manifest and resolves its features, as [`Resolver::complete_and_parse`], and says what a refusal leaves.
+/// Completes a manifest and resolves its features, as [`Resolver::complete_and_parse`], and says
+/// what a refusal leaves.
 ///
-/// The manifest comes back where it was completed, and then is as it is lent; where completion was refused, the answer is `None`,
-/// and it is as it was. What is resolved, or the fault, is put into `slot`. After a completion that fault is
-/// [`Error::Memory`].
+/// The manifest comes back where it was completed, and then is as it is lent; where completion was
+/// refused, the answer is `None`, and it is as it was. What is resolved, or the fault, is put into
+/// `slot`. After a completion that fault is [`Error::Memory`].
 pub fn complete_and_parse_into<
     'm,
     M: Drop,
@@ -95,11 +96,12 @@ fn shared<'m, M>(manifest: &'m mut Manifest<M>) -> &'m Manifest<M>
 }
 
 impl<'config, F: Fn(&str) -> bool, S: BuildHasher + Clone + Drop> Resolver<'config, F, S> {
-    /// Completes a manifest as [`Manifest::complete_from_abstract_filesystem`] does, and resolves the features of the completed
-    /// manifest as [`Resolver::parse`] does.
+    /// Completes a manifest as [`Manifest::complete_from_abstract_filesystem`] does, and resolves
+    /// the features of the completed manifest as [`Resolver::parse`] does.
     ///
-    /// A refusal is that of completion, or [`Error::Memory`]. It leaves the manifest as it was or, where it is [`Error::Memory`],
-    /// perhaps completed; a success leaves it as it is lent. From [`complete_and_parse_into`] a caller's proof learns that too.
+    /// A refusal is that of completion, or [`Error::Memory`]. It leaves the manifest as it was or,
+    /// where it is [`Error::Memory`], perhaps completed; a success leaves it as it is lent. From
+    /// [`complete_and_parse_into`] a caller's proof learns that too.
     pub fn complete_and_parse<'m, M: Drop, N, Fs: AbstractFilesystem + Drop>(
         &self,
         alloc: Global,
@@ -128,12 +130,14 @@ impl<'config, F: Fn(&str) -> bool, S: BuildHasher + Clone + Drop> Resolver<'conf
         ensures keyed { IfOk result (λ p. IsKeyed p.1.features) }
         ensures targets { IfOk result (λ p. HaveTargets p.1.dependencies) }
     {
-        // The proof by hand walks through these lines, and names each local that they make: what may change goes into `resolved`.
+        // The proof by hand walks through these lines, and names each local that they make: what
+        // may change goes into `resolved`.
         let completed = manifest.complete_from_abstract_filesystem(alloc, fs, workspace);
         self.resolved(shared(manifest), completed, alloc)
     }
 
-    // The completed manifest, with what its features resolve to; a refusal of completion stands for both.
+    // The completed manifest, with what its features resolve to; a refusal of
+    // completion stands for both.
     fn resolved<'m, M>(
         &self,
         manifest: &'m Manifest<M>,

@@ -10,7 +10,8 @@ use cargo_toml_parts::{Error, ParseFault};
 use std::alloc::Global;
 use toml::Value;
 
-/// How much debug information a profile asks for: the key `debug`, a truth value, a number or a text.
+/// How much debug information a profile asks for: the key `debug`, a truth value,
+/// a number or a text.
 #[derive(Clone, Copy, Debug, PartialEq, Eq, PartialOrd, Ord)]
 pub enum DebugSetting {
     /// None at all: `false`, 0 or `none`.
@@ -124,8 +125,8 @@ impl Read for DebugSetting {
     }
 }
 
-/// The setting that a value says. Another value is refused as [`Error::Other`], with a text that says whether its number, its
-/// name or its type is wrong.
+/// The setting that a value says. Another value is refused as [`Error::Other`], with a text that
+/// says whether its number, its name or its type is wrong.
 impl TryFrom<Value> for DebugSetting {
     ghost use Rattle.cargo_toml_parts.specs.Faults.{IsSetting};
 
@@ -164,8 +165,8 @@ impl Read for StripSetting {
     }
 }
 
-/// The setting that a value says. Another value is refused as [`Error::Other`], with a text that says whether its number, its
-/// name or its type is wrong.
+/// The setting that a value says. Another value is refused as [`Error::Other`], with a text that
+/// says whether its number, its name or its type is wrong.
 impl TryFrom<Value> for StripSetting {
     ghost use Rattle.cargo_toml_parts.specs.Faults.{IsSetting};
 
@@ -202,8 +203,8 @@ impl Read for LtoSetting {
     }
 }
 
-/// The setting that a value says. Another value is refused as [`Error::Other`], with a text that says whether its number, its
-/// name or its type is wrong.
+/// The setting that a value says. Another value is refused as [`Error::Other`], with a text that
+/// says whether its number, its name or its type is wrong.
 impl TryFrom<Value> for LtoSetting {
     ghost use Rattle.cargo_toml_parts.specs.Faults.{IsSetting};
 

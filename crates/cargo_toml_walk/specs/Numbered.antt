@@ -14,7 +14,8 @@ text_at texts i = slice_index_or texts i []
 abbrev pub HasNumber : List Text → ℕ → (ℕ → Type 0) → Text → Type 0
 HasNumber texts n P x = (j : ℕ) × (j < n) × (text_at texts j ≡ x) × P j
 
--- the vertices of t have the numbers below the length of `edges`, and other texts those from there on
+-- the vertices of t have the numbers below the length of `edges`, and other texts
+-- those from there on
 pub record IsNumbered {Z : Type 0} (t : Table) (Removed : Text → Type 0) (texts : List Text) (edges names : List (Vec ℕ Z)) (flags : List Bool) : Type 0 where
   -- each text has one number
   pub one : (i j : ℕ) → i < length texts → j < length texts → text_at texts i ≡ text_at texts j → i ≡ j

@@ -71,7 +71,8 @@ module _ {Z : Type 0} (edges : List (Vec ℕ Z)) (removed : List Bool) where
   abbrev pub IsUnder : ℕ → ℕ → Type 0
   IsUnder n v = IsWanted removed true v × (v < n)
 
-  -- r or a removed vertex below r that it reaches through such has the label x, and x is none of these
+  -- r or a removed vertex below r that it reaches through such has the label x, and
+  -- x is none of these
   abbrev pub IsRedirect : List (Vec ℕ Z) → ℕ → ℕ → Type 0
   IsRedirect labels r x = GathersLabel (Leads edges) (IsUnder r) (Leads labels) r x × ¬ IsUnder r x
 

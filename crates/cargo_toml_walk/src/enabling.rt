@@ -12,8 +12,8 @@ fn ends_with(list: &[usize], e: usize) -> bool
     list.last() == Some(&e)
 }
 
-// e is put at the end of y's list, unless it stands there. The lists get all that is linked to e at a stretch: a list with e
-// ends with it.
+// e is put at the end of y's list, unless it stands there. The lists get all that is linked to e at
+// a stretch: a list with e ends with it.
 fn link(by: &mut Vec<Vec<usize>>, y: usize, e: usize) -> Result<(), AllocError>
     requires { y < length by.old.items }
     ensures { OnOk result (Links (λ f. f ≡ y) e by.old.items by.new.items) }

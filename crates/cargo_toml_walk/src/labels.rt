@@ -29,7 +29,8 @@ fn visit_rows(
     Ok(())
 }
 
-// The labels of `own` and of the passed vertices whose flag is false, each once. `own` is the stamp of those that are met.
+// The labels of `own` and of the passed vertices whose flag is false, each once. `own` is the stamp
+// of those that are met.
 pub(crate) fn kept_labels(
     alloc: Global,
     own: usize,
@@ -79,8 +80,8 @@ fn labels_of(
     kept_labels(alloc, own, passed, labels, is_removed, met)
 }
 
-/// For each vertex that passes removed ones, the labels that it then has: those of its own and of the passed ones, without the
-/// removed. Nothing for the others.
+/// For each vertex that passes removed ones, the labels that it then has: those of its own and of
+/// the passed ones, without the removed. Nothing for the others.
 pub fn all_labels(
     alloc: Global,
     passed: &[Vec<usize>],

@@ -1,4 +1,5 @@
-//! What stands for a removed vertex: the labels that it has once the removed vertices below it are taken out.
+//! What stands for a removed vertex: the labels that it has once the removed vertices
+//! below it are taken out.
 ghost use Rattle.std.specs.Prelude.{◌≡◌, ◌<◌, ◌≤◌, ◌↔◌, IfOk, OnOk, ℕ, length, true, false};
 ghost use Rattle.cargo_toml_graph.specs.Reach.{Among};
 ghost use Rattle.cargo_toml_walk.specs.Numbers.{HasLabel, IsFresh, IsRedirect};
@@ -56,8 +57,8 @@ fn finish(
     Ok(())
 }
 
-/// For each removed vertex its redirect: the labels that it has once the removed vertices below it are taken out. The others
-/// keep their labels.
+/// For each removed vertex its redirect: the labels that it has once the removed vertices below it
+/// are taken out. The others keep their labels.
 pub fn redirects(
     alloc: Global,
     mut edges: Vec<Vec<usize>>,

@@ -68,7 +68,8 @@ pub(crate) fn visit_row(
     visit(found, met, epoch, rows[at].as_slice(), flags, wanted)
 }
 
-// The removed vertices that `start` reaches through removed ones. `start` is the stamp of those that are met.
+// The removed vertices that `start` reaches through removed ones. `start` is the stamp of
+// those that are met.
 pub(crate) fn passing(
     alloc: Global,
     start: usize,
@@ -121,7 +122,8 @@ fn passed_by(
     passing(alloc, start, edges, is_removed, met)
 }
 
-/// For each vertex that isn't removed, the removed ones that it reaches through removed ones; nothing for a removed one.
+/// For each vertex that isn't removed, the removed ones that it reaches through removed ones;
+/// nothing for a removed one.
 pub fn all_passed(
     alloc: Global,
     edges: &[Vec<usize>],

@@ -1,4 +1,5 @@
--- What is written holds no float: the laws of the ways of which all ways are made, and then of each type.
+-- What is written holds no float: the laws of the ways of which all ways are made, and
+-- then of each type.
 use Rattle.std.specs.Prelude.{ℕ, pos, List, [], ◌∷◌, ◌++◌, Bool, true}
 use Rattle.std.specs.Prelude.{false, ◌&&◌, IsTrue, Option, Some, None, refl}
 use Rattle.std.specs.Cmp.Lexicographic.{slice_cmp}
@@ -98,7 +99,8 @@ rows_floatless (row ∷ rows) old new h (mid, (d, holds, is), rest) none =
 pub table_floatless : {X : Type 0} (rows : X → List Row) → ((x : X) → AreFloatless (rows x)) → IsFloatless (table_way rows)
 table_floatless rows h x d (ms, is, written) = subst Floatless (sym is) (rows_floatless (rows x) no_members ms (h x) written refl)
 
--- the rows of what may be there, of what is there, of what is written unless it is left out, and of a truth value
+-- the rows of what may be there, of what is there, of what is written unless it is left out,
+-- and of a truth value
 pub optional : {X : Type 0} (way : Way X) → IsFloatless way → (x : Option X) (d : Data) → IsHeld way x (Some d) → IsTrue (has_no_float d)
 optional way h None d is = absurd cc
 optional way h (Some x) d tree = h x d tree

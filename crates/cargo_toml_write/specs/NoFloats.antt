@@ -1,4 +1,5 @@
--- Which values hold no float in what they may hold freely. What is asked of metadata, whose type is a caller's, is given.
+-- Which values hold no float in what they may hold freely. What is asked of metadata, whose type is
+-- a caller's, is given.
 use Rattle.std.specs.Prelude.{ℕ, List, IsTrue, IfSome, All}
 use Rattle.toml.specs.Data.{Data}
 use Rattle.cargo_toml_dependencies.specs.Dependencies.{DetailMeaning, DependencyMeaning}

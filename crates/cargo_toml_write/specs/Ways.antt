@@ -81,7 +81,8 @@ entry_rows way (e ∷ es) = required_row e.0 way e.1 ∷ entry_rows way es
 abbrev pub map_way : {X : Type 0} → Way X → Way (List (List ℕ × X))
 map_way way = record (table_way (entry_rows way)) { left_out = is_nil }
 
--- a value that is set, which is left out as it is alone; and the table that says that it is inherited
+-- a value that is set, which is left out as it is alone; and the table that says
+-- that it is inherited
 abbrev pub inherited_tree : Data
 inherited_tree = table (member (codes "workspace") (boolean true) no_members)
 

@@ -1,4 +1,5 @@
-//! Laws: what can be written. A value has a tree exactly where it holds no float in what it may hold freely.
+//! Laws: what can be written. A value has a tree exactly where it holds no float in what
+//! it may hold freely.
 ghost use Rattle.std.specs.Prelude.{◌≡◌, ◌↔◌, Option, Some};
 ghost use Rattle.toml.specs.Data.{Data, Members};
 ghost use Rattle.cargo_toml_dependencies.specs.Dependencies.{DetailMeaning, DependencyMeaning};
@@ -63,7 +64,8 @@ pub fn manifests_of_any_metadata<Metadata: ToValue>()
         → HasTree (manifest_way Metadata.way) m ↔ ManifestHoldsNoFloat (HasTree Metadata.way) m }
 {}
 
-/// A manifest that was read, of a tree or of a document, has a tree: it holds no float, since what it was read of holds none.
+/// A manifest that was read, of a tree or of a document, has a tree: it holds no float, since what
+/// it was read of holds none.
 pub fn read_manifests_are_written()
     ensures no_float { (d : Data) (m : ManifestMeaning Data)
         → without_floats (manifest_reads any_tree) d ≡ Some m → ManifestHoldsNoFloat HoldsNoFloat m }

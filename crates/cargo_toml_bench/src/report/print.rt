@@ -13,11 +13,12 @@ use cargo_toml::{Error, Manifest};
 use std::alloc::{AllocError, Global};
 use std::io::Write;
 
-/// Writes a line `optional NAME` for each optional dependency of the manifest that the bytes spell, and then a line
-/// `unreferenced NAME` for each feature that nothing in it enables.
+/// Writes a line `optional NAME` for each optional dependency of the manifest that the bytes spell,
+/// and then a line `unreferenced NAME` for each feature that nothing in it enables.
 ///
-/// Refuses as [`Manifest::from_slice`] does, with `Memory` where there was no room, and with `Io` where `output` can't be
-/// written. All lines stand before the first is written, so that a fault of the manifest leaves `output` as it was.
+/// Refuses as [`Manifest::from_slice`] does, with `Memory` where there was no room, and with `Io`
+/// where `output` can't be written. All lines stand before the first is written, so that a fault of
+/// the manifest leaves `output` as it was.
 pub fn print_report<W: Write>(alloc: Global, bytes: &[u8], output: &mut W) -> Result<(), Error>
     ensures printed { OnOk result ((text : Text) × IsReport bytes.now text
         × Appends (W.contents output.old) (W.contents output.new) text) }

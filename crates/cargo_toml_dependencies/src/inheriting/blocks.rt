@@ -1,5 +1,6 @@
-// What was made, in blocks of few each. One block for all would be so large that the C library tidied its lists of free
-// blocks before it handed that out, at the cost of all that was freed before.
+// What was made, in blocks of few each. One block for all would be so large that the C
+// library tidied its lists of free blocks before it handed that out, at the cost of all
+// that was freed before.
 ghost use Rattle.std.specs.Prelude.{◌≡◌, ◌++◌, ◌∷◌, [], IfSome, IfNone, IfOk, OnOk, map};
 ghost use Rattle.cargo_toml_dependencies.specs.Dependencies.{dependency_meaning};
 ghost use Rattle.cargo_toml_dependencies.specs.Replacing.{made_meaning, waiting_meaning};

@@ -129,7 +129,8 @@ fn boxed_with_entry(
     Ok(Box::new(alloc, with_entry(alloc, base, entry, template)?)?)
 }
 
-// Whether a detail of the workspace tells no more than a requirement, features and flags, as most do.
+// Whether a detail of the workspace tells no more than a requirement, features and
+// flags, as most do.
 fn is_short(template: &DependencyDetail) -> bool
     ensures { IsTrue result → IsShort (detail_meaning template.now) }
 {
@@ -247,8 +248,8 @@ pub fn missing(alloc: Global, key: &str) -> Result<Error, AllocError>
     Ok(Error::WorkspaceIntegrity(text))
 }
 
-/// What the inherited dependency of a key becomes, by the workspace's dependency of that key; `None` where that is inherited
-/// itself.
+/// What the inherited dependency of a key becomes, by the workspace's dependency of that key;
+/// `None` where that is inherited itself.
 pub fn from_template(
     alloc: Global,
     base: &str,

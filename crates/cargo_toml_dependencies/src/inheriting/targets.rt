@@ -47,11 +47,12 @@ fn new_target(
     })
 }
 
-/// What the inherited dependencies of each target become, in the order of the targets' names, as `replacements` makes them.
-/// Hand the answer to `replace_targets`.
+/// What the inherited dependencies of each target become, in the order of the targets' names, as
+/// `replacements` makes them. Hand the answer to `replace_targets`.
 ///
-/// The first fault of `replacements` counts: target after target, and in each its `dependencies`, then its
-/// `build-dependencies`, then its `dev-dependencies`. Refused by `Memory` where there was none.
+/// The first fault of `replacements` counts: target after target, and in each its
+/// `dependencies`, then its `build-dependencies`, then its `dev-dependencies`. Refused by
+/// `Memory` where there was none.
 pub fn target_replacements(
     alloc: Global,
     templates: Option<&DepsSet>,
@@ -87,8 +88,8 @@ fn put_next_target(target: &mut Target, made: &mut IntoIter<NewTarget>)
     }
 }
 
-/// Puts what was made into the targets, in the order of their names, as `replace` does; targets for which nothing was made are
-/// left as they are. It takes no memory.
+/// Puts what was made into the targets, in the order of their names, as `replace` does; targets for
+/// which nothing was made are left as they are. It takes no memory.
 pub fn replace_targets(targets: &mut TargetDepsSet, made: Vec<NewTarget>)
     ensures { targets_meaning targets.new ≡ replaced_targets (targets_meaning targets.old) made.items }
 {

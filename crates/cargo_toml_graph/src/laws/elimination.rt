@@ -51,13 +51,15 @@ pub fn no_removed_name_is_left()
         NoneIsLeft (λ v. IsTrue (removed v)) m }
 {}
 
-/// Against a resolution that removes nothing, what a kept feature enables recursively loses no kept feature and no dependency.
+/// Against a resolution that removes nothing, what a kept feature enables recursively loses no kept
+/// feature and no dependency.
 pub fn removal_loses_nothing()
     ensures { (t : Table) (removed nothing : Text → Bool) (full m : Resolution) → ((v : Text) → IsFalse (nothing v)) →
         IsResolved t (λ v. IsTrue (nothing v)) full → IsResolved t (λ v. IsTrue (removed v)) m → LosesNothing full m }
 {}
 
-/// What a removed feature names at its turn, where they are taken out in byte order, is its redirect.
+/// What a removed feature names at its turn, where they are taken out in byte
+/// order, is its redirect.
 pub fn redirects_are_names_in_turn()
     ensures { (t : Table) (m : Resolution) (before : List Text) (r : Text) (after : List Text) → IsUnremoved t m →
         ((v : Text) → Among (before ++ r ∷ after) v → IsTrue (t.has v)) → IsAscending (λ a b. IsTrue (is_below a b)) (before ++ r ∷ after) →
@@ -74,7 +76,8 @@ pub fn bins_are_passed_on()
         (f : Text) → IsKept t (Among removed) f → IsComplete t (Among removed) own f (pass_all removed m own f) }
 {}
 
-/// Binaries that are passed on in byte order are one function of the table, of what is removed and of what binaries mention.
+/// Binaries that are passed on in byte order are one function of the table, of what is removed and
+/// of what binaries mention.
 pub fn bins_in_byte_order_are_settled()
     ensures one { (t : Table) (own : Text → List Text) (removed : Text → Bool) (a b : Text → List Text) →
         ArePassedOn t (λ v. IsTrue (removed v)) own a → ArePassedOn t (λ v. IsTrue (removed v)) own b →

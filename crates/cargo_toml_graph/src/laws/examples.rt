@@ -13,7 +13,8 @@ ghost use Rattle.cargo_toml_graph.specs.Recursive.{Enables};
 ghost use Rattle.cargo_toml_graph.specs.Redirects.{RedirectsTo};
 ghost use Rattle.cargo_toml_graph.specs.Removal.{is_removed, pass_all, unremoved};
 
-/// With a limit of two the first two names in byte order count, and the first two actions of each, and always `default`.
+/// With a limit of two the first two names in byte order count, and the first two actions of each,
+/// and always `default`.
 pub fn a_limit_leaves_out()
     ensures admitted { admitted 2 four ≡ (codes "b", []) ∷ (codes "default", codes "c" ∷ [])
         ∷ (codes "a", codes "x" ∷ codes "y" ∷ []) ∷ [] }
@@ -25,7 +26,8 @@ pub fn a_limit_leaves_out()
     ensures no_actions { (x : Text) → IsFalse (names (admitted 2 four) (codes "c") x) }
 {}
 
-/// `a = ["_h"]`, `_h = ["a"]` with `_h` removed: `a` names itself and is enabled by itself, and stands for `_h`.
+/// `a = ["_h"]`, `_h = ["a"]` with `_h` removed: `a` names itself and is enabled by itself,
+/// and stands for `_h`.
 pub fn a_cycle_through_a_hidden_feature()
     ensures names { (x : Text) → KeepsName hidden_cycle (Among (codes "_h" ∷ [])) (codes "a") x ↔ (x ≡ codes "a") }
     ensures enabled_by { (e : Text) → IsEnabledBy hidden_cycle (Among (codes "_h" ∷ [])) (codes "a") e
@@ -34,7 +36,8 @@ pub fn a_cycle_through_a_hidden_feature()
         (λ a b. IsTrue (is_below a b)) (codes "_h") x ↔ (x ≡ codes "a") }
 {}
 
-/// `k = ["_s"]`, `_s = ["_s", "b"]`, `b = []` with `_s` removed: `k` names `b` alone, and `_s` stays in its own redirect.
+/// `k = ["_s"]`, `_s = ["_s", "b"]`, `b = []` with `_s` removed: `k` names `b` alone, and `_s`
+/// stays in its own redirect.
 pub fn a_hidden_feature_that_names_itself()
     ensures names { (x : Text) → KeepsName hidden_names_itself (Among (codes "_s" ∷ [])) (codes "k") x
         ↔ (x ≡ codes "b") }

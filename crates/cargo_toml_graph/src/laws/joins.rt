@@ -4,7 +4,8 @@ ghost use Rattle.cargo_toml_graph.specs.Action.{Action, IsJoin, Item, Text, join
 ghost use Rattle.cargo_toml_graph.specs.Admitted.{Listed, action_on, items, joined_action, names};
 ghost use Rattle.cargo_toml_graph.specs.Reach.{Among};
 
-/// The order and the grouping of actions make no difference, nor does an action that is there twice.
+/// The order and the grouping of actions make no difference, nor does an action
+/// that is there twice.
 pub fn actions_join_in_any_order()
     ensures associative { (a b c : Action) → join (join a b) c ≡ join a (join b c) }
     ensures commutative { (a b : Action) → join a b ≡ join b a }

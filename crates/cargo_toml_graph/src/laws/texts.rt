@@ -16,7 +16,8 @@ pub fn some_texts_name_features()
     ensures two_marks { item_of (codes "x??") ≡ Item.Name (codes "x?") }
 {}
 
-/// Texts that act on dependencies: one `dep:` goes from the front, what follows the first `/` is a feature.
+/// Texts that act on dependencies: one `dep:` goes from the front, what follows the
+/// first `/` is a feature.
 pub fn some_texts_act_on_dependencies()
     // `dep:a?/b/c`
     ensures both { item_of (codes "dep:a?/b/c") ≡ Item.On (codes "a")

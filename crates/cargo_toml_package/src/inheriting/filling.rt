@@ -23,7 +23,8 @@ fn based_file(alloc: Global, base: &str, file: &OptionalFile) -> Result<Optional
     }
 }
 
-/// The making of one value after the other, and whether memory was refused. What is answered after that means nothing.
+/// The making of one value after the other, and whether memory was refused. What is answered after
+/// that means nothing.
 #[derive(Drop)]
 pub struct Filling {
     /// Where memory is taken from.
@@ -113,7 +114,8 @@ impl Filling {
         }
     }
 
-    /// The workspace's path, where it has one, joined to `base`, for a field that is there and inherited.
+    /// The workspace's path, where it has one, joined to `base`, for a field that is
+    /// there and inherited.
     pub fn path_if_there(
         &mut self,
         field: &Option<Inheritable<String>>,

@@ -1,4 +1,5 @@
-//! The calls that read a manifest, metadata of a caller's own, and what types are where nothing is given.
+//! The calls that read a manifest, metadata of a caller's own, and what types are
+//! where nothing is given.
 use super::{boxed, manifest};
 use cargo_toml::{
     Badges, DependencyDetail, Error, FeatureDetail, FromValue, Inheritable,

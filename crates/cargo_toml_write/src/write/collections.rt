@@ -58,7 +58,8 @@ fn pairs_of<T: ToValue>(
     Ok(pairs)
 }
 
-// The table of some pairs. It is made in one go: to insert them one by one looks each key up from the root.
+// The table of some pairs. It is made in one go: to insert them one by one looks each
+// key up from the root.
 pub(crate) fn table_of(alloc: Global, pairs: Vec<(String, Value)>) -> Result<Table, AllocError>
     ensures { IfOk result (λ t. table_view t ≡ put_all pairs.items no_members) }
 {

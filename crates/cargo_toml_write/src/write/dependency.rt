@@ -41,7 +41,8 @@ impl ToValue for InheritedDependencyDetail {
     }
 }
 
-/// The keys that were collected are written first, so that one that a detail knows is put over a collected one.
+/// The keys that were collected are written first, so that one that a detail knows is put
+/// over a collected one.
 impl ToValue for DependencyDetail {
     ghost Meaning = { DetailMeaning };
 

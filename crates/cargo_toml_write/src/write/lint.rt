@@ -58,7 +58,8 @@ fn lint_table(lint: &Lint, alloc: Global) -> Result<Value, Error>
     Ok(Value::Table(table))
 }
 
-/// A lint is written as its level where its priority is 0 and nothing else is said of it, and as a table else.
+/// A lint is written as its level where its priority is 0 and nothing else is said of it,
+/// and as a table else.
 impl ToValue for Lint {
     ghost Meaning = { LintMeaning };
 

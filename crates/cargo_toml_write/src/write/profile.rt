@@ -48,7 +48,8 @@ impl ToValue for Profile {
     }
 }
 
-/// The profiles of other names are written first, so that one that Cargo knows is put over one of its name.
+/// The profiles of other names are written first, so that one that Cargo knows is put
+/// over one of its name.
 impl ToValue for Profiles {
     ghost Meaning = { ProfilesMeaning };
 

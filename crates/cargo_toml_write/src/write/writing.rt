@@ -1,7 +1,7 @@
 //! Writing the keys of a table one after the other, up to the first fault.
 //!
-//! A type that is a table is written in a straight line: each key by a call, and then [`Writing::finish`], which is the only
-//! place where a fault comes out.
+//! A type that is a table is written in a straight line: each key by a call, and then
+//! [`Writing::finish`], which is the only place where a fault comes out.
 ghost use Rattle.std.specs.Prelude.{◌≡◌, [], ◌∷◌, None, Some, option_map};
 ghost use Rattle.toml.specs.Data.{no_members};
 ghost use Rattle.toml.specs.View.{table_view};
@@ -16,7 +16,8 @@ use std::alloc::Global;
 use std::collections::BTreeMap;
 use toml::{Table, Value};
 
-/// The writing of one table, key by key, and the first fault that was met. Once there is a fault nothing more is written.
+/// The writing of one table, key by key, and the first fault that was met. Once there is a fault
+/// nothing more is written.
 #[derive(Drop)]
 pub struct Writing {
     /// Where memory is taken from.

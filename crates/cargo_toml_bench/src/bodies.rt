@@ -93,7 +93,8 @@ fn requirements<'m, M>(
     alloc: Global,
     manifest: &'m Manifest<M>,
 ) -> Result<Vec<Requirement<'m>>, AllocError>
-    ensures { IfOk result (λ v. map requirement_of v.items ≡ requirements (manifest_meaning (λ m. m) manifest.now)) }
+    ensures { IfOk result
+        (λ v. map requirement_of v.items ≡ requirements (manifest_meaning (λ m. m) manifest.now)) }
 {
     match &manifest.package {
         Some(package) => requirements_of(alloc, manifest.bin.as_slice(), package.name.as_str()),
@@ -123,7 +124,8 @@ fn add_requirements<'m>(
     bin: &'m Product,
     package_name: &'m str,
 ) -> Result<(), AllocError>
-    ensures { OnOk result (map requirement_of requirements.new.items ≡ map requirement_of requirements.old.items
+    ensures { OnOk result (map requirement_of requirements.new.items
+        ≡ map requirement_of requirements.old.items
         ++ requirements_by package_name.now (product_meaning bin.now)) }
 {
     let name = bin.name.as_deref().unwrap_or(package_name);

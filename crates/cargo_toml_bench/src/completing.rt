@@ -73,7 +73,8 @@ pub fn edition_of_member(
     workspace: &[u8],
     path: &str,
 ) -> Result<Option<Edition>, Error>
-    ensures edition { IfOk result (λ e. e ≡ option_and_then (λ p. value_of p.edition) member.new.«package») }
+    ensures edition { IfOk result
+        (λ e. e ≡ option_and_then (λ p. value_of p.edition) member.new.«package») }
     ensures unchanged { OnErr result (member.new ≡ member.old) }
 {
     complete_member(alloc, member, workspace, path)?;
@@ -89,10 +90,11 @@ pub fn edition_of_file<'a, R: Files + AllocGlobal>(
     rt: &'a R,
     path: &'a str,
 ) -> Result<Option<Edition>, Error>
-    ensures edition { IfOk result (λ e. (m : Manifest Value) × IsReadAndCompleted view (manifest_reads any_tree) m
+    ensures edition { IfOk result
+        (λ e. (m : Manifest Value) × IsReadAndCompleted view (manifest_reads any_tree) m
         × (e ≡ option_and_then (λ p. value_of p.edition) m.«package»)) }
-    ensures refused { IfErr result (IsPathFault path.now (manifest_meaning view) (manifest_reads any_tree)
-        (manifest_refuses any_tree any_refuses)) }
+    ensures refused { IfErr result (IsPathFault path.now (manifest_meaning view)
+        (manifest_reads any_tree) (manifest_refuses any_tree any_refuses)) }
 {
     let manifest = Manifest::from_path(rt, rt.alloc(), path)?;
     match &manifest.package {

@@ -88,7 +88,8 @@ fn names_of(alloc: Global, answer: Option<&Answer>) -> Result<HashSet<String>, E
 }
 
 fn root_at<'a>(roots: &'a [Root], hint: Option<&str>) -> Option<&'a Root>
-    ensures { told_of_root (option_copied result) ≡ told_root_at roots.now (option_copied hint.entry) }
+    ensures { told_of_root (option_copied result)
+        ≡ told_root_at roots.now (option_copied hint.entry) }
 {
     for root in roots {
         if root.hint.as_deref() == hint {

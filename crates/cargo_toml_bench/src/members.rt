@@ -24,10 +24,13 @@ pub fn enables_in_member<Fs: AbstractFilesystem + Drop>(
     name: &str,
     other: &str,
 ) -> Result<bool, Error>
-    ensures answer { IfOk result (IsToldOfMember (manifest_meaning (λ m. m) member.old) (option_map handed_of workspace.entry)
-        (λ hint. heard Fs.Roots.ARE_READ (Fs.root_for files hint)) (Fs.names_at files) name.now other.now) }
-    ensures refused { IfErr result (IsRefusedBy (manifest_meaning (λ m. m) member.old)
-        (option_map handed_of workspace.entry) (λ hint. heard Fs.Roots.ARE_READ (Fs.root_for files hint))
+    ensures answer { IfOk result (IsToldOfMember (manifest_meaning (λ m. m) member.old)
+        (option_map handed_of workspace.entry)
+        (λ hint. heard Fs.Roots.ARE_READ (Fs.root_for files hint))
+        (Fs.names_at files) name.now other.now) }
+    ensures refused { IfErr result
+        (IsRefusedBy (manifest_meaning (λ m. m) member.old) (option_map handed_of workspace.entry)
+        (λ hint. heard Fs.Roots.ARE_READ (Fs.root_for files hint))
         (MayLose Fs.Roots.ARE_READ (Fs.may_refuse_root files)) (Fs.may_refuse files)) }
 {
     let resolver = Resolver::new();

@@ -100,7 +100,8 @@ fn unreferenced_names<'m, S: BuildHasher>(
 }
 
 fn in_order<'m>(alloc: Global, names: &BTreeSet<&'m str>) -> Result<Vec<&'m str>, AllocError>
-    ensures all { IfOk result (λ v. (f : Text) → Among (texts v) f ↔ IsTrue (has_text names.now f)) }
+    ensures all { IfOk result
+        (λ v. (f : Text) → Among (texts v) f ↔ IsTrue (has_text names.now f)) }
     ensures in_order { IfOk result (λ v. IsStrictlySortedBy (slice_cmp nat_cmp) (texts v)) }
 {
     names.iter().copied().collect(alloc)

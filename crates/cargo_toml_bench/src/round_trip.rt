@@ -86,7 +86,8 @@ pub fn product_again(alloc: Global, product: &Product) -> Result<Product, Error>
 pub fn lint_again(alloc: Global, lint: &Lint) -> Result<Lint, Error>
     requires { IsApart (lint_meaning lint.now) }
     ensures same { IfOk result (λ again. lint_meaning again ≡ lint_meaning lint.now) }
-    ensures refused { LintHoldsNoFloat (lint_meaning lint.now) → IfErr result (λ e. e ≡ Error.Memory) }
+    ensures refused { LintHoldsNoFloat (lint_meaning lint.now)
+        → IfErr result (λ e. e ≡ Error.Memory) }
 {
     Lint::from_value(alloc, lint.to_value(alloc)?)
 }
@@ -94,7 +95,8 @@ pub fn lint_again(alloc: Global, lint: &Lint) -> Result<Lint, Error>
 /// A package whose version `semver` reads again from its own text, written and read again.
 pub fn package_again(alloc: Global, written: &Package) -> Result<Package, Error>
     requires { VersionAgain (inheritable_map parts_of written.now.version) }
-    ensures same { IfOk result (λ again. package_meaning view again ≡ package_meaning view written.now) }
+    ensures same { IfOk result
+        (λ again. package_meaning view again ≡ package_meaning view written.now) }
     ensures refused { PackageHoldsNoFloat (HasTree free_way) (package_meaning view written.now)
         → IfErr result (λ e. e ≡ Error.Memory) }
 {

@@ -67,8 +67,10 @@ pub fn resolve_both<'m, M>(
     alloc: Global,
     manifest: &'m Manifest<M>,
 ) -> Result<(Answer<'m>, Answer<'m>), Error>
-    ensures closure { IfOk result (λ p. KeepsEnabling (answer_of p.0).resolution (answer_of p.1).resolution) }
-    ensures nothing_lost { IfOk result (λ p. LosesNothing (answer_of p.0).resolution (answer_of p.1).resolution) }
+    ensures closure { IfOk result
+        (λ p. KeepsEnabling (answer_of p.0).resolution (answer_of p.1).resolution) }
+    ensures nothing_lost { IfOk result
+        (λ p. LosesNothing (answer_of p.0).resolution (answer_of p.1).resolution) }
     ensures refused { IfErr result (λ e. e ≡ Memory) }
 {
     let whole = resolve_whole(alloc, manifest)?;

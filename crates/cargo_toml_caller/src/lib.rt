@@ -48,16 +48,19 @@ pub fn package_audience(manifest: &Manifest<Audience>) -> Option<Audience>
 
 /// A tree of the manifest. Metadata that can't be written are refused with their own fault.
 pub fn write_manifest(alloc: Global, manifest: &Manifest<Audience>) -> Result<Value, Error>
-    ensures { IsWriting (manifest_way audience_way) (manifest_meaning (λ x. x) manifest.now) result }
+    ensures { IsWriting (manifest_way audience_way)
+        (manifest_meaning (λ x. x) manifest.now) result }
 {
     manifest.to_value(alloc)
 }
 
 /// A tree of the package, from which it is read again, its metadata too.
 pub fn write_package(alloc: Global, package: &Package<Audience>) -> Result<Value, Error>
-    ensures written { IsWriting (package_way audience_way) (package_meaning (λ x. x) «package».now) result }
+    ensures written { IsWriting (package_way audience_way)
+        (package_meaning (λ x. x) «package».now) result }
     ensures read_again { VersionAgain (inheritable_map parts_of «package».now.version)
-        → IsReadAgain (package_reads audience_reads) (package_meaning (λ x. x) «package».now) result }
+        → IsReadAgain (package_reads audience_reads)
+        (package_meaning (λ x. x) «package».now) result }
 {
     package.to_value(alloc)
 }

@@ -78,8 +78,9 @@ fn faults_of_writing(rt: HostRuntime) -> Result<(), Fail> {
 #[test]
 fn first_dependencies(rt: HostRuntime) -> Result<(), Fail> {
     let alloc = rt.alloc();
-    let text =
-        b"[features]\nf = [\"a/x\"]\n[dev-dependencies]\na = \"1\"\n[target.'cfg(unix)'.build-dependencies]\na = { version = \"2\", optional = true }\n";
+    let text = b"[features]\nf = [\"a/x\"]\n\
+        [dev-dependencies]\na = \"1\"\n\
+        [target.'cfg(unix)'.build-dependencies]\na = { version = \"2\", optional = true }\n";
     assert_eq!(rt; kind_from(alloc, text, "a")?, Some(Kind::Build));
     assert_eq!(rt; kind_from(alloc, text, "x")?, None);
     let manifest = manifest(alloc, text)?;

@@ -36,7 +36,8 @@ const NEAR: usize = 3;
 fn near_at<'a>(near: &mut Iter<'a, String, Dependency>, key: &str) -> Option<&'a Dependency>
     ensures found { (entries : Entries) → AreEntriesOf entries near.old
         → IfSome result (λ d. entry_at key.now entries ≡ Some (dependency_meaning d.now)) }
-    ensures near { (entries : Entries) → AreEntriesOf entries near.old → AreEntriesOf entries near.new }
+    ensures near { (entries : Entries) → AreEntriesOf entries near.old
+        → AreEntriesOf entries near.new }
 {
     for _ in 0..NEAR {
         let (at, dependency) = near.next()?;
@@ -71,8 +72,10 @@ fn template_at<'a>(
     key: &str,
 ) -> Option<&'a Dependency>
     ensures found { AreEntriesOf (entries_meaning templates.now) near.old
-        → option_map dependency_meaning (option_copied result) ≡ entry_at key.now (entries_meaning templates.now) }
-    ensures near { (entries : Entries) → AreEntriesOf entries near.old → AreEntriesOf entries near.new }
+        → option_map dependency_meaning (option_copied result)
+        ≡ entry_at key.now (entries_meaning templates.now) }
+    ensures near { (entries : Entries) → AreEntriesOf entries near.old
+        → AreEntriesOf entries near.new }
 {
     match near_at(near, key) {
         Some(template) => Some(template),
@@ -98,7 +101,8 @@ fn made_by(
     dependencies: &DepsSet,
 ) -> Result<Made, Error>
     ensures { Gives (λ made. replaced (entries_meaning dependencies.now) (made_meaning made)) result
-        (inherited_entries (Some (entries_meaning templates.now)) base.now (entries_meaning dependencies.now)) }
+        (inherited_entries (Some (entries_meaning templates.now)) base.now
+        (entries_meaning dependencies.now)) }
 {
     let none = DepsSet::new(alloc);
     let mut near = near_of(templates, &none, dependencies);
@@ -160,7 +164,8 @@ fn put_next(dependency: &mut Dependency, waiting: &mut Waiting)
 /// Other dependencies are left as they are, and so are inherited ones for which nothing was made.
 /// It takes no memory.
 pub fn replace(dependencies: &mut DepsSet, made: Made)
-    ensures { entries_meaning dependencies.new ≡ replaced (entries_meaning dependencies.old) (made_meaning made) }
+    ensures { entries_meaning dependencies.new
+        ≡ replaced (entries_meaning dependencies.old) (made_meaning made) }
 {
     let mut waiting = blocks::all_waiting(made);
     dependencies.retain(|_, dependency| {

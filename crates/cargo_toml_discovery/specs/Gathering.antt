@@ -49,7 +49,8 @@ HasAll wanted ans =
     Has ans (codes "src")
     × (HasProducts wanted.bins (codes "src/bin") ans
     × (HasProducts wanted.examples (codes "examples") ans
-    × (HasProducts wanted.tests (codes "tests") ans × HasProducts wanted.benches (codes "benches") ans)))
+    × (HasProducts wanted.tests (codes "tests") ans
+    × HasProducts wanted.benches (codes "benches") ans)))
 
 -- the fault may be told at one of these
 abbrev pub MayTellOneOf : (Text → Told) → List Text → Fault → Type 0
@@ -63,4 +64,5 @@ Listed t r = MatchResult r (λ s. IsAnswer t (texts_in s)) (λ e. Tells (names_a
 -- the same for the folder of the package, which must be there
 abbrev pub RootListed : Told → Result (BTreeSet (String Global)) Error → Type 0
 RootListed t r =
-    MatchResult r (λ s. root_names (filled_by t (Some (texts_in s))) ≡ seen (texts_in s)) (λ e. Tells (root_names t) e)
+    MatchResult r (λ s. root_names (filled_by t (Some (texts_in s))) ≡ seen (texts_in s))
+    (λ e. Tells (root_names t) e)

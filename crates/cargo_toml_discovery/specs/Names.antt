@@ -43,7 +43,8 @@ with_endings (suc n) name = with_endings n name ++ codes ".rs"
 -- a text put among texts in byte order, each of which stands there once
 abbrev pub put_in : Text → List Text → List Text
 put_in text [] = text ∷ []
-put_in text (t ∷ ts) = match_ordering (slice_cmp nat_cmp text t) (text ∷ t ∷ ts) (t ∷ ts) (t ∷ put_in text ts)
+put_in text (t ∷ ts) =
+    match_ordering (slice_cmp nat_cmp text t) (text ∷ t ∷ ts) (t ∷ ts) (t ∷ put_in text ts)
 
 -- texts in byte order, each once
 abbrev pub ordered : List Text → List Text

@@ -64,9 +64,11 @@ abbrev pub with_extra : List Offered → Option Offered → List Offered
 with_extra os extra = os ++ option_to_list extra
 
 -- the products that stay, and those of the walk over all offers
-abbrev pub all_walked : Edition → Text → List ProductMeaning → List Named → Option Offered → List ProductMeaning
+abbrev pub all_walked : Edition → Text → List ProductMeaning → List Named → Option Offered
+    → List ProductMeaning
 all_walked edition dir ps es extra =
-    filter has_path ps ++ walk edition (last_waiting ps) (with_extra (offers dir (is_path_of ps) es) extra)
+    filter has_path ps
+    ++ walk edition (last_waiting ps) (with_extra (offers dir (is_path_of ps) es) extra)
 
 -- each name stands after this one in byte order, and names ascend
 abbrev pub NamesAfter : Text → List Named → Type 0

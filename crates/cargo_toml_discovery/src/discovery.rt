@@ -114,7 +114,8 @@ fn filled_library(
     edition: Edition,
     library: Product,
 ) -> Result<Product, AllocError>
-    ensures { IfOk result (λ p. product_meaning p ≡ filled_library name.now edition (product_meaning library)) }
+    ensures { IfOk result
+        (λ p. product_meaning p ≡ filled_library name.now edition (product_meaning library)) }
 {
     let mut library = library;
     if library.name.is_none() {
@@ -144,8 +145,8 @@ pub fn library(
     listings: &Listings,
 ) -> Result<Option<Product>, AllocError>
     ensures { IfOk result (λ l. option_map product_meaning l
-        ≡ library name.now edition (has_text (names_kept listings.now (codes "src")) (codes "lib.rs")) autolib
-        (product_lent stated.entry)) }
+        ≡ library name.now edition (has_text (names_kept listings.now (codes "src"))
+        (codes "lib.rs")) autolib (product_lent stated.entry)) }
 {
     match found_library(alloc, listings.has("src", "lib.rs"), autolib, stated)? {
         Some(library) => Ok(Some(filled_library(alloc, name, edition, library)?)),
@@ -236,7 +237,8 @@ pub fn readme(
     stated: &OptionalFile,
     listings: &Listings,
 ) -> Result<OptionalFile, AllocError>
-    ensures { IfOk result (λ r. file_meaning r ≡ readme_in (names_kept listings.now []) (file_meaning stated.now)) }
+    ensures { IfOk result
+        (λ r. file_meaning r ≡ readme_in (names_kept listings.now []) (file_meaning stated.now)) }
 {
     let OptionalFile::Flag(true) = stated else {
         return copied_file(alloc, stated);
@@ -261,7 +263,8 @@ pub fn discover(
     listings: &Listings,
 ) -> Result<Discovered, AllocError>
     ensures { IfOk result (λ d. discovered_meaning d
-        ≡ discovered (stated_meaning stated.now) (around_in (answers_of listings.now) stated.now.wanted)) }
+        ≡ discovered (stated_meaning stated.now)
+        (around_in (answers_of listings.now) stated.now.wanted)) }
 {
     let name = stated.name;
     let edition = stated.edition;

@@ -56,8 +56,8 @@ fn offer_for(alloc: Global, dir: &str, entry: &Entry<'_>) -> Result<Option<Offer
 
 // Puts the path of a product into a set of paths, if it has one.
 fn add_path<'a>(paths: &mut BTreeSet<&'a str>, product: &'a Product) -> Result<(), AllocError>
-    ensures ok { OnOk result ((t : Text) →
-        is_path_in paths.new t ≡ (is_path_in paths.old t || is_text t (product_meaning product.now).path)) }
+    ensures ok { OnOk result ((t : Text) → is_path_in paths.new t
+        ≡ (is_path_in paths.old t || is_text t (product_meaning product.now).path)) }
 {
     if let Some(path) = &product.path {
         paths.insert(path.as_str())?;
@@ -67,7 +67,8 @@ fn add_path<'a>(paths: &mut BTreeSet<&'a str>, product: &'a Product) -> Result<(
 
 // The paths of the products.
 fn paths_of<'a>(alloc: Global, products: &'a [Product]) -> Result<BTreeSet<&'a str>, AllocError>
-    ensures { IfOk result (λ s. (t : Text) → is_path_in s t ≡ is_path_of (meanings products.now) t) }
+    ensures { IfOk result
+        (λ s. (t : Text) → is_path_in s t ≡ is_path_of (meanings products.now) t) }
 {
     let mut paths = BTreeSet::new(alloc);
     for product in products {
@@ -110,7 +111,8 @@ fn waiting<'a>(
     alloc: Global,
     products: &'a [Product],
 ) -> Result<BTreeMap<&'a str, &'a Product>, AllocError>
-    ensures { IfOk result (λ m. (n : Text) → waiting_in m n ≡ last_waiting (meanings products.now) n) }
+    ensures { IfOk result
+        (λ m. (n : Text) → waiting_in m n ≡ last_waiting (meanings products.now) n) }
 {
     let mut map = BTreeMap::new(alloc);
     for product in products {
@@ -152,7 +154,8 @@ fn open_offer(
     paths: &BTreeSet<&str>,
     entry: &Entry<'_>,
 ) -> Result<Option<Offer>, AllocError>
-    ensures { IfOk result (IsOffer (open_offer dir.now (is_path_in paths.now) (named_of entry.now))) }
+    ensures { IfOk result
+        (IsOffer (open_offer dir.now (is_path_in paths.now) (named_of entry.now))) }
 {
     match offer_for(alloc, dir, entry)? {
         Some(offer) => {
@@ -174,8 +177,9 @@ fn place<'a>(
     list: &mut Vec<Product>,
     still: &mut BTreeMap<&'a str, &'a Product>,
 ) -> Result<(), AllocError>
-    ensures ok { OnOk result ((o : Offered) (os : List Offered) → offer_parts o ≡ parts_of_code offer →
-        walked edition list.new still.new os ≡ walked edition list.old still.old (o ∷ os)) }
+    ensures ok { OnOk result
+        ((o : Offered) (os : List Offered) → offer_parts o ≡ parts_of_code offer
+        → walked edition list.new still.new os ≡ walked edition list.old still.old (o ∷ os)) }
 {
     let waiting = still.remove(offer.name.as_str());
     list.push(product_for(alloc, edition, offer, waiting)?)?;
@@ -190,8 +194,9 @@ fn place_if_there<'a>(
     list: &mut Vec<Product>,
     still: &mut BTreeMap<&'a str, &'a Product>,
 ) -> Result<(), AllocError>
-    ensures ok { OnOk result ((o : Option Offered) (os : List Offered) → IsOffer o offer →
-        walked edition list.new still.new os ≡ walked edition list.old still.old (cons_option o os)) }
+    ensures ok { OnOk result ((o : Option Offered) (os : List Offered) → IsOffer o offer
+        → walked edition list.new still.new os
+        ≡ walked edition list.old still.old (cons_option o os)) }
 {
     if let Some(offer) = offer {
         place(alloc, edition, offer, list, still)?;
@@ -229,7 +234,8 @@ fn place_all<'a>(
     still: &mut BTreeMap<&'a str, &'a Product>,
 ) -> Result<(), AllocError>
     ensures ok { OnOk result ((os : List Offered) → walked edition list.new still.new os
-        ≡ walked edition list.old still.old (offers dir.now (is_path_in paths.now) (all_named entries.now) ++ os)) }
+        ≡ walked edition list.old still.old
+        (offers dir.now (is_path_in paths.now) (all_named entries.now) ++ os)) }
 {
     for entry in entries {
         place_one(alloc, edition, dir, paths, entry, list, still)?;
@@ -246,8 +252,8 @@ fn placed(
     entries: &[Entry<'_>],
     extra: Option<Offer>,
 ) -> Result<Vec<Product>, AllocError>
-    ensures { IfOk result (λ v. (x : Option Offered) → IsOffer x extra →
-        meanings v.items ≡ all_walked edition dir.now (meanings products.now) (all_named entries.now) x) }
+    ensures { IfOk result (λ v. (x : Option Offered) → IsOffer x extra → meanings v.items
+        ≡ all_walked edition dir.now (meanings products.now) (all_named entries.now) x) }
 {
     let paths = paths_of(alloc, products)?;
     let mut list = staying(alloc, products)?;
@@ -266,8 +272,8 @@ fn found_by_walk(
     entries: &[Entry<'_>],
     extra: Option<Offer>,
 ) -> Result<Vec<Product>, AllocError>
-    ensures { IfOk result (λ v. (x : Option Offered) → IsOffer x extra →
-        meanings v.items ≡ in_order (all_walked edition dir.now (meanings products.now) (all_named entries.now) x)) }
+    ensures { IfOk result (λ v. (x : Option Offered) → IsOffer x extra → meanings v.items
+        ≡ in_order (all_walked edition dir.now (meanings products.now) (all_named entries.now) x)) }
 {
     let mut list = placed(alloc, edition, dir, products, entries, extra)?;
     sort_products(&mut list)?;
@@ -288,8 +294,8 @@ pub fn found(
     extra: Option<Offer>,
 ) -> Result<Vec<Product>, AllocError>
     requires { NamesAscend (all_named entries.now) }
-    ensures { IfOk result (λ v. (x : Option Offered) → IsOffer x extra →
-        meanings v.items ≡ found edition dir.now (meanings products.now) (all_named entries.now) x) }
+    ensures { IfOk result (λ v. (x : Option Offered) → IsOffer x extra → meanings v.items
+        ≡ found edition dir.now (meanings products.now) (all_named entries.now) x) }
 {
     found_by_walk(alloc, edition, dir, products, entries, extra)
 }

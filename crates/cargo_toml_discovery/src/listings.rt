@@ -65,7 +65,8 @@ impl Listings {
 
     /// The names in a folder, `None` where it was not asked for.
     pub fn names_at(&self, path: &str) -> Option<&BTreeSet<String>>
-        ensures { option_map texts_in (option_copied result) ≡ answer_at (answers_of self.now) path.now }
+        ensures { option_map texts_in (option_copied result)
+            ≡ answer_at (answers_of self.now) path.now }
     {
         self.names.get(path)
     }
@@ -89,7 +90,8 @@ impl Listings {
         names: BTreeSet<String>,
     ) -> Result<(), AllocError>
         ensures ok { OnOk result ((p : Text) → answer_at (answers_of self.new) p
-            ≡ (if bytes_eq path.now p then Some (texts_in names) else answer_at (answers_of self.old) p)) }
+            ≡ (if bytes_eq path.now p then Some (texts_in names)
+            else answer_at (answers_of self.old) p)) }
     {
         self.names.insert(String::from_str(alloc, path)?, names)?;
         Ok(())
@@ -98,7 +100,8 @@ impl Listings {
     /// The paths of the folders in a folder that may hold `main.rs`: those of the names
     /// that are no sources.
     pub fn folders_in(&self, alloc: Global, dir: &str) -> Result<Vec<String>, AllocError>
-        ensures { IfOk result (λ v. map string_bytes v.items ≡ below dir.now (names_kept self.now dir.now)) }
+        ensures { IfOk result
+            (λ v. map string_bytes v.items ≡ below dir.now (names_kept self.now dir.now)) }
     {
         let mut paths = Vec::new(alloc);
         if let Some(names) = self.names_at(dir) {
@@ -113,7 +116,8 @@ impl Listings {
 
     /// What a folder of products holds, by name in byte order; nothing where it was not asked for.
     pub fn entries<'a>(&'a self, alloc: Global, dir: &str) -> Result<Vec<Entry<'a>>, AllocError>
-        ensures names { IfOk result (λ v. all_named v.items ≡ entries_in (answers_of self.now) dir.now) }
+        ensures names { IfOk result
+            (λ v. all_named v.items ≡ entries_in (answers_of self.now) dir.now) }
         ensures ascend { IfOk result (λ v. NamesAscend (all_named v.items)) }
     {
         let Some(names) = self.names_at(dir) else {

@@ -34,7 +34,8 @@ detail_at details f = unwrap_or (lookup (bytes_eq f) details) plain_detail
 
 -- what is said of f where it is listed; nothing of another, whatever entry it has
 abbrev pub detail_listed : Listed → Details → Text → Detail
-detail_listed listed details f = if is_some (lookup (bytes_eq f) listed) then detail_at details f else plain_detail
+detail_listed listed details f =
+    if is_some (lookup (bytes_eq f) listed) then detail_at details f else plain_detail
 
 -- the marks of f: of a feature that isn't listed, an added `default` or an implied
 -- one, nothing is said

@@ -17,7 +17,8 @@ abbrev pub items_at : {S : Type 0} → Lists S → Text → List (Bor Text × Bo
 items_at m k = option_map_or (λ v. v.items) (value_at m k) []
 
 -- one more pair at the end of the list under k
-pub record AddsPair {S : Type 0} (k : Text) (pair : Bor Text × Bor DepAction) (old new : Lists S) : Type 0 where
+pub record AddsPair {S : Type 0} (k : Text) (pair : Bor Text × Bor DepAction)
+    (old new : Lists S) : Type 0 where
   pub here : items_at new k ≡ items_at old k ++ pair ∷ []
   pub others : (q : Text) → bytes_eq k q ≡ false → value_at new q ≡ value_at old q
 
@@ -28,7 +29,9 @@ unconditional f (Some a) = if a.is_conditional then [] else ((f, a) ∷ [])
 
 -- at the end of each list one pair for what the feature does unconditionally
 abbrev pub AddsActions : {S : Type 0} → Feature → Lists S → Lists S → Type 0
-AddsActions v old new = (k : Text) → pairs_at new k ≡ pairs_at old k ++ unconditional v.key.now (action_at v.enables_deps k)
+AddsActions v old new =
+    (k : Text) → pairs_at new k
+    ≡ pairs_at old k ++ unconditional v.key.now (action_at v.enables_deps k)
 
 -- the feature v is put among those that are found
 pub record PutsFound {S : Type 0} (v : Bor Feature) (old new : Found S) : Type 0 where
@@ -50,7 +53,9 @@ abbrev pub AreHeld : {S : Type 0} → HashMap (Bor Text) Feature S → List (Bor
 AreHeld m vs = AllByRecursion (λ v. value_at m v.now.key.now ≡ Some v.now) vs
 
 -- the features of m that v names are still to visit too
-pub record PushesNamed {S : Type 0} (m : HashMap (Bor Text) Feature S) (v : Feature) (old new : List (Bor Feature)) : Type 0 where
-  pub pending : (x : Text) → is_pending new x ≡ (is_pending old x || (has_text v.enables_features x && is_some (value_at m x)))
+pub record PushesNamed {S : Type 0} (m : HashMap (Bor Text) Feature S) (v : Feature)
+    (old new : List (Bor Feature)) : Type 0 where
+  pub pending : (x : Text) → is_pending new x
+      ≡ (is_pending old x || (has_text v.enables_features x && is_some (value_at m x)))
   pub held : AreHeld m old → AreHeld m new
   pub count : length new ≤ length old + length v.enables_features.keys

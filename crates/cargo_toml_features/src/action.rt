@@ -88,7 +88,8 @@ pub fn read_action(text: &str) -> ActionText<'_>
 
 /// Puts a text into a set. It fails only where memory runs out.
 pub fn add_text<'a>(set: &mut BTreeSet<&'a str>, text: &'a str) -> Result<(), AllocError>
-    ensures { OnOk result ((x : Text) → has_text set.new x ≡ (has_text set.old x || bytes_eq x text.now)) }
+    ensures { OnOk result ((x : Text) → has_text set.new x
+        ≡ (has_text set.old x || bytes_eq x text.now)) }
 {
     set.insert(text)?;
     Ok(())
@@ -97,7 +98,8 @@ pub fn add_text<'a>(set: &mut BTreeSet<&'a str>, text: &'a str) -> Result<(), Al
 impl<'a> DepAction<'a> {
     // Joins one more action on the same dependency.
     fn join(&mut self, action: ActionText<'a>) -> Result<(), AllocError>
-        ensures { OnOk result (action_of self.new ≡ join (action_of self.old) (action_in action.entry)) }
+        ensures { OnOk result (action_of self.new
+            ≡ join (action_of self.old) (action_in action.entry)) }
     {
         if let Some(feature) = action.dep_feature {
             add_text(&mut self.dep_features, feature)?;

@@ -41,13 +41,16 @@ fn add_listing<'m>(
     limit: usize,
 ) -> Result<(), AllocError>
     ensures listed { OnOk result (listed_of listings.new.items
-        ≡ (if nat_lt (length listings.old.items) limit || bytes_eq listing.entry.name.now (codes "default")
+        ≡ (if nat_lt (length listings.old.items) limit
+        || bytes_eq listing.entry.name.now (codes "default")
         then listed_of listings.old.items
         ++ (listing.entry.name.now, take limit (map string_bytes listing.entry.actions.now)) ∷ []
         else listed_of listings.old.items)) }
     ensures details { OnOk result (details_of listings.new.items
-        ≡ (if nat_lt (length listings.old.items) limit || bytes_eq listing.entry.name.now (codes "default")
-        then details_of listings.old.items ++ (listing.entry.name.now, detail_in listing.entry.detail) ∷ []
+        ≡ (if nat_lt (length listings.old.items) limit
+        || bytes_eq listing.entry.name.now (codes "default")
+        then details_of listings.old.items
+        ++ (listing.entry.name.now, detail_in listing.entry.detail) ∷ []
         else details_of listings.old.items)) }
 {
     if listings.len() < limit || listing.name == "default" {
@@ -61,7 +64,8 @@ fn add_listing<'m>(
 fn listing_of<'m>(name: &'m str, actions: &'m [String], details: &'m FeatureDetails) -> Listing<'m>
     ensures name { result.name.now ≡ name.now }
     ensures actions { result.actions.now ≡ actions.now }
-    ensures detail { detail_in result.detail ≡ detail_at (map_meaning detail_of details.now) name.now }
+    ensures detail { detail_in result.detail
+        ≡ detail_at (map_meaning detail_of details.now) name.now }
 {
     Listing {
         name,
@@ -80,8 +84,8 @@ pub fn listings<'m>(
     limit: usize,
 ) -> Result<Vec<Listing<'m>>, AllocError>
     ensures all { IfOk result (λ v. listed_of v.items ≡ admitted limit (listed_in table.now)) }
-    ensures details { IfOk result (λ v.
-        details_of v.items ≡ details_listed (listed_of v.items) (map_meaning detail_of details.now)) }
+    ensures details { IfOk result (λ v. details_of v.items
+        ≡ details_listed (listed_of v.items) (map_meaning detail_of details.now)) }
     ensures once { IfOk result (λ v. IsOnce (map (λ l. l.name.now) v.items)) }
 {
     let mut listings = Vec::with_capacity(alloc, table.len().min(limit))?;
@@ -115,7 +119,8 @@ pub fn hashed_listings<'m, S: BuildHasher>(
 ) -> Result<Vec<Listing<'m>>, AllocError>
     ensures all { IfOk result (λ v. (listed : Listed) → IsListingOf table.now listed
         → listed_of v.items ≡ admitted limit listed) }
-    ensures details { IfOk result (λ v. details_of v.items ≡ details_listed (listed_of v.items) []) }
+    ensures details { IfOk result
+        (λ v. details_of v.items ≡ details_listed (listed_of v.items) []) }
     ensures once { IfOk result (λ v. IsOnce (map (λ l. l.name.now) v.items)) }
     ensures listed { IfOk result (λ _. (listed : Listed) × IsListingOf table.now listed) }
 {

@@ -34,7 +34,8 @@ fn add_first<'m>(
     target: Option<&'m str>,
 ) -> Result<(), AllocError>
     ensures { OnOk result (map entry_of entries.new.items ≡ map entry_of entries.old.items
-        ++ first_entries limit kind (option_copied target.entry) (map_meaning dependency_meaning table.now)) }
+        ++ first_entries limit kind (option_copied target.entry)
+        (map_meaning dependency_meaning table.now)) }
 {
     for (key, dep) in table.iter().take(limit) {
         entries.push(ParseDependency {
@@ -56,8 +57,10 @@ fn add_built<'m>(
     target: Option<&'m str>,
 ) -> Result<(), AllocError>
     ensures { OnOk result (map entry_of entries.new.items ≡ map entry_of entries.old.items
-        ++ (first_entries limit Normal (option_copied target.entry) (map_meaning dependency_meaning normal.now)
-        ++ first_entries limit Build (option_copied target.entry) (map_meaning dependency_meaning build.now))) }
+        ++ (first_entries limit Normal
+        (option_copied target.entry) (map_meaning dependency_meaning normal.now)
+        ++ first_entries limit Build (option_copied target.entry)
+        (map_meaning dependency_meaning build.now))) }
 {
     add_first(entries, normal, limit, Kind::Normal, target)?;
     add_first(entries, build, limit, Kind::Build, target)
@@ -70,7 +73,8 @@ fn add_targets_built<'m>(
     limit: usize,
 ) -> Result<(), AllocError>
     ensures { OnOk result (map entry_of entries.new.items ≡ map entry_of entries.old.items
-        ++ flat_map (λ t. built_entries limit (Some t.0) t.1) (map_meaning target_meaning targets.now)) }
+        ++ flat_map (λ t. built_entries limit (Some t.0) t.1)
+        (map_meaning target_meaning targets.now)) }
 {
     for (name, target) in targets {
         add_built(
@@ -91,7 +95,8 @@ fn add_targets_dev<'m>(
     limit: usize,
 ) -> Result<(), AllocError>
     ensures { OnOk result (map entry_of entries.new.items ≡ map entry_of entries.old.items
-        ++ flat_map (λ t. dev_entries limit (Some t.0) t.1) (map_meaning target_meaning targets.now)) }
+        ++ flat_map (λ t. dev_entries limit (Some t.0) t.1)
+        (map_meaning target_meaning targets.now)) }
 {
     for (name, target) in targets {
         add_first(
@@ -116,7 +121,8 @@ pub fn entries_of<'m>(
     limit: usize,
 ) -> Result<Vec<ParseDependency<'m, 'm>>, AllocError>
     ensures { IfOk result (λ v. map entry_of v.items
-        ≡ entries_of limit (tables_meaning tables.entry) (map_meaning target_meaning tables.entry.target.now)) }
+        ≡ entries_of limit (tables_meaning tables.entry)
+        (map_meaning target_meaning tables.entry.target.now)) }
 {
     let Tables {
         dependencies,

@@ -26,7 +26,8 @@ fn targets<'a>()
 // What is listed, the entries and what is kept settle an answer, but for its binaries, what is
 // public, and texts.
 fn answers()
-    ensures { (listed : Listed) (entries : List Entry) (details told : Details) (own others : Text → List Text)
-        (keep : Text → Bool) (a b : Answer) → IsAnswer listed entries details own keep a →
-        IsAnswer listed entries told others keep b → agreement.Agree a b }
+    ensures { (listed : Listed) (entries : List Entry) (details told : Details)
+        (own others : Text → List Text) (keep : Text → Bool) (a b : Answer)
+        → IsAnswer listed entries details own keep a → IsAnswer listed entries told others keep b
+        → agreement.Agree a b }
 {}

@@ -57,7 +57,8 @@ impl<'a> Feature<'a> {
     /// Whether users are meant to ask for this feature: it is public, its name doesn't begin with
     /// `_`, and the manifest lists it or no other feature enables it.
     pub fn is_user_facing(&self) -> bool
-        ensures { IsTrue result ↔ ((IsTrue self.now.explicit ⊎ (btree_set_len self.now.enabled_by ≡ 0))
+        ensures { IsTrue result
+            ↔ ((IsTrue self.now.explicit ⊎ (btree_set_len self.now.enabled_by ≡ 0))
             × IsFalse (starts_with nat_eq self.now.key.now (codes "_")) × IsTrue self.now.public) }
     {
         (self.explicit || !self.is_referenced()) && !self.key.starts_with('_') && self.public
@@ -81,8 +82,10 @@ impl<'d> FeatureDependency<'d> {
     /// There must be a target, as each dependency that a resolver answers has one.
     pub fn dep(&self) -> &'d Dependency
         requires { HasTarget self.now }
-        ensures first { (t : Target) × IsFirst (recorded_in self.now) t (dependency_meaning result.now) }
-        ensures recorded { (es : List Entry) → SameRecorded (Some (recorded_in self.now)) (recorded_of es)
+        ensures first { (t : Target) × IsFirst (recorded_in self.now) t
+            (dependency_meaning result.now) }
+        ensures recorded { (es : List Entry)
+            → SameRecorded (Some (recorded_in self.now)) (recorded_of es)
             → Some (dependency_meaning result.now) ≡ first_target es }
     {
         self.detail().0
@@ -93,7 +96,8 @@ impl<'d> FeatureDependency<'d> {
         requires { HasTarget self.now }
         ensures first { (name : Option Text)
             × IsFirst (recorded_in self.now) (result.1, name) (dependency_meaning result.0.now) }
-        ensures recorded { (es : List Entry) → SameRecorded (Some (recorded_in self.now)) (recorded_of es)
+        ensures recorded { (es : List Entry)
+            → SameRecorded (Some (recorded_in self.now)) (recorded_of es)
             → Some (dependency_meaning result.0.now) ≡ first_target es }
     {
         match self.targets.first_key_value() {

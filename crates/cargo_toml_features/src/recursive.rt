@@ -70,7 +70,8 @@ fn push_named<'f, 'a, S: BuildHasher>(
     pending: &mut Vec<&'f Feature<'a>>,
 ) -> Result<(), AllocError>
     requires { IsKeyed features.now }
-    ensures { OnOk result (PushesNamed features.now feature.now pending.old.items pending.new.items) }
+    ensures { OnOk result
+        (PushesNamed features.now feature.now pending.old.items pending.new.items) }
 {
     for name in feature.enables_features.iter().rev() {
         if let Some(named) = features.get(*name) {
@@ -100,7 +101,8 @@ fn add_found<'f, 'a, S: BuildHasher>(
     feature: &'f Feature<'a>,
 ) -> Result<bool, AllocError>
     ensures puts { OnOk result (PutsFound feature.entry found.old found.new) }
-    ensures is_new { IfOk result (λ is_new. is_new ≡ is_none (value_at found.old feature.now.key.now)) }
+    ensures is_new { IfOk result
+        (λ is_new. is_new ≡ is_none (value_at found.old feature.now.key.now)) }
 {
     make_room(found)?;
     let before = found.insert(feature.key, feature)?;
@@ -192,8 +194,8 @@ impl<'a> Feature<'a> {
         requires start { IsHeldBy features.now self.now }
         ensures features { IfOk result (λ r. AreEnabled features.now self.now.key.now r.0) }
         ensures values { IfOk result (λ r. ComeFrom features.now r.0) }
-        ensures dependencies { IfOk result
-            (λ r. (k : Text) → ArePairs (table_in features.now) self.now.key.now k (pairs_at r.1 k)) }
+        ensures dependencies { IfOk result (λ r. (k : Text) → ArePairs (table_in features.now)
+            self.now.key.now k (pairs_at r.1 k)) }
         ensures no_empty { IfOk result (λ r. HaveNoEmpty r.1) }
         ensures refused { IfErr result (λ e. e ≡ Memory) }
     {

@@ -29,12 +29,14 @@ action_on k (On q a) = if bytes_eq k q then Some a else None
 
 -- the first names in byte order, and always `default`
 abbrev pub is_admitted : ℕ → Listed → Text → Bool
-is_admitted limit listed f = bytes_eq f (codes "default") || nat_lt (count_by (λ e. is_below e.0 f) listed) limit
+is_admitted limit listed f =
+    bytes_eq f (codes "default") || nat_lt (count_by (λ e. is_below e.0 f) listed) limit
 
 -- the table as far as it is admitted: of its names the first and `default`, of the
 -- actions of each the first
 abbrev pub admitted : ℕ → Listed → Listed
-admitted limit listed = map (λ e. (e.0, take limit e.1)) (filter (λ e. is_admitted limit listed e.0) listed)
+admitted limit listed =
+    map (λ e. (e.0, take limit e.1)) (filter (λ e. is_admitted limit listed e.0) listed)
 
 module _ (listed : Listed) where
   -- a name that is listed, or `default`

@@ -28,10 +28,17 @@ abbrev pub without : Text → Resolution → Resolution
 without r m = record {
   table = record {
     has = λ f. m.table.has f && not (bytes_eq f r);
-    names = λ f x. if m.enabled_by r f then (m.table.names f x || m.table.names r x) && not (bytes_eq x r) else m.table.names f x;
-    action = λ f k. if m.enabled_by r f then join_option (m.table.action f k) (m.table.action r k) else m.table.action f k;
+    names =
+        λ f x.
+        if m.enabled_by r f then (m.table.names f x || m.table.names r x) && not (bytes_eq x r)
+        else m.table.names f x;
+    action =
+        λ f k. if m.enabled_by r f then join_option (m.table.action f k) (m.table.action r k)
+        else m.table.action f k;
   };
-  enabled_by = λ f e. if m.enabled_by f r then (m.enabled_by f e || m.enabled_by r e) && not (bytes_eq e r) else m.enabled_by f e;
+  enabled_by =
+      λ f e. if m.enabled_by f r then (m.enabled_by f e || m.enabled_by r e) && not (bytes_eq e r)
+      else m.enabled_by f e;
 }
 
 abbrev pub without_all : List Text → Resolution → Resolution

@@ -16,7 +16,8 @@ use Rattle.cargo_toml_features.specs.Views.{action_at, has_text}
 
 -- the flag of the feature of this name stands
 abbrev pub IsFlagged : List Feature → List Bool → Text → Type 0
-IsFlagged vs flags f = (i : ℕ) × (i < length vs) × (text_at (names_of vs) i ≡ f) × IsWanted flags true i
+IsFlagged vs flags f =
+    (i : ℕ) × (i < length vs) × (text_at (names_of vs) i ≡ f) × IsWanted flags true i
 
 -- some feature names x
 abbrev pub is_named : List Feature → Text → Bool
@@ -40,7 +41,8 @@ pub record AreParted (n : ℕ) (texts : List Text) : Type 0 where
   pub fits : n ≤ length texts
   pub front : IsAscending (λ a b. IsTrue (is_below a b)) (take n texts)
   pub rest : IsAscending (λ a b. IsTrue (is_below a b)) (drop n texts)
-  pub one : (i j : ℕ) → i < length texts → j < length texts → text_at texts i ≡ text_at texts j → i ≡ j
+  pub one : (i j : ℕ) → i < length texts → j < length texts
+      → text_at texts i ≡ text_at texts j → i ≡ j
 
 -- the names of the features stand first, and what these name stands there too
 pub record AreTextsOf (vs : List Feature) (texts : List Text) : Type 0 where

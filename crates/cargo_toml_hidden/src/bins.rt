@@ -61,7 +61,8 @@ fn know<'m>(known: &mut BTreeSet<&'m str>, bins: &Vec<&'m str>) -> Result<(), Al
 // The binary is put into the set; the answer tells whether it wasn't there.
 fn add_known<'m>(known: &mut BTreeSet<&'m str>, bin: &'m str) -> Result<bool, AllocError>
     ensures is_new { IfOk result (λ is_new. is_new ≡ not (has_text known.old bin.now)) }
-    ensures added { OnOk result ((x : Text) → has_text known.new x ≡ (has_text known.old x || bytes_eq x bin.now)) }
+    ensures added { OnOk result ((x : Text) → has_text known.new x
+        ≡ (has_text known.old x || bytes_eq x bin.now)) }
 {
     Ok(known.insert(bin)?)
 }
@@ -74,7 +75,8 @@ fn put_bin<'m>(
     bin: &'m str,
 ) -> Result<(), AllocError>
     requires { Knows known.old (texts_of own.old.items) }
-    ensures put { OnOk result (texts_of own.new.items ≡ put_all (texts_of own.old.items) (bin.now ∷ [])) }
+    ensures put { OnOk result (texts_of own.new.items
+        ≡ put_all (texts_of own.old.items) (bin.now ∷ [])) }
     ensures known { OnOk result (Knows known.new (texts_of own.new.items)) }
 {
     if add_known(known, bin)? {
@@ -90,7 +92,8 @@ fn put_bins<'m>(
     bins: &[&'m str],
 ) -> Result<(), AllocError>
     requires { Knows known.old (texts_of own.old.items) }
-    ensures put { OnOk result (texts_of own.new.items ≡ put_all (texts_of own.old.items) (texts_of bins.now)) }
+    ensures put { OnOk result (texts_of own.new.items
+        ≡ put_all (texts_of own.old.items) (texts_of bins.now)) }
     ensures known { OnOk result (Knows known.new (texts_of own.new.items)) }
 {
     for bin in bins {
@@ -107,7 +110,8 @@ fn put_at<'m>(
 ) -> Result<(), AllocError>
     requires at { at < length features.old.items }
     requires known { AreKnown known.old.items features.old.items }
-    ensures put { OnOk result (Puts (λ y. y ≡ at) (texts_of bins.now) features.old.items features.new.items) }
+    ensures put { OnOk result
+        (Puts (λ y. y ≡ at) (texts_of bins.now) features.old.items features.new.items) }
     ensures known { OnOk result (AreKnown known.new.items features.new.items) }
 {
     let feature = &mut features[at];
@@ -125,7 +129,8 @@ fn put_along<'m>(
     bins: &[&'m str],
 ) -> Result<(), AllocError>
     requires { AreKnown known.old.items features.old.items }
-    ensures put { OnOk result (Puts (Among row.now) (texts_of bins.now) features.old.items features.new.items) }
+    ensures put { OnOk result
+        (Puts (Among row.now) (texts_of bins.now) features.old.items features.new.items) }
     ensures known { OnOk result (AreKnown known.new.items features.new.items) }
 {
     for at in row {
@@ -145,7 +150,8 @@ fn pass_from<'m>(
 ) -> Result<(), AllocError>
     requires r { r < length features.old.items }
     requires known { AreKnown known.old.items features.old.items }
-    ensures put { OnOk result (Puts (Among row.now) (take 10 (bins_of features.old.items r)) features.old.items features.new.items) }
+    ensures put { OnOk result (Puts (Among row.now)
+        (take 10 (bins_of features.old.items r)) features.old.items features.new.items) }
     ensures known { OnOk result (AreKnown known.new.items features.new.items) }
 {
     let bins = first_ten(&features[r].required_by_bins)?;
@@ -168,8 +174,9 @@ pub(crate) fn pass_bins<'m>(
     requires rows { length rows.now ≡ length features.old.items }
     requires flags { length features.old.items ≤ length flags.now }
     ensures others { OnOk result (AreSameButBins features.old.items features.new.items) }
-    ensures bins { OnOk result ((y : ℕ) → y < length features.old.items → bins_of features.new.items y
-        ≡ passed_below rows.now flags.now (length features.old.items) (bins_of features.old.items) y) }
+    ensures bins { OnOk result ((y : ℕ) → y < length features.old.items
+        → bins_of features.new.items y ≡ passed_below rows.now flags.now (length features.old.items)
+        (bins_of features.old.items) y) }
 {
     let mut known = known_bins(alloc, features.as_slice())?;
     let size = features.len();

@@ -21,8 +21,9 @@ pub fn hidden_flags<F: Fn(&str) -> bool>(
 ) -> Result<Vec<bool>, AllocError>
     requires { HasNameFilter F.Fn filter }
     ensures len { IfOk result (λ v. length v.items ≡ length features.now) }
-    ensures flags { IfOk result (λ v. (keep : Text → Bool) → Tells F.Fn filter.entry keep → (i : ℕ) → i < length features.now →
-        slice_index_or v.items i false ≡ (starts_with nat_eq (text_at (names_of features.now) i) (codes "_")
+    ensures flags { IfOk result (λ v. (keep : Text → Bool) → Tells F.Fn filter.entry keep
+        → (i : ℕ) → i < length features.now → slice_index_or v.items i false
+        ≡ (starts_with nat_eq (text_at (names_of features.now) i) (codes "_")
         && not (keep (text_at (names_of features.now) i)))) }
 {
     let mut flags = Vec::with_capacity(alloc, features.len())?;

@@ -12,7 +12,8 @@ pub fn add_all<'a>(
     texts: &mut BTreeSet<&'a str>,
     other: &BTreeSet<&'a str>,
 ) -> Result<(), AllocError>
-    ensures { OnOk result ((x : Text) → has_text texts.new x ≡ (has_text texts.old x || has_text other.now x)) }
+    ensures { OnOk result ((x : Text) → has_text texts.new x
+        ≡ (has_text texts.old x || has_text other.now x)) }
 {
     for text in other.iter() {
         texts.insert(*text)?;

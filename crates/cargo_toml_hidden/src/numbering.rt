@@ -55,7 +55,8 @@ fn push_others<'m>(
     mut near: usize,
 ) -> Result<usize, AllocError>
     requires { IsAscending (λ a b. IsTrue (is_below a b)) (texts_of keys.now) }
-    ensures { OnOk result ((x : Text) → Among (texts_of others.new.items) x ↔ (Among (texts_of others.old.items) x
+    ensures { OnOk result ((x : Text) → Among (texts_of others.new.items) x
+        ↔ (Among (texts_of others.old.items) x
         ⊎ (IsTrue (has_text named.now x) × (¬ Among (texts_of keys.now) x)))) }
 {
     for name in named.iter() {
@@ -77,7 +78,8 @@ fn others_of<'m>(
     requires { IsAscending (λ a b. IsTrue (is_below a b)) (texts_of keys.now) }
     ensures all { IfOk result (λ v. (x : Text) → Among (texts_of v.items) x
         ↔ (IsTrue (is_named features.now x) × (¬ Among (texts_of keys.now) x))) }
-    ensures ascending { IfOk result (λ v. IsAscending (λ a b. IsTrue (is_below a b)) (texts_of v.items)) }
+    ensures ascending { IfOk result
+        (λ v. IsAscending (λ a b. IsTrue (is_below a b)) (texts_of v.items)) }
 {
     let mut others = Vec::with_capacity(alloc, features.len())?;
     let mut near = 0;
@@ -102,7 +104,8 @@ fn all_texts<'m>(alloc: Global, features: &[Feature<'m>]) -> Result<Vec<&'m str>
 // is looked for at `near` first.
 fn number_of(texts: &[&str], count: usize, text: &str, near: usize) -> Option<usize>
     requires { AreParted count (texts_of texts.now) }
-    ensures found { IfSome result (λ i. (i < length texts.now) × (text_at (texts_of texts.now) i ≡ text.now)) }
+    ensures found { IfSome result
+        (λ i. (i < length texts.now) × (text_at (texts_of texts.now) i ≡ text.now)) }
     ensures missing { result ≡ None → ¬ Among (texts_of texts.now) text.now }
 {
     if let Some(place) = place_near(&texts[..count], text, near) {
@@ -150,8 +153,9 @@ fn name_rows(
 ) -> Result<Vec<Vec<usize>>, AllocError>
     requires { AreParted (length features.now) (texts_of texts.now) }
     ensures len { IfOk result (λ rows. length rows.items ≡ length features.now) }
-    ensures rows { IfOk result (λ rows. (i x : ℕ) → i < length features.now → Leads rows.items i x
-        ↔ ((x < length texts.now) × IsTrue (names_at features.now i (text_at (texts_of texts.now) x)))) }
+    ensures rows { IfOk result (λ rows. (i x : ℕ) → i < length features.now
+        → Leads rows.items i x ↔ ((x < length texts.now)
+        × IsTrue (names_at features.now i (text_at (texts_of texts.now) x)))) }
 {
     let mut rows = Vec::with_capacity(alloc, features.len())?;
     let mut near = 0;
@@ -176,7 +180,8 @@ fn named_targets(
     count: usize,
     own: usize,
 ) -> Result<Vec<usize>, AllocError>
-    ensures { IfOk result (λ row. (x : ℕ) → Among row.items x ↔ (Among named.now x × (x < count) × (x ≢ own))) }
+    ensures { IfOk result
+        (λ row. (x : ℕ) → Among row.items x ↔ (Among named.now x × (x < count) × (x ≢ own))) }
 {
     let mut row = Vec::with_capacity(alloc, named.len())?;
     for x in named {
@@ -221,7 +226,8 @@ fn push_action(
 ) -> Result<usize, AllocError>
     requires { IsAscending (λ a b. IsTrue (is_below a b)) (texts_of keys.now) }
     ensures { OnOk result ((x : ℕ) → Among row.new.items x ↔ (Among row.old.items x
-        ⊎ (((x < length keys.now) × (x ≢ own) × (text_at (texts_of keys.now) x ≡ key.now)) × IsPlain (Some (action_of action.now))))) }
+        ⊎ (((x < length keys.now) × (x ≢ own) × (text_at (texts_of keys.now) x ≡ key.now))
+        × IsPlain (Some (action_of action.now))))) }
 {
     if action.is_conditional || action.is_dep_only {
         return Ok(near);
@@ -238,8 +244,9 @@ fn push_actions(
     own: usize,
 ) -> Result<(), AllocError>
     requires { IsAscending (λ a b. IsTrue (is_below a b)) (texts_of keys.now) }
-    ensures { OnOk result ((x : ℕ) → Among row.new.items x ↔ (Among row.old.items x
-        ⊎ ((x < length keys.now) × (x ≢ own) × IsPlain (action_at actions.now (text_at (texts_of keys.now) x))))) }
+    ensures { OnOk result ((x : ℕ) → Among row.new.items x
+        ↔ (Among row.old.items x ⊎ ((x < length keys.now) × (x ≢ own)
+        × IsPlain (action_at actions.now (text_at (texts_of keys.now) x))))) }
 {
     let mut near = own;
     for (key, action) in actions.iter() {
@@ -257,8 +264,9 @@ fn edge_row(
     own: usize,
 ) -> Result<Vec<usize>, AllocError>
     requires { IsAscending (λ a b. IsTrue (is_below a b)) (texts_of keys.now) }
-    ensures { IfOk result (λ row. (x : ℕ) → Among row.items x ↔ ((x < length keys.now) × (x ≢ own)
-        × (Among named.now x ⊎ IsPlain (action_at feature.now.enables_deps (text_at (texts_of keys.now) x))))) }
+    ensures { IfOk result (λ row. (x : ℕ) → Among row.items x
+        ↔ ((x < length keys.now) × (x ≢ own) × (Among named.now x
+        ⊎ IsPlain (action_at feature.now.enables_deps (text_at (texts_of keys.now) x))))) }
 {
     let mut row = named_targets(alloc, named, keys.len(), own)?;
     push_actions(&mut row, &feature.enables_deps, keys, own)?;
@@ -290,7 +298,8 @@ fn edge_rows(
 fn all_flags(alloc: Global, flags: &[bool], size: usize) -> Result<Vec<bool>, AllocError>
     requires { length flags.now ≤ size }
     ensures len { IfOk result (λ v. length v.items ≡ size) }
-    ensures flags { IfOk result (λ v. (i : ℕ) → IsWanted v.items true i ↔ IsWanted flags.now true i) }
+    ensures flags { IfOk result
+        (λ v. (i : ℕ) → IsWanted v.items true i ↔ IsWanted flags.now true i) }
 {
     let mut all = Vec::with_capacity(alloc, size)?;
     all.extend_from_slice(flags)?;
@@ -307,7 +316,8 @@ pub fn number<'m>(
 ) -> Result<Graph<'m>, AllocError>
     requires in_order { AreInOrder features.now }
     requires len { length flags.now ≡ length features.now }
-    ensures numbered { IfOk result (λ g. IsNumbered (table_among features.now) (IsFlagged features.now flags.now)
+    ensures numbered { IfOk result
+        (λ g. IsNumbered (table_among features.now) (IsFlagged features.now flags.now)
         (texts_of g.texts.items) g.edges.items g.names.items g.flags.items) }
     ensures count { IfOk result (λ g. length g.edges.items ≡ length features.now) }
     ensures vertices { IfOk result (λ g. (i : ℕ) → i < length features.now →

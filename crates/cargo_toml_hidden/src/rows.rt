@@ -24,8 +24,10 @@ fn put_row<'m, S: BuildHasher>(
     texts: &[&'m str],
 ) -> Result<(), AllocError>
     requires { (x : ℕ) → Among row.now x → x < length texts.now }
-    ensures here { OnOk result (IsSomeAnd (value_at hidden.new name.now) (HasTexts (texts_of texts.now) row.now)) }
-    ensures others { OnOk result ((q : Text) → IsFalse (bytes_eq name.now q) → value_at hidden.new q ≡ value_at hidden.old q) }
+    ensures here { OnOk result
+        (IsSomeAnd (value_at hidden.new name.now) (HasTexts (texts_of texts.now) row.now)) }
+    ensures others { OnOk result ((q : Text) → IsFalse (bytes_eq name.now q)
+        → value_at hidden.new q ≡ value_at hidden.old q) }
 {
     let row = set_of(alloc, row, texts)?;
     hidden.insert(name, row)?;
@@ -48,10 +50,12 @@ pub fn hashed_rows<'m, S: BuildHasher + Drop>(
     requires texts { length rows.now ≤ length texts.now }
     requires flags { length rows.now ≤ length flags.now }
     requires inside { (r x : ℕ) → Leads rows.now r x → x < length texts.now }
-    ensures there { IfOk result (λ m. (i : ℕ) → i < length rows.now → IsWanted flags.now true i →
-        IsSomeAnd (value_at m (text_at (texts_of texts.now) i)) (HasTexts (texts_of texts.now) (list_at rows.now i))) }
-    ensures only { IfOk result (λ m. (r : Text) → IsSome (value_at m r) →
-        (i : ℕ) × (i < length rows.now) × (text_at (texts_of texts.now) i ≡ r) × IsWanted flags.now true i) }
+    ensures there { IfOk result (λ m. (i : ℕ) → i < length rows.now → IsWanted flags.now true i
+        → IsSomeAnd (value_at m (text_at (texts_of texts.now) i))
+        (HasTexts (texts_of texts.now) (list_at rows.now i))) }
+    ensures only { IfOk result (λ m. (r : Text) → IsSome (value_at m r)
+        → (i : ℕ) × (i < length rows.now) × (text_at (texts_of texts.now) i ≡ r)
+        × IsWanted flags.now true i) }
 {
     let count = flags.iter().filter(|flag| **flag).count();
     let mut hidden = HashMap::with_capacity_and_hasher(alloc, count, state)?;

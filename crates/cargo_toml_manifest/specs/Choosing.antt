@@ -54,4 +54,5 @@ choice m None told = own_choice (option_map shared m.workspace) (needs m) (told 
 
 -- answers in place of what isn't told, with the rest as it is told
 abbrev pub AnswersRoots : RootsTold → RootsTold → Type 0
-AnswersRoots told answered = (hint : Option (List ℕ)) → (told hint ≡ answered hint) ⊎ (told hint ≡ open_root)
+AnswersRoots told answered =
+    (hint : Option (List ℕ)) → (told hint ≡ answered hint) ⊎ (told hint ≡ open_root)

@@ -72,7 +72,8 @@ manifest_meaning f m = record {
 
 -- the version is 0.0.0, without pre-release and build metadata
 abbrev pub is_zero : Inheritable Parts → Bool
-is_zero (Set p) = (p.0 == 0) && ((p.1 == 0) && ((p.2 == 0) && ((length p.3 == 0) && (length p.4 == 0))))
+is_zero (Set p) =
+    (p.0 == 0) && ((p.1 == 0) && ((p.2 == 0) && ((length p.3 == 0) && (length p.4 == 0))))
 is_zero Inherited = false
 
 -- nothing says where the package may be published, or `true` does
@@ -106,7 +107,8 @@ badges_reads d = option_map badges_of (as_table d)
 
 -- no profile, and no badge
 abbrev pub no_profiles : ProfilesMeaning
-no_profiles = record { release = None; dev = None; test = None; bench = None; doc = None; custom = [] }
+no_profiles =
+    record { release = None; dev = None; test = None; bench = None; doc = None; custom = [] }
 
 abbrev pub no_badges : BadgesMeaning
 no_badges = badges_of no_members
@@ -153,10 +155,13 @@ manifest_of metadata_of ms = do
   })
 
 -- what may be wrong with a manifest
-abbrev pub manifest_faults : {M : Type 0} → (Data → Option M) → (Data → Error → Type 0) → Members → Error → Type 0
+abbrev pub manifest_faults : {M : Type 0} → (Data → Option M) → (Data → Error → Type 0) → Members
+    → Error → Type 0
 manifest_faults metadata_of metadata_refuses ms e =
-    fault_at "package" (package_reads metadata_of) (package_refuses metadata_of metadata_refuses) ms e
-    ⊎ fault_at "workspace" (workspace_reads metadata_of) (workspace_refuses metadata_of metadata_refuses) ms e
+    fault_at "package"
+    (package_reads metadata_of) (package_refuses metadata_of metadata_refuses) ms e
+    ⊎ fault_at "workspace"
+    (workspace_reads metadata_of) (workspace_refuses metadata_of metadata_refuses) ms e
     ⊎ fault_at "dependencies" (map_of dependency_of) plain ms e
     ⊎ fault_at "dev-dependencies" (map_of dependency_of) plain ms e
     ⊎ fault_at "build-dependencies" (map_of dependency_of) plain ms e
@@ -177,5 +182,7 @@ manifest_faults metadata_of metadata_refuses ms e =
 abbrev pub manifest_reads : {M : Type 0} → (Data → Option M) → Data → Option (ManifestMeaning M)
 manifest_reads metadata_of d = option_and_then (manifest_of metadata_of) (as_table d)
 
-abbrev pub manifest_refuses : {M : Type 0} → (Data → Option M) → (Data → Error → Type 0) → Data → Error → Type 0
-manifest_refuses metadata_of metadata_refuses d e = table_refuses (manifest_faults metadata_of metadata_refuses) (as_table d) e
+abbrev pub manifest_refuses : {M : Type 0} → (Data → Option M) → (Data → Error → Type 0) → Data
+    → Error → Type 0
+manifest_refuses metadata_of metadata_refuses d e =
+    table_refuses (manifest_faults metadata_of metadata_refuses) (as_table d) e

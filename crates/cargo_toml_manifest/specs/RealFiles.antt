@@ -84,7 +84,8 @@ IsNoWorkspace bytes path e =
 
 -- a workspace's manifest of these bytes, or why they are none
 abbrev pub IsWorkspaceOf : List ℕ → List ℕ → Result (Box (Manifest Value) Global) Error → Type 0
-IsWorkspaceOf bytes path (Ok m) = (is_some m.value.workspace ≡ true) × IsFromSlice bytes (Ok m.value)
+IsWorkspaceOf bytes path (Ok m) =
+    (is_some m.value.workspace ≡ true) × IsFromSlice bytes (Ok m.value)
 IsWorkspaceOf bytes path (Err e) = (e ≡ Memory) ⊎ IsNoWorkspace bytes path e
 
 -- why the search above a folder finds no root: no memory, a fault of reading, or a file that is no
@@ -136,18 +137,21 @@ abbrev pub bad_path : Fault
 bad_path = other (codes "bad path")
 
 -- the refusal of completing a manifest among the real files around this path
-abbrev pub IsRefusedAround : {M : Type 0} → List ℕ → ManifestMeaning M → Option Handed → Error → Type 0
+abbrev pub IsRefusedAround : {M : Type 0} → List ℕ → ManifestMeaning M → Option Handed
+    → Error → Type 0
 IsRefusedAround path m handed e =
-    (folder : List ℕ)
-    × ((path_parent path ≡ Some folder)
-    × IsRefusedBy m handed real_roots (MayLose false (real_losses (or_here folder))) real_listings e)
+    (folder : List ℕ) × ((path_parent path ≡ Some folder)
+    × IsRefusedBy m handed real_roots
+    (MayLose false (real_losses (or_here folder))) real_listings e)
 
 -- why real files complete no manifest: the path of its file names none, or a fault of completion
-abbrev pub IsCompletionFault : {M : Type 0} → List ℕ → ManifestMeaning M → Option Handed → Error → Type 0
+abbrev pub IsCompletionFault : {M : Type 0} → List ℕ → ManifestMeaning M → Option Handed
+    → Error → Type 0
 IsCompletionFault path m handed e = (fault_of e ≡ bad_path) ⊎ IsRefusedAround path m handed e
 
 -- some text reads as this manifest
-abbrev pub IsReadFromText : {X M : Type 0} → (Manifest X → ManifestMeaning M) → (Data → Option (ManifestMeaning M)) → Manifest X → Type 0
+abbrev pub IsReadFromText : {X M : Type 0} → (Manifest X → ManifestMeaning M)
+    → (Data → Option (ManifestMeaning M)) → Manifest X → Type 0
 IsReadFromText meaning reads m =
     (text : List ℕ) × IsUtf8 text × (document_reads reads (parse_document text) ≡ Some (meaning m))
 
@@ -155,26 +159,32 @@ IsReadFromText meaning reads m =
 -- be refused with this fault
 abbrev pub IsRefusalOf : {X : Type 0} → List ℕ → Manifest X → Error → Type 0
 IsRefusalOf path m e =
-    Meets (manifest_meaning (λ m. m)) (complete (manifest_meaning (λ m. m) m) None real_roots real_folders) (Err e)
+    Meets (manifest_meaning (λ m. m))
+    (complete (manifest_meaning (λ m. m) m) None real_roots real_folders) (Err e)
     × IsRefusedAround path (manifest_meaning (λ m. m) m) None e
 
 -- some text reads as a manifest which completion among real files makes into this one
-abbrev pub IsReadAndCompleted : {X M : Type 0} → (X → M) → (Data → Option (ManifestMeaning M)) → Manifest X → Type 0
+abbrev pub IsReadAndCompleted : {X M : Type 0} → (X → M) → (Data → Option (ManifestMeaning M))
+    → Manifest X → Type 0
 IsReadAndCompleted meaning reads new =
     (read : Manifest _) × IsReadFromText (manifest_meaning meaning) reads read
-    × GivenBy (manifest_meaning (λ m. m) read) None real_roots real_folders (manifest_meaning (λ m. m) new)
+    × GivenBy (manifest_meaning (λ m. m) read) None real_roots real_folders
+    (manifest_meaning (λ m. m) new)
 
 -- some text reads as a manifest whose completion among real files may be refused with this fault
-abbrev pub IsReadAndRefused : {X M : Type 0} → List ℕ → (Manifest X → ManifestMeaning M) → (Data → Option (ManifestMeaning M)) → Error → Type 0
+abbrev pub IsReadAndRefused : {X M : Type 0} → List ℕ → (Manifest X → ManifestMeaning M)
+    → (Data → Option (ManifestMeaning M)) → Error → Type 0
 IsReadAndRefused path meaning reads e =
     (read : Manifest _) × IsReadFromText meaning reads read × IsRefusalOf path read e
 
 -- why a file gives no completed manifest: no memory, a fault of reading, one of some text, a path
 -- that names no file, or the fault of completing a manifest that some text reads as
-abbrev pub IsPathFault : {X M : Type 0} → List ℕ → (Manifest X → ManifestMeaning M) → (Data → Option (ManifestMeaning M)) → (Data → Error → Type 0) → Error → Type 0
+abbrev pub IsPathFault : {X M : Type 0} → List ℕ → (Manifest X → ManifestMeaning M)
+    → (Data → Option (ManifestMeaning M)) → (Data → Error → Type 0) → Error → Type 0
 IsPathFault path meaning reads refuses e =
     (e ≡ Memory)
     ⊎ (IsInput e
-    ⊎ (((text : List ℕ) × IsUtf8 text × IsFromText meaning reads refuses (parse_document text) (Err e))
+    ⊎ (((text : List ℕ) × IsUtf8 text
+    × IsFromText meaning reads refuses (parse_document text) (Err e))
     ⊎ ((fault_of e ≡ bad_path)
     ⊎ IsReadAndRefused path meaning reads e)))

@@ -23,13 +23,15 @@ document_refuses refuses None e = IsToml e
 document_refuses refuses (Some ms) e = floats_or refuses (table ms) e
 
 -- the answer to a text in which `toml` finds this document
-abbrev pub IsFromText : {X M : Type 0} → (X → M) → (Data → Option M) → (Data → Error → Type 0) → Option Members → Result X Error → Type 0
+abbrev pub IsFromText : {X M : Type 0} → (X → M) → (Data → Option M) → (Data → Error → Type 0)
+    → Option Members → Result X Error → Type 0
 IsFromText meaning reads refuses document result =
     IsReading meaning (document_reads reads document) (document_refuses refuses document) result
 
 -- the answer to bytes: those that are no text are refused as such, others are answered as the
 -- text that they spell
-abbrev pub IsFromBytes : {X M : Type 0} → (X → M) → (Data → Option M) → (Data → Error → Type 0) → List ℕ → Result X Error → Type 0
+abbrev pub IsFromBytes : {X M : Type 0} → (X → M) → (Data → Option M) → (Data → Error → Type 0)
+    → List ℕ → Result X Error → Type 0
 IsFromBytes meaning reads refuses bytes result =
     ((¬ IsUtf8 bytes) × IsErrAnd result (IsOther (codes "utf8")))
     ⊎ (IsUtf8 bytes × IsFromText meaning reads refuses (parse_document bytes) result)

@@ -44,14 +44,16 @@ IsRootIn bytes m =
 
 -- the answer to the question for the bytes of a root
 abbrev pub ReadsRoot : ToldRoot → Result (Vec ℕ Global × String Global) Error → Type 0
-ReadsRoot (root m path) result = MatchResult result (λ r. IsRootIn r.0.items m × (string_bytes r.1 ≡ path)) (λ e. e ≡ Memory)
+ReadsRoot (root m path) result =
+    MatchResult result (λ r. IsRootIn r.0.items m × (string_bytes r.1 ≡ path)) (λ e. e ≡ Memory)
 ReadsRoot no_root result = IfOk result (λ r. (m : ManifestMeaning Data) → ¬ IsRootIn r.0.items m)
 ReadsRoot open_root result = Unit {0}
 
 -- the answer to the question for a root
 abbrev pub AnswersRoot : ToldRoot → Result (code.Manifest Value × String Global) Error → Type 0
 AnswersRoot (root m path) result =
-    MatchResult result (λ r. (manifest_meaning view r.0 ≡ m) × (string_bytes r.1 ≡ path)) (λ e. e ≡ Memory)
+    MatchResult result (λ r. (manifest_meaning view r.0 ≡ m) × (string_bytes r.1 ≡ path))
+    (λ e. e ≡ Memory)
 AnswersRoot no_root result = IsErr result
 AnswersRoot open_root result = Unit {0}
 

@@ -59,7 +59,8 @@ workspace_of metadata_of ms = do
   })
 
 -- what may be wrong with a workspace
-abbrev pub workspace_faults : {M : Type 0} → (Data → Option M) → (Data → Error → Type 0) → Members → Error → Type 0
+abbrev pub workspace_faults : {M : Type 0} → (Data → Option M) → (Data → Error → Type 0) → Members
+    → Error → Type 0
 workspace_faults metadata_of metadata_refuses ms e =
     fault_at "members" list_of plain ms e
     ⊎ fault_at "default-members" list_of plain ms e
@@ -71,8 +72,11 @@ workspace_faults metadata_of metadata_refuses ms e =
     ⊎ fault_at "lints" (map_of (map_of lint_of)) plain ms e
 
 -- the workspace of a tree
-unfoldable pub workspace_reads : {M : Type 0} → (Data → Option M) → Data → Option (WorkspaceMeaning M)
+unfoldable pub workspace_reads : {M : Type 0} → (Data → Option M) → Data
+    → Option (WorkspaceMeaning M)
 workspace_reads metadata_of d = option_and_then (workspace_of metadata_of) (as_table d)
 
-unfoldable pub workspace_refuses : {M : Type 0} → (Data → Option M) → (Data → Error → Type 0) → Data → Error → Type 0
-workspace_refuses metadata_of metadata_refuses d e = table_refuses (workspace_faults metadata_of metadata_refuses) (as_table d) e
+unfoldable pub workspace_refuses : {M : Type 0} → (Data → Option M) → (Data → Error → Type 0) → Data
+    → Error → Type 0
+workspace_refuses metadata_of metadata_refuses d e =
+    table_refuses (workspace_faults metadata_of metadata_refuses) (as_table d) e

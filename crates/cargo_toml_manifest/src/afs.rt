@@ -92,8 +92,10 @@ pub trait AbstractFilesystem {
         _alloc: Global,
         _hint: Option<&str>,
     ) -> Result<(Vec<u8>, String), Error>
-        ensures answers { ReadsRoot (heard Self.Roots.ARE_READ (root_for self.now (option_copied _hint.entry))) result }
-        ensures refused { ReadsBy Self.Roots.ARE_READ (may_refuse_root self.now) (option_copied _hint.entry) result }
+        ensures answers { ReadsRoot
+            (heard Self.Roots.ARE_READ (root_for self.now (option_copied _hint.entry))) result }
+        ensures refused { ReadsBy Self.Roots.ARE_READ (may_refuse_root self.now)
+            (option_copied _hint.entry) result }
     {
         if Self::Roots::ARE_READ {
             return Err(Error::Memory);
@@ -121,9 +123,10 @@ pub trait AbstractFilesystem {
         alloc: Global,
         hint: Option<&str>,
     ) -> Result<(Manifest, String), Error>
-        ensures answers { AnswersRoot (heard Self.Roots.ARE_READ (root_for self.now (option_copied hint.entry))) result }
-        ensures refused { RefusesBy (MayLose Self.Roots.ARE_READ (may_refuse_root self.now) (option_copied hint.entry))
-            result }
+        ensures answers { AnswersRoot
+            (heard Self.Roots.ARE_READ (root_for self.now (option_copied hint.entry))) result }
+        ensures refused { RefusesBy (MayLose Self.Roots.ARE_READ (may_refuse_root self.now)
+            (option_copied hint.entry)) result }
     {
         root_of(alloc, hint, self.read_root_workspace(alloc, hint))
     }
@@ -192,7 +195,8 @@ pub fn root_of(
 /// workspace already, and want of memory, stay as they are. Where there is no memory for it, the
 /// answer is `Error::Memory`.
 pub fn wrapped(alloc: Global, fault: Error, path: Option<&str>) -> Error
-    ensures { (result ≡ Memory) ⊎ (fault_of result ≡ wrap (option_copied path.entry) (fault_of fault)) }
+    ensures { (result ≡ Memory)
+        ⊎ (fault_of result ≡ wrap (option_copied path.entry) (fault_of fault)) }
 {
     match fault {
         Error::Workspace(_) | Error::Memory => fault,
@@ -205,7 +209,8 @@ pub fn wrapped(alloc: Global, fault: Error, path: Option<&str>) -> Error
 
 // The fault as one of a workspace, whatever it is.
 fn in_workspace(alloc: Global, fault: Error, path: Option<&str>) -> Result<Error, Error>
-    ensures { IfOk result (λ e. fault_of e ≡ workspace (fault_of fault) (option_copied path.entry)) }
+    ensures { IfOk result
+        (λ e. fault_of e ≡ workspace (fault_of fault) (option_copied path.entry)) }
 {
     let path = match path {
         Some(path) => Some(String::from_str(alloc, path)?),
@@ -219,7 +224,8 @@ fn not_a_workspace(alloc: Global) -> Result<Error, Error>
 {
     let text = String::from_str(
         alloc,
-        "Not a Workspace.\nUse package.workspace to select a differnt path, or implement cargo_toml::AbstractFilesystem::parse_root_workspace",
+        "Not a Workspace.\nUse package.workspace to select a differnt path, or implement \
+            cargo_toml::AbstractFilesystem::parse_root_workspace",
     )?;
     Ok(Error::WorkspaceIntegrity(text))
 }

@@ -37,12 +37,13 @@ fn completion<Metadata, Fs: AbstractFilesystem>(
     path: Option<&str>,
 ) -> Result<Completion, Error>
     ensures outcome { let m = manifest_meaning (λ m. m) manifest.now in
-        (stated : Result (ManifestMeaning Metadata) Fault) → Gives (installed m) parts stated →
-        Meets (completed m) (then_found (option_copied path.entry) (Fs.names_at fs.now) stated) result }
+        (stated : Result (ManifestMeaning Metadata) Fault) → Gives (installed m) parts stated
+        → Meets (completed m)
+        (then_found (option_copied path.entry) (Fs.names_at fs.now) stated) result }
     ensures given { let m = manifest_meaning (λ m. m) manifest.now in
-        (stated : Result (ManifestMeaning Metadata) Fault) → Gives (installed m) parts stated →
-        IfOk result (λ new. (answers : Answers) ×
-        (then_found (option_copied path.entry) (filled (Fs.names_at fs.now) answers) stated ≡ gives (completed m new))) }
+        (stated : Result (ManifestMeaning Metadata) Fault) → Gives (installed m) parts stated
+        → IfOk result (λ new. (answers : Answers) × (then_found (option_copied path.entry)
+        (filled (Fs.names_at fs.now) answers) stated ≡ gives (completed m new))) }
     ensures wrapped { let m = manifest_meaning (λ m. m) manifest.now in
         (stated : Result (ManifestMeaning Metadata) Fault) → Gives (installed m) parts stated →
         IfErr result (λ e. (e ≡ Memory)
@@ -67,16 +68,16 @@ fn completion_at<Metadata, N, Fs: AbstractFilesystem>(
     fs: &Fs,
 ) -> Result<Completion, Error>
     ensures outcome { let m = manifest_meaning (λ m. m) manifest.now in
-        Meets (completed m)
-        (complete_by m (from (shared_of (option_copied workspace.entry)) path.now) (Fs.names_at fs.now)) result }
+        Meets (completed m) (complete_by m
+        (from (shared_of (option_copied workspace.entry)) path.now) (Fs.names_at fs.now)) result }
     ensures given { let m = manifest_meaning (λ m. m) manifest.now in
-        IfOk result (λ new. (answers : Answers) ×
-        (complete_by m (from (shared_of (option_copied workspace.entry)) path.now) (filled (Fs.names_at fs.now) answers)
-        ≡ gives (completed m new))) }
+        IfOk result (λ new. (answers : Answers)
+        × (complete_by m (from (shared_of (option_copied workspace.entry)) path.now)
+        (filled (Fs.names_at fs.now) answers) ≡ gives (completed m new))) }
     ensures wrapped { let m = manifest_meaning (λ m. m) manifest.now in
         IfErr result (λ e. (e ≡ Memory)
-        ⊎ IsRefusedAt m (MayLose Fs.Roots.ARE_READ (Fs.may_refuse_root fs.now)) (Fs.may_refuse fs.now)
-        (from (shared_of (option_copied workspace.entry)) path.now) e) }
+        ⊎ IsRefusedAt m (MayLose Fs.Roots.ARE_READ (Fs.may_refuse_root fs.now))
+        (Fs.may_refuse fs.now) (from (shared_of (option_copied workspace.entry)) path.now) e) }
 {
     let parts = new_parts(alloc, manifest, workspace, workspace_folder(path));
     completion(alloc, manifest, parts, fs, Some(path))
@@ -100,11 +101,11 @@ fn completion_by_hint<Metadata, Fs: AbstractFilesystem>(
 ) -> Result<Completion, Error>
     ensures outcome { let m = manifest_meaning (λ m. m) manifest.now in
         Meets (completed m)
-        (complete_by m (told_choice (heard Fs.Roots.ARE_READ (Fs.root_for fs.now (hint_of m)))) (Fs.names_at fs.now))
-        result }
+        (complete_by m (told_choice (heard Fs.Roots.ARE_READ (Fs.root_for fs.now (hint_of m))))
+        (Fs.names_at fs.now)) result }
     ensures given { let m = manifest_meaning (λ m. m) manifest.now in
-        IfOk result (λ new. GivenByRoot m (heard Fs.Roots.ARE_READ (Fs.root_for fs.now (hint_of m))) (Fs.names_at fs.now)
-        (completed m new)) }
+        IfOk result (λ new. GivenByRoot m (heard Fs.Roots.ARE_READ (Fs.root_for fs.now (hint_of m)))
+        (Fs.names_at fs.now) (completed m new)) }
     ensures wrapped { let m = manifest_meaning (λ m. m) manifest.now in
         IfErr result (IsRefusedByRoot m (heard Fs.Roots.ARE_READ (Fs.root_for fs.now (hint_of m)))
         (MayLose Fs.Roots.ARE_READ (Fs.may_refuse_root fs.now)) (Fs.may_refuse fs.now)) }
@@ -129,11 +130,12 @@ fn own_completion<Metadata, Fs: AbstractFilesystem>(
     fs: &Fs,
 ) -> Result<Completion, Error>
     ensures outcome { let m = manifest_meaning (λ m. m) manifest.now in
-        Meets (completed m)
-        (complete m None (λ hint. heard Fs.Roots.ARE_READ (Fs.root_for fs.now hint)) (Fs.names_at fs.now)) result }
+        Meets (completed m) (complete m None
+        (λ hint. heard Fs.Roots.ARE_READ (Fs.root_for fs.now hint)) (Fs.names_at fs.now)) result }
     ensures given { let m = manifest_meaning (λ m. m) manifest.now in
-        IfOk result (λ new. GivenBy m None (λ hint. heard Fs.Roots.ARE_READ (Fs.root_for fs.now hint)) (Fs.names_at fs.now)
-        (completed m new)) }
+        IfOk result
+        (λ new. GivenBy m None (λ hint. heard Fs.Roots.ARE_READ (Fs.root_for fs.now hint))
+        (Fs.names_at fs.now) (completed m new)) }
     ensures wrapped { let m = manifest_meaning (λ m. m) manifest.now in
         IfErr result (IsRefusedBy m None (λ hint. heard Fs.Roots.ARE_READ (Fs.root_for fs.now hint))
         (MayLose Fs.Roots.ARE_READ (Fs.may_refuse_root fs.now)) (Fs.may_refuse fs.now)) }
@@ -158,12 +160,12 @@ fn completion_for<Metadata, N, Fs: AbstractFilesystem>(
     workspace: Option<(&Manifest<N>, &str)>,
 ) -> Result<Completion, Error>
     ensures outcome { let m = manifest_meaning (λ m. m) manifest.now in
-        Meets (completed m)
-        (complete m (option_map handed_of workspace.entry) (λ hint. heard Fs.Roots.ARE_READ (Fs.root_for fs.now hint))
-        (Fs.names_at fs.now)) result }
+        Meets (completed m) (complete m (option_map handed_of workspace.entry)
+        (λ hint. heard Fs.Roots.ARE_READ (Fs.root_for fs.now hint)) (Fs.names_at fs.now)) result }
     ensures given { let m = manifest_meaning (λ m. m) manifest.now in
         IfOk result (λ new. GivenBy m (option_map handed_of workspace.entry)
-        (λ hint. heard Fs.Roots.ARE_READ (Fs.root_for fs.now hint)) (Fs.names_at fs.now) (completed m new)) }
+        (λ hint. heard Fs.Roots.ARE_READ (Fs.root_for fs.now hint)) (Fs.names_at fs.now)
+        (completed m new)) }
     ensures wrapped { let m = manifest_meaning (λ m. m) manifest.now in
         IfErr result (IsRefusedBy m (option_map handed_of workspace.entry)
         (λ hint. heard Fs.Roots.ARE_READ (Fs.root_for fs.now hint))
@@ -213,14 +215,17 @@ impl<Metadata: Drop> Manifest<Metadata> {
             (λ hint. heard Fs.Roots.ARE_READ (Fs.root_for fs hint)) (Fs.names_at fs))
             result }
         ensures unchanged { OnErr result (self.new ≡ self.old) }
-        ensures given { OnOk result (GivenBy (manifest_meaning (λ m. m) self.old) (option_map handed_of workspace.entry)
-            (λ hint. heard Fs.Roots.ARE_READ (Fs.root_for fs hint)) (Fs.names_at fs) (manifest_meaning (λ m. m) self.new)) }
+        ensures given { OnOk result
+            (GivenBy (manifest_meaning (λ m. m) self.old) (option_map handed_of workspace.entry)
+            (λ hint. heard Fs.Roots.ARE_READ (Fs.root_for fs hint)) (Fs.names_at fs)
+            (manifest_meaning (λ m. m) self.new)) }
         ensures needs { OnOk result (needs (manifest_meaning (λ m. m) self.new) ≡ false) }
         ensures filled { OnOk result (IfSome self.new.package IsFilled) }
-        ensures again { OnOk result (IsLasting (manifest_meaning (λ m. m) self.old) (option_map handed_of workspace.entry)
-            (manifest_meaning (λ m. m) self.new)) }
-        ensures wrapped { IfErr result (IsRefusedBy (manifest_meaning (λ m. m) self.old)
-            (option_map handed_of workspace.entry) (λ hint. heard Fs.Roots.ARE_READ (Fs.root_for fs hint))
+        ensures again { OnOk result (IsLasting (manifest_meaning (λ m. m) self.old)
+            (option_map handed_of workspace.entry) (manifest_meaning (λ m. m) self.new)) }
+        ensures wrapped { IfErr result
+            (IsRefusedBy (manifest_meaning (λ m. m) self.old) (option_map handed_of workspace.entry)
+            (λ hint. heard Fs.Roots.ARE_READ (Fs.root_for fs hint))
             (MayLose Fs.Roots.ARE_READ (Fs.may_refuse_root fs)) (Fs.may_refuse fs)) }
     {
         let Completion { parts, found } = completion_for(alloc, self, &fs, workspace)?;

@@ -35,17 +35,20 @@ impl<Metadata: Drop> Manifest<Metadata> {
         alloc: Global,
         path: &'a str,
     ) -> Result<(), Error>
-        ensures outcome { IsSome (path_parent path.now) → Meets (λ _. manifest_meaning (λ m. m) self.new)
+        ensures outcome { IsSome (path_parent path.now)
+            → Meets (λ _. manifest_meaning (λ m. m) self.new)
             (complete (manifest_meaning (λ m. m) self.old) None real_roots real_folders) result }
-        ensures bad_path { (path_parent path.now ≡ None) ↔ IsErrAnd result (λ e. fault_of e ≡ bad_path) }
+        ensures bad_path { (path_parent path.now ≡ None)
+            ↔ IsErrAnd result (λ e. fault_of e ≡ bad_path) }
         ensures unchanged { OnErr result (self.new ≡ self.old) }
-        ensures given { OnOk result (GivenBy (manifest_meaning (λ m. m) self.old) None real_roots real_folders
-            (manifest_meaning (λ m. m) self.new)) }
+        ensures given { OnOk result (GivenBy (manifest_meaning (λ m. m) self.old) None real_roots
+            real_folders (manifest_meaning (λ m. m) self.new)) }
         ensures needs { OnOk result (needs (manifest_meaning (λ m. m) self.new) ≡ false) }
         ensures filled { OnOk result (IfSome self.new.package IsFilled) }
         ensures again { OnOk result (IsLasting (manifest_meaning (λ m. m) self.old) None
             (manifest_meaning (λ m. m) self.new)) }
-        ensures refused { IfErr result (IsCompletionFault path.now (manifest_meaning (λ m. m) self.old) None) }
+        ensures refused { IfErr result
+            (IsCompletionFault path.now (manifest_meaning (λ m. m) self.old) None) }
     {
         self.complete_from_path_and_workspace(rt, alloc, path, None::<(&Manifest<Value>, &str)>)
     }
@@ -71,19 +74,22 @@ impl<Metadata: Drop> Manifest<Metadata> {
         path: &'a str,
         workspace: Option<(&Manifest<N>, &str)>,
     ) -> Result<(), Error>
-        ensures outcome { IsSome (path_parent path.now) → Meets (λ _. manifest_meaning (λ m. m) self.new)
-            (complete (manifest_meaning (λ m. m) self.old) (option_map handed_of workspace.entry) real_roots real_folders)
-            result }
-        ensures bad_path { (path_parent path.now ≡ None) ↔ IsErrAnd result (λ e. fault_of e ≡ bad_path) }
+        ensures outcome { IsSome (path_parent path.now)
+            → Meets (λ _. manifest_meaning (λ m. m) self.new)
+            (complete (manifest_meaning (λ m. m) self.old)
+            (option_map handed_of workspace.entry) real_roots real_folders) result }
+        ensures bad_path { (path_parent path.now ≡ None)
+            ↔ IsErrAnd result (λ e. fault_of e ≡ bad_path) }
         ensures unchanged { OnErr result (self.new ≡ self.old) }
-        ensures given { OnOk result (GivenBy (manifest_meaning (λ m. m) self.old) (option_map handed_of workspace.entry)
+        ensures given { OnOk result
+            (GivenBy (manifest_meaning (λ m. m) self.old) (option_map handed_of workspace.entry)
             real_roots real_folders (manifest_meaning (λ m. m) self.new)) }
         ensures needs { OnOk result (needs (manifest_meaning (λ m. m) self.new) ≡ false) }
         ensures filled { OnOk result (IfSome self.new.package IsFilled) }
-        ensures again { OnOk result (IsLasting (manifest_meaning (λ m. m) self.old) (option_map handed_of workspace.entry)
-            (manifest_meaning (λ m. m) self.new)) }
-        ensures refused { IfErr result (IsCompletionFault path.now (manifest_meaning (λ m. m) self.old)
-            (option_map handed_of workspace.entry)) }
+        ensures again { OnOk result (IsLasting (manifest_meaning (λ m. m) self.old)
+            (option_map handed_of workspace.entry) (manifest_meaning (λ m. m) self.new)) }
+        ensures refused { IfErr result (IsCompletionFault path.now
+            (manifest_meaning (λ m. m) self.old) (option_map handed_of workspace.entry)) }
     {
         let Some(folder) = parent(path) else {
             return Err(Error::Other("bad path"));
@@ -110,8 +116,8 @@ impl Manifest {
         ensures given { IfOk result (IsReadAndCompleted view (manifest_reads any_tree)) }
         ensures needs { IfOk result (λ new. needs (manifest_meaning (λ m. m) new) ≡ false) }
         ensures filled { IfOk result (λ new. IfSome new.package IsFilled) }
-        ensures refused { IfErr result (IsPathFault path.now (manifest_meaning view) (manifest_reads any_tree)
-            (manifest_refuses any_tree any_refuses)) }
+        ensures refused { IfErr result (IsPathFault path.now (manifest_meaning view)
+            (manifest_reads any_tree) (manifest_refuses any_tree any_refuses)) }
     {
         Manifest::from_path_with_metadata(rt, alloc, path)
     }
@@ -127,10 +133,12 @@ impl<Metadata: FromValue> Manifest<Metadata> {
         alloc: Global,
         path: &'a str,
     ) -> Result<Manifest<Metadata>, Error>
-        ensures given { IfOk result (IsReadAndCompleted Metadata.meaning (manifest_reads Metadata.from_tree)) }
+        ensures given { IfOk result
+            (IsReadAndCompleted Metadata.meaning (manifest_reads Metadata.from_tree)) }
         ensures needs { IfOk result (λ new. needs (manifest_meaning (λ m. m) new) ≡ false) }
         ensures filled { IfOk result (λ new. IfSome new.package IsFilled) }
-        ensures refused { IfErr result (IsPathFault path.now (manifest_meaning Metadata.meaning) (manifest_reads Metadata.from_tree)
+        ensures refused { IfErr result (IsPathFault path.now (manifest_meaning Metadata.meaning)
+            (manifest_reads Metadata.from_tree)
             (manifest_refuses Metadata.from_tree Metadata.from_refuses)) }
     {
         let text = fs::read_to_string(rt, path)?;

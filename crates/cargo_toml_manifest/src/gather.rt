@@ -50,7 +50,8 @@ fn ask<Fs: AbstractFilesystem>(
     path: &str,
     listings: &mut Listings,
 ) -> Result<(), Error>
-    ensures grows { OnOk result (Grows (Fs.names_at fs.now) (answers_of listings.old) (answers_of listings.new)) }
+    ensures grows { OnOk result
+        (Grows (Fs.names_at fs.now) (answers_of listings.old) (answers_of listings.new)) }
     ensures has { OnOk result (Has (answers_of listings.new) path.now) }
     ensures faults { IfErr result (Tells (names_at (Fs.names_at fs.now path.now))) }
     ensures refused { RefusesBy (Fs.may_refuse fs.now path.now) result }
@@ -70,9 +71,11 @@ fn ask_each<Fs: AbstractFilesystem>(
     paths: &[String],
     listings: &mut Listings,
 ) -> Result<(), Error>
-    ensures grows { OnOk result (Grows (Fs.names_at fs.now) (answers_of listings.old) (answers_of listings.new)) }
+    ensures grows { OnOk result
+        (Grows (Fs.names_at fs.now) (answers_of listings.old) (answers_of listings.new)) }
     ensures has { OnOk result (HasEach (answers_of listings.new) (map string_bytes paths.now)) }
-    ensures faults { IfErr result (λ e. (e ≡ Memory) ⊎ MayTellOneOf (Fs.names_at fs.now) (map string_bytes paths.now) (fault_of e)) }
+    ensures faults { IfErr result (λ e. (e ≡ Memory)
+        ⊎ MayTellOneOf (Fs.names_at fs.now) (map string_bytes paths.now) (fault_of e)) }
     ensures refused { RefusesBy (IsListed (Fs.may_refuse fs.now)) result }
 {
     for path in paths {
@@ -89,7 +92,8 @@ fn ask_products<Fs: AbstractFilesystem>(
     dir: &str,
     listings: &mut Listings,
 ) -> Result<(), Error>
-    ensures grows { OnOk result (Grows (Fs.names_at fs.now) (answers_of listings.old) (answers_of listings.new)) }
+    ensures grows { OnOk result
+        (Grows (Fs.names_at fs.now) (answers_of listings.old) (answers_of listings.new)) }
     ensures has { OnOk result (HasProducts is_wanted dir.now (answers_of listings.new)) }
     ensures faults { Fits (Fs.names_at fs.now) (answers_of listings.old) →
         IfErr result (Tells (entries_at (Fs.names_at fs.now) is_wanted dir.now)) }
@@ -115,7 +119,8 @@ pub fn gather<Fs: AbstractFilesystem>(
     fs: &Fs,
     wanted: Wanted,
 ) -> Result<Listings, Error>
-    ensures asked { IfOk result (λ l. around (filled (Fs.names_at fs.now) (answers_of l)) wanted ≡ seen (around_in (answers_of l) wanted)) }
+    ensures asked { IfOk result (λ l. around (filled (Fs.names_at fs.now) (answers_of l)) wanted
+        ≡ seen (around_in (answers_of l) wanted)) }
     ensures faults { IfErr result (Tells (around (Fs.names_at fs.now) wanted)) }
     ensures refused { RefusesBy (IsListed (Fs.may_refuse fs.now)) result }
 {

@@ -63,7 +63,8 @@ pub fn root_by_hint<R: Files + AllocGlobal>(
 ) -> Result<(Manifest, String), Error>
     ensures found { IfOk result (λ root. IsRootManifest root.0) }
     ensures path { IfOk result (λ root. string_bytes root.1 ≡ path_join folder.now hint.now) }
-    ensures refused { IfErr result (IsHintFault (path_join (path_join folder.now hint.now) (codes "Cargo.toml"))) }
+    ensures refused { IfErr result
+        (IsHintFault (path_join (path_join folder.now hint.now) (codes "Cargo.toml"))) }
 {
     let root = join(alloc, folder, hint)?;
     let file = join(alloc, root.as_str(), "Cargo.toml")?;

@@ -132,7 +132,8 @@ impl<Metadata: Clone> Clone for Manifest<Metadata> {
         × (⟦<Vec<Product> as Clone>⟧.is_clone x.test copy.test
         × (⟦<Vec<Product> as Clone>⟧.is_clone x.example copy.example
         × (⟦<Inheritable<LintGroups> as Clone>⟧.is_clone x.lints copy.lints
-        × ⟦<FeatureDetails as Clone>⟧.is_clone x.feature_details copy.feature_details)))))))))))))))) };
+        × ⟦<FeatureDetails as Clone>⟧.is_clone x.feature_details
+        copy.feature_details)))))))))))))))) };
 
     ghost is_infallible = { λ x.
         ⟦<Option<Package<Metadata>> as Clone>⟧.is_infallible x.package
@@ -267,7 +268,8 @@ impl<Metadata: FromValue> Manifest<Metadata> {
         alloc: Global,
         bytes: &[u8],
     ) -> Result<Manifest<Metadata>, Error>
-        ensures { IsFromBytes (manifest_meaning Metadata.meaning) (manifest_reads Metadata.from_tree)
+        ensures { IsFromBytes (manifest_meaning Metadata.meaning)
+            (manifest_reads Metadata.from_tree)
             (manifest_refuses Metadata.from_tree Metadata.from_refuses) bytes.now result }
     {
         let tree = tree_of_bytes(alloc, bytes)?;
@@ -276,7 +278,8 @@ impl<Metadata: FromValue> Manifest<Metadata> {
 
     pub(crate) fn from_text(alloc: Global, text: &str) -> Result<Manifest<Metadata>, Error>
         ensures { IsFromText (manifest_meaning Metadata.meaning) (manifest_reads Metadata.from_tree)
-            (manifest_refuses Metadata.from_tree Metadata.from_refuses) (parse_document text.now) result }
+            (manifest_refuses Metadata.from_tree Metadata.from_refuses)
+            (parse_document text.now) result }
     {
         let tree = tree_of(alloc, text)?;
         read_table(alloc, tree)
@@ -330,7 +333,8 @@ impl<Metadata: FromValue> Read for Manifest<Metadata> {
 
 // Each key is taken out of the table, so that its tree is released once it has been read.
 fn read_table<Metadata: FromValue>(alloc: Global, table: Table) -> Result<Manifest<Metadata>, Error>
-    ensures { IsReading (manifest_meaning Metadata.meaning) (manifest_of Metadata.from_tree (table_view table))
+    ensures { IsReading (manifest_meaning Metadata.meaning)
+        (manifest_of Metadata.from_tree (table_view table))
         (manifest_faults Metadata.from_tree Metadata.from_refuses (table_view table)) result }
 {
     let mut rest = table;
@@ -422,8 +426,8 @@ fn badges(reading: &mut Reading, value: Option<Value>) -> Badges
 fn lints(reading: &mut Reading, value: Option<Value>) -> Inheritable<LintGroups>
     ensures { Goes reading.old.fault reading.new.fault
         (given_of (inheritable_of (map_of (map_of lint_of))) (Set []) (option_map view value))
-        (inheritable_map (map_meaning (map_meaning lint_meaning)) result)
-        (Faulty (inheritable_of (map_of (map_of lint_of))) inheritable_refuses (option_map view value)) }
+        (inheritable_map (map_meaning (map_meaning lint_meaning)) result) (Faulty
+        (inheritable_of (map_of (map_of lint_of))) inheritable_refuses (option_map view value)) }
 {
     let none = Inheritable::Set(LintGroups::new(reading.alloc));
     reading.given_of(value, none)
@@ -450,7 +454,8 @@ fn zero_rule_applies<Metadata>(found: &Package<Metadata>) -> bool
 
 // A package of version 0.0.0 is not published.
 fn by_zero_rule<Metadata: FromValue>(found: Package<Metadata>) -> Package<Metadata>
-    ensures { package_meaning Metadata.meaning result ≡ by_zero_rule (package_meaning Metadata.meaning found) }
+    ensures { package_meaning Metadata.meaning result
+        ≡ by_zero_rule (package_meaning Metadata.meaning found) }
 {
     let mut ruled = found;
     if zero_rule_applies(&ruled) {

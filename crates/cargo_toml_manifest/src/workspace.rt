@@ -121,7 +121,8 @@ fn read_table<Metadata: FromValue>(
     alloc: Global,
     table: Table,
 ) -> Result<Workspace<Metadata>, Error>
-    ensures { IsReading (workspace_meaning Metadata.meaning) (workspace_of Metadata.from_tree (table_view table))
+    ensures { IsReading (workspace_meaning Metadata.meaning)
+        (workspace_of Metadata.from_tree (table_view table))
         (workspace_faults Metadata.from_tree Metadata.from_refuses (table_view table)) result }
 {
     let mut rest = table;

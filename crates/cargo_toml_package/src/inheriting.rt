@@ -108,7 +108,8 @@ fn fields_from<M>(
     base: &str,
 ) -> Result<NewFields, AllocError>
     ensures { IfOk result (λ n. installed (package_meaning (λ m. m) «package».now) n
-        ≡ with_template base.now (template_meaning template.now) (package_meaning (λ m. m) «package».now)) }
+        ≡ with_template base.now (template_meaning template.now)
+        (package_meaning (λ m. m) «package».now)) }
 {
     let mut filling = Filling::new(alloc);
     let version = filling.optional(&package.version, &template.version);
@@ -160,7 +161,8 @@ fn put<T: Read>(field: &mut Inheritable<T>, value: Option<T>)
 // The same of a field that may not be there.
 fn put_if_there<T: Read>(field: &mut Option<Inheritable<T>>, value: Option<T>)
     ensures { option_map (inheritable_map T.meaning) field.new
-        ≡ put_if_there (option_map (inheritable_map T.meaning) field.old) (option_map T.meaning value) }
+        ≡ put_if_there (option_map (inheritable_map T.meaning) field.old)
+        (option_map T.meaning value) }
 {
     if let Some(field) = field {
         put(field, value);
@@ -170,7 +172,8 @@ fn put_if_there<T: Read>(field: &mut Option<Inheritable<T>>, value: Option<T>)
 /// Puts these values in place of the package's own. Its other fields stay, and its metadata are not
 /// touched. It takes no memory.
 pub fn install<M: Drop>(package: &mut Package<M>, new: NewFields)
-    ensures { package_meaning (λ m. m) «package».new ≡ installed (package_meaning (λ m. m) «package».old) new }
+    ensures { package_meaning (λ m. m) «package».new
+        ≡ installed (package_meaning (λ m. m) «package».old) new }
 {
     put(&mut package.version, new.version);
     put(&mut package.edition, new.edition);
@@ -192,15 +195,17 @@ pub fn install<M: Drop>(package: &mut Package<M>, new: NewFields)
 
 // Whether a field is left to the workspace once this value is put in.
 fn stays<T: Read>(field: &Inheritable<T>, value: &Option<T>) -> bool
-    ensures { result ≡ is_left (put (inheritable_map T.meaning field.now) (option_map T.meaning value.now)) }
+    ensures { result
+        ≡ is_left (put (inheritable_map T.meaning field.now) (option_map T.meaning value.now)) }
 {
     !field.is_set() && value.is_none()
 }
 
 // The same of a field that may not be there.
 fn stays_there<T: Read>(field: &Option<Inheritable<T>>, value: &Option<T>) -> bool
-    ensures { result ≡ is_left_there
-        (put_if_there (option_map (inheritable_map T.meaning) field.now) (option_map T.meaning value.now)) }
+    ensures { result
+        ≡ is_left_there (put_if_there (option_map (inheritable_map T.meaning) field.now)
+        (option_map T.meaning value.now)) }
 {
     match field {
         Some(field) => stays(field, value),
@@ -247,8 +252,8 @@ fn fields_for<M>(
     base: &str,
 ) -> Result<NewFields, AllocError>
     ensures { IfOk result (λ n. installed (package_meaning (λ m. m) «package».now) n
-        ≡ with_template_if_there base.now (option_map template_meaning (option_copied template.entry))
-        (package_meaning (λ m. m) «package».now)) }
+        ≡ with_template_if_there base.now (option_map template_meaning
+        (option_copied template.entry)) (package_meaning (λ m. m) «package».now)) }
 {
     match template {
         Some(template) => fields_from(alloc, package, template, base),

@@ -10,4 +10,5 @@ is_manifest_name (Some name) = bytes_eq name (codes "Cargo.toml")
 
 -- the folder above a `Cargo.toml`, and any other path itself
 abbrev pub workspace_folder : List ℕ → List ℕ
-workspace_folder path = if is_manifest_name (path_file_name path) then unwrap_or (path_parent path) [] else path
+workspace_folder path =
+    if is_manifest_name (path_file_name path) then unwrap_or (path_parent path) [] else path

@@ -25,7 +25,8 @@ fn pass_on<'a>(
     gone: &BTreeSet<&'a str>,
     key: &'a str,
 ) -> Result<(), AllocError>
-    ensures { OnOk result ((x : Text) → has_text texts.new x ≡ passed_on texts.old gone.now key.now x) }
+    ensures { OnOk result ((x : Text) → has_text texts.new x
+        ≡ passed_on texts.old gone.now key.now x) }
 {
     add_all(texts, gone)?;
     texts.remove(key);
@@ -55,7 +56,8 @@ fn lose_enabler<'a>(
     key: &'a str,
 ) -> Result<(), AllocError>
     ensures { OnOk result ((e : Text) → has_text enabled_by.new e
-        ≡ (if has_text enabled_by.old key.now then passed_on enabled_by.old gone.now.enabled_by key.now e
+        ≡ (if has_text enabled_by.old key.now
+        then passed_on enabled_by.old gone.now.enabled_by key.now e
         else has_text enabled_by.old e)) }
 {
     if enabled_by.contains(key) {
@@ -149,7 +151,8 @@ fn remove_one<'a, S: BuildHasher>(
     requires all { (f : Text) → IsSome (value_at features.old f) → Among (texts_of names.now) f }
     requires once { IsOnce (texts_of names.now) }
     ensures left { OnOk result (TakesOut key.now features.old features.new) }
-    ensures redirect { OnOk result (Redirects key.now (resolution_of features.old) hidden.old hidden.new) }
+    ensures redirect { OnOk result
+        (Redirects key.now (resolution_of features.old) hidden.old hidden.new) }
 {
     if let Some(gone) = features.remove(key) {
         lose_all(alloc, features, names, &gone, key)?;
@@ -186,16 +189,19 @@ pub fn remove_all<'m, S: BuildHasher>(
     hidden: &mut HashMap<&'m str, BTreeSet<&'m str>, S>,
     removed: &[&'m str],
 ) -> Result<(), AllocError>
-    requires there { (v : Text) → Among (texts_of removed.now) v → IsSome (value_at features.old v) }
+    requires there { (v : Text) → Among (texts_of removed.now) v
+        → IsSome (value_at features.old v) }
     requires once { IsOnce (texts_of removed.now) }
     requires none { hidden.old.entries ≡ [] }
-    ensures left { OnOk result (SameKept (without_all (texts_of removed.now) (resolution_of features.old))
+    ensures left { OnOk result
+        (SameKept (without_all (texts_of removed.now) (resolution_of features.old))
         (resolution_of features.new)) }
     ensures keys { OnOk result ((f : Text) → IsSome (value_at features.new f)
         → key_at features.new f ≡ key_at features.old f) }
     ensures marks { OnOk result ((f : Text) → IsSome (value_at features.new f)
         → marks_at features.new f ≡ marks_at features.old f) }
-    ensures bins { OnOk result ((f : Text) → IsSome (value_at features.new f) → bins_at features.new f
+    ensures bins { OnOk result ((f : Text) → IsSome (value_at features.new f)
+        → bins_at features.new f
         ≡ pass_all (texts_of removed.now) (resolution_of features.old) (bins_at features.old) f) }
     ensures redirected { OnOk result ((r : Text) → is_some (value_at hidden.new r)
         ≡ is_among (texts_of removed.now) r) }

@@ -30,7 +30,8 @@ fn all_by_name<'m, S: BuildHasher + Clone>(
     features: Vec<Feature<'m>>,
 ) -> Result<Left<'m, S>, AllocError>
     requires { AreInOrder features.items }
-    ensures same { IfOk result (λ l. (f : Text) → value_at l.features f ≡ feature_at features.entry.items f) }
+    ensures same { IfOk result
+        (λ l. (f : Text) → value_at l.features f ≡ feature_at features.entry.items f) }
     ensures empty { IfOk result (λ l. l.hidden.entries ≡ []) }
     ensures keyed { IfOk result (λ l. IsKeyed l.features) }
 {

@@ -24,7 +24,8 @@ pub fn print_complete<Metadata, W: Write>(
     manifest: &Manifest<Metadata>,
     output: &mut W,
 ) -> Result<(), Error>
-    ensures printed { OnOk result ((lines : List ℕ) × Appends (W.contents output.old) (W.contents output.new) lines) }
+    ensures printed { OnOk result
+        ((lines : List ℕ) × Appends (W.contents output.old) (W.contents output.new) lines) }
     ensures refused { IfErr result IsOfOutput }
 {
     let lines = completion_lines(alloc, manifest)?;

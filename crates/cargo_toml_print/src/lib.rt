@@ -41,7 +41,8 @@ pub fn print_features<R: Read, W: Write>(
     max_items: usize,
 ) -> Result<(), Error>
     requires { 1 ≤ max_items }
-    ensures unwritten { IfErr result (λ e. IsOfManifest e → Keeps (W.contents output.old) (W.contents output.new)) }
+    ensures unwritten { IfErr result
+        (λ e. IsOfManifest e → Keeps (W.contents output.old) (W.contents output.new)) }
 {
     let mut bytes = Vec::new(alloc);
     input.read_to_end(&mut bytes)?;

@@ -27,7 +27,9 @@ is_linked ls q e = list_any (λ l. bytes_eq q l.target.now && bytes_eq e l.sourc
 
 -- new has the links from the source to each other text of which the test holds, and those of old
 abbrev pub AddsLinks : (Text → Bool) → Text → List Link → List Link → Type 0
-AddsLinks test source old new = (q e : Text) → is_linked new q e ≡ (is_linked old q e || (test q && (bytes_eq e source && not (bytes_eq q e))))
+AddsLinks test source old new =
+    (q e : Text) → is_linked new q e
+    ≡ (is_linked old q e || (test q && (bytes_eq e source && not (bytes_eq q e))))
 
 abbrev pub Relates : (Feature → Feature → Type 0) → Option Feature → Option Feature → Type 0
 Relates Changes None None = Unit {0}

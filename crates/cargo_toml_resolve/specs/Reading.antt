@@ -18,7 +18,8 @@ pub record IsRead (listed : Listed) (t : Table) (acted : Text → Option Bool) :
   pub has : (f : Text) → t.has f ≡ is_explicit listed f
   pub names : (f x : Text) → t.names f x ≡ listing.names listed f x
   pub action : (f k : Text) → t.action f k ≡ joined_action listed f k
-  pub acted_on : (k : Text) → is_some (acted k) ≡ list_any (λ e. is_some (joined_action listed e.0 k)) listed
+  pub acted_on : (k : Text) → is_some (acted k)
+      ≡ list_any (λ e. is_some (joined_action listed e.0 k)) listed
   pub reserved : (k : Text) → unwrap_or (acted k) false ≡ is_reserved listed k
 
 -- a feature with this key that the manifest lists, of which d is said and neither enablers nor
@@ -30,4 +31,5 @@ pub record IsFresh (f : Text) (d : Detail) (v : Feature) : Type 0 where
   pub bins : v.required_by_bins.items ≡ []
 
 abbrev pub AreFresh : Listed → Details → Slots Feature → Type 0
-AreFresh listed details m = (f : Text) (v : Feature) → held_in m f ≡ Some v → IsFresh f (detail_listed listed details f) v
+AreFresh listed details m =
+    (f : Text) (v : Feature) → held_in m f ≡ Some v → IsFresh f (detail_listed listed details f) v

@@ -21,7 +21,8 @@ IsRecordOf m entries = (k : Text) → recorded_at m k ≡ recorded_of (entries k
 pub record Thinned (entries : Text → List Entry) (old new : Feature) : Type 0 where
   pub key : new.key ≡ old.key
   pub names : new.enables_features ≡ old.enables_features
-  pub actions : (k : Text) → action_at new.enables_deps k ≡ option_map (without_redundant (first_target (entries k))) (action_at old.enables_deps k)
+  pub actions : (k : Text) → action_at new.enables_deps k
+      ≡ option_map (without_redundant (first_target (entries k))) (action_at old.enables_deps k)
   pub enabled_by : new.enabled_by ≡ old.enabled_by
   pub bins : new.required_by_bins ≡ old.required_by_bins
   pub marks : marks_of new ≡ marks_of old

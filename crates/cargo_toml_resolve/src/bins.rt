@@ -27,7 +27,8 @@ fn require_at<'m>(
 ) -> Result<(), AllocError>
     requires place { place < length features.old.names.items }
     ensures required { OnOk result
-        (RequiredAll (own_of ((text_at (names_in features.old) place, bin.now) ∷ [])) features.old features.new) }
+        (RequiredAll (own_of ((text_at (names_in features.old) place, bin.now) ∷ [])) features.old
+        features.new) }
     ensures same_names { OnOk result (HaveSameNames features.old features.new) }
 {
     if let Some(feature) = &mut features.values[place] {

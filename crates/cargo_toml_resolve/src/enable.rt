@@ -26,7 +26,8 @@ fn push_link<'a>(
     target: &'a str,
     source: &'a str,
 ) -> Result<(), AllocError>
-    ensures { OnOk result (AddsLinks (λ q. bytes_eq q target.now) source.now links.old.items links.new.items) }
+    ensures { OnOk result
+        (AddsLinks (λ q. bytes_eq q target.now) source.now links.old.items links.new.items) }
 {
     if target != source {
         links.push(Link { target, source })?;
@@ -39,7 +40,8 @@ fn push_each_name<'a>(
     names: &BTreeSet<&'a str>,
     source: &'a str,
 ) -> Result<(), AllocError>
-    ensures { OnOk result (AddsLinks (has_text names.now) source.now links.old.items links.new.items) }
+    ensures { OnOk result
+        (AddsLinks (has_text names.now) source.now links.old.items links.new.items) }
 {
     for name in names.iter() {
         push_link(links, *name, source)?;
@@ -53,8 +55,9 @@ fn push_action<'a>(
     action: &DepAction<'_>,
     source: &'a str,
 ) -> Result<(), AllocError>
-    ensures { OnOk result (AddsLinks (λ q. bytes_eq q key.now && is_plain (Some (action_of action.now)))
-        source.now links.old.items links.new.items) }
+    ensures { OnOk result
+        (AddsLinks (λ q. bytes_eq q key.now && is_plain (Some (action_of action.now))) source.now
+        links.old.items links.new.items) }
 {
     if !action.is_conditional && !action.is_dep_only {
         push_link(links, key, source)?;
@@ -67,8 +70,8 @@ fn push_each_action<'a>(
     actions: &BTreeMap<&'a str, DepAction<'a>>,
     source: &'a str,
 ) -> Result<(), AllocError>
-    ensures { OnOk result (AddsLinks (λ q. is_plain (action_at actions.now q)) source.now links.old.items
-        links.new.items) }
+    ensures { OnOk result (AddsLinks (λ q. is_plain (action_at actions.now q)) source.now
+        links.old.items links.new.items) }
 {
     for (key, action) in actions.iter() {
         push_action(links, *key, action, source)?;
@@ -82,7 +85,8 @@ fn push_names<'a>(
     names: &BTreeSet<&'a str>,
     source: &'a str,
 ) -> Result<(), AllocError>
-    ensures { OnOk result (AddsLinks (has_text names.now) source.now links.old.items links.new.items) }
+    ensures { OnOk result
+        (AddsLinks (has_text names.now) source.now links.old.items links.new.items) }
 {
     if names.is_empty() {
         return Ok(());
@@ -96,8 +100,8 @@ fn push_actions<'a>(
     actions: &BTreeMap<&'a str, DepAction<'a>>,
     source: &'a str,
 ) -> Result<(), AllocError>
-    ensures { OnOk result (AddsLinks (λ q. is_plain (action_at actions.now q)) source.now links.old.items
-        links.new.items) }
+    ensures { OnOk result (AddsLinks (λ q. is_plain (action_at actions.now q)) source.now
+        links.old.items links.new.items) }
 {
     if actions.is_empty() {
         return Ok(());
@@ -110,7 +114,8 @@ fn push_links<'a>(
     feature: &Feature<'a>,
     source: &'a str,
 ) -> Result<(), AllocError>
-    ensures { OnOk result (AddsLinks (leads feature.now) source.now links.old.items links.new.items) }
+    ensures { OnOk result
+        (AddsLinks (leads feature.now) source.now links.old.items links.new.items) }
 {
     push_names(links, &feature.enables_features, source)?;
     push_actions(links, &feature.enables_deps, source)
@@ -141,7 +146,8 @@ fn enable_at<'a>(
 ) -> Result<(), AllocError>
     requires place { place < length features.old.names.items }
     ensures enabled { OnOk result (EnabledAll
-        (λ q e. bytes_eq q (text_at (names_in features.old) place) && bytes_eq e source.now) features.old features.new) }
+        (λ q e. bytes_eq q (text_at (names_in features.old) place) && bytes_eq e source.now)
+        features.old features.new) }
     ensures same_names { OnOk result (HaveSameNames features.old features.new) }
 {
     if let Some(feature) = &mut features.values[place] {
@@ -157,8 +163,9 @@ fn enable<'a>(
     link: &Link<'a>,
     near: usize,
 ) -> Result<usize, AllocError>
-    ensures enabled { OnOk result (EnabledAll
-        (λ q e. bytes_eq q link.now.target.now && bytes_eq e link.now.source.now) features.old features.new) }
+    ensures enabled { OnOk result
+        (EnabledAll (λ q e. bytes_eq q link.now.target.now && bytes_eq e link.now.source.now)
+        features.old features.new) }
     ensures same_names { OnOk result (HaveSameNames features.old features.new) }
 {
     let Some(place) = place_near(features.names.as_slice(), link.target, near) else {
@@ -187,8 +194,8 @@ fn set_enabled_by<'a>(
     alloc: Global,
     features: &mut Slots<'a, Feature<'a>>,
 ) -> Result<(), AllocError>
-    ensures enabled { OnOk result (EnabledAll (λ q e. leads_at features.old e q && not (bytes_eq q e)) features.old
-        features.new) }
+    ensures enabled { OnOk result (EnabledAll
+        (λ q e. leads_at features.old e q && not (bytes_eq q e)) features.old features.new) }
     ensures same_names { OnOk result (HaveSameNames features.old features.new) }
 {
     let links = links_of(alloc, features)?;
@@ -201,7 +208,8 @@ pub fn set_wanted_enablers<'a>(
     features: &mut Slots<'a, Feature<'a>>,
     is_wanted: bool,
 ) -> Result<(), AllocError>
-    ensures enabled { OnOk result (EnabledAll (λ q e. is_wanted && (leads_at features.old e q && not (bytes_eq q e)))
+    ensures enabled { OnOk result
+        (EnabledAll (λ q e. is_wanted && (leads_at features.old e q && not (bytes_eq q e)))
         features.old features.new) }
     ensures same_names { OnOk result (HaveSameNames features.old features.new) }
 {

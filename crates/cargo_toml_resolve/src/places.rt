@@ -32,7 +32,8 @@ pub fn empty_slots<'n, V: Drop>(
 
 // Whether the name stands at this place.
 fn stands_at(names: &[&str], place: usize, name: &str) -> bool
-    ensures { IsTrue result → (place < length names.now) × (text_at (map (λ n. n.now) names.now) place ≡ name.now) }
+    ensures { IsTrue result
+        → (place < length names.now) × (text_at (map (λ n. n.now) names.now) place ≡ name.now) }
 {
     place < names.len() && names[place] == name
 }
@@ -41,7 +42,8 @@ fn stands_at(names: &[&str], place: usize, name: &str) -> bool
 /// names are looked up in their order and `near` is the place after the last one, they stand there.
 pub fn place_near(names: &[&str], name: &str, near: usize) -> Option<usize>
     requires { Ascend (map (λ n. n.now) names.now) }
-    ensures found { IfSome result (λ i. (i < length names.now) × (text_at (map (λ n. n.now) names.now) i ≡ name.now)) }
+    ensures found { IfSome result
+        (λ i. (i < length names.now) × (text_at (map (λ n. n.now) names.now) i ≡ name.now)) }
     ensures missing { result ≡ None → ¬ Among (map (λ n. n.now) names.now) name.now }
 {
     if stands_at(names, near, name) {
@@ -68,7 +70,8 @@ impl<'n, V: Drop> Slots<'n, V> {
         requires place { place < length self.old.names.items }
         ensures same_names { HaveSameNames self.old self.new }
         ensures held { (f : Text) → held_in self.new f
-            ≡ (if bytes_eq f (text_at (names_in self.old) place) then Some value else held_in self.old f) }
+            ≡ (if bytes_eq f (text_at (names_in self.old) place) then Some value
+            else held_in self.old f) }
     {
         self.values[place] = Some(value);
     }

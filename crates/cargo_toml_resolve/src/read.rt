@@ -80,9 +80,10 @@ fn add_item<'m>(
 ) -> Result<(), AllocError>
     ensures gathered { OnOk result ((f : Text) (d : Detail) (items : List Item)
         → IsGathered f d items (map (λ t. t.now) named.old.items) feature.old
-        → IsGathered f d (items ++ item_of text.now ∷ []) (map (λ t. t.now) named.new.items) feature.new) }
-    ensures noted { OnOk result
-        ((k : Text) → sorted_at acted.new k ≡ noted (sorted_at acted.old k) (action_on k (item_of text.now))) }
+        → IsGathered f d (items ++ item_of text.now ∷ [])
+        (map (λ t. t.now) named.new.items) feature.new) }
+    ensures noted { OnOk result ((k : Text) → sorted_at acted.new k
+        ≡ noted (sorted_at acted.old k) (action_on k (item_of text.now))) }
 {
     let action = read_action(text);
     if action.acts() {
@@ -96,7 +97,8 @@ fn add_item<'m>(
 
 // The texts one after another, as a set.
 fn inserted<'m>(alloc: Global, texts: &[&'m str]) -> Result<BTreeSet<&'m str>, AllocError>
-    ensures { IfOk result (λ s. (x : Text) → has_text s x ≡ list_any (bytes_eq x) (map (λ t. t.now) texts.now)) }
+    ensures { IfOk result
+        (λ s. (x : Text) → has_text s x ≡ list_any (bytes_eq x) (map (λ t. t.now) texts.now)) }
 {
     let mut set = BTreeSet::new(alloc);
     for text in texts {
@@ -107,14 +109,16 @@ fn inserted<'m>(alloc: Global, texts: &[&'m str]) -> Result<BTreeSet<&'m str>, A
 
 // The texts as a set, which is made in one go.
 fn collected<'m>(alloc: Global, texts: &[&'m str]) -> Result<BTreeSet<&'m str>, AllocError>
-    ensures { IfOk result (λ s. (x : Text) → has_text s x ≡ list_any (bytes_eq x) (map (λ t. t.now) texts.now)) }
+    ensures { IfOk result
+        (λ s. (x : Text) → has_text s x ≡ list_any (bytes_eq x) (map (λ t. t.now) texts.now)) }
 {
     texts.iter().copied().collect(alloc)
 }
 
 // The texts as a set. Few are inserted, which takes less memory than to sort them.
 fn set_of<'m>(alloc: Global, texts: &[&'m str]) -> Result<BTreeSet<&'m str>, AllocError>
-    ensures { IfOk result (λ s. (x : Text) → has_text s x ≡ list_any (bytes_eq x) (map (λ t. t.now) texts.now)) }
+    ensures { IfOk result
+        (λ s. (x : Text) → has_text s x ≡ list_any (bytes_eq x) (map (λ t. t.now) texts.now)) }
 {
     if texts.len() > 16 {
         collected(alloc, texts)
@@ -130,8 +134,8 @@ fn read_list<'m>(
     acted: &mut BTreeMap<&'m str, bool>,
     listing: Listing<'m>,
 ) -> Result<Feature<'m>, AllocError>
-    ensures listed { IfOk result
-        (IsListed listing.entry.name.now (detail_in listing.entry.detail) (map item_of (map string_bytes listing.entry.actions.now))) }
+    ensures listed { IfOk result (IsListed listing.entry.name.now (detail_in listing.entry.detail)
+        (map item_of (map string_bytes listing.entry.actions.now))) }
     ensures noted { OnOk result
         ((k : Text) → sorted_at acted.new k ≡ noted (sorted_at acted.old k)
         (joined_in (map item_of (map string_bytes listing.entry.actions.now)) k)) }
@@ -170,8 +174,8 @@ fn add_default<'m>(alloc: Global, features: &mut Slots<'m, Feature<'m>>)
     requires named { Among (names_in features.old) (codes "default") }
     ensures others { (f : Text) → bytes_eq f (codes "default") ≡ false
         → held_in features.new f ≡ held_in features.old f }
-    ensures default { MatchOption (held_in features.old (codes "default"))
-        (IsSomeAnd (held_in features.new (codes "default")) (IsListed (codes "default") plain_detail []))
+    ensures default { MatchOption (held_in features.old (codes "default")) (IsSomeAnd
+        (held_in features.new (codes "default")) (IsListed (codes "default") plain_detail []))
         (λ v. held_in features.new (codes "default") ≡ Some v) }
     ensures same_names { HaveSameNames features.old features.new }
 {

@@ -76,7 +76,8 @@ fn counting_keys<'m: 'd, 'd>(
     entries: &[ParseDependency<'m, 'd>],
 ) -> Result<Vec<&'d str>, AllocError>
     ensures { IfOk result (λ v. (k : Text) → Among (map (λ t. t.now) v.items) k
-        ↔ IsTrue (list_any (counts_at (is_mentioned_in mentions.now) k) (map entry_of entries.now))) }
+        ↔ IsTrue (list_any (counts_at (is_mentioned_in mentions.now) k)
+        (map entry_of entries.now))) }
 {
     let mut keys = Vec::with_capacity(alloc, entries.len())?;
     for entry in entries {
@@ -97,7 +98,8 @@ fn record_at<'m: 'd, 'd>(
     requires place { place < length dependencies.old.names.items }
     requires named { text_at (names_in dependencies.old) place ≡ entry.now.key.now }
     ensures recorded { OnOk result ((q : Text) → recorded_at dependencies.new q
-        ≡ (if bytes_eq entry.now.key.now q then Some (recorded_with (recorded_at dependencies.old q) (entry_of entry.now))
+        ≡ (if bytes_eq entry.now.key.now q
+        then Some (recorded_with (recorded_at dependencies.old q) (entry_of entry.now))
         else recorded_at dependencies.old q)) }
     ensures same_names { OnOk result (HaveSameNames dependencies.old dependencies.new) }
 {
@@ -118,9 +120,11 @@ fn record_entry<'m: 'd, 'd>(
     near: usize,
 ) -> Result<usize, AllocError>
     requires named { IsTrue (is_optional (dependency_meaning entry.now.dep.now)
-        || is_mentioned_in mentions.now entry.now.key.now) → Among (names_in dependencies.old) entry.now.key.now }
+        || is_mentioned_in mentions.now entry.now.key.now)
+        → Among (names_in dependencies.old) entry.now.key.now }
     ensures recorded { OnOk result ((q : Text) → recorded_at dependencies.new q
-        ≡ recorded_after (is_mentioned_in mentions.now) (entry_of entry.now) q (recorded_at dependencies.old q)) }
+        ≡ recorded_after (is_mentioned_in mentions.now) (entry_of entry.now) q
+        (recorded_at dependencies.old q)) }
     ensures same_names { OnOk result (HaveSameNames dependencies.old dependencies.new) }
 {
     let Some(place) = place_near(dependencies.names.as_slice(), entry.key, near) else {
@@ -140,8 +144,8 @@ pub fn record_dependencies<'m: 'd, 'd>(
     entries: &[ParseDependency<'m, 'd>],
 ) -> Result<Slots<'d, FeatureDependency<'d>>, AllocError>
     ensures recorded { IfOk result (λ s. (listed : Listed)
-        → ((k : Text) → is_mentioned_in mentions.now k ≡ is_mentioned listed k) →
-        (k : Text) → recorded_at s k ≡ recorded_of (entries_at listed (map entry_of entries.now) k)) }
+        → ((k : Text) → is_mentioned_in mentions.now k ≡ is_mentioned listed k) → (k : Text)
+        → recorded_at s k ≡ recorded_of (entries_at listed (map entry_of entries.now) k)) }
 {
     let names = ascending(counting_keys(alloc, mentions, entries)?);
     let mut dependencies = empty_slots(alloc, names)?;

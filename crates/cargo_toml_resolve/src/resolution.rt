@@ -48,13 +48,16 @@ pub fn resolve_all<'m: 'd, 'd>(
 ) -> Result<Unremoved<'m, 'd>, AllocError>
     requires { IsOnce (map (λ l. l.name.now) listings.now) }
     ensures in_order { IfOk result (λ a. AreInOrder a.features.items) }
-    ensures table { IfOk result (λ a. AreTable (table_of (listed_of listings.now) (map entry_of entries.now)) a.features.items) }
-    ensures unremoved { IfOk result (λ a. wants_enablers ≡ true →
-        IsUnremoved (table_of (listed_of listings.now) (map entry_of entries.now)) (resolution_among a.features.items)) }
+    ensures table { IfOk result (λ a. AreTable
+        (table_of (listed_of listings.now) (map entry_of entries.now)) a.features.items) }
+    ensures unremoved { IfOk result (λ a. wants_enablers ≡ true
+        → IsUnremoved (table_of (listed_of listings.now) (map entry_of entries.now))
+        (resolution_among a.features.items)) }
     ensures marks { IfOk result (λ a. (f : Text) → IfSome (feature_at a.features.items f) (λ v.
         marks_of v ≡ marks_in (listed_of listings.now) (details_of listings.now) f)) }
-    ensures bins { IfOk result (λ a. (f : Text) → IfSome (feature_at a.features.items f) (λ v.
-        map (λ b. b.now) v.required_by_bins.items ≡ own_of (map requirement_of requirements.now) f)) }
+    ensures bins { IfOk result (λ a. (f : Text) → IfSome (feature_at a.features.items f)
+        (λ v. map (λ b. b.now) v.required_by_bins.items
+        ≡ own_of (map requirement_of requirements.now) f)) }
     ensures dependencies { IfOk result (λ a. (k : Text) →
         SameRecorded (option_map recorded_in (held_in a.dependencies k))
         (recorded_of (entries_at (listed_of listings.now) (map entry_of entries.now) k))) }

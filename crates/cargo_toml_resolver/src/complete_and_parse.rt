@@ -53,14 +53,16 @@ pub fn complete_and_parse_into<
         (complete (manifest_meaning (λ m. m) manifest.old) (option_map handed_of workspace.entry)
         (λ hint. heard Fs.Roots.ARE_READ (Fs.root_for fs hint)) (Fs.names_at fs)) (Ok lent)) }
     ensures given { IfSome result (λ m. GivenBy (manifest_meaning (λ m. m) manifest.old)
-        (option_map handed_of workspace.entry) (λ hint. heard Fs.Roots.ARE_READ (Fs.root_for fs hint))
-        (Fs.names_at fs) (manifest_meaning (λ m. m) m.now)) }
+        (option_map handed_of workspace.entry)
+        (λ hint. heard Fs.Roots.ARE_READ (Fs.root_for fs hint)) (Fs.names_at fs)
+        (manifest_meaning (λ m. m) m.now)) }
     ensures needs { IfSome result (λ m. needs (manifest_meaning (λ m. m) m.now) ≡ false) }
     ensures filled { IfSome result (λ m. IfSome m.now.package IsFilled) }
     ensures again { IfSome result (λ m. IsLasting (manifest_meaning (λ m. m) manifest.old)
         (option_map handed_of workspace.entry) (manifest_meaning (λ m. m) m.now)) }
     ensures memory { IfSome result (λ _. IfSome slot.new (λ r. IfErr r (λ e. e ≡ Memory))) }
-    ensures outcome { IfSome (with_lent result slot.new) (Meets (λ p. manifest_meaning (λ m. m) p.0.now)
+    ensures outcome { IfSome (with_lent result slot.new)
+        (Meets (λ p. manifest_meaning (λ m. m) p.0.now)
         (complete (manifest_meaning (λ m. m) manifest.old) (option_map handed_of workspace.entry)
         (λ hint. heard Fs.Roots.ARE_READ (Fs.root_for fs hint)) (Fs.names_at fs))) }
     ensures wrapped { IfSome (with_lent result slot.new) (λ r. IfErr r (IsRefusedBy
@@ -72,7 +74,8 @@ pub fn complete_and_parse_into<
         IsParsed (limit_of resolver.now) (manifest_meaning (λ m. m) p.0.now) keep
         (answer_of p.1))) }
     ensures keyed { IfSome (with_lent result slot.new) (λ r. IfOk r (λ p. IsKeyed p.1.features)) }
-    ensures targets { IfSome (with_lent result slot.new) (λ r. IfOk r (λ p. HaveTargets p.1.dependencies)) }
+    ensures targets { IfSome (with_lent result slot.new)
+        (λ r. IfOk r (λ p. HaveTargets p.1.dependencies)) }
 {
     match manifest.complete_from_abstract_filesystem(alloc, fs, workspace) {
         Ok(()) => {}
@@ -110,23 +113,28 @@ impl<'config, F: Fn(&str) -> bool, S: BuildHasher + Clone + Drop> Resolver<'conf
         workspace: Option<(&Manifest<N>, &str)>,
     ) -> Result<(&'m Manifest<M>, Features<'m, 'm, S>), Error>
         requires { HasNameFilter F.Fn (filter_of self.now) }
-        ensures* left { sem 𝓛 (IsLentAfter M.row manifest.entry (option_map handed_of workspace.entry)
+        ensures* left { sem 𝓛
+            (IsLentAfter M.row manifest.entry (option_map handed_of workspace.entry)
             (λ hint. heard Fs.Roots.ARE_READ (Fs.root_for fs hint)) (Fs.names_at fs) result) }
-        ensures outcome { Meets (λ p. manifest_meaning (λ m. m) p.0.now)
-            (complete (manifest_meaning (λ m. m) manifest.old) (option_map handed_of workspace.entry)
+        ensures outcome { Meets (λ p. manifest_meaning (λ m. m) p.0.now) (complete
+            (manifest_meaning (λ m. m) manifest.old) (option_map handed_of workspace.entry)
             (λ hint. heard Fs.Roots.ARE_READ (Fs.root_for fs hint)) (Fs.names_at fs)) result }
         ensures given { IfOk result (λ p. GivenBy (manifest_meaning (λ m. m) manifest.old)
-            (option_map handed_of workspace.entry) (λ hint. heard Fs.Roots.ARE_READ (Fs.root_for fs hint))
-            (Fs.names_at fs) (manifest_meaning (λ m. m) p.0.now)) }
+            (option_map handed_of workspace.entry)
+            (λ hint. heard Fs.Roots.ARE_READ (Fs.root_for fs hint)) (Fs.names_at fs)
+            (manifest_meaning (λ m. m) p.0.now)) }
         ensures needs { IfOk result (λ p. needs (manifest_meaning (λ m. m) p.0.now) ≡ false) }
         ensures filled { IfOk result (λ p. IfSome p.0.now.package IsFilled) }
         ensures again { IfOk result (λ p. IsLasting (manifest_meaning (λ m. m) manifest.old)
             (option_map handed_of workspace.entry) (manifest_meaning (λ m. m) p.0.now)) }
         ensures wrapped { IfErr result (IsRefusedBy (manifest_meaning (λ m. m) manifest.old)
-            (option_map handed_of workspace.entry) (λ hint. heard Fs.Roots.ARE_READ (Fs.root_for fs hint))
+            (option_map handed_of workspace.entry)
+            (λ hint. heard Fs.Roots.ARE_READ (Fs.root_for fs hint))
             (MayLose Fs.Roots.ARE_READ (Fs.may_refuse_root fs)) (Fs.may_refuse fs)) }
-        ensures resolved { IfOk result (λ p. (keep : Text → Bool) → Tells F.Fn (filter_of self.now) keep →
-            IsParsed (limit_of self.now) (manifest_meaning (λ m. m) p.0.now) keep (answer_of p.1)) }
+        ensures resolved { IfOk result
+            (λ p. (keep : Text → Bool) → Tells F.Fn (filter_of self.now) keep
+            → IsParsed (limit_of self.now) (manifest_meaning (λ m. m) p.0.now) keep
+            (answer_of p.1)) }
         ensures keyed { IfOk result (λ p. IsKeyed p.1.features) }
         ensures targets { IfOk result (λ p. HaveTargets p.1.dependencies) }
     {
@@ -148,8 +156,10 @@ impl<'config, F: Fn(&str) -> bool, S: BuildHasher + Clone + Drop> Resolver<'conf
         ensures refused { IfErr completed (λ e. result ≡ Err e) }
         ensures memory { OnOk completed (IfErr result (λ e. e ≡ Memory)) }
         ensures lent { IfOk result (λ p. p.0 ≡ manifest.entry) }
-        ensures resolved { IfOk result (λ p. (keep : Text → Bool) → Tells F.Fn (filter_of self.now) keep →
-            IsParsed (limit_of self.now) (manifest_meaning (λ m. m) p.0.now) keep (answer_of p.1)) }
+        ensures resolved { IfOk result
+            (λ p. (keep : Text → Bool) → Tells F.Fn (filter_of self.now) keep
+            → IsParsed (limit_of self.now) (manifest_meaning (λ m. m) p.0.now) keep
+            (answer_of p.1)) }
         ensures keyed { IfOk result (λ p. IsKeyed p.1.features) }
         ensures targets { IfOk result (λ p. HaveTargets p.1.dependencies) }
     {

@@ -169,8 +169,9 @@ impl<'config, F: Fn(&str) -> bool, S: BuildHasher + Clone> Resolver<'config, F, 
             Tells F.Fn (filter_of self.now) keep →
             IsParsed (limit_of self.now) (manifest_meaning (λ m. m) manifest.now) keep
             (answer_of a)) }
-        ensures no_removed_name { IfOk result (λ a. (keep : Text → Bool) → Tells F.Fn (filter_of self.now) keep →
-            NoneIsLeft (λ r. IsSome ((answer_of a).redirects r)) (answer_of a).resolution) }
+        ensures no_removed_name { IfOk result
+            (λ a. (keep : Text → Bool) → Tells F.Fn (filter_of self.now) keep
+            → NoneIsLeft (λ r. IsSome ((answer_of a).redirects r)) (answer_of a).resolution) }
         ensures closure { IfOk result (λ a. (keep : Text → Bool) (full : Answer) →
             Tells F.Fn (filter_of self.now) keep →
             IsParsed (limit_of self.now) (manifest_meaning (λ m. m) manifest.now) (λ _. true) full →
@@ -243,7 +244,8 @@ impl<'config, F: Fn(&str) -> bool, S: BuildHasher + Clone> Resolver<'config, F, 
 // The tables of a manifest's dependencies.
 fn tables_of<M>(manifest: &Manifest<M>) -> Tables<'_>
     ensures own { tables_meaning result ≡ own_tables (manifest_meaning (λ m. m) manifest.now) }
-    ensures targets { map_meaning target_meaning result.target.now ≡ (manifest_meaning (λ m. m) manifest.now).target }
+    ensures targets { map_meaning target_meaning result.target.now
+        ≡ (manifest_meaning (λ m. m) manifest.now).target }
 {
     Tables {
         dependencies: &manifest.dependencies,

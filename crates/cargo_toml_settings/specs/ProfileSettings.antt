@@ -26,7 +26,8 @@ debug_of (boolean true) = Some debug.Full
 debug_of (integer z) = debug_number z
 debug_of (string s) = named (
     (codes "none", debug.None)
-    ∷ (codes "limited", debug.Lines) ∷ (codes "line-directives-only", debug.Lines) ∷ (codes "line-tables-only", debug.Lines)
+    ∷ (codes "limited", debug.Lines) ∷ (codes "line-directives-only", debug.Lines)
+    ∷ (codes "line-tables-only", debug.Lines)
     ∷ (codes "full", debug.Full) ∷ []) s
 debug_of _ = None
 
@@ -41,7 +42,9 @@ debug_refuses d e = IsShape (debug_fault d) e
 abbrev pub strip_of : Data → Option StripSetting
 strip_of (boolean false) = Some strip.None
 strip_of (boolean true) = Some strip.Symbols
-strip_of (string s) = named ((codes "none", strip.None) ∷ (codes "debuginfo", strip.Debuginfo) ∷ (codes "symbols", strip.Symbols) ∷ []) s
+strip_of (string s) =
+    named ((codes "none", strip.None) ∷ (codes "debuginfo", strip.Debuginfo)
+    ∷ (codes "symbols", strip.Symbols) ∷ []) s
 strip_of _ = None
 
 abbrev pub strip_fault : Data → List ℕ
@@ -58,7 +61,8 @@ lto_of (string s) = named (
     (codes "off", lto.None) ∷ (codes "n", lto.None) ∷ (codes "no", lto.None)
     ∷ (codes "false", lto.ThinLocal)
     ∷ (codes "thin", lto.Thin)
-    ∷ (codes "fat", lto.Fat) ∷ (codes "on", lto.Fat) ∷ (codes "y", lto.Fat) ∷ (codes "yes", lto.Fat) ∷ (codes "true", lto.Fat) ∷ []) s
+    ∷ (codes "fat", lto.Fat) ∷ (codes "on", lto.Fat) ∷ (codes "y", lto.Fat)
+    ∷ (codes "yes", lto.Fat) ∷ (codes "true", lto.Fat) ∷ []) s
 lto_of _ = None
 
 abbrev pub lto_fault : Data → List ℕ

@@ -22,7 +22,9 @@ named [] text = None
 named (row ∷ rows) text = if bytes_eq text row.0 then Some row.1 else named rows text
 
 abbrev pub edition_of : List ℕ → Option Edition
-edition_of text = named ((codes "2015", E2015) ∷ (codes "2018", E2018) ∷ (codes "2021", E2021) ∷ (codes "2024", E2024) ∷ []) text
+edition_of text =
+    named ((codes "2015", E2015) ∷ (codes "2018", E2018) ∷ (codes "2021", E2021)
+    ∷ (codes "2024", E2024) ∷ []) text
 
 abbrev pub resolver_of : List ℕ → Option Resolver
 resolver_of text = named ((codes "1", V1) ∷ (codes "2", V2) ∷ (codes "3", V3) ∷ []) text

@@ -48,7 +48,8 @@ pub enum LtoSetting {
 
 // The setting, or the text of what is wrong.
 fn debug_setting(value: &Value) -> Result<DebugSetting, &'static str>
-    ensures { MatchResult result (λ s. debug_of (view value.now) ≡ Some s) (λ t. (debug_of (view value.now) ≡ None) × (t.now ≡ debug_fault (view value.now))) }
+    ensures { MatchResult result (λ s. debug_of (view value.now) ≡ Some s)
+        (λ t. (debug_of (view value.now) ≡ None) × (t.now ≡ debug_fault (view value.now))) }
 {
     match value {
         Value::Boolean(false) => Ok(DebugSetting::None),
@@ -70,7 +71,8 @@ fn debug_setting(value: &Value) -> Result<DebugSetting, &'static str>
 }
 
 fn strip_setting(value: &Value) -> Result<StripSetting, &'static str>
-    ensures { MatchResult result (λ s. strip_of (view value.now) ≡ Some s) (λ t. (strip_of (view value.now) ≡ None) × (t.now ≡ strip_fault (view value.now))) }
+    ensures { MatchResult result (λ s. strip_of (view value.now) ≡ Some s)
+        (λ t. (strip_of (view value.now) ≡ None) × (t.now ≡ strip_fault (view value.now))) }
 {
     match value {
         Value::Boolean(false) => Ok(StripSetting::None),
@@ -86,7 +88,8 @@ fn strip_setting(value: &Value) -> Result<StripSetting, &'static str>
 }
 
 fn lto_setting(value: &Value) -> Result<LtoSetting, &'static str>
-    ensures { MatchResult result (λ s. lto_of (view value.now) ≡ Some s) (λ t. (lto_of (view value.now) ≡ None) × (t.now ≡ lto_fault (view value.now))) }
+    ensures { MatchResult result (λ s. lto_of (view value.now) ≡ Some s)
+        (λ t. (lto_of (view value.now) ≡ None) × (t.now ≡ lto_fault (view value.now))) }
 {
     match value {
         Value::Boolean(false) => Ok(LtoSetting::ThinLocal),

@@ -34,7 +34,8 @@ fn link_targets(
 ) -> Result<(), AllocError>
     requires fits { length by.old.items ≤ length is_removed.now }
     requires inside { (y : ℕ) → Among targets.now y → y < length by.old.items }
-    ensures { OnOk result (Links (λ f. Among targets.now f × IsWanted is_removed.now false f) e by.old.items by.new.items) }
+    ensures { OnOk result (Links (λ f. Among targets.now f × IsWanted is_removed.now false f) e
+        by.old.items by.new.items) }
 {
     for y in targets {
         if !is_removed[*y] {
@@ -55,7 +56,8 @@ fn link_row(
     requires at { at < length edges.now }
     requires fits { length by.old.items ≤ length is_removed.now }
     requires inside { (y : ℕ) → Leads edges.now at y → y < length by.old.items }
-    ensures { OnOk result (Links (λ f. Leads edges.now at f × IsWanted is_removed.now false f) e by.old.items by.new.items) }
+    ensures { OnOk result (Links (λ f. Leads edges.now at f × IsWanted is_removed.now false f) e
+        by.old.items by.new.items) }
 {
     link_targets(by, edges[at].as_slice(), is_removed, e)
 }
@@ -72,7 +74,8 @@ fn link_all(
     requires passed { (b : ℕ) → Among passed.now b → b < length edges.now }
     requires fits { length by.old.items ≤ length is_removed.now }
     requires inside { (a b : ℕ) → Leads edges.now a b → b < length by.old.items }
-    ensures { OnOk result (Links (HasLabel (Among passed.now) edges.now is_removed.now e) e by.old.items by.new.items) }
+    ensures { OnOk result (Links (HasLabel (Among passed.now) edges.now is_removed.now e) e
+        by.old.items by.new.items) }
 {
     link_row(by, edges, e, is_removed, e)?;
     for b in passed {
@@ -105,8 +108,9 @@ pub fn enablers(
     requires passed { (a b : ℕ) → a < length edges.now → IsWanted is_removed.now false a →
         Leads passed.now a b ↔ IsPassed edges.now is_removed.now a b }
     ensures len { IfOk result (λ by. length by.items ≡ length edges.now) }
-    ensures enabled { IfOk result (λ by. (f e : ℕ) → f < length edges.now → IsWanted is_removed.now false f →
-        Leads by.items f e ↔ IsEnabledBy edges.now is_removed.now f e) }
+    ensures enabled { IfOk result
+        (λ by. (f e : ℕ) → f < length edges.now → IsWanted is_removed.now false f
+        → Leads by.items f e ↔ IsEnabledBy edges.now is_removed.now f e) }
     ensures inside { IfOk result (λ by. (f e : ℕ) → Leads by.items f e → e < length edges.now) }
 {
     let mut by = empty_lists(alloc, edges.len())?;

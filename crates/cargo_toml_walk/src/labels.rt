@@ -20,8 +20,8 @@ fn visit_rows(
     requires fits { length met.old.items ≤ length flags.now }
     requires inside { (a x : ℕ) → Leads labels.now a x → x < length met.old.items }
     requires marks { Marks epoch found.old.items met.old.items }
-    ensures { OnOk result (Visits epoch (λ x. ((b : ℕ) × Among passed.now b × Leads labels.now b x) × IsWanted flags.now false x)
-        found.old.items found.new.items met.old.items met.new.items) }
+    ensures { OnOk result (Visits epoch (λ x. ((b : ℕ) × Among passed.now b × Leads labels.now b x)
+        × IsWanted flags.now false x) found.old.items found.new.items met.old.items met.new.items) }
 {
     for b in passed {
         visit_row(found, met, epoch, labels, *b, flags, false)?;
@@ -70,7 +70,8 @@ fn labels_of(
     requires inside { (a x : ℕ) → Leads labels.now a x → x < length met.old.items }
     requires fresh { IsFresh own met.old.items }
     ensures labels { IfOk result (λ found. (x : ℕ) → Among found.items x
-        ↔ (((c : ℕ) × Among passed.now c) × HasLabel (Among passed.now) labels.now is_removed.now own x)) }
+        ↔ (((c : ℕ) × Among passed.now c)
+        × HasLabel (Among passed.now) labels.now is_removed.now own x)) }
     ensures len { OnOk result (length met.new.items ≡ length met.old.items) }
     ensures stamps { OnOk result (OldStamps own met.old.items met.new.items) }
 {

@@ -15,7 +15,8 @@ fn meet(
 ) -> Result<(), AllocError>
     requires inside { x < length met.old.items }
     requires marks { Marks epoch found.old.items met.old.items }
-    ensures { OnOk result (Visits epoch (λ y. y ≡ x) found.old.items found.new.items met.old.items met.new.items) }
+    ensures { OnOk result
+        (Visits epoch (λ y. y ≡ x) found.old.items found.new.items met.old.items met.new.items) }
 {
     let stamp = &mut met[x];
     if *stamp != epoch {
@@ -37,8 +38,8 @@ fn visit(
     requires fits { length met.old.items ≤ length flags.now }
     requires inside { (y : ℕ) → Among targets.now y → y < length met.old.items }
     requires marks { Marks epoch found.old.items met.old.items }
-    ensures { OnOk result (Visits epoch (λ y. Among targets.now y × IsWanted flags.now wanted y) found.old.items found.new.items
-        met.old.items met.new.items) }
+    ensures { OnOk result (Visits epoch (λ y. Among targets.now y × IsWanted flags.now wanted y)
+        found.old.items found.new.items met.old.items met.new.items) }
 {
     for x in targets {
         if flags[*x] == wanted {
@@ -62,8 +63,8 @@ pub(crate) fn visit_row(
     requires fits { length met.old.items ≤ length flags.now }
     requires inside { (y : ℕ) → Leads rows.now at y → y < length met.old.items }
     requires marks { Marks epoch found.old.items met.old.items }
-    ensures { OnOk result (Visits epoch (λ y. Leads rows.now at y × IsWanted flags.now wanted y) found.old.items found.new.items
-        met.old.items met.new.items) }
+    ensures { OnOk result (Visits epoch (λ y. Leads rows.now at y × IsWanted flags.now wanted y)
+        found.old.items found.new.items met.old.items met.new.items) }
 {
     visit(found, met, epoch, rows[at].as_slice(), flags, wanted)
 }
@@ -82,10 +83,12 @@ pub(crate) fn passing(
     requires whole { length edges.now ≡ length met.old.items }
     requires inside { (a b : ℕ) → Leads edges.now a b → b < length met.old.items }
     requires fresh { IsFresh start met.old.items }
-    ensures passed { IfOk result (λ found. (b : ℕ) → Among found.items b ↔ IsPassed edges.now is_removed.now start b) }
+    ensures passed { IfOk result
+        (λ found. (b : ℕ) → Among found.items b ↔ IsPassed edges.now is_removed.now start b) }
     ensures len { OnOk result (length met.new.items ≡ length met.old.items) }
     ensures stamps { OnOk result (OldStamps start met.old.items met.new.items) }
-    ensures inside { IfOk result (λ found. (b : ℕ) → Among found.items b → b < length met.old.items) }
+    ensures inside { IfOk result
+        (λ found. (b : ℕ) → Among found.items b → b < length met.old.items) }
 {
     let mut found = Vec::new(alloc);
     visit_row(&mut found, met, start, edges, start, is_removed, true)?;
@@ -132,9 +135,11 @@ pub fn all_passed(
     requires whole { length edges.now ≤ length is_removed.now }
     requires inside { (a b : ℕ) → Leads edges.now a b → b < length edges.now }
     ensures len { IfOk result (λ p. length p.items ≡ length edges.now) }
-    ensures passed { IfOk result (λ p. (a b : ℕ) → a < length edges.now → IsWanted is_removed.now false a →
-        Leads p.items a b ↔ IsPassed edges.now is_removed.now a b) }
-    ensures removed { IfOk result (λ p. (a b : ℕ) → IsWanted is_removed.now true a → ¬ Leads p.items a b) }
+    ensures passed { IfOk result
+        (λ p. (a b : ℕ) → a < length edges.now → IsWanted is_removed.now false a
+        → Leads p.items a b ↔ IsPassed edges.now is_removed.now a b) }
+    ensures removed { IfOk result
+        (λ p. (a b : ℕ) → IsWanted is_removed.now true a → ¬ Leads p.items a b) }
     ensures inside { IfOk result (λ p. (a b : ℕ) → Leads p.items a b → b < length edges.now) }
 {
     let size = edges.len();

@@ -61,7 +61,8 @@ AreItems way _ _ = ⊥
 
 abbrev pub ItemsRefused : {X : Type 0} → Way X → List X → Error → Type 0
 ItemsRefused way [] e = ⊥
-ItemsRefused way (x ∷ xs) e = (((d : Data) → ¬ (way.trees x d)) × way.refuses x e) ⊎ ItemsRefused way xs e
+ItemsRefused way (x ∷ xs) e =
+    (((d : Data) → ¬ (way.trees x d)) × way.refuses x e) ⊎ ItemsRefused way xs e
 
 abbrev pub list_way : {X : Type 0} → Way X → Way (List X)
 list_way way = record {

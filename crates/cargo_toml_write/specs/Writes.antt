@@ -42,7 +42,8 @@ IsReadAgain reads m answer = IfOk answer (λ v. without_floats reads (view v) �
 abbrev pub put : List ℕ → Data → Members → Members
 put k d no_members = member k d no_members
 put k d (member l e ms) =
-    match_ordering (slice_cmp nat_cmp k l) (member k d (member l e ms)) (member l d ms) (member l e (put k d ms))
+    match_ordering (slice_cmp nat_cmp k l) (member k d (member l e ms)) (member l d ms)
+    (member l e (put k d ms))
 
 -- the same, where there may be nothing to put
 abbrev pub put_some : List ℕ → Option Data → Members → Members

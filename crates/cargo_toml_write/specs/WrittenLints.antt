@@ -22,7 +22,8 @@ members_of (e ∷ es) = member e.0 e.1 (members_of es)
 
 abbrev pub lint_table : LintMeaning → Data
 lint_table l =
-    let levelled : Members = put (codes "level") (string (level_text l.level)) (members_of l.config) in
+    let levelled : Members =
+    put (codes "level") (string (level_text l.level)) (members_of l.config) in
     table (put (codes "priority") (integer l.priority) levelled)
 
 abbrev pub table_lint_way : Way LintMeaning

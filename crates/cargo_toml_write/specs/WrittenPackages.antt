@@ -54,6 +54,8 @@ VersionAgain (Set v) = version_parts (parts_text v) ≡ Ok v
 VersionAgain Inherited = Unit {0}
 
 -- every tree of the metadata, where it is there, is read again as what it means
-abbrev pub MetadataAgain : {X W M : Type 0} → Way W → (X → W) → (X → M) → (Data → Option M) → Option X → Type 0
+abbrev pub MetadataAgain : {X W M : Type 0} → Way W → (X → W) → (X → M) → (Data → Option M)
+    → Option X → Type 0
 MetadataAgain way held meaning reads None = Unit {0}
-MetadataAgain way held meaning reads (Some x) = (d : Data) → way.trees (held x) d → reads d ≡ Some (meaning x)
+MetadataAgain way held meaning reads (Some x) =
+    (d : Data) → way.trees (held x) d → reads d ≡ Some (meaning x)

@@ -68,9 +68,11 @@ pub fn manifests_of_any_metadata<Metadata: ToValue>()
 /// it was read of holds none.
 pub fn read_manifests_are_written()
     ensures no_float { (d : Data) (m : ManifestMeaning Data)
-        → without_floats (manifest_reads any_tree) d ≡ Some m → ManifestHoldsNoFloat HoldsNoFloat m }
+        → without_floats (manifest_reads any_tree) d ≡ Some m
+        → ManifestHoldsNoFloat HoldsNoFloat m }
     ensures of_tree { (d : Data) (m : ManifestMeaning Data)
-        → without_floats (manifest_reads any_tree) d ≡ Some m → ManifestHoldsNoFloat (HasTree free_way) m }
+        → without_floats (manifest_reads any_tree) d ≡ Some m
+        → ManifestHoldsNoFloat (HasTree free_way) m }
     ensures of_document { (document : Option Members) (m : ManifestMeaning Data)
         → document_reads (manifest_reads any_tree) document ≡ Some m
         → ManifestHoldsNoFloat (HasTree free_way) m }

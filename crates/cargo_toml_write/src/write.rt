@@ -56,7 +56,8 @@ pub trait LeftOut: ToValue {
 
 /// Puts a value at a key.
 pub fn put(table: &mut Table, alloc: Global, key: &str, value: Value) -> Result<(), Error>
-    ensures ok { OnOk result (table_view table.new ≡ put key.now (view value) (table_view table.old)) }
+    ensures ok { OnOk result (table_view table.new
+        ≡ put key.now (view value) (table_view table.old)) }
     ensures memory { IfErr result (λ e. e ≡ Error.Memory) }
 {
     let name = String::from_str(alloc, key)?;

@@ -22,7 +22,8 @@ use std::io::Write;
 pub fn print_report<W: Write>(alloc: Global, bytes: &[u8], output: &mut W) -> Result<(), Error>
     ensures printed { OnOk result ((text : Text) × IsReport bytes.now text
         × Appends (W.contents output.old) (W.contents output.new) text) }
-    ensures unwritten { ¬ IsManifest bytes.now → Keeps (W.contents output.old) (W.contents output.new) }
+    ensures unwritten { ¬ IsManifest bytes.now
+        → Keeps (W.contents output.old) (W.contents output.new) }
     ensures refused { IfErr result (RefusesToPrint bytes.now) }
 {
     let text = report_of(alloc, bytes)?;
@@ -61,7 +62,8 @@ fn report_text(alloc: Global, report: &Report<'_>) -> Result<String, AllocError>
 
 // A line for each name.
 fn push_lines(text: &mut String, word: &str, names: &[&str]) -> Result<(), AllocError>
-    ensures { OnOk result (string_bytes text.new ≡ string_bytes text.old ++ lines word.now (texts_of names.now)) }
+    ensures { OnOk result (string_bytes text.new
+        ≡ string_bytes text.old ++ lines word.now (texts_of names.now)) }
 {
     for name in names {
         push_line(text, word, *name)?;
@@ -70,7 +72,8 @@ fn push_lines(text: &mut String, word: &str, names: &[&str]) -> Result<(), Alloc
 }
 
 fn push_line(text: &mut String, word: &str, name: &str) -> Result<(), AllocError>
-    ensures { OnOk result (string_bytes text.new ≡ string_bytes text.old ++ line word.now name.now) }
+    ensures { OnOk result (string_bytes text.new
+        ≡ string_bytes text.old ++ line word.now name.now) }
 {
     text.push_str(word)?;
     text.push_str(name)?;

@@ -37,7 +37,8 @@ fn joined_path(
 
 // The texts of both lists.
 fn joined_texts(alloc: Global, front: &[String], back: &[String]) -> Result<Vec<String>, AllocError>
-    ensures { IfOk result (λ texts. map string_bytes texts.items ≡ map string_bytes front.now ++ map string_bytes back.now) }
+    ensures { IfOk result (λ texts. map string_bytes texts.items
+        ≡ map string_bytes front.now ++ map string_bytes back.now) }
 {
     let mut texts = Vec::with_capacity(alloc, front.len() + back.len())?;
     add_texts(&mut texts, front)?;
@@ -51,7 +52,8 @@ fn extended_texts(
     texts: &Vec<String>,
     more: &[String],
 ) -> Result<Vec<String>, AllocError>
-    ensures { IfOk result (λ all. map string_bytes all.items ≡ map string_bytes texts.now.items ++ map string_bytes more.now) }
+    ensures { IfOk result (λ all. map string_bytes all.items
+        ≡ map string_bytes texts.now.items ++ map string_bytes more.now) }
 {
     if more.is_empty() {
         return Ok(texts.clone()?);
@@ -61,7 +63,8 @@ fn extended_texts(
 
 // Puts copies of the texts behind those of the list.
 fn add_texts(texts: &mut Vec<String>, more: &[String]) -> Result<(), AllocError>
-    ensures { OnOk result (map string_bytes texts.new.items ≡ map string_bytes texts.old.items ++ map string_bytes more.now) }
+    ensures { OnOk result (map string_bytes texts.new.items
+        ≡ map string_bytes texts.old.items ++ map string_bytes more.now) }
 {
     for text in more {
         texts.push(text.clone()?)?;
@@ -155,7 +158,8 @@ fn short_detail(
     default_features: bool,
 ) -> Result<Box<DependencyDetail>, AllocError>
     ensures { IfOk result (λ d. detail_meaning d.value
-        ≡ short_detail (option_map requirement_meaning version) (map string_bytes features.items) optional default_features) }
+        ≡ short_detail (option_map requirement_meaning version)
+        (map string_bytes features.items) optional default_features) }
 {
     let mut detail = Box::new(alloc, DependencyDetail::default(alloc))?;
     detail.version = version;
@@ -226,7 +230,8 @@ fn requirement_with_entry(
     requirement: &VersionReq,
 ) -> Result<Box<DependencyDetail>, AllocError>
     ensures { IfOk result (λ d. detail_meaning d.value
-        ≡ with_entry [] (inherited_meaning entry.now) (plain_detail (requirement_meaning requirement.now))) }
+        ≡ with_entry [] (inherited_meaning entry.now)
+        (plain_detail (requirement_meaning requirement.now))) }
 {
     let version = requirement.duplicate(alloc)?;
     let features = entry.features.duplicate(alloc)?;
@@ -256,8 +261,8 @@ pub fn from_template(
     entry: &InheritedDependencyDetail,
     template: &Dependency,
 ) -> Result<Option<Dependency>, AllocError>
-    ensures { IfOk result (λ made. (key : List ℕ)
-        → from_template base.now key (inherited_meaning entry.now) (Some (dependency_meaning template.now))
+    ensures { IfOk result (λ made. (key : List ℕ) → from_template base.now key
+        (inherited_meaning entry.now) (Some (dependency_meaning template.now))
         ≡ ok_or (option_map dependency_meaning made) inherited_unknown_value) }
 {
     match template {

@@ -35,7 +35,8 @@ fn new_target(
     target: &Target,
 ) -> Result<NewTarget, Error>
     ensures { Gives (replaced_target (target_meaning target.now)) result
-        (inherited_target (option_map entries_meaning (option_copied templates.entry)) base.now (target_meaning target.now)) }
+        (inherited_target (option_map entries_meaning (option_copied templates.entry)) base.now
+        (target_meaning target.now)) }
 {
     let dependencies = replacements(alloc, templates, base, &target.dependencies)?;
     let build_dependencies = replacements(alloc, templates, base, &target.build_dependencies)?;
@@ -60,7 +61,8 @@ pub fn target_replacements(
     targets: &TargetDepsSet,
 ) -> Result<Vec<NewTarget>, Error>
     ensures { Gives (λ made. replaced_targets (targets_meaning targets.now) made.items) result
-        (inherited_targets (option_map entries_meaning (option_copied templates.entry)) base.now (targets_meaning targets.now)) }
+        (inherited_targets (option_map entries_meaning (option_copied templates.entry)) base.now
+        (targets_meaning targets.now)) }
 {
     let mut made = Vec::with_capacity(alloc, targets.len())?;
     for (_, target) in targets {
@@ -80,7 +82,8 @@ fn replace_target(target: &mut Target, new: NewTarget)
 
 // Puts the next one into a target.
 fn put_next_target(target: &mut Target, made: &mut IntoIter<NewTarget>)
-    ensures target { target_meaning target.new ≡ next_target (target_meaning target.old) (into_iter_items made.old) }
+    ensures target { target_meaning target.new
+        ≡ next_target (target_meaning target.old) (into_iter_items made.old) }
     ensures rest { into_iter_items made.new ≡ drop 1 (into_iter_items made.old) }
 {
     if let Some(new) = made.next() {
@@ -91,7 +94,8 @@ fn put_next_target(target: &mut Target, made: &mut IntoIter<NewTarget>)
 /// Puts what was made into the targets, in the order of their names, as `replace` does; targets for
 /// which nothing was made are left as they are. It takes no memory.
 pub fn replace_targets(targets: &mut TargetDepsSet, made: Vec<NewTarget>)
-    ensures { targets_meaning targets.new ≡ replaced_targets (targets_meaning targets.old) made.items }
+    ensures { targets_meaning targets.new
+        ≡ replaced_targets (targets_meaning targets.old) made.items }
 {
     let mut made = made.into_iter();
     targets.retain(|_, target| {

@@ -25,6 +25,7 @@ pub fn missing_actions_add_nothing()
 pub fn lists_say_what_their_items_say()
     ensures names { (listed : Listed) (f x : Text) → IsTrue (names listed f x)
         ↔ Among (items listed f) (Item.Name x) }
-    ensures action { (listed : Listed) (f k : Text) →
-        IsJoin (λ a. (i : Item) × Among (items listed f) i × (action_on k i ≡ Some a)) (joined_action listed f k) }
+    ensures action { (listed : Listed) (f k : Text) → IsJoin
+        (λ a. (i : Item) × Among (items listed f) i × (action_on k i ≡ Some a))
+        (joined_action listed f k) }
 {}

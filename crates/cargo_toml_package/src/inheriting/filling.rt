@@ -87,9 +87,10 @@ impl Filling {
         field: &Option<Inheritable<T>>,
         value: &Option<T>,
     ) -> Option<T>
-        ensures { Fills self.old.refused self.new.refused
-            (put_if_there (option_map (inheritable_map T.meaning) field.now) (option_map T.meaning result)
-            ≡ filled_if_there (option_map (inheritable_map T.meaning) field.now) (option_map T.meaning value.now)) }
+        ensures { Fills self.old.refused self.new.refused (put_if_there
+            (option_map (inheritable_map T.meaning) field.now) (option_map T.meaning result)
+            ≡ filled_if_there (option_map (inheritable_map T.meaning) field.now)
+            (option_map T.meaning value.now)) }
     {
         match field {
             Some(field) => self.optional(field, value),
@@ -106,7 +107,8 @@ impl Filling {
     ) -> Option<OptionalFile>
         ensures { Fills self.old.refused self.new.refused
             (put (inheritable_map file_meaning field.now) (option_map file_meaning result)
-            ≡ filled (inheritable_map file_meaning field.now) (Some (based base.now (file_meaning file.now)))) }
+            ≡ filled (inheritable_map file_meaning field.now)
+            (Some (based base.now (file_meaning file.now)))) }
     {
         match field {
             Inheritable::Set(_) => None,
@@ -122,8 +124,8 @@ impl Filling {
         base: &str,
         path: &Option<String>,
     ) -> Option<String>
-        ensures { Fills self.old.refused self.new.refused
-            (put_if_there (option_map (inheritable_map string_bytes) field.now) (option_map string_bytes result)
+        ensures { Fills self.old.refused self.new.refused (put_if_there
+            (option_map (inheritable_map string_bytes) field.now) (option_map string_bytes result)
             ≡ filled_if_there (option_map (inheritable_map string_bytes) field.now)
             (option_map (path_join base.now) (option_map string_bytes path.now))) }
     {

@@ -41,8 +41,9 @@ pub(super) fn with_metadata<M: FromValue>(
     Ok(boxed(alloc, Manifest::from_slice_with_metadata(alloc, bytes)?)?)
 }
 
-const SMALL: &str =
-    "[package]\nname = \"dunce\"\nversion = \"0.1.0\"\n[dependencies]\nlog = { version = \"0.4\", optional = true }\n[features]\ndefault = [\"fast\"]\nfast = [\"log/std\"]\n";
+const SMALL: &str = "[package]\nname = \"dunce\"\nversion = \"0.1.0\"\n\
+    [dependencies]\nlog = { version = \"0.4\", optional = true }\n\
+    [features]\ndefault = [\"fast\"]\nfast = [\"log/std\"]\n";
 
 #[test]
 fn small_manifest_other_calls(rt: HostRuntime) -> Result<(), Fail> {

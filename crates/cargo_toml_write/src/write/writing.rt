@@ -61,7 +61,8 @@ impl Writing {
 
     /// Writes a value at a key, where it is there.
     pub fn optional<T: ToValue>(&mut self, key: &str, x: &Option<T>)
-        ensures { Writes (optional_row key.now T.way (option_map T.meaning x.now) ∷ []) self.old self.new }
+        ensures { Writes (optional_row key.now T.way (option_map T.meaning x.now) ∷ [])
+            self.old self.new }
     {
         if let Some(x) = x {
             self.required(key, x);

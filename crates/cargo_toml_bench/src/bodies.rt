@@ -30,8 +30,8 @@ pub fn resolve_by_both<'m, M>(
     manifest: &'m Manifest<M>,
 ) -> Result<(Answer<'m>, Answer<'m>), Error>
     ensures agree { IfOk result (λ p. Agree (answer_of p.0) (answer_of p.1)) }
-    ensures bins { IfOk result (λ p. (f : Text) → IsTrue ((answer_of p.0).resolution.table.has f) →
-        (answer_of p.0).bins f ≡ (answer_of p.1).bins f) }
+    ensures bins { IfOk result (λ p. (f : Text) → IsTrue ((answer_of p.0).resolution.table.has f)
+        → (answer_of p.0).bins f ≡ (answer_of p.1).bins f) }
     ensures refused { IfErr result (λ e. e ≡ Memory) }
 {
     let resolver = Resolver::new();
@@ -47,8 +47,8 @@ pub fn resolve_by_both_keeping_a<'m, M>(
     manifest: &'m Manifest<M>,
 ) -> Result<(Answer<'m>, Answer<'m>), Error>
     ensures agree { IfOk result (λ p. Agree (answer_of p.0) (answer_of p.1)) }
-    ensures bins { IfOk result (λ p. (f : Text) → IsTrue ((answer_of p.0).resolution.table.has f) →
-        (answer_of p.0).bins f ≡ (answer_of p.1).bins f) }
+    ensures bins { IfOk result (λ p. (f : Text) → IsTrue ((answer_of p.0).resolution.table.has f)
+        → (answer_of p.0).bins f ≡ (answer_of p.1).bins f) }
     ensures refused { IfErr result (λ e. e ≡ Memory) }
 {
     let called = resolve_keeping_a(alloc, manifest)?;
@@ -64,8 +64,8 @@ fn resolve_plainly<'m, M, F: Fn(&str) -> bool>(
     manifest: &'m Manifest<M>,
 ) -> Result<Answer<'m>, Error>
     requires { HasNameFilter F.Fn filter }
-    ensures resolved { IfOk result (λ a. (keep : Text → Bool) → Tells F.Fn filter.entry keep →
-        IsParsed MAX_ITEMS (manifest_meaning (λ m. m) manifest.now) keep (answer_of a)) }
+    ensures resolved { IfOk result (λ a. (keep : Text → Bool) → Tells F.Fn filter.entry keep
+        → IsParsed MAX_ITEMS (manifest_meaning (λ m. m) manifest.now) keep (answer_of a)) }
     ensures refused { IfErr result (λ e. e ≡ Memory) }
 {
     let details = &manifest.feature_details;

@@ -95,8 +95,8 @@ fn wait<'a>(
     map: &mut BTreeMap<&'a str, &'a Product>,
     product: &'a Product,
 ) -> Result<(), AllocError>
-    ensures ok { OnOk result ((n : Text) →
-        waiting_in map.new n ≡ waits_or (product_meaning product.now) n (waiting_in map.old n)) }
+    ensures ok { OnOk result ((n : Text)
+        → waiting_in map.new n ≡ waits_or (product_meaning product.now) n (waiting_in map.old n)) }
 {
     if product.path.is_none() {
         if let Some(name) = &product.name {
@@ -128,8 +128,8 @@ fn product_for(
     offer: Offer,
     waiting: Option<&Product>,
 ) -> Result<Product, AllocError>
-    ensures { IfOk result (λ p. (o : Offered) → offer_parts o ≡ parts_of_code offer →
-        product_meaning p ≡ product_for edition o (product_lent waiting.entry)) }
+    ensures { IfOk result (λ p. (o : Offered) → offer_parts o ≡ parts_of_code offer
+        → product_meaning p ≡ product_for edition o (product_lent waiting.entry)) }
 {
     match waiting {
         Some(product) => {

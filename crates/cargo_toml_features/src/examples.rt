@@ -42,8 +42,8 @@ pub fn a_small_table()
     // `default` names `fast` alone
     ensures names { (x : Text) → IsTrue (small.names (codes "default") x) ↔ (x ≡ codes "fast") }
     // `fast` acts on `log` plainly, with the feature `std`
-    ensures acts { (joined_table small_listed small_entries).action (codes "fast") (codes "log") ≡
-        Some (record {
+    ensures acts { (joined_table small_listed small_entries).action (codes "fast") (codes "log")
+        ≡ Some (record {
           is_conditional = false;
           is_dep_only = false;
           features = λ x. bytes_eq x (codes "std");

@@ -123,8 +123,8 @@ fn leave_all<'m>(
     requires enablers_len { length walked.now.enablers.items ≡ length features.old.items }
     requires passed { (a b : ℕ) → Leads walked.now.passed.items a b
         → b < length features.old.items }
-    requires removed { (a b : ℕ) → a < length features.old.items → IsWanted flags.now false a →
-        Leads walked.now.passed.items a b → IsWanted flags.now true b }
+    requires removed { (a b : ℕ) → a < length features.old.items → IsWanted flags.now false a
+        → Leads walked.now.passed.items a b → IsWanted flags.now true b }
     requires named { (a x : ℕ) → Leads walked.now.named.items a x → x < length texts.now }
     requires enablers { (a x : ℕ) → Leads walked.now.enablers.items a x → x < length texts.now }
     ensures { OnOk result (LeavesAll flags.now walked.now.passed.items walked.now.named.items
@@ -156,8 +156,8 @@ pub(crate) fn place<'m>(
     requires count { length edges.items ≡ length features.old.items }
     requires texts { length flags.now ≡ length texts.now }
     ensures len { OnOk result (length features.new.items ≡ length features.old.items) }
-    ensures own { OnOk result ((i : ℕ) (v w : Feature) → slice_get features.old.items i ≡ Some v →
-        slice_get features.new.items i ≡ Some w → IsNamedAlike v w) }
+    ensures own { OnOk result ((i : ℕ) (v w : Feature) → slice_get features.old.items i ≡ Some v
+        → slice_get features.new.items i ≡ Some w → IsNamedAlike v w) }
     ensures kept { OnOk result ((t : Table) (removed : Text → Bool) → StandFor t removed
         features.old.items (texts_of texts.now) edges.items names.items flags.now
         → (i : ℕ) (w : Feature) → IsWanted flags.now false i

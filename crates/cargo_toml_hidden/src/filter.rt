@@ -27,8 +27,8 @@ fn is_kept<F: Fn(&str) -> bool>(filter: Option<&F>, name: &str) -> bool
 /// that begin with `_`.
 pub fn is_hidden<F: Fn(&str) -> bool>(filter: Option<&F>, name: &str) -> bool
     requires { HasNameFilter F.Fn filter }
-    ensures { (keep : Text → Bool) → Tells F.Fn filter.entry keep →
-        result ≡ (starts_with nat_eq name.now (codes "_") && not (keep name.now)) }
+    ensures { (keep : Text → Bool) → Tells F.Fn filter.entry keep
+        → result ≡ (starts_with nat_eq name.now (codes "_") && not (keep name.now)) }
 {
     name.starts_with('_') && !is_kept(filter, name)
 }

@@ -73,8 +73,8 @@ fn publish<'m, S: BuildHasher + Clone>(
     requires flags { length features.items ≤ length flags.now }
     requires names { (i j : ℕ) (v w : Feature) → slice_get features.items i ≡ Some v
         → slice_get features.items j ≡ Some w → v.key.now ≡ w.key.now → i ≡ j }
-    requires once { (i j : ℕ) → i < length texts.now → j < length texts.now →
-        text_at (texts_of texts.now) i ≡ text_at (texts_of texts.now) j → i ≡ j }
+    requires once { (i j : ℕ) → i < length texts.now → j < length texts.now
+        → text_at (texts_of texts.now) i ≡ text_at (texts_of texts.now) j → i ≡ j }
     requires texts { length rows.now ≤ length texts.now }
     requires rows { length rows.now ≤ length flags.now }
     requires inside { (r x : ℕ) → Leads rows.now r x → x < length texts.now }
@@ -149,10 +149,10 @@ pub fn left_of<'m, S: BuildHasher + Clone>(
     requires in_order { AreInOrder features.items }
     requires count { length flags.now ≡ length features.items }
     ensures keyed { IfOk result (λ l. IsKeyed l.features) }
-    ensures outcome { IfOk result (λ l. (t : Table) (removed : Text → Bool) →
-        IsUnremoved t (resolution_among features.entry.items) →
-        ((f : Text) → IsTrue (removed f) ↔ IsFlagged features.entry.items flags.now f) →
-        AreLeft t removed features.entry.items l.features l.hidden) }
+    ensures outcome { IfOk result (λ l. (t : Table) (removed : Text → Bool)
+        → IsUnremoved t (resolution_among features.entry.items)
+        → ((f : Text) → IsTrue (removed f) ↔ IsFlagged features.entry.items flags.now f)
+        → AreLeft t removed features.entry.items l.features l.hidden) }
 {
     // Most manifests have no hidden feature: then nothing is numbered and no path is walked.
     if flags.contains(&true) {

@@ -320,8 +320,8 @@ pub fn number<'m>(
         (λ g. IsNumbered (table_among features.now) (IsFlagged features.now flags.now)
         (texts_of g.texts.items) g.edges.items g.names.items g.flags.items) }
     ensures count { IfOk result (λ g. length g.edges.items ≡ length features.now) }
-    ensures vertices { IfOk result (λ g. (i : ℕ) → i < length features.now →
-        text_at (texts_of g.texts.items) i ≡ text_at (names_of features.now) i) }
+    ensures vertices { IfOk result (λ g. (i : ℕ) → i < length features.now
+        → text_at (texts_of g.texts.items) i ≡ text_at (names_of features.now) i) }
     ensures names_len { IfOk result (λ g. length g.names.items ≡ length features.now) }
 {
     let texts = all_texts(alloc, features)?;

@@ -45,8 +45,8 @@ pub fn hashed_rows<'m, S: BuildHasher + Drop>(
     flags: &[bool],
     texts: &[&'m str],
 ) -> Result<HashMap<&'m str, BTreeSet<&'m str>, S>, AllocError>
-    requires once { (i j : ℕ) → i < length texts.now → j < length texts.now →
-        text_at (texts_of texts.now) i ≡ text_at (texts_of texts.now) j → i ≡ j }
+    requires once { (i j : ℕ) → i < length texts.now → j < length texts.now
+        → text_at (texts_of texts.now) i ≡ text_at (texts_of texts.now) j → i ≡ j }
     requires texts { length rows.now ≤ length texts.now }
     requires flags { length rows.now ≤ length flags.now }
     requires inside { (r x : ℕ) → Leads rows.now r x → x < length texts.now }

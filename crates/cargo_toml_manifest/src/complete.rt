@@ -45,8 +45,8 @@ fn completion<Metadata, Fs: AbstractFilesystem>(
         → IfOk result (λ new. (answers : Answers) × (then_found (option_copied path.entry)
         (filled (Fs.names_at fs.now) answers) stated ≡ gives (completed m new))) }
     ensures wrapped { let m = manifest_meaning (λ m. m) manifest.now in
-        (stated : Result (ManifestMeaning Metadata) Fault) → Gives (installed m) parts stated →
-        IfErr result (λ e. (e ≡ Memory)
+        (stated : Result (ManifestMeaning Metadata) Fault) → Gives (installed m) parts stated
+        → IfErr result (λ e. (e ≡ Memory)
         ⊎ IsToldWith (option_copied path.entry) (IsCause stated (Fs.may_refuse fs.now)) e) }
 {
     let parts = match parts {

@@ -117,8 +117,8 @@ pub fn find<Metadata, Fs: AbstractFilesystem>(
     fs: &Fs,
 ) -> Result<Option<Discovered>, Error>
     ensures answered { let m = installed (manifest_meaning (λ m. m) manifest.now) parts.now in
-        IfOk result (λ found. (answers : Answers) ×
-        (found_around m (filled (Fs.names_at fs.now) answers) ≡ seen (with_found m found))) }
+        IfOk result (λ found. (answers : Answers)
+        × (found_around m (filled (Fs.names_at fs.now) answers) ≡ seen (with_found m found))) }
     ensures told { let m = installed (manifest_meaning (λ m. m) manifest.now) parts.now in
         IfOk result (λ found. (found_around m (Fs.names_at fs.now) ≡ unclear)
         ⊎ (found_around m (Fs.names_at fs.now) ≡ seen (with_found m found))) }

@@ -95,8 +95,8 @@ fn ask_products<Fs: AbstractFilesystem>(
     ensures grows { OnOk result
         (Grows (Fs.names_at fs.now) (answers_of listings.old) (answers_of listings.new)) }
     ensures has { OnOk result (HasProducts is_wanted dir.now (answers_of listings.new)) }
-    ensures faults { Fits (Fs.names_at fs.now) (answers_of listings.old) →
-        IfErr result (Tells (entries_at (Fs.names_at fs.now) is_wanted dir.now)) }
+    ensures faults { Fits (Fs.names_at fs.now) (answers_of listings.old)
+        → IfErr result (Tells (entries_at (Fs.names_at fs.now) is_wanted dir.now)) }
     ensures refused { RefusesBy (IsListed (Fs.may_refuse fs.now)) result }
 {
     if !is_wanted {

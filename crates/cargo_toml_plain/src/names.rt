@@ -20,8 +20,8 @@ fn hidden_set<'m, F: Fn(&str) -> bool, S: BuildHasher>(
     filter: Option<&F>,
 ) -> Result<BTreeSet<&'m str>, AllocError>
     requires { HasNameFilter F.Fn filter }
-    ensures removed { IfOk result (λ s. (keep : Text → Bool) → Tells F.Fn filter.entry keep →
-        (f : Text) → has_text s f ≡ is_removed (table_in features.now) keep f) }
+    ensures removed { IfOk result (λ s. (keep : Text → Bool) → Tells F.Fn filter.entry keep
+        → (f : Text) → has_text s f ≡ is_removed (table_in features.now) keep f) }
     ensures known { IfOk result
         (λ s. (f : Text) → IsTrue (has_text s f) → IsSome (value_at features.now f)) }
 {

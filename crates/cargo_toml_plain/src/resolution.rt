@@ -54,8 +54,8 @@ pub fn resolve<'m: 'd, 'd, F: Fn(&str) -> bool, S: BuildHasher + Clone>(
 ) -> Result<Features<'m, 'd, S>, AllocError>
     requires once { IsOnce (map (λ l. l.name.now) listings.now) }
     requires filter { HasNameFilter F.Fn filter }
-    ensures resolved { IfOk result (λ a. (keep : Text → Bool) → Tells F.Fn filter.entry keep →
-        IsAnswer (listed_of listings.now) (map entry_of entries.now) (details_of listings.now)
+    ensures resolved { IfOk result (λ a. (keep : Text → Bool) → Tells F.Fn filter.entry keep
+        → IsAnswer (listed_of listings.now) (map entry_of entries.now) (details_of listings.now)
         (own_of (map requirement_of requirements.now)) keep (answer_of a)) }
     ensures keyed { IfOk result (λ a. IsKeyed a.features) }
     ensures targets { IfOk result (λ a. HaveTargets a.dependencies) }

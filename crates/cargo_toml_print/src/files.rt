@@ -21,8 +21,8 @@ pub fn print_completed<R: Files + AllocGlobal, W: Write>(
     file: &str,
     output: &mut W,
 ) -> Result<(), Error>
-    ensures unwritten { IfErr result (λ e. IsOfManifest e →
-        Keeps (W.contents output.old) (W.contents output.new)) }
+    ensures unwritten { IfErr result (λ e. IsOfManifest e
+        → Keeps (W.contents output.old) (W.contents output.new)) }
 {
     let mut manifest = manifest_in(rt, file)?;
     manifest.complete_from_path(rt, rt.alloc(), file)?;

@@ -58,8 +58,8 @@ pub fn resolve_all<'m: 'd, 'd>(
     ensures bins { IfOk result (λ a. (f : Text) → IfSome (feature_at a.features.items f)
         (λ v. map (λ b. b.now) v.required_by_bins.items
         ≡ own_of (map requirement_of requirements.now) f)) }
-    ensures dependencies { IfOk result (λ a. (k : Text) →
-        SameRecorded (option_map recorded_in (held_in a.dependencies k))
+    ensures dependencies { IfOk result (λ a. (k : Text)
+        → SameRecorded (option_map recorded_in (held_in a.dependencies k))
         (recorded_of (entries_at (listed_of listings.now) (map entry_of entries.now) k))) }
     ensures targets { IfOk result (λ a. HeldHaveTargets a.dependencies) }
 {

@@ -52,6 +52,6 @@ module _ (limit : ℕ) where
     -- requires each kept feature to which naming alone leads from it through removed ones
     abbrev pub AreBinsComplete : (Text → Bool) → Answer → Type 0
     AreBinsComplete keep a =
-        count_by (λ q. is_removed parsed_table keep q.0) (requirements m) ≤ 10 → (f : Text) →
-        IsTrue (a.resolution.table.has f) → IsComplete parsed_table
+        count_by (λ q. is_removed parsed_table keep q.0) (requirements m) ≤ 10 → (f : Text)
+        → IsTrue (a.resolution.table.has f) → IsComplete parsed_table
         (λ r. IsTrue (is_removed parsed_table keep r)) (own_of (requirements m)) f (a.bins f)

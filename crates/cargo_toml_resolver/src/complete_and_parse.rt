@@ -69,9 +69,9 @@ pub fn complete_and_parse_into<
         (manifest_meaning (λ m. m) manifest.old) (option_map handed_of workspace.entry)
         (λ hint. heard Fs.Roots.ARE_READ (Fs.root_for fs hint))
         (MayLose Fs.Roots.ARE_READ (Fs.may_refuse_root fs)) (Fs.may_refuse fs))) }
-    ensures resolved { IfSome (with_lent result slot.new) (λ r. IfOk r (λ p. (keep : Text → Bool) →
-        Tells F.Fn (filter_of resolver.now) keep →
-        IsParsed (limit_of resolver.now) (manifest_meaning (λ m. m) p.0.now) keep
+    ensures resolved { IfSome (with_lent result slot.new) (λ r. IfOk r (λ p. (keep : Text → Bool)
+        → Tells F.Fn (filter_of resolver.now) keep
+        → IsParsed (limit_of resolver.now) (manifest_meaning (λ m. m) p.0.now) keep
         (answer_of p.1))) }
     ensures keyed { IfSome (with_lent result slot.new) (λ r. IfOk r (λ p. IsKeyed p.1.features)) }
     ensures targets { IfSome (with_lent result slot.new)

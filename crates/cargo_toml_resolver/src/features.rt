@@ -165,24 +165,24 @@ impl<'config, F: Fn(&str) -> bool, S: BuildHasher + Clone> Resolver<'config, F, 
         manifest: &'m Manifest<M>,
     ) -> Result<Features<'m, 'm, S>, Error>
         requires { HasNameFilter F.Fn (filter_of self.now) }
-        ensures resolved { IfOk result (λ a. (keep : Text → Bool) →
-            Tells F.Fn (filter_of self.now) keep →
-            IsParsed (limit_of self.now) (manifest_meaning (λ m. m) manifest.now) keep
+        ensures resolved { IfOk result (λ a. (keep : Text → Bool)
+            → Tells F.Fn (filter_of self.now) keep
+            → IsParsed (limit_of self.now) (manifest_meaning (λ m. m) manifest.now) keep
             (answer_of a)) }
         ensures no_removed_name { IfOk result
             (λ a. (keep : Text → Bool) → Tells F.Fn (filter_of self.now) keep
             → NoneIsLeft (λ r. IsSome ((answer_of a).redirects r)) (answer_of a).resolution) }
-        ensures closure { IfOk result (λ a. (keep : Text → Bool) (full : Answer) →
-            Tells F.Fn (filter_of self.now) keep →
-            IsParsed (limit_of self.now) (manifest_meaning (λ m. m) manifest.now) (λ _. true) full →
-            KeepsEnabling full.resolution (answer_of a).resolution) }
-        ensures nothing_lost { IfOk result (λ a. (keep : Text → Bool) (full : Answer) →
-            Tells F.Fn (filter_of self.now) keep →
-            IsParsed (limit_of self.now) (manifest_meaning (λ m. m) manifest.now) (λ _. true) full →
-            LosesNothing full.resolution (answer_of a).resolution) }
-        ensures complete_bins { IfOk result (λ a. (keep : Text → Bool) →
-            Tells F.Fn (filter_of self.now) keep →
-            AreBinsComplete (limit_of self.now) (manifest_meaning (λ m. m) manifest.now) keep
+        ensures closure { IfOk result (λ a. (keep : Text → Bool) (full : Answer)
+            → Tells F.Fn (filter_of self.now) keep
+            → IsParsed (limit_of self.now) (manifest_meaning (λ m. m) manifest.now) (λ _. true) full
+            → KeepsEnabling full.resolution (answer_of a).resolution) }
+        ensures nothing_lost { IfOk result (λ a. (keep : Text → Bool) (full : Answer)
+            → Tells F.Fn (filter_of self.now) keep
+            → IsParsed (limit_of self.now) (manifest_meaning (λ m. m) manifest.now) (λ _. true) full
+            → LosesNothing full.resolution (answer_of a).resolution) }
+        ensures complete_bins { IfOk result (λ a. (keep : Text → Bool)
+            → Tells F.Fn (filter_of self.now) keep
+            → AreBinsComplete (limit_of self.now) (manifest_meaning (λ m. m) manifest.now) keep
             (answer_of a)) }
         ensures keyed { IfOk result (λ a. IsKeyed a.features) }
         ensures targets { IfOk result (λ a. HaveTargets a.dependencies) }
@@ -220,15 +220,15 @@ impl<'config, F: Fn(&str) -> bool, S: BuildHasher + Clone> Resolver<'config, F, 
         dependencies: &[ParseDependency<'m, 'd>],
     ) -> Result<Features<'m, 'd, S>, Error>
         requires { HasNameFilter F.Fn (filter_of self.now) }
-        ensures resolved { IfOk result (λ a. (keep : Text → Bool) (listed : Listed) →
-            Tells F.Fn (filter_of self.now) keep → IsListingOf features.now listed →
-            IsAnswerFor (limit_of self.now) listed (map entry_of dependencies.now) [] (λ _. [])
+        ensures resolved { IfOk result (λ a. (keep : Text → Bool) (listed : Listed)
+            → Tells F.Fn (filter_of self.now) keep → IsListingOf features.now listed
+            → IsAnswerFor (limit_of self.now) listed (map entry_of dependencies.now) [] (λ _. [])
             keep (answer_of a)) }
-        ensures agreement { IfOk result (λ b. (keep : Text → Bool) (listed : Listed) →
-            Tells F.Fn (filter_of self.now) keep → IsListingOf features.now listed →
-            (details : Details) (own : Text → List Text) (a : Answer) →
-            IsAnswerFor (limit_of self.now) listed (map entry_of dependencies.now) details own keep
-            a → Agree a (answer_of b)) }
+        ensures agreement { IfOk result (λ b. (keep : Text → Bool) (listed : Listed)
+            → Tells F.Fn (filter_of self.now) keep → IsListingOf features.now listed
+            → (details : Details) (own : Text → List Text) (a : Answer) → IsAnswerFor
+            (limit_of self.now) listed (map entry_of dependencies.now) details own keep a
+            → Agree a (answer_of b)) }
         ensures listed { IfOk result (λ _. (listed : Listed) × IsListingOf features.now listed) }
         ensures keyed { IfOk result (λ a. IsKeyed a.features) }
         ensures targets { IfOk result (λ a. HaveTargets a.dependencies) }

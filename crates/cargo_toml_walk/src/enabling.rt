@@ -105,8 +105,8 @@ pub fn enablers(
     requires whole { length edges.now ≤ length is_removed.now }
     requires inside { (a b : ℕ) → Leads edges.now a b → b < length edges.now }
     requires len { length passed.now ≡ length edges.now }
-    requires passed { (a b : ℕ) → a < length edges.now → IsWanted is_removed.now false a →
-        Leads passed.now a b ↔ IsPassed edges.now is_removed.now a b }
+    requires passed { (a b : ℕ) → a < length edges.now → IsWanted is_removed.now false a
+        → Leads passed.now a b ↔ IsPassed edges.now is_removed.now a b }
     ensures len { IfOk result (λ by. length by.items ≡ length edges.now) }
     ensures enabled { IfOk result
         (λ by. (f e : ℕ) → f < length edges.now → IsWanted is_removed.now false f

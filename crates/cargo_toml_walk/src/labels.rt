@@ -94,8 +94,8 @@ pub fn all_labels(
     requires passed { (a b : ℕ) → Leads passed.now a b → b < length labels.now }
     requires inside { (a x : ℕ) → Leads labels.now a x → x < length is_removed.now }
     ensures len { IfOk result (λ r. length r.items ≡ length labels.now) }
-    ensures labels { IfOk result (λ r. (a x : ℕ) → a < length labels.now → PassesAny passed.now a →
-        Leads r.items a x ↔ HasLabel (Leads passed.now a) labels.now is_removed.now a x) }
+    ensures labels { IfOk result (λ r. (a x : ℕ) → a < length labels.now → PassesAny passed.now a
+        → Leads r.items a x ↔ HasLabel (Leads passed.now a) labels.now is_removed.now a x) }
     ensures none { IfOk result (λ r. (a x : ℕ) → ¬ PassesAny passed.now a → ¬ Leads r.items a x) }
     ensures inside { IfOk result (λ r. (a x : ℕ) → Leads r.items a x → x < length is_removed.now) }
 {

@@ -74,8 +74,8 @@ pub fn redirects(
     ensures redirects { IfOk result
         (λ rows. (r x : ℕ) → r < length labels.items → IsWanted is_removed.now true r
         → Leads rows.items r x ↔ IsRedirect edges.items is_removed.now labels.items r x) }
-    ensures others { IfOk result (λ rows. (a x : ℕ) → IsWanted is_removed.now false a →
-        Leads rows.items a x ↔ Leads labels.items a x) }
+    ensures others { IfOk result (λ rows. (a x : ℕ) → IsWanted is_removed.now false a
+        → Leads rows.items a x ↔ Leads labels.items a x) }
     ensures inside { IfOk result
         (λ rows. (r x : ℕ) → Leads rows.items r x → x < length is_removed.now) }
 {

@@ -7,8 +7,8 @@ use Rattle.toml.specs.Parse.{parse_document}
 use Rattle.cargo_toml.specs.Error.{Error, Io, Memory}
 use Rattle.cargo_toml.specs.Faults.{IsOther}
 use Rattle.cargo_toml.specs.Limits.{MAX_ITEMS}
-use Rattle.cargo_toml.specs.Manifests.{ManifestMeaning, manifest_reads, manifest_refuses}
-use Rattle.cargo_toml.specs.Texts.{any_tree, any_refuses, document_reads, document_refuses}
+use Rattle.cargo_toml.specs.Manifests.{ManifestMeaning, manifest_reads, ManifestRefuses}
+use Rattle.cargo_toml.specs.Texts.{any_tree, AnyRefuses, document_reads, DocumentRefuses}
 use Rattle.cargo_toml.specs.Action.{Text}
 use Rattle.cargo_toml.specs.Parsed.{parsed_table}
 use Rattle.cargo_toml_bench.specs.Reports.{optional_keys, AreUnreferenced}
@@ -26,7 +26,7 @@ abbrev pub IsFaultOf : List ℕ → Error → Type 0
 IsFaultOf bytes e =
     ((¬ IsUtf8 bytes) × IsOther (codes "utf8") e)
     ⊎ (IsUtf8 bytes × (document_reads (manifest_reads any_tree) (parse_document bytes) ≡ None)
-    × document_refuses (manifest_refuses any_tree any_refuses) (parse_document bytes) e)
+    × DocumentRefuses (ManifestRefuses any_tree AnyRefuses) (parse_document bytes) e)
 
 -- why nothing is reported: there was no memory, or the bytes are no manifest
 abbrev pub Refuses : List ℕ → Error → Type 0

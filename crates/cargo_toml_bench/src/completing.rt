@@ -6,9 +6,9 @@ ghost use Rattle.cargo_toml.specs.Filled.{IsFilled};
 ghost use Rattle.cargo_toml.specs.InheritableValues.{value_of};
 ghost use Rattle.cargo_toml.specs.InheritedManifests.{needs};
 ghost use Rattle.cargo_toml.specs.Manifest.{Manifest};
-ghost use Rattle.cargo_toml.specs.Manifests.{manifest_meaning, manifest_reads, manifest_refuses};
+ghost use Rattle.cargo_toml.specs.Manifests.{manifest_meaning, manifest_reads, ManifestRefuses};
 ghost use Rattle.cargo_toml.specs.RealFiles.{IsPathFault, IsReadAndCompleted};
-ghost use Rattle.cargo_toml.specs.Texts.{any_refuses, any_tree};
+ghost use Rattle.cargo_toml.specs.Texts.{AnyRefuses, any_tree};
 
 use crate::in_memory::InMemory;
 use cargo_toml::{AbstractFilesystem, Edition, Error, Manifest};
@@ -94,7 +94,7 @@ pub fn edition_of_file<'a, R: Files + AllocGlobal>(
         (λ e. (m : Manifest Value) × IsReadAndCompleted view (manifest_reads any_tree) m
         × (e ≡ option_and_then (λ p. value_of p.edition) m.«package»)) }
     ensures refused { IfErr result (IsPathFault path.now (manifest_meaning view)
-        (manifest_reads any_tree) (manifest_refuses any_tree any_refuses)) }
+        (manifest_reads any_tree) (ManifestRefuses any_tree AnyRefuses)) }
 {
     let manifest = Manifest::from_path(rt, rt.alloc(), path)?;
     match &manifest.package {

@@ -7,8 +7,8 @@ use Rattle.toml.specs.Data.{Data, string, as_str}
 use Rattle.toml.specs.Parse.{parse_document}
 use Rattle.cargo_toml.specs.Error.{Error, Memory}
 use Rattle.cargo_toml.specs.Faults.{IsOther}
-use Rattle.cargo_toml.specs.Manifests.{ManifestMeaning, manifest_reads, manifest_refuses}
-use Rattle.cargo_toml.specs.Texts.{document_reads, document_refuses}
+use Rattle.cargo_toml.specs.Manifests.{ManifestMeaning, manifest_reads, ManifestRefuses}
+use Rattle.cargo_toml.specs.Texts.{document_reads, DocumentRefuses}
 use Rattle.cargo_toml.specs.Floats.{has_no_float}
 use Rattle.cargo_toml.specs.Writes.{Way, IsFloatless, never}
 use Rattle.cargo_toml_caller.specs.declared.audience.Audience.{Audience}
@@ -25,8 +25,8 @@ audience_named text =
 abbrev pub audience_reads : Data → Option Audience
 audience_reads d = option_and_then audience_named (as_str d)
 
-abbrev pub audience_refuses : Data → Error → Type 0
-audience_refuses d e = IsOther (codes "unknown audience") e
+abbrev pub AudienceRefuses : Data → Error → Type 0
+AudienceRefuses d e = IsOther (codes "unknown audience") e
 
 -- the trees of an audience
 abbrev pub IsTree : Audience → Data → Type 0
@@ -66,4 +66,4 @@ Refuses bytes e =
     ⊎ ((¬ IsUtf8 bytes) × IsOther (codes "utf8") e)
     ⊎ (IsUtf8 bytes
     × (document_reads (manifest_reads audience_reads) (parse_document bytes) ≡ None)
-    × document_refuses (manifest_refuses audience_reads audience_refuses) (parse_document bytes) e)
+    × DocumentRefuses (ManifestRefuses audience_reads AudienceRefuses) (parse_document bytes) e)

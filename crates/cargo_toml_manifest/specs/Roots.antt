@@ -8,8 +8,8 @@ use Rattle.cargo_toml_parts.specs.declared.error.Error.{Error, Memory}
 use Rattle.cargo_toml_parts.specs.FaultValues.{fault_of, workspace_integrity}
 use Rattle.cargo_toml_parts.specs.Wrapping.{wrap}
 use Rattle.cargo_toml_manifest.specs.declared.manifest.Manifest.{Manifest}
-use Rattle.cargo_toml_manifest.specs.Manifests.{manifest_meaning, manifest_reads, manifest_refuses}
-use Rattle.cargo_toml_manifest.specs.Texts.{IsFromBytes, any_tree, any_refuses}
+use Rattle.cargo_toml_manifest.specs.Manifests.{manifest_meaning, manifest_reads, ManifestRefuses}
+use Rattle.cargo_toml_manifest.specs.Texts.{IsFromBytes, any_tree, AnyRefuses}
 
 abbrev pub not_a_workspace : List ℕ
 not_a_workspace = codes "Not a Workspace.\nUse package.workspace to select a differnt path, or implement cargo_toml::AbstractFilesystem::parse_root_workspace"
@@ -18,7 +18,7 @@ not_a_workspace = codes "Not a Workspace.\nUse package.workspace to select a dif
 abbrev pub IsFromSlice : List ℕ → Result (Manifest Value) Error → Type 0
 IsFromSlice bytes result =
     IsFromBytes (manifest_meaning view) (manifest_reads any_tree)
-    (manifest_refuses any_tree any_refuses) bytes result
+    (ManifestRefuses any_tree AnyRefuses) bytes result
 
 -- the fault of these bytes, which were read at this path: their own, or that they are a manifest
 -- without a workspace

@@ -9,11 +9,11 @@ ghost use Rattle.cargo_toml_manifest.specs.Choosing.{handed_of};
 ghost use Rattle.cargo_toml_manifest.specs.Completing.{GivenBy, IsLasting, Meets, complete};
 ghost use Rattle.cargo_toml_manifest.specs.Inheriting.{needs};
 ghost use Rattle.cargo_toml_manifest.specs.Manifests.{manifest_meaning, manifest_reads};
-ghost use Rattle.cargo_toml_manifest.specs.Manifests.{manifest_refuses};
+ghost use Rattle.cargo_toml_manifest.specs.Manifests.{ManifestRefuses};
 ghost use Rattle.cargo_toml_manifest.specs.RealFiles.{IsCompletionFault, IsPathFault};
 ghost use Rattle.cargo_toml_manifest.specs.RealFiles.{IsReadAndCompleted, bad_path};
 ghost use Rattle.cargo_toml_manifest.specs.RealFiles.{real_folders, real_roots};
-ghost use Rattle.cargo_toml_manifest.specs.Texts.{any_refuses, any_tree};
+ghost use Rattle.cargo_toml_manifest.specs.Texts.{AnyRefuses, any_tree};
 
 use crate::files::Filesystem;
 use crate::manifest::Manifest;
@@ -117,7 +117,7 @@ impl Manifest {
         ensures needs { IfOk result (λ new. needs (manifest_meaning (λ m. m) new) ≡ false) }
         ensures filled { IfOk result (λ new. IfSome new.package IsFilled) }
         ensures refused { IfErr result (IsPathFault path.now (manifest_meaning view)
-            (manifest_reads any_tree) (manifest_refuses any_tree any_refuses)) }
+            (manifest_reads any_tree) (ManifestRefuses any_tree AnyRefuses)) }
     {
         Manifest::from_path_with_metadata(rt, alloc, path)
     }
@@ -139,7 +139,7 @@ impl<Metadata: FromValue> Manifest<Metadata> {
         ensures filled { IfOk result (λ new. IfSome new.package IsFilled) }
         ensures refused { IfErr result (IsPathFault path.now (manifest_meaning Metadata.meaning)
             (manifest_reads Metadata.from_tree)
-            (manifest_refuses Metadata.from_tree Metadata.from_refuses)) }
+            (ManifestRefuses Metadata.from_tree Metadata.from_refuses)) }
     {
         let text = fs::read_to_string(rt, path)?;
         let mut manifest = Manifest::from_text(alloc, text.as_str())?;

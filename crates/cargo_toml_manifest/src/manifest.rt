@@ -7,19 +7,19 @@ ghost use Rattle.cargo_toml_tables.specs.Badges.{badges_meaning};
 ghost use Rattle.cargo_toml_parts.specs.Faults.{IsShape, wrong_shape};
 ghost use Rattle.cargo_toml_parts.specs.declared.inheritable.Inheritable.TheVariants.{Set};
 ghost use Rattle.cargo_toml_parts.specs.Inherits.{inheritable_map, inheritable_of};
-ghost use Rattle.cargo_toml_parts.specs.Inherits.{inheritable_refuses};
+ghost use Rattle.cargo_toml_parts.specs.Inherits.{InheritableRefuses};
 ghost use Rattle.cargo_toml_tables.specs.Lints.{lint_meaning, lint_of};
 ghost use Rattle.cargo_toml_tables.specs.Profiles.{profiles_meaning};
 ghost use Rattle.cargo_toml_parts.specs.Reads.{Faulty, IsReading, given_of};
 ghost use Rattle.cargo_toml_parts.specs.Reads.{map_of, map_meaning, plain};
 ghost use Rattle.cargo_toml_parts.specs.Readings.{Ends, Goes};
 ghost use Rattle.cargo_toml_manifest.specs.Manifests.{ManifestMeaning, manifest_meaning};
-ghost use Rattle.cargo_toml_manifest.specs.Manifests.{manifest_of, manifest_faults, manifest_reads};
-ghost use Rattle.cargo_toml_manifest.specs.Manifests.{manifest_refuses, zero_rule_applies};
+ghost use Rattle.cargo_toml_manifest.specs.Manifests.{manifest_of, ManifestFaults, manifest_reads};
+ghost use Rattle.cargo_toml_manifest.specs.Manifests.{ManifestRefuses, zero_rule_applies};
 ghost use Rattle.cargo_toml_manifest.specs.Manifests.{by_zero_rule, no_profiles, profiles_reads};
-ghost use Rattle.cargo_toml_manifest.specs.Manifests.{profiles_refuse, no_badges, badges_reads};
+ghost use Rattle.cargo_toml_manifest.specs.Manifests.{ProfilesRefuse, no_badges, badges_reads};
 ghost use Rattle.cargo_toml_package.specs.Packages.{package_meaning};
-ghost use Rattle.cargo_toml_manifest.specs.Texts.{IsFromText, IsFromBytes, any_tree, any_refuses};
+ghost use Rattle.cargo_toml_manifest.specs.Texts.{IsFromText, IsFromBytes, any_tree, AnyRefuses};
 ghost use Rattle.cargo_toml_manifest.specs.Texts.{IsTree, IsTreeOfBytes};
 
 mod questions;
@@ -242,7 +242,7 @@ impl Manifest {
     /// shape that names it, one of several. Want of memory is `Error::Memory`.
     pub fn from_slice(alloc: Global, bytes: &[u8]) -> Result<Manifest, Error>
         ensures { IsFromBytes (manifest_meaning view) (manifest_reads any_tree)
-            (manifest_refuses any_tree any_refuses) bytes.now result }
+            (ManifestRefuses any_tree AnyRefuses) bytes.now result }
     {
         read_table(alloc, tree_of_bytes(alloc, bytes)?)
     }
@@ -253,7 +253,7 @@ impl Manifest {
     /// and what Cargo finds in its folders, and `from_path` reads a file and adds both.
     pub fn from_str(alloc: Global, text: &str) -> Result<Manifest, Error>
         ensures { IsFromText (manifest_meaning view) (manifest_reads any_tree)
-            (manifest_refuses any_tree any_refuses) (parse_document text.now) result }
+            (ManifestRefuses any_tree AnyRefuses) (parse_document text.now) result }
     {
         read_table(alloc, tree_of(alloc, text)?)
     }
@@ -270,7 +270,7 @@ impl<Metadata: FromValue> Manifest<Metadata> {
     ) -> Result<Manifest<Metadata>, Error>
         ensures { IsFromBytes (manifest_meaning Metadata.meaning)
             (manifest_reads Metadata.from_tree)
-            (manifest_refuses Metadata.from_tree Metadata.from_refuses) bytes.now result }
+            (ManifestRefuses Metadata.from_tree Metadata.from_refuses) bytes.now result }
     {
         let tree = tree_of_bytes(alloc, bytes)?;
         read_table(alloc, tree)
@@ -278,7 +278,7 @@ impl<Metadata: FromValue> Manifest<Metadata> {
 
     pub(crate) fn from_text(alloc: Global, text: &str) -> Result<Manifest<Metadata>, Error>
         ensures { IsFromText (manifest_meaning Metadata.meaning) (manifest_reads Metadata.from_tree)
-            (manifest_refuses Metadata.from_tree Metadata.from_refuses)
+            (ManifestRefuses Metadata.from_tree Metadata.from_refuses)
             (parse_document text.now) result }
     {
         let tree = tree_of(alloc, text)?;
@@ -317,7 +317,7 @@ impl<Metadata: FromValue> Read for Manifest<Metadata> {
 
     ghost reads = { manifest_reads Metadata.from_tree };
 
-    ghost refuses = { manifest_refuses Metadata.from_tree Metadata.from_refuses };
+    ghost refuses = { ManifestRefuses Metadata.from_tree Metadata.from_refuses };
 
     fn read(alloc: Global, value: &Value) -> Result<Manifest<Metadata>, Error> {
         Manifest::read_owned(alloc, value.clone()?)
@@ -335,7 +335,7 @@ impl<Metadata: FromValue> Read for Manifest<Metadata> {
 fn read_table<Metadata: FromValue>(alloc: Global, table: Table) -> Result<Manifest<Metadata>, Error>
     ensures { IsReading (manifest_meaning Metadata.meaning)
         (manifest_of Metadata.from_tree (table_view table))
-        (manifest_faults Metadata.from_tree Metadata.from_refuses (table_view table)) result }
+        (ManifestFaults Metadata.from_tree Metadata.from_refuses (table_view table)) result }
 {
     let mut rest = table;
     let mut reading = Reading::new(alloc);
@@ -403,7 +403,7 @@ fn profiles(reading: &mut Reading, value: Option<Value>) -> Profiles
     ensures { Goes reading.old.fault reading.new.fault
         (given_of profiles_reads no_profiles (option_map view value))
         (profiles_meaning result)
-        (Faulty profiles_reads profiles_refuse (option_map view value)) }
+        (Faulty profiles_reads ProfilesRefuse (option_map view value)) }
 {
     let none = Profiles::default(reading.alloc);
     reading.given_of(value, none)
@@ -427,7 +427,7 @@ fn lints(reading: &mut Reading, value: Option<Value>) -> Inheritable<LintGroups>
     ensures { Goes reading.old.fault reading.new.fault
         (given_of (inheritable_of (map_of (map_of lint_of))) (Set []) (option_map view value))
         (inheritable_map (map_meaning (map_meaning lint_meaning)) result) (Faulty
-        (inheritable_of (map_of (map_of lint_of))) inheritable_refuses (option_map view value)) }
+        (inheritable_of (map_of (map_of lint_of))) InheritableRefuses (option_map view value)) }
 {
     let none = Inheritable::Set(LintGroups::new(reading.alloc));
     reading.given_of(value, none)

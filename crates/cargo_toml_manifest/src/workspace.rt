@@ -4,8 +4,8 @@ ghost use Rattle.toml.specs.Data.{Data, no_members};
 ghost use Rattle.toml.specs.View.{table_view};
 ghost use Rattle.cargo_toml_parts.specs.Reads.{IsReading};
 ghost use Rattle.cargo_toml_manifest.specs.Workspaces.{WorkspaceMeaning, workspace_meaning};
-ghost use Rattle.cargo_toml_manifest.specs.Workspaces.{workspace_of, workspace_faults};
-ghost use Rattle.cargo_toml_manifest.specs.Workspaces.{workspace_reads, workspace_refuses};
+ghost use Rattle.cargo_toml_manifest.specs.Workspaces.{workspace_of, WorkspaceFaults};
+ghost use Rattle.cargo_toml_manifest.specs.Workspaces.{workspace_reads, WorkspaceRefuses};
 
 use cargo_toml_dependencies::DepsSet;
 use cargo_toml_package::PackageTemplate;
@@ -123,7 +123,7 @@ fn read_table<Metadata: FromValue>(
 ) -> Result<Workspace<Metadata>, Error>
     ensures { IsReading (workspace_meaning Metadata.meaning)
         (workspace_of Metadata.from_tree (table_view table))
-        (workspace_faults Metadata.from_tree Metadata.from_refuses (table_view table)) result }
+        (WorkspaceFaults Metadata.from_tree Metadata.from_refuses (table_view table)) result }
 {
     let mut rest = table;
     let mut reading = Reading::new(alloc);
@@ -154,13 +154,13 @@ impl<Metadata: FromValue> Read for Workspace<Metadata> {
 
     ghost reads = { workspace_reads Metadata.from_tree };
 
-    ghost refuses = { workspace_refuses Metadata.from_tree Metadata.from_refuses };
+    ghost refuses = { WorkspaceRefuses Metadata.from_tree Metadata.from_refuses };
 
     fn read(alloc: Global, value: &Value) -> Result<Workspace<Metadata>, Error> {
         Workspace::read_owned(alloc, value.clone()?)
     }
 
-    #[tactic(auto, unfolding(crate::specs::Workspaces::workspace_reads, crate::specs::Workspaces::workspace_refuses))]
+    #[tactic(auto, unfolding(crate::specs::Workspaces::workspace_reads, crate::specs::Workspaces::WorkspaceRefuses))]
     fn read_owned(alloc: Global, value: Value) -> Result<Workspace<Metadata>, Error> {
         match value {
             Value::Table(table) => read_table(alloc, table),

@@ -36,8 +36,8 @@ debug_fault (integer z) = codes "wrong number for debug setting"
 debug_fault (string s) = codes "wrong name for debug setting"
 debug_fault _ = codes "wrong data type for debug setting"
 
-abbrev pub debug_refuses : Data → Error → Type 0
-debug_refuses d e = IsShape (debug_fault d) e
+abbrev pub DebugRefuses : Data → Error → Type 0
+DebugRefuses d e = IsShape (debug_fault d) e
 
 abbrev pub strip_of : Data → Option StripSetting
 strip_of (boolean false) = Some strip.None
@@ -51,8 +51,8 @@ abbrev pub strip_fault : Data → List ℕ
 strip_fault (string s) = codes "strip setting has unknown string value"
 strip_fault _ = codes "wrong data type for strip setting"
 
-abbrev pub strip_refuses : Data → Error → Type 0
-strip_refuses d e = IsShape (strip_fault d) e
+abbrev pub StripRefuses : Data → Error → Type 0
+StripRefuses d e = IsShape (strip_fault d) e
 
 abbrev pub lto_of : Data → Option LtoSetting
 lto_of (boolean false) = Some lto.ThinLocal
@@ -69,5 +69,5 @@ abbrev pub lto_fault : Data → List ℕ
 lto_fault (string s) = codes "lto setting has unknown string value"
 lto_fault _ = codes "wrong data type for lto setting"
 
-abbrev pub lto_refuses : Data → Error → Type 0
-lto_refuses d e = IsShape (lto_fault d) e
+abbrev pub LtoRefuses : Data → Error → Type 0
+LtoRefuses d e = IsShape (lto_fault d) e

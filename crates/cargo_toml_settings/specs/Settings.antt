@@ -14,7 +14,7 @@ use Rattle.cargo_toml_settings.specs.declared.settings.OptionalFile.TheVariants 
 use Rattle.cargo_toml_settings.specs.declared.settings.Publish.{Publish}
 use Rattle.cargo_toml_settings.specs.declared.settings.Publish.TheVariants as whether
 use Rattle.cargo_toml_parts.specs.Faults.{IsShape, wrong_shape}
-use Rattle.cargo_toml_parts.specs.Reads.{items_reads, items_refuse, plain}
+use Rattle.cargo_toml_parts.specs.Reads.{items_reads, ItemsRefuse, plain}
 
 -- what stands beside the text in a table
 abbrev pub named : {X : Type 0} → List (List ℕ × X) → List ℕ → Option X
@@ -76,6 +76,6 @@ publish_of (boolean b) = Some (everywhere b)
 publish_of (array ds) = option_map among (items_reads as_str ds)
 publish_of _ = None
 
-abbrev pub publish_refuses : Data → Error → Type 0
-publish_refuses (array ds) e = items_refuse plain ds e
-publish_refuses _ e = IsShape wrong_shape e
+abbrev pub PublishRefuses : Data → Error → Type 0
+PublishRefuses (array ds) e = ItemsRefuse plain ds e
+PublishRefuses _ e = IsShape wrong_shape e

@@ -1,9 +1,9 @@
 //! The settings of a profile, each of which is one value of a tree.
 ghost use Rattle.std.specs.Prelude.{◌≡◌, Some, None, MatchResult};
 ghost use Rattle.toml.specs.View.{view};
-ghost use Rattle.cargo_toml_settings.specs.ProfileSettings.{debug_of, debug_fault, debug_refuses};
-ghost use Rattle.cargo_toml_settings.specs.ProfileSettings.{strip_of, strip_fault, strip_refuses};
-ghost use Rattle.cargo_toml_settings.specs.ProfileSettings.{lto_of, lto_fault, lto_refuses};
+ghost use Rattle.cargo_toml_settings.specs.ProfileSettings.{debug_of, debug_fault, DebugRefuses};
+ghost use Rattle.cargo_toml_settings.specs.ProfileSettings.{strip_of, strip_fault, StripRefuses};
+ghost use Rattle.cargo_toml_settings.specs.ProfileSettings.{lto_of, lto_fault, LtoRefuses};
 
 use cargo_toml_parts::read::Read;
 use cargo_toml_parts::{Error, ParseFault};
@@ -116,7 +116,7 @@ impl Read for DebugSetting {
 
     ghost reads = { debug_of };
 
-    ghost refuses = { debug_refuses };
+    ghost refuses = { DebugRefuses };
 
     ghost takes_memory = { ⊥ };
 
@@ -156,7 +156,7 @@ impl Read for StripSetting {
 
     ghost reads = { strip_of };
 
-    ghost refuses = { strip_refuses };
+    ghost refuses = { StripRefuses };
 
     ghost takes_memory = { ⊥ };
 
@@ -194,7 +194,7 @@ impl Read for LtoSetting {
 
     ghost reads = { lto_of };
 
-    ghost refuses = { lto_refuses };
+    ghost refuses = { LtoRefuses };
 
     ghost takes_memory = { ⊥ };
 

@@ -155,7 +155,7 @@ impl Read for OptionalFile {
 
 impl Read for Publish {
     ghost use Rattle.cargo_toml_settings.specs.Settings.{Registries, publish_of};
-    ghost use Rattle.cargo_toml_settings.specs.Settings.{publish_meaning, publish_refuses};
+    ghost use Rattle.cargo_toml_settings.specs.Settings.{publish_meaning, PublishRefuses};
 
     ghost Meaning = { Registries };
 
@@ -163,7 +163,7 @@ impl Read for Publish {
 
     ghost reads = { publish_of };
 
-    ghost refuses = { publish_refuses };
+    ghost refuses = { PublishRefuses };
 
     fn read(alloc: Global, value: &Value) -> Result<Publish, Error> {
         match value.as_bool() {

@@ -23,8 +23,11 @@ pub const MAX_ITEMS: usize = 2048;
 /// of it, if anything.
 #[derive(Debug, Clone, Copy)]
 pub struct Listing<'m> {
+    /// The name of the feature.
     pub name: &'m str,
+    /// The texts of its actions, in their order.
     pub actions: &'m [String],
+    /// What the table of details says of it; `None` where it says nothing.
     pub detail: Option<&'m FeatureDetail>,
 }
 

@@ -55,7 +55,8 @@ fn require<'m>(
     Ok(place.saturating_add(1))
 }
 
-// Adds each binary to the features that it requires, once for each mention.
+/// Adds each binary to the features that it requires, once for each mention; a feature that isn't
+/// there is passed over. The names stay. It fails only where memory runs out.
 pub fn require_all<'m>(
     features: &mut Slots<'m, Feature<'m>>,
     requirements: &[Requirement<'m>],

@@ -13,7 +13,7 @@ use cargo_toml_features::features::{DepAction, Feature};
 use std::alloc::{AllocError, Global};
 use std::collections::{BTreeMap, BTreeSet};
 
-// The feature `source` enables the feature `target`, if there is one.
+/// The feature `source` enables the feature `target`, if there is one.
 #[derive(Clone, Copy)]
 pub struct Link<'a> {
     target: &'a str,
@@ -202,7 +202,8 @@ fn set_enabled_by<'a>(
     enable_all(features, links.as_slice())
 }
 
-// The same where it is wanted; else features learn nothing.
+/// Each feature learns which other features enable it, where `is_wanted`; else none learns
+/// anything. The names stay. It fails only where memory runs out.
 pub fn set_wanted_enablers<'a>(
     alloc: Global,
     features: &mut Slots<'a, Feature<'a>>,

@@ -91,8 +91,8 @@ fn imply<'m>(
     Ok(place.saturating_add(1))
 }
 
-// Adds the features that optional dependencies imply. The keys of optional entries
-// are among the names.
+/// Adds the features that optional dependencies imply. The keys of optional entries are among the
+/// names, which stay. It fails only where memory runs out.
 pub fn imply_all<'m>(
     alloc: Global,
     features: &mut Slots<'m, Feature<'m>>,

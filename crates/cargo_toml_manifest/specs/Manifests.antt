@@ -158,10 +158,9 @@ manifest_of metadata_of ms = do
 abbrev pub ManifestFaults : {M : Type 0} → (Data → Option M) → (Data → Error → Type 0) → Members
     → Error → Type 0
 ManifestFaults metadata_of metadata_refuses ms e =
-    FaultAt "package"
-    (package_reads metadata_of) (PackageRefuses metadata_of metadata_refuses) ms e
-    ⊎ FaultAt "workspace"
-    (workspace_reads metadata_of) (WorkspaceRefuses metadata_of metadata_refuses) ms e
+    FaultAt "package" (package_reads metadata_of) (PackageRefuses metadata_of metadata_refuses) ms e
+    ⊎ FaultAt "workspace" (workspace_reads metadata_of)
+    (WorkspaceRefuses metadata_of metadata_refuses) ms e
     ⊎ FaultAt "dependencies" (map_of dependency_of) plain ms e
     ⊎ FaultAt "dev-dependencies" (map_of dependency_of) plain ms e
     ⊎ FaultAt "build-dependencies" (map_of dependency_of) plain ms e

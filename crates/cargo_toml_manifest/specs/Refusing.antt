@@ -30,7 +30,8 @@ MayLose reads may hint fault =
 abbrev pub ReadsBy : Bool → (Option (List ℕ) → Fault → Type 0) → Option (List ℕ)
     → Result (Vec ℕ Global × String Global) Error → Type 0
 ReadsBy reads may hint result =
-    MatchResult result (λ r. (e : Error) → IsNoRoot r.0.items (string_bytes r.1) e
+    MatchResult result
+    (λ r. (e : Error) → IsNoRoot r.0.items (string_bytes r.1) e
     → (e ≡ Memory) ⊎ may hint (fault_of e))
     (λ e. (e ≡ Memory) ⊎ MayLose reads may hint (wrap hint (fault_of e)))
 
@@ -65,12 +66,15 @@ IsRefusedAt m roots names unclear_root e = ⊥
 abbrev pub IsRefusedBy : {M : Type 0} → ManifestMeaning M → Option Handed → RootsTold
     → (Option (List ℕ) → Fault → Type 0) → (List ℕ → Fault → Type 0) → Error → Type 0
 IsRefusedBy m handed told roots names e =
-    (e ≡ Memory) ⊎ ((answered : RootsTold) × (AnswersRoots told answered
-    × IsRefusedAt m roots names (choice m handed answered) e))
+    (e ≡ Memory)
+    ⊎ ((answered : RootsTold)
+    × (AnswersRoots told answered × IsRefusedAt m roots names (choice m handed answered) e))
 
 -- the same of the root alone, where a root is looked up
 abbrev pub IsRefusedByRoot : {M : Type 0} → ManifestMeaning M → ToldRoot
     → (Option (List ℕ) → Fault → Type 0) → (List ℕ → Fault → Type 0) → Error → Type 0
 IsRefusedByRoot m lookup roots names e =
-    (e ≡ Memory) ⊎ ((answered : ToldRoot) × (((lookup ≡ answered) ⊎ (lookup ≡ open_root))
+    (e ≡ Memory)
+    ⊎ ((answered : ToldRoot)
+    × (((lookup ≡ answered) ⊎ (lookup ≡ open_root))
     × IsRefusedAt m roots names (told_choice answered) e))

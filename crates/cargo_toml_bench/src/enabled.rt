@@ -38,8 +38,9 @@ pub fn find_enabled<'f, 'm, S: BuildHasher + Clone>(
         ≡ value_at resolved.now.features name.now) }
     ensures features { IfOk result (λ o. IfSome o (λ e.
         AreEnabled resolved.now.features e.asked.now.key.now e.features)) }
-    ensures dependencies { IfOk result (λ o. IfSome o (λ e. (k : Text) → ArePairs
-        (table_in resolved.now.features) e.asked.now.key.now k (pairs_at e.dependencies k))) }
+    ensures dependencies { IfOk result (λ o. IfSome o (λ e. (k : Text)
+        → ArePairs (table_in resolved.now.features) e.asked.now.key.now k
+        (pairs_at e.dependencies k))) }
     ensures refused { IfErr result (λ e. e ≡ Error.Memory) }
 {
     let Some(asked) = resolved.features.get(name) else {

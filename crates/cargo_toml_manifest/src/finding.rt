@@ -122,8 +122,9 @@ pub fn find<Metadata, Fs: AbstractFilesystem>(
     ensures told { let m = installed (manifest_meaning (λ m. m) manifest.now) parts.now in
         IfOk result (λ found. (found_around m (Fs.names_at fs.now) ≡ unclear)
         ⊎ (found_around m (Fs.names_at fs.now) ≡ seen (with_found m found))) }
-    ensures faults { IfErr result (Tells (found_around
-        (installed (manifest_meaning (λ m. m) manifest.now) parts.now) (Fs.names_at fs.now))) }
+    ensures faults { IfErr result (Tells
+        (found_around (installed (manifest_meaning (λ m. m) manifest.now) parts.now)
+        (Fs.names_at fs.now))) }
     ensures refused { RefusesBy (IsListed (Fs.may_refuse fs.now)) result }
 {
     let Some(package) = &manifest.package else {

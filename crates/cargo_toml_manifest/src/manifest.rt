@@ -426,8 +426,9 @@ fn badges(reading: &mut Reading, value: Option<Value>) -> Badges
 fn lints(reading: &mut Reading, value: Option<Value>) -> Inheritable<LintGroups>
     ensures { Goes reading.old.fault reading.new.fault
         (given_of (inheritable_of (map_of (map_of lint_of))) (Set []) (option_map view value))
-        (inheritable_map (map_meaning (map_meaning lint_meaning)) result) (Faulty
-        (inheritable_of (map_of (map_of lint_of))) InheritableRefuses (option_map view value)) }
+        (inheritable_map (map_meaning (map_meaning lint_meaning)) result)
+        (Faulty (inheritable_of (map_of (map_of lint_of))) InheritableRefuses
+        (option_map view value)) }
 {
     let none = Inheritable::Set(LintGroups::new(reading.alloc));
     reading.given_of(value, none)

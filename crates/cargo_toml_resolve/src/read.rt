@@ -174,8 +174,9 @@ fn add_default<'m>(alloc: Global, features: &mut Slots<'m, Feature<'m>>)
     requires named { Among (names_in features.old) (codes "default") }
     ensures others { (f : Text) → bytes_eq f (codes "default") ≡ false
         → held_in features.new f ≡ held_in features.old f }
-    ensures default { MatchOption (held_in features.old (codes "default")) (IsSomeAnd
-        (held_in features.new (codes "default")) (IsListed (codes "default") plain_detail []))
+    ensures default { MatchOption (held_in features.old (codes "default"))
+        (IsSomeAnd (held_in features.new (codes "default"))
+        (IsListed (codes "default") plain_detail []))
         (λ v. held_in features.new (codes "default") ≡ Some v) }
     ensures same_names { HaveSameNames features.old features.new }
 {

@@ -116,8 +116,9 @@ impl<'config, F: Fn(&str) -> bool, S: BuildHasher + Clone + Drop> Resolver<'conf
         ensures* left { sem 𝓛
             (IsLentAfter M.row manifest.entry (option_map handed_of workspace.entry)
             (λ hint. heard Fs.Roots.ARE_READ (Fs.root_for fs hint)) (Fs.names_at fs) result) }
-        ensures outcome { Meets (λ p. manifest_meaning (λ m. m) p.0.now) (complete
-            (manifest_meaning (λ m. m) manifest.old) (option_map handed_of workspace.entry)
+        ensures outcome { Meets (λ p. manifest_meaning (λ m. m) p.0.now)
+            (complete (manifest_meaning (λ m. m) manifest.old)
+            (option_map handed_of workspace.entry)
             (λ hint. heard Fs.Roots.ARE_READ (Fs.root_for fs hint)) (Fs.names_at fs)) result }
         ensures given { IfOk result (λ p. GivenBy (manifest_meaning (λ m. m) manifest.old)
             (option_map handed_of workspace.entry)

@@ -226,8 +226,9 @@ impl<'config, F: Fn(&str) -> bool, S: BuildHasher + Clone> Resolver<'config, F, 
             keep (answer_of a)) }
         ensures agreement { IfOk result (λ b. (keep : Text → Bool) (listed : Listed)
             → Tells F.Fn (filter_of self.now) keep → IsListingOf features.now listed
-            → (details : Details) (own : Text → List Text) (a : Answer) → IsAnswerFor
-            (limit_of self.now) listed (map entry_of dependencies.now) details own keep a
+            → (details : Details) (own : Text → List Text) (a : Answer)
+            → IsAnswerFor (limit_of self.now) listed (map entry_of dependencies.now)
+            details own keep a
             → Agree a (answer_of b)) }
         ensures listed { IfOk result (λ _. (listed : Listed) × IsListingOf features.now listed) }
         ensures keyed { IfOk result (λ a. IsKeyed a.features) }

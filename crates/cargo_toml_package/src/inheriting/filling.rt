@@ -87,8 +87,9 @@ impl Filling {
         field: &Option<Inheritable<T>>,
         value: &Option<T>,
     ) -> Option<T>
-        ensures { Fills self.old.refused self.new.refused (put_if_there
-            (option_map (inheritable_map T.meaning) field.now) (option_map T.meaning result)
+        ensures { Fills self.old.refused self.new.refused
+            (put_if_there (option_map (inheritable_map T.meaning) field.now)
+            (option_map T.meaning result)
             ≡ filled_if_there (option_map (inheritable_map T.meaning) field.now)
             (option_map T.meaning value.now)) }
     {
@@ -124,8 +125,9 @@ impl Filling {
         base: &str,
         path: &Option<String>,
     ) -> Option<String>
-        ensures { Fills self.old.refused self.new.refused (put_if_there
-            (option_map (inheritable_map string_bytes) field.now) (option_map string_bytes result)
+        ensures { Fills self.old.refused self.new.refused
+            (put_if_there (option_map (inheritable_map string_bytes) field.now)
+            (option_map string_bytes result)
             ≡ filled_if_there (option_map (inheritable_map string_bytes) field.now)
             (option_map (path_join base.now) (option_map string_bytes path.now))) }
     {

@@ -1,7 +1,7 @@
 //! Typed Cargo manifests, and the resolution of their features.
 //!
-//! `Manifest::from_slice` reads a `Cargo.toml`, `features::Resolver` resolves its features. Both are proved: docs/DEFINITIONS.md
-//! says what their contracts rest on.
+//! `Manifest::from_slice` reads a `Cargo.toml`, `features::Resolver` resolves its features. Both
+//! are proved: docs/DEFINITIONS.md says what their contracts rest on.
 #![tactic(auto)]
 
 pub mod features;

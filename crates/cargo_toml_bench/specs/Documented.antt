@@ -1,5 +1,7 @@
--- The features that users of a package are meant to ask for, each with what its manifest says of it.
-use Rattle.std.specs.Prelude.{◌≡◌, ◌⊎◌, ◌↔◌, ◌&&◌, ◌||◌, ◌==◌, not, if◌then◌else◌, false, IsTrue, Option, Some, None, codes, nat_eq, option_map, option_and_then}
+-- The features that users of a package are meant to ask for, each with what its
+-- manifest says of it.
+use Rattle.std.specs.Prelude.{◌≡◌, ◌⊎◌, ◌↔◌, ◌&&◌, ◌||◌, ◌==◌, not, if◌then◌else◌, false, IsTrue}
+use Rattle.std.specs.Prelude.{Option, Some, None, codes, nat_eq, option_map, option_and_then}
 use Rattle.std.specs.Borrow.{Bor}
 use Rattle.std.specs.BTreeMap as tree
 use Rattle.std.specs.BTreeMap.{BTreeMap}
@@ -27,11 +29,13 @@ module _ {M : Type 0} (m : ManifestMeaning M) where
   abbrev pub marks_at : Text → Marks
   marks_at = marks_in (admitted MAX_ITEMS m.features) m.feature_details
 
-  -- f is a feature that isn't hidden and that is public, and either it is listed or no other feature enables it; `said` is its text
+  -- f is a feature that isn't hidden and that is public, and either it is listed or no other
+  -- feature enables it; `said` is its text
   pub record IsDocumented (f : Text) (said : Option Text) : Type 0 where
     pub kept : IsKept (parsed_table MAX_ITEMS m) IsHidden f
     pub public : IsTrue (marks_at f).public
-    pub wanted : IsTrue (marks_at f).explicit ⊎ ((e : Text) → ¬ IsEnabledBy (parsed_table MAX_ITEMS m) IsHidden f e)
+    pub wanted : IsTrue (marks_at f).explicit
+        ⊎ ((e : Text) → ¬ IsEnabledBy (parsed_table MAX_ITEMS m) IsHidden f e)
     pub text : said ≡ (marks_at f).doc
 
 -- what a map tells of a name
@@ -39,12 +43,19 @@ abbrev pub said_at : BTreeMap (Bor Text) (Option (Bor Text)) → Text → Option
 said_at s f = option_map option_copied (tree.get_by (λ k. slice_cmp nat_cmp f k.now) s)
 
 -- the map tells of exactly these features, and of each its text
-abbrev pub AreDocumented : {M : Type 0} → ManifestMeaning M → BTreeMap (Bor Text) (Option (Bor Text)) → Type 0
-AreDocumented m s = (f : Text) (said : Option Text) → (said_at s f ≡ Some said) ↔ IsDocumented m f said
+abbrev pub AreDocumented : {M : Type 0} → ManifestMeaning M
+    → BTreeMap (Bor Text) (Option (Bor Text)) → Type 0
+AreDocumented m s =
+    (f : Text) (said : Option Text) → (said_at s f ≡ Some said) ↔ IsDocumented m f said
 
--- the text of a resolved feature that users are meant to ask for: a word of the step, on which no public contract rests
+-- the text of a resolved feature that users are meant to ask for: a word of the step, on which no
+-- public contract rests
 abbrev pub shown : Feature → Option (Option Text)
-shown v = if (v.explicit || (btree_set_len v.enabled_by == 0)) && not (starts_with nat_eq v.key.now (codes "_")) && v.public then Some (option_copied v.doc) else None
+shown v =
+    if (v.explicit || (btree_set_len v.enabled_by == 0))
+    && not (starts_with nat_eq v.key.now (codes "_")) && v.public
+    then Some (option_copied v.doc)
+    else None
 
 abbrev pub shown_at : {S : Type 0} → HashMap (Bor Text) Feature S → Text → Option (Option Text)
 shown_at m f = option_and_then shown (value_at m f)

@@ -1,5 +1,6 @@
 -- What a file system in memory tells.
-use Rattle.std.specs.Prelude.{ℕ, List, [], ◌∷◌, map, Bool, true, false, if◌then◌else◌, Option, Some, None, option_map, is_some, Result, Ok, Err, String, string_bytes}
+use Rattle.std.specs.Prelude.{ℕ, List, [], ◌∷◌, map, Bool, true, false, if◌then◌else◌, Option, Some}
+use Rattle.std.specs.Prelude.{None, option_map, is_some, Result, Ok, Err, String, string_bytes}
 use Rattle.std.specs.Str.{bytes_eq}
 use Rattle.std.specs.declared.alloc.Global.{Global}
 use Rattle.toml.specs.Data.{Data}
@@ -34,7 +35,8 @@ told_manifest None path = no_root
 told_manifest (Some m) path = if is_some m.workspace then root m path else no_root
 
 abbrev pub told_bytes : List ℕ → List ℕ → ToldRoot
-told_bytes bytes path = told_manifest (document_reads (manifest_reads any_tree) (parse_document bytes)) path
+told_bytes bytes path =
+    told_manifest (document_reads (manifest_reads any_tree) (parse_document bytes)) path
 
 abbrev pub told_text : Result (String Global) Error → List ℕ → ToldRoot
 told_text (Err fault) path = open_root
@@ -55,4 +57,5 @@ same_hint _ _ = false
 -- the first of the hint counts
 abbrev pub told_root_at : List Root → Option (List ℕ) → ToldRoot
 told_root_at [] hint = no_root
-told_root_at (r ∷ rs) hint = if same_hint (option_map string_bytes r.hint) hint then told_by r else told_root_at rs hint
+told_root_at (r ∷ rs) hint =
+    if same_hint (option_map string_bytes r.hint) hint then told_by r else told_root_at rs hint

@@ -7,8 +7,8 @@ use Rattle.toml.specs.Parse.{parse_document}
 use Rattle.cargo_toml.specs.Error.{Error, Io, Memory}
 use Rattle.cargo_toml.specs.Faults.{IsOther}
 use Rattle.cargo_toml.specs.Limits.{MAX_ITEMS}
-use Rattle.cargo_toml.specs.Manifests.{ManifestMeaning, manifest_reads, manifest_refuses}
-use Rattle.cargo_toml.specs.Texts.{any_tree, any_refuses, document_reads, document_refuses}
+use Rattle.cargo_toml.specs.Manifests.{ManifestMeaning, manifest_reads, ManifestRefuses}
+use Rattle.cargo_toml.specs.Texts.{any_tree, AnyRefuses, document_reads, DocumentRefuses}
 use Rattle.cargo_toml.specs.Action.{Text}
 use Rattle.cargo_toml.specs.Parsed.{parsed_table}
 use Rattle.cargo_toml_bench.specs.Reports.{optional_keys, AreUnreferenced}
@@ -25,7 +25,8 @@ IsManifest bytes = (m : ManifestMeaning Data) × Spells bytes m
 abbrev pub IsFaultOf : List ℕ → Error → Type 0
 IsFaultOf bytes e =
     ((¬ IsUtf8 bytes) × IsOther (codes "utf8") e)
-    ⊎ (IsUtf8 bytes × (document_reads (manifest_reads any_tree) (parse_document bytes) ≡ None) × document_refuses (manifest_refuses any_tree any_refuses) (parse_document bytes) e)
+    ⊎ (IsUtf8 bytes × (document_reads (manifest_reads any_tree) (parse_document bytes) ≡ None)
+    × DocumentRefuses (ManifestRefuses any_tree AnyRefuses) (parse_document bytes) e)
 
 -- why nothing is reported: there was no memory, or the bytes are no manifest
 abbrev pub Refuses : List ℕ → Error → Type 0
@@ -44,7 +45,8 @@ lines word names = flat_map (line word) names
 
 -- a line for each optional dependency, then one for each unreferenced feature
 abbrev pub report_text : List Text → List Text → Text
-report_text optional unreferenced = lines (codes "optional ") optional ++ lines (codes "unreferenced ") unreferenced
+report_text optional unreferenced =
+    lines (codes "optional ") optional ++ lines (codes "unreferenced ") unreferenced
 
 -- the text is the report of the manifest that the bytes spell
 pub record IsReport (bytes : List ℕ) (text : Text) : Type 0 where

@@ -21,7 +21,8 @@ use cargo_toml_resolve::bins::Requirement;
 use std::alloc::{AllocError, Global};
 use std::hash::BuildHasherDefault;
 
-/// Resolves the features of a manifest by both bodies, without the hidden ones: first as callers do, then by the plain body.
+/// Resolves the features of a manifest by both bodies, without the hidden ones: first as callers
+/// do, then by the plain body.
 ///
 /// Both tell the same, and of each feature the same binaries. The one refusal is [`Error::Memory`].
 pub fn resolve_by_both<'m, M>(
@@ -29,8 +30,8 @@ pub fn resolve_by_both<'m, M>(
     manifest: &'m Manifest<M>,
 ) -> Result<(Answer<'m>, Answer<'m>), Error>
     ensures agree { IfOk result (λ p. Agree (answer_of p.0) (answer_of p.1)) }
-    ensures bins { IfOk result (λ p. (f : Text) → IsTrue ((answer_of p.0).resolution.table.has f) →
-        (answer_of p.0).bins f ≡ (answer_of p.1).bins f) }
+    ensures bins { IfOk result (λ p. (f : Text) → IsTrue ((answer_of p.0).resolution.table.has f)
+        → (answer_of p.0).bins f ≡ (answer_of p.1).bins f) }
     ensures refused { IfErr result (λ e. e ≡ Memory) }
 {
     let resolver = Resolver::new();
@@ -46,8 +47,8 @@ pub fn resolve_by_both_keeping_a<'m, M>(
     manifest: &'m Manifest<M>,
 ) -> Result<(Answer<'m>, Answer<'m>), Error>
     ensures agree { IfOk result (λ p. Agree (answer_of p.0) (answer_of p.1)) }
-    ensures bins { IfOk result (λ p. (f : Text) → IsTrue ((answer_of p.0).resolution.table.has f) →
-        (answer_of p.0).bins f ≡ (answer_of p.1).bins f) }
+    ensures bins { IfOk result (λ p. (f : Text) → IsTrue ((answer_of p.0).resolution.table.has f)
+        → (answer_of p.0).bins f ≡ (answer_of p.1).bins f) }
     ensures refused { IfErr result (λ e. e ≡ Memory) }
 {
     let called = resolve_keeping_a(alloc, manifest)?;
@@ -63,8 +64,8 @@ fn resolve_plainly<'m, M, F: Fn(&str) -> bool>(
     manifest: &'m Manifest<M>,
 ) -> Result<Answer<'m>, Error>
     requires { HasNameFilter F.Fn filter }
-    ensures resolved { IfOk result (λ a. (keep : Text → Bool) → Tells F.Fn filter.entry keep →
-        IsParsed MAX_ITEMS (manifest_meaning (λ m. m) manifest.now) keep (answer_of a)) }
+    ensures resolved { IfOk result (λ a. (keep : Text → Bool) → Tells F.Fn filter.entry keep
+        → IsParsed MAX_ITEMS (manifest_meaning (λ m. m) manifest.now) keep (answer_of a)) }
     ensures refused { IfErr result (λ e. e ≡ Memory) }
 {
     let details = &manifest.feature_details;
@@ -92,7 +93,8 @@ fn requirements<'m, M>(
     alloc: Global,
     manifest: &'m Manifest<M>,
 ) -> Result<Vec<Requirement<'m>>, AllocError>
-    ensures { IfOk result (λ v. map requirement_of v.items ≡ requirements (manifest_meaning (λ m. m) manifest.now)) }
+    ensures { IfOk result
+        (λ v. map requirement_of v.items ≡ requirements (manifest_meaning (λ m. m) manifest.now)) }
 {
     match &manifest.package {
         Some(package) => requirements_of(alloc, manifest.bin.as_slice(), package.name.as_str()),
@@ -122,7 +124,8 @@ fn add_requirements<'m>(
     bin: &'m Product,
     package_name: &'m str,
 ) -> Result<(), AllocError>
-    ensures { OnOk result (map requirement_of requirements.new.items ≡ map requirement_of requirements.old.items
+    ensures { OnOk result (map requirement_of requirements.new.items
+        ≡ map requirement_of requirements.old.items
         ++ requirements_by package_name.now (product_meaning bin.now)) }
 {
     let name = bin.name.as_deref().unwrap_or(package_name);

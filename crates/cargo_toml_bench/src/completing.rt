@@ -6,19 +6,20 @@ ghost use Rattle.cargo_toml.specs.Filled.{IsFilled};
 ghost use Rattle.cargo_toml.specs.InheritableValues.{value_of};
 ghost use Rattle.cargo_toml.specs.InheritedManifests.{needs};
 ghost use Rattle.cargo_toml.specs.Manifest.{Manifest};
-ghost use Rattle.cargo_toml.specs.Manifests.{manifest_meaning, manifest_reads, manifest_refuses};
+ghost use Rattle.cargo_toml.specs.Manifests.{manifest_meaning, manifest_reads, ManifestRefuses};
 ghost use Rattle.cargo_toml.specs.RealFiles.{IsPathFault, IsReadAndCompleted};
-ghost use Rattle.cargo_toml.specs.Texts.{any_refuses, any_tree};
+ghost use Rattle.cargo_toml.specs.Texts.{AnyRefuses, any_tree};
 
 use crate::in_memory::InMemory;
 use cargo_toml::{AbstractFilesystem, Edition, Error, Manifest};
 use std::alloc::Global;
 use std::rt::Files;
 
-/// Completes the manifest of a member from that of its workspace, of which the bytes and the path are told.
+/// Completes the manifest of a member from that of its workspace, of which the bytes and
+/// the path are told.
 ///
-/// Refused where those bytes are no manifest, and where the workspace lacks what the member leaves to it. The member is then as
-/// it was.
+/// Refused where those bytes are no manifest, and where the workspace lacks what the member leaves
+/// to it. The member is then as it was.
 pub fn complete_member(
     alloc: Global,
     member: &mut Manifest,
@@ -64,14 +65,16 @@ pub fn read_member(
     Ok(manifest)
 }
 
-/// Completes the manifest of a member in the same way, and tells the edition of its package, if it has one.
+/// Completes the manifest of a member in the same way, and tells the edition of its
+/// package, if it has one.
 pub fn edition_of_member(
     alloc: Global,
     member: &mut Manifest,
     workspace: &[u8],
     path: &str,
 ) -> Result<Option<Edition>, Error>
-    ensures edition { IfOk result (λ e. e ≡ option_and_then (λ p. value_of p.edition) member.new.«package») }
+    ensures edition { IfOk result
+        (λ e. e ≡ option_and_then (λ p. value_of p.edition) member.new.«package») }
     ensures unchanged { OnErr result (member.new ≡ member.old) }
 {
     complete_member(alloc, member, workspace, path)?;
@@ -81,16 +84,17 @@ pub fn edition_of_member(
     }
 }
 
-/// Reads the manifest of the file at this path, completes it from the files around it, and tells the edition of its package,
-/// if it has one.
+/// Reads the manifest of the file at this path, completes it from the files around it, and tells
+/// the edition of its package, if it has one.
 pub fn edition_of_file<'a, R: Files + AllocGlobal>(
     rt: &'a R,
     path: &'a str,
 ) -> Result<Option<Edition>, Error>
-    ensures edition { IfOk result (λ e. (m : Manifest Value) × IsReadAndCompleted view (manifest_reads any_tree) m
+    ensures edition { IfOk result
+        (λ e. (m : Manifest Value) × IsReadAndCompleted view (manifest_reads any_tree) m
         × (e ≡ option_and_then (λ p. value_of p.edition) m.«package»)) }
-    ensures refused { IfErr result (IsPathFault path.now (manifest_meaning view) (manifest_reads any_tree)
-        (manifest_refuses any_tree any_refuses)) }
+    ensures refused { IfErr result (IsPathFault path.now (manifest_meaning view)
+        (manifest_reads any_tree) (ManifestRefuses any_tree AnyRefuses)) }
 {
     let manifest = Manifest::from_path(rt, rt.alloc(), path)?;
     match &manifest.package {

@@ -1,4 +1,5 @@
-//! What a documentation of a package lists: the features that its users are meant to ask for, each with its text.
+//! What a documentation of a package lists: the features that its users are meant to ask for,
+//! each with its text.
 ghost use Rattle.std.specs.Prelude.{◌≡◌, IfErr, IfOk};
 ghost use Rattle.cargo_toml.specs.Action.{Text};
 ghost use Rattle.cargo_toml.specs.Error.{Memory};
@@ -11,10 +12,11 @@ use std::alloc::{AllocError, Global};
 use std::collections::{BTreeMap, HashMap};
 use std::hash::BuildHasher;
 
-/// The features of a manifest that users are meant to ask for, by name, each with what the manifest says of it.
+/// The features of a manifest that users are meant to ask for, by name, each with what the
+/// manifest says of it.
 ///
-/// These are its features without the hidden ones that are public, and that it lists or no other feature enables. The one
-/// refusal is [`Error::Memory`].
+/// These are its features without the hidden ones that are public, and that it lists or no other
+/// feature enables. The one refusal is [`Error::Memory`].
 pub fn documented_features<'m, M>(
     alloc: Global,
     manifest: &'m Manifest<M>,

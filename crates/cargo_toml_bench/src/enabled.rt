@@ -26,7 +26,8 @@ pub struct Enabled<'f, 'm, S: BuildHasher> {
     pub dependencies: DependenciesEnabledByFeatures<'f, 'm, S>,
 }
 
-/// What the feature `name` enables; `None` where no feature has the name. The one refusal is [`Error::Memory`].
+/// What the feature `name` enables; `None` where no feature has the name. The one refusal is
+/// [`Error::Memory`].
 pub fn find_enabled<'f, 'm, S: BuildHasher + Clone>(
     alloc: Global,
     resolved: &'f Features<'m, 'm, S>,
@@ -37,8 +38,9 @@ pub fn find_enabled<'f, 'm, S: BuildHasher + Clone>(
         ≡ value_at resolved.now.features name.now) }
     ensures features { IfOk result (λ o. IfSome o (λ e.
         AreEnabled resolved.now.features e.asked.now.key.now e.features)) }
-    ensures dependencies { IfOk result (λ o. IfSome o (λ e. (k : Text) →
-        ArePairs (table_in resolved.now.features) e.asked.now.key.now k (pairs_at e.dependencies k))) }
+    ensures dependencies { IfOk result (λ o. IfSome o (λ e. (k : Text)
+        → ArePairs (table_in resolved.now.features) e.asked.now.key.now k
+        (pairs_at e.dependencies k))) }
     ensures refused { IfErr result (λ e. e ≡ Error.Memory) }
 {
     let Some(asked) = resolved.features.get(name) else {
@@ -52,15 +54,16 @@ pub fn find_enabled<'f, 'm, S: BuildHasher + Clone>(
     }))
 }
 
-/// Whether a manifest has the feature `name`, and asking for it enables the feature `other`. The one refusal is
-/// [`Error::Memory`].
+/// Whether a manifest has the feature `name`, and asking for it enables the feature `other`. The
+/// one refusal is [`Error::Memory`].
 pub fn enables<M>(
     alloc: Global,
     manifest: &Manifest<M>,
     name: &str,
     other: &str,
 ) -> Result<bool, Error>
-    ensures answer { IfOk result (IsAnswered (manifest_meaning (λ m. m) manifest.now) name.now other.now) }
+    ensures answer { IfOk result
+        (IsAnswered (manifest_meaning (λ m. m) manifest.now) name.now other.now) }
     ensures refused { IfErr result (λ e. e ≡ Error.Memory) }
 {
     let resolved = resolve_whole(alloc, manifest)?;
@@ -71,8 +74,8 @@ pub fn enables<M>(
     Ok(features.contains_key(other))
 }
 
-/// The same of the manifest that the bytes spell. Refuses as [`Manifest::from_slice`] does, with `Memory` where there was no
-/// room.
+/// The same of the manifest that the bytes spell. Refuses as [`Manifest::from_slice`] does, with
+/// `Memory` where there was no room.
 pub fn enables_from(alloc: Global, bytes: &[u8], name: &str, other: &str) -> Result<bool, Error>
     ensures answer { IfOk result (IsAnsweredFrom bytes.now name.now other.now) }
     ensures refused { IfErr result (Refuses bytes.now) }

@@ -3,7 +3,8 @@ ghost use Rattle.std.specs.Prelude.{◌≡◌, IfOk, IfErr, map, string_bytes};
 ghost use Rattle.std.specs.Option.{option_copied};
 ghost use Rattle.cargo_toml.specs.Error.{Memory};
 ghost use Rattle.cargo_toml.specs.Told.{AnswersNames, HasTexts, ReadsRoot};
-ghost use Rattle.cargo_toml_bench.specs.InMemory.{told_at, told_root_at, told_of_answer, told_of_root, told_bytes};
+ghost use Rattle.cargo_toml_bench.specs.InMemory.{told_at, told_root_at, told_of_answer};
+ghost use Rattle.cargo_toml_bench.specs.InMemory.{told_of_root, told_bytes};
 
 use cargo_toml::{AbstractFilesystem, Error, OwnRoot};
 use std::alloc::{AllocError, Global};
@@ -33,8 +34,8 @@ pub struct Root {
     pub text: Result<String, Error>,
 }
 
-/// Folders with their answers, and roots. A path that isn't listed is absent, and a hint that isn't leads nowhere. Of two of one
-/// path, or of one hint, the first counts.
+/// Folders with their answers, and roots. A path that isn't listed is absent, and a hint that isn't
+/// leads nowhere. Of two of one path, or of one hint, the first counts.
 #[derive(Drop)]
 pub struct InMemory {
     /// The folders, by path.
@@ -87,7 +88,8 @@ fn names_of(alloc: Global, answer: Option<&Answer>) -> Result<HashSet<String>, E
 }
 
 fn root_at<'a>(roots: &'a [Root], hint: Option<&str>) -> Option<&'a Root>
-    ensures { told_of_root (option_copied result) ≡ told_root_at roots.now (option_copied hint.entry) }
+    ensures { told_of_root (option_copied result)
+        ≡ told_root_at roots.now (option_copied hint.entry) }
 {
     for root in roots {
         if root.hint.as_deref() == hint {

@@ -12,7 +12,8 @@ use cargo_toml::features::{Resolver, complete_and_parse_into};
 use cargo_toml::{AbstractFilesystem, Error, Manifest};
 use std::alloc::Global;
 
-/// Completes a member, and tells whether it then has the feature `name` and asking for that enables the feature `other`.
+/// Completes a member, and tells whether it then has the feature `name` and asking for that enables
+/// the feature `other`.
 ///
 /// Refuses as completion does, with [`Error::Memory`] where there was no room.
 pub fn enables_in_member<Fs: AbstractFilesystem + Drop>(
@@ -23,10 +24,13 @@ pub fn enables_in_member<Fs: AbstractFilesystem + Drop>(
     name: &str,
     other: &str,
 ) -> Result<bool, Error>
-    ensures answer { IfOk result (IsToldOfMember (manifest_meaning (λ m. m) member.old) (option_map handed_of workspace.entry)
-        (λ hint. heard Fs.Roots.ARE_READ (Fs.root_for files hint)) (Fs.names_at files) name.now other.now) }
-    ensures refused { IfErr result (IsRefusedBy (manifest_meaning (λ m. m) member.old)
-        (option_map handed_of workspace.entry) (λ hint. heard Fs.Roots.ARE_READ (Fs.root_for files hint))
+    ensures answer { IfOk result (IsToldOfMember (manifest_meaning (λ m. m) member.old)
+        (option_map handed_of workspace.entry)
+        (λ hint. heard Fs.Roots.ARE_READ (Fs.root_for files hint))
+        (Fs.names_at files) name.now other.now) }
+    ensures refused { IfErr result
+        (IsRefusedBy (manifest_meaning (λ m. m) member.old) (option_map handed_of workspace.entry)
+        (λ hint. heard Fs.Roots.ARE_READ (Fs.root_for files hint))
         (MayLose Fs.Roots.ARE_READ (Fs.may_refuse_root files)) (Fs.may_refuse files)) }
 {
     let resolver = Resolver::new();
@@ -40,7 +44,8 @@ pub fn enables_in_member<Fs: AbstractFilesystem + Drop>(
 
 /// Completes a member, and counts the features that it then has.
 ///
-/// A refusal leaves the member as it was, unless it is want of memory: then the member may be completed.
+/// A refusal leaves the member as it was, unless it is want of memory: then the
+/// member may be completed.
 pub fn count_features<Fs: AbstractFilesystem + Drop>(
     alloc: Global,
     member: &mut Manifest,

@@ -30,7 +30,8 @@ use std::hash::BuildHasher;
 pub struct Report<'m> {
     /// The keys of the optional dependencies, in byte order.
     pub optional: Vec<&'m str>,
-    /// The names of the features that nothing in the manifest enables, but for `default`, in byte order.
+    /// The names of the features that nothing in the manifest enables, but for
+    /// `default`, in byte order.
     pub unreferenced: Vec<&'m str>,
 }
 
@@ -48,7 +49,8 @@ pub fn make_report<'m, M>(alloc: Global, manifest: &'m Manifest<M>) -> Result<Re
     })
 }
 
-/// The keys of the optional dependencies of a table, in byte order. The one refusal is [`Error::Memory`].
+/// The keys of the optional dependencies of a table, in byte order. The one refusal is
+/// [`Error::Memory`].
 pub fn optional_dependencies<'m>(
     alloc: Global,
     dependencies: &'m DepsSet,
@@ -66,8 +68,8 @@ pub fn optional_dependencies<'m>(
     Ok(optional)
 }
 
-/// The names of the features that nothing in the manifest enables, but for `default`, in byte order. The one refusal is
-/// [`Error::Memory`].
+/// The names of the features that nothing in the manifest enables, but for `default`, in byte
+/// order. The one refusal is [`Error::Memory`].
 pub fn unreferenced_features<'m, M>(
     alloc: Global,
     manifest: &'m Manifest<M>,
@@ -98,7 +100,8 @@ fn unreferenced_names<'m, S: BuildHasher>(
 }
 
 fn in_order<'m>(alloc: Global, names: &BTreeSet<&'m str>) -> Result<Vec<&'m str>, AllocError>
-    ensures all { IfOk result (λ v. (f : Text) → Among (texts v) f ↔ IsTrue (has_text names.now f)) }
+    ensures all { IfOk result
+        (λ v. (f : Text) → Among (texts v) f ↔ IsTrue (has_text names.now f)) }
     ensures in_order { IfOk result (λ v. IsStrictlySortedBy (slice_cmp nat_cmp) (texts v)) }
 {
     names.iter().copied().collect(alloc)

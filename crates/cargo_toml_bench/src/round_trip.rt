@@ -1,4 +1,5 @@
-//! What was written is read again as it was: one caller for each family of types of which that is promised.
+//! What was written is read again as it was: one caller for each family of types of
+//! which that is promised.
 ghost use Rattle.std.specs.Prelude.{◌≡◌, IfErr, IfOk};
 ghost use Rattle.semver.specs.Identifiers.{parts_of};
 ghost use Rattle.toml.specs.View.{view};
@@ -85,7 +86,8 @@ pub fn product_again(alloc: Global, product: &Product) -> Result<Product, Error>
 pub fn lint_again(alloc: Global, lint: &Lint) -> Result<Lint, Error>
     requires { IsApart (lint_meaning lint.now) }
     ensures same { IfOk result (λ again. lint_meaning again ≡ lint_meaning lint.now) }
-    ensures refused { LintHoldsNoFloat (lint_meaning lint.now) → IfErr result (λ e. e ≡ Error.Memory) }
+    ensures refused { LintHoldsNoFloat (lint_meaning lint.now)
+        → IfErr result (λ e. e ≡ Error.Memory) }
 {
     Lint::from_value(alloc, lint.to_value(alloc)?)
 }
@@ -93,7 +95,8 @@ pub fn lint_again(alloc: Global, lint: &Lint) -> Result<Lint, Error>
 /// A package whose version `semver` reads again from its own text, written and read again.
 pub fn package_again(alloc: Global, written: &Package) -> Result<Package, Error>
     requires { VersionAgain (inheritable_map parts_of written.now.version) }
-    ensures same { IfOk result (λ again. package_meaning view again ≡ package_meaning view written.now) }
+    ensures same { IfOk result
+        (λ again. package_meaning view again ≡ package_meaning view written.now) }
     ensures refused { PackageHoldsNoFloat (HasTree free_way) (package_meaning view written.now)
         → IfErr result (λ e. e ≡ Error.Memory) }
 {
@@ -101,8 +104,8 @@ pub fn package_again(alloc: Global, written: &Package) -> Result<Package, Error>
     Package::from_value(alloc, written.to_value(alloc)?)
 }
 
-/// A tree of the manifest that these bytes spell: what was read can be written. Refuses as [`Manifest::from_slice`] does, with
-/// `Memory` where there was no room.
+/// A tree of the manifest that these bytes spell: what was read can be written. Refuses as
+/// [`Manifest::from_slice`] does, with `Memory` where there was no room.
 pub fn rewrite(alloc: Global, bytes: &[u8]) -> Result<Value, Error>
     ensures tree { IfOk result (λ v. IsRewritten bytes.now (view v)) }
     ensures refused { IfErr result (Refuses bytes.now) }

@@ -1,4 +1,5 @@
-//! A manifest's features, with none removed, with one hidden name kept, and both with none and with all removed.
+//! A manifest's features, with none removed, with one hidden name kept, and both with none
+//! and with all removed.
 ghost use Rattle.std.specs.Prelude.{◌≡◌, true, bytes_eq, codes, IfErr, IfOk};
 ghost use Rattle.cargo_toml.specs.Error.{Memory};
 ghost use Rattle.cargo_toml.specs.Kept.{KeepsEnabling, LosesNothing};
@@ -28,8 +29,8 @@ pub(crate) fn keep_a(name: &str) -> bool
     name == "_a"
 }
 
-/// Resolves the features of a manifest by a filter that keeps every name, so that none is removed. The one refusal is
-/// [`Error::Memory`].
+/// Resolves the features of a manifest by a filter that keeps every name, so that none is removed.
+/// The one refusal is [`Error::Memory`].
 pub fn resolve_whole<'m, M>(alloc: Global, manifest: &'m Manifest<M>) -> Result<Answer<'m>, Error>
     ensures resolved { IfOk result (λ a.
         IsParsed MAX_ITEMS (manifest_meaning (λ m. m) manifest.now) (λ _. true) (answer_of a)) }
@@ -41,8 +42,8 @@ pub fn resolve_whole<'m, M>(alloc: Global, manifest: &'m Manifest<M>) -> Result<
     resolver.parse(alloc, manifest)
 }
 
-/// Resolves the features of a manifest by a filter that keeps `_a` alone of the hidden names. The one refusal is
-/// [`Error::Memory`].
+/// Resolves the features of a manifest by a filter that keeps `_a` alone of the hidden names. The
+/// one refusal is [`Error::Memory`].
 pub fn resolve_keeping_a<'m, M>(
     alloc: Global,
     manifest: &'m Manifest<M>,
@@ -57,16 +58,19 @@ pub fn resolve_keeping_a<'m, M>(
     resolver.parse(alloc, manifest)
 }
 
-/// Resolves the features of a manifest twice: first with none removed, then without the hidden ones.
+/// Resolves the features of a manifest twice: first with none removed, then
+/// without the hidden ones.
 ///
-/// Between features of the second answer, what enables what at last is the same in both, and none of them enables less by
-/// the second. The one refusal is [`Error::Memory`].
+/// Between features of the second answer, what enables what at last is the same in both, and none
+/// of them enables less by the second. The one refusal is [`Error::Memory`].
 pub fn resolve_both<'m, M>(
     alloc: Global,
     manifest: &'m Manifest<M>,
 ) -> Result<(Answer<'m>, Answer<'m>), Error>
-    ensures closure { IfOk result (λ p. KeepsEnabling (answer_of p.0).resolution (answer_of p.1).resolution) }
-    ensures nothing_lost { IfOk result (λ p. LosesNothing (answer_of p.0).resolution (answer_of p.1).resolution) }
+    ensures closure { IfOk result
+        (λ p. KeepsEnabling (answer_of p.0).resolution (answer_of p.1).resolution) }
+    ensures nothing_lost { IfOk result
+        (λ p. LosesNothing (answer_of p.0).resolution (answer_of p.1).resolution) }
     ensures refused { IfErr result (λ e. e ≡ Memory) }
 {
     let whole = resolve_whole(alloc, manifest)?;

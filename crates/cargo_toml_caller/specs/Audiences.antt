@@ -1,17 +1,19 @@
 -- Which trees say who may rely on a package, and how that is written.
-use Rattle.std.specs.Prelude.{◌≡◌, ◌⊎◌, ℕ, List, codes, IsTrue, Option, Some, None, option_and_then, if◌then◌else◌, IsUtf8, refl}
+use Rattle.std.specs.Prelude.{◌≡◌, ◌⊎◌, ℕ, List, codes, IsTrue, Option, Some}
+use Rattle.std.specs.Prelude.{None, option_and_then, if◌then◌else◌, IsUtf8, refl}
 use Rattle.std.proofs.Common.{sym, subst}
 use Rattle.std.specs.Str.{bytes_eq}
 use Rattle.toml.specs.Data.{Data, string, as_str}
 use Rattle.toml.specs.Parse.{parse_document}
 use Rattle.cargo_toml.specs.Error.{Error, Memory}
 use Rattle.cargo_toml.specs.Faults.{IsOther}
-use Rattle.cargo_toml.specs.Manifests.{ManifestMeaning, manifest_reads, manifest_refuses}
-use Rattle.cargo_toml.specs.Texts.{document_reads, document_refuses}
+use Rattle.cargo_toml.specs.Manifests.{ManifestMeaning, manifest_reads, ManifestRefuses}
+use Rattle.cargo_toml.specs.Texts.{document_reads, DocumentRefuses}
 use Rattle.cargo_toml.specs.Floats.{has_no_float}
 use Rattle.cargo_toml.specs.Writes.{Way, IsFloatless, never}
 use Rattle.cargo_toml_caller.specs.declared.audience.Audience.{Audience}
-use Rattle.cargo_toml_caller.specs.declared.audience.Audience.TheVariants.{Everyone, Team, Undecided}
+use Rattle.cargo_toml_caller.specs.declared.audience.Audience.TheVariants.{Everyone, Team}
+use Rattle.cargo_toml_caller.specs.declared.audience.Audience.TheVariants.{Undecided}
 
 -- the audience that a text names, and that a tree does
 abbrev pub audience_named : List ℕ → Option Audience
@@ -23,8 +25,8 @@ audience_named text =
 abbrev pub audience_reads : Data → Option Audience
 audience_reads d = option_and_then audience_named (as_str d)
 
-abbrev pub audience_refuses : Data → Error → Type 0
-audience_refuses d e = IsOther (codes "unknown audience") e
+abbrev pub AudienceRefuses : Data → Error → Type 0
+AudienceRefuses d e = IsOther (codes "unknown audience") e
 
 -- the trees of an audience
 abbrev pub IsTree : Audience → Data → Type 0
@@ -56,11 +58,12 @@ pub record IsAudienceOf (bytes : List ℕ) (answer : Option Audience) : Type 0 w
   pub reads : document_reads (manifest_reads audience_reads) (parse_document bytes) ≡ Some manifest
   pub exact : answer ≡ audience_in manifest
 
--- why nothing is told: there was no memory, the bytes are no text, or their document is refused with this fault
+-- why nothing is told: there was no memory, the bytes are no text, or their document is
+-- refused with this fault
 abbrev pub Refuses : List ℕ → Error → Type 0
 Refuses bytes e =
     (e ≡ Memory)
     ⊎ ((¬ IsUtf8 bytes) × IsOther (codes "utf8") e)
     ⊎ (IsUtf8 bytes
     × (document_reads (manifest_reads audience_reads) (parse_document bytes) ≡ None)
-    × document_refuses (manifest_refuses audience_reads audience_refuses) (parse_document bytes) e)
+    × DocumentRefuses (ManifestRefuses audience_reads AudienceRefuses) (parse_document bytes) e)

@@ -1,8 +1,10 @@
-//! Who may rely on a package: metadata that this crate gives `package.metadata` and `workspace.metadata`.
+//! Who may rely on a package: metadata that this crate gives `package.metadata` and
+//! `workspace.metadata`.
 ghost use Rattle.std.specs.Prelude.{codes};
 ghost use Rattle.cargo_toml.specs.Faults.{IsOther};
 ghost use Rattle.cargo_toml_caller.specs.declared.audience.Audience.{Audience};
-ghost use Rattle.cargo_toml_caller.specs.Audiences.{audience_reads, audience_refuses, audience_way, audience_floatless};
+ghost use Rattle.cargo_toml_caller.specs.Audiences.{audience_reads, AudienceRefuses};
+ghost use Rattle.cargo_toml_caller.specs.Audiences.{audience_way, audience_floatless};
 
 use cargo_toml::{Error, FromValue, ToValue, Value};
 use std::alloc::Global;
@@ -26,7 +28,7 @@ impl FromValue for Audience {
 
     ghost from_tree = { audience_reads };
 
-    ghost from_refuses = { audience_refuses };
+    ghost from_refuses = { AudienceRefuses };
 
     fn from_value(_alloc: Global, value: Value) -> Result<Audience, Error> {
         match value.as_str() {

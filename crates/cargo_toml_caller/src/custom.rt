@@ -16,8 +16,8 @@ use std::alloc::Global;
 use std::collections::HashMap;
 use std::hash::{BuildHasher, BuildHasherDefault, FoldHasher};
 
-/// Whether a table has the feature `name`, and it names `other` once the table is resolved. The one refusal is
-/// [`Error::Memory`].
+/// Whether a table has the feature `name`, and it names `other` once the table is resolved. The one
+/// refusal is [`Error::Memory`].
 pub fn is_named<'m: 'd, 'd, S: BuildHasher>(
     alloc: Global,
     features: &'m HashMap<String, Vec<String>, S>,
@@ -37,14 +37,15 @@ pub fn is_named<'m: 'd, 'd, S: BuildHasher>(
     Ok(feature.enables_features.contains(other))
 }
 
-/// Features resolved twice: in their manifest, and with the entries of its dependency tables by themselves.
+/// Features resolved twice: in their manifest, and with the entries of its dependency
+/// tables by themselves.
 pub type Twice<'m, 'd> = (
     Features<'m, 'm, BuildHasherDefault<FoldHasher>>,
     Features<'m, 'd, BuildHasherDefault<FoldHasher>>,
 );
 
-/// Where the table and the entries are those of the manifest, the two agree in all but binaries. The one refusal is
-/// [`Error::Memory`].
+/// Where the table and the entries are those of the manifest, the two agree in all but binaries.
+/// The one refusal is [`Error::Memory`].
 pub fn resolve_twice<'m: 'd, 'd, M, S: BuildHasher>(
     alloc: Global,
     manifest: &'m Manifest<M>,

@@ -11,7 +11,8 @@ use cargo_toml::features::{Kind, Resolver};
 use cargo_toml::{Error, Manifest};
 use std::alloc::Global;
 
-/// The kind of the table in which the key stands first; `None` where features can't speak of the key.
+/// The kind of the table in which the key stands first; `None` where features
+/// can't speak of the key.
 ///
 /// Refuses as [`Manifest::from_slice_with_metadata`] does, with `Memory` where there was no room.
 pub fn kind_from(alloc: Global, bytes: &[u8], key: &str) -> Result<Option<Kind>, Error>
@@ -25,8 +26,8 @@ pub fn kind_from(alloc: Global, bytes: &[u8], key: &str) -> Result<Option<Kind>,
     Ok(Some(dependency.detail().1))
 }
 
-/// Whether the dependency that stands first under the key is optional; `None` where features can't speak of the key. The one
-/// refusal is [`Error::Memory`].
+/// Whether the dependency that stands first under the key is optional; `None` where features can't
+/// speak of the key. The one refusal is [`Error::Memory`].
 pub fn is_optional_at<M>(
     alloc: Global,
     manifest: &Manifest<M>,

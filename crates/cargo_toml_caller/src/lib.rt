@@ -16,16 +16,18 @@ ghost use Rattle.cargo_toml.specs.Packages.{package_meaning, package_reads};
 ghost use Rattle.cargo_toml.specs.WrittenManifests.{manifest_way};
 ghost use Rattle.cargo_toml.specs.WrittenPackages.{package_way, VersionAgain};
 ghost use Rattle.cargo_toml.specs.Writes.{IsReadAgain, IsWriting};
-ghost use Rattle.cargo_toml_caller.specs.Audiences.{IsAudienceOf, Refuses, audience_way, audience_reads, audience_in};
+ghost use Rattle.cargo_toml_caller.specs.Audiences.{IsAudienceOf, Refuses, audience_way};
+ghost use Rattle.cargo_toml_caller.specs.Audiences.{audience_reads, audience_in};
 
 pub use audience::Audience;
 use cargo_toml::{Error, Manifest, Package, ToValue, Value};
 use std::alloc::Global;
 
-/// Who may rely on the package of the manifest that the bytes spell; `None` where there is no package, or its metadata don't
-/// say.
+/// Who may rely on the package of the manifest that the bytes spell; `None` where there is no
+/// package, or its metadata don't say.
 ///
-/// Refuses as [`Manifest::from_slice_with_metadata`] does: among others with the fault of metadata that are no audience.
+/// Refuses as [`Manifest::from_slice_with_metadata`] does: among others with the fault of metadata
+/// that are no audience.
 pub fn audience_of(alloc: Global, bytes: &[u8]) -> Result<Option<Audience>, Error>
     ensures answer { IfOk result (IsAudienceOf bytes.now) }
     ensures refused { IfErr result (Refuses bytes.now) }
@@ -46,16 +48,19 @@ pub fn package_audience(manifest: &Manifest<Audience>) -> Option<Audience>
 
 /// A tree of the manifest. Metadata that can't be written are refused with their own fault.
 pub fn write_manifest(alloc: Global, manifest: &Manifest<Audience>) -> Result<Value, Error>
-    ensures { IsWriting (manifest_way audience_way) (manifest_meaning (λ x. x) manifest.now) result }
+    ensures { IsWriting (manifest_way audience_way)
+        (manifest_meaning (λ x. x) manifest.now) result }
 {
     manifest.to_value(alloc)
 }
 
 /// A tree of the package, from which it is read again, its metadata too.
 pub fn write_package(alloc: Global, package: &Package<Audience>) -> Result<Value, Error>
-    ensures written { IsWriting (package_way audience_way) (package_meaning (λ x. x) «package».now) result }
+    ensures written { IsWriting (package_way audience_way)
+        (package_meaning (λ x. x) «package».now) result }
     ensures read_again { VersionAgain (inheritable_map parts_of «package».now.version)
-        → IsReadAgain (package_reads audience_reads) (package_meaning (λ x. x) «package».now) result }
+        → IsReadAgain (package_reads audience_reads)
+        (package_meaning (λ x. x) «package».now) result }
 {
     package.to_value(alloc)
 }

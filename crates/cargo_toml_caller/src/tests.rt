@@ -10,8 +10,8 @@ use std::collections::HashMap;
 use std::hash::{BuildHasher, BuildHasherDefault, FoldHasher};
 use std::test::Fail;
 
-// Values behind pointers. Of what a function owns itself each field is looked at wherever the function may end, when it is
-// proved, and a manifest has some hundred.
+// Values behind pointers. Of what a function owns itself each field is looked at wherever the
+// function may end, when it is proved, and a manifest has some hundred.
 fn manifest(alloc: Global, bytes: &[u8]) -> Result<Box<Manifest<Audience>>, Error> {
     let manifest = Manifest::from_slice_with_metadata(alloc, bytes)?;
     Ok(Box::new(alloc, manifest)?)
@@ -73,12 +73,14 @@ fn faults_of_writing(rt: HostRuntime) -> Result<(), Fail> {
     Ok(())
 }
 
-// The key `a` stands among the dependencies of tests, and before those in the build dependencies of a platform.
+// The key `a` stands among the dependencies of tests, and before those in the build
+// dependencies of a platform.
 #[test]
 fn first_dependencies(rt: HostRuntime) -> Result<(), Fail> {
     let alloc = rt.alloc();
-    let text =
-        b"[features]\nf = [\"a/x\"]\n[dev-dependencies]\na = \"1\"\n[target.'cfg(unix)'.build-dependencies]\na = { version = \"2\", optional = true }\n";
+    let text = b"[features]\nf = [\"a/x\"]\n\
+        [dev-dependencies]\na = \"1\"\n\
+        [target.'cfg(unix)'.build-dependencies]\na = { version = \"2\", optional = true }\n";
     assert_eq!(rt; kind_from(alloc, text, "a")?, Some(Kind::Build));
     assert_eq!(rt; kind_from(alloc, text, "x")?, None);
     let manifest = manifest(alloc, text)?;

@@ -1,5 +1,6 @@
 -- What the table of a feature says beside what the feature enables.
-use Rattle.std.specs.Prelude.{ℕ, List, Bool, true, ◌&&◌, Option, None, is_none, option_map, string_bytes}
+use Rattle.std.specs.Prelude.{ℕ, List, Bool, true, ◌&&◌, Option, None}
+use Rattle.std.specs.Prelude.{is_none, option_map, string_bytes}
 use Rattle.cargo_toml_dependencies.specs.declared.target.FeatureDetail.{FeatureDetail}
 
 -- whether users of the package are meant to name the feature, and what is said of it

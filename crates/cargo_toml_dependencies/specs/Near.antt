@@ -8,4 +8,5 @@ use Rattle.cargo_toml_dependencies.specs.Inheriting.{Entries, entry_at}
 
 -- each of these is the one of its key among the entries
 abbrev pub AreEntriesOf : Entries → List (String Global × Dependency) → Type 0
-AreEntriesOf entries some = AllByRecursion (λ e. entry_at (string_bytes e.0) entries ≡ Some (dependency_meaning e.1)) some
+AreEntriesOf entries some =
+    AllByRecursion (λ e. entry_at (string_bytes e.0) entries ≡ Some (dependency_meaning e.1)) some

@@ -9,11 +9,13 @@ use Rattle.cargo_toml_dependencies.specs.declared.dependency.Dependency.{Depende
 use Rattle.cargo_toml_dependencies.specs.declared.inheriting.blocks.Waiting.{Waiting}
 use Rattle.cargo_toml_dependencies.specs.declared.inheriting.targets.NewTarget.{NewTarget}
 use Rattle.cargo_toml_dependencies.specs.declared.target.Target.{Target}
-use Rattle.cargo_toml_dependencies.specs.Dependencies.{DependencyMeaning, dependency_meaning, inherited}
+use Rattle.cargo_toml_dependencies.specs.Dependencies.{DependencyMeaning}
+use Rattle.cargo_toml_dependencies.specs.Dependencies.{dependency_meaning, inherited}
 use Rattle.cargo_toml_dependencies.specs.Inheriting.{Entries}
 use Rattle.cargo_toml_dependencies.specs.Targets.{TargetMeaning, target_meaning}
 
--- what the dependencies of a map hold, those of blocks one after the other, and the targets of a map
+-- what the dependencies of a map hold, those of blocks one after the other, and
+-- the targets of a map
 abbrev pub entries_meaning : BTreeMap (String Global) Dependency → Entries
 entries_meaning m = map_meaning dependency_meaning m
 
@@ -25,7 +27,9 @@ made_meaning made = blocks_meaning made.items
 
 -- those that wait for their place
 abbrev pub waiting_meaning : Waiting → List DependencyMeaning
-waiting_meaning waiting = map dependency_meaning (into_iter_items waiting.block) ++ blocks_meaning (into_iter_items waiting.blocks)
+waiting_meaning waiting =
+    map dependency_meaning (into_iter_items waiting.block)
+    ++ blocks_meaning (into_iter_items waiting.blocks)
 
 abbrev pub targets_meaning : BTreeMap (String Global) Target → List (List ℕ × TargetMeaning)
 targets_meaning m = map_meaning target_meaning m
@@ -59,6 +63,7 @@ next_target t [] = t
 next_target t (new ∷ made) = replaced_target t new
 
 -- the same for targets, one for each
-abbrev pub replaced_targets : List (List ℕ × TargetMeaning) → List NewTarget → List (List ℕ × TargetMeaning)
+abbrev pub replaced_targets : List (List ℕ × TargetMeaning) → List NewTarget
+    → List (List ℕ × TargetMeaning)
 replaced_targets [] made = []
 replaced_targets (t ∷ ts) made = (t.0, next_target t.1 made) ∷ replaced_targets ts (drop 1 made)

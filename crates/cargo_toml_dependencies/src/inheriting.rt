@@ -1,14 +1,17 @@
 //! Filling in the dependencies that are left to the workspace.
 //!
-//! It goes in two steps, so that a refusal leaves everything as it was: first the new dependencies are made beside the old
-//! ones, then they are put in their places, which takes no memory and is never refused.
+//! It goes in two steps, so that a refusal leaves everything as it was: first the new
+//! dependencies are made beside the old ones, then they are put in their places, which takes no
+//! memory and is never refused.
 ghost use Rattle.std.specs.Prelude.{◌≡◌, [], IfSome, Some, option_map};
 ghost use Rattle.std.specs.Option.{option_copied};
 ghost use Rattle.cargo_toml_parts.specs.Answers.{Gives};
 ghost use Rattle.cargo_toml_dependencies.specs.Dependencies.{dependency_meaning};
-ghost use Rattle.cargo_toml_dependencies.specs.Inheriting.{Entries, any_left, entry_at, inherited_entries};
+ghost use Rattle.cargo_toml_dependencies.specs.Inheriting.{Entries, any_left, entry_at};
+ghost use Rattle.cargo_toml_dependencies.specs.Inheriting.{inherited_entries};
 ghost use Rattle.cargo_toml_dependencies.specs.Near.{AreEntriesOf};
-ghost use Rattle.cargo_toml_dependencies.specs.Replacing.{entries_meaning, made_meaning, next_for, replaced, rest_for, waiting_meaning};
+ghost use Rattle.cargo_toml_dependencies.specs.Replacing.{entries_meaning, made_meaning, next_for};
+ghost use Rattle.cargo_toml_dependencies.specs.Replacing.{replaced, rest_for, waiting_meaning};
 
 mod blocks;
 mod entry;
@@ -25,14 +28,16 @@ pub use targets::{NewTarget, any_target_inherits, replace_targets, target_replac
 /// What inherited dependencies become, in the order of their keys, in blocks one after the other.
 pub type Made = Vec<Vec<Dependency>>;
 
-// How many of the workspace's dependencies are looked at in their order before one of a key is searched for.
+// How many of the workspace's dependencies are looked at in their order before one of a
+// key is searched for.
 const NEAR: usize = 3;
 
 // The dependency of the key, if it is among the next few.
 fn near_at<'a>(near: &mut Iter<'a, String, Dependency>, key: &str) -> Option<&'a Dependency>
     ensures found { (entries : Entries) → AreEntriesOf entries near.old
         → IfSome result (λ d. entry_at key.now entries ≡ Some (dependency_meaning d.now)) }
-    ensures near { (entries : Entries) → AreEntriesOf entries near.old → AreEntriesOf entries near.new }
+    ensures near { (entries : Entries) → AreEntriesOf entries near.old
+        → AreEntriesOf entries near.new }
 {
     for _ in 0..NEAR {
         let (at, dependency) = near.next()?;
@@ -43,8 +48,8 @@ fn near_at<'a>(near: &mut Iter<'a, String, Dependency>, key: &str) -> Option<&'a
     None
 }
 
-// The workspace's dependencies, to be gone through beside the member's; those of `none`, where so few of them are taken that
-// the next one seldom is among the next few.
+// The workspace's dependencies, to be gone through beside the member's; those of `none`, where so
+// few of them are taken that the next one seldom is among the next few.
 fn near_of<'a>(
     templates: &'a DepsSet,
     none: &'a DepsSet,
@@ -59,16 +64,18 @@ fn near_of<'a>(
     }
 }
 
-// The workspace's dependency of a key. Both tables are gone through in the order of their keys, so it mostly is among the next
-// few of the workspace's.
+// The workspace's dependency of a key. Both tables are gone through in the order of their keys, so
+// it mostly is among the next few of the workspace's.
 fn template_at<'a>(
     templates: &'a DepsSet,
     near: &mut Iter<'a, String, Dependency>,
     key: &str,
 ) -> Option<&'a Dependency>
     ensures found { AreEntriesOf (entries_meaning templates.now) near.old
-        → option_map dependency_meaning (option_copied result) ≡ entry_at key.now (entries_meaning templates.now) }
-    ensures near { (entries : Entries) → AreEntriesOf entries near.old → AreEntriesOf entries near.new }
+        → option_map dependency_meaning (option_copied result)
+        ≡ entry_at key.now (entries_meaning templates.now) }
+    ensures near { (entries : Entries) → AreEntriesOf entries near.old
+        → AreEntriesOf entries near.new }
 {
     match near_at(near, key) {
         Some(template) => Some(template),
@@ -76,7 +83,8 @@ fn template_at<'a>(
     }
 }
 
-// Room for what the inherited dependencies become: for all of them, or for none where none is inherited.
+// Room for what the inherited dependencies become: for all of them, or for none where
+// none is inherited.
 fn room_for(dependencies: &DepsSet) -> usize {
     if any_inherited(dependencies) {
         dependencies.len()
@@ -93,7 +101,8 @@ fn made_by(
     dependencies: &DepsSet,
 ) -> Result<Made, Error>
     ensures { Gives (λ made. replaced (entries_meaning dependencies.now) (made_meaning made)) result
-        (inherited_entries (Some (entries_meaning templates.now)) base.now (entries_meaning dependencies.now)) }
+        (inherited_entries (Some (entries_meaning templates.now)) base.now
+        (entries_meaning dependencies.now)) }
 {
     let none = DepsSet::new(alloc);
     let mut near = near_of(templates, &none, dependencies);
@@ -114,11 +123,13 @@ fn made_by(
     Ok(blocks::all(full, block)?)
 }
 
-/// What the inherited dependencies become by those of the workspace, `templates`, in the order of their keys. `base` is the
-/// workspace's folder as seen from the member: paths are joined to it. Hand the answer to `replace`.
+/// What the inherited dependencies become by those of the workspace, `templates`, in the order of
+/// their keys. `base` is the workspace's folder as seen from the member: paths are joined to it.
+/// Hand the answer to `replace`.
 ///
-/// The first fault in the order of the keys counts: `WorkspaceIntegrity` where the workspace lacks the key, and
-/// `InheritedUnknownValue` where its own dependency of that key is inherited. Refused by `Memory` where there was none.
+/// The first fault in the order of the keys counts: `WorkspaceIntegrity` where the workspace lacks
+/// the key, and `InheritedUnknownValue` where its own dependency of that key is inherited. Refused
+/// by `Memory` where there was none.
 pub fn replacements(
     alloc: Global,
     templates: Option<&DepsSet>,
@@ -149,10 +160,12 @@ fn put_next(dependency: &mut Dependency, waiting: &mut Waiting)
     }
 }
 
-/// Puts what was made in the place of the inherited dependencies, in the order of their keys. Other dependencies are left as
-/// they are, and so are inherited ones for which nothing was made. It takes no memory.
+/// Puts what was made in the place of the inherited dependencies, in the order of their keys.
+/// Other dependencies are left as they are, and so are inherited ones for which nothing was made.
+/// It takes no memory.
 pub fn replace(dependencies: &mut DepsSet, made: Made)
-    ensures { entries_meaning dependencies.new ≡ replaced (entries_meaning dependencies.old) (made_meaning made) }
+    ensures { entries_meaning dependencies.new
+        ≡ replaced (entries_meaning dependencies.old) (made_meaning made) }
 {
     let mut waiting = blocks::all_waiting(made);
     dependencies.retain(|_, dependency| {

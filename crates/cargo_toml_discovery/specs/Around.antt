@@ -3,7 +3,8 @@ use Rattle.std.specs.Prelude.{Bool, true, false, List, [], ◌∷◌, codes, if�
 use Rattle.cargo_toml_discovery.specs.declared.listings.Wanted.{Wanted}
 use Rattle.cargo_toml_discovery.specs.Found.{Named}
 use Rattle.cargo_toml_discovery.specs.Names.{Text, has_text, in_dir, is_source}
-use Rattle.cargo_toml_discovery.specs.Seen.{Seen, seen, seen_as, pair, and_then, names_at, root_names}
+use Rattle.cargo_toml_discovery.specs.Seen.{Seen, seen, seen_as, pair}
+use Rattle.cargo_toml_discovery.specs.Seen.{and_then, names_at, root_names}
 use Rattle.cargo_toml_discovery.specs.Told.{Told}
 
 -- a name, and whether `main.rs` is among the names in its folder
@@ -18,7 +19,8 @@ named_at told dir n =
 
 abbrev pub each_named : (Text → Told) → Text → List Text → Seen (List Named)
 each_named told dir [] = seen []
-each_named told dir (n ∷ ns) = seen_as (λ e. e.0 ∷ e.1) (pair (named_at told dir n) (each_named told dir ns))
+each_named told dir (n ∷ ns) =
+    seen_as (λ e. e.0 ∷ e.1) (pair (named_at told dir n) (each_named told dir ns))
 
 -- what a folder of products holds, if it is wanted
 abbrev pub entries_at : (Text → Told) → Bool → Text → Seen (List Named)
@@ -34,7 +36,8 @@ pub record Around : Type 0 where
   pub tests : List Named
   pub benches : List Named
 
-abbrev pub make_around : (List Text × List Text) × ((List Named × List Named) × (List Named × List Named)) → Around
+abbrev pub make_around :
+    (List Text × List Text) × ((List Named × List Named) × (List Named × List Named)) → Around
 make_around a = record {
   root = a.0.0;
   src = a.0.1;
@@ -46,8 +49,11 @@ make_around a = record {
 
 -- what is seen around a package whose lists of these kinds are wanted
 abbrev pub around : (Text → Told) → Wanted → Seen Around
-around told wanted = seen_as make_around (pair
+around told wanted =
+    seen_as make_around (pair
     (pair (root_names (told [])) (names_at (told (codes "src"))))
     (pair
-    (pair (entries_at told wanted.bins (codes "src/bin")) (entries_at told wanted.examples (codes "examples")))
-    (pair (entries_at told wanted.tests (codes "tests")) (entries_at told wanted.benches (codes "benches")))))
+    (pair (entries_at told wanted.bins (codes "src/bin"))
+    (entries_at told wanted.examples (codes "examples")))
+    (pair (entries_at told wanted.tests (codes "tests"))
+    (entries_at told wanted.benches (codes "benches")))))

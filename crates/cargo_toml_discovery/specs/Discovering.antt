@@ -1,5 +1,6 @@
 -- What discovery makes of what a manifest states.
-use Rattle.std.specs.Prelude.{Bool, true, false, List, [], ◌∷◌, ◌&&◌, map, Option, Some, None, option_map, if◌then◌else◌, codes, unwrap_or}
+use Rattle.std.specs.Prelude.{Bool, true, false, List, [], ◌∷◌, ◌&&◌, map, Option}
+use Rattle.std.specs.Prelude.{Some, None, option_map, if◌then◌else◌, codes, unwrap_or}
 use Rattle.std.specs.Option.{option_copied}
 use denote.Ref.{Bor}
 use Rattle.cargo_toml_settings.specs.Settings.{File, flag, path, file_meaning}
@@ -30,8 +31,8 @@ abbrev pub or_plain_library : List Text → List Text
 or_plain_library [] = codes "lib" ∷ []
 or_plain_library types = types
 
--- the library with what it does not state: the name and the edition of the package, and the crate type `lib`; it
--- requires no feature
+-- the library with what it does not state: the name and the edition of the package, and the crate
+-- type `lib`; it requires no feature
 abbrev pub filled_library : Text → Edition → ProductMeaning → ProductMeaning
 filled_library name edition p = record p {
   name = Some (unwrap_or p.name (underscored name));
@@ -41,7 +42,8 @@ filled_library name edition p = record p {
 }
 
 abbrev pub library : Text → Edition → Bool → Bool → Option ProductMeaning → Option ProductMeaning
-library name edition is_there made lib = option_map (filled_library name edition) (found_library is_there made lib)
+library name edition is_there made lib =
+    option_map (filled_library name edition) (found_library is_there made lib)
 
 abbrev pub main_of : Text → Offered
 main_of name = record { file = codes "main.rs"; name = name; path = codes "src/main.rs" }
@@ -52,7 +54,8 @@ main_offer name false ps = None
 main_offer name true ps = still_open (is_path_of ps) (Some (main_of name))
 
 -- a list of products: as it is found in its folder where that is wanted, and else only put in order
-abbrev pub list_of : Edition → Bool → Text → List ProductMeaning → List Named → Option Offered → List ProductMeaning
+abbrev pub list_of : Edition → Bool → Text → List ProductMeaning → List Named → Option Offered
+    → List ProductMeaning
 list_of edition false dir ps es extra = in_order ps
 list_of edition true dir ps es extra = found edition dir ps es extra
 
@@ -65,7 +68,8 @@ may_build (Some (path p)) = false
 -- the build script, where these names stand beside the manifest
 abbrev pub build_in : List Text → Option File → Option File
 build_in root build =
-    if may_build build && has_text root (codes "build.rs") then Some (path (codes "build.rs")) else build
+    if may_build build && has_text root (codes "build.rs") then Some (path (codes "build.rs"))
+    else build
 
 -- the first of the names that is there
 abbrev pub first_in : List Text → List Text → File → File

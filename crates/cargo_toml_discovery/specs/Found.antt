@@ -1,5 +1,6 @@
 -- What is found in a folder of products.
-use Rattle.std.specs.Prelude.{Bool, true, false, not, ◌&&◌, List, [], ◌∷◌, ◌++◌, map, filter, Option, Some, None, is_some, if◌then◌else◌, codes}
+use Rattle.std.specs.Prelude.{Bool, true, false, not, ◌&&◌, List, [], ◌∷◌, ◌++◌, map}
+use Rattle.std.specs.Prelude.{filter, Option, Some, None, is_some, if◌then◌else◌, codes}
 use Rattle.std.specs.List.{list_any, filter_map}
 use Rattle.std.specs.Option.{option_or}
 use Rattle.std.specs.Ordering.{nat_cmp, is_lt}
@@ -24,8 +25,10 @@ pub record Offered : Type 0 where
 -- a source offers itself, under its name without `.rs`; another name its `main.rs`, if it holds one
 abbrev pub offer_of : Text → Named → Option Offered
 offer_of dir e =
-    if is_source e.name then Some (record { file = e.name; name = stem e.name; path = in_dir dir e.name })
-    else if e.has_main then Some (record { file = e.name; name = e.name; path = in_dir dir e.name ++ codes "/main.rs" })
+    if is_source e.name then
+    Some (record { file = e.name; name = stem e.name; path = in_dir dir e.name })
+    else if e.has_main then
+    Some (record { file = e.name; name = e.name; path = in_dir dir e.name ++ codes "/main.rs" })
     else None
 
 -- there is a text, and it is this one
@@ -83,7 +86,8 @@ plain = record {
 }
 
 abbrev pub new_product : Edition → Offered → ProductMeaning
-new_product edition o = record plain { name = Some o.name; path = Some o.path; edition = Some edition }
+new_product edition o =
+    record plain { name = Some o.name; path = Some o.path; edition = Some edition }
 
 -- the product of an offer: the one that takes it, with that path, or else a new one
 abbrev pub product_for : Edition → Offered → Option ProductMeaning → ProductMeaning
@@ -113,15 +117,20 @@ named os n = list_any (λ q. bytes_eq q.name n) os
 abbrev pub late_taker : List ProductMeaning → List Offered → Offered → Option ProductMeaning
 late_taker ps os o = if named os o.name then None else last_waiting ps o.name
 
-abbrev pub last_product : Edition → List ProductMeaning → List Offered → Option Offered → List ProductMeaning
+abbrev pub last_product : Edition → List ProductMeaning → List Offered → Option Offered
+    → List ProductMeaning
 last_product edition ps os None = []
 last_product edition ps os (Some o) = product_for edition o (late_taker ps os o) ∷ []
 
 -- the products that stay, and one for each offer
-abbrev pub all_found : Edition → List ProductMeaning → List Offered → Option Offered → List ProductMeaning
+abbrev pub all_found : Edition → List ProductMeaning → List Offered → Option Offered
+    → List ProductMeaning
 all_found edition ps os extra =
     filter has_path ps ++ (map (product_among edition ps os) os ++ last_product edition ps os extra)
 
--- the products of a folder, in order: those that have a path, and one for each offer of the folder and of one beside it
-abbrev pub found : Edition → Text → List ProductMeaning → List Named → Option Offered → List ProductMeaning
-found edition dir ps es extra = in_order (all_found edition ps (offers dir (is_path_of ps) es) extra)
+-- the products of a folder, in order: those that have a path, and one for each offer of the folder
+-- and of one beside it
+abbrev pub found : Edition → Text → List ProductMeaning → List Named → Option Offered
+    → List ProductMeaning
+found edition dir ps es extra =
+    in_order (all_found edition ps (offers dir (is_path_of ps) es) extra)

@@ -1,10 +1,13 @@
--- How names are gathered that discovery needs: what is kept is what was told, and all that is needed is kept.
-use Rattle.std.specs.Prelude.{◌≡◌, Bool, true, false, List, [], ◌∷◌, Some, is_some, codes, String, Result, MatchResult, ◌⊎◌}
+-- How names are gathered that discovery needs: what is kept is what was told, and all that
+-- is needed is kept.
+use Rattle.std.specs.Prelude.{◌≡◌, Bool, true, false, List, [], ◌∷◌, Some}
+use Rattle.std.specs.Prelude.{is_some, codes, String, Result, MatchResult, ◌⊎◌}
 use Rattle.std.specs.BTreeSet.{BTreeSet}
 use Rattle.std.specs.declared.alloc.Global.{Global}
 use Rattle.cargo_toml_parts.specs.declared.error.Error.{Error}
 use Rattle.cargo_toml_parts.specs.FaultValues.{Fault}
-use Rattle.cargo_toml_discovery.specs.Answers.{Answers, answer_at, names_in, below, filled, filled_by, texts_in}
+use Rattle.cargo_toml_discovery.specs.Answers.{Answers, answer_at, names_in}
+use Rattle.cargo_toml_discovery.specs.Answers.{below, filled, filled_by, texts_in}
 use Rattle.cargo_toml_discovery.specs.Names.{Text}
 use Rattle.cargo_toml_discovery.specs.Seen.{seen, names_at, root_names, MayTell, Tells}
 use Rattle.cargo_toml_discovery.specs.Told.{Told}
@@ -39,13 +42,15 @@ HasProducts true dir ans = Has ans dir × HasEach ans (below dir (names_in ans d
 abbrev pub HasRoot : (Text → Told) → Answers → Type 0
 HasRoot told ans = root_names (filled told ans []) ≡ seen (names_in ans [])
 
--- every path is kept that a package asks for whose lists of these kinds are wanted, but for its own folder
+-- every path is kept that a package asks for whose lists of these kinds are wanted, but
+-- for its own folder
 abbrev pub HasAll : Wanted → Answers → Type 0
 HasAll wanted ans =
     Has ans (codes "src")
     × (HasProducts wanted.bins (codes "src/bin") ans
     × (HasProducts wanted.examples (codes "examples") ans
-    × (HasProducts wanted.tests (codes "tests") ans × HasProducts wanted.benches (codes "benches") ans)))
+    × (HasProducts wanted.tests (codes "tests") ans
+    × HasProducts wanted.benches (codes "benches") ans)))
 
 -- the fault may be told at one of these
 abbrev pub MayTellOneOf : (Text → Told) → List Text → Fault → Type 0
@@ -59,4 +64,5 @@ Listed t r = MatchResult r (λ s. IsAnswer t (texts_in s)) (λ e. Tells (names_a
 -- the same for the folder of the package, which must be there
 abbrev pub RootListed : Told → Result (BTreeSet (String Global)) Error → Type 0
 RootListed t r =
-    MatchResult r (λ s. root_names (filled_by t (Some (texts_in s))) ≡ seen (texts_in s)) (λ e. Tells (root_names t) e)
+    MatchResult r (λ s. root_names (filled_by t (Some (texts_in s))) ≡ seen (texts_in s))
+    (λ e. Tells (root_names t) e)

@@ -1,5 +1,6 @@
 -- Names of files and folders, and what they say.
-use Rattle.std.specs.Prelude.{ℕ, Bool, List, [], ◌∷◌, ◌++◌, ◌-◌, length, take, zero, suc, codes, nat_eq, not, map, if◌then◌else◌}
+use Rattle.std.specs.Prelude.{ℕ, Bool, List, [], ◌∷◌, ◌++◌, ◌-◌, length, take}
+use Rattle.std.specs.Prelude.{zero, suc, codes, nat_eq, not, map, if◌then◌else◌}
 use Rattle.std.specs.List.{ends_with, list_any}
 use Rattle.std.specs.Ordering.{nat_cmp, match_ordering}
 use Rattle.std.specs.Cmp.Lexicographic.{slice_cmp}
@@ -42,7 +43,8 @@ with_endings (suc n) name = with_endings n name ++ codes ".rs"
 -- a text put among texts in byte order, each of which stands there once
 abbrev pub put_in : Text → List Text → List Text
 put_in text [] = text ∷ []
-put_in text (t ∷ ts) = match_ordering (slice_cmp nat_cmp text t) (text ∷ t ∷ ts) (t ∷ ts) (t ∷ put_in text ts)
+put_in text (t ∷ ts) =
+    match_ordering (slice_cmp nat_cmp text t) (text ∷ t ∷ ts) (t ∷ ts) (t ∷ put_in text ts)
 
 -- texts in byte order, each once
 abbrev pub ordered : List Text → List Text

@@ -1,5 +1,7 @@
--- How the code finds products: a walk over the offers. It gives what `Found` says, so nothing here has to be believed.
-use Rattle.std.specs.Prelude.{◌≡◌, Bool, List, [], ◌∷◌, ◌++◌, option_to_list, Option, None, option_map, if◌then◌else◌, string_bytes, map, filter, Vec}
+-- How the code finds products: a walk over the offers. It gives what `Found` says, so nothing here
+-- has to be believed.
+use Rattle.std.specs.Prelude.{◌≡◌, Bool, List, [], ◌∷◌, ◌++◌, option_to_list, Option, None}
+use Rattle.std.specs.Prelude.{option_map, if◌then◌else◌, string_bytes, map, filter, Vec}
 use Rattle.std.specs.BTreeMap.{BTreeMap, get_by}
 use Rattle.std.specs.BTreeSet.{BTreeSet, contains_by}
 use Rattle.std.specs.Cmp.Lexicographic.{slice_cmp}
@@ -13,7 +15,8 @@ use Rattle.cargo_toml_tables.specs.Products.{ProductMeaning, product_meaning}
 use Rattle.cargo_toml_tables.specs.declared.product.Product.{Product}
 use Rattle.cargo_toml_discovery.specs.declared.found.Offer as code_offer
 use Rattle.cargo_toml_discovery.specs.declared.listings.Entry as code_entry
-use Rattle.cargo_toml_discovery.specs.Found.{Named, Offered, product_for, has_path, is_path_of, last_waiting, offers}
+use Rattle.cargo_toml_discovery.specs.Found.{Named, Offered, product_for, has_path}
+use Rattle.cargo_toml_discovery.specs.Found.{is_path_of, last_waiting, offers}
 use Rattle.cargo_toml_discovery.specs.Names.{Text}
 
 abbrev pub named_of : code_entry.Entry → Named
@@ -52,7 +55,8 @@ abbrev pub walk : Edition → (Text → Option ProductMeaning) → List Offered 
 walk edition w [] = []
 walk edition w (o ∷ os) = product_for edition o (w o.name) ∷ walk edition (without w o.name) os
 
--- the products that are placed, and those of the offers that are left, where these products still wait
+-- the products that are placed, and those of the offers that are left, where these
+-- products still wait
 abbrev pub walked : Edition → Vec Product Global → Waiting → List Offered → List ProductMeaning
 walked edition list still os = map product_meaning list.items ++ walk edition (waiting_in still) os
 
@@ -60,9 +64,11 @@ abbrev pub with_extra : List Offered → Option Offered → List Offered
 with_extra os extra = os ++ option_to_list extra
 
 -- the products that stay, and those of the walk over all offers
-abbrev pub all_walked : Edition → Text → List ProductMeaning → List Named → Option Offered → List ProductMeaning
+abbrev pub all_walked : Edition → Text → List ProductMeaning → List Named → Option Offered
+    → List ProductMeaning
 all_walked edition dir ps es extra =
-    filter has_path ps ++ walk edition (last_waiting ps) (with_extra (offers dir (is_path_of ps) es) extra)
+    filter has_path ps
+    ++ walk edition (last_waiting ps) (with_extra (offers dir (is_path_of ps) es) extra)
 
 -- each name stands after this one in byte order, and names ascend
 abbrev pub NamesAfter : Text → List Named → Type 0

@@ -2,7 +2,11 @@
 ghost use Rattle.std.specs.Prelude.{◌≡◌, [], List, Option, None, IfOk, IsTrue, map, codes, is_some};
 ghost use Rattle.std.specs.Option.{option_map, option_copied};
 ghost use Rattle.cargo_toml_discovery.specs.Answers.{answers_of, around_in, entries_if, names_kept};
-ghost use Rattle.cargo_toml_discovery.specs.Discovering.{at_library, build_in, discovered, discovered_meaning, filled_library, file_lent, found_library, library, list_of, main_offer, meanings, product_lent, readme_in, stated_meaning};
+ghost use Rattle.cargo_toml_discovery.specs.Discovering.{at_library, build_in, discovered};
+ghost use Rattle.cargo_toml_discovery.specs.Discovering.{discovered_meaning, filled_library};
+ghost use Rattle.cargo_toml_discovery.specs.Discovering.{file_lent, found_library, library};
+ghost use Rattle.cargo_toml_discovery.specs.Discovering.{list_of, main_offer, meanings};
+ghost use Rattle.cargo_toml_discovery.specs.Discovering.{product_lent, readme_in, stated_meaning};
 ghost use Rattle.cargo_toml_discovery.specs.Found.{Offered};
 ghost use Rattle.cargo_toml_discovery.specs.Names.{has_text};
 ghost use Rattle.cargo_toml_discovery.specs.Walk.{IsOffer};
@@ -110,7 +114,8 @@ fn filled_library(
     edition: Edition,
     library: Product,
 ) -> Result<Product, AllocError>
-    ensures { IfOk result (λ p. product_meaning p ≡ filled_library name.now edition (product_meaning library)) }
+    ensures { IfOk result
+        (λ p. product_meaning p ≡ filled_library name.now edition (product_meaning library)) }
 {
     let mut library = library;
     if library.name.is_none() {
@@ -126,10 +131,11 @@ fn filled_library(
     Ok(library)
 }
 
-/// The library of a package of this name and edition: the one that is stated, with the path `src/lib.rs` where it has
-/// none and that file is there, or one that is made there where `autolib` says so. It has the name of the package
-/// with each `-` as `_`, its edition and the crate type `lib` where it states none, and no required features. It is
-/// refused only where there was no memory.
+/// The library of a package of this name and edition: the one that is stated, with the path
+/// `src/lib.rs` where it has none and that file is there, or one that is made there where
+/// `autolib` says so. It has the name of the package with each `-` as `_`, its edition and the
+/// crate type `lib` where it states none, and no required features. It is refused only where
+/// there was no memory.
 pub fn library(
     alloc: Global,
     name: &str,
@@ -139,8 +145,8 @@ pub fn library(
     listings: &Listings,
 ) -> Result<Option<Product>, AllocError>
     ensures { IfOk result (λ l. option_map product_meaning l
-        ≡ library name.now edition (has_text (names_kept listings.now (codes "src")) (codes "lib.rs")) autolib
-        (product_lent stated.entry)) }
+        ≡ library name.now edition (has_text (names_kept listings.now (codes "src"))
+        (codes "lib.rs")) autolib (product_lent stated.entry)) }
 {
     match found_library(alloc, listings.has("src", "lib.rs"), autolib, stated)? {
         Some(library) => Ok(Some(filled_library(alloc, name, edition, library)?)),
@@ -166,8 +172,9 @@ fn main_offer(
     Ok(None)
 }
 
-/// A list of products in order of name and path: where `is_wanted`, as it is found in the folder `dir` and by the offer
-/// `extra`, and otherwise just those that are stated. It is refused only where there was no memory.
+/// A list of products in order of name and path: where `is_wanted`, as it is found in the folder
+/// `dir` and by the offer `extra`, and otherwise just those that are stated. It is refused only
+/// where there was no memory.
 pub fn list_of(
     alloc: Global,
     edition: Edition,
@@ -200,8 +207,9 @@ fn copied_file(alloc: Global, file: &OptionalFile) -> Result<OptionalFile, Alloc
     }
 }
 
-/// The build script: the path `build.rs` where none is stated or just that there is one, and that file stands beside
-/// the manifest; otherwise what is stated. It is refused only where there was no memory.
+/// The build script: the path `build.rs` where none is stated or just that there is one, and
+/// that file stands beside the manifest; otherwise what is stated. It is refused only where
+/// there was no memory.
 pub fn build(
     alloc: Global,
     stated: Option<&OptionalFile>,
@@ -221,15 +229,16 @@ pub fn build(
     }
 }
 
-/// The readme: where just that there is one is stated, the first of `README.md`, `README.txt` and `README` that
-/// stands beside the manifest; otherwise, or where none does, what is stated. It is refused only where there was no
-/// memory.
+/// The readme: where just that there is one is stated, the first of `README.md`, `README.txt` and
+/// `README` that stands beside the manifest; otherwise, or where none does, what is stated. It is
+/// refused only where there was no memory.
 pub fn readme(
     alloc: Global,
     stated: &OptionalFile,
     listings: &Listings,
 ) -> Result<OptionalFile, AllocError>
-    ensures { IfOk result (λ r. file_meaning r ≡ readme_in (names_kept listings.now []) (file_meaning stated.now)) }
+    ensures { IfOk result
+        (λ r. file_meaning r ≡ readme_in (names_kept listings.now []) (file_meaning stated.now)) }
 {
     let OptionalFile::Flag(true) = stated else {
         return copied_file(alloc, stated);
@@ -246,15 +255,16 @@ pub fn readme(
     Ok(OptionalFile::Path(String::from_str(alloc, name)?))
 }
 
-/// What discovery makes of what a manifest states, by the names that were told of the folders around it. It is
-/// refused only where there was no memory.
+/// What discovery makes of what a manifest states, by the names that were told of the folders
+/// around it. It is refused only where there was no memory.
 pub fn discover(
     alloc: Global,
     stated: &Stated<'_>,
     listings: &Listings,
 ) -> Result<Discovered, AllocError>
     ensures { IfOk result (λ d. discovered_meaning d
-        ≡ discovered (stated_meaning stated.now) (around_in (answers_of listings.now) stated.now.wanted)) }
+        ≡ discovered (stated_meaning stated.now)
+        (around_in (answers_of listings.now) stated.now.wanted)) }
 {
     let name = stated.name;
     let edition = stated.edition;

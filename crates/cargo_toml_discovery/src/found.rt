@@ -1,13 +1,18 @@
 //! Products that are found in a folder.
-ghost use Rattle.std.specs.Prelude.{◌≡◌, ◌++◌, ◌∷◌, ◌||◌, List, map, filter, Option, OnOk, IfOk, IsTrue, string_bytes};
+ghost use Rattle.std.specs.Prelude.{◌≡◌, ◌++◌, ◌∷◌, ◌||◌, List, map, filter};
+ghost use Rattle.std.specs.Prelude.{Option, OnOk, IfOk, IsTrue, string_bytes};
 ghost use Rattle.std.specs.List.{cons_option};
 ghost use Rattle.std.specs.Option.{option_map, option_copied};
 ghost use Rattle.std.specs.Str.{bytes_eq};
 ghost use Rattle.cargo_toml_discovery.specs.Discovering.{meanings, product_lent};
-ghost use Rattle.cargo_toml_discovery.specs.Found.{offer_of, Offered, has_path, is_path_of, is_text, last_waiting, waits_or, product_for, open_offer, offers, found};
+ghost use Rattle.cargo_toml_discovery.specs.Found.{offer_of, Offered, has_path, is_path_of};
+ghost use Rattle.cargo_toml_discovery.specs.Found.{is_text, last_waiting, waits_or};
+ghost use Rattle.cargo_toml_discovery.specs.Found.{product_for, open_offer, offers, found};
 ghost use Rattle.cargo_toml_discovery.specs.Names.{Text};
 ghost use Rattle.cargo_toml_discovery.specs.Sorting.{in_order};
-ghost use Rattle.cargo_toml_discovery.specs.Walk.{named_of, all_named, offer_parts, parts_of_code, waiting_in, is_path_in, walked, all_walked, IsOffer, NamesAscend};
+ghost use Rattle.cargo_toml_discovery.specs.Walk.{named_of, all_named, offer_parts};
+ghost use Rattle.cargo_toml_discovery.specs.Walk.{parts_of_code, waiting_in, is_path_in};
+ghost use Rattle.cargo_toml_discovery.specs.Walk.{walked, all_walked, IsOffer, NamesAscend};
 ghost use Rattle.cargo_toml_tables.specs.Products.{ProductMeaning, product_meaning};
 
 use crate::listings::Entry;
@@ -51,8 +56,8 @@ fn offer_for(alloc: Global, dir: &str, entry: &Entry<'_>) -> Result<Option<Offer
 
 // Puts the path of a product into a set of paths, if it has one.
 fn add_path<'a>(paths: &mut BTreeSet<&'a str>, product: &'a Product) -> Result<(), AllocError>
-    ensures ok { OnOk result ((t : Text) →
-        is_path_in paths.new t ≡ (is_path_in paths.old t || is_text t (product_meaning product.now).path)) }
+    ensures ok { OnOk result ((t : Text) → is_path_in paths.new t
+        ≡ (is_path_in paths.old t || is_text t (product_meaning product.now).path)) }
 {
     if let Some(path) = &product.path {
         paths.insert(path.as_str())?;
@@ -62,7 +67,8 @@ fn add_path<'a>(paths: &mut BTreeSet<&'a str>, product: &'a Product) -> Result<(
 
 // The paths of the products.
 fn paths_of<'a>(alloc: Global, products: &'a [Product]) -> Result<BTreeSet<&'a str>, AllocError>
-    ensures { IfOk result (λ s. (t : Text) → is_path_in s t ≡ is_path_of (meanings products.now) t) }
+    ensures { IfOk result
+        (λ s. (t : Text) → is_path_in s t ≡ is_path_of (meanings products.now) t) }
 {
     let mut paths = BTreeSet::new(alloc);
     for product in products {
@@ -89,8 +95,8 @@ fn wait<'a>(
     map: &mut BTreeMap<&'a str, &'a Product>,
     product: &'a Product,
 ) -> Result<(), AllocError>
-    ensures ok { OnOk result ((n : Text) →
-        waiting_in map.new n ≡ waits_or (product_meaning product.now) n (waiting_in map.old n)) }
+    ensures ok { OnOk result ((n : Text)
+        → waiting_in map.new n ≡ waits_or (product_meaning product.now) n (waiting_in map.old n)) }
 {
     if product.path.is_none() {
         if let Some(name) = &product.name {
@@ -105,7 +111,8 @@ fn waiting<'a>(
     alloc: Global,
     products: &'a [Product],
 ) -> Result<BTreeMap<&'a str, &'a Product>, AllocError>
-    ensures { IfOk result (λ m. (n : Text) → waiting_in m n ≡ last_waiting (meanings products.now) n) }
+    ensures { IfOk result
+        (λ m. (n : Text) → waiting_in m n ≡ last_waiting (meanings products.now) n) }
 {
     let mut map = BTreeMap::new(alloc);
     for product in products {
@@ -121,8 +128,8 @@ fn product_for(
     offer: Offer,
     waiting: Option<&Product>,
 ) -> Result<Product, AllocError>
-    ensures { IfOk result (λ p. (o : Offered) → offer_parts o ≡ parts_of_code offer →
-        product_meaning p ≡ product_for edition o (product_lent waiting.entry)) }
+    ensures { IfOk result (λ p. (o : Offered) → offer_parts o ≡ parts_of_code offer
+        → product_meaning p ≡ product_for edition o (product_lent waiting.entry)) }
 {
     match waiting {
         Some(product) => {
@@ -147,7 +154,8 @@ fn open_offer(
     paths: &BTreeSet<&str>,
     entry: &Entry<'_>,
 ) -> Result<Option<Offer>, AllocError>
-    ensures { IfOk result (IsOffer (open_offer dir.now (is_path_in paths.now) (named_of entry.now))) }
+    ensures { IfOk result
+        (IsOffer (open_offer dir.now (is_path_in paths.now) (named_of entry.now))) }
 {
     match offer_for(alloc, dir, entry)? {
         Some(offer) => {
@@ -169,8 +177,9 @@ fn place<'a>(
     list: &mut Vec<Product>,
     still: &mut BTreeMap<&'a str, &'a Product>,
 ) -> Result<(), AllocError>
-    ensures ok { OnOk result ((o : Offered) (os : List Offered) → offer_parts o ≡ parts_of_code offer →
-        walked edition list.new still.new os ≡ walked edition list.old still.old (o ∷ os)) }
+    ensures ok { OnOk result
+        ((o : Offered) (os : List Offered) → offer_parts o ≡ parts_of_code offer
+        → walked edition list.new still.new os ≡ walked edition list.old still.old (o ∷ os)) }
 {
     let waiting = still.remove(offer.name.as_str());
     list.push(product_for(alloc, edition, offer, waiting)?)?;
@@ -185,8 +194,9 @@ fn place_if_there<'a>(
     list: &mut Vec<Product>,
     still: &mut BTreeMap<&'a str, &'a Product>,
 ) -> Result<(), AllocError>
-    ensures ok { OnOk result ((o : Option Offered) (os : List Offered) → IsOffer o offer →
-        walked edition list.new still.new os ≡ walked edition list.old still.old (cons_option o os)) }
+    ensures ok { OnOk result ((o : Option Offered) (os : List Offered) → IsOffer o offer
+        → walked edition list.new still.new os
+        ≡ walked edition list.old still.old (cons_option o os)) }
 {
     if let Some(offer) = offer {
         place(alloc, edition, offer, list, still)?;
@@ -224,7 +234,8 @@ fn place_all<'a>(
     still: &mut BTreeMap<&'a str, &'a Product>,
 ) -> Result<(), AllocError>
     ensures ok { OnOk result ((os : List Offered) → walked edition list.new still.new os
-        ≡ walked edition list.old still.old (offers dir.now (is_path_in paths.now) (all_named entries.now) ++ os)) }
+        ≡ walked edition list.old still.old
+        (offers dir.now (is_path_in paths.now) (all_named entries.now) ++ os)) }
 {
     for entry in entries {
         place_one(alloc, edition, dir, paths, entry, list, still)?;
@@ -241,8 +252,8 @@ fn placed(
     entries: &[Entry<'_>],
     extra: Option<Offer>,
 ) -> Result<Vec<Product>, AllocError>
-    ensures { IfOk result (λ v. (x : Option Offered) → IsOffer x extra →
-        meanings v.items ≡ all_walked edition dir.now (meanings products.now) (all_named entries.now) x) }
+    ensures { IfOk result (λ v. (x : Option Offered) → IsOffer x extra → meanings v.items
+        ≡ all_walked edition dir.now (meanings products.now) (all_named entries.now) x) }
 {
     let paths = paths_of(alloc, products)?;
     let mut list = staying(alloc, products)?;
@@ -261,19 +272,19 @@ fn found_by_walk(
     entries: &[Entry<'_>],
     extra: Option<Offer>,
 ) -> Result<Vec<Product>, AllocError>
-    ensures { IfOk result (λ v. (x : Option Offered) → IsOffer x extra →
-        meanings v.items ≡ in_order (all_walked edition dir.now (meanings products.now) (all_named entries.now) x)) }
+    ensures { IfOk result (λ v. (x : Option Offered) → IsOffer x extra → meanings v.items
+        ≡ in_order (all_walked edition dir.now (meanings products.now) (all_named entries.now) x)) }
 {
     let mut list = placed(alloc, edition, dir, products, entries, extra)?;
     sort_products(&mut list)?;
     Ok(list)
 }
 
-/// The products of a folder whose names are these, each once and in byte order: those of `products` that have a path,
-/// one for each offer of the folder whose path none of them has, and one for `extra`, which counts as the last offer.
-/// An offer goes to the last product that has its name and no path, unless an offer before it has that name too, and
-/// else to a new product of this edition. All are in order of name and path. It is refused only where there was no
-/// memory.
+/// The products of a folder whose names are these, each once and in byte order: those of `products`
+/// that have a path, one for each offer of the folder whose path none of them has, and one for
+/// `extra`, which counts as the last offer. An offer goes to the last product that has its name and
+/// no path, unless an offer before it has that name too, and else to a new product of this edition.
+/// All are in order of name and path. It is refused only where there was no memory.
 pub fn found(
     alloc: Global,
     edition: Edition,
@@ -283,8 +294,8 @@ pub fn found(
     extra: Option<Offer>,
 ) -> Result<Vec<Product>, AllocError>
     requires { NamesAscend (all_named entries.now) }
-    ensures { IfOk result (λ v. (x : Option Offered) → IsOffer x extra →
-        meanings v.items ≡ found edition dir.now (meanings products.now) (all_named entries.now) x) }
+    ensures { IfOk result (λ v. (x : Option Offered) → IsOffer x extra → meanings v.items
+        ≡ found edition dir.now (meanings products.now) (all_named entries.now) x) }
 {
     found_by_walk(alloc, edition, dir, products, entries, extra)
 }

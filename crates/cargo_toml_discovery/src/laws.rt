@@ -14,20 +14,24 @@ ghost use Rattle.cargo_toml_tables.specs.Products.{ProductMeaning};
 
 // Discovery of what was discovered, with the same names around the package, changes nothing.
 fn discovering_again()
-    ensures { (s : StatedMeaning) (a : Around) → discovered (restated s (discovered s a)) a ≡ discovered s a }
+    ensures { (s : StatedMeaning) (a : Around) → discovered (restated s (discovered s a)) a
+        ≡ discovered s a }
 {}
 
-// Where open paths have answers, what is seen around a package stays as it was, unless it was unclear.
+// Where open paths have answers, what is seen around a package stays as it was,
+// unless it was unclear.
 fn answers_extend()
-    ensures { (told : Text → Told) (answers : Answers) (wanted : Wanted) →
-        (around told wanted ≡ unclear) ⊎ (around (filled told answers) wanted ≡ around told wanted) }
+    ensures { (told : Text → Told) (answers : Answers) (wanted : Wanted)
+        → (around told wanted ≡ unclear)
+        ⊎ (around (filled told answers) wanted ≡ around told wanted) }
 {}
 
-// Where answers fit what is told and are there for each path that is asked for, what is seen around a package is what
-// they say.
+// Where answers fit what is told and are there for each path that is asked for, what is seen around
+// a package is what they say.
 fn answers_tell()
-    ensures { (told : Text → Told) (answers : Answers) (wanted : Wanted) → Fits told answers → HasRoot told answers →
-        HasAll wanted answers → around (filled told answers) wanted ≡ seen (around_in answers wanted) }
+    ensures { (told : Text → Told) (answers : Answers) (wanted : Wanted) → Fits told answers
+        → HasRoot told answers → HasAll wanted answers
+        → around (filled told answers) wanted ≡ seen (around_in answers wanted) }
 {}
 
 // What is in order ascends by name and path, and products that tie stand in their old order.

@@ -5,7 +5,8 @@ ghost use Rattle.std.specs.HashSet.{contains_text as has_in};
 ghost use Rattle.std.specs.Option.{option_map, option_copied};
 ghost use Rattle.std.specs.Str.{bytes_eq};
 ghost use Rattle.std.specs.String.{string_cmp};
-ghost use Rattle.cargo_toml_discovery.specs.Answers.{answers_of, answer_at, texts_in, names_kept, below, entries_in};
+ghost use Rattle.cargo_toml_discovery.specs.Answers.{answers_of, answer_at, texts_in};
+ghost use Rattle.cargo_toml_discovery.specs.Answers.{names_kept, below, entries_in};
 ghost use Rattle.cargo_toml_discovery.specs.Names.{Text, has_text};
 ghost use Rattle.cargo_toml_discovery.specs.Walk.{all_named, NamesAscend};
 
@@ -47,7 +48,8 @@ pub fn sorted_names(alloc: Global, names: HashSet<String>) -> Result<BTreeSet<St
     ensures names { IfOk result (λ s. (t : Text) → contains_text s t ≡ has_in names t) }
     ensures ordered { IfOk result (λ s. IsOrdered string_cmp s) }
 {
-    // All at once: the names are moved, sorted and then built into the set, and none is searched for its place.
+    // All at once: the names are moved, sorted and then built into the set, and none is
+    // searched for its place.
     BTreeSet::from_iter(alloc, names)
 }
 
@@ -63,7 +65,8 @@ impl Listings {
 
     /// The names in a folder, `None` where it was not asked for.
     pub fn names_at(&self, path: &str) -> Option<&BTreeSet<String>>
-        ensures { option_map texts_in (option_copied result) ≡ answer_at (answers_of self.now) path.now }
+        ensures { option_map texts_in (option_copied result)
+            ≡ answer_at (answers_of self.now) path.now }
     {
         self.names.get(path)
     }
@@ -78,8 +81,8 @@ impl Listings {
         }
     }
 
-    /// Keeps the names in a folder, in place of those that were kept of it. It is refused only where there was no
-    /// memory.
+    /// Keeps the names in a folder, in place of those that were kept of it. It is refused only
+    /// where there was no memory.
     pub fn keep(
         &mut self,
         alloc: Global,
@@ -87,15 +90,18 @@ impl Listings {
         names: BTreeSet<String>,
     ) -> Result<(), AllocError>
         ensures ok { OnOk result ((p : Text) → answer_at (answers_of self.new) p
-            ≡ (if bytes_eq path.now p then Some (texts_in names) else answer_at (answers_of self.old) p)) }
+            ≡ (if bytes_eq path.now p then Some (texts_in names)
+            else answer_at (answers_of self.old) p)) }
     {
         self.names.insert(String::from_str(alloc, path)?, names)?;
         Ok(())
     }
 
-    /// The paths of the folders in a folder that may hold `main.rs`: those of the names that are no sources.
+    /// The paths of the folders in a folder that may hold `main.rs`: those of the names
+    /// that are no sources.
     pub fn folders_in(&self, alloc: Global, dir: &str) -> Result<Vec<String>, AllocError>
-        ensures { IfOk result (λ v. map string_bytes v.items ≡ below dir.now (names_kept self.now dir.now)) }
+        ensures { IfOk result
+            (λ v. map string_bytes v.items ≡ below dir.now (names_kept self.now dir.now)) }
     {
         let mut paths = Vec::new(alloc);
         if let Some(names) = self.names_at(dir) {
@@ -110,7 +116,8 @@ impl Listings {
 
     /// What a folder of products holds, by name in byte order; nothing where it was not asked for.
     pub fn entries<'a>(&'a self, alloc: Global, dir: &str) -> Result<Vec<Entry<'a>>, AllocError>
-        ensures names { IfOk result (λ v. all_named v.items ≡ entries_in (answers_of self.now) dir.now) }
+        ensures names { IfOk result
+            (λ v. all_named v.items ≡ entries_in (answers_of self.now) dir.now) }
         ensures ascend { IfOk result (λ v. NamesAscend (all_named v.items)) }
     {
         let Some(names) = self.names_at(dir) else {

@@ -1,6 +1,7 @@
 //! Names of files and folders.
 ghost use Rattle.std.specs.Prelude.{◌≡◌, IfOk, IsTrue, string_bytes};
-ghost use Rattle.cargo_toml_discovery.specs.Names.{in_dir, is_source, stem, underscored, without_ending};
+ghost use Rattle.cargo_toml_discovery.specs.Names.{in_dir, is_source, stem};
+ghost use Rattle.cargo_toml_discovery.specs.Names.{underscored, without_ending};
 
 use std::alloc::{AllocError, Global};
 

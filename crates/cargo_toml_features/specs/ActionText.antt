@@ -14,4 +14,6 @@ action_in t = record {
 
 -- an action on a dependency, or else a feature's name
 abbrev pub item_in : ActionText → Item
-item_in t = if t.is_dep_only || is_some t.dep_feature then On t.target.now (action_in t) else Name t.target.now
+item_in t =
+    if t.is_dep_only || is_some t.dep_feature then On t.target.now (action_in t)
+    else Name t.target.now

@@ -14,7 +14,8 @@ SameTests _ _ = ⊥
 pub record Agree (a b : Answer) : Type 0 where
   pub features : SameKept a.resolution b.resolution
   pub keys : (f k l : Text) → a.key f ≡ Some k → b.key f ≡ Some l → k ≡ l
-  pub explicit : (f : Text) → IsTrue (a.resolution.table.has f) → (a.marks f).explicit ≡ (b.marks f).explicit
+  pub explicit : (f : Text) → IsTrue (a.resolution.table.has f)
+      → (a.marks f).explicit ≡ (b.marks f).explicit
   pub dependencies : (k : Text) → SameRecorded (a.dependencies k) (b.dependencies k)
   pub redirects : (r : Text) → SameTests (a.redirects r) (b.redirects r)
   pub removed_some : a.removed_some ≡ b.removed_some

@@ -14,11 +14,13 @@ use Rattle.cargo_toml_features.specs.Recorded.{Entry}
 module _ (limit : ℕ) where
   -- the first entries of one table, by key in byte order
   abbrev pub first_entries : Kind → Option Text → Entries → List Entry
-  first_entries kind target table = map (λ e. record { key = e.0; target = (kind, target); dependency = e.1 }) (take limit table)
+  first_entries kind target table =
+      map (λ e. record { key = e.0; target = (kind, target); dependency = e.1 }) (take limit table)
 
   -- the normal and the build dependencies of a target, or of no target in particular
   abbrev pub built_entries : Option Text → TargetMeaning → List Entry
-  built_entries target t = first_entries Normal target t.dependencies ++ first_entries Build target t.build_dependencies
+  built_entries target t =
+      first_entries Normal target t.dependencies ++ first_entries Build target t.build_dependencies
 
   abbrev pub dev_entries : Option Text → TargetMeaning → List Entry
   dev_entries target t = first_entries Dev target t.dev_dependencies

@@ -1,5 +1,7 @@
--- What is told of a feature beside what it does: its marks. Resolving takes them from where the feature is listed.
-use Rattle.std.specs.Prelude.{Bool, if◌then◌else◌, List, map, Option, Some, None, bytes_eq, is_some, unwrap_or}
+-- What is told of a feature beside what it does: its marks. Resolving takes them from where the
+-- feature is listed.
+use Rattle.std.specs.Prelude.{Bool, if◌then◌else◌, List, map, Option}
+use Rattle.std.specs.Prelude.{Some, None, bytes_eq, is_some, unwrap_or}
 use Rattle.std.specs.Option.{option_copied}
 use Rattle.std.specs.Borrow.{Bor}
 use Rattle.std.specs.Map.{lookup}
@@ -32,9 +34,11 @@ detail_at details f = unwrap_or (lookup (bytes_eq f) details) plain_detail
 
 -- what is said of f where it is listed; nothing of another, whatever entry it has
 abbrev pub detail_listed : Listed → Details → Text → Detail
-detail_listed listed details f = if is_some (lookup (bytes_eq f) listed) then detail_at details f else plain_detail
+detail_listed listed details f =
+    if is_some (lookup (bytes_eq f) listed) then detail_at details f else plain_detail
 
--- the marks of f: of a feature that isn't listed, an added `default` or an implied one, nothing is said
+-- the marks of f: of a feature that isn't listed, an added `default` or an implied
+-- one, nothing is said
 abbrev pub marks_in : Listed → Details → Text → Marks
 marks_in listed details f = marked (is_explicit listed f) (detail_listed listed details f)
 

@@ -1,5 +1,6 @@
 -- What recursive enabling asks of a map of features, and what the maps that it answers hold.
-use Rattle.std.specs.Prelude.{◌≡◌, ◌≢◌, ◌⊎◌, ◌↔◌, IsTrue, List, [], Some, IfSome, IsSome, Vec, is_some, map}
+use Rattle.std.specs.Prelude.{◌≡◌, ◌≢◌, ◌⊎◌, ◌↔◌, IsTrue, List, []}
+use Rattle.std.specs.Prelude.{Some, IfSome, IsSome, Vec, is_some, map}
 use Rattle.std.specs.List.{IsAmong}
 use Rattle.std.specs.Option.{option_map_or}
 use Rattle.std.specs.Borrow.{Bor}
@@ -37,7 +38,8 @@ Lists S = HashMap (Bor Text) (Vec (Bor Text × Bor DepAction) Global) S
 
 -- the pairs under a key; none where the key isn't there
 abbrev pub pairs_at : {S : Type 0} → Lists S → Text → List (Text × Action)
-pairs_at m k = map (λ p. (p.0.now, action_of p.1.now)) (option_map_or (λ v. v.items) (value_at m k) [])
+pairs_at m k =
+    map (λ p. (p.0.now, action_of p.1.now)) (option_map_or (λ v. v.items) (value_at m k) [])
 
 abbrev pub HaveNoEmpty : {S : Type 0} → Lists S → Type 0
 HaveNoEmpty m = (k : Text) → IfSome (value_at m k) (λ v. v.items ≢ [])

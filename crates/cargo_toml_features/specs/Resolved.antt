@@ -1,11 +1,13 @@
 -- From what a manifest lists to the table of features, and the whole answer.
-use Rattle.std.specs.Prelude.{◌≡◌, ◌↔◌, Bool, false, if◌then◌else◌, ◌&&◌, ◌||◌, List, is_some, option_map, IsTrue, Option, Some, None, bytes_eq, IfSome}
+use Rattle.std.specs.Prelude.{◌≡◌, ◌↔◌, Bool, false, if◌then◌else◌, ◌&&◌, ◌||◌, List, is_some}
+use Rattle.std.specs.Prelude.{option_map, IsTrue, Option, Some, None, bytes_eq, IfSome}
 use Rattle.cargo_toml_graph.specs.Action.{Text, Action}
 use Rattle.cargo_toml_graph.specs.Admitted.{Listed, is_explicit, is_below, names, joined_action}
 use Rattle.cargo_toml_graph.specs.Bins.{ArePassedOn, HasBins}
 use Rattle.cargo_toml_graph.specs.Graph.{Table, Resolution, IsResolved}
 use Rattle.cargo_toml_features.specs.Marks.{Details, Marks, marks_in}
-use Rattle.cargo_toml_features.specs.Recorded.{Entry, Recorded, Target, is_implied, entries_at, recorded_of, first_target, without_redundant}
+use Rattle.cargo_toml_features.specs.Recorded.{Entry, Recorded, Target, is_implied, entries_at}
+use Rattle.cargo_toml_features.specs.Recorded.{recorded_of, first_target, without_redundant}
 use Rattle.cargo_toml_graph.specs.Redirects.{RedirectsTo}
 use Rattle.cargo_toml_graph.specs.Removal.{is_removed}
 
@@ -19,17 +21,21 @@ module _ (listed : Listed) (entries : List Entry) where
   joined_table = record {
     has = λ f. is_explicit listed f || is_implied listed entries f;
     names = λ f x. names listed f x;
-    action = λ f k. if is_explicit listed f then joined_action listed f k else if is_implied listed entries f && bytes_eq k f then Some plain else None;
+    action =
+        λ f k. if is_explicit listed f then joined_action listed f k
+        else if is_implied listed entries f && bytes_eq k f then Some plain else None;
   }
 
   -- the table that the removal starts from
   abbrev pub table_of : Table
   table_of = record joined_table {
-    action = λ f k. option_map (without_redundant (first_target (entries_at listed entries k))) (joined_table.action f k);
+    action =
+        λ f k. option_map (without_redundant (first_target (entries_at listed entries k)))
+        (joined_table.action f k);
   }
 
--- what a resolution answers: under each name its feature, the key that it tells and its marks, under each key its dependency,
--- under each removed name its redirect
+-- what a resolution answers: under each name its feature, the key that it tells and its marks,
+-- under each key its dependency, under each removed name its redirect
 pub record Answer : Type 0 where
   pub resolution : Resolution
   pub key : Text → Option Text
@@ -42,23 +48,38 @@ pub record Answer : Type 0 where
 -- both or neither are recorded, with one crate's name and the same dependency for each target
 abbrev pub SameRecorded : Option Recorded → Option Recorded → Type 0
 SameRecorded None None = Unit {0}
-SameRecorded (Some a) (Some b) = (a.crate_name ≡ b.crate_name) × ((t : Target) → a.targets t ≡ b.targets t)
+SameRecorded (Some a) (Some b) =
+    (a.crate_name ≡ b.crate_name) × ((t : Target) → a.targets t ≡ b.targets t)
 SameRecorded _ _ = ⊥
 
--- the listed features and the entries are resolved, with the features taken out that the filter doesn't keep: which features
--- are left, under their own keys and with their marks, and the recorded dependencies
-pub record IsKeptAnswer (listed : Listed) (entries : List Entry) (details : Details) (keep : Text → Bool) (a : Answer) : Type 0 where
-  pub resolved : IsResolved (table_of listed entries) (λ f. IsTrue (is_removed (table_of listed entries) keep f)) a.resolution
+-- the listed features and the entries are resolved, with the features taken out that the filter
+-- doesn't keep: which features are left, under their own keys and with their marks, and the
+-- recorded dependencies
+pub record IsKeptAnswer (listed : Listed) (entries : List Entry) (details : Details)
+    (keep : Text → Bool) (a : Answer) : Type 0 where
+  pub resolved : IsResolved (table_of listed entries)
+      (λ f. IsTrue (is_removed (table_of listed entries) keep f)) a.resolution
   pub keyed : (f : Text) → IfSome (a.key f) (λ k. k ≡ f)
   pub marks : (f : Text) → IsTrue (a.resolution.table.has f) → a.marks f ≡ marks_in listed details f
-  pub dependencies : (k : Text) → SameRecorded (a.dependencies k) (recorded_of (entries_at listed entries k))
-  pub some : IsTrue a.removed_some ↔ ((r : Text) × IsTrue (is_removed (table_of listed entries) keep r))
+  pub dependencies : (k : Text) → SameRecorded (a.dependencies k)
+      (recorded_of (entries_at listed entries k))
+  pub some : IsTrue a.removed_some
+      ↔ ((r : Text) × IsTrue (is_removed (table_of listed entries) keep r))
 
--- and so are the binaries that require features, of which own are the binaries' own mentions: by paths, and as they are passed on
--- in byte order; and what stands for each feature that is taken out
-pub record IsAnswer (listed : Listed) (entries : List Entry) (details : Details) (own : Text → List Text) (keep : Text → Bool) (a : Answer) : Type 0 where
+-- and so are the binaries that require features, of which own are the binaries' own
+-- mentions: by paths, and as they are passed on in byte order; and what stands for each
+-- feature that is taken out
+pub record IsAnswer (listed : Listed) (entries : List Entry) (details : Details)
+    (own : Text → List Text) (keep : Text → Bool) (a : Answer) : Type 0 where
   pub kept : IsKeptAnswer listed entries details keep a
-  pub bins : (f : Text) → IsTrue (a.resolution.table.has f) → HasBins (table_of listed entries) (λ r. IsTrue (is_removed (table_of listed entries) keep r)) own f (a.bins f)
-  pub passed_on : ArePassedOn (table_of listed entries) (λ r. IsTrue (is_removed (table_of listed entries) keep r)) own a.bins
-  pub redirected : (r : Text) → is_some (a.redirects r) ≡ is_removed (table_of listed entries) keep r
-  pub redirects : (r : Text) → IfSome (a.redirects r) (λ names. (x : Text) → IsTrue (names x) ↔ RedirectsTo (table_of listed entries) (λ s. IsTrue (is_removed (table_of listed entries) keep s)) (λ s b. IsTrue (is_below s b)) r x)
+  pub bins : (f : Text) → IsTrue (a.resolution.table.has f)
+      → HasBins (table_of listed entries)
+      (λ r. IsTrue (is_removed (table_of listed entries) keep r)) own f (a.bins f)
+  pub passed_on : ArePassedOn (table_of listed entries)
+      (λ r. IsTrue (is_removed (table_of listed entries) keep r)) own a.bins
+  pub redirected : (r : Text) → is_some (a.redirects r)
+      ≡ is_removed (table_of listed entries) keep r
+  pub redirects : (r : Text) → IfSome (a.redirects r) (λ names. (x : Text) → IsTrue (names x)
+      ↔ RedirectsTo (table_of listed entries)
+      (λ s. IsTrue (is_removed (table_of listed entries) keep s))
+      (λ s b. IsTrue (is_below s b)) r x)

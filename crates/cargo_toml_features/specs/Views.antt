@@ -1,5 +1,6 @@
 -- What the maps of a resolution hold, by the bytes of their keys, and what a manifest lists.
-use Rattle.std.specs.Prelude.{Bool, false, List, [], Option, None, bytes_eq, is_some, option_map, map, string_bytes, String, Vec}
+use Rattle.std.specs.Prelude.{Bool, false, List, [], Option, None, bytes_eq}
+use Rattle.std.specs.Prelude.{is_some, option_map, map, string_bytes, String, Vec}
 use Rattle.std.specs.Option.{option_map_or, option_copied}
 use Rattle.std.specs.Borrow.{Bor}
 use Rattle.std.specs.declared.alloc.Global.{Global}
@@ -36,7 +37,11 @@ abbrev pub value_at : {X S : Type 0} → HashMap (Bor Text) X S → Text → Opt
 value_at m f = hash.get_by (λ k. bytes_eq f k.now) m
 
 abbrev pub action_of : DepAction → Action
-action_of a = record { is_conditional = a.is_conditional; is_dep_only = a.is_dep_only; features = has_text a.dep_features }
+action_of a = record {
+  is_conditional = a.is_conditional;
+  is_dep_only = a.is_dep_only;
+  features = has_text a.dep_features;
+}
 
 abbrev pub action_at : BTreeMap (Bor Text) DepAction → Text → Option Action
 action_at m k = option_map action_of (tree.get_by (λ q. slice_cmp nat_cmp k q.now) m)
@@ -61,7 +66,9 @@ target_of k = (k.kind, option_copied k.target)
 abbrev pub recorded_in : FeatureDependency → Recorded
 recorded_in d = record {
   crate_name = d.crate_name.now;
-  targets = λ t. option_map (λ x. dependency_meaning x.now) (tree.get_by (λ k. target_cmp t (target_of k)) d.targets);
+  targets =
+      λ t. option_map (λ x. dependency_meaning x.now)
+      (tree.get_by (λ k. target_cmp t (target_of k)) d.targets);
 }
 
 -- the whole answer
@@ -70,7 +77,9 @@ answer_of a = record {
   resolution = resolution_of a.features;
   key = λ f. option_map (λ v. v.key.now) (value_at a.features f);
   marks = λ f. option_map_or marks_of (value_at a.features f) (marked false plain_detail);
-  bins = λ f. option_map_or (λ v. map (λ t. t.now) v.required_by_bins.items) (value_at a.features f) [];
+  bins =
+      λ f. option_map_or (λ v. map (λ t. t.now) v.required_by_bins.items)
+      (value_at a.features f) [];
   dependencies = λ k. option_map recorded_in (value_at a.dependencies k);
   redirects = λ r. option_map has_text (value_at a.hidden_features r);
   removed_some = a.removed_hidden_features;
@@ -86,4 +95,8 @@ listed_of ls = map (λ l. (l.name.now, map string_bytes l.actions.now)) ls
 
 -- an entry that a caller hands in
 abbrev pub entry_of : ParseDependency → Entry
-entry_of e = record { key = e.key.now; target = (e.kind, option_copied e.target); dependency = dependency_meaning e.dep.now }
+entry_of e = record {
+  key = e.key.now;
+  target = (e.kind, option_copied e.target);
+  dependency = dependency_meaning e.dep.now;
+}

@@ -1,7 +1,9 @@
 //! One text of a feature's list, and what it does to a dependency.
-ghost use Rattle.std.specs.Prelude.{◌≡◌, ◌||◌, if◌then◌else◌, nat_eq, codes, bytes_eq, is_some, Some, None, IfSome, OnOk};
+ghost use Rattle.std.specs.Prelude.{◌≡◌, ◌||◌, if◌then◌else◌, nat_eq, codes};
+ghost use Rattle.std.specs.Prelude.{bytes_eq, is_some, Some, None, IfSome, OnOk};
 ghost use Rattle.std.specs.List.{starts_with, ends_with, before_first, after_first, list_any};
-ghost use Rattle.cargo_toml_graph.specs.Action.{Text, join, join_option, without_start, without_end, is_slash, item_of};
+ghost use Rattle.cargo_toml_graph.specs.Action.{Text, join, join_option, without_start};
+ghost use Rattle.cargo_toml_graph.specs.Action.{without_end, is_slash, item_of};
 ghost use Rattle.cargo_toml_features.specs.ActionText.{action_in, item_in};
 ghost use Rattle.cargo_toml_features.specs.Views.{has_text, action_of, action_at};
 
@@ -11,8 +13,9 @@ use std::collections::{BTreeMap, BTreeSet};
 
 /// One text of a feature's list, taken apart.
 ///
-/// Cargo knows the forms `feature`, `dep:dependency`, `dependency/feature` and `dependency?/feature`. Other mixtures are read
-/// alike: what stands before the first slash loses one `dep:` and then one `?`.
+/// Cargo knows the forms `feature`, `dep:dependency`, `dependency/feature` and
+/// `dependency?/feature`. Other mixtures are read alike: what stands before the first slash loses
+/// one `dep:` and then one `?`.
 #[derive(Debug, Clone, Copy)]
 pub struct ActionText<'a> {
     /// The name of a feature, or the key of a dependency.
@@ -85,7 +88,8 @@ pub fn read_action(text: &str) -> ActionText<'_>
 
 /// Puts a text into a set. It fails only where memory runs out.
 pub fn add_text<'a>(set: &mut BTreeSet<&'a str>, text: &'a str) -> Result<(), AllocError>
-    ensures { OnOk result ((x : Text) → has_text set.new x ≡ (has_text set.old x || bytes_eq x text.now)) }
+    ensures { OnOk result ((x : Text) → has_text set.new x
+        ≡ (has_text set.old x || bytes_eq x text.now)) }
 {
     set.insert(text)?;
     Ok(())
@@ -94,7 +98,8 @@ pub fn add_text<'a>(set: &mut BTreeSet<&'a str>, text: &'a str) -> Result<(), Al
 impl<'a> DepAction<'a> {
     // Joins one more action on the same dependency.
     fn join(&mut self, action: ActionText<'a>) -> Result<(), AllocError>
-        ensures { OnOk result (action_of self.new ≡ join (action_of self.old) (action_in action.entry)) }
+        ensures { OnOk result (action_of self.new
+            ≡ join (action_of self.old) (action_in action.entry)) }
     {
         if let Some(feature) = action.dep_feature {
             add_text(&mut self.dep_features, feature)?;
@@ -105,8 +110,8 @@ impl<'a> DepAction<'a> {
     }
 }
 
-/// Joins an action into the one that its target has, if any: the two are conditional only where both are, and dep-only where
-/// one is. It fails only where memory runs out.
+/// Joins an action into the one that its target has, if any: the two are conditional only where
+/// both are, and dep-only where one is. It fails only where memory runs out.
 pub fn join_action<'a>(
     alloc: Global,
     deps: &mut BTreeMap<&'a str, DepAction<'a>>,

@@ -1,5 +1,6 @@
 //! Which features of a table count, in what order, and what is said of them.
-ghost use Rattle.std.specs.Prelude.{◌≡◌, ◌∷◌, ◌++◌, ◌||◌, [], IfOk, OnOk, if◌then◌else◌, bytes_eq, codes, length, map, nat_lt, string_bytes, take};
+ghost use Rattle.std.specs.Prelude.{◌≡◌, ◌∷◌, ◌++◌, ◌||◌, [], IfOk, OnOk, if◌then◌else◌};
+ghost use Rattle.std.specs.Prelude.{bytes_eq, codes, length, map, nat_lt, string_bytes, take};
 ghost use Rattle.cargo_toml_graph.specs.Action.{Text};
 ghost use Rattle.cargo_toml_graph.specs.Admitted.{Listed, admitted};
 ghost use Rattle.cargo_toml_graph.specs.Reach.{IsOnce};
@@ -14,14 +15,19 @@ use std::alloc::{AllocError, Global};
 use std::collections::{BTreeMap, HashMap};
 use std::hash::BuildHasher;
 
-/// How many names of a table of features count, how many actions of a feature, and how many keys of a table of dependencies.
+/// How many names of a table of features count, how many actions of a feature, and how many keys of
+/// a table of dependencies.
 pub const MAX_ITEMS: usize = 2048;
 
-/// A feature as a table lists it: its name and its actions, and what else is said of it, if anything.
+/// A feature as a table lists it: its name and its actions, and what else is said
+/// of it, if anything.
 #[derive(Debug, Clone, Copy)]
 pub struct Listing<'m> {
+    /// The name of the feature.
     pub name: &'m str,
+    /// The texts of its actions, in their order.
     pub actions: &'m [String],
+    /// What the table of details says of it; `None` where it says nothing.
     pub detail: Option<&'m FeatureDetail>,
 }
 
@@ -38,13 +44,16 @@ fn add_listing<'m>(
     limit: usize,
 ) -> Result<(), AllocError>
     ensures listed { OnOk result (listed_of listings.new.items
-        ≡ (if nat_lt (length listings.old.items) limit || bytes_eq listing.entry.name.now (codes "default")
+        ≡ (if nat_lt (length listings.old.items) limit
+        || bytes_eq listing.entry.name.now (codes "default")
         then listed_of listings.old.items
         ++ (listing.entry.name.now, take limit (map string_bytes listing.entry.actions.now)) ∷ []
         else listed_of listings.old.items)) }
     ensures details { OnOk result (details_of listings.new.items
-        ≡ (if nat_lt (length listings.old.items) limit || bytes_eq listing.entry.name.now (codes "default")
-        then details_of listings.old.items ++ (listing.entry.name.now, detail_in listing.entry.detail) ∷ []
+        ≡ (if nat_lt (length listings.old.items) limit
+        || bytes_eq listing.entry.name.now (codes "default")
+        then details_of listings.old.items
+        ++ (listing.entry.name.now, detail_in listing.entry.detail) ∷ []
         else details_of listings.old.items)) }
 {
     if listings.len() < limit || listing.name == "default" {
@@ -58,7 +67,8 @@ fn add_listing<'m>(
 fn listing_of<'m>(name: &'m str, actions: &'m [String], details: &'m FeatureDetails) -> Listing<'m>
     ensures name { result.name.now ≡ name.now }
     ensures actions { result.actions.now ≡ actions.now }
-    ensures detail { detail_in result.detail ≡ detail_at (map_meaning detail_of details.now) name.now }
+    ensures detail { detail_in result.detail
+        ≡ detail_at (map_meaning detail_of details.now) name.now }
 {
     Listing {
         name,
@@ -67,9 +77,9 @@ fn listing_of<'m>(name: &'m str, actions: &'m [String], details: &'m FeatureDeta
     }
 }
 
-/// Of a table's features those that are admitted: the first `limit` names in byte order and always `default`, each with its
-/// first `limit` actions, and with the detail of its name. They stand in the byte order of their names. It fails only where
-/// memory runs out.
+/// Of a table's features those that are admitted: the first `limit` names in byte order and always
+/// `default`, each with its first `limit` actions, and with the detail of its name. They stand in
+/// the byte order of their names. It fails only where memory runs out.
 pub fn listings<'m>(
     alloc: Global,
     table: &'m FeatureSet,
@@ -77,8 +87,8 @@ pub fn listings<'m>(
     limit: usize,
 ) -> Result<Vec<Listing<'m>>, AllocError>
     ensures all { IfOk result (λ v. listed_of v.items ≡ admitted limit (listed_in table.now)) }
-    ensures details { IfOk result (λ v.
-        details_of v.items ≡ details_listed (listed_of v.items) (map_meaning detail_of details.now)) }
+    ensures details { IfOk result (λ v. details_of v.items
+        ≡ details_listed (listed_of v.items) (map_meaning detail_of details.now)) }
     ensures once { IfOk result (λ v. IsOnce (map (λ l. l.name.now) v.items)) }
 {
     let mut listings = Vec::with_capacity(alloc, table.len().min(limit))?;
@@ -103,7 +113,8 @@ fn in_order<'m, S: BuildHasher>(
     Ok(sorted)
 }
 
-/// The same of a hashed table, whatever the order of its walk, without details. It fails only where memory runs out.
+/// The same of a hashed table, whatever the order of its walk, without details. It fails only
+/// where memory runs out.
 pub fn hashed_listings<'m, S: BuildHasher>(
     alloc: Global,
     table: &'m HashMap<String, Vec<String>, S>,
@@ -111,7 +122,8 @@ pub fn hashed_listings<'m, S: BuildHasher>(
 ) -> Result<Vec<Listing<'m>>, AllocError>
     ensures all { IfOk result (λ v. (listed : Listed) → IsListingOf table.now listed
         → listed_of v.items ≡ admitted limit listed) }
-    ensures details { IfOk result (λ v. details_of v.items ≡ details_listed (listed_of v.items) []) }
+    ensures details { IfOk result
+        (λ v. details_of v.items ≡ details_listed (listed_of v.items) []) }
     ensures once { IfOk result (λ v. IsOnce (map (λ l. l.name.now) v.items)) }
     ensures listed { IfOk result (λ _. (listed : Listed) × IsListingOf table.now listed) }
 {

@@ -5,7 +5,8 @@ ghost use Rattle.std.specs.Option.{option_copied};
 ghost use Rattle.cargo_toml_parts.specs.Reads.{map_meaning};
 ghost use Rattle.cargo_toml_dependencies.specs.Dependencies.{dependency_meaning};
 ghost use Rattle.cargo_toml_dependencies.specs.Targets.{target_meaning};
-ghost use Rattle.cargo_toml_features.specs.Entries.{built_entries, dev_entries, entries_of, first_entries, tables_meaning};
+ghost use Rattle.cargo_toml_features.specs.Entries.{built_entries, dev_entries, entries_of};
+ghost use Rattle.cargo_toml_features.specs.Entries.{first_entries, tables_meaning};
 ghost use Rattle.cargo_toml_features.specs.declared.features.Kind.TheVariants.{Normal, Build};
 ghost use Rattle.cargo_toml_features.specs.Views.{entry_of};
 
@@ -33,7 +34,8 @@ fn add_first<'m>(
     target: Option<&'m str>,
 ) -> Result<(), AllocError>
     ensures { OnOk result (map entry_of entries.new.items ≡ map entry_of entries.old.items
-        ++ first_entries limit kind (option_copied target.entry) (map_meaning dependency_meaning table.now)) }
+        ++ first_entries limit kind (option_copied target.entry)
+        (map_meaning dependency_meaning table.now)) }
 {
     for (key, dep) in table.iter().take(limit) {
         entries.push(ParseDependency {
@@ -55,8 +57,10 @@ fn add_built<'m>(
     target: Option<&'m str>,
 ) -> Result<(), AllocError>
     ensures { OnOk result (map entry_of entries.new.items ≡ map entry_of entries.old.items
-        ++ (first_entries limit Normal (option_copied target.entry) (map_meaning dependency_meaning normal.now)
-        ++ first_entries limit Build (option_copied target.entry) (map_meaning dependency_meaning build.now))) }
+        ++ (first_entries limit Normal
+        (option_copied target.entry) (map_meaning dependency_meaning normal.now)
+        ++ first_entries limit Build (option_copied target.entry)
+        (map_meaning dependency_meaning build.now))) }
 {
     add_first(entries, normal, limit, Kind::Normal, target)?;
     add_first(entries, build, limit, Kind::Build, target)
@@ -69,7 +73,8 @@ fn add_targets_built<'m>(
     limit: usize,
 ) -> Result<(), AllocError>
     ensures { OnOk result (map entry_of entries.new.items ≡ map entry_of entries.old.items
-        ++ flat_map (λ t. built_entries limit (Some t.0) t.1) (map_meaning target_meaning targets.now)) }
+        ++ flat_map (λ t. built_entries limit (Some t.0) t.1)
+        (map_meaning target_meaning targets.now)) }
 {
     for (name, target) in targets {
         add_built(
@@ -90,7 +95,8 @@ fn add_targets_dev<'m>(
     limit: usize,
 ) -> Result<(), AllocError>
     ensures { OnOk result (map entry_of entries.new.items ≡ map entry_of entries.old.items
-        ++ flat_map (λ t. dev_entries limit (Some t.0) t.1) (map_meaning target_meaning targets.now)) }
+        ++ flat_map (λ t. dev_entries limit (Some t.0) t.1)
+        (map_meaning target_meaning targets.now)) }
 {
     for (name, target) in targets {
         add_first(
@@ -116,8 +122,9 @@ fn room_of_targets(targets: &TargetDepsSet, limit: usize) -> usize {
     room
 }
 
-/// The entries of all tables in the order in which they count: normal and build dependencies, those of each target, dev
-/// dependencies, those of each target. Of each table the first `limit` count, by key in byte order.
+/// The entries of all tables in the order in which they count: normal and build dependencies, those
+/// of each target, dev dependencies, those of each target. Of each table the first `limit` count,
+/// by key in byte order.
 ///
 /// It fails only where memory runs out.
 pub fn entries_of<'m>(
@@ -126,7 +133,8 @@ pub fn entries_of<'m>(
     limit: usize,
 ) -> Result<Vec<ParseDependency<'m, 'm>>, AllocError>
     ensures { IfOk result (λ v. map entry_of v.items
-        ≡ entries_of limit (tables_meaning tables.entry) (map_meaning target_meaning tables.entry.target.now)) }
+        ≡ entries_of limit (tables_meaning tables.entry)
+        (map_meaning target_meaning tables.entry.target.now)) }
 {
     let Tables {
         dependencies,

@@ -33,8 +33,8 @@ pub struct Feature<'a> {
     pub required_by_bins: Vec<&'a str>,
     /// Whether the manifest lists the feature; `default` always counts as listed.
     pub explicit: bool,
-    /// Whether users of the package are meant to name the feature. It is false only where the manifest lists the feature and
-    /// says so.
+    /// Whether users of the package are meant to name the feature. It is false only where the
+    /// manifest lists the feature and says so.
     pub public: bool,
     /// What the manifest says of the feature, where it lists it.
     pub doc: Option<&'a str>,
@@ -63,6 +63,7 @@ pub struct FeatureDependency<'d> {
 /// Where a dependency stands; ordered by kind, then no target before a named one.
 #[derive(Debug, Copy, Clone, PartialEq, Eq, PartialOrd, Ord, Hash)]
 pub struct TargetKey<'a> {
+    /// Which of its tables it stands in.
     pub kind: Kind,
     /// The platform that the dependency's table is for, if any.
     pub target: Option<&'a str>,
@@ -73,9 +74,11 @@ pub struct TargetKey<'a> {
 pub struct ParseDependency<'a, 't> {
     /// The entry's key in its table.
     pub key: &'a str,
+    /// Which table the entry stands in.
     pub kind: Kind,
     /// The platform that the table is for, if any.
     pub target: Option<&'a str>,
+    /// The dependency that stands under the key.
     pub dep: &'t Dependency,
 }
 

@@ -6,7 +6,8 @@ ghost use Rattle.cargo_toml_features.specs.Agreement as agreement;
 ghost use Rattle.cargo_toml_features.specs.Marks.{Details};
 ghost use Rattle.cargo_toml_features.specs.Recorded.{Entry};
 ghost use Rattle.cargo_toml_features.specs.Resolved.{Answer, IsAnswer};
-ghost use Rattle.cargo_toml_features.specs.TargetLaws.{Agree, IsKindEquality, IsKindOrder, IsTargetEquality, IsTargetOrder};
+ghost use Rattle.cargo_toml_features.specs.TargetLaws.{Agree, IsKindEquality, IsKindOrder};
+ghost use Rattle.cargo_toml_features.specs.TargetLaws.{IsTargetEquality, IsTargetOrder};
 
 use crate::features::{Kind, TargetKey};
 
@@ -22,9 +23,11 @@ fn targets<'a>()
     ensures agree { Agree ⟦<TargetKey<'a> as Ord>⟧.cmp ⟦<TargetKey<'a> as PartialEq>⟧.eq }
 {}
 
-// What is listed, the entries and what is kept settle an answer, but for its binaries, what is public, and texts.
+// What is listed, the entries and what is kept settle an answer, but for its binaries, what is
+// public, and texts.
 fn answers()
-    ensures { (listed : Listed) (entries : List Entry) (details told : Details) (own others : Text → List Text)
-        (keep : Text → Bool) (a b : Answer) → IsAnswer listed entries details own keep a →
-        IsAnswer listed entries told others keep b → agreement.Agree a b }
+    ensures { (listed : Listed) (entries : List Entry) (details told : Details)
+        (own others : Text → List Text) (keep : Text → Bool) (a b : Answer)
+        → IsAnswer listed entries details own keep a → IsAnswer listed entries told others keep b
+        → agreement.Agree a b }
 {}

@@ -1,4 +1,5 @@
-//! The features of a manifest as types, what is asked of them, and what a manifest's tables list of them.
+//! The features of a manifest as types, what is asked of them, and what a manifest's
+//! tables list of them.
 //!
 //! `cargo_toml_resolve` resolves them; callers use both by `cargo_toml::features`.
 #![tactic(auto)]

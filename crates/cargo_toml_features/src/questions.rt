@@ -1,5 +1,7 @@
-//! What a feature tells of itself and of those that enable it, and a dependency of its first target.
-ghost use Rattle.std.specs.Prelude.{◌≡◌, ◌<◌, ◌⊎◌, ◌↔◌, IsTrue, IsFalse, List, Option, Some, nat_eq, codes};
+//! What a feature tells of itself and of those that enable it, and a dependency
+//! of its first target.
+ghost use Rattle.std.specs.Prelude.{◌≡◌, ◌<◌, ◌⊎◌, ◌↔◌, IsTrue, IsFalse};
+ghost use Rattle.std.specs.Prelude.{List, Option, Some, nat_eq, codes};
 ghost use Rattle.std.specs.Borrow.{Bor};
 ghost use Rattle.std.specs.List.{starts_with};
 ghost use Rattle.std.specs.List.Sorted.{IsStrictlySortedBy};
@@ -52,10 +54,11 @@ impl<'a> Feature<'a> {
         !self.enabled_by.is_empty()
     }
 
-    /// Whether users are meant to ask for this feature: it is public, its name doesn't begin with `_`, and the manifest lists
-    /// it or no other feature enables it.
+    /// Whether users are meant to ask for this feature: it is public, its name doesn't begin with
+    /// `_`, and the manifest lists it or no other feature enables it.
     pub fn is_user_facing(&self) -> bool
-        ensures { IsTrue result ↔ ((IsTrue self.now.explicit ⊎ (btree_set_len self.now.enabled_by ≡ 0))
+        ensures { IsTrue result
+            ↔ ((IsTrue self.now.explicit ⊎ (btree_set_len self.now.enabled_by ≡ 0))
             × IsFalse (starts_with nat_eq self.now.key.now (codes "_")) × IsTrue self.now.public) }
     {
         (self.explicit || !self.is_referenced()) && !self.key.starts_with('_') && self.public
@@ -73,14 +76,16 @@ impl<'a> Feature<'a> {
 }
 
 impl<'d> FeatureDependency<'d> {
-    /// The dependency of the first target: of those of the least kind the one for no platform, else the one for the first
-    /// platform in byte order.
+    /// The dependency of the first target: of those of the least kind the one for no platform, else
+    /// the one for the first platform in byte order.
     ///
     /// There must be a target, as each dependency that a resolver answers has one.
     pub fn dep(&self) -> &'d Dependency
         requires { HasTarget self.now }
-        ensures first { (t : Target) × IsFirst (recorded_in self.now) t (dependency_meaning result.now) }
-        ensures recorded { (es : List Entry) → SameRecorded (Some (recorded_in self.now)) (recorded_of es)
+        ensures first { (t : Target) × IsFirst (recorded_in self.now) t
+            (dependency_meaning result.now) }
+        ensures recorded { (es : List Entry)
+            → SameRecorded (Some (recorded_in self.now)) (recorded_of es)
             → Some (dependency_meaning result.now) ≡ first_target es }
     {
         self.detail().0
@@ -91,7 +96,8 @@ impl<'d> FeatureDependency<'d> {
         requires { HasTarget self.now }
         ensures first { (name : Option Text)
             × IsFirst (recorded_in self.now) (result.1, name) (dependency_meaning result.0.now) }
-        ensures recorded { (es : List Entry) → SameRecorded (Some (recorded_in self.now)) (recorded_of es)
+        ensures recorded { (es : List Entry)
+            → SameRecorded (Some (recorded_in self.now)) (recorded_of es)
             → Some (dependency_meaning result.0.now) ≡ first_target es }
     {
         match self.targets.first_key_value() {

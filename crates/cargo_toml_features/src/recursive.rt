@@ -1,13 +1,16 @@
 //! What a feature enables by any number of names.
-ghost use Rattle.std.specs.Prelude.{◌≡◌, ◌≤◌, ◌∷◌, ◌++◌, [], List, length, IfErr, IfOk, MatchOption, OnOk, Some, is_none};
+ghost use Rattle.std.specs.Prelude.{◌≡◌, ◌≤◌, ◌∷◌, ◌++◌, [], List, length, IfErr};
+ghost use Rattle.std.specs.Prelude.{IfOk, MatchOption, OnOk, Some, is_none};
 ghost use Rattle.std.specs.Borrow.{Bor};
 ghost use Rattle.cargo_toml_parts.specs.declared.error.Error.{Memory};
 ghost use Rattle.cargo_toml_graph.specs.Action.{Text};
 ghost use Rattle.cargo_toml_graph.specs.Recursive.{ArePairs};
 ghost use Rattle.cargo_toml_features.specs.declared.features.Feature.{Feature};
-ghost use Rattle.cargo_toml_features.specs.Reached.{AreEnabled, HaveNoEmpty, ComeFrom, IsHeldBy, IsKeyed, pairs_at};
+ghost use Rattle.cargo_toml_features.specs.Reached.{AreEnabled, HaveNoEmpty, ComeFrom};
+ghost use Rattle.cargo_toml_features.specs.Reached.{IsHeldBy, IsKeyed, pairs_at};
 ghost use Rattle.cargo_toml_features.specs.Views.{table_in, value_at};
-ghost use Rattle.cargo_toml_features.specs.Visits.{AddsPair, AddsActions, PushesNamed, PutsFound, still};
+ghost use Rattle.cargo_toml_features.specs.Visits.{AddsPair, AddsActions};
+ghost use Rattle.cargo_toml_features.specs.Visits.{PushesNamed, PutsFound, still};
 
 use crate::features::{DepAction, Feature};
 use cargo_toml_parts::Error;
@@ -59,14 +62,16 @@ fn add_actions<'f, 'a, S: BuildHasher>(
     Ok(())
 }
 
-// Pushes the features that the feature names. The first in byte order comes last, so that it is popped first.
+// Pushes the features that the feature names. The first in byte order comes last, so that
+// it is popped first.
 fn push_named<'f, 'a, S: BuildHasher>(
     feature: &'f Feature<'a>,
     features: &'f HashMap<&'a str, Feature<'a>, S>,
     pending: &mut Vec<&'f Feature<'a>>,
 ) -> Result<(), AllocError>
     requires { IsKeyed features.now }
-    ensures { OnOk result (PushesNamed features.now feature.now pending.old.items pending.new.items) }
+    ensures { OnOk result
+        (PushesNamed features.now feature.now pending.old.items pending.new.items) }
 {
     for name in feature.enables_features.iter().rev() {
         if let Some(named) = features.get(*name) {
@@ -76,8 +81,8 @@ fn push_named<'f, 'a, S: BuildHasher>(
     Ok(())
 }
 
-// Makes room where none is left, for three times as many as there are. By itself the map makes room for as many again, and
-// so moves each twice as often.
+// Makes room where none is left, for three times as many as there are. By itself the map makes room
+// for as many again, and so moves each twice as often.
 fn make_room<'f, 'a, S: BuildHasher>(
     found: &mut HashMap<&'a str, &'f Feature<'a>, S>,
 ) -> Result<(), AllocError>
@@ -96,7 +101,8 @@ fn add_found<'f, 'a, S: BuildHasher>(
     feature: &'f Feature<'a>,
 ) -> Result<bool, AllocError>
     ensures puts { OnOk result (PutsFound feature.entry found.old found.new) }
-    ensures is_new { IfOk result (λ is_new. is_new ≡ is_none (value_at found.old feature.now.key.now)) }
+    ensures is_new { IfOk result
+        (λ is_new. is_new ≡ is_none (value_at found.old feature.now.key.now)) }
 {
     make_room(found)?;
     let before = found.insert(feature.key, feature)?;
@@ -120,8 +126,9 @@ fn sole_named<'f, 'a, S: BuildHasher>(
     features.get(*name)
 }
 
-// Adds the features that the feature names to those still to visit, and takes off the one that comes next. A single name
-// is looked up with no walk over the set, and what it stands for isn't pushed: long chains are made of such features.
+// Adds the features that the feature names to those still to visit, and takes off the one that
+// comes next. A single name is looked up with no walk over the set, and what it stands for isn't
+// pushed: long chains are made of such features.
 fn take_next<'f, 'a, S: BuildHasher>(
     feature: &'f Feature<'a>,
     features: &'f HashMap<&'a str, Feature<'a>, S>,
@@ -154,20 +161,24 @@ impl<'a> Feature<'a> {
         &features[self.key]
     }
 
-    /// What Cargo enables where this feature is asked for: the features that it enables, and what they do to dependencies.
+    /// What Cargo enables where this feature is asked for: the features that it enables, and what
+    /// they do to dependencies.
     ///
-    /// The first map has this feature, those that it names, those that they name, and so on, each once and under its name. A
-    /// name that no feature of `features` has is passed over. The second map has under each dependency's key one pair for each
-    /// of these features that acts on it unconditionally: the feature's name and its action. It has no empty list. A
-    /// conditional action, as `dependency?/feature`, isn't listed, since it doesn't enable the dependency.
+    /// The first map has this feature, those that it names, those that they name, and so on, each
+    /// once and under its name. A name that no feature of `features` has is passed over. The second
+    /// map has under each dependency's key one pair for each of these features that acts on it
+    /// unconditionally: the feature's name and its action. It has no empty list. A conditional
+    /// action, as `dependency?/feature`, isn't listed, since it doesn't enable the dependency.
     ///
-    /// Each feature of `features` must stand under its own key, and this feature must be one of them, or `features` must have one
-    /// under its key. That one counts where it differs from this feature.
+    /// Each feature of `features` must stand under its own key, and this feature must be one
+    /// of them, or `features` must have one under its key. That one counts where it differs
+    /// from this feature.
     ///
-    /// The only refusal is [`Error::Memory`]. A feature is visited once, and each of its names is then looked up once; a feature
-    /// may wait for its visit once for each feature that names it. The features are visited depth first, and those that one
-    /// names in byte order; the lists are in this order. Nothing is called in itself, so a long chain of features needs memory
-    /// and no stack.
+    /// The only refusal is [`Error::Memory`]. A feature is visited once, and each of its names
+    /// is then looked up once; a feature may wait for its visit once for each feature that names
+    /// it. The features are visited depth first, and those that one names in byte order; the
+    /// lists are in this order. Nothing is called in itself, so a long chain of features needs
+    /// memory and no stack.
     pub fn enables_recursive<'f, S: BuildHasher + Clone>(
         &'f self,
         alloc: Global,
@@ -183,8 +194,8 @@ impl<'a> Feature<'a> {
         requires start { IsHeldBy features.now self.now }
         ensures features { IfOk result (λ r. AreEnabled features.now self.now.key.now r.0) }
         ensures values { IfOk result (λ r. ComeFrom features.now r.0) }
-        ensures dependencies { IfOk result
-            (λ r. (k : Text) → ArePairs (table_in features.now) self.now.key.now k (pairs_at r.1 k)) }
+        ensures dependencies { IfOk result (λ r. (k : Text) → ArePairs (table_in features.now)
+            self.now.key.now k (pairs_at r.1 k)) }
         ensures no_empty { IfOk result (λ r. HaveNoEmpty r.1) }
         ensures refused { IfErr result (λ e. e ≡ Memory) }
     {

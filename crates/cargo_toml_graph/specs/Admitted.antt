@@ -1,5 +1,7 @@
 -- The features that a table lists, as many of them as count, and what each says.
-use Rattle.std.specs.Prelude.{ℕ, Bool, false, if◌then◌else◌, ◌||◌, List, [], map, filter, take, nat_lt, is_some, Option, Some, None, unwrap_or, codes, bytes_eq, fold, count_by}
+use Rattle.std.specs.Prelude.{ℕ, Bool, false, if◌then◌else◌, ◌||◌, List, []}
+use Rattle.std.specs.Prelude.{map, filter, take, nat_lt, is_some, Option, Some}
+use Rattle.std.specs.Prelude.{None, unwrap_or, codes, bytes_eq, fold, count_by}
 use Rattle.std.specs.List.{list_any}
 use Rattle.std.specs.Map.{lookup}
 use Rattle.std.specs.Cmp.Lexicographic.{slice_cmp}
@@ -27,11 +29,14 @@ action_on k (On q a) = if bytes_eq k q then Some a else None
 
 -- the first names in byte order, and always `default`
 abbrev pub is_admitted : ℕ → Listed → Text → Bool
-is_admitted limit listed f = bytes_eq f (codes "default") || nat_lt (count_by (λ e. is_below e.0 f) listed) limit
+is_admitted limit listed f =
+    bytes_eq f (codes "default") || nat_lt (count_by (λ e. is_below e.0 f) listed) limit
 
--- the table as far as it is admitted: of its names the first and `default`, of the actions of each the first
+-- the table as far as it is admitted: of its names the first and `default`, of the
+-- actions of each the first
 abbrev pub admitted : ℕ → Listed → Listed
-admitted limit listed = map (λ e. (e.0, take limit e.1)) (filter (λ e. is_admitted limit listed e.0) listed)
+admitted limit listed =
+    map (λ e. (e.0, take limit e.1)) (filter (λ e. is_admitted limit listed e.0) listed)
 
 module _ (listed : Listed) where
   -- a name that is listed, or `default`

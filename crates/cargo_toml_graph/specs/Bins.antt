@@ -22,23 +22,29 @@ pub record AreInByteOrder (Removed : Text → Type 0) (order : List Text) : Type
 module _ (t : Table) (Removed : Text → Type 0) (own : Text → List Text) where
   -- r, or a removed feature that it reaches through removed ones, names f, and x requires r
   abbrev pub IsPassed : Text → Text → Type 0
-  IsPassed f x = (r : Text) × Removed r × Among (own r) x × GathersLabel (Edge t) Removed (λ b y. IsTrue (t.names b y)) r f
+  IsPassed f x =
+      (r : Text) × Removed r × Among (own r) x
+      × GathersLabel (Edge t) Removed (λ b y. IsTrue (t.names b y)) r f
 
   -- the binaries of the kept feature f
   pub record HasBins (f : Text) (bins : List Text) : Type 0 where
     pub lists : Grown (own f) (IsPassed f) bins
-    pub direct : (r x : Text) → Removed r → IsTrue (t.names r f) → Among (take 10 (own r)) x → Among bins x
+    pub direct : (r x : Text) → Removed r → IsTrue (t.names r f) → Among (take 10 (own r)) x
+        → Among bins x
 
-  -- the binaries of all kept features: in byte order each removed one passes the first ten of its list, as it then stands, on to
-  -- each feature that it then names
+  -- the binaries of all kept features: in byte order each removed one passes the first ten of its
+  -- list, as it then stands, on to each feature that it then names
   pub record ArePassedOn (bins : Text → List Text) : Type 0 where
     pub order : List Text
     pub in_order : AreInByteOrder Removed order
     pub lists : (f : Text) → IsKept t Removed f → bins f ≡ pass_all order (unremoved t) own f
 
-  -- where naming alone leads from r to f through removed features, each binary that requires r requires f
+  -- where naming alone leads from r to f through removed features, each binary that
+  -- requires r requires f
   abbrev pub IsComplete : Text → List Text → Type 0
-  IsComplete f bins = (r x : Text) → Removed r → Reaches (λ a b. IsTrue (t.names a b)) Removed r f → Among (own r) x → Among bins x
+  IsComplete f bins =
+      (r x : Text) → Removed r → Reaches (λ a b. IsTrue (t.names a b)) Removed r f → Among (own r) x
+      → Among bins x
 
 -- how often the features of a list are mentioned
 abbrev pub mentions : (Text → List Text) → List Text → ℕ

@@ -19,7 +19,9 @@ hidden_cycle = features_alone ((codes "_h", codes "a" ∷ []) ∷ (codes "a", co
 
 -- k = ["_s"], _s = ["_s", "b"], b = []
 abbrev pub hidden_names_itself : Table
-hidden_names_itself = features_alone ((codes "_s", codes "_s" ∷ codes "b" ∷ []) ∷ (codes "b", []) ∷ (codes "k", codes "_s" ∷ []) ∷ [])
+hidden_names_itself =
+    features_alone ((codes "_s", codes "_s" ∷ codes "b" ∷ []) ∷ (codes "b", [])
+    ∷ (codes "k", codes "_s" ∷ []) ∷ [])
 
 -- a = ["b", "zz"], b = ["a"]
 abbrev pub ring : Table
@@ -31,7 +33,9 @@ left_of t removed = without_all removed (unremoved t)
 
 -- k = ["_a", "_b"], _a = ["x"], _b = ["y"], x = [], y = []
 abbrev pub two_hidden : Table
-two_hidden = features_alone ((codes "_a", codes "x" ∷ []) ∷ (codes "_b", codes "y" ∷ []) ∷ (codes "k", codes "_a" ∷ codes "_b" ∷ []) ∷ (codes "x", []) ∷ (codes "y", []) ∷ [])
+two_hidden =
+    features_alone ((codes "_a", codes "x" ∷ []) ∷ (codes "_b", codes "y" ∷ [])
+    ∷ (codes "k", codes "_a" ∷ codes "_b" ∷ []) ∷ (codes "x", []) ∷ (codes "y", []) ∷ [])
 
 -- f = [], _h = ["f"]
 abbrev pub hidden_parent : Table
@@ -39,8 +43,12 @@ hidden_parent = features_alone ((codes "_h", codes "f" ∷ []) ∷ (codes "f", [
 
 -- the binaries y and z require f, and x (twice) and y require _h
 abbrev pub some_bins : Text → List Text
-some_bins f = if bytes_eq f (codes "f") then codes "y" ∷ codes "z" ∷ [] else if bytes_eq f (codes "_h") then codes "x" ∷ codes "x" ∷ codes "y" ∷ [] else []
+some_bins f =
+    if bytes_eq f (codes "f") then codes "y" ∷ codes "z" ∷ []
+    else if bytes_eq f (codes "_h") then codes "x" ∷ codes "x" ∷ codes "y" ∷ [] else []
 
 -- b = [], default = ["c"], a = ["x", "y", "z"], c = []
 abbrev pub four : Listed
-four = (codes "b", []) ∷ (codes "default", codes "c" ∷ []) ∷ (codes "a", codes "x" ∷ codes "y" ∷ codes "z" ∷ []) ∷ (codes "c", []) ∷ []
+four =
+    (codes "b", []) ∷ (codes "default", codes "c" ∷ [])
+    ∷ (codes "a", codes "x" ∷ codes "y" ∷ codes "z" ∷ []) ∷ (codes "c", []) ∷ []

@@ -4,8 +4,8 @@ use Rattle.std.specs.Option.{IsSomeAnd}
 use Rattle.cargo_toml_graph.specs.Action.{Text, Action, IsJoin}
 use Rattle.cargo_toml_graph.specs.Reach.{Reaches, GathersLabel}
 
--- what the admitted and the implied features say, with nothing removed: which there are, what each names, how each acts on
--- each dependency
+-- what the admitted and the implied features say, with nothing removed: which there are, what each
+-- names, how each acts on each dependency
 pub record Table : Type 0 where
   pub has : Text → Bool
   pub names : Text → Text → Bool

@@ -13,7 +13,8 @@ pub data Enables (t : Table) (f : Text) : Text → Type 0 where
 abbrev pub EnablesDependency : Table → Text → Text → Text → Action → Type 0
 EnablesDependency t f k g a = Enables t f g × (t.action g k ≡ Some a) × IsFalse a.is_conditional
 
--- one pair of a feature and its action on k for each feature that f enables and whose action on k isn't conditional
+-- one pair of a feature and its action on k for each feature that f enables and whose action on
+-- k isn't conditional
 pub record ArePairs (t : Table) (f k : Text) (pairs : List (Text × Action)) : Type 0 where
   pub sound : (g : Text) (a : Action) → Among pairs (g, a) → EnablesDependency t f k g a
   pub complete : (g : Text) (a : Action) → EnablesDependency t f k g a → Among pairs (g, a)

@@ -1,5 +1,7 @@
--- Taking one feature after another out of a resolution: the steps that the laws of elimination speak of.
-use Rattle.std.specs.Prelude.{◌≡◌, IsTrue, ◌&&◌, ◌||◌, not, if◌then◌else◌, List, [], ◌∷◌, ◌++◌, take, bytes_eq, nat_eq, codes, Bool, false, Option}
+-- Taking one feature after another out of a resolution: the steps that the laws of
+-- elimination speak of.
+use Rattle.std.specs.Prelude.{◌≡◌, IsTrue, ◌&&◌, ◌||◌, not, if◌then◌else◌, List, [], ◌∷◌}
+use Rattle.std.specs.Prelude.{◌++◌, take, bytes_eq, nat_eq, codes, Bool, false, Option}
 use Rattle.std.specs.List.{list_any, starts_with}
 use Rattle.std.specs.Option.{option_map_or}
 use Rattle.cargo_toml_graph.specs.Action.{Text, Action, join_option}
@@ -20,15 +22,23 @@ is_edge t f g = t.has f && t.has g && not (bytes_eq f g) && (t.names f g || is_p
 abbrev pub unremoved : Table → Resolution
 unremoved t = record { table = t; enabled_by = λ f e. is_edge t e f }
 
--- r is taken out: its parents name what it named and act as it did, and what it enabled is enabled by its parents
+-- r is taken out: its parents name what it named and act as it did, and what it enabled is
+-- enabled by its parents
 abbrev pub without : Text → Resolution → Resolution
 without r m = record {
   table = record {
     has = λ f. m.table.has f && not (bytes_eq f r);
-    names = λ f x. if m.enabled_by r f then (m.table.names f x || m.table.names r x) && not (bytes_eq x r) else m.table.names f x;
-    action = λ f k. if m.enabled_by r f then join_option (m.table.action f k) (m.table.action r k) else m.table.action f k;
+    names =
+        λ f x.
+        if m.enabled_by r f then (m.table.names f x || m.table.names r x) && not (bytes_eq x r)
+        else m.table.names f x;
+    action =
+        λ f k. if m.enabled_by r f then join_option (m.table.action f k) (m.table.action r k)
+        else m.table.action f k;
   };
-  enabled_by = λ f e. if m.enabled_by f r then (m.enabled_by f e || m.enabled_by r e) && not (bytes_eq e r) else m.enabled_by f e;
+  enabled_by =
+      λ f e. if m.enabled_by f r then (m.enabled_by f e || m.enabled_by r e) && not (bytes_eq e r)
+      else m.enabled_by f e;
 }
 
 abbrev pub without_all : List Text → Resolution → Resolution

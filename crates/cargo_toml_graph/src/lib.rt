@@ -1,6 +1,7 @@
 //! What the features of a manifest mean: a graph of names, of which some may be taken out.
 //!
-//! Nothing runs here. The definitions stand in `specs/`, over texts and tests alone, and [`laws`] proves what they entail.
+//! Nothing runs here. The definitions stand in `specs/`, over texts and tests alone, and [`laws`]
+//! proves what they entail.
 #![tactic(auto)]
 
 pub mod laws;

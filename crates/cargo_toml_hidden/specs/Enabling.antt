@@ -31,8 +31,9 @@ Learns By old new = (e : Text) →
 
 -- so in each place, by what holds of it
 abbrev pub LearnEach : (ℕ → Text → Type 0) → List Feature → List Feature → Type 0
-LearnEach By old new = (y : ℕ) (v w : Feature) → slice_get old y ≡ Some v → slice_get new y ≡ Some w →
-    Learns (By y) v w
+LearnEach By old new =
+    (y : ℕ) (v w : Feature) → slice_get old y ≡ Some v → slice_get new y ≡ Some w
+    → Learns (By y) v w
 
 -- the source is put among the enablers of the features in the named places; nothing else changes
 pub record Enables (Named : ℕ → Type 0) (source : Text) (old new : List Feature) : Type 0 where

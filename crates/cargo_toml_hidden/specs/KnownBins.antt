@@ -19,4 +19,5 @@ MayKnow known bins = (btree_set_len known ≡ 0) ⊎ Knows known bins
 -- in each place the set may know the binaries of the feature there
 pub record AreKnown (known : List (BTreeSet (Bor Text))) (vs : List Feature) : Type 0 where
   pub len : length known ≡ length vs
-  pub each : (y : ℕ) (s : BTreeSet (Bor Text)) → slice_get known y ≡ Some s → MayKnow s (bins_of vs y)
+  pub each : (y : ℕ) (s : BTreeSet (Bor Text)) → slice_get known y ≡ Some s
+      → MayKnow s (bins_of vs y)

@@ -15,9 +15,15 @@ use Rattle.cargo_toml_features.specs.Views.{has_text, resolution_of, value_at}
 use Rattle.cargo_toml_hidden.specs.KeptFeatures.{IsNamedAlike, own_bins}
 
 -- what is left of the features vs, and what stands for those that are removed
-pub record AreLeft {S : Type 0} (t : Table) (removed : Text → Bool) (vs : List Feature) (features : HashMap (Bor Text) Feature S) (hidden : HashMap (Bor Text) (BTreeSet (Bor Text)) S) : Type 0 where
+pub record AreLeft {S : Type 0} (t : Table) (removed : Text → Bool) (vs : List Feature)
+    (features : HashMap (Bor Text) Feature S)
+    (hidden : HashMap (Bor Text) (BTreeSet (Bor Text)) S) : Type 0 where
   pub resolved : IsResolved t (λ f. IsTrue (removed f)) (resolution_of features)
-  pub own : (f : Text) → IfSome (value_at features f) (λ w. (v : Feature) × (feature_at vs f ≡ Some v) × IsNamedAlike v w)
-  pub bins : ArePassedOn t (λ r. IsTrue (removed r)) (own_bins vs) (λ f. option_map_or (λ v. map (λ b. b.now) v.required_by_bins.items) (value_at features f) [])
+  pub own : (f : Text) → IfSome (value_at features f)
+      (λ w. (v : Feature) × (feature_at vs f ≡ Some v) × IsNamedAlike v w)
+  pub bins : ArePassedOn t (λ r. IsTrue (removed r)) (own_bins vs)
+      (λ f. option_map_or (λ v. map (λ b. b.now) v.required_by_bins.items) (value_at features f) [])
   pub redirected : (r : Text) → is_some (value_at hidden r) ≡ removed r
-  pub redirects : (r : Text) → IfSome (value_at hidden r) (λ names. (x : Text) → IsTrue (has_text names x) ↔ RedirectsTo t (λ s. IsTrue (removed s)) (λ a b. IsTrue (is_below a b)) r x)
+  pub redirects : (r : Text) → IfSome (value_at hidden r)
+      (λ names. (x : Text) → IsTrue (has_text names x)
+      ↔ RedirectsTo t (λ s. IsTrue (removed s)) (λ a b. IsTrue (is_below a b)) r x)

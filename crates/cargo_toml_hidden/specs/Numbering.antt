@@ -1,5 +1,6 @@
 -- Features as a graph of numbers.
-use Rattle.std.specs.Prelude.{◌≡◌, ◌≢◌, ◌⊎◌, ◌<◌, ◌≤◌, ℕ, Bool, true, false, List, length, take, drop, slice_get, IsTrue, Vec}
+use Rattle.std.specs.Prelude.{◌≡◌, ◌≢◌, ◌⊎◌, ◌<◌, ◌≤◌, ℕ, Bool, true, false}
+use Rattle.std.specs.Prelude.{List, length, take, drop, slice_get, IsTrue, Vec}
 use Rattle.std.specs.List.{list_any}
 use Rattle.std.specs.Option.{IsSomeAnd, option_map_or}
 use Rattle.cargo_toml_graph.specs.Action.{Text}
@@ -15,7 +16,8 @@ use Rattle.cargo_toml_features.specs.Views.{action_at, has_text}
 
 -- the flag of the feature of this name stands
 abbrev pub IsFlagged : List Feature → List Bool → Text → Type 0
-IsFlagged vs flags f = (i : ℕ) × (i < length vs) × (text_at (names_of vs) i ≡ f) × IsWanted flags true i
+IsFlagged vs flags f =
+    (i : ℕ) × (i < length vs) × (text_at (names_of vs) i ≡ f) × IsWanted flags true i
 
 -- some feature names x
 abbrev pub is_named : List Feature → Text → Bool
@@ -29,7 +31,8 @@ names_at vs i x = option_map_or (λ v. has_text v.enables_features x) (slice_get
 abbrev pub ActsOn : List Feature → ℕ → Text → Type 0
 ActsOn vs i k = IsSomeAnd (slice_get vs i) (λ v. IsPlain (action_at v.enables_deps k))
 
--- the feature in place i enables another one, whose number x its row has or on whose name it acts plainly
+-- the feature in place i enables another one, whose number x its row has or on whose
+-- name it acts plainly
 abbrev pub IsTarget : {Z : Type 0} → List Feature → List (Vec ℕ Z) → List Text → ℕ → ℕ → Type 0
 IsTarget vs names keys i x = (x ≢ i) × (Leads names i x ⊎ ActsOn vs i (text_at keys x))
 
@@ -38,7 +41,8 @@ pub record AreParted (n : ℕ) (texts : List Text) : Type 0 where
   pub fits : n ≤ length texts
   pub front : IsAscending (λ a b. IsTrue (is_below a b)) (take n texts)
   pub rest : IsAscending (λ a b. IsTrue (is_below a b)) (drop n texts)
-  pub one : (i j : ℕ) → i < length texts → j < length texts → text_at texts i ≡ text_at texts j → i ≡ j
+  pub one : (i j : ℕ) → i < length texts → j < length texts
+      → text_at texts i ≡ text_at texts j → i ≡ j
 
 -- the names of the features stand first, and what these name stands there too
 pub record AreTextsOf (vs : List Feature) (texts : List Text) : Type 0 where

@@ -1,5 +1,6 @@
 -- The binaries that are passed on, by places.
-use Rattle.std.specs.Prelude.{◌≡◌, ℕ, zero, suc, Bool, false, List, [], if◌then◌else◌, length, map, nat_eq, take, slice_get, Some, Vec}
+use Rattle.std.specs.Prelude.{◌≡◌, ℕ, zero, suc, Bool, false, List, [], if◌then◌else◌}
+use Rattle.std.specs.Prelude.{length, map, nat_eq, take, slice_get, Some, Vec}
 use Rattle.std.specs.List.{list_any, slice_index_or}
 use Rattle.std.specs.Option.{option_map_or}
 use Rattle.cargo_toml_graph.specs.Action.{Text}
@@ -14,12 +15,16 @@ bins_of vs i = option_map_or (λ v. map (λ b. b.now) v.required_by_bins.items) 
 
 -- the place r passes the first ten of its list on to each place in its row
 abbrev pub passed_from : {Z : Type 0} → List (Vec ℕ Z) → ℕ → (ℕ → List Text) → ℕ → List Text
-passed_from rows r lists y = if list_any (nat_eq y) (list_at rows r) then put_all (lists y) (take 10 (lists r)) else lists y
+passed_from rows r lists y =
+    if list_any (nat_eq y) (list_at rows r) then put_all (lists y) (take 10 (lists r)) else lists y
 
 -- the lists once the flagged places below n have passed theirs on, from the first to the last
-abbrev pub passed_below : {Z : Type 0} → List (Vec ℕ Z) → List Bool → ℕ → (ℕ → List Text) → ℕ → List Text
+abbrev pub passed_below : {Z : Type 0} → List (Vec ℕ Z) → List Bool → ℕ → (ℕ → List Text)
+    → ℕ → List Text
 passed_below rows flags zero lists = lists
-passed_below rows flags (suc n) lists = if slice_index_or flags n false then passed_from rows n (passed_below rows flags n lists) else passed_below rows flags n lists
+passed_below rows flags (suc n) lists =
+    if slice_index_or flags n false then passed_from rows n (passed_below rows flags n lists)
+    else passed_below rows flags n lists
 
 -- what a feature holds beside its binaries stays
 pub record IsSameButBins (old new : Feature) : Type 0 where
@@ -32,4 +37,5 @@ pub record IsSameButBins (old new : Feature) : Type 0 where
 -- in each place
 pub record AreSameButBins (old new : List Feature) : Type 0 where
   pub len : length new ≡ length old
-  pub each : (i : ℕ) (v w : Feature) → slice_get old i ≡ Some v → slice_get new i ≡ Some w → IsSameButBins v w
+  pub each : (i : ℕ) (v w : Feature) → slice_get old i ≡ Some v → slice_get new i ≡ Some w
+      → IsSameButBins v w

@@ -1,5 +1,6 @@
 //! The binaries of removed features are passed on.
-ghost use Rattle.std.specs.Prelude.{◌≡◌, ◌<◌, ◌≤◌, ◌∷◌, ◌||◌, [], ℕ, bytes_eq, length, not, take, IfOk, OnOk};
+ghost use Rattle.std.specs.Prelude.{◌≡◌, ◌<◌, ◌≤◌, ◌∷◌, ◌||◌, [], ℕ};
+ghost use Rattle.std.specs.Prelude.{bytes_eq, length, not, take, IfOk, OnOk};
 ghost use Rattle.cargo_toml_graph.specs.Action.{Text};
 ghost use Rattle.cargo_toml_graph.specs.Reach.{Among};
 ghost use Rattle.cargo_toml_graph.specs.Removal.{put_all};
@@ -14,7 +15,8 @@ use cargo_toml_features::features::Feature;
 use std::alloc::{AllocError, Global};
 use std::collections::BTreeSet;
 
-/// A copy of the first ten, for the lists may change while it is read. It fails only where memory runs out.
+/// A copy of the first ten, for the lists may change while it is read. It fails only
+/// where memory runs out.
 pub fn first_ten<'m>(bins: &Vec<&'m str>) -> Result<Vec<&'m str>, AllocError>
     ensures { IfOk result (λ v. texts_of v.items ≡ take 10 (texts_of bins.now.items)) }
 {
@@ -30,7 +32,8 @@ fn known_in<'m>(bins: &Vec<&'m str>) -> Result<BTreeSet<&'m str>, AllocError>
     into_set(alloc, bins.to_vec(alloc)?)
 }
 
-// A set for each feature, by places. Most features never come to have another binary, so none is filled yet.
+// A set for each feature, by places. Most features never come to have another binary, so
+// none is filled yet.
 fn known_bins<'m>(
     alloc: Global,
     features: &[Feature<'m>],
@@ -58,19 +61,22 @@ fn know<'m>(known: &mut BTreeSet<&'m str>, bins: &Vec<&'m str>) -> Result<(), Al
 // The binary is put into the set; the answer tells whether it wasn't there.
 fn add_known<'m>(known: &mut BTreeSet<&'m str>, bin: &'m str) -> Result<bool, AllocError>
     ensures is_new { IfOk result (λ is_new. is_new ≡ not (has_text known.old bin.now)) }
-    ensures added { OnOk result ((x : Text) → has_text known.new x ≡ (has_text known.old x || bytes_eq x bin.now)) }
+    ensures added { OnOk result ((x : Text) → has_text known.new x
+        ≡ (has_text known.old x || bytes_eq x bin.now)) }
 {
     Ok(known.insert(bin)?)
 }
 
-// The binary is put at the end, unless it is there. A set tells whether it is, since a feature may come to have thousands.
+// The binary is put at the end, unless it is there. A set tells whether it is, since a feature may
+// come to have thousands.
 fn put_bin<'m>(
     own: &mut Vec<&'m str>,
     known: &mut BTreeSet<&'m str>,
     bin: &'m str,
 ) -> Result<(), AllocError>
     requires { Knows known.old (texts_of own.old.items) }
-    ensures put { OnOk result (texts_of own.new.items ≡ put_all (texts_of own.old.items) (bin.now ∷ [])) }
+    ensures put { OnOk result (texts_of own.new.items
+        ≡ put_all (texts_of own.old.items) (bin.now ∷ [])) }
     ensures known { OnOk result (Knows known.new (texts_of own.new.items)) }
 {
     if add_known(known, bin)? {
@@ -86,7 +92,8 @@ fn put_bins<'m>(
     bins: &[&'m str],
 ) -> Result<(), AllocError>
     requires { Knows known.old (texts_of own.old.items) }
-    ensures put { OnOk result (texts_of own.new.items ≡ put_all (texts_of own.old.items) (texts_of bins.now)) }
+    ensures put { OnOk result (texts_of own.new.items
+        ≡ put_all (texts_of own.old.items) (texts_of bins.now)) }
     ensures known { OnOk result (Knows known.new (texts_of own.new.items)) }
 {
     for bin in bins {
@@ -103,7 +110,8 @@ fn put_at<'m>(
 ) -> Result<(), AllocError>
     requires at { at < length features.old.items }
     requires known { AreKnown known.old.items features.old.items }
-    ensures put { OnOk result (Puts (λ y. y ≡ at) (texts_of bins.now) features.old.items features.new.items) }
+    ensures put { OnOk result
+        (Puts (λ y. y ≡ at) (texts_of bins.now) features.old.items features.new.items) }
     ensures known { OnOk result (AreKnown known.new.items features.new.items) }
 {
     let feature = &mut features[at];
@@ -112,7 +120,8 @@ fn put_at<'m>(
     put_bins(&mut feature.required_by_bins, known, bins)
 }
 
-// The binaries are put into the lists of the features that the row names; it may name what is no feature, too.
+// The binaries are put into the lists of the features that the row names; it may name what
+// is no feature, too.
 fn put_along<'m>(
     features: &mut Vec<Feature<'m>>,
     known: &mut Vec<BTreeSet<&'m str>>,
@@ -120,7 +129,8 @@ fn put_along<'m>(
     bins: &[&'m str],
 ) -> Result<(), AllocError>
     requires { AreKnown known.old.items features.old.items }
-    ensures put { OnOk result (Puts (Among row.now) (texts_of bins.now) features.old.items features.new.items) }
+    ensures put { OnOk result
+        (Puts (Among row.now) (texts_of bins.now) features.old.items features.new.items) }
     ensures known { OnOk result (AreKnown known.new.items features.new.items) }
 {
     for at in row {
@@ -140,7 +150,8 @@ fn pass_from<'m>(
 ) -> Result<(), AllocError>
     requires r { r < length features.old.items }
     requires known { AreKnown known.old.items features.old.items }
-    ensures put { OnOk result (Puts (Among row.now) (take 10 (bins_of features.old.items r)) features.old.items features.new.items) }
+    ensures put { OnOk result (Puts (Among row.now)
+        (take 10 (bins_of features.old.items r)) features.old.items features.new.items) }
     ensures known { OnOk result (AreKnown known.new.items features.new.items) }
 {
     let bins = first_ten(&features[r].required_by_bins)?;
@@ -150,8 +161,8 @@ fn pass_from<'m>(
     put_along(features, known, row, bins.as_slice())
 }
 
-/// Removed features pass their binaries on to those that their rows name, in the order of their places: at its turn each its
-/// first ten.
+/// Removed features pass their binaries on to those that their rows name, in the order of their
+/// places: at its turn each its first ten.
 ///
 /// A kept feature passes nothing on. It fails only where memory runs out.
 pub(crate) fn pass_bins<'m>(
@@ -163,8 +174,9 @@ pub(crate) fn pass_bins<'m>(
     requires rows { length rows.now ≡ length features.old.items }
     requires flags { length features.old.items ≤ length flags.now }
     ensures others { OnOk result (AreSameButBins features.old.items features.new.items) }
-    ensures bins { OnOk result ((y : ℕ) → y < length features.old.items → bins_of features.new.items y
-        ≡ passed_below rows.now flags.now (length features.old.items) (bins_of features.old.items) y) }
+    ensures bins { OnOk result ((y : ℕ) → y < length features.old.items
+        → bins_of features.new.items y ≡ passed_below rows.now flags.now (length features.old.items)
+        (bins_of features.old.items) y) }
 {
     let mut known = known_bins(alloc, features.as_slice())?;
     let size = features.len();

@@ -23,11 +23,12 @@ fn is_kept<F: Fn(&str) -> bool>(filter: Option<&F>, name: &str) -> bool
     }
 }
 
-/// Whether a feature of this name is removed. The filter is asked only for names that begin with `_`.
+/// Whether a feature of this name is removed. The filter is asked only for names
+/// that begin with `_`.
 pub fn is_hidden<F: Fn(&str) -> bool>(filter: Option<&F>, name: &str) -> bool
     requires { HasNameFilter F.Fn filter }
-    ensures { (keep : Text → Bool) → Tells F.Fn filter.entry keep →
-        result ≡ (starts_with nat_eq name.now (codes "_") && not (keep name.now)) }
+    ensures { (keep : Text → Bool) → Tells F.Fn filter.entry keep
+        → result ≡ (starts_with nat_eq name.now (codes "_") && not (keep name.now)) }
 {
     name.starts_with('_') && !is_kept(filter, name)
 }

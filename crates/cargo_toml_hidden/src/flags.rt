@@ -1,5 +1,6 @@
 //! Which features are removed, by their places.
-ghost use Rattle.std.specs.Prelude.{◌≡◌, ◌<◌, ◌&&◌, ℕ, Bool, IfOk, codes, false, length, nat_eq, not};
+ghost use Rattle.std.specs.Prelude.{◌≡◌, ◌<◌, ◌&&◌, ℕ, Bool, IfOk};
+ghost use Rattle.std.specs.Prelude.{codes, false, length, nat_eq, not};
 ghost use Rattle.std.specs.List.{slice_index_or, starts_with};
 ghost use Rattle.cargo_toml_graph.specs.Action.{Text};
 ghost use Rattle.cargo_toml_features.specs.InOrder.{names_of};
@@ -10,8 +11,9 @@ use crate::filter::is_hidden;
 use cargo_toml_features::features::Feature;
 use std::alloc::{AllocError, Global};
 
-/// Which features are removed, by their places: of those whose names begin with `_` the ones that the filter doesn't keep, and
-/// without a filter all. The filter is asked only for names that begin with `_`. It fails only where memory runs out.
+/// Which features are removed, by their places: of those whose names begin with `_` the ones that
+/// the filter doesn't keep, and without a filter all. The filter is asked only for names that begin
+/// with `_`. It fails only where memory runs out.
 pub fn hidden_flags<F: Fn(&str) -> bool>(
     alloc: Global,
     features: &[Feature<'_>],
@@ -19,8 +21,9 @@ pub fn hidden_flags<F: Fn(&str) -> bool>(
 ) -> Result<Vec<bool>, AllocError>
     requires { HasNameFilter F.Fn filter }
     ensures len { IfOk result (λ v. length v.items ≡ length features.now) }
-    ensures flags { IfOk result (λ v. (keep : Text → Bool) → Tells F.Fn filter.entry keep → (i : ℕ) → i < length features.now →
-        slice_index_or v.items i false ≡ (starts_with nat_eq (text_at (names_of features.now) i) (codes "_")
+    ensures flags { IfOk result (λ v. (keep : Text → Bool) → Tells F.Fn filter.entry keep
+        → (i : ℕ) → i < length features.now → slice_index_or v.items i false
+        ≡ (starts_with nat_eq (text_at (names_of features.now) i) (codes "_")
         && not (keep (text_at (names_of features.now) i)))) }
 {
     let mut flags = Vec::with_capacity(alloc, features.len())?;

@@ -12,7 +12,8 @@ pub fn add_all<'a>(
     texts: &mut BTreeSet<&'a str>,
     other: &BTreeSet<&'a str>,
 ) -> Result<(), AllocError>
-    ensures { OnOk result ((x : Text) → has_text texts.new x ≡ (has_text texts.old x || has_text other.now x)) }
+    ensures { OnOk result ((x : Text) → has_text texts.new x
+        ≡ (has_text texts.old x || has_text other.now x)) }
 {
     for text in other.iter() {
         texts.insert(*text)?;
@@ -48,7 +49,8 @@ fn add_action<'a>(
     Ok(())
 }
 
-/// The actions of the other map are joined to those of `own`, dependency by dependency. It fails only where memory runs out.
+/// The actions of the other map are joined to those of `own`, dependency by dependency. It fails
+/// only where memory runs out.
 pub fn add_actions<'a>(
     alloc: Global,
     own: &mut BTreeMap<&'a str, DepAction<'a>>,

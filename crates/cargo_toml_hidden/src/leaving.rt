@@ -39,7 +39,8 @@ pub(crate) fn into_set<'m>(
     alloc: Global,
     texts: Vec<&'m str>,
 ) -> Result<BTreeSet<&'m str>, AllocError>
-    ensures { IfOk result (λ s. (x : Text) → IsTrue (has_text s x) ↔ Among (texts_of texts.entry.items) x) }
+    ensures { IfOk result
+        (λ s. (x : Text) → IsTrue (has_text s x) ↔ Among (texts_of texts.entry.items) x) }
 {
     texts.into_iter().collect(alloc)
 }
@@ -97,8 +98,8 @@ fn join_passed<'m>(
     passed: &[usize],
 ) -> Result<(), AllocError>
     requires { (b : ℕ) → Among passed.now b → b < length features.now }
-    ensures { OnOk result ((k : Text) →
-        IsJoin (λ a. (action_at own.old k ≡ Some a) ⊎ DoesAt features.now (Among passed.now) k a) (action_at own.new k)) }
+    ensures { OnOk result ((k : Text) → IsJoin (λ a. (action_at own.old k ≡ Some a)
+        ⊎ DoesAt features.now (Among passed.now) k a) (action_at own.new k)) }
 {
     for b in passed {
         add_actions(alloc, own, &features[*b].enables_deps)?;
@@ -106,7 +107,8 @@ fn join_passed<'m>(
     Ok(())
 }
 
-// What the passed features do is joined to what the one in place `at` does, which does nothing meanwhile.
+// What the passed features do is joined to what the one in place `at` does, which does
+// nothing meanwhile.
 fn take_actions<'m>(
     alloc: Global,
     features: &mut Vec<Feature<'m>>,
@@ -116,7 +118,8 @@ fn take_actions<'m>(
     requires at { at < length features.old.items }
     requires passed { (b : ℕ) → Among passed.now b → b < length features.old.items }
     requires apart { ¬ Among passed.now at }
-    ensures { OnOk result (ChangesIn (TakesActions features.old.items at passed.now) at features.old.items features.new.items) }
+    ensures { OnOk result (ChangesIn (TakesActions features.old.items at passed.now) at
+        features.old.items features.new.items) }
 {
     let feature = &mut features[at];
     let mut own = mem::replace(&mut feature.enables_deps, BTreeMap::new(alloc));
@@ -139,7 +142,8 @@ fn take_over<'m>(
     requires passed { (b : ℕ) → Among passed.now b → b < length features.old.items }
     requires apart { ¬ Among passed.now at }
     requires named { (x : ℕ) → Among named.now x → x < length texts.now }
-    ensures { OnOk result (ChangesIn (TakesOver features.old.items (texts_of texts.now) at passed.now named.now) at
+    ensures { OnOk result
+        (ChangesIn (TakesOver features.old.items (texts_of texts.now) at passed.now named.now) at
         features.old.items features.new.items) }
 {
     if passed.is_empty() {
@@ -151,11 +155,12 @@ fn take_over<'m>(
     Ok(())
 }
 
-/// Takes removed features out of what the kept one in place `at` holds: those in the places `passed`, which it reaches through
-/// removed ones.
+/// Takes removed features out of what the kept one in place `at` holds: those in the places
+/// `passed`, which it reaches through removed ones.
 ///
-/// It comes to name the texts of `named`, and to do what it and the passed ones do; where it passes none, it names and does
-/// what it did. It is enabled by the texts of `enablers`. It fails only where memory runs out.
+/// It comes to name the texts of `named`, and to do what it and the passed ones do; where it passes
+/// none, it names and does what it did. It is enabled by the texts of `enablers`. It fails only
+/// where memory runs out.
 pub(crate) fn leave<'m>(
     alloc: Global,
     features: &mut Vec<Feature<'m>>,
@@ -170,7 +175,8 @@ pub(crate) fn leave<'m>(
     requires apart { ¬ Among passed.now at }
     requires named { (x : ℕ) → Among named.now x → x < length texts.now }
     requires enablers { (x : ℕ) → Among enablers.now x → x < length texts.now }
-    ensures { OnOk result (Leaves at passed.now named.now enablers.now (texts_of texts.now) features.old.items features.new.items) }
+    ensures { OnOk result (Leaves at passed.now named.now enablers.now
+        (texts_of texts.now) features.old.items features.new.items) }
 {
     let enabled_by = set_of(alloc, enablers, texts)?;
     take_over(alloc, features, at, passed, named, texts)?;

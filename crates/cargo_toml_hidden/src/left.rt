@@ -1,5 +1,6 @@
 //! Hidden features are removed from features that stand in the byte order of their names.
-ghost use Rattle.std.specs.Prelude.{◌≡◌, ◌↔◌, ◌<◌, ◌≤◌, ℕ, Bool, IfOk, IsSome, IsTrue, Some, [], length, slice_get, true, false};
+ghost use Rattle.std.specs.Prelude.{◌≡◌, ◌↔◌, ◌<◌, ◌≤◌, ℕ, Bool, IfOk, IsSome};
+ghost use Rattle.std.specs.Prelude.{IsTrue, Some, [], length, slice_get, true, false};
 ghost use Rattle.std.specs.Option.{IsSomeAnd};
 ghost use Rattle.cargo_toml_graph.specs.Action.{Text};
 ghost use Rattle.cargo_toml_graph.specs.Graph.{IsUnremoved, Table};
@@ -34,8 +35,8 @@ pub struct Left<'m, S: BuildHasher> {
     pub hidden: HashMap<&'m str, BTreeSet<&'m str>, S>,
 }
 
-/// All features by their names, and nothing that stands for a removed one. It fails only where memory runs out, or the clone
-/// of `state` does.
+/// All features by their names, and nothing that stands for a removed one. It fails only where
+/// memory runs out, or the clone of `state` does.
 pub fn keep_all<'m, S: BuildHasher + Clone>(
     alloc: Global,
     state: &S,
@@ -45,12 +46,14 @@ pub fn keep_all<'m, S: BuildHasher + Clone>(
     requires in_order { AreInOrder features.items }
     requires count { length flags.now ≡ length features.items }
     requires none_flagged { (i : ℕ) → ¬ IsWanted flags.now true i }
-    ensures same { IfOk result (λ l. (f : Text) → value_at l.features f ≡ feature_at features.entry.items f) }
+    ensures same { IfOk result
+        (λ l. (f : Text) → value_at l.features f ≡ feature_at features.entry.items f) }
     ensures empty { IfOk result (λ l. l.hidden.entries ≡ []) }
     ensures keyed { IfOk result (λ l. IsKeyed l.features) }
-    ensures all { IfOk result (λ l. (t : Table) (removed : Text → Bool) →
-        IsUnremoved t (resolution_among features.entry.items) → ((f : Text) → ¬ IsTrue (removed f)) →
-        AreLeft t removed features.entry.items l.features l.hidden) }
+    ensures all { IfOk result (λ l. (t : Table) (removed : Text → Bool)
+        → IsUnremoved t (resolution_among features.entry.items)
+        → ((f : Text) → ¬ IsTrue (removed f))
+        → AreLeft t removed features.entry.items l.features l.hidden) }
 {
     let hidden = HashMap::with_hasher(alloc, state.clone()?);
     Ok(Left {
@@ -69,22 +72,26 @@ fn publish<'m, S: BuildHasher + Clone>(
     texts: &[&'m str],
 ) -> Result<Left<'m, S>, AllocError>
     requires flags { length features.items ≤ length flags.now }
-    requires names { (i j : ℕ) (v w : Feature) → slice_get features.items i ≡ Some v → slice_get features.items j ≡ Some w →
-        v.key.now ≡ w.key.now → i ≡ j }
+    requires names { (i j : ℕ) (v w : Feature) → slice_get features.items i ≡ Some v
+        → slice_get features.items j ≡ Some w → v.key.now ≡ w.key.now → i ≡ j }
     requires once { (i j : ℕ) → i < length texts.now → j < length texts.now →
         text_at (texts_of texts.now) i ≡ text_at (texts_of texts.now) j → i ≡ j }
     requires texts { length rows.now ≤ length texts.now }
     requires rows { length rows.now ≤ length flags.now }
     requires inside { (r x : ℕ) → Leads rows.now r x → x < length texts.now }
-    ensures kept { IfOk result (λ l. (i : ℕ) (v : Feature) → slice_get features.entry.items i ≡ Some v →
-        IsWanted flags.now false i → value_at l.features v.key.now ≡ Some v) }
-    ensures only { IfOk result (λ l. (f : Text) → IsSome (value_at l.features f) → (i : ℕ) × (v : Feature) ×
-        (slice_get features.entry.items i ≡ Some v) × IsWanted flags.now false i × (v.key.now ≡ f)) }
+    ensures kept { IfOk result
+        (λ l. (i : ℕ) (v : Feature) → slice_get features.entry.items i ≡ Some v
+        → IsWanted flags.now false i → value_at l.features v.key.now ≡ Some v) }
+    ensures only { IfOk result (λ l. (f : Text) → IsSome (value_at l.features f)
+        → (i : ℕ) × (v : Feature) × (slice_get features.entry.items i ≡ Some v)
+        × IsWanted flags.now false i × (v.key.now ≡ f)) }
     ensures keyed { IfOk result (λ l. IsKeyed l.features) }
-    ensures rows { IfOk result (λ l. (i : ℕ) → i < length rows.now → IsWanted flags.now true i →
-        IsSomeAnd (value_at l.hidden (text_at (texts_of texts.now) i)) (HasTexts (texts_of texts.now) (list_at rows.now i))) }
-    ensures only_rows { IfOk result (λ l. (r : Text) → IsSome (value_at l.hidden r) →
-        (i : ℕ) × (i < length rows.now) × (text_at (texts_of texts.now) i ≡ r) × IsWanted flags.now true i) }
+    ensures rows { IfOk result (λ l. (i : ℕ) → i < length rows.now → IsWanted flags.now true i
+        → IsSomeAnd (value_at l.hidden (text_at (texts_of texts.now) i))
+        (HasTexts (texts_of texts.now) (list_at rows.now i))) }
+    ensures only_rows { IfOk result (λ l. (r : Text) → IsSome (value_at l.hidden r)
+        → (i : ℕ) × (i < length rows.now) × (text_at (texts_of texts.now) i ≡ r)
+        × IsWanted flags.now true i) }
 {
     Ok(Left {
         features: hashed_kept(state.clone()?, alloc, features, flags)?,
@@ -92,7 +99,8 @@ fn publish<'m, S: BuildHasher + Clone>(
     })
 }
 
-/// Takes the features out whose flag stands. It fails only where memory runs out, or the clone of `state` does.
+/// Takes the features out whose flag stands. It fails only where memory runs out, or the
+/// clone of `state` does.
 pub fn take_out<'m, S: BuildHasher + Clone>(
     alloc: Global,
     state: &S,
@@ -102,9 +110,10 @@ pub fn take_out<'m, S: BuildHasher + Clone>(
     requires in_order { AreInOrder features.items }
     requires len { length flags.now ≡ length features.items }
     ensures keyed { IfOk result (λ l. IsKeyed l.features) }
-    ensures taken { IfOk result (λ l. (t : Table) (removed : Text → Bool) → AreTable t features.entry.items →
-        ((f : Text) → IsTrue (removed f) ↔ IsFlagged features.entry.items flags.now f) →
-        AreLeft t removed features.entry.items l.features l.hidden) }
+    ensures taken { IfOk result
+        (λ l. (t : Table) (removed : Text → Bool) → AreTable t features.entry.items
+        → ((f : Text) → IsTrue (removed f) ↔ IsFlagged features.entry.items flags.now f)
+        → AreLeft t removed features.entry.items l.features l.hidden) }
 {
     let Graph {
         texts,

@@ -1,5 +1,6 @@
 //! Features as a graph of numbers.
-ghost use Rattle.std.specs.Prelude.{◌≡◌, ◌≢◌, ◌↔◌, ◌⊎◌, ◌<◌, ◌≤◌, ℕ, IfOk, IfSome, IsTrue, None, OnOk, Some, length, map, true};
+ghost use Rattle.std.specs.Prelude.{◌≡◌, ◌≢◌, ◌↔◌, ◌⊎◌, ◌<◌, ◌≤◌, ℕ, IfOk, IfSome};
+ghost use Rattle.std.specs.Prelude.{IsTrue, None, OnOk, Some, length, map, true};
 ghost use Rattle.cargo_toml_graph.specs.Action.{Text};
 ghost use Rattle.cargo_toml_graph.specs.Admitted.{is_below};
 ghost use Rattle.cargo_toml_graph.specs.Graph.{IsPlain};
@@ -9,7 +10,8 @@ ghost use Rattle.cargo_toml_features.specs.InOrder.{AreInOrder, names_of, table_
 ghost use Rattle.cargo_toml_features.specs.Views.{action_at, action_of, has_text};
 ghost use Rattle.cargo_toml_walk.specs.Numbers.{IsWanted, Leads};
 ghost use Rattle.cargo_toml_walk.specs.Numbered.{IsNumbered, text_at};
-ghost use Rattle.cargo_toml_hidden.specs.Numbering.{AreParted, AreTextsOf, IsFlagged, IsTarget, is_named, names_at};
+ghost use Rattle.cargo_toml_hidden.specs.Numbering.{AreParted, AreTextsOf, IsFlagged};
+ghost use Rattle.cargo_toml_hidden.specs.Numbering.{IsTarget, is_named, names_at};
 ghost use Rattle.cargo_toml_hidden.specs.Texts.{texts_of};
 
 use cargo_toml_features::features::{DepAction, Feature};
@@ -18,7 +20,8 @@ use cargo_toml_walk::texts::in_order;
 use std::alloc::{AllocError, Global};
 use std::collections::{BTreeMap, BTreeSet};
 
-/// Features as a graph of numbers. The features have the numbers of their places; other texts that they name those after them.
+/// Features as a graph of numbers. The features have the numbers of their places; other texts that
+/// they name those after them.
 #[derive(Debug, Drop)]
 pub struct Graph<'m> {
     /// The texts of the numbers.
@@ -47,8 +50,8 @@ pub(crate) fn keys_of<'m>(
     Ok(keys)
 }
 
-// The named texts that are no keys are put at the end. The first name is looked for at `near` first; the answer is where to look
-// for one that follows.
+// The named texts that are no keys are put at the end. The first name is looked for at `near`
+// first; the answer is where to look for one that follows.
 fn push_others<'m>(
     others: &mut Vec<&'m str>,
     named: &BTreeSet<&'m str>,
@@ -56,7 +59,8 @@ fn push_others<'m>(
     mut near: usize,
 ) -> Result<usize, AllocError>
     requires { IsAscending (λ a b. IsTrue (is_below a b)) (texts_of keys.now) }
-    ensures { OnOk result ((x : Text) → Among (texts_of others.new.items) x ↔ (Among (texts_of others.old.items) x
+    ensures { OnOk result ((x : Text) → Among (texts_of others.new.items) x
+        ↔ (Among (texts_of others.old.items) x
         ⊎ (IsTrue (has_text named.now x) × (¬ Among (texts_of keys.now) x)))) }
 {
     for name in named.iter() {
@@ -78,7 +82,8 @@ fn others_of<'m>(
     requires { IsAscending (λ a b. IsTrue (is_below a b)) (texts_of keys.now) }
     ensures all { IfOk result (λ v. (x : Text) → Among (texts_of v.items) x
         ↔ (IsTrue (is_named features.now x) × (¬ Among (texts_of keys.now) x))) }
-    ensures ascending { IfOk result (λ v. IsAscending (λ a b. IsTrue (is_below a b)) (texts_of v.items)) }
+    ensures ascending { IfOk result
+        (λ v. IsAscending (λ a b. IsTrue (is_below a b)) (texts_of v.items)) }
 {
     let mut others = Vec::with_capacity(alloc, features.len())?;
     let mut near = 0;
@@ -99,10 +104,12 @@ fn all_texts<'m>(alloc: Global, features: &[Feature<'m>]) -> Result<Vec<&'m str>
     Ok(texts)
 }
 
-// The number of a text: its place among the first `count` texts, or else among those after them. It is looked for at `near` first.
+// The number of a text: its place among the first `count` texts, or else among those after them. It
+// is looked for at `near` first.
 fn number_of(texts: &[&str], count: usize, text: &str, near: usize) -> Option<usize>
     requires { AreParted count (texts_of texts.now) }
-    ensures found { IfSome result (λ i. (i < length texts.now) × (text_at (texts_of texts.now) i ≡ text.now)) }
+    ensures found { IfSome result
+        (λ i. (i < length texts.now) × (text_at (texts_of texts.now) i ≡ text.now)) }
     ensures missing { result ≡ None → ¬ Among (texts_of texts.now) text.now }
 {
     if let Some(place) = place_near(&texts[..count], text, near) {
@@ -150,8 +157,9 @@ fn name_rows(
 ) -> Result<Vec<Vec<usize>>, AllocError>
     requires { AreParted (length features.now) (texts_of texts.now) }
     ensures len { IfOk result (λ rows. length rows.items ≡ length features.now) }
-    ensures rows { IfOk result (λ rows. (i x : ℕ) → i < length features.now → Leads rows.items i x
-        ↔ ((x < length texts.now) × IsTrue (names_at features.now i (text_at (texts_of texts.now) x)))) }
+    ensures rows { IfOk result (λ rows. (i x : ℕ) → i < length features.now
+        → Leads rows.items i x ↔ ((x < length texts.now)
+        × IsTrue (names_at features.now i (text_at (texts_of texts.now) x)))) }
 {
     let mut rows = Vec::with_capacity(alloc, features.len())?;
     let mut near = 0;
@@ -176,7 +184,8 @@ fn named_targets(
     count: usize,
     own: usize,
 ) -> Result<Vec<usize>, AllocError>
-    ensures { IfOk result (λ row. (x : ℕ) → Among row.items x ↔ (Among named.now x × (x < count) × (x ≢ own))) }
+    ensures { IfOk result
+        (λ row. (x : ℕ) → Among row.items x ↔ (Among named.now x × (x < count) × (x ≢ own))) }
 {
     let mut row = Vec::with_capacity(alloc, named.len())?;
     for x in named {
@@ -209,7 +218,8 @@ pub(crate) fn push_target(
     Ok(target.saturating_add(1))
 }
 
-// A plain action enables the feature of the key's name, which is looked for at `near` first. The answer is as of `push_target`.
+// A plain action enables the feature of the key's name, which is looked for at `near` first. The
+// answer is as of `push_target`.
 fn push_action(
     row: &mut Vec<usize>,
     key: &str,
@@ -220,7 +230,8 @@ fn push_action(
 ) -> Result<usize, AllocError>
     requires { IsAscending (λ a b. IsTrue (is_below a b)) (texts_of keys.now) }
     ensures { OnOk result ((x : ℕ) → Among row.new.items x ↔ (Among row.old.items x
-        ⊎ (((x < length keys.now) × (x ≢ own) × (text_at (texts_of keys.now) x ≡ key.now)) × IsPlain (Some (action_of action.now))))) }
+        ⊎ (((x < length keys.now) × (x ≢ own) × (text_at (texts_of keys.now) x ≡ key.now))
+        × IsPlain (Some (action_of action.now))))) }
 {
     if action.is_conditional || action.is_dep_only {
         return Ok(near);
@@ -237,8 +248,9 @@ pub(crate) fn push_actions(
     own: usize,
 ) -> Result<(), AllocError>
     requires { IsAscending (λ a b. IsTrue (is_below a b)) (texts_of keys.now) }
-    ensures { OnOk result ((x : ℕ) → Among row.new.items x ↔ (Among row.old.items x
-        ⊎ ((x < length keys.now) × (x ≢ own) × IsPlain (action_at actions.now (text_at (texts_of keys.now) x))))) }
+    ensures { OnOk result ((x : ℕ) → Among row.new.items x
+        ↔ (Among row.old.items x ⊎ ((x < length keys.now) × (x ≢ own)
+        × IsPlain (action_at actions.now (text_at (texts_of keys.now) x))))) }
 {
     // Most features act on nothing, and to begin a walk over an empty map costs more than this.
     if actions.is_empty() {
@@ -260,8 +272,9 @@ fn edge_row(
     own: usize,
 ) -> Result<Vec<usize>, AllocError>
     requires { IsAscending (λ a b. IsTrue (is_below a b)) (texts_of keys.now) }
-    ensures { IfOk result (λ row. (x : ℕ) → Among row.items x ↔ ((x < length keys.now) × (x ≢ own)
-        × (Among named.now x ⊎ IsPlain (action_at feature.now.enables_deps (text_at (texts_of keys.now) x))))) }
+    ensures { IfOk result (λ row. (x : ℕ) → Among row.items x
+        ↔ ((x < length keys.now) × (x ≢ own) × (Among named.now x
+        ⊎ IsPlain (action_at feature.now.enables_deps (text_at (texts_of keys.now) x))))) }
 {
     let mut row = named_targets(alloc, named, keys.len(), own)?;
     push_actions(&mut row, &feature.enables_deps, keys, own)?;
@@ -293,7 +306,8 @@ fn edge_rows(
 fn all_flags(alloc: Global, flags: &[bool], size: usize) -> Result<Vec<bool>, AllocError>
     requires { length flags.now ≤ size }
     ensures len { IfOk result (λ v. length v.items ≡ size) }
-    ensures flags { IfOk result (λ v. (i : ℕ) → IsWanted v.items true i ↔ IsWanted flags.now true i) }
+    ensures flags { IfOk result
+        (λ v. (i : ℕ) → IsWanted v.items true i ↔ IsWanted flags.now true i) }
 {
     let mut all = Vec::with_capacity(alloc, size)?;
     all.extend_from_slice(flags)?;
@@ -301,8 +315,8 @@ fn all_flags(alloc: Global, flags: &[bool], size: usize) -> Result<Vec<bool>, Al
     Ok(all)
 }
 
-/// The features as a graph of numbers, with a flag for each number. An edge leads from a feature to another one that it names
-/// or acts on plainly. It fails only where memory runs out.
+/// The features as a graph of numbers, with a flag for each number. An edge leads from a feature to
+/// another one that it names or acts on plainly. It fails only where memory runs out.
 pub fn number<'m>(
     alloc: Global,
     features: &[Feature<'m>],
@@ -310,7 +324,8 @@ pub fn number<'m>(
 ) -> Result<Graph<'m>, AllocError>
     requires in_order { AreInOrder features.now }
     requires len { length flags.now ≡ length features.now }
-    ensures numbered { IfOk result (λ g. IsNumbered (table_among features.now) (IsFlagged features.now flags.now)
+    ensures numbered { IfOk result
+        (λ g. IsNumbered (table_among features.now) (IsFlagged features.now flags.now)
         (texts_of g.texts.items) g.edges.items g.names.items g.flags.items) }
     ensures count { IfOk result (λ g. length g.edges.items ≡ length features.now) }
     ensures vertices { IfOk result (λ g. (i : ℕ) → i < length features.now →

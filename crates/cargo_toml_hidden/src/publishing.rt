@@ -1,5 +1,6 @@
 //! What is left of features, in a hashed map.
-ghost use Rattle.std.specs.Prelude.{◌≡◌, ◌≤◌, ℕ, None, Some, bytes_eq, false, if◌then◌else◌, length, map, slice_get, IfOk, IsSome, IsTrue, OnOk};
+ghost use Rattle.std.specs.Prelude.{◌≡◌, ◌≤◌, ℕ, None, Some, bytes_eq, false, if◌then◌else◌};
+ghost use Rattle.std.specs.Prelude.{length, map, slice_get, IfOk, IsSome, IsTrue, OnOk};
 ghost use Rattle.std.specs.Option.{option_or};
 ghost use Rattle.cargo_toml_graph.specs.Action.{Text};
 ghost use Rattle.cargo_toml_graph.specs.Admitted.{is_below};
@@ -35,8 +36,9 @@ fn put_kept<'m, S: BuildHasher>(
     feature: Feature<'m>,
     is_removed: bool,
 ) -> Result<(), AllocError>
-    ensures { OnOk result ((k : Text) → value_at by_name.new k ≡ (if is_removed then value_at by_name.old k
-        else if bytes_eq k feature.entry.key.now then Some feature.entry else value_at by_name.old k)) }
+    ensures { OnOk result ((k : Text) → value_at by_name.new k
+        ≡ (if is_removed then value_at by_name.old k else if bytes_eq k feature.entry.key.now
+        then Some feature.entry else value_at by_name.old k)) }
 {
     if is_removed {
         return Ok(());
@@ -44,8 +46,8 @@ fn put_kept<'m, S: BuildHasher>(
     put(by_name, feature.key, feature)
 }
 
-/// The features whose flag doesn't stand by their names, in a hashed map; no two have one name. It fails only where memory runs
-/// out.
+/// The features whose flag doesn't stand by their names, in a hashed map; no two have one name. It
+/// fails only where memory runs out.
 pub fn hashed_kept<'m, S: BuildHasher + Drop>(
     state: S,
     alloc: Global,
@@ -53,12 +55,14 @@ pub fn hashed_kept<'m, S: BuildHasher + Drop>(
     flags: &[bool],
 ) -> Result<HashMap<&'m str, Feature<'m>, S>, AllocError>
     requires flags { length features.items ≤ length flags.now }
-    requires once { (i j : ℕ) (v w : Feature) → slice_get features.items i ≡ Some v → slice_get features.items j ≡ Some w →
-        v.key.now ≡ w.key.now → i ≡ j }
-    ensures kept { IfOk result (λ m. (i : ℕ) (v : Feature) → slice_get features.entry.items i ≡ Some v →
-        IsWanted flags.now false i → value_at m v.key.now ≡ Some v) }
-    ensures only { IfOk result (λ m. (f : Text) → IsSome (value_at m f) → (i : ℕ) × (v : Feature) ×
-        (slice_get features.entry.items i ≡ Some v) × IsWanted flags.now false i × (v.key.now ≡ f)) }
+    requires once { (i j : ℕ) (v w : Feature) → slice_get features.items i ≡ Some v
+        → slice_get features.items j ≡ Some w → v.key.now ≡ w.key.now → i ≡ j }
+    ensures kept { IfOk result
+        (λ m. (i : ℕ) (v : Feature) → slice_get features.entry.items i ≡ Some v
+        → IsWanted flags.now false i → value_at m v.key.now ≡ Some v) }
+    ensures only { IfOk result (λ m. (f : Text) → IsSome (value_at m f)
+        → (i : ℕ) × (v : Feature) × (slice_get features.entry.items i ≡ Some v)
+        × IsWanted flags.now false i × (v.key.now ≡ f)) }
     ensures keyed { IfOk result IsKeyed }
 {
     // room for the kept alone: with room for all, a map of some sizes takes twice the memory
@@ -88,7 +92,8 @@ fn put_value<'n, V: Drop, S: BuildHasher>(
     }
 }
 
-/// Values under names that ascend, of which some are without one, in a hashed map. It fails only where memory runs out.
+/// Values under names that ascend, of which some are without one, in a hashed map. It fails only
+/// where memory runs out.
 pub fn hashed<'n, V: Drop, S: BuildHasher + Drop>(
     state: S,
     alloc: Global,
@@ -97,7 +102,8 @@ pub fn hashed<'n, V: Drop, S: BuildHasher + Drop>(
 ) -> Result<HashMap<&'n str, V, S>, AllocError>
     requires ascend { IsAscending (λ a b. IsTrue (is_below a b)) (map (λ n. n.now) names.now) }
     requires count { length values.items ≡ length names.now }
-    ensures { IfOk result (λ m. (k : Text) → value_at m k ≡ held_among (map (λ n. n.now) names.now) values.items k) }
+    ensures { IfOk result
+        (λ m. (k : Text) → value_at m k ≡ held_among (map (λ n. n.now) names.now) values.items k) }
 {
     let mut by_name = HashMap::with_capacity_and_hasher(alloc, names.len(), state)?;
     let mut place = 0;

@@ -1,5 +1,6 @@
 //! What stands for removed features, in a map by their names.
-ghost use Rattle.std.specs.Prelude.{◌≡◌, ◌<◌, ◌≤◌, ℕ, true, IfOk, IsFalse, IsSome, OnOk, bytes_eq, length};
+ghost use Rattle.std.specs.Prelude.{◌≡◌, ◌<◌, ◌≤◌, ℕ, true, IfOk, IsFalse};
+ghost use Rattle.std.specs.Prelude.{IsSome, OnOk, bytes_eq, length};
 ghost use Rattle.std.specs.Option.{IsSomeAnd};
 ghost use Rattle.cargo_toml_graph.specs.Action.{Text};
 ghost use Rattle.cargo_toml_graph.specs.Reach.{Among};
@@ -23,8 +24,10 @@ fn put_row<'m, S: BuildHasher>(
     texts: &[&'m str],
 ) -> Result<(), AllocError>
     requires { (x : ℕ) → Among row.now x → x < length texts.now }
-    ensures here { OnOk result (IsSomeAnd (value_at hidden.new name.now) (HasTexts (texts_of texts.now) row.now)) }
-    ensures others { OnOk result ((q : Text) → IsFalse (bytes_eq name.now q) → value_at hidden.new q ≡ value_at hidden.old q) }
+    ensures here { OnOk result
+        (IsSomeAnd (value_at hidden.new name.now) (HasTexts (texts_of texts.now) row.now)) }
+    ensures others { OnOk result ((q : Text) → IsFalse (bytes_eq name.now q)
+        → value_at hidden.new q ≡ value_at hidden.old q) }
 {
     let row = set_of(alloc, row, texts)?;
     hidden.insert(name, row)?;
@@ -33,8 +36,8 @@ fn put_row<'m, S: BuildHasher>(
 
 /// What stands for each removed feature, by its name, in a hashed map: the texts of its row.
 ///
-/// The names of the features are the first of `texts`, one for each row, and those whose flag stands are removed. It fails only
-/// where memory runs out.
+/// The names of the features are the first of `texts`, one for each row, and those whose flag
+/// stands are removed. It fails only where memory runs out.
 pub fn hashed_rows<'m, S: BuildHasher + Drop>(
     alloc: Global,
     state: S,
@@ -42,15 +45,17 @@ pub fn hashed_rows<'m, S: BuildHasher + Drop>(
     flags: &[bool],
     texts: &[&'m str],
 ) -> Result<HashMap<&'m str, BTreeSet<&'m str>, S>, AllocError>
-    requires once { (i j : ℕ) → i < length texts.now → j < length texts.now →
-        text_at (texts_of texts.now) i ≡ text_at (texts_of texts.now) j → i ≡ j }
+    requires once { (i j : ℕ) → i < length texts.now → j < length texts.now
+        → text_at (texts_of texts.now) i ≡ text_at (texts_of texts.now) j → i ≡ j }
     requires texts { length rows.now ≤ length texts.now }
     requires flags { length rows.now ≤ length flags.now }
     requires inside { (r x : ℕ) → Leads rows.now r x → x < length texts.now }
-    ensures there { IfOk result (λ m. (i : ℕ) → i < length rows.now → IsWanted flags.now true i →
-        IsSomeAnd (value_at m (text_at (texts_of texts.now) i)) (HasTexts (texts_of texts.now) (list_at rows.now i))) }
-    ensures only { IfOk result (λ m. (r : Text) → IsSome (value_at m r) →
-        (i : ℕ) × (i < length rows.now) × (text_at (texts_of texts.now) i ≡ r) × IsWanted flags.now true i) }
+    ensures there { IfOk result (λ m. (i : ℕ) → i < length rows.now → IsWanted flags.now true i
+        → IsSomeAnd (value_at m (text_at (texts_of texts.now) i))
+        (HasTexts (texts_of texts.now) (list_at rows.now i))) }
+    ensures only { IfOk result (λ m. (r : Text) → IsSome (value_at m r)
+        → (i : ℕ) × (i < length rows.now) × (text_at (texts_of texts.now) i ≡ r)
+        × IsWanted flags.now true i) }
 {
     let count = flags.iter().filter(|flag| **flag).count();
     let mut hidden = HashMap::with_capacity_and_hasher(alloc, count, state)?;

@@ -1,5 +1,6 @@
 -- What the steps of linting find in what was gathered and resolved: no public contract rests on it.
-use Rattle.std.specs.Prelude.{◌≡◌, ◌⊎◌, ◌↔◌, ◌<◌, ◌+◌, ◌==◌, ℕ, Bool, false, ◌&&◌, ◌||◌, not, nat_lt, length, List, IsTrue, IsFalse, bytes_eq, codes}
+use Rattle.std.specs.Prelude.{◌≡◌, ◌⊎◌, ◌↔◌, ◌<◌, ◌+◌, ◌==◌, ℕ, Bool, false, ◌&&◌, ◌||◌}
+use Rattle.std.specs.Prelude.{not, nat_lt, length, List, IsTrue, IsFalse, bytes_eq, codes}
 use Rattle.std.specs.Borrow.{Bor}
 use Rattle.std.specs.HashMap.{HashMap}
 use Rattle.std.specs.List.{AllByRecursion, list_any}
@@ -14,11 +15,15 @@ use Rattle.cargo_toml.specs.Products.{ProductMeaning}
 use Rattle.cargo_toml.specs.Reach.{Among}
 use Rattle.cargo_toml.specs.Recursive.{Enables}
 use Rattle.cargo_toml.specs.Views.{has_text, resolution_of, table_in, value_at}
-use Rattle.cargo_toml_lint.specs.Findings.{IsTold, IsUnreachable, about_cmp, has_same_name, is_hidden, is_not_optional, is_required, is_unknown, rank}
+use Rattle.cargo_toml_lint.specs.Findings.{IsTold, IsUnreachable, about_cmp}
+use Rattle.cargo_toml_lint.specs.Findings.{has_same_name, is_hidden, is_not_optional}
+use Rattle.cargo_toml_lint.specs.Findings.{is_required, is_unknown, rank}
 use Rattle.cargo_toml_lint.specs.Known.{lists}
 use Rattle.cargo_toml_lint.specs.Names.{listed_by, names_in}
 use Rattle.cargo_toml_lint.specs.declared.finding.Code.{Code}
-use Rattle.cargo_toml_lint.specs.declared.finding.Code.TheVariants.{NotOptional, SameName, Unknown, Implied, PrivateDefault, Cycle, OverLimit, Unreachable}
+use Rattle.cargo_toml_lint.specs.declared.finding.Code.TheVariants.{NotOptional, SameName, Unknown}
+use Rattle.cargo_toml_lint.specs.declared.finding.Code.TheVariants.{Implied, PrivateDefault, Cycle}
+use Rattle.cargo_toml_lint.specs.declared.finding.Code.TheVariants.{OverLimit, Unreachable}
 use Rattle.cargo_toml_lint.specs.declared.finding.Finding.{Finding}
 use Rattle.cargo_toml_lint.specs.declared.known.Known.{Known}
 

@@ -6,7 +6,8 @@ ghost use Rattle.cargo_toml.specs.Reached.{IsKeyed};
 ghost use Rattle.cargo_toml.specs.Recursive.{Enables};
 ghost use Rattle.cargo_toml.specs.Views.{has_text, resolution_of, table_in, value_at};
 ghost use Rattle.cargo_toml_lint.specs.Findings.{is_hidden};
-ghost use Rattle.cargo_toml_lint.specs.Steps.{IsReached, IsRing, implied_at, only_default, private_default_at};
+ghost use Rattle.cargo_toml_lint.specs.Steps.{IsReached, IsRing, implied_at};
+ghost use Rattle.cargo_toml_lint.specs.Steps.{only_default, private_default_at};
 
 use cargo_toml::Error;
 use cargo_toml::features::Feature;

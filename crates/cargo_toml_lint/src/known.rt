@@ -7,7 +7,8 @@ ghost use Rattle.cargo_toml.specs.Manifests.{manifest_meaning};
 ghost use Rattle.cargo_toml.specs.Reads.{map_meaning};
 ghost use Rattle.cargo_toml.specs.Targets.{target_meaning};
 ghost use Rattle.cargo_toml.specs.Views.{has_text};
-ghost use Rattle.cargo_toml_lint.specs.Known.{has_entry, names_of, reserves, says, tables, tables_in};
+ghost use Rattle.cargo_toml_lint.specs.Known.{has_entry, names_of, reserves};
+ghost use Rattle.cargo_toml_lint.specs.Known.{says, tables, tables_in};
 ghost use Rattle.cargo_toml_lint.specs.Names.{listed_by, names_in, tried};
 
 use cargo_toml::{Dependency, DepsSet, FeatureSet, Manifest, Target, TargetDepsSet};

@@ -10,7 +10,8 @@ ghost use Rattle.cargo_toml.specs.Reached.{IsKeyed};
 ghost use Rattle.cargo_toml.specs.Views.{answer_of, has_text, table_in};
 ghost use Rattle.cargo_toml_lint.specs.declared.finding.Code.{Code};
 ghost use Rattle.cargo_toml_lint.specs.Findings.{AreInOrder, Holds, IsFound, IsTold, about};
-ghost use Rattle.cargo_toml_lint.specs.Steps.{Adds, AreErrors, AreHints, AreTold, AreWarnings, HoldsIn};
+ghost use Rattle.cargo_toml_lint.specs.Steps.{Adds, AreErrors, AreHints};
+ghost use Rattle.cargo_toml_lint.specs.Steps.{AreTold, AreWarnings, HoldsIn};
 
 use crate::adding::add_findings;
 use crate::finding::{Code, Finding};

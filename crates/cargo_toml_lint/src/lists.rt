@@ -1,10 +1,12 @@
 //! What is found of the lists of features, and of what binaries require.
-ghost use Rattle.std.specs.Prelude.{◌≡◌, ◌↔◌, ◌&&◌, ◌||◌, IfOk, IsTrue, OnOk, length, map, nat_lt, not, string_bytes};
+ghost use Rattle.std.specs.Prelude.{◌≡◌, ◌↔◌, ◌&&◌, ◌||◌, IfOk, IsTrue, OnOk};
+ghost use Rattle.std.specs.Prelude.{length, map, nat_lt, not, string_bytes};
 ghost use Rattle.std.specs.List.{list_any};
 ghost use Rattle.cargo_toml.specs.Action.{Text, item_of};
 ghost use Rattle.cargo_toml.specs.Products.{product_meaning};
 ghost use Rattle.cargo_toml.specs.Views.{has_text, table_in};
-ghost use Rattle.cargo_toml_lint.specs.Findings.{asks_for, has_same_name, is_missing, is_not_optional, is_required, is_unknown};
+ghost use Rattle.cargo_toml_lint.specs.Findings.{asks_for, has_same_name, is_missing};
+ghost use Rattle.cargo_toml_lint.specs.Findings.{is_not_optional, is_required, is_unknown};
 ghost use Rattle.cargo_toml_lint.specs.Known.{lists, says};
 ghost use Rattle.cargo_toml_lint.specs.Names.{listed_by, names_in};
 ghost use Rattle.cargo_toml_lint.specs.Steps.{explicit_at, over_at};

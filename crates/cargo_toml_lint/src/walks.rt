@@ -1,5 +1,6 @@
 //! What is found of the graph of features by walking it: by names, and to any depth.
-ghost use Rattle.std.specs.Prelude.{◌≡◌, ◌⊎◌, ◌↔◌, ◌&&◌, ◌||◌, false, IfOk, IfErr, IsTrue, OnOk, is_some, not};
+ghost use Rattle.std.specs.Prelude.{◌≡◌, ◌⊎◌, ◌↔◌, ◌&&◌, ◌||◌, false, IfOk};
+ghost use Rattle.std.specs.Prelude.{IfErr, IsTrue, OnOk, is_some, not};
 ghost use Rattle.std.specs.List.{list_any};
 ghost use Rattle.std.specs.Option.{option_map_or};
 ghost use Rattle.cargo_toml.specs.Action.{Text};

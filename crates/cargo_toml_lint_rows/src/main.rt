@@ -1,4 +1,5 @@
-//! Holds the findings to rows that are kept as data: manifests, and in `stdout` what is found of each.
+//! Holds the findings to rows that are kept as data: manifests, and in `stdout`
+//! what is found of each.
 //!
 //! The words of the command line name the manifests, as NAME, or NAME@LIMIT for a limit of items.
 #![tactic(auto)]

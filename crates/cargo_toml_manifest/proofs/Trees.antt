@@ -8,7 +8,7 @@ use Rattle.toml.specs.Data.{Data, Members, table}
 use Rattle.toml.specs.Parse.{parse_document}
 use Rattle.toml.specs.declared.value.Value.{Value}
 use Rattle.cargo_toml_parts.specs.declared.error.Error.{Error}
-use Rattle.cargo_toml_parts.specs.Floats.{has_no_float, refused_if}
+use Rattle.cargo_toml_parts.specs.Floats.{has_no_float, RefusedIf}
 use Rattle.cargo_toml_parts.specs.Reads.{IsReading}
 use Rattle.cargo_toml_manifest.specs.Texts.{IsFromBytes, IsFromText, IsTree, IsTreeOfBytes, tree_of}
 
@@ -18,7 +18,7 @@ told true d e same = (refl, cc)
 told false d e same = absurd cc
 
 on_tree : {X M : Type 0} (meaning : X → M) (reads : Data → Option M) (refuses : Data → Error → Type 0) (b : Bool) (d e : Data) (r : Result X Error) → b ≡ true → d ≡ e →
-    IsReading meaning (reads e) (refuses e) r → IsReading meaning (if b then reads d else None) (λ f. refused_if b (refuses d) f) r
+    IsReading meaning (reads e) (refuses e) r → IsReading meaning (if b then reads d else None) (λ f. RefusedIf b (refuses d) f) r
 on_tree meaning reads refuses b d e (Ok x) no_float same read = rw (no_float, same) read
 on_tree meaning reads refuses b d e (Err f) no_float same (inl memory) = inl memory
 on_tree meaning reads refuses b d e (Err f) no_float same (inr (none, fault)) =

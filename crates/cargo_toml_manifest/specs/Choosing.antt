@@ -1,5 +1,6 @@
 -- From which workspace a manifest inherits.
-use Rattle.std.specs.Prelude.{◌≡◌, ◌⊎◌, List, ℕ, [], Bool, true, false, Option, Some, None, option_map, option_and_then}
+use Rattle.std.specs.Prelude.{◌≡◌, ◌⊎◌, List, ℕ, [], Bool, true, false}
+use Rattle.std.specs.Prelude.{Option, Some, None, option_map, option_and_then}
 use Rattle.cargo_toml_manifest.specs.Inheriting.{Shared, shared, needs}
 use Rattle.cargo_toml_manifest.specs.Manifests.{ManifestMeaning}
 use Rattle.cargo_toml_manifest.specs.Told.{ToldRoot, root, no_root, open_root}
@@ -8,7 +9,8 @@ use Rattle.cargo_toml_manifest.specs.declared.manifest.Manifest.{Manifest}
 use Rattle.cargo_toml_manifest.specs.declared.workspace.Workspace.{Workspace}
 use denote.Ref.{Bor}
 
--- a workspace that is handed in: what its manifest shares, where it has a workspace table, and the path
+-- a workspace that is handed in: what its manifest shares, where it has a workspace
+-- table, and the path
 abbrev pub Handed : Type 0
 Handed = Option Shared × List ℕ
 
@@ -22,7 +24,8 @@ handed_of handed = (shared_of handed.0.now.workspace, handed.1.now)
 abbrev pub RootsTold : Type 0
 RootsTold = Option (List ℕ) → ToldRoot
 
--- no inheritance; this workspace table, or none, with its path; that none was found; or that nothing is told of it
+-- no inheritance; this workspace table, or none, with its path; that none was found; or that
+-- nothing is told of it
 pub data Choice : Type 0 where
   alone : Choice
   from : Option Shared → List ℕ → Choice
@@ -51,4 +54,5 @@ choice m None told = own_choice (option_map shared m.workspace) (needs m) (told 
 
 -- answers in place of what isn't told, with the rest as it is told
 abbrev pub AnswersRoots : RootsTold → RootsTold → Type 0
-AnswersRoots told answered = (hint : Option (List ℕ)) → (told hint ≡ answered hint) ⊎ (told hint ≡ open_root)
+AnswersRoots told answered =
+    (hint : Option (List ℕ)) → (told hint ≡ answered hint) ⊎ (told hint ≡ open_root)

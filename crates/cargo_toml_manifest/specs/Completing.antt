@@ -8,13 +8,15 @@ use Rattle.cargo_toml_discovery.specs.Answers.{Answers, filled}
 use Rattle.cargo_toml_discovery.specs.Names.{Text}
 use Rattle.cargo_toml_discovery.specs.Seen.{IsOneOf, Seen, seen, faulty, unclear}
 use Rattle.cargo_toml_discovery.specs.Told.{Told}
-use Rattle.cargo_toml_manifest.specs.Choosing.{AnswersRoots, Choice, Handed, RootsTold, alone, from, lost, unclear_root, choice, hint_of, told_choice}
+use Rattle.cargo_toml_manifest.specs.Choosing.{AnswersRoots, Choice, Handed, RootsTold, alone, from}
+use Rattle.cargo_toml_manifest.specs.Choosing.{lost, unclear_root, choice, hint_of, told_choice}
 use Rattle.cargo_toml_manifest.specs.Finding.{found_around}
 use Rattle.cargo_toml_manifest.specs.Inheriting.{inherited_manifest}
 use Rattle.cargo_toml_manifest.specs.Manifests.{ManifestMeaning}
 use Rattle.cargo_toml_manifest.specs.Told.{ToldRoot, open_root}
 
--- what completion gives: a value, one of these faults, any fault of the search for a root with this path, or what isn't told
+-- what completion gives: a value, one of these faults, any fault of the search for a root with this
+-- path, or what isn't told
 pub data Outcome (A : Type 0) : Type 0 where
   gives : A → Outcome A
   refuses : List Fault → Outcome A
@@ -28,21 +30,27 @@ seen_at path (faulty faults) = refuses (map (wrap path) faults)
 seen_at path unclear = untold
 
 -- what is found comes after what is inherited, whose fault is told with the same path
-abbrev pub then_found : {M : Type 0} → Option (List ℕ) → (Text → Told) → Result (ManifestMeaning M) Fault → Outcome (ManifestMeaning M)
+abbrev pub then_found : {M : Type 0} → Option (List ℕ) → (Text → Told)
+    → Result (ManifestMeaning M) Fault → Outcome (ManifestMeaning M)
 then_found path told (Ok m) = seen_at path (found_around m told)
 then_found path told (Err fault) = refuses (wrap path fault ∷ [])
 
-abbrev pub complete_by : {M : Type 0} → ManifestMeaning M → Choice → (Text → Told) → Outcome (ManifestMeaning M)
+abbrev pub complete_by : {M : Type 0} → ManifestMeaning M → Choice → (Text → Told)
+    → Outcome (ManifestMeaning M)
 complete_by m alone told = then_found None told (Ok m)
-complete_by m (from workspace path) told = then_found (Some path) told (inherited_manifest workspace (workspace_folder path) m)
+complete_by m (from workspace path) told =
+    then_found (Some path) told (inherited_manifest workspace (workspace_folder path) m)
 complete_by m lost told = no_workspace (hint_of m)
 complete_by m unclear_root told = untold
 
--- a manifest after completion, by the workspace that is handed in, if any, and by what is told of roots and of folders
-abbrev pub complete : {M : Type 0} → ManifestMeaning M → Option Handed → RootsTold → (Text → Told) → Outcome (ManifestMeaning M)
+-- a manifest after completion, by the workspace that is handed in, if any, and by what is told of
+-- roots and of folders
+abbrev pub complete : {M : Type 0} → ManifestMeaning M → Option Handed → RootsTold → (Text → Told)
+    → Outcome (ManifestMeaning M)
 complete m handed roots told = complete_by m (choice m handed roots) told
 
--- an answer is the outcome, or there was no memory; where the outcome isn't told, it is not said here
+-- an answer is the outcome, or there was no memory; where the outcome isn't told,
+-- it is not said here
 abbrev pub Meets : {T A : Type 0} → (T → A) → Outcome A → Result T Error → Type 0
 Meets f untold result = Unit {0}
 Meets f (gives x) (Ok t) = f t ≡ x
@@ -50,16 +58,19 @@ Meets f (gives x) (Err e) = e ≡ Memory
 Meets f (refuses faults) (Ok t) = ⊥
 Meets f (refuses faults) (Err e) = (e ≡ Memory) ⊎ IsOneOf (fault_of e) faults
 Meets f (no_workspace path) (Ok t) = ⊥
-Meets f (no_workspace path) (Err e) = (e ≡ Memory) ⊎ ((fault : Fault) × (fault_of e ≡ wrap path fault))
+Meets f (no_workspace path) (Err e) =
+    (e ≡ Memory) ⊎ ((fault : Fault) × (fault_of e ≡ wrap path fault))
 
 -- the value is what completion gives by some answers, finitely many of them for folders
-abbrev pub GivenBy : {M : Type 0} → ManifestMeaning M → Option Handed → RootsTold → (Text → Told) → ManifestMeaning M → Type 0
+abbrev pub GivenBy : {M : Type 0} → ManifestMeaning M → Option Handed → RootsTold → (Text → Told)
+    → ManifestMeaning M → Type 0
 GivenBy m handed roots told n =
     (answered : RootsTold) × AnswersRoots roots answered
     × ((answers : Answers) × (complete m handed answered (filled told answers) ≡ gives n))
 
 -- the same of the root alone, where a root is looked up
-abbrev pub GivenByRoot : {M : Type 0} → ManifestMeaning M → ToldRoot → (Text → Told) → ManifestMeaning M → Type 0
+abbrev pub GivenByRoot : {M : Type 0} → ManifestMeaning M → ToldRoot → (Text → Told)
+    → ManifestMeaning M → Type 0
 GivenByRoot m lookup told n =
     (answered : ToldRoot) × ((lookup ≡ answered) ⊎ (lookup ≡ open_root))
     × ((answers : Answers) × (complete_by m (told_choice answered) (filled told answers) ≡ gives n))
@@ -67,4 +78,5 @@ GivenByRoot m lookup told n =
 -- completing the result again, with the same workspace and by what is told alike, gives it again
 abbrev pub IsLasting : {M : Type 0} → ManifestMeaning M → Option Handed → ManifestMeaning M → Type 0
 IsLasting m handed n =
-    (roots : RootsTold) (told : Text → Told) → complete m handed roots told ≡ gives n → complete n handed roots told ≡ gives n
+    (roots : RootsTold) (told : Text → Told) → complete m handed roots told ≡ gives n
+    → complete n handed roots told ≡ gives n

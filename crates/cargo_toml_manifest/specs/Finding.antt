@@ -5,7 +5,8 @@ use Rattle.cargo_toml_parts.specs.declared.inheritable.Inheritable.TheVariants.{
 use Rattle.cargo_toml_settings.specs.Settings.{flag}
 use Rattle.cargo_toml_settings.specs.declared.settings.Edition.TheVariants.{E2015}
 use Rattle.cargo_toml_discovery.specs.Around.{around}
-use Rattle.cargo_toml_discovery.specs.Discovering.{StatedMeaning, DiscoveredMeaning, discovered, discovered_meaning}
+use Rattle.cargo_toml_discovery.specs.Discovering.{StatedMeaning, DiscoveredMeaning}
+use Rattle.cargo_toml_discovery.specs.Discovering.{discovered, discovered_meaning}
 use Rattle.cargo_toml_discovery.specs.Names.{Text}
 use Rattle.cargo_toml_discovery.specs.Seen.{Seen, seen, seen_as}
 use Rattle.cargo_toml_discovery.specs.Told.{Told}
@@ -40,7 +41,8 @@ stated_by m p = record {
 }
 
 -- the manifest with this package, and what was found
-abbrev pub with_discovered : {M : Type 0} → ManifestMeaning M → PackageMeaning M → DiscoveredMeaning → ManifestMeaning M
+abbrev pub with_discovered : {M : Type 0} → ManifestMeaning M → PackageMeaning M → DiscoveredMeaning
+    → ManifestMeaning M
 with_discovered m p d = record m {
   «package» = Some (record p { build = d.build; readme = Set d.readme });
   lib = d.lib;
@@ -51,15 +53,19 @@ with_discovered m p d = record m {
 }
 
 -- the manifest with what is found around it: nothing is looked for without a package
-abbrev pub found_for : {M : Type 0} → ManifestMeaning M → Option (PackageMeaning M) → (Text → Told) → Seen (ManifestMeaning M)
+abbrev pub found_for : {M : Type 0} → ManifestMeaning M → Option (PackageMeaning M) → (Text → Told)
+    → Seen (ManifestMeaning M)
 found_for m None told = seen m
-found_for m (Some p) told = seen_as (λ a. with_discovered m p (discovered (stated_by m p) a)) (around told (wanted_by p))
+found_for m (Some p) told =
+    seen_as (λ a. with_discovered m p (discovered (stated_by m p) a)) (around told (wanted_by p))
 
-abbrev pub found_around : {M : Type 0} → ManifestMeaning M → (Text → Told) → Seen (ManifestMeaning M)
+abbrev pub found_around : {M : Type 0} → ManifestMeaning M → (Text → Told)
+    → Seen (ManifestMeaning M)
 found_around m told = found_for m m.«package» told
 
 -- the manifest, once what was found is put in, where it has a package
-abbrev pub with_found_for : {M : Type 0} → ManifestMeaning M → Option (PackageMeaning M) → Option Discovered → ManifestMeaning M
+abbrev pub with_found_for : {M : Type 0} → ManifestMeaning M → Option (PackageMeaning M)
+    → Option Discovered → ManifestMeaning M
 with_found_for m (Some p) (Some d) = with_discovered m p (discovered_meaning d)
 with_found_for m p d = m
 

@@ -1,12 +1,14 @@
 -- What a manifest becomes whose parts are left to the workspace.
-use Rattle.std.specs.Prelude.{ℕ, List, codes, Bool, false, not, ◌||◌, Option, Some, None, option_map, option_and_then, Result, Ok, Err}
+use Rattle.std.specs.Prelude.{ℕ, List, codes, Bool, false, not, ◌||◌, Option, Some}
+use Rattle.std.specs.Prelude.{None, option_map, option_and_then, Result, Ok, Err}
 use Rattle.std.specs.Option.{option_map_or}
 use Rattle.cargo_toml_parts.specs.Answers.{◌>>=◌}
 use Rattle.cargo_toml_parts.specs.FaultValues.{Fault, workspace_integrity}
 use Rattle.cargo_toml_parts.specs.InheritableValues.{is_set}
 use Rattle.cargo_toml_parts.specs.declared.inheritable.Inheritable.{Inheritable}
 use Rattle.cargo_toml_parts.specs.declared.inheritable.Inheritable.TheVariants.{Set, Inherited}
-use Rattle.cargo_toml_dependencies.specs.Inheriting.{Entries, inherited_target, inherited_targets, any_left, any_target_left}
+use Rattle.cargo_toml_dependencies.specs.Inheriting.{Entries, inherited_target, inherited_targets}
+use Rattle.cargo_toml_dependencies.specs.Inheriting.{any_left, any_target_left}
 use Rattle.cargo_toml_dependencies.specs.Targets.{TargetMeaning}
 use Rattle.cargo_toml_package.specs.Inheriting.{inherited_package, any_field_left}
 use Rattle.cargo_toml_package.specs.Packages.{PackageMeaning}
@@ -31,10 +33,12 @@ shared w = record { template = w.«package»; dependencies = w.dependencies; lin
 abbrev pub inherited_lints : Option Lints → Inheritable Lints → Result (Inheritable Lints) Fault
 inherited_lints table (Set lints) = Ok (Set lints)
 inherited_lints (Some lints) Inherited = Ok (Set lints)
-inherited_lints None Inherited = Err (workspace_integrity (codes "lints are inherited, but there is no workspace table"))
+inherited_lints None Inherited =
+    Err (workspace_integrity (codes "lints are inherited, but there is no workspace table"))
 
 -- the package, where there is one
-abbrev pub inherited_if_there : {M : Type 0} → Option TemplateMeaning → List ℕ → Option (PackageMeaning M) → Result (Option (PackageMeaning M)) Fault
+abbrev pub inherited_if_there : {M : Type 0} → Option TemplateMeaning → List ℕ
+    → Option (PackageMeaning M) → Result (Option (PackageMeaning M)) Fault
 inherited_if_there template base None = Ok None
 inherited_if_there template base (Some p) = do
   q ← inherited_package template base p
@@ -48,9 +52,11 @@ own_tables m = record {
   build_dependencies = m.build_dependencies;
 }
 
--- a manifest after inheritance of dependencies from these templates, of lints and of package fields, whose paths are joined to
--- `base`: each part is looked up in what was written, and the first fault in this order counts
-abbrev pub inherited_from : {M : Type 0} → Option Entries → Option Lints → Option TemplateMeaning → List ℕ → ManifestMeaning M → Result (ManifestMeaning M) Fault
+-- a manifest after inheritance of dependencies from these templates, of lints and of package
+-- fields, whose paths are joined to `base`: each part is looked up in what was written, and the
+-- first fault in this order counts
+abbrev pub inherited_from : {M : Type 0} → Option Entries → Option Lints → Option TemplateMeaning
+    → List ℕ → ManifestMeaning M → Result (ManifestMeaning M) Fault
 inherited_from templates groups template base m = do
   tables ← inherited_target templates base (own_tables m)
   target ← inherited_targets templates base m.target
@@ -66,10 +72,11 @@ inherited_from templates groups template base m = do
   })
 
 -- the same from a workspace, whose folder is `base`
-abbrev pub inherited_manifest : {M : Type 0} → Option Shared → List ℕ → ManifestMeaning M → Result (ManifestMeaning M) Fault
+abbrev pub inherited_manifest : {M : Type 0} → Option Shared → List ℕ → ManifestMeaning M
+    → Result (ManifestMeaning M) Fault
 inherited_manifest workspace base m =
-    inherited_from (option_map (λ w. w.dependencies) workspace) (option_map (λ w. w.lints) workspace)
-    (option_and_then (λ w. w.template) workspace) base m
+    inherited_from (option_map (λ w. w.dependencies) workspace)
+    (option_map (λ w. w.lints) workspace) (option_and_then (λ w. w.template) workspace) base m
 
 -- whether something of the manifest is left to the workspace
 abbrev pub needs : {M : Type 0} → ManifestMeaning M → Bool

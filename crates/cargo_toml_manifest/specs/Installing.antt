@@ -12,7 +12,8 @@ use Rattle.cargo_toml_manifest.specs.Manifests.{ManifestMeaning}
 use Rattle.cargo_toml_manifest.specs.declared.finding.Completion.{Completion}
 use Rattle.cargo_toml_manifest.specs.declared.inheriting.NewParts.{NewParts}
 
-abbrev pub installed_if_there : {M : Type 0} → Option (PackageMeaning M) → Option NewFields → Option (PackageMeaning M)
+abbrev pub installed_if_there : {M : Type 0} → Option (PackageMeaning M) → Option NewFields
+    → Option (PackageMeaning M)
 installed_if_there (Some p) (Some new) = Some (installed_package p new)
 installed_if_there p new = p
 

@@ -1,25 +1,31 @@
 -- What a manifest holds, and which trees are manifests.
-use Rattle.std.specs.Prelude.{◌⊎◌, ℕ, List, [], map, Bool, false, ◌&&◌, ◌==◌, if◌then◌else◌, length, Option, Some, None, option_map, option_and_then, string_bytes}
+use Rattle.std.specs.Prelude.{◌⊎◌, ℕ, List, [], map, Bool, false, ◌&&◌, ◌==◌, if◌then◌else◌, length}
+use Rattle.std.specs.Prelude.{Option, Some, None, option_map, option_and_then, string_bytes}
 use Rattle.toml.specs.Data.{Data, Members, no_members, as_table}
 use Rattle.cargo_toml_parts.specs.declared.error.Error.{Error}
 use Rattle.cargo_toml_parts.specs.declared.inheritable.Inheritable.{Inheritable}
 use Rattle.cargo_toml_parts.specs.declared.inheritable.Inheritable.TheVariants.{Set, Inherited}
 use Rattle.cargo_toml_tables.specs.Badges.{BadgesMeaning, badges_meaning, badges_of}
-use Rattle.cargo_toml_dependencies.specs.Dependencies.{DependencyMeaning, dependency_meaning, dependency_of}
+use Rattle.cargo_toml_dependencies.specs.Dependencies.{DependencyMeaning}
+use Rattle.cargo_toml_dependencies.specs.Dependencies.{dependency_meaning, dependency_of}
 use Rattle.cargo_toml_dependencies.specs.Details.{Detail, detail_of}
 use Rattle.cargo_toml_dependencies.specs.Features.{features_of, no_features}
-use Rattle.cargo_toml_parts.specs.Inherits.{inheritable_map, inheritable_of, inheritable_refuses}
+use Rattle.cargo_toml_parts.specs.Inherits.{inheritable_map, inheritable_of, InheritableRefuses}
 use Rattle.cargo_toml_tables.specs.Lints.{LintMeaning, lint_meaning, lint_of}
 use Rattle.cargo_toml_tables.specs.Products.{ProductMeaning, product_meaning, product_of}
-use Rattle.cargo_toml_tables.specs.Profiles.{ProfilesMeaning, profiles_meaning, profiles_of, profiles_faults}
-use Rattle.cargo_toml_parts.specs.Reads.{◌>>=◌, array_of, map_of, map_meaning, optional_at, given_at, map_at, fault_at, table_refuses, plain}
+use Rattle.cargo_toml_tables.specs.Profiles.{ProfilesMeaning, profiles_meaning}
+use Rattle.cargo_toml_tables.specs.Profiles.{profiles_of, ProfilesFaults}
+use Rattle.cargo_toml_parts.specs.Reads.{◌>>=◌, array_of, map_of, map_meaning, optional_at}
+use Rattle.cargo_toml_parts.specs.Reads.{given_at, map_at, FaultAt, TableRefuses, plain}
 use Rattle.cargo_toml_settings.specs.Settings.{Registries, everywhere, among}
 use Rattle.cargo_toml_dependencies.specs.Targets.{TargetMeaning, target_meaning, target_of}
 use Rattle.cargo_toml_parts.specs.Versions.{Parts}
 use Rattle.cargo_toml_manifest.specs.declared.manifest.Manifest.{Manifest}
 use Rattle.cargo_toml_parts.specs.Keys.{inherited_at}
-use Rattle.cargo_toml_package.specs.Packages.{PackageMeaning, package_meaning, package_reads, package_refuses}
-use Rattle.cargo_toml_manifest.specs.Workspaces.{WorkspaceMeaning, workspace_meaning, workspace_reads, workspace_refuses}
+use Rattle.cargo_toml_package.specs.Packages.{PackageMeaning, package_meaning}
+use Rattle.cargo_toml_package.specs.Packages.{package_reads, PackageRefuses}
+use Rattle.cargo_toml_manifest.specs.Workspaces.{WorkspaceMeaning, workspace_meaning}
+use Rattle.cargo_toml_manifest.specs.Workspaces.{workspace_reads, WorkspaceRefuses}
 
 -- what a manifest holds, whose metadata are M
 pub record ManifestMeaning (M : Type 0) : Type 0 where
@@ -66,7 +72,8 @@ manifest_meaning f m = record {
 
 -- the version is 0.0.0, without pre-release and build metadata
 abbrev pub is_zero : Inheritable Parts → Bool
-is_zero (Set p) = (p.0 == 0) && ((p.1 == 0) && ((p.2 == 0) && ((length p.3 == 0) && (length p.4 == 0))))
+is_zero (Set p) =
+    (p.0 == 0) && ((p.1 == 0) && ((p.2 == 0) && ((length p.3 == 0) && (length p.4 == 0))))
 is_zero Inherited = false
 
 -- nothing says where the package may be published, or `true` does
@@ -92,15 +99,16 @@ product_reads d = option_and_then product_of (as_table d)
 abbrev pub profiles_reads : Data → Option ProfilesMeaning
 profiles_reads d = option_and_then profiles_of (as_table d)
 
-abbrev pub profiles_refuse : Data → Error → Type 0
-profiles_refuse d e = table_refuses profiles_faults (as_table d) e
+abbrev pub ProfilesRefuse : Data → Error → Type 0
+ProfilesRefuse d e = TableRefuses ProfilesFaults (as_table d) e
 
 abbrev pub badges_reads : Data → Option BadgesMeaning
 badges_reads d = option_map badges_of (as_table d)
 
 -- no profile, and no badge
 abbrev pub no_profiles : ProfilesMeaning
-no_profiles = record { release = None; dev = None; test = None; bench = None; doc = None; custom = [] }
+no_profiles =
+    record { release = None; dev = None; test = None; bench = None; doc = None; custom = [] }
 
 abbrev pub no_badges : BadgesMeaning
 no_badges = badges_of no_members
@@ -147,29 +155,33 @@ manifest_of metadata_of ms = do
   })
 
 -- what may be wrong with a manifest
-abbrev pub manifest_faults : {M : Type 0} → (Data → Option M) → (Data → Error → Type 0) → Members → Error → Type 0
-manifest_faults metadata_of metadata_refuses ms e =
-    fault_at "package" (package_reads metadata_of) (package_refuses metadata_of metadata_refuses) ms e
-    ⊎ fault_at "workspace" (workspace_reads metadata_of) (workspace_refuses metadata_of metadata_refuses) ms e
-    ⊎ fault_at "dependencies" (map_of dependency_of) plain ms e
-    ⊎ fault_at "dev-dependencies" (map_of dependency_of) plain ms e
-    ⊎ fault_at "build-dependencies" (map_of dependency_of) plain ms e
-    ⊎ fault_at "target" (map_of target_reads) plain ms e
-    ⊎ fault_at "features" features_of plain ms e
-    ⊎ fault_at "replace" (map_of dependency_of) plain ms e
-    ⊎ fault_at "patch" (map_of (map_of dependency_of)) plain ms e
-    ⊎ fault_at "lib" product_reads plain ms e
-    ⊎ fault_at "profile" profiles_reads profiles_refuse ms e
-    ⊎ fault_at "badges" badges_reads plain ms e
-    ⊎ fault_at "bin" (array_of product_reads) plain ms e
-    ⊎ fault_at "bench" (array_of product_reads) plain ms e
-    ⊎ fault_at "test" (array_of product_reads) plain ms e
-    ⊎ fault_at "example" (array_of product_reads) plain ms e
-    ⊎ fault_at "lints" (inheritable_of (map_of (map_of lint_of))) inheritable_refuses ms e
+abbrev pub ManifestFaults : {M : Type 0} → (Data → Option M) → (Data → Error → Type 0) → Members
+    → Error → Type 0
+ManifestFaults metadata_of metadata_refuses ms e =
+    FaultAt "package" (package_reads metadata_of) (PackageRefuses metadata_of metadata_refuses) ms e
+    ⊎ FaultAt "workspace" (workspace_reads metadata_of)
+    (WorkspaceRefuses metadata_of metadata_refuses) ms e
+    ⊎ FaultAt "dependencies" (map_of dependency_of) plain ms e
+    ⊎ FaultAt "dev-dependencies" (map_of dependency_of) plain ms e
+    ⊎ FaultAt "build-dependencies" (map_of dependency_of) plain ms e
+    ⊎ FaultAt "target" (map_of target_reads) plain ms e
+    ⊎ FaultAt "features" features_of plain ms e
+    ⊎ FaultAt "replace" (map_of dependency_of) plain ms e
+    ⊎ FaultAt "patch" (map_of (map_of dependency_of)) plain ms e
+    ⊎ FaultAt "lib" product_reads plain ms e
+    ⊎ FaultAt "profile" profiles_reads ProfilesRefuse ms e
+    ⊎ FaultAt "badges" badges_reads plain ms e
+    ⊎ FaultAt "bin" (array_of product_reads) plain ms e
+    ⊎ FaultAt "bench" (array_of product_reads) plain ms e
+    ⊎ FaultAt "test" (array_of product_reads) plain ms e
+    ⊎ FaultAt "example" (array_of product_reads) plain ms e
+    ⊎ FaultAt "lints" (inheritable_of (map_of (map_of lint_of))) InheritableRefuses ms e
 
 -- the manifest of a tree
 abbrev pub manifest_reads : {M : Type 0} → (Data → Option M) → Data → Option (ManifestMeaning M)
 manifest_reads metadata_of d = option_and_then (manifest_of metadata_of) (as_table d)
 
-abbrev pub manifest_refuses : {M : Type 0} → (Data → Option M) → (Data → Error → Type 0) → Data → Error → Type 0
-manifest_refuses metadata_of metadata_refuses d e = table_refuses (manifest_faults metadata_of metadata_refuses) (as_table d) e
+abbrev pub ManifestRefuses : {M : Type 0} → (Data → Option M) → (Data → Error → Type 0) → Data
+    → Error → Type 0
+ManifestRefuses metadata_of metadata_refuses d e =
+    TableRefuses (ManifestFaults metadata_of metadata_refuses) (as_table d) e

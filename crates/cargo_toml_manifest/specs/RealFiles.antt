@@ -1,5 +1,8 @@
--- Files on the disk: where they are looked for, which root is found among them, and what faults they give.
-use Rattle.std.specs.Prelude.{◌≡◌, ◌⊎◌, ℕ, suc, zero, List, ◌++◌, codes, length, ◌==◌, if◌then◌else◌, Bool, true, false, Option, Some, None, option_and_then, is_some, Result, Ok, Err, IsUtf8}
+-- Files on the disk: where they are looked for, which root is found among them, and
+-- what faults they give.
+use Rattle.std.specs.Prelude.{◌≡◌, ◌⊎◌, ℕ, suc, zero, List, ◌++◌, codes, length, ◌==◌}
+use Rattle.std.specs.Prelude.{if◌then◌else◌, Bool, true, false, Option, Some, None}
+use Rattle.std.specs.Prelude.{option_and_then, is_some, Result, Ok, Err, IsUtf8}
 use Rattle.std.specs.Prelude.{Box}
 use Rattle.std.specs.Path.{path_join, path_parent}
 use Rattle.std.specs.declared.alloc.Global.{Global}
@@ -9,7 +12,8 @@ use Rattle.toml.specs.Data.{Data}
 use Rattle.toml.specs.Parse.{parse_document}
 use Rattle.toml.specs.declared.value.Value.{Value}
 use Rattle.cargo_toml_parts.specs.declared.error.Error.{Error, Memory}
-use Rattle.cargo_toml_parts.specs.FaultValues.{Fault, fault_of, io, other, workspace, workspace_integrity}
+use Rattle.cargo_toml_parts.specs.FaultValues.{Fault, fault_of, io, other}
+use Rattle.cargo_toml_parts.specs.FaultValues.{workspace, workspace_integrity}
 use Rattle.cargo_toml_discovery.specs.Told.{Told, open_path}
 use Rattle.cargo_toml_manifest.specs.Choosing.{Handed, RootsTold}
 use Rattle.cargo_toml_manifest.specs.Completing.{GivenBy, Meets, complete}
@@ -68,7 +72,8 @@ expected_workspace path = codes "Manifest at " ++ path ++ codes " was expected t
 abbrev pub IsRootManifest : Manifest Value → Type 0
 IsRootManifest m = (is_some m.workspace ≡ true) × ((bytes : List ℕ) × IsFromSlice bytes (Ok m))
 
--- the fault of the bytes of a file at this path: their own, or that they are a manifest without a workspace
+-- the fault of the bytes of a file at this path: their own, or that they are a manifest
+-- without a workspace
 abbrev pub IsNoWorkspace : List ℕ → List ℕ → Error → Type 0
 IsNoWorkspace bytes path e =
     IsFromSlice bytes (Err e)
@@ -79,10 +84,12 @@ IsNoWorkspace bytes path e =
 
 -- a workspace's manifest of these bytes, or why they are none
 abbrev pub IsWorkspaceOf : List ℕ → List ℕ → Result (Box (Manifest Value) Global) Error → Type 0
-IsWorkspaceOf bytes path (Ok m) = (is_some m.value.workspace ≡ true) × IsFromSlice bytes (Ok m.value)
+IsWorkspaceOf bytes path (Ok m) =
+    (is_some m.value.workspace ≡ true) × IsFromSlice bytes (Ok m.value)
 IsWorkspaceOf bytes path (Err e) = (e ≡ Memory) ⊎ IsNoWorkspace bytes path e
 
--- why the search above a folder finds no root: no memory, a fault of reading, or a file that is no workspace's manifest
+-- why the search above a folder finds no root: no memory, a fault of reading, or a file that is no
+-- workspace's manifest
 abbrev pub IsSearchFault : Error → Type 0
 IsSearchFault e = (e ≡ Memory) ⊎ (IsInput e ⊎ ((bytes path : List ℕ) × IsNoWorkspace bytes path e))
 
@@ -130,44 +137,54 @@ abbrev pub bad_path : Fault
 bad_path = other (codes "bad path")
 
 -- the refusal of completing a manifest among the real files around this path
-abbrev pub IsRefusedAround : {M : Type 0} → List ℕ → ManifestMeaning M → Option Handed → Error → Type 0
+abbrev pub IsRefusedAround : {M : Type 0} → List ℕ → ManifestMeaning M → Option Handed
+    → Error → Type 0
 IsRefusedAround path m handed e =
-    (folder : List ℕ)
-    × ((path_parent path ≡ Some folder)
-    × IsRefusedBy m handed real_roots (MayLose false (real_losses (or_here folder))) real_listings e)
+    (folder : List ℕ) × ((path_parent path ≡ Some folder)
+    × IsRefusedBy m handed real_roots
+    (MayLose false (real_losses (or_here folder))) real_listings e)
 
 -- why real files complete no manifest: the path of its file names none, or a fault of completion
-abbrev pub IsCompletionFault : {M : Type 0} → List ℕ → ManifestMeaning M → Option Handed → Error → Type 0
+abbrev pub IsCompletionFault : {M : Type 0} → List ℕ → ManifestMeaning M → Option Handed
+    → Error → Type 0
 IsCompletionFault path m handed e = (fault_of e ≡ bad_path) ⊎ IsRefusedAround path m handed e
 
 -- some text reads as this manifest
-abbrev pub IsReadFromText : {X M : Type 0} → (Manifest X → ManifestMeaning M) → (Data → Option (ManifestMeaning M)) → Manifest X → Type 0
+abbrev pub IsReadFromText : {X M : Type 0} → (Manifest X → ManifestMeaning M)
+    → (Data → Option (ManifestMeaning M)) → Manifest X → Type 0
 IsReadFromText meaning reads m =
     (text : List ℕ) × IsUtf8 text × (document_reads reads (parse_document text) ≡ Some (meaning m))
 
--- completing this manifest among the real files around this path, with no workspace handed in, may be refused with this fault
+-- completing this manifest among the real files around this path, with no workspace handed in, may
+-- be refused with this fault
 abbrev pub IsRefusalOf : {X : Type 0} → List ℕ → Manifest X → Error → Type 0
 IsRefusalOf path m e =
-    Meets (manifest_meaning (λ m. m)) (complete (manifest_meaning (λ m. m) m) None real_roots real_folders) (Err e)
+    Meets (manifest_meaning (λ m. m))
+    (complete (manifest_meaning (λ m. m) m) None real_roots real_folders) (Err e)
     × IsRefusedAround path (manifest_meaning (λ m. m) m) None e
 
 -- some text reads as a manifest which completion among real files makes into this one
-abbrev pub IsReadAndCompleted : {X M : Type 0} → (X → M) → (Data → Option (ManifestMeaning M)) → Manifest X → Type 0
+abbrev pub IsReadAndCompleted : {X M : Type 0} → (X → M) → (Data → Option (ManifestMeaning M))
+    → Manifest X → Type 0
 IsReadAndCompleted meaning reads new =
     (read : Manifest _) × IsReadFromText (manifest_meaning meaning) reads read
-    × GivenBy (manifest_meaning (λ m. m) read) None real_roots real_folders (manifest_meaning (λ m. m) new)
+    × GivenBy (manifest_meaning (λ m. m) read) None real_roots real_folders
+    (manifest_meaning (λ m. m) new)
 
 -- some text reads as a manifest whose completion among real files may be refused with this fault
-abbrev pub IsReadAndRefused : {X M : Type 0} → List ℕ → (Manifest X → ManifestMeaning M) → (Data → Option (ManifestMeaning M)) → Error → Type 0
+abbrev pub IsReadAndRefused : {X M : Type 0} → List ℕ → (Manifest X → ManifestMeaning M)
+    → (Data → Option (ManifestMeaning M)) → Error → Type 0
 IsReadAndRefused path meaning reads e =
     (read : Manifest _) × IsReadFromText meaning reads read × IsRefusalOf path read e
 
--- why a file gives no completed manifest: no memory, a fault of reading, one of some text, a path that names no file,
--- or the fault of completing a manifest that some text reads as
-abbrev pub IsPathFault : {X M : Type 0} → List ℕ → (Manifest X → ManifestMeaning M) → (Data → Option (ManifestMeaning M)) → (Data → Error → Type 0) → Error → Type 0
+-- why a file gives no completed manifest: no memory, a fault of reading, one of some text, a path
+-- that names no file, or the fault of completing a manifest that some text reads as
+abbrev pub IsPathFault : {X M : Type 0} → List ℕ → (Manifest X → ManifestMeaning M)
+    → (Data → Option (ManifestMeaning M)) → (Data → Error → Type 0) → Error → Type 0
 IsPathFault path meaning reads refuses e =
     (e ≡ Memory)
     ⊎ (IsInput e
-    ⊎ (((text : List ℕ) × IsUtf8 text × IsFromText meaning reads refuses (parse_document text) (Err e))
+    ⊎ (((text : List ℕ) × IsUtf8 text
+    × IsFromText meaning reads refuses (parse_document text) (Err e))
     ⊎ ((fault_of e ≡ bad_path)
     ⊎ IsReadAndRefused path meaning reads e)))

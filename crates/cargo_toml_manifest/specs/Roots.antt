@@ -1,5 +1,6 @@
 -- What becomes of the bytes that were read for a root.
-use Rattle.std.specs.Prelude.{◌≡◌, ◌⊎◌, ℕ, List, codes, true, false, Option, Some, is_some, Result, Ok, Err, string_bytes, String, Vec, IsErrAnd}
+use Rattle.std.specs.Prelude.{◌≡◌, ◌⊎◌, ℕ, List, codes, true, false, Option, Some, is_some}
+use Rattle.std.specs.Prelude.{Result, Ok, Err, string_bytes, String, Vec, IsErrAnd}
 use Rattle.std.specs.declared.alloc.Global.{Global}
 use Rattle.toml.specs.View.{view}
 use Rattle.toml.specs.declared.value.Value.{Value}
@@ -7,8 +8,8 @@ use Rattle.cargo_toml_parts.specs.declared.error.Error.{Error, Memory}
 use Rattle.cargo_toml_parts.specs.FaultValues.{fault_of, workspace_integrity}
 use Rattle.cargo_toml_parts.specs.Wrapping.{wrap}
 use Rattle.cargo_toml_manifest.specs.declared.manifest.Manifest.{Manifest}
-use Rattle.cargo_toml_manifest.specs.Manifests.{manifest_meaning, manifest_reads, manifest_refuses}
-use Rattle.cargo_toml_manifest.specs.Texts.{IsFromBytes, any_tree, any_refuses}
+use Rattle.cargo_toml_manifest.specs.Manifests.{manifest_meaning, manifest_reads, ManifestRefuses}
+use Rattle.cargo_toml_manifest.specs.Texts.{IsFromBytes, any_tree, AnyRefuses}
 
 abbrev pub not_a_workspace : List ℕ
 not_a_workspace = codes "Not a Workspace.\nUse package.workspace to select a differnt path, or implement cargo_toml::AbstractFilesystem::parse_root_workspace"
@@ -16,20 +17,26 @@ not_a_workspace = codes "Not a Workspace.\nUse package.workspace to select a dif
 -- the answer is what `from_slice` gives for these bytes
 abbrev pub IsFromSlice : List ℕ → Result (Manifest Value) Error → Type 0
 IsFromSlice bytes result =
-    IsFromBytes (manifest_meaning view) (manifest_reads any_tree) (manifest_refuses any_tree any_refuses) bytes result
+    IsFromBytes (manifest_meaning view) (manifest_reads any_tree)
+    (ManifestRefuses any_tree AnyRefuses) bytes result
 
--- the fault of these bytes, which were read at this path: their own, or that they are a manifest without a workspace
+-- the fault of these bytes, which were read at this path: their own, or that they are a manifest
+-- without a workspace
 abbrev pub IsNoRoot : List ℕ → List ℕ → Error → Type 0
 IsNoRoot bytes path fault =
-    ((own : Error) × IsFromSlice bytes (Err own) × (fault_of fault ≡ wrap (Some path) (fault_of own)))
+    ((own : Error) × IsFromSlice bytes (Err own)
+    × (fault_of fault ≡ wrap (Some path) (fault_of own)))
     ⊎ ((m : Manifest Value)
     × IsFromSlice bytes (Ok m)
     × (is_some m.workspace ≡ false)
     × (fault_of fault ≡ wrap (Some path) (workspace_integrity not_a_workspace)))
 
 -- the root of bytes and a path, or why there is none; a fault of reading has the hint as its path
-abbrev pub IsRootOf : Option (List ℕ) → Result (Vec ℕ Global × String Global) Error → Result (Manifest Value × String Global) Error → Type 0
-IsRootOf hint (Err refused) result = IsErrAnd result (λ e. (e ≡ Memory) ⊎ (fault_of e ≡ wrap hint (fault_of refused)))
+abbrev pub IsRootOf : Option (List ℕ) → Result (Vec ℕ Global × String Global) Error
+    → Result (Manifest Value × String Global) Error → Type 0
+IsRootOf hint (Err refused) result =
+    IsErrAnd result (λ e. (e ≡ Memory) ⊎ (fault_of e ≡ wrap hint (fault_of refused)))
 IsRootOf hint (Ok read) (Ok root) =
-    IsFromSlice read.0.items (Ok root.0) × (is_some root.0.workspace ≡ true) × (string_bytes root.1 ≡ string_bytes read.1)
+    IsFromSlice read.0.items (Ok root.0) × (is_some root.0.workspace ≡ true)
+    × (string_bytes root.1 ≡ string_bytes read.1)
 IsRootOf hint (Ok read) (Err e) = (e ≡ Memory) ⊎ IsNoRoot read.0.items (string_bytes read.1) e

@@ -9,7 +9,7 @@ use Rattle.toml.specs.View.{table_view}
 use Rattle.toml.specs.declared.value.Value.{Value}
 use Rattle.cargo_toml_parts.specs.declared.error.Error.{Error}
 use Rattle.cargo_toml_parts.specs.Faults.{IsOther, IsToml}
-use Rattle.cargo_toml_parts.specs.Floats.{without_floats, floats_or}
+use Rattle.cargo_toml_parts.specs.Floats.{without_floats, FloatsOr}
 use Rattle.cargo_toml_parts.specs.Reads.{IsReading}
 
 -- what is read of the document that `toml` finds in a text, if it finds one
@@ -18,17 +18,20 @@ document_reads reads None = None
 document_reads reads (Some ms) = without_floats reads (table ms)
 
 -- what may be wrong: the text, a float at any depth, or else the tree
-abbrev pub document_refuses : (Data → Error → Type 0) → Option Members → Error → Type 0
-document_refuses refuses None e = IsToml e
-document_refuses refuses (Some ms) e = floats_or refuses (table ms) e
+abbrev pub DocumentRefuses : (Data → Error → Type 0) → Option Members → Error → Type 0
+DocumentRefuses refuses None e = IsToml e
+DocumentRefuses refuses (Some ms) e = FloatsOr refuses (table ms) e
 
 -- the answer to a text in which `toml` finds this document
-abbrev pub IsFromText : {X M : Type 0} → (X → M) → (Data → Option M) → (Data → Error → Type 0) → Option Members → Result X Error → Type 0
+abbrev pub IsFromText : {X M : Type 0} → (X → M) → (Data → Option M) → (Data → Error → Type 0)
+    → Option Members → Result X Error → Type 0
 IsFromText meaning reads refuses document result =
-    IsReading meaning (document_reads reads document) (document_refuses refuses document) result
+    IsReading meaning (document_reads reads document) (DocumentRefuses refuses document) result
 
--- the answer to bytes: those that are no text are refused as such, others are answered as the text that they spell
-abbrev pub IsFromBytes : {X M : Type 0} → (X → M) → (Data → Option M) → (Data → Error → Type 0) → List ℕ → Result X Error → Type 0
+-- the answer to bytes: those that are no text are refused as such, others are answered as the
+-- text that they spell
+abbrev pub IsFromBytes : {X M : Type 0} → (X → M) → (Data → Option M) → (Data → Error → Type 0)
+    → List ℕ → Result X Error → Type 0
 IsFromBytes meaning reads refuses bytes result =
     ((¬ IsUtf8 bytes) × IsErrAnd result (IsOther (codes "utf8")))
     ⊎ (IsUtf8 bytes × IsFromText meaning reads refuses (parse_document bytes) result)
@@ -47,5 +50,5 @@ IsTreeOfBytes bytes result = IsFromBytes tree_of (λ d. Some d) (λ d e. ⊥) by
 abbrev pub any_tree : Data → Option Data
 any_tree = without_floats (λ d. Some d)
 
-abbrev pub any_refuses : Data → Error → Type 0
-any_refuses = floats_or (λ d e. ⊥)
+abbrev pub AnyRefuses : Data → Error → Type 0
+AnyRefuses = FloatsOr (λ d e. ⊥)

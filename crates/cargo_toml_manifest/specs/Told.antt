@@ -1,5 +1,6 @@
 -- What an implementor of `AbstractFilesystem` tells, and what its answers have to be by that.
-use Rattle.std.specs.Prelude.{◌≡◌, ◌⊎◌, ℕ, List, Bool, true, false, Some, is_some, Result, string_bytes, String, Vec, IsUtf8, MatchResult, IsErr, IsErrAnd, IfOk}
+use Rattle.std.specs.Prelude.{◌≡◌, ◌⊎◌, ℕ, List, Bool, true, false, Some, is_some, Result}
+use Rattle.std.specs.Prelude.{string_bytes, String, Vec, IsUtf8, MatchResult, IsErr, IsErrAnd, IfOk}
 use Rattle.std.specs.HashSet.{HashSet, contains_text}
 use Rattle.std.specs.List.{list_any}
 use Rattle.std.specs.Str.{bytes_eq}
@@ -16,7 +17,8 @@ use Rattle.cargo_toml_manifest.specs.Manifests.{ManifestMeaning, manifest_meanin
 use Rattle.cargo_toml_manifest.specs.Texts.{any_tree, document_reads}
 use Rattle.cargo_toml_discovery.specs.Told.{Told, names, absent, denied, open_path}
 
--- what is told of the workspace that a hint leads to: its manifest and the path of that, that there is none, or nothing
+-- what is told of the workspace that a hint leads to: its manifest and the path of that, that there
+-- is none, or nothing
 pub data ToldRoot : Type 0 where
   root : ManifestMeaning Data → List ℕ → ToldRoot
   no_root : ToldRoot
@@ -42,14 +44,16 @@ IsRootIn bytes m =
 
 -- the answer to the question for the bytes of a root
 abbrev pub ReadsRoot : ToldRoot → Result (Vec ℕ Global × String Global) Error → Type 0
-ReadsRoot (root m path) result = MatchResult result (λ r. IsRootIn r.0.items m × (string_bytes r.1 ≡ path)) (λ e. e ≡ Memory)
+ReadsRoot (root m path) result =
+    MatchResult result (λ r. IsRootIn r.0.items m × (string_bytes r.1 ≡ path)) (λ e. e ≡ Memory)
 ReadsRoot no_root result = IfOk result (λ r. (m : ManifestMeaning Data) → ¬ IsRootIn r.0.items m)
 ReadsRoot open_root result = Unit {0}
 
 -- the answer to the question for a root
 abbrev pub AnswersRoot : ToldRoot → Result (code.Manifest Value × String Global) Error → Type 0
 AnswersRoot (root m path) result =
-    MatchResult result (λ r. (manifest_meaning view r.0 ≡ m) × (string_bytes r.1 ≡ path)) (λ e. e ≡ Memory)
+    MatchResult result (λ r. (manifest_meaning view r.0 ≡ m) × (string_bytes r.1 ≡ path))
+    (λ e. e ≡ Memory)
 AnswersRoot no_root result = IsErr result
 AnswersRoot open_root result = Unit {0}
 

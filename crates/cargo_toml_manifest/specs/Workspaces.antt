@@ -1,11 +1,14 @@
 -- What a workspace holds, and which trees are workspaces.
-use Rattle.std.specs.Prelude.{◌⊎◌, ℕ, List, map, Option, Some, option_map, option_and_then, string_bytes}
+use Rattle.std.specs.Prelude.{◌⊎◌, ℕ, List, map, Option, Some}
+use Rattle.std.specs.Prelude.{option_map, option_and_then, string_bytes}
 use Rattle.toml.specs.Data.{Data, Members, as_table}
 use Rattle.cargo_toml_parts.specs.declared.error.Error.{Error}
 use Rattle.cargo_toml_settings.specs.declared.settings.Resolver.{Resolver}
-use Rattle.cargo_toml_dependencies.specs.Dependencies.{DependencyMeaning, dependency_meaning, dependency_of}
+use Rattle.cargo_toml_dependencies.specs.Dependencies.{DependencyMeaning}
+use Rattle.cargo_toml_dependencies.specs.Dependencies.{dependency_meaning, dependency_of}
 use Rattle.cargo_toml_tables.specs.Lints.{LintMeaning, lint_meaning, lint_of}
-use Rattle.cargo_toml_parts.specs.Reads.{◌>>=◌, list_of, map_of, map_meaning, optional_at, list_at, map_at, fault_at, table_refuses, plain}
+use Rattle.cargo_toml_parts.specs.Reads.{◌>>=◌, list_of, map_of, map_meaning, optional_at}
+use Rattle.cargo_toml_parts.specs.Reads.{list_at, map_at, FaultAt, TableRefuses, plain}
 use Rattle.cargo_toml_manifest.specs.declared.workspace.Workspace.{Workspace}
 use Rattle.cargo_toml_settings.specs.Settings.{resolver_reads}
 use Rattle.cargo_toml_package.specs.Templates.{TemplateMeaning, template_meaning, template_reads}
@@ -56,20 +59,24 @@ workspace_of metadata_of ms = do
   })
 
 -- what may be wrong with a workspace
-abbrev pub workspace_faults : {M : Type 0} → (Data → Option M) → (Data → Error → Type 0) → Members → Error → Type 0
-workspace_faults metadata_of metadata_refuses ms e =
-    fault_at "members" list_of plain ms e
-    ⊎ fault_at "default-members" list_of plain ms e
-    ⊎ fault_at "package" template_reads plain ms e
-    ⊎ fault_at "exclude" list_of plain ms e
-    ⊎ fault_at "metadata" metadata_of metadata_refuses ms e
-    ⊎ fault_at "resolver" resolver_reads plain ms e
-    ⊎ fault_at "dependencies" (map_of dependency_of) plain ms e
-    ⊎ fault_at "lints" (map_of (map_of lint_of)) plain ms e
+abbrev pub WorkspaceFaults : {M : Type 0} → (Data → Option M) → (Data → Error → Type 0) → Members
+    → Error → Type 0
+WorkspaceFaults metadata_of metadata_refuses ms e =
+    FaultAt "members" list_of plain ms e
+    ⊎ FaultAt "default-members" list_of plain ms e
+    ⊎ FaultAt "package" template_reads plain ms e
+    ⊎ FaultAt "exclude" list_of plain ms e
+    ⊎ FaultAt "metadata" metadata_of metadata_refuses ms e
+    ⊎ FaultAt "resolver" resolver_reads plain ms e
+    ⊎ FaultAt "dependencies" (map_of dependency_of) plain ms e
+    ⊎ FaultAt "lints" (map_of (map_of lint_of)) plain ms e
 
 -- the workspace of a tree
-unfoldable pub workspace_reads : {M : Type 0} → (Data → Option M) → Data → Option (WorkspaceMeaning M)
+unfoldable pub workspace_reads : {M : Type 0} → (Data → Option M) → Data
+    → Option (WorkspaceMeaning M)
 workspace_reads metadata_of d = option_and_then (workspace_of metadata_of) (as_table d)
 
-unfoldable pub workspace_refuses : {M : Type 0} → (Data → Option M) → (Data → Error → Type 0) → Data → Error → Type 0
-workspace_refuses metadata_of metadata_refuses d e = table_refuses (workspace_faults metadata_of metadata_refuses) (as_table d) e
+unfoldable pub WorkspaceRefuses : {M : Type 0} → (Data → Option M) → (Data → Error → Type 0) → Data
+    → Error → Type 0
+WorkspaceRefuses metadata_of metadata_refuses d e =
+    TableRefuses (WorkspaceFaults metadata_of metadata_refuses) (as_table d) e

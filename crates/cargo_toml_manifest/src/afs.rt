@@ -3,12 +3,14 @@ ghost use Rattle.std.specs.Prelude.{◌≡◌, ◌⊎◌, ℕ, List, Bool, true,
 ghost use Rattle.std.specs.Option.{option_copied};
 ghost use Rattle.cargo_toml_parts.specs.declared.error.Error.{Memory};
 ghost use Rattle.cargo_toml_parts.specs.Answers.{Gives};
-ghost use Rattle.cargo_toml_parts.specs.FaultValues.{Fault, fault_of, workspace, workspace_integrity};
+ghost use Rattle.cargo_toml_parts.specs.FaultValues.{Fault, fault_of, workspace};
+ghost use Rattle.cargo_toml_parts.specs.FaultValues.{workspace_integrity};
 ghost use Rattle.cargo_toml_parts.specs.Wrapping.{wrap};
 ghost use Rattle.cargo_toml_manifest.specs.Refusing.{MayLose, ReadsBy, RefusesBy};
 ghost use Rattle.cargo_toml_manifest.specs.Roots.{IsRootOf, not_a_workspace};
 ghost use Rattle.cargo_toml_discovery.specs.Told.{Told, open_path};
-ghost use Rattle.cargo_toml_manifest.specs.Told.{ToldRoot, open_root, heard, AnswersNames, ReadsRoot, AnswersRoot};
+ghost use Rattle.cargo_toml_manifest.specs.Told.{ToldRoot, open_root, heard};
+ghost use Rattle.cargo_toml_manifest.specs.Told.{AnswersNames, ReadsRoot, AnswersRoot};
 
 use crate::manifest::Manifest;
 use cargo_toml_parts::Error;
@@ -44,12 +46,13 @@ impl Roots for OwnRoot {
 
 /// The files around a manifest: what a folder holds, and where the root of the workspace is.
 ///
-/// Of each path and each hint an implementor may tell, for proofs alone, what it answers; by default it tells nothing. What
-/// it tells its calls then answer, want of memory aside. It may state too, in the same way, which faults its calls may give;
-/// by default these are all. A refusal of completion then has no other cause.
+/// Of each path and each hint an implementor may tell, for proofs alone, what it answers; by
+/// default it tells nothing. What it tells its calls then answer, want of memory aside. It may
+/// state too, in the same way, which faults its calls may give; by default these are all. A refusal
+/// of completion then has no other cause.
 pub trait AbstractFilesystem {
-    /// `OwnRoot` where `read_root_workspace` is written, and `NoRoot` where it is left out. With `NoRoot` nothing is told
-    /// of a root but that there is none.
+    /// `OwnRoot` where `read_root_workspace` is written, and `NoRoot` where it is left out. With
+    /// `NoRoot` nothing is told of a root but that there is none.
     type Roots: Roots;
 
     /// What is told of a path, as seen from the folder of the manifest.
@@ -58,17 +61,20 @@ pub trait AbstractFilesystem {
     /// What is told of the workspace that a hint leads to.
     ghost root_for: { Self → Option (List ℕ) → ToldRoot } = { λ _ _. open_root };
 
-    /// Which faults may stand in place of the names at a path, as seen from the folder of the manifest.
+    /// Which faults may stand in place of the names at a path, as seen from the
+    /// folder of the manifest.
     ghost may_refuse: { Self → List ℕ → Fault → Type 0 } = { λ _ _ _. Unit {0} };
 
-    /// Which faults may stand in place of the root that a hint leads to, as `parse_root_workspace` gives them.
+    /// Which faults may stand in place of the root that a hint leads to, as
+    /// `parse_root_workspace` gives them.
     ghost may_refuse_root: { Self → Option (List ℕ) → Fault → Type 0 } = { λ _ _ _. Unit {0} };
 
-    /// The names in a folder, whose path is as seen from the folder of the manifest; the empty path is that folder.
+    /// The names in a folder, whose path is as seen from the folder of the manifest; the empty
+    /// path is that folder.
     ///
-    /// A path where nothing is, or no folder, is `Error::Io` of the kind `NotFound`. Another fault of
-    /// reading it is an `Error::Io` of its kind, and out of memory `Error::Memory`. An implementor may
-    /// refuse with a fault of its own, too.
+    /// A path where nothing is, or no folder, is `Error::Io` of the kind `NotFound`. Another fault
+    /// of reading it is an `Error::Io` of its kind, and out of memory `Error::Memory`. An
+    /// implementor may refuse with a fault of its own, too.
     fn file_names_in(&self, alloc: Global, rel_path: &str) -> Result<HashSet<String>, Error>
         ensures answers { AnswersNames (names_at self.now rel_path.now) result }
         ensures refused { RefusesBy (may_refuse self.now rel_path.now) result };
@@ -79,15 +85,17 @@ pub trait AbstractFilesystem {
     /// path of a readme, and nobody could tell where a relative base begins.
     ///
     /// The hint is that of `parse_root_workspace`. Where this call is left out, it is refused with
-    /// `Error::Io` of the kind `Unsupported`. (An implementor that leaves it out and yet says `OwnRoot` gets
-    /// `Error::Memory`.)
+    /// `Error::Io` of the kind `Unsupported`. (An implementor that leaves it out and yet says
+    /// `OwnRoot` gets `Error::Memory`.)
     fn read_root_workspace(
         &self,
         _alloc: Global,
         _hint: Option<&str>,
     ) -> Result<(Vec<u8>, String), Error>
-        ensures answers { ReadsRoot (heard Self.Roots.ARE_READ (root_for self.now (option_copied _hint.entry))) result }
-        ensures refused { ReadsBy Self.Roots.ARE_READ (may_refuse_root self.now) (option_copied _hint.entry) result }
+        ensures answers { ReadsRoot
+            (heard Self.Roots.ARE_READ (root_for self.now (option_copied _hint.entry))) result }
+        ensures refused { ReadsBy Self.Roots.ARE_READ (may_refuse_root self.now)
+            (option_copied _hint.entry) result }
     {
         if Self::Roots::ARE_READ {
             return Err(Error::Memory);
@@ -106,17 +114,19 @@ pub trait AbstractFilesystem {
     /// have that key: the root is then to be looked for in the folders above the manifest's. The
     /// path in the answer should be absolute, as that of `read_root_workspace`.
     ///
-    /// Where this call is left out, it is what `read_root_workspace` and `Manifest::from_slice` answer. A fault of reading
-    /// is then told as `Error::Workspace` with the hint as its path, and a fault of the bytes with their path; so is a
-    /// manifest without a workspace table, as `Error::WorkspaceIntegrity`. Want of memory is `Error::Memory` as ever.
+    /// Where this call is left out, it is what `read_root_workspace` and `Manifest::from_slice`
+    /// answer. A fault of reading is then told as `Error::Workspace` with the hint as its path, and
+    /// a fault of the bytes with their path; so is a manifest without a workspace table, as
+    /// `Error::WorkspaceIntegrity`. Want of memory is `Error::Memory` as ever.
     fn parse_root_workspace(
         &self,
         alloc: Global,
         hint: Option<&str>,
     ) -> Result<(Manifest, String), Error>
-        ensures answers { AnswersRoot (heard Self.Roots.ARE_READ (root_for self.now (option_copied hint.entry))) result }
-        ensures refused { RefusesBy (MayLose Self.Roots.ARE_READ (may_refuse_root self.now) (option_copied hint.entry))
-            result }
+        ensures answers { AnswersRoot
+            (heard Self.Roots.ARE_READ (root_for self.now (option_copied hint.entry))) result }
+        ensures refused { RefusesBy (MayLose Self.Roots.ARE_READ (may_refuse_root self.now)
+            (option_copied hint.entry)) result }
     {
         root_of(alloc, hint, self.read_root_workspace(alloc, hint))
     }
@@ -156,8 +166,9 @@ impl<T: AbstractFilesystem> AbstractFilesystem for &T {
 
 /// The root that was read, or why there is none.
 ///
-/// A fault of reading becomes one of the workspace with the hint as its path. A fault of the bytes, and
-/// `Error::WorkspaceIntegrity` for a manifest without a workspace table, become such with the path of the bytes.
+/// A fault of reading becomes one of the workspace with the hint as its path. A fault of the bytes,
+/// and `Error::WorkspaceIntegrity` for a manifest without a workspace table, become such with the
+/// path of the bytes.
 pub fn root_of(
     alloc: Global,
     hint: Option<&str>,
@@ -180,10 +191,12 @@ pub fn root_of(
     Ok((manifest, path))
 }
 
-/// The fault as one of a workspace at this path, where one is known. A fault that is one of a workspace already, and want of
-/// memory, stay as they are. Where there is no memory for it, the answer is `Error::Memory`.
+/// The fault as one of a workspace at this path, where one is known. A fault that is one of a
+/// workspace already, and want of memory, stay as they are. Where there is no memory for it, the
+/// answer is `Error::Memory`.
 pub fn wrapped(alloc: Global, fault: Error, path: Option<&str>) -> Error
-    ensures { (result ≡ Memory) ⊎ (fault_of result ≡ wrap (option_copied path.entry) (fault_of fault)) }
+    ensures { (result ≡ Memory)
+        ⊎ (fault_of result ≡ wrap (option_copied path.entry) (fault_of fault)) }
 {
     match fault {
         Error::Workspace(_) | Error::Memory => fault,
@@ -196,7 +209,8 @@ pub fn wrapped(alloc: Global, fault: Error, path: Option<&str>) -> Error
 
 // The fault as one of a workspace, whatever it is.
 fn in_workspace(alloc: Global, fault: Error, path: Option<&str>) -> Result<Error, Error>
-    ensures { IfOk result (λ e. fault_of e ≡ workspace (fault_of fault) (option_copied path.entry)) }
+    ensures { IfOk result
+        (λ e. fault_of e ≡ workspace (fault_of fault) (option_copied path.entry)) }
 {
     let path = match path {
         Some(path) => Some(String::from_str(alloc, path)?),
@@ -210,7 +224,8 @@ fn not_a_workspace(alloc: Global) -> Result<Error, Error>
 {
     let text = String::from_str(
         alloc,
-        "Not a Workspace.\nUse package.workspace to select a differnt path, or implement cargo_toml::AbstractFilesystem::parse_root_workspace",
+        "Not a Workspace.\nUse package.workspace to select a differnt path, or implement \
+            cargo_toml::AbstractFilesystem::parse_root_workspace",
     )?;
     Ok(Error::WorkspaceIntegrity(text))
 }

@@ -1,17 +1,21 @@
 //! Completing a manifest from its workspace and from its folders.
-ghost use Rattle.std.specs.Prelude.{◌≡◌, ◌⊎◌, Some, None, Ok, Result, false, IfErr, IfOk, IfSome, OnErr, OnOk, option_map};
+ghost use Rattle.std.specs.Prelude.{◌≡◌, ◌⊎◌, Some, None, Ok, Result, false};
+ghost use Rattle.std.specs.Prelude.{IfErr, IfOk, IfSome, OnErr, OnOk, option_map};
 ghost use Rattle.std.specs.Option.{option_copied};
 ghost use Rattle.cargo_toml_parts.specs.declared.error.Error.{Memory};
 ghost use Rattle.cargo_toml_parts.specs.Answers.{Gives};
 ghost use Rattle.cargo_toml_parts.specs.FaultValues.{Fault};
 ghost use Rattle.cargo_toml_discovery.specs.Answers.{Answers, filled};
 ghost use Rattle.cargo_toml_package.specs.Filled.{IsFilled};
-ghost use Rattle.cargo_toml_manifest.specs.Choosing.{from, handed_of, hint_of, shared_of, told_choice};
-ghost use Rattle.cargo_toml_manifest.specs.Completing.{GivenBy, GivenByRoot, IsLasting, Meets, complete, complete_by, gives, then_found};
+ghost use Rattle.cargo_toml_manifest.specs.Choosing.{from, handed_of, hint_of};
+ghost use Rattle.cargo_toml_manifest.specs.Choosing.{shared_of, told_choice};
+ghost use Rattle.cargo_toml_manifest.specs.Completing.{GivenBy, GivenByRoot, IsLasting, Meets};
+ghost use Rattle.cargo_toml_manifest.specs.Completing.{complete, complete_by, gives, then_found};
 ghost use Rattle.cargo_toml_manifest.specs.Inheriting.{needs};
 ghost use Rattle.cargo_toml_manifest.specs.Installing.{completed, installed};
 ghost use Rattle.cargo_toml_manifest.specs.Manifests.{ManifestMeaning, manifest_meaning};
-ghost use Rattle.cargo_toml_manifest.specs.Refusing.{IsCause, IsRefusedAt, IsRefusedBy, IsRefusedByRoot, IsToldWith, MayLose};
+ghost use Rattle.cargo_toml_manifest.specs.Refusing.{IsCause, IsRefusedAt, IsRefusedBy};
+ghost use Rattle.cargo_toml_manifest.specs.Refusing.{IsRefusedByRoot, IsToldWith, MayLose};
 ghost use Rattle.cargo_toml_manifest.specs.Told.{heard};
 
 use crate::afs::{AbstractFilesystem, wrapped};
@@ -23,7 +27,8 @@ use cargo_toml_parts::Error;
 use cargo_toml_paths::workspace_folder;
 use std::alloc::Global;
 
-// What completion puts into a manifest that takes these parts, with the path that is told with a fault.
+// What completion puts into a manifest that takes these parts, with the path that is
+// told with a fault.
 fn completion<Metadata, Fs: AbstractFilesystem>(
     alloc: Global,
     manifest: &Manifest<Metadata>,
@@ -32,15 +37,16 @@ fn completion<Metadata, Fs: AbstractFilesystem>(
     path: Option<&str>,
 ) -> Result<Completion, Error>
     ensures outcome { let m = manifest_meaning (λ m. m) manifest.now in
-        (stated : Result (ManifestMeaning Metadata) Fault) → Gives (installed m) parts stated →
-        Meets (completed m) (then_found (option_copied path.entry) (Fs.names_at fs.now) stated) result }
+        (stated : Result (ManifestMeaning Metadata) Fault) → Gives (installed m) parts stated
+        → Meets (completed m)
+        (then_found (option_copied path.entry) (Fs.names_at fs.now) stated) result }
     ensures given { let m = manifest_meaning (λ m. m) manifest.now in
-        (stated : Result (ManifestMeaning Metadata) Fault) → Gives (installed m) parts stated →
-        IfOk result (λ new. (answers : Answers) ×
-        (then_found (option_copied path.entry) (filled (Fs.names_at fs.now) answers) stated ≡ gives (completed m new))) }
+        (stated : Result (ManifestMeaning Metadata) Fault) → Gives (installed m) parts stated
+        → IfOk result (λ new. (answers : Answers) × (then_found (option_copied path.entry)
+        (filled (Fs.names_at fs.now) answers) stated ≡ gives (completed m new))) }
     ensures wrapped { let m = manifest_meaning (λ m. m) manifest.now in
-        (stated : Result (ManifestMeaning Metadata) Fault) → Gives (installed m) parts stated →
-        IfErr result (λ e. (e ≡ Memory)
+        (stated : Result (ManifestMeaning Metadata) Fault) → Gives (installed m) parts stated
+        → IfErr result (λ e. (e ≡ Memory)
         ⊎ IsToldWith (option_copied path.entry) (IsCause stated (Fs.may_refuse fs.now)) e) }
 {
     let parts = match parts {
@@ -62,16 +68,16 @@ fn completion_at<Metadata, N, Fs: AbstractFilesystem>(
     fs: &Fs,
 ) -> Result<Completion, Error>
     ensures outcome { let m = manifest_meaning (λ m. m) manifest.now in
-        Meets (completed m)
-        (complete_by m (from (shared_of (option_copied workspace.entry)) path.now) (Fs.names_at fs.now)) result }
+        Meets (completed m) (complete_by m
+        (from (shared_of (option_copied workspace.entry)) path.now) (Fs.names_at fs.now)) result }
     ensures given { let m = manifest_meaning (λ m. m) manifest.now in
-        IfOk result (λ new. (answers : Answers) ×
-        (complete_by m (from (shared_of (option_copied workspace.entry)) path.now) (filled (Fs.names_at fs.now) answers)
-        ≡ gives (completed m new))) }
+        IfOk result (λ new. (answers : Answers)
+        × (complete_by m (from (shared_of (option_copied workspace.entry)) path.now)
+        (filled (Fs.names_at fs.now) answers) ≡ gives (completed m new))) }
     ensures wrapped { let m = manifest_meaning (λ m. m) manifest.now in
         IfErr result (λ e. (e ≡ Memory)
-        ⊎ IsRefusedAt m (MayLose Fs.Roots.ARE_READ (Fs.may_refuse_root fs.now)) (Fs.may_refuse fs.now)
-        (from (shared_of (option_copied workspace.entry)) path.now) e) }
+        ⊎ IsRefusedAt m (MayLose Fs.Roots.ARE_READ (Fs.may_refuse_root fs.now))
+        (Fs.may_refuse fs.now) (from (shared_of (option_copied workspace.entry)) path.now) e) }
 {
     let parts = new_parts(alloc, manifest, workspace, workspace_folder(path));
     completion(alloc, manifest, parts, fs, Some(path))
@@ -95,11 +101,11 @@ fn completion_by_hint<Metadata, Fs: AbstractFilesystem>(
 ) -> Result<Completion, Error>
     ensures outcome { let m = manifest_meaning (λ m. m) manifest.now in
         Meets (completed m)
-        (complete_by m (told_choice (heard Fs.Roots.ARE_READ (Fs.root_for fs.now (hint_of m)))) (Fs.names_at fs.now))
-        result }
+        (complete_by m (told_choice (heard Fs.Roots.ARE_READ (Fs.root_for fs.now (hint_of m))))
+        (Fs.names_at fs.now)) result }
     ensures given { let m = manifest_meaning (λ m. m) manifest.now in
-        IfOk result (λ new. GivenByRoot m (heard Fs.Roots.ARE_READ (Fs.root_for fs.now (hint_of m))) (Fs.names_at fs.now)
-        (completed m new)) }
+        IfOk result (λ new. GivenByRoot m (heard Fs.Roots.ARE_READ (Fs.root_for fs.now (hint_of m)))
+        (Fs.names_at fs.now) (completed m new)) }
     ensures wrapped { let m = manifest_meaning (λ m. m) manifest.now in
         IfErr result (IsRefusedByRoot m (heard Fs.Roots.ARE_READ (Fs.root_for fs.now (hint_of m)))
         (MayLose Fs.Roots.ARE_READ (Fs.may_refuse_root fs.now)) (Fs.may_refuse fs.now)) }
@@ -124,11 +130,12 @@ fn own_completion<Metadata, Fs: AbstractFilesystem>(
     fs: &Fs,
 ) -> Result<Completion, Error>
     ensures outcome { let m = manifest_meaning (λ m. m) manifest.now in
-        Meets (completed m)
-        (complete m None (λ hint. heard Fs.Roots.ARE_READ (Fs.root_for fs.now hint)) (Fs.names_at fs.now)) result }
+        Meets (completed m) (complete m None
+        (λ hint. heard Fs.Roots.ARE_READ (Fs.root_for fs.now hint)) (Fs.names_at fs.now)) result }
     ensures given { let m = manifest_meaning (λ m. m) manifest.now in
-        IfOk result (λ new. GivenBy m None (λ hint. heard Fs.Roots.ARE_READ (Fs.root_for fs.now hint)) (Fs.names_at fs.now)
-        (completed m new)) }
+        IfOk result
+        (λ new. GivenBy m None (λ hint. heard Fs.Roots.ARE_READ (Fs.root_for fs.now hint))
+        (Fs.names_at fs.now) (completed m new)) }
     ensures wrapped { let m = manifest_meaning (λ m. m) manifest.now in
         IfErr result (IsRefusedBy m None (λ hint. heard Fs.Roots.ARE_READ (Fs.root_for fs.now hint))
         (MayLose Fs.Roots.ARE_READ (Fs.may_refuse_root fs.now)) (Fs.may_refuse fs.now)) }
@@ -153,12 +160,12 @@ fn completion_for<Metadata, N, Fs: AbstractFilesystem>(
     workspace: Option<(&Manifest<N>, &str)>,
 ) -> Result<Completion, Error>
     ensures outcome { let m = manifest_meaning (λ m. m) manifest.now in
-        Meets (completed m)
-        (complete m (option_map handed_of workspace.entry) (λ hint. heard Fs.Roots.ARE_READ (Fs.root_for fs.now hint))
-        (Fs.names_at fs.now)) result }
+        Meets (completed m) (complete m (option_map handed_of workspace.entry)
+        (λ hint. heard Fs.Roots.ARE_READ (Fs.root_for fs.now hint)) (Fs.names_at fs.now)) result }
     ensures given { let m = manifest_meaning (λ m. m) manifest.now in
         IfOk result (λ new. GivenBy m (option_map handed_of workspace.entry)
-        (λ hint. heard Fs.Roots.ARE_READ (Fs.root_for fs.now hint)) (Fs.names_at fs.now) (completed m new)) }
+        (λ hint. heard Fs.Roots.ARE_READ (Fs.root_for fs.now hint)) (Fs.names_at fs.now)
+        (completed m new)) }
     ensures wrapped { let m = manifest_meaning (λ m. m) manifest.now in
         IfErr result (IsRefusedBy m (option_map handed_of workspace.entry)
         (λ hint. heard Fs.Roots.ARE_READ (Fs.root_for fs.now hint))
@@ -173,27 +180,30 @@ fn completion_for<Metadata, N, Fs: AbstractFilesystem>(
 impl<Metadata: Drop> Manifest<Metadata> {
     /// Puts in what the manifest leaves to its workspace, and what is found in its folders.
     ///
-    /// The workspace is the one that is handed in, with the path of its folder or of its `Cargo.toml`; else the manifest's own
-    /// workspace table; else, where something is left to it, the root that `fs` finds by what the package says of its
-    /// workspace. It gives dependencies, lints and fields of the package; where nothing is left to it, these stay as they are.
+    /// The workspace is the one that is handed in, with the path of its folder or of its
+    /// `Cargo.toml`; else the manifest's own workspace table; else, where something is left to it,
+    /// the root that `fs` finds by what the package says of its workspace. It gives dependencies,
+    /// lints and fields of the package; where nothing is left to it, these stay as they are.
     ///
     /// Where no workspace is handed in, `N` has to be named, and any type of metadata does:
     /// `complete_from_abstract_filesystem::<Value, _>(alloc, fs, None)`.
     ///
-    /// Where there is a package, `fs` is asked for the names in its folder, in `src`, in `src/bin`, `examples`, `tests` and
-    /// `benches` unless the package turns that off, and in the folders in these, each once. They tell the library, binaries,
-    /// examples, tests and benchmarks as Cargo finds them, the build script and the readme; the lists are put in order of name
-    /// and path. A folder that is absent counts as empty, but that of the package must be there.
+    /// Where there is a package, `fs` is asked for the names in its folder, in `src`, in `src/bin`,
+    /// `examples`, `tests` and `benches` unless the package turns that off, and in the folders in
+    /// these, each once. They tell the library, binaries, examples, tests and benchmarks as Cargo
+    /// finds them, the build script and the readme; the lists are put in order of name and path. A
+    /// folder that is absent counts as empty, but that of the package must be there.
     ///
-    /// Afterwards nothing is left to the workspace, every getter of the package may be called, and completing again with the
-    /// same workspace and folders changes nothing.
+    /// Afterwards nothing is left to the workspace, every getter of the package may be called, and
+    /// completing again with the same workspace and folders changes nothing.
     ///
-    /// Each fault is told as `Error::Workspace` with the path of that workspace (with the hint where no root was found), unless
-    /// it is one already: what `fs` answers in place of a root; `WorkspaceIntegrity` for a dependency that the workspace
-    /// lacks, for lints without a workspace table and for a field of the package that is still left; `InheritedUnknownValue`
-    /// for a dependency that the workspace itself leaves to another; and after all these what `fs` answers in place of names.
-    /// Want of memory is `Error::Memory`. A refusal leaves the manifest as it was. What `fs` answers is one of the faults that it
-    /// may give.
+    /// Each fault is told as `Error::Workspace` with the path of that workspace (with the hint
+    /// where no root was found), unless it is one already: what `fs` answers in place of a root;
+    /// `WorkspaceIntegrity` for a dependency that the workspace lacks, for lints without a
+    /// workspace table and for a field of the package that is still left; `InheritedUnknownValue`
+    /// for a dependency that the workspace itself leaves to another; and after all these what `fs`
+    /// answers in place of names. Want of memory is `Error::Memory`. A refusal leaves the manifest
+    /// as it was. What `fs` answers is one of the faults that it may give.
     pub fn complete_from_abstract_filesystem<N, Fs: AbstractFilesystem + Drop>(
         &mut self,
         alloc: Global,
@@ -205,14 +215,17 @@ impl<Metadata: Drop> Manifest<Metadata> {
             (λ hint. heard Fs.Roots.ARE_READ (Fs.root_for fs hint)) (Fs.names_at fs))
             result }
         ensures unchanged { OnErr result (self.new ≡ self.old) }
-        ensures given { OnOk result (GivenBy (manifest_meaning (λ m. m) self.old) (option_map handed_of workspace.entry)
-            (λ hint. heard Fs.Roots.ARE_READ (Fs.root_for fs hint)) (Fs.names_at fs) (manifest_meaning (λ m. m) self.new)) }
+        ensures given { OnOk result
+            (GivenBy (manifest_meaning (λ m. m) self.old) (option_map handed_of workspace.entry)
+            (λ hint. heard Fs.Roots.ARE_READ (Fs.root_for fs hint)) (Fs.names_at fs)
+            (manifest_meaning (λ m. m) self.new)) }
         ensures needs { OnOk result (needs (manifest_meaning (λ m. m) self.new) ≡ false) }
         ensures filled { OnOk result (IfSome self.new.package IsFilled) }
-        ensures again { OnOk result (IsLasting (manifest_meaning (λ m. m) self.old) (option_map handed_of workspace.entry)
-            (manifest_meaning (λ m. m) self.new)) }
-        ensures wrapped { IfErr result (IsRefusedBy (manifest_meaning (λ m. m) self.old)
-            (option_map handed_of workspace.entry) (λ hint. heard Fs.Roots.ARE_READ (Fs.root_for fs hint))
+        ensures again { OnOk result (IsLasting (manifest_meaning (λ m. m) self.old)
+            (option_map handed_of workspace.entry) (manifest_meaning (λ m. m) self.new)) }
+        ensures wrapped { IfErr result
+            (IsRefusedBy (manifest_meaning (λ m. m) self.old) (option_map handed_of workspace.entry)
+            (λ hint. heard Fs.Roots.ARE_READ (Fs.root_for fs hint))
             (MayLose Fs.Roots.ARE_READ (Fs.may_refuse_root fs)) (Fs.may_refuse fs)) }
     {
         let Completion { parts, found } = completion_for(alloc, self, &fs, workspace)?;

@@ -4,7 +4,9 @@ ghost use Rattle.std.specs.IoError.{error_kind};
 ghost use Rattle.std.specs.Option.{option_copied};
 ghost use Rattle.cargo_toml_parts.specs.declared.error.Error.{Memory};
 ghost use Rattle.cargo_toml_parts.specs.FaultValues.{fault_of, io};
-ghost use Rattle.cargo_toml_manifest.specs.RealFiles.{IsInput, IsRootFault, IsRootManifest, IsRootPath, folder_of, listed_as, or_here, real_listings, real_losses};
+ghost use Rattle.cargo_toml_manifest.specs.RealFiles.{IsInput, IsRootFault, IsRootManifest};
+ghost use Rattle.cargo_toml_manifest.specs.RealFiles.{IsRootPath, folder_of, listed_as};
+ghost use Rattle.cargo_toml_manifest.specs.RealFiles.{or_here, real_listings, real_losses};
 ghost use Rattle.cargo_toml_manifest.specs.Refusing.{MayLose, RefusesBy};
 
 use crate::afs::{AbstractFilesystem, NoRoot};
@@ -19,8 +21,8 @@ use std::{fs, io};
 
 /// The files on the disk, as seen from the folder of a manifest.
 ///
-/// A name that is no folder has no names in it: it is refused as one that is absent. Of what stands on a disk nothing is
-/// told beforehand.
+/// A name that is no folder has no names in it: it is refused as one that is absent. Of what stands
+/// on a disk nothing is told beforehand.
 #[derive(Drop)]
 pub struct Filesystem<'a, R> {
     path: &'a str,
@@ -28,8 +30,8 @@ pub struct Filesystem<'a, R> {
 }
 
 impl<'a, R: Files + AllocGlobal> Filesystem<'a, R> {
-    /// The files around a manifest in this folder. The empty path is the folder that the program runs in, as `.` is. Nothing
-    /// is read yet.
+    /// The files around a manifest in this folder. The empty path is the folder that the program
+    /// runs in, as `.` is. Nothing is read yet.
     pub fn new(rt: &'a R, path: &'a str) -> Filesystem<'a, R>
         ensures { folder_of result ≡ or_here path.now }
     {
@@ -76,8 +78,9 @@ impl<R: Files + AllocGlobal> AbstractFilesystem for Filesystem<'_, R> {
 
     ghost may_refuse_root = { λ files hint. real_losses (folder_of files) hint };
 
-    /// The names in the folder on the disk. A name that is absent or no folder is `Error::Io` of the kind `NotFound`; a folder
-    /// or an entry that can't be read, or whose name is not UTF-8, is `Error::Io` of its kind.
+    /// The names in the folder on the disk. A name that is absent or no folder is `Error::Io` of
+    /// the kind `NotFound`; a folder or an entry that can't be read, or whose name is not UTF-8, is
+    /// `Error::Io` of its kind.
     fn file_names_in(&self, alloc: Global, rel_path: &str) -> Result<HashSet<String>, Error>
         ensures faults { IfErr result (λ e. (e ≡ Memory) ⊎ IsInput e) }
     {
@@ -85,7 +88,8 @@ impl<R: Files + AllocGlobal> AbstractFilesystem for Filesystem<'_, R> {
         names_in(self.rt, alloc, folder.as_str())
     }
 
-    /// The root that the hint leads to, as `root_by_hint` finds it, or else the one above the folder, as `root_above` does.
+    /// The root that the hint leads to, as `root_by_hint` finds it, or else the one above the
+    /// folder, as `root_above` does.
     fn parse_root_workspace(
         &self,
         alloc: Global,

@@ -1,4 +1,5 @@
-//! What is found in the folders around a manifest: first made, then put in, so that a refusal changes nothing.
+//! What is found in the folders around a manifest: first made, then put in, so that a
+//! refusal changes nothing.
 ghost use Rattle.std.specs.Prelude.{◌≡◌, ◌⊎◌, IfOk, IfErr, unwrap_or};
 ghost use Rattle.std.specs.Option.{option_copied};
 ghost use Rattle.cargo_toml_parts.specs.InheritableValues.{value_of};
@@ -105,8 +106,8 @@ fn found_in<Metadata>(
     discover(alloc, &stated, listings)
 }
 
-/// What is found in the folders around a manifest that takes these parts; `None` where it has no package, and then nothing
-/// is asked for.
+/// What is found in the folders around a manifest that takes these parts; `None` where it has no
+/// package, and then nothing is asked for.
 ///
 /// Refused as `gather` is.
 pub fn find<Metadata, Fs: AbstractFilesystem>(
@@ -116,13 +117,14 @@ pub fn find<Metadata, Fs: AbstractFilesystem>(
     fs: &Fs,
 ) -> Result<Option<Discovered>, Error>
     ensures answered { let m = installed (manifest_meaning (λ m. m) manifest.now) parts.now in
-        IfOk result (λ found. (answers : Answers) ×
-        (found_around m (filled (Fs.names_at fs.now) answers) ≡ seen (with_found m found))) }
+        IfOk result (λ found. (answers : Answers)
+        × (found_around m (filled (Fs.names_at fs.now) answers) ≡ seen (with_found m found))) }
     ensures told { let m = installed (manifest_meaning (λ m. m) manifest.now) parts.now in
         IfOk result (λ found. (found_around m (Fs.names_at fs.now) ≡ unclear)
         ⊎ (found_around m (Fs.names_at fs.now) ≡ seen (with_found m found))) }
-    ensures faults { IfErr result
-        (Tells (found_around (installed (manifest_meaning (λ m. m) manifest.now) parts.now) (Fs.names_at fs.now))) }
+    ensures faults { IfErr result (Tells
+        (found_around (installed (manifest_meaning (λ m. m) manifest.now) parts.now)
+        (Fs.names_at fs.now))) }
     ensures refused { RefusesBy (IsListed (Fs.may_refuse fs.now)) result }
 {
     let Some(package) = &manifest.package else {
@@ -135,7 +137,8 @@ pub fn find<Metadata, Fs: AbstractFilesystem>(
 
 /// Puts what was found into the manifest, where it has a package. It takes no memory.
 pub fn put_found<Metadata: Drop>(manifest: &mut Manifest<Metadata>, found: Option<Discovered>)
-    ensures { manifest_meaning (λ m. m) manifest.new ≡ with_found (manifest_meaning (λ m. m) manifest.old) found }
+    ensures { manifest_meaning (λ m. m) manifest.new
+        ≡ with_found (manifest_meaning (λ m. m) manifest.old) found }
 {
     let Some(package) = &mut manifest.package else {
         return;

@@ -1,5 +1,6 @@
 //! Manifests in real files, completed from what stands around them.
-ghost use Rattle.std.specs.Prelude.{◌≡◌, ◌↔◌, None, false, option_map, IfErr, IfOk, IfSome, IsErrAnd, IsSome, OnErr, OnOk};
+ghost use Rattle.std.specs.Prelude.{◌≡◌, ◌↔◌, None, false, option_map, IfErr};
+ghost use Rattle.std.specs.Prelude.{IfOk, IfSome, IsErrAnd, IsSome, OnErr, OnOk};
 ghost use Rattle.std.specs.Path.{path_parent};
 ghost use Rattle.toml.specs.View.{view};
 ghost use Rattle.cargo_toml_parts.specs.FaultValues.{fault_of};
@@ -7,9 +8,12 @@ ghost use Rattle.cargo_toml_package.specs.Filled.{IsFilled};
 ghost use Rattle.cargo_toml_manifest.specs.Choosing.{handed_of};
 ghost use Rattle.cargo_toml_manifest.specs.Completing.{GivenBy, IsLasting, Meets, complete};
 ghost use Rattle.cargo_toml_manifest.specs.Inheriting.{needs};
-ghost use Rattle.cargo_toml_manifest.specs.Manifests.{manifest_meaning, manifest_reads, manifest_refuses};
-ghost use Rattle.cargo_toml_manifest.specs.RealFiles.{IsCompletionFault, IsPathFault, IsReadAndCompleted, bad_path, real_folders, real_roots};
-ghost use Rattle.cargo_toml_manifest.specs.Texts.{any_refuses, any_tree};
+ghost use Rattle.cargo_toml_manifest.specs.Manifests.{manifest_meaning, manifest_reads};
+ghost use Rattle.cargo_toml_manifest.specs.Manifests.{ManifestRefuses};
+ghost use Rattle.cargo_toml_manifest.specs.RealFiles.{IsCompletionFault, IsPathFault};
+ghost use Rattle.cargo_toml_manifest.specs.RealFiles.{IsReadAndCompleted, bad_path};
+ghost use Rattle.cargo_toml_manifest.specs.RealFiles.{real_folders, real_roots};
+ghost use Rattle.cargo_toml_manifest.specs.Texts.{AnyRefuses, any_tree};
 
 use crate::files::Filesystem;
 use crate::manifest::Manifest;
@@ -23,38 +27,46 @@ use toml::Value;
 impl<Metadata: Drop> Manifest<Metadata> {
     /// Completes the manifest of the file at this path from the real files around it.
     ///
-    /// It is `complete_from_path_and_workspace` where no workspace is handed in, and refuses as that does.
+    /// It is `complete_from_path_and_workspace` where no workspace is handed in, and
+    /// refuses as that does.
     pub fn complete_from_path<'a, R: Files + AllocGlobal>(
         &mut self,
         rt: &'a R,
         alloc: Global,
         path: &'a str,
     ) -> Result<(), Error>
-        ensures outcome { IsSome (path_parent path.now) → Meets (λ _. manifest_meaning (λ m. m) self.new)
+        ensures outcome { IsSome (path_parent path.now)
+            → Meets (λ _. manifest_meaning (λ m. m) self.new)
             (complete (manifest_meaning (λ m. m) self.old) None real_roots real_folders) result }
-        ensures bad_path { (path_parent path.now ≡ None) ↔ IsErrAnd result (λ e. fault_of e ≡ bad_path) }
+        ensures bad_path { (path_parent path.now ≡ None)
+            ↔ IsErrAnd result (λ e. fault_of e ≡ bad_path) }
         ensures unchanged { OnErr result (self.new ≡ self.old) }
-        ensures given { OnOk result (GivenBy (manifest_meaning (λ m. m) self.old) None real_roots real_folders
-            (manifest_meaning (λ m. m) self.new)) }
+        ensures given { OnOk result (GivenBy (manifest_meaning (λ m. m) self.old) None real_roots
+            real_folders (manifest_meaning (λ m. m) self.new)) }
         ensures needs { OnOk result (needs (manifest_meaning (λ m. m) self.new) ≡ false) }
         ensures filled { OnOk result (IfSome self.new.package IsFilled) }
         ensures again { OnOk result (IsLasting (manifest_meaning (λ m. m) self.old) None
             (manifest_meaning (λ m. m) self.new)) }
-        ensures refused { IfErr result (IsCompletionFault path.now (manifest_meaning (λ m. m) self.old) None) }
+        ensures refused { IfErr result
+            (IsCompletionFault path.now (manifest_meaning (λ m. m) self.old) None) }
     {
         self.complete_from_path_and_workspace(rt, alloc, path, None::<(&Manifest<Value>, &str)>)
     }
 
-    /// Completes the manifest of the file at this path, with a workspace that is handed in, from the real files around it.
+    /// Completes the manifest of the file at this path, with a workspace that is handed in, from
+    /// the real files around it.
     ///
-    /// What is put in is what `complete_from_abstract_filesystem` puts in, over the `Filesystem` of the folder that holds the
-    /// file, and as Cargo does it: the workspace is the one that is handed in with its path; else the manifest's own table;
-    /// else, where something is left to it, the root that `package.workspace` leads to, or the nearest above the folder. The
-    /// file itself is not read.
+    /// What is put in is what `complete_from_abstract_filesystem` puts in, over the `Filesystem`
+    /// of the folder that holds the file, and as Cargo does it: the workspace is the one that is
+    /// handed in with its path; else the manifest's own table; else, where something is left to
+    /// it, the root that `package.workspace` leads to, or the nearest above the folder. The file
+    /// itself is not read.
     ///
-    /// A path that names no file, as the empty one and `/`, is refused as `Error::Other("bad path")`. Other refusals are those of
-    /// `complete_from_abstract_filesystem`: `Error::Workspace` and `Error::Memory`. What the files answer in place of names is
-    /// `Error::Io`, and in place of a root what `Filesystem::parse_root_workspace` refuses with. A refusal leaves the manifest as it was.
+    /// A path that names no file, as the empty one and `/`, is refused as
+    /// `Error::Other("bad path")`. Other refusals are those of `complete_from_abstract_filesystem`:
+    /// `Error::Workspace` and `Error::Memory`. What the files answer in place of names is
+    /// `Error::Io`, and in place of a root what `Filesystem::parse_root_workspace` refuses with. A
+    /// refusal leaves the manifest as it was.
     pub fn complete_from_path_and_workspace<'a, N, R: Files + AllocGlobal>(
         &mut self,
         rt: &'a R,
@@ -62,19 +74,22 @@ impl<Metadata: Drop> Manifest<Metadata> {
         path: &'a str,
         workspace: Option<(&Manifest<N>, &str)>,
     ) -> Result<(), Error>
-        ensures outcome { IsSome (path_parent path.now) → Meets (λ _. manifest_meaning (λ m. m) self.new)
-            (complete (manifest_meaning (λ m. m) self.old) (option_map handed_of workspace.entry) real_roots real_folders)
-            result }
-        ensures bad_path { (path_parent path.now ≡ None) ↔ IsErrAnd result (λ e. fault_of e ≡ bad_path) }
+        ensures outcome { IsSome (path_parent path.now)
+            → Meets (λ _. manifest_meaning (λ m. m) self.new)
+            (complete (manifest_meaning (λ m. m) self.old)
+            (option_map handed_of workspace.entry) real_roots real_folders) result }
+        ensures bad_path { (path_parent path.now ≡ None)
+            ↔ IsErrAnd result (λ e. fault_of e ≡ bad_path) }
         ensures unchanged { OnErr result (self.new ≡ self.old) }
-        ensures given { OnOk result (GivenBy (manifest_meaning (λ m. m) self.old) (option_map handed_of workspace.entry)
+        ensures given { OnOk result
+            (GivenBy (manifest_meaning (λ m. m) self.old) (option_map handed_of workspace.entry)
             real_roots real_folders (manifest_meaning (λ m. m) self.new)) }
         ensures needs { OnOk result (needs (manifest_meaning (λ m. m) self.new) ≡ false) }
         ensures filled { OnOk result (IfSome self.new.package IsFilled) }
-        ensures again { OnOk result (IsLasting (manifest_meaning (λ m. m) self.old) (option_map handed_of workspace.entry)
-            (manifest_meaning (λ m. m) self.new)) }
-        ensures refused { IfErr result (IsCompletionFault path.now (manifest_meaning (λ m. m) self.old)
-            (option_map handed_of workspace.entry)) }
+        ensures again { OnOk result (IsLasting (manifest_meaning (λ m. m) self.old)
+            (option_map handed_of workspace.entry) (manifest_meaning (λ m. m) self.new)) }
+        ensures refused { IfErr result (IsCompletionFault path.now
+            (manifest_meaning (λ m. m) self.old) (option_map handed_of workspace.entry)) }
     {
         let Some(folder) = parent(path) else {
             return Err(Error::Other("bad path"));
@@ -86,11 +101,13 @@ impl<Metadata: Drop> Manifest<Metadata> {
 impl Manifest {
     /// The manifest in the file at this path, completed from the real files around it.
     ///
-    /// The text is read as `Manifest::from_str` reads it, and then completed as `complete_from_path` does. So nothing in it is
-    /// left to its workspace, and its products are those that Cargo builds.
+    /// The text is read as `Manifest::from_str` reads it, and then completed as
+    /// `complete_from_path` does. So nothing in it is left to its workspace, and its products are
+    /// those that Cargo builds.
     ///
-    /// A file that can't be read is refused as `Error::Io` of its kind, and one that is not UTF-8 as that of the kind
-    /// `InvalidData`. Other refusals are those of `from_str` and of `complete_from_path`.
+    /// A file that can't be read is refused as `Error::Io` of its kind, and one that is not UTF-8
+    /// as that of the kind `InvalidData`. Other refusals are those of `from_str` and of
+    /// `complete_from_path`.
     pub fn from_path<'a, R: Files + AllocGlobal>(
         rt: &'a R,
         alloc: Global,
@@ -99,16 +116,16 @@ impl Manifest {
         ensures given { IfOk result (IsReadAndCompleted view (manifest_reads any_tree)) }
         ensures needs { IfOk result (λ new. needs (manifest_meaning (λ m. m) new) ≡ false) }
         ensures filled { IfOk result (λ new. IfSome new.package IsFilled) }
-        ensures refused { IfErr result (IsPathFault path.now (manifest_meaning view) (manifest_reads any_tree)
-            (manifest_refuses any_tree any_refuses)) }
+        ensures refused { IfErr result (IsPathFault path.now (manifest_meaning view)
+            (manifest_reads any_tree) (ManifestRefuses any_tree AnyRefuses)) }
     {
         Manifest::from_path_with_metadata(rt, alloc, path)
     }
 }
 
 impl<Metadata: FromValue> Manifest<Metadata> {
-    /// The manifest in the file at this path, whose free tables `metadata` are read as the type says, completed from the real
-    /// files around it.
+    /// The manifest in the file at this path, whose free tables `metadata` are read as the type
+    /// says, completed from the real files around it.
     ///
     /// It refuses as `from_path` does; a fault that the metadata type tells is handed on as it is.
     pub fn from_path_with_metadata<'a, R: Files + AllocGlobal>(
@@ -116,11 +133,13 @@ impl<Metadata: FromValue> Manifest<Metadata> {
         alloc: Global,
         path: &'a str,
     ) -> Result<Manifest<Metadata>, Error>
-        ensures given { IfOk result (IsReadAndCompleted Metadata.meaning (manifest_reads Metadata.from_tree)) }
+        ensures given { IfOk result
+            (IsReadAndCompleted Metadata.meaning (manifest_reads Metadata.from_tree)) }
         ensures needs { IfOk result (λ new. needs (manifest_meaning (λ m. m) new) ≡ false) }
         ensures filled { IfOk result (λ new. IfSome new.package IsFilled) }
-        ensures refused { IfErr result (IsPathFault path.now (manifest_meaning Metadata.meaning) (manifest_reads Metadata.from_tree)
-            (manifest_refuses Metadata.from_tree Metadata.from_refuses)) }
+        ensures refused { IfErr result (IsPathFault path.now (manifest_meaning Metadata.meaning)
+            (manifest_reads Metadata.from_tree)
+            (ManifestRefuses Metadata.from_tree Metadata.from_refuses)) }
     {
         let text = fs::read_to_string(rt, path)?;
         let mut manifest = Manifest::from_text(alloc, text.as_str())?;

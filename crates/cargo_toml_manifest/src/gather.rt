@@ -4,7 +4,8 @@ ghost use Rattle.cargo_toml_parts.specs.FaultValues.{fault_of};
 ghost use Rattle.cargo_toml_parts.specs.declared.error.Error.{Memory};
 ghost use Rattle.cargo_toml_discovery.specs.Answers.{answers_of, around_in, filled};
 ghost use Rattle.cargo_toml_discovery.specs.Around.{around, entries_at};
-ghost use Rattle.cargo_toml_discovery.specs.Gathering.{Fits, Grows, Has, HasEach, HasProducts, Listed, MayTellOneOf, RootListed};
+ghost use Rattle.cargo_toml_discovery.specs.Gathering.{Fits, Grows, Has, HasEach, HasProducts};
+ghost use Rattle.cargo_toml_discovery.specs.Gathering.{Listed, MayTellOneOf, RootListed};
 ghost use Rattle.cargo_toml_discovery.specs.Seen.{Tells, names_at, seen};
 ghost use Rattle.cargo_toml_manifest.specs.Refusing.{IsListed, RefusesBy};
 
@@ -49,7 +50,8 @@ fn ask<Fs: AbstractFilesystem>(
     path: &str,
     listings: &mut Listings,
 ) -> Result<(), Error>
-    ensures grows { OnOk result (Grows (Fs.names_at fs.now) (answers_of listings.old) (answers_of listings.new)) }
+    ensures grows { OnOk result
+        (Grows (Fs.names_at fs.now) (answers_of listings.old) (answers_of listings.new)) }
     ensures has { OnOk result (Has (answers_of listings.new) path.now) }
     ensures faults { IfErr result (Tells (names_at (Fs.names_at fs.now path.now))) }
     ensures refused { RefusesBy (Fs.may_refuse fs.now path.now) result }
@@ -69,9 +71,11 @@ fn ask_each<Fs: AbstractFilesystem>(
     paths: &[String],
     listings: &mut Listings,
 ) -> Result<(), Error>
-    ensures grows { OnOk result (Grows (Fs.names_at fs.now) (answers_of listings.old) (answers_of listings.new)) }
+    ensures grows { OnOk result
+        (Grows (Fs.names_at fs.now) (answers_of listings.old) (answers_of listings.new)) }
     ensures has { OnOk result (HasEach (answers_of listings.new) (map string_bytes paths.now)) }
-    ensures faults { IfErr result (λ e. (e ≡ Memory) ⊎ MayTellOneOf (Fs.names_at fs.now) (map string_bytes paths.now) (fault_of e)) }
+    ensures faults { IfErr result (λ e. (e ≡ Memory)
+        ⊎ MayTellOneOf (Fs.names_at fs.now) (map string_bytes paths.now) (fault_of e)) }
     ensures refused { RefusesBy (IsListed (Fs.may_refuse fs.now)) result }
 {
     for path in paths {
@@ -88,10 +92,11 @@ fn ask_products<Fs: AbstractFilesystem>(
     dir: &str,
     listings: &mut Listings,
 ) -> Result<(), Error>
-    ensures grows { OnOk result (Grows (Fs.names_at fs.now) (answers_of listings.old) (answers_of listings.new)) }
+    ensures grows { OnOk result
+        (Grows (Fs.names_at fs.now) (answers_of listings.old) (answers_of listings.new)) }
     ensures has { OnOk result (HasProducts is_wanted dir.now (answers_of listings.new)) }
-    ensures faults { Fits (Fs.names_at fs.now) (answers_of listings.old) →
-        IfErr result (Tells (entries_at (Fs.names_at fs.now) is_wanted dir.now)) }
+    ensures faults { Fits (Fs.names_at fs.now) (answers_of listings.old)
+        → IfErr result (Tells (entries_at (Fs.names_at fs.now) is_wanted dir.now)) }
     ensures refused { RefusesBy (IsListed (Fs.may_refuse fs.now)) result }
 {
     if !is_wanted {
@@ -103,17 +108,19 @@ fn ask_products<Fs: AbstractFilesystem>(
     Ok(())
 }
 
-/// The names in the folder of a package, in `src`, in each folder of a list that is wanted, and in those of its names that
-/// may be folders of a product. Each is asked for once.
+/// The names in the folder of a package, in `src`, in each folder of a list that is wanted, and in
+/// those of its names that may be folders of a product. Each is asked for once.
 ///
-/// The folder of the package must be there; another that is absent counts as empty. Refused by what `fs` answers in place of
-/// names, the first time that this is no absent folder, and by `Error::Memory` for want of memory.
+/// The folder of the package must be there; another that is absent counts as empty. Refused by what
+/// `fs` answers in place of names, the first time that this is no absent folder, and by
+/// `Error::Memory` for want of memory.
 pub fn gather<Fs: AbstractFilesystem>(
     alloc: Global,
     fs: &Fs,
     wanted: Wanted,
 ) -> Result<Listings, Error>
-    ensures asked { IfOk result (λ l. around (filled (Fs.names_at fs.now) (answers_of l)) wanted ≡ seen (around_in (answers_of l) wanted)) }
+    ensures asked { IfOk result (λ l. around (filled (Fs.names_at fs.now) (answers_of l)) wanted
+        ≡ seen (around_in (answers_of l) wanted)) }
     ensures faults { IfErr result (Tells (around (Fs.names_at fs.now) wanted)) }
     ensures refused { RefusesBy (IsListed (Fs.may_refuse fs.now)) result }
 {

@@ -1,4 +1,5 @@
-//! What a manifest takes from its workspace: first made, then put in, so that a refusal changes nothing.
+//! What a manifest takes from its workspace: first made, then put in, so that a
+//! refusal changes nothing.
 ghost use Rattle.std.specs.Prelude.{◌≡◌, Option, None, [], option_map};
 ghost use Rattle.std.specs.Option.{option_copied};
 ghost use Rattle.cargo_toml_parts.specs.Answers.{Gives};
@@ -12,7 +13,9 @@ ghost use Rattle.cargo_toml_package.specs.Packages.{package_meaning};
 ghost use Rattle.cargo_toml_package.specs.Templates.{template_meaning};
 ghost use Rattle.cargo_toml_tables.specs.Lints.{lint_meaning};
 ghost use Rattle.cargo_toml_manifest.specs.Choosing.{shared_of};
-ghost use Rattle.cargo_toml_manifest.specs.Inheriting.{own_tables, inherited_lints, inherited_if_there, inherited_from, inherited_manifest};
+ghost use Rattle.cargo_toml_manifest.specs.Inheriting.{own_tables, inherited_lints};
+ghost use Rattle.cargo_toml_manifest.specs.Inheriting.{inherited_if_there, inherited_from};
+ghost use Rattle.cargo_toml_manifest.specs.Inheriting.{inherited_manifest};
 ghost use Rattle.cargo_toml_manifest.specs.Installing.{installed, installed_if_there};
 ghost use Rattle.cargo_toml_manifest.specs.Manifests.{manifest_meaning};
 
@@ -53,7 +56,8 @@ fn new_tables<Metadata>(
     base: &str,
 ) -> Result<NewTarget, Error>
     ensures { Gives (replaced_target (own_tables (manifest_meaning (λ m. m) manifest.now))) result
-        (inherited_target (option_map (map_meaning dependency_meaning) (option_copied templates.entry)) base.now
+        (inherited_target
+        (option_map (map_meaning dependency_meaning) (option_copied templates.entry)) base.now
         (own_tables (manifest_meaning (λ m. m) manifest.now))) }
 {
     let dependencies = replacements(alloc, templates, base, &manifest.dependencies)?;
@@ -76,7 +80,8 @@ fn new_lints(
         (λ new. put (inheritable_map (map_meaning (map_meaning lint_meaning)) lints.now)
         (option_map (map_meaning (map_meaning lint_meaning)) new))
         result
-        (inherited_lints (option_map (map_meaning (map_meaning lint_meaning)) (option_copied groups.entry))
+        (inherited_lints
+        (option_map (map_meaning (map_meaning lint_meaning)) (option_copied groups.entry))
         (inheritable_map (map_meaning (map_meaning lint_meaning)) lints.now)) }
 {
     match (lints, groups) {
@@ -96,7 +101,9 @@ fn new_package<Metadata>(
     template: Option<&PackageTemplate>,
     base: &str,
 ) -> Result<Option<NewFields>, Error>
-    ensures { Gives (installed_if_there (option_map (package_meaning (λ m. m)) (option_copied «package».entry))) result
+    ensures { Gives
+        (installed_if_there (option_map (package_meaning (λ m. m)) (option_copied «package».entry)))
+        result
         (inherited_if_there (option_map template_meaning (option_copied template.entry)) base.now
         (option_map (package_meaning (λ m. m)) (option_copied «package».entry))) }
 {
@@ -116,10 +123,11 @@ fn parts_from<Metadata>(
     base: &str,
 ) -> Result<NewParts, Error>
     ensures { Gives (installed (manifest_meaning (λ m. m) manifest.now)) result
-        (inherited_from (option_map (map_meaning dependency_meaning) (option_copied templates.entry))
+        (inherited_from
+        (option_map (map_meaning dependency_meaning) (option_copied templates.entry))
         (option_map (map_meaning (map_meaning lint_meaning)) (option_copied groups.entry))
-        (option_map template_meaning (option_copied template.entry))
-        base.now (manifest_meaning (λ m. m) manifest.now)) }
+        (option_map template_meaning (option_copied template.entry)) base.now
+        (manifest_meaning (λ m. m) manifest.now)) }
 {
     let tables = new_tables(alloc, manifest, templates, base)?;
     let targets = target_replacements(alloc, templates, base, &manifest.target)?;
@@ -133,11 +141,13 @@ fn parts_from<Metadata>(
     })
 }
 
-/// What a manifest takes from a workspace table, if there is one, with paths joined to `base`, the workspace's folder.
+/// What a manifest takes from a workspace table, if there is one, with paths joined to `base`, the
+/// workspace's folder.
 ///
-/// Refused by the first fault in this order: of `dependencies`, `build-dependencies` and `dev-dependencies`, then of the same
-/// three of each target, by key (see `replacements`); `WorkspaceIntegrity` where lints are left to a workspace without a
-/// table; of the package (see `new_fields`). Want of memory is `Memory`.
+/// Refused by the first fault in this order: of `dependencies`, `build-dependencies` and
+/// `dev-dependencies`, then of the same three of each target, by key (see `replacements`);
+/// `WorkspaceIntegrity` where lints are left to a workspace without a table; of the package (see
+/// `new_fields`). Want of memory is `Memory`.
 pub fn new_parts<Metadata, N>(
     alloc: Global,
     manifest: &Manifest<Metadata>,
@@ -145,7 +155,8 @@ pub fn new_parts<Metadata, N>(
     base: &str,
 ) -> Result<NewParts, Error>
     ensures { Gives (installed (manifest_meaning (λ m. m) manifest.now)) result
-        (inherited_manifest (shared_of (option_copied workspace.entry)) base.now (manifest_meaning (λ m. m) manifest.now)) }
+        (inherited_manifest (shared_of (option_copied workspace.entry)) base.now
+        (manifest_meaning (λ m. m) manifest.now)) }
 {
     match workspace {
         Some(workspace) => parts_from(
@@ -162,7 +173,9 @@ pub fn new_parts<Metadata, N>(
 
 /// Nothing: a manifest takes it and stays as it is. It takes no memory.
 pub fn no_parts(alloc: Global) -> NewParts
-    ensures tables { result.tables.dependencies.items ≡ [] × (result.tables.build_dependencies.items ≡ [] × result.tables.dev_dependencies.items ≡ []) }
+    ensures tables { result.tables.dependencies.items ≡ []
+        × (result.tables.build_dependencies.items ≡ []
+        × result.tables.dev_dependencies.items ≡ []) }
     ensures targets { result.targets.items ≡ [] }
     ensures lints { result.lints ≡ None }
     ensures fields { result.«package» ≡ None }
@@ -200,10 +213,11 @@ fn put_package<Metadata: Drop>(package: &mut Option<Package<Metadata>>, new: Opt
     }
 }
 
-/// Puts the parts in place of what the manifest left to its workspace. All else stays, and metadata are not touched. It takes no
-/// memory.
+/// Puts the parts in place of what the manifest left to its workspace. All else stays, and metadata
+/// are not touched. It takes no memory.
 pub fn install_parts<Metadata: Drop>(manifest: &mut Manifest<Metadata>, new: NewParts)
-    ensures { manifest_meaning (λ m. m) manifest.new ≡ installed (manifest_meaning (λ m. m) manifest.old) new }
+    ensures { manifest_meaning (λ m. m) manifest.new
+        ≡ installed (manifest_meaning (λ m. m) manifest.old) new }
 {
     let NewParts {
         tables,

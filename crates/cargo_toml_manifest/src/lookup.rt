@@ -3,7 +3,9 @@ ghost use Rattle.std.specs.Prelude.{◌≡◌, ◌⊎◌, ℕ, List, codes, Ok, 
 ghost use Rattle.std.specs.Path.{path_join};
 ghost use Rattle.cargo_toml_parts.specs.declared.error.Error.{Memory};
 ghost use Rattle.cargo_toml_manifest.specs.Roots.{IsFromSlice};
-ghost use Rattle.cargo_toml_manifest.specs.RealFiles.{IsAbove, IsCandidate, IsHintFault, IsRootManifest, IsSearchFault, IsWorkspaceOf, is_absent};
+ghost use Rattle.cargo_toml_manifest.specs.RealFiles.{IsAbove, IsCandidate, IsHintFault};
+ghost use Rattle.cargo_toml_manifest.specs.RealFiles.{IsRootManifest, IsSearchFault};
+ghost use Rattle.cargo_toml_manifest.specs.RealFiles.{IsWorkspaceOf, is_absent};
 
 use crate::afs::wrapped;
 use crate::manifest::Manifest;
@@ -13,7 +15,8 @@ use std::alloc::Global;
 use std::rt::Files;
 use std::{fs, io};
 
-// Whether nothing is at the path of a file that could not be read. A path through a file counts as such.
+// Whether nothing is at the path of a file that could not be read. A path through a
+// file counts as such.
 fn is_absent(kind: io::ErrorKind) -> bool
     ensures { result ≡ is_absent kind }
 {
@@ -44,12 +47,14 @@ fn workspace_of(alloc: Global, bytes: &[u8], path: &str) -> Result<Box<Manifest>
     Ok(manifest)
 }
 
-/// The root of the workspace that a hint leads to, as seen from a folder: the manifest, and the path of its folder.
+/// The root of the workspace that a hint leads to, as seen from a folder: the manifest, and the
+/// path of its folder.
 ///
-/// The file is the `Cargo.toml` in the folder that the hint names. Where it can't be read, the fault is told as
-/// `Error::Workspace` with the path of that file. A fault of its bytes is the one of `Manifest::from_slice`, and that of a
-/// manifest without a workspace table `Error::WorkspaceIntegrity`, whose text names the file; neither is wrapped. Want of
-/// memory is `Error::Memory`.
+/// The file is the `Cargo.toml` in the folder that the hint names. Where it can't be read, the
+/// fault is told as `Error::Workspace` with the path of that file. A fault of its bytes is the
+/// one of `Manifest::from_slice`, and that of a manifest without a workspace table
+/// `Error::WorkspaceIntegrity`, whose text names the file; neither is wrapped. Want of memory
+/// is `Error::Memory`.
 pub fn root_by_hint<R: Files + AllocGlobal>(
     rt: &R,
     alloc: Global,
@@ -58,7 +63,8 @@ pub fn root_by_hint<R: Files + AllocGlobal>(
 ) -> Result<(Manifest, String), Error>
     ensures found { IfOk result (λ root. IsRootManifest root.0) }
     ensures path { IfOk result (λ root. string_bytes root.1 ≡ path_join folder.now hint.now) }
-    ensures refused { IfErr result (IsHintFault (path_join (path_join folder.now hint.now) (codes "Cargo.toml"))) }
+    ensures refused { IfErr result
+        (IsHintFault (path_join (path_join folder.now hint.now) (codes "Cargo.toml"))) }
 {
     let root = join(alloc, folder, hint)?;
     let file = join(alloc, root.as_str(), "Cargo.toml")?;
@@ -100,9 +106,10 @@ fn look_at<R: Files + AllocGlobal>(rt: &R, alloc: Global, file: &str) -> Result<
 
 /// The root of the workspace above a folder: the manifest, and the path of its `Cargo.toml`.
 ///
-/// The folders that are written in the path above it are tried, the nearest first. Where there is no `Cargo.toml`, one that
-/// is no manifest, or one without a workspace table, the next is tried. If none is left, the fault is that of the last such file, and
-/// else `Error::Io` of the kind `NotFound`. A `Cargo.toml` that can't be read for another cause is refused at once as
+/// The folders that are written in the path above it are tried, the nearest first. Where there is
+/// no `Cargo.toml`, one that is no manifest, or one without a workspace table, the next is tried.
+/// If none is left, the fault is that of the last such file, and else `Error::Io` of the kind
+/// `NotFound`. A `Cargo.toml` that can't be read for another cause is refused at once as
 /// `Error::Io`, and want of memory as `Error::Memory`.
 pub fn root_above<R: Files + AllocGlobal>(
     rt: &R,

@@ -6,14 +6,20 @@ ghost use Rattle.toml.specs.Parse.{parse_document};
 ghost use Rattle.cargo_toml_tables.specs.Badges.{badges_meaning};
 ghost use Rattle.cargo_toml_parts.specs.Faults.{IsShape, wrong_shape};
 ghost use Rattle.cargo_toml_parts.specs.declared.inheritable.Inheritable.TheVariants.{Set};
-ghost use Rattle.cargo_toml_parts.specs.Inherits.{inheritable_map, inheritable_of, inheritable_refuses};
+ghost use Rattle.cargo_toml_parts.specs.Inherits.{inheritable_map, inheritable_of};
+ghost use Rattle.cargo_toml_parts.specs.Inherits.{InheritableRefuses};
 ghost use Rattle.cargo_toml_tables.specs.Lints.{lint_meaning, lint_of};
 ghost use Rattle.cargo_toml_tables.specs.Profiles.{profiles_meaning};
-ghost use Rattle.cargo_toml_parts.specs.Reads.{Faulty, IsReading, given_of, map_of, map_meaning, plain};
+ghost use Rattle.cargo_toml_parts.specs.Reads.{Faulty, IsReading, given_of};
+ghost use Rattle.cargo_toml_parts.specs.Reads.{map_of, map_meaning, plain};
 ghost use Rattle.cargo_toml_parts.specs.Readings.{Ends, Goes};
-ghost use Rattle.cargo_toml_manifest.specs.Manifests.{ManifestMeaning, manifest_meaning, manifest_of, manifest_faults, manifest_reads, manifest_refuses, zero_rule_applies, by_zero_rule, no_profiles, profiles_reads, profiles_refuse, no_badges, badges_reads};
+ghost use Rattle.cargo_toml_manifest.specs.Manifests.{ManifestMeaning, manifest_meaning};
+ghost use Rattle.cargo_toml_manifest.specs.Manifests.{manifest_of, ManifestFaults, manifest_reads};
+ghost use Rattle.cargo_toml_manifest.specs.Manifests.{ManifestRefuses, zero_rule_applies};
+ghost use Rattle.cargo_toml_manifest.specs.Manifests.{by_zero_rule, no_profiles, profiles_reads};
+ghost use Rattle.cargo_toml_manifest.specs.Manifests.{ProfilesRefuse, no_badges, badges_reads};
 ghost use Rattle.cargo_toml_package.specs.Packages.{package_meaning};
-ghost use Rattle.cargo_toml_manifest.specs.Texts.{IsFromText, IsFromBytes, any_tree, any_refuses};
+ghost use Rattle.cargo_toml_manifest.specs.Texts.{IsFromText, IsFromBytes, any_tree, AnyRefuses};
 ghost use Rattle.cargo_toml_manifest.specs.Texts.{IsTree, IsTreeOfBytes};
 
 mod questions;
@@ -35,18 +41,21 @@ use std::collections::BTreeMap;
 use std::str;
 use toml::{Table, Value};
 
-/// A `Cargo.toml`: a package, a workspace or both, with what they depend on and what is built of them.
+/// A `Cargo.toml`: a package, a workspace or both, with what they depend on and
+/// what is built of them.
 ///
-/// `Metadata` is what the free tables `package.metadata` and `workspace.metadata` are read as: any tree, where no type is
-/// named. A key's `_` is written `-` in a manifest. A list or a map whose key is missing is empty, and any other field is
-/// then `None`, unless another value is named at the field; keys that are not listed here are ignored, such as those of
-/// Cargo's unstable features.
+/// `Metadata` is what the free tables `package.metadata` and `workspace.metadata` are read as:
+/// any tree, where no type is named. A key's `_` is written `-` in a manifest. A list or a map
+/// whose key is missing is empty, and any other field is then `None`, unless another value is
+/// named at the field; keys that are not listed here are ignored, such as those of Cargo's
+/// unstable features.
 ///
-/// What is read is what stands in the text alone: libraries and binaries that Cargo finds by their place among the files
-/// are not in it, nor is what a package leaves to its workspace.
+/// What is read is what stands in the text alone: libraries and binaries that Cargo finds by their
+/// place among the files are not in it, nor is what a package leaves to its workspace.
 #[derive(Debug, PartialEq, Drop)]
 pub struct Manifest<Metadata = Value> {
-    /// The package. One that would have the version 0.0.0 and be published everywhere is read as published nowhere.
+    /// The package. One that would have the version 0.0.0 and be published everywhere is read as
+    /// published nowhere.
     pub package: Option<Package<Metadata>>,
 
     /// What the manifest says of its workspace, where it is the workspace's root.
@@ -64,7 +73,8 @@ pub struct Manifest<Metadata = Value> {
     /// What it depends on besides on some platforms alone.
     pub target: TargetDepsSet,
 
-    /// The features that are written down, with what each enables. Optional dependencies make further ones.
+    /// The features that are written down, with what each enables. Optional dependencies
+    /// make further ones.
     pub features: FeatureSet,
 
     /// Packages that stand for others. Cargo has `patch` in its place.
@@ -94,7 +104,8 @@ pub struct Manifest<Metadata = Value> {
     /// The examples that are written down.
     pub example: Vec<Product>,
 
-    /// The lints, by tool and then by name, which may be left to the workspace. Missing: `Set` of none.
+    /// The lints, by tool and then by name, which may be left to the workspace.
+    /// Missing: `Set` of none.
     pub lints: Inheritable<LintGroups>,
 
     /// What is said of features beside what they enable: an entry for each whose table has a `doc`,
@@ -121,7 +132,8 @@ impl<Metadata: Clone> Clone for Manifest<Metadata> {
         × (⟦<Vec<Product> as Clone>⟧.is_clone x.test copy.test
         × (⟦<Vec<Product> as Clone>⟧.is_clone x.example copy.example
         × (⟦<Inheritable<LintGroups> as Clone>⟧.is_clone x.lints copy.lints
-        × ⟦<FeatureDetails as Clone>⟧.is_clone x.feature_details copy.feature_details)))))))))))))))) };
+        × ⟦<FeatureDetails as Clone>⟧.is_clone x.feature_details
+        copy.feature_details)))))))))))))))) };
 
     ghost is_infallible = { λ x.
         ⟦<Option<Package<Metadata>> as Clone>⟧.is_infallible x.package
@@ -224,12 +236,13 @@ impl Manifest {
     /// `complete_from_path` adds both, and `from_path` reads a file and adds them. Before that, a
     /// getter of the package may be called only where its value is not left to the workspace.
     ///
-    /// Bytes that are not UTF-8 are `Error::Other("utf8")`. A text that `toml` refuses is `Error::Parse` of its fault. A
-    /// document that holds a float at any depth is `Error::Parse` of the shape `floats are not supported`; one that has
-    /// another fault is `Error::Parse` of the shape that names it, one of several. Want of memory is `Error::Memory`.
+    /// Bytes that are not UTF-8 are `Error::Other("utf8")`. A text that `toml` refuses is
+    /// `Error::Parse` of its fault. A document that holds a float at any depth is `Error::Parse` of
+    /// the shape `floats are not supported`; one that has another fault is `Error::Parse` of the
+    /// shape that names it, one of several. Want of memory is `Error::Memory`.
     pub fn from_slice(alloc: Global, bytes: &[u8]) -> Result<Manifest, Error>
         ensures { IsFromBytes (manifest_meaning view) (manifest_reads any_tree)
-            (manifest_refuses any_tree any_refuses) bytes.now result }
+            (ManifestRefuses any_tree AnyRefuses) bytes.now result }
     {
         read_table(alloc, tree_of_bytes(alloc, bytes)?)
     }
@@ -240,7 +253,7 @@ impl Manifest {
     /// and what Cargo finds in its folders, and `from_path` reads a file and adds both.
     pub fn from_str(alloc: Global, text: &str) -> Result<Manifest, Error>
         ensures { IsFromText (manifest_meaning view) (manifest_reads any_tree)
-            (manifest_refuses any_tree any_refuses) (parse_document text.now) result }
+            (ManifestRefuses any_tree AnyRefuses) (parse_document text.now) result }
     {
         read_table(alloc, tree_of(alloc, text)?)
     }
@@ -249,14 +262,15 @@ impl Manifest {
 impl<Metadata: FromValue> Manifest<Metadata> {
     /// The manifest that these bytes spell, whose free tables `metadata` are read as the type says.
     ///
-    /// It refuses as `from_slice` does; a fault that the metadata type tells is handed on as it is. A float is refused in
-    /// every manifest, whatever that type would make of it.
+    /// It refuses as `from_slice` does; a fault that the metadata type tells is handed on as it is.
+    /// A float is refused in every manifest, whatever that type would make of it.
     pub fn from_slice_with_metadata(
         alloc: Global,
         bytes: &[u8],
     ) -> Result<Manifest<Metadata>, Error>
-        ensures { IsFromBytes (manifest_meaning Metadata.meaning) (manifest_reads Metadata.from_tree)
-            (manifest_refuses Metadata.from_tree Metadata.from_refuses) bytes.now result }
+        ensures { IsFromBytes (manifest_meaning Metadata.meaning)
+            (manifest_reads Metadata.from_tree)
+            (ManifestRefuses Metadata.from_tree Metadata.from_refuses) bytes.now result }
     {
         let tree = tree_of_bytes(alloc, bytes)?;
         read_table(alloc, tree)
@@ -264,7 +278,8 @@ impl<Metadata: FromValue> Manifest<Metadata> {
 
     pub(crate) fn from_text(alloc: Global, text: &str) -> Result<Manifest<Metadata>, Error>
         ensures { IsFromText (manifest_meaning Metadata.meaning) (manifest_reads Metadata.from_tree)
-            (manifest_refuses Metadata.from_tree Metadata.from_refuses) (parse_document text.now) result }
+            (ManifestRefuses Metadata.from_tree Metadata.from_refuses)
+            (parse_document text.now) result }
     {
         let tree = tree_of(alloc, text)?;
         read_table(alloc, tree)
@@ -302,7 +317,7 @@ impl<Metadata: FromValue> Read for Manifest<Metadata> {
 
     ghost reads = { manifest_reads Metadata.from_tree };
 
-    ghost refuses = { manifest_refuses Metadata.from_tree Metadata.from_refuses };
+    ghost refuses = { ManifestRefuses Metadata.from_tree Metadata.from_refuses };
 
     fn read(alloc: Global, value: &Value) -> Result<Manifest<Metadata>, Error> {
         Manifest::read_owned(alloc, value.clone()?)
@@ -318,8 +333,9 @@ impl<Metadata: FromValue> Read for Manifest<Metadata> {
 
 // Each key is taken out of the table, so that its tree is released once it has been read.
 fn read_table<Metadata: FromValue>(alloc: Global, table: Table) -> Result<Manifest<Metadata>, Error>
-    ensures { IsReading (manifest_meaning Metadata.meaning) (manifest_of Metadata.from_tree (table_view table))
-        (manifest_faults Metadata.from_tree Metadata.from_refuses (table_view table)) result }
+    ensures { IsReading (manifest_meaning Metadata.meaning)
+        (manifest_of Metadata.from_tree (table_view table))
+        (ManifestFaults Metadata.from_tree Metadata.from_refuses (table_view table)) result }
 {
     let mut rest = table;
     let mut reading = Reading::new(alloc);
@@ -380,14 +396,14 @@ fn ended<Metadata: Drop>(
     }
 }
 
-// The profiles, none where there is no value. As `ended`, this and the next two are kept out of what
-// stands on the stack while the other keys are read.
+// The profiles, none where there is no value. As `ended`, this and the next two are kept out of
+// what stands on the stack while the other keys are read.
 #[inline(never)]
 fn profiles(reading: &mut Reading, value: Option<Value>) -> Profiles
     ensures { Goes reading.old.fault reading.new.fault
         (given_of profiles_reads no_profiles (option_map view value))
         (profiles_meaning result)
-        (Faulty profiles_reads profiles_refuse (option_map view value)) }
+        (Faulty profiles_reads ProfilesRefuse (option_map view value)) }
 {
     let none = Profiles::default(reading.alloc);
     reading.given_of(value, none)
@@ -411,13 +427,15 @@ fn lints(reading: &mut Reading, value: Option<Value>) -> Inheritable<LintGroups>
     ensures { Goes reading.old.fault reading.new.fault
         (given_of (inheritable_of (map_of (map_of lint_of))) (Set []) (option_map view value))
         (inheritable_map (map_meaning (map_meaning lint_meaning)) result)
-        (Faulty (inheritable_of (map_of (map_of lint_of))) inheritable_refuses (option_map view value)) }
+        (Faulty (inheritable_of (map_of (map_of lint_of))) InheritableRefuses
+        (option_map view value)) }
 {
     let none = Inheritable::Set(LintGroups::new(reading.alloc));
     reading.given_of(value, none)
 }
 
-// Whether the version is 0.0.0, without pre-release and build metadata, and the package could be published everywhere.
+// Whether the version is 0.0.0, without pre-release and build metadata, and the package could be
+// published everywhere.
 fn zero_rule_applies<Metadata>(found: &Package<Metadata>) -> bool
     ensures { result ≡ zero_rule_applies (package_meaning (λ x. x) found.now) }
 {
@@ -437,7 +455,8 @@ fn zero_rule_applies<Metadata>(found: &Package<Metadata>) -> bool
 
 // A package of version 0.0.0 is not published.
 fn by_zero_rule<Metadata: FromValue>(found: Package<Metadata>) -> Package<Metadata>
-    ensures { package_meaning Metadata.meaning result ≡ by_zero_rule (package_meaning Metadata.meaning found) }
+    ensures { package_meaning Metadata.meaning result
+        ≡ by_zero_rule (package_meaning Metadata.meaning found) }
 {
     let mut ruled = found;
     if zero_rule_applies(&ruled) {

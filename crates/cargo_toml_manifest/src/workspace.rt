@@ -3,7 +3,9 @@ ghost use Rattle.std.specs.Prelude.{◌≡◌, Option, Some};
 ghost use Rattle.toml.specs.Data.{Data, no_members};
 ghost use Rattle.toml.specs.View.{table_view};
 ghost use Rattle.cargo_toml_parts.specs.Reads.{IsReading};
-ghost use Rattle.cargo_toml_manifest.specs.Workspaces.{WorkspaceMeaning, workspace_meaning, workspace_of, workspace_faults, workspace_reads, workspace_refuses};
+ghost use Rattle.cargo_toml_manifest.specs.Workspaces.{WorkspaceMeaning, workspace_meaning};
+ghost use Rattle.cargo_toml_manifest.specs.Workspaces.{workspace_of, WorkspaceFaults};
+ghost use Rattle.cargo_toml_manifest.specs.Workspaces.{workspace_reads, WorkspaceRefuses};
 
 use cargo_toml_dependencies::DepsSet;
 use cargo_toml_package::PackageTemplate;
@@ -19,11 +21,13 @@ use toml::{Table, Value};
 
 /// The table `[workspace]`: which packages belong together, and what they share.
 ///
-/// A manifest may have it beside a package, or without one. A key's `_` is written `-` in a manifest. A list or a map whose
-/// key is missing is empty, and any other field is then `None`; keys that are not listed here are ignored.
+/// A manifest may have it beside a package, or without one. A key's `_` is written `-` in a
+/// manifest. A list or a map whose key is missing is empty, and any other field is then `None`;
+/// keys that are not listed here are ignored.
 #[derive(Debug, PartialEq, Drop)]
 pub struct Workspace<Metadata = Value> {
-    /// The paths of the members' folders, relative to the workspace. Patterns among them stay as they are written.
+    /// The paths of the members' folders, relative to the workspace. Patterns among them stay
+    /// as they are written.
     pub members: Vec<String>,
 
     /// The members that Cargo works on where no package is named.
@@ -94,7 +98,8 @@ impl<Metadata: Clone> Clone for Workspace<Metadata> {
 }
 
 impl<Metadata> Workspace<Metadata> {
-    /// The workspace of an empty table: the lists and maps are empty, and the rest is `None`. It takes no memory.
+    /// The workspace of an empty table: the lists and maps are empty, and the rest is `None`.
+    /// It takes no memory.
     pub fn default(alloc: Global) -> Workspace<Metadata>
         ensures { (reads : Data → Option Metadata)
             → workspace_of reads no_members ≡ Some (workspace_meaning (λ x. x) result) }
@@ -116,8 +121,9 @@ fn read_table<Metadata: FromValue>(
     alloc: Global,
     table: Table,
 ) -> Result<Workspace<Metadata>, Error>
-    ensures { IsReading (workspace_meaning Metadata.meaning) (workspace_of Metadata.from_tree (table_view table))
-        (workspace_faults Metadata.from_tree Metadata.from_refuses (table_view table)) result }
+    ensures { IsReading (workspace_meaning Metadata.meaning)
+        (workspace_of Metadata.from_tree (table_view table))
+        (WorkspaceFaults Metadata.from_tree Metadata.from_refuses (table_view table)) result }
 {
     let mut rest = table;
     let mut reading = Reading::new(alloc);
@@ -148,13 +154,13 @@ impl<Metadata: FromValue> Read for Workspace<Metadata> {
 
     ghost reads = { workspace_reads Metadata.from_tree };
 
-    ghost refuses = { workspace_refuses Metadata.from_tree Metadata.from_refuses };
+    ghost refuses = { WorkspaceRefuses Metadata.from_tree Metadata.from_refuses };
 
     fn read(alloc: Global, value: &Value) -> Result<Workspace<Metadata>, Error> {
         Workspace::read_owned(alloc, value.clone()?)
     }
 
-    #[tactic(auto, unfolding(crate::specs::Workspaces::workspace_reads, crate::specs::Workspaces::workspace_refuses))]
+    #[tactic(auto, unfolding(crate::specs::Workspaces::workspace_reads, crate::specs::Workspaces::WorkspaceRefuses))]
     fn read_owned(alloc: Global, value: Value) -> Result<Workspace<Metadata>, Error> {
         match value {
             Value::Table(table) => read_table(alloc, table),

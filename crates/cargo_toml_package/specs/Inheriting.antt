@@ -1,5 +1,6 @@
 -- What a package becomes whose fields are left to the workspace.
-use Rattle.std.specs.Prelude.{ℕ, List, ◌++◌, codes, Bool, false, not, ◌||◌, if◌then◌else◌, Option, Some, option_map, Result, Ok, Err}
+use Rattle.std.specs.Prelude.{ℕ, List, ◌++◌, codes, Bool, false, not, ◌||◌}
+use Rattle.std.specs.Prelude.{if◌then◌else◌, Option, Some, option_map, Result, Ok, Err}
 use Rattle.std.specs.Option.{option_map_or}
 use Rattle.std.specs.Path.{path_join}
 use Rattle.cargo_toml_parts.specs.FaultValues.{Fault, workspace_integrity}
@@ -15,7 +16,8 @@ abbrev pub filled : {A : Type 0} → Inheritable A → Option A → Inheritable 
 filled Inherited (Some x) = Set x
 filled field value = field
 
-abbrev pub filled_if_there : {A : Type 0} → Option (Inheritable A) → Option A → Option (Inheritable A)
+abbrev pub filled_if_there : {A : Type 0} → Option (Inheritable A) → Option A
+    → Option (Inheritable A)
 filled_if_there field value = option_map (λ f. filled f value) field
 
 -- a file of the workspace, whose folder is `base`
@@ -24,7 +26,8 @@ based base (flag b) = flag b
 based base (path p) = path (path_join base p)
 
 -- a package, with what the template of its workspace has for its inherited fields
-abbrev pub with_template : {M : Type 0} → List ℕ → TemplateMeaning → PackageMeaning M → PackageMeaning M
+abbrev pub with_template : {M : Type 0} → List ℕ → TemplateMeaning → PackageMeaning M
+    → PackageMeaning M
 with_template base t p = record p {
   version = filled p.version t.version;
   edition = filled p.edition t.edition;
@@ -44,7 +47,8 @@ with_template base t p = record p {
   publish = filled p.publish (Some t.publish);
 }
 
-abbrev pub with_template_if_there : {M : Type 0} → List ℕ → Option TemplateMeaning → PackageMeaning M → PackageMeaning M
+abbrev pub with_template_if_there : {M : Type 0} → List ℕ → Option TemplateMeaning
+    → PackageMeaning M → PackageMeaning M
 with_template_if_there base template p = option_map_or (λ t. with_template base t p) template p
 
 abbrev pub is_left : {A : Type 0} → Inheritable A → Bool
@@ -74,12 +78,15 @@ any_field_left p =
     || is_left p.publish
 
 abbrev pub missing_fields : List ℕ → Fault
-missing_fields name = workspace_integrity (codes "not all fields of `" ++ name ++ codes "` have been present in workspace.package")
+missing_fields name =
+    workspace_integrity (codes "not all fields of `" ++ name
+    ++ codes "` have been present in workspace.package")
 
 -- the package, unless a field of it is still inherited
 abbrev pub checked_package : {M : Type 0} → PackageMeaning M → Result (PackageMeaning M) Fault
 checked_package p = if any_field_left p then Err (missing_fields p.name) else Ok p
 
 -- a package after inheritance from this template
-abbrev pub inherited_package : {M : Type 0} → Option TemplateMeaning → List ℕ → PackageMeaning M → Result (PackageMeaning M) Fault
+abbrev pub inherited_package : {M : Type 0} → Option TemplateMeaning → List ℕ → PackageMeaning M
+    → Result (PackageMeaning M) Fault
 inherited_package template base p = checked_package (with_template_if_there base template p)

@@ -1,10 +1,13 @@
-//! What a package takes from its workspace: first made, then put in, so that a refusal changes nothing.
+//! What a package takes from its workspace: first made, then put in, so that a
+//! refusal changes nothing.
 ghost use Rattle.std.specs.Prelude.{◌≡◌, IfOk, false, option_map};
 ghost use Rattle.std.specs.Option.{option_copied};
 ghost use Rattle.cargo_toml_parts.specs.Answers.{Gives};
 ghost use Rattle.cargo_toml_parts.specs.Inherits.{inheritable_map};
 ghost use Rattle.cargo_toml_package.specs.Filled.{IsFilled};
-ghost use Rattle.cargo_toml_package.specs.Inheriting.{any_field_left, checked_package, inherited_package, is_left, is_left_there, with_template, with_template_if_there};
+ghost use Rattle.cargo_toml_package.specs.Inheriting.{any_field_left, checked_package};
+ghost use Rattle.cargo_toml_package.specs.Inheriting.{inherited_package, is_left, is_left_there};
+ghost use Rattle.cargo_toml_package.specs.Inheriting.{with_template, with_template_if_there};
 ghost use Rattle.cargo_toml_package.specs.Installing.{installed, put, put_if_there, no_fields};
 ghost use Rattle.cargo_toml_package.specs.Packages.{package_meaning};
 ghost use Rattle.cargo_toml_package.specs.Templates.{template_meaning};
@@ -20,7 +23,8 @@ use filling::Filling;
 use semver::Version;
 use std::alloc::{AllocError, Global};
 
-/// The values that a package takes from its workspace: `None` where it keeps its own, or has no such field.
+/// The values that a package takes from its workspace: `None` where it keeps its own, or
+/// has no such field.
 #[derive(Drop)]
 pub struct NewFields {
     /// In place of the version.
@@ -104,7 +108,8 @@ fn fields_from<M>(
     base: &str,
 ) -> Result<NewFields, AllocError>
     ensures { IfOk result (λ n. installed (package_meaning (λ m. m) «package».now) n
-        ≡ with_template base.now (template_meaning template.now) (package_meaning (λ m. m) «package».now)) }
+        ≡ with_template base.now (template_meaning template.now)
+        (package_meaning (λ m. m) «package».now)) }
 {
     let mut filling = Filling::new(alloc);
     let version = filling.optional(&package.version, &template.version);
@@ -156,17 +161,19 @@ fn put<T: Read>(field: &mut Inheritable<T>, value: Option<T>)
 // The same of a field that may not be there.
 fn put_if_there<T: Read>(field: &mut Option<Inheritable<T>>, value: Option<T>)
     ensures { option_map (inheritable_map T.meaning) field.new
-        ≡ put_if_there (option_map (inheritable_map T.meaning) field.old) (option_map T.meaning value) }
+        ≡ put_if_there (option_map (inheritable_map T.meaning) field.old)
+        (option_map T.meaning value) }
 {
     if let Some(field) = field {
         put(field, value);
     }
 }
 
-/// Puts these values in place of the package's own. Its other fields stay, and its metadata are not touched. It takes no
-/// memory.
+/// Puts these values in place of the package's own. Its other fields stay, and its metadata are not
+/// touched. It takes no memory.
 pub fn install<M: Drop>(package: &mut Package<M>, new: NewFields)
-    ensures { package_meaning (λ m. m) «package».new ≡ installed (package_meaning (λ m. m) «package».old) new }
+    ensures { package_meaning (λ m. m) «package».new
+        ≡ installed (package_meaning (λ m. m) «package».old) new }
 {
     put(&mut package.version, new.version);
     put(&mut package.edition, new.edition);
@@ -188,15 +195,17 @@ pub fn install<M: Drop>(package: &mut Package<M>, new: NewFields)
 
 // Whether a field is left to the workspace once this value is put in.
 fn stays<T: Read>(field: &Inheritable<T>, value: &Option<T>) -> bool
-    ensures { result ≡ is_left (put (inheritable_map T.meaning field.now) (option_map T.meaning value.now)) }
+    ensures { result
+        ≡ is_left (put (inheritable_map T.meaning field.now) (option_map T.meaning value.now)) }
 {
     !field.is_set() && value.is_none()
 }
 
 // The same of a field that may not be there.
 fn stays_there<T: Read>(field: &Option<Inheritable<T>>, value: &Option<T>) -> bool
-    ensures { result ≡ is_left_there
-        (put_if_there (option_map (inheritable_map T.meaning) field.now) (option_map T.meaning value.now)) }
+    ensures { result
+        ≡ is_left_there (put_if_there (option_map (inheritable_map T.meaning) field.now)
+        (option_map T.meaning value.now)) }
 {
     match field {
         Some(field) => stays(field, value),
@@ -226,7 +235,8 @@ fn any_stays<M>(package: &Package<M>, new: &NewFields) -> bool
         || stays(&package.publish, &new.publish)
 }
 
-/// Whether some field is left to the workspace. Where none is, each getter of the package may be called.
+/// Whether some field is left to the workspace. Where none is, each getter of the
+/// package may be called.
 pub fn any_field_inherited<M>(package: &Package<M>) -> bool
     ensures exact { result ≡ any_field_left (package_meaning (λ m. m) «package».now) }
     ensures else_filled { result ≡ false → IsFilled «package».now }
@@ -242,8 +252,8 @@ fn fields_for<M>(
     base: &str,
 ) -> Result<NewFields, AllocError>
     ensures { IfOk result (λ n. installed (package_meaning (λ m. m) «package».now) n
-        ≡ with_template_if_there base.now (option_map template_meaning (option_copied template.entry))
-        (package_meaning (λ m. m) «package».now)) }
+        ≡ with_template_if_there base.now (option_map template_meaning
+        (option_copied template.entry)) (package_meaning (λ m. m) «package».now)) }
 {
     match template {
         Some(template) => fields_from(alloc, package, template, base),
@@ -266,11 +276,11 @@ fn check_none_stays<M>(alloc: Global, package: &Package<M>, new: &NewFields) -> 
     Ok(())
 }
 
-/// What a package takes from the template of its workspace, where there is one. A path of the workspace is joined to `base`,
-/// the workspace's folder.
+/// What a package takes from the template of its workspace, where there is one. A path of the
+/// workspace is joined to `base`, the workspace's folder.
 ///
-/// Refused by `WorkspaceIntegrity`, which tells the package's name, where a field would still be left to the workspace, and by
-/// `Memory`. The package is only read: [`install`] changes it.
+/// Refused by `WorkspaceIntegrity`, which tells the package's name, where a field would still be
+/// left to the workspace, and by `Memory`. The package is only read: [`install`] changes it.
 pub fn new_fields<M>(
     alloc: Global,
     package: &Package<M>,

@@ -8,7 +8,8 @@ use Rattle.cargo_toml_parts.specs.Inherits.{inheritable_of}
 use Rattle.cargo_toml_parts.specs.Reads.{list_of, optional_at, given_at}
 
 -- a value that the workspace may give, and the one where its key is missing
-abbrev pub inherited_at : {M : Type 0} → Words → M → (Data → Option M) → Members → Option (Inheritable M)
+abbrev pub inherited_at : {M : Type 0} → Words → M → (Data → Option M) → Members
+    → Option (Inheritable M)
 inherited_at key missing reads ms = given_at key (Set missing) (inheritable_of reads) ms
 
 -- a text and a list of texts that the workspace may give

@@ -1,7 +1,9 @@
-//! Paths as texts, by the rules of Unix: what two join to, the folder above, the last name, and the folder of a workspace.
+//! Paths as texts, by the rules of Unix: what two join to, the folder above, the last name, and the
+//! folder of a workspace.
 //!
-//! The pieces of a path are what stands between its slashes, but for empty ones and `.`; only a `.` at the front of a
-//! relative path counts. Nothing is looked up in a file system, and nothing is resolved: `..` is a piece like any other.
+//! The pieces of a path are what stands between its slashes, but for empty ones and `.`; only a `.`
+//! at the front of a relative path counts. Nothing is looked up in a file system, and nothing is
+//! resolved: `..` is a piece like any other.
 #![tactic(auto)]
 
 ghost use Rattle.std.specs.Prelude.{◌≡◌, IfOk, string_bytes, Some};
@@ -13,16 +15,16 @@ ghost use Rattle.cargo_toml_paths.specs.Paths.{workspace_folder};
 use std::alloc::{AllocError, Global};
 use std::path::{Ancestors, Path};
 
-/// The path `b` as seen from the folder `a`: `b` itself where it begins with a slash or `a` is empty, and else both with one
-/// slash between them. It takes memory for the whole text once.
+/// The path `b` as seen from the folder `a`: `b` itself where it begins with a slash or `a` is
+/// empty, and else both with one slash between them. It takes memory for the whole text once.
 pub fn join(alloc: Global, a: &str, b: &str) -> Result<String, AllocError>
     ensures { IfOk result (λ s. string_bytes s ≡ path_join a.now b.now) }
 {
     Ok(Path::new(a).join(alloc, b)?.into_string())
 }
 
-/// The folder above: the path up to the end of the piece before its last one, `/` where only the root is left, and the empty
-/// path where nothing is. `None` for the empty path and for the root.
+/// The folder above: the path up to the end of the piece before its last one, `/` where only the
+/// root is left, and the empty path where nothing is. `None` for the empty path and for the root.
 pub fn parent(path: &str) -> Option<&str>
     ensures { option_copied result ≡ path_parent path.now }
 {
@@ -36,14 +38,16 @@ pub fn last_name(path: &str) -> Option<&str>
     Path::new(path).file_name()
 }
 
-/// The path itself, and then each folder above, the nearest first, as far as they are written in the path.
+/// The path itself, and then each folder above, the nearest first, as far as they are
+/// written in the path.
 pub fn ancestors(path: &str) -> Ancestors<'_>
     ensures { ancestors_next result ≡ Some path.now }
 {
     Path::new(path).ancestors()
 }
 
-/// The folder of a workspace that is told by its path: that of its `Cargo.toml`, or the path itself where that is a folder.
+/// The folder of a workspace that is told by its path: that of its `Cargo.toml`, or the path itself
+/// where that is a folder.
 pub fn workspace_folder(path: &str) -> &str
     ensures { result.now ≡ workspace_folder path.now }
 {

@@ -7,7 +7,8 @@ use std::alloc::AllocError;
 
 // The binary is put at the end, unless it is there.
 fn put_bin<'m>(own: &mut Vec<&'m str>, bin: &'m str) -> Result<(), AllocError>
-    ensures { OnOk result (texts_of own.new.items ≡ put_all (texts_of own.old.items) (bin.now ∷ [])) }
+    ensures { OnOk result (texts_of own.new.items
+        ≡ put_all (texts_of own.old.items) (bin.now ∷ [])) }
 {
     if !own.contains(&bin) {
         own.push(bin)?;
@@ -17,7 +18,8 @@ fn put_bin<'m>(own: &mut Vec<&'m str>, bin: &'m str) -> Result<(), AllocError>
 
 /// Each binary is put at the end, unless it is there. It fails only where memory runs out.
 pub fn put_bins<'m>(own: &mut Vec<&'m str>, bins: &[&'m str]) -> Result<(), AllocError>
-    ensures { OnOk result (texts_of own.new.items ≡ put_all (texts_of own.old.items) (texts_of bins.now)) }
+    ensures { OnOk result (texts_of own.new.items
+        ≡ put_all (texts_of own.old.items) (texts_of bins.now)) }
 {
     for bin in bins {
         put_bin(own, *bin)?;

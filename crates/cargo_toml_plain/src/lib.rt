@@ -1,4 +1,5 @@
-//! Hidden features are removed one after another, by names: a plain body beside the one that resolving uses, to compare with.
+//! Hidden features are removed one after another, by names: a plain body beside the one that
+//! resolving uses, to compare with.
 #![tactic(auto)]
 
 pub mod bins;

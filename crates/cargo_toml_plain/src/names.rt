@@ -20,9 +20,10 @@ fn hidden_set<'m, F: Fn(&str) -> bool, S: BuildHasher>(
     filter: Option<&F>,
 ) -> Result<BTreeSet<&'m str>, AllocError>
     requires { HasNameFilter F.Fn filter }
-    ensures removed { IfOk result (λ s. (keep : Text → Bool) → Tells F.Fn filter.entry keep →
-        (f : Text) → has_text s f ≡ is_removed (table_in features.now) keep f) }
-    ensures known { IfOk result (λ s. (f : Text) → IsTrue (has_text s f) → IsSome (value_at features.now f)) }
+    ensures removed { IfOk result (λ s. (keep : Text → Bool) → Tells F.Fn filter.entry keep
+        → (f : Text) → has_text s f ≡ is_removed (table_in features.now) keep f) }
+    ensures known { IfOk result
+        (λ s. (f : Text) → IsTrue (has_text s f) → IsSome (value_at features.now f)) }
 {
     let mut names = BTreeSet::new(alloc);
     for (name, _feature) in features {
@@ -33,26 +34,32 @@ fn hidden_set<'m, F: Fn(&str) -> bool, S: BuildHasher>(
     Ok(names)
 }
 
-/// The names of the features that are removed, in byte order: of those that begin with `_` the ones that the filter doesn't
-/// keep, and without a filter all. The filter is asked only for names that begin with `_`. It fails only where memory runs out.
+/// The names of the features that are removed, in byte order: of those that begin with `_` the ones
+/// that the filter doesn't keep, and without a filter all. The filter is asked only for names that
+/// begin with `_`. It fails only where memory runs out.
 pub fn hidden_names<'m, F: Fn(&str) -> bool, S: BuildHasher>(
     alloc: Global,
     features: &HashMap<&'m str, Feature<'m>, S>,
     filter: Option<&F>,
 ) -> Result<Vec<&'m str>, AllocError>
     requires { HasNameFilter F.Fn filter }
-    ensures removed { IfOk result (λ v. (keep : Text → Bool) → Tells F.Fn filter.entry keep →
-        (f : Text) → Among (map (λ t. t.now) v.items) f ↔ IsTrue (is_removed (table_in features.now) keep f)) }
-    ensures known { IfOk result (λ v. (f : Text) → Among (map (λ t. t.now) v.items) f → IsSome (value_at features.now f)) }
-    ensures ascending { IfOk result (λ v. IsAscending (λ a b. IsTrue (is_below a b)) (map (λ t. t.now) v.items)) }
+    ensures removed { IfOk result (λ v. (keep : Text → Bool) → Tells F.Fn filter.entry keep
+        → (f : Text)
+        → Among (map (λ t. t.now) v.items) f ↔ IsTrue (is_removed (table_in features.now) keep f)) }
+    ensures known { IfOk result
+        (λ v. (f : Text) → Among (map (λ t. t.now) v.items) f → IsSome (value_at features.now f)) }
+    ensures ascending { IfOk result
+        (λ v. IsAscending (λ a b. IsTrue (is_below a b)) (map (λ t. t.now) v.items)) }
 {
     let names = hidden_set(alloc, features, filter)?;
     in_order(alloc, &names)
 }
 
 fn in_order<'m>(alloc: Global, names: &BTreeSet<&'m str>) -> Result<Vec<&'m str>, AllocError>
-    ensures all { IfOk result (λ v. (f : Text) → Among (map (λ t. t.now) v.items) f ↔ IsTrue (has_text names.now f)) }
-    ensures ascending { IfOk result (λ v. IsAscending (λ a b. IsTrue (is_below a b)) (map (λ t. t.now) v.items)) }
+    ensures all { IfOk result
+        (λ v. (f : Text) → Among (map (λ t. t.now) v.items) f ↔ IsTrue (has_text names.now f)) }
+    ensures ascending { IfOk result
+        (λ v. IsAscending (λ a b. IsTrue (is_below a b)) (map (λ t. t.now) v.items)) }
 {
     names.iter().copied().collect(alloc)
 }

@@ -1,10 +1,15 @@
 //! Features are taken out one after another, and leave to others what they said.
-ghost use Rattle.std.specs.Prelude.{◌≡◌, ◌∷◌, ◌++◌, ◌||◌, if◌then◌else◌, [], List, None, Some, bytes_eq, is_some, take, IfOk, IfSome, IsSome, OnOk};
+ghost use Rattle.std.specs.Prelude.{◌≡◌, ◌∷◌, ◌++◌, ◌||◌, if◌then◌else◌, [], List, None, Some};
+ghost use Rattle.std.specs.Prelude.{bytes_eq, is_some, take, IfOk, IfSome, IsSome, OnOk};
 ghost use Rattle.cargo_toml_graph.specs.Action.{Text, join, join_option};
 ghost use Rattle.cargo_toml_graph.specs.Reach.{Among, IsOnce};
-ghost use Rattle.cargo_toml_graph.specs.Removal.{SameKept, is_among, pass_all, put_all, without_all};
-ghost use Rattle.cargo_toml_plain.specs.Removing.{texts_of, passed_on, key_at, marks_at, bins_at, TakesNames, Loses, ChangesAt, LosesAll, TakesOut, Redirects};
-ghost use Rattle.cargo_toml_features.specs.Views.{has_text, action_of, action_at, resolution_of, value_at};
+ghost use Rattle.cargo_toml_graph.specs.Removal.{SameKept, is_among, pass_all};
+ghost use Rattle.cargo_toml_graph.specs.Removal.{put_all, without_all};
+ghost use Rattle.cargo_toml_plain.specs.Removing.{texts_of, passed_on, key_at, marks_at};
+ghost use Rattle.cargo_toml_plain.specs.Removing.{bins_at, TakesNames, Loses, ChangesAt};
+ghost use Rattle.cargo_toml_plain.specs.Removing.{LosesAll, TakesOut, Redirects};
+ghost use Rattle.cargo_toml_features.specs.Views.{has_text, action_of, action_at};
+ghost use Rattle.cargo_toml_features.specs.Views.{resolution_of, value_at};
 
 use crate::bins::put_bins;
 use cargo_toml_features::features::Feature;
@@ -20,7 +25,8 @@ fn pass_on<'a>(
     gone: &BTreeSet<&'a str>,
     key: &'a str,
 ) -> Result<(), AllocError>
-    ensures { OnOk result ((x : Text) → has_text texts.new x ≡ passed_on texts.old gone.now key.now x) }
+    ensures { OnOk result ((x : Text) → has_text texts.new x
+        ≡ passed_on texts.old gone.now key.now x) }
 {
     add_all(texts, gone)?;
     texts.remove(key);
@@ -50,7 +56,8 @@ fn lose_enabler<'a>(
     key: &'a str,
 ) -> Result<(), AllocError>
     ensures { OnOk result ((e : Text) → has_text enabled_by.new e
-        ≡ (if has_text enabled_by.old key.now then passed_on enabled_by.old gone.now.enabled_by key.now e
+        ≡ (if has_text enabled_by.old key.now
+        then passed_on enabled_by.old gone.now.enabled_by key.now e
         else has_text enabled_by.old e)) }
 {
     if enabled_by.contains(key) {
@@ -144,7 +151,8 @@ fn remove_one<'a, S: BuildHasher>(
     requires all { (f : Text) → IsSome (value_at features.old f) → Among (texts_of names.now) f }
     requires once { IsOnce (texts_of names.now) }
     ensures left { OnOk result (TakesOut key.now features.old features.new) }
-    ensures redirect { OnOk result (Redirects key.now (resolution_of features.old) hidden.old hidden.new) }
+    ensures redirect { OnOk result
+        (Redirects key.now (resolution_of features.old) hidden.old hidden.new) }
 {
     if let Some(gone) = features.remove(key) {
         lose_all(alloc, features, names, &gone, key)?;
@@ -171,25 +179,29 @@ fn names_of<'a, S: BuildHasher>(
 
 /// Takes features out one after another, in the order of `removed`.
 ///
-/// At its turn each leaves to others what it says by then. Those that enable it name what it names and act as it acts. Those
-/// that it enables are enabled by what enables it. Those that it names are required by its first ten binaries, too. What it
-/// names itself goes to `hidden`, under its name. It fails only where memory runs out.
+/// At its turn each leaves to others what it says by then. Those that enable it name what it names
+/// and act as it acts. Those that it enables are enabled by what enables it. Those that it names
+/// are required by its first ten binaries, too. What it names itself goes to `hidden`, under its
+/// name. It fails only where memory runs out.
 pub fn remove_all<'m, S: BuildHasher>(
     alloc: Global,
     features: &mut HashMap<&'m str, Feature<'m>, S>,
     hidden: &mut HashMap<&'m str, BTreeSet<&'m str>, S>,
     removed: &[&'m str],
 ) -> Result<(), AllocError>
-    requires there { (v : Text) → Among (texts_of removed.now) v → IsSome (value_at features.old v) }
+    requires there { (v : Text) → Among (texts_of removed.now) v
+        → IsSome (value_at features.old v) }
     requires once { IsOnce (texts_of removed.now) }
     requires none { hidden.old.entries ≡ [] }
-    ensures left { OnOk result (SameKept (without_all (texts_of removed.now) (resolution_of features.old))
+    ensures left { OnOk result
+        (SameKept (without_all (texts_of removed.now) (resolution_of features.old))
         (resolution_of features.new)) }
     ensures keys { OnOk result ((f : Text) → IsSome (value_at features.new f)
         → key_at features.new f ≡ key_at features.old f) }
     ensures marks { OnOk result ((f : Text) → IsSome (value_at features.new f)
         → marks_at features.new f ≡ marks_at features.old f) }
-    ensures bins { OnOk result ((f : Text) → IsSome (value_at features.new f) → bins_at features.new f
+    ensures bins { OnOk result ((f : Text) → IsSome (value_at features.new f)
+        → bins_at features.new f
         ≡ pass_all (texts_of removed.now) (resolution_of features.old) (bins_at features.old) f) }
     ensures redirected { OnOk result ((r : Text) → is_some (value_at hidden.new r)
         ≡ is_among (texts_of removed.now) r) }

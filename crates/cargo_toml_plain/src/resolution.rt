@@ -31,7 +31,8 @@ fn all_by_name<'m, S: BuildHasher + Clone>(
     features: Vec<Feature<'m>>,
 ) -> Result<Left<'m, S>, AllocError>
     requires { AreInOrder features.items }
-    ensures same { IfOk result (λ l. (f : Text) → value_at l.features f ≡ feature_at features.entry.items f) }
+    ensures same { IfOk result
+        (λ l. (f : Text) → value_at l.features f ≡ feature_at features.entry.items f) }
     ensures empty { IfOk result (λ l. l.hidden.entries ≡ []) }
     ensures keyed { IfOk result (λ l. IsKeyed l.features) }
 {
@@ -39,10 +40,11 @@ fn all_by_name<'m, S: BuildHasher + Clone>(
     keep_all(alloc, state, features, none_is_hidden.as_slice())
 }
 
-/// Answers as [`cargo_toml_hidden::resolve`] does, more slowly and in a way that is easy to follow: to compare with.
+/// Answers as [`cargo_toml_hidden::resolve`] does, more slowly and in a way that is easy to
+/// follow: to compare with.
 ///
-/// Each name is listed once. Each map of the answer gets a clone of `state`. It fails only where memory runs out, or the
-/// clone does.
+/// Each name is listed once. Each map of the answer gets a clone of `state`. It fails only where
+/// memory runs out, or the clone does.
 pub fn resolve<'m: 'd, 'd, F: Fn(&str) -> bool, S: BuildHasher + Clone>(
     alloc: Global,
     state: &S,
@@ -53,8 +55,8 @@ pub fn resolve<'m: 'd, 'd, F: Fn(&str) -> bool, S: BuildHasher + Clone>(
 ) -> Result<Features<'m, 'd, S>, AllocError>
     requires once { IsOnce (map (λ l. l.name.now) listings.now) }
     requires filter { HasNameFilter F.Fn filter }
-    ensures resolved { IfOk result (λ a. (keep : Text → Bool) → Tells F.Fn filter.entry keep →
-        IsAnswer (listed_of listings.now) (map entry_of entries.now) (details_of listings.now)
+    ensures resolved { IfOk result (λ a. (keep : Text → Bool) → Tells F.Fn filter.entry keep
+        → IsAnswer (listed_of listings.now) (map entry_of entries.now) (details_of listings.now)
         (own_of (map requirement_of requirements.now)) keep (answer_of a)) }
     ensures keyed { IfOk result (λ a. IsKeyed a.features) }
     ensures targets { IfOk result (λ a. HaveTargets a.dependencies) }

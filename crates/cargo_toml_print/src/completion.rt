@@ -12,17 +12,20 @@ use cargo_toml_tables::Product;
 use std::alloc::Global;
 use std::io::Write;
 
-/// Writes to `output` what completion finds around a manifest: a line for its library, one for each binary, example, test and
-/// benchmark, and, where the manifest has a package, one for its build script and one for its readme.
+/// Writes to `output` what completion finds around a manifest: a line for its library, one for each
+/// binary, example, test and benchmark, and, where the manifest has a package, one for its build
+/// script and one for its readme.
 ///
-/// What isn't known, as the name of a product that has none or a readme that is left to the workspace, is written `-`. Refuses
-/// with `Io` where `output` can't be written, and with `Memory` for want of memory. Nothing is written before all lines stand.
+/// What isn't known, as the name of a product that has none or a readme that is left to the
+/// workspace, is written `-`. Refuses with `Io` where `output` can't be written, and with `Memory`
+/// for want of memory. Nothing is written before all lines stand.
 pub fn print_complete<Metadata, W: Write>(
     alloc: Global,
     manifest: &Manifest<Metadata>,
     output: &mut W,
 ) -> Result<(), Error>
-    ensures printed { OnOk result ((lines : List ℕ) × Appends (W.contents output.old) (W.contents output.new) lines) }
+    ensures printed { OnOk result
+        ((lines : List ℕ) × Appends (W.contents output.old) (W.contents output.new) lines) }
     ensures refused { IfErr result IsOfOutput }
 {
     let lines = completion_lines(alloc, manifest)?;

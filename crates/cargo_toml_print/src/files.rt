@@ -21,8 +21,8 @@ pub fn print_completed<R: Files + AllocGlobal, W: Write>(
     file: &str,
     output: &mut W,
 ) -> Result<(), Error>
-    ensures unwritten { IfErr result (λ e. IsOfManifest e →
-        Keeps (W.contents output.old) (W.contents output.new)) }
+    ensures unwritten { IfErr result (λ e. IsOfManifest e
+        → Keeps (W.contents output.old) (W.contents output.new)) }
 {
     let mut manifest = manifest_in(rt, file)?;
     manifest.complete_from_path(rt, rt.alloc(), file)?;
@@ -32,8 +32,8 @@ pub fn print_completed<R: Files + AllocGlobal, W: Write>(
     Ok(())
 }
 
-/// The manifest in a file, on the heap. It is wide, and so no call that does more than this holds it
-/// on the stack.
+/// The manifest in a file, on the heap. It is wide, and so no call that does more than this
+/// holds it on the stack.
 fn manifest_in<R: Files + AllocGlobal>(rt: &R, file: &str) -> Result<Box<Manifest>, Error> {
     let text = fs::read_to_string(rt, file)?;
     match Manifest::from_str(rt.alloc(), text.as_str()) {

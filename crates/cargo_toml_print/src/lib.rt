@@ -1,4 +1,5 @@
-//! What the program `cargo-toml` is asked, writes and tells at its end, as a library: what checks it against stored lines writes by the same code.
+//! What the program `cargo-toml` is asked, writes and tells at its end, as a library: what checks
+//! it against stored lines writes by the same code.
 #![tactic(auto)]
 
 ghost use Rattle.std.specs.Prelude.{◌≤◌, IfErr};
@@ -26,11 +27,13 @@ use std::hash::BuildHasher;
 use std::io::{Read, Write};
 pub use words::command;
 
-/// Reads a manifest from `input` and writes to `output` a line for each of its features, and then one for each that is removed
-/// since it is hidden, as a resolver tells of them whose limit of items is `max_items`, at least 1.
+/// Reads a manifest from `input` and writes to `output` a line for each of its features, and then
+/// one for each that is removed since it is hidden, as a resolver tells of them whose limit of
+/// items is `max_items`, at least 1.
 ///
-/// Refuses as `Manifest::from_slice` does, with `Io` where `input` can't be read or `output` can't be written, and with `Memory`
-/// for want of memory. Nothing is written before all lines stand, so that a fault of the manifest leaves `output` as it was.
+/// Refuses as `Manifest::from_slice` does, with `Io` where `input` can't be read or `output` can't
+/// be written, and with `Memory` for want of memory. Nothing is written before all lines stand, so
+/// that a fault of the manifest leaves `output` as it was.
 pub fn print_features<R: Read, W: Write>(
     alloc: Global,
     input: &mut R,
@@ -38,7 +41,8 @@ pub fn print_features<R: Read, W: Write>(
     max_items: usize,
 ) -> Result<(), Error>
     requires { 1 ≤ max_items }
-    ensures unwritten { IfErr result (λ e. IsOfManifest e → Keeps (W.contents output.old) (W.contents output.new)) }
+    ensures unwritten { IfErr result
+        (λ e. IsOfManifest e → Keeps (W.contents output.old) (W.contents output.new)) }
 {
     let mut bytes = Vec::new(alloc);
     input.read_to_end(&mut bytes)?;
@@ -68,8 +72,9 @@ fn manifest_of(alloc: Global, bytes: &[u8]) -> Result<Box<Manifest>, Error> {
     }
 }
 
-/// The lines that the program prints of resolved features: one for each feature, and then one for each that was removed with
-/// what stands for it, both in byte order of their names. It fails only where memory runs out.
+/// The lines that the program prints of resolved features: one for each feature, and then one for
+/// each that was removed with what stands for it, both in byte order of their names. It fails only
+/// where memory runs out.
 pub fn feature_lines<S: BuildHasher>(
     alloc: Global,
     features: &Features<'_, '_, S>,
@@ -180,7 +185,8 @@ fn write_actions(text: &mut String, actions: &BTreeMap<&str, DepAction<'_>>) -> 
     Ok(())
 }
 
-/// The dependency's key, `?` if the action is conditional, `!` if it is dep-only, then each of its features after a slash.
+/// The dependency's key, `?` if the action is conditional, `!` if it is dep-only, then each of its
+/// features after a slash.
 fn write_action(text: &mut String, key: &str, action: &DepAction<'_>) -> Result<(), Error> {
     text.push_str(key)?;
     if action.is_conditional {

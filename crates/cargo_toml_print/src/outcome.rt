@@ -1,6 +1,7 @@
 //! How a run of the program ends, and what it tells of that.
 ghost use Rattle.std.specs.Prelude.{◌≡◌};
-ghost use Rattle.cargo_toml_print.specs.Outcomes.{IsOfWords, outcome_of, status_of, text_of_outcome};
+ghost use Rattle.cargo_toml_print.specs.Outcomes.{IsOfWords, outcome_of};
+ghost use Rattle.cargo_toml_print.specs.Outcomes.{status_of, text_of_outcome};
 
 use cargo_toml_parts::Error;
 use std::{fmt, io};
@@ -27,7 +28,8 @@ impl Outcome {
         }
     }
 
-    /// What ends a run whose words couldn't be had: there was no memory for them, or one of them is no text.
+    /// What ends a run whose words couldn't be had: there was no memory for them, or one
+    /// of them is no text.
     pub fn of_words(fault: io::Error) -> Outcome
         ensures { IsOfWords fault result }
     {
@@ -49,8 +51,9 @@ impl Outcome {
     }
 }
 
-/// What is told on standard error: nothing of what is done, the fault after `error: `, and else how the program is called, each
-/// as a line of its own. It takes no memory, since want of memory is a fault too.
+/// What is told on standard error: nothing of what is done, the fault after `error: `, and else
+/// how the program is called, each as a line of its own. It takes no memory, since want of
+/// memory is a fault too.
 impl fmt::Display for Outcome {
     ghost output = { text_of_outcome };
 

@@ -1,5 +1,7 @@
--- Features that optional dependencies imply: words of a step of resolving, on which no public contract rests.
-use Rattle.std.specs.Prelude.{◌≡◌, ◌&&◌, not, Bool, true, false, List, [], Option, Some, None, bytes_eq, if◌then◌else◌, unwrap_or}
+-- Features that optional dependencies imply: words of a step of resolving, on which no
+-- public contract rests.
+use Rattle.std.specs.Prelude.{◌≡◌, ◌&&◌, not, Bool, true, false, List, [], Option}
+use Rattle.std.specs.Prelude.{Some, None, bytes_eq, if◌then◌else◌, unwrap_or}
 use Rattle.std.specs.Option.{IsSomeAnd}
 use Rattle.std.specs.List.{list_any}
 use Rattle.std.specs.Borrow.{Bor}
@@ -16,7 +18,8 @@ use Rattle.cargo_toml_resolve.specs.declared.slots.Slots.{Slots}
 use Rattle.std.specs.BTreeMap.{BTreeMap}
 use Rattle.cargo_toml_features.specs.InOrder.{sorted_at}
 
--- the implied feature of the key q: it names nothing, has one plain action on itself, and nothing is said of it
+-- the implied feature of the key q: it names nothing, has one plain action on itself, and
+-- nothing is said of it
 pub record IsImplied (q : Text) (v : Feature) : Type 0 where
   pub key : v.key.now ≡ q
   pub names : (x : Text) → has_text v.enables_features x ≡ false

@@ -19,7 +19,8 @@ pub record IsListed (f : Text) (d : Detail) (items : List Item) (v : Feature) : 
   pub action : (k : Text) → action_at v.enables_deps k ≡ joined_in items k
 
 -- the same while the names that the list gives are gathered beside the feature
-pub record IsGathered (f : Text) (d : Detail) (items : List Item) (named : List Text) (v : Feature) : Type 0 where
+pub record IsGathered (f : Text) (d : Detail) (items : List Item) (named : List Text)
+    (v : Feature) : Type 0 where
   pub fresh : IsFresh f d v
   pub names : (x : Text) → list_any (bytes_eq x) named ≡ list_any (item_names x) items
   pub action : (k : Text) → action_at v.enables_deps k ≡ joined_in items k

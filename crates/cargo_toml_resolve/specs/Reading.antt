@@ -12,15 +12,18 @@ use Rattle.cargo_toml_features.specs.Recorded.{is_reserved}
 use Rattle.cargo_toml_resolve.specs.Slots.{held_in}
 use Rattle.cargo_toml_resolve.specs.declared.slots.Slots.{Slots}
 
--- the features are those that the table lists, and `acted` tells of each key that one acts on whether it is reserved
+-- the features are those that the table lists, and `acted` tells of each key that one acts on
+-- whether it is reserved
 pub record IsRead (listed : Listed) (t : Table) (acted : Text → Option Bool) : Type 0 where
   pub has : (f : Text) → t.has f ≡ is_explicit listed f
   pub names : (f x : Text) → t.names f x ≡ listing.names listed f x
   pub action : (f k : Text) → t.action f k ≡ joined_action listed f k
-  pub acted_on : (k : Text) → is_some (acted k) ≡ list_any (λ e. is_some (joined_action listed e.0 k)) listed
+  pub acted_on : (k : Text) → is_some (acted k)
+      ≡ list_any (λ e. is_some (joined_action listed e.0 k)) listed
   pub reserved : (k : Text) → unwrap_or (acted k) false ≡ is_reserved listed k
 
--- a feature with this key that the manifest lists, of which d is said and neither enablers nor binaries are known yet
+-- a feature with this key that the manifest lists, of which d is said and neither enablers nor
+-- binaries are known yet
 pub record IsFresh (f : Text) (d : Detail) (v : Feature) : Type 0 where
   pub key : v.key.now ≡ f
   pub marks : marks_of v ≡ marked true d
@@ -28,4 +31,5 @@ pub record IsFresh (f : Text) (d : Detail) (v : Feature) : Type 0 where
   pub bins : v.required_by_bins.items ≡ []
 
 abbrev pub AreFresh : Listed → Details → Slots Feature → Type 0
-AreFresh listed details m = (f : Text) (v : Feature) → held_in m f ≡ Some v → IsFresh f (detail_listed listed details f) v
+AreFresh listed details m =
+    (f : Text) (v : Feature) → held_in m f ≡ Some v → IsFresh f (detail_listed listed details f) v

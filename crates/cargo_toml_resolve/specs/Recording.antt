@@ -1,5 +1,7 @@
--- Entries of dependency tables, recorded one after another: words of a step of resolving, on which no public contract rests.
-use Rattle.std.specs.Prelude.{Bool, ◌&&◌, ◌||◌, if◌then◌else◌, Option, Some, None, is_some, option_map, unwrap_or, bytes_eq}
+-- Entries of dependency tables, recorded one after another: words of a step of resolving, on which
+-- no public contract rests.
+use Rattle.std.specs.Prelude.{Bool, ◌&&◌, ◌||◌, if◌then◌else◌, Option, Some}
+use Rattle.std.specs.Prelude.{None, is_some, option_map, unwrap_or, bytes_eq}
 use Rattle.std.specs.Option.{option_or}
 use Rattle.std.specs.Ordering.{is_eq}
 use Rattle.cargo_toml_dependencies.specs.Dependencies.{is_optional, package_of}
@@ -18,7 +20,8 @@ recorded_at m k = option_map recorded_in (held_in m k)
 
 -- what e records of its key before its target
 abbrev pub recorded_nowhere : Entry → Recorded
-recorded_nowhere e = record { crate_name = unwrap_or (package_of e.dependency) e.key; targets = λ _. None }
+recorded_nowhere e =
+    record { crate_name = unwrap_or (package_of e.dependency) e.key; targets = λ _. None }
 
 -- what e alone records
 abbrev pub recorded_first : Entry → Recorded
@@ -31,7 +34,9 @@ recorded_first e = record {
 abbrev pub recorded_next : Recorded → Entry → Recorded
 recorded_next r e = record {
   crate_name = r.crate_name;
-  targets = λ t. option_or (r.targets t) (if is_eq (target_cmp t e.target) then Some e.dependency else None);
+  targets =
+      λ t. option_or (r.targets t)
+      (if is_eq (target_cmp t e.target) then Some e.dependency else None);
 }
 
 abbrev pub recorded_with : Option Recorded → Entry → Recorded
@@ -42,10 +47,12 @@ recorded_with (Some r) e = recorded_next r e
 abbrev pub is_mentioned_in : Mentions → Text → Bool
 is_mentioned_in m k = is_some (held_in m.features k) || is_some (sorted_at m.acted k)
 
--- what is recorded of q after e, where o was recorded of q before: e counts if its key is recorded already or mentioned, or e
--- is optional
+-- what is recorded of q after e, where o was recorded of q before: e counts if its key is recorded
+-- already or mentioned, or e is optional
 abbrev pub recorded_after : (Text → Bool) → Entry → Text → Option Recorded → Option Recorded
-recorded_after mentioned e q o = if bytes_eq e.key q && (is_some o || (is_optional e.dependency || mentioned q)) then Some (recorded_with o e) else o
+recorded_after mentioned e q o =
+    if bytes_eq e.key q && (is_some o || (is_optional e.dependency || mentioned q))
+    then Some (recorded_with o e) else o
 
 -- an entry that counts by itself, by which keys are mentioned
 abbrev pub counts_alone : (Text → Bool) → Entry → Bool

@@ -1,4 +1,5 @@
--- Actions without the features that dependencies have anyway: words of a step of resolving, on which no public contract rests.
+-- Actions without the features that dependencies have anyway: words of a step of resolving, on
+-- which no public contract rests.
 use Rattle.std.specs.Prelude.{◌≡◌, List, option_map}
 use Rattle.cargo_toml_features.specs.declared.features.Feature.{Feature}
 use Rattle.cargo_toml_features.specs.declared.features.FeatureDependency.{FeatureDependency}
@@ -14,11 +15,13 @@ use Rattle.cargo_toml_resolve.specs.declared.slots.Slots.{Slots}
 abbrev pub IsRecordOf : Slots FeatureDependency → (Text → List Entry) → Type 0
 IsRecordOf m entries = (k : Text) → recorded_at m k ≡ recorded_of (entries k)
 
--- each action of the feature lost what is redundant by the entries of its key, and nothing else changed
+-- each action of the feature lost what is redundant by the entries of its key, and
+-- nothing else changed
 pub record Thinned (entries : Text → List Entry) (old new : Feature) : Type 0 where
   pub key : new.key ≡ old.key
   pub names : new.enables_features ≡ old.enables_features
-  pub actions : (k : Text) → action_at new.enables_deps k ≡ option_map (without_redundant (first_target (entries k))) (action_at old.enables_deps k)
+  pub actions : (k : Text) → action_at new.enables_deps k
+      ≡ option_map (without_redundant (first_target (entries k))) (action_at old.enables_deps k)
   pub enabled_by : new.enabled_by ≡ old.enabled_by
   pub bins : new.required_by_bins ≡ old.required_by_bins
   pub marks : marks_of new ≡ marks_of old

@@ -1,4 +1,5 @@
--- Features that learn which binaries require them: words of a step of resolving, on which no public contract rests.
+-- Features that learn which binaries require them: words of a step of resolving, on which no
+-- public contract rests.
 use Rattle.std.specs.Prelude.{◌≡◌, ◌++◌, List, map}
 use Rattle.cargo_toml_features.specs.declared.features.Feature.{Feature}
 use Rattle.cargo_toml_features.specs.Marks.{marks_of}
@@ -13,7 +14,8 @@ pub record Required (more : List Text) (old new : Feature) : Type 0 where
   pub actions : new.enables_deps ≡ old.enables_deps
   pub enabled_by : new.enabled_by ≡ old.enabled_by
   pub marks : marks_of new ≡ marks_of old
-  pub bins : map (λ b. b.now) new.required_by_bins.items ≡ map (λ b. b.now) old.required_by_bins.items ++ more
+  pub bins : map (λ b. b.now) new.required_by_bins.items
+      ≡ map (λ b. b.now) old.required_by_bins.items ++ more
 
 -- so did each feature
 pub record RequiredAll (own : Text → List Text) (old new : Slots Feature) : Type 0 where

@@ -27,7 +27,8 @@ fn require_at<'m>(
 ) -> Result<(), AllocError>
     requires place { place < length features.old.names.items }
     ensures required { OnOk result
-        (RequiredAll (own_of ((text_at (names_in features.old) place, bin.now) ∷ [])) features.old features.new) }
+        (RequiredAll (own_of ((text_at (names_in features.old) place, bin.now) ∷ [])) features.old
+        features.new) }
     ensures same_names { OnOk result (HaveSameNames features.old features.new) }
 {
     if let Some(feature) = &mut features.values[place] {
@@ -36,8 +37,8 @@ fn require_at<'m>(
     Ok(())
 }
 
-// Adds the binary to the feature that it requires, if there is one of that name. The answer is where the name stood, or else
-// `near`, where it is looked for first.
+// Adds the binary to the feature that it requires, if there is one of that name. The answer is
+// where the name stood, or else `near`, where it is looked for first.
 fn require<'m>(
     features: &mut Slots<'m, Feature<'m>>,
     requirement: &Requirement<'m>,
@@ -54,7 +55,8 @@ fn require<'m>(
     Ok(place.saturating_add(1))
 }
 
-// Adds each binary to the features that it requires, once for each mention.
+/// Adds each binary to the features that it requires, once for each mention; a feature that isn't
+/// there is passed over. The names stay. It fails only where memory runs out.
 pub fn require_all<'m>(
     features: &mut Slots<'m, Feature<'m>>,
     requirements: &[Requirement<'m>],

@@ -2,7 +2,8 @@
 ghost use Rattle.std.specs.Prelude.{◌≡◌, ◌<◌, ◌∷◌, [], bytes_eq, length, map, IfOk, IsTrue, OnOk};
 ghost use Rattle.std.specs.List.{list_any};
 ghost use Rattle.cargo_toml_dependencies.specs.Dependencies.{dependency_meaning, is_optional};
-ghost use Rattle.cargo_toml_resolve.specs.Implying.{IsImplied, ImpliesAll, is_offered, is_optional_at, is_reserved_in};
+ghost use Rattle.cargo_toml_resolve.specs.Implying.{IsImplied, ImpliesAll, is_offered};
+ghost use Rattle.cargo_toml_resolve.specs.Implying.{is_optional_at, is_reserved_in};
 ghost use Rattle.cargo_toml_resolve.specs.Slots.{HaveSameNames, names_in};
 ghost use Rattle.cargo_toml_features.specs.Views.{entry_of};
 ghost use Rattle.cargo_toml_walk.specs.Numbered.{text_at};
@@ -15,7 +16,8 @@ use cargo_toml_features::features::{DepAction, Feature, ParseDependency};
 use std::alloc::{AllocError, Global};
 use std::collections::{BTreeMap, BTreeSet};
 
-// The feature that the optional dependency of a key implies. Nothing is said of it, whatever is said of features of that name.
+// The feature that the optional dependency of a key implies. Nothing is said of it, whatever is
+// said of features of that name.
 fn implied_feature(alloc: Global, key: &str) -> Result<Feature<'_>, AllocError>
     ensures { IfOk result (IsImplied key.now) }
 {
@@ -64,8 +66,8 @@ fn imply_at<'m>(
     Ok(())
 }
 
-// Adds the feature that the entry implies, if it does. The answer is the place after it, or else `near`, where it is looked
-// for first. The key of an optional entry is a name.
+// Adds the feature that the entry implies, if it does. The answer is the place after it, or else
+// `near`, where it is looked for first. The key of an optional entry is a name.
 fn imply<'m>(
     alloc: Global,
     features: &mut Slots<'m, Feature<'m>>,
@@ -89,7 +91,8 @@ fn imply<'m>(
     Ok(place.saturating_add(1))
 }
 
-// Adds the features that optional dependencies imply. The keys of optional entries are among the names.
+/// Adds the features that optional dependencies imply. The keys of optional entries are among the
+/// names, which stay. It fails only where memory runs out.
 pub fn imply_all<'m>(
     alloc: Global,
     features: &mut Slots<'m, Feature<'m>>,

@@ -1,6 +1,8 @@
-//! Features are resolved: from the lists of a manifest and entries of dependency tables to what each feature enables.
+//! Features are resolved: from the lists of a manifest and entries of dependency tables to what
+//! each feature enables.
 //!
-//! [`resolve_all`] is the whole of it; hidden features are removed after it. Callers use it by `cargo_toml::features::Resolver`.
+//! [`resolve_all`] is the whole of it; hidden features are removed after it. Callers use it by
+//! `cargo_toml::features::Resolver`.
 #![tactic(auto)]
 
 pub mod bins;

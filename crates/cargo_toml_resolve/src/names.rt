@@ -28,7 +28,8 @@ fn ascends(texts: &[&str]) -> bool
 
 /// The texts in byte order, each once. Texts that stand so already aren't sorted again.
 pub fn ascending<'m>(texts: Vec<&'m str>) -> Vec<&'m str>
-    ensures all { (x : Text) → Among (map (λ t. t.now) result.items) x ↔ Among (map (λ t. t.now) texts.entry.items) x }
+    ensures all { (x : Text) → Among (map (λ t. t.now) result.items) x
+        ↔ Among (map (λ t. t.now) texts.entry.items) x }
     ensures ascend { Ascend (map (λ t. t.now) result.items) }
 {
     if ascends(texts.as_slice()) {
@@ -98,17 +99,18 @@ fn optional_keys<'m>(
     Ok(keys)
 }
 
-/// The names that features may have: those that are listed, `default`, and the keys of optional entries. They stand in byte
-/// order, each once. It fails only where memory runs out.
+/// The names that features may have: those that are listed, `default`, and the keys of optional
+/// entries. They stand in byte order, each once. It fails only where memory runs out.
 pub fn names_of_all<'m>(
     alloc: Global,
     listings: &[Listing<'m>],
     entries: &[ParseDependency<'m, '_>],
 ) -> Result<Vec<&'m str>, AllocError>
     ensures ascend { IfOk result (λ v. Ascend (map (λ t. t.now) v.items)) }
-    ensures explicit { IfOk result (λ v. (f : Text) → IsTrue (is_explicit (listed_of listings.now) f)
-        → Among (map (λ t. t.now) v.items) f) }
-    ensures optional { IfOk result (λ v. (k : Text) → IsTrue (list_any (is_optional_at k) (map entry_of entries.now))
+    ensures explicit { IfOk result (λ v. (f : Text)
+        → IsTrue (is_explicit (listed_of listings.now) f) → Among (map (λ t. t.now) v.items) f) }
+    ensures optional { IfOk result
+        (λ v. (k : Text) → IsTrue (list_any (is_optional_at k) (map entry_of entries.now))
         → Among (map (λ t. t.now) v.items) k) }
 {
     let listed = ascending(listed_names(alloc, listings)?);

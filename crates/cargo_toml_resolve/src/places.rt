@@ -1,5 +1,6 @@
 //! Values are put and looked up by the places of their names.
-ghost use Rattle.std.specs.Prelude.{◌≡◌, ◌<◌, IfOk, IfSome, IsTrue, None, Some, bytes_eq, if◌then◌else◌, length, map};
+ghost use Rattle.std.specs.Prelude.{◌≡◌, ◌<◌, IfOk, IfSome, IsTrue, None, Some};
+ghost use Rattle.std.specs.Prelude.{bytes_eq, if◌then◌else◌, length, map};
 ghost use Rattle.std.specs.Option.{option_copied};
 ghost use Rattle.cargo_toml_graph.specs.Action.{Text};
 ghost use Rattle.cargo_toml_graph.specs.Reach.{Among};
@@ -31,16 +32,18 @@ pub fn empty_slots<'n, V: Drop>(
 
 // Whether the name stands at this place.
 fn stands_at(names: &[&str], place: usize, name: &str) -> bool
-    ensures { IsTrue result → (place < length names.now) × (text_at (map (λ n. n.now) names.now) place ≡ name.now) }
+    ensures { IsTrue result
+        → (place < length names.now) × (text_at (map (λ n. n.now) names.now) place ≡ name.now) }
 {
     place < names.len() && names[place] == name
 }
 
-/// Where a name stands, if it does. It is looked for at `near` and the place before it first: where names are looked up in
-/// their order and `near` is the place after the last one, they stand there.
+/// Where a name stands, if it does. It is looked for at `near` and the place before it first: where
+/// names are looked up in their order and `near` is the place after the last one, they stand there.
 pub fn place_near(names: &[&str], name: &str, near: usize) -> Option<usize>
     requires { Ascend (map (λ n. n.now) names.now) }
-    ensures found { IfSome result (λ i. (i < length names.now) × (text_at (map (λ n. n.now) names.now) i ≡ name.now)) }
+    ensures found { IfSome result
+        (λ i. (i < length names.now) × (text_at (map (λ n. n.now) names.now) i ≡ name.now)) }
     ensures missing { result ≡ None → ¬ Among (map (λ n. n.now) names.now) name.now }
 {
     if stands_at(names, near, name) {
@@ -67,13 +70,15 @@ impl<'n, V: Drop> Slots<'n, V> {
         requires place { place < length self.old.names.items }
         ensures same_names { HaveSameNames self.old self.new }
         ensures held { (f : Text) → held_in self.new f
-            ≡ (if bytes_eq f (text_at (names_in self.old) place) then Some value else held_in self.old f) }
+            ≡ (if bytes_eq f (text_at (names_in self.old) place) then Some value
+            else held_in self.old f) }
     {
         self.values[place] = Some(value);
     }
 }
 
-/// The features, in the byte order of their names, where each stands under its own key. It fails only where memory runs out.
+/// The features, in the byte order of their names, where each stands under its own key. It fails
+/// only where memory runs out.
 pub fn into_features<'m>(
     alloc: Global,
     slots: Slots<'m, Feature<'m>>,

@@ -1,5 +1,7 @@
 //! What the lists of features say.
-ghost use Rattle.std.specs.Prelude.{◌≡◌, ◌∷◌, ◌++◌, [], List, if◌then◌else◌, bytes_eq, string_bytes, codes, map, false, IfOk, IsTrue, OnOk, Some, None, MatchOption};
+ghost use Rattle.std.specs.Prelude.{◌≡◌, ◌∷◌, ◌++◌, [], List, if◌then◌else◌};
+ghost use Rattle.std.specs.Prelude.{bytes_eq, string_bytes, codes, map, false};
+ghost use Rattle.std.specs.Prelude.{IfOk, IsTrue, OnOk, Some, None, MatchOption};
 ghost use Rattle.std.specs.List.{list_any};
 ghost use Rattle.std.specs.Option.{IsSomeAnd};
 ghost use Rattle.cargo_toml_graph.specs.Action.{Text, Item, item_of};
@@ -78,9 +80,10 @@ fn add_item<'m>(
 ) -> Result<(), AllocError>
     ensures gathered { OnOk result ((f : Text) (d : Detail) (items : List Item)
         → IsGathered f d items (map (λ t. t.now) named.old.items) feature.old
-        → IsGathered f d (items ++ item_of text.now ∷ []) (map (λ t. t.now) named.new.items) feature.new) }
-    ensures noted { OnOk result
-        ((k : Text) → sorted_at acted.new k ≡ noted (sorted_at acted.old k) (action_on k (item_of text.now))) }
+        → IsGathered f d (items ++ item_of text.now ∷ [])
+        (map (λ t. t.now) named.new.items) feature.new) }
+    ensures noted { OnOk result ((k : Text) → sorted_at acted.new k
+        ≡ noted (sorted_at acted.old k) (action_on k (item_of text.now))) }
 {
     let action = read_action(text);
     if action.acts() {
@@ -94,7 +97,8 @@ fn add_item<'m>(
 
 // The texts one after another, as a set.
 fn inserted<'m>(alloc: Global, texts: &[&'m str]) -> Result<BTreeSet<&'m str>, AllocError>
-    ensures { IfOk result (λ s. (x : Text) → has_text s x ≡ list_any (bytes_eq x) (map (λ t. t.now) texts.now)) }
+    ensures { IfOk result
+        (λ s. (x : Text) → has_text s x ≡ list_any (bytes_eq x) (map (λ t. t.now) texts.now)) }
 {
     let mut set = BTreeSet::new(alloc);
     for text in texts {
@@ -105,14 +109,16 @@ fn inserted<'m>(alloc: Global, texts: &[&'m str]) -> Result<BTreeSet<&'m str>, A
 
 // The texts as a set, which is made in one go.
 fn collected<'m>(alloc: Global, texts: &[&'m str]) -> Result<BTreeSet<&'m str>, AllocError>
-    ensures { IfOk result (λ s. (x : Text) → has_text s x ≡ list_any (bytes_eq x) (map (λ t. t.now) texts.now)) }
+    ensures { IfOk result
+        (λ s. (x : Text) → has_text s x ≡ list_any (bytes_eq x) (map (λ t. t.now) texts.now)) }
 {
     texts.iter().copied().collect(alloc)
 }
 
 // The texts as a set. Few are inserted, which takes less memory than to sort them.
 fn set_of<'m>(alloc: Global, texts: &[&'m str]) -> Result<BTreeSet<&'m str>, AllocError>
-    ensures { IfOk result (λ s. (x : Text) → has_text s x ≡ list_any (bytes_eq x) (map (λ t. t.now) texts.now)) }
+    ensures { IfOk result
+        (λ s. (x : Text) → has_text s x ≡ list_any (bytes_eq x) (map (λ t. t.now) texts.now)) }
 {
     if texts.len() > 16 {
         collected(alloc, texts)
@@ -128,8 +134,8 @@ fn read_list<'m>(
     acted: &mut BTreeMap<&'m str, bool>,
     listing: Listing<'m>,
 ) -> Result<Feature<'m>, AllocError>
-    ensures listed { IfOk result
-        (IsListed listing.entry.name.now (detail_in listing.entry.detail) (map item_of (map string_bytes listing.entry.actions.now))) }
+    ensures listed { IfOk result (IsListed listing.entry.name.now (detail_in listing.entry.detail)
+        (map item_of (map string_bytes listing.entry.actions.now))) }
     ensures noted { OnOk result
         ((k : Text) → sorted_at acted.new k ≡ noted (sorted_at acted.old k)
         (joined_in (map item_of (map string_bytes listing.entry.actions.now)) k)) }
@@ -143,7 +149,8 @@ fn read_list<'m>(
     Ok(feature)
 }
 
-// Puts a feature under its name, which is one of the names. The answer is the place after it; it is looked for at `near` first.
+// Puts a feature under its name, which is one of the names. The answer is the place after it; it is
+// looked for at `near` first.
 fn put_feature<'m>(
     features: &mut Slots<'m, Feature<'m>>,
     name: &str,
@@ -168,7 +175,8 @@ fn add_default<'m>(alloc: Global, features: &mut Slots<'m, Feature<'m>>)
     ensures others { (f : Text) → bytes_eq f (codes "default") ≡ false
         → held_in features.new f ≡ held_in features.old f }
     ensures default { MatchOption (held_in features.old (codes "default"))
-        (IsSomeAnd (held_in features.new (codes "default")) (IsListed (codes "default") plain_detail []))
+        (IsSomeAnd (held_in features.new (codes "default"))
+        (IsListed (codes "default") plain_detail []))
         (λ v. held_in features.new (codes "default") ≡ Some v) }
     ensures same_names { HaveSameNames features.old features.new }
 {
@@ -178,8 +186,8 @@ fn add_default<'m>(alloc: Global, features: &mut Slots<'m, Feature<'m>>)
     }
 }
 
-/// Reads the lists of all features, of which each name is listed once, and adds `default` where it isn't listed. All these are
-/// among the names.
+/// Reads the lists of all features, of which each name is listed once, and adds `default` where it
+/// isn't listed. All these are among the names.
 ///
 /// It fails only where memory runs out.
 pub fn read_features<'m>(

@@ -1,5 +1,6 @@
 //! Which dependencies features can speak of.
-ghost use Rattle.std.specs.Prelude.{◌≡◌, ◌↔◌, ◌<◌, Bool, IfOk, IsTrue, OnOk, Some, bytes_eq, if◌then◌else◌, length, map};
+ghost use Rattle.std.specs.Prelude.{◌≡◌, ◌↔◌, ◌<◌, Bool, IfOk, IsTrue, OnOk};
+ghost use Rattle.std.specs.Prelude.{Some, bytes_eq, if◌then◌else◌, length, map};
 ghost use Rattle.std.specs.List.{list_any};
 ghost use Rattle.cargo_toml_graph.specs.Action.{Text};
 ghost use Rattle.cargo_toml_graph.specs.Reach.{Among};
@@ -83,7 +84,8 @@ fn counting_entries<'m: 'd, 'd>(
     ensures flags { IfOk result (λ v. v.flags.items
         ≡ map (counts_alone (is_mentioned_in mentions.now)) (map entry_of entries.now)) }
     ensures keys { IfOk result (λ v. (k : Text) → Among (map (λ t. t.now) v.keys.items) k
-        ↔ IsTrue (list_any (counts_at (is_mentioned_in mentions.now) k) (map entry_of entries.now))) }
+        ↔ IsTrue
+        (list_any (counts_at (is_mentioned_in mentions.now) k) (map entry_of entries.now))) }
 {
     let mut flags = Vec::with_capacity(alloc, entries.len())?;
     let mut keys = Vec::with_capacity(alloc, entries.len())?;
@@ -107,7 +109,8 @@ fn record_at<'m: 'd, 'd>(
     requires place { place < length dependencies.old.names.items }
     requires named { text_at (names_in dependencies.old) place ≡ entry.now.key.now }
     ensures recorded { OnOk result ((q : Text) → recorded_at dependencies.new q
-        ≡ (if bytes_eq entry.now.key.now q then Some (recorded_with (recorded_at dependencies.old q) (entry_of entry.now))
+        ≡ (if bytes_eq entry.now.key.now q
+        then Some (recorded_with (recorded_at dependencies.old q) (entry_of entry.now))
         else recorded_at dependencies.old q)) }
     ensures same_names { OnOk result (HaveSameNames dependencies.old dependencies.new) }
 {
@@ -152,8 +155,8 @@ pub fn record_dependencies<'m: 'd, 'd>(
     entries: &[ParseDependency<'m, 'd>],
 ) -> Result<Slots<'d, FeatureDependency<'d>>, AllocError>
     ensures recorded { IfOk result (λ s. (listed : Listed)
-        → ((k : Text) → is_mentioned_in mentions.now k ≡ is_mentioned listed k) →
-        (k : Text) → recorded_at s k ≡ recorded_of (entries_at listed (map entry_of entries.now) k)) }
+        → ((k : Text) → is_mentioned_in mentions.now k ≡ is_mentioned listed k) → (k : Text)
+        → recorded_at s k ≡ recorded_of (entries_at listed (map entry_of entries.now) k)) }
 {
     let Counting { flags, keys } = counting_entries(alloc, mentions, entries)?;
     let names = ascending(keys);

@@ -3,7 +3,8 @@ ghost use Rattle.std.specs.Prelude.{◌≡◌, List, Some, bytes_eq, map, option
 ghost use Rattle.std.specs.List.{list_any};
 ghost use Rattle.cargo_toml_dependencies.specs.Dependencies.{dependency_meaning};
 ghost use Rattle.cargo_toml_graph.specs.Action.{Text};
-ghost use Rattle.cargo_toml_features.specs.Recorded.{Entry, first_target, is_redundant, recorded_of, without_redundant};
+ghost use Rattle.cargo_toml_features.specs.Recorded.{Entry, first_target, is_redundant};
+ghost use Rattle.cargo_toml_features.specs.Recorded.{recorded_of, without_redundant};
 ghost use Rattle.cargo_toml_resolve.specs.Recording.{recorded_at};
 ghost use Rattle.cargo_toml_resolve.specs.Slots.{Relates, HaveSameNames};
 ghost use Rattle.cargo_toml_resolve.specs.Redundant.{IsRecordOf, Thinned, ThinnedAll};
@@ -99,8 +100,9 @@ fn thin_value(value: &mut Option<Feature<'_>>, dependencies: &Slots<'_, FeatureD
     }
 }
 
-/// Takes out of each feature's actions the dependency features that are on anyway. A feature `default` is where the
-/// dependency's first target has its default features, and any other where that target lists it.
+/// Takes out of each feature's actions the dependency features that are on anyway. A feature
+/// `default` is where the dependency's first target has its default features, and any other where
+/// that target lists it.
 pub fn drop_redundant(
     features: &mut Slots<'_, Feature<'_>>,
     dependencies: &Slots<'_, FeatureDependency<'_>>,

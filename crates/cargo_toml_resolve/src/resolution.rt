@@ -32,8 +32,8 @@ pub struct Unremoved<'m, 'd> {
     pub dependencies: Slots<'d, FeatureDependency<'d>>,
 }
 
-/// Resolves features as they are listed, with entries of whatever dependency tables and what binaries require, and removes
-/// none of them.
+/// Resolves features as they are listed, with entries of whatever dependency tables and what
+/// binaries require, and removes none of them.
 ///
 /// Each name is listed once. What enables a feature isn't told: where features are removed, that is
 /// found anew. It fails only where memory runs out.
@@ -45,12 +45,14 @@ pub fn resolve_all<'m: 'd, 'd>(
 ) -> Result<Unremoved<'m, 'd>, AllocError>
     requires { IsOnce (map (λ l. l.name.now) listings.now) }
     ensures in_order { IfOk result (λ a. AreInOrder a.features.items) }
-    ensures table { IfOk result (λ a. AreTable (table_of (listed_of listings.now) (map entry_of entries.now)) a.features.items) }
+    ensures table { IfOk result (λ a. AreTable
+        (table_of (listed_of listings.now) (map entry_of entries.now)) a.features.items) }
     ensures no_enablers { IfOk result (λ a. HaveNoEnablers a.features.items) }
     ensures marks { IfOk result (λ a. (f : Text) → IfSome (feature_at a.features.items f) (λ v.
         marks_of v ≡ marks_in (listed_of listings.now) (details_of listings.now) f)) }
-    ensures bins { IfOk result (λ a. (f : Text) → IfSome (feature_at a.features.items f) (λ v.
-        map (λ b. b.now) v.required_by_bins.items ≡ own_of (map requirement_of requirements.now) f)) }
+    ensures bins { IfOk result (λ a. (f : Text) → IfSome (feature_at a.features.items f)
+        (λ v. map (λ b. b.now) v.required_by_bins.items
+        ≡ own_of (map requirement_of requirements.now) f)) }
     ensures dependencies { IfOk result (λ a. (k : Text) →
         SameRecorded (option_map recorded_in (held_in a.dependencies k))
         (recorded_of (entries_at (listed_of listings.now) (map entry_of entries.now) k))) }
@@ -58,8 +60,8 @@ pub fn resolve_all<'m: 'd, 'd>(
 {
     let names = names_of_all(alloc, listings, entries)?;
     let mentions = read_features(alloc, names, listings)?;
-    // Before features are implied: an entry that isn't optional would count as mentioned, if an optional entry of its key
-    // that comes later had made a feature of that name.
+    // Before features are implied: an entry that isn't optional would count as mentioned, if an
+    // optional entry of its key that comes later had made a feature of that name.
     let dependencies = record_dependencies(alloc, &mentions, entries)?;
     let Mentions {
         mut features,

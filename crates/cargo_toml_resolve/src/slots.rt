@@ -11,6 +11,7 @@ pub struct Slots<'n, V> {
     pub names: Vec<&'n str>,
     /// In the place of each name its value, if it has one.
     pub values: Vec<Option<V>>,
-    ghost ascend: { Ascend (map (λ n. n.now) names.items) } by { Ascend-prop (map (λ n. n.now) names.items) },
+    ghost ascend: { Ascend (map (λ n. n.now) names.items) } by { Ascend-prop
+        (map (λ n. n.now) names.items) },
     ghost count: { length values.items ≡ length names.items },
 }

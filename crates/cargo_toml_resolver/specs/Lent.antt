@@ -21,12 +21,15 @@ IsLeft old None new = new ≡ old
 IsLeft old (Some lent) new = new ≡ lent.now
 
 -- so the manifest is left, once what was lent is let go
-abbrev pub IsLentOn : (M : RattleType) → MutBor (Manifest M.Denot) → Option (Bor (Manifest M.Denot)) → Fml
+abbrev pub IsLentOn : (M : RattleType) → MutBor (Manifest M.Denot)
+    → Option (Bor (Manifest M.Denot)) → Fml
 IsLentOn M manifest lent =
-    follows_so (the_row M) (the_row M) manifest.ghost_name none (λ _ _. ⊤) (IsLeft manifest.now lent)
+    follows_so (the_row M) (the_row M) manifest.ghost_name none (λ _ _. ⊤)
+    (IsLeft manifest.now lent)
 
 -- what is lent, with what was put beside it; a fault stands for both
-abbrev pub with_lent : {X Y : Type 0} → Option X → Option (Result Y Error) → Option (Result (X × Y) Error)
+abbrev pub with_lent : {X Y : Type 0} → Option X → Option (Result Y Error)
+    → Option (Result (X × Y) Error)
 with_lent lent None = None
 with_lent lent (Some (Err e)) = Some (Err e)
 with_lent None (Some (Ok y)) = None
@@ -34,10 +37,12 @@ with_lent (Some x) (Some (Ok y)) = Some (Ok (x, y))
 
 -- what is lent for good is left as it is lent
 abbrev pub IsLentAs : (M : RattleType) → MutBor (Manifest M.Denot) → Bor (Manifest M.Denot) → Fml
-IsLentAs M manifest lent = follows_so (the_row M) (the_row M) manifest.ghost_name none (λ _ _. ⊤) (λ new. new ≡ lent.now)
+IsLentAs M manifest lent =
+    follows_so (the_row M) (the_row M) manifest.ghost_name none (λ _ _. ⊤) (λ new. new ≡ lent.now)
 
 -- completed by a workspace that is handed in, if any, by what is told of roots and of folders
-module _ {M : Type 0} (old : Manifest M) (handed : Option Handed) (roots : RootsTold) (told : Text → Told) where
+module _ {M : Type 0} (old : Manifest M) (handed : Option Handed) (roots : RootsTold)
+    (told : Text → Told) where
   abbrev meaning : Manifest M → ManifestMeaning M
   meaning = manifest_meaning (λ m. m)
 
@@ -49,13 +54,15 @@ module _ {M : Type 0} (old : Manifest M) (handed : Option Handed) (roots : Roots
     pub filled : IfSome new.«package» IsFilled
     pub again : IsLasting (meaning old) handed (meaning new)
 
-  -- after a success the manifest is as it is lent; after a refusal it is as it was or, for want of memory alone, completed
+  -- after a success the manifest is as it is lent; after a refusal it is as it was or, for want of
+  -- memory alone, completed
   abbrev pub IsLeftAfter : {Y : Type 0} → Result (Bor (Manifest M) × Y) Error → Manifest M → Type 0
   IsLeftAfter (Ok p) new = new ≡ p.0.now
   IsLeftAfter (Err e) new = (new ≡ old) ⊎ ((e ≡ Memory) × IsCompleted new)
 
 -- so the manifest is left, once what was lent is let go
-abbrev pub IsLentAfter : (M : RattleType) {Y : Type 0} → MutBor (Manifest M.Denot) → Option Handed → RootsTold → (Text → Told)
-    → Result (Bor (Manifest M.Denot) × Y) Error → Fml
+abbrev pub IsLentAfter : (M : RattleType) {Y : Type 0} → MutBor (Manifest M.Denot) → Option Handed
+    → RootsTold → (Text → Told) → Result (Bor (Manifest M.Denot) × Y) Error → Fml
 IsLentAfter M manifest handed roots told answer =
-    follows_so (the_row M) (the_row M) manifest.ghost_name none (λ _ _. ⊤) (IsLeftAfter manifest.now handed roots told answer)
+    follows_so (the_row M) (the_row M) manifest.ghost_name none (λ _ _. ⊤)
+    (IsLeftAfter manifest.now handed roots told answer)

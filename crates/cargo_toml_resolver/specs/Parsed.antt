@@ -16,7 +16,8 @@ use Rattle.cargo_toml_features.specs.Marks.{Details}
 use Rattle.cargo_toml_features.specs.Recorded.{Entry}
 use Rattle.cargo_toml_features.specs.Resolved.{Answer, IsAnswer, table_of}
 
--- the features that a binary requires, each with the binary's name, or that of the package where it has none
+-- the features that a binary requires, each with the binary's name, or that of the
+-- package where it has none
 abbrev pub requirements_by : Text → ProductMeaning → List (Text × Text)
 requirements_by name b = map (λ f. (f, unwrap_or b.name name)) b.required_features
 
@@ -47,10 +48,10 @@ module _ (limit : ℕ) where
     IsParsed keep a =
         IsAnswerFor m.features parsed_entries m.feature_details (own_of (requirements m)) keep a
 
-    -- with at most ten mentions of removed features, each binary that requires one of these requires
-    -- each kept feature to which naming alone leads from it through removed ones
+    -- with at most ten mentions of removed features, each binary that requires one of these
+    -- requires each kept feature to which naming alone leads from it through removed ones
     abbrev pub AreBinsComplete : (Text → Bool) → Answer → Type 0
     AreBinsComplete keep a =
-        count_by (λ q. is_removed parsed_table keep q.0) (requirements m) ≤ 10 → (f : Text) →
-        IsTrue (a.resolution.table.has f) → IsComplete parsed_table
+        count_by (λ q. is_removed parsed_table keep q.0) (requirements m) ≤ 10 → (f : Text)
+        → IsTrue (a.resolution.table.has f) → IsComplete parsed_table
         (λ r. IsTrue (is_removed parsed_table keep r)) (own_of (requirements m)) f (a.bins f)

@@ -1,5 +1,6 @@
 //! Completing a manifest, and resolving the features that it then has.
-ghost use Rattle.std.specs.Prelude.{◌≡◌, Bool, false, Err, IfErr, IfOk, IfSome, IsSome, Ok, OnOk, option_map};
+ghost use Rattle.std.specs.Prelude.{◌≡◌, Bool, false, Err, IfErr, IfOk};
+ghost use Rattle.std.specs.Prelude.{IfSome, IsSome, Ok, OnOk, option_map};
 ghost use Rattle.std.specs.Borrow.{sem};
 ghost use Rattle.cargo_toml_parts.specs.declared.error.Error.{Memory};
 ghost use Rattle.cargo_toml_graph.specs.Action.{Text};
@@ -24,11 +25,12 @@ use cargo_toml_parts::Error;
 use std::alloc::Global;
 use std::hash::BuildHasher;
 
-/// Completes a manifest and resolves its features, as [`Resolver::complete_and_parse`], and says what a refusal leaves.
+/// Completes a manifest and resolves its features, as [`Resolver::complete_and_parse`], and says
+/// what a refusal leaves.
 ///
-/// The manifest comes back where it was completed, and then is as it is lent; where completion was refused, the answer is `None`,
-/// and it is as it was. What is resolved, or the fault, is put into `slot`. After a completion that fault is
-/// [`Error::Memory`].
+/// The manifest comes back where it was completed, and then is as it is lent; where completion was
+/// refused, the answer is `None`, and it is as it was. What is resolved, or the fault, is put into
+/// `slot`. After a completion that fault is [`Error::Memory`].
 pub fn complete_and_parse_into<
     'm,
     M: Drop,
@@ -51,26 +53,29 @@ pub fn complete_and_parse_into<
         (complete (manifest_meaning (λ m. m) manifest.old) (option_map handed_of workspace.entry)
         (λ hint. heard Fs.Roots.ARE_READ (Fs.root_for fs hint)) (Fs.names_at fs)) (Ok lent)) }
     ensures given { IfSome result (λ m. GivenBy (manifest_meaning (λ m. m) manifest.old)
-        (option_map handed_of workspace.entry) (λ hint. heard Fs.Roots.ARE_READ (Fs.root_for fs hint))
-        (Fs.names_at fs) (manifest_meaning (λ m. m) m.now)) }
+        (option_map handed_of workspace.entry)
+        (λ hint. heard Fs.Roots.ARE_READ (Fs.root_for fs hint)) (Fs.names_at fs)
+        (manifest_meaning (λ m. m) m.now)) }
     ensures needs { IfSome result (λ m. needs (manifest_meaning (λ m. m) m.now) ≡ false) }
     ensures filled { IfSome result (λ m. IfSome m.now.package IsFilled) }
     ensures again { IfSome result (λ m. IsLasting (manifest_meaning (λ m. m) manifest.old)
         (option_map handed_of workspace.entry) (manifest_meaning (λ m. m) m.now)) }
     ensures memory { IfSome result (λ _. IfSome slot.new (λ r. IfErr r (λ e. e ≡ Memory))) }
-    ensures outcome { IfSome (with_lent result slot.new) (Meets (λ p. manifest_meaning (λ m. m) p.0.now)
+    ensures outcome { IfSome (with_lent result slot.new)
+        (Meets (λ p. manifest_meaning (λ m. m) p.0.now)
         (complete (manifest_meaning (λ m. m) manifest.old) (option_map handed_of workspace.entry)
         (λ hint. heard Fs.Roots.ARE_READ (Fs.root_for fs hint)) (Fs.names_at fs))) }
     ensures wrapped { IfSome (with_lent result slot.new) (λ r. IfErr r (IsRefusedBy
         (manifest_meaning (λ m. m) manifest.old) (option_map handed_of workspace.entry)
         (λ hint. heard Fs.Roots.ARE_READ (Fs.root_for fs hint))
         (MayLose Fs.Roots.ARE_READ (Fs.may_refuse_root fs)) (Fs.may_refuse fs))) }
-    ensures resolved { IfSome (with_lent result slot.new) (λ r. IfOk r (λ p. (keep : Text → Bool) →
-        Tells F.Fn (filter_of resolver.now) keep →
-        IsParsed (limit_of resolver.now) (manifest_meaning (λ m. m) p.0.now) keep
+    ensures resolved { IfSome (with_lent result slot.new) (λ r. IfOk r (λ p. (keep : Text → Bool)
+        → Tells F.Fn (filter_of resolver.now) keep
+        → IsParsed (limit_of resolver.now) (manifest_meaning (λ m. m) p.0.now) keep
         (answer_of p.1))) }
     ensures keyed { IfSome (with_lent result slot.new) (λ r. IfOk r (λ p. IsKeyed p.1.features)) }
-    ensures targets { IfSome (with_lent result slot.new) (λ r. IfOk r (λ p. HaveTargets p.1.dependencies)) }
+    ensures targets { IfSome (with_lent result slot.new)
+        (λ r. IfOk r (λ p. HaveTargets p.1.dependencies)) }
 {
     match manifest.complete_from_abstract_filesystem(alloc, fs, workspace) {
         Ok(()) => {}
@@ -94,11 +99,12 @@ fn shared<'m, M>(manifest: &'m mut Manifest<M>) -> &'m Manifest<M>
 }
 
 impl<'config, F: Fn(&str) -> bool, S: BuildHasher + Clone + Drop> Resolver<'config, F, S> {
-    /// Completes a manifest as [`Manifest::complete_from_abstract_filesystem`] does, and resolves the features of the completed
-    /// manifest as [`Resolver::parse`] does.
+    /// Completes a manifest as [`Manifest::complete_from_abstract_filesystem`] does, and resolves
+    /// the features of the completed manifest as [`Resolver::parse`] does.
     ///
-    /// A refusal is that of completion, or [`Error::Memory`]. It leaves the manifest as it was or, where it is [`Error::Memory`],
-    /// perhaps completed; a success leaves it as it is lent. From [`complete_and_parse_into`] a caller's proof learns that too.
+    /// A refusal is that of completion, or [`Error::Memory`]. It leaves the manifest as it was or,
+    /// where it is [`Error::Memory`], perhaps completed; a success leaves it as it is lent. From
+    /// [`complete_and_parse_into`] a caller's proof learns that too.
     pub fn complete_and_parse<'m, M: Drop, N, Fs: AbstractFilesystem + Drop>(
         &self,
         alloc: Global,
@@ -107,32 +113,40 @@ impl<'config, F: Fn(&str) -> bool, S: BuildHasher + Clone + Drop> Resolver<'conf
         workspace: Option<(&Manifest<N>, &str)>,
     ) -> Result<(&'m Manifest<M>, Features<'m, 'm, S>), Error>
         requires { HasNameFilter F.Fn (filter_of self.now) }
-        ensures* left { sem 𝓛 (IsLentAfter M.row manifest.entry (option_map handed_of workspace.entry)
+        ensures* left { sem 𝓛
+            (IsLentAfter M.row manifest.entry (option_map handed_of workspace.entry)
             (λ hint. heard Fs.Roots.ARE_READ (Fs.root_for fs hint)) (Fs.names_at fs) result) }
         ensures outcome { Meets (λ p. manifest_meaning (λ m. m) p.0.now)
-            (complete (manifest_meaning (λ m. m) manifest.old) (option_map handed_of workspace.entry)
+            (complete (manifest_meaning (λ m. m) manifest.old)
+            (option_map handed_of workspace.entry)
             (λ hint. heard Fs.Roots.ARE_READ (Fs.root_for fs hint)) (Fs.names_at fs)) result }
         ensures given { IfOk result (λ p. GivenBy (manifest_meaning (λ m. m) manifest.old)
-            (option_map handed_of workspace.entry) (λ hint. heard Fs.Roots.ARE_READ (Fs.root_for fs hint))
-            (Fs.names_at fs) (manifest_meaning (λ m. m) p.0.now)) }
+            (option_map handed_of workspace.entry)
+            (λ hint. heard Fs.Roots.ARE_READ (Fs.root_for fs hint)) (Fs.names_at fs)
+            (manifest_meaning (λ m. m) p.0.now)) }
         ensures needs { IfOk result (λ p. needs (manifest_meaning (λ m. m) p.0.now) ≡ false) }
         ensures filled { IfOk result (λ p. IfSome p.0.now.package IsFilled) }
         ensures again { IfOk result (λ p. IsLasting (manifest_meaning (λ m. m) manifest.old)
             (option_map handed_of workspace.entry) (manifest_meaning (λ m. m) p.0.now)) }
         ensures wrapped { IfErr result (IsRefusedBy (manifest_meaning (λ m. m) manifest.old)
-            (option_map handed_of workspace.entry) (λ hint. heard Fs.Roots.ARE_READ (Fs.root_for fs hint))
+            (option_map handed_of workspace.entry)
+            (λ hint. heard Fs.Roots.ARE_READ (Fs.root_for fs hint))
             (MayLose Fs.Roots.ARE_READ (Fs.may_refuse_root fs)) (Fs.may_refuse fs)) }
-        ensures resolved { IfOk result (λ p. (keep : Text → Bool) → Tells F.Fn (filter_of self.now) keep →
-            IsParsed (limit_of self.now) (manifest_meaning (λ m. m) p.0.now) keep (answer_of p.1)) }
+        ensures resolved { IfOk result
+            (λ p. (keep : Text → Bool) → Tells F.Fn (filter_of self.now) keep
+            → IsParsed (limit_of self.now) (manifest_meaning (λ m. m) p.0.now) keep
+            (answer_of p.1)) }
         ensures keyed { IfOk result (λ p. IsKeyed p.1.features) }
         ensures targets { IfOk result (λ p. HaveTargets p.1.dependencies) }
     {
-        // The proof by hand walks through these lines, and names each local that they make: what may change goes into `resolved`.
+        // The proof by hand walks through these lines, and names each local that they make: what
+        // may change goes into `resolved`.
         let completed = manifest.complete_from_abstract_filesystem(alloc, fs, workspace);
         self.resolved(shared(manifest), completed, alloc)
     }
 
-    // The completed manifest, with what its features resolve to; a refusal of completion stands for both.
+    // The completed manifest, with what its features resolve to; a refusal of
+    // completion stands for both.
     fn resolved<'m, M>(
         &self,
         manifest: &'m Manifest<M>,
@@ -143,8 +157,10 @@ impl<'config, F: Fn(&str) -> bool, S: BuildHasher + Clone + Drop> Resolver<'conf
         ensures refused { IfErr completed (λ e. result ≡ Err e) }
         ensures memory { OnOk completed (IfErr result (λ e. e ≡ Memory)) }
         ensures lent { IfOk result (λ p. p.0 ≡ manifest.entry) }
-        ensures resolved { IfOk result (λ p. (keep : Text → Bool) → Tells F.Fn (filter_of self.now) keep →
-            IsParsed (limit_of self.now) (manifest_meaning (λ m. m) p.0.now) keep (answer_of p.1)) }
+        ensures resolved { IfOk result
+            (λ p. (keep : Text → Bool) → Tells F.Fn (filter_of self.now) keep
+            → IsParsed (limit_of self.now) (manifest_meaning (λ m. m) p.0.now) keep
+            (answer_of p.1)) }
         ensures keyed { IfOk result (λ p. IsKeyed p.1.features) }
         ensures targets { IfOk result (λ p. HaveTargets p.1.dependencies) }
     {

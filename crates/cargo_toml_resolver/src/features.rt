@@ -1,5 +1,6 @@
 //! What the features of a manifest enable, and which features enable them.
-ghost use Rattle.std.specs.Prelude.{◌≡◌, ◌≤◌, [], Bool, List, None, Some, map, true, IfOk, IfErr, IsSome};
+ghost use Rattle.std.specs.Prelude.{◌≡◌, ◌≤◌, [], Bool, List, None, Some};
+ghost use Rattle.std.specs.Prelude.{map, true, IfOk, IfErr, IsSome};
 ghost use Rattle.cargo_toml_parts.specs.declared.error.Error.{Memory};
 ghost use Rattle.cargo_toml_parts.specs.Reads.{map_meaning};
 ghost use Rattle.cargo_toml_dependencies.specs.Targets.{target_meaning};
@@ -53,8 +54,9 @@ impl Resolver<'static, fn(&str) -> bool, BuildHasherDefault<FoldHasher>> {
     /// A resolver with the fixed state of hashed maps, a limit of 2048 items and no filter: all
     /// features whose names begin with `_` are removed.
     ///
-    /// The seed of that state is known, so a stranger can choose names that collide in the maps of an answer, which then take time quadratic
-    /// in the number of these names. [`Resolver::new_with_hasher_and_filter`] takes a random state.
+    /// The seed of that state is known, so a stranger can choose names that collide in the maps of
+    /// an answer, which then take time quadratic in the number of these names.
+    /// [`Resolver::new_with_hasher_and_filter`] takes a random state.
     pub fn new() -> Self
         ensures unfiltered { filter_of result ≡ None }
         ensures limit { limit_of result ≡ MAX_ITEMS }
@@ -72,7 +74,8 @@ impl<'config, F: Fn(&str) -> bool, S> Resolver<'config, F, S> {
     /// asked for names that begin with `_`: features for which it answers false are removed. Who
     /// reads what strangers wrote hands in a random state, as `RandomState::new(rt)?`.
     ///
-    /// The filter may be called on every text, and answers each in one way. How often it is asked, and in which order, is open.
+    /// The filter may be called on every text, and answers each in one way. How often it is asked,
+    /// and in which order, is open.
     pub fn new_with_hasher_and_filter(state: S, should_keep_hidden_feature: &'config F) -> Self
         requires { IsNameFilter F.Fn should_keep_hidden_feature.now }
         ensures kept { filter_of result ≡ Some should_keep_hidden_feature.entry }
@@ -105,17 +108,20 @@ impl<'config, F, S> Resolver<'config, F, S> {
 }
 
 impl<'config, F: Fn(&str) -> bool, S: BuildHasher + Clone> Resolver<'config, F, S> {
-    /// Resolves the features of a manifest, as Cargo understands `[features]` and optional dependencies.
+    /// Resolves the features of a manifest, as Cargo understands `[features]` and
+    /// optional dependencies.
     ///
-    /// The answer has the features that the manifest lists, and `default`, each with what its list names and what it does
-    /// to dependencies. It has a feature for each optional dependency whose key no feature has and no `dep:` keeps for
-    /// itself. It has the dependencies that are optional, that a feature acts on, or whose key a feature has, with each
-    /// target that they stand under: normal and build dependencies come before those of targets, and dev dependencies last.
-    /// Each feature tells which others enable it: those that name it, and those that act on the dependency of its name
-    /// neither conditionally nor by `dep:`. And it tells which binaries require it, once for each mention.
+    /// The answer has the features that the manifest lists, and `default`, each with what its list
+    /// names and what it does to dependencies. It has a feature for each optional dependency whose
+    /// key no feature has and no `dep:` keeps for itself. It has the dependencies that are
+    /// optional, that a feature acts on, or whose key a feature has, with each target that they
+    /// stand under: normal and build dependencies come before those of targets, and dev
+    /// dependencies last. Each feature tells which others enable it: those that name it, and those
+    /// that act on the dependency of its name neither conditionally nor by `dep:`. And it tells
+    /// which binaries require it, once for each mention.
     ///
-    /// Features of a dependency that its first target asks for anyway are left out of actions: `default`, unless it turns
-    /// default features off, and those that it lists.
+    /// Features of a dependency that its first target asks for anyway are left out of actions:
+    /// `default`, unless it turns default features off, and those that it lists.
     ///
     /// The limit n of items is 2048 unless [`Resolver::with_max_items`] set another. So many count:
     ///
@@ -123,24 +129,27 @@ impl<'config, F: Fn(&str) -> bool, S: BuildHasher + Clone> Resolver<'config, F, 
     /// - of each feature's list the first n texts;
     /// - of each table of dependencies the first n keys.
     ///
-    /// A feature that counts and that the manifest lists is public, and has a text, as the manifest's
-    /// `feature_details` say of its name. Any other is public and has no text: one that a dependency
-    /// implies, and `default` where it isn't listed. What is said of a removed feature goes with it.
+    /// A feature that counts and that the manifest lists is public, and has a text, as the
+    /// manifest's `feature_details` say of its name. Any other is public and has no text: one that
+    /// a dependency implies, and `default` where it isn't listed. What is said of a removed
+    /// feature goes with it.
     ///
     /// Every text is borrowed from the manifest. Each feature stands under its own key, as
     /// [`Feature::enables_recursive`] asks, and each dependency has a target, as
     /// [`FeatureDependency::dep`] asks.
     ///
-    /// Features whose names begin with `_` are then removed, but for those that the filter keeps. What a removed feature says,
-    /// those that enable it say in its place, through any number of removed ones: they name what it names and act as it acts,
-    /// and are enablers of what it enables.
+    /// Features whose names begin with `_` are then removed, but for those that the filter
+    /// keeps. What a removed feature says, those that enable it say in its place, through any
+    /// number of removed ones: they name what it names and act as it acts, and are enablers
+    /// of what it enables.
     ///
-    /// In byte order of their names, each removed feature passes its binaries on to each feature that it
-    /// then names: the first ten of its list, as it then stands. So where binaries mention removed
-    /// features at most ten times, none is lost on its way along names.
+    /// In byte order of their names, each removed feature passes its binaries on to each feature
+    /// that it then names: the first ten of its list, as it then stands. So where binaries mention
+    /// removed features at most ten times, none is lost on its way along names.
     ///
-    /// `removed_hidden_features` tells whether some feature was removed, and `hidden_features` has a set for each: what it
-    /// names, where smaller removed names are replaced by what they stand for.
+    /// `removed_hidden_features` tells whether some feature was removed, and
+    /// `hidden_features` has a set for each: what it names, where smaller removed names are
+    /// replaced by what they stand for.
     ///
     /// Beside an answer at the same limit, by a filter that keeps every name:
     ///
@@ -157,23 +166,24 @@ impl<'config, F: Fn(&str) -> bool, S: BuildHasher + Clone> Resolver<'config, F, 
         manifest: &'m Manifest<M>,
     ) -> Result<Features<'m, 'm, S>, Error>
         requires { HasNameFilter F.Fn (filter_of self.now) }
-        ensures resolved { IfOk result (λ a. (keep : Text → Bool) →
-            Tells F.Fn (filter_of self.now) keep →
-            IsParsed (limit_of self.now) (manifest_meaning (λ m. m) manifest.now) keep
+        ensures resolved { IfOk result (λ a. (keep : Text → Bool)
+            → Tells F.Fn (filter_of self.now) keep
+            → IsParsed (limit_of self.now) (manifest_meaning (λ m. m) manifest.now) keep
             (answer_of a)) }
-        ensures no_removed_name { IfOk result (λ a. (keep : Text → Bool) → Tells F.Fn (filter_of self.now) keep →
-            NoneIsLeft (λ r. IsSome ((answer_of a).redirects r)) (answer_of a).resolution) }
-        ensures closure { IfOk result (λ a. (keep : Text → Bool) (full : Answer) →
-            Tells F.Fn (filter_of self.now) keep →
-            IsParsed (limit_of self.now) (manifest_meaning (λ m. m) manifest.now) (λ _. true) full →
-            KeepsEnabling full.resolution (answer_of a).resolution) }
-        ensures nothing_lost { IfOk result (λ a. (keep : Text → Bool) (full : Answer) →
-            Tells F.Fn (filter_of self.now) keep →
-            IsParsed (limit_of self.now) (manifest_meaning (λ m. m) manifest.now) (λ _. true) full →
-            LosesNothing full.resolution (answer_of a).resolution) }
-        ensures complete_bins { IfOk result (λ a. (keep : Text → Bool) →
-            Tells F.Fn (filter_of self.now) keep →
-            AreBinsComplete (limit_of self.now) (manifest_meaning (λ m. m) manifest.now) keep
+        ensures no_removed_name { IfOk result
+            (λ a. (keep : Text → Bool) → Tells F.Fn (filter_of self.now) keep
+            → NoneIsLeft (λ r. IsSome ((answer_of a).redirects r)) (answer_of a).resolution) }
+        ensures closure { IfOk result (λ a. (keep : Text → Bool) (full : Answer)
+            → Tells F.Fn (filter_of self.now) keep
+            → IsParsed (limit_of self.now) (manifest_meaning (λ m. m) manifest.now) (λ _. true) full
+            → KeepsEnabling full.resolution (answer_of a).resolution) }
+        ensures nothing_lost { IfOk result (λ a. (keep : Text → Bool) (full : Answer)
+            → Tells F.Fn (filter_of self.now) keep
+            → IsParsed (limit_of self.now) (manifest_meaning (λ m. m) manifest.now) (λ _. true) full
+            → LosesNothing full.resolution (answer_of a).resolution) }
+        ensures complete_bins { IfOk result (λ a. (keep : Text → Bool)
+            → Tells F.Fn (filter_of self.now) keep
+            → AreBinsComplete (limit_of self.now) (manifest_meaning (λ m. m) manifest.now) keep
             (answer_of a)) }
         ensures keyed { IfOk result (λ a. IsKeyed a.features) }
         ensures targets { IfOk result (λ a. HaveTargets a.dependencies) }
@@ -194,7 +204,8 @@ impl<'config, F: Fn(&str) -> bool, S: BuildHasher + Clone> Resolver<'config, F, 
         )?)
     }
 
-    /// Resolves features and dependencies that stand in no manifest, as those of a registry's index.
+    /// Resolves features and dependencies that stand in no manifest, as those of
+    /// a registry's index.
     ///
     /// It answers as [`Resolver::parse`] does of the same features and of these entries in their
     /// order, of which each counts, however many there are. In two points it differs: no binary
@@ -211,15 +222,16 @@ impl<'config, F: Fn(&str) -> bool, S: BuildHasher + Clone> Resolver<'config, F, 
         dependencies: &[ParseDependency<'m, 'd>],
     ) -> Result<Features<'m, 'd, S>, Error>
         requires { HasNameFilter F.Fn (filter_of self.now) }
-        ensures resolved { IfOk result (λ a. (keep : Text → Bool) (listed : Listed) →
-            Tells F.Fn (filter_of self.now) keep → IsListingOf features.now listed →
-            IsAnswerFor (limit_of self.now) listed (map entry_of dependencies.now) [] (λ _. [])
+        ensures resolved { IfOk result (λ a. (keep : Text → Bool) (listed : Listed)
+            → Tells F.Fn (filter_of self.now) keep → IsListingOf features.now listed
+            → IsAnswerFor (limit_of self.now) listed (map entry_of dependencies.now) [] (λ _. [])
             keep (answer_of a)) }
-        ensures agreement { IfOk result (λ b. (keep : Text → Bool) (listed : Listed) →
-            Tells F.Fn (filter_of self.now) keep → IsListingOf features.now listed →
-            (details : Details) (own : Text → List Text) (a : Answer) →
-            IsAnswerFor (limit_of self.now) listed (map entry_of dependencies.now) details own keep
-            a → Agree a (answer_of b)) }
+        ensures agreement { IfOk result (λ b. (keep : Text → Bool) (listed : Listed)
+            → Tells F.Fn (filter_of self.now) keep → IsListingOf features.now listed
+            → (details : Details) (own : Text → List Text) (a : Answer)
+            → IsAnswerFor (limit_of self.now) listed (map entry_of dependencies.now)
+            details own keep a
+            → Agree a (answer_of b)) }
         ensures listed { IfOk result (λ _. (listed : Listed) × IsListingOf features.now listed) }
         ensures keyed { IfOk result (λ a. IsKeyed a.features) }
         ensures targets { IfOk result (λ a. HaveTargets a.dependencies) }
@@ -235,7 +247,8 @@ impl<'config, F: Fn(&str) -> bool, S: BuildHasher + Clone> Resolver<'config, F, 
 // The tables of a manifest's dependencies.
 fn tables_of<M>(manifest: &Manifest<M>) -> Tables<'_>
     ensures own { tables_meaning result ≡ own_tables (manifest_meaning (λ m. m) manifest.now) }
-    ensures targets { map_meaning target_meaning result.target.now ≡ (manifest_meaning (λ m. m) manifest.now).target }
+    ensures targets { map_meaning target_meaning result.target.now
+        ≡ (manifest_meaning (λ m. m) manifest.now).target }
 {
     Tables {
         dependencies: &manifest.dependencies,

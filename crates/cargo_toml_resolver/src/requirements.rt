@@ -17,7 +17,8 @@ fn add_requirements<'m>(
     bin: &'m Product,
     package_name: &'m str,
 ) -> Result<(), AllocError>
-    ensures { OnOk result (map requirement_of requirements.new.items ≡ map requirement_of requirements.old.items
+    ensures { OnOk result (map requirement_of requirements.new.items
+        ≡ map requirement_of requirements.old.items
         ++ requirements_by package_name.now (product_meaning bin.now)) }
 {
     let name = bin.name.as_deref().unwrap_or(package_name);
@@ -46,12 +47,14 @@ fn requirements_of<'m>(
     Ok(requirements)
 }
 
-// What the binaries of a manifest require, in their order; nothing where it has no package.
+/// What the binaries of a manifest require, in their order; nothing where it has no package.
+/// It fails only where memory runs out.
 pub fn requirements<'m, M>(
     alloc: Global,
     manifest: &'m Manifest<M>,
 ) -> Result<Vec<Requirement<'m>>, AllocError>
-    ensures { IfOk result (λ v. map requirement_of v.items ≡ requirements (manifest_meaning (λ m. m) manifest.now)) }
+    ensures { IfOk result
+        (λ v. map requirement_of v.items ≡ requirements (manifest_meaning (λ m. m) manifest.now)) }
 {
     match &manifest.package {
         Some(package) => requirements_of(alloc, manifest.bin.as_slice(), package.name.as_str()),

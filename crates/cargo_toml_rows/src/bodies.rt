@@ -8,8 +8,9 @@ use std::alloc::Global;
 use std::fs;
 use std::rt::Files;
 
-/// The lines again, each with what comes of it: ROW, and whether the same is printed of the features of its manifest by both
-/// bodies, with ` -> ` between them. The row `tables` is of all small tables.
+/// The lines again, each with what comes of it: ROW, and whether the same is printed of the
+/// features of its manifest by both bodies, with ` -> ` between them. The row `tables` is
+/// of all small tables.
 pub fn lines<R: Files + AllocGlobal>(rt: &R, expected: &str) -> Result<String, Error> {
     let alloc = rt.alloc();
     let mut lines = String::new(alloc);
@@ -56,7 +57,8 @@ fn compared(alloc: Global, called: &Answer<'_>, plain: &Answer<'_>) -> Result<St
 /// How many tables over `a`, `_a` and `_b` there are in which each of the three names any of them.
 const TABLES: u32 = 512;
 
-/// That the same is printed of each of these tables, or else what is of the first of which it isn't.
+/// That the same is printed of each of these tables, or else what is of the first
+/// of which it isn't.
 fn tables(alloc: Global) -> Result<String, Error> {
     for number in 0..TABLES {
         let text = table(alloc, number)?;

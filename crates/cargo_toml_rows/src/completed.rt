@@ -1,4 +1,5 @@
-//! What completion makes of a manifest: with a workspace that is handed in, with its own, or with a root that is told.
+//! What completion makes of a manifest: with a workspace that is handed in, with its own, or with a
+//! root that is told.
 use crate::manifests::{read, with_lines};
 use crate::recorder::Recorder;
 use cargo_toml::features::Resolver;
@@ -181,7 +182,8 @@ pub fn fields<R: Files + AllocGlobal>(
     with_lines(rt.alloc(), text.as_str(), expected)
 }
 
-/// What is resolved of the manifest, once it is completed with the workspace of the files `Workspace.toml` and `path`.
+/// What is resolved of the manifest, once it is completed with the workspace of the files
+/// `Workspace.toml` and `path`.
 fn resolved_text<R: Files + AllocGlobal>(
     rt: &R,
     folder: &str,
@@ -199,7 +201,8 @@ fn resolved_text<R: Files + AllocGlobal>(
     Ok(format!(in alloc; "{resolved:?}")?)
 }
 
-/// The expected lines where each stands in what is resolved of the completed manifest, and that text otherwise.
+/// The expected lines where each stands in what is resolved of the completed manifest, and
+/// that text otherwise.
 pub fn resolved<R: Files + AllocGlobal>(
     rt: &R,
     folder: &str,

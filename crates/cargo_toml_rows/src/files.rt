@@ -9,7 +9,8 @@ use std::alloc::Global;
 use std::fs;
 use std::rt::Files;
 
-/// What comes of each call that the file `asked` of the row has a line for, around the files of its `tree`.
+/// What comes of each call that the file `asked` of the row has a line for, around the
+/// files of its `tree`.
 pub fn answers<R: Files + AllocGlobal>(rt: &R, row: &str) -> Result<String, Error> {
     let folder = fresh_folder(rt)?;
     let answers = answers_in(rt, row, folder.as_str());
@@ -50,8 +51,9 @@ fn words(alloc: Global, folder: &str, call: &str) -> Result<Vec<String>, Error> 
     Ok(words)
 }
 
-/// What comes of a call: `CALL PATH`, `file_names_in FOLDER PATH`, or `CALL PATH FILE` with the file of the manifest to be completed
-/// and, where one is handed in, the file of the workspace after it.
+/// What comes of a call: `CALL PATH`, `file_names_in FOLDER PATH`, or `CALL PATH FILE` with
+/// the file of the manifest to be completed and, where one is handed in, the file of the
+/// workspace after it.
 fn answer<R: Files + AllocGlobal>(rt: &R, words: &[String], field: &str) -> Result<String, Error> {
     match words {
         [call, path] => made(rt, call.as_str(), path.as_str(), field),
@@ -156,7 +158,8 @@ fn told(
     refused(alloc, ", changed", &fault)
 }
 
-/// What the program `cargo-toml` prints of a completed manifest, and then the field that is asked for, if the manifest holds it.
+/// What the program `cargo-toml` prints of a completed manifest, and then the field that is asked
+/// for, if the manifest holds it.
 fn shown(alloc: Global, manifest: &Manifest, field: &str) -> Result<String, Error> {
     let mut output = Vec::new(alloc);
     print_complete(alloc, manifest, &mut output)?;
@@ -182,7 +185,8 @@ fn names<'a, R: Files + AllocGlobal>(
     Ok(format!(in alloc; "{sorted:?}")?)
 }
 
-/// The fault by its parts: of input its kind, of a workspace what is wrong with it and its path, and else its words.
+/// The fault by its parts: of input its kind, of a workspace what is wrong with it and its path,
+/// and else its words.
 fn refused(alloc: Global, left: &str, fault: &Error) -> Result<String, Error> {
     match fault {
         Error::Workspace(parts) => {

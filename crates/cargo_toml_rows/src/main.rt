@@ -1,6 +1,8 @@
-//! Holds `cargo_toml` to rows that are kept as data: each is a folder with a manifest and, beside it, what has to come of it.
+//! Holds `cargo_toml` to rows that are kept as data: each is a folder with a manifest and, beside
+//! it, what has to come of it.
 //!
-//! The words of the command line name the rows, as KIND/NAME. A line for each says that all is as expected, or what came instead.
+//! The words of the command line name the rows, as KIND/NAME. A line for each says that all is as
+//! expected, or what came instead.
 #![tactic(auto)]
 
 mod bodies;
@@ -46,7 +48,8 @@ enum Kind {
     Whole,
     /// The same where `_a` alone of the hidden names is kept.
     Kept,
-    /// Whether the same is printed of the features of manifests where they are resolved by the plain body.
+    /// Whether the same is printed of the features of manifests where they are resolved
+    /// by the plain body.
     Bodies,
     /// What is recorded of its dependencies.
     Dependencies,
@@ -97,7 +100,8 @@ fn kind_of(word: &str) -> Option<Kind> {
     }
 }
 
-/// The file of a row's folder that holds what is expected. The values of a type are one file with their answers.
+/// The file of a row's folder that holds what is expected. The values of a type are one file
+/// with their answers.
 fn expected_file(kind: Kind) -> &'static str {
     match kind {
         Kind::Read => "/written.toml",

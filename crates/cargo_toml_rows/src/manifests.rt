@@ -8,7 +8,8 @@ use cargo_toml_print::{feature_lines, print_features};
 use std::alloc::Global;
 use toml::Table;
 
-/// The manifest behind a pointer: of what a function owns itself each field is looked at when it is proved.
+/// The manifest behind a pointer: of what a function owns itself each field is looked at
+/// when it is proved.
 pub fn read(alloc: Global, bytes: &[u8]) -> Result<Box<Manifest>, Error> {
     Ok(Box::new(alloc, Manifest::from_slice(alloc, bytes)?)?)
 }
@@ -42,7 +43,8 @@ pub fn written(alloc: Global, bytes: &[u8]) -> Result<String, Error> {
     Ok(format!(in alloc; "{text}, and read again {again}")?)
 }
 
-/// The expected lines where each stands in the text of the manifest's fields, and that text otherwise.
+/// The expected lines where each stands in the text of the manifest's fields, and
+/// that text otherwise.
 pub fn fields(alloc: Global, bytes: &[u8], expected: &str) -> Result<String, Error> {
     let manifest = read(alloc, bytes)?;
     let text = format!(in alloc; "{manifest:?}")?;
@@ -68,7 +70,8 @@ fn variant(fault: &Error) -> &'static str {
     }
 }
 
-/// Why the manifest is refused: the variant of the fault and its words. The words of `toml` are its own and are left out.
+/// Why the manifest is refused: the variant of the fault and its words. The words of `toml` are its
+/// own and are left out.
 pub fn fault(alloc: Global, bytes: &[u8]) -> Result<String, Error> {
     match read(alloc, bytes) {
         Ok(_) => Ok(String::from_str(alloc, "nothing is refused")?),

@@ -1,4 +1,5 @@
-//! Paths: what two join to, the last name, the folder above and all folders above, and the folder of a workspace.
+//! Paths: what two join to, the last name, the folder above and all folders above, and the
+//! folder of a workspace.
 use cargo_toml::{Error, Value};
 use cargo_toml_paths::{ancestors, join, last_name, parent, workspace_folder};
 use std::alloc::Global;

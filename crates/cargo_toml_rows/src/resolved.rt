@@ -9,7 +9,8 @@ use std::collections::HashMap;
 use std::fmt::Write;
 use std::hash::BuildHasher;
 
-/// What is recorded of dependencies, a line for each in the order of their keys, and whether hidden features were removed.
+/// What is recorded of dependencies, a line for each in the order of their keys, and whether hidden
+/// features were removed.
 pub fn recorded(alloc: Global, bytes: &[u8]) -> Result<String, Error> {
     let manifest = read(alloc, bytes)?;
     let features = Resolver::new().parse(alloc, &*manifest)?;
@@ -51,8 +52,8 @@ fn push_dependency(
     Ok(())
 }
 
-/// What a feature enables at last: a line for each feature, in byte order, and one for each dependency with the features that act
-/// on it, in the order in which they are visited.
+/// What a feature enables at last: a line for each feature, in byte order, and one for each
+/// dependency with the features that act on it, in the order in which they are visited.
 pub fn enabled(alloc: Global, bytes: &[u8], start: &str) -> Result<String, Error> {
     let manifest = read(alloc, bytes)?;
     let resolved = Resolver::new().parse(alloc, &*manifest)?;

@@ -10,8 +10,8 @@ use cargo_toml::{
 use std::alloc::Global;
 use std::fmt::Debug;
 
-/// The lines again, each with what its value reads as: VALUE, what it reads as and how that is written, or why it is refused, with
-/// ` -> ` between them.
+/// The lines again, each with what its value reads as: VALUE, what it reads as and how that is
+/// written, or why it is refused, with ` -> ` between them.
 pub fn lines(alloc: Global, row: &str, expected: &str) -> Result<String, Error> {
     let mut lines = String::new(alloc);
     for line in expected.split_terminator('\n') {

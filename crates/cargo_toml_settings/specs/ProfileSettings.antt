@@ -1,5 +1,6 @@
 -- The settings of a profile: which value says which, and the text for every other value.
-use Rattle.std.specs.Prelude.{ℕ, ℤ, pos, List, [], ◌∷◌, codes, true, false, if◌then◌else◌, Option, Some, None}
+use Rattle.std.specs.Prelude.{ℕ, ℤ, pos, List, [], ◌∷◌, codes, true}
+use Rattle.std.specs.Prelude.{false, if◌then◌else◌, Option, Some, None}
 use Rattle.std.specs.Ordering.{int_eq}
 use Rattle.toml.specs.Data.{Data, string, integer, boolean}
 use Rattle.cargo_toml_parts.specs.declared.error.Error.{Error}
@@ -25,7 +26,8 @@ debug_of (boolean true) = Some debug.Full
 debug_of (integer z) = debug_number z
 debug_of (string s) = named (
     (codes "none", debug.None)
-    ∷ (codes "limited", debug.Lines) ∷ (codes "line-directives-only", debug.Lines) ∷ (codes "line-tables-only", debug.Lines)
+    ∷ (codes "limited", debug.Lines) ∷ (codes "line-directives-only", debug.Lines)
+    ∷ (codes "line-tables-only", debug.Lines)
     ∷ (codes "full", debug.Full) ∷ []) s
 debug_of _ = None
 
@@ -34,21 +36,23 @@ debug_fault (integer z) = codes "wrong number for debug setting"
 debug_fault (string s) = codes "wrong name for debug setting"
 debug_fault _ = codes "wrong data type for debug setting"
 
-abbrev pub debug_refuses : Data → Error → Type 0
-debug_refuses d e = IsShape (debug_fault d) e
+abbrev pub DebugRefuses : Data → Error → Type 0
+DebugRefuses d e = IsShape (debug_fault d) e
 
 abbrev pub strip_of : Data → Option StripSetting
 strip_of (boolean false) = Some strip.None
 strip_of (boolean true) = Some strip.Symbols
-strip_of (string s) = named ((codes "none", strip.None) ∷ (codes "debuginfo", strip.Debuginfo) ∷ (codes "symbols", strip.Symbols) ∷ []) s
+strip_of (string s) =
+    named ((codes "none", strip.None) ∷ (codes "debuginfo", strip.Debuginfo)
+    ∷ (codes "symbols", strip.Symbols) ∷ []) s
 strip_of _ = None
 
 abbrev pub strip_fault : Data → List ℕ
 strip_fault (string s) = codes "strip setting has unknown string value"
 strip_fault _ = codes "wrong data type for strip setting"
 
-abbrev pub strip_refuses : Data → Error → Type 0
-strip_refuses d e = IsShape (strip_fault d) e
+abbrev pub StripRefuses : Data → Error → Type 0
+StripRefuses d e = IsShape (strip_fault d) e
 
 abbrev pub lto_of : Data → Option LtoSetting
 lto_of (boolean false) = Some lto.ThinLocal
@@ -57,12 +61,13 @@ lto_of (string s) = named (
     (codes "off", lto.None) ∷ (codes "n", lto.None) ∷ (codes "no", lto.None)
     ∷ (codes "false", lto.ThinLocal)
     ∷ (codes "thin", lto.Thin)
-    ∷ (codes "fat", lto.Fat) ∷ (codes "on", lto.Fat) ∷ (codes "y", lto.Fat) ∷ (codes "yes", lto.Fat) ∷ (codes "true", lto.Fat) ∷ []) s
+    ∷ (codes "fat", lto.Fat) ∷ (codes "on", lto.Fat) ∷ (codes "y", lto.Fat)
+    ∷ (codes "yes", lto.Fat) ∷ (codes "true", lto.Fat) ∷ []) s
 lto_of _ = None
 
 abbrev pub lto_fault : Data → List ℕ
 lto_fault (string s) = codes "lto setting has unknown string value"
 lto_fault _ = codes "wrong data type for lto setting"
 
-abbrev pub lto_refuses : Data → Error → Type 0
-lto_refuses d e = IsShape (lto_fault d) e
+abbrev pub LtoRefuses : Data → Error → Type 0
+LtoRefuses d e = IsShape (lto_fault d) e

@@ -1,10 +1,12 @@
 -- The enums that stand for one value of a tree.
-use Rattle.std.specs.Prelude.{ℕ, List, [], ◌∷◌, codes, map, if◌then◌else◌, Bool, Option, Some, None, option_and_then, option_map, string_bytes}
+use Rattle.std.specs.Prelude.{ℕ, List, [], ◌∷◌, codes, map, if◌then◌else◌, Bool, Option}
+use Rattle.std.specs.Prelude.{Some, None, option_and_then, option_map, string_bytes}
 use Rattle.std.specs.Str.{bytes_eq}
 use Rattle.toml.specs.Data.{Data, string, boolean, array, as_str}
 use Rattle.cargo_toml_parts.specs.declared.error.Error.{Error}
 use Rattle.cargo_toml_settings.specs.declared.settings.Edition.{Edition}
-use Rattle.cargo_toml_settings.specs.declared.settings.Edition.TheVariants.{E2015, E2018, E2021, E2024}
+use Rattle.cargo_toml_settings.specs.declared.settings.Edition.TheVariants.{E2015, E2018, E2021}
+use Rattle.cargo_toml_settings.specs.declared.settings.Edition.TheVariants.{E2024}
 use Rattle.cargo_toml_settings.specs.declared.settings.Resolver.{Resolver}
 use Rattle.cargo_toml_settings.specs.declared.settings.Resolver.TheVariants.{V1, V2, V3}
 use Rattle.cargo_toml_settings.specs.declared.settings.OptionalFile.{OptionalFile}
@@ -12,7 +14,7 @@ use Rattle.cargo_toml_settings.specs.declared.settings.OptionalFile.TheVariants 
 use Rattle.cargo_toml_settings.specs.declared.settings.Publish.{Publish}
 use Rattle.cargo_toml_settings.specs.declared.settings.Publish.TheVariants as whether
 use Rattle.cargo_toml_parts.specs.Faults.{IsShape, wrong_shape}
-use Rattle.cargo_toml_parts.specs.Reads.{items_reads, items_refuse, plain}
+use Rattle.cargo_toml_parts.specs.Reads.{items_reads, ItemsRefuse, plain}
 
 -- what stands beside the text in a table
 abbrev pub named : {X : Type 0} → List (List ℕ × X) → List ℕ → Option X
@@ -20,7 +22,9 @@ named [] text = None
 named (row ∷ rows) text = if bytes_eq text row.0 then Some row.1 else named rows text
 
 abbrev pub edition_of : List ℕ → Option Edition
-edition_of text = named ((codes "2015", E2015) ∷ (codes "2018", E2018) ∷ (codes "2021", E2021) ∷ (codes "2024", E2024) ∷ []) text
+edition_of text =
+    named ((codes "2015", E2015) ∷ (codes "2018", E2018) ∷ (codes "2021", E2021)
+    ∷ (codes "2024", E2024) ∷ []) text
 
 abbrev pub resolver_of : List ℕ → Option Resolver
 resolver_of text = named ((codes "1", V1) ∷ (codes "2", V2) ∷ (codes "3", V3) ∷ []) text
@@ -72,6 +76,6 @@ publish_of (boolean b) = Some (everywhere b)
 publish_of (array ds) = option_map among (items_reads as_str ds)
 publish_of _ = None
 
-abbrev pub publish_refuses : Data → Error → Type 0
-publish_refuses (array ds) e = items_refuse plain ds e
-publish_refuses _ e = IsShape wrong_shape e
+abbrev pub PublishRefuses : Data → Error → Type 0
+PublishRefuses (array ds) e = ItemsRefuse plain ds e
+PublishRefuses _ e = IsShape wrong_shape e

@@ -3,7 +3,8 @@ use Rattle.std.specs.Prelude.{◌≡◌, ◌↔◌, ℕ, Bool, IsTrue}
 use Rattle.std.specs.declared.cmp.Ordering.{Ordering}
 use Rattle.std.specs.Ordering.{nat_cmp}
 use Rattle.cargo_toml_settings.specs.declared.settings.Edition.{Edition}
-use Rattle.cargo_toml_settings.specs.declared.settings.Edition.TheVariants.{E2015, E2018, E2021, E2024}
+use Rattle.cargo_toml_settings.specs.declared.settings.Edition.TheVariants.{E2015, E2018, E2021}
+use Rattle.cargo_toml_settings.specs.declared.settings.Edition.TheVariants.{E2024}
 use Rattle.cargo_toml_settings.specs.declared.settings.Resolver.{Resolver}
 use Rattle.cargo_toml_settings.specs.declared.settings.Resolver.TheVariants.{V1, V2, V3}
 use Rattle.cargo_toml_settings.specs.declared.profile_settings.DebugSetting.{DebugSetting}

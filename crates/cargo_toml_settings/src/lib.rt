@@ -1,5 +1,5 @@
-//! The settings of a Cargo manifest that are one value of a tree: editions, resolvers, optional files, where to publish, and
-//! the settings of profiles.
+//! The settings of a Cargo manifest that are one value of a tree: editions, resolvers, optional
+//! files, where to publish, and the settings of profiles.
 #![tactic(auto)]
 
 mod duplicate;

@@ -1,14 +1,17 @@
 //! The settings of a profile, each of which is one value of a tree.
 ghost use Rattle.std.specs.Prelude.{◌≡◌, Some, None, MatchResult};
 ghost use Rattle.toml.specs.View.{view};
-ghost use Rattle.cargo_toml_settings.specs.ProfileSettings.{debug_of, debug_fault, debug_refuses, strip_of, strip_fault, strip_refuses, lto_of, lto_fault, lto_refuses};
+ghost use Rattle.cargo_toml_settings.specs.ProfileSettings.{debug_of, debug_fault, DebugRefuses};
+ghost use Rattle.cargo_toml_settings.specs.ProfileSettings.{strip_of, strip_fault, StripRefuses};
+ghost use Rattle.cargo_toml_settings.specs.ProfileSettings.{lto_of, lto_fault, LtoRefuses};
 
 use cargo_toml_parts::read::Read;
 use cargo_toml_parts::{Error, ParseFault};
 use std::alloc::Global;
 use toml::Value;
 
-/// How much debug information a profile asks for: the key `debug`, a truth value, a number or a text.
+/// How much debug information a profile asks for: the key `debug`, a truth value,
+/// a number or a text.
 #[derive(Clone, Copy, Debug, PartialEq, Eq, PartialOrd, Ord)]
 pub enum DebugSetting {
     /// None at all: `false`, 0 or `none`.
@@ -45,7 +48,8 @@ pub enum LtoSetting {
 
 // The setting, or the text of what is wrong.
 fn debug_setting(value: &Value) -> Result<DebugSetting, &'static str>
-    ensures { MatchResult result (λ s. debug_of (view value.now) ≡ Some s) (λ t. (debug_of (view value.now) ≡ None) × (t.now ≡ debug_fault (view value.now))) }
+    ensures { MatchResult result (λ s. debug_of (view value.now) ≡ Some s)
+        (λ t. (debug_of (view value.now) ≡ None) × (t.now ≡ debug_fault (view value.now))) }
 {
     match value {
         Value::Boolean(false) => Ok(DebugSetting::None),
@@ -67,7 +71,8 @@ fn debug_setting(value: &Value) -> Result<DebugSetting, &'static str>
 }
 
 fn strip_setting(value: &Value) -> Result<StripSetting, &'static str>
-    ensures { MatchResult result (λ s. strip_of (view value.now) ≡ Some s) (λ t. (strip_of (view value.now) ≡ None) × (t.now ≡ strip_fault (view value.now))) }
+    ensures { MatchResult result (λ s. strip_of (view value.now) ≡ Some s)
+        (λ t. (strip_of (view value.now) ≡ None) × (t.now ≡ strip_fault (view value.now))) }
 {
     match value {
         Value::Boolean(false) => Ok(StripSetting::None),
@@ -83,7 +88,8 @@ fn strip_setting(value: &Value) -> Result<StripSetting, &'static str>
 }
 
 fn lto_setting(value: &Value) -> Result<LtoSetting, &'static str>
-    ensures { MatchResult result (λ s. lto_of (view value.now) ≡ Some s) (λ t. (lto_of (view value.now) ≡ None) × (t.now ≡ lto_fault (view value.now))) }
+    ensures { MatchResult result (λ s. lto_of (view value.now) ≡ Some s)
+        (λ t. (lto_of (view value.now) ≡ None) × (t.now ≡ lto_fault (view value.now))) }
 {
     match value {
         Value::Boolean(false) => Ok(LtoSetting::ThinLocal),
@@ -100,7 +106,9 @@ fn lto_setting(value: &Value) -> Result<LtoSetting, &'static str>
 }
 
 impl Read for DebugSetting {
-    ghost use Rattle.cargo_toml_settings.specs.declared.profile_settings.DebugSetting.{DebugSetting};
+    ghost use Rattle.cargo_toml_settings.specs.declared.profile_settings.DebugSetting.{
+      DebugSetting,
+    };
 
     ghost Meaning = { DebugSetting };
 
@@ -108,7 +116,7 @@ impl Read for DebugSetting {
 
     ghost reads = { debug_of };
 
-    ghost refuses = { debug_refuses };
+    ghost refuses = { DebugRefuses };
 
     ghost takes_memory = { ⊥ };
 
@@ -120,8 +128,8 @@ impl Read for DebugSetting {
     }
 }
 
-/// The setting that a value says. Another value is refused as [`Error::Other`], with a text that says whether its number, its
-/// name or its type is wrong.
+/// The setting that a value says. Another value is refused as [`Error::Other`], with a text that
+/// says whether its number, its name or its type is wrong.
 impl TryFrom<Value> for DebugSetting {
     ghost use Rattle.cargo_toml_parts.specs.Faults.{IsSetting};
 
@@ -138,7 +146,9 @@ impl TryFrom<Value> for DebugSetting {
 }
 
 impl Read for StripSetting {
-    ghost use Rattle.cargo_toml_settings.specs.declared.profile_settings.StripSetting.{StripSetting};
+    ghost use Rattle.cargo_toml_settings.specs.declared.profile_settings.StripSetting.{
+      StripSetting,
+    };
 
     ghost Meaning = { StripSetting };
 
@@ -146,7 +156,7 @@ impl Read for StripSetting {
 
     ghost reads = { strip_of };
 
-    ghost refuses = { strip_refuses };
+    ghost refuses = { StripRefuses };
 
     ghost takes_memory = { ⊥ };
 
@@ -158,8 +168,8 @@ impl Read for StripSetting {
     }
 }
 
-/// The setting that a value says. Another value is refused as [`Error::Other`], with a text that says whether its number, its
-/// name or its type is wrong.
+/// The setting that a value says. Another value is refused as [`Error::Other`], with a text that
+/// says whether its number, its name or its type is wrong.
 impl TryFrom<Value> for StripSetting {
     ghost use Rattle.cargo_toml_parts.specs.Faults.{IsSetting};
 
@@ -184,7 +194,7 @@ impl Read for LtoSetting {
 
     ghost reads = { lto_of };
 
-    ghost refuses = { lto_refuses };
+    ghost refuses = { LtoRefuses };
 
     ghost takes_memory = { ⊥ };
 
@@ -196,8 +206,8 @@ impl Read for LtoSetting {
     }
 }
 
-/// The setting that a value says. Another value is refused as [`Error::Other`], with a text that says whether its number, its
-/// name or its type is wrong.
+/// The setting that a value says. Another value is refused as [`Error::Other`], with a text that
+/// says whether its number, its name or its type is wrong.
 impl TryFrom<Value> for LtoSetting {
     ghost use Rattle.cargo_toml_parts.specs.Faults.{IsSetting};
 

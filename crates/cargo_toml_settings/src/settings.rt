@@ -8,8 +8,8 @@ use cargo_toml_parts::read::{Read, wrong_shape};
 use std::alloc::Global;
 use toml::Value;
 
-/// The edition of the Rust language that a package is written in: the key `edition`, a text. It is ordered by year, and a
-/// package that names none has the first.
+/// The edition of the Rust language that a package is written in: the key `edition`, a text. It is
+/// ordered by year, and a package that names none has the first.
 #[derive(Clone, Copy, Debug, Default, PartialEq, Eq, PartialOrd, Ord, Hash)]
 pub enum Edition {
     /// The text `2015`, where no edition is named.
@@ -23,7 +23,8 @@ pub enum Edition {
     E2024 = 2024,
 }
 
-/// The version of Cargo's resolver of dependencies: the key `resolver`, a text. It is ordered by number.
+/// The version of Cargo's resolver of dependencies: the key `resolver`, a text. It is
+/// ordered by number.
 #[derive(Clone, Copy, Debug, Default, PartialEq, Eq, PartialOrd, Ord, Hash)]
 pub enum Resolver {
     /// The text `1`.
@@ -153,7 +154,8 @@ impl Read for OptionalFile {
 }
 
 impl Read for Publish {
-    ghost use Rattle.cargo_toml_settings.specs.Settings.{Registries, publish_of, publish_meaning, publish_refuses};
+    ghost use Rattle.cargo_toml_settings.specs.Settings.{Registries, publish_of};
+    ghost use Rattle.cargo_toml_settings.specs.Settings.{publish_meaning, PublishRefuses};
 
     ghost Meaning = { Registries };
 
@@ -161,7 +163,7 @@ impl Read for Publish {
 
     ghost reads = { publish_of };
 
-    ghost refuses = { publish_refuses };
+    ghost refuses = { PublishRefuses };
 
     fn read(alloc: Global, value: &Value) -> Result<Publish, Error> {
         match value.as_bool() {

@@ -1,4 +1,5 @@
-//! The tests that are no rows. They stand in a crate of their own, since a crate with tests is proved twice.
+//! The tests that are no rows. They stand in a crate of their own, since a crate with
+//! tests is proved twice.
 #![tactic(auto)]
 
 #[cfg(test)]

@@ -1,5 +1,6 @@
-//! Tests of what goes not from text to text: values that a caller makes, asks and changes, and code of a caller's own. What a text
-//! reads as, is written as and is resolved to stands in the rows of `cargo_toml_rows`, which cost no proof.
+//! Tests of what goes not from text to text: values that a caller makes, asks and changes, and code
+//! of a caller's own. What a text reads as, is written as and is resolved to stands in the rows of
+//! `cargo_toml_rows`, which cost no proof.
 mod completing;
 mod dependencies;
 mod faults;
@@ -34,8 +35,8 @@ fn joined(alloc: Global, list: &[String]) -> Result<String, AllocError> {
     Ok(all)
 }
 
-// A value behind a pointer. Of what a function owns itself each field is looked at wherever the function may end, when it is
-// proved, and a manifest has some hundred.
+// A value behind a pointer. Of what a function owns itself each field is looked at wherever the
+// function may end, when it is proved, and a manifest has some hundred.
 fn boxed<T: Drop>(alloc: Global, value: T) -> Result<Box<T>, AllocError> {
     Ok(Box::new(alloc, value)?)
 }

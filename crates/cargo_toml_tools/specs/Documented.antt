@@ -9,4 +9,5 @@ is_private f = not f.public || starts_with nat_eq f.key.now (codes "_")
 
 -- a feature that is told of: `default` only where the manifest has it
 abbrev pub is_shown : Bool → Feature → Bool
-is_shown has_default f = not (is_private f) && (has_default || not (bytes_eq f.key.now (codes "default")))
+is_shown has_default f =
+    not (is_private f) && (has_default || not (bytes_eq f.key.now (codes "default")))

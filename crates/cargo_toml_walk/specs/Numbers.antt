@@ -1,5 +1,6 @@
 -- A graph of numbered vertices, and a walk over it.
-use Rattle.std.specs.Prelude.{◌≡◌, ◌≢◌, ◌↔◌, ◌⊎◌, ◌+◌, ◌<◌, ◌≤◌, ℕ, Bool, true, false, List, [], length, take, if◌then◌else◌, nat_eq, slice_get, Vec}
+use Rattle.std.specs.Prelude.{◌≡◌, ◌≢◌, ◌↔◌, ◌⊎◌, ◌+◌, ◌<◌, ◌≤◌, ℕ, Bool, true, false, List}
+use Rattle.std.specs.Prelude.{[], length, take, if◌then◌else◌, nat_eq, slice_get, Vec}
 use Rattle.std.specs.List.{slice_index_or, sum_by}
 use Rattle.std.specs.Option.{option_map_or}
 use Rattle.cargo_toml_graph.specs.Reach.{Among, GathersLabel, Reaches}
@@ -27,7 +28,8 @@ Marks epoch found met = (x : ℕ) → IsStamped epoch met x ↔ Among found x
 
 -- each stamp is an old one, or the epoch
 abbrev pub OldStamps : ℕ → List ℕ → List ℕ → Type 0
-OldStamps epoch met met' = (x : ℕ) → (slice_index_or met' x 0 ≡ slice_index_or met x 0) ⊎ (slice_index_or met' x 0 ≡ epoch)
+OldStamps epoch met met' =
+    (x : ℕ) → (slice_index_or met' x 0 ≡ slice_index_or met x 0) ⊎ (slice_index_or met' x 0 ≡ epoch)
 
 abbrev pub unmet : ℕ → List ℕ → ℕ
 unmet epoch met = sum_by (λ s. if nat_eq s epoch then 0 else 1) met
@@ -51,7 +53,8 @@ pub record Links {Z : Type 0} (Named : ℕ → Type 0) (e : ℕ) (old new : List
 
 -- each stamp is below e, or n
 abbrev pub Past : ℕ → ℕ → List ℕ → Type 0
-Past e n met = (x : ℕ) → x < length met → (slice_index_or met x 0 < e) ⊎ (slice_index_or met x 0 ≡ n)
+Past e n met =
+    (x : ℕ) → x < length met → (slice_index_or met x 0 < e) ⊎ (slice_index_or met x 0 ≡ n)
 
 module _ {Z : Type 0} (edges : List (Vec ℕ Z)) (removed : List Bool) where
   -- the removed vertices that a reaches through removed ones
@@ -60,23 +63,29 @@ module _ {Z : Type 0} (edges : List (Vec ℕ Z)) (removed : List Bool) where
 
   -- a or a removed vertex that it reaches through removed ones has the label x, and x isn't removed
   abbrev pub KeepsLabel : List (Vec ℕ Z) → ℕ → ℕ → Type 0
-  KeepsLabel labels a x = GathersLabel (Leads edges) (IsWanted removed true) (Leads labels) a x × IsWanted removed false x
+  KeepsLabel labels a x =
+      GathersLabel (Leads edges) (IsWanted removed true) (Leads labels) a x
+      × IsWanted removed false x
 
   -- e isn't removed and reaches a through removed vertices
   abbrev pub IsEnabledBy : ℕ → ℕ → Type 0
-  IsEnabledBy a e = (e < length edges) × IsWanted removed false e × Reaches (Leads edges) (IsWanted removed true) e a
+  IsEnabledBy a e =
+      (e < length edges) × IsWanted removed false e
+      × Reaches (Leads edges) (IsWanted removed true) e a
 
   -- a removed vertex below n
   abbrev pub IsUnder : ℕ → ℕ → Type 0
   IsUnder n v = IsWanted removed true v × (v < n)
 
-  -- r or a removed vertex below r that it reaches through such has the label x, and x is none of these
+  -- r or a removed vertex below r that it reaches through such has the label x, and
+  -- x is none of these
   abbrev pub IsRedirect : List (Vec ℕ Z) → ℕ → ℕ → Type 0
   IsRedirect labels r x = GathersLabel (Leads edges) (IsUnder r) (Leads labels) r x × ¬ IsUnder r x
 
 -- a or one of the passed vertices has the label x, and the flag of x is false
 abbrev pub HasLabel : {Z : Type 0} → (ℕ → Type 0) → List (Vec ℕ Z) → List Bool → ℕ → ℕ → Type 0
-HasLabel Passed labels flags a x = ((b : ℕ) × ((b ≡ a) ⊎ Passed b) × Leads labels b x) × IsWanted flags false x
+HasLabel Passed labels flags a x =
+    ((b : ℕ) × ((b ≡ a) ⊎ Passed b) × Leads labels b x) × IsWanted flags false x
 
 abbrev pub PassesAny : {Z : Type 0} → List (Vec ℕ Z) → ℕ → Type 0
 PassesAny passed a = (c : ℕ) × Leads passed a c

@@ -1,7 +1,8 @@
 //! Which kept vertices reach a kept one through removed ones.
 ghost use Rattle.std.specs.Prelude.{◌≡◌, ◌<◌, ◌≤◌, ◌↔◌, IfOk, IsTrue, OnOk, ℕ, length, false};
 ghost use Rattle.cargo_toml_graph.specs.Reach.{Among};
-ghost use Rattle.cargo_toml_walk.specs.Numbers.{HasLabel, IsEnabledBy, IsPassed, IsWanted, Leads, Links};
+ghost use Rattle.cargo_toml_walk.specs.Numbers.{HasLabel, IsEnabledBy, IsPassed};
+ghost use Rattle.cargo_toml_walk.specs.Numbers.{IsWanted, Leads, Links};
 
 use std::alloc::{AllocError, Global};
 
@@ -11,8 +12,8 @@ fn ends_with(list: &[usize], e: usize) -> bool
     list.last() == Some(&e)
 }
 
-// e is put at the end of y's list, unless it stands there. The lists get all that is linked to e at a stretch: a list with e
-// ends with it.
+// e is put at the end of y's list, unless it stands there. The lists get all that is linked to e at
+// a stretch: a list with e ends with it.
 fn link(by: &mut Vec<Vec<usize>>, y: usize, e: usize) -> Result<(), AllocError>
     requires { y < length by.old.items }
     ensures { OnOk result (Links (λ f. f ≡ y) e by.old.items by.new.items) }
@@ -33,7 +34,8 @@ fn link_targets(
 ) -> Result<(), AllocError>
     requires fits { length by.old.items ≤ length is_removed.now }
     requires inside { (y : ℕ) → Among targets.now y → y < length by.old.items }
-    ensures { OnOk result (Links (λ f. Among targets.now f × IsWanted is_removed.now false f) e by.old.items by.new.items) }
+    ensures { OnOk result (Links (λ f. Among targets.now f × IsWanted is_removed.now false f) e
+        by.old.items by.new.items) }
 {
     for y in targets {
         if !is_removed[*y] {
@@ -54,7 +56,8 @@ fn link_row(
     requires at { at < length edges.now }
     requires fits { length by.old.items ≤ length is_removed.now }
     requires inside { (y : ℕ) → Leads edges.now at y → y < length by.old.items }
-    ensures { OnOk result (Links (λ f. Leads edges.now at f × IsWanted is_removed.now false f) e by.old.items by.new.items) }
+    ensures { OnOk result (Links (λ f. Leads edges.now at f × IsWanted is_removed.now false f) e
+        by.old.items by.new.items) }
 {
     link_targets(by, edges[at].as_slice(), is_removed, e)
 }
@@ -71,7 +74,8 @@ fn link_all(
     requires passed { (b : ℕ) → Among passed.now b → b < length edges.now }
     requires fits { length by.old.items ≤ length is_removed.now }
     requires inside { (a b : ℕ) → Leads edges.now a b → b < length by.old.items }
-    ensures { OnOk result (Links (HasLabel (Among passed.now) edges.now is_removed.now e) e by.old.items by.new.items) }
+    ensures { OnOk result (Links (HasLabel (Among passed.now) edges.now is_removed.now e) e
+        by.old.items by.new.items) }
 {
     link_row(by, edges, e, is_removed, e)?;
     for b in passed {
@@ -101,11 +105,12 @@ pub fn enablers(
     requires whole { length edges.now ≤ length is_removed.now }
     requires inside { (a b : ℕ) → Leads edges.now a b → b < length edges.now }
     requires len { length passed.now ≡ length edges.now }
-    requires passed { (a b : ℕ) → a < length edges.now → IsWanted is_removed.now false a →
-        Leads passed.now a b ↔ IsPassed edges.now is_removed.now a b }
+    requires passed { (a b : ℕ) → a < length edges.now → IsWanted is_removed.now false a
+        → Leads passed.now a b ↔ IsPassed edges.now is_removed.now a b }
     ensures len { IfOk result (λ by. length by.items ≡ length edges.now) }
-    ensures enabled { IfOk result (λ by. (f e : ℕ) → f < length edges.now → IsWanted is_removed.now false f →
-        Leads by.items f e ↔ IsEnabledBy edges.now is_removed.now f e) }
+    ensures enabled { IfOk result
+        (λ by. (f e : ℕ) → f < length edges.now → IsWanted is_removed.now false f
+        → Leads by.items f e ↔ IsEnabledBy edges.now is_removed.now f e) }
     ensures inside { IfOk result (λ by. (f e : ℕ) → Leads by.items f e → e < length edges.now) }
 {
     let mut by = empty_lists(alloc, edges.len())?;

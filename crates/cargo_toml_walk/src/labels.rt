@@ -1,7 +1,8 @@
 //! The labels that vertices have once removed ones are taken out.
 ghost use Rattle.std.specs.Prelude.{◌≡◌, ◌<◌, ◌≤◌, ◌↔◌, IfOk, OnOk, ℕ, length, false};
 ghost use Rattle.cargo_toml_graph.specs.Reach.{Among};
-ghost use Rattle.cargo_toml_walk.specs.Numbers.{HasLabel, IsFresh, IsWanted, Leads, Marks, OldStamps, PassesAny, Visits};
+ghost use Rattle.cargo_toml_walk.specs.Numbers.{HasLabel, IsFresh, IsWanted, Leads};
+ghost use Rattle.cargo_toml_walk.specs.Numbers.{Marks, OldStamps, PassesAny, Visits};
 
 use crate::walk::visit_row;
 use std::alloc::{AllocError, Global};
@@ -19,8 +20,8 @@ fn visit_rows(
     requires fits { length met.old.items ≤ length flags.now }
     requires inside { (a x : ℕ) → Leads labels.now a x → x < length met.old.items }
     requires marks { Marks epoch found.old.items met.old.items }
-    ensures { OnOk result (Visits epoch (λ x. ((b : ℕ) × Among passed.now b × Leads labels.now b x) × IsWanted flags.now false x)
-        found.old.items found.new.items met.old.items met.new.items) }
+    ensures { OnOk result (Visits epoch (λ x. ((b : ℕ) × Among passed.now b × Leads labels.now b x)
+        × IsWanted flags.now false x) found.old.items found.new.items met.old.items met.new.items) }
 {
     for b in passed {
         visit_row(found, met, epoch, labels, *b, flags, false)?;
@@ -28,7 +29,8 @@ fn visit_rows(
     Ok(())
 }
 
-// The labels of `own` and of the passed vertices whose flag is false, each once. `own` is the stamp of those that are met.
+// The labels of `own` and of the passed vertices whose flag is false, each once. `own` is the stamp
+// of those that are met.
 pub(crate) fn kept_labels(
     alloc: Global,
     own: usize,
@@ -68,7 +70,8 @@ fn labels_of(
     requires inside { (a x : ℕ) → Leads labels.now a x → x < length met.old.items }
     requires fresh { IsFresh own met.old.items }
     ensures labels { IfOk result (λ found. (x : ℕ) → Among found.items x
-        ↔ (((c : ℕ) × Among passed.now c) × HasLabel (Among passed.now) labels.now is_removed.now own x)) }
+        ↔ (((c : ℕ) × Among passed.now c)
+        × HasLabel (Among passed.now) labels.now is_removed.now own x)) }
     ensures len { OnOk result (length met.new.items ≡ length met.old.items) }
     ensures stamps { OnOk result (OldStamps own met.old.items met.new.items) }
 {
@@ -78,8 +81,8 @@ fn labels_of(
     kept_labels(alloc, own, passed, labels, is_removed, met)
 }
 
-/// For each vertex that passes removed ones, the labels that it then has: those of its own and of the passed ones, without the
-/// removed. Nothing for the others.
+/// For each vertex that passes removed ones, the labels that it then has: those of its own and of
+/// the passed ones, without the removed. Nothing for the others.
 pub fn all_labels(
     alloc: Global,
     passed: &[Vec<usize>],
@@ -91,8 +94,8 @@ pub fn all_labels(
     requires passed { (a b : ℕ) → Leads passed.now a b → b < length labels.now }
     requires inside { (a x : ℕ) → Leads labels.now a x → x < length is_removed.now }
     ensures len { IfOk result (λ r. length r.items ≡ length labels.now) }
-    ensures labels { IfOk result (λ r. (a x : ℕ) → a < length labels.now → PassesAny passed.now a →
-        Leads r.items a x ↔ HasLabel (Leads passed.now a) labels.now is_removed.now a x) }
+    ensures labels { IfOk result (λ r. (a x : ℕ) → a < length labels.now → PassesAny passed.now a
+        → Leads r.items a x ↔ HasLabel (Leads passed.now a) labels.now is_removed.now a x) }
     ensures none { IfOk result (λ r. (a x : ℕ) → ¬ PassesAny passed.now a → ¬ Leads r.items a x) }
     ensures inside { IfOk result (λ r. (a x : ℕ) → Leads r.items a x → x < length is_removed.now) }
 {

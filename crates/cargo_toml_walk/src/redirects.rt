@@ -1,7 +1,9 @@
-//! What stands for a removed vertex: the labels that it has once the removed vertices below it are taken out.
+//! What stands for a removed vertex: the labels that it has once the removed vertices
+//! below it are taken out.
 ghost use Rattle.std.specs.Prelude.{◌≡◌, ◌<◌, ◌≤◌, ◌↔◌, IfOk, OnOk, ℕ, length, true, false};
 ghost use Rattle.cargo_toml_graph.specs.Reach.{Among};
-ghost use Rattle.cargo_toml_walk.specs.Numbers.{HasLabel, IsFresh, IsRedirect, IsWanted, Leads, OldStamps, Replaces};
+ghost use Rattle.cargo_toml_walk.specs.Numbers.{HasLabel, IsFresh, IsRedirect};
+ghost use Rattle.cargo_toml_walk.specs.Numbers.{IsWanted, Leads, OldStamps, Replaces};
 
 use crate::labels::kept_labels;
 use crate::walk::passing;
@@ -23,7 +25,8 @@ fn has_finished(row: &[usize], finished: &[bool]) -> bool
 fn stays(r: usize, rows: &[Vec<usize>], passed: &[usize], finished: &[bool]) -> bool
     requires own { r < length rows.now }
     requires inside { (a x : ℕ) → Leads rows.now a x → x < length finished.now }
-    ensures { result ≡ true → Replaces r (HasLabel (Among passed.now) rows.now finished.now r) rows.now rows.now }
+    ensures { result ≡ true
+        → Replaces r (HasLabel (Among passed.now) rows.now finished.now r) rows.now rows.now }
 {
     passed.is_empty() && !has_finished(rows[r].as_slice(), finished)
 }
@@ -42,8 +45,8 @@ fn finish(
     requires fits { length met.old.items ≤ length finished.now }
     requires inside { (a x : ℕ) → Leads rows.old.items a x → x < length met.old.items }
     requires fresh { IsFresh r met.old.items }
-    ensures row { OnOk result (Replaces r (HasLabel (Among passed.now) rows.old.items finished.now r)
-        rows.old.items rows.new.items) }
+    ensures row { OnOk result (Replaces r
+        (HasLabel (Among passed.now) rows.old.items finished.now r) rows.old.items rows.new.items) }
     ensures len { OnOk result (length met.new.items ≡ length met.old.items) }
     ensures stamps { OnOk result (OldStamps r met.old.items met.new.items) }
 {
@@ -55,8 +58,8 @@ fn finish(
     Ok(())
 }
 
-/// For each removed vertex its redirect: the labels that it has once the removed vertices below it are taken out. The others
-/// keep their labels.
+/// For each removed vertex its redirect: the labels that it has once the removed vertices below it
+/// are taken out. The others keep their labels.
 pub fn redirects(
     alloc: Global,
     mut edges: Vec<Vec<usize>>,
@@ -68,11 +71,13 @@ pub fn redirects(
     requires edges { (a b : ℕ) → Leads edges.items a b → b < length edges.items }
     requires labels { (a x : ℕ) → Leads labels.items a x → x < length is_removed.now }
     ensures len { IfOk result (λ rows. length rows.items ≡ length labels.items) }
-    ensures redirects { IfOk result (λ rows. (r x : ℕ) → r < length labels.items → IsWanted is_removed.now true r →
-        Leads rows.items r x ↔ IsRedirect edges.items is_removed.now labels.items r x) }
-    ensures others { IfOk result (λ rows. (a x : ℕ) → IsWanted is_removed.now false a →
-        Leads rows.items a x ↔ Leads labels.items a x) }
-    ensures inside { IfOk result (λ rows. (r x : ℕ) → Leads rows.items r x → x < length is_removed.now) }
+    ensures redirects { IfOk result
+        (λ rows. (r x : ℕ) → r < length labels.items → IsWanted is_removed.now true r
+        → Leads rows.items r x ↔ IsRedirect edges.items is_removed.now labels.items r x) }
+    ensures others { IfOk result (λ rows. (a x : ℕ) → IsWanted is_removed.now false a
+        → Leads rows.items a x ↔ Leads labels.items a x) }
+    ensures inside { IfOk result
+        (λ rows. (r x : ℕ) → Leads rows.items r x → x < length is_removed.now) }
 {
     let size = edges.len();
     let total = is_removed.len();

@@ -11,7 +11,8 @@ const FEW: usize = 24;
 
 /// The texts in byte order, each once.
 pub fn in_order<'m>(mut texts: Vec<&'m str>) -> Vec<&'m str>
-    ensures all { (x : Text) → Among (map (λ t. t.now) result.items) x ↔ Among (map (λ t. t.now) texts.entry.items) x }
+    ensures all { (x : Text) → Among (map (λ t. t.now) result.items) x
+        ↔ Among (map (λ t. t.now) texts.entry.items) x }
     ensures ascending { IsAscending (λ a b. IsTrue (is_below a b)) (map (λ t. t.now) result.items) }
 {
     texts.sort_unstable();
@@ -46,7 +47,8 @@ fn searched(texts: &[&str], text: &str) -> Option<usize>
 /// Where a text stands among texts in byte order, if it does.
 pub fn place_of(texts: &[&str], text: &str) -> Option<usize>
     requires { IsAscending (λ a b. IsTrue (is_below a b)) (map (λ t. t.now) texts.now) }
-    ensures found { IfSome result (λ i. (i < length texts.now) × (text_at (map (λ t. t.now) texts.now) i ≡ text.now)) }
+    ensures found { IfSome result
+        (λ i. (i < length texts.now) × (text_at (map (λ t. t.now) texts.now) i ≡ text.now)) }
     ensures missing { result ≡ None → ¬ Among (map (λ t. t.now) texts.now) text.now }
 {
     if texts.len() > FEW {

@@ -1,7 +1,8 @@
 //! What each vertex reaches through removed vertices.
 ghost use Rattle.std.specs.Prelude.{◌≡◌, ◌<◌, ◌≤◌, ◌↔◌, IfOk, OnOk, ℕ, length, true, false};
 ghost use Rattle.cargo_toml_graph.specs.Reach.{Among};
-ghost use Rattle.cargo_toml_walk.specs.Numbers.{IsFresh, IsPassed, IsWanted, Leads, Marks, OldStamps, Visits};
+ghost use Rattle.cargo_toml_walk.specs.Numbers.{IsFresh, IsPassed, IsWanted};
+ghost use Rattle.cargo_toml_walk.specs.Numbers.{Leads, Marks, OldStamps, Visits};
 
 use std::alloc::{AllocError, Global};
 
@@ -14,7 +15,8 @@ fn meet(
 ) -> Result<(), AllocError>
     requires inside { x < length met.old.items }
     requires marks { Marks epoch found.old.items met.old.items }
-    ensures { OnOk result (Visits epoch (λ y. y ≡ x) found.old.items found.new.items met.old.items met.new.items) }
+    ensures { OnOk result
+        (Visits epoch (λ y. y ≡ x) found.old.items found.new.items met.old.items met.new.items) }
 {
     let stamp = &mut met[x];
     if *stamp != epoch {
@@ -36,8 +38,8 @@ fn visit(
     requires fits { length met.old.items ≤ length flags.now }
     requires inside { (y : ℕ) → Among targets.now y → y < length met.old.items }
     requires marks { Marks epoch found.old.items met.old.items }
-    ensures { OnOk result (Visits epoch (λ y. Among targets.now y × IsWanted flags.now wanted y) found.old.items found.new.items
-        met.old.items met.new.items) }
+    ensures { OnOk result (Visits epoch (λ y. Among targets.now y × IsWanted flags.now wanted y)
+        found.old.items found.new.items met.old.items met.new.items) }
 {
     for x in targets {
         if flags[*x] == wanted {
@@ -61,13 +63,14 @@ pub(crate) fn visit_row(
     requires fits { length met.old.items ≤ length flags.now }
     requires inside { (y : ℕ) → Leads rows.now at y → y < length met.old.items }
     requires marks { Marks epoch found.old.items met.old.items }
-    ensures { OnOk result (Visits epoch (λ y. Leads rows.now at y × IsWanted flags.now wanted y) found.old.items found.new.items
-        met.old.items met.new.items) }
+    ensures { OnOk result (Visits epoch (λ y. Leads rows.now at y × IsWanted flags.now wanted y)
+        found.old.items found.new.items met.old.items met.new.items) }
 {
     visit(found, met, epoch, rows[at].as_slice(), flags, wanted)
 }
 
-// The removed vertices that `start` reaches through removed ones. `start` is the stamp of those that are met.
+// The removed vertices that `start` reaches through removed ones. `start` is the stamp of
+// those that are met.
 pub(crate) fn passing(
     alloc: Global,
     start: usize,
@@ -80,10 +83,12 @@ pub(crate) fn passing(
     requires whole { length edges.now ≡ length met.old.items }
     requires inside { (a b : ℕ) → Leads edges.now a b → b < length met.old.items }
     requires fresh { IsFresh start met.old.items }
-    ensures passed { IfOk result (λ found. (b : ℕ) → Among found.items b ↔ IsPassed edges.now is_removed.now start b) }
+    ensures passed { IfOk result
+        (λ found. (b : ℕ) → Among found.items b ↔ IsPassed edges.now is_removed.now start b) }
     ensures len { OnOk result (length met.new.items ≡ length met.old.items) }
     ensures stamps { OnOk result (OldStamps start met.old.items met.new.items) }
-    ensures inside { IfOk result (λ found. (b : ℕ) → Among found.items b → b < length met.old.items) }
+    ensures inside { IfOk result
+        (λ found. (b : ℕ) → Among found.items b → b < length met.old.items) }
 {
     let mut found = Vec::new(alloc);
     visit_row(&mut found, met, start, edges, start, is_removed, true)?;
@@ -120,7 +125,8 @@ fn passed_by(
     passing(alloc, start, edges, is_removed, met)
 }
 
-/// For each vertex that isn't removed, the removed ones that it reaches through removed ones; nothing for a removed one.
+/// For each vertex that isn't removed, the removed ones that it reaches through removed ones;
+/// nothing for a removed one.
 pub fn all_passed(
     alloc: Global,
     edges: &[Vec<usize>],
@@ -129,9 +135,11 @@ pub fn all_passed(
     requires whole { length edges.now ≤ length is_removed.now }
     requires inside { (a b : ℕ) → Leads edges.now a b → b < length edges.now }
     ensures len { IfOk result (λ p. length p.items ≡ length edges.now) }
-    ensures passed { IfOk result (λ p. (a b : ℕ) → a < length edges.now → IsWanted is_removed.now false a →
-        Leads p.items a b ↔ IsPassed edges.now is_removed.now a b) }
-    ensures removed { IfOk result (λ p. (a b : ℕ) → IsWanted is_removed.now true a → ¬ Leads p.items a b) }
+    ensures passed { IfOk result
+        (λ p. (a b : ℕ) → a < length edges.now → IsWanted is_removed.now false a
+        → Leads p.items a b ↔ IsPassed edges.now is_removed.now a b) }
+    ensures removed { IfOk result
+        (λ p. (a b : ℕ) → IsWanted is_removed.now true a → ¬ Leads p.items a b) }
     ensures inside { IfOk result (λ p. (a b : ℕ) → Leads p.items a b → b < length edges.now) }
 {
     let size = edges.len();

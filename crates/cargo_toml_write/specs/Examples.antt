@@ -1,6 +1,7 @@
 -- What the worked examples hold, and the trees that they are written to.
 use Rattle.std.specs.Prelude.{[], ◌∷◌, codes, true, false, Some, None}
-use Rattle.toml.specs.Data.{Data, string, boolean, array, table, no_items, item, Members, no_members, member}
+use Rattle.toml.specs.Data.{Data, string, boolean, array, table}
+use Rattle.toml.specs.Data.{no_items, item, Members, no_members, member}
 use Rattle.cargo_toml_dependencies.specs.Dependencies.{DependencyMeaning, detailed}
 use Rattle.cargo_toml_settings.specs.declared.settings.Edition.TheVariants.{E2021}
 use Rattle.cargo_toml_tables.specs.Products.{ProductMeaning}

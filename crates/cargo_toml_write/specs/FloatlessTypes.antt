@@ -1,8 +1,10 @@
 -- What is written of each type holds no float.
-use Rattle.std.specs.Prelude.{ℕ, List, codes, Option, Some, None, Bool, true, false, IsTrue, MatchBool, refl}
+use Rattle.std.specs.Prelude.{ℕ, List, codes, Option, Some, None, Bool}
+use Rattle.std.specs.Prelude.{true, false, IsTrue, MatchBool, refl}
 use Rattle.std.proofs.Common.{sym, subst}
 use Rattle.toml.specs.Data.{Data, string, integer}
-use Rattle.cargo_toml_dependencies.specs.Dependencies.{InheritedMeaning, DetailMeaning, DependencyMeaning}
+use Rattle.cargo_toml_dependencies.specs.Dependencies.{InheritedMeaning, DetailMeaning}
+use Rattle.cargo_toml_dependencies.specs.Dependencies.{DependencyMeaning}
 use Rattle.cargo_toml_dependencies.specs.Dependencies as kind
 use Rattle.cargo_toml_dependencies.specs.Details.{Detail}
 use Rattle.cargo_toml_dependencies.specs.Targets.{TargetMeaning}
@@ -14,23 +16,41 @@ use Rattle.cargo_toml_parts.specs.Floats.{has_no_float, members_have_no_float}
 use Rattle.cargo_toml_settings.specs.declared.profile_settings.DebugSetting.TheVariants as debug
 use Rattle.cargo_toml_settings.specs.declared.profile_settings.LtoSetting.TheVariants as lto
 use Rattle.cargo_toml_settings.specs.declared.profile_settings.StripSetting.TheVariants as strip
-use Rattle.cargo_toml_settings.specs.Settings.{edition_text, resolver_text, flag, path, everywhere, among}
+use Rattle.cargo_toml_settings.specs.Settings.{edition_text, resolver_text}
+use Rattle.cargo_toml_settings.specs.Settings.{flag, path, everywhere, among}
 use Rattle.cargo_toml_tables.specs.declared.badge.MaintenanceStatus.{MaintenanceStatus}
 use Rattle.cargo_toml_tables.specs.Badges.{BadgeMeaning, BadgesMeaning}
 use Rattle.cargo_toml_tables.specs.Lints.{LintMeaning}
 use Rattle.cargo_toml_tables.specs.Products.{ProductMeaning}
 use Rattle.cargo_toml_tables.specs.Profiles.{ProfileMeaning, ProfilesMeaning}
-use Rattle.cargo_toml_write.specs.FloatlessLaws.{AreFloatless, exactly_floatless, text_floatless, truth_floatless, number_floatless, version_floatless, requirement_floatless, free_floatless, texts_floatless, list_floatless, map_floatless, inheritable_floatless, entries_then, table_floatless, put_floatless, required, optional, given, flagged}
-use Rattle.cargo_toml_write.specs.Ways.{text_way, truth_way, number_way, version_way, requirement_way, free_way, texts_way, list_way, map_way, inheritable_way}
-use Rattle.cargo_toml_write.specs.WrittenBadges.{badge_rows, badge_way, maintenance_rows, maintenance_way, badges_rows, badges_way}
-use Rattle.cargo_toml_write.specs.WrittenDependencies.{inherited_rows, inherited_way, known_rows, detail_rows, detail_way, dependency_way, dependencies_way, target_rows, target_way}
-use Rattle.cargo_toml_write.specs.WrittenFeatures.{FeatureTree, feature_way, features_way, told_features, told_rows, told_way}
-use Rattle.cargo_toml_write.specs.WrittenLints.{is_level_alone, members_of, lint_table, table_lint_way, lint_way, lint_groups_way}
+use Rattle.cargo_toml_write.specs.FloatlessLaws.{AreFloatless, exactly_floatless, text_floatless}
+use Rattle.cargo_toml_write.specs.FloatlessLaws.{truth_floatless, number_floatless}
+use Rattle.cargo_toml_write.specs.FloatlessLaws.{version_floatless, requirement_floatless}
+use Rattle.cargo_toml_write.specs.FloatlessLaws.{free_floatless, texts_floatless, list_floatless}
+use Rattle.cargo_toml_write.specs.FloatlessLaws.{map_floatless, inheritable_floatless}
+use Rattle.cargo_toml_write.specs.FloatlessLaws.{entries_then, table_floatless, put_floatless}
+use Rattle.cargo_toml_write.specs.FloatlessLaws.{required, optional, given, flagged}
+use Rattle.cargo_toml_write.specs.Ways.{text_way, truth_way, number_way, version_way}
+use Rattle.cargo_toml_write.specs.Ways.{requirement_way, free_way, texts_way}
+use Rattle.cargo_toml_write.specs.Ways.{list_way, map_way, inheritable_way}
+use Rattle.cargo_toml_write.specs.WrittenBadges.{badge_rows, badge_way, maintenance_rows}
+use Rattle.cargo_toml_write.specs.WrittenBadges.{maintenance_way, badges_rows, badges_way}
+use Rattle.cargo_toml_write.specs.WrittenDependencies.{inherited_rows, inherited_way, known_rows}
+use Rattle.cargo_toml_write.specs.WrittenDependencies.{detail_rows, detail_way, dependency_way}
+use Rattle.cargo_toml_write.specs.WrittenDependencies.{dependencies_way, target_rows, target_way}
+use Rattle.cargo_toml_write.specs.WrittenFeatures.{FeatureTree, feature_way, features_way}
+use Rattle.cargo_toml_write.specs.WrittenFeatures.{told_features, told_rows, told_way}
+use Rattle.cargo_toml_write.specs.WrittenLints.{is_level_alone, members_of, lint_table}
+use Rattle.cargo_toml_write.specs.WrittenLints.{table_lint_way, lint_way, lint_groups_way}
 use Rattle.cargo_toml_write.specs.WrittenManifests.{all_features, manifest_rows, manifest_way}
 use Rattle.cargo_toml_write.specs.WrittenPackages.{package_rows, package_way}
 use Rattle.cargo_toml_write.specs.WrittenProducts.{product_rows, product_way}
-use Rattle.cargo_toml_write.specs.WrittenProfiles.{profile_rows, profile_way, known_profiles, profiles_rows, profiles_way}
-use Rattle.cargo_toml_write.specs.WrittenSettings.{edition_way, resolver_way, level_way, level_text, status_way, file_way, publish_way, debug_tree, debug_way, strip_tree, strip_way, lto_tree, lto_way, status_text}
+use Rattle.cargo_toml_write.specs.WrittenProfiles.{profile_rows, profile_way, known_profiles}
+use Rattle.cargo_toml_write.specs.WrittenProfiles.{profiles_rows, profiles_way}
+use Rattle.cargo_toml_write.specs.WrittenSettings.{edition_way, resolver_way, level_way}
+use Rattle.cargo_toml_write.specs.WrittenSettings.{level_text, status_way, file_way, publish_way}
+use Rattle.cargo_toml_write.specs.WrittenSettings.{debug_tree, debug_way, strip_tree, strip_way}
+use Rattle.cargo_toml_write.specs.WrittenSettings.{lto_tree, lto_way, status_text}
 use Rattle.cargo_toml_write.specs.WrittenTemplates.{template_rows, template_way}
 use Rattle.cargo_toml_write.specs.WrittenWorkspaces.{workspace_rows, workspace_way}
 use Rattle.cargo_toml_write.specs.Writes.{Way, IsFloatless, put}
@@ -60,13 +80,19 @@ publish_floatless (everywhere b) d is = subst Floatless (sym is) refl
 publish_floatless (among names) d tree = texts_floatless names d tree
 
 pub debug_floatless : IsFloatless debug_way
-debug_floatless = exactly_floatless debug_tree (elim [ debug.None ↦ refl | debug.Lines ↦ refl | debug.Full ↦ refl ])
+debug_floatless =
+    exactly_floatless debug_tree
+    (elim [ debug.None ↦ refl | debug.Lines ↦ refl | debug.Full ↦ refl ])
 
 pub strip_floatless : IsFloatless strip_way
-strip_floatless = exactly_floatless strip_tree (elim [ strip.None ↦ refl | strip.Debuginfo ↦ refl | strip.Symbols ↦ refl ])
+strip_floatless =
+    exactly_floatless strip_tree
+    (elim [ strip.None ↦ refl | strip.Debuginfo ↦ refl | strip.Symbols ↦ refl ])
 
 pub lto_floatless : IsFloatless lto_way
-lto_floatless = exactly_floatless lto_tree (elim [ lto.None ↦ refl | lto.ThinLocal ↦ refl | lto.Thin ↦ refl | lto.Fat ↦ refl ])
+lto_floatless =
+    exactly_floatless lto_tree
+    (elim [ lto.None ↦ refl | lto.ThinLocal ↦ refl | lto.Thin ↦ refl | lto.Fat ↦ refl ])
 
 -- texts that a workspace may give
 known_text : IsFloatless (inheritable_way text_way)
@@ -76,15 +102,18 @@ known_texts : IsFloatless (inheritable_way texts_way)
 known_texts = inheritable_floatless texts_way texts_floatless
 
 -- a level, or a table that holds no float
-lint_put : (l : LintMeaning) → IsTrue (members_have_no_float (members_of l.config)) → Floatless (lint_table l)
+lint_put : (l : LintMeaning) → IsTrue (members_have_no_float (members_of l.config))
+    → Floatless (lint_table l)
 lint_put l h =
-    put_floatless (codes "priority") (integer l.priority) (put (codes "level") (string (level_text l.level)) (members_of l.config)) refl
+    put_floatless (codes "priority") (integer l.priority)
+    (put (codes "level") (string (level_text l.level)) (members_of l.config)) refl
     (put_floatless (codes "level") (string (level_text l.level)) (members_of l.config) refl h)
 
 pub table_lint_floatless : IsFloatless table_lint_way
 table_lint_floatless l d tree = subst Floatless (sym tree.1) (lint_put l tree.0)
 
-lint_either : (b : Bool) (l : LintMeaning) (d : Data) → MatchBool b (level_way.trees l.level d) (table_lint_way.trees l d) → Floatless d
+lint_either : (b : Bool) (l : LintMeaning) (d : Data)
+    → MatchBool b (level_way.trees l.level d) (table_lint_way.trees l d) → Floatless d
 lint_either true l d tree = level_floatless l.level d tree
 lint_either false l d tree = table_lint_floatless l d tree
 
@@ -228,7 +257,8 @@ each_of_profile p = (
                     (
                       optional strip_way strip_floatless p.strip,
                       (
-                        given (map_way free_way) (map_floatless free_way free_floatless) p.«package»,
+                        given (map_way free_way)
+                            (map_floatless free_way free_floatless) p.«package»,
                         (
                           optional free_way free_floatless p.build_override,
                           (
@@ -272,7 +302,8 @@ each_known_of_profiles p = (
 
 pub profiles_floatless : IsFloatless profiles_way
 profiles_floatless =
-    table_floatless profiles_rows (λ p. entries_then profile_way profile_floatless p.custom (known_profiles p) (each_known_of_profiles p))
+    table_floatless profiles_rows (λ p. entries_then profile_way profile_floatless p.custom
+    (known_profiles p) (each_known_of_profiles p))
 
 -- dependencies
 each_of_inherited : (i : InheritedMeaning) → AreFloatless (inherited_rows i)
@@ -331,7 +362,8 @@ each_known_of_detail d = (
 
 pub detail_floatless : IsFloatless detail_way
 detail_floatless =
-    table_floatless detail_rows (λ d. entries_then free_way free_floatless d.unstable (known_rows d) (each_known_of_detail d))
+    table_floatless detail_rows
+    (λ d. entries_then free_way free_floatless d.unstable (known_rows d) (each_known_of_detail d))
 
 pub dependency_floatless : IsFloatless dependency_way
 dependency_floatless (kind.simple r) d tree = requirement_floatless r d tree
@@ -357,13 +389,16 @@ pub target_floatless : IsFloatless target_way
 target_floatless = table_floatless target_rows each_of_target
 
 -- packages, workspaces and manifests, whose metadata hold no float
-each_of_package : {M : Type 0} (metadata : Way M) → IsFloatless metadata → (p : PackageMeaning M) → AreFloatless (package_rows metadata p)
+each_of_package : {M : Type 0} (metadata : Way M) → IsFloatless metadata
+    → (p : PackageMeaning M) → AreFloatless (package_rows metadata p)
 each_of_package metadata h p = (
   required text_way text_floatless p.name,
   (
-    required (inheritable_way version_way) (inheritable_floatless version_way version_floatless) p.version,
+    required (inheritable_way version_way)
+        (inheritable_floatless version_way version_floatless) p.version,
     (
-      required (inheritable_way edition_way) (inheritable_floatless edition_way edition_floatless) p.edition,
+      required (inheritable_way edition_way)
+          (inheritable_floatless edition_way edition_floatless) p.edition,
       (
         optional (inheritable_way text_way) known_text p.rust_version,
         (
@@ -381,7 +416,8 @@ each_of_package metadata h p = (
                     (
                       optional (inheritable_way text_way) known_text p.documentation,
                       (
-                        given (inheritable_way file_way) (inheritable_floatless file_way file_floatless) p.readme,
+                        given (inheritable_way file_way)
+                            (inheritable_floatless file_way file_floatless) p.readme,
                         (
                           given (inheritable_way texts_way) known_texts p.keywords,
                           (
@@ -409,9 +445,12 @@ each_of_package metadata h p = (
                                                 (
                                                   flagged true p.autobenches,
                                                   (
-                                                    given (inheritable_way publish_way) (inheritable_floatless publish_way publish_floatless) p.publish,
+                                                    given (inheritable_way publish_way)
+                                                        (inheritable_floatless publish_way
+                                                        publish_floatless) p.publish,
                                                     (
-                                                      optional resolver_way resolver_floatless p.resolver,
+                                                      optional resolver_way
+                                                          resolver_floatless p.resolver,
                                                       (
                                                         optional metadata h p.metadata,
                                                         tt,
@@ -444,7 +483,8 @@ each_of_package metadata h p = (
   ),
 )
 
-pub package_floatless : {M : Type 0} (metadata : Way M) → IsFloatless metadata → IsFloatless (package_way metadata)
+pub package_floatless : {M : Type 0} (metadata : Way M) → IsFloatless metadata
+    → IsFloatless (package_way metadata)
 package_floatless metadata h = table_floatless (package_rows metadata) (each_of_package metadata h)
 
 each_of_template : (t : TemplateMeaning) → AreFloatless (template_rows t)
@@ -501,7 +541,8 @@ each_of_template t = (
 pub template_floatless : IsFloatless template_way
 template_floatless = table_floatless template_rows each_of_template
 
-each_of_workspace : {M : Type 0} (metadata : Way M) → IsFloatless metadata → (w : WorkspaceMeaning M) → AreFloatless (workspace_rows metadata w)
+each_of_workspace : {M : Type 0} (metadata : Way M) → IsFloatless metadata
+    → (w : WorkspaceMeaning M) → AreFloatless (workspace_rows metadata w)
 each_of_workspace metadata h w = (
   required texts_way texts_floatless w.members,
   (
@@ -528,8 +569,10 @@ each_of_workspace metadata h w = (
   ),
 )
 
-pub workspace_floatless : {M : Type 0} (metadata : Way M) → IsFloatless metadata → IsFloatless (workspace_way metadata)
-workspace_floatless metadata h = table_floatless (workspace_rows metadata) (each_of_workspace metadata h)
+pub workspace_floatless : {M : Type 0} (metadata : Way M) → IsFloatless metadata
+    → IsFloatless (workspace_way metadata)
+workspace_floatless metadata h =
+    table_floatless (workspace_rows metadata) (each_of_workspace metadata h)
 
 -- features
 each_of_told : (f : List (List ℕ) × Detail) → AreFloatless (told_rows f)
@@ -547,7 +590,8 @@ each_of_told f = (
 told_floatless : IsFloatless told_way
 told_floatless = table_floatless told_rows each_of_told
 
-feature_either : (enables : List (List ℕ)) (detail : Option Detail) (d : Data) → FeatureTree enables detail d → Floatless d
+feature_either : (enables : List (List ℕ)) (detail : Option Detail) (d : Data)
+    → FeatureTree enables detail d → Floatless d
 feature_either enables None d tree = texts_floatless enables d tree
 feature_either enables (Some detail) d tree = told_floatless (enables, detail) d tree
 
@@ -557,7 +601,8 @@ feature_floatless f d tree = feature_either f.0 f.1 d tree
 pub features_floatless : IsFloatless features_way
 features_floatless fs d tree = map_floatless feature_way feature_floatless (told_features fs) d tree
 
-each_of_manifest : {M : Type 0} (metadata : Way M) → IsFloatless metadata → (m : ManifestMeaning M) → AreFloatless (manifest_rows metadata m)
+each_of_manifest : {M : Type 0} (metadata : Way M) → IsFloatless metadata
+    → (m : ManifestMeaning M) → AreFloatless (manifest_rows metadata m)
 each_of_manifest metadata h m = (
   optional (package_way metadata) (package_floatless metadata h) m.«package»,
   (
@@ -575,7 +620,8 @@ each_of_manifest metadata h m = (
               (
                 given dependencies_way dependencies_floatless m.replace,
                 (
-                  given (map_way dependencies_way) (map_floatless dependencies_way dependencies_floatless) m.patch,
+                  given (map_way dependencies_way)
+                      (map_floatless dependencies_way dependencies_floatless) m.patch,
                   (
                     optional product_way product_floatless m.lib,
                     (
@@ -591,7 +637,9 @@ each_of_manifest metadata h m = (
                               (
                                 given (list_way product_way) products_floatless m.example,
                                 (
-                                  given (inheritable_way lint_groups_way) (inheritable_floatless lint_groups_way lint_groups_floatless) m.lints,
+                                  given (inheritable_way lint_groups_way)
+                                      (inheritable_floatless lint_groups_way lint_groups_floatless)
+                                      m.lints,
                                   tt,
                                 ),
                               ),
@@ -611,5 +659,7 @@ each_of_manifest metadata h m = (
   ),
 )
 
-pub manifest_floatless : {M : Type 0} (metadata : Way M) → IsFloatless metadata → IsFloatless (manifest_way metadata)
-manifest_floatless metadata h = table_floatless (manifest_rows metadata) (each_of_manifest metadata h)
+pub manifest_floatless : {M : Type 0} (metadata : Way M) → IsFloatless metadata
+    → IsFloatless (manifest_way metadata)
+manifest_floatless metadata h =
+    table_floatless (manifest_rows metadata) (each_of_manifest metadata h)

@@ -1,4 +1,5 @@
--- Which values hold no float in what they may hold freely. What is asked of metadata, whose type is a caller's, is given.
+-- Which values hold no float in what they may hold freely. What is asked of metadata, whose type is
+-- a caller's, is given.
 use Rattle.std.specs.Prelude.{ℕ, List, IsTrue, IfSome, All}
 use Rattle.toml.specs.Data.{Data}
 use Rattle.cargo_toml_dependencies.specs.Dependencies.{DetailMeaning, DependencyMeaning}
@@ -57,15 +58,18 @@ pub record LintHoldsNoFloat (l : LintMeaning) : Type 0 where
 abbrev pub LintsHoldNoFloat : List (List ℕ × List (List ℕ × LintMeaning)) → Type 0
 LintsHoldNoFloat groups = EachValue (EachValue LintHoldsNoFloat) groups
 
-pub record PackageHoldsNoFloat {M : Type 0} (Metadata : M → Type 0) (p : PackageMeaning M) : Type 0 where
+pub record PackageHoldsNoFloat {M : Type 0} (Metadata : M → Type 0)
+    (p : PackageMeaning M) : Type 0 where
   pub metadata : IfSome p.metadata Metadata
 
-pub record WorkspaceHoldsNoFloat {M : Type 0} (Metadata : M → Type 0) (w : WorkspaceMeaning M) : Type 0 where
+pub record WorkspaceHoldsNoFloat {M : Type 0} (Metadata : M → Type 0)
+    (w : WorkspaceMeaning M) : Type 0 where
   pub metadata : IfSome w.metadata Metadata
   pub dependencies : EachValue DependencyHoldsNoFloat w.dependencies
   pub lints : LintsHoldNoFloat w.lints
 
-pub record ManifestHoldsNoFloat {M : Type 0} (Metadata : M → Type 0) (m : ManifestMeaning M) : Type 0 where
+pub record ManifestHoldsNoFloat {M : Type 0} (Metadata : M → Type 0)
+    (m : ManifestMeaning M) : Type 0 where
   pub «package» : IfSome m.«package» (PackageHoldsNoFloat Metadata)
   pub workspace : IfSome m.workspace (WorkspaceHoldsNoFloat Metadata)
   pub dependencies : EachValue DependencyHoldsNoFloat m.dependencies

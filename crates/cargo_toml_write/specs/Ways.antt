@@ -1,8 +1,10 @@
 -- How texts, truth values, numbers, versions, lists, maps and inherited values are written.
-use Rattle.std.specs.Prelude.{◌≡◌, ◌⊎◌, ℕ, pos, List, [], ◌∷◌, codes, Bool, true, false, IsTrue, Option, Some, None}
+use Rattle.std.specs.Prelude.{◌≡◌, ◌⊎◌, ℕ, pos, List, [], ◌∷◌, codes, Bool}
+use Rattle.std.specs.Prelude.{true, false, IsTrue, Option, Some, None}
 use Rattle.semver.specs.Identifiers.{parts_text}
 use Rattle.semver.specs.Parse.{Held}
-use Rattle.toml.specs.Data.{Data, string, boolean, integer, array, table, Items, no_items, item, no_members, member}
+use Rattle.toml.specs.Data.{Data, string, boolean, integer, array, table}
+use Rattle.toml.specs.Data.{Items, no_items, item, no_members, member}
 use Rattle.cargo_toml_parts.specs.declared.error.Error.{Error}
 use Rattle.cargo_toml_parts.specs.declared.inheritable.Inheritable.{Inheritable}
 use Rattle.cargo_toml_parts.specs.declared.inheritable.Inheritable.TheVariants.{Set, Inherited}
@@ -59,7 +61,8 @@ AreItems way _ _ = ⊥
 
 abbrev pub ItemsRefused : {X : Type 0} → Way X → List X → Error → Type 0
 ItemsRefused way [] e = ⊥
-ItemsRefused way (x ∷ xs) e = (((d : Data) → ¬ (way.trees x d)) × way.refuses x e) ⊎ ItemsRefused way xs e
+ItemsRefused way (x ∷ xs) e =
+    (((d : Data) → ¬ (way.trees x d)) × way.refuses x e) ⊎ ItemsRefused way xs e
 
 abbrev pub list_way : {X : Type 0} → Way X → Way (List X)
 list_way way = record {
@@ -79,7 +82,8 @@ entry_rows way (e ∷ es) = required_row e.0 way e.1 ∷ entry_rows way es
 abbrev pub map_way : {X : Type 0} → Way X → Way (List (List ℕ × X))
 map_way way = record (table_way (entry_rows way)) { left_out = is_nil }
 
--- a value that is set, which is left out as it is alone; and the table that says that it is inherited
+-- a value that is set, which is left out as it is alone; and the table that says
+-- that it is inherited
 abbrev pub inherited_tree : Data
 inherited_tree = table (member (codes "workspace") (boolean true) no_members)
 

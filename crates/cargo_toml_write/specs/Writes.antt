@@ -1,5 +1,6 @@
 -- What a writer answers, and how a table is written key by key.
-use Rattle.std.specs.Prelude.{◌≡◌, ◌⊎◌, ℕ, List, [], ◌∷◌, Bool, true, false, IsTrue, Result, Ok, Err, IfOk, Option, Some, None}
+use Rattle.std.specs.Prelude.{◌≡◌, ◌⊎◌, ℕ, List, [], ◌∷◌, Bool, true, false}
+use Rattle.std.specs.Prelude.{IsTrue, Result, Ok, Err, IfOk, Option, Some, None}
 use Rattle.std.specs.Cmp.Lexicographic.{slice_cmp}
 use Rattle.std.specs.Ordering.{nat_cmp, match_ordering}
 use Rattle.toml.specs.Data.{Data, table, Members, no_members, member}
@@ -9,8 +10,8 @@ use Rattle.cargo_toml_parts.specs.declared.error.Error.{Error, Memory}
 use Rattle.cargo_toml_parts.specs.Floats.{has_no_float, without_floats}
 use Rattle.cargo_toml_write.specs.declared.write.writing.Writing.{Writing}
 
--- how what values hold is written: the trees of each, and the faults of one that has no tree; and which value is left out of a
--- table, since a missing key stands for it
+-- how what values hold is written: the trees of each, and the faults of one that has no tree; and
+-- which value is left out of a table, since a missing key stands for it
 pub record Way (X : Type 0) : Type 1 where
   pub trees : X → Data → Type 0
   pub refuses : X → Error → Type 0
@@ -27,7 +28,8 @@ IsFloatless {X = X} way = (x : X) (d : Data) → way.trees x d → IsTrue (has_n
 abbrev pub never : {X : Type 0} → X → Bool
 never x = false
 
--- the answer is a tree of what is held; where there is none, it is a fault that says why; or there was no memory
+-- the answer is a tree of what is held; where there is none, it is a fault that says why; or
+-- there was no memory
 abbrev pub IsWriting : {X : Type 0} → Way X → X → Result Value Error → Type 0
 IsWriting way x (Ok v) = way.trees x (view v)
 IsWriting way x (Err e) = (e ≡ Memory) ⊎ (((d : Data) → ¬ (way.trees x d)) × way.refuses x e)
@@ -40,7 +42,8 @@ IsReadAgain reads m answer = IfOk answer (λ v. without_floats reads (view v) �
 abbrev pub put : List ℕ → Data → Members → Members
 put k d no_members = member k d no_members
 put k d (member l e ms) =
-    match_ordering (slice_cmp nat_cmp k l) (member k d (member l e ms)) (member l d ms) (member l e (put k d ms))
+    match_ordering (slice_cmp nat_cmp k l) (member k d (member l e ms)) (member l d ms)
+    (member l e (put k d ms))
 
 -- the same, where there may be nothing to put
 abbrev pub put_some : List ℕ → Option Data → Members → Members
@@ -97,7 +100,8 @@ abbrev pub AreRefused : List Row → Error → Type 0
 AreRefused [] e = ⊥
 AreRefused (row ∷ rows) e = RowRefused row e ⊎ AreRefused rows e
 
--- from the fault and the members before some rows to those after them: a fault stands, and nothing else is said once there is one
+-- from the fault and the members before some rows to those after them: a fault stands, and nothing
+-- else is said once there is one
 unfoldable pub Goes : List Row → Option Error → Members → Option Error → Members → Type 0
 Goes rows (Some e) old after new = after ≡ Some e
 Goes rows None old None new = AreWritten rows old new

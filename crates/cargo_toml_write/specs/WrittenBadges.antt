@@ -33,7 +33,8 @@ badges_rows b =
     ∷ optional_row (codes "travis-ci") badge_way b.travis_ci
     ∷ optional_row (codes "codecov") badge_way b.codecov
     ∷ optional_row (codes "coveralls") badge_way b.coveralls
-    ∷ optional_row (codes "is-it-maintained-issue-resolution") badge_way b.is_it_maintained_issue_resolution
+    ∷ optional_row
+    (codes "is-it-maintained-issue-resolution") badge_way b.is_it_maintained_issue_resolution
     ∷ optional_row (codes "is-it-maintained-open-issues") badge_way b.is_it_maintained_open_issues
     ∷ required_row (codes "maintenance") maintenance_way b.maintenance
     ∷ []

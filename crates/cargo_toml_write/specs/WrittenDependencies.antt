@@ -1,12 +1,15 @@
 -- How dependencies are written.
 use Rattle.std.specs.Prelude.{ℕ, List, [], ◌∷◌, ◌++◌, codes, true, false}
 use Rattle.toml.specs.Data.{Data}
-use Rattle.cargo_toml_dependencies.specs.Dependencies.{InheritedMeaning, DetailMeaning, DependencyMeaning}
+use Rattle.cargo_toml_dependencies.specs.Dependencies.{InheritedMeaning, DetailMeaning}
+use Rattle.cargo_toml_dependencies.specs.Dependencies.{DependencyMeaning}
 use Rattle.cargo_toml_dependencies.specs.Dependencies as kind
 use Rattle.cargo_toml_dependencies.specs.Targets.{TargetMeaning}
 use Rattle.cargo_toml_parts.specs.declared.error.Error.{Error}
-use Rattle.cargo_toml_write.specs.Ways.{text_way, texts_way, requirement_way, free_way, map_way, entry_rows, flag_row}
-use Rattle.cargo_toml_write.specs.Writes.{Way, Row, required_row, optional_row, given_row, table_way, never}
+use Rattle.cargo_toml_write.specs.Ways.{text_way, texts_way, requirement_way}
+use Rattle.cargo_toml_write.specs.Ways.{free_way, map_way, entry_rows, flag_row}
+use Rattle.cargo_toml_write.specs.Writes.{Way, Row, required_row, optional_row}
+use Rattle.cargo_toml_write.specs.Writes.{given_row, table_way, never}
 
 abbrev pub inherited_rows : InheritedMeaning → List Row
 inherited_rows i =

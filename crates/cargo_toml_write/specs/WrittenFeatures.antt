@@ -1,5 +1,6 @@
 -- How features are written, each with its detail, and which are read again as they were.
-use Rattle.std.specs.Prelude.{◌≡◌, ℕ, List, [], ◌∷◌, codes, map, true, false, if◌then◌else◌, IsTrue, Option, Some, None, option_and_then}
+use Rattle.std.specs.Prelude.{◌≡◌, ℕ, List, [], ◌∷◌, codes, map, true, false}
+use Rattle.std.specs.Prelude.{if◌then◌else◌, IsTrue, Option, Some, None, option_and_then}
 use Rattle.std.specs.List.{All}
 use Rattle.std.specs.Map.{keys_of}
 use Rattle.std.specs.Str.{bytes_eq}

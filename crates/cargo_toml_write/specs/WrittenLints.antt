@@ -1,5 +1,6 @@
 -- How lints are written, and which lints are read again as they were.
-use Rattle.std.specs.Prelude.{◌≡◌, ℕ, List, [], ◌∷◌, Bool, false, pos, codes, ◌&&◌, MatchBool, IsTrue, All}
+use Rattle.std.specs.Prelude.{◌≡◌, ℕ, List, [], ◌∷◌, Bool, false, pos}
+use Rattle.std.specs.Prelude.{codes, ◌&&◌, MatchBool, IsTrue, All}
 use Rattle.std.specs.Ordering.{int_eq}
 use Rattle.toml.specs.Data.{Data, integer, string, table, Members, no_members, member}
 use Rattle.cargo_toml_parts.specs.Faults.{IsOther, floats_unsupported}
@@ -21,7 +22,8 @@ members_of (e ∷ es) = member e.0 e.1 (members_of es)
 
 abbrev pub lint_table : LintMeaning → Data
 lint_table l =
-    let levelled : Members = put (codes "level") (string (level_text l.level)) (members_of l.config) in
+    let levelled : Members =
+    put (codes "level") (string (level_text l.level)) (members_of l.config) in
     table (put (codes "priority") (integer l.priority) levelled)
 
 abbrev pub table_lint_way : Way LintMeaning

@@ -9,7 +9,8 @@ use Rattle.cargo_toml_parts.specs.declared.inheritable.Inheritable.TheVariants.{
 use Rattle.cargo_toml_parts.specs.Versions.{Parts}
 use Rattle.cargo_toml_write.specs.Ways.{text_way, texts_way, version_way, inheritable_way, flag_row}
 use Rattle.cargo_toml_write.specs.WrittenSettings.{edition_way, resolver_way, file_way, publish_way}
-use Rattle.cargo_toml_write.specs.Writes.{Way, Row, required_row, optional_row, given_row, table_way}
+use Rattle.cargo_toml_write.specs.Writes.{Way, Row, required_row}
+use Rattle.cargo_toml_write.specs.Writes.{optional_row, given_row, table_way}
 
 -- the rows of a package, whose metadata are written in the given way
 abbrev pub package_rows : {M : Type 0} → Way M → PackageMeaning M → List Row
@@ -53,6 +54,8 @@ VersionAgain (Set v) = version_parts (parts_text v) ≡ Ok v
 VersionAgain Inherited = Unit {0}
 
 -- every tree of the metadata, where it is there, is read again as what it means
-abbrev pub MetadataAgain : {X W M : Type 0} → Way W → (X → W) → (X → M) → (Data → Option M) → Option X → Type 0
+abbrev pub MetadataAgain : {X W M : Type 0} → Way W → (X → W) → (X → M) → (Data → Option M)
+    → Option X → Type 0
 MetadataAgain way held meaning reads None = Unit {0}
-MetadataAgain way held meaning reads (Some x) = (d : Data) → way.trees (held x) d → reads d ≡ Some (meaning x)
+MetadataAgain way held meaning reads (Some x) =
+    (d : Data) → way.trees (held x) d → reads d ≡ Some (meaning x)

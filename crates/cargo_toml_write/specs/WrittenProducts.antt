@@ -3,7 +3,8 @@ use Rattle.std.specs.Prelude.{List, [], ◌∷◌, codes, true, false}
 use Rattle.cargo_toml_tables.specs.Products.{ProductMeaning}
 use Rattle.cargo_toml_write.specs.Ways.{text_way, texts_way, flag_row}
 use Rattle.cargo_toml_write.specs.WrittenSettings.{edition_way}
-use Rattle.cargo_toml_write.specs.Writes.{Way, Row, required_row, optional_row, given_row, table_way}
+use Rattle.cargo_toml_write.specs.Writes.{Way, Row, required_row}
+use Rattle.cargo_toml_write.specs.Writes.{optional_row, given_row, table_way}
 
 abbrev pub product_rows : ProductMeaning → List Row
 product_rows p =

@@ -1,7 +1,8 @@
 -- How profiles are written.
 use Rattle.std.specs.Prelude.{List, [], ◌∷◌, ◌++◌, codes, Bool, ◌&&◌, is_none}
 use Rattle.cargo_toml_tables.specs.Profiles.{ProfileMeaning, ProfilesMeaning}
-use Rattle.cargo_toml_write.specs.Ways.{text_way, truth_way, number_way, free_way, map_way, entry_rows, is_nil}
+use Rattle.cargo_toml_write.specs.Ways.{text_way, truth_way, number_way}
+use Rattle.cargo_toml_write.specs.Ways.{free_way, map_way, entry_rows, is_nil}
 use Rattle.cargo_toml_write.specs.WrittenSettings.{debug_way, lto_way, strip_way}
 use Rattle.cargo_toml_write.specs.Writes.{Way, Row, optional_row, given_row, table_way}
 

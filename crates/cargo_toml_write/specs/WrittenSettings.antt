@@ -10,11 +10,13 @@ use Rattle.cargo_toml_settings.specs.declared.profile_settings.StripSetting.{Str
 use Rattle.cargo_toml_settings.specs.declared.profile_settings.StripSetting.TheVariants as strip
 use Rattle.cargo_toml_settings.specs.declared.settings.Edition.{Edition}
 use Rattle.cargo_toml_settings.specs.declared.settings.Resolver.{Resolver}
-use Rattle.cargo_toml_settings.specs.Settings.{edition_text, resolver_text, File, flag, path, Registries, everywhere, among}
+use Rattle.cargo_toml_settings.specs.Settings.{edition_text, resolver_text, File, flag}
+use Rattle.cargo_toml_settings.specs.Settings.{path, Registries, everywhere, among}
 use Rattle.cargo_toml_tables.specs.declared.badge.MaintenanceStatus.{MaintenanceStatus}
 use Rattle.cargo_toml_tables.specs.declared.badge.MaintenanceStatus.TheVariants as status
 use Rattle.cargo_toml_tables.specs.declared.lint.LintLevel.{LintLevel}
-use Rattle.cargo_toml_tables.specs.declared.lint.LintLevel.TheVariants.{Allow, Warn, ForceWarn, Deny, Forbid}
+use Rattle.cargo_toml_tables.specs.declared.lint.LintLevel.TheVariants.{Allow, Warn, ForceWarn}
+use Rattle.cargo_toml_tables.specs.declared.lint.LintLevel.TheVariants.{Deny, Forbid}
 use Rattle.cargo_toml_write.specs.Ways.{exactly, texts_way}
 use Rattle.cargo_toml_write.specs.Writes.{Way}
 

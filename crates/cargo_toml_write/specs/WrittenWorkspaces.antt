@@ -6,7 +6,8 @@ use Rattle.cargo_toml_write.specs.WrittenDependencies.{dependencies_way}
 use Rattle.cargo_toml_write.specs.WrittenLints.{lint_groups_way}
 use Rattle.cargo_toml_write.specs.WrittenSettings.{resolver_way}
 use Rattle.cargo_toml_write.specs.WrittenTemplates.{template_way}
-use Rattle.cargo_toml_write.specs.Writes.{Way, Row, required_row, optional_row, given_row, table_way}
+use Rattle.cargo_toml_write.specs.Writes.{Way, Row, required_row}
+use Rattle.cargo_toml_write.specs.Writes.{optional_row, given_row, table_way}
 
 -- the rows of a workspace, whose metadata are written in the given way
 abbrev pub workspace_rows : {M : Type 0} → Way M → WorkspaceMeaning M → List Row

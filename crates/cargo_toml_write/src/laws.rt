@@ -1,4 +1,5 @@
-//! Laws: what can be written. A value has a tree exactly where it holds no float in what it may hold freely.
+//! Laws: what can be written. A value has a tree exactly where it holds no float in what
+//! it may hold freely.
 ghost use Rattle.std.specs.Prelude.{◌≡◌, ◌↔◌, Option, Some};
 ghost use Rattle.toml.specs.Data.{Data, Members};
 ghost use Rattle.cargo_toml_dependencies.specs.Dependencies.{DetailMeaning, DependencyMeaning};
@@ -10,9 +11,14 @@ ghost use Rattle.cargo_toml_package.specs.Packages.{PackageMeaning};
 ghost use Rattle.cargo_toml_parts.specs.Floats.{without_floats};
 ghost use Rattle.cargo_toml_tables.specs.Lints.{LintMeaning};
 ghost use Rattle.cargo_toml_tables.specs.Profiles.{ProfileMeaning, ProfilesMeaning};
-ghost use Rattle.cargo_toml_write.specs.NoFloats.{HoldsNoFloat, DetailHoldsNoFloat, DependencyHoldsNoFloat, TargetHoldsNoFloat, ProfileHoldsNoFloat, ProfilesHoldsNoFloat, LintHoldsNoFloat, PackageHoldsNoFloat, WorkspaceHoldsNoFloat, ManifestHoldsNoFloat};
+ghost use Rattle.cargo_toml_write.specs.NoFloats.{HoldsNoFloat, DetailHoldsNoFloat};
+ghost use Rattle.cargo_toml_write.specs.NoFloats.{DependencyHoldsNoFloat, TargetHoldsNoFloat};
+ghost use Rattle.cargo_toml_write.specs.NoFloats.{ProfileHoldsNoFloat, ProfilesHoldsNoFloat};
+ghost use Rattle.cargo_toml_write.specs.NoFloats.{LintHoldsNoFloat, PackageHoldsNoFloat};
+ghost use Rattle.cargo_toml_write.specs.NoFloats.{WorkspaceHoldsNoFloat, ManifestHoldsNoFloat};
 ghost use Rattle.cargo_toml_write.specs.Ways.{free_way};
-ghost use Rattle.cargo_toml_write.specs.WrittenDependencies.{detail_way, dependency_way, target_way};
+ghost use Rattle.cargo_toml_write.specs.WrittenDependencies.{detail_way, dependency_way};
+ghost use Rattle.cargo_toml_write.specs.WrittenDependencies.{target_way};
 ghost use Rattle.cargo_toml_write.specs.WrittenFeatures.{AreTold};
 ghost use Rattle.cargo_toml_write.specs.WrittenLints.{lint_way};
 ghost use Rattle.cargo_toml_write.specs.WrittenManifests.{all_features, manifest_way};
@@ -58,12 +64,15 @@ pub fn manifests_of_any_metadata<Metadata: ToValue>()
         → HasTree (manifest_way Metadata.way) m ↔ ManifestHoldsNoFloat (HasTree Metadata.way) m }
 {}
 
-/// A manifest that was read, of a tree or of a document, has a tree: it holds no float, since what it was read of holds none.
+/// A manifest that was read, of a tree or of a document, has a tree: it holds no float, since what
+/// it was read of holds none.
 pub fn read_manifests_are_written()
     ensures no_float { (d : Data) (m : ManifestMeaning Data)
-        → without_floats (manifest_reads any_tree) d ≡ Some m → ManifestHoldsNoFloat HoldsNoFloat m }
+        → without_floats (manifest_reads any_tree) d ≡ Some m
+        → ManifestHoldsNoFloat HoldsNoFloat m }
     ensures of_tree { (d : Data) (m : ManifestMeaning Data)
-        → without_floats (manifest_reads any_tree) d ≡ Some m → ManifestHoldsNoFloat (HasTree free_way) m }
+        → without_floats (manifest_reads any_tree) d ≡ Some m
+        → ManifestHoldsNoFloat (HasTree free_way) m }
     ensures of_document { (document : Option Members) (m : ManifestMeaning Data)
         → document_reads (manifest_reads any_tree) document ≡ Some m
         → ManifestHoldsNoFloat (HasTree free_way) m }

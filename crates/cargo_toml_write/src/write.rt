@@ -23,10 +23,12 @@ use cargo_toml_parts::Error;
 use std::alloc::Global;
 use toml::{Table, Value};
 
-/// What can be written to a value of TOML. Each type of a manifest is; the type of a package's metadata is any such type.
+/// What can be written to a value of TOML. Each type of a manifest is; the type of a package's
+/// metadata is any such type.
 ///
-/// A type tells what its values mean, and the way in which that is written: which trees it is written to, and which faults a
-/// value that has none may be refused with. By the law `floatless` no tree holds a float, so that each can be read again.
+/// A type tells what its values mean, and the way in which that is written: which trees it is
+/// written to, and which faults a value that has none may be refused with. By the law `floatless`
+/// no tree holds a float, so that each can be read again.
 pub trait ToValue {
     ghost Meaning: { Type 0 };
 
@@ -34,10 +36,11 @@ pub trait ToValue {
 
     ghost way: { Way Meaning };
 
-    /// A tree of the value. A value that has none is refused with a fault of its own, and any value may be refused as
-    /// [`Error::Memory`] where there is not enough memory. Of the types of a manifest only those have no tree in which a free
-    /// value holds a float, which is refused as [`Error::Other`] with the text `floats are not supported`, or in which
-    /// metadata of a caller's own type has none, whose fault is handed on as it is.
+    /// A tree of the value. A value that has none is refused with a fault of its own, and any value
+    /// may be refused as [`Error::Memory`] where there is not enough memory. Of the types of a
+    /// manifest only those have no tree in which a free value holds a float, which is refused as
+    /// [`Error::Other`] with the text `floats are not supported`, or in which metadata of a
+    /// caller's own type has none, whose fault is handed on as it is.
     fn to_value(&self, alloc: Global) -> Result<Value, Error>
         ensures { IsWriting way (meaning self.now) result };
 
@@ -53,7 +56,8 @@ pub trait LeftOut: ToValue {
 
 /// Puts a value at a key.
 pub fn put(table: &mut Table, alloc: Global, key: &str, value: Value) -> Result<(), Error>
-    ensures ok { OnOk result (table_view table.new ≡ put key.now (view value) (table_view table.old)) }
+    ensures ok { OnOk result (table_view table.new
+        ≡ put key.now (view value) (table_view table.old)) }
     ensures memory { IfErr result (λ e. e ≡ Error.Memory) }
 {
     let name = String::from_str(alloc, key)?;

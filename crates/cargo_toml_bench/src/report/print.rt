@@ -4,7 +4,8 @@ ghost use Rattle.std.specs.Io.KnownBytes.{Appends, Keeps};
 ghost use Rattle.toml.specs.View.{view};
 ghost use Rattle.cargo_toml.specs.Action.{Text};
 ghost use Rattle.cargo_toml.specs.Manifests.{manifest_meaning};
-ghost use Rattle.cargo_toml_bench.specs.Printing.{Spells, IsManifest, IsReport, Refuses, RefusesToPrint, line, lines, report_text};
+ghost use Rattle.cargo_toml_bench.specs.Printing.{Spells, IsManifest, IsReport, Refuses};
+ghost use Rattle.cargo_toml_bench.specs.Printing.{RefusesToPrint, line, lines, report_text};
 ghost use Rattle.cargo_toml_bench.specs.Reports.{texts, texts_of};
 
 use crate::report::{Report, make_report};
@@ -12,15 +13,17 @@ use cargo_toml::{Error, Manifest};
 use std::alloc::{AllocError, Global};
 use std::io::Write;
 
-/// Writes a line `optional NAME` for each optional dependency of the manifest that the bytes spell, and then a line
-/// `unreferenced NAME` for each feature that nothing in it enables.
+/// Writes a line `optional NAME` for each optional dependency of the manifest that the bytes spell,
+/// and then a line `unreferenced NAME` for each feature that nothing in it enables.
 ///
-/// Refuses as [`Manifest::from_slice`] does, with `Memory` where there was no room, and with `Io` where `output` can't be
-/// written. All lines stand before the first is written, so that a fault of the manifest leaves `output` as it was.
+/// Refuses as [`Manifest::from_slice`] does, with `Memory` where there was no room, and with `Io`
+/// where `output` can't be written. All lines stand before the first is written, so that a fault of
+/// the manifest leaves `output` as it was.
 pub fn print_report<W: Write>(alloc: Global, bytes: &[u8], output: &mut W) -> Result<(), Error>
     ensures printed { OnOk result ((text : Text) × IsReport bytes.now text
         × Appends (W.contents output.old) (W.contents output.new) text) }
-    ensures unwritten { ¬ IsManifest bytes.now → Keeps (W.contents output.old) (W.contents output.new) }
+    ensures unwritten { ¬ IsManifest bytes.now
+        → Keeps (W.contents output.old) (W.contents output.new) }
     ensures refused { IfErr result (RefusesToPrint bytes.now) }
 {
     let text = report_of(alloc, bytes)?;
@@ -59,7 +62,8 @@ fn report_text(alloc: Global, report: &Report<'_>) -> Result<String, AllocError>
 
 // A line for each name.
 fn push_lines(text: &mut String, word: &str, names: &[&str]) -> Result<(), AllocError>
-    ensures { OnOk result (string_bytes text.new ≡ string_bytes text.old ++ lines word.now (texts_of names.now)) }
+    ensures { OnOk result (string_bytes text.new
+        ≡ string_bytes text.old ++ lines word.now (texts_of names.now)) }
 {
     for name in names {
         push_line(text, word, *name)?;
@@ -68,7 +72,8 @@ fn push_lines(text: &mut String, word: &str, names: &[&str]) -> Result<(), Alloc
 }
 
 fn push_line(text: &mut String, word: &str, name: &str) -> Result<(), AllocError>
-    ensures { OnOk result (string_bytes text.new ≡ string_bytes text.old ++ line word.now name.now) }
+    ensures { OnOk result (string_bytes text.new
+        ≡ string_bytes text.old ++ line word.now name.now) }
 {
     text.push_str(word)?;
     text.push_str(name)?;

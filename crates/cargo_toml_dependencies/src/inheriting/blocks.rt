@@ -1,5 +1,6 @@
-// What was made, in blocks of few each. One block for all would be so large that the C library tidied its lists of free
-// blocks before it handed that out, at the cost of all that was freed before.
+// What was made, in blocks of few each. One block for all would be so large that the C
+// library tidied its lists of free blocks before it handed that out, at the cost of all
+// that was freed before.
 ghost use Rattle.std.specs.Prelude.{◌≡◌, ◌++◌, ◌∷◌, [], IfSome, IfNone, IfOk, OnOk, map};
 ghost use Rattle.cargo_toml_dependencies.specs.Dependencies.{dependency_meaning};
 ghost use Rattle.cargo_toml_dependencies.specs.Replacing.{made_meaning, waiting_meaning};
@@ -35,7 +36,8 @@ pub fn add(
     dependency: Dependency,
 ) -> Result<(), AllocError>
     ensures { OnOk result (made_meaning blocks.new ++ map dependency_meaning block.new.items
-        ≡ (made_meaning blocks.old ++ map dependency_meaning block.old.items) ++ dependency_meaning dependency ∷ []) }
+        ≡ (made_meaning blocks.old ++ map dependency_meaning block.old.items)
+        ++ dependency_meaning dependency ∷ []) }
 {
     if block.len() == block.capacity() {
         start_block(alloc, blocks, block)?;
@@ -46,7 +48,8 @@ pub fn add(
 
 /// All blocks, with the last one, `block`, behind the others.
 pub fn all(blocks: Made, block: Vec<Dependency>) -> Result<Made, AllocError>
-    ensures { IfOk result (λ made. made_meaning made ≡ made_meaning blocks ++ map dependency_meaning block.items) }
+    ensures { IfOk result
+        (λ made. made_meaning made ≡ made_meaning blocks ++ map dependency_meaning block.items) }
 {
     let mut blocks = blocks;
     if !block.is_empty() {
@@ -77,8 +80,10 @@ pub fn all_waiting(made: Made) -> Waiting
 
 /// Takes the next one.
 pub fn next(waiting: &mut Waiting) -> Option<Dependency>
-    ensures some { IfSome result (λ d. waiting_meaning waiting.old ≡ dependency_meaning d ∷ waiting_meaning waiting.new) }
-    ensures none { IfNone result (waiting_meaning waiting.old ≡ [] × waiting_meaning waiting.new ≡ []) }
+    ensures some { IfSome result
+        (λ d. waiting_meaning waiting.old ≡ dependency_meaning d ∷ waiting_meaning waiting.new) }
+    ensures none { IfNone result (waiting_meaning waiting.old ≡ []
+        × waiting_meaning waiting.new ≡ []) }
 {
     if let Some(dependency) = waiting.block.next() {
         return Some(dependency);

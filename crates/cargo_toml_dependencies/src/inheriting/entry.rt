@@ -1,11 +1,15 @@
 // What one inherited dependency becomes.
-ghost use Rattle.std.specs.Prelude.{ℕ, ◌≡◌, ◌++◌, ◌||◌, IsTrue, List, [], IfOk, OnOk, Some, map, ok_or, option_map, string_bytes};
+ghost use Rattle.std.specs.Prelude.{ℕ, ◌≡◌, ◌++◌, ◌||◌, IsTrue, List, [], IfOk, OnOk};
+ghost use Rattle.std.specs.Prelude.{Some, map, ok_or, option_map, string_bytes};
 ghost use Rattle.std.specs.Option.{option_copied};
 ghost use Rattle.std.specs.Path.{path_join};
 ghost use Rattle.cargo_toml_parts.specs.FaultValues.{fault_of, inherited_unknown_value};
 ghost use Rattle.cargo_toml_parts.specs.Versions.{requirement_meaning};
-ghost use Rattle.cargo_toml_dependencies.specs.Dependencies.{dependency_meaning, detail_meaning, inherited_meaning};
-ghost use Rattle.cargo_toml_dependencies.specs.Inheriting.{IsShort, adds_nothing, from_template, missing_template, plain_detail, short_detail, with_entry};
+ghost use Rattle.cargo_toml_dependencies.specs.Dependencies.{dependency_meaning};
+ghost use Rattle.cargo_toml_dependencies.specs.Dependencies.{detail_meaning, inherited_meaning};
+ghost use Rattle.cargo_toml_dependencies.specs.Inheriting.{IsShort, adds_nothing, from_template};
+ghost use Rattle.cargo_toml_dependencies.specs.Inheriting.{missing_template, plain_detail};
+ghost use Rattle.cargo_toml_dependencies.specs.Inheriting.{short_detail, with_entry};
 
 use crate::dependency::{Dependency, DependencyDetail, InheritedDependencyDetail};
 use cargo_toml_parts::copying::Copying;
@@ -33,7 +37,8 @@ fn joined_path(
 
 // The texts of both lists.
 fn joined_texts(alloc: Global, front: &[String], back: &[String]) -> Result<Vec<String>, AllocError>
-    ensures { IfOk result (λ texts. map string_bytes texts.items ≡ map string_bytes front.now ++ map string_bytes back.now) }
+    ensures { IfOk result (λ texts. map string_bytes texts.items
+        ≡ map string_bytes front.now ++ map string_bytes back.now) }
 {
     let mut texts = Vec::with_capacity(alloc, front.len() + back.len())?;
     add_texts(&mut texts, front)?;
@@ -47,7 +52,8 @@ fn extended_texts(
     texts: &Vec<String>,
     more: &[String],
 ) -> Result<Vec<String>, AllocError>
-    ensures { IfOk result (λ all. map string_bytes all.items ≡ map string_bytes texts.now.items ++ map string_bytes more.now) }
+    ensures { IfOk result (λ all. map string_bytes all.items
+        ≡ map string_bytes texts.now.items ++ map string_bytes more.now) }
 {
     if more.is_empty() {
         return Ok(texts.clone()?);
@@ -57,7 +63,8 @@ fn extended_texts(
 
 // Puts copies of the texts behind those of the list.
 fn add_texts(texts: &mut Vec<String>, more: &[String]) -> Result<(), AllocError>
-    ensures { OnOk result (map string_bytes texts.new.items ≡ map string_bytes texts.old.items ++ map string_bytes more.now) }
+    ensures { OnOk result (map string_bytes texts.new.items
+        ≡ map string_bytes texts.old.items ++ map string_bytes more.now) }
 {
     for text in more {
         texts.push(text.clone()?)?;
@@ -125,7 +132,8 @@ fn boxed_with_entry(
     Ok(Box::new(alloc, with_entry(alloc, base, entry, template)?)?)
 }
 
-// Whether a detail of the workspace tells no more than a requirement, features and flags, as most do.
+// Whether a detail of the workspace tells no more than a requirement, features and
+// flags, as most do.
 fn is_short(template: &DependencyDetail) -> bool
     ensures { IsTrue result → IsShort (detail_meaning template.now) }
 {
@@ -150,7 +158,8 @@ fn short_detail(
     default_features: bool,
 ) -> Result<Box<DependencyDetail>, AllocError>
     ensures { IfOk result (λ d. detail_meaning d.value
-        ≡ short_detail (option_map requirement_meaning version) (map string_bytes features.items) optional default_features) }
+        ≡ short_detail (option_map requirement_meaning version)
+        (map string_bytes features.items) optional default_features) }
 {
     let mut detail = Box::new(alloc, DependencyDetail::default(alloc))?;
     detail.version = version;
@@ -221,7 +230,8 @@ fn requirement_with_entry(
     requirement: &VersionReq,
 ) -> Result<Box<DependencyDetail>, AllocError>
     ensures { IfOk result (λ d. detail_meaning d.value
-        ≡ with_entry [] (inherited_meaning entry.now) (plain_detail (requirement_meaning requirement.now))) }
+        ≡ with_entry [] (inherited_meaning entry.now)
+        (plain_detail (requirement_meaning requirement.now))) }
 {
     let version = requirement.duplicate(alloc)?;
     let features = entry.features.duplicate(alloc)?;
@@ -243,16 +253,16 @@ pub fn missing(alloc: Global, key: &str) -> Result<Error, AllocError>
     Ok(Error::WorkspaceIntegrity(text))
 }
 
-/// What the inherited dependency of a key becomes, by the workspace's dependency of that key; `None` where that is inherited
-/// itself.
+/// What the inherited dependency of a key becomes, by the workspace's dependency of that key;
+/// `None` where that is inherited itself.
 pub fn from_template(
     alloc: Global,
     base: &str,
     entry: &InheritedDependencyDetail,
     template: &Dependency,
 ) -> Result<Option<Dependency>, AllocError>
-    ensures { IfOk result (λ made. (key : List ℕ)
-        → from_template base.now key (inherited_meaning entry.now) (Some (dependency_meaning template.now))
+    ensures { IfOk result (λ made. (key : List ℕ) → from_template base.now key
+        (inherited_meaning entry.now) (Some (dependency_meaning template.now))
         ≡ ok_or (option_map dependency_meaning made) inherited_unknown_value) }
 {
     match template {

@@ -3,8 +3,11 @@ ghost use Rattle.std.specs.Prelude.{◌≡◌, drop, option_map};
 ghost use Rattle.std.specs.Option.{option_copied};
 ghost use Rattle.std.specs.Vec.Iter.{into_iter_items};
 ghost use Rattle.cargo_toml_parts.specs.Answers.{Gives};
-ghost use Rattle.cargo_toml_dependencies.specs.Inheriting.{any_target_left, inherited_target, inherited_targets, target_left};
-ghost use Rattle.cargo_toml_dependencies.specs.Replacing.{entries_meaning, next_target, replaced_target, replaced_targets, targets_meaning};
+ghost use Rattle.cargo_toml_dependencies.specs.Inheriting.{any_target_left, inherited_target};
+ghost use Rattle.cargo_toml_dependencies.specs.Inheriting.{inherited_targets, target_left};
+ghost use Rattle.cargo_toml_dependencies.specs.Replacing.{entries_meaning, next_target};
+ghost use Rattle.cargo_toml_dependencies.specs.Replacing.{replaced_target, replaced_targets};
+ghost use Rattle.cargo_toml_dependencies.specs.Replacing.{targets_meaning};
 ghost use Rattle.cargo_toml_dependencies.specs.Targets.{target_meaning};
 
 use super::{Made, any_inherited, replace, replacements};
@@ -32,7 +35,8 @@ fn new_target(
     target: &Target,
 ) -> Result<NewTarget, Error>
     ensures { Gives (replaced_target (target_meaning target.now)) result
-        (inherited_target (option_map entries_meaning (option_copied templates.entry)) base.now (target_meaning target.now)) }
+        (inherited_target (option_map entries_meaning (option_copied templates.entry)) base.now
+        (target_meaning target.now)) }
 {
     let dependencies = replacements(alloc, templates, base, &target.dependencies)?;
     let build_dependencies = replacements(alloc, templates, base, &target.build_dependencies)?;
@@ -44,11 +48,12 @@ fn new_target(
     })
 }
 
-/// What the inherited dependencies of each target become, in the order of the targets' names, as `replacements` makes them.
-/// Hand the answer to `replace_targets`.
+/// What the inherited dependencies of each target become, in the order of the targets' names, as
+/// `replacements` makes them. Hand the answer to `replace_targets`.
 ///
-/// The first fault of `replacements` counts: target after target, and in each its `dependencies`, then its
-/// `build-dependencies`, then its `dev-dependencies`. Refused by `Memory` where there was none.
+/// The first fault of `replacements` counts: target after target, and in each its
+/// `dependencies`, then its `build-dependencies`, then its `dev-dependencies`. Refused by
+/// `Memory` where there was none.
 pub fn target_replacements(
     alloc: Global,
     templates: Option<&DepsSet>,
@@ -56,7 +61,8 @@ pub fn target_replacements(
     targets: &TargetDepsSet,
 ) -> Result<Vec<NewTarget>, Error>
     ensures { Gives (λ made. replaced_targets (targets_meaning targets.now) made.items) result
-        (inherited_targets (option_map entries_meaning (option_copied templates.entry)) base.now (targets_meaning targets.now)) }
+        (inherited_targets (option_map entries_meaning (option_copied templates.entry)) base.now
+        (targets_meaning targets.now)) }
 {
     let mut made = Vec::with_capacity(alloc, targets.len())?;
     for (_, target) in targets {
@@ -76,7 +82,8 @@ fn replace_target(target: &mut Target, new: NewTarget)
 
 // Puts the next one into a target.
 fn put_next_target(target: &mut Target, made: &mut IntoIter<NewTarget>)
-    ensures target { target_meaning target.new ≡ next_target (target_meaning target.old) (into_iter_items made.old) }
+    ensures target { target_meaning target.new
+        ≡ next_target (target_meaning target.old) (into_iter_items made.old) }
     ensures rest { into_iter_items made.new ≡ drop 1 (into_iter_items made.old) }
 {
     if let Some(new) = made.next() {
@@ -84,10 +91,11 @@ fn put_next_target(target: &mut Target, made: &mut IntoIter<NewTarget>)
     }
 }
 
-/// Puts what was made into the targets, in the order of their names, as `replace` does; targets for which nothing was made are
-/// left as they are. It takes no memory.
+/// Puts what was made into the targets, in the order of their names, as `replace` does; targets for
+/// which nothing was made are left as they are. It takes no memory.
 pub fn replace_targets(targets: &mut TargetDepsSet, made: Vec<NewTarget>)
-    ensures { targets_meaning targets.new ≡ replaced_targets (targets_meaning targets.old) made.items }
+    ensures { targets_meaning targets.new
+        ≡ replaced_targets (targets_meaning targets.old) made.items }
 {
     let mut made = made.into_iter();
     targets.retain(|_, target| {

@@ -4,7 +4,8 @@ ghost use Rattle.cargo_toml_graph.specs.Action.{Action, IsJoin, Item, Text, join
 ghost use Rattle.cargo_toml_graph.specs.Admitted.{Listed, action_on, items, joined_action, names};
 ghost use Rattle.cargo_toml_graph.specs.Reach.{Among};
 
-/// The order and the grouping of actions make no difference, nor does an action that is there twice.
+/// The order and the grouping of actions make no difference, nor does an action
+/// that is there twice.
 pub fn actions_join_in_any_order()
     ensures associative { (a b c : Action) → join (join a b) c ≡ join a (join b c) }
     ensures commutative { (a b : Action) → join a b ≡ join b a }
@@ -24,6 +25,7 @@ pub fn missing_actions_add_nothing()
 pub fn lists_say_what_their_items_say()
     ensures names { (listed : Listed) (f x : Text) → IsTrue (names listed f x)
         ↔ Among (items listed f) (Item.Name x) }
-    ensures action { (listed : Listed) (f k : Text) →
-        IsJoin (λ a. (i : Item) × Among (items listed f) i × (action_on k i ≡ Some a)) (joined_action listed f k) }
+    ensures action { (listed : Listed) (f k : Text) → IsJoin
+        (λ a. (i : Item) × Among (items listed f) i × (action_on k i ≡ Some a))
+        (joined_action listed f k) }
 {}

@@ -16,20 +16,33 @@ pub fn some_texts_name_features()
     ensures two_marks { item_of (codes "x??") ≡ Item.Name (codes "x?") }
 {}
 
-/// Texts that act on dependencies: one `dep:` goes from the front, what follows the first `/` is a feature.
+/// Texts that act on dependencies: one `dep:` goes from the front, what follows the
+/// first `/` is a feature.
 pub fn some_texts_act_on_dependencies()
     // `dep:a?/b/c`
     ensures both { item_of (codes "dep:a?/b/c") ≡ Item.On (codes "a")
-        (record { is_conditional = true; is_dep_only = true; features = λ x. bytes_eq x (codes "b/c") }) }
+        (record {
+          is_conditional = true;
+          is_dep_only = true;
+          features = λ x. bytes_eq x (codes "b/c");
+        }) }
     // `dep:dep:x`
     ensures twice { item_of (codes "dep:dep:x") ≡ Item.On (codes "dep:x")
         (record { is_conditional = false; is_dep_only = true; features = λ x. false }) }
     // `/`
     ensures slash { item_of (codes "/") ≡ Item.On (codes "")
-        (record { is_conditional = false; is_dep_only = false; features = λ x. bytes_eq x (codes "") }) }
+        (record {
+          is_conditional = false;
+          is_dep_only = false;
+          features = λ x. bytes_eq x (codes "");
+        }) }
     // `a//`
     ensures two_slashes { item_of (codes "a//") ≡ Item.On (codes "a")
-        (record { is_conditional = false; is_dep_only = false; features = λ x. bytes_eq x (codes "/") }) }
+        (record {
+          is_conditional = false;
+          is_dep_only = false;
+          features = λ x. bytes_eq x (codes "/");
+        }) }
     // `dep:?`
     ensures no_key { item_of (codes "dep:?") ≡ Item.On (codes "")
         (record { is_conditional = true; is_dep_only = true; features = λ x. false }) }

@@ -14,8 +14,8 @@ use cargo_toml_tables::LintGroups;
 impl<Metadata> Manifest<Metadata> {
     /// The package.
     ///
-    /// There must be one, as there is not in a manifest of a workspace alone: ask `self.package.is_some()`, or match on the
-    /// field, where that isn't known.
+    /// There must be one, as there is not in a manifest of a workspace alone: ask
+    /// `self.package.is_some()`, or match on the field, where that isn't known.
     pub fn package(&self) -> &Package<Metadata>
         requires { IsSome self.now.package }
         ensures { self.now.package ≡ Some result.now }
@@ -28,7 +28,8 @@ impl<Metadata> Manifest<Metadata> {
 
     /// The lints, by tool and then by name.
     ///
-    /// They must be set: ask `self.lints.is_set()`, or call `self.lints.get()`, where that isn't known.
+    /// They must be set: ask `self.lints.is_set()`, or call `self.lints.get()`,
+    /// where that isn't known.
     pub fn lints(&self) -> &LintGroups
         requires { IsSome (value_of self.now.lints) }
         ensures { value_of self.now.lints ≡ Some result.now }
@@ -39,8 +40,9 @@ impl<Metadata> Manifest<Metadata> {
         }
     }
 
-    /// Whether something is left to the workspace: a field of the package, the lints, or a dependency of one of the three
-    /// tables or of a target's three. Where nothing is, every getter of the manifest's package and `lints` may be called.
+    /// Whether something is left to the workspace: a field of the package, the lints, or a
+    /// dependency of one of the three tables or of a target's three. Where nothing is, every getter
+    /// of the manifest's package and `lints` may be called.
     pub fn needs_workspace_inheritance(&self) -> bool
         ensures { result ≡ needs (manifest_meaning (λ m. m) self.now) }
     {

@@ -23,7 +23,8 @@ fn based_file(alloc: Global, base: &str, file: &OptionalFile) -> Result<Optional
     }
 }
 
-/// The making of one value after the other, and whether memory was refused. What is answered after that means nothing.
+/// The making of one value after the other, and whether memory was refused. What is answered after
+/// that means nothing.
 #[derive(Drop)]
 pub struct Filling {
     /// Where memory is taken from.
@@ -87,8 +88,10 @@ impl Filling {
         value: &Option<T>,
     ) -> Option<T>
         ensures { Fills self.old.refused self.new.refused
-            (put_if_there (option_map (inheritable_map T.meaning) field.now) (option_map T.meaning result)
-            ≡ filled_if_there (option_map (inheritable_map T.meaning) field.now) (option_map T.meaning value.now)) }
+            (put_if_there (option_map (inheritable_map T.meaning) field.now)
+            (option_map T.meaning result)
+            ≡ filled_if_there (option_map (inheritable_map T.meaning) field.now)
+            (option_map T.meaning value.now)) }
     {
         match field {
             Some(field) => self.optional(field, value),
@@ -105,7 +108,8 @@ impl Filling {
     ) -> Option<OptionalFile>
         ensures { Fills self.old.refused self.new.refused
             (put (inheritable_map file_meaning field.now) (option_map file_meaning result)
-            ≡ filled (inheritable_map file_meaning field.now) (Some (based base.now (file_meaning file.now)))) }
+            ≡ filled (inheritable_map file_meaning field.now)
+            (Some (based base.now (file_meaning file.now)))) }
     {
         match field {
             Inheritable::Set(_) => None,
@@ -113,7 +117,8 @@ impl Filling {
         }
     }
 
-    /// The workspace's path, where it has one, joined to `base`, for a field that is there and inherited.
+    /// The workspace's path, where it has one, joined to `base`, for a field that is
+    /// there and inherited.
     pub fn path_if_there(
         &mut self,
         field: &Option<Inheritable<String>>,
@@ -121,7 +126,8 @@ impl Filling {
         path: &Option<String>,
     ) -> Option<String>
         ensures { Fills self.old.refused self.new.refused
-            (put_if_there (option_map (inheritable_map string_bytes) field.now) (option_map string_bytes result)
+            (put_if_there (option_map (inheritable_map string_bytes) field.now)
+            (option_map string_bytes result)
             ≡ filled_if_there (option_map (inheritable_map string_bytes) field.now)
             (option_map (path_join base.now) (option_map string_bytes path.now))) }
     {

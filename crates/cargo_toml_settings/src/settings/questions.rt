@@ -90,7 +90,8 @@ impl OptionalFile {
 impl Publish {
     ghost use Rattle.cargo_toml_settings.specs.SettingAnswers.{is_publishable};
 
-    /// Whether the setting says `other`: a list of registries counts as true exactly if it isn't empty.
+    /// Whether the setting says `other`: a list of registries counts as true exactly
+    /// if it isn't empty.
     pub fn eq_bool(&self, other: bool) -> bool
         ensures { IsTrue result ↔ (is_publishable (publish_meaning self.now) ≡ other) }
     {

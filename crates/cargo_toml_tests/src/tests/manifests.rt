@@ -1,4 +1,5 @@
-//! The calls that read a manifest, metadata of a caller's own, and what types are where nothing is given.
+//! The calls that read a manifest, metadata of a caller's own, and what types are
+//! where nothing is given.
 use super::{boxed, manifest};
 use cargo_toml::{
     Badges, DependencyDetail, Error, FeatureDetail, FromValue, Inheritable,
@@ -40,8 +41,9 @@ pub(super) fn with_metadata<M: FromValue>(
     Ok(boxed(alloc, Manifest::from_slice_with_metadata(alloc, bytes)?)?)
 }
 
-const SMALL: &str =
-    "[package]\nname = \"dunce\"\nversion = \"0.1.0\"\n[dependencies]\nlog = { version = \"0.4\", optional = true }\n[features]\ndefault = [\"fast\"]\nfast = [\"log/std\"]\n";
+const SMALL: &str = "[package]\nname = \"dunce\"\nversion = \"0.1.0\"\n\
+    [dependencies]\nlog = { version = \"0.4\", optional = true }\n\
+    [features]\ndefault = [\"fast\"]\nfast = [\"log/std\"]\n";
 
 #[test]
 fn small_manifest_other_calls(rt: HostRuntime) -> Result<(), Fail> {

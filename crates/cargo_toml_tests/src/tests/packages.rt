@@ -8,8 +8,15 @@ use std::alloc::{AllocError, Global};
 use std::process::Abort;
 use std::test::Fail;
 
-const ASKED: &str =
-    "[package]\nname = \"anvil\"\nversion = \"1.2.3\"\nedition = \"2024\"\nrust-version = \"1.85\"\nauthors = [\"Ann\", \"Ben\"]\nlinks = \"z\"\ndescription = \"Reads manifests\"\nhomepage = \"https://home\"\ndocumentation = \"https://docs\"\nreadme = \"READ.md\"\nkeywords = [\"cargo\"]\ncategories = [\"parsing\", \"encoding\"]\nexclude = [\"out\"]\ninclude = [\"src\", \"LICENSE\"]\nlicense = \"MIT\"\nlicense-file = \"COPYING\"\nrepository = \"https://code\"\npublish = false\n\n[lints.rust]\nunused = \"warn\"\n";
+const ASKED: &str = "[package]\nname = \"anvil\"\nversion = \"1.2.3\"\nedition = \"2024\"\n\
+    rust-version = \"1.85\"\nauthors = [\"Ann\", \"Ben\"]\nlinks = \"z\"\n\
+    description = \"Reads manifests\"\nhomepage = \"https://home\"\n\
+    documentation = \"https://docs\"\nreadme = \"READ.md\"\n\
+    keywords = [\"cargo\"]\ncategories = [\"parsing\", \"encoding\"]\n\
+    exclude = [\"out\"]\ninclude = [\"src\", \"LICENSE\"]\nlicense = \"MIT\"\n\
+    license-file = \"COPYING\"\nrepository = \"https://code\"\n\
+    publish = false\n\n\
+    [lints.rust]\nunused = \"warn\"\n";
 
 // Whether a field, where it is there, is set.
 fn is_known(field: &Option<Inheritable<String>>) -> bool

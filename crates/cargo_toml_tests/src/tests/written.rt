@@ -40,8 +40,8 @@ fn default_manifest_written(rt: HostRuntime) -> Result<(), Fail> {
     Ok(())
 }
 
-// What is said of a feature is written where the feature is there, and as a table even where it says
-// nothing.
+// What is said of a feature is written where the feature is there, and as a table even
+// where it says nothing.
 #[test]
 fn details_written(rt: HostRuntime) -> Result<(), Fail> {
     let alloc = rt.alloc();

@@ -2,9 +2,12 @@
 ghost use Rattle.std.specs.Prelude.{◌≡◌, IfErr};
 ghost use Rattle.cargo_toml_parts.specs.declared.error.Error.{Error};
 ghost use Rattle.cargo_toml_tables.specs.declared.badge.MaintenanceStatus.{MaintenanceStatus};
-ghost use Rattle.cargo_toml_tables.specs.Badges.{BadgeMeaning, BadgesMeaning, badge_meaning, badges_meaning, badge_reads, maintenance_reads};
-ghost use Rattle.cargo_toml_write.specs.FloatlessTypes.{badge_floatless, badges_floatless, maintenance_floatless};
-ghost use Rattle.cargo_toml_write.specs.WrittenBadges.{badge_way, maintenance_way, badges_way, has_no_service, is_unstated};
+ghost use Rattle.cargo_toml_tables.specs.Badges.{BadgeMeaning, BadgesMeaning, badge_meaning};
+ghost use Rattle.cargo_toml_tables.specs.Badges.{badges_meaning, badge_reads, maintenance_reads};
+ghost use Rattle.cargo_toml_write.specs.FloatlessTypes.{badge_floatless, badges_floatless};
+ghost use Rattle.cargo_toml_write.specs.FloatlessTypes.{maintenance_floatless};
+ghost use Rattle.cargo_toml_write.specs.WrittenBadges.{badge_way, maintenance_way, badges_way};
+ghost use Rattle.cargo_toml_write.specs.WrittenBadges.{has_no_service, is_unstated};
 ghost use Rattle.cargo_toml_write.specs.Writes.{IsWriting, IsReadAgain};
 
 use crate::write::writing::Writing;

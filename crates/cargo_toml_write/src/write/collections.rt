@@ -5,9 +5,11 @@ ghost use Rattle.toml.specs.View.{table_view};
 ghost use Rattle.cargo_toml_parts.specs.declared.inheritable.Inheritable.{Inheritable};
 ghost use Rattle.cargo_toml_parts.specs.Inherits.{inheritable_map};
 ghost use Rattle.cargo_toml_parts.specs.Reads.{map_meaning};
-ghost use Rattle.cargo_toml_write.specs.FloatlessLaws.{inheritable_floatless, list_floatless, map_floatless};
+ghost use Rattle.cargo_toml_write.specs.FloatlessLaws.{inheritable_floatless};
+ghost use Rattle.cargo_toml_write.specs.FloatlessLaws.{list_floatless, map_floatless};
 ghost use Rattle.cargo_toml_write.specs.Pairs.{AreGathered, put_all};
-ghost use Rattle.cargo_toml_write.specs.Ways.{entry_rows, list_way, map_way, inheritable_way, exactly, inherited_tree};
+ghost use Rattle.cargo_toml_write.specs.Ways.{entry_rows, list_way, map_way};
+ghost use Rattle.cargo_toml_write.specs.Ways.{inheritable_way, exactly, inherited_tree};
 ghost use Rattle.cargo_toml_write.specs.Writes.{IsWriting};
 
 use crate::write::{LeftOut, ToValue, put};
@@ -56,7 +58,8 @@ fn pairs_of<T: ToValue>(
     Ok(pairs)
 }
 
-// The table of some pairs. It is made in one go: to insert them one by one looks each key up from the root.
+// The table of some pairs. It is made in one go: to insert them one by one looks each
+// key up from the root.
 pub(crate) fn table_of(alloc: Global, pairs: Vec<(String, Value)>) -> Result<Table, AllocError>
     ensures { IfOk result (λ t. table_view t ≡ put_all pairs.items no_members) }
 {

@@ -1,11 +1,16 @@
 //! Writers of dependencies.
 ghost use Rattle.std.specs.Prelude.{◌≡◌, IfErr};
-ghost use Rattle.cargo_toml_dependencies.specs.Dependencies.{InheritedMeaning, DetailMeaning, DependencyMeaning, inherited_meaning, detail_meaning, dependency_meaning};
+ghost use Rattle.cargo_toml_dependencies.specs.Dependencies.{InheritedMeaning, DetailMeaning};
+ghost use Rattle.cargo_toml_dependencies.specs.Dependencies.{DependencyMeaning, inherited_meaning};
+ghost use Rattle.cargo_toml_dependencies.specs.Dependencies.{detail_meaning, dependency_meaning};
 ghost use Rattle.cargo_toml_dependencies.specs.Targets.{TargetMeaning, target_meaning};
 ghost use Rattle.cargo_toml_parts.specs.declared.error.Error.{Error};
-ghost use Rattle.cargo_toml_write.specs.FloatlessTypes.{dependency_floatless, detail_floatless, inherited_floatless, target_floatless};
-ghost use Rattle.cargo_toml_write.specs.NoFloats.{DetailHoldsNoFloat, DependencyHoldsNoFloat, TargetHoldsNoFloat};
-ghost use Rattle.cargo_toml_write.specs.WrittenDependencies.{inherited_way, detail_way, dependency_way, target_way};
+ghost use Rattle.cargo_toml_write.specs.FloatlessTypes.{dependency_floatless, detail_floatless};
+ghost use Rattle.cargo_toml_write.specs.FloatlessTypes.{inherited_floatless, target_floatless};
+ghost use Rattle.cargo_toml_write.specs.NoFloats.{DetailHoldsNoFloat, DependencyHoldsNoFloat};
+ghost use Rattle.cargo_toml_write.specs.NoFloats.{TargetHoldsNoFloat};
+ghost use Rattle.cargo_toml_write.specs.WrittenDependencies.{inherited_way, detail_way};
+ghost use Rattle.cargo_toml_write.specs.WrittenDependencies.{dependency_way, target_way};
 ghost use Rattle.cargo_toml_write.specs.Writes.{IsWriting};
 
 use crate::write::ToValue;
@@ -36,7 +41,8 @@ impl ToValue for InheritedDependencyDetail {
     }
 }
 
-/// The keys that were collected are written first, so that one that a detail knows is put over a collected one.
+/// The keys that were collected are written first, so that one that a detail knows is put
+/// over a collected one.
 impl ToValue for DependencyDetail {
     ghost Meaning = { DetailMeaning };
 

@@ -8,7 +8,8 @@ ghost use Rattle.cargo_toml_write.specs.FloatlessTypes.{features_floatless};
 ghost use Rattle.cargo_toml_write.specs.Pairs.{AreGathered};
 ghost use Rattle.cargo_toml_write.specs.Ways.{entry_rows};
 ghost use Rattle.cargo_toml_write.specs.Writes.{IsWriting};
-ghost use Rattle.cargo_toml_write.specs.WrittenFeatures.{feature_way, features_way, told_features, told_way};
+ghost use Rattle.cargo_toml_write.specs.WrittenFeatures.{feature_way, features_way};
+ghost use Rattle.cargo_toml_write.specs.WrittenFeatures.{told_features, told_way};
 
 use crate::write::collections::table_of;
 use crate::write::writing::Writing;

@@ -10,7 +10,8 @@ ghost use Rattle.cargo_toml_tables.specs.Lints.{LintMeaning, lint_meaning, lint_
 ghost use Rattle.cargo_toml_write.specs.FloatlessTypes.{lint_floatless};
 ghost use Rattle.cargo_toml_write.specs.NoFloats.{LintHoldsNoFloat};
 ghost use Rattle.cargo_toml_write.specs.Writes.{IsWriting, IsReadAgain};
-ghost use Rattle.cargo_toml_write.specs.WrittenLints.{is_level_alone, members_of, table_lint_way, lint_way, IsApart};
+ghost use Rattle.cargo_toml_write.specs.WrittenLints.{is_level_alone, members_of};
+ghost use Rattle.cargo_toml_write.specs.WrittenLints.{table_lint_way, lint_way, IsApart};
 
 use crate::write::{ToValue, put};
 use cargo_toml_parts::Error;
@@ -57,7 +58,8 @@ fn lint_table(lint: &Lint, alloc: Global) -> Result<Value, Error>
     Ok(Value::Table(table))
 }
 
-/// A lint is written as its level where its priority is 0 and nothing else is said of it, and as a table else.
+/// A lint is written as its level where its priority is 0 and nothing else is said of it,
+/// and as a table else.
 impl ToValue for Lint {
     ghost Meaning = { LintMeaning };
 

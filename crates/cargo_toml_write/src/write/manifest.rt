@@ -16,7 +16,8 @@ use cargo_toml_parts::{Error, FromValue};
 use std::alloc::Global;
 use toml::Value;
 
-/// What is as where its key is missing is left out: the default manifest is written as the empty table.
+/// What is as where its key is missing is left out: the default manifest is written
+/// as the empty table.
 impl<Metadata: FromValue + ToValue> ToValue for Manifest<Metadata> {
     ghost Meaning = { ManifestMeaning Metadata.ToValue.Meaning };
 

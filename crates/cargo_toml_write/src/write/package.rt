@@ -19,8 +19,9 @@ use cargo_toml_parts::{Error, FromValue};
 use std::alloc::Global;
 use toml::Value;
 
-/// A package that has a tree is read again from it as it was, where its version is one that `semver` reads again from its own
-/// text, and every tree of its metadata is read again as that metadata.
+/// A package that has a tree is read again from it as it was, where its version is one
+/// that `semver` reads again from its own text, and every tree of its metadata is read
+/// again as that metadata.
 impl<Metadata: FromValue + ToValue> ToValue for Package<Metadata> {
     ghost Meaning = { PackageMeaning Metadata.ToValue.Meaning };
 

@@ -5,8 +5,11 @@ ghost use Rattle.semver.specs.Parse.{Held};
 ghost use Rattle.toml.specs.Data.{Data};
 ghost use Rattle.toml.specs.View.{view};
 ghost use Rattle.cargo_toml_parts.specs.Versions.{Parts, requirement_meaning};
-ghost use Rattle.cargo_toml_write.specs.FloatlessLaws.{free_floatless, number_floatless, requirement_floatless, text_floatless, truth_floatless, version_floatless};
-ghost use Rattle.cargo_toml_write.specs.Ways.{text_way, truth_way, number_way, version_way, requirement_way, free_way};
+ghost use Rattle.cargo_toml_write.specs.FloatlessLaws.{free_floatless, number_floatless};
+ghost use Rattle.cargo_toml_write.specs.FloatlessLaws.{requirement_floatless, text_floatless};
+ghost use Rattle.cargo_toml_write.specs.FloatlessLaws.{truth_floatless, version_floatless};
+ghost use Rattle.cargo_toml_write.specs.Ways.{text_way, truth_way, number_way};
+ghost use Rattle.cargo_toml_write.specs.Ways.{version_way, requirement_way, free_way};
 
 use crate::write::ToValue;
 use cargo_toml_parts::floats::has_no_float;

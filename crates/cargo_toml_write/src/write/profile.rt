@@ -1,7 +1,8 @@
 //! Writers of profiles.
 ghost use Rattle.std.specs.Prelude.{◌≡◌, IfErr};
 ghost use Rattle.cargo_toml_parts.specs.declared.error.Error.{Error};
-ghost use Rattle.cargo_toml_tables.specs.Profiles.{ProfileMeaning, ProfilesMeaning, profile_meaning, profiles_meaning};
+ghost use Rattle.cargo_toml_tables.specs.Profiles.{ProfileMeaning, ProfilesMeaning};
+ghost use Rattle.cargo_toml_tables.specs.Profiles.{profile_meaning, profiles_meaning};
 ghost use Rattle.cargo_toml_write.specs.FloatlessTypes.{profile_floatless, profiles_floatless};
 ghost use Rattle.cargo_toml_write.specs.NoFloats.{ProfileHoldsNoFloat, ProfilesHoldsNoFloat};
 ghost use Rattle.cargo_toml_write.specs.Writes.{IsWriting};
@@ -47,7 +48,8 @@ impl ToValue for Profile {
     }
 }
 
-/// The profiles of other names are written first, so that one that Cargo knows is put over one of its name.
+/// The profiles of other names are written first, so that one that Cargo knows is put
+/// over one of its name.
 impl ToValue for Profiles {
     ghost Meaning = { ProfilesMeaning };
 

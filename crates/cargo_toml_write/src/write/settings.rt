@@ -7,14 +7,22 @@ ghost use Rattle.cargo_toml_settings.specs.declared.profile_settings.StripSettin
 ghost use Rattle.cargo_toml_settings.specs.declared.settings.Edition.{Edition};
 ghost use Rattle.cargo_toml_settings.specs.declared.settings.Resolver.{Resolver};
 ghost use Rattle.cargo_toml_settings.specs.ProfileSettings.{debug_of, strip_of, lto_of};
-ghost use Rattle.cargo_toml_settings.specs.Settings.{File, Registries, edition_reads, resolver_reads, file_of, file_meaning, publish_of, publish_meaning};
+ghost use Rattle.cargo_toml_settings.specs.Settings.{File, Registries, edition_reads};
+ghost use Rattle.cargo_toml_settings.specs.Settings.{resolver_reads, file_of, file_meaning};
+ghost use Rattle.cargo_toml_settings.specs.Settings.{publish_of, publish_meaning};
 ghost use Rattle.cargo_toml_tables.specs.declared.badge.MaintenanceStatus.{MaintenanceStatus};
 ghost use Rattle.cargo_toml_tables.specs.declared.lint.LintLevel.{LintLevel};
 ghost use Rattle.cargo_toml_tables.specs.Badges.{status_of};
 ghost use Rattle.cargo_toml_tables.specs.Lints.{level_of};
-ghost use Rattle.cargo_toml_write.specs.FloatlessTypes.{debug_floatless, edition_floatless, file_floatless, level_floatless, lto_floatless, publish_floatless, resolver_floatless, status_floatless, strip_floatless};
+ghost use Rattle.cargo_toml_write.specs.FloatlessTypes.{debug_floatless, edition_floatless};
+ghost use Rattle.cargo_toml_write.specs.FloatlessTypes.{file_floatless, level_floatless};
+ghost use Rattle.cargo_toml_write.specs.FloatlessTypes.{lto_floatless, publish_floatless};
+ghost use Rattle.cargo_toml_write.specs.FloatlessTypes.{resolver_floatless};
+ghost use Rattle.cargo_toml_write.specs.FloatlessTypes.{status_floatless, strip_floatless};
 ghost use Rattle.cargo_toml_write.specs.Writes.{IsWriting, IsReadAgain};
-ghost use Rattle.cargo_toml_write.specs.WrittenSettings.{edition_way, resolver_way, level_way, status_way, file_way, publish_way, debug_way, strip_way, lto_way};
+ghost use Rattle.cargo_toml_write.specs.WrittenSettings.{edition_way, resolver_way, level_way};
+ghost use Rattle.cargo_toml_write.specs.WrittenSettings.{status_way, file_way, publish_way};
+ghost use Rattle.cargo_toml_write.specs.WrittenSettings.{debug_way, strip_way, lto_way};
 
 use crate::write::{LeftOut, ToValue};
 use cargo_toml_parts::Error;

@@ -1,13 +1,14 @@
 //! Writing the keys of a table one after the other, up to the first fault.
 //!
-//! A type that is a table is written in a straight line: each key by a call, and then [`Writing::finish`], which is the only
-//! place where a fault comes out.
+//! A type that is a table is written in a straight line: each key by a call, and then
+//! [`Writing::finish`], which is the only place where a fault comes out.
 ghost use Rattle.std.specs.Prelude.{◌≡◌, [], ◌∷◌, None, Some, option_map};
 ghost use Rattle.toml.specs.Data.{no_members};
 ghost use Rattle.toml.specs.View.{table_view};
 ghost use Rattle.cargo_toml_parts.specs.Reads.{map_meaning};
 ghost use Rattle.cargo_toml_write.specs.Ways.{entry_rows, flag_row};
-ghost use Rattle.cargo_toml_write.specs.Writes.{Writes, Ends, optional_row, required_row, given_row};
+ghost use Rattle.cargo_toml_write.specs.Writes.{Writes, Ends, optional_row};
+ghost use Rattle.cargo_toml_write.specs.Writes.{required_row, given_row};
 
 use crate::write::{LeftOut, ToValue, put};
 use cargo_toml_parts::Error;
@@ -15,7 +16,8 @@ use std::alloc::Global;
 use std::collections::BTreeMap;
 use toml::{Table, Value};
 
-/// The writing of one table, key by key, and the first fault that was met. Once there is a fault nothing more is written.
+/// The writing of one table, key by key, and the first fault that was met. Once there is a fault
+/// nothing more is written.
 #[derive(Drop)]
 pub struct Writing {
     /// Where memory is taken from.
@@ -59,7 +61,8 @@ impl Writing {
 
     /// Writes a value at a key, where it is there.
     pub fn optional<T: ToValue>(&mut self, key: &str, x: &Option<T>)
-        ensures { Writes (optional_row key.now T.way (option_map T.meaning x.now) ∷ []) self.old self.new }
+        ensures { Writes (optional_row key.now T.way (option_map T.meaning x.now) ∷ [])
+            self.old self.new }
     {
         if let Some(x) = x {
             self.required(key, x);

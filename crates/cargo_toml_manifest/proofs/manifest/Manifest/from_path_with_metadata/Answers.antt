@@ -2,7 +2,7 @@ use Rattle.std.specs.Prelude.{◌≡◌, false, IfSome}
 use Rattle.std.specs.Path.{path_parent}
 use Rattle.cargo_toml_package.specs.Filled.{IsFilled}
 use Rattle.cargo_toml_manifest.specs.Inheriting.{needs}
-use Rattle.cargo_toml_manifest.specs.Manifests.{manifest_meaning, manifest_reads, manifest_refuses}
+use Rattle.cargo_toml_manifest.specs.Manifests.{manifest_meaning, manifest_reads, ManifestRefuses}
 use Rattle.cargo_toml_manifest.specs.RealFiles.{IsReadFromText}
 use Rattle.cargo_toml_manifest.specs.declared.manifest.Manifest.{Manifest}
 use Rattle.cargo_toml_manifest.proofs.PathFaults.{given, if_completed, refused}
@@ -40,7 +40,7 @@ returns-clause-refused g c =
     let from : IsReadFromText (manifest_meaning meaning) (manifest_reads tree) c.in_ok-manifest.manifest
     = (c.as_str.result.now, c.as_str.utf8, c.in_ok-manifest.ensures) in
     rw c.and.ensures (
-    refused c.args.path.now (manifest_meaning meaning) (manifest_reads tree) (manifest_refuses tree g.Metadata.FromValue.from_refuses)
+    refused c.args.path.now (manifest_meaning meaning) (manifest_reads tree) (ManifestRefuses tree g.Metadata.FromValue.from_refuses)
     (λ _. manifest_meaning (λ m. m) c.complete_from_path.new.self) c.in_ok-manifest.manifest
     c.complete_from_path.new.self (path_parent c.args.path.now) c.complete_from_path.result from
     c.complete_from_path.ensures.outcome c.complete_from_path.ensures.bad_path c.complete_from_path.ensures.refused

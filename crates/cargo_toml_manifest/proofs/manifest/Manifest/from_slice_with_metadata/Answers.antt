@@ -1,8 +1,8 @@
-use Rattle.cargo_toml_manifest.specs.Manifests.{manifest_meaning, manifest_reads, manifest_refuses}
+use Rattle.cargo_toml_manifest.specs.Manifests.{manifest_meaning, manifest_reads, ManifestRefuses}
 use Rattle.cargo_toml_manifest.proofs.Trees.{of_bytes}
 use Rattle.cargo_toml_manifest.proofs.manifest.Manifest.from_slice_with_metadata.Goals as goal
 
 pub returns : goal.returns
 returns g c =
-    of_bytes (manifest_meaning g.Metadata.FromValue.meaning) (manifest_reads g.Metadata.FromValue.from_tree) (manifest_refuses g.Metadata.FromValue.from_tree g.Metadata.FromValue.from_refuses)
+    of_bytes (manifest_meaning g.Metadata.FromValue.meaning) (manifest_reads g.Metadata.FromValue.from_tree) (ManifestRefuses g.Metadata.FromValue.from_tree g.Metadata.FromValue.from_refuses)
     c.args.bytes.now c.in_ok-tree.tree c.read_table.result c.in_ok-tree.ensures c.read_table.ensures

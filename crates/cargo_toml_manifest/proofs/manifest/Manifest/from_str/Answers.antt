@@ -1,11 +1,11 @@
 use Rattle.toml.specs.Parse.{parse_document}
 use Rattle.toml.specs.View.{view}
-use Rattle.cargo_toml_manifest.specs.Manifests.{manifest_meaning, manifest_reads, manifest_refuses}
-use Rattle.cargo_toml_manifest.specs.Texts.{any_refuses, any_tree}
+use Rattle.cargo_toml_manifest.specs.Manifests.{manifest_meaning, manifest_reads, ManifestRefuses}
+use Rattle.cargo_toml_manifest.specs.Texts.{AnyRefuses, any_tree}
 use Rattle.cargo_toml_manifest.proofs.Trees.{of_text}
 use Rattle.cargo_toml_manifest.proofs.manifest.Manifest.from_str.Goals as goal
 
 pub returns : goal.returns
 returns c =
-    of_text (manifest_meaning view) (manifest_reads any_tree) (manifest_refuses any_tree any_refuses)
+    of_text (manifest_meaning view) (manifest_reads any_tree) (ManifestRefuses any_tree AnyRefuses)
     (parse_document c.args.text.now) c.in_ok-tree_of.field-0 c.read_table.result c.in_ok-tree_of.ensures c.read_table.ensures

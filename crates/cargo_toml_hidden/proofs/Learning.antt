@@ -23,7 +23,7 @@ use Rattle.cargo_toml_hidden.specs.KeptFeatures.{IsNamedAlike, own_bins}
 use Rattle.cargo_toml_hidden.specs.Left.{AreLeft}
 use Rattle.cargo_toml_hidden.specs.TakingOver.{ChangesIn}
 use Rattle.cargo_toml_hidden.specs.Texts.{texts_of}
-use Rattle.cargo_toml_hidden.proofs.InPlace.{found_stands, has_place, name_in, one_place, stands_found, stands_in}
+use Rattle.cargo_toml_hidden.proofs.InPlace.{found_stands, name_in, one_place, stands_found, stands_in}
 use Rattle.cargo_toml_hidden.proofs.TakingOver.{then_set, unchanged}
 
 itself : (v : Feature) → IsSameButEnablers v v

@@ -239,8 +239,27 @@ fn push_action(
     push_target(row, key, keys, own, near)
 }
 
-/// Those that the actions enable, other than the one in place `own`. An implied feature acts on the
-/// dependency of its own name, so the first is looked for there.
+// The same where there is an action. An implied feature acts on the dependency of its own name, so
+// the first is looked for there.
+fn push_each_action(
+    row: &mut Vec<usize>,
+    actions: &BTreeMap<&str, DepAction<'_>>,
+    keys: &[&str],
+    own: usize,
+) -> Result<(), AllocError>
+    requires { IsAscending (λ a b. IsTrue (is_below a b)) (texts_of keys.now) }
+    ensures { OnOk result ((x : ℕ) → Among row.new.items x ↔ (Among row.old.items x
+        ⊎ ((x < length keys.now) × (x ≢ own)
+        × IsPlain (action_at actions.now (text_at (texts_of keys.now) x))))) }
+{
+    let mut near = own;
+    for (key, action) in actions.iter() {
+        near = push_action(row, *key, action, keys, own, near)?;
+    }
+    Ok(())
+}
+
+/// Those that the actions enable, other than the one in place `own`.
 pub(crate) fn push_actions(
     row: &mut Vec<usize>,
     actions: &BTreeMap<&str, DepAction<'_>>,
@@ -256,11 +275,7 @@ pub(crate) fn push_actions(
     if actions.is_empty() {
         return Ok(());
     }
-    let mut near = own;
-    for (key, action) in actions.iter() {
-        near = push_action(row, *key, action, keys, own, near)?;
-    }
-    Ok(())
+    push_each_action(row, actions, keys, own)
 }
 
 // The features that the one in place `own` enables; `named` has the numbers of what it names.

@@ -1,18 +1,17 @@
 -- From the features that are read to all that are resolved, before any is removed.
-use Rattle.std.proofs.Common.{◌≡◌, ◌⊎◌, ◌&&◌, ◌||◌, not, Bool, true, false, cond, List, [], ◌++◌, map, Option, Some, None, IsTrue, IfSome, is_some, option_map, bytes_eq, codes, Bor, refl, sym, ap, ap₂, subst, inl, inr, ◌∙◌}
-use Rattle.std.proofs.lemmas.Bool.{false≢true, false_from_ne_true, or_cases, or_left, or_right, and_parts, and_from}
-use Rattle.std.proofs.lemmas.Slice.Eq.{bytes_eq-Decides}
+use Rattle.std.proofs.Common.{◌≡◌, ◌&&◌, ◌||◌, not, Bool, true, false, cond, List, [], ◌++◌, map, Option, Some, None, IfSome, is_some, option_map, bytes_eq, codes, Bor, refl, sym, ap, ap₂, subst, ◌∙◌}
+use Rattle.std.proofs.lemmas.Bool.{false≢true}
 use Rattle.std.specs.List.{list_any}
 use Rattle.std.specs.Map.{lookup}
 use Rattle.std.specs.Option.{option_map_or}
 use Rattle.cargo_toml_features.specs.declared.features.Feature.{Feature}
 use Rattle.cargo_toml_features.specs.declared.features.FeatureDependency.{FeatureDependency}
-use Rattle.cargo_toml_features.specs.InOrder.{AreTable, feature_at, resolution_among, sorted_at}
+use Rattle.cargo_toml_features.specs.InOrder.{AreTable, feature_at, sorted_at}
 use Rattle.cargo_toml_resolve.specs.declared.read.Mentions.{Mentions}
 use Rattle.cargo_toml_graph.specs.Action.{Text, Action}
 use Rattle.cargo_toml_graph.specs.Admitted.{Listed, is_explicit, joined_action}
 use Rattle.cargo_toml_resolve.specs.Slots.{Relates, held_in, table_held, AreKeyed}
-use Rattle.cargo_toml_graph.specs.Graph.{Table, Resolution, Edge, IsPlain, IsUnremoved}
+use Rattle.cargo_toml_graph.specs.Graph.{Table}
 use Rattle.cargo_toml_resolve.specs.Implying.{Becomes, ImpliesAll, is_optional_at, is_offered}
 use Rattle.cargo_toml_resolve.specs.Reading.{IsRead, IsFresh, AreFresh}
 use Rattle.cargo_toml_resolve.specs.Requiring.{Required, RequiredAll}
@@ -24,7 +23,6 @@ use Rattle.cargo_toml_dependencies.specs.Details.{plain_detail}
 use Rattle.cargo_toml_features.specs.Marks.{Details, Marks, detail_at, detail_listed, marked, marks_in, marks_of}
 use Rattle.cargo_toml_features.specs.Views.{has_text, action_at}
 use Rattle.cargo_toml_resolve.specs.declared.slots.Slots.{Slots}
-use Rattle.cargo_toml_features.proofs.TextKeys.{none_in}
 
 -- tables that say the same
 pub record Same (t u : Table) : Type 0 where

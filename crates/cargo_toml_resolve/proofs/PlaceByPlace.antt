@@ -1,16 +1,8 @@
 -- Values in places, of which one after another has its turn.
-use Rattle.std.proofs.Common.{◌≡◌, ◌<◌, ◌+◌, ◌&&◌, ◌||◌, ℕ, zero, suc, Bool, true, false, cond, List, [], ◌∷◌, length, set, take, get_or, get_or-set_same, get_or-set_other, below_more, Option, None, IsTrue, bytes_eq, refl, sym, subst, arith, ◌∙◌}
-use Rattle.std.proofs.Math.Bool.{or-false}
-use Rattle.std.specs.Option.{option_map_or}
+use Rattle.std.proofs.Common.{◌≡◌, ◌<◌, ◌+◌, ℕ, zero, suc, Bool, true, false, cond, List, [], ◌∷◌, length, set, get_or, get_or-set_same, get_or-set_other, below_more, Option, None, bytes_eq, refl, sym, subst, arith, ◌∙◌}
 use Rattle.std.proofs.lemmas.List.{length-set}
-use Rattle.std.proofs.lemmas.Slice.Eq.{bytes_eq-Decides}
 use Rattle.cargo_toml_graph.specs.Action.{Text}
-use Rattle.cargo_toml_graph.specs.Admitted.{is_below}
-use Rattle.cargo_toml_graph.proofs.RedirectsInOrder.{below_one_way}
-use Rattle.cargo_toml_resolve.specs.Ascending.{Ascend}
 use Rattle.cargo_toml_resolve.specs.Slots.{held_among}
-use Rattle.cargo_toml_walk.specs.Numbered.{text_at}
-use Rattle.cargo_toml_walk.proofs.Places.{among_at}
 
 module _ {V : Type 0} where
   -- two values under each name, related where those in each place are

@@ -1,16 +1,13 @@
 -- Values under names that stand in byte order.
 use Rattle.std.specs.Prelude.{◌≡◌, if◌then◌else◌, false, List, [], ◌∷◌, length, map, Option, None}
-use Rattle.std.specs.Prelude.{Some, IfSome, IsTrue, bytes_eq, is_some}
+use Rattle.std.specs.Prelude.{Some, IfSome, bytes_eq, is_some}
 use Rattle.std.specs.Option.{option_map_or}
 use Rattle.cargo_toml_features.specs.declared.features.Feature.{Feature}
 use Rattle.cargo_toml_features.specs.declared.features.FeatureDependency.{FeatureDependency}
 use Rattle.cargo_toml_features.specs.FirstTarget.{HasTarget}
-use Rattle.cargo_toml_resolve.specs.Ascending.{Ascend}
 use Rattle.cargo_toml_resolve.specs.declared.slots.Slots.{Slots}
 use Rattle.cargo_toml_graph.specs.Action.{Text}
-use Rattle.cargo_toml_graph.specs.Admitted.{is_below}
 use Rattle.cargo_toml_graph.specs.Graph.{Table}
-use Rattle.cargo_toml_graph.specs.Removal.{IsAscending}
 use Rattle.cargo_toml_features.specs.Views.{action_at, has_text}
 
 module _ {V : Type 0} where

@@ -4,17 +4,16 @@ use std::alloc::{AllocError, Global};
 // A block of more bytes is mapped by itself.
 const MAPPED: usize = 128 * 1024;
 
-// Resolving takes at least so many bytes of memory for each item.
-const ITEM: usize = 200;
+// So many bytes for each item are more than half of what a call leaves free at the heap's end.
+const ITEM: usize = 320;
 
 /// Has the C library keep as much of its heap as resolving so many listings and entries takes.
 ///
 /// glibc gives the end of its heap back to the system whenever more than 128 KB of it are free,
 /// and each call then has hundreds of pages faulted in anew. Once a block that was mapped by itself
 /// is dropped, twice its size may be free. No block of an answer is as large as that. So one is
-/// made and dropped. It is never touched, and smaller than what resolving then takes: the peak of
-/// memory stays. Where there is no room for it, nothing is lost; with another C library it costs a
-/// call.
+/// made and dropped. It is never touched, so the system gives no page for it. Where there is no room
+/// for it, nothing is lost; with another C library it costs two calls.
 pub fn keep_heap(alloc: Global, items: usize) {
     let size = items.saturating_mul(ITEM);
     if size > MAPPED {

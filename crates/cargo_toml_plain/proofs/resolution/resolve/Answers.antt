@@ -1,4 +1,4 @@
-use Rattle.std.proofs.Common.{refl, ◌≡◌, ◌==◌, ◌↔◌, map, not, option_map, IsTrue, sym, ap, subst, ◌∙◌}
+use Rattle.std.proofs.Common.{◌≡◌, ◌==◌, ◌↔◌, map, not, option_map, IsTrue, sym, ap, subst, ◌∙◌}
 use Rattle.cargo_toml_graph.specs.Action.{Text}
 use Rattle.cargo_toml_graph.specs.Admitted.{is_below}
 use Rattle.cargo_toml_graph.specs.Removal.{IsAscending, is_removed}

@@ -1,4 +1,4 @@
-use Rattle.std.proofs.Common.{◌≡◌, ◌||◌, ◌+◌, ◌∷◌, ◌++◌, [], map, take, take_all, subst, sym, ap, ◌∙◌}
+use Rattle.std.proofs.Common.{◌||◌, map, take_all, subst, sym, ap, ◌∙◌}
 use Rattle.cargo_toml_dependencies.specs.Dependencies.{is_optional}
 use Rattle.cargo_toml_resolve.specs.Recording.{counts_alone, is_mentioned_in}
 use Rattle.cargo_toml_features.specs.Views.{entry_of}

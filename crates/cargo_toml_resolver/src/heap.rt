@@ -9,11 +9,11 @@ const ITEM: usize = 320;
 
 /// Has the C library keep as much of its heap as resolving so many listings and entries takes.
 ///
-/// glibc gives the end of its heap back to the system whenever more than 128 KB of it are free,
-/// and each call then has hundreds of pages faulted in anew. Once a block that was mapped by itself
-/// is dropped, twice its size may be free. No block of an answer is as large as that. So one is
-/// made and dropped. It is never touched, so the system gives no page for it. Where there is no room
-/// for it, nothing is lost; with another C library it costs two calls.
+/// glibc gives the end of its heap back to the system whenever more than 128 KB of it are free, and
+/// each call then has hundreds of pages faulted in anew. Once a block that was mapped by itself is
+/// dropped, twice its size may be free. No block of an answer is as large as that. So one is made
+/// and dropped. It is never touched, so the system gives no page for it. Where there is no room for
+/// it, nothing is lost; with another C library it costs two calls.
 pub fn keep_heap(alloc: Global, items: usize) {
     let size = items.saturating_mul(ITEM);
     if size > MAPPED {

@@ -1,5 +1,5 @@
 -- What is found in an answer for a manifest is what holds of the manifest.
-use Rattle.std.proofs.Common.{◌≡◌, ◌⊎◌, ◌↔◌, ◌||◌, ℕ, Bool, true, List, IsTrue, refl, sym, ap, subst, inl, inr, ◌∙◌}
+use Rattle.std.proofs.Common.{◌≡◌, ◌⊎◌, ◌↔◌, ◌||◌, ℕ, Bool, true, List, IsTrue, sym, ap, subst, inl, inr, ◌∙◌}
 use Rattle.std.proofs.lemmas.Bool.{or_cases, or_left, or_right}
 use Rattle.cargo_toml.specs.Action.{Text}
 use Rattle.cargo_toml.specs.Admitted.{admitted}
@@ -19,7 +19,8 @@ use Rattle.cargo_toml_lint.specs.declared.known.Known.{Known}
 use Rattle.cargo_toml_lint.proofs.Added.{same_as}
 use Rattle.cargo_toml_lint.proofs.Whole.{cyclic_is, implied_is, nothing_removed, over_is, private_is, required_is, unreachable_is}
 
-module _ {M S H : Type 0} (limit : ℕ) (m : ManifestMeaning M) (a : Features S H) (known : Known) (names : names_in known ≡ names_of m) (listed : listed_by known ≡ m.features)
+module _ {M S H : Type 0} (limit : ℕ) (m : ManifestMeaning M) (a : Features S H) (known : Known)
+    (names : names_in known ≡ names_of m) (listed : listed_by known ≡ m.features)
     (parsed : IsParsed limit m (λ _. true) (answer_of a)) where
   abbrev Removed : Text → Type 0
   Removed f = IsTrue (is_removed (parsed_table limit m) (λ _. true) f)
@@ -37,19 +38,37 @@ module _ {M S H : Type 0} (limit : ℕ) (m : ManifestMeaning M) (a : Features S 
   holds_is NotOptional f = same_as (λ i. lists (listed i) (is_not_optional (names i)) f)
   holds_is SameName f = same_as (λ i. has_same_name (names i) f)
   holds_is Unknown f =
-      let required : is_required (names_in known) (table_in a.features).has m.bin f ≡ is_required (names_of m) (parsed_table limit m).has m.bin f =
-      ap (λ n. is_required n (table_in a.features).has m.bin f) names ∙ required_is a.features (parsed_table limit m) Removed none parsed.kept.resolved (names_of m) m.bin f in
-      let same : (lists (listed_by known) (is_unknown (names_in known)) f || is_required (names_in known) (table_in a.features).has m.bin f)
-          ≡ (lists m.features (is_unknown (names_of m)) f || is_required (names_of m) (parsed_table limit m).has m.bin f) =
+      let required : is_required (names_in known) (table_in a.features).has m.bin f
+      ≡ is_required (names_of m) (parsed_table limit m).has m.bin f =
+      ap (λ n. is_required n (table_in a.features).has m.bin f) names
+      ∙ required_is a.features (parsed_table limit m) Removed none parsed.kept.resolved
+      (names_of m) m.bin f in
+      let same : (lists (listed_by known) (is_unknown (names_in known)) f
+      || is_required (names_in known) (table_in a.features).has m.bin f)
+      ≡ (lists m.features (is_unknown (names_of m)) f
+      || is_required (names_of m) (parsed_table limit m).has m.bin f) =
       λ i. lists (listed i) (is_unknown (names i)) f || required i in
-      both (same_as same) (either (lists m.features (is_unknown (names_of m)) f) (is_required (names_of m) (parsed_table limit m).has m.bin f))
-  holds_is Implied f = implied_is a.features (admitted limit m.features) (parsed_entries limit m) m.feature_details Removed none parsed.kept.resolved parsed.kept.marks f
-  holds_is PrivateDefault f = private_is a.features (admitted limit m.features) (parsed_entries limit m) m.feature_details Removed none parsed.kept.resolved parsed.kept.marks f
+      both (same_as same) (either (lists m.features (is_unknown (names_of m)) f)
+      (is_required (names_of m) (parsed_table limit m).has m.bin f))
+  holds_is Implied f = implied_is a.features (admitted limit m.features)
+      (parsed_entries limit m) m.feature_details Removed none parsed.kept.resolved parsed.kept.marks
+      f
+  holds_is PrivateDefault f =
+      private_is a.features (admitted limit m.features)
+      (parsed_entries limit m) m.feature_details Removed none parsed.kept.resolved parsed.kept.marks
+      f
   holds_is Cycle f = cyclic_is a.features (parsed_table limit m) Removed none parsed.kept.resolved f
   holds_is OverLimit f =
-      same_as (ap (λ ls. over_at a.features limit ls f) listed ∙ over_is a.features (admitted limit m.features) (parsed_entries limit m) m.feature_details Removed none parsed.kept.resolved parsed.kept.marks limit m.features f)
-  holds_is Unreachable f = unreachable_is a.features (parsed_table limit m) Removed none parsed.kept.resolved f
+      same_as (ap (λ ls. over_at a.features limit ls f) listed
+      ∙ over_is a.features (admitted limit m.features)
+      (parsed_entries limit m) m.feature_details Removed none parsed.kept.resolved parsed.kept.marks
+      limit m.features f)
+  holds_is Unreachable f =
+      unreachable_is a.features (parsed_table limit m) Removed none parsed.kept.resolved f
 
   -- the same of binaries that are told otherwise
-  pub holds_in : (bins : List ProductMeaning) → bins ≡ m.bin → (c : Code) (f : Text) → HoldsIn a.features known bins limit c f ↔ Holds limit m c f
-  holds_in bins same c f = subst (λ bs. HoldsIn a.features known bs limit c f ↔ Holds limit m c f) (sym same) (holds_is c f)
+  pub holds_in : (bins : List ProductMeaning) → bins ≡ m.bin → (c : Code) (f : Text)
+      → HoldsIn a.features known bins limit c f ↔ Holds limit m c f
+  holds_in bins same c f =
+      subst (λ bs. HoldsIn a.features known bs limit c f ↔ Holds limit m c f) (sym same)
+      (holds_is c f)

@@ -13,6 +13,7 @@ pub tells_of : {F : Type 0} (g : Asked F) (o : Option (Bor F)) (f : Bor F) (keep
 tells_of g o f keep is told = subst (λ x. Tells g x keep) (sym is) told
 
 -- an answer at the limit that was set
-pub parsed_at : {M : Type 0} (keep : Text → Bool) (a : Answer) {n k : ℕ} → n ≡ k → (m : ManifestMeaning M) →
+pub parsed_at : {M : Type 0} (keep : Text → Bool) (a : Answer) {n k : ℕ} → n ≡ k
+    → (m : ManifestMeaning M) →
     IsParsed n m keep a → IsParsed k m keep a
 parsed_at keep a same m is = subst (λ n. IsParsed n m keep a) same is

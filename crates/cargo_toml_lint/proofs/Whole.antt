@@ -1,6 +1,6 @@
 -- What is found in the maps of an answer, of the table of a manifest.
-use Rattle.std.proofs.Common.{◌≡◌, ◌≢◌, ◌⊎◌, ◌↔◌, ◌||◌, ◌&&◌, ◌==◌, not, cond, Bool, true, false, ℕ, List, [], ◌∷◌, length, Option, Some, None, is_some, Bor, IsTrue, IsFalse, bytes_eq, codes, nat_lt, arith, refl, sym, ap, subst, inl, inr, ◌∙◌}
-use Rattle.std.proofs.lemmas.Bool.{false≢true, and_parts, and_from, not-true, not_from_false, not_from_true, false_from_ne_true, true_from_ne_false, or_cases, or_left, or_right, cases_Bool, eqb-true}
+use Rattle.std.proofs.Common.{◌≡◌, ◌≢◌, ◌↔◌, ◌||◌, ◌&&◌, ◌==◌, not, cond, Bool, true, false, ℕ, List, [], ◌∷◌, length, Option, Some, None, is_some, Bor, IsTrue, bytes_eq, codes, nat_lt, arith, refl, sym, ap, subst, inl, inr, ◌∙◌}
+use Rattle.std.proofs.lemmas.Bool.{false≢true, and_parts, and_from, not-true, not_from_false, false_from_ne_true, or_cases, or_left, or_right, eqb-true}
 use Rattle.std.proofs.lemmas.Bool.Decides.{Decides-eqb}
 use Rattle.std.proofs.lemmas.Map.Text.{is_eq-slice_cmp}
 use Rattle.std.proofs.lemmas.Slice.Eq.{bytes_eq-Decides}
@@ -11,20 +11,20 @@ use Rattle.cargo_toml.specs.Action.{Text}
 use Rattle.cargo_toml.specs.Admitted.{Listed, is_explicit}
 use Rattle.cargo_toml.specs.Details.{plain_detail}
 use Rattle.cargo_toml.specs.Feature.{Feature}
-use Rattle.cargo_toml.specs.Graph.{Table, Edge, IsKept, IsResolved}
+use Rattle.cargo_toml.specs.Graph.{Table, Edge, IsResolved}
 use Rattle.cargo_toml.specs.Marks.{Details, Marks, marked, marks_in, marks_of}
 use Rattle.cargo_toml.specs.NonDefault.{without_default}
 use Rattle.cargo_toml.specs.Products.{ProductMeaning}
 use Rattle.cargo_toml.specs.Reach.{Gathers, Reaches}
 use Rattle.cargo_toml.specs.Reach.Reaches.{edge, through}
-use Rattle.cargo_toml.specs.Recorded.{Entry, is_implied, is_reserved}
+use Rattle.cargo_toml.specs.Recorded.{Entry, is_implied}
 use Rattle.cargo_toml.specs.Recursive.{Enables}
 use Rattle.cargo_toml.specs.Recursive.Enables.{itself, further}
 use Rattle.cargo_toml.specs.Removal.{is_removed}
 use Rattle.cargo_toml.specs.Resolved.{table_of}
 use Rattle.cargo_toml.specs.Views.{has_text, resolution_of, table_in, value_at}
 use Rattle.cargo_toml_graph.proofs.Texts.{decided_text}
-use Rattle.cargo_toml_lint.specs.Findings.{IsCyclic, IsOnlyDefault, IsUnreachable, is_hidden, is_over, is_private, is_required}
+use Rattle.cargo_toml_lint.specs.Findings.{IsCyclic, IsOnlyDefault, IsUnreachable, is_hidden, is_private, is_required}
 use Rattle.cargo_toml_lint.specs.Known.{Names}
 use Rattle.cargo_toml_lint.specs.Steps.{IsRing, explicit_at, implied_at, only_default, over_at, private_default_at}
 use Rattle.cargo_toml_lint.proofs.Gathered.{at_head, has_in}
@@ -42,29 +42,38 @@ same_truth false false h = refl
 abbrev is_default : Text → Bool
 is_default e = bytes_eq e (codes "default")
 
-skips_default : (k : Bor Text) (ks : List (Bor Text)) → is_default k.now ≡ true → without_default (k ∷ ks) ≡ without_default ks
+skips_default : (k : Bor Text) (ks : List (Bor Text)) → is_default k.now ≡ true
+    → without_default (k ∷ ks) ≡ without_default ks
 skips_default k ks is = ap (λ b. cond (not b) (k ∷ without_default ks) (without_default ks)) is
 
-keeps_other : (k : Bor Text) (ks : List (Bor Text)) → is_default k.now ≡ false → without_default (k ∷ ks) ≡ k ∷ without_default ks
+keeps_other : (k : Bor Text) (ks : List (Bor Text)) → is_default k.now ≡ false
+    → without_default (k ∷ ks) ≡ k ∷ without_default ks
 keeps_other k ks is = ap (λ b. cond (not b) (k ∷ without_default ks) (without_default ks)) is
 
-only_keys : (ks : List (Bor Text)) → length (without_default ks) ≡ 0 → (e : Text) → IsTrue (has_in ks e) → e ≡ codes "default"
+only_keys : (ks : List (Bor Text)) → length (without_default ks) ≡ 0 → (e : Text)
+    → IsTrue (has_in ks e) → e ≡ codes "default"
 only_keys [] none e h = absurd (false≢true h)
 only_keys (k ∷ ks) none e h = go (λ n i. only_keys ks n e i) (is_default k.now) refl
   where
-    go : (length (without_default ks) ≡ 0 → IsTrue (has_in ks e) → e ≡ codes "default") → (d : Bool) → is_default k.now ≡ d → e ≡ codes "default"
+    go : (length (without_default ks) ≡ 0 → IsTrue (has_in ks e) → e ≡ codes "default") → (d : Bool)
+        → is_default k.now ≡ d → e ≡ codes "default"
     go rest true is = elim (at_head k ks e h) [
       | inl s ↦ s ∙ (bytes_eq-Decides k.now (codes "default")).0 is
       | inr i ↦ rest (sym (ap length (skips_default k ks is)) ∙ none) i
     ]
     go rest false is =
-        let some : length (k ∷ without_default ks) ≡ 0 = sym (ap length (keeps_other k ks is)) ∙ none in
+        let some : length (k ∷ without_default ks) ≡ 0 = sym (ap length (keeps_other k ks is))
+        ∙ none in
         absurd (omega arith)
 
-no_keys : (ks : List (Bor Text)) → ((e : Text) → IsTrue (has_in ks e) → e ≡ codes "default") → length (without_default ks) ≡ 0
+no_keys : (ks : List (Bor Text)) → ((e : Text) → IsTrue (has_in ks e) → e ≡ codes "default")
+    → length (without_default ks) ≡ 0
 no_keys [] all = refl
 no_keys (k ∷ ks) all =
-    let is : is_default k.now ≡ true = (bytes_eq-Decides k.now (codes "default")).1 (all k.now (or_left _ _ (is_eq-slice_cmp k.now k.now ∙ (bytes_eq-Decides k.now k.now).1 refl))) in
+    let is : is_default k.now ≡ true =
+    (bytes_eq-Decides k.now (codes "default")).1
+    (all k.now (or_left _ _ (is_eq-slice_cmp k.now k.now
+    ∙ (bytes_eq-Decides k.now k.now).1 refl))) in
     ap length (skips_default k ks is) ∙ no_keys ks (λ e h. all e (or_right _ _ h))
 
 -- ---- what a feature enables
@@ -77,14 +86,16 @@ enables_has h itself = h
 enables_has h (further e n k) = k
 
 -- the last one before f that isn't f
-last_before : {t : Table} {f o : Text} (x : Text) → x ≡ f → o ≢ f → Enables t f o → Enables t o x → (h : Text) × (h ≢ f) × Enables t f h × IsTrue (t.names h f)
+last_before : {t : Table} {f o : Text} (x : Text) → x ≡ f → o ≢ f → Enables t f o → Enables t o x
+    → (h : Text) × (h ≢ f) × Enables t f h × IsTrue (t.names h f)
 last_before x same apart there itself = absurd (apart same)
 last_before {t} {f} {o} x same apart there (further {g = h} e n k) = elim (decided_text h f) [
   | inl s ↦ last_before h s apart there e
   | inr ne ↦ (h, ne, enables_more there e, subst (λ y. IsTrue (t.names h y)) same n)
 ]
 
-module _ {S : Type 0} (m : HashMap (Bor Text) Feature S) (t : Table) (Removed : Text → Type 0) (none : (f : Text) → ¬ Removed f) (resolved : IsResolved t Removed (resolution_of m)) where
+module _ {S : Type 0} (m : HashMap (Bor Text) Feature S) (t : Table) (Removed : Text → Type 0)
+    (none : (f : Text) → ¬ Removed f) (resolved : IsResolved t Removed (resolution_of m)) where
   there : (f : Text) → IsTrue ((table_in m).has f) → IsTrue (t.has f)
   there f h = ((resolved.kept f).0 h).0
 
@@ -108,17 +119,20 @@ module _ {S : Type 0} (m : HashMap (Bor Text) Feature S) (t : Table) (Removed : 
 
   enables_in : {f x : Text} → IsTrue (t.has f) → Enables (table_in m) f x → Enables t f x
   enables_in h itself = itself
-  enables_in h (further e n k) = let r = enables_in h e in further r (named _ _ (enables_has h r) n) (there _ k)
+  enables_in h (further e n k) =
+      let r = enables_in h e in further r (named _ _ (enables_has h r) n) (there _ k)
 
   enables_out : {f x : Text} → IsTrue (t.has f) → Enables t f x → Enables (table_in m) f x
   enables_out h itself = itself
-  enables_out h (further e n k) = further (enables_out h e) (names _ _ (enables_has h e) n) (held _ k)
+  enables_out h (further e n k) =
+      further (enables_out h e) (names _ _ (enables_has h e) n) (held _ k)
 
   only : {a b : Text} → Reaches (Edge t) Removed a b → Edge t a b
   only (edge e) = e
   only (through e s p) = absurd (none _ s)
 
-  enablers : (f e : Text) → IsTrue (t.has f) → IsTrue ((resolution_of m).enabled_by f e) ↔ Edge t e f
+  enablers : (f e : Text) → IsTrue (t.has f) → IsTrue ((resolution_of m).enabled_by f e)
+      ↔ Edge t e f
   enablers f e known = (
     λ y. only ((resolved.enabled_by f e (known, none f)).0 y).1,
     λ d. (resolved.enabled_by f e (known, none f)).1 ((d.source, none e), edge d),
@@ -128,7 +142,8 @@ module _ {S : Type 0} (m : HashMap (Bor Text) Feature S) (t : Table) (Removed : 
   told_has : (f e : Text) → IsTrue ((resolution_of m).enabled_by f e) → IsTrue (t.has f)
   told_has f e y = there f (go (value_at m f) y)
     where
-      go : (o : Option Feature) → IsTrue (option_map_or (λ v. has_text v.enabled_by e) o false) → IsTrue (is_some o)
+      go : (o : Option Feature) → IsTrue (option_map_or (λ v. has_text v.enabled_by e) o false)
+          → IsTrue (is_some o)
       go None y = y
       go (Some v) y = refl
 
@@ -137,45 +152,72 @@ module _ {S : Type 0} (m : HashMap (Bor Text) Feature S) (t : Table) (Removed : 
     λ r.
         let known : IsTrue (t.has f) = told_has f r.0 r.1 in
         let d : Edge t r.0 f = (enablers f r.0 known).0 r.1 in
-        record { other = r.0; known = known; apart = d.apart; there = enables_in known r.2; back = further itself (named r.0 f d.source r.3) known },
+        record {
+          other = r.0;
+          known = known;
+          apart = d.apart;
+          there = enables_in known r.2;
+          back = further itself (named r.0 f d.source r.3) known;
+        },
     λ c.
         let l = last_before f refl c.apart c.there c.back in
         let known : IsTrue (t.has l.0) = enables_has c.known l.2 in
-        let d : Edge t l.0 f = record { source = known; target = c.known; apart = l.1; leads = inl l.3 } in
+        let d : Edge t l.0 f =
+        record { source = known; target = c.known; apart = l.1; leads = inl l.3 } in
         (l.0, (enablers f l.0 c.known).1 d, enables_out c.known l.2, names l.0 f known l.3),
   )
 
   pub unreachable_is : (f : Text) → IsUnreachable (table_in m) f ↔ IsUnreachable t f
   unreachable_is f = (
-    λ u. record { known = there f u.known; hidden = u.hidden; left_alone = λ k h kept e. u.left_alone k (held k h) kept (enables_out h e) },
-    λ u. record { known = held f u.known; hidden = u.hidden; left_alone = λ k h kept e. u.left_alone k (there k h) kept (enables_in (there k h) e) },
+    λ u. record {
+      known = there f u.known;
+      hidden = u.hidden;
+      left_alone = λ k h kept e. u.left_alone k (held k h) kept (enables_out h e);
+    },
+    λ u. record {
+      known = held f u.known;
+      hidden = u.hidden;
+      left_alone = λ k h kept e. u.left_alone k (there k h) kept (enables_in (there k h) e);
+    },
   )
 
-  only_default_is : (f : Text) (v : Feature) → value_at m f ≡ Some v → IsTrue (only_default v) ↔ IsOnlyDefault t f
+  only_default_is : (f : Text) (v : Feature) → value_at m f ≡ Some v → IsTrue (only_default v)
+      ↔ IsOnlyDefault t f
   only_default_is f v is =
       let known : IsTrue (t.has f) = there f (ap is_some is) in
-      let told : (e : Text) → (resolution_of m).enabled_by f e ≡ has_text v.enabled_by e = λ e. ap (λ o. option_map_or (λ (u : Feature). has_text u.enabled_by e) o false) is in (
+      let told : (e : Text) → (resolution_of m).enabled_by f e ≡ has_text v.enabled_by e =
+      λ e. ap (λ o. option_map_or (λ (u : Feature). has_text u.enabled_by e) o false) is in (
         λ y.
-            let p = and_parts (has_text v.enabled_by (codes "default")) (length (without_default v.enabled_by.keys) == 0) y in
+            let p = and_parts (has_text v.enabled_by (codes "default"))
+            (length (without_default v.enabled_by.keys) == 0) y in
             record {
               default_does = (enablers f (codes "default") known).0 (told (codes "default") ∙ p.0);
-              no_other = λ e d. only_keys v.enabled_by.keys (eqb-true _ _ p.1) e (sym (told e) ∙ (enablers f e known).1 d);
+              no_other = λ e d. only_keys v.enabled_by.keys (eqb-true _ _ p.1) e
+                  (sym (told e) ∙ (enablers f e known).1 d);
             },
-        λ u. and_from (has_text v.enabled_by (codes "default")) (length (without_default v.enabled_by.keys) == 0)
+        λ u. and_from (has_text v.enabled_by (codes "default"))
+            (length (without_default v.enabled_by.keys) == 0)
             (sym (told (codes "default")) ∙ (enablers f (codes "default") known).1 u.default_does)
-            ((Decides-eqb _ 0).1 (no_keys v.enabled_by.keys (λ e h. u.no_other e ((enablers f e known).0 (told e ∙ h))))),
+            ((Decides-eqb _ 0).1 (no_keys v.enabled_by.keys
+            (λ e h. u.no_other e ((enablers f e known).0 (told e ∙ h))))),
       )
 
-  pub required_is : (n : Names) (bins : List ProductMeaning) (f : Text) → is_required n (table_in m).has bins f ≡ is_required n t.has bins f
+  pub required_is : (n : Names) (bins : List ProductMeaning) (f : Text)
+      → is_required n (table_in m).has bins f ≡ is_required n t.has bins f
   required_is n bins f = λ i. is_required n (λ x. has_same x i) bins f
 
-module _ {S : Type 0} (m : HashMap (Bor Text) Feature S) (listed : Listed) (entries : List Entry) (details : Details) (Removed : Text → Type 0) (none : (f : Text) → ¬ Removed f) (resolved : IsResolved (table_of listed entries) Removed (resolution_of m))
-    (marks : (f : Text) → IsTrue ((table_in m).has f) → option_map_or marks_of (value_at m f) (marked false plain_detail) ≡ marks_in listed details f) where
+module _ {S : Type 0} (m : HashMap (Bor Text) Feature S) (listed : Listed) (entries : List Entry)
+    (details : Details) (Removed : Text → Type 0) (none : (f : Text) → ¬ Removed f)
+    (resolved : IsResolved (table_of listed entries) Removed (resolution_of m))
+    (marks : (f : Text) → IsTrue ((table_in m).has f)
+    → option_map_or marks_of (value_at m f) (marked false plain_detail)
+    ≡ marks_in listed details f) where
   known_as : (f : Text) → (table_in m).has f ≡ (is_explicit listed f || is_implied listed entries f)
   known_as f = has_same m (table_of listed entries) Removed none resolved f
 
   mark : (f : Text) (v : Feature) → value_at m f ≡ Some v → marks_of v ≡ marks_in listed details f
-  mark f v is = subst (λ o. option_map_or marks_of o (marked false plain_detail) ≡ marks_in listed details f) is (marks f (ap is_some is))
+  mark f v is = subst (λ o. option_map_or marks_of o (marked false plain_detail)
+      ≡ marks_in listed details f) is (marks f (ap is_some is))
 
   pub explicit_is : (f : Text) → explicit_at m f ≡ is_explicit listed f
   explicit_is f = go (value_at m f) refl
@@ -183,47 +225,66 @@ module _ {S : Type 0} (m : HashMap (Bor Text) Feature S) (listed : Listed) (entr
       go : (o : Option Feature) → value_at m f ≡ o → explicit_at m f ≡ is_explicit listed f
       go None is =
           ap (λ o. option_map_or (λ (v : Feature). v.explicit) o false) is
-          ∙ sym (false_from_ne_true (is_explicit listed f) (λ e. false≢true (sym (ap is_some is) ∙ known_as f ∙ or_left _ _ e)))
-      go (Some v) is = ap (λ o. option_map_or (λ (v : Feature). v.explicit) o false) is ∙ ap (λ (k : Marks). k.explicit) (mark f v is)
+          ∙ sym (false_from_ne_true (is_explicit listed f)
+          (λ e. false≢true (sym (ap is_some is) ∙ known_as f ∙ or_left _ _ e)))
+      go (Some v) is = ap (λ o. option_map_or (λ (v : Feature). v.explicit) o false) is
+          ∙ ap (λ (k : Marks). k.explicit) (mark f v is)
 
-  pub private_is : (f : Text) → IsTrue (private_default_at m f) ↔ (IsTrue (is_hidden f || is_private listed details f) × IsOnlyDefault (table_of listed entries) f)
+  pub private_is : (f : Text) → IsTrue (private_default_at m f)
+      ↔ (IsTrue (is_hidden f || is_private listed details f)
+      × IsOnlyDefault (table_of listed entries) f)
   private_is f = go (value_at m f) refl
     where
-      go : (o : Option Feature) → value_at m f ≡ o → IsTrue (option_map_or (λ v. (is_hidden f || not v.public) && only_default v) o false) ↔ (IsTrue (is_hidden f || is_private listed details f) × IsOnlyDefault (table_of listed entries) f)
+      go : (o : Option Feature) → value_at m f ≡ o
+          → IsTrue (option_map_or (λ v. (is_hidden f || not v.public) && only_default v) o false)
+          ↔ (IsTrue (is_hidden f || is_private listed details f)
+          × IsOnlyDefault (table_of listed entries) f)
       go None is = (
         λ y. absurd (false≢true y),
-        λ h. absurd (false≢true (sym (ap is_some is) ∙ held m (table_of listed entries) Removed none resolved f h.1.default_does.target)),
+        λ h. absurd (false≢true (sym (ap is_some is)
+            ∙ held m (table_of listed entries) Removed none resolved f h.1.default_does.target)),
       )
       go (Some v) is =
-          let shut : (is_hidden f || not v.public) ≡ (is_hidden f || is_private listed details f) = ap (λ (k : Marks). is_hidden f || not k.public) (mark f v is) in
+          let shut : (is_hidden f || not v.public) ≡ (is_hidden f || is_private listed details f) =
+          ap (λ (k : Marks). is_hidden f || not k.public) (mark f v is) in
           let only = only_default_is m (table_of listed entries) Removed none resolved f v is in (
-            λ y. let p = and_parts (is_hidden f || not v.public) (only_default v) y in (sym shut ∙ p.0, only.0 p.1),
+            λ y. let p = and_parts (is_hidden f || not v.public)
+                (only_default v) y in (sym shut ∙ p.0, only.0 p.1),
             λ h. and_from (is_hidden f || not v.public) (only_default v) (shut ∙ h.0) (only.1 h.1),
           )
 
   pub implied_is : (f : Text) → IsTrue (implied_at m f) ↔ IsTrue (is_implied listed entries f)
   implied_is f = go (value_at m f) refl
     where
-      unlisted : IsTrue (is_implied listed entries f) → IsFalse (is_explicit listed f)
-      unlisted h = not-true (is_explicit listed f) (and_parts _ _ h).1
-
-      go : (o : Option Feature) → value_at m f ≡ o → IsTrue (option_map_or (λ v. not v.explicit) o false) ↔ IsTrue (is_implied listed entries f)
-      go None is = (λ y. absurd (false≢true y), λ h. absurd (false≢true (sym (ap is_some is) ∙ known_as f ∙ or_right _ _ h)))
+      go : (o : Option Feature) → value_at m f ≡ o
+          → IsTrue (option_map_or (λ v. not v.explicit) o false)
+          ↔ IsTrue (is_implied listed entries f)
+      go None is = (
+        λ y. absurd (false≢true y),
+        λ h. absurd (false≢true (sym (ap is_some is) ∙ known_as f ∙ or_right _ _ h)),
+      )
       go (Some v) is =
-          let told : v.explicit ≡ is_explicit listed f = sym (ap (λ o. option_map_or (λ (v : Feature). v.explicit) o false) is) ∙ explicit_is f in (
-            λ y. elim (or_cases (is_explicit listed f) (is_implied listed entries f) (sym (known_as f) ∙ ap is_some is)) [
-              | inl e ↦ absurd (false≢true (sym (not-true _ y) ∙ told ∙ e))
-              | inr h ↦ h
-            ],
-            λ h. not_from_false _ (told ∙ unlisted h),
+          let told : v.explicit ≡ is_explicit listed f =
+          sym (ap (λ o. option_map_or (λ (v : Feature). v.explicit) o false) is)
+          ∙ explicit_is f in (
+            λ y. elim (or_cases (is_explicit listed f) (is_implied listed entries f)
+                (sym (known_as f) ∙ ap is_some is)) [
+                  | inl e ↦ absurd (false≢true (sym (not-true _ y) ∙ told ∙ e))
+                  | inr h ↦ h
+                ],
+            λ h. not_from_false _ (told ∙ not-true (is_explicit listed f) (and_parts _ _ h).1),
           )
 
-  pub over_is : (limit : ℕ) (all : Listed) (f : Text) → over_at m limit all f ≡ list_any (λ e. bytes_eq f e.0 && (nat_lt limit (length e.1) || not (is_explicit listed e.0))) all
-  over_is limit all f = λ i. list_any (λ e. bytes_eq f e.0 && (nat_lt limit (length e.1) || not (explicit_is e.0 i))) all
+  pub over_is : (limit : ℕ) (all : Listed) (f : Text) → over_at m limit all f
+      ≡ list_any (λ e. bytes_eq f e.0
+      && (nat_lt limit (length e.1) || not (is_explicit listed e.0))) all
+  over_is limit all f = λ i. list_any
+      (λ e. bytes_eq f e.0 && (nat_lt limit (length e.1) || not (explicit_is e.0 i))) all
 
 -- what is told of a name is told of a feature
 module _ {S : Type 0} (m : HashMap (Bor Text) Feature S) where
-  there_is : (f : Text) (test : Feature → Bool) → IsTrue (option_map_or test (value_at m f) false) → IsTrue ((table_in m).has f)
+  there_is : (f : Text) (test : Feature → Bool) → IsTrue (option_map_or test (value_at m f) false)
+      → IsTrue ((table_in m).has f)
   there_is f test h = go (value_at m f) h
     where
       go : (o : Option Feature) → IsTrue (option_map_or test o false) → IsTrue (is_some o)

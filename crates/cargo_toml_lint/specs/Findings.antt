@@ -1,7 +1,7 @@
 -- What is found of a manifest.
-use Rattle.std.specs.Prelude.{◌≡◌, ◌≢◌, ◌⊎◌, ◌<◌, ◌+◌, ℕ, Bool, false, ◌&&◌, ◌||◌, not, nat_eq, nat_lt, length, List, [], ◌∷◌, map, IsTrue, IsFalse, bytes_eq, codes}
+use Rattle.std.specs.Prelude.{◌≡◌, ◌≢◌, ◌⊎◌, ℕ, Bool, false, ◌&&◌, ◌||◌, not, nat_eq, nat_lt, length, List, map, IsTrue, IsFalse, bytes_eq, codes}
 use Rattle.std.specs.Cmp.Lexicographic.{slice_cmp}
-use Rattle.std.specs.List.{AllByRecursion, list_any, starts_with}
+use Rattle.std.specs.List.{list_any, starts_with}
 use Rattle.std.specs.List.Sorted.{IsStrictlySortedBy}
 use Rattle.std.specs.Ordering.{nat_cmp, ordering_then}
 use Rattle.std.specs.declared.cmp.Ordering.{Ordering}
@@ -40,7 +40,8 @@ is_unknown n (On k a) = not (n.dependency k)
 -- `dep:d` or `d?/f`, where d is a dependency that isn't optional
 abbrev pub is_not_optional : Names → Item → Bool
 is_not_optional n (Name x) = false
-is_not_optional n (On k a) = (a.is_dep_only || a.is_conditional) && (n.dependency k && not (n.optional k))
+is_not_optional n (On k a) =
+    (a.is_dep_only || a.is_conditional) && (n.dependency k && not (n.optional k))
 
 -- a name that no feature has, or an action on no dependency
 abbrev pub is_missing : Names → (Text → Bool) → Item → Bool
@@ -62,7 +63,8 @@ has_same_name n f = n.listed f && (n.optional f && not (n.reserved f))
 -- a listed feature that the limit left out, or more of whose actions than count
 abbrev pub is_over : ℕ → Listed → Text → Bool
 is_over limit listed f =
-    list_any (λ e. bytes_eq f e.0 && (nat_lt limit (length e.1) || not (is_explicit (admitted limit listed) e.0))) listed
+    list_any (λ e. bytes_eq f e.0
+    && (nat_lt limit (length e.1) || not (is_explicit (admitted limit listed) e.0))) listed
 
 -- a hidden feature to which no kept one leads by names
 pub record IsUnreachable (t : Table) (f : Text) : Type 0 where
@@ -83,7 +85,8 @@ pub record IsOnlyDefault (t : Table) (f : Text) : Type 0 where
   pub default_does : Edge t (codes "default") f
   pub no_other : (e : Text) → Edge t e f → e ≡ codes "default"
 
--- where so many names of the table of features count, actions of a feature, and keys of a table of dependencies
+-- where so many names of the table of features count, actions of a feature, and keys of a table
+-- of dependencies
 module _ {M : Type 0} (limit : ℕ) (m : ManifestMeaning M) where
   -- what a finding of the code says of f
   abbrev pub Holds : Code → Text → Type 0
@@ -141,7 +144,8 @@ abbrev pub words_of : Code → Text
 words_of NotOptional = codes "uses `dep:` or `?` on a dependency that isn't optional"
 words_of SameName = codes "has the name of an optional dependency that no feature names by `dep:`"
 words_of Unknown = codes "names or requires what the manifest doesn't have"
-words_of Implied = codes "an optional dependency that no feature names by `dep:` is a feature for users"
+words_of Implied =
+    codes "an optional dependency that no feature names by `dep:` is a feature for users"
 words_of PrivateDefault = codes "only `default` enables this hidden or private feature"
 words_of Cycle = codes "enables itself through others"
 words_of OverLimit = codes "has a name or actions beyond the limit"

@@ -24,11 +24,14 @@ use Rattle.cargo_toml_lint.specs.declared.known.Known.{Known}
 
 -- `default` enables the feature, and no other does
 abbrev pub only_default : Feature → Bool
-only_default v = has_text v.enabled_by (codes "default") && (length (without_default v.enabled_by.keys) == 0)
+only_default v =
+    has_text v.enabled_by (codes "default") && (length (without_default v.enabled_by.keys) == 0)
 
--- f names what enables it, through others: one that f enables, and that enables it directly and by its name
+-- f names what enables it, through others: one that f enables, and that enables it directly and
+-- by its name
 abbrev pub IsRing : Resolution → Text → Type 0
-IsRing m f = (h : Text) × IsTrue (m.enabled_by f h) × Enables m.table f h × IsTrue (m.table.names h f)
+IsRing m f =
+    (h : Text) × IsTrue (m.enabled_by f h) × Enables m.table f h × IsTrue (m.table.names h f)
 
 -- some kept feature of the table enables x
 abbrev pub IsReached : Table → Text → Type 0
@@ -42,16 +45,21 @@ module _ {S : Type 0} (m : HashMap (Bor Text) Feature S) where
   implied_at f = option_map_or (λ v. not v.explicit) (value_at m f) false
 
   abbrev pub private_default_at : Text → Bool
-  private_default_at f = option_map_or (λ v. (is_hidden f || not v.public) && only_default v) (value_at m f) false
+  private_default_at f =
+      option_map_or (λ v. (is_hidden f || not v.public) && only_default v) (value_at m f) false
 
   abbrev pub over_at : ℕ → Listed → Text → Bool
-  over_at limit listed f = list_any (λ e. bytes_eq f e.0 && (nat_lt limit (length e.1) || not (explicit_at e.0))) listed
+  over_at limit listed f =
+      list_any (λ e. bytes_eq f e.0 && (nat_lt limit (length e.1) || not (explicit_at e.0))) listed
 
   -- what a finding of the code says, of these maps
   abbrev pub HoldsIn : Known → List ProductMeaning → ℕ → Code → Text → Type 0
-  HoldsIn known bins limit NotOptional f = IsTrue (lists (listed_by known) (is_not_optional (names_in known)) f)
+  HoldsIn known bins limit NotOptional f =
+      IsTrue (lists (listed_by known) (is_not_optional (names_in known)) f)
   HoldsIn known bins limit SameName f = IsTrue (has_same_name (names_in known) f)
-  HoldsIn known bins limit Unknown f = IsTrue (lists (listed_by known) (is_unknown (names_in known)) f || is_required (names_in known) (table_in m).has bins f)
+  HoldsIn known bins limit Unknown f =
+      IsTrue (lists (listed_by known) (is_unknown (names_in known)) f
+      || is_required (names_in known) (table_in m).has bins f)
   HoldsIn known bins limit Implied f = IsTrue (implied_at f)
   HoldsIn known bins limit PrivateDefault f = IsTrue (private_default_at f)
   HoldsIn known bins limit Cycle f = IsRing (resolution_of m) f
@@ -88,16 +96,21 @@ module _ {S : Type 0} (m : HashMap (Bor Text) Feature S) where
   -- what is found of the lists
   abbrev pub AreErrors : Known → List ProductMeaning → Code → Text → Type 0
   AreErrors known bins c f =
-      (At NotOptional (λ f. IsTrue (lists (listed_by known) (is_not_optional (names_in known)) f)) c f
+      (At NotOptional
+      (λ f. IsTrue (lists (listed_by known) (is_not_optional (names_in known)) f)) c f
       ⊎ At SameName (λ f. IsTrue (has_same_name (names_in known) f)) c f)
-      ⊎ At Unknown (λ f. IsTrue (lists (listed_by known) (is_unknown (names_in known)) f || is_required (names_in known) (table_in m).has bins f)) c f
+      ⊎ At Unknown (λ f. IsTrue (lists (listed_by known) (is_unknown (names_in known)) f
+      || is_required (names_in known) (table_in m).has bins f)) c f
 
   -- what is found of single features
   abbrev pub AreHints : Code → Text → Type 0
-  AreHints c f = At Implied (λ f. IsTrue (implied_at m f)) c f ⊎ At PrivateDefault (λ f. IsTrue (private_default_at m f)) c f
+  AreHints c f =
+      At Implied (λ f. IsTrue (implied_at m f)) c f
+      ⊎ At PrivateDefault (λ f. IsTrue (private_default_at m f)) c f
 
   -- what is found by walks and at the limit
   abbrev pub AreWarnings : Known → ℕ → Code → Text → Type 0
   AreWarnings known limit c f =
-      (At Cycle (λ f. IsRing (resolution_of m) f) c f ⊎ At OverLimit (λ f. IsTrue (over_at m limit (listed_by known) f)) c f)
+      (At Cycle (λ f. IsRing (resolution_of m) f) c f
+      ⊎ At OverLimit (λ f. IsTrue (over_at m limit (listed_by known) f)) c f)
       ⊎ At Unreachable (λ f. IsUnreachable (table_in m) f) c f

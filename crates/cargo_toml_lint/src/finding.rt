@@ -21,8 +21,8 @@ pub enum Code {
     /// The feature is listed, and has the name of an optional dependency that no action names by
     /// `dep:`.
     SameName,
-    /// The feature names what is neither a feature nor an optional dependency, or acts on what is no
-    /// dependency; or a binary requires this feature, which isn't there.
+    /// The feature names what is neither a feature nor an optional dependency, or acts on what is
+    /// no dependency; or a binary requires this feature, which isn't there.
     Unknown,
     /// An optional dependency that no action names by `dep:`, so that its key is a feature.
     Implied,

@@ -55,7 +55,8 @@ pub(crate) fn implied<'m, S: BuildHasher>(
     features: &FeatureMap<'m, S>,
 ) -> Result<BTreeSet<&'m str>, AllocError>
     requires { (f : Text) → has_text names.now f ≡ (table_in features.now).has f }
-    ensures { IfOk result (λ s. (f : Text) → IsTrue (has_text s f) ↔ IsTrue (implied_at features.now f)) }
+    ensures { IfOk result (λ s. (f : Text) → IsTrue (has_text s f)
+        ↔ IsTrue (implied_at features.now f)) }
 {
     let mut found = BTreeSet::new(alloc);
     for name in names {
@@ -92,7 +93,8 @@ pub(crate) fn private_default<'m, S: BuildHasher>(
     features: &FeatureMap<'m, S>,
 ) -> Result<BTreeSet<&'m str>, AllocError>
     requires { (f : Text) → has_text names.now f ≡ (table_in features.now).has f }
-    ensures { IfOk result (λ s. (f : Text) → IsTrue (has_text s f) ↔ IsTrue (private_default_at features.now f)) }
+    ensures { IfOk result (λ s. (f : Text) → IsTrue (has_text s f)
+        ↔ IsTrue (private_default_at features.now f)) }
 {
     let mut found = BTreeSet::new(alloc);
     for name in names {

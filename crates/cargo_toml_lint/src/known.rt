@@ -89,7 +89,8 @@ fn keys_of<'m, M>(
     are_all: bool,
 ) -> Result<BTreeSet<&'m str>, AllocError>
     ensures { IfOk result (λ s. (k : Text) → has_text s k
-        ≡ list_any (has_entry (tried are_all) k) (tables (manifest_meaning (λ m. m) manifest.now))) }
+        ≡ list_any (has_entry (tried are_all) k)
+        (tables (manifest_meaning (λ m. m) manifest.now))) }
 {
     let mut keys = BTreeSet::new(alloc);
     add_table(&mut keys, &manifest.dependencies, are_all)?;
@@ -130,8 +131,10 @@ pub(crate) fn known_names<'m, M>(
     alloc: Global,
     manifest: &'m Manifest<M>,
 ) -> Result<Known<'m>, AllocError>
-    ensures names { IfOk result (λ known. names_in known ≡ names_of (manifest_meaning (λ m. m) manifest.now)) }
-    ensures listed { IfOk result (λ known. listed_by known ≡ (manifest_meaning (λ m. m) manifest.now).features) }
+    ensures names { IfOk result (λ known. names_in known
+        ≡ names_of (manifest_meaning (λ m. m) manifest.now)) }
+    ensures listed { IfOk result (λ known. listed_by known
+        ≡ (manifest_meaning (λ m. m) manifest.now).features) }
 {
     let dependencies = keys_of(alloc, manifest, true)?;
     let optional = keys_of(alloc, manifest, false)?;

@@ -61,7 +61,8 @@ fn add_errors<'m, S: BuildHasher>(
     features: &FeatureMap<'m, S>,
     bins: &'m [Product],
 ) -> Result<(), AllocError>
-    ensures added { OnOk result (Adds 0 3 (AreErrors features.now known.now (map product_meaning bins.now))
+    ensures added { OnOk result (Adds 0 3
+        (AreErrors features.now known.now (map product_meaning bins.now))
         (map about findings.old.items) (map about findings.new.items)) }
     ensures told { OnOk result (AreTold findings.old.items → AreTold findings.new.items) }
 {

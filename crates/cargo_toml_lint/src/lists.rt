@@ -32,7 +32,8 @@ fn is_unknown(known: &Known<'_>, text: &str) -> bool
 
 // Whether the key is that of dependencies of which none is optional.
 fn is_never_optional(known: &Known<'_>, key: &str) -> bool
-    ensures { result ≡ ((names_in known.now).dependency key.now && not ((names_in known.now).optional key.now)) }
+    ensures { result ≡ ((names_in known.now).dependency key.now
+        && not ((names_in known.now).optional key.now)) }
 {
     known.dependencies.contains(key) && !known.optional.contains(key)
 }
@@ -51,7 +52,8 @@ fn is_not_optional(known: &Known<'_>, text: &str) -> bool
 
 // Whether the text names what isn't there, or acts on no dependency.
 fn is_missing<S: BuildHasher>(known: &Known<'_>, features: &FeatureMap<'_, S>, text: &str) -> bool
-    ensures { result ≡ is_missing (names_in known.now) (table_in features.now).has (item_of text.now) }
+    ensures { result
+        ≡ is_missing (names_in known.now) (table_in features.now).has (item_of text.now) }
 {
     let action = read_action(text);
     if action.acts() {
@@ -104,7 +106,8 @@ pub(crate) fn same_name<'m>(
     alloc: Global,
     known: &Known<'m>,
 ) -> Result<BTreeSet<&'m str>, AllocError>
-    ensures { IfOk result (λ s. (f : Text) → IsTrue (has_text s f) ↔ IsTrue (has_same_name (names_in known.now) f)) }
+    ensures { IfOk result (λ s. (f : Text) → IsTrue (has_text s f)
+        ↔ IsTrue (has_same_name (names_in known.now) f)) }
 {
     let mut names = BTreeSet::new(alloc);
     for name in &known.optional {
@@ -137,7 +140,8 @@ fn add_missing<'m, S: BuildHasher>(
     required: &'m [String],
 ) -> Result<(), AllocError>
     ensures { OnOk result ((f : Text) → has_text names.new f ≡ (has_text names.old f
-        || asks_for (names_in known.now) (table_in features.now).has (map string_bytes required.now) f)) }
+        || asks_for (names_in known.now) (table_in features.now).has
+        (map string_bytes required.now) f)) }
 {
     for text in required {
         let text = text.as_str();
@@ -158,7 +162,8 @@ pub(crate) fn unknown<'m, S: BuildHasher>(
 ) -> Result<BTreeSet<&'m str>, AllocError>
     ensures { IfOk result (λ s. (f : Text) → has_text s f
         ≡ (lists (listed_by known.now) (is_unknown (names_in known.now)) f
-        || is_required (names_in known.now) (table_in features.now).has (map product_meaning bins.now) f)) }
+        || is_required (names_in known.now) (table_in features.now).has
+        (map product_meaning bins.now) f)) }
 {
     let mut names = naming_unknown(alloc, known)?;
     for bin in bins {
@@ -189,7 +194,8 @@ fn is_over<S: BuildHasher>(
     texts: &[String],
     limit: usize,
 ) -> bool
-    ensures { result ≡ (nat_lt limit (length (map string_bytes texts.now)) || not (explicit_at features.now name.now)) }
+    ensures { result ≡ (nat_lt limit (length (map string_bytes texts.now))
+        || not (explicit_at features.now name.now)) }
 {
     texts.len() > limit || !is_explicit(features, name)
 }
@@ -201,7 +207,8 @@ pub(crate) fn over_limit<'m, S: BuildHasher>(
     features: &FeatureMap<'m, S>,
     limit: usize,
 ) -> Result<BTreeSet<&'m str>, AllocError>
-    ensures { IfOk result (λ s. (f : Text) → has_text s f ≡ over_at features.now limit (listed_by known.now) f) }
+    ensures { IfOk result (λ s. (f : Text) → has_text s f
+        ≡ over_at features.now limit (listed_by known.now) f) }
 {
     let mut names = BTreeSet::new(alloc);
     for (name, texts) in known.features {

@@ -23,7 +23,8 @@ fn names_back<S: BuildHasher>(
     other: &str,
     name: &str,
 ) -> bool
-    ensures { result ≡ option_map_or (λ v. has_text v.now.enables_features name.now) (value_at enabled.now other.now) false }
+    ensures { result ≡ option_map_or (λ v. has_text v.now.enables_features name.now)
+        (value_at enabled.now other.now) false }
 {
     match enabled.get(other) {
         Some(feature) => feature.enables_features.contains(name),
@@ -36,7 +37,8 @@ fn is_named_back<S: BuildHasher>(
     enabled: &HashMap<&str, &Feature<'_>, S>,
     feature: &Feature<'_>,
 ) -> bool
-    ensures { result ≡ list_any (λ k. option_map_or (λ v. has_text v.now.enables_features feature.now.key.now)
+    ensures { result ≡ list_any
+        (λ k. option_map_or (λ v. has_text v.now.enables_features feature.now.key.now)
         (value_at enabled.now k.now) false) feature.now.enabled_by.keys }
 {
     for other in &feature.enabled_by {
@@ -72,7 +74,8 @@ pub(crate) fn cyclic<'m, S: BuildHasher + Clone>(
 ) -> Result<BTreeSet<&'m str>, Error>
     requires keyed { IsKeyed features.now }
     requires names { (f : Text) → has_text names.now f ≡ (table_in features.now).has f }
-    ensures cyclic { IfOk result (λ s. (f : Text) → IsTrue (has_text s f) ↔ IsRing (resolution_of features.now) f) }
+    ensures cyclic { IfOk result (λ s. (f : Text) → IsTrue (has_text s f)
+        ↔ IsRing (resolution_of features.now) f) }
     ensures refused { IfErr result (λ e. e ≡ Memory) }
 {
     let mut found = BTreeSet::new(alloc);
@@ -107,7 +110,8 @@ fn add_enabled<'m, S: BuildHasher + Clone>(
 ) -> Result<(), Error>
     requires { IsKeyed features.now }
     ensures added { OnOk result ((x : Text) → IsTrue (has_text reached.new x)
-        ↔ (IsTrue (has_text reached.old x) ⊎ (IsTrue ((table_in features.now).has name.now) × Enables (table_in features.now) name.now x))) }
+        ↔ (IsTrue (has_text reached.old x) ⊎ (IsTrue ((table_in features.now).has name.now)
+        × Enables (table_in features.now) name.now x))) }
     ensures refused { IfErr result (λ e. e ≡ Memory) }
 {
     let Some(feature) = features.get(name) else {
@@ -126,7 +130,8 @@ fn reached_by_users<'m, S: BuildHasher + Clone>(
 ) -> Result<BTreeSet<&'m str>, Error>
     requires keyed { IsKeyed features.now }
     requires names { (f : Text) → has_text names.now f ≡ (table_in features.now).has f }
-    ensures reached { IfOk result (λ s. (x : Text) → IsTrue (has_text s x) ↔ IsReached (table_in features.now) x) }
+    ensures reached { IfOk result (λ s. (x : Text) → IsTrue (has_text s x)
+        ↔ IsReached (table_in features.now) x) }
     ensures refused { IfErr result (λ e. e ≡ Memory) }
 {
     let mut reached = BTreeSet::new(alloc);
@@ -144,7 +149,8 @@ fn is_left_alone<S: BuildHasher>(
     reached: &BTreeSet<&str>,
     name: &str,
 ) -> bool
-    ensures { result ≡ ((table_in features.now).has name.now && (is_hidden name.now && not (has_text reached.now name.now))) }
+    ensures { result ≡ ((table_in features.now).has name.now
+        && (is_hidden name.now && not (has_text reached.now name.now))) }
 {
     features.contains_key(name) && is_hidden(name) && !reached.contains(name)
 }
@@ -157,7 +163,8 @@ pub(crate) fn unreachable<'m, S: BuildHasher + Clone>(
 ) -> Result<BTreeSet<&'m str>, Error>
     requires keyed { IsKeyed features.now }
     requires names { (f : Text) → has_text names.now f ≡ (table_in features.now).has f }
-    ensures unreachable { IfOk result (λ s. (f : Text) → IsTrue (has_text s f) ↔ IsUnreachable (table_in features.now) f) }
+    ensures unreachable { IfOk result (λ s. (f : Text) → IsTrue (has_text s f)
+        ↔ IsUnreachable (table_in features.now) f) }
     ensures refused { IfErr result (λ e. e ≡ Memory) }
 {
     let reached = reached_by_users(alloc, names, features)?;

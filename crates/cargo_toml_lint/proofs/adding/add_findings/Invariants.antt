@@ -6,6 +6,7 @@ use Rattle.cargo_toml_lint.proofs.adding.add_findings.Given as goal
 
 abbrev pub invariant-loop-name : goal.invariant-loop-name
 invariant-loop-name l = record {
-  abouts : map about l.findings.items ++ with_code l.code l.name-iterator ≡ map about l.initial.findings.items ++ with_code l.code l.names.keys;
+  abouts : map about l.findings.items ++ with_code l.code l.name-iterator
+      ≡ map about l.initial.findings.items ++ with_code l.code l.names.keys;
   told : AreTold l.initial.findings.items → AreTold l.findings.items;
 }

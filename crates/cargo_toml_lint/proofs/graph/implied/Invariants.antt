@@ -5,4 +5,5 @@ use Rattle.cargo_toml_lint.proofs.Gathered.{Gathers}
 use Rattle.cargo_toml_lint.proofs.graph.implied.Given as goal
 
 abbrev pub invariant-loop-name : goal.invariant-loop-name
-invariant-loop-name g l = Gathers (λ (f : Text). IsTrue (implied_at l.features f)) l.name-iterator l.found
+invariant-loop-name g l =
+    Gathers (λ (f : Text). IsTrue (implied_at l.features f)) l.name-iterator l.found

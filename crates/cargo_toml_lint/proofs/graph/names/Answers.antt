@@ -1,4 +1,4 @@
-use Rattle.std.proofs.Common.{◌≡◌, bytes_eq, sym, ap, ◌∙◌}
+use Rattle.std.proofs.Common.{bytes_eq, sym, ◌∙◌}
 use Rattle.std.proofs.lemmas.Map.Iter.{rest_more, rest_all}
 use Rattle.std.proofs.lemmas.Map.Made.{is_some-lookup}
 use Rattle.std.specs.Borrow.{Bor}
@@ -11,15 +11,20 @@ use Rattle.cargo_toml_lint.proofs.graph.names.Goals as goal
 
 pub loop-name-init : goal.loop-name-init
 loop-name-init g c = λ f.
-    starts (λ (k : Bor Text). bytes_eq f k.now) _ _ _ (none_in c.new-names.result c.new-names.ensures.empty f) c.keys.ensures.rest
+    starts (λ (k : Bor Text). bytes_eq f k.now) _ _ _
+    (none_in c.new-names.result c.new-names.ensures.empty f)
+    (c.into_iter-name-iterator.ensures.into_iter_gives ∙ c.keys-name-items.ensures.rest)
 
 pub loop-name-preserved : goal.loop-name-preserved
 loop-name-preserved g c = λ f.
-    goes_on (λ (k : Bor Text). bytes_eq f k.now) (has_text c.loop-name.names f) (has_text c.insert.new.self f) c.in-Some.name.now _ _ _
+    goes_on (λ (k : Bor Text). bytes_eq f k.now) (has_text c.loop-name.names f)
+    (has_text c.insert.new.self f) c.in-Some.name.now _ _ _
     (rest_more deref _ _ _ c.in-Some.name c.in-Some.is c.next.ensures.steps)
-    (inserted c.in-Some.name.now.now c.loop-name.names c.insert.new.self c.in_ok-insert.ensures.updates f) (c.loop-name.invariant f)
+    (inserted c.in-Some.name.now.now c.loop-name.names c.insert.new.self
+    c.in_ok-insert.ensures.updates f) (c.loop-name.invariant f)
 
 pub returns : goal.returns
 returns g c = λ f.
-    ends (λ (k : Bor Text). bytes_eq f k.now) (has_text c.loop-name.names f) _ _ (rest_all deref _ _ _ c.in-None.is c.next.ensures.steps) (c.loop-name.invariant f)
+    ends (λ (k : Bor Text). bytes_eq f k.now) (has_text c.loop-name.names f) _ _
+    (rest_all deref _ _ _ c.in-None.is c.next.ensures.steps) (c.loop-name.invariant f)
     ∙ sym (is_some-lookup (λ (k : Bor Text). bytes_eq f k.now) c.args.features.now.entries)

@@ -6,4 +6,6 @@ use Rattle.cargo_toml.specs.Views.{has_text}
 use Rattle.cargo_toml_lint.proofs.graph.names.Given as goal
 
 abbrev pub invariant-loop-name : goal.invariant-loop-name
-invariant-loop-name g l = (f : Text) → (has_text l.names f || list_any (λ k. bytes_eq f k.now) l.name-iterator) ≡ list_any (λ k. bytes_eq f k.now) (keys_of l.features.entries)
+invariant-loop-name g l = (f : Text)
+    → (has_text l.names f || list_any (λ k. bytes_eq f k.now) l.name-iterator)
+    ≡ list_any (λ k. bytes_eq f k.now) (keys_of l.features.entries)

@@ -5,4 +5,6 @@ use Rattle.cargo_toml_lint.specs.Known.{reserves, says}
 use Rattle.cargo_toml_lint.proofs.known.add_reserved.Given as goal
 
 abbrev pub invariant-loop-text : goal.invariant-loop-text
-invariant-loop-text l = (k : Text) → has_text l.reserved k ≡ (has_text l.initial.reserved k || says (reserves k) (map string_bytes (take l.text-index l.texts)))
+invariant-loop-text l = (k : Text) → has_text l.reserved k
+    ≡ (has_text l.initial.reserved k
+    || says (reserves k) (map string_bytes (take l.text-index l.texts)))

@@ -8,5 +8,8 @@ use Rattle.cargo_toml_lint.specs.Names.{tried}
 use Rattle.cargo_toml_lint.proofs.known.add_table.Given as goal
 
 abbrev pub invariant-loop-key : goal.invariant-loop-key
-invariant-loop-key l = (k : Text) → (has_text l.keys k || has_entry (tried l.are_all) k (map (λ e. (string_bytes e.0, dependency_meaning e.1)) l.key-iterator))
-    ≡ (has_text l.initial.keys k || has_entry (tried l.are_all) k (map_meaning dependency_meaning l.table))
+invariant-loop-key l = (k : Text)
+    → (has_text l.keys k || has_entry (tried l.are_all) k
+    (map (λ e. (string_bytes e.0, dependency_meaning e.1)) l.key-iterator))
+    ≡ (has_text l.initial.keys k || has_entry (tried l.are_all) k
+    (map_meaning dependency_meaning l.table))

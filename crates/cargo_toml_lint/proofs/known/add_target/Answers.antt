@@ -12,6 +12,9 @@ returns c =
     let t = c.args.target.now in
     on_ok_weaker c.add_table-3.result (λ added k.
     three_tables (has_entry (tried c.args.are_all) k)
-    (map_meaning dependency_meaning t.dependencies) (map_meaning dependency_meaning t.build_dependencies) (map_meaning dependency_meaning t.dev_dependencies)
-    (has_text c.args.keys.now k) _ _ _ (c.in_ok-add_table.ensures k) (c.in_ok-add_table-2.ensures k) (added k))
+    (map_meaning dependency_meaning t.dependencies)
+    (map_meaning dependency_meaning t.build_dependencies)
+    (map_meaning dependency_meaning t.dev_dependencies)
+    (has_text c.args.keys.now k) _ _ _ (c.in_ok-add_table.ensures k) (c.in_ok-add_table-2.ensures k)
+    (added k))
     c.add_table-3.ensures

@@ -10,5 +10,9 @@ use Rattle.cargo_toml_lint.proofs.known.add_targets.Given as goal
 
 abbrev pub invariant-loop-target : goal.invariant-loop-target
 invariant-loop-target l = (k : Text) →
-    (has_text l.keys k || list_any (λ t. list_any (has_entry (tried l.are_all) k) (tables_in (target_meaning t))) l.target-iterator)
-    ≡ (has_text l.initial.keys k || list_any (λ t. list_any (has_entry (tried l.are_all) k) (tables_in (target_meaning t))) (values l.targets))
+    (has_text l.keys k || list_any
+    (λ t. list_any (has_entry (tried l.are_all) k)
+    (tables_in (target_meaning t))) l.target-iterator)
+    ≡ (has_text l.initial.keys k || list_any
+    (λ t. list_any (has_entry (tried l.are_all) k) (tables_in (target_meaning t)))
+    (values l.targets))

@@ -1,4 +1,4 @@
-use Rattle.std.proofs.Common.{◌≡◌, ◌||◌, Global, List, String, Vec, map, string_bytes, sym, ap, ◌∙◌}
+use Rattle.std.proofs.Common.{◌||◌, Global, List, String, Vec, map, string_bytes, ap, ◌∙◌}
 use Rattle.std.proofs.lemmas.Map.Iter.{rest_more, rest_all}
 use Rattle.std.specs.Map.Iter.{deref}
 use Rattle.cargo_toml.specs.Action.{Text}
@@ -11,17 +11,25 @@ use Rattle.cargo_toml_lint.proofs.known.reserved_keys.Goals as goal
 
 pub loop-texts-init : goal.loop-texts-init
 loop-texts-init c = λ k.
-    starts (λ (v : Vec (String Global) Global). says (reserves k) (map string_bytes v.items)) _ _ _ (none_in c.new-reserved.result c.new-reserved.ensures.empty k) c.values.ensures.rest
+    starts (λ (v : Vec (String Global) Global). says (reserves k) (map string_bytes v.items)) _ _ _
+    (none_in c.new-reserved.result c.new-reserved.ensures.empty k)
+    (c.into_iter-texts-iterator.ensures.into_iter_gives ∙ c.values-texts-items.ensures.rest)
 
 pub loop-texts-preserved : goal.loop-texts-preserved
 loop-texts-preserved c = λ k.
-    goes_on (λ (v : Vec (String Global) Global). says (reserves k) (map string_bytes v.items)) (has_text c.loop-texts.reserved k) (has_text c.add_reserved.new.reserved k) c.in-Some.texts.now _ _ _
+    goes_on (λ (v : Vec (String Global) Global). says (reserves k) (map string_bytes v.items))
+    (has_text c.loop-texts.reserved k)
+    (has_text c.add_reserved.new.reserved k) c.in-Some.texts.now _ _ _
     (rest_more deref _ _ _ c.in-Some.texts c.in-Some.is c.next.ensures.steps)
-    (c.in_ok-add_reserved.ensures k ∙ ap (λ xs. has_text c.loop-texts.reserved k || says (reserves k) (map string_bytes xs)) c.as_slice.ensures.value)
+    (c.in_ok-add_reserved.ensures k
+    ∙ ap (λ xs. has_text c.loop-texts.reserved k
+    || says (reserves k) (map string_bytes xs)) c.as_slice.ensures.value)
     (c.loop-texts.invariant k)
 
 pub returns : goal.returns
 returns c = λ k.
-    ends (λ (v : Vec (String Global) Global). says (reserves k) (map string_bytes v.items)) (has_text c.loop-texts.reserved k) _ _
+    ends (λ (v : Vec (String Global) Global). says (reserves k) (map string_bytes v.items))
+    (has_text c.loop-texts.reserved k) _ _
     (rest_all deref _ _ _ c.in-None.is c.next.ensures.steps) (c.loop-texts.invariant k)
-    ∙ any_values (λ (ts : List Text). says (reserves k) ts) string_bytes (λ (v : Vec (String Global) Global). map string_bytes v.items) c.args.features.now.entries
+    ∙ any_values (λ (ts : List Text). says (reserves k) ts) string_bytes
+    (λ (v : Vec (String Global) Global). map string_bytes v.items) c.args.features.now.entries

@@ -8,5 +8,6 @@ use Rattle.cargo_toml_lint.proofs.known.reserved_keys.Given as goal
 
 abbrev pub invariant-loop-texts : goal.invariant-loop-texts
 invariant-loop-texts l = (k : Text) →
-    (has_text l.reserved k || list_any (λ v. says (reserves k) (map string_bytes v.items)) l.texts-iterator)
+    (has_text l.reserved k || list_any
+    (λ v. says (reserves k) (map string_bytes v.items)) l.texts-iterator)
     ≡ list_any (λ v. says (reserves k) (map string_bytes v.items)) (values l.features)

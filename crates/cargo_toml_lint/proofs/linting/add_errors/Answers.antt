@@ -7,7 +7,8 @@ pub returns-clause-added : goal.returns-clause-added
 returns-clause-added g c =
     on_ok_weaker c.add_findings-3.result (λ last.
     adds_both (adds_both
-    (adds_as NotOptional (λ f. same_as (c.in_ok-not_optional.ensures f)) c.in_ok-add_findings.ensures.added)
+    (adds_as NotOptional (λ f. same_as
+    (c.in_ok-not_optional.ensures f)) c.in_ok-add_findings.ensures.added)
     (adds_as SameName c.in_ok-same_name.ensures c.in_ok-add_findings-2.ensures.added))
     (adds_as Unknown (λ f. same_as (c.in_ok-unknown.ensures f)) last))
     c.add_findings-3.ensures.added

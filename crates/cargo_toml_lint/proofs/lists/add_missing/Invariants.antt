@@ -6,4 +6,6 @@ use Rattle.cargo_toml_lint.specs.Names.{names_in}
 use Rattle.cargo_toml_lint.proofs.lists.add_missing.Given as goal
 
 abbrev pub invariant-loop-text : goal.invariant-loop-text
-invariant-loop-text g l = (f : Text) → has_text l.names f ≡ (has_text l.initial.names f || asks_for (names_in l.known) (table_in l.features).has (map string_bytes (take l.text-index l.required)) f)
+invariant-loop-text g l = (f : Text) → has_text l.names f
+    ≡ (has_text l.initial.names f || asks_for (names_in l.known) (table_in l.features).has
+    (map string_bytes (take l.text-index l.required)) f)

@@ -9,6 +9,8 @@ use Rattle.cargo_toml_lint.proofs.lists.has_not_optional.Goals as goal
 
 pub returns : goal.returns
 returns c =
-    any_from_yields_List (λ (s : String Global). is_not_optional (names_in c.args.known.now) (item_of (string_bytes s))) _ _ _ c.any.ensures.ran
+    any_from_yields_List (λ (s : String Global). is_not_optional (names_in c.args.known.now)
+    (item_of (string_bytes s))) _ _ _ c.any.ensures.ran
     (YieldsList-from_slice c.args.texts.now cc) (λ x b q k. search (rules, tests))
-    ∙ sym (any_map (λ (text : Text). is_not_optional (names_in c.args.known.now) (item_of text)) string_bytes c.args.texts.now)
+    ∙ sym (any_map (λ (text : Text). is_not_optional (names_in c.args.known.now)
+    (item_of text)) string_bytes c.args.texts.now)

@@ -8,5 +8,7 @@ use Rattle.cargo_toml_lint.proofs.lists.not_optional.Given as goal
 
 abbrev pub invariant-loop-name : goal.invariant-loop-name
 invariant-loop-name l = (f : Text) →
-    (has_text l.names f || lists (map (λ e. (string_bytes e.0, map string_bytes e.1.items)) l.name-iterator) (is_not_optional (names_in l.known)) f)
+    (has_text l.names f || lists (map
+    (λ e. (string_bytes e.0, map string_bytes e.1.items)) l.name-iterator)
+    (is_not_optional (names_in l.known)) f)
     ≡ lists (listed_by l.known) (is_not_optional (names_in l.known)) f

@@ -7,5 +7,6 @@ use Rattle.cargo_toml_lint.proofs.lists.over_limit.Given as goal
 
 abbrev pub invariant-loop-name : goal.invariant-loop-name
 invariant-loop-name g l = (f : Text) →
-    (has_text l.names f || over_at l.features l.limit (map (λ e. (string_bytes e.0, map string_bytes e.1.items)) l.name-iterator) f)
+    (has_text l.names f || over_at l.features l.limit
+    (map (λ e. (string_bytes e.0, map string_bytes e.1.items)) l.name-iterator) f)
     ≡ over_at l.features l.limit (listed_by l.known) f

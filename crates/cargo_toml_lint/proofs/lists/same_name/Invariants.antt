@@ -6,4 +6,5 @@ use Rattle.cargo_toml_lint.proofs.Gathered.{Gathers}
 use Rattle.cargo_toml_lint.proofs.lists.same_name.Given as goal
 
 abbrev pub invariant-loop-name : goal.invariant-loop-name
-invariant-loop-name l = Gathers (λ (f : Text). IsTrue (has_same_name (names_in l.known) f)) l.name-iterator l.names
+invariant-loop-name l =
+    Gathers (λ (f : Text). IsTrue (has_same_name (names_in l.known) f)) l.name-iterator l.names

@@ -8,4 +8,7 @@ use Rattle.cargo_toml_lint.specs.Names.{listed_by, names_in}
 use Rattle.cargo_toml_lint.proofs.lists.unknown.Given as goal
 
 abbrev pub invariant-loop-bin : goal.invariant-loop-bin
-invariant-loop-bin g l = (f : Text) → has_text l.names f ≡ (lists (listed_by l.known) (is_unknown (names_in l.known)) f || is_required (names_in l.known) (table_in l.features).has (map product_meaning (take l.bin-index l.bins)) f)
+invariant-loop-bin g l = (f : Text) → has_text l.names f
+    ≡ (lists (listed_by l.known) (is_unknown (names_in l.known)) f
+    || is_required (names_in l.known) (table_in l.features).has
+    (map product_meaning (take l.bin-index l.bins)) f)

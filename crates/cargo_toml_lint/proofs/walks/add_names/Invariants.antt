@@ -6,4 +6,6 @@ use Rattle.cargo_toml.specs.Views.{has_text}
 use Rattle.cargo_toml_lint.proofs.walks.add_names.Given as goal
 
 abbrev pub invariant-loop-name : goal.invariant-loop-name
-invariant-loop-name g l = (x : Text) → (has_text l.reached x || list_any (λ k. bytes_eq x k.now) l.name-iterator) ≡ (has_text l.initial.reached x || list_any (λ k. bytes_eq x k.now) (keys_of l.enabled.entries))
+invariant-loop-name g l = (x : Text)
+    → (has_text l.reached x || list_any (λ k. bytes_eq x k.now) l.name-iterator)
+    ≡ (has_text l.initial.reached x || list_any (λ k. bytes_eq x k.now) (keys_of l.enabled.entries))

@@ -1,5 +1,5 @@
 -- What is found in an answer for a manifest is what holds of the manifest.
-use Rattle.std.proofs.Common.{◌≡◌, ◌⊎◌, ◌↔◌, ◌||◌, ℕ, Bool, true, List, IsTrue, refl, sym, ap, subst, inl, inr, ◌∙◌}
+use Rattle.std.proofs.Common.{◌≡◌, ◌⊎◌, ◌↔◌, ◌||◌, ℕ, Bool, true, List, IsTrue, sym, ap, subst, inl, inr, ◌∙◌}
 use Rattle.std.proofs.lemmas.Bool.{or_cases, or_left, or_right}
 use Rattle.cargo_toml.specs.Action.{Text}
 use Rattle.cargo_toml.specs.Admitted.{admitted}
@@ -51,15 +51,18 @@ module _ {M S H : Type 0} (limit : ℕ) (m : ManifestMeaning M) (a : Features S 
       both (same_as same) (either (lists m.features (is_unknown (names_of m)) f)
       (is_required (names_of m) (parsed_table limit m).has m.bin f))
   holds_is Implied f = implied_is a.features (admitted limit m.features)
-      (parsed_entries limit m) m.feature_details Removed none parsed.kept.resolved parsed.kept.marks f
+      (parsed_entries limit m) m.feature_details Removed none parsed.kept.resolved parsed.kept.marks
+      f
   holds_is PrivateDefault f =
       private_is a.features (admitted limit m.features)
-      (parsed_entries limit m) m.feature_details Removed none parsed.kept.resolved parsed.kept.marks f
+      (parsed_entries limit m) m.feature_details Removed none parsed.kept.resolved parsed.kept.marks
+      f
   holds_is Cycle f = cyclic_is a.features (parsed_table limit m) Removed none parsed.kept.resolved f
   holds_is OverLimit f =
       same_as (ap (λ ls. over_at a.features limit ls f) listed
       ∙ over_is a.features (admitted limit m.features)
-      (parsed_entries limit m) m.feature_details Removed none parsed.kept.resolved parsed.kept.marks limit m.features f)
+      (parsed_entries limit m) m.feature_details Removed none parsed.kept.resolved parsed.kept.marks
+      limit m.features f)
   holds_is Unreachable f =
       unreachable_is a.features (parsed_table limit m) Removed none parsed.kept.resolved f
 

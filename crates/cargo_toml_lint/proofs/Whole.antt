@@ -1,6 +1,6 @@
 -- What is found in the maps of an answer, of the table of a manifest.
-use Rattle.std.proofs.Common.{◌≡◌, ◌≢◌, ◌⊎◌, ◌↔◌, ◌||◌, ◌&&◌, ◌==◌, not, cond, Bool, true, false, ℕ, List, [], ◌∷◌, length, Option, Some, None, is_some, Bor, IsTrue, IsFalse, bytes_eq, codes, nat_lt, arith, refl, sym, ap, subst, inl, inr, ◌∙◌}
-use Rattle.std.proofs.lemmas.Bool.{false≢true, and_parts, and_from, not-true, not_from_false, not_from_true, false_from_ne_true, true_from_ne_false, or_cases, or_left, or_right, cases_Bool, eqb-true}
+use Rattle.std.proofs.Common.{◌≡◌, ◌≢◌, ◌↔◌, ◌||◌, ◌&&◌, ◌==◌, not, cond, Bool, true, false, ℕ, List, [], ◌∷◌, length, Option, Some, None, is_some, Bor, IsTrue, bytes_eq, codes, nat_lt, arith, refl, sym, ap, subst, inl, inr, ◌∙◌}
+use Rattle.std.proofs.lemmas.Bool.{false≢true, and_parts, and_from, not-true, not_from_false, false_from_ne_true, or_cases, or_left, or_right, eqb-true}
 use Rattle.std.proofs.lemmas.Bool.Decides.{Decides-eqb}
 use Rattle.std.proofs.lemmas.Map.Text.{is_eq-slice_cmp}
 use Rattle.std.proofs.lemmas.Slice.Eq.{bytes_eq-Decides}
@@ -11,20 +11,20 @@ use Rattle.cargo_toml.specs.Action.{Text}
 use Rattle.cargo_toml.specs.Admitted.{Listed, is_explicit}
 use Rattle.cargo_toml.specs.Details.{plain_detail}
 use Rattle.cargo_toml.specs.Feature.{Feature}
-use Rattle.cargo_toml.specs.Graph.{Table, Edge, IsKept, IsResolved}
+use Rattle.cargo_toml.specs.Graph.{Table, Edge, IsResolved}
 use Rattle.cargo_toml.specs.Marks.{Details, Marks, marked, marks_in, marks_of}
 use Rattle.cargo_toml.specs.NonDefault.{without_default}
 use Rattle.cargo_toml.specs.Products.{ProductMeaning}
 use Rattle.cargo_toml.specs.Reach.{Gathers, Reaches}
 use Rattle.cargo_toml.specs.Reach.Reaches.{edge, through}
-use Rattle.cargo_toml.specs.Recorded.{Entry, is_implied, is_reserved}
+use Rattle.cargo_toml.specs.Recorded.{Entry, is_implied}
 use Rattle.cargo_toml.specs.Recursive.{Enables}
 use Rattle.cargo_toml.specs.Recursive.Enables.{itself, further}
 use Rattle.cargo_toml.specs.Removal.{is_removed}
 use Rattle.cargo_toml.specs.Resolved.{table_of}
 use Rattle.cargo_toml.specs.Views.{has_text, resolution_of, table_in, value_at}
 use Rattle.cargo_toml_graph.proofs.Texts.{decided_text}
-use Rattle.cargo_toml_lint.specs.Findings.{IsCyclic, IsOnlyDefault, IsUnreachable, is_hidden, is_over, is_private, is_required}
+use Rattle.cargo_toml_lint.specs.Findings.{IsCyclic, IsOnlyDefault, IsUnreachable, is_hidden, is_private, is_required}
 use Rattle.cargo_toml_lint.specs.Known.{Names}
 use Rattle.cargo_toml_lint.specs.Steps.{IsRing, explicit_at, implied_at, only_default, over_at, private_default_at}
 use Rattle.cargo_toml_lint.proofs.Gathered.{at_head, has_in}
@@ -152,7 +152,13 @@ module _ {S : Type 0} (m : HashMap (Bor Text) Feature S) (t : Table) (Removed : 
     λ r.
         let known : IsTrue (t.has f) = told_has f r.0 r.1 in
         let d : Edge t r.0 f = (enablers f r.0 known).0 r.1 in
-        record { other = r.0; known = known; apart = d.apart; there = enables_in known r.2; back = further itself (named r.0 f d.source r.3) known },
+        record {
+          other = r.0;
+          known = known;
+          apart = d.apart;
+          there = enables_in known r.2;
+          back = further itself (named r.0 f d.source r.3) known;
+        },
     λ c.
         let l = last_before f refl c.apart c.there c.back in
         let known : IsTrue (t.has l.0) = enables_has c.known l.2 in
@@ -163,8 +169,16 @@ module _ {S : Type 0} (m : HashMap (Bor Text) Feature S) (t : Table) (Removed : 
 
   pub unreachable_is : (f : Text) → IsUnreachable (table_in m) f ↔ IsUnreachable t f
   unreachable_is f = (
-    λ u. record { known = there f u.known; hidden = u.hidden; left_alone = λ k h kept e. u.left_alone k (held k h) kept (enables_out h e) },
-    λ u. record { known = held f u.known; hidden = u.hidden; left_alone = λ k h kept e. u.left_alone k (there k h) kept (enables_in (there k h) e) },
+    λ u. record {
+      known = there f u.known;
+      hidden = u.hidden;
+      left_alone = λ k h kept e. u.left_alone k (held k h) kept (enables_out h e);
+    },
+    λ u. record {
+      known = held f u.known;
+      hidden = u.hidden;
+      left_alone = λ k h kept e. u.left_alone k (there k h) kept (enables_in (there k h) e);
+    },
   )
 
   only_default_is : (f : Text) (v : Feature) → value_at m f ≡ Some v → IsTrue (only_default v)

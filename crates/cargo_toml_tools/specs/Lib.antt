@@ -1,2 +1,5 @@
 pub mod Documented
 pub mod Escapes
+pub mod Indexed
+pub mod Patterns
+pub mod Rows

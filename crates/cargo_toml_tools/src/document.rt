@@ -6,22 +6,25 @@ mod dot;
 mod reached;
 
 use crate::escape::{Format, push_code, push_escaped};
+use cargo_toml::Manifest;
 use cargo_toml::features::{DepAction, Feature, Features};
-use cargo_toml::{Error, Manifest};
 pub use dot::graph;
-use reached::{Reached, names_turned_on, reach};
+use reached::{Reached, reach, turned_on};
 use std::alloc::{AllocError, Global};
-use std::collections::{BTreeMap, BTreeSet};
+use std::collections::{BTreeMap, BTreeSet, HashMap};
 use std::hash::BuildHasher;
+
+/// The features of a manifest by name, as they are resolved.
+pub(crate) type FeatureMap<'m, S> = HashMap<&'m str, Feature<'m>, S>;
 
 /// A feature that users may ask for, and what is told of it.
 #[derive(Drop)]
-struct Row<'a> {
-    name: &'a str,
+struct Row<'m> {
+    name: &'m str,
     is_listed: bool,
-    doc: Option<&'a str>,
+    doc: Option<&'m str>,
     is_default: bool,
-    turns_on: Reached<'a>,
+    turns_on: Reached<'m>,
 }
 
 /// A page in Markdown on the features that users may ask for: each with its text, whether it is on
@@ -29,12 +32,13 @@ struct Row<'a> {
 /// features stand in a table of their own. Hidden and private features are left out.
 ///
 /// Hidden features were removed from what is resolved.
-pub fn page<'a, M, S: BuildHasher>(
+pub fn page<M, S: BuildHasher>(
     alloc: Global,
-    manifest: &'a Manifest<M>,
-    resolved: &'a Features<'a, 'a, S>,
-) -> Result<String, Error> {
-    let rows = rows(alloc, manifest, resolved)?;
+    manifest: &Manifest<M>,
+    resolved: &Features<'_, '_, S>,
+) -> Result<String, AllocError> {
+    let has_default = manifest.features.contains_key("default");
+    let rows = rows(alloc, &resolved.features, has_default)?;
     let mut page = String::new(alloc);
     push_title(&mut page, manifest)?;
     push_table(alloc, &mut page, rows.as_slice(), true)?;
@@ -42,40 +46,51 @@ pub fn page<'a, M, S: BuildHasher>(
     Ok(page)
 }
 
-/// The rows of all features, in byte order of their names.
-fn rows<'a, M, S: BuildHasher>(
+/// The rows of all features that are told of, in byte order of their names.
+fn rows<'m, S: BuildHasher>(
     alloc: Global,
-    manifest: &'a Manifest<M>,
-    resolved: &'a Features<'a, 'a, S>,
-) -> Result<Vec<Row<'a>>, Error> {
-    let defaults = names_turned_on(alloc, "default", resolved)?;
-    let has_default = manifest.features.contains_key("default");
-    let in_order = in_order(alloc, resolved)?;
+    features: &FeatureMap<'m, S>,
+    has_default: bool,
+) -> Result<Vec<Row<'m>>, AllocError> {
+    let defaults = turned_on(alloc, "default", features)?;
     let mut rows = Vec::new(alloc);
-    for (name, feature) in &in_order {
-        if is_shown(*feature, has_default) {
-            rows.push(Row {
-                name: *name,
-                is_listed: feature.explicit,
-                doc: feature.doc,
-                is_default: defaults.contains(*name),
-                turns_on: reach(alloc, *name, resolved)?,
-            })?;
+    let names = names(alloc, features)?;
+    for name in &names {
+        if let Some(feature) = features.get(*name) {
+            if is_shown(feature, has_default) {
+                rows.push(row(alloc, feature, features, &defaults)?)?;
+            }
         }
     }
     Ok(rows)
 }
 
-/// The features by name.
-fn in_order<'a, S: BuildHasher>(
+fn row<'m, S: BuildHasher>(
     alloc: Global,
-    resolved: &'a Features<'a, 'a, S>,
-) -> Result<BTreeMap<&'a str, &'a Feature<'a>>, AllocError> {
-    resolved
-        .features
-        .iter()
-        .map(|(name, feature)| (*name, feature))
-        .collect(alloc)
+    feature: &Feature<'m>,
+    features: &FeatureMap<'m, S>,
+    defaults: &BTreeSet<&str>,
+) -> Result<Row<'m>, AllocError> {
+    let turns_on = reach(alloc, feature.key, features)?;
+    Ok(Row {
+        name: feature.key,
+        is_listed: feature.explicit,
+        doc: feature.doc,
+        is_default: defaults.contains(feature.key),
+        turns_on,
+    })
+}
+
+/// The names of the features.
+fn names<'m, S: BuildHasher>(
+    alloc: Global,
+    features: &FeatureMap<'m, S>,
+) -> Result<BTreeSet<&'m str>, AllocError> {
+    let mut names = BTreeSet::new(alloc);
+    for name in features.keys() {
+        names.insert(*name)?;
+    }
+    Ok(names)
 }
 
 /// Whether a feature is told of: one that isn't private, and `default` where the manifest has it.

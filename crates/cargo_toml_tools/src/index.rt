@@ -1,8 +1,12 @@
 //! The line of JSON that a registry's index has of a crate, by the rules of Cargo's.
-ghost use Rattle.std.specs.Prelude.{◌≡◌, Err, None};
-ghost use Rattle.cargo_toml_tools.specs.declared.index.IndexError.TheVariants.{NoPackage};
+ghost use Rattle.std.specs.Prelude.{◌≡◌, ◌⊎◌, Err, false, IfErr, None, OnOk, true};
+ghost use Rattle.cargo_toml.specs.Manifests.{manifest_meaning};
+ghost use Rattle.cargo_toml_tools.specs.declared.index.IndexError.TheVariants.{Incomplete, Memory, NoPackage};
+ghost use Rattle.cargo_toml_tools.specs.Indexed.{Explains, IsTaken, RefusesVersion, is_stated, is_stated_if_any};
 
 mod dependencies;
+mod entry;
+mod refusals;
 
 use crate::json::{put_text, put_texts};
 use cargo_toml::{FeatureSet, Inheritable, Manifest, Package, SemVer};
@@ -29,12 +33,20 @@ pub enum IndexError {
 }
 
 impl From<AllocError> for IndexError {
+    ghost use Rattle.cargo_toml_tools.specs.declared.index.IndexError.TheVariants.{Memory};
+
+    ghost from_gives = { λ _ e. e ≡ Memory };
+
     fn from(_fault: AllocError) -> IndexError {
         IndexError::Memory
     }
 }
 
 impl<T: Drop> From<AllocFailed<T>> for IndexError {
+    ghost use Rattle.cargo_toml_tools.specs.declared.index.IndexError.TheVariants.{Memory};
+
+    ghost from_gives = { λ _ e. e ≡ Memory };
+
     fn from(_fault: AllocFailed<T>) -> IndexError {
         IndexError::Memory
     }
@@ -72,6 +84,8 @@ pub fn index_line<M>(
     checksum: Option<&str>,
 ) -> Result<String, IndexError>
     ensures no_package { manifest.now.«package» ≡ None → result ≡ Err NoPackage }
+    ensures taken { OnOk result (IsTaken (manifest_meaning (λ m. m) manifest.now)) }
+    ensures refused { IfErr result (λ e. Explains e (manifest_meaning (λ m. m) manifest.now)) }
 {
     let Some(package) = &manifest.package else {
         return Err(IndexError::NoPackage);
@@ -91,7 +105,10 @@ fn stated_version(
     alloc: Global,
     version: &Inheritable<SemVer>,
     text: &str,
-) -> Result<String, IndexError> {
+) -> Result<String, IndexError>
+    ensures stated { OnOk result (is_stated version.now ≡ true) }
+    ensures refused { IfErr result (RefusesVersion version.now) }
+{
     let Inheritable::Set(version) = version else {
         return Err(IndexError::Incomplete);
     };
@@ -103,7 +120,9 @@ fn stated_version(
 }
 
 /// Whether the table `package` of this text has a key `version`.
-fn states_version(alloc: Global, text: &str) -> Result<bool, IndexError> {
+fn states_version(alloc: Global, text: &str) -> Result<bool, IndexError>
+    ensures { IfErr result (λ e. e ≡ Memory) }
+{
     match toml::table_from_str(alloc, text) {
         Ok(table) => Ok(match table.get("package") {
             Some(package) => package.get("version").is_some(),
@@ -120,7 +139,11 @@ fn package_members<M>(
     package: &Package<M>,
     version: String,
     dependencies: Vec<Value>,
-) -> Result<Map<String, Value>, IndexError> {
+) -> Result<Map<String, Value>, IndexError>
+    ensures stated { OnOk result (is_stated_if_any «package».now.rust_version ≡ true) }
+    ensures refused { IfErr result (λ e. (e ≡ Memory)
+        ⊎ ((e ≡ Incomplete) × (is_stated_if_any «package».now.rust_version ≡ false))) }
+{
     let rust_version = match &package.rust_version {
         Some(Inheritable::Set(text)) => Some(text.as_str()),
         Some(Inheritable::Inherited) => return Err(IndexError::Incomplete),

@@ -28,7 +28,7 @@ fn page_of<R: RandomSource + AllocGlobal>(rt: &R, manifest: &Manifest) -> Result
     let state = RandomState::new(rt)?;
     let resolver = Resolver::new_with_hasher_and_filter(state, &|_: &str| false);
     let resolved = resolver.parse(rt.alloc(), manifest)?;
-    page(rt.alloc(), manifest, &resolved)
+    Ok(page(rt.alloc(), manifest, &resolved)?)
 }
 
 /// The graph of a manifest, with hidden features.
@@ -36,5 +36,5 @@ fn graph_of<R: RandomSource + AllocGlobal>(rt: &R, manifest: &Manifest) -> Resul
     let state = RandomState::new(rt)?;
     let resolver = Resolver::new_with_hasher_and_filter(state, &|_: &str| true);
     let resolved = resolver.parse(rt.alloc(), manifest)?;
-    graph(rt.alloc(), manifest, &resolved)
+    Ok(graph(rt.alloc(), manifest, &resolved)?)
 }

@@ -1,9 +1,9 @@
 //! The graph of features, in Graphviz's language.
 
-use super::{in_order, is_private};
+use super::{FeatureMap, is_private, names};
 use crate::escape::{Format, push_escaped};
+use cargo_toml::Manifest;
 use cargo_toml::features::{DepAction, Feature, Features};
-use cargo_toml::{Error, Manifest};
 use std::alloc::{AllocError, Global};
 use std::collections::BTreeSet;
 use std::hash::BuildHasher;
@@ -16,23 +16,53 @@ pub fn graph<M, S: BuildHasher>(
     alloc: Global,
     manifest: &Manifest<M>,
     resolved: &Features<'_, '_, S>,
-) -> Result<String, Error> {
+) -> Result<String, AllocError> {
     let mut graph = String::new(alloc);
     graph.push_str("digraph {\n")?;
     push_label(&mut graph, manifest)?;
-    let mut dependencies = BTreeSet::new(alloc);
-    for (_, feature) in &in_order(alloc, resolved)? {
-        push_feature(&mut graph, *feature)?;
-        push_edges(&mut graph, *feature, resolved)?;
-        for key in feature.enables_deps.keys() {
-            dependencies.insert(*key)?;
-        }
-    }
-    for key in &dependencies {
-        push_node(&mut graph, "dependency", *key, "shape=box")?;
-    }
+    push_features(alloc, &mut graph, &resolved.features)?;
+    push_dependencies(alloc, &mut graph, &resolved.features)?;
     graph.push_str("}\n")?;
     Ok(graph)
+}
+
+/// The features, each with its edges, in byte order of their names.
+fn push_features<S: BuildHasher>(
+    alloc: Global,
+    graph: &mut String,
+    features: &FeatureMap<'_, S>,
+) -> Result<(), AllocError> {
+    let names = names(alloc, features)?;
+    for name in &names {
+        if let Some(feature) = features.get(*name) {
+            push_feature(graph, feature)?;
+            push_edges(graph, feature, features)?;
+        }
+    }
+    Ok(())
+}
+
+/// The dependencies that features act on, in byte order of their keys.
+fn push_dependencies<S: BuildHasher>(
+    alloc: Global,
+    graph: &mut String,
+    features: &FeatureMap<'_, S>,
+) -> Result<(), AllocError> {
+    let mut keys = BTreeSet::new(alloc);
+    for feature in features.values() {
+        add_keys(&mut keys, feature)?;
+    }
+    for key in &keys {
+        push_node(graph, "dependency", *key, "shape=box")?;
+    }
+    Ok(())
+}
+
+fn add_keys<'m>(keys: &mut BTreeSet<&'m str>, feature: &Feature<'m>) -> Result<(), AllocError> {
+    for key in feature.enables_deps.keys() {
+        keys.insert(*key)?;
+    }
+    Ok(())
 }
 
 fn push_label<M>(graph: &mut String, manifest: &Manifest<M>) -> Result<(), AllocError> {
@@ -76,10 +106,10 @@ fn push_id(graph: &mut String, kind: &str, name: &str) -> Result<(), AllocError>
 fn push_edges<S: BuildHasher>(
     graph: &mut String,
     feature: &Feature<'_>,
-    resolved: &Features<'_, '_, S>,
+    features: &FeatureMap<'_, S>,
 ) -> Result<(), AllocError> {
     for name in &feature.enables_features {
-        if resolved.features.contains_key(*name) {
+        if features.contains_key(*name) {
             push_edge(graph, feature.key, "feature", *name)?;
             graph.push_str(";\n")?;
         }

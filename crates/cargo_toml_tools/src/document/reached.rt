@@ -1,119 +1,126 @@
 //! What a feature turns on, by any number of steps.
 
-use super::is_private;
-use cargo_toml::Error;
-use cargo_toml::features::{DepAction, Feature, Features};
+use super::{FeatureMap, is_private};
+use cargo_toml::features::{DepAction, Feature};
 use std::alloc::{AllocError, Global};
 use std::collections::{BTreeMap, BTreeSet};
 use std::hash::BuildHasher;
 
 /// What a feature turns on.
 #[derive(Drop)]
-pub struct Reached<'a> {
+pub struct Reached<'m> {
     /// The other features, but for private ones.
-    pub features: BTreeSet<&'a str>,
+    pub features: BTreeSet<&'m str>,
     /// What is done to dependencies, by their keys, joined of all that is turned on.
-    pub actions: BTreeMap<&'a str, DepAction<'a>>,
+    pub actions: BTreeMap<&'m str, DepAction<'m>>,
 }
 
 /// What the feature of this name turns on.
-pub fn reach<'a, S: BuildHasher>(
+pub fn reach<'m, S: BuildHasher>(
     alloc: Global,
     name: &str,
-    resolved: &'a Features<'a, 'a, S>,
-) -> Result<Reached<'a>, Error> {
-    let mut features = BTreeSet::new(alloc);
+    features: &FeatureMap<'m, S>,
+) -> Result<Reached<'m>, AllocError> {
+    let mut others = BTreeSet::new(alloc);
     let mut actions = BTreeMap::new(alloc);
-    for feature in turned_on(alloc, name, resolved)? {
-        if feature.key != name && !is_private(feature) {
-            features.insert(feature.key)?;
-        }
-        for (key, action) in &feature.enables_deps {
-            join(alloc, &mut actions, *key, action)?;
+    let names = turned_on(alloc, name, features)?;
+    for other in &names {
+        if let Some(feature) = features.get(*other) {
+            add_other(&mut others, feature, name)?;
+            join_actions(alloc, &mut actions, feature)?;
         }
     }
-    Ok(Reached { features, actions })
+    Ok(Reached {
+        features: others,
+        actions,
+    })
 }
 
-/// The names of the feature and of all that it turns on.
-pub fn names_turned_on<'a, S: BuildHasher>(
+/// The names of the feature of this name and of all that it turns on: what it names, and what has
+/// the name of a dependency that it acts on neither conditionally nor by `dep:`.
+pub fn turned_on<'m, S: BuildHasher>(
     alloc: Global,
     name: &str,
-    resolved: &'a Features<'a, 'a, S>,
-) -> Result<BTreeSet<&'a str>, AllocError> {
-    let mut names = BTreeSet::new(alloc);
-    for feature in turned_on(alloc, name, resolved)? {
-        names.insert(feature.key)?;
-    }
-    Ok(names)
-}
-
-/// The feature of this name, and all that it turns on: what it names, and what has the name of a
-/// dependency that it acts on neither conditionally nor by `dep:`.
-fn turned_on<'a, S: BuildHasher>(
-    alloc: Global,
-    name: &str,
-    resolved: &'a Features<'a, 'a, S>,
-) -> Result<Vec<&'a Feature<'a>>, AllocError> {
-    let mut found = Found {
-        names: BTreeSet::new(alloc),
-        features: Vec::new(alloc),
-    };
-    add(&mut found, name, resolved)?;
-    // each is added once
-    for i in 0..resolved.features.len() {
-        let Some(feature) = found.features.get(i).copied() else {
+    features: &FeatureMap<'m, S>,
+) -> Result<BTreeSet<&'m str>, AllocError> {
+    let mut found = BTreeSet::new(alloc);
+    let mut left = Vec::new(alloc);
+    add(&mut found, &mut left, features, name)?;
+    // each is left to be looked at once
+    for _ in 0..features.len() {
+        let Some(next) = left.pop() else {
             break;
         };
-        add_next(&mut found, feature, resolved)?;
+        if let Some(feature) = features.get(next) {
+            add_next(&mut found, &mut left, features, feature)?;
+        }
     }
-    Ok(found.features)
-}
-
-/// Features, each once, in the order in which they are found.
-#[derive(Drop)]
-struct Found<'a> {
-    names: BTreeSet<&'a str>,
-    features: Vec<&'a Feature<'a>>,
+    Ok(found)
 }
 
 /// Adds the feature of this name, where there is one and it wasn't found before.
-fn add<'a, S: BuildHasher>(
-    found: &mut Found<'a>,
+fn add<'m, S: BuildHasher>(
+    found: &mut BTreeSet<&'m str>,
+    left: &mut Vec<&'m str>,
+    features: &FeatureMap<'m, S>,
     name: &str,
-    resolved: &'a Features<'a, 'a, S>,
 ) -> Result<(), AllocError> {
-    if let Some(feature) = resolved.features.get(name) {
-        if found.names.insert(feature.key)? {
-            found.features.push(feature)?;
+    if let Some(feature) = features.get(name) {
+        if found.insert(feature.key)? {
+            left.push(feature.key)?;
         }
     }
     Ok(())
 }
 
 /// Adds what a feature turns on in one step.
-fn add_next<'a, S: BuildHasher>(
-    found: &mut Found<'a>,
-    feature: &Feature<'a>,
-    resolved: &'a Features<'a, 'a, S>,
+fn add_next<'m, S: BuildHasher>(
+    found: &mut BTreeSet<&'m str>,
+    left: &mut Vec<&'m str>,
+    features: &FeatureMap<'m, S>,
+    feature: &Feature<'m>,
 ) -> Result<(), AllocError> {
     for name in &feature.enables_features {
-        add(found, *name, resolved)?;
+        add(found, left, features, *name)?;
     }
     for (key, action) in &feature.enables_deps {
         if !action.is_conditional && !action.is_dep_only {
-            add(found, *key, resolved)?;
+            add(found, left, features, *key)?;
         }
     }
     Ok(())
 }
 
-/// Joins an action into what is done to its dependency. Two are conditional only where both are.
-fn join<'a>(
+/// Adds a feature that is another, unless it is private.
+fn add_other<'m>(
+    others: &mut BTreeSet<&'m str>,
+    feature: &Feature<'m>,
+    name: &str,
+) -> Result<(), AllocError> {
+    if feature.key != name && !is_private(feature) {
+        others.insert(feature.key)?;
+    }
+    Ok(())
+}
+
+/// Joins the actions of a feature into what is done to dependencies.
+fn join_actions<'m>(
     alloc: Global,
-    actions: &mut BTreeMap<&'a str, DepAction<'a>>,
-    key: &'a str,
-    action: &DepAction<'a>,
+    actions: &mut BTreeMap<&'m str, DepAction<'m>>,
+    feature: &Feature<'m>,
+) -> Result<(), AllocError> {
+    for (key, action) in &feature.enables_deps {
+        join(alloc, actions, *key, action)?;
+    }
+    Ok(())
+}
+
+/// Joins an action into what is done to its dependency. Two are conditional only where both are.
+fn join<'m>(
+    alloc: Global,
+    actions: &mut BTreeMap<&'m str, DepAction<'m>>,
+    key: &'m str,
+    action: &DepAction<'m>,
 ) -> Result<(), AllocError> {
     let none = DepAction {
         is_conditional: true,

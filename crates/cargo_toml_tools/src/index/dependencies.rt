@@ -1,50 +1,53 @@
 //! The entries that an index has of a crate's dependencies.
+ghost use Rattle.std.specs.Prelude.{◌≡◌, ◌⊎◌, IfErr, IsTrue, OnOk};
+ghost use Rattle.std.specs.List.{list_all, list_any};
+ghost use Rattle.cargo_toml.specs.Dependencies.{dependency_meaning};
+ghost use Rattle.cargo_toml.specs.Manifests.{manifest_meaning};
+ghost use Rattle.cargo_toml.specs.Reads.{map_meaning};
+ghost use Rattle.cargo_toml.specs.Targets.{target_meaning};
+ghost use Rattle.cargo_toml_tools.specs.declared.index.IndexError.TheVariants.{Memory};
+ghost use Rattle.cargo_toml_tools.specs.Indexed.{are_taken, is_taken, is_told, tables, tables_in, tells, with_kinds};
 
 use super::IndexError;
-use crate::json::{put_text, put_texts};
+use super::entry::{Place, push_dependency};
+use super::refusals::is_listed;
 use cargo_toml::features::Kind;
-use cargo_toml::{Dependency, DependencyDetail, DepsSet, Manifest, Target};
-use serde_json::{Map, Value, push, put};
-use std::alloc::{AllocError, Global};
-
-/// The address of the index that the registry `crates-io` has.
-const CRATES_IO: &str = "https://github.com/rust-lang/crates.io-index";
-
-/// Where a dependency stands.
-#[derive(Clone, Copy)]
-struct Place<'a> {
-    kind: Kind,
-    target: Option<&'a str>,
-}
+use cargo_toml::{Dependency, DepsSet, Manifest, Target, TargetDepsSet};
+use serde_json::Value;
+use std::alloc::Global;
 
 /// The entries of all dependencies: first those of the package's own tables, then those of targets.
-pub(crate) fn entries<M>(alloc: Global, manifest: &Manifest<M>) -> Result<Vec<Value>, IndexError> {
+pub(crate) fn entries<M>(alloc: Global, manifest: &Manifest<M>) -> Result<Vec<Value>, IndexError>
+    ensures taken { OnOk result (IsTrue (are_taken (tables (manifest_meaning (λ m. m) manifest.now)))) }
+    ensures refused { IfErr result (λ e. (e ≡ Memory)
+        ⊎ IsTrue (is_told e (tables (manifest_meaning (λ m. m) manifest.now)))) }
+{
     let mut entries = Vec::new(alloc);
-    push_table(
+    push_tables(
         alloc,
         &mut entries,
         &manifest.dependencies,
-        Kind::Normal,
-        None,
-    )?;
-    push_table(
-        alloc,
-        &mut entries,
         &manifest.dev_dependencies,
-        Kind::Dev,
-        None,
-    )?;
-    push_table(
-        alloc,
-        &mut entries,
         &manifest.build_dependencies,
-        Kind::Build,
         None,
     )?;
-    for (name, target) in &manifest.target {
-        push_target(alloc, &mut entries, name.as_str(), target)?;
-    }
+    push_targets(alloc, &mut entries, &manifest.target)?;
     Ok(entries)
+}
+
+fn push_targets(
+    alloc: Global,
+    entries: &mut Vec<Value>,
+    targets: &TargetDepsSet,
+) -> Result<(), IndexError>
+    ensures taken { OnOk result (IsTrue (list_all (λ t. are_taken (tables_in t.1)) (map_meaning target_meaning targets.now))) }
+    ensures refused { IfErr result (λ e. (e ≡ Memory)
+        ⊎ IsTrue (list_any (λ t. is_told e (tables_in t.1)) (map_meaning target_meaning targets.now))) }
+{
+    for (name, target) in targets {
+        push_target(alloc, entries, name.as_str(), target)?;
+    }
+    Ok(())
 }
 
 fn push_target(
@@ -52,17 +55,38 @@ fn push_target(
     entries: &mut Vec<Value>,
     name: &str,
     target: &Target,
-) -> Result<(), IndexError> {
-    let name = Some(name);
-    push_table(alloc, entries, &target.dependencies, Kind::Normal, name)?;
-    push_table(alloc, entries, &target.dev_dependencies, Kind::Dev, name)?;
-    push_table(
+) -> Result<(), IndexError>
+    ensures taken { OnOk result (IsTrue (are_taken (tables_in (target_meaning target.now)))) }
+    ensures refused { IfErr result (λ e. (e ≡ Memory) ⊎ IsTrue (is_told e (tables_in (target_meaning target.now)))) }
+{
+    push_tables(
         alloc,
         entries,
+        &target.dependencies,
+        &target.dev_dependencies,
         &target.build_dependencies,
-        Kind::Build,
-        name,
+        Some(name),
     )
+}
+
+/// Adds the entries of the tables of a package, or of a target.
+fn push_tables(
+    alloc: Global,
+    entries: &mut Vec<Value>,
+    normal: &DepsSet,
+    dev: &DepsSet,
+    build: &DepsSet,
+    target: Option<&str>,
+) -> Result<(), IndexError>
+    ensures taken { OnOk result (IsTrue (are_taken (with_kinds (map_meaning dependency_meaning normal.now)
+        (map_meaning dependency_meaning dev.now) (map_meaning dependency_meaning build.now)))) }
+    ensures refused { IfErr result (λ e. (e ≡ Memory) ⊎ IsTrue (is_told e (with_kinds (map_meaning dependency_meaning normal.now)
+        (map_meaning dependency_meaning dev.now) (map_meaning dependency_meaning build.now)))) }
+{
+    push_table(alloc, entries, normal, Kind::Normal, target)?;
+    push_table(alloc, entries, dev, Kind::Dev, target)?;
+    push_table(alloc, entries, build, Kind::Build, target)?;
+    Ok(())
 }
 
 fn push_table(
@@ -71,127 +95,36 @@ fn push_table(
     table: &DepsSet,
     kind: Kind,
     target: Option<&str>,
-) -> Result<(), IndexError> {
-    let place = Place { kind, target };
+) -> Result<(), IndexError>
+    ensures taken { OnOk result (IsTrue (list_all (λ e. is_taken kind e.1) (map_meaning dependency_meaning table.now))) }
+    ensures refused { IfErr result (λ e. (e ≡ Memory) ⊎ IsTrue (list_any (tells e kind) (map_meaning dependency_meaning table.now))) }
+{
     for (key, dependency) in table {
-        push_dependency(alloc, entries, key.as_str(), dependency, place)?;
+        push_listed(
+            alloc,
+            entries,
+            key.as_str(),
+            dependency,
+            Place { kind, target },
+        )?;
     }
     Ok(())
 }
 
 /// Adds the entry of a dependency, unless it is left out.
-fn push_dependency(
+fn push_listed(
     alloc: Global,
     entries: &mut Vec<Value>,
     key: &str,
     dependency: &Dependency,
     place: Place<'_>,
-) -> Result<(), IndexError> {
-    let Some(requirement) = requirement(alloc, key, dependency, place.kind)? else {
-        return Ok(());
-    };
-    let registry = registry(alloc, key, dependency.detail())?;
-    let mut entry = entry(alloc, key, dependency, requirement)?;
-    put_place(alloc, &mut entry, place)?;
-    put_text(alloc, &mut entry, "registry", registry)?;
-    push(entries, Value::Object(entry))?;
+) -> Result<(), IndexError>
+    ensures taken { OnOk result (IsTrue (is_taken place.entry.kind (dependency_meaning dependency.now))) }
+    ensures refused { IfErr result (λ e. (e ≡ Memory)
+        ⊎ IsTrue (tells e place.entry.kind (key.now, dependency_meaning dependency.now))) }
+{
+    if is_listed(alloc, key, dependency, place.kind)? {
+        push_dependency(alloc, entries, key, dependency, place)?;
+    }
     Ok(())
-}
-
-/// The requirement on the version, as the index has it: `*` is any. There is none where a
-/// dev-dependency has a path or a repository and no version, and any other of that kind is refused.
-fn requirement(
-    alloc: Global,
-    key: &str,
-    dependency: &Dependency,
-    kind: Kind,
-) -> Result<Option<String>, IndexError> {
-    match dependency.try_req() {
-        Ok(Some(requirement)) => Ok(Some(format!(in alloc; "{requirement}")?)),
-        Ok(None) if !is_elsewhere(dependency) => Ok(Some(String::from_str(alloc, "*")?)),
-        Ok(None) if kind == Kind::Dev => Ok(None),
-        Ok(None) => Err(IndexError::NoRequirement(String::from_str(alloc, key)?)),
-        Err(_) => Err(IndexError::Incomplete),
-    }
-}
-
-/// Whether a dependency has a path or a repository.
-fn is_elsewhere(dependency: &Dependency) -> bool {
-    match dependency.detail() {
-        Some(detail) => detail.path.is_some() || detail.git.is_some(),
-        None => false,
-    }
-}
-
-/// The address of the index of the registry that a dependency names.
-fn registry<'m>(
-    alloc: Global,
-    key: &str,
-    detail: Option<&'m DependencyDetail>,
-) -> Result<Option<&'m str>, IndexError> {
-    let Some(detail) = detail else {
-        return Ok(None);
-    };
-    match (detail.registry_index.as_deref(), detail.registry.as_deref()) {
-        (Some(address), _) => Ok(Some(address)),
-        (None, Some("crates-io")) => Ok(Some(CRATES_IO)),
-        (None, Some(_)) => Err(IndexError::NoAddress(String::from_str(alloc, key)?)),
-        (None, None) => Ok(None),
-    }
-}
-
-/// The members of an entry that are of the dependency alone.
-fn entry(
-    alloc: Global,
-    key: &str,
-    dependency: &Dependency,
-    requirement: String,
-) -> Result<Map<String, Value>, AllocError> {
-    let default_features = match dependency.detail() {
-        Some(detail) => detail.default_features,
-        None => true,
-    };
-    let mut entry = Map::new(alloc);
-    put_text(alloc, &mut entry, "name", Some(key))?;
-    put(&mut entry, alloc, "req", Value::String(requirement))?;
-    put_texts(alloc, &mut entry, "features", dependency.req_features())?;
-    put(
-        &mut entry,
-        alloc,
-        "optional",
-        Value::Bool(dependency.optional()),
-    )?;
-    put(
-        &mut entry,
-        alloc,
-        "default_features",
-        Value::Bool(default_features),
-    )?;
-    if let Some(package) = renamed(key, dependency) {
-        put_text(alloc, &mut entry, "package", Some(package))?;
-    }
-    Ok(entry)
-}
-
-/// The name of a dependency's crate, where that isn't the key.
-fn renamed<'m>(key: &str, dependency: &'m Dependency) -> Option<&'m str> {
-    match dependency.package() {
-        Some(package) if package != key => Some(package),
-        _ => None,
-    }
-}
-
-/// The members that say where the dependency stands.
-fn put_place(
-    alloc: Global,
-    entry: &mut Map<String, Value>,
-    place: Place<'_>,
-) -> Result<(), AllocError> {
-    let kind = match place.kind {
-        Kind::Normal => "normal",
-        Kind::Build => "build",
-        Kind::Dev => "dev",
-    };
-    put_text(alloc, entry, "target", place.target)?;
-    put_text(alloc, entry, "kind", Some(kind))
 }

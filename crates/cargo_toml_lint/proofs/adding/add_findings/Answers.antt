@@ -1,4 +1,4 @@
-use Rattle.std.proofs.Common.{◌≡◌, ◌++◌, map, sym, ap, ◌∙◌}
+use Rattle.std.proofs.Common.{◌++◌, map, ap}
 use Rattle.std.proofs.lemmas.Map.Iter.{rest_all, rest_more}
 use Rattle.std.specs.Map.Iter.{deref}
 use Rattle.cargo_toml_lint.specs.Findings.{about}
@@ -14,11 +14,14 @@ loop-name-init c = record {
 
 pub loop-name-preserved : goal.loop-name-preserved
 loop-name-preserved c = record {
-  abouts = one_added c.args.code c.in-Some.name.now _ _ c.loop-name.findings.items c.push.new.self.items c.finding_of.result _
-      (rest_more deref _ _ _ c.in-Some.name c.in-Some.is c.next.ensures.steps) c.in_ok-push.ensures.items
+  abouts = one_added c.args.code c.in-Some.name.now _ _ c.loop-name.findings.items
+      c.push.new.self.items c.finding_of.result _
+      (rest_more deref _ _ _ c.in-Some.name c.in-Some.is c.next.ensures.steps)
+      c.in_ok-push.ensures.items
       c.finding_of.ensures.code
       (ap (λ b. b.now) c.finding_of.ensures.feature) c.loop-name.invariant.abouts;
-  told = λ before. one_told c.loop-name.findings.items c.push.new.self.items c.finding_of.result c.in_ok-push.ensures.items
+  told = λ before. one_told c.loop-name.findings.items c.push.new.self.items c.finding_of.result
+      c.in_ok-push.ensures.items
       c.finding_of.ensures.told (c.loop-name.invariant.told before);
 }
 

@@ -1,4 +1,4 @@
-use Rattle.std.proofs.Common.{◌≡◌, IsTrue, sym, ap, ◌∙◌}
+use Rattle.std.proofs.Common.{IsTrue, sym, ◌∙◌}
 use Rattle.std.proofs.lemmas.Bool.{false≢true}
 use Rattle.std.proofs.lemmas.Map.Iter.{rest_more, rest_all}
 use Rattle.std.specs.Map.Iter.{deref}
@@ -11,7 +11,9 @@ use Rattle.cargo_toml_lint.proofs.graph.implied.Goals as goal
 
 pub loop-name-init : goal.loop-name-init
 loop-name-init g c = begun (λ (f : Text). IsTrue
-    (implied_at c.args.features.now f)) _ c.args.names.now.keys _ c.into_iter-name-iterator.ensures.into_iter_gives.0 c.new-found.ensures.empty (λ f h. c.requires f ∙ implied_has c.args.features.now f h)
+    (implied_at c.args.features.now f)) _ c.args.names.now.keys _
+    c.into_iter-name-iterator.ensures.into_iter_gives.0 c.new-found.ensures.empty
+    (λ f h. c.requires f ∙ implied_has c.args.features.now f h)
 
 pub loop-name-preserved-in_ok-insert : goal.loop-name-preserved-in_ok-insert
 loop-name-preserved-in_ok-insert g c =
@@ -19,7 +21,8 @@ loop-name-preserved-in_ok-insert g c =
     (implied_at c.args.features.now f)) c.in-Some.name.now _ _ c.loop-name.found c.insert.new.self
     (rest_more deref _ _ _ c.in-Some.name c.in-Some.is c.next.ensures.steps)
     (sym c.is_implied.ensures ∙ c.if-is_implied.true)
-    (inserted c.in-Some.name.now.now c.loop-name.found c.insert.new.self c.in_ok-insert.ensures.updates)
+    (inserted c.in-Some.name.now.now c.loop-name.found c.insert.new.self
+    c.in_ok-insert.ensures.updates)
     c.loop-name.invariant
 
 pub loop-name-preserved : goal.loop-name-preserved

@@ -1,4 +1,4 @@
-use Rattle.std.proofs.Common.{◌≡◌, bytes_eq, sym, ap, ◌∙◌}
+use Rattle.std.proofs.Common.{bytes_eq, sym, ◌∙◌}
 use Rattle.std.proofs.lemmas.Map.Iter.{rest_more, rest_all}
 use Rattle.std.proofs.lemmas.Map.Made.{is_some-lookup}
 use Rattle.std.specs.Borrow.{Bor}
@@ -20,7 +20,8 @@ loop-name-preserved g c = λ f.
     goes_on (λ (k : Bor Text). bytes_eq f k.now) (has_text c.loop-name.names f)
     (has_text c.insert.new.self f) c.in-Some.name.now _ _ _
     (rest_more deref _ _ _ c.in-Some.name c.in-Some.is c.next.ensures.steps)
-    (inserted c.in-Some.name.now.now c.loop-name.names c.insert.new.self c.in_ok-insert.ensures.updates f) (c.loop-name.invariant f)
+    (inserted c.in-Some.name.now.now c.loop-name.names c.insert.new.self
+    c.in_ok-insert.ensures.updates f) (c.loop-name.invariant f)
 
 pub returns : goal.returns
 returns g c = λ f.

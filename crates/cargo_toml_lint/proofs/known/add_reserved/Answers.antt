@@ -1,4 +1,4 @@
-use Rattle.std.proofs.Common.{◌≡◌, ◌||◌, arith, string_bytes, sym, ap, ◌∙◌}
+use Rattle.std.proofs.Common.{◌||◌, arith, string_bytes, sym, ap, ◌∙◌}
 use Rattle.cargo_toml.specs.Action.{Text, item_of}
 use Rattle.cargo_toml.specs.Views.{has_text}
 use Rattle.cargo_toml_features.proofs.TextKeys.{inserted}
@@ -20,7 +20,8 @@ loop-text-preserved c = λ k.
           (has_text c.loop-text.reserved k) (has_text c.if-action.reserved k) _ _
           (c.loop-text.invariant k)
           (ap (λ s. has_text s k) w.reserved-is
-          ∙ inserted action.target.now c.loop-text.reserved w.insert.new.self w.in_ok-insert.ensures.updates k
+          ∙ inserted action.target.now c.loop-text.reserved w.insert.new.self
+          w.in_ok-insert.ensures.updates k
           ∙ ap (λ b. has_text c.loop-text.reserved k || b)
           (sym (reserved_hit (string_bytes c.text-item.result) action is k w.if-action.true)))
           more

@@ -1,4 +1,4 @@
-use Rattle.std.proofs.Common.{◌≡◌, Bool, map, string_bytes, sym, ap, ◌∙◌}
+use Rattle.std.proofs.Common.{Bool, map, string_bytes, ap}
 use Rattle.std.proofs.lemmas.Map.Iter.{rest_more, rest_all}
 use Rattle.std.specs.Map.Iter.{deref_pair}
 use Rattle.cargo_toml.specs.Action.{Text}
@@ -18,7 +18,8 @@ loop-key-preserved-in_ok-insert c = λ f.
     c.is_tried.ensures _ c.if-is_tried.true (has_text c.loop-key.keys f)
     (has_text c.insert.new.self f)
     (put_key c.as_str.result.now
-    (string_bytes c.in-Some.key.now) c.loop-key.keys c.insert.new.self c.as_str.ensures.value c.in_ok-insert.ensures.updates f)
+    (string_bytes c.in-Some.key.now) c.loop-key.keys c.insert.new.self c.as_str.ensures.value
+    c.in_ok-insert.ensures.updates f)
     (c.loop-key.invariant f)
 
 pub loop-key-preserved : goal.loop-key-preserved

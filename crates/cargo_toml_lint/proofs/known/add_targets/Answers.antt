@@ -1,8 +1,7 @@
-use Rattle.std.proofs.Common.{◌≡◌, ◌||◌, Bool, List, string_bytes, sym, ap, ◌∙◌}
+use Rattle.std.proofs.Common.{◌||◌, string_bytes, ap, ◌∙◌}
 use Rattle.std.proofs.lemmas.Map.Iter.{rest_more, rest_all}
 use Rattle.std.specs.List.{list_any}
 use Rattle.std.specs.Map.Iter.{deref}
-use Rattle.cargo_toml.specs.Action.{Text}
 use Rattle.cargo_toml.specs.Targets.{TargetMeaning, target_meaning}
 use Rattle.cargo_toml.specs.Views.{has_text}
 use Rattle.cargo_toml_dependencies.specs.declared.target.Target.{Target}

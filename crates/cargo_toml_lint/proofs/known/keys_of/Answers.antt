@@ -1,4 +1,3 @@
-use Rattle.std.proofs.Common.{map, ◌∙◌}
 use Rattle.cargo_toml.specs.Dependencies.{dependency_meaning}
 use Rattle.cargo_toml.specs.Reads.{map_meaning}
 use Rattle.cargo_toml.specs.Targets.{target_meaning}

@@ -1,4 +1,3 @@
-use Rattle.std.proofs.Common.{map, string_bytes}
 use Rattle.cargo_toml.specs.Manifests.{manifest_meaning}
 use Rattle.cargo_toml_lint.specs.Known.{is_name}
 use Rattle.cargo_toml_lint.proofs.known.known_names.Goals as goal

@@ -1,4 +1,4 @@
-use Rattle.std.proofs.Common.{◌≡◌, ◌||◌, Global, List, String, Vec, map, string_bytes, sym, ap, ◌∙◌}
+use Rattle.std.proofs.Common.{◌||◌, Global, List, String, Vec, map, string_bytes, ap, ◌∙◌}
 use Rattle.std.proofs.lemmas.Map.Iter.{rest_more, rest_all}
 use Rattle.std.specs.Map.Iter.{deref}
 use Rattle.cargo_toml.specs.Action.{Text}

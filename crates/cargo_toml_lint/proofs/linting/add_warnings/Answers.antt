@@ -8,4 +8,5 @@ returns-clause-added g c =
     (adds_as Cycle c.in_ok-cyclic.ensures.cyclic c.in_ok-add_findings.ensures.added)
     (adds_as OverLimit (λ f. same_as
     (c.in_ok-over_limit.ensures f)) c.in_ok-add_findings-2.ensures.added))
-    (adds_as Unreachable c.in_ok-unreachable.ensures.unreachable c.in_ok-add_findings-3.ensures.added)
+    (adds_as Unreachable c.in_ok-unreachable.ensures.unreachable
+    c.in_ok-add_findings-3.ensures.added)

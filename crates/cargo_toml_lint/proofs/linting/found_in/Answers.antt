@@ -10,11 +10,14 @@ returns-clause-exact g c =
     all_codes c.args.features.now c.args.known.now
     (map product_meaning c.args.bins.now) c.args.limit _ _
     (ap (map about) c.new-findings.ensures.items)
-    (adds_both (adds_both c.in_ok-add_errors.ensures.added c.in_ok-add_hints.ensures.added) c.in_ok-add_warnings.ensures.added)
+    (adds_both (adds_both c.in_ok-add_errors.ensures.added c.in_ok-add_hints.ensures.added)
+    c.in_ok-add_warnings.ensures.added)
 
 pub returns-clause-in_order : goal.returns-clause-in_order
 returns-clause-in_order g c =
-    let all = adds_both (adds_both c.in_ok-add_errors.ensures.added c.in_ok-add_hints.ensures.added) c.in_ok-add_warnings.ensures.added in
+    let all =
+    adds_both (adds_both c.in_ok-add_errors.ensures.added c.in_ok-add_hints.ensures.added)
+    c.in_ok-add_warnings.ensures.added in
     (all.below (none_below _ (ap (map about) c.new-findings.ensures.items))).in_order
 
 pub returns-clause-told : goal.returns-clause-told

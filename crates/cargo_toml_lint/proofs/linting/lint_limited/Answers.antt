@@ -14,7 +14,9 @@ returns-clause-exact g c =
     IfOk-weaker c.found_in.result _
     (λ v. (d : Code) (f : Text) → IsFound v.items d f ↔ Holds c.args.limit m d f)
     (λ v told d f.
-    let same = holds_in c.args.limit m c.in_ok-resolved.resolved c.in_ok-known.known c.in_ok-known.ensures.names c.in_ok-known.ensures.listed c.in_ok-resolved.ensures.resolved
+    let same =
+    holds_in c.args.limit m c.in_ok-resolved.resolved c.in_ok-known.known
+    c.in_ok-known.ensures.names c.in_ok-known.ensures.listed c.in_ok-resolved.ensures.resolved
     (map product_meaning c.as_slice.result.now)
     (ap (map product_meaning) c.as_slice.ensures.value) d f in
     (λ i. same.0 ((told d f).0 i), λ h. (told d f).1 (same.1 h)))

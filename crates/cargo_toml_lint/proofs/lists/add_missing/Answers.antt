@@ -1,4 +1,4 @@
-use Rattle.std.proofs.Common.{◌≡◌, ◌&&◌, ◌||◌, Bool, true, false, arith, bytes_eq, string_bytes, sym, ap, ◌∙◌}
+use Rattle.std.proofs.Common.{◌&&◌, Bool, arith, bytes_eq, string_bytes, sym, ap, ◌∙◌}
 use Rattle.std.proofs.lemmas.Bool.{and_right}
 use Rattle.cargo_toml.specs.Action.{Text, item_of}
 use Rattle.cargo_toml.specs.Views.{has_text, table_in}
@@ -27,7 +27,8 @@ loop-text-preserved g c = λ f.
           (test (string_bytes c.text-item.result)) (sym told ∙ w.if-is_missing.true)
           (ap (λ s. has_text s f) w.names-is
           ∙ put_key c.as_str-text.result.now
-          (string_bytes c.text-item.result) c.loop-text.names w.insert.new.self c.as_str-text.ensures.value w.in_ok-insert.ensures.updates f))
+          (string_bytes c.text-item.result) c.loop-text.names w.insert.new.self
+          c.as_str-text.ensures.value w.in_ok-insert.ensures.updates f))
           more
       | else-is_missing w ↦ ap (λ s. has_text s f) w.names-is
           ∙ no_hit (has_text c.args.names.now f) _ (has_text c.loop-text.names f) _ _

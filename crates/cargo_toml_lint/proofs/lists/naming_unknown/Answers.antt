@@ -1,4 +1,4 @@
-use Rattle.std.proofs.Common.{◌≡◌, ◌||◌, Bool, List, ℕ, length, nat_lt, not, map, string_bytes, sym, ap, ◌∙◌}
+use Rattle.std.proofs.Common.{Bool, List, map, string_bytes, ap, ◌∙◌}
 use Rattle.std.proofs.lemmas.Map.Iter.{rest_more, rest_all}
 use Rattle.std.specs.Map.Iter.{deref_pair}
 use Rattle.cargo_toml.specs.Action.{Text}
@@ -20,7 +20,8 @@ loop-name-preserved-in_ok-insert c = λ f.
     (map string_bytes xs)) c.as_slice.ensures.value) _ c.if-has_unknown.true
     (has_text c.loop-name.names f) (has_text c.insert.new.self f)
     (put_key c.as_str.result.now
-    (string_bytes c.in-Some.name.now) c.loop-name.names c.insert.new.self c.as_str.ensures.value c.in_ok-insert.ensures.updates f)
+    (string_bytes c.in-Some.name.now) c.loop-name.names c.insert.new.self c.as_str.ensures.value
+    c.in_ok-insert.ensures.updates f)
     (c.loop-name.invariant f)
 
 pub loop-name-preserved : goal.loop-name-preserved

@@ -1,4 +1,4 @@
-use Rattle.std.proofs.Common.{◌≡◌, ◌||◌, arith, map, string_bytes, sym, ap, ◌∙◌}
+use Rattle.std.proofs.Common.{◌||◌, arith, map, string_bytes, sym, ap, ◌∙◌}
 use Rattle.std.proofs.Math.Bool.{or-false}
 use Rattle.cargo_toml.specs.Products.{ProductMeaning, product_meaning}
 use Rattle.cargo_toml.specs.Views.{has_text, table_in}

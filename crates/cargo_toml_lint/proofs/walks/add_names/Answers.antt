@@ -1,4 +1,4 @@
-use Rattle.std.proofs.Common.{◌≡◌, ◌||◌, bytes_eq, sym, ap, ◌∙◌}
+use Rattle.std.proofs.Common.{◌||◌, bytes_eq, sym, ap, ◌∙◌}
 use Rattle.std.proofs.lemmas.Map.Iter.{rest_more, rest_all}
 use Rattle.std.proofs.lemmas.Map.Made.{is_some-lookup}
 use Rattle.std.specs.Borrow.{Bor}
@@ -20,7 +20,8 @@ loop-name-preserved g c = λ x.
     goes_on (λ (k : Bor Text). bytes_eq x k.now) (has_text c.loop-name.reached x)
     (has_text c.insert.new.self x) c.in-Some.name.now _ _ _
     (rest_more deref _ _ _ c.in-Some.name c.in-Some.is c.next.ensures.steps)
-    (inserted c.in-Some.name.now.now c.loop-name.reached c.insert.new.self c.in_ok-insert.ensures.updates x) (c.loop-name.invariant x)
+    (inserted c.in-Some.name.now.now c.loop-name.reached c.insert.new.self
+    c.in_ok-insert.ensures.updates x) (c.loop-name.invariant x)
 
 pub returns : goal.returns
 returns g c = λ x.

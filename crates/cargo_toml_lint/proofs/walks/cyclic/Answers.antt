@@ -1,8 +1,7 @@
-use Rattle.std.proofs.Common.{◌≡◌, IsTrue, sym, ap, ◌∙◌}
+use Rattle.std.proofs.Common.{sym, ◌∙◌}
 use Rattle.std.proofs.lemmas.Bool.{false≢true}
 use Rattle.std.proofs.lemmas.Map.Iter.{rest_more, rest_all}
 use Rattle.std.specs.Map.Iter.{deref}
-use Rattle.cargo_toml.specs.Action.{Text}
 use Rattle.cargo_toml_features.proofs.TextKeys.{inserted}
 use Rattle.cargo_toml.specs.Views.{resolution_of}
 use Rattle.cargo_toml_lint.specs.Steps.{IsRing}
@@ -12,14 +11,18 @@ use Rattle.cargo_toml_lint.proofs.walks.cyclic.Goals as goal
 
 pub loop-name-init : goal.loop-name-init
 loop-name-init g c = begun (IsRing
-    (resolution_of c.args.features.now)) _ c.args.names.now.keys _ c.into_iter-name-iterator.ensures.into_iter_gives.0 c.new-found.ensures.empty (λ f r. c.requires.names f ∙ ring_has c.args.features.now f r)
+    (resolution_of c.args.features.now)) _ c.args.names.now.keys _
+    c.into_iter-name-iterator.ensures.into_iter_gives.0 c.new-found.ensures.empty
+    (λ f r. c.requires.names f ∙ ring_has c.args.features.now f r)
 
 pub loop-name-preserved-in_ok-insert : goal.loop-name-preserved-in_ok-insert
 loop-name-preserved-in_ok-insert g c =
-    taken (IsRing (resolution_of c.args.features.now)) c.in-Some.name.now _ _ c.loop-name.found c.insert.new.self
+    taken (IsRing (resolution_of c.args.features.now)) c.in-Some.name.now _ _ c.loop-name.found
+    c.insert.new.self
     (rest_more deref _ _ _ c.in-Some.name c.in-Some.is c.next.ensures.steps)
     (c.in_ok-is_cyclic.ensures.cyclic.0 c.if-branch.true)
-    (inserted c.in-Some.name.now.now c.loop-name.found c.insert.new.self c.in_ok-insert.ensures.updates)
+    (inserted c.in-Some.name.now.now c.loop-name.found c.insert.new.self
+    c.in_ok-insert.ensures.updates)
     c.loop-name.invariant
 
 pub loop-name-preserved : goal.loop-name-preserved

@@ -15,4 +15,5 @@ returns-clause-cyclic g c =
     let v = c.in-Some.feature.now in
     ring_told c.args.features.now c.args.name.now v here
     (key_of c.args.features.now c.requires c.args.name.now v here)
-    c.in_ok-enabled.enabled c.in_ok-enabled.ensures.features c.in_ok-enabled.ensures.values c.is_named_back.result c.is_named_back.ensures
+    c.in_ok-enabled.enabled c.in_ok-enabled.ensures.features c.in_ok-enabled.ensures.values
+    c.is_named_back.result c.is_named_back.ensures

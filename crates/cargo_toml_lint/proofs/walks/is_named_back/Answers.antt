@@ -1,4 +1,4 @@
-use Rattle.std.proofs.Common.{◌≡◌, ℕ, Bool, List, Bor, true, false, sym, ap, ◌∙◌}
+use Rattle.std.proofs.Common.{ℕ, Bool, List, Bor, false, sym, ap, ◌∙◌}
 use Rattle.std.proofs.lemmas.Map.Iter.{rest_more, rest_all}
 use Rattle.std.specs.List.{list_any}
 use Rattle.std.specs.Map.Iter.{deref}
@@ -11,7 +11,9 @@ use Rattle.cargo_toml_lint.proofs.walks.is_named_back.Goals as goal
 pub returns-then-names_back : goal.returns-then-names_back
 returns-then-names_back g c =
     let test : Bor (List ℕ) → Bool =
-    λ k. option_map_or (λ (v : Bor Feature). has_text v.now.enables_features c.args.feature.now.key.now) (value_at c.args.enabled.now k.now) false in
+    λ k. option_map_or
+    (λ (v : Bor Feature). has_text v.now.enables_features c.args.feature.now.key.now)
+    (value_at c.args.enabled.now k.now) false in
     sym (hit_settles test c.in-Some.other.now _ _ _
     (rest_more deref _ _ _ c.in-Some.other c.in-Some.is c.next.ensures.steps)
     (sym c.names_back.ensures ∙ c.if-names_back.true) c.loop-other.invariant)
@@ -19,7 +21,9 @@ returns-then-names_back g c =
 pub loop-other-preserved : goal.loop-other-preserved
 loop-other-preserved g c =
     let test : Bor (List ℕ) → Bool =
-    λ k. option_map_or (λ (v : Bor Feature). has_text v.now.enables_features c.args.feature.now.key.now) (value_at c.args.enabled.now k.now) false in
+    λ k. option_map_or
+    (λ (v : Bor Feature). has_text v.now.enables_features c.args.feature.now.key.now)
+    (value_at c.args.enabled.now k.now) false in
     miss_passes test c.in-Some.other.now _ _ _
     (rest_more deref _ _ _ c.in-Some.other c.in-Some.is c.next.ensures.steps)
     (sym c.names_back.ensures ∙ c.if-names_back.false) c.loop-other.invariant
@@ -27,6 +31,8 @@ loop-other-preserved g c =
 pub returns : goal.returns
 returns g c =
     let test : Bor (List ℕ) → Bool =
-    λ k. option_map_or (λ (v : Bor Feature). has_text v.now.enables_features c.args.feature.now.key.now) (value_at c.args.enabled.now k.now) false in
+    λ k. option_map_or
+    (λ (v : Bor Feature). has_text v.now.enables_features c.args.feature.now.key.now)
+    (value_at c.args.enabled.now k.now) false in
     sym (ap (list_any test) (rest_all deref _ _ _ c.in-None.is c.next.ensures.steps))
     ∙ c.loop-other.invariant

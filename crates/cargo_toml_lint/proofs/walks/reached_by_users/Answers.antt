@@ -7,7 +7,9 @@ use Rattle.cargo_toml_lint.proofs.walks.reached_by_users.Goals as goal
 
 pub loop-name-init : goal.loop-name-init
 loop-name-init g c = reach_begun
-    (table_in c.args.features.now) _ c.args.names.now.keys _ c.into_iter-name-iterator.ensures.into_iter_gives.0 c.new-reached.ensures.empty (λ f h. c.requires.names f ∙ h)
+    (table_in c.args.features.now) _ c.args.names.now.keys _
+    c.into_iter-name-iterator.ensures.into_iter_gives.0 c.new-reached.ensures.empty
+    (λ f h. c.requires.names f ∙ h)
 
 pub loop-name-preserved : goal.loop-name-preserved
 loop-name-preserved g c =
@@ -17,7 +19,8 @@ loop-name-preserved g c =
 
 pub loop-name-preserved-in-Continue-1 : goal.loop-name-preserved-in-Continue-1
 loop-name-preserved-in-Continue-1 g c =
-    reach_more (table_in c.args.features.now) c.in-Some.name.now _ _ c.loop-name.reached c.add_enabled.new.reached
+    reach_more (table_in c.args.features.now) c.in-Some.name.now _ _ c.loop-name.reached
+    c.add_enabled.new.reached
     (rest_more deref _ _ _ c.in-Some.name c.in-Some.is c.next.ensures.steps)
     (sym c.is_hidden.ensures
     ∙ c.if-not-is_hidden.true) c.in_ok-add_enabled.ensures.added c.loop-name.invariant

@@ -1,5 +1,6 @@
 -- What is found of a manifest.
-use Rattle.std.specs.Prelude.{◌≡◌, ◌≢◌, ◌⊎◌, ℕ, Bool, false, ◌&&◌, ◌||◌, not, nat_eq, nat_lt, length, List, map, IsTrue, IsFalse, bytes_eq, codes}
+use Rattle.std.specs.Prelude.{◌≡◌, ◌≢◌, ◌⊎◌, ℕ, Bool, false, ◌&&◌, ◌||◌, not, nat_eq}
+use Rattle.std.specs.Prelude.{nat_lt, length, List, map, IsTrue, IsFalse, bytes_eq, codes}
 use Rattle.std.specs.Cmp.Lexicographic.{slice_cmp}
 use Rattle.std.specs.List.{list_any, starts_with}
 use Rattle.std.specs.List.Sorted.{IsStrictlySortedBy}
@@ -18,7 +19,9 @@ use Rattle.cargo_toml.specs.Recorded.{is_implied}
 use Rattle.cargo_toml.specs.Recursive.{Enables}
 use Rattle.cargo_toml_lint.specs.Known.{Names, lists, names_of}
 use Rattle.cargo_toml_lint.specs.declared.finding.Code.{Code}
-use Rattle.cargo_toml_lint.specs.declared.finding.Code.TheVariants.{NotOptional, SameName, Unknown, Implied, PrivateDefault, Cycle, OverLimit, Unreachable}
+use Rattle.cargo_toml_lint.specs.declared.finding.Code.TheVariants.{NotOptional, SameName, Unknown}
+use Rattle.cargo_toml_lint.specs.declared.finding.Code.TheVariants.{Implied, PrivateDefault, Cycle}
+use Rattle.cargo_toml_lint.specs.declared.finding.Code.TheVariants.{OverLimit, Unreachable}
 use Rattle.cargo_toml_lint.specs.declared.finding.Finding.{Finding}
 use Rattle.cargo_toml_lint.specs.declared.finding.Level.{Level}
 use Rattle.cargo_toml_lint.specs.declared.finding.Level.TheVariants.{Error, Hint, Warning}

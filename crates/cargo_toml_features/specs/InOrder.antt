@@ -1,5 +1,6 @@
 -- Features as a list in the byte order of their names, and maps in that order.
-use Rattle.std.specs.Prelude.{◌≡◌, false, List, Option, None, IsTrue, bytes_eq, is_some, map}
+use Rattle.std.specs.Prelude.{◌≡◌, false, List, [], Option, None, IfSome, IsTrue, bytes_eq}
+use Rattle.std.specs.Prelude.{is_some, map}
 use Rattle.std.specs.List.{find}
 use Rattle.std.specs.Option.{option_map_or}
 use Rattle.std.specs.Borrow.{Bor}
@@ -28,6 +29,10 @@ AreInOrder vs = IsAscending (λ a b. IsTrue (is_below a b)) (names_of vs)
 -- the feature of a name
 abbrev pub feature_at : List Feature → Text → Option Feature
 feature_at vs f = find (λ v. bytes_eq f v.key.now) vs
+
+-- none of them tells what enables it
+abbrev pub HaveNoEnablers : List Feature → Type 0
+HaveNoEnablers vs = (f : Text) → IfSome (feature_at vs f) (λ v. v.enabled_by.keys ≡ [])
 
 -- the features of a list, as a table
 abbrev pub table_among : List Feature → Table

@@ -14,7 +14,7 @@ use Rattle.cargo_toml_graph.proofs.JoinLaws.{join_option_assoc, join_option_self
 use Rattle.cargo_toml_graph.proofs.Texts.{bytes_eq_sym}
 use Rattle.cargo_toml_features.specs.declared.features.DepAction.{DepAction}
 use Rattle.cargo_toml_features.specs.Views.{action_of, action_at, has_text}
-use Rattle.cargo_toml_resolve.proofs.Links.{is_text_in}
+use Rattle.cargo_toml_resolve.proofs.Gathering.{is_text_in}
 use Rattle.cargo_toml_features.proofs.TextKeys.{none_in}
 use Rattle.cargo_toml_hidden.proofs.Sets.{text_in_more}
 

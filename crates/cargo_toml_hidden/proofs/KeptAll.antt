@@ -10,15 +10,11 @@ use Rattle.cargo_toml_graph.specs.Graph.{IsUnremoved, Table}
 use Rattle.cargo_toml_graph.specs.Redirects.{RedirectsTo}
 use Rattle.cargo_toml_graph.proofs.Unremoved.{resolved_unremoved}
 use Rattle.cargo_toml_features.specs.declared.features.Feature.{Feature}
-use Rattle.cargo_toml_features.specs.InOrder.{AreInOrder, AreTable, feature_at, resolution_among}
+use Rattle.cargo_toml_features.specs.InOrder.{AreInOrder, feature_at, resolution_among}
 use Rattle.cargo_toml_features.specs.Views.{action_at, has_text, resolution_of, value_at}
 use Rattle.cargo_toml_hidden.specs.KeptFeatures.{IsNamedAlike}
 use Rattle.cargo_toml_hidden.specs.Left.{AreLeft}
 use Rattle.cargo_toml_hidden.proofs.InPlace.{found_stands, stands_found}
-
--- features that make up what nothing is removed of make its table
-pub table_made : (t : Table) (vs : List Feature) → IsUnremoved t (resolution_among vs) → AreTable t vs
-table_made t vs h = record { has = h.has; names = h.names; action = h.action }
 
 -- a map that has under each name the feature of that name holds what they hold
 pub unremoved_by : {S : Type 0} (vs : List Feature) (m : HashMap (Bor Text) Feature S) → ((f : Text) → value_at m f ≡ feature_at vs f) →

@@ -27,3 +27,4 @@ mod AnsweringLeft
 mod PutAlong
 mod BinTurns
 mod KnownBins
+pub mod Learning

@@ -107,6 +107,44 @@ module _ (keys : List (Bor Text)) (own : ℕ) where
       elim [ inl i ↦ i | inr t ↦ absurd (none (subst (Among (texts_of keys)) t.2 (among_at (texts_of keys) x [] (let long = length-map keys (λ (t : Bor Text). t.now) in let lt = t.0 in omega (arith, long, lt))))) ],
     )
 
+  -- one more name
+  pub name_gained : (ks : List (Bor (Bor Text))) (k : Bor (Bor Text)) (old row new : List ℕ) → Gains (λ x. Among (seen ks) (text_at (texts_of keys) x)) old row
+      → Gains (λ x. text_at (texts_of keys) x ≡ k.now.now) row new → Gains (λ x. Among (seen (ks ++ k ∷ [])) (text_at (texts_of keys) x)) old new
+  name_gained ks k old row new so_far more x = (
+    λ i. elim ((more x).0 i) [
+      | inl j ↦ elim ((so_far x).0 j) [ inl o ↦ inl o | inr t ↦ inr (t.0, t.1, (seen_push ks k _).1 (inl t.2)) ]
+      | inr t ↦ inr (t.0, t.1, (seen_push ks k _).1 (inr t.2))
+    ],
+    λ w. (more x).1 (elim w [
+      | inl o ↦ inl ((so_far x).1 (inl o))
+      | inr t ↦ elim ((seen_push ks k _).0 t.2) [ inl s ↦ inl ((so_far x).1 (inr (t.0, t.1, s))) | inr is ↦ inr (t.0, t.1, is) ]
+    ]),
+  )
+
+  pub names_gained : (s : BTreeSet (Bor Text)) (ks : List (Bor (Bor Text))) (old row : List ℕ) → map (λ k. k.now) ks ≡ s.keys → Gains (λ x. Among (seen ks) (text_at (texts_of keys) x)) old row
+      → Gains (λ x. IsTrue (has_text s (text_at (texts_of keys) x))) old row
+  names_gained s ks old row all h x = (
+    λ i. elim ((h x).0 i) [ inl o ↦ inl o | inr t ↦ inr (t.0, t.1, (all_seen s ks all _).0 t.2) ],
+    elim [ inl o ↦ (h x).1 (inl o) | inr t ↦ (h x).1 (inr (t.0, t.1, (all_seen s ks all _).1 t.2)) ],
+  )
+
+  -- nothing is gained
+  pub none_gained : (P : ℕ → Type 0) (row : List ℕ) → ((x : ℕ) → ¬ P x) → Gains P row row
+  none_gained P row none x = (λ i. inl i, elim [ inl i ↦ i | inr t ↦ absurd (none x t.2) ])
+
+  -- first these, then those
+  pub both_gained : (P Q : ℕ → Type 0) (old mid new : List ℕ) → Gains P old mid → Gains Q mid new → Gains (λ x. P x ⊎ Q x) old new
+  both_gained P Q old mid new p q x = (
+    λ i. elim ((q x).0 i) [
+      | inl j ↦ elim ((p x).0 j) [ inl o ↦ inl o | inr t ↦ inr (t.0, t.1, inl t.2) ]
+      | inr t ↦ inr (t.0, t.1, inr t.2)
+    ],
+    elim [
+      | inl o ↦ (q x).1 (inl ((p x).1 (inl o)))
+      | inr t ↦ elim (t.2) [ inl l ↦ (q x).1 (inl ((p x).1 (inr (t.0, t.1, l)))) | inr r ↦ (q x).1 (inr (t.0, t.1, r)) ]
+    ],
+  )
+
   -- the keys of actions that a loop has met
   abbrev pub acted : List (Bor (Bor Text) × Bor DepAction) → List Text
   acted es = map (λ e. e.0.now.now) es

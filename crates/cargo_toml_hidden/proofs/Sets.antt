@@ -11,7 +11,7 @@ use Rattle.std.specs.BTreeSet.{BTreeSet}
 use Rattle.cargo_toml_graph.specs.Action.{Text}
 use Rattle.cargo_toml_graph.proofs.Texts.{bytes_eq_sym}
 use Rattle.cargo_toml_features.specs.Views.{has_text}
-use Rattle.cargo_toml_resolve.proofs.Links.{is_text_in}
+use Rattle.cargo_toml_resolve.proofs.Gathering.{is_text_in}
 
 pub removed_text : (bs : Text) (s n : BTreeSet (Bor Text)) → sorted.UpdatesBy (λ x y. slice_cmp nat_cmp x.now y.now) (λ k. slice_cmp nat_cmp bs k.now) s n false → (x : Text) → has_text n x ≡ (has_text s x && not (bytes_eq x bs))
 removed_text bs s n h x =

@@ -13,7 +13,7 @@ use Rattle.cargo_toml_graph.specs.Reach.{Among}
 use Rattle.cargo_toml_graph.specs.Removal.{is_among}
 use Rattle.cargo_toml_graph.proofs.BinLists.{is_among-true, among-true}
 use Rattle.cargo_toml_features.specs.Views.{has_text}
-use Rattle.cargo_toml_resolve.proofs.Links.{is_text_in}
+use Rattle.cargo_toml_resolve.proofs.Gathering.{is_text_in}
 use Rattle.cargo_toml_walk.specs.Numbered.{text_at}
 use Rattle.cargo_toml_hidden.specs.Leaving.{HasTexts}
 use Rattle.cargo_toml_hidden.specs.Texts.{texts_of}

@@ -9,3 +9,4 @@ pub mod Walking
 pub mod Left
 pub mod Puts
 pub mod KnownBins
+pub mod Enabling

@@ -6,7 +6,8 @@ ghost use Rattle.cargo_toml_graph.specs.Graph.{IsUnremoved, Table};
 ghost use Rattle.cargo_toml_walk.specs.Numbered.{text_at};
 ghost use Rattle.cargo_toml_walk.specs.Numbers.{IsWanted, Leads, list_at};
 ghost use Rattle.cargo_toml_features.specs.declared.features.Feature.{Feature};
-ghost use Rattle.cargo_toml_features.specs.InOrder.{AreInOrder, AreTable, feature_at, resolution_among};
+ghost use Rattle.cargo_toml_features.specs.InOrder.{AreInOrder, AreTable, HaveNoEnablers};
+ghost use Rattle.cargo_toml_features.specs.InOrder.{feature_at, resolution_among};
 ghost use Rattle.cargo_toml_features.specs.Reached.{IsKeyed};
 ghost use Rattle.cargo_toml_features.specs.Views.{value_at};
 ghost use Rattle.cargo_toml_hidden.specs.Leaving.{HasTexts};
@@ -15,6 +16,7 @@ ghost use Rattle.cargo_toml_hidden.specs.Numbering.{IsFlagged};
 ghost use Rattle.cargo_toml_hidden.specs.Texts.{texts_of};
 
 use crate::elimination::place;
+use crate::enabling::set_enablers;
 use crate::numbering::{Graph, number};
 use crate::publishing::hashed_kept;
 use crate::rows::hashed_rows;
@@ -128,8 +130,28 @@ pub fn take_out<'m, S: BuildHasher + Clone>(
     )
 }
 
-/// What is left of features in the byte order of their names, once those are taken out whose flag stands. It fails only where
-/// memory runs out, or the clone of `state` does.
+// The same once each feature has learnt what enables it.
+fn keep_enabled<'m, S: BuildHasher + Clone>(
+    alloc: Global,
+    state: &S,
+    mut features: Vec<Feature<'m>>,
+    flags: &[bool],
+) -> Result<Left<'m, S>, AllocError>
+    requires in_order { AreInOrder features.items }
+    requires no_enablers { HaveNoEnablers features.items }
+    requires count { length flags.now ≡ length features.items }
+    requires none_flagged { (i : ℕ) → ¬ IsWanted flags.now true i }
+    ensures keyed { IfOk result (λ l. IsKeyed l.features) }
+    ensures all { IfOk result (λ l. (t : Table) (removed : Text → Bool) →
+        AreTable t features.entry.items → ((f : Text) → ¬ IsTrue (removed f)) →
+        AreLeft t removed features.entry.items l.features l.hidden) }
+{
+    set_enablers(alloc, &mut features)?;
+    keep_all(alloc, state, features, flags)
+}
+
+/// What is left of features in the byte order of their names, once those are taken out whose flag
+/// stands. It fails only where memory runs out, or the clone of `state` does.
 pub fn left_of<'m, S: BuildHasher + Clone>(
     alloc: Global,
     state: &S,
@@ -137,41 +159,19 @@ pub fn left_of<'m, S: BuildHasher + Clone>(
     flags: &[bool],
 ) -> Result<Left<'m, S>, AllocError>
     requires in_order { AreInOrder features.items }
+    requires no_enablers { HaveNoEnablers features.items }
     requires count { length flags.now ≡ length features.items }
     ensures keyed { IfOk result (λ l. IsKeyed l.features) }
     ensures outcome { IfOk result (λ l. (t : Table) (removed : Text → Bool) →
-        IsUnremoved t (resolution_among features.entry.items) →
+        AreTable t features.entry.items →
         ((f : Text) → IsTrue (removed f) ↔ IsFlagged features.entry.items flags.now f) →
         AreLeft t removed features.entry.items l.features l.hidden) }
 {
-    // Most manifests have no hidden feature: then nothing is numbered and no path is walked.
+    // Most manifests have no hidden feature: then nothing is numbered and no path is walked. Where
+    // there is one, its removal finds what enables the others.
     if flags.contains(&true) {
         take_out(alloc, state, features, flags)
     } else {
-        keep_all(alloc, state, features, flags)
-    }
-}
-
-/// The same where what enables features may not have been told: then they are taken out whatever flags stand, since that finds
-/// what enables those that are left.
-pub fn left_after<'m, S: BuildHasher + Clone>(
-    alloc: Global,
-    state: &S,
-    features: Vec<Feature<'m>>,
-    flags: &[bool],
-    has_enablers: bool,
-) -> Result<Left<'m, S>, AllocError>
-    requires in_order { AreInOrder features.items }
-    requires count { length flags.now ≡ length features.items }
-    ensures keyed { IfOk result (λ l. IsKeyed l.features) }
-    ensures outcome { IfOk result (λ l. (t : Table) (removed : Text → Bool) → AreTable t features.entry.items →
-        (has_enablers ≡ true → IsUnremoved t (resolution_among features.entry.items)) →
-        ((f : Text) → IsTrue (removed f) ↔ IsFlagged features.entry.items flags.now f) →
-        AreLeft t removed features.entry.items l.features l.hidden) }
-{
-    if has_enablers {
-        left_of(alloc, state, features, flags)
-    } else {
-        take_out(alloc, state, features, flags)
+        keep_enabled(alloc, state, features, flags)
     }
 }

@@ -3,6 +3,7 @@
 
 pub mod bins;
 pub mod elimination;
+pub mod enabling;
 pub mod filter;
 pub mod flags;
 pub mod joining;

@@ -33,7 +33,11 @@ pub struct Graph<'m> {
     ghost names_inside: { (a x : ℕ) → Leads names.items a x → x < length flags.items },
 }
 
-fn keys_of<'m>(alloc: Global, features: &[Feature<'m>]) -> Result<Vec<&'m str>, AllocError>
+/// The names of features, in their order. It fails only where memory runs out.
+pub(crate) fn keys_of<'m>(
+    alloc: Global,
+    features: &[Feature<'m>],
+) -> Result<Vec<&'m str>, AllocError>
     ensures { IfOk result (λ v. texts_of v.items ≡ names_of features.now) }
 {
     let mut keys = Vec::with_capacity(alloc, features.len())?;
@@ -183,9 +187,9 @@ fn named_targets(
     Ok(row)
 }
 
-// The feature of this name, if there is one other than the one in place `own`, is put at the end. It is looked for at `near`
-// first; the answer is where to look for one that follows.
-fn push_target(
+/// The feature of this name, if there is one other than the one in place `own`, is put at the end.
+/// It is looked for at `near` first; the answer is where to look for one that follows.
+pub(crate) fn push_target(
     row: &mut Vec<usize>,
     key: &str,
     keys: &[&str],
@@ -224,9 +228,9 @@ fn push_action(
     push_target(row, key, keys, own, near)
 }
 
-// Those that the actions enable, other than the one in place `own`. An implied feature acts on the dependency of its own name,
-// so the first is looked for there.
-fn push_actions(
+// The same where there is an action. An implied feature acts on the dependency of its own name, so
+// the first is looked for there.
+fn push_each_action(
     row: &mut Vec<usize>,
     actions: &BTreeMap<&str, DepAction<'_>>,
     keys: &[&str],
@@ -234,13 +238,33 @@ fn push_actions(
 ) -> Result<(), AllocError>
     requires { IsAscending (λ a b. IsTrue (is_below a b)) (texts_of keys.now) }
     ensures { OnOk result ((x : ℕ) → Among row.new.items x ↔ (Among row.old.items x
-        ⊎ ((x < length keys.now) × (x ≢ own) × IsPlain (action_at actions.now (text_at (texts_of keys.now) x))))) }
+        ⊎ ((x < length keys.now) × (x ≢ own)
+        × IsPlain (action_at actions.now (text_at (texts_of keys.now) x))))) }
 {
     let mut near = own;
     for (key, action) in actions.iter() {
         near = push_action(row, *key, action, keys, own, near)?;
     }
     Ok(())
+}
+
+/// Those that the actions enable, other than the one in place `own`.
+pub(crate) fn push_actions(
+    row: &mut Vec<usize>,
+    actions: &BTreeMap<&str, DepAction<'_>>,
+    keys: &[&str],
+    own: usize,
+) -> Result<(), AllocError>
+    requires { IsAscending (λ a b. IsTrue (is_below a b)) (texts_of keys.now) }
+    ensures { OnOk result ((x : ℕ) → Among row.new.items x ↔ (Among row.old.items x
+        ⊎ ((x < length keys.now) × (x ≢ own)
+        × IsPlain (action_at actions.now (text_at (texts_of keys.now) x))))) }
+{
+    // Most features act on nothing, and to begin a walk over an empty map costs more than this.
+    if actions.is_empty() {
+        return Ok(());
+    }
+    push_each_action(row, actions, keys, own)
 }
 
 // The features that the one in place `own` enables; `named` has the numbers of what it names.

@@ -10,9 +10,8 @@ ghost use Rattle.cargo_toml_features.specs.Views.{listed_of, answer_of, entry_of
 ghost use Rattle.cargo_toml_features.specs.Resolved.{IsAnswer};
 ghost use Rattle.cargo_toml_hidden.specs.Filter.{HasNameFilter, Tells};
 
-use crate::filter::is_hidden;
 use crate::flags::hidden_flags;
-use crate::left::{Left, left_after};
+use crate::left::{Left, left_of};
 use crate::publishing::hashed_dependencies;
 use cargo_toml_features::admit::Listing;
 use cargo_toml_features::features::{Features, ParseDependency};
@@ -21,18 +20,6 @@ use cargo_toml_resolve::resolution::Unremoved;
 use cargo_toml_resolve::resolve_all;
 use std::alloc::{AllocError, Global};
 use std::hash::BuildHasher;
-
-// Whether a feature that is hidden is listed. An implied one may be hidden, too.
-fn lists_hidden<F: Fn(&str) -> bool>(filter: Option<&F>, listings: &[Listing<'_>]) -> bool
-    requires { HasNameFilter F.Fn filter }
-{
-    for listing in listings {
-        if is_hidden(filter, listing.name) {
-            return true;
-        }
-    }
-    false
-}
 
 /// Resolves features as they are listed, with entries of whatever dependency tables and what binaries require, and removes
 /// those whose names begin with `_`, but for the ones that the filter keeps.
@@ -55,17 +42,15 @@ pub fn resolve<'m: 'd, 'd, F: Fn(&str) -> bool, S: BuildHasher + Clone>(
     ensures keyed { IfOk result (λ a. IsKeyed a.features) }
     ensures targets { IfOk result (λ a. HaveTargets a.dependencies) }
 {
-    // Where hidden features are taken out, what enables the others is found anew.
-    let wants_enablers = !lists_hidden(filter, listings);
     let Unremoved {
         features,
         dependencies,
-    } = resolve_all(alloc, listings, entries, requirements, wants_enablers)?;
+    } = resolve_all(alloc, listings, entries, requirements)?;
     let flags = hidden_flags(alloc, features.as_slice(), filter)?;
     let Left {
         features: kept,
         hidden: hidden_features,
-    } = left_after(alloc, state, features, flags.as_slice(), wants_enablers)?;
+    } = left_of(alloc, state, features, flags.as_slice())?;
     let dependencies = hashed_dependencies(state.clone()?, alloc, dependencies)?;
     Ok(Features {
         features: kept,

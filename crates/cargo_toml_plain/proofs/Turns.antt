@@ -12,7 +12,7 @@ use Rattle.cargo_toml_graph.proofs.Texts.{bytes_eq_refl}
 use Rattle.cargo_toml_graph.proofs.BinLists.{among-either, among-first, among-second, among-true, is_among-true}
 use Rattle.cargo_toml_graph.specs.Removal.{is_among}
 use Rattle.cargo_toml_features.specs.declared.features.Feature.{Feature}
-use Rattle.cargo_toml_resolve.specs.Enabling.{Relates}
+use Rattle.cargo_toml_resolve.specs.Slots.{Relates}
 use Rattle.cargo_toml_features.specs.Views.{value_at}
 use Rattle.cargo_toml_plain.specs.Removing.{ChangesAt, texts_of}
 

@@ -15,6 +15,7 @@ use crate::names::hidden_names;
 use crate::removal::remove_all;
 use cargo_toml_features::admit::Listing;
 use cargo_toml_features::features::{Feature, Features, ParseDependency};
+use cargo_toml_hidden::enabling::set_enablers;
 use cargo_toml_hidden::left::{Left, keep_all};
 use cargo_toml_hidden::publishing::hashed_dependencies;
 use cargo_toml_resolve::bins::Requirement;
@@ -59,9 +60,10 @@ pub fn resolve<'m: 'd, 'd, F: Fn(&str) -> bool, S: BuildHasher + Clone>(
     ensures targets { IfOk result (λ a. HaveTargets a.dependencies) }
 {
     let Unremoved {
-        features,
+        mut features,
         dependencies,
-    } = resolve_all(alloc, listings, entries, requirements, true)?;
+    } = resolve_all(alloc, listings, entries, requirements)?;
+    set_enablers(alloc, &mut features)?;
     let Left {
         features: mut by_name,
         mut hidden,

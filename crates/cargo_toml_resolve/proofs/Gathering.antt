@@ -5,7 +5,7 @@ use Rattle.std.proofs.lemmas.List.Folds.{list_any-append}
 use Rattle.std.proofs.lemmas.List.Sums.{fold_push}
 use Rattle.std.proofs.lemmas.List.{map_push, take_more}
 use Rattle.std.proofs.lemmas.Map.Text.{is_eq-slice_cmp}
-use Rattle.std.specs.BTreeMap.{BTreeMap}
+use Rattle.std.specs.BTreeMap.{BTreeMap, is_at}
 use Rattle.std.specs.BTreeSet as sorted
 use Rattle.std.specs.BTreeSet.{BTreeSet}
 use Rattle.std.specs.Cmp.Lexicographic.{slice_cmp}
@@ -20,7 +20,6 @@ use Rattle.cargo_toml_graph.specs.Action.Item.{Name, On}
 use Rattle.cargo_toml_graph.specs.Admitted.{action_on, item_names}
 use Rattle.cargo_toml_features.specs.ActionText.{action_in, item_in}
 use Rattle.cargo_toml_features.specs.Views.{action_at, has_text}
-use Rattle.cargo_toml_resolve.proofs.Links.{is_text_in}
 use Rattle.cargo_toml_resolve.specs.ReadFeature.{IsGathered, IsListed, joined_in}
 
 pub acting : (t : ActionText) → true ≡ (t.is_dep_only || is_some t.dep_feature) → item_in t ≡ On t.target.now (action_in t)
@@ -57,6 +56,10 @@ module _ (f : Text) (d : Detail) (items : List Item) (named : List Text) (v : Fe
   }
 
 -- ---- sets of texts
+-- a key of the list is the text x
+abbrev pub is_text_in : List (Bor Text) → Text → Bool
+is_text_in ks x = list_any (is_at (λ k. slice_cmp nat_cmp x k.now)) ks
+
 text_in : (ks : List (Bor Text)) (x : Text) → is_text_in ks x ≡ list_any (bytes_eq x) (map (λ k. k.now) ks)
 text_in [] x = refl
 text_in (k ∷ ks) x = ap₂ (λ a b. a || b) (is_eq-slice_cmp x k.now) (text_in ks x)

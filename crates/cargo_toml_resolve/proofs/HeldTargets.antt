@@ -1,5 +1,5 @@
 -- Each dependency that stands under a name has a target.
-use Rattle.std.proofs.Common.{◌≡◌, List, Option, None, Some, option_map, IfSome}
+use Rattle.std.proofs.Common.{List, Option, None, Some, option_map, IfSome}
 use Rattle.cargo_toml_graph.specs.Action.{Text}
 use Rattle.cargo_toml_features.specs.declared.features.FeatureDependency.{FeatureDependency}
 use Rattle.cargo_toml_features.specs.FirstTarget.{HasTarget}

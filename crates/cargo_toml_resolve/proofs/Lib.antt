@@ -2,8 +2,6 @@ pub mod Thinning
 pub mod Counting
 pub mod Recording
 pub mod PlaceByPlace
-pub mod Links
-pub mod Enabling
 pub mod Implying
 pub mod Answering
 pub mod SlotValues
@@ -15,4 +13,4 @@ pub mod Ascending
 pub mod GatheredKeys
 pub mod ListedNames
 mod HeldTargets
-mod Gathering
+pub mod Gathering

@@ -1,54 +1,10 @@
 -- Values in places, of which one after another has its turn.
-use Rattle.std.proofs.Common.{◌≡◌, ◌<◌, ◌+◌, ◌&&◌, ◌||◌, ℕ, zero, suc, Bool, true, false, cond, List, [], ◌∷◌, length, set, take, get_or, get_or-set_same, get_or-set_other, below_more, Option, None, IsTrue, bytes_eq, refl, sym, subst, arith, ◌∙◌}
-use Rattle.std.proofs.Math.Bool.{or-false}
-use Rattle.std.specs.Option.{option_map_or}
+use Rattle.std.proofs.Common.{◌≡◌, ◌<◌, ◌+◌, ℕ, zero, suc, Bool, true, false, cond, List, [], ◌∷◌, length, set, get_or, get_or-set_same, get_or-set_other, below_more, Option, None, bytes_eq, refl, sym, subst, arith, ◌∙◌}
 use Rattle.std.proofs.lemmas.List.{length-set}
-use Rattle.std.proofs.lemmas.Slice.Eq.{bytes_eq-Decides}
 use Rattle.cargo_toml_graph.specs.Action.{Text}
-use Rattle.cargo_toml_graph.specs.Admitted.{is_below}
-use Rattle.cargo_toml_graph.proofs.RedirectsInOrder.{below_one_way}
-use Rattle.cargo_toml_resolve.specs.Ascending.{Ascend}
 use Rattle.cargo_toml_resolve.specs.Slots.{held_among}
-use Rattle.cargo_toml_walk.specs.Numbered.{text_at}
-use Rattle.cargo_toml_walk.proofs.Places.{among_at}
 
 module _ {V : Type 0} where
-  -- whether a test holds of the value under a name, by what stands in the first places
-  module _ (P : V → Bool) where
-    abbrev told : Option V → Bool
-    told o = option_map_or P o false
-
-    told_next : (ns : List Text) (vs : List (Option V)) (i : ℕ) (d : Option V) → Ascend ns → length vs ≡ length ns → i < length ns
-        → (f : Text) → told (held_among (take (suc i) ns) vs f) ≡ (told (held_among (take i ns) vs f) || (bytes_eq f (text_at ns i) && told (get_or vs i d)))
-    told_next [] vs i d up same below f = absurd (omega arith)
-    told_next (n ∷ ns) [] i d up same below f = absurd (omega arith)
-    told_next (n ∷ ns) (v ∷ vs) zero d up same below f = go (bytes_eq f n)
-      where
-        go : (t : Bool) → told (cond t v None) ≡ (t && told v)
-        go true = refl
-        go false = refl
-    told_next (n ∷ ns) (v ∷ vs) (suc i) d up same below f = go (bytes_eq f n) refl (bytes_eq f (text_at ns i)) refl (told_next ns vs i d up.1 (omega arith) (omega arith) f)
-      where
-        inside : i < length ns
-        inside = omega arith
-
-        go : (s : Bool) → bytes_eq f n ≡ s → (t : Bool) → bytes_eq f (text_at ns i) ≡ t
-            → told (held_among (take (suc i) ns) vs f) ≡ (told (held_among (take i ns) vs f) || (t && told (get_or vs i d)))
-            → told (cond s v (held_among (take (suc i) ns) vs f)) ≡ (told (cond s v (held_among (take i ns) vs f)) || (t && told (get_or vs i d)))
-        go true on true there later = absurd (below_one_way n n itself itself)
-          where
-            itself : IsTrue (is_below n n)
-            itself = subst (λ x. IsTrue (is_below n x)) (sym ((bytes_eq-Decides f (text_at ns i)).0 there) ∙ (bytes_eq-Decides f n).0 on) (up.0 (text_at ns i) (among_at ns i [] inside))
-        go true on false there later = sym (or-false (told v))
-        go false off t there later = later
-
-    pub told_more : (ns : List Text) (vs : List (Option V)) (i : ℕ) (d : Option V) → Ascend ns → length vs ≡ length ns → i < length ns
-        → (f : Text) → told (held_among (take (i + 1) ns) vs f) ≡ (told (held_among (take i ns) vs f) || (bytes_eq f (text_at ns i) && told (get_or vs i d)))
-    told_more ns vs i d up same below f =
-        let next : suc i ≡ i + 1 = omega arith in
-        subst (λ k. told (held_among (take k ns) vs f) ≡ (told (held_among (take i ns) vs f) || (bytes_eq f (text_at ns i) && told (get_or vs i d)))) next
-        (told_next ns vs i d up same below f)
-
   -- two values under each name, related where those in each place are
   pub held_related : (R : Option V → Option V → Type 0) → R None None → (ns : List Text) (vs ws : List (Option V)) → length ws ≡ length vs
       → ((i : ℕ) → i < length vs → R (get_or vs i None) (get_or ws i None)) → (f : Text) → R (held_among ns vs f) (held_among ns ws f)

@@ -8,10 +8,9 @@ use Rattle.cargo_toml_resolve.specs.declared.bins.Requirement.{Requirement}
 use Rattle.cargo_toml_features.specs.declared.features.Feature.{Feature}
 use Rattle.cargo_toml_graph.specs.Action.{Text}
 use Rattle.cargo_toml_graph.proofs.Texts.{bytes_eq_sym}
-use Rattle.cargo_toml_resolve.specs.Enabling.{Relates}
+use Rattle.cargo_toml_resolve.specs.Slots.{Relates, held_in}
 use Rattle.cargo_toml_resolve.specs.OwnBins.{own_of, requirement_of}
 use Rattle.cargo_toml_resolve.specs.Requiring.{Required, RequiredAll}
-use Rattle.cargo_toml_resolve.specs.Slots.{held_in}
 use Rattle.cargo_toml_resolve.specs.declared.slots.Slots.{Slots}
 
 nothing : (own : List Text) → own ≡ [] → (o : Option Feature) → Relates (Required own) o o

@@ -1,6 +1,5 @@
 pub mod Reading
 pub mod Recording
-pub mod Enabling
 pub mod Redundant
 pub mod Implying
 pub mod ReadFeature

@@ -1,5 +1,5 @@
 -- The features as they stand once their lists are read, before dependencies are looked at.
-use Rattle.std.specs.Prelude.{◌≡◌, Bool, true, false, List, [], Option, Some, is_some, unwrap_or}
+use Rattle.std.specs.Prelude.{◌≡◌, Bool, true, false, [], Option, Some, is_some, unwrap_or}
 use Rattle.std.specs.List.{list_any}
 use Rattle.cargo_toml_dependencies.specs.Details.{Detail}
 use Rattle.cargo_toml_features.specs.declared.features.Feature.{Feature}

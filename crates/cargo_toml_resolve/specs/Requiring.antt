@@ -3,8 +3,7 @@ use Rattle.std.specs.Prelude.{◌≡◌, ◌++◌, List, map}
 use Rattle.cargo_toml_features.specs.declared.features.Feature.{Feature}
 use Rattle.cargo_toml_features.specs.Marks.{marks_of}
 use Rattle.cargo_toml_graph.specs.Action.{Text}
-use Rattle.cargo_toml_resolve.specs.Enabling.{Relates}
-use Rattle.cargo_toml_resolve.specs.Slots.{held_in}
+use Rattle.cargo_toml_resolve.specs.Slots.{Relates, held_in}
 use Rattle.cargo_toml_resolve.specs.declared.slots.Slots.{Slots}
 
 -- the feature gained these binaries, and nothing else changed

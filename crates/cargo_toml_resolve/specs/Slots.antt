@@ -1,15 +1,13 @@
 -- Values under names that stand in byte order.
-use Rattle.std.specs.Prelude.{◌≡◌, if◌then◌else◌, false, List, [], ◌∷◌, length, map, Option, None, IfSome, IsTrue, bytes_eq, is_some}
+use Rattle.std.specs.Prelude.{◌≡◌, if◌then◌else◌, false, List, [], ◌∷◌, length, map, Option, None}
+use Rattle.std.specs.Prelude.{Some, IfSome, bytes_eq, is_some}
 use Rattle.std.specs.Option.{option_map_or}
 use Rattle.cargo_toml_features.specs.declared.features.Feature.{Feature}
 use Rattle.cargo_toml_features.specs.declared.features.FeatureDependency.{FeatureDependency}
 use Rattle.cargo_toml_features.specs.FirstTarget.{HasTarget}
-use Rattle.cargo_toml_resolve.specs.Ascending.{Ascend}
 use Rattle.cargo_toml_resolve.specs.declared.slots.Slots.{Slots}
 use Rattle.cargo_toml_graph.specs.Action.{Text}
-use Rattle.cargo_toml_graph.specs.Admitted.{is_below}
-use Rattle.cargo_toml_graph.specs.Graph.{Table, Resolution}
-use Rattle.cargo_toml_graph.specs.Removal.{IsAscending}
+use Rattle.cargo_toml_graph.specs.Graph.{Table}
 use Rattle.cargo_toml_features.specs.Views.{action_at, has_text}
 
 module _ {V : Type 0} where
@@ -31,18 +29,19 @@ module _ {V : Type 0} where
     pub names : new.names.items ≡ old.names.items
     pub count : length new.values.items ≡ length old.values.items
 
+  -- one value changed into the other, or none stood there and none does
+  abbrev pub Relates : (V → V → Type 0) → Option V → Option V → Type 0
+  Relates Changes None None = Unit {0}
+  Relates Changes None (Some b) = ⊥
+  Relates Changes (Some a) None = ⊥
+  Relates Changes (Some a) (Some b) = Changes a b
+
 -- features under names, as a table
 abbrev pub table_held : Slots Feature → Table
 table_held s = record {
   has = λ f. is_some (held_in s f);
   names = λ f x. option_map_or (λ v. has_text v.enables_features x) (held_in s f) false;
   action = λ f k. option_map_or (λ v. action_at v.enables_deps k) (held_in s f) None;
-}
-
-abbrev pub resolution_held : Slots Feature → Resolution
-resolution_held s = record {
-  table = table_held s;
-  enabled_by = λ f e. option_map_or (λ v. has_text v.enabled_by e) (held_in s f) false;
 }
 
 -- each feature stands under its own key

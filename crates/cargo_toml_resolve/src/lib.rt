@@ -4,7 +4,6 @@
 #![tactic(auto)]
 
 pub mod bins;
-mod enable;
 mod imply;
 mod names;
 pub mod places;

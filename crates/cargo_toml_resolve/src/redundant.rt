@@ -5,9 +5,8 @@ ghost use Rattle.cargo_toml_dependencies.specs.Dependencies.{dependency_meaning}
 ghost use Rattle.cargo_toml_graph.specs.Action.{Text};
 ghost use Rattle.cargo_toml_features.specs.Recorded.{Entry, first_target, is_redundant, recorded_of, without_redundant};
 ghost use Rattle.cargo_toml_resolve.specs.Recording.{recorded_at};
-ghost use Rattle.cargo_toml_resolve.specs.Enabling.{Relates};
+ghost use Rattle.cargo_toml_resolve.specs.Slots.{Relates, HaveSameNames};
 ghost use Rattle.cargo_toml_resolve.specs.Redundant.{IsRecordOf, Thinned, ThinnedAll};
-ghost use Rattle.cargo_toml_resolve.specs.Slots.{HaveSameNames};
 ghost use Rattle.cargo_toml_features.specs.Views.{action_of};
 
 use crate::slots::Slots;

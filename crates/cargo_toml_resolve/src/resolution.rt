@@ -1,10 +1,10 @@
 //! From what a manifest lists to all that is resolved, before any feature is removed.
-ghost use Rattle.std.specs.Prelude.{◌≡◌, map, option_map, true, IfOk, IfSome};
+ghost use Rattle.std.specs.Prelude.{◌≡◌, map, option_map, IfOk, IfSome};
 ghost use Rattle.cargo_toml_graph.specs.Action.{Text};
-ghost use Rattle.cargo_toml_graph.specs.Graph.{IsUnremoved};
 ghost use Rattle.cargo_toml_graph.specs.Reach.{IsOnce};
 ghost use Rattle.cargo_toml_resolve.specs.Slots.{HeldHaveTargets, held_in};
-ghost use Rattle.cargo_toml_features.specs.InOrder.{AreInOrder, AreTable, feature_at, resolution_among};
+ghost use Rattle.cargo_toml_features.specs.InOrder.{AreInOrder, AreTable, HaveNoEnablers};
+ghost use Rattle.cargo_toml_features.specs.InOrder.{feature_at};
 ghost use Rattle.cargo_toml_resolve.specs.OwnBins.{own_of, requirement_of};
 ghost use Rattle.cargo_toml_features.specs.Marks.{details_of, marks_in, marks_of};
 ghost use Rattle.cargo_toml_features.specs.Views.{listed_of, entry_of, recorded_in};
@@ -12,7 +12,6 @@ ghost use Rattle.cargo_toml_features.specs.Recorded.{entries_at, recorded_of};
 ghost use Rattle.cargo_toml_features.specs.Resolved.{SameRecorded, table_of};
 
 use crate::bins::{Requirement, require_all};
-use crate::enable::set_wanted_enablers;
 use crate::imply::imply_all;
 use crate::names::names_of_all;
 use crate::places::into_features;
@@ -27,7 +26,7 @@ use std::alloc::{AllocError, Global};
 /// What is resolved before any feature is removed.
 #[derive(Drop)]
 pub struct Unremoved<'m, 'd> {
-    /// The features, in the byte order of their names.
+    /// The features, in the byte order of their names. None tells yet what enables it.
     pub features: Vec<Feature<'m>>,
     /// The dependencies that features can speak of, by key.
     pub dependencies: Slots<'d, FeatureDependency<'d>>,
@@ -36,20 +35,18 @@ pub struct Unremoved<'m, 'd> {
 /// Resolves features as they are listed, with entries of whatever dependency tables and what binaries require, and removes
 /// none of them.
 ///
-/// Each name is listed once. What enables a feature is told where that is wanted; it costs a look-up for each name in a list.
-/// It fails only where memory runs out.
+/// Each name is listed once. What enables a feature isn't told: where features are removed, that is
+/// found anew. It fails only where memory runs out.
 pub fn resolve_all<'m: 'd, 'd>(
     alloc: Global,
     listings: &[Listing<'m>],
     entries: &[ParseDependency<'m, 'd>],
     requirements: &[Requirement<'m>],
-    wants_enablers: bool,
 ) -> Result<Unremoved<'m, 'd>, AllocError>
     requires { IsOnce (map (λ l. l.name.now) listings.now) }
     ensures in_order { IfOk result (λ a. AreInOrder a.features.items) }
     ensures table { IfOk result (λ a. AreTable (table_of (listed_of listings.now) (map entry_of entries.now)) a.features.items) }
-    ensures unremoved { IfOk result (λ a. wants_enablers ≡ true →
-        IsUnremoved (table_of (listed_of listings.now) (map entry_of entries.now)) (resolution_among a.features.items)) }
+    ensures no_enablers { IfOk result (λ a. HaveNoEnablers a.features.items) }
     ensures marks { IfOk result (λ a. (f : Text) → IfSome (feature_at a.features.items f) (λ v.
         marks_of v ≡ marks_in (listed_of listings.now) (details_of listings.now) f)) }
     ensures bins { IfOk result (λ a. (f : Text) → IfSome (feature_at a.features.items f) (λ v.
@@ -70,7 +67,6 @@ pub fn resolve_all<'m: 'd, 'd>(
     } = mentions;
     drop_redundant(&mut features, &dependencies);
     imply_all(alloc, &mut features, &acted, entries)?;
-    set_wanted_enablers(alloc, &mut features, wants_enablers)?;
     require_all(&mut features, requirements)?;
     let features = into_features(alloc, features)?;
     Ok(Unremoved {

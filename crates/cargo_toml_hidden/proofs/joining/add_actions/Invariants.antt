@@ -1,7 +1,7 @@
 use Rattle.std.proofs.Common.{◌≡◌, cond, map}
 use Rattle.cargo_toml_graph.specs.Action.{Text, join_option}
 use Rattle.cargo_toml_features.specs.Views.{action_at}
-use Rattle.cargo_toml_resolve.proofs.Links.{is_text_in}
+use Rattle.cargo_toml_resolve.proofs.Gathering.{is_text_in}
 use Rattle.cargo_toml_hidden.proofs.joining.add_actions.Given as goal
 
 abbrev pub invariant-loop-key : goal.invariant-loop-key

@@ -1,7 +1,7 @@
 use Rattle.std.proofs.Common.{rules, ◌≡◌, ◌||◌, ap, ◌∙◌, map}
 use Rattle.std.proofs.lemmas.Map.Iter.{iter_end}
 use Rattle.cargo_toml_features.specs.Views.{has_text}
-use Rattle.cargo_toml_resolve.proofs.Links.{is_text_in}
+use Rattle.cargo_toml_resolve.proofs.Gathering.{is_text_in}
 use Rattle.cargo_toml_features.proofs.TextKeys.{inserted}
 use Rattle.cargo_toml_hidden.proofs.Sets.{one_more}
 use Rattle.cargo_toml_hidden.proofs.joining.add_all.Goals as goal

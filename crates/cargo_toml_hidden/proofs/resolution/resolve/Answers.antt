@@ -32,6 +32,6 @@ returns-clause-resolved g c = λ keep tells.
     (record { features = c.in_ok-kept.field-0.features; dependencies = c.in_ok-dependencies.dependencies; removed_hidden_features = c.contains.result; hidden_features = c.in_ok-kept.field-0.hidden })
     all.table all.marks all.bins
     (λ k. subst (λ o. SameRecorded (option_map recorded_in o) (recorded_of (entries_at listed entries k))) (sym (c.in_ok-dependencies.ensures.same k)) (all.dependencies k))
-    (c.in_ok-kept.ensures.outcome t (is_removed t keep) all.table all.unremoved (subst (λ fs. (f : Text) → IsTrue (is_removed t keep f) ↔ IsFlagged vs fs f) (sym c.as_slice-2.ensures.value) is))
+    (c.in_ok-kept.ensures.outcome t (is_removed t keep) all.table (subst (λ fs. (f : Text) → IsTrue (is_removed t keep f) ↔ IsFlagged vs fs f) (sym c.as_slice-2.ensures.value) is))
     (some_flagged c.contains.result vs c.deref.result.now (λ f. IsTrue (is_removed t keep f)) (ap length c.deref.ensures.value ∙ len) c.contains.ensures.cases
     (subst (λ fs. (f : Text) → IsTrue (is_removed t keep f) ↔ IsFlagged vs fs f) (sym c.deref.ensures.value) is))

@@ -1,4 +1,4 @@
-use Rattle.std.proofs.Common.{refl, ◌≡◌, ◌==◌, ◌↔◌, map, not, option_map, IsTrue, sym, ap, subst, ◌∙◌}
+use Rattle.std.proofs.Common.{◌≡◌, ◌==◌, ◌↔◌, map, not, option_map, IsTrue, sym, ap, subst, ◌∙◌}
 use Rattle.cargo_toml_graph.specs.Action.{Text}
 use Rattle.cargo_toml_graph.specs.Admitted.{is_below}
 use Rattle.cargo_toml_graph.specs.Removal.{IsAscending, is_removed}
@@ -10,8 +10,12 @@ use Rattle.cargo_toml_features.specs.Resolved.{SameRecorded, table_of}
 use Rattle.cargo_toml_features.specs.Views.{entry_of, listed_of, recorded_in, table_in}
 use Rattle.cargo_toml_graph.proofs.InByteOrder.{ascending_once}
 use Rattle.cargo_toml_plain.specs.Removing.{texts_of}
+use Rattle.cargo_toml_hidden.proofs.Learning.{bins_still, in_order_still, marks_still}
 use Rattle.cargo_toml_plain.proofs.Resolving.{answers, held_by_name, keyed_still, some_is, unremoved_by_name}
 use Rattle.cargo_toml_plain.proofs.resolution.resolve.Goals as goal
+
+pub all_by_name-requires : goal.all_by_name-requires
+all_by_name-requires g c = in_order_still c.in_ok-features.field-0.features.items c.set_enablers.new.features.items c.in_ok-set_enablers.ensures.same c.in_ok-features.ensures.in_order
 
 pub remove_all-requires-clause-there : goal.remove_all-requires-clause-there
 remove_all-requires-clause-there g c = λ v i. c.in_ok-names.ensures.known v (subst (λ xs. Among (texts_of xs) v) c.as_slice.ensures.value i)
@@ -28,7 +32,9 @@ returns-clause-resolved g c = λ keep tells.
     let entries = map entry_of c.args.entries.now in
     let own = own_of (map requirement_of c.args.requirements.now) in
     let all = c.in_ok-features.ensures in
-    let vs = c.in_ok-features.field-0.features.items in
+    let old_vs = c.in_ok-features.field-0.features.items in
+    let vs = c.set_enablers.new.features.items in
+    let enabled = c.in_ok-set_enablers.ensures in
     let old = c.in_ok-by_name.field-0.features in
     let by_name = c.in_ok-by_name.ensures.same in
     let names = c.in_ok-names.ensures in
@@ -36,9 +42,9 @@ returns-clause-resolved g c = λ keep tells.
     let same = c.as_slice.ensures.value in
     answers {S = g.row.S.Denot} {H = g.row.S-Hasher.Denot} listed entries (details_of c.args.listings.now) own keep old
     (record { features = c.remove_all.new.features; dependencies = c.in_ok-dependencies.dependencies; removed_hidden_features = not c.is_empty.result; hidden_features = c.remove_all.new.hidden })
-    (texts_of c.as_slice.result.now) (unremoved_by_name vs old by_name (table_of listed entries) (all.unremoved refl)) c.in_ok-by_name.ensures.keyed
-    (held_by_name vs old by_name (λ f v. marks_of v ≡ marks_in listed (details_of c.args.listings.now) f) all.marks)
-    (held_by_name vs old by_name (λ f v. map (λ b. b.now) v.required_by_bins.items ≡ own f) all.bins)
+    (texts_of c.as_slice.result.now) (unremoved_by_name vs old by_name (table_of listed entries) (enabled.unremoved (table_of listed entries) all.table)) c.in_ok-by_name.ensures.keyed
+    (held_by_name vs old by_name (λ f v. marks_of v ≡ marks_in listed (details_of c.args.listings.now) f) (marks_still old_vs vs enabled.same (marks_in listed (details_of c.args.listings.now)) all.marks))
+    (held_by_name vs old by_name (λ f v. map (λ b. b.now) v.required_by_bins.items ≡ own f) (bins_still old_vs vs enabled.same own all.bins))
     (λ k. subst (λ o. SameRecorded (option_map recorded_in o) (recorded_of (entries_at listed entries k))) (sym (c.in_ok-dependencies.ensures.same k)) (all.dependencies k))
     (subst (λ xs. (f : Text) → Among (texts_of xs) f ↔ IsTrue (is_removed (table_in old) keep f)) (sym same) (names.removed keep tells))
     (subst (λ xs. IsAscending (λ a b. IsTrue (is_below a b)) (texts_of xs)) (sym same) names.ascending)

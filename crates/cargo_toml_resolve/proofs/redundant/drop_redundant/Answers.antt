@@ -1,8 +1,7 @@
 use Rattle.std.proofs.Common.{◌<◌, Option, None, length, sym, subst, arith, ◌∙◌}
 use Rattle.std.proofs.lemmas.List.{with_items_is}
-use Rattle.cargo_toml_resolve.specs.Enabling.{Relates}
+use Rattle.cargo_toml_resolve.specs.Slots.{Relates, held_among, held_in, names_in}
 use Rattle.cargo_toml_resolve.specs.Redundant.{Thinned}
-use Rattle.cargo_toml_resolve.specs.Slots.{held_among, held_in, names_in}
 use Rattle.cargo_toml_features.specs.declared.features.Feature.{Feature}
 use Rattle.cargo_toml_resolve.proofs.PlaceByPlace.{all_turned, none_turned, one_turned, read_alike}
 use Rattle.cargo_toml_resolve.proofs.redundant.drop_redundant.Goals as goal

@@ -1,6 +1,6 @@
 use Rattle.std.proofs.Common.{List}
 use Rattle.cargo_toml_graph.specs.Action.{Text}
-use Rattle.cargo_toml_resolve.specs.Enabling.{Relates}
+use Rattle.cargo_toml_resolve.specs.Slots.{Relates}
 use Rattle.cargo_toml_features.specs.Recorded.{Entry}
 use Rattle.cargo_toml_resolve.specs.Redundant.{IsRecordOf, Thinned}
 use Rattle.cargo_toml_resolve.proofs.PlaceByPlace.{TurnedUpTo}

@@ -1,12 +1,11 @@
-use Rattle.std.proofs.Common.{◌≡◌, ◌&&◌, not, bytes_eq, map}
-use Rattle.cargo_toml_resolve.specs.Enabling.{leads_at}
+use Rattle.std.proofs.Common.{◌≡◌, [], map}
 use Rattle.cargo_toml_resolve.specs.Implying.{is_offered}
 use Rattle.cargo_toml_resolve.specs.OwnBins.{own_of, requirement_of}
 use Rattle.cargo_toml_features.specs.Marks.{details_of, marks_in, marks_of}
 use Rattle.cargo_toml_features.specs.Views.{listed_of, entry_of}
 use Rattle.cargo_toml_features.specs.Recorded.{entries_at}
 use Rattle.cargo_toml_features.specs.Resolved.{table_of}
-use Rattle.cargo_toml_resolve.proofs.Answering.{whole, marks_told, bins_told, dependencies_told, fresh_still, keyed_from, keyed_required, same_last, table_among, told_among, unremoved_among}
+use Rattle.cargo_toml_resolve.proofs.Answering.{no_enablers_told, marks_told, bins_told, dependencies_told, fresh_still, keyed_from, keyed_required, same_last, table_among, told_among}
 use Rattle.cargo_toml_resolve.proofs.HeldTargets.{have_targets}
 use Rattle.cargo_toml_resolve.proofs.resolution.resolve_all.Goals as goal
 
@@ -20,13 +19,12 @@ into_features-requires c = record {
       let mentions = c.in_ok-mentions.mentions in
       let thinned = c.drop_redundant.new.features in
       let implied = c.imply_all.new.features in
-      let enabled = c.set_wanted_enablers.new.features in
       let last = c.require_all.new.features in
       let deps = c.in_ok-dependencies.dependencies in
-      keyed_required own enabled last c.in_ok-require_all.ensures.required
-      (keyed_from listed details (is_offered mentions.acted entries) (λ q e. c.args.wants_enablers && (leads_at implied e q && not (bytes_eq q e))) thinned implied enabled
-      (fresh_still c.args.wants_enablers listed entries details own mentions thinned implied enabled last deps c.in_ok-mentions.ensures.read c.in_ok-mentions.ensures.fresh c.drop_redundant.ensures.thinned c.in_ok-imply_all.ensures.implied c.in_ok-set_wanted_enablers.ensures.enabled c.in_ok-require_all.ensures.required (c.in_ok-dependencies.ensures.recorded listed))
-      c.in_ok-imply_all.ensures.implied c.in_ok-set_wanted_enablers.ensures.enabled);
+      keyed_required own implied last c.in_ok-require_all.ensures.required
+      (keyed_from listed details (is_offered mentions.acted entries) thinned implied
+      (fresh_still listed entries details own mentions thinned implied last deps c.in_ok-mentions.ensures.read c.in_ok-mentions.ensures.fresh c.drop_redundant.ensures.thinned c.in_ok-imply_all.ensures.implied c.in_ok-require_all.ensures.required (c.in_ok-dependencies.ensures.recorded listed))
+      c.in_ok-imply_all.ensures.implied);
 }
 
 pub returns-clause-table : goal.returns-clause-table
@@ -38,14 +36,13 @@ returns-clause-table c =
     let mentions = c.in_ok-mentions.mentions in
     let thinned = c.drop_redundant.new.features in
     let implied = c.imply_all.new.features in
-    let enabled = c.set_wanted_enablers.new.features in
     let last = c.require_all.new.features in
     let deps = c.in_ok-dependencies.dependencies in
     table_among last c.in_ok-features.features.items c.in_ok-features.ensures.same (table_of listed entries)
-    (same_last c.args.wants_enablers listed entries details own mentions thinned implied enabled last deps c.in_ok-mentions.ensures.read c.in_ok-mentions.ensures.fresh c.drop_redundant.ensures.thinned c.in_ok-imply_all.ensures.implied c.in_ok-set_wanted_enablers.ensures.enabled c.in_ok-require_all.ensures.required (c.in_ok-dependencies.ensures.recorded listed))
+    (same_last listed entries details own mentions thinned implied last deps c.in_ok-mentions.ensures.read c.in_ok-mentions.ensures.fresh c.drop_redundant.ensures.thinned c.in_ok-imply_all.ensures.implied c.in_ok-require_all.ensures.required (c.in_ok-dependencies.ensures.recorded listed))
 
-pub returns-clause-unremoved : goal.returns-clause-unremoved
-returns-clause-unremoved c = λ wants.
+pub returns-clause-no_enablers : goal.returns-clause-no_enablers
+returns-clause-no_enablers c = λ f.
     let listed = listed_of c.args.listings.now in
     let entries = map entry_of c.args.entries.now in
     let details = details_of c.args.listings.now in
@@ -53,11 +50,10 @@ returns-clause-unremoved c = λ wants.
     let mentions = c.in_ok-mentions.mentions in
     let thinned = c.drop_redundant.new.features in
     let implied = c.imply_all.new.features in
-    let enabled = c.set_wanted_enablers.new.features in
     let last = c.require_all.new.features in
     let deps = c.in_ok-dependencies.dependencies in
-    unremoved_among last c.in_ok-features.features.items c.in_ok-features.ensures.same (table_of listed entries)
-    (whole c.args.wants_enablers listed entries details own mentions thinned implied enabled last deps c.in_ok-mentions.ensures.read c.in_ok-mentions.ensures.fresh c.drop_redundant.ensures.thinned c.in_ok-imply_all.ensures.implied c.in_ok-set_wanted_enablers.ensures.enabled c.in_ok-require_all.ensures.required (c.in_ok-dependencies.ensures.recorded listed) wants)
+    told_among last c.in_ok-features.features.items c.in_ok-features.ensures.same (λ v. v.enabled_by.keys ≡ []) f
+    (no_enablers_told listed entries details own mentions thinned implied last deps c.in_ok-mentions.ensures.read c.in_ok-mentions.ensures.fresh c.drop_redundant.ensures.thinned c.in_ok-imply_all.ensures.implied c.in_ok-require_all.ensures.required (c.in_ok-dependencies.ensures.recorded listed) f)
 
 pub returns-clause-marks : goal.returns-clause-marks
 returns-clause-marks c = λ f.
@@ -68,11 +64,10 @@ returns-clause-marks c = λ f.
     let mentions = c.in_ok-mentions.mentions in
     let thinned = c.drop_redundant.new.features in
     let implied = c.imply_all.new.features in
-    let enabled = c.set_wanted_enablers.new.features in
     let last = c.require_all.new.features in
     let deps = c.in_ok-dependencies.dependencies in
     told_among last c.in_ok-features.features.items c.in_ok-features.ensures.same (λ v. marks_of v ≡ marks_in listed details f) f
-    (marks_told c.args.wants_enablers listed entries details own mentions thinned implied enabled last deps c.in_ok-mentions.ensures.read c.in_ok-mentions.ensures.fresh c.drop_redundant.ensures.thinned c.in_ok-imply_all.ensures.implied c.in_ok-set_wanted_enablers.ensures.enabled c.in_ok-require_all.ensures.required (c.in_ok-dependencies.ensures.recorded listed) f)
+    (marks_told listed entries details own mentions thinned implied last deps c.in_ok-mentions.ensures.read c.in_ok-mentions.ensures.fresh c.drop_redundant.ensures.thinned c.in_ok-imply_all.ensures.implied c.in_ok-require_all.ensures.required (c.in_ok-dependencies.ensures.recorded listed) f)
 
 pub returns-clause-bins : goal.returns-clause-bins
 returns-clause-bins c = λ f.
@@ -83,11 +78,10 @@ returns-clause-bins c = λ f.
     let mentions = c.in_ok-mentions.mentions in
     let thinned = c.drop_redundant.new.features in
     let implied = c.imply_all.new.features in
-    let enabled = c.set_wanted_enablers.new.features in
     let last = c.require_all.new.features in
     let deps = c.in_ok-dependencies.dependencies in
     told_among last c.in_ok-features.features.items c.in_ok-features.ensures.same (λ v. map (λ b. b.now) v.required_by_bins.items ≡ own f) f
-    (bins_told c.args.wants_enablers listed entries details own mentions thinned implied enabled last deps c.in_ok-mentions.ensures.read c.in_ok-mentions.ensures.fresh c.drop_redundant.ensures.thinned c.in_ok-imply_all.ensures.implied c.in_ok-set_wanted_enablers.ensures.enabled c.in_ok-require_all.ensures.required (c.in_ok-dependencies.ensures.recorded listed) f)
+    (bins_told listed entries details own mentions thinned implied last deps c.in_ok-mentions.ensures.read c.in_ok-mentions.ensures.fresh c.drop_redundant.ensures.thinned c.in_ok-imply_all.ensures.implied c.in_ok-require_all.ensures.required (c.in_ok-dependencies.ensures.recorded listed) f)
 
 pub returns-clause-dependencies : goal.returns-clause-dependencies
 returns-clause-dependencies c =
@@ -98,10 +92,9 @@ returns-clause-dependencies c =
     let mentions = c.in_ok-mentions.mentions in
     let thinned = c.drop_redundant.new.features in
     let implied = c.imply_all.new.features in
-    let enabled = c.set_wanted_enablers.new.features in
     let last = c.require_all.new.features in
     let deps = c.in_ok-dependencies.dependencies in
-    dependencies_told c.args.wants_enablers listed entries details own mentions thinned implied enabled last deps c.in_ok-mentions.ensures.read c.in_ok-mentions.ensures.fresh c.drop_redundant.ensures.thinned c.in_ok-imply_all.ensures.implied c.in_ok-set_wanted_enablers.ensures.enabled c.in_ok-require_all.ensures.required (c.in_ok-dependencies.ensures.recorded listed)
+    dependencies_told listed entries details own mentions thinned implied last deps c.in_ok-mentions.ensures.read c.in_ok-mentions.ensures.fresh c.drop_redundant.ensures.thinned c.in_ok-imply_all.ensures.implied c.in_ok-require_all.ensures.required (c.in_ok-dependencies.ensures.recorded listed)
 
 pub returns-clause-targets : goal.returns-clause-targets
 returns-clause-targets c =

@@ -5,7 +5,7 @@ use Rattle.std.specs.Map.Iter.{deref_pair}
 use Rattle.cargo_toml_graph.specs.Action.{Text}
 use Rattle.cargo_toml_features.specs.Views.{action_at, action_of}
 use Rattle.cargo_toml_hidden.proofs.NumberRows.{action_put, all_actions}
-use Rattle.cargo_toml_hidden.proofs.numbering.push_actions.Goals as goal
+use Rattle.cargo_toml_hidden.proofs.numbering.push_each_action.Goals as goal
 
 pub loop-key-preserved : goal.loop-key-preserved
 loop-key-preserved c =

@@ -1,0 +1,40 @@
+-- Features that learn what enables them, place by place.
+use Rattle.std.specs.Prelude.{◌≡◌, ◌↔◌, ◌⊎◌, ℕ, IsTrue, List, length, slice_get, Some}
+use Rattle.cargo_toml_graph.specs.Action.{Text}
+use Rattle.cargo_toml_graph.specs.Graph.{IsPlain}
+use Rattle.cargo_toml_features.specs.declared.features.Feature.{Feature}
+use Rattle.cargo_toml_features.specs.Marks.{marks_of}
+use Rattle.cargo_toml_features.specs.Views.{action_at, has_text}
+
+-- what a feature holds beside its enablers stays
+pub record IsSameButEnablers (old new : Feature) : Type 0 where
+  pub key : new.key ≡ old.key
+  pub marks : marks_of new ≡ marks_of old
+  pub names : new.enables_features ≡ old.enables_features
+  pub actions : new.enables_deps ≡ old.enables_deps
+  pub bins : new.required_by_bins ≡ old.required_by_bins
+
+-- in each place
+pub record AreSameButEnablers (old new : List Feature) : Type 0 where
+  pub len : length new ≡ length old
+  pub each : (i : ℕ) (v w : Feature) → slice_get old i ≡ Some v → slice_get new i ≡ Some w →
+      IsSameButEnablers v w
+
+-- the feature names x, or acts on it plainly
+abbrev pub LeadsTo : Feature → Text → Type 0
+LeadsTo v x = IsTrue (has_text v.enables_features x) ⊎ IsPlain (action_at v.enables_deps x)
+
+-- the enablers of the new feature are those of the old one, and the texts of which By holds
+abbrev pub Learns : (Text → Type 0) → Feature → Feature → Type 0
+Learns By old new = (e : Text) →
+    IsTrue (has_text new.enabled_by e) ↔ (IsTrue (has_text old.enabled_by e) ⊎ By e)
+
+-- so in each place, by what holds of it
+abbrev pub LearnEach : (ℕ → Text → Type 0) → List Feature → List Feature → Type 0
+LearnEach By old new = (y : ℕ) (v w : Feature) → slice_get old y ≡ Some v → slice_get new y ≡ Some w →
+    Learns (By y) v w
+
+-- the source is put among the enablers of the features in the named places; nothing else changes
+pub record Enables (Named : ℕ → Type 0) (source : Text) (old new : List Feature) : Type 0 where
+  pub same : AreSameButEnablers old new
+  pub learn : LearnEach (λ y e. (e ≡ source) × Named y) old new

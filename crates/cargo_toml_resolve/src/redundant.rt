@@ -51,7 +51,8 @@ fn thin_action(action: &mut DepAction<'_>, dependency: &Dependency)
         .retain(|feature| !is_redundant(dependency, *feature));
 }
 
-// The same of the action on the key, by the dependency of its first target.
+// The same of the action on the key, by the dependency of its first target. Most actions ask for no
+// feature of it: then it isn't looked up.
 fn thin_action_on(
     key: &str,
     action: &mut DepAction<'_>,
@@ -60,6 +61,9 @@ fn thin_action_on(
     ensures { (es : List Entry) → recorded_at dependencies.now key.now ≡ recorded_of es
         → action_of action.new ≡ without_redundant (first_target es) (action_of action.old) }
 {
+    if action.dep_features.is_empty() {
+        return;
+    }
     if let Some(dependency) = first_dependency(dependencies, key) {
         thin_action(action, dependency);
     }

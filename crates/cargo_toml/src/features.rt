@@ -22,6 +22,7 @@ ghost use Rattle.cargo_toml.specs.Filtered.{filter_of, limit_of, state_of};
 ghost use Rattle.cargo_toml.specs.Parsed.{AreBinsComplete, IsAnswerFor, IsParsed};
 
 pub use crate::complete_and_parse::complete_and_parse_into;
+use crate::heap::keep_heap;
 use crate::requirements::requirements;
 use cargo_toml_features::admit::{MAX_ITEMS, hashed_listings, listings};
 use cargo_toml_features::entries::{Tables, entries_of};
@@ -181,6 +182,7 @@ impl<'config, F: Fn(&str) -> bool, S: BuildHasher + Clone> Resolver<'config, F, 
         let details = &manifest.feature_details;
         let listings = listings(alloc, &manifest.features, details, self.max_items)?;
         let entries = entries_of(alloc, tables_of(manifest), self.max_items)?;
+        keep_heap(alloc, listings.len().saturating_add(entries.len()));
         let requirements = requirements(alloc, manifest)?;
         Ok(resolve(
             alloc,

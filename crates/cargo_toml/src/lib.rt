@@ -6,6 +6,7 @@
 
 mod complete_and_parse;
 pub mod features;
+mod heap;
 mod requirements;
 
 pub use cargo_toml_dependencies::{

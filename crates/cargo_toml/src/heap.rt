@@ -1,0 +1,22 @@
+//! The end of the C library's heap, which it would give back after each call.
+use std::alloc::{AllocError, Global};
+
+// A block of more bytes is mapped by itself.
+const MAPPED: usize = 128 * 1024;
+
+// So many bytes for each item are more than half of what a call leaves free at the heap's end.
+const ITEM: usize = 320;
+
+/// Has the C library keep as much of its heap as resolving so many listings and entries takes.
+///
+/// glibc gives the end of its heap back to the system whenever more than 128 KB of it are free,
+/// and each call then has hundreds of pages faulted in anew. Once a block that was mapped by itself
+/// is dropped, twice its size may be free. No block of an answer is as large as that. So one is
+/// made and dropped. It is never touched, so the system gives no page for it. Where there is no room
+/// for it, nothing is lost; with another C library it costs two calls.
+pub fn keep_heap(alloc: Global, items: usize) {
+    let size = items.saturating_mul(ITEM);
+    if size > MAPPED {
+        let _block: Result<Vec<u8>, AllocError> = Vec::with_capacity(alloc, size);
+    }
+}

@@ -61,7 +61,10 @@ pub fn hashed_kept<'m, S: BuildHasher + Drop>(
         (slice_get features.entry.items i ≡ Some v) × IsWanted flags.now false i × (v.key.now ≡ f)) }
     ensures keyed { IfOk result IsKeyed }
 {
-    let mut by_name = HashMap::with_capacity_and_hasher(alloc, features.len(), state)?;
+    // room for the kept alone: with room for all, a map of some sizes takes twice the memory
+    let removed = flags.iter().filter(|flag| **flag).count();
+    let count = features.len().saturating_sub(removed);
+    let mut by_name = HashMap::with_capacity_and_hasher(alloc, count, state)?;
     let mut place = 0;
     for feature in features {
         put_kept(&mut by_name, feature, flags[place])?;

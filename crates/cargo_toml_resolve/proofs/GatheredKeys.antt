@@ -1,7 +1,7 @@
 -- The keys of the entries that pass a test.
 use Rattle.std.proofs.Common.{◌≡◌, ◌↔◌, ◌⊎◌, ◌<◌, ◌+◌, ◌&&◌, ◌||◌, ℕ, Bool, true, false, List, [], ◌∷◌, ◌++◌, length, map, take, get_or, Bor, IsTrue, bytes_eq, refl, sym, ap, subst, inl, inr, ◌∙◌}
 use Rattle.std.proofs.lemmas.Bool.{false≢true}
-use Rattle.std.proofs.lemmas.List.{map-append, take_more}
+use Rattle.std.proofs.lemmas.List.{get_or-map, length-map, map-append, take_more}
 use Rattle.std.proofs.lemmas.List.Folds.{list_any-append}
 use Rattle.std.proofs.lemmas.Slice.Eq.{bytes_eq-Decides}
 use Rattle.std.specs.List.{list_any}
@@ -11,6 +11,7 @@ use Rattle.cargo_toml_graph.proofs.BinLists.{among-first, among-second, among-ei
 use Rattle.cargo_toml_features.specs.declared.features.ParseDependency.{ParseDependency}
 use Rattle.cargo_toml_features.specs.Recorded.{Entry}
 use Rattle.cargo_toml_features.specs.Views.{entry_of}
+use Rattle.cargo_toml_resolve.specs.Recording.{counts_alone}
 use Rattle.cargo_toml_resolve.proofs.Ascending.{texts}
 
 either : (a b : Bool) → IsTrue (a || (b || false)) → IsTrue a ⊎ IsTrue b
@@ -77,3 +78,19 @@ module _ (test : Text → Entry → Bool) where
     pub key_left : (new : List (Bor Text)) → new ≡ keys → test p.key.now (entry_of p) ≡ false → Gathers (texts new) (map entry_of (take (i + 1) es))
     key_left new same off = subst (λ ks. Gathers (texts ks) (map entry_of (take (i + 1) es))) (sym same)
         (subst (Gathers (texts keys)) (sym more) (leave_last (texts keys) (map entry_of (take i es)) (entry_of p) off gathered))
+
+-- the flag of one more entry
+pub flag_put : (mentioned : Text → Bool) (es : List ParseDependency) (i : ℕ) (p : ParseDependency) → i < length es → p ≡ get_or es i p → (flags : List Bool) (b : Bool) → b ≡ counts_alone mentioned (entry_of p)
+    → flags ≡ map (counts_alone mentioned) (map entry_of (take i es)) → (new : List Bool) → new ≡ flags ++ b ∷ [] → new ≡ map (counts_alone mentioned) (map entry_of (take (i + 1) es))
+flag_put mentioned es i p inside is flags b counted so_far new put =
+    put ∙ ap (λ fs. fs ++ b ∷ []) so_far ∙ ap (λ c. map (counts_alone mentioned) (map entry_of (take i es)) ++ c ∷ []) counted
+    ∙ sym (ap (map (counts_alone mentioned)) (ap (map entry_of) (take_more es i p inside ∙ ap (λ x. take i es ++ x ∷ []) (sym is)) ∙ map-append entry_of (take i es) (p ∷ []))
+    ∙ map-append (counts_alone mentioned) (map entry_of (take i es)) (entry_of p ∷ []))
+
+-- and the flag at the place of an entry
+pub flag_there : (mentioned : Text → Bool) (es : List ParseDependency) (i : ℕ) (p : ParseDependency) (flags : List Bool) (d : Bool) → i < length es → p ≡ get_or es i p
+    → flags ≡ map (counts_alone mentioned) (map entry_of es) → get_or flags i d ≡ counts_alone mentioned (entry_of p)
+flag_there mentioned es i p flags d inside is are =
+    let long : i < length (map entry_of es) = subst (λ n. i < n) (sym (length-map es entry_of)) inside in
+    ap (λ fs. get_or fs i d) are ∙ get_or-map (counts_alone mentioned) (map entry_of es) i (entry_of p) d long
+    ∙ ap (counts_alone mentioned) (get_or-map entry_of es i p (entry_of p) inside ∙ ap entry_of (sym is))

@@ -47,6 +47,10 @@ is_mentioned_in m k = is_some (held_in m.features k) || is_some (sorted_at m.act
 abbrev pub recorded_after : (Text → Bool) → Entry → Text → Option Recorded → Option Recorded
 recorded_after mentioned e q o = if bytes_eq e.key q && (is_some o || (is_optional e.dependency || mentioned q)) then Some (recorded_with o e) else o
 
--- an entry of the key k that counts by itself, by which keys are mentioned
+-- an entry that counts by itself, by which keys are mentioned
+abbrev pub counts_alone : (Text → Bool) → Entry → Bool
+counts_alone mentioned e = is_optional e.dependency || mentioned e.key
+
+-- the same of an entry of the key k
 abbrev pub counts_at : (Text → Bool) → Text → Entry → Bool
 counts_at mentioned k e = bytes_eq e.key k && (is_optional e.dependency || mentioned k)

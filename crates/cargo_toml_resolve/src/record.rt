@@ -1,12 +1,13 @@
 //! Which dependencies features can speak of.
-ghost use Rattle.std.specs.Prelude.{◌≡◌, ◌↔◌, ◌<◌, ◌||◌, IfOk, IsTrue, OnOk, Some, bytes_eq, if◌then◌else◌, length, map};
+ghost use Rattle.std.specs.Prelude.{◌≡◌, ◌↔◌, ◌<◌, Bool, IfOk, IsTrue, OnOk, Some, bytes_eq, if◌then◌else◌, length, map};
 ghost use Rattle.std.specs.List.{list_any};
-ghost use Rattle.cargo_toml_dependencies.specs.Dependencies.{dependency_meaning, is_optional};
 ghost use Rattle.cargo_toml_graph.specs.Action.{Text};
 ghost use Rattle.cargo_toml_graph.specs.Reach.{Among};
 ghost use Rattle.cargo_toml_graph.specs.Admitted.{Listed};
 ghost use Rattle.cargo_toml_features.specs.Recorded.{is_mentioned, entries_at, recorded_of};
-ghost use Rattle.cargo_toml_resolve.specs.Recording.{counts_at, recorded_at, recorded_nowhere, recorded_next, recorded_with, is_mentioned_in, recorded_after};
+ghost use Rattle.cargo_toml_resolve.specs.Recording.{counts_alone, counts_at, is_mentioned_in};
+ghost use Rattle.cargo_toml_resolve.specs.Recording.{recorded_after, recorded_at, recorded_next};
+ghost use Rattle.cargo_toml_resolve.specs.Recording.{recorded_nowhere, recorded_with};
 ghost use Rattle.cargo_toml_resolve.specs.Slots.{HaveSameNames, names_in};
 ghost use Rattle.cargo_toml_features.specs.Views.{entry_of, recorded_in, target_of};
 ghost use Rattle.cargo_toml_walk.specs.Numbered.{text_at};
@@ -58,30 +59,42 @@ fn add_target<'m: 'd, 'd>(
 
 // Whether an entry counts by itself.
 fn counts<'m>(mentions: &Mentions<'m>, entry: &ParseDependency<'m, '_>) -> bool
-    ensures { result ≡ (is_optional (dependency_meaning entry.now.dep.now)
-        || is_mentioned_in mentions.now entry.now.key.now) }
+    ensures { result ≡ counts_alone (is_mentioned_in mentions.now) (entry_of entry.now) }
 {
     entry.dep.optional()
         || mentions.features.get(entry.key).is_some()
         || mentions.acted.contains_key(entry.key)
 }
 
-// The keys of the entries that count by themselves, once for each.
-fn counting_keys<'m: 'd, 'd>(
+// Which entries count by themselves, and the keys of these.
+#[derive(Debug, Drop)]
+struct Counting<'d> {
+    // of each entry whether it counts by itself
+    flags: Vec<bool>,
+    // one for each that does
+    keys: Vec<&'d str>,
+}
+
+fn counting_entries<'m: 'd, 'd>(
     alloc: Global,
     mentions: &Mentions<'m>,
     entries: &[ParseDependency<'m, 'd>],
-) -> Result<Vec<&'d str>, AllocError>
-    ensures { IfOk result (λ v. (k : Text) → Among (map (λ t. t.now) v.items) k
+) -> Result<Counting<'d>, AllocError>
+    ensures flags { IfOk result (λ v. v.flags.items
+        ≡ map (counts_alone (is_mentioned_in mentions.now)) (map entry_of entries.now)) }
+    ensures keys { IfOk result (λ v. (k : Text) → Among (map (λ t. t.now) v.keys.items) k
         ↔ IsTrue (list_any (counts_at (is_mentioned_in mentions.now) k) (map entry_of entries.now))) }
 {
+    let mut flags = Vec::with_capacity(alloc, entries.len())?;
     let mut keys = Vec::with_capacity(alloc, entries.len())?;
     for entry in entries {
-        if counts(mentions, entry) {
+        let is_counted = counts(mentions, entry);
+        flags.push(is_counted)?;
+        if is_counted {
             keys.push(entry.key)?;
         }
     }
-    Ok(keys)
+    Ok(Counting { flags, keys })
 }
 
 // Records an entry at the place of its key.
@@ -105,26 +118,28 @@ fn record_at<'m: 'd, 'd>(
     Ok(())
 }
 
-// Records an entry if it counts. The answer is the place after it, or else `near`, where it is looked for first. The key of an
-// entry that counts by itself is a name.
+// Records an entry if it counts; `is_counted` tells whether it does by itself. The answer is the
+// place after it, or else `near`, where it is looked for first. The key of an entry that counts by
+// itself is a name.
 fn record_entry<'m: 'd, 'd>(
     alloc: Global,
     dependencies: &mut Slots<'d, FeatureDependency<'d>>,
-    mentions: &Mentions<'m>,
     entry: &ParseDependency<'m, 'd>,
+    is_counted: bool,
     near: usize,
 ) -> Result<usize, AllocError>
-    requires named { IsTrue (is_optional (dependency_meaning entry.now.dep.now)
-        || is_mentioned_in mentions.now entry.now.key.now) → Among (names_in dependencies.old) entry.now.key.now }
-    ensures recorded { OnOk result ((q : Text) → recorded_at dependencies.new q
-        ≡ recorded_after (is_mentioned_in mentions.now) (entry_of entry.now) q (recorded_at dependencies.old q)) }
+    requires named { IsTrue is_counted → Among (names_in dependencies.old) entry.now.key.now }
+    ensures recorded { OnOk result ((mentioned : Text → Bool) →
+        is_counted ≡ counts_alone mentioned (entry_of entry.now) →
+        (q : Text) → recorded_at dependencies.new q
+        ≡ recorded_after mentioned (entry_of entry.now) q (recorded_at dependencies.old q)) }
     ensures same_names { OnOk result (HaveSameNames dependencies.old dependencies.new) }
 {
     let Some(place) = place_near(dependencies.names.as_slice(), entry.key, near) else {
         return Ok(near);
     };
     let next = place.saturating_add(1);
-    if dependencies.values[place].is_some() || counts(mentions, entry) {
+    if is_counted || dependencies.values[place].is_some() {
         record_at(alloc, dependencies, place, entry)?;
     }
     Ok(next)
@@ -140,11 +155,14 @@ pub fn record_dependencies<'m: 'd, 'd>(
         → ((k : Text) → is_mentioned_in mentions.now k ≡ is_mentioned listed k) →
         (k : Text) → recorded_at s k ≡ recorded_of (entries_at listed (map entry_of entries.now) k)) }
 {
-    let names = ascending(counting_keys(alloc, mentions, entries)?);
+    let Counting { flags, keys } = counting_entries(alloc, mentions, entries)?;
+    let names = ascending(keys);
     let mut dependencies = empty_slots(alloc, names)?;
     let mut near = 0;
+    let mut place = 0;
     for entry in entries {
-        near = record_entry(alloc, &mut dependencies, mentions, entry, near)?;
+        near = record_entry(alloc, &mut dependencies, entry, flags[place], near)?;
+        place += 1;
     }
     Ok(dependencies)
 }

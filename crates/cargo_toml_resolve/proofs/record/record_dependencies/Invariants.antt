@@ -11,5 +11,6 @@ abbrev pub invariant-loop-entry : goal.invariant-loop-entry
 invariant-loop-entry l = record {
   recorded : (listed : Listed) → ((k : Text) → is_mentioned_in l.mentions k ≡ is_mentioned listed k) →
       (k : Text) → recorded_at l.dependencies k ≡ recorded_of (entries_at listed (map entry_of (take l.entry-index l.entries)) k);
+  place : l.place ≡ l.entry-index;
   same_names : HaveSameNames l.initial.dependencies l.dependencies;
 }

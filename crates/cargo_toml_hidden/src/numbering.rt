@@ -228,8 +228,8 @@ fn push_action(
     push_target(row, key, keys, own, near)
 }
 
-// The same where there is an action. An implied feature acts on the dependency of its own name, so
-// the first is looked for there.
+// Those that the actions enable, other than the one in place `own`. An implied feature acts on the
+// dependency of its own name, so the first is looked for there.
 fn push_each_action(
     row: &mut Vec<usize>,
     actions: &BTreeMap<&str, DepAction<'_>>,
@@ -248,7 +248,7 @@ fn push_each_action(
     Ok(())
 }
 
-/// Those that the actions enable, other than the one in place `own`.
+/// The same, with nothing done where there is no action.
 pub(crate) fn push_actions(
     row: &mut Vec<usize>,
     actions: &BTreeMap<&str, DepAction<'_>>,

@@ -17,9 +17,9 @@ abbrev pub target_of : String Global × Target → Text × TargetMeaning
 target_of e = (string_bytes e.0, target_meaning e.1)
 
 -- the second way, with what follows from it
-pub or_else : {P Q R : Type 0} → (Q → R) → P ⊎ Q → P ⊎ R
-or_else f (inl p) = inl p
-or_else f (inr q) = inr (f q)
+pub or_then : {P Q R : Type 0} → P ⊎ Q → (Q → R) → P ⊎ R
+or_then (inl p) f = inl p
+or_then (inr q) f = inr (f q)
 
 module _ {A : Type 0} (test : A → Bool) where
   pub all_step : (x : A) (left rest : List A) (all : Bool) → left ≡ x ∷ rest → test x ≡ true → list_all test left ≡ all → list_all test rest ≡ all

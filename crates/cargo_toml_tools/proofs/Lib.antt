@@ -1,3 +1,3 @@
 pub mod Matched
 pub mod Signs
-pub mod Told
+pub mod Weighed

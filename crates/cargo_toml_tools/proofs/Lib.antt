@@ -1,3 +1,0 @@
-pub mod Matched
-pub mod Signs
-pub mod Weighed

@@ -1,4 +1,5 @@
 //! What is documented of features.
+ghost use Rattle.std.specs.Prelude.{◌≡◌, false, true};
 
 use crate::reading::manifest_in;
 use cargo_toml::features::Resolver;
@@ -23,11 +24,15 @@ pub fn document<R: Files + RandomSource + AllocGlobal>(
     }
 }
 
-fn keep_none(_name: &str) -> bool {
+fn keep_none(_name: &str) -> bool
+    ensures { result ≡ false }
+{
     false
 }
 
-fn keep_every(_name: &str) -> bool {
+fn keep_every(_name: &str) -> bool
+    ensures { result ≡ true }
+{
     true
 }
 

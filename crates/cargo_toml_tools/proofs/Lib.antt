@@ -1,3 +1,4 @@
+pub mod Explained
 pub mod Matched
 pub mod Signs
 pub mod Told

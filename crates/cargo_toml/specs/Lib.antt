@@ -40,6 +40,7 @@ pub use Rattle.cargo_toml_package.specs.PackageLending
 pub use Rattle.cargo_toml_package.specs.Packages
 pub use Rattle.cargo_toml_package.specs.Templates
 pub use Rattle.cargo_toml_manifest.specs.Choosing
+pub use Rattle.cargo_toml_manifest.specs.Completed
 pub use Rattle.cargo_toml_manifest.specs.Completing
 pub use Rattle.cargo_toml_manifest.specs.Finding
 pub use Rattle.cargo_toml_manifest.specs.Inheriting as InheritedManifests
@@ -90,6 +91,7 @@ pub use Rattle.cargo_toml_features.specs.Hashed
 pub use Rattle.cargo_toml_features.specs.Marks
 pub use Rattle.cargo_toml_features.specs.Recorded
 pub use Rattle.cargo_toml_features.specs.Resolved
+pub use Rattle.cargo_toml_features.specs.TargetLaws
 pub use Rattle.cargo_toml_features.specs.Views
 pub use Rattle.cargo_toml_resolve.specs.Reading
 pub use Rattle.cargo_toml_resolve.specs.Slots

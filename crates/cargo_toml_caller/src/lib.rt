@@ -5,6 +5,7 @@ pub mod audience;
 pub mod custom;
 pub mod dependencies;
 pub mod limited;
+pub mod targets;
 #[cfg(test)]
 mod tests;
 

@@ -9,7 +9,6 @@ ghost use Rattle.cargo_toml_discovery.specs.Found.{offer_of, Offered, has_path, 
 ghost use Rattle.cargo_toml_discovery.specs.Found.{is_text, last_waiting, waits_or};
 ghost use Rattle.cargo_toml_discovery.specs.Found.{product_for, open_offer, offers, found};
 ghost use Rattle.cargo_toml_discovery.specs.Names.{Text};
-ghost use Rattle.cargo_toml_discovery.specs.Sorting.{in_order};
 ghost use Rattle.cargo_toml_discovery.specs.Walk.{named_of, all_named, offer_parts};
 ghost use Rattle.cargo_toml_discovery.specs.Walk.{parts_of_code, waiting_in, is_path_in};
 ghost use Rattle.cargo_toml_discovery.specs.Walk.{walked, all_walked, IsOffer, NamesAscend};
@@ -263,23 +262,6 @@ fn placed(
     Ok(list)
 }
 
-// The products of the folder and of one more offer, in order.
-fn found_by_walk(
-    alloc: Global,
-    edition: Edition,
-    dir: &str,
-    products: &[Product],
-    entries: &[Entry<'_>],
-    extra: Option<Offer>,
-) -> Result<Vec<Product>, AllocError>
-    ensures { IfOk result (λ v. (x : Option Offered) → IsOffer x extra → meanings v.items
-        ≡ in_order (all_walked edition dir.now (meanings products.now) (all_named entries.now) x)) }
-{
-    let mut list = placed(alloc, edition, dir, products, entries, extra)?;
-    sort_products(&mut list)?;
-    Ok(list)
-}
-
 /// The products of a folder whose names are these, each once and in byte order: those of `products`
 /// that have a path, one for each offer of the folder whose path none of them has, and one for
 /// `extra`, which counts as the last offer. An offer goes to the last product that has its name and
@@ -297,5 +279,7 @@ pub fn found(
     ensures { IfOk result (λ v. (x : Option Offered) → IsOffer x extra → meanings v.items
         ≡ found edition dir.now (meanings products.now) (all_named entries.now) x) }
 {
-    found_by_walk(alloc, edition, dir, products, entries, extra)
+    let mut list = placed(alloc, edition, dir, products, entries, extra)?;
+    sort_products(&mut list)?;
+    Ok(list)
 }

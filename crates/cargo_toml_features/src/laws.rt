@@ -1,4 +1,5 @@
-// Laws of the orders of kinds and targets and of answers, each as the contract of a function.
+//! Laws of the orders of kinds and of targets, each as the contract of a function that does
+//! nothing. A function that compares two calls it, and then has the law in its proof.
 ghost use Rattle.std.specs.Prelude.{Bool, List};
 ghost use Rattle.cargo_toml_graph.specs.Action.{Text};
 ghost use Rattle.cargo_toml_graph.specs.Admitted.{Listed};
@@ -11,13 +12,17 @@ ghost use Rattle.cargo_toml_features.specs.TargetLaws.{IsTargetEquality, IsTarge
 
 use crate::features::{Kind, TargetKey};
 
-fn kinds()
+/// Kinds compare as normal, then build, then development dependencies, in agreement with
+/// their equality.
+pub fn kinds()
     ensures order { IsKindOrder ⟦<Kind as Ord>⟧.cmp }
     ensures equality { IsKindEquality ⟦<Kind as PartialEq>⟧.eq }
     ensures agree { Agree ⟦<Kind as Ord>⟧.cmp ⟦<Kind as PartialEq>⟧.eq }
 {}
 
-fn targets<'a>()
+/// Keys of targets compare by kind, then no target before a named one, in agreement with their
+/// equality.
+pub fn targets<'a>()
     ensures order { IsTargetOrder ⟦<TargetKey<'a> as Ord>⟧.cmp }
     ensures equality { IsTargetEquality ⟦<TargetKey<'a> as PartialEq>⟧.eq }
     ensures agree { Agree ⟦<TargetKey<'a> as Ord>⟧.cmp ⟦<TargetKey<'a> as PartialEq>⟧.eq }

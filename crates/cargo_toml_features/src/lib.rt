@@ -9,6 +9,6 @@ pub mod admit;
 pub mod entries;
 pub mod examples;
 pub mod features;
-mod laws;
+pub mod laws;
 pub mod questions;
 pub mod recursive;

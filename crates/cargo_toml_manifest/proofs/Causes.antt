@@ -14,7 +14,7 @@ use Rattle.cargo_toml_manifest.specs.Choosing.{AnswersRoots, Choice, Handed, Roo
 use Rattle.cargo_toml_manifest.specs.Inheriting.{shared, needs}
 use Rattle.cargo_toml_manifest.specs.Manifests.{ManifestMeaning, manifest_meaning}
 use Rattle.cargo_toml_manifest.specs.Refusing.{IsCause, IsListed, IsRefusedAt, IsRefusedBy, IsRefusedByRoot, IsToldWith, MayLose, ReadsBy, RefusesBy}
-use Rattle.cargo_toml_manifest.specs.Roots.{IsRootOf}
+use Rattle.cargo_toml_manifest.specs.Roots.{IsRootAt}
 use Rattle.cargo_toml_manifest.specs.Told.{ToldRoot, root, no_root, open_root, AnswersRoot}
 use Rattle.cargo_toml_manifest.specs.Workspaces.{WorkspaceMeaning}
 use Rattle.cargo_toml_manifest.specs.declared.manifest.Manifest.{Manifest}
@@ -27,16 +27,19 @@ pub never_read : (reads : _) (may : Option (List ℕ) → Fault → Type 0) (hin
     (Io f ≡ Memory) ⊎ MayLose reads may hint (wrap hint (fault_of (Io f)))
 never_read reads may hint f none kind = inr (inr (none, ap (wrap hint) (io_fault f ∙ ap io kind)))
 
--- what becomes of a root that was read, or of the fault in its place, may stand in place of the root
-pub lost_by : (reads : _) (may : Option (List ℕ) → Fault → Type 0) (hint : Option (List ℕ)) (read : Result Read Error) (found : Result Found Error) →
-    ReadsBy reads may hint read → IsRootOf hint read found → RefusesBy (MayLose reads may hint) found
-lost_by reads may hint (Ok r) (Ok x) h k = tt
-lost_by reads may hint (Ok r) (Err e) h (inl memory) = inl memory
-lost_by reads may hint (Ok r) (Err e) h (inr none) = elim (h e none) [ inl memory ↦ inl memory | inr fault ↦ inr (inl fault) ]
-lost_by reads may hint (Err own) (Ok x) h k = absurd k
-lost_by reads may hint (Err own) (Err e) h (inl memory) = inl memory
-lost_by reads may hint (Err own) (Err e) (inl memory) (inr same) = inl (memory_wrapped hint own e memory same)
-lost_by reads may hint (Err own) (Err e) (inr fault) (inr same) = inr (subst (λ (f : Fault). MayLose reads may hint f) (sym same) fault)
+-- what becomes of bytes that were read may stand in place of the root, where it is a fault
+pub lost_at : (reads : _) (may : Option (List ℕ) → Fault → Type 0) (hint : Option (List ℕ)) (r : Read) (found : Result Found Error) →
+    ReadsBy reads may hint (Ok r) → IsRootAt r.0.items (string_bytes r.1) found → RefusesBy (MayLose reads may hint) found
+lost_at reads may hint r (Ok x) h k = tt
+lost_at reads may hint r (Err e) h (inl memory) = inl memory
+lost_at reads may hint r (Err e) h (inr none) = elim (h e none) [ inl memory ↦ inl memory | inr fault ↦ inr (inl fault) ]
+
+-- and so may the fault in their place, once it has the hint
+pub lost_unread : (reads : _) (may : Option (List ℕ) → Fault → Type 0) (hint : Option (List ℕ)) (own e : Error) →
+    ReadsBy reads may hint (Err own) → (e ≡ Memory) ⊎ (fault_of e ≡ wrap hint (fault_of own)) → (e ≡ Memory) ⊎ MayLose reads may hint (fault_of e)
+lost_unread reads may hint own e h (inl memory) = inl memory
+lost_unread reads may hint own e (inl memory) (inr same) = inl (memory_wrapped hint own e memory same)
+lost_unread reads may hint own e (inr fault) (inr same) = inr (subst (λ (f : Fault). MayLose reads may hint f) (sym same) fault)
 
 -- a fault of inheritance, once it has its path
 pub told_parts : {M : Type 0} (path : Option (List ℕ)) (names : List ℕ → Fault → Type 0) (stated : Result (ManifestMeaning M) Fault) (own e : Error) →
@@ -48,13 +51,18 @@ told_parts {M = M} path names stated own e (inr is) (inr same) =
     inr (fault_of own, (subst (λ (r : Result (ManifestMeaning M) Fault). IsCause r names (fault_of own)) (sym is) refl, same))
 
 -- a fault in place of names, once it has its path
-pub told_listing : {M : Type 0} (path : Option (List ℕ)) (names : List ℕ → Fault → Type 0) (m : ManifestMeaning M) (stated : Result (ManifestMeaning M) Fault) (own e : Error) →
-    stated ≡ Ok m → (own ≡ Memory) ⊎ IsListed names (fault_of own) → (e ≡ Memory) ⊎ (fault_of e ≡ wrap path (fault_of own)) →
-    (e ≡ Memory) ⊎ IsToldWith path (IsCause stated names) e
-told_listing path names m stated own e is h (inl memory) = inl memory
-told_listing path names m stated own e is (inl memory) (inr same) = inl (memory_wrapped path own e memory same)
-told_listing {M = M} path names m stated own e is (inr listed) (inr same) =
-    inr (fault_of own, (subst (λ (r : Result (ManifestMeaning M) Fault). IsCause r names (fault_of own)) (sym is) listed, same))
+pub told_listing : (path : Option (List ℕ)) (names : List ℕ → Fault → Type 0) (own e : Error) →
+    (own ≡ Memory) ⊎ IsListed names (fault_of own) → (e ≡ Memory) ⊎ (fault_of e ≡ wrap path (fault_of own)) →
+    (e ≡ Memory) ⊎ IsToldWith path (IsListed names) e
+told_listing path names own e h (inl memory) = inl memory
+told_listing path names own e (inl memory) (inr same) = inl (memory_wrapped path own e memory same)
+told_listing path names own e (inr listed) (inr same) = inr (fault_of own, (listed, same))
+
+-- where nothing is wrong with what is inherited, such a fault is the cause
+pub caused : {M : Type 0} (path : Option (List ℕ)) (names : List ℕ → Fault → Type 0) (stated : Result (ManifestMeaning M) Fault) (m : ManifestMeaning M) (e : Error) →
+    stated ≡ Ok m → (e ≡ Memory) ⊎ IsToldWith path (IsListed names) e → (e ≡ Memory) ⊎ IsToldWith path (IsCause stated names) e
+caused {M = M} path names stated m e is h =
+    subst (λ (r : Result (ManifestMeaning M) Fault). (e ≡ Memory) ⊎ IsToldWith path (IsCause r names) e) (sym is) h
 
 chosen_so : {M : Type 0} (m : ManifestMeaning M) (roots : Option (List ℕ) → Fault → Type 0) (names : List ℕ → Fault → Type 0) (c d : Choice) (e : Error) → c ≡ d →
     IsRefusedAt m roots names d e → IsRefusedAt m roots names c e

@@ -8,7 +8,7 @@ use Rattle.cargo_toml_package.specs.Inheriting.{any_field_left}
 use Rattle.cargo_toml_package.specs.Packages.{package_meaning}
 use Rattle.cargo_toml_package.specs.declared.package.Package.{Package}
 use Rattle.cargo_toml_manifest.specs.Inheriting.{needs}
-use Rattle.cargo_toml_manifest.specs.Manifests.{manifest_meaning}
+use Rattle.cargo_toml_manifest.specs.Manifests.{held}
 use Rattle.cargo_toml_manifest.specs.declared.manifest.Manifest.{Manifest}
 
 first_false : (a b : Bool) → a || b ≡ false → a ≡ false
@@ -19,6 +19,6 @@ package-known : {M : Type 0} (p : Option (Package M)) → option_map_or any_fiel
 package-known None h = tt
 package-known (Some p) h = filled_package p h
 
-pub known : {M : Type 0} (m : Manifest M) → needs (manifest_meaning (λ m. m) m) ≡ false → IfSome m.«package» IsFilled
+pub known : {M : Type 0} (m : Manifest M) → needs (held m) ≡ false → IfSome m.«package» IsFilled
 known m h =
     package-known m.«package» (first_false _ _ (first_false _ _ (first_false _ _ (first_false _ _ (first_false _ _ h)))))

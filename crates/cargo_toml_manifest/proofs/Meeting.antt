@@ -16,7 +16,7 @@ use Rattle.cargo_toml_manifest.specs.Choosing.{AnswersRoots, Choice, Handed, Roo
 use Rattle.cargo_toml_manifest.specs.Completing.{GivenBy, GivenByRoot, Meets, Outcome, complete, complete_by, gives, no_workspace, refuses, seen_at, then_found, untold}
 use Rattle.cargo_toml_manifest.specs.Finding.{with_found}
 use Rattle.cargo_toml_manifest.specs.Inheriting.{Shared, shared, needs}
-use Rattle.cargo_toml_manifest.specs.Installing.{completed, installed}
+use Rattle.cargo_toml_manifest.specs.Installing.{installed, with_completion}
 use Rattle.cargo_toml_manifest.specs.Manifests.{ManifestMeaning, manifest_meaning}
 use Rattle.cargo_toml_manifest.specs.Told.{ToldRoot, root, no_root, open_root, AnswersRoot}
 use Rattle.cargo_toml_manifest.specs.Workspaces.{WorkspaceMeaning, workspace_meaning}
@@ -186,5 +186,5 @@ given_again f g untold t u same h = tt
 
 -- the parts are put in, and then what was found
 pub put_in : {M : Type 0} (m k n : ManifestMeaning M) (new : Completion) →
-    k ≡ installed m new.parts → n ≡ with_found k new.found → n ≡ completed m new
+    k ≡ installed m new.parts → n ≡ with_found k new.found → n ≡ with_completion m new
 put_in m k n new h j = j ∙ ap (λ (x : ManifestMeaning _). with_found x new.found) h

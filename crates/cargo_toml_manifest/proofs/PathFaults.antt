@@ -9,7 +9,7 @@ use Rattle.cargo_toml_parts.specs.FaultValues.{Fault, fault_of, toml, shape, io,
 use Rattle.cargo_toml_parts.specs.Wrapping.{wrap}
 use Rattle.cargo_toml_manifest.specs.Choosing.{Choice, Handed, RootsTold, alone, choice, from, hint_of, lost, unclear_root}
 use Rattle.cargo_toml_manifest.specs.Completing.{GivenBy, Meets, complete}
-use Rattle.cargo_toml_manifest.specs.Manifests.{ManifestMeaning, manifest_meaning}
+use Rattle.cargo_toml_manifest.specs.Manifests.{ManifestMeaning, held, manifest_meaning}
 use Rattle.cargo_toml_manifest.specs.Refusing.{IsRefusedAt, IsRefusedBy, MayLose}
 use Rattle.cargo_toml_manifest.specs.RealFiles.{IsCompletionFault, IsPathFault, IsReadAndCompleted, IsReadFromText, bad_path, or_here, real_folders, real_listings, real_losses, real_roots}
 use Rattle.cargo_toml_manifest.specs.declared.manifest.Manifest.{Manifest}
@@ -24,7 +24,7 @@ if_completed P (Err e) new h = tt
 -- what completion makes of a manifest that some text reads as
 pub given : {T X M : Type 0} (meaning : X → M) (reads : Data → Option (ManifestMeaning M)) (read new : Manifest X) (r : Result T Error) →
     IsReadFromText (manifest_meaning meaning) reads read →
-    OnOk r (GivenBy (manifest_meaning (λ m. m) read) None real_roots real_folders (manifest_meaning (λ m. m) new)) →
+    OnOk r (GivenBy (held read) None real_roots real_folders (held new)) →
     IfOk (result_and r (Ok new)) (IsReadAndCompleted meaning reads)
 given meaning reads read new (Ok t) text_of h = (read, text_of, h)
 given meaning reads read new (Err e) text_of h = tt
@@ -34,15 +34,15 @@ pub refused : {T X M : Type 0} (path : List ℕ) (meaning : Manifest X → Manif
     (refuses : Data → Error → Type 0) (f : T → ManifestMeaning X) (read new : Manifest X) (parent : Option (List ℕ))
     (r : Result T Error) →
     IsReadFromText meaning reads read →
-    (IsSome parent → Meets f (complete (manifest_meaning (λ m. m) read) None real_roots real_folders) r) →
+    (IsSome parent → Meets f (complete (held read) None real_roots real_folders) r) →
     (parent ≡ None) ↔ IsErrAnd r (λ e. fault_of e ≡ bad_path) →
-    IfErr r (IsCompletionFault path (manifest_meaning (λ m. m) read) None) →
+    IfErr r (IsCompletionFault path (held read) None) →
     IfErr (result_and r (Ok new)) (IsPathFault path meaning reads refuses)
 refused path meaning reads refuses f read new parent (Ok t) text_of outcome bad why = tt
 refused path meaning reads refuses f read new None (Err e) text_of outcome bad why = inr (inr (inr (inl (bad.0 refl))))
 refused path meaning reads refuses f read new (Some folder) (Err e) text_of outcome bad (inl at) = inr (inr (inr (inl at)))
 refused path meaning reads refuses f read new (Some folder) (Err e) text_of outcome bad (inr around) =
-    inr (inr (inr (inr (read, text_of, (refused_again f (manifest_meaning (λ m. m)) _ e (outcome refl), around)))))
+    inr (inr (inr (inr (read, text_of, (refused_again f held _ e (outcome refl), around)))))
 
 -- the refusal of completion in the folder of a path is one around that
 pub around_path : {T M : Type 0} (path folder there : List ℕ) (m : ManifestMeaning M) (handed : Option Handed) (r : Result T Error) →

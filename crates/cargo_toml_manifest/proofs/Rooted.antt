@@ -1,5 +1,5 @@
 -- The root of what was read is the root that is told.
-use Rattle.std.proofs.Common.{◌≡◌, inl, inr, sym, ap, ◌∙◌, refl, ℕ, List, Option, Some, None, Result, Ok, Err, String, string_bytes, Vec}
+use Rattle.std.proofs.Common.{◌≡◌, ◌⊎◌, inl, inr, sym, ap, ◌∙◌, refl, ℕ, List, Option, Some, None, Result, Ok, Err, String, string_bytes, Vec}
 use Rattle.std.specs.Prelude.{is_some, option_map}
 use Rattle.std.specs.declared.alloc.Global.{Global}
 use Rattle.toml.specs.Data.{Data}
@@ -11,7 +11,7 @@ use Rattle.cargo_toml_parts.specs.FaultValues.{fault_of}
 use Rattle.cargo_toml_parts.specs.Wrapping.{wrap}
 use Rattle.cargo_toml_manifest.specs.declared.manifest.Manifest.{Manifest}
 use Rattle.cargo_toml_manifest.specs.Manifests.{ManifestMeaning, manifest_meaning, manifest_reads}
-use Rattle.cargo_toml_manifest.specs.Roots.{IsRootOf, IsNoRoot, IsFromSlice}
+use Rattle.cargo_toml_manifest.specs.Roots.{IsRootAt, IsNoRoot, IsFromSlice}
 use Rattle.cargo_toml_manifest.specs.Texts.{any_tree, document_reads}
 use Rattle.cargo_toml_manifest.specs.Told.{ToldRoot, root, no_root, open_root, IsRootIn, ReadsRoot, AnswersRoot}
 use Rattle.cargo_toml_manifest.proofs.Faults.{memory_alone, fault_of-memory}
@@ -51,19 +51,22 @@ no_fault bytes path m e told (inr (x, read, none, same)) =
     let there = ap (λ (n : ManifestMeaning Data). is_some n.workspace) is ∙ told.2 in
     let k = sym none ∙ sym (table_stays _ x.workspace) ∙ there in cc
 
-pub answers_as_told : (told : ToldRoot) (hint : Option (List ℕ)) (read : Result Read Error) (found : Result Found Error) →
-    ReadsRoot told read → IsRootOf hint read found → AnswersRoot told found
-answers_as_told open_root hint read found h k = tt
-answers_as_told no_root hint (Err own) (Ok x) h k = absurd k
-answers_as_told no_root hint (Err own) (Err e) h k = refl
-answers_as_told no_root hint (Ok r) (Err e) h k = refl
-answers_as_told no_root hint (Ok r) (Ok (x, path)) h (inl text, table, same) = absurd text.1
-answers_as_told no_root hint (Ok r) (Ok (x, path)) h (inr text, table, same) =
+-- the answer to bytes that were read
+pub root_as_told : (told : ToldRoot) (r : Read) (found : Result Found Error) →
+    ReadsRoot told (Ok r) → IsRootAt r.0.items (string_bytes r.1) found → AnswersRoot told found
+root_as_told open_root r found h k = tt
+root_as_told no_root r (Err e) h k = refl
+root_as_told no_root r (Ok (x, path)) h (inl text, table, same) = absurd text.1
+root_as_told no_root r (Ok (x, path)) h (inr text, table, same) =
     absurd (h (manifest_meaning view x) (text.0, text.1, table_stays _ x.workspace ∙ table))
-answers_as_told (root m path) hint (Err own) (Ok x) h k = absurd k
-answers_as_told (root m path) hint (Err own) (Err e) h (inl memory) = memory
-answers_as_told (root m path) hint (Err own) (Err e) h (inr same) = memory_wrapped hint own e h same
-answers_as_told (root m path) hint (Ok r) (Ok (x, at)) h k =
-    (read_as_told r.0.items m x h.0 k.0, k.2 ∙ h.1)
-answers_as_told (root m path) hint (Ok r) (Err e) h (inl memory) = memory
-answers_as_told (root m path) hint (Ok r) (Err e) h (inr fault) = no_fault r.0.items (string_bytes r.1) m e h.0 fault
+root_as_told (root m path) r (Ok (x, at)) h k = (read_as_told r.0.items m x h.0 k.0, k.2 ∙ h.1)
+root_as_told (root m path) r (Err e) h (inl memory) = memory
+root_as_told (root m path) r (Err e) h (inr fault) = no_fault r.0.items (string_bytes r.1) m e h.0 fault
+
+-- the answer where none were
+pub unread_as_told : (told : ToldRoot) (hint : Option (List ℕ)) (own e : Error) → ReadsRoot told (Err own) →
+    (e ≡ Memory) ⊎ (fault_of e ≡ wrap hint (fault_of own)) → AnswersRoot told (Err e)
+unread_as_told open_root hint own e h k = tt
+unread_as_told no_root hint own e h k = refl
+unread_as_told (root m path) hint own e h (inl memory) = memory
+unread_as_told (root m path) hint own e h (inr same) = memory_wrapped hint own e h same

@@ -3,7 +3,7 @@ use Rattle.std.specs.Prelude.{◌≡◌, ◌⊎◌, List, ℕ, [], Bool, true, f
 use Rattle.std.specs.Prelude.{Option, Some, None, option_map, option_and_then}
 use Rattle.cargo_toml_manifest.specs.Inheriting.{Shared, shared, needs}
 use Rattle.cargo_toml_manifest.specs.Manifests.{ManifestMeaning}
-use Rattle.cargo_toml_manifest.specs.Told.{ToldRoot, root, no_root, open_root}
+use Rattle.cargo_toml_manifest.specs.Told.{ToldRoot, root, no_root, open_root, heard}
 use Rattle.cargo_toml_manifest.specs.Workspaces.{workspace_meaning}
 use Rattle.cargo_toml_manifest.specs.declared.manifest.Manifest.{Manifest}
 use Rattle.cargo_toml_manifest.specs.declared.workspace.Workspace.{Workspace}
@@ -23,6 +23,10 @@ handed_of handed = (shared_of handed.0.now.workspace, handed.1.now)
 -- what is told of the root that a hint leads to
 abbrev pub RootsTold : Type 0
 RootsTold = Option (List ℕ) → ToldRoot
+
+-- what is heard of the roots that an implementor tells
+abbrev pub roots_of : Bool → RootsTold → RootsTold
+roots_of reads told hint = heard reads (told hint)
 
 -- no inheritance; this workspace table, or none, with its path; that none was found; or that
 -- nothing is told of it

@@ -34,5 +34,5 @@ installed m new = record m {
 }
 
 -- the manifest with these parts, and then with what was found by them
-abbrev pub completed : {M : Type 0} → ManifestMeaning M → Completion → ManifestMeaning M
-completed m new = with_found (installed m new.parts) new.found
+abbrev pub with_completion : {M : Type 0} → ManifestMeaning M → Completion → ManifestMeaning M
+with_completion m new = with_found (installed m new.parts) new.found

@@ -70,6 +70,10 @@ manifest_meaning f m = record {
   feature_details = map_meaning detail_of m.feature_details;
 }
 
+-- what a manifest holds, with its metadata as they are
+abbrev pub held : {M : Type 0} → Manifest M → ManifestMeaning M
+held = manifest_meaning (λ x. x)
+
 -- the version is 0.0.0, without pre-release and build metadata
 abbrev pub is_zero : Inheritable Parts → Bool
 is_zero (Set p) =

@@ -17,7 +17,7 @@ use Rattle.cargo_toml_parts.specs.FaultValues.{workspace, workspace_integrity}
 use Rattle.cargo_toml_discovery.specs.Told.{Told, open_path}
 use Rattle.cargo_toml_manifest.specs.Choosing.{Handed, RootsTold}
 use Rattle.cargo_toml_manifest.specs.Completing.{GivenBy, Meets, complete}
-use Rattle.cargo_toml_manifest.specs.Manifests.{ManifestMeaning, manifest_meaning}
+use Rattle.cargo_toml_manifest.specs.Manifests.{ManifestMeaning, held, manifest_meaning}
 use Rattle.cargo_toml_manifest.specs.Refusing.{IsRefusedBy, MayLose}
 use Rattle.cargo_toml_manifest.specs.Roots.{IsFromSlice}
 use Rattle.cargo_toml_manifest.specs.Texts.{IsFromText, document_reads}
@@ -159,17 +159,17 @@ IsReadFromText meaning reads m =
 -- be refused with this fault
 abbrev pub IsRefusalOf : {X : Type 0} → List ℕ → Manifest X → Error → Type 0
 IsRefusalOf path m e =
-    Meets (manifest_meaning (λ m. m))
-    (complete (manifest_meaning (λ m. m) m) None real_roots real_folders) (Err e)
-    × IsRefusedAround path (manifest_meaning (λ m. m) m) None e
+    Meets held
+    (complete (held m) None real_roots real_folders) (Err e)
+    × IsRefusedAround path (held m) None e
 
 -- some text reads as a manifest which completion among real files makes into this one
 abbrev pub IsReadAndCompleted : {X M : Type 0} → (X → M) → (Data → Option (ManifestMeaning M))
     → Manifest X → Type 0
 IsReadAndCompleted meaning reads new =
     (read : Manifest _) × IsReadFromText (manifest_meaning meaning) reads read
-    × GivenBy (manifest_meaning (λ m. m) read) None real_roots real_folders
-    (manifest_meaning (λ m. m) new)
+    × GivenBy (held read) None real_roots real_folders
+    (held new)
 
 -- some text reads as a manifest whose completion among real files may be refused with this fault
 abbrev pub IsReadAndRefused : {X M : Type 0} → List ℕ → (Manifest X → ManifestMeaning M)

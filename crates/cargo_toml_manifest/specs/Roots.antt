@@ -1,6 +1,6 @@
 -- What becomes of the bytes that were read for a root.
 use Rattle.std.specs.Prelude.{◌≡◌, ◌⊎◌, ℕ, List, codes, true, false, Option, Some, is_some}
-use Rattle.std.specs.Prelude.{Result, Ok, Err, string_bytes, String, Vec, IsErrAnd}
+use Rattle.std.specs.Prelude.{Result, Ok, Err, string_bytes, String}
 use Rattle.std.specs.declared.alloc.Global.{Global}
 use Rattle.toml.specs.View.{view}
 use Rattle.toml.specs.declared.value.Value.{Value}
@@ -31,12 +31,9 @@ IsNoRoot bytes path fault =
     × (is_some m.workspace ≡ false)
     × (fault_of fault ≡ wrap (Some path) (workspace_integrity not_a_workspace)))
 
--- the root of bytes and a path, or why there is none; a fault of reading has the hint as its path
-abbrev pub IsRootOf : Option (List ℕ) → Result (Vec ℕ Global × String Global) Error
-    → Result (Manifest Value × String Global) Error → Type 0
-IsRootOf hint (Err refused) result =
-    IsErrAnd result (λ e. (e ≡ Memory) ⊎ (fault_of e ≡ wrap hint (fault_of refused)))
-IsRootOf hint (Ok read) (Ok root) =
-    IsFromSlice read.0.items (Ok root.0) × (is_some root.0.workspace ≡ true)
-    × (string_bytes root.1 ≡ string_bytes read.1)
-IsRootOf hint (Ok read) (Err e) = (e ≡ Memory) ⊎ IsNoRoot read.0.items (string_bytes read.1) e
+-- the root of these bytes, which were read at this path, or why they are none
+abbrev pub IsRootAt : List ℕ → List ℕ → Result (Manifest Value × String Global) Error → Type 0
+IsRootAt bytes path (Ok root) =
+    IsFromSlice bytes (Ok root.0) × (is_some root.0.workspace ≡ true)
+    × (string_bytes root.1 ≡ path)
+IsRootAt bytes path (Err e) = (e ≡ Memory) ⊎ IsNoRoot bytes path e

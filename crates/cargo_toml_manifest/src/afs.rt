@@ -1,5 +1,6 @@
 //! The files around a manifest, as an implementor of a trait answers for them.
 ghost use Rattle.std.specs.Prelude.{◌≡◌, ◌⊎◌, ℕ, List, Bool, true, false, Option, IfOk};
+ghost use Rattle.std.specs.Prelude.{string_bytes};
 ghost use Rattle.std.specs.Option.{option_copied};
 ghost use Rattle.cargo_toml_parts.specs.declared.error.Error.{Memory};
 ghost use Rattle.cargo_toml_parts.specs.Answers.{Gives};
@@ -7,7 +8,7 @@ ghost use Rattle.cargo_toml_parts.specs.FaultValues.{Fault, fault_of, workspace}
 ghost use Rattle.cargo_toml_parts.specs.FaultValues.{workspace_integrity};
 ghost use Rattle.cargo_toml_parts.specs.Wrapping.{wrap};
 ghost use Rattle.cargo_toml_manifest.specs.Refusing.{MayLose, ReadsBy, RefusesBy};
-ghost use Rattle.cargo_toml_manifest.specs.Roots.{IsRootOf, not_a_workspace};
+ghost use Rattle.cargo_toml_manifest.specs.Roots.{IsRootAt, not_a_workspace};
 ghost use Rattle.cargo_toml_discovery.specs.Told.{Told, open_path};
 ghost use Rattle.cargo_toml_manifest.specs.Told.{ToldRoot, open_root, heard};
 ghost use Rattle.cargo_toml_manifest.specs.Told.{AnswersNames, ReadsRoot, AnswersRoot};
@@ -128,7 +129,10 @@ pub trait AbstractFilesystem {
         ensures refused { RefusesBy (MayLose Self.Roots.ARE_READ (may_refuse_root self.now)
             (option_copied hint.entry)) result }
     {
-        root_of(alloc, hint, self.read_root_workspace(alloc, hint))
+        match self.read_root_workspace(alloc, hint) {
+            Ok((bytes, path)) => root_at(alloc, bytes, path),
+            Err(fault) => Err(wrapped(alloc, fault, hint)),
+        }
     }
 }
 
@@ -164,22 +168,12 @@ impl<T: AbstractFilesystem> AbstractFilesystem for &T {
     }
 }
 
-/// The root that was read, or why there is none.
-///
-/// A fault of reading becomes one of the workspace with the hint as its path. A fault of the bytes,
-/// and `Error::WorkspaceIntegrity` for a manifest without a workspace table, become such with the
-/// path of the bytes.
-pub fn root_of(
-    alloc: Global,
-    hint: Option<&str>,
-    read: Result<(Vec<u8>, String), Error>,
-) -> Result<(Manifest, String), Error>
-    ensures { IsRootOf (option_copied hint.entry) read result }
+// The root of these bytes, which were read at this path. A fault of the bytes, and
+// `Error::WorkspaceIntegrity` for a manifest without a workspace table, become faults of a
+// workspace with that path.
+fn root_at(alloc: Global, bytes: Vec<u8>, path: String) -> Result<(Manifest, String), Error>
+    ensures { IsRootAt bytes.items (string_bytes path) result }
 {
-    let (bytes, path) = match read {
-        Ok(read) => read,
-        Err(fault) => return Err(wrapped(alloc, fault, hint)),
-    };
     let manifest = match Manifest::from_slice(alloc, bytes.as_slice()) {
         Ok(manifest) => manifest,
         Err(fault) => return Err(wrapped(alloc, fault, Some(path.as_str()))),

@@ -1,20 +1,18 @@
 //! Completing a manifest from its workspace and from its folders.
-ghost use Rattle.std.specs.Prelude.{◌≡◌, ◌⊎◌, Some, None, Ok, Result, false};
-ghost use Rattle.std.specs.Prelude.{IfErr, IfOk, IfSome, OnErr, OnOk, option_map};
+ghost use Rattle.std.specs.Prelude.{◌≡◌, ◌⊎◌, None};
+ghost use Rattle.std.specs.Prelude.{IfErr, IfOk, OnErr, OnOk, option_map};
 ghost use Rattle.std.specs.Option.{option_copied};
 ghost use Rattle.cargo_toml_parts.specs.declared.error.Error.{Memory};
-ghost use Rattle.cargo_toml_parts.specs.Answers.{Gives};
-ghost use Rattle.cargo_toml_parts.specs.FaultValues.{Fault};
 ghost use Rattle.cargo_toml_discovery.specs.Answers.{Answers, filled};
-ghost use Rattle.cargo_toml_package.specs.Filled.{IsFilled};
-ghost use Rattle.cargo_toml_manifest.specs.Choosing.{from, handed_of, hint_of};
+ghost use Rattle.cargo_toml_manifest.specs.Choosing.{from, handed_of, hint_of, roots_of};
 ghost use Rattle.cargo_toml_manifest.specs.Choosing.{shared_of, told_choice};
-ghost use Rattle.cargo_toml_manifest.specs.Completing.{GivenBy, GivenByRoot, IsLasting, Meets};
-ghost use Rattle.cargo_toml_manifest.specs.Completing.{complete, complete_by, gives, then_found};
-ghost use Rattle.cargo_toml_manifest.specs.Inheriting.{needs};
-ghost use Rattle.cargo_toml_manifest.specs.Installing.{completed, installed};
-ghost use Rattle.cargo_toml_manifest.specs.Manifests.{ManifestMeaning, manifest_meaning};
-ghost use Rattle.cargo_toml_manifest.specs.Refusing.{IsCause, IsRefusedAt, IsRefusedBy};
+ghost use Rattle.cargo_toml_manifest.specs.Completed.{IsCompleted};
+ghost use Rattle.cargo_toml_manifest.specs.Completing.{GivenBy, GivenByRoot, Meets};
+ghost use Rattle.cargo_toml_manifest.specs.Completing.{complete, complete_by, gives, seen_at};
+ghost use Rattle.cargo_toml_manifest.specs.Finding.{found_around};
+ghost use Rattle.cargo_toml_manifest.specs.Installing.{installed, with_completion};
+ghost use Rattle.cargo_toml_manifest.specs.Manifests.{held};
+ghost use Rattle.cargo_toml_manifest.specs.Refusing.{IsListed, IsRefusedAt, IsRefusedBy};
 ghost use Rattle.cargo_toml_manifest.specs.Refusing.{IsRefusedByRoot, IsToldWith, MayLose};
 ghost use Rattle.cargo_toml_manifest.specs.Told.{heard};
 
@@ -32,27 +30,21 @@ use std::alloc::Global;
 fn completion<Metadata, Fs: AbstractFilesystem>(
     alloc: Global,
     manifest: &Manifest<Metadata>,
-    parts: Result<NewParts, Error>,
+    parts: NewParts,
     fs: &Fs,
     path: Option<&str>,
 ) -> Result<Completion, Error>
-    ensures outcome { let m = manifest_meaning (λ m. m) manifest.now in
-        (stated : Result (ManifestMeaning Metadata) Fault) → Gives (installed m) parts stated
-        → Meets (completed m)
-        (then_found (option_copied path.entry) (Fs.names_at fs.now) stated) result }
-    ensures given { let m = manifest_meaning (λ m. m) manifest.now in
-        (stated : Result (ManifestMeaning Metadata) Fault) → Gives (installed m) parts stated
-        → IfOk result (λ new. (answers : Answers) × (then_found (option_copied path.entry)
-        (filled (Fs.names_at fs.now) answers) stated ≡ gives (completed m new))) }
-    ensures wrapped { let m = manifest_meaning (λ m. m) manifest.now in
-        (stated : Result (ManifestMeaning Metadata) Fault) → Gives (installed m) parts stated
-        → IfErr result (λ e. (e ≡ Memory)
-        ⊎ IsToldWith (option_copied path.entry) (IsCause stated (Fs.may_refuse fs.now)) e) }
+    ensures outcome { let m = held manifest.now in
+        Meets (with_completion m)
+        (seen_at (option_copied path.entry) (found_around (installed m parts) (Fs.names_at fs.now)))
+        result }
+    ensures given { let m = held manifest.now in
+        IfOk result (λ new. (answers : Answers) × (seen_at (option_copied path.entry)
+        (found_around (installed m parts) (filled (Fs.names_at fs.now) answers))
+        ≡ gives (with_completion m new))) }
+    ensures wrapped { IfErr result (λ e. (e ≡ Memory)
+        ⊎ IsToldWith (option_copied path.entry) (IsListed (Fs.may_refuse fs.now)) e) }
 {
-    let parts = match parts {
-        Ok(parts) => parts,
-        Err(fault) => return Err(wrapped(alloc, fault, path)),
-    };
     match find(alloc, manifest, &parts, fs) {
         Ok(found) => Ok(Completion { parts, found }),
         Err(fault) => Err(wrapped(alloc, fault, path)),
@@ -67,25 +59,27 @@ fn completion_at<Metadata, N, Fs: AbstractFilesystem>(
     path: &str,
     fs: &Fs,
 ) -> Result<Completion, Error>
-    ensures outcome { let m = manifest_meaning (λ m. m) manifest.now in
-        Meets (completed m) (complete_by m
+    ensures outcome { let m = held manifest.now in
+        Meets (with_completion m) (complete_by m
         (from (shared_of (option_copied workspace.entry)) path.now) (Fs.names_at fs.now)) result }
-    ensures given { let m = manifest_meaning (λ m. m) manifest.now in
+    ensures given { let m = held manifest.now in
         IfOk result (λ new. (answers : Answers)
         × (complete_by m (from (shared_of (option_copied workspace.entry)) path.now)
-        (filled (Fs.names_at fs.now) answers) ≡ gives (completed m new))) }
-    ensures wrapped { let m = manifest_meaning (λ m. m) manifest.now in
+        (filled (Fs.names_at fs.now) answers) ≡ gives (with_completion m new))) }
+    ensures wrapped { let m = held manifest.now in
         IfErr result (λ e. (e ≡ Memory)
         ⊎ IsRefusedAt m (MayLose Fs.Roots.ARE_READ (Fs.may_refuse_root fs.now))
         (Fs.may_refuse fs.now) (from (shared_of (option_copied workspace.entry)) path.now) e) }
 {
-    let parts = new_parts(alloc, manifest, workspace, workspace_folder(path));
-    completion(alloc, manifest, parts, fs, Some(path))
+    match new_parts(alloc, manifest, workspace, workspace_folder(path)) {
+        Ok(parts) => completion(alloc, manifest, parts, fs, Some(path)),
+        Err(fault) => Err(wrapped(alloc, fault, Some(path))),
+    }
 }
 
 // What the package says of where its workspace is.
 fn hint_of<Metadata>(manifest: &Manifest<Metadata>) -> Option<&str>
-    ensures { option_copied result ≡ hint_of (manifest_meaning (λ m. m) manifest.now) }
+    ensures { option_copied result ≡ hint_of (held manifest.now) }
 {
     match &manifest.package {
         Some(package) => package.workspace.as_deref(),
@@ -99,14 +93,14 @@ fn completion_by_hint<Metadata, Fs: AbstractFilesystem>(
     manifest: &Manifest<Metadata>,
     fs: &Fs,
 ) -> Result<Completion, Error>
-    ensures outcome { let m = manifest_meaning (λ m. m) manifest.now in
-        Meets (completed m)
+    ensures outcome { let m = held manifest.now in
+        Meets (with_completion m)
         (complete_by m (told_choice (heard Fs.Roots.ARE_READ (Fs.root_for fs.now (hint_of m))))
         (Fs.names_at fs.now)) result }
-    ensures given { let m = manifest_meaning (λ m. m) manifest.now in
+    ensures given { let m = held manifest.now in
         IfOk result (λ new. GivenByRoot m (heard Fs.Roots.ARE_READ (Fs.root_for fs.now (hint_of m)))
-        (Fs.names_at fs.now) (completed m new)) }
-    ensures wrapped { let m = manifest_meaning (λ m. m) manifest.now in
+        (Fs.names_at fs.now) (with_completion m new)) }
+    ensures wrapped { let m = held manifest.now in
         IfErr result (IsRefusedByRoot m (heard Fs.Roots.ARE_READ (Fs.root_for fs.now (hint_of m)))
         (MayLose Fs.Roots.ARE_READ (Fs.may_refuse_root fs.now)) (Fs.may_refuse fs.now)) }
 {
@@ -129,15 +123,15 @@ fn own_completion<Metadata, Fs: AbstractFilesystem>(
     manifest: &Manifest<Metadata>,
     fs: &Fs,
 ) -> Result<Completion, Error>
-    ensures outcome { let m = manifest_meaning (λ m. m) manifest.now in
-        Meets (completed m) (complete m None
-        (λ hint. heard Fs.Roots.ARE_READ (Fs.root_for fs.now hint)) (Fs.names_at fs.now)) result }
-    ensures given { let m = manifest_meaning (λ m. m) manifest.now in
+    ensures outcome { let m = held manifest.now in
+        Meets (with_completion m) (complete m None
+        (roots_of Fs.Roots.ARE_READ (Fs.root_for fs.now)) (Fs.names_at fs.now)) result }
+    ensures given { let m = held manifest.now in
         IfOk result
-        (λ new. GivenBy m None (λ hint. heard Fs.Roots.ARE_READ (Fs.root_for fs.now hint))
-        (Fs.names_at fs.now) (completed m new)) }
-    ensures wrapped { let m = manifest_meaning (λ m. m) manifest.now in
-        IfErr result (IsRefusedBy m None (λ hint. heard Fs.Roots.ARE_READ (Fs.root_for fs.now hint))
+        (λ new. GivenBy m None (roots_of Fs.Roots.ARE_READ (Fs.root_for fs.now))
+        (Fs.names_at fs.now) (with_completion m new)) }
+    ensures wrapped { let m = held manifest.now in
+        IfErr result (IsRefusedBy m None (roots_of Fs.Roots.ARE_READ (Fs.root_for fs.now))
         (MayLose Fs.Roots.ARE_READ (Fs.may_refuse_root fs.now)) (Fs.may_refuse fs.now)) }
 {
     match &manifest.workspace {
@@ -146,7 +140,7 @@ fn own_completion<Metadata, Fs: AbstractFilesystem>(
             if manifest.needs_workspace_inheritance() {
                 completion_by_hint(alloc, manifest, fs)
             } else {
-                completion(alloc, manifest, Ok(no_parts(alloc)), fs, None)
+                completion(alloc, manifest, no_parts(alloc), fs, None)
             }
         }
     }
@@ -159,16 +153,16 @@ fn completion_for<Metadata, N, Fs: AbstractFilesystem>(
     fs: &Fs,
     workspace: Option<(&Manifest<N>, &str)>,
 ) -> Result<Completion, Error>
-    ensures outcome { let m = manifest_meaning (λ m. m) manifest.now in
-        Meets (completed m) (complete m (option_map handed_of workspace.entry)
-        (λ hint. heard Fs.Roots.ARE_READ (Fs.root_for fs.now hint)) (Fs.names_at fs.now)) result }
-    ensures given { let m = manifest_meaning (λ m. m) manifest.now in
+    ensures outcome { let m = held manifest.now in
+        Meets (with_completion m) (complete m (option_map handed_of workspace.entry)
+        (roots_of Fs.Roots.ARE_READ (Fs.root_for fs.now)) (Fs.names_at fs.now)) result }
+    ensures given { let m = held manifest.now in
         IfOk result (λ new. GivenBy m (option_map handed_of workspace.entry)
-        (λ hint. heard Fs.Roots.ARE_READ (Fs.root_for fs.now hint)) (Fs.names_at fs.now)
-        (completed m new)) }
-    ensures wrapped { let m = manifest_meaning (λ m. m) manifest.now in
+        (roots_of Fs.Roots.ARE_READ (Fs.root_for fs.now)) (Fs.names_at fs.now)
+        (with_completion m new)) }
+    ensures wrapped { let m = held manifest.now in
         IfErr result (IsRefusedBy m (option_map handed_of workspace.entry)
-        (λ hint. heard Fs.Roots.ARE_READ (Fs.root_for fs.now hint))
+        (roots_of Fs.Roots.ARE_READ (Fs.root_for fs.now))
         (MayLose Fs.Roots.ARE_READ (Fs.may_refuse_root fs.now)) (Fs.may_refuse fs.now)) }
 {
     match workspace {
@@ -210,22 +204,17 @@ impl<Metadata: Drop> Manifest<Metadata> {
         fs: Fs,
         workspace: Option<(&Manifest<N>, &str)>,
     ) -> Result<(), Error>
-        ensures outcome { Meets (λ _. manifest_meaning (λ m. m) self.new)
-            (complete (manifest_meaning (λ m. m) self.old) (option_map handed_of workspace.entry)
-            (λ hint. heard Fs.Roots.ARE_READ (Fs.root_for fs hint)) (Fs.names_at fs))
+        ensures outcome { Meets (λ _. held self.new)
+            (complete (held self.old) (option_map handed_of workspace.entry)
+            (roots_of Fs.Roots.ARE_READ (Fs.root_for fs)) (Fs.names_at fs))
             result }
         ensures unchanged { OnErr result (self.new ≡ self.old) }
-        ensures given { OnOk result
-            (GivenBy (manifest_meaning (λ m. m) self.old) (option_map handed_of workspace.entry)
-            (λ hint. heard Fs.Roots.ARE_READ (Fs.root_for fs hint)) (Fs.names_at fs)
-            (manifest_meaning (λ m. m) self.new)) }
-        ensures needs { OnOk result (needs (manifest_meaning (λ m. m) self.new) ≡ false) }
-        ensures filled { OnOk result (IfSome self.new.package IsFilled) }
-        ensures again { OnOk result (IsLasting (manifest_meaning (λ m. m) self.old)
-            (option_map handed_of workspace.entry) (manifest_meaning (λ m. m) self.new)) }
+        ensures completed { OnOk result
+            (IsCompleted self.old (option_map handed_of workspace.entry)
+            (roots_of Fs.Roots.ARE_READ (Fs.root_for fs)) (Fs.names_at fs) self.new) }
         ensures wrapped { IfErr result
-            (IsRefusedBy (manifest_meaning (λ m. m) self.old) (option_map handed_of workspace.entry)
-            (λ hint. heard Fs.Roots.ARE_READ (Fs.root_for fs hint))
+            (IsRefusedBy (held self.old) (option_map handed_of workspace.entry)
+            (roots_of Fs.Roots.ARE_READ (Fs.root_for fs))
             (MayLose Fs.Roots.ARE_READ (Fs.may_refuse_root fs)) (Fs.may_refuse fs)) }
     {
         let Completion { parts, found } = completion_for(alloc, self, &fs, workspace)?;

@@ -11,7 +11,7 @@ ghost use Rattle.cargo_toml_discovery.specs.Seen.{Tells, seen, unclear};
 ghost use Rattle.cargo_toml_package.specs.Packages.{package_meaning};
 ghost use Rattle.cargo_toml_manifest.specs.Finding.{found_around, stated_by, wanted_by, with_found};
 ghost use Rattle.cargo_toml_manifest.specs.Installing.{installed, taken};
-ghost use Rattle.cargo_toml_manifest.specs.Manifests.{manifest_meaning};
+ghost use Rattle.cargo_toml_manifest.specs.Manifests.{held};
 ghost use Rattle.cargo_toml_manifest.specs.Refusing.{IsListed, RefusesBy};
 
 use crate::afs::AbstractFilesystem;
@@ -86,7 +86,7 @@ fn found_in<Metadata>(
 ) -> Result<Discovered, AllocError>
     ensures { let p = taken (package_meaning (λ m. m) «package».now) (option_copied new.entry) in
         IfOk result (λ d. discovered_meaning d
-        ≡ discovered (stated_by (manifest_meaning (λ m. m) manifest.now) p)
+        ≡ discovered (stated_by (held manifest.now) p)
         (around_in (answers_of listings.now) (wanted_by p))) }
 {
     let no_readme = OptionalFile::Flag(false);
@@ -116,14 +116,14 @@ pub fn find<Metadata, Fs: AbstractFilesystem>(
     parts: &NewParts,
     fs: &Fs,
 ) -> Result<Option<Discovered>, Error>
-    ensures answered { let m = installed (manifest_meaning (λ m. m) manifest.now) parts.now in
+    ensures answered { let m = installed (held manifest.now) parts.now in
         IfOk result (λ found. (answers : Answers)
         × (found_around m (filled (Fs.names_at fs.now) answers) ≡ seen (with_found m found))) }
-    ensures told { let m = installed (manifest_meaning (λ m. m) manifest.now) parts.now in
+    ensures told { let m = installed (held manifest.now) parts.now in
         IfOk result (λ found. (found_around m (Fs.names_at fs.now) ≡ unclear)
         ⊎ (found_around m (Fs.names_at fs.now) ≡ seen (with_found m found))) }
     ensures faults { IfErr result (Tells
-        (found_around (installed (manifest_meaning (λ m. m) manifest.now) parts.now)
+        (found_around (installed (held manifest.now) parts.now)
         (Fs.names_at fs.now))) }
     ensures refused { RefusesBy (IsListed (Fs.may_refuse fs.now)) result }
 {
@@ -137,8 +137,8 @@ pub fn find<Metadata, Fs: AbstractFilesystem>(
 
 /// Puts what was found into the manifest, where it has a package. It takes no memory.
 pub fn put_found<Metadata: Drop>(manifest: &mut Manifest<Metadata>, found: Option<Discovered>)
-    ensures { manifest_meaning (λ m. m) manifest.new
-        ≡ with_found (manifest_meaning (λ m. m) manifest.old) found }
+    ensures { held manifest.new
+        ≡ with_found (held manifest.old) found }
 {
     let Some(package) = &mut manifest.package else {
         return;

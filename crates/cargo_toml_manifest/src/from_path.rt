@@ -6,9 +6,10 @@ ghost use Rattle.toml.specs.View.{view};
 ghost use Rattle.cargo_toml_parts.specs.FaultValues.{fault_of};
 ghost use Rattle.cargo_toml_package.specs.Filled.{IsFilled};
 ghost use Rattle.cargo_toml_manifest.specs.Choosing.{handed_of};
-ghost use Rattle.cargo_toml_manifest.specs.Completing.{GivenBy, IsLasting, Meets, complete};
+ghost use Rattle.cargo_toml_manifest.specs.Completed.{IsCompleted};
+ghost use Rattle.cargo_toml_manifest.specs.Completing.{Meets, complete};
 ghost use Rattle.cargo_toml_manifest.specs.Inheriting.{needs};
-ghost use Rattle.cargo_toml_manifest.specs.Manifests.{manifest_meaning, manifest_reads};
+ghost use Rattle.cargo_toml_manifest.specs.Manifests.{held, manifest_meaning, manifest_reads};
 ghost use Rattle.cargo_toml_manifest.specs.Manifests.{ManifestRefuses};
 ghost use Rattle.cargo_toml_manifest.specs.RealFiles.{IsCompletionFault, IsPathFault};
 ghost use Rattle.cargo_toml_manifest.specs.RealFiles.{IsReadAndCompleted, bad_path};
@@ -36,19 +37,15 @@ impl<Metadata: Drop> Manifest<Metadata> {
         path: &'a str,
     ) -> Result<(), Error>
         ensures outcome { IsSome (path_parent path.now)
-            → Meets (λ _. manifest_meaning (λ m. m) self.new)
-            (complete (manifest_meaning (λ m. m) self.old) None real_roots real_folders) result }
+            → Meets (λ _. held self.new)
+            (complete (held self.old) None real_roots real_folders) result }
         ensures bad_path { (path_parent path.now ≡ None)
             ↔ IsErrAnd result (λ e. fault_of e ≡ bad_path) }
         ensures unchanged { OnErr result (self.new ≡ self.old) }
-        ensures given { OnOk result (GivenBy (manifest_meaning (λ m. m) self.old) None real_roots
-            real_folders (manifest_meaning (λ m. m) self.new)) }
-        ensures needs { OnOk result (needs (manifest_meaning (λ m. m) self.new) ≡ false) }
-        ensures filled { OnOk result (IfSome self.new.package IsFilled) }
-        ensures again { OnOk result (IsLasting (manifest_meaning (λ m. m) self.old) None
-            (manifest_meaning (λ m. m) self.new)) }
+        ensures completed { OnOk result
+            (IsCompleted self.old None real_roots real_folders self.new) }
         ensures refused { IfErr result
-            (IsCompletionFault path.now (manifest_meaning (λ m. m) self.old) None) }
+            (IsCompletionFault path.now (held self.old) None) }
     {
         self.complete_from_path_and_workspace(rt, alloc, path, None::<(&Manifest<Value>, &str)>)
     }
@@ -75,21 +72,16 @@ impl<Metadata: Drop> Manifest<Metadata> {
         workspace: Option<(&Manifest<N>, &str)>,
     ) -> Result<(), Error>
         ensures outcome { IsSome (path_parent path.now)
-            → Meets (λ _. manifest_meaning (λ m. m) self.new)
-            (complete (manifest_meaning (λ m. m) self.old)
+            → Meets (λ _. held self.new)
+            (complete (held self.old)
             (option_map handed_of workspace.entry) real_roots real_folders) result }
         ensures bad_path { (path_parent path.now ≡ None)
             ↔ IsErrAnd result (λ e. fault_of e ≡ bad_path) }
         ensures unchanged { OnErr result (self.new ≡ self.old) }
-        ensures given { OnOk result
-            (GivenBy (manifest_meaning (λ m. m) self.old) (option_map handed_of workspace.entry)
-            real_roots real_folders (manifest_meaning (λ m. m) self.new)) }
-        ensures needs { OnOk result (needs (manifest_meaning (λ m. m) self.new) ≡ false) }
-        ensures filled { OnOk result (IfSome self.new.package IsFilled) }
-        ensures again { OnOk result (IsLasting (manifest_meaning (λ m. m) self.old)
-            (option_map handed_of workspace.entry) (manifest_meaning (λ m. m) self.new)) }
+        ensures completed { OnOk result (IsCompleted self.old (option_map handed_of workspace.entry)
+            real_roots real_folders self.new) }
         ensures refused { IfErr result (IsCompletionFault path.now
-            (manifest_meaning (λ m. m) self.old) (option_map handed_of workspace.entry)) }
+            (held self.old) (option_map handed_of workspace.entry)) }
     {
         let Some(folder) = parent(path) else {
             return Err(Error::Other("bad path"));
@@ -114,7 +106,7 @@ impl Manifest {
         path: &'a str,
     ) -> Result<Manifest, Error>
         ensures given { IfOk result (IsReadAndCompleted view (manifest_reads any_tree)) }
-        ensures needs { IfOk result (λ new. needs (manifest_meaning (λ m. m) new) ≡ false) }
+        ensures needs { IfOk result (λ new. needs (held new) ≡ false) }
         ensures filled { IfOk result (λ new. IfSome new.package IsFilled) }
         ensures refused { IfErr result (IsPathFault path.now (manifest_meaning view)
             (manifest_reads any_tree) (ManifestRefuses any_tree AnyRefuses)) }
@@ -135,7 +127,7 @@ impl<Metadata: FromValue> Manifest<Metadata> {
     ) -> Result<Manifest<Metadata>, Error>
         ensures given { IfOk result
             (IsReadAndCompleted Metadata.meaning (manifest_reads Metadata.from_tree)) }
-        ensures needs { IfOk result (λ new. needs (manifest_meaning (λ m. m) new) ≡ false) }
+        ensures needs { IfOk result (λ new. needs (held new) ≡ false) }
         ensures filled { IfOk result (λ new. IfSome new.package IsFilled) }
         ensures refused { IfErr result (IsPathFault path.now (manifest_meaning Metadata.meaning)
             (manifest_reads Metadata.from_tree)

@@ -17,7 +17,7 @@ ghost use Rattle.cargo_toml_manifest.specs.Inheriting.{own_tables, inherited_lin
 ghost use Rattle.cargo_toml_manifest.specs.Inheriting.{inherited_if_there, inherited_from};
 ghost use Rattle.cargo_toml_manifest.specs.Inheriting.{inherited_manifest};
 ghost use Rattle.cargo_toml_manifest.specs.Installing.{installed, installed_if_there};
-ghost use Rattle.cargo_toml_manifest.specs.Manifests.{manifest_meaning};
+ghost use Rattle.cargo_toml_manifest.specs.Manifests.{held};
 
 use crate::manifest::Manifest;
 use crate::workspace::Workspace;
@@ -55,10 +55,10 @@ fn new_tables<Metadata>(
     templates: Option<&DepsSet>,
     base: &str,
 ) -> Result<NewTarget, Error>
-    ensures { Gives (replaced_target (own_tables (manifest_meaning (λ m. m) manifest.now))) result
+    ensures { Gives (replaced_target (own_tables (held manifest.now))) result
         (inherited_target
         (option_map (map_meaning dependency_meaning) (option_copied templates.entry)) base.now
-        (own_tables (manifest_meaning (λ m. m) manifest.now))) }
+        (own_tables (held manifest.now))) }
 {
     let dependencies = replacements(alloc, templates, base, &manifest.dependencies)?;
     let build_dependencies = replacements(alloc, templates, base, &manifest.build_dependencies)?;
@@ -122,12 +122,12 @@ fn parts_from<Metadata>(
     template: Option<&PackageTemplate>,
     base: &str,
 ) -> Result<NewParts, Error>
-    ensures { Gives (installed (manifest_meaning (λ m. m) manifest.now)) result
+    ensures { Gives (installed (held manifest.now)) result
         (inherited_from
         (option_map (map_meaning dependency_meaning) (option_copied templates.entry))
         (option_map (map_meaning (map_meaning lint_meaning)) (option_copied groups.entry))
         (option_map template_meaning (option_copied template.entry)) base.now
-        (manifest_meaning (λ m. m) manifest.now)) }
+        (held manifest.now)) }
 {
     let tables = new_tables(alloc, manifest, templates, base)?;
     let targets = target_replacements(alloc, templates, base, &manifest.target)?;
@@ -154,9 +154,9 @@ pub fn new_parts<Metadata, N>(
     workspace: Option<&Workspace<N>>,
     base: &str,
 ) -> Result<NewParts, Error>
-    ensures { Gives (installed (manifest_meaning (λ m. m) manifest.now)) result
+    ensures { Gives (installed (held manifest.now)) result
         (inherited_manifest (shared_of (option_copied workspace.entry)) base.now
-        (manifest_meaning (λ m. m) manifest.now)) }
+        (held manifest.now)) }
 {
     match workspace {
         Some(workspace) => parts_from(
@@ -216,8 +216,8 @@ fn put_package<Metadata: Drop>(package: &mut Option<Package<Metadata>>, new: Opt
 /// Puts the parts in place of what the manifest left to its workspace. All else stays, and metadata
 /// are not touched. It takes no memory.
 pub fn install_parts<Metadata: Drop>(manifest: &mut Manifest<Metadata>, new: NewParts)
-    ensures { manifest_meaning (λ m. m) manifest.new
-        ≡ installed (manifest_meaning (λ m. m) manifest.old) new }
+    ensures { held manifest.new
+        ≡ installed (held manifest.old) new }
 {
     let NewParts {
         tables,

@@ -7,6 +7,7 @@ pub mod files;
 pub mod finding;
 pub mod from_path;
 pub mod gather;
+mod heap;
 pub mod inheriting;
 pub mod lookup;
 pub mod manifest;

@@ -24,6 +24,7 @@ ghost use Rattle.cargo_toml_manifest.specs.Texts.{IsTree, IsTreeOfBytes};
 
 mod questions;
 
+use crate::heap::keep_heap;
 use crate::workspace::Workspace;
 use cargo_toml_dependencies::feature::features;
 use cargo_toml_dependencies::{DepsSet, FeatureDetails, FeatureSet, PatchSet, TargetDepsSet};
@@ -293,6 +294,7 @@ impl<Metadata: FromValue> Manifest<Metadata> {
 fn tree_of(alloc: Global, text: &str) -> Result<Table, Error>
     ensures { IsTree (parse_document text.now) result }
 {
+    keep_heap(alloc, text.len());
     let tree = toml::table_from_str(alloc, text)?;
     if !table_has_no_float(&tree) {
         return Err(floats_unsupported());
@@ -465,7 +467,8 @@ fn by_zero_rule<Metadata: FromValue>(found: Package<Metadata>) -> Package<Metada
     ruled
 }
 
-// The same, where there is a package.
+// The same, where there is a package: a function of its own, so that `read_table` learns what it
+// gives as one equation of meanings.
 fn option_by_zero_rule<Metadata: FromValue>(
     found: Option<Package<Metadata>>,
 ) -> Option<Package<Metadata>>

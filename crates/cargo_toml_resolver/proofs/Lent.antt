@@ -1,5 +1,5 @@
 -- Facts of what is lent and of what is resolved beside it, as facts of both together.
-use Rattle.std.proofs.Common.{◌≡◌, false, T, is_ok, Option, Some, Result, Ok, Err, IfOk, IfErr, IfSome, IsSome, OnErr, OnOk, refl, sym, ap, ◌∙◌, subst, inl, inr}
+use Rattle.std.proofs.Common.{◌≡◌, T, is_ok, Option, Some, Result, Ok, Err, IfOk, IfErr, IfSome, IsSome, OnErr, OnOk, refl, sym, ap, ◌∙◌, subst, inl, inr}
 use Rattle.std.specs.Prelude.{⊤}
 use Rattle.std.specs.Borrow.{follows_so}
 use seplogic.Ra.Ura.{Ura}
@@ -13,13 +13,12 @@ use denote.Ref.{Bor}
 use Rattle.cargo_toml_parts.specs.declared.error.Error.{Error, Memory}
 use Rattle.cargo_toml_discovery.specs.Names.{Text}
 use Rattle.cargo_toml_discovery.specs.Told.{Told}
-use Rattle.cargo_toml_package.specs.Filled.{IsFilled}
 use Rattle.cargo_toml_manifest.specs.declared.manifest.Manifest.{Manifest}
 use Rattle.cargo_toml_manifest.specs.Choosing.{Handed, RootsTold}
-use Rattle.cargo_toml_manifest.specs.Completing.{Outcome, gives, refuses, no_workspace, untold, GivenBy, IsLasting, Meets, complete}
-use Rattle.cargo_toml_manifest.specs.Inheriting.{needs}
-use Rattle.cargo_toml_manifest.specs.Manifests.{ManifestMeaning, manifest_meaning}
-use Rattle.cargo_toml_resolver.specs.Lent.{with_lent, IsCompleted, IsLeftAfter}
+use Rattle.cargo_toml_manifest.specs.Completed.{IsCompleted}
+use Rattle.cargo_toml_manifest.specs.Completing.{Outcome, gives, refuses, no_workspace, untold, Meets, complete}
+use Rattle.cargo_toml_manifest.specs.Manifests.{held}
+use Rattle.cargo_toml_resolver.specs.Lent.{with_lent, IsLeftAfter}
 
 -- a refusal is one by the same outcome, whatever a success would have been
 pub refused_alike : {T U A : Type 0} (f : T → A) (g : U → A) (o : Outcome A) (e : Error) → Meets f o (Err e) → Meets g o (Err e)
@@ -69,12 +68,9 @@ rests_so {𝓤 = 𝓤} 𝓛 R γ P Q weaker = ex_e 𝓤 _ (λ s. ex_i 𝓤 (λ (
 
 -- what completing says, with the answer `d`, of a manifest that it leaves as `new`, where a refusal is such a one
 pub record Completing {M : Type 0} (old new : Manifest M) (handed : Option Handed) (roots : RootsTold) (told : Text → Told) (why : Error → Type 0) (d : Result (Unit {0}) Error) : Type 0 where
-  pub outcome : Meets (λ _. manifest_meaning (λ m. m) new) (complete (manifest_meaning (λ m. m) old) handed roots told) d
+  pub outcome : Meets (λ _. held new) (complete (held old) handed roots told) d
   pub unchanged : OnErr d (new ≡ old)
-  pub given : OnOk d (GivenBy (manifest_meaning (λ m. m) old) handed roots told (manifest_meaning (λ m. m) new))
-  pub needs_nothing : OnOk d (needs (manifest_meaning (λ m. m) new) ≡ false)
-  pub filled : OnOk d (IfSome new.«package» IsFilled)
-  pub again : OnOk d (IsLasting (manifest_meaning (λ m. m) old) handed (manifest_meaning (λ m. m) new))
+  pub completed : OnOk d (IsCompleted old handed roots told new)
   pub wrapped : IfErr d why
 
 -- what is said after it of the manifest, lent as `p`, and of both together, answered by `y`
@@ -91,32 +87,19 @@ lent_after P new (Ok u) p (Ok q) holds a = subst P (sym (ap (λ r. r.now) a.lent
 lent_after P new (Err fault) p (Ok q) holds a = absurd (subst T (ap is_ok a.refused) tt)
 lent_after P new d p (Err e) holds a = tt
 
-abbrev meaning : {M : Type 0} → Manifest M → ManifestMeaning M
-meaning = manifest_meaning (λ m. m)
-
-completed : {M : Type 0} {why : Error → Type 0} (old new : Manifest M) (handed : Option Handed) (roots : RootsTold) (told : Text → Told) → Completing old new handed roots told why (Ok tt)
-    → IsCompleted old handed roots told new
-completed old new handed roots told c = record {
-  outcome = given_alike (λ (_ : Unit {0}). meaning new) meaning (complete (meaning old) handed roots told) tt new refl c.outcome;
-  given = c.given;
-  needs_nothing = c.needs_nothing;
-  filled = c.filled;
-  again = c.again;
-}
-
 module _ {M Y : Type 0} {why : Error → Type 0} (old new : Manifest M) (handed : Option Handed) (roots : RootsTold) (told : Text → Told) where
   pub left_after : (d : Result (Unit {0}) Error) (p : Bor (Manifest M)) (y : Result (Bor (Manifest M) × Y) Error) → Completing old new handed roots told why d → Answering new d p y
       → (left : Manifest M) → left ≡ p.now → IsLeftAfter old handed roots told y left
   left_after d p (Ok q) c a left is = is ∙ ap (λ r. r.now) (sym a.lent)
-  left_after (Ok u) p (Err e) c a left is = inr (a.memory, subst (IsCompleted old handed roots told) (sym (is ∙ a.same)) (completed old new handed roots told c))
+  left_after (Ok u) p (Err e) c a left is = inr (a.memory, subst (IsCompleted old handed roots told) (sym (is ∙ a.same)) c.completed)
   left_after (Err fault) p (Err e) c a left is = inl (is ∙ a.same ∙ c.unchanged)
 
   pub outcome_after : (d : Result (Unit {0}) Error) (p : Bor (Manifest M)) (y : Result (Bor (Manifest M) × Y) Error) → Completing old new handed roots told why d → Answering new d p y
-      → Meets (λ q. meaning q.0.now) (complete (meaning old) handed roots told) y
-  outcome_after (Ok u) p (Ok q) c a = given_alike (λ (_ : Unit {0}). meaning new) (λ (q : Bor (Manifest M) × Y). meaning q.0.now) (complete (meaning old) handed roots told) tt q (ap (λ r. meaning r.now) a.lent ∙ ap meaning a.same) c.outcome
-  outcome_after (Ok u) p (Err e) c a = memory_after (λ (_ : Unit {0}). meaning new) (λ (q : Bor (Manifest M) × Y). meaning q.0.now) (complete (meaning old) handed roots told) tt e a.memory c.outcome
-  outcome_after (Err fault) p y c a = subst (Meets (λ (q : Bor (Manifest M) × Y). meaning q.0.now) (complete (meaning old) handed roots told)) (sym a.refused)
-      (refused_alike (λ (_ : Unit {0}). meaning new) (λ (q : Bor (Manifest M) × Y). meaning q.0.now) (complete (meaning old) handed roots told) fault c.outcome)
+      → Meets (λ q. held q.0.now) (complete (held old) handed roots told) y
+  outcome_after (Ok u) p (Ok q) c a = given_alike (λ (_ : Unit {0}). held new) (λ (q : Bor (Manifest M) × Y). held q.0.now) (complete (held old) handed roots told) tt q (ap (λ r. held r.now) a.lent ∙ ap held a.same) c.outcome
+  outcome_after (Ok u) p (Err e) c a = memory_after (λ (_ : Unit {0}). held new) (λ (q : Bor (Manifest M) × Y). held q.0.now) (complete (held old) handed roots told) tt e a.memory c.outcome
+  outcome_after (Err fault) p y c a = subst (Meets (λ (q : Bor (Manifest M) × Y). held q.0.now) (complete (held old) handed roots told)) (sym a.refused)
+      (refused_alike (λ (_ : Unit {0}). held new) (λ (q : Bor (Manifest M) × Y). held q.0.now) (complete (held old) handed roots told) fault c.outcome)
 
   pub wrapped_after : (d : Result (Unit {0}) Error) (p : Bor (Manifest M)) (y : Result (Bor (Manifest M) × Y) Error) → ((e : Error) → e ≡ Memory → why e)
       → Completing old new handed roots told why d → Answering new d p y → IfErr y why

@@ -1,5 +1,5 @@
 -- What is left of a manifest that is lent on, and what two answers in one are.
-use Rattle.std.specs.Prelude.{◌≡◌, ◌⊎◌, ⊤, false, IfSome, Option, Some, None, Result, Ok, Err}
+use Rattle.std.specs.Prelude.{◌≡◌, ◌⊎◌, ⊤, Option, Some, None, Result, Ok, Err}
 use Rattle.std.specs.Borrow.{Fml, MutBor, follows_so}
 use mathlib.Core.Option.{none}
 use denote.RattleType.{RattleType}
@@ -7,13 +7,10 @@ use denote.Ref.{Bor}
 use Rattle.cargo_toml_parts.specs.declared.error.Error.{Error, Memory}
 use Rattle.cargo_toml_discovery.specs.Names.{Text}
 use Rattle.cargo_toml_discovery.specs.Told.{Told}
-use Rattle.cargo_toml_package.specs.Filled.{IsFilled}
 use Rattle.cargo_toml_manifest.specs.contracts.manifest.Manifest.{the_row}
 use Rattle.cargo_toml_manifest.specs.declared.manifest.Manifest.{Manifest}
 use Rattle.cargo_toml_manifest.specs.Choosing.{Handed, RootsTold}
-use Rattle.cargo_toml_manifest.specs.Completing.{GivenBy, IsLasting, Meets, complete}
-use Rattle.cargo_toml_manifest.specs.Inheriting.{needs}
-use Rattle.cargo_toml_manifest.specs.Manifests.{ManifestMeaning, manifest_meaning}
+use Rattle.cargo_toml_manifest.specs.Completed.{IsCompleted}
 
 -- where nothing was lent the manifest is as it was, and else as it was lent
 abbrev pub IsLeft : {M : Type 0} → Manifest M → Option (Bor (Manifest M)) → Manifest M → Type 0
@@ -43,22 +40,11 @@ IsLentAs M manifest lent =
 -- completed by a workspace that is handed in, if any, by what is told of roots and of folders
 module _ {M : Type 0} (old : Manifest M) (handed : Option Handed) (roots : RootsTold)
     (told : Text → Told) where
-  abbrev meaning : Manifest M → ManifestMeaning M
-  meaning = manifest_meaning (λ m. m)
-
-  -- all that completion says of the manifest where it succeeds
-  pub record IsCompleted (new : Manifest M) : Type 0 where
-    pub outcome : Meets meaning (complete (meaning old) handed roots told) (Ok new)
-    pub given : GivenBy (meaning old) handed roots told (meaning new)
-    pub needs_nothing : needs (meaning new) ≡ false
-    pub filled : IfSome new.«package» IsFilled
-    pub again : IsLasting (meaning old) handed (meaning new)
-
   -- after a success the manifest is as it is lent; after a refusal it is as it was or, for want of
   -- memory alone, completed
   abbrev pub IsLeftAfter : {Y : Type 0} → Result (Bor (Manifest M) × Y) Error → Manifest M → Type 0
   IsLeftAfter (Ok p) new = new ≡ p.0.now
-  IsLeftAfter (Err e) new = (new ≡ old) ⊎ ((e ≡ Memory) × IsCompleted new)
+  IsLeftAfter (Err e) new = (new ≡ old) ⊎ ((e ≡ Memory) × IsCompleted old handed roots told new)
 
 -- so the manifest is left, once what was lent is let go
 abbrev pub IsLentAfter : (M : RattleType) {Y : Type 0} → MutBor (Manifest M.Denot) → Option Handed

@@ -1,17 +1,15 @@
 //! Completing a manifest, and resolving the features that it then has.
-ghost use Rattle.std.specs.Prelude.{◌≡◌, Bool, false, Err, IfErr, IfOk};
-ghost use Rattle.std.specs.Prelude.{IfSome, IsSome, Ok, OnOk, option_map};
+ghost use Rattle.std.specs.Prelude.{◌≡◌, Bool, Err, IfErr, IfOk};
+ghost use Rattle.std.specs.Prelude.{IfSome, IsSome, OnOk, option_map};
 ghost use Rattle.std.specs.Borrow.{sem};
 ghost use Rattle.cargo_toml_parts.specs.declared.error.Error.{Memory};
 ghost use Rattle.cargo_toml_graph.specs.Action.{Text};
 ghost use Rattle.cargo_toml_hidden.specs.Filter.{HasNameFilter, Tells};
-ghost use Rattle.cargo_toml_package.specs.Filled.{IsFilled};
-ghost use Rattle.cargo_toml_manifest.specs.Choosing.{handed_of};
-ghost use Rattle.cargo_toml_manifest.specs.Completing.{GivenBy, IsLasting, Meets, complete};
-ghost use Rattle.cargo_toml_manifest.specs.Inheriting.{needs};
-ghost use Rattle.cargo_toml_manifest.specs.Manifests.{manifest_meaning};
+ghost use Rattle.cargo_toml_manifest.specs.Choosing.{handed_of, roots_of};
+ghost use Rattle.cargo_toml_manifest.specs.Completed.{IsCompleted};
+ghost use Rattle.cargo_toml_manifest.specs.Completing.{Meets, complete};
+ghost use Rattle.cargo_toml_manifest.specs.Manifests.{held, manifest_meaning};
 ghost use Rattle.cargo_toml_manifest.specs.Refusing.{IsRefusedBy, MayLose};
-ghost use Rattle.cargo_toml_manifest.specs.Told.{heard};
 ghost use Rattle.cargo_toml_features.specs.FirstTarget.{HaveTargets};
 ghost use Rattle.cargo_toml_features.specs.Reached.{IsKeyed};
 ghost use Rattle.cargo_toml_features.specs.Views.{answer_of};
@@ -49,25 +47,17 @@ pub fn complete_and_parse_into<
     requires { HasNameFilter F.Fn (filter_of resolver.now) }
     ensures* left { sem 𝓛 (IsLentOn M.row manifest.entry result) }
     ensures answered { IsSome (with_lent result slot.new) }
-    ensures completed { IfSome result (λ lent. Meets (λ m. manifest_meaning (λ m. m) m.now)
-        (complete (manifest_meaning (λ m. m) manifest.old) (option_map handed_of workspace.entry)
-        (λ hint. heard Fs.Roots.ARE_READ (Fs.root_for fs hint)) (Fs.names_at fs)) (Ok lent)) }
-    ensures given { IfSome result (λ m. GivenBy (manifest_meaning (λ m. m) manifest.old)
-        (option_map handed_of workspace.entry)
-        (λ hint. heard Fs.Roots.ARE_READ (Fs.root_for fs hint)) (Fs.names_at fs)
-        (manifest_meaning (λ m. m) m.now)) }
-    ensures needs { IfSome result (λ m. needs (manifest_meaning (λ m. m) m.now) ≡ false) }
-    ensures filled { IfSome result (λ m. IfSome m.now.package IsFilled) }
-    ensures again { IfSome result (λ m. IsLasting (manifest_meaning (λ m. m) manifest.old)
-        (option_map handed_of workspace.entry) (manifest_meaning (λ m. m) m.now)) }
+    ensures completed { IfSome result
+        (λ lent. IsCompleted manifest.old (option_map handed_of workspace.entry)
+        (roots_of Fs.Roots.ARE_READ (Fs.root_for fs)) (Fs.names_at fs) lent.now) }
     ensures memory { IfSome result (λ _. IfSome slot.new (λ r. IfErr r (λ e. e ≡ Memory))) }
     ensures outcome { IfSome (with_lent result slot.new)
-        (Meets (λ p. manifest_meaning (λ m. m) p.0.now)
-        (complete (manifest_meaning (λ m. m) manifest.old) (option_map handed_of workspace.entry)
-        (λ hint. heard Fs.Roots.ARE_READ (Fs.root_for fs hint)) (Fs.names_at fs))) }
+        (Meets (λ p. held p.0.now)
+        (complete (held manifest.old) (option_map handed_of workspace.entry)
+        (roots_of Fs.Roots.ARE_READ (Fs.root_for fs)) (Fs.names_at fs))) }
     ensures wrapped { IfSome (with_lent result slot.new) (λ r. IfErr r (IsRefusedBy
-        (manifest_meaning (λ m. m) manifest.old) (option_map handed_of workspace.entry)
-        (λ hint. heard Fs.Roots.ARE_READ (Fs.root_for fs hint))
+        (held manifest.old) (option_map handed_of workspace.entry)
+        (roots_of Fs.Roots.ARE_READ (Fs.root_for fs))
         (MayLose Fs.Roots.ARE_READ (Fs.may_refuse_root fs)) (Fs.may_refuse fs))) }
     ensures resolved { IfSome (with_lent result slot.new) (λ r. IfOk r (λ p. (keep : Text → Bool)
         → Tells F.Fn (filter_of resolver.now) keep
@@ -94,8 +84,8 @@ fn shared<'m, M>(manifest: &'m mut Manifest<M>) -> &'m Manifest<M>
     ensures* left { sem 𝓛 (IsLentAs M.row manifest.entry result) }
     ensures same { result.now ≡ manifest.old }
 {
-    let manifest: &'m Manifest<M> = manifest;
-    manifest
+    let lent: &'m Manifest<M> = manifest;
+    lent
 }
 
 impl<'config, F: Fn(&str) -> bool, S: BuildHasher + Clone + Drop> Resolver<'config, F, S> {
@@ -115,22 +105,17 @@ impl<'config, F: Fn(&str) -> bool, S: BuildHasher + Clone + Drop> Resolver<'conf
         requires { HasNameFilter F.Fn (filter_of self.now) }
         ensures* left { sem 𝓛
             (IsLentAfter M.row manifest.entry (option_map handed_of workspace.entry)
-            (λ hint. heard Fs.Roots.ARE_READ (Fs.root_for fs hint)) (Fs.names_at fs) result) }
-        ensures outcome { Meets (λ p. manifest_meaning (λ m. m) p.0.now)
-            (complete (manifest_meaning (λ m. m) manifest.old)
+            (roots_of Fs.Roots.ARE_READ (Fs.root_for fs)) (Fs.names_at fs) result) }
+        ensures outcome { Meets (λ p. held p.0.now)
+            (complete (held manifest.old)
             (option_map handed_of workspace.entry)
-            (λ hint. heard Fs.Roots.ARE_READ (Fs.root_for fs hint)) (Fs.names_at fs)) result }
-        ensures given { IfOk result (λ p. GivenBy (manifest_meaning (λ m. m) manifest.old)
+            (roots_of Fs.Roots.ARE_READ (Fs.root_for fs)) (Fs.names_at fs)) result }
+        ensures completed { IfOk result
+            (λ p. IsCompleted manifest.old (option_map handed_of workspace.entry)
+            (roots_of Fs.Roots.ARE_READ (Fs.root_for fs)) (Fs.names_at fs) p.0.now) }
+        ensures wrapped { IfErr result (IsRefusedBy (held manifest.old)
             (option_map handed_of workspace.entry)
-            (λ hint. heard Fs.Roots.ARE_READ (Fs.root_for fs hint)) (Fs.names_at fs)
-            (manifest_meaning (λ m. m) p.0.now)) }
-        ensures needs { IfOk result (λ p. needs (manifest_meaning (λ m. m) p.0.now) ≡ false) }
-        ensures filled { IfOk result (λ p. IfSome p.0.now.package IsFilled) }
-        ensures again { IfOk result (λ p. IsLasting (manifest_meaning (λ m. m) manifest.old)
-            (option_map handed_of workspace.entry) (manifest_meaning (λ m. m) p.0.now)) }
-        ensures wrapped { IfErr result (IsRefusedBy (manifest_meaning (λ m. m) manifest.old)
-            (option_map handed_of workspace.entry)
-            (λ hint. heard Fs.Roots.ARE_READ (Fs.root_for fs hint))
+            (roots_of Fs.Roots.ARE_READ (Fs.root_for fs))
             (MayLose Fs.Roots.ARE_READ (Fs.may_refuse_root fs)) (Fs.may_refuse fs)) }
         ensures resolved { IfOk result
             (λ p. (keep : Text → Bool) → Tells F.Fn (filter_of self.now) keep
@@ -145,8 +130,9 @@ impl<'config, F: Fn(&str) -> bool, S: BuildHasher + Clone + Drop> Resolver<'conf
         self.resolved(shared(manifest), completed, alloc)
     }
 
-    // The completed manifest, with what its features resolve to; a refusal of
-    // completion stands for both.
+    // The completed manifest, with what its features resolve to; a refusal of completion stands for
+    // both. It is handed in, since `complete_and_parse` may have no branch: its proof by hand walks
+    // through each.
     fn resolved<'m, M>(
         &self,
         manifest: &'m Manifest<M>,

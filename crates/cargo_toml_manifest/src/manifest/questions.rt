@@ -2,7 +2,7 @@
 ghost use Rattle.std.specs.Prelude.{◌≡◌, IsSome, Some};
 ghost use Rattle.cargo_toml_parts.specs.InheritableValues.{value_of};
 ghost use Rattle.cargo_toml_manifest.specs.Inheriting.{needs};
-ghost use Rattle.cargo_toml_manifest.specs.Manifests.{manifest_meaning};
+ghost use Rattle.cargo_toml_manifest.specs.Manifests.{held};
 
 use super::Manifest;
 use cargo_toml_dependencies::inheriting::{any_inherited, any_target_inherits};
@@ -44,7 +44,7 @@ impl<Metadata> Manifest<Metadata> {
     /// dependency of one of the three tables or of a target's three. Where nothing is, every getter
     /// of the manifest's package and `lints` may be called.
     pub fn needs_workspace_inheritance(&self) -> bool
-        ensures { result ≡ needs (manifest_meaning (λ m. m) self.now) }
+        ensures { result ≡ needs (held self.now) }
     {
         let package_needs = match &self.package {
             Some(package) => any_field_inherited(package),

@@ -18,7 +18,7 @@ returns-in_default-clause-answer g c =
     sym c.get.ensures.value ∙ ap option_copied c.in_default.is in
     record {
       completed = m;
-      given = c.in_ok-_completed.ensures.given;
+      given = c.in_ok-_completed.ensures.completed.given;
       resolved = resolved;
       parsed = parsed_at m (λ _. false) resolved made.limit
           (c.in_ok-_completed.ensures.resolved (λ _. false) tells);
@@ -36,7 +36,7 @@ returns-clause-answer g c =
     sym c.get.ensures.value ∙ ap option_copied c.in-Some.is in
     record {
       completed = m;
-      given = c.in_ok-_completed.ensures.given;
+      given = c.in_ok-_completed.ensures.completed.given;
       resolved = resolved;
       parsed = parsed_at m (λ _. false) resolved made.limit
           (c.in_ok-_completed.ensures.resolved (λ _. false) tells);

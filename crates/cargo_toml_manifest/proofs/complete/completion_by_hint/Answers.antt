@@ -1,7 +1,7 @@
 use Rattle.std.proofs.lemmas.Result.{IfErr-weaker, IfOk-weaker}
 use Rattle.cargo_toml_manifest.specs.Choosing.{hint_of}
-use Rattle.cargo_toml_manifest.specs.Installing.{completed}
-use Rattle.cargo_toml_manifest.specs.Manifests.{manifest_meaning}
+use Rattle.cargo_toml_manifest.specs.Installing.{with_completion}
+use Rattle.cargo_toml_manifest.specs.Manifests.{held}
 use Rattle.cargo_toml_manifest.specs.Refusing.{MayLose}
 use Rattle.cargo_toml_manifest.specs.Told.{heard}
 use Rattle.cargo_toml_manifest.proofs.Causes.{refused_by_root, refused_lost}
@@ -10,36 +10,36 @@ use Rattle.cargo_toml_manifest.proofs.complete.completion_by_hint.Goals as goal
 
 pub returns-in-Ok-clause-outcome : goal.returns-in-Ok-clause-outcome
 returns-in-Ok-clause-outcome g c =
-    let m = manifest_meaning (λ m. m) c.args.manifest.now in
+    let m = held c.args.manifest.now in
     let told = heard g.Fs.Roots.Roots.ARE_READ (g.Fs.AbstractFilesystem.root_for c.args.fs.now (hint_of m)) in
     let a = rw c.hint_of-hint.ensures at c.in-Ok.ensures.answers in
     let h = rw (c.as_ref.ensures.value, c.as_str.ensures.value) at c.completion_at.ensures.outcome in
-    root_found (completed m) m told (g.Fs.AbstractFilesystem.names_at c.args.fs.now) (c.in-Ok.found, c.in-Ok.path)
+    root_found (with_completion m) m told (g.Fs.AbstractFilesystem.names_at c.args.fs.now) (c.in-Ok.found, c.in-Ok.path)
     c.completion_at.result a h
 
 pub returns-in-Ok-clause-given : goal.returns-in-Ok-clause-given
 returns-in-Ok-clause-given g c =
-    let m = manifest_meaning (λ m. m) c.args.manifest.now in
+    let m = held c.args.manifest.now in
     let told = heard g.Fs.Roots.Roots.ARE_READ (g.Fs.AbstractFilesystem.root_for c.args.fs.now (hint_of m)) in
     let a = rw c.hint_of-hint.ensures at c.in-Ok.ensures.answers in
     let h = rw (c.as_ref.ensures.value, c.as_str.ensures.value) at c.completion_at.ensures.given in
     IfOk-weaker c.completion_at.result _ _
     (λ new e.
-    given_by_root m (completed m new) told (g.Fs.AbstractFilesystem.names_at c.args.fs.now)
+    given_by_root m (with_completion m new) told (g.Fs.AbstractFilesystem.names_at c.args.fs.now)
     (c.in-Ok.found, c.in-Ok.path) a e)
     h
 
 pub returns-in-Err-clause-outcome : goal.returns-in-Err-clause-outcome
 returns-in-Err-clause-outcome g c =
-    let m = manifest_meaning (λ m. m) c.args.manifest.now in
+    let m = held c.args.manifest.now in
     let told = heard g.Fs.Roots.Roots.ARE_READ (g.Fs.AbstractFilesystem.root_for c.args.fs.now (hint_of m)) in
     let a = rw c.hint_of-hint.ensures at c.in-Err.ensures.answers in
     let w = rw c.hint_of-hint.ensures at c.wrapped.ensures in
-    root_refused (completed m) m told (g.Fs.AbstractFilesystem.names_at c.args.fs.now) c.in-Err.fault c.wrapped.result a w
+    root_refused (with_completion m) m told (g.Fs.AbstractFilesystem.names_at c.args.fs.now) c.in-Err.fault c.wrapped.result a w
 
 pub returns-in-Ok-clause-wrapped : goal.returns-in-Ok-clause-wrapped
 returns-in-Ok-clause-wrapped g c =
-    let m = manifest_meaning (λ m. m) c.args.manifest.now in
+    let m = held c.args.manifest.now in
     let told = heard g.Fs.Roots.Roots.ARE_READ (g.Fs.AbstractFilesystem.root_for c.args.fs.now (hint_of m)) in
     let roots = MayLose g.Fs.Roots.Roots.ARE_READ (g.Fs.AbstractFilesystem.may_refuse_root c.args.fs.now) in
     let names = g.Fs.AbstractFilesystem.may_refuse c.args.fs.now in
@@ -49,7 +49,7 @@ returns-in-Ok-clause-wrapped g c =
 
 pub returns-in-Err-clause-wrapped : goal.returns-in-Err-clause-wrapped
 returns-in-Err-clause-wrapped g c =
-    let m = manifest_meaning (λ m. m) c.args.manifest.now in
+    let m = held c.args.manifest.now in
     let told = heard g.Fs.Roots.Roots.ARE_READ (g.Fs.AbstractFilesystem.root_for c.args.fs.now (hint_of m)) in
     let roots = MayLose g.Fs.Roots.Roots.ARE_READ (g.Fs.AbstractFilesystem.may_refuse_root c.args.fs.now) in
     let names = g.Fs.AbstractFilesystem.may_refuse c.args.fs.now in

@@ -1,11 +1,13 @@
-use Rattle.std.proofs.Common.{ap, sym, ◌∙◌, Ok}
+use Rattle.std.proofs.Common.{◌≡◌, ap, sym, ◌∙◌, subst, None, IfOk}
 use Rattle.std.specs.Prelude.{option_map}
 use Rattle.std.proofs.lemmas.Result.{IfErr-weaker, IfOk-weaker}
-use Rattle.cargo_toml_manifest.specs.Choosing.{RootsTold}
-use Rattle.cargo_toml_manifest.specs.Installing.{completed}
-use Rattle.cargo_toml_manifest.specs.Manifests.{manifest_meaning}
+use Rattle.cargo_toml_discovery.specs.Answers.{Answers, filled}
+use Rattle.cargo_toml_manifest.specs.Choosing.{RootsTold, roots_of}
+use Rattle.cargo_toml_manifest.specs.Completing.{Meets, gives, seen_at}
+use Rattle.cargo_toml_manifest.specs.Finding.{found_around}
+use Rattle.cargo_toml_manifest.specs.Installing.{with_completion}
+use Rattle.cargo_toml_manifest.specs.Manifests.{ManifestMeaning, held}
 use Rattle.cargo_toml_manifest.specs.Refusing.{MayLose}
-use Rattle.cargo_toml_manifest.specs.Told.{heard}
 use Rattle.cargo_toml_manifest.specs.Workspaces.{workspace_meaning}
 use Rattle.cargo_toml_manifest.proofs.Causes.{refused_alone, refused_by_hint, refused_by_table}
 use Rattle.cargo_toml_manifest.proofs.Meeting.{given_alone, given_by_hint, given_by_table, met_alone}
@@ -14,29 +16,29 @@ use Rattle.cargo_toml_manifest.proofs.complete.own_completion.Goals as goal
 
 pub returns-in-Some-clause-given : goal.returns-in-Some-clause-given
 returns-in-Some-clause-given g c =
-    let m = manifest_meaning (λ m. m) c.args.manifest.now in
-    let roots : RootsTold = λ hint. heard g.Fs.Roots.Roots.ARE_READ (g.Fs.AbstractFilesystem.root_for c.args.fs.now hint) in
+    let m = held c.args.manifest.now in
+    let roots : RootsTold = roots_of g.Fs.Roots.Roots.ARE_READ (g.Fs.AbstractFilesystem.root_for c.args.fs.now) in
     let table = ap (option_map (workspace_meaning (λ x. x))) c.in-Some.is in
     IfOk-weaker c.completion_at.result _ _
     (λ new e.
-    given_by_table m (completed m new) roots (g.Fs.AbstractFilesystem.names_at c.args.fs.now)
+    given_by_table m (with_completion m new) roots (g.Fs.AbstractFilesystem.names_at c.args.fs.now)
     (workspace_meaning (λ x. x) c.in-Some.workspace) table e)
     c.completion_at.ensures.given
 
 pub returns-then-needs_workspace_inheritance-clause-given : goal.returns-then-needs_workspace_inheritance-clause-given
 returns-then-needs_workspace_inheritance-clause-given g c =
-    let m = manifest_meaning (λ m. m) c.args.manifest.now in
-    let roots : RootsTold = λ hint. heard g.Fs.Roots.Roots.ARE_READ (g.Fs.AbstractFilesystem.root_for c.args.fs.now hint) in
+    let m = held c.args.manifest.now in
+    let roots : RootsTold = roots_of g.Fs.Roots.Roots.ARE_READ (g.Fs.AbstractFilesystem.root_for c.args.fs.now) in
     let table = ap (option_map (workspace_meaning (λ x. x))) c.in-None.is in
     let needed = sym c.needs_workspace_inheritance.ensures ∙ c.if-needs_workspace_inheritance.true in
     IfOk-weaker c.completion_by_hint.result _ _
-    (λ new e. given_by_hint m (completed m new) roots (g.Fs.AbstractFilesystem.names_at c.args.fs.now) table needed e)
+    (λ new e. given_by_hint m (with_completion m new) roots (g.Fs.AbstractFilesystem.names_at c.args.fs.now) table needed e)
     c.completion_by_hint.ensures.given
 
 pub returns-else-needs_workspace_inheritance-clause-outcome : goal.returns-else-needs_workspace_inheritance-clause-outcome
 returns-else-needs_workspace_inheritance-clause-outcome g c =
-    let m = manifest_meaning (λ m. m) c.args.manifest.now in
-    let roots : RootsTold = λ hint. heard g.Fs.Roots.Roots.ARE_READ (g.Fs.AbstractFilesystem.root_for c.args.fs.now hint) in
+    let m = held c.args.manifest.now in
+    let roots : RootsTold = roots_of g.Fs.Roots.Roots.ARE_READ (g.Fs.AbstractFilesystem.root_for c.args.fs.now) in
     let table = ap (option_map (workspace_meaning (λ x. x))) c.in-None.is in
     let needed = sym c.needs_workspace_inheritance.ensures ∙ c.if-needs_workspace_inheritance.false in
     let none = c.no_parts.ensures in
@@ -48,13 +50,14 @@ returns-else-needs_workspace_inheritance-clause-outcome g c =
       lints = none.lints;
       fields = none.fields;
     }) in
-    met_alone (completed m) m roots (g.Fs.AbstractFilesystem.names_at c.args.fs.now) c.completion.result table needed
-    (c.completion.ensures.outcome (Ok m) (ap (λ n. Ok n) (sym same)))
+    met_alone (with_completion m) m roots (g.Fs.AbstractFilesystem.names_at c.args.fs.now) c.completion.result table needed
+    (subst (λ (n : ManifestMeaning _). Meets (with_completion m) (seen_at None (found_around n (g.Fs.AbstractFilesystem.names_at c.args.fs.now))) c.completion.result)
+    same c.completion.ensures.outcome)
 
 pub returns-else-needs_workspace_inheritance-clause-given : goal.returns-else-needs_workspace_inheritance-clause-given
 returns-else-needs_workspace_inheritance-clause-given g c =
-    let m = manifest_meaning (λ m. m) c.args.manifest.now in
-    let roots : RootsTold = λ hint. heard g.Fs.Roots.Roots.ARE_READ (g.Fs.AbstractFilesystem.root_for c.args.fs.now hint) in
+    let m = held c.args.manifest.now in
+    let roots : RootsTold = roots_of g.Fs.Roots.Roots.ARE_READ (g.Fs.AbstractFilesystem.root_for c.args.fs.now) in
     let table = ap (option_map (workspace_meaning (λ x. x))) c.in-None.is in
     let needed = sym c.needs_workspace_inheritance.ensures ∙ c.if-needs_workspace_inheritance.false in
     let none = c.no_parts.ensures in
@@ -67,13 +70,17 @@ returns-else-needs_workspace_inheritance-clause-given g c =
       fields = none.fields;
     }) in
     IfOk-weaker c.completion.result _ _
-    (λ new e. given_alone m (completed m new) roots (g.Fs.AbstractFilesystem.names_at c.args.fs.now) table needed e)
-    (c.completion.ensures.given (Ok m) (ap (λ n. Ok n) (sym same)))
+    (λ new e. given_alone m (with_completion m new) roots (g.Fs.AbstractFilesystem.names_at c.args.fs.now) table needed e)
+    (subst
+    (λ (n : ManifestMeaning _).
+    IfOk c.completion.result (λ new. (answers : Answers)
+    × (seen_at None (found_around n (filled (g.Fs.AbstractFilesystem.names_at c.args.fs.now) answers)) ≡ gives (with_completion m new))))
+    same c.completion.ensures.given)
 
 pub returns-in-Some-clause-wrapped : goal.returns-in-Some-clause-wrapped
 returns-in-Some-clause-wrapped g c =
-    let m = manifest_meaning (λ m. m) c.args.manifest.now in
-    let told : RootsTold = λ hint. heard g.Fs.Roots.Roots.ARE_READ (g.Fs.AbstractFilesystem.root_for c.args.fs.now hint) in
+    let m = held c.args.manifest.now in
+    let told : RootsTold = roots_of g.Fs.Roots.Roots.ARE_READ (g.Fs.AbstractFilesystem.root_for c.args.fs.now) in
     let roots = MayLose g.Fs.Roots.Roots.ARE_READ (g.Fs.AbstractFilesystem.may_refuse_root c.args.fs.now) in
     let names = g.Fs.AbstractFilesystem.may_refuse c.args.fs.now in
     let table = ap (option_map (workspace_meaning (λ x. x))) c.in-Some.is in
@@ -83,8 +90,8 @@ returns-in-Some-clause-wrapped g c =
 
 pub returns-then-needs_workspace_inheritance-clause-wrapped : goal.returns-then-needs_workspace_inheritance-clause-wrapped
 returns-then-needs_workspace_inheritance-clause-wrapped g c =
-    let m = manifest_meaning (λ m. m) c.args.manifest.now in
-    let told : RootsTold = λ hint. heard g.Fs.Roots.Roots.ARE_READ (g.Fs.AbstractFilesystem.root_for c.args.fs.now hint) in
+    let m = held c.args.manifest.now in
+    let told : RootsTold = roots_of g.Fs.Roots.Roots.ARE_READ (g.Fs.AbstractFilesystem.root_for c.args.fs.now) in
     let roots = MayLose g.Fs.Roots.Roots.ARE_READ (g.Fs.AbstractFilesystem.may_refuse_root c.args.fs.now) in
     let names = g.Fs.AbstractFilesystem.may_refuse c.args.fs.now in
     let table = ap (option_map (workspace_meaning (λ x. x))) c.in-None.is in
@@ -95,20 +102,11 @@ returns-then-needs_workspace_inheritance-clause-wrapped g c =
 
 pub returns-else-needs_workspace_inheritance-clause-wrapped : goal.returns-else-needs_workspace_inheritance-clause-wrapped
 returns-else-needs_workspace_inheritance-clause-wrapped g c =
-    let m = manifest_meaning (λ m. m) c.args.manifest.now in
-    let told : RootsTold = λ hint. heard g.Fs.Roots.Roots.ARE_READ (g.Fs.AbstractFilesystem.root_for c.args.fs.now hint) in
+    let m = held c.args.manifest.now in
+    let told : RootsTold = roots_of g.Fs.Roots.Roots.ARE_READ (g.Fs.AbstractFilesystem.root_for c.args.fs.now) in
     let roots = MayLose g.Fs.Roots.Roots.ARE_READ (g.Fs.AbstractFilesystem.may_refuse_root c.args.fs.now) in
     let names = g.Fs.AbstractFilesystem.may_refuse c.args.fs.now in
     let table = ap (option_map (workspace_meaning (λ x. x))) c.in-None.is in
     let needed = sym c.needs_workspace_inheritance.ensures ∙ c.if-needs_workspace_inheritance.false in
-    let none = c.no_parts.ensures in
-    let same = installed-none m c.no_parts.result (record {
-      dependencies = none.tables.0;
-      build_dependencies = none.tables.1.0;
-      dev_dependencies = none.tables.1.1;
-      targets = none.targets;
-      lints = none.lints;
-      fields = none.fields;
-    }) in
     IfErr-weaker c.completion.result _ _ (λ e w. refused_alone m roots names e told table needed w)
-    (c.completion.ensures.wrapped (Ok m) (ap (λ n. Ok n) (sym same)))
+    c.completion.ensures.wrapped

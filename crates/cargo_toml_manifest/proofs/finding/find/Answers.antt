@@ -4,25 +4,25 @@ use Rattle.std.proofs.lemmas.Result.{err_from_is_err_and}
 use Rattle.cargo_toml_discovery.specs.Answers.{answers_of, filled}
 use Rattle.cargo_toml_package.specs.Packages.{package_meaning}
 use Rattle.cargo_toml_manifest.specs.Installing.{installed}
-use Rattle.cargo_toml_manifest.specs.Manifests.{manifest_meaning}
+use Rattle.cargo_toml_manifest.specs.Manifests.{held}
 use Rattle.cargo_toml_manifest.proofs.FoundAround.{found_nothing, parts_faults, parts_seen, seen_or_unclear}
 use Rattle.cargo_toml_manifest.proofs.finding.find.Goals as goal
 
 pub returns-in_default-clause-answered : goal.returns-in_default-clause-answered
 returns-in_default-clause-answered g c =
-    let m = manifest_meaning (λ m. m) c.args.manifest.now in
+    let m = held c.args.manifest.now in
     let none = ap (option_map (package_meaning (λ m. m))) c.in_default.is in
     ([], found_nothing m c.args.parts.now none (filled (g.Fs.AbstractFilesystem.names_at c.args.fs.now) []))
 
 pub returns-in_default-clause-told : goal.returns-in_default-clause-told
 returns-in_default-clause-told g c =
-    let m = manifest_meaning (λ m. m) c.args.manifest.now in
+    let m = held c.args.manifest.now in
     let none = ap (option_map (package_meaning (λ m. m))) c.in_default.is in
     inr (found_nothing m c.args.parts.now none (g.Fs.AbstractFilesystem.names_at c.args.fs.now))
 
 pub returns-in_err-listings-clause-faults : goal.returns-in_err-listings-clause-faults
 returns-in_err-listings-clause-faults g c =
-    let m = manifest_meaning (λ m. m) c.args.manifest.now in
+    let m = held c.args.manifest.now in
     let p = package_meaning (λ m. m) c.in-Some.package in
     let is = ap (option_map (package_meaning (λ m. m))) c.in-Some.is in
     let r = err_from_is_err_and c.from_residual.result c.from_residual.ensures.1 in
@@ -32,7 +32,7 @@ returns-in_err-listings-clause-faults g c =
 
 pub returns-clause-answered : goal.returns-clause-answered
 returns-clause-answered g c =
-    let m = manifest_meaning (λ m. m) c.args.manifest.now in
+    let m = held c.args.manifest.now in
     let p = package_meaning (λ m. m) c.in-Some.package in
     let is = ap (option_map (package_meaning (λ m. m))) c.in-Some.is in
     let answers = answers_of c.in_ok-listings.listings in
@@ -44,6 +44,6 @@ returns-clause-answered g c =
 
 pub returns-clause-told : goal.returns-clause-told
 returns-clause-told g c =
-    let m = manifest_meaning (λ m. m) c.args.manifest.now in
+    let m = held c.args.manifest.now in
     let answered = returns-clause-answered g c in
     seen_or_unclear (installed m c.args.parts.now) _ (g.Fs.AbstractFilesystem.names_at c.args.fs.now) answered.0 answered.1

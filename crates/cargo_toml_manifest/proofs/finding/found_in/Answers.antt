@@ -7,13 +7,13 @@ use Rattle.cargo_toml_discovery.specs.declared.discovery.Stated.{Stated}
 use Rattle.cargo_toml_package.specs.Packages.{package_meaning}
 use Rattle.cargo_toml_settings.specs.Settings.{file_meaning}
 use Rattle.cargo_toml_tables.specs.Products.{product_meaning}
-use Rattle.cargo_toml_manifest.specs.Manifests.{manifest_meaning}
+use Rattle.cargo_toml_manifest.specs.Manifests.{held}
 use Rattle.cargo_toml_manifest.proofs.StatedBy.{stated_so}
 use Rattle.cargo_toml_manifest.proofs.finding.found_in.Goals as goal
 
 pub returns : goal.returns
 returns g c =
-    let m = manifest_meaning (λ m. m) c.args.manifest.now in
+    let m = held c.args.manifest.now in
     let p = package_meaning (λ m. m) c.args.package.now in
     let s : Stated = record {
       name = c.as_str.result;

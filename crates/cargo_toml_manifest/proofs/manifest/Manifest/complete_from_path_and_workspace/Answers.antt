@@ -2,7 +2,7 @@ use Rattle.std.proofs.Common.{sym, false}
 use Rattle.std.specs.Prelude.{option_map}
 use Rattle.std.specs.Path.{path_parent}
 use Rattle.cargo_toml_manifest.specs.Choosing.{handed_of}
-use Rattle.cargo_toml_manifest.specs.Manifests.{manifest_meaning}
+use Rattle.cargo_toml_manifest.specs.Manifests.{held}
 use Rattle.cargo_toml_manifest.specs.RealFiles.{real_listings, real_losses, real_roots, folder_of}
 use Rattle.cargo_toml_manifest.specs.Refusing.{MayLose}
 use Rattle.cargo_toml_manifest.proofs.PathFaults.{around_path, no_bad_path}
@@ -10,12 +10,12 @@ use Rattle.cargo_toml_manifest.proofs.manifest.Manifest.complete_from_path_and_w
 
 pub returns-clause-bad_path : goal.returns-clause-bad_path
 returns-clause-bad_path g c =
-    no_bad_path (manifest_meaning (λ m. m) c.args.self.now) (option_map handed_of c.args.workspace) real_roots
+    no_bad_path (held c.args.self.now) (option_map handed_of c.args.workspace) real_roots
     (MayLose false (real_losses (folder_of c.new.result))) real_listings (path_parent c.args.path.now) c.in-Some.folder.now
     c.complete_from_abstract_filesystem.result (sym c.in-Some.ensures) c.complete_from_abstract_filesystem.ensures.wrapped
 
 pub returns-clause-refused : goal.returns-clause-refused
 returns-clause-refused g c =
-    around_path c.args.path.now c.in-Some.folder.now (folder_of c.new.result) (manifest_meaning (λ m. m) c.args.self.now)
+    around_path c.args.path.now c.in-Some.folder.now (folder_of c.new.result) (held c.args.self.now)
     (option_map handed_of c.args.workspace) c.complete_from_abstract_filesystem.result (sym c.in-Some.ensures) c.new.ensures
     c.complete_from_abstract_filesystem.ensures.wrapped

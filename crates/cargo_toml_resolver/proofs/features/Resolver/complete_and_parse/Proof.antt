@@ -40,7 +40,7 @@ use denote.Triple.Spec.{triple_of}
 use denote.Triple.Table.{framed}
 use denote.Triple.Walked.{Stays, stay_dropped, walk_of, Goes-dropped}
 use denote.Builtin.{unit}
-use Rattle.std.specs.Prelude.{OnErr, OnOk, IfErr, IfOk, Err, Bool, false, IfSome, option_map}
+use Rattle.std.specs.Prelude.{OnErr, OnOk, IfErr, IfOk, Err, Bool, option_map}
 use Rattle.std.specs.contracts.result.Result as Result
 use Rattle.std.proofs.result.Result.TheLaws.{the_row_laws as result_laws}
 use Rattle.cargo_toml_features.proofs.features.Features.TheLaws as Features-laws
@@ -71,13 +71,11 @@ use Rattle.cargo_toml_resolver.proofs.features.Resolver.complete_and_parse.State
 use Rattle.cargo_toml_resolver.proofs.features.Resolver.complete_and_parse.Code as code
 use Rattle.cargo_toml_graph.specs.Action.{Text}
 use Rattle.cargo_toml_hidden.specs.Filter.{HasNameFilter, Tells}
-use Rattle.cargo_toml_manifest.specs.Choosing.{handed_of, RootsTold}
-use Rattle.cargo_toml_manifest.specs.Manifests.{ManifestMeaning, manifest_meaning}
-use Rattle.cargo_toml_manifest.specs.Told.{heard as heard_of}
-use Rattle.cargo_toml_manifest.specs.Completing.{GivenBy, IsLasting, Meets, complete}
+use Rattle.cargo_toml_manifest.specs.Choosing.{handed_of, roots_of, RootsTold}
+use Rattle.cargo_toml_manifest.specs.Manifests.{ManifestMeaning, held, manifest_meaning}
+use Rattle.cargo_toml_manifest.specs.Completed.{IsCompleted}
+use Rattle.cargo_toml_manifest.specs.Completing.{Meets, complete}
 use Rattle.cargo_toml_manifest.specs.Refusing.{IsRefusedBy, MayLose}
-use Rattle.cargo_toml_manifest.specs.Inheriting.{needs}
-use Rattle.cargo_toml_package.specs.Filled.{IsFilled}
 use Rattle.cargo_toml_resolver.specs.Filtered.{filter_of, limit_of}
 use Rattle.cargo_toml_resolver.specs.Parsed.{IsParsed}
 use Rattle.cargo_toml_features.specs.FirstTarget.{HaveTargets}
@@ -108,8 +106,8 @@ complete_and_parse_spec 𝓤 𝓛 𝓜 𝓡 wired F S I X N P Q LF LS LI LX LN L
     let κ11 = κs.1.1.1.1.1.1.1.1.1.1.1.0 in let q11 = qs.1.1.1.1.1.1.1.1.1.1.1.0 in let t11 : Item 𝓤 = ‵ (flft κ11 q11) in
     let Post = (walk_of 𝓛 T hs cl).post z in let Run = λ (ws : List Val). WpFn 𝓤 H 𝓣.C 𝓣.Λ fn ws Post in
     let r = a.0 in let m = a.1.1.0 in let b = m.ref_ptr.0 in let o = m.ref_ptr.1 in let γ = m.ghost_name in let MR = Manifest.the_row (param 3 X) in
-    let old = m.now in let meaning : MR.Denot → ManifestMeaning X.Denot = manifest_meaning (λ m. m) in
-    let handed = option_map handed_of a.1.1.1.1.0 in let roots : RootsTold = λ hint. heard_of q.ARE_READ (p.root_for a.1.1.1.0 hint) in let told : Text → Told = p.names_at a.1.1.1.0 in
+    let old = m.now in let meaning : MR.Denot → ManifestMeaning X.Denot = held in
+    let handed = option_map handed_of a.1.1.1.1.0 in let roots : RootsTold = roots_of q.ARE_READ (p.root_for a.1.1.1.0) in let told : Text → Told = p.names_at a.1.1.1.0 in
     let Why : Error.the_row.Denot → Type 0 = IsRefusedBy (meaning old) handed roots (MayLose q.ARE_READ (p.may_refuse_root a.1.1.1.0)) (p.may_refuse a.1.1.1.0) in
     let e0 = shr_Tells (named 0) κ0 (Resolver.the_row (named_lft 12 1 tt κs) (param 0 F) (param 1 S)) r us.0 are.0 in let e2 = mut_Tells (named 2) κ2 MR m us.1.1.0 are.1.1.0 in
     let s1 = single 𝓛 (row_at 1 Rs) Global-laws.the_row_laws a.1.0 us.1.0 are.1.0 in let s3 = single 𝓛 (row_at 3 Rs) (param_laws 5 P LP) a.1.1.1.0 us.1.1.1.0 are.1.1.1.0 in
@@ -166,11 +164,11 @@ complete_and_parse_spec 𝓤 𝓛 𝓜 𝓡 wired F S I X N P Q LF LS LI LX LN L
     (and_then ! (get ! refl) (and_then ! (get ! refl) (and_then ! (get ! refl) (and_then ! (get ! refl) (no_more !))))) (λ v6.
     let Done = Result.the_row unit Error.the_row in let LD = result_laws unit Error.the_row (of_field unit-field unit-laws refl (copy_shared unit-field unit-copy)) Error-laws.the_row_laws in
     use1 𝓛 (later (some (λ (d : Done.Denot). ((‵ (flft α s) ⊛ t3 ⊛ t4 ⊛ ‵ (flft κ8 (Share.right q8)) ⊛ t9 ⊛ t10 ⊛ t11 ⊛ ‵ ftrue) ⊛ ‵ (Done.own_val d (v6 ∷ []))) ⊛ some (λ (ws : Lasts E1 z1.0.0 z1.0.3). ‵ (lasts E1 z1.0.0 z1.0.3 ws) ⊛
-    raw (fact 𝓤 (Meets (λ (_ : Unit {0}). meaning ws.0) (complete (meaning old) handed roots told) d)) ⊛ raw (fact 𝓤 (OnErr d (ws.0 ≡ old))) ⊛ raw (fact 𝓤 (OnOk d (GivenBy (meaning old) handed roots told (meaning ws.0)))) ⊛
-    raw (fact 𝓤 (OnOk d (needs (meaning ws.0) ≡ false))) ⊛ raw (fact 𝓤 (OnOk d (IfSome ws.0.«package» IsFilled))) ⊛ raw (fact 𝓤 (OnOk d (IsLasting (meaning old) handed (meaning ws.0)))) ⊛ raw (fact 𝓤 (IfErr d Why)))))) (id⊢ 𝓤 _) $
+    raw (fact 𝓤 (Meets (λ (_ : Unit {0}). meaning ws.0) (complete (meaning old) handed roots told) d)) ⊛ raw (fact 𝓤 (OnErr d (ws.0 ≡ old))) ⊛
+    raw (fact 𝓤 (OnOk d (IsCompleted old handed roots told ws.0))) ⊛ raw (fact 𝓤 (IfErr d Why)))))) (id⊢ 𝓤 _) $
     await ! tt $ pick ! (λ d. split ! $ split ! $ move ! (2 ∷ []) $ pick ! (λ ws. let new = ws.0 in split ! $ move ! (1 ∷ []) $
-    split ! $ heard ! _ (λ outcome. split ! $ heard ! _ (λ unchanged. split ! $ heard ! _ (λ given. split ! $ heard ! _ (λ needs_nothing. split ! $ heard ! _ (λ filled. split ! $ heard ! _ (λ again. heard ! _ (λ wrapped.
-    let done : Completing old new handed roots told Why d = record { outcome = outcome; unchanged = unchanged; given = given; needs_nothing = needs_nothing; filled = filled; again = again; wrapped = wrapped } in
+    split ! $ heard ! _ (λ outcome. split ! $ heard ! _ (λ unchanged. split ! $ heard ! _ (λ completed. heard ! _ (λ wrapped.
+    let done : Completing old new handed roots told Why d = record { outcome = outcome; unchanged = unchanged; completed = completed; wrapped = wrapped } in
     -- [the last values; the tokens; the answer; what the lender keeps; the way back; self; alloc; the tokens of 0, 1, 5, 6 and 7]
     fsplit ! $ fsplit ! $ move ! (1 ∷ 2 ∷ []) $ drop ! $ drop ! $ move ! (1 ∷ []) $
     split ! $ move ! (1 ∷ []) $ split ! $ move ! (1 ∷ []) $ split ! $ move ! (1 ∷ []) $ split ! $ move ! (1 ∷ []) $ split ! $ move ! (1 ∷ []) $ split ! $ move ! (1 ∷ []) $ split ! $ move ! (1 ∷ []) $ drop ! $
@@ -226,14 +224,11 @@ complete_and_parse_spec 𝓤 𝓛 𝓜 𝓡 wired F S I X N P Q LF LS LI LX LN L
     move ! (2 ∷ []) $ use1 𝓛 (‵ (IsLentAfter (param 3 X) m handed roots told y)) (rests_so 𝓛 MR γ (λ left. left ≡ l.now) (IsLeftAfter old handed roots told y) (left_after old new handed roots told d l y done after)) $
     use0 𝓛 (raw (fact 𝓤 (Targets y))) (fact_i 𝓤 _ (emp 𝓤) targets) $ use0 𝓛 (raw (fact 𝓤 (Keyed y))) (fact_i 𝓤 _ (emp 𝓤) keyed) $ join ! $ use0 𝓛 (raw (fact 𝓤 (Parsed y))) (fact_i 𝓤 _ (emp 𝓤) parsed) $ join ! $
     use0 𝓛 (raw (fact 𝓤 (IfErr y Why))) (fact_i 𝓤 _ (emp 𝓤) (wrapped_after old new handed roots told d l y (λ e memory. inl memory) done after)) $ join ! $
-    use0 𝓛 (raw (fact 𝓤 (IfOk y (λ w. IsLasting (meaning old) handed (meaning w.0.now))))) (fact_i 𝓤 _ (emp 𝓤) (lent_after (λ x. IsLasting (meaning old) handed (meaning x)) new d l y done.again after)) $ join ! $
-    use0 𝓛 (raw (fact 𝓤 (IfOk y (λ w. IfSome w.0.now.«package» IsFilled)))) (fact_i 𝓤 _ (emp 𝓤) (lent_after (λ x. IfSome x.«package» IsFilled) new d l y done.filled after)) $ join ! $
-    use0 𝓛 (raw (fact 𝓤 (IfOk y (λ w. needs (meaning w.0.now) ≡ false)))) (fact_i 𝓤 _ (emp 𝓤) (lent_after (λ x. needs (meaning x) ≡ false) new d l y done.needs_nothing after)) $ join ! $
-    use0 𝓛 (raw (fact 𝓤 (IfOk y (λ w. GivenBy (meaning old) handed roots told (meaning w.0.now))))) (fact_i 𝓤 _ (emp 𝓤) (lent_after (λ x. GivenBy (meaning old) handed roots told (meaning x)) new d l y done.given after)) $ join ! $
+    use0 𝓛 (raw (fact 𝓤 (IfOk y (λ w. IsCompleted old handed roots told w.0.now)))) (fact_i 𝓤 _ (emp 𝓤) (lent_after (λ x. IsCompleted old handed roots told x) new d l y done.completed after)) $ join ! $
     use0 𝓛 (raw (fact 𝓤 (Meets (λ w. meaning w.0.now) (complete (meaning old) handed roots told) y))) (fact_i 𝓤 _ (emp 𝓤) (outcome_after old new handed roots told d l y done after)) $ join ! $ move ! (1 ∷ 0 ∷ []) $ join ! $
     nothing ! $ nothing ! $ join ! $ nothing ! $ join ! $ nothing ! $ join ! $ nothing ! $ join ! $ nothing ! $ join ! $ move ! (3 ∷ []) $
     split ! $ move ! (1 ∷ []) $ split ! $ move ! (1 ∷ []) $ split ! $ move ! (1 ∷ []) $ split ! $ move ! (1 ∷ []) $ split ! $ move ! (1 ∷ []) $ split ! $ move ! (1 ∷ []) $ split ! $
     -- [the token of 8; nothing; the tokens of 7, 6, 5, 2, 1 and 0; nothing for the parameters; what is ensured; the answer; the tokens of 11, 10, 9, 4 and 3]
     move ! (11 ∷ 1 ∷ []) $ join ! $ move ! (11 ∷ 0 ∷ []) $ join ! $ move ! (11 ∷ 0 ∷ []) $ join ! $ move ! (1 ∷ 0 ∷ []) $ join ! $ move ! (1 ∷ 0 ∷ []) $ join ! $ move ! (1 ∷ 0 ∷ []) $ join ! $ move ! (1 ∷ 0 ∷ []) $ join ! $ move ! (7 ∷ 0 ∷ []) $ join ! $ move ! (7 ∷ 0 ∷ []) $ join ! $
     move ! (1 ∷ 0 ∷ []) $ join ! $ move ! (1 ∷ 0 ∷ []) $ join ! $ move ! (1 ∷ 0 ∷ []) $ join ! $ move ! (0 ∷ 1 ∷ 3 ∷ 2 ∷ []) $
-    by ! (leaves 𝓛 T hs cl z v y (tt, (tt, (tt, (tt, (tt, tt))))) (tt, (tt, (tt, (tt, (tt, tt))))))))))))))))))))))))))))))))))))))))))))
+    by ! (leaves 𝓛 T hs cl z v y (tt, (tt, (tt, (tt, (tt, tt))))) (tt, (tt, (tt, (tt, (tt, tt)))))))))))))))))))))))))))))))))))))))))

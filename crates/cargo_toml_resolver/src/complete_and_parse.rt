@@ -1,21 +1,20 @@
 //! Completing a manifest, and resolving the features that it then has.
-ghost use Rattle.std.specs.Prelude.{◌≡◌, Bool, Err, IfErr, IfOk};
+ghost use Rattle.std.specs.Prelude.{◌≡◌, Err, IfErr, IfOk};
 ghost use Rattle.std.specs.Prelude.{IfSome, IsSome, OnOk, option_map};
 ghost use Rattle.std.specs.Borrow.{sem};
 ghost use Rattle.cargo_toml_parts.specs.declared.error.Error.{Memory};
-ghost use Rattle.cargo_toml_graph.specs.Action.{Text};
-ghost use Rattle.cargo_toml_hidden.specs.Filter.{HasNameFilter, Tells};
+ghost use Rattle.cargo_toml_hidden.specs.Filter.{HasNameFilter};
 ghost use Rattle.cargo_toml_manifest.specs.Choosing.{handed_of, roots_of};
 ghost use Rattle.cargo_toml_manifest.specs.Completed.{IsCompleted};
 ghost use Rattle.cargo_toml_manifest.specs.Completing.{Meets, complete};
-ghost use Rattle.cargo_toml_manifest.specs.Manifests.{held, manifest_meaning};
+ghost use Rattle.cargo_toml_manifest.specs.Manifests.{held};
 ghost use Rattle.cargo_toml_manifest.specs.Refusing.{IsRefusedBy, MayLose};
 ghost use Rattle.cargo_toml_features.specs.FirstTarget.{HaveTargets};
 ghost use Rattle.cargo_toml_features.specs.Reached.{IsKeyed};
 ghost use Rattle.cargo_toml_features.specs.Views.{answer_of};
 ghost use Rattle.cargo_toml_resolver.specs.Filtered.{filter_of, limit_of};
 ghost use Rattle.cargo_toml_resolver.specs.Lent.{IsLentAfter, IsLentAs, IsLentOn, with_lent};
-ghost use Rattle.cargo_toml_resolver.specs.Parsed.{IsParsed};
+ghost use Rattle.cargo_toml_resolver.specs.Parsed.{IsParsedBy};
 
 use crate::features::{Features, Resolver};
 use cargo_toml_manifest::{AbstractFilesystem, Manifest};
@@ -59,10 +58,9 @@ pub fn complete_and_parse_into<
         (held manifest.old) (option_map handed_of workspace.entry)
         (roots_of Fs.Roots.ARE_READ (Fs.root_for fs))
         (MayLose Fs.Roots.ARE_READ (Fs.may_refuse_root fs)) (Fs.may_refuse fs))) }
-    ensures resolved { IfSome (with_lent result slot.new) (λ r. IfOk r (λ p. (keep : Text → Bool)
-        → Tells F.Fn (filter_of resolver.now) keep
-        → IsParsed (limit_of resolver.now) (manifest_meaning (λ m. m) p.0.now) keep
-        (answer_of p.1))) }
+    ensures resolved { IfSome (with_lent result slot.new) (λ r. IfOk r (λ p.
+        IsParsedBy (limit_of resolver.now) (held p.0.now)
+        F.Fn (filter_of resolver.now) (answer_of p.1))) }
     ensures keyed { IfSome (with_lent result slot.new) (λ r. IfOk r (λ p. IsKeyed p.1.features)) }
     ensures targets { IfSome (with_lent result slot.new)
         (λ r. IfOk r (λ p. HaveTargets p.1.dependencies)) }
@@ -118,9 +116,8 @@ impl<'config, F: Fn(&str) -> bool, S: BuildHasher + Clone + Drop> Resolver<'conf
             (roots_of Fs.Roots.ARE_READ (Fs.root_for fs))
             (MayLose Fs.Roots.ARE_READ (Fs.may_refuse_root fs)) (Fs.may_refuse fs)) }
         ensures resolved { IfOk result
-            (λ p. (keep : Text → Bool) → Tells F.Fn (filter_of self.now) keep
-            → IsParsed (limit_of self.now) (manifest_meaning (λ m. m) p.0.now) keep
-            (answer_of p.1)) }
+            (λ p. IsParsedBy (limit_of self.now) (held p.0.now)
+            F.Fn (filter_of self.now) (answer_of p.1)) }
         ensures keyed { IfOk result (λ p. IsKeyed p.1.features) }
         ensures targets { IfOk result (λ p. HaveTargets p.1.dependencies) }
     {
@@ -144,9 +141,8 @@ impl<'config, F: Fn(&str) -> bool, S: BuildHasher + Clone + Drop> Resolver<'conf
         ensures memory { OnOk completed (IfErr result (λ e. e ≡ Memory)) }
         ensures lent { IfOk result (λ p. p.0 ≡ manifest.entry) }
         ensures resolved { IfOk result
-            (λ p. (keep : Text → Bool) → Tells F.Fn (filter_of self.now) keep
-            → IsParsed (limit_of self.now) (manifest_meaning (λ m. m) p.0.now) keep
-            (answer_of p.1)) }
+            (λ p. IsParsedBy (limit_of self.now) (held p.0.now)
+            F.Fn (filter_of self.now) (answer_of p.1)) }
         ensures keyed { IfOk result (λ p. IsKeyed p.1.features) }
         ensures targets { IfOk result (λ p. HaveTargets p.1.dependencies) }
     {

@@ -50,7 +50,7 @@ module _ (listed : Listed) (entries : List Entry) where
 
   module _ {F : Type 0} (g : Asked F) (filter : Option (Bor F)) (b : Answer) (details : Details) (own : Text → List Text) (h : IsAnswerBy g filter listed entries details own b) where
     -- the test that keeps what nothing stands for
-    keep : Text → Bool
+    abbrev keep : Text → Bool
     keep r = not (is_some (b.redirects r))
 
     first : (x y z : Bool) → (x && y && not (not z)) ≡ true → z ≡ true
@@ -78,5 +78,5 @@ module _ (listed : Listed) (entries : List Entry) where
     pub agrees : AgreesWithAll g filter listed entries b
     agrees = record {
       by_filter = λ others mentioned a k. settled listed entries others details mentioned own keep a b (tested others mentioned a k) (tested details own b h);
-      by_test = λ keep others mentioned a tells k. settled listed entries others details mentioned own keep a b k (h.told keep tells);
+      by_test = λ test others mentioned a tells k. settled listed entries others details mentioned own test a b k (h.told test tells);
     }

@@ -24,7 +24,7 @@ use Rattle.cargo_toml_hidden.specs.Removed.{IsAnswerBy, IsAnswerWithout, IsRemov
 use Rattle.cargo_toml_hidden.proofs.InPlace.{has_place}
 
 -- the flag of the feature of this name, by looking it up
-pub flag_at : List Feature → List Bool → Text → Bool
+abbrev pub flag_at : List Feature → List Bool → Text → Bool
 flag_at [] flags f = false
 flag_at (v ∷ vs) [] f = false
 flag_at (v ∷ vs) (b ∷ flags) f = (bytes_eq f v.key.now && b) || flag_at vs flags f
@@ -40,9 +40,13 @@ flag_is (v ∷ vs) (b ∷ flags) f = (into (flag_is vs flags f), out (flag_is vs
       | inr h ↦ (let w = rest.0 h in (suc w.0, (let lt = w.1 in omega (arith, lt)), w.2, w.3))
     ]
 
+    at : IsTrue (flag_at vs flags f) ↔ IsFlagged vs flags f → (i : ℕ) → i < length (v ∷ vs) → text_at (names_of (v ∷ vs)) i ≡ f → IsWanted (b ∷ flags) true i
+        → IsTrue (flag_at (v ∷ vs) (b ∷ flags) f)
+    at rest zero lt same stands = or_left _ _ (and_from _ _ ((bytes_eq-Decides f v.key.now).1 (sym same)) stands)
+    at rest (suc i) lt same stands = or_right _ _ (rest.1 (i, omega (arith, lt), same, stands))
+
     out : IsTrue (flag_at vs flags f) ↔ IsFlagged vs flags f → IsFlagged (v ∷ vs) (b ∷ flags) f → IsTrue (flag_at (v ∷ vs) (b ∷ flags) f)
-    out rest (zero, lt, same, stands) = or_left _ _ (and_from _ _ ((bytes_eq-Decides f v.key.now).1 (sym same)) stands)
-    out rest (suc i, lt, same, stands) = or_right _ _ (rest.1 (i, omega (arith, lt), same, stands))
+    out rest w = at rest w.0 w.1 w.2 w.3
 
 module _ {F : Type 0} (g : Asked F) (filter : Option (Bor F)) where
   -- no name is kept and refused
@@ -50,8 +54,8 @@ module _ {F : Type 0} (g : Asked F) (filter : Option (Bor F)) where
   one_answer has n = go filter has
     where
       go : (o : Option (Bor F)) → HasNameFilter g o → Answers g o n true → Answers g o n false → ⊥
-      go None has yes no = false≢true (sym yes)
-      go (Some f) has yes no = false≢true ((has f refl).one_answer n false true no yes)
+      go None has keeps refuses = false≢true (sym keeps)
+      go (Some f) has keeps refuses = false≢true ((has f refl).one_answer n false true refuses keeps)
 
   -- a test that agrees with the filter is what it answers
   told_as : (keep : Text → Bool) → Tells g filter keep → (n : Text) (b : Bool) → Answers g filter n b → b ≡ keep n
@@ -101,9 +105,6 @@ module _ (listed : Listed) (entries : List Entry) (details : Details) (own : Tex
     redirects : (r : Text) → IfSome (a.redirects r) (λ names. (x : Text) → IsTrue (names x) ↔ RedirectsTo t S (λ s b. IsTrue (is_below s b)) r x)
     redirects r = go (a.redirects r) (h.redirects r)
       where
-        Lower : (Text → Type 0) → Text → Type 0
-        Lower P s = P s × IsTrue (is_below s r)
-
         across : (P Q : Text → Type 0) → ((v : Text) → P v → Q v) → ((v : Text) → Q v → P v) → (x : Text) → RedirectsTo t P (λ s b. IsTrue (is_below s b)) r x → RedirectsTo t Q (λ s b. IsTrue (is_below s b)) r x
         across P Q to from x n = (label_within (λ b z. IsTrue (t.names b z)) (λ s. P s × IsTrue (is_below s r)) (λ s. Q s × IsTrue (is_below s r)) (λ v p. (to v p.0, p.1)) r x n.0, λ p. n.1 (from x p.0, p.1))
 

@@ -1,5 +1,5 @@
 -- Features that the filter refuses, and what is answered without them.
-use Rattle.std.specs.Prelude.{◌≡◌, ◌↔◌, Bool, true, IfSome, IsSome, IsTrue, List, Option}
+use Rattle.std.specs.Prelude.{◌≡◌, ◌↔◌, Bool, true, false, IfSome, IsSome, IsTrue, List, Option}
 use Rattle.std.specs.Borrow.{Bor}
 use Rattle.cargo_toml_graph.specs.Action.{Text}
 use Rattle.cargo_toml_graph.specs.Admitted.{Listed, is_below}

@@ -2,6 +2,7 @@ use Rattle.std.proofs.Common.{◌≡◌, ◌↔◌, ◌<◌, ℕ, IsTrue, false,
 use Rattle.std.specs.List.{slice_index_or}
 use Rattle.cargo_toml_graph.specs.Action.{Text}
 use Rattle.cargo_toml_graph.specs.Graph.{Table}
+use Rattle.cargo_toml_features.specs.declared.features.Features.{Features}
 use Rattle.cargo_toml_features.specs.InOrder.{names_of}
 use Rattle.cargo_toml_resolve.specs.OwnBins.{own_of, requirement_of}
 use Rattle.cargo_toml_features.specs.Marks.{details_of}
@@ -34,7 +35,7 @@ returns-clause-resolved g c =
     let by = removed_by g.F.Fn c.args.filter c.requires.filter t vs all.table all.in_order flags are in
     let into : (f : Text) → IsTrue (removed f) → IsRemovedBy g.F.Fn c.args.filter t f = λ f y. (by f).0 ((is f).0 y) in
     let back : (f : Text) → IsRemovedBy g.F.Fn c.args.filter t f → IsTrue (removed f) = λ f r. (is f).1 ((by f).1 r) in
-    let answer = record { features = c.in_ok-kept.field-0.features; dependencies = c.in_ok-dependencies.dependencies; removed_hidden_features = c.contains.result; hidden_features = c.in_ok-kept.field-0.hidden } in
+    let answer : Features g.row.S.Denot g.row.S-Hasher.Denot = record { features = c.in_ok-kept.field-0.features; dependencies = c.in_ok-dependencies.dependencies; removed_hidden_features = c.contains.result; hidden_features = c.in_ok-kept.field-0.hidden } in
     let without = answer_alike listed entries details own (λ f. IsTrue (removed f)) (IsRemovedBy g.F.Fn c.args.filter t) (answer_of answer) into back
     (answers {S = g.row.S.Denot} {H = g.row.S-Hasher.Denot} listed entries details own removed vs answer
     all.table (λ f y. (into f y).there) all.marks all.bins

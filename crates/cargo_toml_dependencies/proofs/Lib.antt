@@ -1,4 +1,3 @@
-pub mod Added
 pub mod Apart
 pub mod Entries
 pub mod Inherited

@@ -25,7 +25,7 @@ inherited_same x y h =
     let workspace = h.1.1 in
     cc
 
-detail_same : (x y : DependencyDetail) → detail.ghosts.is_clone x y → detail_meaning y ≡ detail_meaning x
+pub detail_same : (x y : DependencyDetail) → detail.ghosts.is_clone x y → detail_meaning y ≡ detail_meaning x
 detail_same x y (a, (b, (c, (d, (e, (f, (g, (h, (i, (j, (optional, (default_features, (k, is_inherited))))))))))))) =
     let version = option_same requirement_meaning _ requirement_same x.version y.version a in
     let name = option_same string_bytes _ (λ _ _ s. s) x.«package» y.«package» b in

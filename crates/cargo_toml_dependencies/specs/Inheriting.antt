@@ -10,7 +10,7 @@ use Rattle.cargo_toml_parts.specs.Answers.{◌>>=◌, beside, each}
 use Rattle.cargo_toml_parts.specs.FaultValues.{Fault, inherited_unknown_value, workspace_integrity}
 use Rattle.cargo_toml_dependencies.specs.Dependencies.{InheritedMeaning, DetailMeaning}
 use Rattle.cargo_toml_dependencies.specs.Dependencies.{DependencyMeaning, simple}
-use Rattle.cargo_toml_dependencies.specs.Dependencies.{inherited, detailed}
+use Rattle.cargo_toml_dependencies.specs.Dependencies.{inherited, detailed, no_detail}
 use Rattle.cargo_toml_dependencies.specs.Targets.{TargetMeaning}
 
 -- dependencies by key, in the order of the keys
@@ -24,22 +24,7 @@ entry_at key (e ∷ es) = if bytes_eq key e.0 then Some e.1 else entry_at key es
 
 -- a detail of which the requirement alone is told
 abbrev pub plain_detail : List Held → DetailMeaning
-plain_detail requirement = record {
-  version = Some requirement;
-  «package» = None;
-  registry = None;
-  registry_index = None;
-  path = None;
-  git = None;
-  branch = None;
-  tag = None;
-  rev = None;
-  features = [];
-  optional = false;
-  default_features = true;
-  unstable = [];
-  inherited = false;
-}
+plain_detail requirement = record no_detail { version = Some requirement }
 
 -- a detail of the workspace, whose folder is `base`, with what a member's entry adds
 abbrev pub with_entry : List ℕ → InheritedMeaning → DetailMeaning → DetailMeaning
@@ -52,20 +37,11 @@ with_entry base entry d = record d {
 
 -- a detail of the workspace that tells no more than a requirement, features and flags
 abbrev pub short_detail : Option (List Held) → List (List ℕ) → Bool → Bool → DetailMeaning
-short_detail version features optional default_features = record {
+short_detail version features optional default_features = record no_detail {
   version = version;
-  «package» = None;
-  registry = None;
-  registry_index = None;
-  path = None;
-  git = None;
-  branch = None;
-  tag = None;
-  rev = None;
   features = features;
   optional = optional;
   default_features = default_features;
-  unstable = [];
   inherited = true;
 }
 

@@ -7,12 +7,12 @@ use Rattle.cargo_toml_settings.specs.Settings.{File, flag, path, file_meaning}
 use Rattle.cargo_toml_settings.specs.declared.settings.Edition.{Edition}
 use Rattle.cargo_toml_settings.specs.declared.settings.OptionalFile.{OptionalFile}
 use Rattle.cargo_toml_tables.specs.declared.product.Product.{Product}
-use Rattle.cargo_toml_tables.specs.Products.{ProductMeaning, product_meaning}
+use Rattle.cargo_toml_tables.specs.Products.{ProductMeaning, product_meaning, no_product}
 use Rattle.cargo_toml_discovery.specs.declared.discovery.Discovered as discovered_type
 use Rattle.cargo_toml_discovery.specs.declared.discovery.Stated as stated_type
 use Rattle.cargo_toml_discovery.specs.declared.listings.Wanted.{Wanted}
 use Rattle.cargo_toml_discovery.specs.Around.{Around}
-use Rattle.cargo_toml_discovery.specs.Found.{Named, Offered, found, is_path_of, plain, still_open}
+use Rattle.cargo_toml_discovery.specs.Found.{Named, Offered, found, is_path_of, still_open}
 use Rattle.cargo_toml_discovery.specs.Names.{Text, has_text, underscored}
 use Rattle.cargo_toml_discovery.specs.Sorting.{in_order}
 
@@ -23,7 +23,7 @@ at_library p = record p { path = Some (unwrap_or p.path (codes "src/lib.rs")) }
 -- the library, where `src/lib.rs` is there or not, and a library is made or not
 abbrev pub found_library : Bool → Bool → Option ProductMeaning → Option ProductMeaning
 found_library false made lib = lib
-found_library true true None = Some (at_library plain)
+found_library true true None = Some (at_library no_product)
 found_library true false None = None
 found_library true made (Some p) = Some (at_library p)
 

@@ -1,5 +1,5 @@
 -- What is found in a folder of products.
-use Rattle.std.specs.Prelude.{Bool, true, false, not, ◌&&◌, List, [], ◌∷◌, ◌++◌, map}
+use Rattle.std.specs.Prelude.{Bool, false, not, ◌&&◌, List, [], ◌∷◌, ◌++◌, map}
 use Rattle.std.specs.Prelude.{filter, Option, Some, None, is_some, if◌then◌else◌, codes}
 use Rattle.std.specs.List.{list_any, filter_map}
 use Rattle.std.specs.Option.{option_or}
@@ -7,7 +7,7 @@ use Rattle.std.specs.Ordering.{nat_cmp, is_lt}
 use Rattle.std.specs.Cmp.Lexicographic.{slice_cmp}
 use Rattle.std.specs.Str.{bytes_eq}
 use Rattle.cargo_toml_settings.specs.declared.settings.Edition.{Edition}
-use Rattle.cargo_toml_tables.specs.Products.{ProductMeaning}
+use Rattle.cargo_toml_tables.specs.Products.{ProductMeaning, no_product}
 use Rattle.cargo_toml_discovery.specs.Names.{Text, in_dir, is_source, stem}
 use Rattle.cargo_toml_discovery.specs.Sorting.{in_order}
 
@@ -68,26 +68,9 @@ abbrev pub last_waiting : List ProductMeaning → Text → Option ProductMeaning
 last_waiting [] n = None
 last_waiting (p ∷ ps) n = option_or (last_waiting ps n) (waits_or p n None)
 
--- a product of which no key is given
-abbrev pub plain : ProductMeaning
-plain = record {
-  path = None;
-  name = None;
-  test = true;
-  doctest = true;
-  bench = true;
-  doc = true;
-  plugin = false;
-  proc_macro = false;
-  harness = true;
-  edition = None;
-  crate_type = [];
-  required_features = [];
-}
-
 abbrev pub new_product : Edition → Offered → ProductMeaning
 new_product edition o =
-    record plain { name = Some o.name; path = Some o.path; edition = Some edition }
+    record no_product { name = Some o.name; path = Some o.path; edition = Some edition }
 
 -- the product of an offer: the one that takes it, with that path, or else a new one
 abbrev pub product_for : Edition → Offered → Option ProductMeaning → ProductMeaning

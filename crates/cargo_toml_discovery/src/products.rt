@@ -1,9 +1,9 @@
 //! Copies of products, new ones, and their order.
 ghost use Rattle.std.specs.Prelude.{◌≡◌, IfOk, OnOk, Some, map, string_bytes};
 ghost use Rattle.cargo_toml_discovery.specs.Discovering.{meanings};
-ghost use Rattle.cargo_toml_discovery.specs.Found.{plain, is_path_of};
+ghost use Rattle.cargo_toml_discovery.specs.Found.{is_path_of};
 ghost use Rattle.cargo_toml_discovery.specs.Sorting.{in_order, product_cmp};
-ghost use Rattle.cargo_toml_tables.specs.Products.{product_meaning};
+ghost use Rattle.cargo_toml_tables.specs.Products.{no_product, product_meaning};
 
 use cargo_toml_tables::Product;
 use std::alloc::{AllocError, Global};
@@ -30,7 +30,7 @@ pub fn sort_products(products: &mut Vec<Product>) -> Result<(), AllocError>
 
 /// A product of which no key is given. It takes no memory.
 pub fn plain(alloc: Global) -> Product
-    ensures { product_meaning result ≡ plain }
+    ensures { product_meaning result ≡ no_product }
 {
     Product::default(alloc)
 }

@@ -1,6 +1,7 @@
 -- Tables of worked examples with dependencies.
 use Rattle.std.specs.Prelude.{Bool, true, false, List, [], ◌∷◌, Option, Some, None, codes}
 use Rattle.cargo_toml_dependencies.specs.Dependencies.{DependencyMeaning, detailed, simple}
+use Rattle.cargo_toml_dependencies.specs.Dependencies.{no_detail}
 use Rattle.cargo_toml_features.specs.declared.features.Kind.TheVariants.{Normal, Build, Dev}
 use Rattle.cargo_toml_graph.specs.Action.{Text}
 use Rattle.cargo_toml_graph.specs.Admitted.{Listed}
@@ -10,21 +11,10 @@ use Rattle.cargo_toml_features.specs.Resolved.{table_of}
 
 -- a detail with its package, its features and whether it is optional, and nothing else
 abbrev pub detail : Option Text → List Text → Bool → DependencyMeaning
-detail name features optional = detailed (record {
-  version = None;
+detail name features optional = detailed (record no_detail {
   «package» = name;
-  registry = None;
-  registry_index = None;
-  path = None;
-  git = None;
-  branch = None;
-  tag = None;
-  rev = None;
   features = features;
   optional = optional;
-  default_features = true;
-  unstable = [];
-  inherited = false;
 })
 
 -- an entry of a manifest's normal dependencies

@@ -1,10 +1,11 @@
 -- Pairs that are gathered of a map entry by entry.
-use Rattle.std.proofs.Common.{◌≡◌, ◌⊎◌, inl, inr, refl, ap, ◌∙◌, ℕ, List, [], ◌∷◌, ◌++◌, Option, Some, None, Err, String, Global, string_bytes}
+use Rattle.std.proofs.Common.{◌≡◌, ◌⊎◌, inl, inr, refl, ap, ◌∙◌, ℕ, IsTrue, List, [], ◌∷◌, ◌++◌, Option, Some, None, Err, String, Global, string_bytes}
 use Rattle.toml.specs.Data.{Data, Members, no_members}
 use Rattle.toml.specs.View.{view}
 use Rattle.toml.specs.declared.value.Value.{Value}
 use Rattle.toml.proofs.Views.{Entry}
 use Rattle.cargo_toml_parts.specs.declared.error.Error.{Error, Memory}
+use Rattle.cargo_toml_parts.specs.Floats.{has_no_float}
 use Rattle.cargo_toml_write.specs.Pairs.{put_all, AreGathered}
 use Rattle.cargo_toml_write.specs.Ways.{entry_rows, map_way}
 use Rattle.cargo_toml_write.specs.Writes.{Way, IsHeld, IsWriting, AreRefused, AreWritten, required_row, put, Goes}
@@ -24,14 +25,14 @@ module _ {X M : Type 0} (way : Way M) (meaning : X → M) where
   gather_start es rest ps whole empty = rw (whole, empty) (λ c new h. h)
 
   pub gather_step : (es rest : List (String Global × X)) (ps ns : List Entry) (e : String Global × X) (k : String Global) (v : Value)
-      → Gathers es (e ∷ rest) ps → way.trees (meaning e.1) (view v) → string_bytes k ≡ string_bytes e.0 → ns ≡ ps ++ (k, v) ∷ [] → Gathers es rest ns
-  gather_step es rest ps ns e k v so_far tree same more =
+      → Gathers es (e ∷ rest) ps → way.trees (meaning e.1) (view v) → IsTrue (has_no_float (view v)) → string_bytes k ≡ string_bytes e.0 → ns ≡ ps ++ (k, v) ∷ [] → Gathers es rest ns
+  gather_step es rest ps ns e k v so_far tree free same more =
       let mid : Members = put_all ps no_members in
       let next : put_all ns no_members ≡ put (string_bytes e.0) (view v) mid =
       ap (λ xs. put_all xs no_members) more ∙ put_last ps (k, v) no_members ∙ ap (λ bs. put bs (view v) mid) same in
       λ c new h.
       so_far c new (then (required_row (string_bytes e.0) way (meaning e.1)) (entry_rows way (meant meaning rest)) None None c mid (put_all ns no_members) new
-      (is_put (string_bytes e.0) way (meaning e.1) (view v) None mid (put_all ns no_members) refl tree next) h)
+      (is_put (string_bytes e.0) way (meaning e.1) (view v) None mid (put_all ns no_members) refl tree free next) h)
 
   pub gather_end : (es rest : List (String Global × X)) (ps : List Entry) → Gathers es rest ps → rest ≡ []
       → AreWritten (entry_rows way (meant meaning es)) no_members (put_all ps no_members)

@@ -17,6 +17,7 @@ pub mod ReadAgainSettings
 pub mod ReadNoFloats
 pub mod Rows
 pub mod Tables
+pub mod Told
 pub mod ToldFeatures
 pub mod TotalTrees
 pub mod Trees

@@ -48,10 +48,10 @@ put_some_at k l (Some d) ms = put_at (is_eq (slice_cmp nat_cmp k l)) k l d ms re
 -- what a key that held `old` holds after the rows: what the rows of that key say, and else what it held
 abbrev pub Got : List ℕ → List Row → Option Data → Option Data → Type 0
 Got k [] old new = new ≡ old
-Got k (r ∷ rs) old new = MatchBool (is_eq (slice_cmp nat_cmp k r.key)) ((o : Option Data) × r.holds o × Got k rs (or_else o old) new) (Got k rs old new)
+Got k (r ∷ rs) old new = MatchBool (is_eq (slice_cmp nat_cmp k r.key)) ((o : Option Data) × IsHeld r.way r.value o × Got k rs (or_else o old) new) (Got k rs old new)
 
-one_got : (b : Bool) (k : List ℕ) (r : Row) (rs : List Row) (o old mid new : Option Data) → r.holds o → mid ≡ cond b (or_else o old) old → Got k rs mid new
-    → MatchBool b ((o : Option Data) × r.holds o × Got k rs (or_else o old) new) (Got k rs old new)
+one_got : (b : Bool) (k : List ℕ) (r : Row) (rs : List Row) (o old mid new : Option Data) → IsHeld r.way r.value o → mid ≡ cond b (or_else o old) old → Got k rs mid new
+    → MatchBool b ((o : Option Data) × IsHeld r.way r.value o × Got k rs (or_else o old) new) (Got k rs old new)
 one_got true k r rs o old mid new holds at rest = (o, holds, rw at at rest)
 one_got false k r rs o old mid new holds at rest = rw at at rest
 
@@ -59,7 +59,7 @@ pub got : (k : List ℕ) (rows : List Row) (old new : Members) → AreWritten ro
 got k [] old new is = ap (get_member k) is
 got k (r ∷ rs) old new (mid, row, rest) =
     one_got (is_eq (slice_cmp nat_cmp k r.key)) k r rs row.0 (get_member k old) (get_member k mid) (get_member k new) row.1
-    (ap (get_member k) row.2 ∙ put_some_at k r.key row.0 old) (got k rs mid new rest)
+    (ap (get_member k) row.3 ∙ put_some_at k r.key row.0 old) (got k rs mid new rest)
 
 -- a key of one row, in a table that held nothing before
 abbrev pub Holds : {X : Type 0} → Way X → Option X → Option Data → Type 0

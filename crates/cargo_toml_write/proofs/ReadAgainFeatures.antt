@@ -101,8 +101,8 @@ module _ {X M : Type 0} (way : Way X) (reads : Data → Option M) (meaning : X �
       → members_reads reads old ≡ Some before → AreWritten (entry_rows way es) old new → members_reads reads new ≡ Some (before ++ meant es)
   unfolding IsStrictlySortedBy
   entries_again [] before old new ascend below h is = rw is (h ∙ ap Some (sym (append-nil before)))
-  entries_again (e ∷ es) before old new ascend below h (mid, (None, held, is), rest) = absurd held
-  entries_again (e ∷ es) before old new ascend below h (mid, (Some d, tree, is), rest) =
+  entries_again (e ∷ es) before old new ascend below h (mid, (None, held, free, is), rest) = absurd held
+  entries_again (e ∷ es) before old new ascend below h (mid, (Some d, tree, free, is), rest) =
       let put_last : mid ≡ behind old e.0 d = is ∙ put_behind e.0 d old below.0 in
       let read_last : members_reads reads mid ≡ Some (before ++ (e.0, meaning e.1) ∷ []) =
       ap (members_reads reads) put_last ∙ read-behind old e.0 d (meaning e.1) (again e.1 d tree) ∙ ap (last e.0 (meaning e.1)) h in

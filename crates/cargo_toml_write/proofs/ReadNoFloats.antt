@@ -1,5 +1,5 @@
 -- What was read of a manifest, and of each part of it, of a tree that holds no float holds none.
-use Rattle.std.proofs.Common.{◌≡◌, refl, sym, pos, [], Bool, true, false, Option, Some, None, IfSome, option_map, if◌then◌else◌}
+use Rattle.std.proofs.Common.{◌≡◌, refl, sym, pos, ℕ, List, [], Bool, true, false, Option, Some, None, IfSome, option_map, if◌then◌else◌}
 use Rattle.std.specs.Result.{result_ok}
 use Rattle.semver.specs.Parse.{req_of}
 use Rattle.toml.specs.Data.{Data, string, table, Members, as_str, as_bool}
@@ -8,7 +8,7 @@ use Rattle.cargo_toml_dependencies.specs.Dependencies as kind
 use Rattle.cargo_toml_dependencies.specs.Targets.{target_of}
 use Rattle.cargo_toml_manifest.specs.Manifests.{ManifestMeaning, by_zero_rule, zero_rule_applies, target_reads, product_reads, badges_reads, no_badges, profiles_reads, no_profiles, manifest_of, manifest_reads}
 use Rattle.cargo_toml_manifest.specs.Texts.{any_tree, document_reads}
-use Rattle.cargo_toml_manifest.specs.Workspaces.{workspace_of, workspace_reads}
+use Rattle.cargo_toml_manifest.specs.Workspaces.{WorkspaceMeaning, workspace_of, workspace_reads}
 use Rattle.cargo_toml_package.specs.Packages.{PackageMeaning, package_of, package_reads}
 use Rattle.cargo_toml_parts.specs.declared.inheritable.Inheritable.TheVariants.{Set}
 use Rattle.cargo_toml_parts.specs.Floats.{has_no_float, without_floats}
@@ -22,8 +22,9 @@ use Rattle.cargo_toml_package.specs.Templates.{template_reads}
 use Rattle.cargo_toml_settings.specs.declared.settings.Edition.TheVariants.{E2015}
 use Rattle.cargo_toml_settings.specs.ProfileSettings.{debug_of, strip_of, lto_of}
 use Rattle.cargo_toml_settings.specs.Settings.{everywhere, flag, edition_reads, resolver_reads, file_of, publish_of}
-use Rattle.cargo_toml_tables.specs.Lints.{level_of, level_alone, lint_keys, table_lint, lint_of}
-use Rattle.cargo_toml_tables.specs.Profiles.{profile_keys, profile_of, profile_reads, profiles_of}
+use Rattle.cargo_toml_tables.specs.Lints.{LintMeaning, level_of, level_alone, lint_keys, table_lint, lint_of}
+use Rattle.cargo_toml_tables.specs.Profiles.{ProfileMeaning, profile_keys, profile_of, profile_reads, profiles_of}
+use Rattle.cargo_toml_write.specs.Floatless.{free_floatless}
 use Rattle.cargo_toml_write.specs.NoFloats.{EachValue, IfSet, DetailHoldsNoFloat, DependencyHoldsNoFloat, TargetHoldsNoFloat, ProfileHoldsNoFloat, ProfilesHoldsNoFloat, LintHoldsNoFloat, LintsHoldNoFloat, PackageHoldsNoFloat, WorkspaceHoldsNoFloat, ManifestHoldsNoFloat}
 use Rattle.cargo_toml_write.specs.Ways.{free_way}
 use Rattle.cargo_toml_write.specs.Writes.{HasTree}
@@ -32,22 +33,13 @@ use Rattle.cargo_toml_write.proofs.Trees.{free_exact, itself_exact}
 use Rattle.cargo_toml_write.proofs.Gives.{Gives, gives_none, gives_some, bind, skip, mapped, anything, Reads, Floatless, MembersFloatless, optional_reads, given_reads, others_reads, no_entries, table_reads, map_reads, map_at_reads, tree_reads, inheritable_reads}
 
 -- dependencies
+detail_holds : (d : DetailMeaning) → EachValue Floatless d.unstable → Gives DetailHoldsNoFloat (Some d)
+detail_holds d unstable = gives_some {P = DetailHoldsNoFloat} d (record { unstable = unstable })
+
 detail_members : (ms : Members) → MembersFloatless ms → Gives DetailHoldsNoFloat (detail_of ms)
 detail_members ms h =
-    (skip {P = DetailHoldsNoFloat} (optional_at "version" requirement_of ms) _ (λ version.
-    (skip {P = DetailHoldsNoFloat} (text_at "package" ms) _ (λ its_package.
-    (skip {P = DetailHoldsNoFloat} (text_at "registry" ms) _ (λ registry.
-    (skip {P = DetailHoldsNoFloat} (text_at "registry-index" ms) _ (λ registry_index.
-    (skip {P = DetailHoldsNoFloat} (text_at "path" ms) _ (λ path.
-    (skip {P = DetailHoldsNoFloat} (text_at "git" ms) _ (λ git.
-    (skip {P = DetailHoldsNoFloat} (text_at "branch" ms) _ (λ branch.
-    (skip {P = DetailHoldsNoFloat} (text_at "tag" ms) _ (λ tag.
-    (skip {P = DetailHoldsNoFloat} (text_at "rev" ms) _ (λ rev.
-    (skip {P = DetailHoldsNoFloat} (list_at "features" ms) _ (λ features.
-    (skip {P = DetailHoldsNoFloat} (flag_at "optional" false ms) _ (λ optional.
-    (skip {P = DetailHoldsNoFloat} (flag_at "default-features" true ms) _ (λ default_features.
-    (bind {P = DetailHoldsNoFloat} (others_read detail_keys (λ d. Some d) ms) _ (others_reads {P = Floatless} detail_keys (λ d. Some d) tree_reads ms h) (λ unstable h_unstable.
-    gives_some {P = DetailHoldsNoFloat} _ (record { unstable = h_unstable })))))))))))))))))))))))))))
+    let unstable : Gives (EachValue Floatless) (others_read detail_keys (λ d. Some d) ms) = others_reads {P = Floatless} detail_keys (λ d. Some d) tree_reads ms h in
+    search (bind, skip, detail_holds) depth 60 fits 4000
 
 inherited_gives : (i : Option InheritedMeaning) (d : Option DetailMeaning) → Gives DetailHoldsNoFloat d → Gives DependencyHoldsNoFloat (inherited_or i d)
 inherited_gives (Some i) d h = gives_some {P = DependencyHoldsNoFloat} (kind.inherited i) tt
@@ -70,23 +62,16 @@ target_read : Reads TargetHoldsNoFloat target_reads
 target_read d h = table_reads target_of target_members d h
 
 -- profiles
+profile_holds : (p : ProfileMeaning) → IfSome p.opt_level Floatless → EachValue Floatless p.«package» → IfSome p.build_override Floatless → Gives ProfileHoldsNoFloat (Some p)
+profile_holds p opt_level its_package build_override =
+    gives_some {P = ProfileHoldsNoFloat} p (record { opt_level = opt_level; «package» = its_package; build_override = build_override })
+
 profile_members : (ms : Members) → MembersFloatless ms → Gives ProfileHoldsNoFloat (profile_of ms)
 profile_members ms h =
-    (bind {P = ProfileHoldsNoFloat} (optional_at "opt-level" (λ d. Some d) ms) _ (optional_reads {P = Floatless} "opt-level" (λ d. Some d) tree_reads ms h) (λ opt_level h_opt_level.
-    (skip {P = ProfileHoldsNoFloat} (optional_at "debug" debug_of ms) _ (λ debug.
-    (skip {P = ProfileHoldsNoFloat} (text_at "split-debuginfo" ms) _ (λ split_debuginfo.
-    (skip {P = ProfileHoldsNoFloat} (text_at "panic" ms) _ (λ panic.
-    (skip {P = ProfileHoldsNoFloat} (text_at "inherits" ms) _ (λ inherits.
-    (skip {P = ProfileHoldsNoFloat} (optional_at "rpath" as_bool ms) _ (λ rpath.
-    (skip {P = ProfileHoldsNoFloat} (optional_at "debug-assertions" as_bool ms) _ (λ debug_assertions.
-    (skip {P = ProfileHoldsNoFloat} (optional_at "incremental" as_bool ms) _ (λ incremental.
-    (skip {P = ProfileHoldsNoFloat} (optional_at "overflow-checks" as_bool ms) _ (λ overflow_checks.
-    (skip {P = ProfileHoldsNoFloat} (optional_at "lto" lto_of ms) _ (λ lto.
-    (skip {P = ProfileHoldsNoFloat} (optional_at "codegen-units" u16_of ms) _ (λ codegen_units.
-    (skip {P = ProfileHoldsNoFloat} (optional_at "strip" strip_of ms) _ (λ strip.
-    (bind {P = ProfileHoldsNoFloat} (map_at "package" (λ d. Some d) ms) _ (map_at_reads {P = Floatless} "package" (λ d. Some d) tree_reads ms h) (λ its_package h_package.
-    (bind {P = ProfileHoldsNoFloat} (optional_at "build-override" (λ d. Some d) ms) _ (optional_reads {P = Floatless} "build-override" (λ d. Some d) tree_reads ms h) (λ build_override h_build_override.
-    gives_some {P = ProfileHoldsNoFloat} _ (record { opt_level = h_opt_level; «package» = h_package; build_override = h_build_override })))))))))))))))))))))))))))))
+    let opt_level : Gives (λ x. IfSome x Floatless) (optional_at "opt-level" (λ d. Some d) ms) = optional_reads {P = Floatless} "opt-level" (λ d. Some d) tree_reads ms h in
+    let its_package : Gives (EachValue Floatless) (map_at "package" (λ d. Some d) ms) = map_at_reads {P = Floatless} "package" (λ d. Some d) tree_reads ms h in
+    let build_override : Gives (λ x. IfSome x Floatless) (optional_at "build-override" (λ d. Some d) ms) = optional_reads {P = Floatless} "build-override" (λ d. Some d) tree_reads ms h in
+    search (bind, skip, profile_holds) depth 60 fits 4000
 
 profile_read : Reads ProfileHoldsNoFloat profile_reads
 profile_read d h = table_reads profile_of profile_members d h
@@ -108,12 +93,13 @@ no_profile : ProfilesHoldsNoFloat no_profiles
 no_profile = record { release = tt; dev = tt; test = tt; bench = tt; doc = tt; custom = no_entries ProfileHoldsNoFloat }
 
 -- lints
+lint_holds : (l : LintMeaning) → EachValue Floatless l.config → Gives LintHoldsNoFloat (Some l)
+lint_holds l config = gives_some {P = LintHoldsNoFloat} l (record { config = config })
+
 lint_members : (ms : Members) → MembersFloatless ms → Gives LintHoldsNoFloat (table_lint ms)
 lint_members ms h =
-    (skip {P = LintHoldsNoFloat} (required_at "level" level_of ms) _ (λ level.
-    (skip {P = LintHoldsNoFloat} (given_at "priority" (pos 0) i8_of ms) _ (λ priority.
-    (bind {P = LintHoldsNoFloat} (others_read lint_keys (λ d. Some d) ms) _ (others_reads {P = Floatless} lint_keys (λ d. Some d) tree_reads ms h) (λ config h_config.
-    gives_some {P = LintHoldsNoFloat} _ (record { config = h_config })))))))
+    let config : Gives (EachValue Floatless) (others_read lint_keys (λ d. Some d) ms) = others_reads {P = Floatless} lint_keys (λ d. Some d) tree_reads ms h in
+    search (bind, skip, lint_holds) depth 30
 
 lint_read : Reads LintHoldsNoFloat lint_of
 lint_read (table ms) h = lint_members ms h
@@ -124,53 +110,28 @@ lints_read = map_reads (map_of lint_of) (map_reads lint_of lint_read)
 
 -- packages, workspaces and manifests, whose metadata is read as such
 module _ {M : Type 0} (Metadata : M → Type 0) (metadata_of : Data → Option M) (metadata_read : Reads Metadata metadata_of) where
+  package_holds : (p : PackageMeaning M) → IfSome p.metadata Metadata → Gives (PackageHoldsNoFloat Metadata) (Some p)
+  package_holds p metadata = gives_some {P = PackageHoldsNoFloat Metadata} p (record { metadata = metadata })
+
   package_members : (ms : Members) → MembersFloatless ms → Gives (PackageHoldsNoFloat Metadata) (package_of metadata_of ms)
   package_members ms h =
-      (skip {P = PackageHoldsNoFloat Metadata} (required_at "name" as_str ms) _ (λ name.
-      (skip {P = PackageHoldsNoFloat Metadata} (inherited_at "version" (0, 0, 0, [], []) version_of ms) _ (λ version.
-      (skip {P = PackageHoldsNoFloat Metadata} (inherited_at "edition" E2015 edition_reads ms) _ (λ edition.
-      (skip {P = PackageHoldsNoFloat Metadata} (inherited_text_at "rust-version" ms) _ (λ rust_version.
-      (skip {P = PackageHoldsNoFloat Metadata} (optional_at "build" file_of ms) _ (λ build.
-      (skip {P = PackageHoldsNoFloat Metadata} (text_at "workspace" ms) _ (λ workspace.
-      (skip {P = PackageHoldsNoFloat Metadata} (inherited_list_at "authors" ms) _ (λ authors.
-      (skip {P = PackageHoldsNoFloat Metadata} (text_at "links" ms) _ (λ links.
-      (skip {P = PackageHoldsNoFloat Metadata} (inherited_text_at "description" ms) _ (λ description.
-      (skip {P = PackageHoldsNoFloat Metadata} (inherited_text_at "homepage" ms) _ (λ homepage.
-      (skip {P = PackageHoldsNoFloat Metadata} (inherited_text_at "documentation" ms) _ (λ documentation.
-      (skip {P = PackageHoldsNoFloat Metadata} (inherited_at "readme" (flag true) file_of ms) _ (λ readme.
-      (skip {P = PackageHoldsNoFloat Metadata} (inherited_list_at "keywords" ms) _ (λ keywords.
-      (skip {P = PackageHoldsNoFloat Metadata} (inherited_list_at "categories" ms) _ (λ categories.
-      (skip {P = PackageHoldsNoFloat Metadata} (inherited_list_at "exclude" ms) _ (λ exclude.
-      (skip {P = PackageHoldsNoFloat Metadata} (inherited_list_at "include" ms) _ (λ include.
-      (skip {P = PackageHoldsNoFloat Metadata} (inherited_text_at "license" ms) _ (λ license.
-      (skip {P = PackageHoldsNoFloat Metadata} (inherited_text_at "license-file" ms) _ (λ license_file.
-      (skip {P = PackageHoldsNoFloat Metadata} (inherited_text_at "repository" ms) _ (λ repository.
-      (skip {P = PackageHoldsNoFloat Metadata} (text_at "default-run" ms) _ (λ default_run.
-      (skip {P = PackageHoldsNoFloat Metadata} (flag_at "autobins" true ms) _ (λ autobins.
-      (skip {P = PackageHoldsNoFloat Metadata} (flag_at "autolib" true ms) _ (λ autolib.
-      (skip {P = PackageHoldsNoFloat Metadata} (flag_at "autoexamples" true ms) _ (λ autoexamples.
-      (skip {P = PackageHoldsNoFloat Metadata} (flag_at "autotests" true ms) _ (λ autotests.
-      (skip {P = PackageHoldsNoFloat Metadata} (flag_at "autobenches" true ms) _ (λ autobenches.
-      (skip {P = PackageHoldsNoFloat Metadata} (inherited_at "publish" (everywhere true) publish_of ms) _ (λ publish.
-      (skip {P = PackageHoldsNoFloat Metadata} (optional_at "resolver" resolver_reads ms) _ (λ resolver.
-      (bind {P = PackageHoldsNoFloat Metadata} (optional_at "metadata" metadata_of ms) _ (optional_reads {P = Metadata} "metadata" metadata_of metadata_read ms h) (λ metadata h_metadata.
-      gives_some {P = PackageHoldsNoFloat Metadata} _ (record { metadata = h_metadata })))))))))))))))))))))))))))))))))))))))))))))))))))))))))
+      let metadata : Gives (λ x. IfSome x Metadata) (optional_at "metadata" metadata_of ms) = optional_reads {P = Metadata} "metadata" metadata_of metadata_read ms h in
+      search (bind, skip, package_holds) depth 80 fits 4000
 
   package_read : Reads (PackageHoldsNoFloat Metadata) (package_reads metadata_of)
   unfolding package_reads
   package_read d h = table_reads (package_of metadata_of) package_members d h
 
+  workspace_holds : (w : WorkspaceMeaning M) → IfSome w.metadata Metadata → EachValue DependencyHoldsNoFloat w.dependencies → LintsHoldNoFloat w.lints → Gives (WorkspaceHoldsNoFloat Metadata) (Some w)
+  workspace_holds w metadata dependencies lints =
+      gives_some {P = WorkspaceHoldsNoFloat Metadata} w (record { metadata = metadata; dependencies = dependencies; lints = lints })
+
   workspace_members : (ms : Members) → MembersFloatless ms → Gives (WorkspaceHoldsNoFloat Metadata) (workspace_of metadata_of ms)
   workspace_members ms h =
-      (skip {P = WorkspaceHoldsNoFloat Metadata} (list_at "members" ms) _ (λ members.
-      (skip {P = WorkspaceHoldsNoFloat Metadata} (list_at "default-members" ms) _ (λ default_members.
-      (skip {P = WorkspaceHoldsNoFloat Metadata} (optional_at "package" template_reads ms) _ (λ template.
-      (skip {P = WorkspaceHoldsNoFloat Metadata} (list_at "exclude" ms) _ (λ exclude.
-      (bind {P = WorkspaceHoldsNoFloat Metadata} (optional_at "metadata" metadata_of ms) _ (optional_reads {P = Metadata} "metadata" metadata_of metadata_read ms h) (λ metadata h_metadata.
-      (skip {P = WorkspaceHoldsNoFloat Metadata} (optional_at "resolver" resolver_reads ms) _ (λ resolver.
-      (bind {P = WorkspaceHoldsNoFloat Metadata} (map_at "dependencies" dependency_of ms) _ (map_at_reads {P = DependencyHoldsNoFloat} "dependencies" dependency_of dependency_read ms h) (λ dependencies h_dependencies.
-      (bind {P = WorkspaceHoldsNoFloat Metadata} (map_at "lints" (map_of lint_of) ms) _ (map_at_reads {P = EachValue LintHoldsNoFloat} "lints" (map_of lint_of) (map_reads lint_of lint_read) ms h) (λ lints h_lints.
-      gives_some {P = WorkspaceHoldsNoFloat Metadata} _ (record { metadata = h_metadata; dependencies = h_dependencies; lints = h_lints })))))))))))))))))
+      let metadata : Gives (λ x. IfSome x Metadata) (optional_at "metadata" metadata_of ms) = optional_reads {P = Metadata} "metadata" metadata_of metadata_read ms h in
+      let dependencies : Gives (EachValue DependencyHoldsNoFloat) (map_at "dependencies" dependency_of ms) = map_at_reads {P = DependencyHoldsNoFloat} "dependencies" dependency_of dependency_read ms h in
+      let lints : Gives LintsHoldNoFloat (map_at "lints" (map_of lint_of) ms) = map_at_reads {P = EachValue LintHoldsNoFloat} "lints" (map_of lint_of) (map_reads lint_of lint_read) ms h in
+      search (bind, skip, workspace_holds) depth 60 fits 4000
 
   workspace_read : Reads (WorkspaceHoldsNoFloat Metadata) (workspace_reads metadata_of)
   unfolding workspace_reads
@@ -226,7 +187,7 @@ manifest_no_float d m is = (public_reads (manifest_reads any_tree) (manifest_rea
 
 pub manifest_writable : (d : Data) (m : ManifestMeaning Data) → without_floats (manifest_reads any_tree) d ≡ Some m → ManifestHoldsNoFloat (HasTree free_way) m
 manifest_writable d m is =
-    (manifest_exact free_way (itself_exact free_way)).only m ((manifest_exact free_way free_exact).has m (manifest_no_float d m is))
+    (manifest_exact free_way (itself_exact free_way free_floatless)).only m ((manifest_exact free_way free_exact).has m (manifest_no_float d m is))
 
 pub document_writable : (document : Option Members) (m : ManifestMeaning Data) → document_reads (manifest_reads any_tree) document ≡ Some m → ManifestHoldsNoFloat (HasTree free_way) m
 document_writable None m is = absurd cc

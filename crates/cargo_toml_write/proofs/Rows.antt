@@ -1,8 +1,9 @@
 -- Rows that are written one after the other.
-use Rattle.std.proofs.Common.{◌≡◌, ◌⊎◌, inl, inr, sym, ◌∙◌, refl, subst, false, is_some, option_map, ℕ, List, [], ◌∷◌, ◌++◌, Result, Ok, Err, Option, Some, None}
+use Rattle.std.proofs.Common.{◌≡◌, ◌⊎◌, inl, inr, sym, ◌∙◌, refl, subst, false, is_some, option_map, ℕ, IsTrue, List, [], ◌∷◌, ◌++◌, Result, Ok, Err, Option, Some, None}
 use Rattle.toml.specs.Data.{Data, Members, no_members}
 use Rattle.toml.specs.declared.value.Value.{Value}
 use Rattle.cargo_toml_parts.specs.declared.error.Error.{Error, Memory}
+use Rattle.cargo_toml_parts.specs.Floats.{has_no_float}
 use Rattle.cargo_toml_write.specs.Writes.{Way, IsWriting, Row, required_row, optional_row, given_row, AreWritten, AreRefused, Goes, Ends, put, table_way}
 
 -- some rows and then others
@@ -49,10 +50,10 @@ done (Some e) ms = refl
 
 -- a tree that was put at a key
 pub is_put : {X : Type 0} (key : List ℕ) (way : Way X) (x : X) (d : Data) (fault : Option Error) (old new : Members)
-    → is_some fault ≡ false → way.trees x d → new ≡ put key d old → Goes (required_row key way x ∷ []) fault old fault new
+    → is_some fault ≡ false → way.trees x d → IsTrue (has_no_float d) → new ≡ put key d old → Goes (required_row key way x ∷ []) fault old fault new
 unfolding Goes
-is_put key way x d None old new no_fault tree is = (new, (Some d, tree, is), refl)
-is_put key way x d (Some e) old new no_fault tree is = absurd cc
+is_put key way x d None old new no_fault tree free is = (new, (Some d, tree, free, is), refl)
+is_put key way x d (Some e) old new no_fault tree free is = absurd cc
 
 -- rows of which one is refused are in no table
 no_rows : (rows : List Row) (old new : Members) (e : Error) → AreRefused rows e → ¬ (AreWritten rows old new)

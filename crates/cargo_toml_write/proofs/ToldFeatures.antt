@@ -76,26 +76,13 @@ module _ {M : Type 0} (metadata_of : Data → Option M) where
   abbrev Told : ManifestMeaning M → Type 0
   Told m = AreTold (all_features m)
 
+  says : (m : ManifestMeaning M) → AreTold (all_features m) → Gives Told (Some m)
+  says m told = gives_some {P = Told} m told
+
   manifest_told : (ms : Members) → Gives Told (manifest_of metadata_of ms)
   manifest_told ms =
-      (skip {P = Told} (optional_at "package" (package_reads metadata_of) ms) _ (λ found.
-      (skip {P = Told} (optional_at "workspace" (workspace_reads metadata_of) ms) _ (λ workspace.
-      (skip {P = Told} (map_at "dependencies" dependency_of ms) _ (λ dependencies.
-      (skip {P = Told} (map_at "dev-dependencies" dependency_of ms) _ (λ dev_dependencies.
-      (skip {P = Told} (map_at "build-dependencies" dependency_of ms) _ (λ build_dependencies.
-      (skip {P = Told} (map_at "target" target_reads ms) _ (λ target.
-      (bind {Q = AreTold} {P = Told} (given_at "features" no_features features_of ms) _ (features_told (get_member (codes "features") ms)) (λ features told.
-      (skip {P = Told} (map_at "replace" dependency_of ms) _ (λ replace.
-      (skip {P = Told} (map_at "patch" (map_of dependency_of) ms) _ (λ patch.
-      (skip {P = Told} (optional_at "lib" product_reads ms) _ (λ lib.
-      (skip {P = Told} (given_at "profile" no_profiles profiles_reads ms) _ (λ profile.
-      (skip {P = Told} (given_at "badges" no_badges badges_reads ms) _ (λ badges.
-      (skip {P = Told} (given_at "bin" [] (array_of product_reads) ms) _ (λ bin.
-      (skip {P = Told} (given_at "bench" [] (array_of product_reads) ms) _ (λ bench.
-      (skip {P = Told} (given_at "test" [] (array_of product_reads) ms) _ (λ test.
-      (skip {P = Told} (given_at "example" [] (array_of product_reads) ms) _ (λ example.
-      (skip {P = Told} (inherited_at "lints" [] (map_of (map_of lint_of)) ms) _ (λ lints.
-      gives_some {P = Told} _ told))))))))))))))))))))))))))))))))))
+      let features : Gives AreTold (given_at "features" no_features features_of ms) = features_told (get_member (codes "features") ms) in
+      search (bind, skip, says) depth 80 fits 8000
 
   pub tree_told : (d : Data) → Gives Told (manifest_reads metadata_of d)
   tree_told (table ms) = manifest_told ms

@@ -1,242 +1,105 @@
--- Each value of a type that holds nothing free has a tree.
-use Rattle.std.proofs.Common.{refl, true, false, ℕ, List, Option, Some, None}
-use Rattle.toml.specs.Data.{Data, string, boolean}
-use Rattle.cargo_toml_dependencies.specs.Dependencies.{InheritedMeaning}
+-- Each value of a type that holds nothing free has a tree. Of a table that is told row by row, so a new key is no line here.
+use Rattle.std.proofs.Common.{refl, ℕ, List, Option, Some, None}
+use Rattle.toml.specs.Data.{Data, boolean}
 use Rattle.cargo_toml_dependencies.specs.Details.{Detail}
-use Rattle.cargo_toml_package.specs.Templates.{TemplateMeaning}
-use Rattle.cargo_toml_settings.specs.Settings.{edition_text, resolver_text, everywhere, among}
-use Rattle.cargo_toml_tables.specs.declared.badge.MaintenanceStatus.{MaintenanceStatus}
-use Rattle.cargo_toml_tables.specs.Badges.{BadgeMeaning, BadgesMeaning}
-use Rattle.cargo_toml_tables.specs.Products.{ProductMeaning}
-use Rattle.cargo_toml_write.specs.Ways.{text_way, version_way, texts_way}
-use Rattle.cargo_toml_write.specs.WrittenBadges.{badge_rows, badge_way, maintenance_rows, maintenance_way, badges_rows, badges_way}
+use Rattle.cargo_toml_settings.specs.declared.profile_settings.DebugSetting.TheVariants as debug
+use Rattle.cargo_toml_settings.specs.Settings.{Registries, edition_text, resolver_text, everywhere, among}
+use Rattle.cargo_toml_write.specs.Floatless.{file_floatless, publish_floatless, debug_floatless, strip_floatless, lto_floatless, feature_floatless, table_floatless}
+use Rattle.cargo_toml_write.specs.Ways.{text_way, version_way, texts_way, inheritable_way, list_way, map_way, entry_rows}
+use Rattle.cargo_toml_write.specs.WrittenBadges.{badge_rows, badge_way, has_no_badge, maintenance_rows, maintenance_way, badges_rows, badges_way}
 use Rattle.cargo_toml_write.specs.WrittenDependencies.{inherited_rows, inherited_way}
-use Rattle.cargo_toml_write.specs.WrittenFeatures.{FeatureTree, feature_way, features_way, told_features, told_rows}
+use Rattle.cargo_toml_write.specs.WrittenFeatures.{FeatureTree, feature_way, features_way, told_features, told_rows, told_way}
 use Rattle.cargo_toml_write.specs.WrittenProducts.{product_rows, product_way}
-use Rattle.cargo_toml_write.specs.WrittenSettings.{edition_way, resolver_way, level_text, level_way, status_text, status_way, file_tree as tree_of_file, file_way, publish_way, debug_tree as tree_of_debug, debug_way, strip_tree as tree_of_strip, strip_way, lto_tree as tree_of_lto, lto_way}
+use Rattle.cargo_toml_write.specs.WrittenSettings.{edition_way, resolver_way, level_text, level_way, status_text, status_way, file_tree, file_way, publish_way, debug_tree, debug_way, strip_tree, strip_way, lto_tree, lto_way}
 use Rattle.cargo_toml_write.specs.WrittenTemplates.{template_rows, template_way}
-use Rattle.cargo_toml_write.proofs.Trees.{AreHeld, Total, has_table, exactly_tree, text_tree, version_tree, texts_tree, map_tree, optional_all, required_all, given_all, flag_all}
+use Rattle.cargo_toml_write.specs.Writes.{HasTree, table_way}
+use Rattle.cargo_toml_write.proofs.Trees.{Total, table_total, leaving_out, word_total, text_total, truth_total, version_total, texts_total, list_total, map_total, inheritable_total}
 
-pub edition_tree : Total edition_way
-edition_tree = exactly_tree (λ x. string (edition_text x))
+pub edition_total : Total edition_way
+edition_total = word_total edition_text
 
-pub resolver_tree : Total resolver_way
-resolver_tree = exactly_tree (λ x. string (resolver_text x))
+pub resolver_total : Total resolver_way
+resolver_total = word_total resolver_text
 
-pub level_tree : Total level_way
-level_tree = exactly_tree (λ x. string (level_text x))
+pub level_total : Total level_way
+level_total = word_total level_text
 
-pub status_tree : Total status_way
-status_tree = exactly_tree (λ x. string (status_text x))
+pub status_total : Total status_way
+status_total = word_total status_text
 
-pub file_tree : Total file_way
-file_tree x = (tree_of_file x, refl)
+pub file_total : Total file_way
+file_total = record { tree = λ x. (file_tree x, refl); floatless = file_floatless }
 
-pub publish_tree : Total publish_way
-publish_tree (everywhere b) = (boolean b, refl)
-publish_tree (among names) = texts_tree names
+published : (x : Registries) → HasTree publish_way x
+published (everywhere b) = (boolean b, refl)
+published (among names) = texts_total.tree names
 
-pub debug_tree : Total debug_way
-debug_tree = exactly_tree tree_of_debug
+pub publish_total : Total publish_way
+publish_total = record { tree = published; floatless = publish_floatless }
 
-pub strip_tree : Total strip_way
-strip_tree = exactly_tree tree_of_strip
+pub debug_total : Total debug_way
+debug_total = record { tree = λ x. (debug_tree x, refl); floatless = debug_floatless }
 
-pub lto_tree : Total lto_way
-lto_tree = exactly_tree tree_of_lto
+pub strip_total : Total strip_way
+strip_total = record { tree = λ x. (strip_tree x, refl); floatless = strip_floatless }
 
-badge_rows_held : (b : BadgeMeaning) → AreHeld (badge_rows b)
-badge_rows_held b = (
-  required_all text_way text_tree b.repository,
-  (
-    required_all text_way text_tree b.branch,
-    (
-      optional_all text_way text_tree b.service,
-      (
-        optional_all text_way text_tree b.id,
-        (
-          optional_all text_way text_tree b.project_name,
-          tt,
-        ),
-      ),
-    ),
-  ),
-)
+pub lto_total : Total lto_way
+lto_total = record { tree = λ x. (lto_tree x, refl); floatless = lto_floatless }
 
-pub badge_tree : Total badge_way
-badge_tree b = has_table badge_rows b (badge_rows_held b)
+pub badge_total : Total badge_way
+badge_total = table_total badge_rows (λ b. assumption text_total)
 
-maintenance_rows_held : (s : MaintenanceStatus) → AreHeld (maintenance_rows s)
-maintenance_rows_held s = (
-  required_all status_way status_tree s,
-  tt,
-)
+pub maintenance_total : Total maintenance_way
+maintenance_total = table_total maintenance_rows (λ s. assumption status_total)
 
-pub maintenance_tree : Total maintenance_way
-maintenance_tree s = has_table maintenance_rows s (maintenance_rows_held s)
+pub badges_total : Total badges_way
+badges_total = leaving_out (table_way badges_rows) has_no_badge (table_total badges_rows (λ b. assumption (badge_total, maintenance_total)))
 
-badges_rows_held : (b : BadgesMeaning) → AreHeld (badges_rows b)
-badges_rows_held b = (
-  optional_all badge_way badge_tree b.appveyor,
-  (
-    optional_all badge_way badge_tree b.circle_ci,
-    (
-      optional_all badge_way badge_tree b.gitlab,
-      (
-        optional_all badge_way badge_tree b.travis_ci,
-        (
-          optional_all badge_way badge_tree b.codecov,
-          (
-            optional_all badge_way badge_tree b.coveralls,
-            (
-              optional_all badge_way badge_tree b.is_it_maintained_issue_resolution,
-              (
-                optional_all badge_way badge_tree b.is_it_maintained_open_issues,
-                (
-                  required_all maintenance_way maintenance_tree b.maintenance,
-                  tt,
-                ),
-              ),
-            ),
-          ),
-        ),
-      ),
-    ),
-  ),
-)
+pub product_total : Total product_way
+product_total = table_total product_rows (λ p. assumption (text_total, truth_total, texts_total, edition_total))
 
-pub badges_tree : Total badges_way
-badges_tree b = has_table badges_rows b (badges_rows_held b)
+pub products_total : Total (list_way product_way)
+products_total = list_total product_way product_total
 
-product_rows_held : (p : ProductMeaning) → AreHeld (product_rows p)
-product_rows_held p = (
-  optional_all text_way text_tree p.path,
-  (
-    optional_all text_way text_tree p.name,
-    (
-      flag_all true p.test,
-      (
-        flag_all true p.doctest,
-        (
-          flag_all true p.bench,
-          (
-            flag_all true p.doc,
-            (
-              flag_all true p.harness,
-              (
-                flag_all false p.plugin,
-                (
-                  flag_all false p.proc_macro,
-                  (
-                    optional_all edition_way edition_tree p.edition,
-                    (
-                      given_all texts_way texts_tree p.crate_type,
-                      (
-                        required_all texts_way texts_tree p.required_features,
-                        tt,
-                      ),
-                    ),
-                  ),
-                ),
-              ),
-            ),
-          ),
-        ),
-      ),
-    ),
-  ),
-)
+pub inherited_total : Total inherited_way
+inherited_total = table_total inherited_rows (λ i. assumption (truth_total, texts_total))
 
-pub product_tree : Total product_way
-product_tree p = has_table product_rows p (product_rows_held p)
+pub template_total : Total template_way
+template_total =
+    table_total template_rows (λ t. assumption (text_total, texts_total, edition_total, publish_total, file_total, version_total))
 
-inherited_rows_held : (i : InheritedMeaning) → AreHeld (inherited_rows i)
-inherited_rows_held i = (
-  given_all texts_way texts_tree i.features,
-  (
-    flag_all false i.optional,
-    (
-      flag_all false i.workspace,
-      tt,
-    ),
-  ),
-)
+-- what a package may leave to its workspace
+pub either_text : Total (inheritable_way text_way)
+either_text = inheritable_total text_way text_total
 
-pub inherited_tree : Total inherited_way
-inherited_tree i = has_table inherited_rows i (inherited_rows_held i)
+pub either_texts : Total (inheritable_way texts_way)
+either_texts = inheritable_total texts_way texts_total
 
-template_rows_held : (t : TemplateMeaning) → AreHeld (template_rows t)
-template_rows_held t = (
-  optional_all texts_way texts_tree t.authors,
-  (
-    optional_all texts_way texts_tree t.categories,
-    (
-      optional_all text_way text_tree t.description,
-      (
-        optional_all text_way text_tree t.documentation,
-        (
-          optional_all edition_way edition_tree t.edition,
-          (
-            optional_all texts_way texts_tree t.exclude,
-            (
-              optional_all text_way text_tree t.homepage,
-              (
-                optional_all texts_way texts_tree t.include,
-                (
-                  optional_all texts_way texts_tree t.keywords,
-                  (
-                    optional_all text_way text_tree t.license,
-                    (
-                      optional_all text_way text_tree t.license_file,
-                      (
-                        given_all publish_way publish_tree t.publish,
-                        (
-                          given_all file_way file_tree t.readme,
-                          (
-                            optional_all text_way text_tree t.repository,
-                            (
-                              optional_all text_way text_tree t.rust_version,
-                              (
-                                optional_all version_way version_tree t.version,
-                                tt,
-                              ),
-                            ),
-                          ),
-                        ),
-                      ),
-                    ),
-                  ),
-                ),
-              ),
-            ),
-          ),
-        ),
-      ),
-    ),
-  ),
-)
+pub either_version : Total (inheritable_way version_way)
+either_version = inheritable_total version_way version_total
 
-pub template_tree : Total template_way
-template_tree t = has_table template_rows t (template_rows_held t)
+pub either_edition : Total (inheritable_way edition_way)
+either_edition = inheritable_total edition_way edition_total
 
-told_rows_held : (f : List (List ℕ) × Detail) → AreHeld (told_rows f)
-told_rows_held f = (
-  given_all texts_way texts_tree f.0,
-  (
-    flag_all true f.1.public,
-    (
-      optional_all text_way text_tree f.1.doc,
-      tt,
-    ),
-  ),
-)
+pub either_file : Total (inheritable_way file_way)
+either_file = inheritable_total file_way file_total
+
+pub either_publish : Total (inheritable_way publish_way)
+either_publish = inheritable_total publish_way publish_total
+
+-- features
+told_total : Total told_way
+told_total = table_total told_rows (λ f. assumption (text_total, truth_total, texts_total))
 
 feature_either : (enables : List (List ℕ)) (detail : Option Detail) → (d : Data) × FeatureTree enables detail d
-feature_either enables None = texts_tree enables
-feature_either enables (Some detail) = has_table told_rows (enables, detail) (told_rows_held (enables, detail))
+feature_either enables None = texts_total.tree enables
+feature_either enables (Some detail) = told_total.tree (enables, detail)
 
-feature_tree : Total feature_way
-feature_tree f = feature_either f.0 f.1
+feature_total : Total feature_way
+feature_total = record { tree = λ f. feature_either f.0 f.1; floatless = feature_floatless }
 
-pub features_tree : Total features_way
-features_tree fs = map_tree feature_way feature_tree (told_features fs)
+pub features_total : Total features_way
+features_total = record {
+  tree = λ fs. (map_total feature_way feature_total).tree (told_features fs);
+  floatless = λ fs d tree. table_floatless (entry_rows feature_way) (told_features fs) d tree;
+}

@@ -1,6 +1,5 @@
 pub mod Examples
-pub mod FloatlessLaws
-pub mod FloatlessTypes
+pub mod Floatless
 pub mod NoFloats
 pub mod Pairs
 pub mod Ways

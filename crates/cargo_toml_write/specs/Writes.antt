@@ -1,6 +1,6 @@
 -- What a writer answers, and how a table is written key by key.
 use Rattle.std.specs.Prelude.{◌≡◌, ◌⊎◌, ℕ, List, [], ◌∷◌, Bool, true, false}
-use Rattle.std.specs.Prelude.{IsTrue, Result, Ok, Err, IfOk, Option, Some, None}
+use Rattle.std.specs.Prelude.{IsTrue, Result, Ok, Err, IfOk, Option, Some, None, IfSome}
 use Rattle.std.specs.Cmp.Lexicographic.{slice_cmp}
 use Rattle.std.specs.Ordering.{nat_cmp, match_ordering}
 use Rattle.toml.specs.Data.{Data, table, Members, no_members, member}
@@ -50,11 +50,12 @@ abbrev pub put_some : List ℕ → Option Data → Members → Members
 put_some k None ms = ms
 put_some k (Some d) ms = put k d ms
 
--- a row of a table: what its key may hold, and the faults where that is nothing
+-- a row of a table: a key, and what stands at it, if anything, with the way in which that is written
 pub record Row : Type 1 where
   pub key : List ℕ
-  pub holds : Option Data → Type 0
-  pub refuses : Error → Type 0
+  pub Value : Type 0
+  pub way : Way Value
+  pub value : Option Value
 
 -- a tree of what is there, and nothing where nothing is
 abbrev pub IsHeld : {X : Type 0} → Way X → Option X → Option Data → Type 0
@@ -68,11 +69,7 @@ IsRefused way (Some x) e = way.refuses x e
 
 -- the row of what may be there, of what is there, and of what is written unless it is left out
 abbrev pub optional_row : {X : Type 0} → List ℕ → Way X → Option X → Row
-optional_row key way x = record {
-  key = key;
-  holds = IsHeld way x;
-  refuses = IsRefused way x;
-}
+optional_row {X = X} key way x = record { key = key; Value = X; way = way; value = x }
 
 abbrev pub required_row : {X : Type 0} → List ℕ → Way X → X → Row
 required_row key way x = optional_row key way (Some x)
@@ -84,17 +81,21 @@ unless false x = Some x
 abbrev pub given_row : {X : Type 0} → List ℕ → Way X → X → Row
 given_row key way x = optional_row key way (unless (way.left_out x) x)
 
--- what a table holds after a row was written, and after rows were, one after the other
+-- what a table holds after a row was written, of which no float comes into it
 abbrev pub RowWritten : Row → Members → Members → Type 0
-RowWritten row old new = (d : Option Data) × row.holds d × (new ≡ put_some row.key d old)
+RowWritten row old new =
+    (d : Option Data) × IsHeld row.way row.value d × IfSome d (λ tree. IsTrue (has_no_float tree))
+    × (new ≡ put_some row.key d old)
 
+-- the same of rows, one after the other
 abbrev pub AreWritten : List Row → Members → Members → Type 0
 AreWritten [] old new = new ≡ old
 AreWritten (row ∷ rows) old new = (mid : Members) × RowWritten row old mid × AreWritten rows mid new
 
 -- the fault of a row for which there is no tree
 abbrev pub RowRefused : Row → Error → Type 0
-RowRefused row e = ((d : Option Data) → ¬ (row.holds d)) × row.refuses e
+RowRefused row e =
+    ((d : Option Data) → ¬ (IsHeld row.way row.value d)) × IsRefused row.way row.value e
 
 abbrev pub AreRefused : List Row → Error → Type 0
 AreRefused [] e = ⊥

@@ -12,13 +12,11 @@ ghost use Rattle.cargo_toml_dependencies.specs.Inheriting.{missing_template, pla
 ghost use Rattle.cargo_toml_dependencies.specs.Inheriting.{short_detail, with_entry};
 
 use crate::dependency::{Dependency, DependencyDetail, InheritedDependencyDetail};
-use cargo_toml_parts::copying::Copying;
 use cargo_toml_parts::duplicate::Duplicate;
 use cargo_toml_parts::error::Error;
 use cargo_toml_paths::join;
 use semver::VersionReq;
 use std::alloc::{AllocError, Global};
-use std::collections::BTreeMap;
 
 // The path, if there is one, as seen from the folder `base`.
 fn joined_path(
@@ -82,40 +80,12 @@ fn with_entry(
     ensures { IfOk result (λ d. detail_meaning d
         ≡ with_entry base.now (inherited_meaning entry.now) (detail_meaning template.now)) }
 {
-    let optional = template.optional || entry.optional;
-    let mut copying = Copying::new();
-    let version = copying.of(&template.version, None);
-    let package = copying.of(&template.package, None);
-    let registry = copying.of(&template.registry, None);
-    let registry_index = copying.of(&template.registry_index, None);
-    let path = copying.keep(joined_path(alloc, base, template.path.as_ref()), None);
-    let git = copying.of(&template.git, None);
-    let branch = copying.of(&template.branch, None);
-    let tag = copying.of(&template.tag, None);
-    let rev = copying.of(&template.rev, None);
-    let features = joined_texts(
-        alloc,
-        template.features.as_slice(),
-        entry.features.as_slice(),
-    );
-    let features = copying.keep(features, Vec::new(alloc));
-    let unstable = copying.of(&template.unstable, BTreeMap::new(alloc));
-    copying.finish(DependencyDetail {
-        version,
-        package,
-        registry,
-        registry_index,
-        path,
-        git,
-        branch,
-        tag,
-        rev,
-        features,
-        optional,
-        default_features: template.default_features,
-        unstable,
-        inherited: true,
-    })
+    let mut detail = template.duplicate(alloc)?;
+    detail.path = joined_path(alloc, base, template.path.as_ref())?;
+    add_texts(&mut detail.features, entry.features.as_slice())?;
+    detail.optional = template.optional || entry.optional;
+    detail.inherited = true;
+    Ok(detail)
 }
 
 // The same in a box. It is kept out of line, so that a short detail isn't handled as widely.

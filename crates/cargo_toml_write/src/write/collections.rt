@@ -5,8 +5,8 @@ ghost use Rattle.toml.specs.View.{table_view};
 ghost use Rattle.cargo_toml_parts.specs.declared.inheritable.Inheritable.{Inheritable};
 ghost use Rattle.cargo_toml_parts.specs.Inherits.{inheritable_map};
 ghost use Rattle.cargo_toml_parts.specs.Reads.{map_meaning};
-ghost use Rattle.cargo_toml_write.specs.FloatlessLaws.{inheritable_floatless};
-ghost use Rattle.cargo_toml_write.specs.FloatlessLaws.{list_floatless, map_floatless};
+ghost use Rattle.cargo_toml_write.specs.Floatless.{inheritable_floatless, list_floatless};
+ghost use Rattle.cargo_toml_write.specs.Floatless.{table_floatless};
 ghost use Rattle.cargo_toml_write.specs.Pairs.{AreGathered, put_all};
 ghost use Rattle.cargo_toml_write.specs.Ways.{entry_rows, list_way, map_way};
 ghost use Rattle.cargo_toml_write.specs.Ways.{inheritable_way, exactly, inherited_tree};
@@ -73,7 +73,7 @@ impl<T: ToValue> ToValue for BTreeMap<String, T> {
 
     ghost way = { map_way T.way };
 
-    ghost floatless = { map_floatless T.way T.floatless };
+    ghost floatless = { table_floatless (entry_rows T.way) };
 
     fn to_value(&self, alloc: Global) -> Result<Value, Error> {
         let pairs = pairs_of(alloc, self)?;

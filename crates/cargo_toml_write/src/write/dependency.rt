@@ -5,12 +5,13 @@ ghost use Rattle.cargo_toml_dependencies.specs.Dependencies.{DependencyMeaning, 
 ghost use Rattle.cargo_toml_dependencies.specs.Dependencies.{detail_meaning, dependency_meaning};
 ghost use Rattle.cargo_toml_dependencies.specs.Targets.{TargetMeaning, target_meaning};
 ghost use Rattle.cargo_toml_parts.specs.declared.error.Error.{Error};
-ghost use Rattle.cargo_toml_write.specs.FloatlessTypes.{dependency_floatless, detail_floatless};
-ghost use Rattle.cargo_toml_write.specs.FloatlessTypes.{inherited_floatless, target_floatless};
+ghost use Rattle.cargo_toml_write.specs.Floatless.{dependency_floatless, table_floatless};
 ghost use Rattle.cargo_toml_write.specs.NoFloats.{DetailHoldsNoFloat, DependencyHoldsNoFloat};
 ghost use Rattle.cargo_toml_write.specs.NoFloats.{TargetHoldsNoFloat};
 ghost use Rattle.cargo_toml_write.specs.WrittenDependencies.{inherited_way, detail_way};
 ghost use Rattle.cargo_toml_write.specs.WrittenDependencies.{dependency_way, target_way};
+ghost use Rattle.cargo_toml_write.specs.WrittenDependencies.{inherited_rows, detail_rows};
+ghost use Rattle.cargo_toml_write.specs.WrittenDependencies.{target_rows};
 ghost use Rattle.cargo_toml_write.specs.Writes.{IsWriting};
 
 use crate::write::ToValue;
@@ -27,7 +28,7 @@ impl ToValue for InheritedDependencyDetail {
 
     ghost way = { inherited_way };
 
-    ghost floatless = { inherited_floatless };
+    ghost floatless = { table_floatless inherited_rows };
 
     fn to_value(&self, alloc: Global) -> Result<Value, Error>
         ensures written { IsWriting inherited_way (inherited_meaning self.now) result }
@@ -50,7 +51,7 @@ impl ToValue for DependencyDetail {
 
     ghost way = { detail_way };
 
-    ghost floatless = { detail_floatless };
+    ghost floatless = { table_floatless detail_rows };
 
     fn to_value(&self, alloc: Global) -> Result<Value, Error>
         ensures written { IsWriting detail_way (detail_meaning self.now) result }
@@ -105,7 +106,7 @@ impl ToValue for Target {
 
     ghost way = { target_way };
 
-    ghost floatless = { target_floatless };
+    ghost floatless = { table_floatless target_rows };
 
     fn to_value(&self, alloc: Global) -> Result<Value, Error>
         ensures written { IsWriting target_way (target_meaning self.now) result }

@@ -4,7 +4,7 @@ ghost use Rattle.std.specs.BTreeMap.{IsOrdered};
 ghost use Rattle.std.specs.String.{string_cmp};
 ghost use Rattle.cargo_toml_dependencies.specs.Details.{detail_of};
 ghost use Rattle.cargo_toml_dependencies.specs.Features.{FeaturesMeaning, features_meaning};
-ghost use Rattle.cargo_toml_write.specs.FloatlessTypes.{features_floatless};
+ghost use Rattle.cargo_toml_write.specs.Floatless.{table_floatless};
 ghost use Rattle.cargo_toml_write.specs.Pairs.{AreGathered};
 ghost use Rattle.cargo_toml_write.specs.Ways.{entry_rows};
 ghost use Rattle.cargo_toml_write.specs.Writes.{IsWriting};
@@ -92,7 +92,7 @@ impl ToValue for Features<'_> {
 
     ghost way = { features_way };
 
-    ghost floatless = { features_floatless };
+    ghost floatless = { λ fs d tree. table_floatless (entry_rows feature_way) (told_features fs) d tree };
 
     fn to_value(&self, alloc: Global) -> Result<Value, Error> {
         let pairs = pairs_of(alloc, self.lists, self.details)?;

@@ -7,7 +7,7 @@ ghost use Rattle.cargo_toml_parts.specs.Floats.{members_have_no_float};
 ghost use Rattle.cargo_toml_parts.specs.Numbers.{i8_of};
 ghost use Rattle.cargo_toml_parts.specs.Reads.{map_meaning};
 ghost use Rattle.cargo_toml_tables.specs.Lints.{LintMeaning, lint_meaning, lint_of};
-ghost use Rattle.cargo_toml_write.specs.FloatlessTypes.{lint_floatless};
+ghost use Rattle.cargo_toml_write.specs.Floatless.{lint_floatless};
 ghost use Rattle.cargo_toml_write.specs.NoFloats.{LintHoldsNoFloat};
 ghost use Rattle.cargo_toml_write.specs.Writes.{IsWriting, IsReadAgain};
 ghost use Rattle.cargo_toml_write.specs.WrittenLints.{is_level_alone, members_of};

@@ -2,10 +2,11 @@
 ghost use Rattle.std.specs.Prelude.{◌≡◌, IfErr};
 ghost use Rattle.cargo_toml_manifest.specs.Manifests.{ManifestMeaning, manifest_meaning};
 ghost use Rattle.cargo_toml_parts.specs.declared.error.Error.{Error};
-ghost use Rattle.cargo_toml_write.specs.FloatlessTypes.{manifest_floatless};
+ghost use Rattle.cargo_toml_write.specs.Floatless.{table_floatless};
 ghost use Rattle.cargo_toml_write.specs.NoFloats.{ManifestHoldsNoFloat};
 ghost use Rattle.cargo_toml_write.specs.WrittenFeatures.{AreTold, features_in};
-ghost use Rattle.cargo_toml_write.specs.WrittenManifests.{all_features, manifest_way};
+ghost use Rattle.cargo_toml_write.specs.WrittenManifests.{all_features, manifest_rows};
+ghost use Rattle.cargo_toml_write.specs.WrittenManifests.{manifest_way};
 ghost use Rattle.cargo_toml_write.specs.Writes.{HasTree, IsReadAgain, IsWriting};
 
 use crate::write::ToValue;
@@ -25,7 +26,7 @@ impl<Metadata: FromValue + ToValue> ToValue for Manifest<Metadata> {
 
     ghost way = { manifest_way Metadata.way };
 
-    ghost floatless = { manifest_floatless Metadata.way Metadata.floatless };
+    ghost floatless = { table_floatless (manifest_rows Metadata.way) };
 
     fn to_value(&self, alloc: Global) -> Result<Value, Error>
         ensures written { IsWriting (manifest_way Metadata.way)

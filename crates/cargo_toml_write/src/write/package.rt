@@ -6,9 +6,10 @@ ghost use Rattle.cargo_toml_manifest.specs.Texts.{any_tree};
 ghost use Rattle.cargo_toml_package.specs.Packages.{PackageMeaning, package_meaning, package_reads};
 ghost use Rattle.cargo_toml_parts.specs.declared.error.Error.{Error};
 ghost use Rattle.cargo_toml_parts.specs.Inherits.{inheritable_map};
-ghost use Rattle.cargo_toml_write.specs.FloatlessTypes.{package_floatless};
+ghost use Rattle.cargo_toml_write.specs.Floatless.{table_floatless};
 ghost use Rattle.cargo_toml_write.specs.NoFloats.{PackageHoldsNoFloat};
 ghost use Rattle.cargo_toml_write.specs.Ways.{free_way};
+ghost use Rattle.cargo_toml_write.specs.WrittenPackages.{package_rows};
 ghost use Rattle.cargo_toml_write.specs.WrittenPackages.{package_way, VersionAgain, MetadataAgain};
 ghost use Rattle.cargo_toml_write.specs.Writes.{IsWriting, IsReadAgain, HasTree};
 
@@ -29,7 +30,7 @@ impl<Metadata: FromValue + ToValue> ToValue for Package<Metadata> {
 
     ghost way = { package_way Metadata.way };
 
-    ghost floatless = { package_floatless Metadata.way Metadata.floatless };
+    ghost floatless = { table_floatless (package_rows Metadata.way) };
 
     fn to_value(&self, alloc: Global) -> Result<Value, Error>
         ensures written { IsWriting (package_way Metadata.way)

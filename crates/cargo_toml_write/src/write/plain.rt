@@ -1,13 +1,12 @@
 //! Writers of texts, truth values, numbers, versions and free values.
-ghost use Rattle.std.specs.Prelude.{ℕ, List, Bool, string_bytes};
-ghost use Rattle.semver.specs.Identifiers.{parts_of};
+ghost use Rattle.std.specs.Prelude.{ℕ, pos, List, Bool, string_bytes, refl};
+ghost use Rattle.semver.specs.Identifiers.{parts_of, parts_text};
 ghost use Rattle.semver.specs.Parse.{Held};
-ghost use Rattle.toml.specs.Data.{Data};
+ghost use Rattle.toml.specs.Data.{Data, boolean, integer};
 ghost use Rattle.toml.specs.View.{view};
 ghost use Rattle.cargo_toml_parts.specs.Versions.{Parts, requirement_meaning};
-ghost use Rattle.cargo_toml_write.specs.FloatlessLaws.{free_floatless, number_floatless};
-ghost use Rattle.cargo_toml_write.specs.FloatlessLaws.{requirement_floatless, text_floatless};
-ghost use Rattle.cargo_toml_write.specs.FloatlessLaws.{truth_floatless, version_floatless};
+ghost use Rattle.cargo_toml_write.specs.Floatless.{exactly_floatless, free_floatless};
+ghost use Rattle.cargo_toml_write.specs.Floatless.{requirement_floatless, word_floatless};
 ghost use Rattle.cargo_toml_write.specs.Ways.{text_way, truth_way, number_way};
 ghost use Rattle.cargo_toml_write.specs.Ways.{version_way, requirement_way, free_way};
 
@@ -24,7 +23,7 @@ impl ToValue for bool {
 
     ghost way = { truth_way };
 
-    ghost floatless = { truth_floatless };
+    ghost floatless = { exactly_floatless boolean (λ b. refl) };
 
     fn to_value(&self, _alloc: Global) -> Result<Value, Error> {
         Ok(Value::Boolean(*self))
@@ -38,7 +37,7 @@ impl ToValue for u16 {
 
     ghost way = { number_way };
 
-    ghost floatless = { number_floatless };
+    ghost floatless = { exactly_floatless (λ n. integer (pos n)) (λ n. refl) };
 
     fn to_value(&self, _alloc: Global) -> Result<Value, Error> {
         Ok(Value::Integer(i64::from(*self)))
@@ -52,7 +51,7 @@ impl ToValue for String {
 
     ghost way = { text_way };
 
-    ghost floatless = { text_floatless };
+    ghost floatless = { word_floatless (λ t. t) };
 
     fn to_value(&self, _alloc: Global) -> Result<Value, Error> {
         Ok(Value::String(self.clone()?))
@@ -66,7 +65,7 @@ impl ToValue for SemVer {
 
     ghost way = { version_way };
 
-    ghost floatless = { version_floatless };
+    ghost floatless = { word_floatless parts_text };
 
     fn to_value(&self, alloc: Global) -> Result<Value, Error> {
         Ok(Value::String(self.to_string(alloc)?))

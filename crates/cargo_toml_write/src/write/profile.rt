@@ -3,10 +3,11 @@ ghost use Rattle.std.specs.Prelude.{◌≡◌, IfErr};
 ghost use Rattle.cargo_toml_parts.specs.declared.error.Error.{Error};
 ghost use Rattle.cargo_toml_tables.specs.Profiles.{ProfileMeaning, ProfilesMeaning};
 ghost use Rattle.cargo_toml_tables.specs.Profiles.{profile_meaning, profiles_meaning};
-ghost use Rattle.cargo_toml_write.specs.FloatlessTypes.{profile_floatless, profiles_floatless};
+ghost use Rattle.cargo_toml_write.specs.Floatless.{table_floatless};
 ghost use Rattle.cargo_toml_write.specs.NoFloats.{ProfileHoldsNoFloat, ProfilesHoldsNoFloat};
 ghost use Rattle.cargo_toml_write.specs.Writes.{IsWriting};
-ghost use Rattle.cargo_toml_write.specs.WrittenProfiles.{profile_way, profiles_way};
+ghost use Rattle.cargo_toml_write.specs.WrittenProfiles.{profile_rows, profile_way};
+ghost use Rattle.cargo_toml_write.specs.WrittenProfiles.{profiles_rows, profiles_way};
 
 use crate::write::writing::Writing;
 use crate::write::{LeftOut, ToValue};
@@ -22,7 +23,7 @@ impl ToValue for Profile {
 
     ghost way = { profile_way };
 
-    ghost floatless = { profile_floatless };
+    ghost floatless = { table_floatless profile_rows };
 
     fn to_value(&self, alloc: Global) -> Result<Value, Error>
         ensures written { IsWriting profile_way (profile_meaning self.now) result }
@@ -57,7 +58,7 @@ impl ToValue for Profiles {
 
     ghost way = { profiles_way };
 
-    ghost floatless = { profiles_floatless };
+    ghost floatless = { table_floatless profiles_rows };
 
     fn to_value(&self, alloc: Global) -> Result<Value, Error>
         ensures written { IsWriting profiles_way (profiles_meaning self.now) result }

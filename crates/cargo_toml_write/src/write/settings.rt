@@ -7,22 +7,22 @@ ghost use Rattle.cargo_toml_settings.specs.declared.profile_settings.StripSettin
 ghost use Rattle.cargo_toml_settings.specs.declared.settings.Edition.{Edition};
 ghost use Rattle.cargo_toml_settings.specs.declared.settings.Resolver.{Resolver};
 ghost use Rattle.cargo_toml_settings.specs.ProfileSettings.{debug_of, strip_of, lto_of};
-ghost use Rattle.cargo_toml_settings.specs.Settings.{File, Registries, edition_reads};
-ghost use Rattle.cargo_toml_settings.specs.Settings.{resolver_reads, file_of, file_meaning};
+ghost use Rattle.cargo_toml_settings.specs.Settings.{File, Registries, edition_reads, edition_text};
+ghost use Rattle.cargo_toml_settings.specs.Settings.{resolver_reads, resolver_text, file_of};
+ghost use Rattle.cargo_toml_settings.specs.Settings.{file_meaning};
 ghost use Rattle.cargo_toml_settings.specs.Settings.{publish_of, publish_meaning};
 ghost use Rattle.cargo_toml_tables.specs.declared.badge.MaintenanceStatus.{MaintenanceStatus};
 ghost use Rattle.cargo_toml_tables.specs.declared.lint.LintLevel.{LintLevel};
 ghost use Rattle.cargo_toml_tables.specs.Badges.{status_of};
 ghost use Rattle.cargo_toml_tables.specs.Lints.{level_of};
-ghost use Rattle.cargo_toml_write.specs.FloatlessTypes.{debug_floatless, edition_floatless};
-ghost use Rattle.cargo_toml_write.specs.FloatlessTypes.{file_floatless, level_floatless};
-ghost use Rattle.cargo_toml_write.specs.FloatlessTypes.{lto_floatless, publish_floatless};
-ghost use Rattle.cargo_toml_write.specs.FloatlessTypes.{resolver_floatless};
-ghost use Rattle.cargo_toml_write.specs.FloatlessTypes.{status_floatless, strip_floatless};
+ghost use Rattle.cargo_toml_write.specs.Floatless.{debug_floatless, file_floatless};
+ghost use Rattle.cargo_toml_write.specs.Floatless.{lto_floatless, publish_floatless};
+ghost use Rattle.cargo_toml_write.specs.Floatless.{strip_floatless, word_floatless};
 ghost use Rattle.cargo_toml_write.specs.Writes.{IsWriting, IsReadAgain};
 ghost use Rattle.cargo_toml_write.specs.WrittenSettings.{edition_way, resolver_way, level_way};
 ghost use Rattle.cargo_toml_write.specs.WrittenSettings.{status_way, file_way, publish_way};
 ghost use Rattle.cargo_toml_write.specs.WrittenSettings.{debug_way, strip_way, lto_way};
+ghost use Rattle.cargo_toml_write.specs.WrittenSettings.{level_text, status_text};
 
 use crate::write::{LeftOut, ToValue};
 use cargo_toml_parts::Error;
@@ -40,7 +40,7 @@ impl ToValue for Edition {
 
     ghost way = { edition_way };
 
-    ghost floatless = { edition_floatless };
+    ghost floatless = { word_floatless edition_text };
 
     fn to_value(&self, alloc: Global) -> Result<Value, Error>
         ensures written { IsWriting edition_way self.now result }
@@ -64,7 +64,7 @@ impl ToValue for Resolver {
 
     ghost way = { resolver_way };
 
-    ghost floatless = { resolver_floatless };
+    ghost floatless = { word_floatless resolver_text };
 
     fn to_value(&self, alloc: Global) -> Result<Value, Error>
         ensures written { IsWriting resolver_way self.now result }
@@ -87,7 +87,7 @@ impl ToValue for LintLevel {
 
     ghost way = { level_way };
 
-    ghost floatless = { level_floatless };
+    ghost floatless = { word_floatless level_text };
 
     fn to_value(&self, alloc: Global) -> Result<Value, Error>
         ensures written { IsWriting level_way self.now result }
@@ -112,7 +112,7 @@ impl ToValue for MaintenanceStatus {
 
     ghost way = { status_way };
 
-    ghost floatless = { status_floatless };
+    ghost floatless = { word_floatless status_text };
 
     fn to_value(&self, alloc: Global) -> Result<Value, Error>
         ensures written { IsWriting status_way self.now result }

@@ -2,8 +2,8 @@
 ghost use Rattle.std.specs.Prelude.{◌≡◌, IfErr};
 ghost use Rattle.cargo_toml_package.specs.Templates.{TemplateMeaning, template_meaning};
 ghost use Rattle.cargo_toml_parts.specs.declared.error.Error.{Error};
-ghost use Rattle.cargo_toml_write.specs.FloatlessTypes.{template_floatless};
-ghost use Rattle.cargo_toml_write.specs.WrittenTemplates.{template_way};
+ghost use Rattle.cargo_toml_write.specs.Floatless.{table_floatless};
+ghost use Rattle.cargo_toml_write.specs.WrittenTemplates.{template_rows, template_way};
 ghost use Rattle.cargo_toml_write.specs.Writes.{IsWriting};
 
 use crate::write::ToValue;
@@ -21,7 +21,7 @@ impl ToValue for PackageTemplate {
 
     ghost way = { template_way };
 
-    ghost floatless = { template_floatless };
+    ghost floatless = { table_floatless template_rows };
 
     fn to_value(&self, alloc: Global) -> Result<Value, Error>
         ensures written { IsWriting template_way (template_meaning self.now) result }

@@ -2,9 +2,9 @@
 ghost use Rattle.std.specs.Prelude.{◌≡◌, IfErr};
 ghost use Rattle.cargo_toml_manifest.specs.Workspaces.{WorkspaceMeaning, workspace_meaning};
 ghost use Rattle.cargo_toml_parts.specs.declared.error.Error.{Error};
-ghost use Rattle.cargo_toml_write.specs.FloatlessTypes.{workspace_floatless};
+ghost use Rattle.cargo_toml_write.specs.Floatless.{table_floatless};
 ghost use Rattle.cargo_toml_write.specs.NoFloats.{WorkspaceHoldsNoFloat};
-ghost use Rattle.cargo_toml_write.specs.WrittenWorkspaces.{workspace_way};
+ghost use Rattle.cargo_toml_write.specs.WrittenWorkspaces.{workspace_rows, workspace_way};
 ghost use Rattle.cargo_toml_write.specs.Writes.{HasTree, IsWriting};
 
 use crate::write::ToValue;
@@ -22,7 +22,7 @@ impl<Metadata: ToValue> ToValue for Workspace<Metadata> {
 
     ghost way = { workspace_way Metadata.way };
 
-    ghost floatless = { workspace_floatless Metadata.way Metadata.floatless };
+    ghost floatless = { table_floatless (workspace_rows Metadata.way) };
 
     fn to_value(&self, alloc: Global) -> Result<Value, Error>
         ensures written { IsWriting (workspace_way Metadata.way)

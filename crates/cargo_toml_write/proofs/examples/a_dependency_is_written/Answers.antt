@@ -1,58 +1,11 @@
-use Rattle.std.proofs.Common.{refl, codes, Some, None}
-use Rattle.toml.specs.Data.{string, no_items, item}
+use Rattle.std.proofs.Common.{refl}
+use Rattle.toml.specs.Data.{no_members}
+use Rattle.cargo_toml_write.specs.Examples.{path_detail, path_dependency_members}
+use Rattle.cargo_toml_write.specs.WrittenDependencies.{detail_rows}
+use Rattle.cargo_toml_write.proofs.Told.{Told, nothing, one, texts, finished}
 use Rattle.cargo_toml_write.proofs.examples.a_dependency_is_written.Goals as goal
 
 pub returns : goal.returns
-returns c = (
-  _,
-  refl,
-  (
-    _,
-    (None, refl, refl),
-    (
-      _,
-      (None, refl, refl),
-      (
-        _,
-        (None, refl, refl),
-        (
-          _,
-          (None, refl, refl),
-          (
-            _,
-            (Some _, refl, refl),
-            (
-              _,
-              (None, refl, refl),
-              (
-                _,
-                (None, refl, refl),
-                (
-                  _,
-                  (None, refl, refl),
-                  (
-                    _,
-                    (None, refl, refl),
-                    (
-                      _,
-                      (Some _, (item (string (codes "std")) no_items, refl, (refl, tt)), refl),
-                      (
-                        _,
-                        (Some _, refl, refl),
-                        (
-                          _,
-                          (None, refl, refl),
-                          refl,
-                        ),
-                      ),
-                    ),
-                  ),
-                ),
-              ),
-            ),
-          ),
-        ),
-      ),
-    ),
-  ),
-)
+returns c =
+    let told : Told (detail_rows path_detail) no_members path_dependency_members = search (nothing, one, texts, finished) depth 60 fits 2000 in
+    (path_dependency_members, refl, told.written)

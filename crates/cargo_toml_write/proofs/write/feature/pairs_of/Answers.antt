@@ -4,6 +4,7 @@ use Rattle.toml.specs.Data.{no_members}
 use Rattle.toml.specs.View.{view}
 use Rattle.cargo_toml_dependencies.specs.Details.{Detail, detail_of}
 use Rattle.cargo_toml_parts.specs.Reads.{map_meaning}
+use Rattle.cargo_toml_write.specs.Floatless.{feature_floatless}
 use Rattle.cargo_toml_write.specs.Pairs.{AreGathered, put_all}
 use Rattle.cargo_toml_write.specs.Ways.{entry_rows}
 use Rattle.cargo_toml_write.specs.WrittenFeatures.{detail_at, feature_way}
@@ -30,7 +31,7 @@ loop-name-preserved c =
     ∙ ap (λ (n : List ℕ). detail_at n details) c.as_str-in-loop-name.ensures.value in
     let tree = subst (λ (o : Option Detail). feature_way.trees (map string_bytes c.in-Some.enables.now.items, o) (view c.in_ok-feature_value.field-0)) said c.in_ok-feature_value.ensures in
     gather_step feature_way (with_detail details) _ _ _ _ (c.in-Some.name.now, (c.in-Some.name.now, c.in-Some.enables.now)) c.in_ok-key.key c.in_ok-feature_value.field-0
-    so_far tree same c.in_ok-push.ensures.items
+    so_far tree (feature_floatless _ _ tree) same c.in_ok-push.ensures.items
 
 pub returns-in_err-feature_value : goal.returns-in_err-feature_value
 returns-in_err-feature_value c =

@@ -6,7 +6,7 @@ use Rattle.cargo_toml_parts.specs.Floats.{members_have_no_float}
 use Rattle.cargo_toml_parts.specs.Numbers.{i8_of}
 use Rattle.cargo_toml_tables.specs.Lints.{lint_meaning, lint_of}
 use Rattle.cargo_toml_write.specs.WrittenLints.{members_of, lint_table}
-use Rattle.cargo_toml_write.specs.FloatlessTypes.{table_lint_floatless}
+use Rattle.cargo_toml_write.specs.Floatless.{table_lint_floatless}
 use Rattle.cargo_toml_write.proofs.FloatlessAgain.{floatless_again}
 use Rattle.cargo_toml_write.proofs.LintAgain.{is_table, table_read}
 use Rattle.cargo_toml_write.proofs.write.lint.lint_table.Goals as goal

@@ -1,7 +1,7 @@
 use Rattle.cargo_toml_tables.specs.Badges.{badges_meaning}
 use Rattle.cargo_toml_write.specs.WrittenBadges.{badges_rows, badges_way}
 use Rattle.cargo_toml_write.specs.Writes.{IsWriting}
-use Rattle.cargo_toml_write.proofs.TotalTrees.{badges_tree}
+use Rattle.cargo_toml_write.proofs.TotalTrees.{badges_total}
 use Rattle.cargo_toml_write.proofs.Trees.{memory_alone}
 use Rattle.cargo_toml_write.proofs.Rows.{then, done, ends}
 use Rattle.cargo_toml_write.proofs.write.badge.BadgesToValue.to_value.Goals as goal
@@ -20,4 +20,4 @@ returns c =
     (then _ _ _ _ _ _ _ _ c.required.ensures
     (done _ _))))))))))
     c.finish.ensures in
-    record { written = written; memory = memory_alone badges_way (badges_meaning c.args.self.now) c.finish.result written (badges_tree (badges_meaning c.args.self.now)) }
+    record { written = written; memory = memory_alone badges_way (badges_meaning c.args.self.now) c.finish.result written (badges_total.tree (badges_meaning c.args.self.now)) }

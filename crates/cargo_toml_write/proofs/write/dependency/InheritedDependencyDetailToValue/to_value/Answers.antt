@@ -1,7 +1,7 @@
 use Rattle.cargo_toml_dependencies.specs.Dependencies.{inherited_meaning}
 use Rattle.cargo_toml_write.specs.WrittenDependencies.{inherited_rows, inherited_way}
 use Rattle.cargo_toml_write.specs.Writes.{IsWriting}
-use Rattle.cargo_toml_write.proofs.TotalTrees.{inherited_tree}
+use Rattle.cargo_toml_write.proofs.TotalTrees.{inherited_total}
 use Rattle.cargo_toml_write.proofs.Trees.{memory_alone}
 use Rattle.cargo_toml_write.proofs.Rows.{then, done, ends}
 use Rattle.cargo_toml_write.proofs.write.dependency.InheritedDependencyDetailToValue.to_value.Goals as goal
@@ -14,4 +14,4 @@ returns c =
     (then _ _ _ _ _ _ _ _ c.flag-2.ensures
     (done _ _))))
     c.finish.ensures in
-    record { written = written; memory = memory_alone inherited_way (inherited_meaning c.args.self.now) c.finish.result written (inherited_tree (inherited_meaning c.args.self.now)) }
+    record { written = written; memory = memory_alone inherited_way (inherited_meaning c.args.self.now) c.finish.result written (inherited_total.tree (inherited_meaning c.args.self.now)) }

@@ -3,7 +3,7 @@ use Rattle.cargo_toml_dependencies.specs.Details.{detail_of}
 use Rattle.cargo_toml_dependencies.specs.Features.{FeaturesMeaning, features_meaning}
 use Rattle.cargo_toml_dependencies.proofs.Apart.{ascend-bytes}
 use Rattle.cargo_toml_manifest.specs.Manifests.{manifest_meaning}
-use Rattle.cargo_toml_write.specs.FloatlessTypes.{manifest_floatless}
+use Rattle.cargo_toml_write.specs.Floatless.{table_floatless}
 use Rattle.cargo_toml_write.specs.WrittenFeatures.{features_in, features_way}
 use Rattle.cargo_toml_write.specs.WrittenManifests.{all_features, manifest_rows, manifest_way}
 use Rattle.cargo_toml_write.specs.Writes.{IsWriting}
@@ -43,11 +43,11 @@ returns g c =
       written = written;
       features_again = λ told.
           reads_again (manifest_way g.Metadata.ToValue.way) (manifest_meaning g.Metadata.ToValue.meaning c.args.self.now) features_in features c.finish.result
-          (manifest_floatless g.Metadata.ToValue.way g.met.Metadata.ToValue.floatless) written
+          (table_floatless (manifest_rows g.Metadata.ToValue.way)) written
           (manifest_features g.Metadata.ToValue.way (manifest_meaning g.Metadata.ToValue.meaning c.args.self.now)
           (ascend-bytes (λ v. map string_bytes v.items) c.args.self.now.features.entries c.of-features.ensures.lists_ascend)
           (ascend-bytes detail_of c.args.self.now.feature_details.entries c.of-features.ensures.details_ascend) told);
       memory = λ h.
           memory_alone (manifest_way g.Metadata.ToValue.way) (manifest_meaning g.Metadata.ToValue.meaning c.args.self.now) c.finish.result written
-          ((manifest_exact g.Metadata.ToValue.way (itself_exact g.Metadata.ToValue.way)).has (manifest_meaning g.Metadata.ToValue.meaning c.args.self.now) h);
+          ((manifest_exact g.Metadata.ToValue.way (itself_exact g.Metadata.ToValue.way g.met.Metadata.ToValue.floatless)).has (manifest_meaning g.Metadata.ToValue.meaning c.args.self.now) h);
     }

@@ -5,7 +5,7 @@ use Rattle.cargo_toml_write.proofs.ReadAgainPackages.{package_again}
 use Rattle.cargo_toml_write.proofs.FloatlessAgain.{reads_again}
 use Rattle.cargo_toml_write.proofs.FreeTrees.{package_exact}
 use Rattle.cargo_toml_write.proofs.Trees.{memory_alone, itself_exact}
-use Rattle.cargo_toml_write.specs.FloatlessTypes.{package_floatless}
+use Rattle.cargo_toml_write.specs.Floatless.{table_floatless}
 use Rattle.cargo_toml_write.proofs.Rows.{then, done, ends}
 use Rattle.cargo_toml_write.proofs.write.package.PackageToValue.to_value.Goals as goal
 
@@ -46,10 +46,10 @@ returns g c =
       written = written;
       read_again = λ version metadata.
           reads_again (package_way g.Metadata.ToValue.way) (package_meaning g.Metadata.ToValue.meaning c.args.self.now) (package_reads g.Metadata.FromValue.from_tree) (package_meaning g.Metadata.FromValue.meaning c.args.self.now) c.finish.result
-          (package_floatless g.Metadata.ToValue.way g.met.Metadata.ToValue.floatless) written
+          (table_floatless (package_rows g.Metadata.ToValue.way)) written
           (package_again g.Metadata.ToValue.way g.Metadata.ToValue.meaning g.Metadata.FromValue.meaning g.Metadata.FromValue.from_tree
           c.args.self.now version metadata);
       memory = λ h.
           memory_alone (package_way g.Metadata.ToValue.way) (package_meaning g.Metadata.ToValue.meaning c.args.self.now) c.finish.result written
-          ((package_exact g.Metadata.ToValue.way (itself_exact g.Metadata.ToValue.way)).has (package_meaning g.Metadata.ToValue.meaning c.args.self.now) h);
+          ((package_exact g.Metadata.ToValue.way (itself_exact g.Metadata.ToValue.way g.met.Metadata.ToValue.floatless)).has (package_meaning g.Metadata.ToValue.meaning c.args.self.now) h);
     }

@@ -4,9 +4,9 @@ use Rattle.cargo_toml_write.specs.WrittenSettings.{edition_way}
 use Rattle.cargo_toml_write.specs.Writes.{IsWriting}
 use Rattle.cargo_toml_write.proofs.ReadAgainProducts.{product_again}
 use Rattle.cargo_toml_write.proofs.FloatlessAgain.{reads_again}
-use Rattle.cargo_toml_write.proofs.TotalTrees.{product_tree}
+use Rattle.cargo_toml_write.proofs.TotalTrees.{product_total}
 use Rattle.cargo_toml_write.proofs.Trees.{memory_alone}
-use Rattle.cargo_toml_write.specs.FloatlessTypes.{product_floatless}
+use Rattle.cargo_toml_write.specs.Floatless.{table_floatless}
 use Rattle.cargo_toml_manifest.specs.Manifests.{product_reads}
 use Rattle.cargo_toml_write.proofs.Rows.{then, then_same, done, ends}
 use Rattle.cargo_toml_write.proofs.write.product.ProductToValue.to_value.Goals as goal
@@ -28,4 +28,4 @@ returns c =
     (then _ _ _ _ _ _ _ _ c.required.ensures
     (done _ _)))))))))))))
     c.finish.ensures in
-    record { written = written; read_again = reads_again product_way (product_meaning c.args.self.now) product_reads (product_meaning c.args.self.now) c.finish.result product_floatless written (product_again (product_meaning c.args.self.now)); memory = memory_alone product_way (product_meaning c.args.self.now) c.finish.result written (product_tree (product_meaning c.args.self.now)) }
+    record { written = written; read_again = reads_again product_way (product_meaning c.args.self.now) product_reads (product_meaning c.args.self.now) c.finish.result (table_floatless product_rows) written (product_again (product_meaning c.args.self.now)); memory = memory_alone product_way (product_meaning c.args.self.now) c.finish.result written (product_total.tree (product_meaning c.args.self.now)) }

@@ -1,7 +1,7 @@
 use Rattle.cargo_toml_package.specs.Templates.{template_meaning}
 use Rattle.cargo_toml_write.specs.WrittenTemplates.{template_rows, template_way}
 use Rattle.cargo_toml_write.specs.Writes.{IsWriting}
-use Rattle.cargo_toml_write.proofs.TotalTrees.{template_tree}
+use Rattle.cargo_toml_write.proofs.TotalTrees.{template_total}
 use Rattle.cargo_toml_write.proofs.Trees.{memory_alone}
 use Rattle.cargo_toml_write.proofs.Rows.{then, done, ends}
 use Rattle.cargo_toml_write.proofs.write.template.PackageTemplateToValue.to_value.Goals as goal
@@ -27,4 +27,4 @@ returns c =
     (then _ _ _ _ _ _ _ _ c.optional-14.ensures
     (done _ _)))))))))))))))))
     c.finish.ensures in
-    record { written = written; memory = memory_alone template_way (template_meaning c.args.self.now) c.finish.result written (template_tree (template_meaning c.args.self.now)) }
+    record { written = written; memory = memory_alone template_way (template_meaning c.args.self.now) c.finish.result written (template_total.tree (template_meaning c.args.self.now)) }

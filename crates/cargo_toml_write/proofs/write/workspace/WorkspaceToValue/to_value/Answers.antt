@@ -23,5 +23,5 @@ returns g c =
       written = written;
       memory = λ h.
           memory_alone (workspace_way g.Metadata.ToValue.way) (workspace_meaning g.Metadata.ToValue.meaning c.args.self.now) c.finish.result written
-          ((workspace_exact g.Metadata.ToValue.way (itself_exact g.Metadata.ToValue.way)).has (workspace_meaning g.Metadata.ToValue.meaning c.args.self.now) h);
+          ((workspace_exact g.Metadata.ToValue.way (itself_exact g.Metadata.ToValue.way g.met.Metadata.ToValue.floatless)).has (workspace_meaning g.Metadata.ToValue.meaning c.args.self.now) h);
     }

@@ -201,5 +201,5 @@ feature_here (v ∷ vs) (suc i) d up below = go (bytes_eq (text_at (names_of vs)
 
 -- a look at the place where a name would stand tells whether it has a feature
 pub told_there : (vs : List Feature) (i : ℕ) (f : Text) → AreInOrder vs → IsBoundOf vs i f → (b : Bool) → (b ≡ true → (i < length vs) × (text_at (names_of vs) i ≡ f)) → (b ≡ false → i < length vs → text_at (names_of vs) i ≡ f → ⊥) → b ≡ is_some (feature_at vs f)
-told_there vs i f up bound true yes no' = let here = yes refl in sym (feature_there vs i f here.0 here.1)
-told_there vs i f up bound false yes no' = sym (ap is_some (feature_missing vs f (place_free vs i f up (record { bound = bound; free = no' refl }))))
+told_there vs i f up bound true stands free = let here = stands refl in sym (feature_there vs i f here.0 here.1)
+told_there vs i f up bound false stands free = sym (ap is_some (feature_missing vs f (place_free vs i f up (record { bound = bound; free = free refl }))))

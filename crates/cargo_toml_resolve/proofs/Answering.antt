@@ -6,11 +6,12 @@ use Rattle.std.specs.Map.{lookup}
 use Rattle.std.specs.Option.{option_map_or}
 use Rattle.cargo_toml_features.specs.declared.features.Feature.{Feature}
 use Rattle.cargo_toml_features.specs.declared.features.FeatureDependency.{FeatureDependency}
-use Rattle.cargo_toml_features.specs.InOrder.{AreTable, feature_at, sorted_at}
+use Rattle.cargo_toml_features.specs.InOrder.{AreTable, feature_at, table_among}
+use Rattle.cargo_toml_resolve.specs.Searching.{has_key}
 use Rattle.cargo_toml_resolve.specs.declared.read.Mentions.{Mentions}
 use Rattle.cargo_toml_graph.specs.Action.{Text, Action}
 use Rattle.cargo_toml_graph.specs.Admitted.{Listed, is_explicit, joined_action}
-use Rattle.cargo_toml_resolve.specs.Slots.{Relates, held_in, table_held, AreKeyed}
+use Rattle.cargo_toml_resolve.specs.Slots.{Relates}
 use Rattle.cargo_toml_graph.specs.Graph.{Table}
 use Rattle.cargo_toml_resolve.specs.Implying.{Becomes, ImpliesAll, is_optional_at, is_offered}
 use Rattle.cargo_toml_resolve.specs.Reading.{IsRead, IsFresh, AreFresh}
@@ -36,9 +37,9 @@ or_not false true = refl
 or_not false false = refl
 
 -- the features without what dependencies have anyway
-module _ (entries : Text → List Entry) (old new : Slots Feature) (h : ThinnedAll entries old new) where
-  has_thinned : (f : Text) → is_some (held_in new f) ≡ is_some (held_in old f)
-  has_thinned f = go (held_in old f) (held_in new f) (h.at f)
+module _ (entries : Text → List Entry) (old new : List Feature) (h : ThinnedAll entries old new) where
+  has_thinned : (f : Text) → is_some (feature_at new f) ≡ is_some (feature_at old f)
+  has_thinned f = go (feature_at old f) (feature_at new f) (h.at f)
     where
       go : (o o' : Option Feature) → Relates (Thinned entries) o o' → is_some o' ≡ is_some o
       go None None r = refl
@@ -46,8 +47,8 @@ module _ (entries : Text → List Entry) (old new : Slots Feature) (h : ThinnedA
       go (Some a) None r = absurd r
       go (Some a) (Some b) r = refl
 
-  names_thinned : (f x : Text) → (table_held new).names f x ≡ (table_held old).names f x
-  names_thinned f x = go (held_in old f) (held_in new f) (h.at f)
+  names_thinned : (f x : Text) → (table_among new).names f x ≡ (table_among old).names f x
+  names_thinned f x = go (feature_at old f) (feature_at new f) (h.at f)
     where
       go : (o o' : Option Feature) → Relates (Thinned entries) o o' → option_map_or (λ v. has_text v.enables_features x) o' false ≡ option_map_or (λ v. has_text v.enables_features x) o false
       go None None r = refl
@@ -55,8 +56,8 @@ module _ (entries : Text → List Entry) (old new : Slots Feature) (h : ThinnedA
       go (Some a) None r = absurd r
       go (Some a) (Some b) r = rw r.names
 
-  action_thinned : (f k : Text) → (table_held new).action f k ≡ option_map (without_redundant (first_target (entries k))) ((table_held old).action f k)
-  action_thinned f k = go (held_in old f) (held_in new f) (h.at f)
+  action_thinned : (f k : Text) → (table_among new).action f k ≡ option_map (without_redundant (first_target (entries k))) ((table_among old).action f k)
+  action_thinned f k = go (feature_at old f) (feature_at new f) (h.at f)
     where
       go : (o o' : Option Feature) → Relates (Thinned entries) o o' → option_map_or (λ v. action_at v.enables_deps k) o' None ≡ option_map (without_redundant (first_target (entries k))) (option_map_or (λ v. action_at v.enables_deps k) o None)
       go None None r = refl
@@ -65,9 +66,9 @@ module _ (entries : Text → List Entry) (old new : Slots Feature) (h : ThinnedA
       go (Some a) (Some b) r = r.actions k
 
   fresh_thinned : (listed : Listed) (details : Details) → AreFresh listed details old → AreFresh listed details new
-  fresh_thinned listed details fresh f v s = subst (λ o. IfSome o (IsFresh f (detail_listed listed details f))) s (go (held_in old f) (held_in new f) refl (h.at f))
+  fresh_thinned listed details fresh f v s = subst (λ o. IfSome o (IsFresh f (detail_listed listed details f))) s (go (feature_at old f) (feature_at new f) refl (h.at f))
     where
-      go : (o o' : Option Feature) → held_in old f ≡ o → Relates (Thinned entries) o o' → IfSome o' (IsFresh f (detail_listed listed details f))
+      go : (o o' : Option Feature) → feature_at old f ≡ o → Relates (Thinned entries) o o' → IfSome o' (IsFresh f (detail_listed listed details f))
       go None None s r = tt
       go None (Some b) s r = absurd r
       go (Some a) None s r = absurd r
@@ -76,9 +77,9 @@ module _ (entries : Text → List Entry) (old new : Slots Feature) (h : ThinnedA
           record { key = ap (λ q. q.now) r.key ∙ k.key; marks = r.marks ∙ k.marks; enabled_by = ap (λ q. q.keys) r.enabled_by ∙ k.enabled_by; bins = ap (λ q. q.items) r.bins ∙ k.bins }
 
 -- the table with the implied features
-module _ (implied : Text → Bool) (old new : Slots Feature) (h : ImpliesAll implied old new) where
-  has_after : (f : Text) → is_some (held_in new f) ≡ (is_some (held_in old f) || implied f)
-  has_after f = go (implied f) (held_in old f) (held_in new f) (h.at f)
+module _ (implied : Text → Bool) (old new : List Feature) (h : ImpliesAll implied old new) where
+  has_after : (f : Text) → is_some (feature_at new f) ≡ (is_some (feature_at old f) || implied f)
+  has_after f = go (implied f) (feature_at old f) (feature_at new f) (h.at f)
     where
       go : (t : Bool) (o o' : Option Feature) → Becomes t f o o' → is_some o' ≡ (is_some o || t)
       go true None None b = absurd b
@@ -87,8 +88,8 @@ module _ (implied : Text → Bool) (old new : Slots Feature) (h : ImpliesAll imp
       go true (Some v) o' b = ap is_some b
       go false (Some v) o' b = ap is_some b
 
-  names_after : (f x : Text) → (table_held new).names f x ≡ (table_held old).names f x
-  names_after f x = go (implied f) (held_in old f) (held_in new f) (h.at f)
+  names_after : (f x : Text) → (table_among new).names f x ≡ (table_among old).names f x
+  names_after f x = go (implied f) (feature_at old f) (feature_at new f) (h.at f)
     where
       go : (t : Bool) (o o' : Option Feature) → Becomes t f o o' → option_map_or (λ v. has_text v.enables_features x) o' false ≡ option_map_or (λ v. has_text v.enables_features x) o false
       go true None None b = absurd b
@@ -97,8 +98,8 @@ module _ (implied : Text → Bool) (old new : Slots Feature) (h : ImpliesAll imp
       go true (Some v) o' b = rw b
       go false (Some v) o' b = rw b
 
-  action_after : (f k : Text) → (table_held new).action f k ≡ cond (is_some (held_in old f)) ((table_held old).action f k) (cond (implied f && bytes_eq k f) (Some plain) None)
-  action_after f k = go (implied f) (held_in old f) (held_in new f) (h.at f)
+  action_after : (f k : Text) → (table_among new).action f k ≡ cond (is_some (feature_at old f)) ((table_among old).action f k) (cond (implied f && bytes_eq k f) (Some plain) None)
+  action_after f k = go (implied f) (feature_at old f) (feature_at new f) (h.at f)
     where
       go : (t : Bool) (o o' : Option Feature) → Becomes t f o o' → option_map_or (λ v. action_at v.enables_deps k) o' None ≡ cond (is_some o) (option_map_or (λ v. action_at v.enables_deps k) o None) (cond (t && bytes_eq k f) (Some plain) None)
       go true None None b = absurd b
@@ -122,9 +123,9 @@ record IsTold (f : Text) (these : Marks) (own : List Text) (v : Feature) : Type 
   marks : marks_of v ≡ these
 
 -- binaries change neither what features say nor which enable them
-module _ (own : Text → List Text) (old new : Slots Feature) (h : RequiredAll own old new) where
-  has_required : (f : Text) → is_some (held_in new f) ≡ is_some (held_in old f)
-  has_required f = go (held_in old f) (held_in new f) (h.at f)
+module _ (own : Text → List Text) (old new : List Feature) (h : RequiredAll own old new) where
+  has_required : (f : Text) → is_some (feature_at new f) ≡ is_some (feature_at old f)
+  has_required f = go (feature_at old f) (feature_at new f) (h.at f)
     where
       go : (o o' : Option Feature) → Relates (Required (own f)) o o' → is_some o' ≡ is_some o
       go None None r = refl
@@ -132,8 +133,8 @@ module _ (own : Text → List Text) (old new : Slots Feature) (h : RequiredAll o
       go (Some a) None r = absurd r
       go (Some a) (Some b) r = refl
 
-  names_required : (f x : Text) → (table_held new).names f x ≡ (table_held old).names f x
-  names_required f x = go (held_in old f) (held_in new f) (h.at f)
+  names_required : (f x : Text) → (table_among new).names f x ≡ (table_among old).names f x
+  names_required f x = go (feature_at old f) (feature_at new f) (h.at f)
     where
       go : (o o' : Option Feature) → Relates (Required (own f)) o o' → option_map_or (λ v. has_text v.enables_features x) o' false ≡ option_map_or (λ v. has_text v.enables_features x) o false
       go None None r = refl
@@ -141,8 +142,8 @@ module _ (own : Text → List Text) (old new : Slots Feature) (h : RequiredAll o
       go (Some a) None r = absurd r
       go (Some a) (Some b) r = rw r.names
 
-  action_required : (f k : Text) → (table_held new).action f k ≡ (table_held old).action f k
-  action_required f k = go (held_in old f) (held_in new f) (h.at f)
+  action_required : (f k : Text) → (table_among new).action f k ≡ (table_among old).action f k
+  action_required f k = go (feature_at old f) (feature_at new f) (h.at f)
     where
       go : (o o' : Option Feature) → Relates (Required (own f)) o o' → option_map_or (λ v. action_at v.enables_deps k) o' None ≡ option_map_or (λ v. action_at v.enables_deps k) o None
       go None None r = refl
@@ -150,8 +151,8 @@ module _ (own : Text → List Text) (old new : Slots Feature) (h : RequiredAll o
       go (Some a) None r = absurd r
       go (Some a) (Some b) r = rw r.actions
 
-  told_required : (f : Text) (these : Marks) → IfSome (held_in old f) (IsMarked f these) → IfSome (held_in new f) (IsTold f these (own f))
-  told_required f these = go (held_in old f) (held_in new f) (h.at f)
+  told_required : (f : Text) (these : Marks) → IfSome (feature_at old f) (IsMarked f these) → IfSome (feature_at new f) (IsTold f these (own f))
+  told_required f these = go (feature_at old f) (feature_at new f) (h.at f)
     where
       go : (o o' : Option Feature) → Relates (Required (own f)) o o' → IfSome o (IsMarked f these) → IfSome o' (IsTold f these (own f))
       go None None r m = tt
@@ -164,15 +165,6 @@ module _ (own : Text → List Text) (old new : Slots Feature) (h : RequiredAll o
         marks = r.marks ∙ m.marks;
       }
 
-  pub keyed_required : AreKeyed old → AreKeyed new
-  keyed_required k f = go (held_in old f) (held_in new f) (h.at f) (k f)
-    where
-      go : (o o' : Option Feature) → Relates (Required (own f)) o o' → IfSome o (λ v. v.key.now ≡ f) → IfSome o' (λ v. v.key.now ≡ f)
-      go None None r m = tt
-      go None (Some b) r m = absurd r
-      go (Some a) None r m = absurd r
-      go (Some a) (Some b) r m = ap (λ q. q.now) r.key ∙ m
-
 same_recorded : (a b : Option Recorded) → a ≡ b → SameRecorded a b
 same_recorded a b e = subst (SameRecorded a) e (own a)
   where
@@ -180,20 +172,9 @@ same_recorded a b e = subst (SameRecorded a) e (own a)
     own None = tt
     own (Some r) = (refl, λ t. refl)
 
--- each feature stands under its own key from the reading of lists on
-pub keyed_from : (listed : Listed) (details : Details) (implied : Text → Bool) (read last : Slots Feature) → AreFresh listed details read → ImpliesAll implied read last → AreKeyed last
-keyed_from listed details implied read last fresh i f = implied_one (implied f) (held_in read f) (held_in last f) refl (i.at f)
-  where
-    implied_one : (b : Bool) (o o' : Option Feature) → held_in read f ≡ o → Becomes b f o o' → IfSome o' (λ v. v.key.now ≡ f)
-    implied_one true None None s b = tt
-    implied_one true None (Some v) s b = b.key
-    implied_one false None o' s b = subst (λ o. IfSome o (λ v. v.key.now ≡ f)) (sym b) tt
-    implied_one true (Some v) o' s b = subst (λ o. IfSome o (λ w. w.key.now ≡ f)) (sym b) (fresh f v s).key
-    implied_one false (Some v) o' s b = subst (λ o. IfSome o (λ w. w.key.now ≡ f)) (sym b) (fresh f v s).key
-
-module _ (listed : Listed) (entries : List Entry) (details : Details) (own : Text → List Text) (mentions : Mentions) (thinned implied last : Slots Feature) (deps : Slots FeatureDependency)
-    (r : IsRead listed (table_held mentions.features) (sorted_at mentions.acted)) (fresh : AreFresh listed details mentions.features)
-    (thins : (entries : Text → List Entry) → IsRecordOf deps entries → ThinnedAll entries mentions.features thinned) (i : ImpliesAll (is_offered mentions.acted entries) thinned implied)
+module _ (listed : Listed) (entries : List Entry) (details : Details) (own : Text → List Text) (mentions : Mentions) (thinned implied last : List Feature) (deps : Slots FeatureDependency)
+    (r : IsRead listed (table_among mentions.features.items) (has_key mentions.acted.keys) (has_key mentions.acted.reserved)) (fresh : AreFresh listed details mentions.features.items)
+    (thins : (entries : Text → List Entry) → IsRecordOf deps entries → ThinnedAll entries mentions.features.items thinned) (i : ImpliesAll (is_offered (has_key mentions.acted.reserved) entries) thinned implied)
     (b : RequiredAll own implied last)
     (recorded : ((k : Text) → is_mentioned_in mentions k ≡ is_mentioned listed k) → (k : Text) → recorded_at deps k ≡ recorded_of (entries_at listed entries k)) where
   abbrev t : Table
@@ -202,32 +183,32 @@ module _ (listed : Listed) (entries : List Entry) (details : Details) (own : Tex
   mentioned : (k : Text) → is_mentioned_in mentions k ≡ is_mentioned listed k
   mentioned k = ap₂ (λ x y. x || y) (r.has k) (r.acted_on k)
 
-  less : ThinnedAll (entries_at listed entries) mentions.features thinned
+  less : ThinnedAll (entries_at listed entries) mentions.features.items thinned
   less = thins (entries_at listed entries) (recorded mentioned)
 
   pub fresh_still : AreFresh listed details thinned
-  fresh_still = fresh_thinned (entries_at listed entries) mentions.features thinned less listed details fresh
+  fresh_still = fresh_thinned (entries_at listed entries) mentions.features.items thinned less listed details fresh
 
   -- what is left of an action on k
   abbrev left : Text → Action → Action
   left k = without_redundant (first_target (entries_at listed entries k))
 
-  has_still : (f : Text) → is_some (held_in thinned f) ≡ is_explicit listed f
-  has_still f = has_thinned (entries_at listed entries) mentions.features thinned less f ∙ r.has f
+  has_still : (f : Text) → is_some (feature_at thinned f) ≡ is_explicit listed f
+  has_still f = has_thinned (entries_at listed entries) mentions.features.items thinned less f ∙ r.has f
 
-  action_still : (f k : Text) → (table_held thinned).action f k ≡ option_map (left k) (joined_action listed f k)
-  action_still f k = action_thinned (entries_at listed entries) mentions.features thinned less f k ∙ ap (option_map (left k)) (r.action f k)
+  action_still : (f k : Text) → (table_among thinned).action f k ≡ option_map (left k) (joined_action listed f k)
+  action_still f k = action_thinned (entries_at listed entries) mentions.features.items thinned less f k ∙ ap (option_map (left k)) (r.action f k)
 
-  offered_is : (f : Text) → is_offered mentions.acted entries f ≡ (list_any (is_optional_at f) entries && not (is_reserved listed f))
-  offered_is f = ap (λ b. list_any (is_optional_at f) entries && not b) (r.reserved f)
+  offered_is : (f : Text) → is_offered (has_key mentions.acted.reserved) entries f ≡ (list_any (is_optional_at f) entries && not (is_reserved listed f))
+  offered_is f = ap (λ b. list_any (is_optional_at f) entries && not b) (r.reserves f)
 
-  same : Same (table_held implied) t
+  same : Same (table_among implied) t
   same = record {
-    has = λ f. has_after (is_offered mentions.acted entries) thinned implied i f ∙ ap (λ b. b || is_offered mentions.acted entries f) (has_still f) ∙ ap (λ b. is_explicit listed f || b) (offered_is f) ∙ or_not (is_explicit listed f) _;
-    names = λ f x. names_after (is_offered mentions.acted entries) thinned implied i f x ∙ names_thinned (entries_at listed entries) mentions.features thinned less f x ∙ r.names f x;
+    has = λ f. has_after (is_offered (has_key mentions.acted.reserved) entries) thinned implied i f ∙ ap (λ b. b || is_offered (has_key mentions.acted.reserved) entries f) (has_still f) ∙ ap (λ b. is_explicit listed f || b) (offered_is f) ∙ or_not (is_explicit listed f) _;
+    names = λ f x. names_after (is_offered (has_key mentions.acted.reserved) entries) thinned implied i f x ∙ names_thinned (entries_at listed entries) mentions.features.items thinned less f x ∙ r.names f x;
     action = λ f k.
-        action_after (is_offered mentions.acted entries) thinned implied i f k ∙ ap (λ b. cond b ((table_held thinned).action f k) (cond (is_offered mentions.acted entries f && bytes_eq k f) (Some plain) None)) (has_still f)
-        ∙ ap (λ o. cond (is_explicit listed f) o (cond (is_offered mentions.acted entries f && bytes_eq k f) (Some plain) None)) (action_still f k)
+        action_after (is_offered (has_key mentions.acted.reserved) entries) thinned implied i f k ∙ ap (λ b. cond b ((table_among thinned).action f k) (cond (is_offered (has_key mentions.acted.reserved) entries f && bytes_eq k f) (Some plain) None)) (has_still f)
+        ∙ ap (λ o. cond (is_explicit listed f) o (cond (is_offered (has_key mentions.acted.reserved) entries f && bytes_eq k f) (Some plain) None)) (action_still f k)
         ∙ ap (λ b. cond (is_explicit listed f) (option_map (left k) (joined_action listed f k)) (cond (b && bytes_eq k f) (Some plain) None)) (offered_is f)
         ∙ go (left k) refl (is_explicit listed f) (joined_action listed f k) (list_any (is_optional_at f) entries && not (is_reserved listed f)) (bytes_eq k f);
   }
@@ -238,7 +219,7 @@ module _ (listed : Listed) (entries : List Entry) (details : Details) (own : Tex
       go w p false o true false = refl
       go w p false o false b = refl
 
-  pub same_last : Same (table_held last) t
+  pub same_last : Same (table_among last) t
   same_last = record {
     has = λ f. has_required own implied last b f ∙ same.has f;
     names = λ f x. names_required own implied last b f x ∙ same.names f x;
@@ -257,40 +238,40 @@ module _ (listed : Listed) (entries : List Entry) (details : Details) (own : Tex
       go false true e = absurd (false≢true (sym e))
       go false false e = refl
 
-  marked_all : (f : Text) → IfSome (held_in implied f) (IsMarked f (marks_in listed details f))
-  marked_all f = middle (is_offered mentions.acted entries f) (held_in thinned f) (held_in implied f) refl (i.at f)
+  marked_all : (f : Text) → IfSome (feature_at implied f) (IsMarked f (marks_in listed details f))
+  marked_all f = middle (is_offered (has_key mentions.acted.reserved) entries f) (feature_at thinned f) (feature_at implied f) refl (i.at f)
     where
-      listed_one : (v : Feature) → held_in thinned f ≡ Some v → IsMarked f (marks_in listed details f) v
+      listed_one : (v : Feature) → feature_at thinned f ≡ Some v → IsMarked f (marks_in listed details f) v
       listed_one v s =
           let k = fresh_still f v s in
           record { key = k.key; enabled_by = k.enabled_by; bins = k.bins; marks = k.marks ∙ listed_marks f (sym (has_still f) ∙ ap is_some s) }
 
-      middle : (b : Bool) (o o' : Option Feature) → held_in thinned f ≡ o → Becomes b f o o' → IfSome o' (IsMarked f (marks_in listed details f))
+      middle : (b : Bool) (o o' : Option Feature) → feature_at thinned f ≡ o → Becomes b f o o' → IfSome o' (IsMarked f (marks_in listed details f))
       middle true None None s b = absurd b
       middle true None (Some v) s b = record { key = b.key; enabled_by = b.enabled_by; bins = b.bins; marks = b.marks ∙ implied_marks f (sym (has_still f) ∙ ap is_some s) }
       middle false None o' s b = subst (λ o. IfSome o (IsMarked f (marks_in listed details f))) (sym b) tt
       middle true (Some v) o' s b = subst (λ o. IfSome o (IsMarked f (marks_in listed details f))) (sym b) (listed_one v s)
       middle false (Some v) o' s b = subst (λ o. IfSome o (IsMarked f (marks_in listed details f))) (sym b) (listed_one v s)
 
-  told : (f : Text) → IfSome (held_in last f) (IsTold f (marks_in listed details f) (own f))
+  told : (f : Text) → IfSome (feature_at last f) (IsTold f (marks_in listed details f) (own f))
   told f = told_required own implied last b f (marks_in listed details f) (marked_all f)
 
-  pub marks_told : (f : Text) → IfSome (held_in last f) (λ v. marks_of v ≡ marks_in listed details f)
-  marks_told f = go (held_in last f) (told f)
+  pub marks_told : (f : Text) → IfSome (feature_at last f) (λ v. marks_of v ≡ marks_in listed details f)
+  marks_told f = go (feature_at last f) (told f)
     where
       go : (o : Option Feature) → IfSome o (IsTold f (marks_in listed details f) (own f)) → IfSome o (λ v. marks_of v ≡ marks_in listed details f)
       go None k = tt
       go (Some v) k = k.marks
 
-  pub bins_told : (f : Text) → IfSome (held_in last f) (λ v. map (λ b. b.now) v.required_by_bins.items ≡ own f)
-  bins_told f = go (held_in last f) (told f)
+  pub bins_told : (f : Text) → IfSome (feature_at last f) (λ v. map (λ b. b.now) v.required_by_bins.items ≡ own f)
+  bins_told f = go (feature_at last f) (told f)
     where
       go : (o : Option Feature) → IfSome o (IsTold f (marks_in listed details f) (own f)) → IfSome o (λ v. map (λ b. b.now) v.required_by_bins.items ≡ own f)
       go None k = tt
       go (Some v) k = k.bins
 
-  pub no_enablers_told : (f : Text) → IfSome (held_in last f) (λ v. v.enabled_by.keys ≡ [])
-  no_enablers_told f = go (held_in last f) (told f)
+  pub no_enablers_told : (f : Text) → IfSome (feature_at last f) (λ v. v.enabled_by.keys ≡ [])
+  no_enablers_told f = go (feature_at last f) (told f)
     where
       go : (o : Option Feature) → IfSome o (IsTold f (marks_in listed details f) (own f)) → IfSome o (λ v. v.enabled_by.keys ≡ [])
       go None k = tt
@@ -299,14 +280,6 @@ module _ (listed : Listed) (entries : List Entry) (details : Details) (own : Tex
   pub dependencies_told : (k : Text) → SameRecorded (recorded_at deps k) (recorded_of (entries_at listed entries k))
   dependencies_told k = same_recorded (recorded_at deps k) (recorded_of (entries_at listed entries k)) (recorded mentioned k)
 
--- a list that has the same under each name
-module _ (s : Slots Feature) (vs : List Feature) (same_held : (f : Text) → feature_at vs f ≡ held_in s f) where
-  pub table_among : (t : Table) → Same (table_held s) t → AreTable t vs
-  table_among t u = record {
-    has = λ f. ap is_some (same_held f) ∙ u.has f;
-    names = λ f x. ap (λ o. option_map_or (λ v. has_text v.enables_features x) o false) (same_held f) ∙ u.names f x;
-    action = λ f k. ap (λ o. option_map_or (λ v. action_at v.enables_deps k) o None) (same_held f) ∙ u.action f k;
-  }
-
-  pub told_among : (P : Feature → Type 0) (f : Text) → IfSome (held_in s f) P → IfSome (feature_at vs f) P
-  told_among P f before = subst (λ o. IfSome o P) (sym (same_held f)) before
+-- tables that say the same, of a list
+pub are_table : (vs : List Feature) (t : Table) → Same (table_among vs) t → AreTable t vs
+are_table vs t u = record { has = u.has; names = u.names; action = u.action }

@@ -5,7 +5,7 @@ use Rattle.std.specs.Map.{lookup}
 use Rattle.std.specs.Option.{option_map_or, option_or, IsSomeAnd}
 use Rattle.std.proofs.lemmas.Bool.{false≢true, false_from_ne_true, or_right}
 use Rattle.std.proofs.lemmas.List.{get_or-map, length-map, map_push, map-append, take_more, take-append-drop}
-use Rattle.std.proofs.lemmas.List.Folds.{list_any_at}
+use Rattle.std.proofs.lemmas.List.Folds.{list_any-append}
 use Rattle.std.proofs.lemmas.Map.Made.{is_some-lookup}
 use Rattle.std.proofs.lemmas.List.Sums.{fold_push}
 use Rattle.std.proofs.lemmas.Slice.Eq.{bytes_eq-Decides}
@@ -15,14 +15,13 @@ use Rattle.cargo_toml_features.specs.declared.admit.Listing.{Listing}
 use Rattle.cargo_toml_graph.specs.Action.{Text, Action, item_of}
 use Rattle.cargo_toml_graph.specs.Admitted.{Listed, is_explicit, items, item_names, joined_action}
 use Rattle.cargo_toml_graph.specs.Reach.{Among, IsOnce}
-use Rattle.cargo_toml_resolve.specs.ReadFeature.{joined_in, noted, IsListed}
+use Rattle.cargo_toml_resolve.specs.ReadFeature.{joined_in, IsListed}
 use Rattle.cargo_toml_dependencies.specs.Details.{Detail, plain_detail}
 use Rattle.cargo_toml_features.specs.Marks.{Details, detail_at, detail_in, detail_listed, details_of}
 use Rattle.cargo_toml_features.specs.Views.{listed_of, has_text, action_at}
 use Rattle.cargo_toml_resolve.specs.Reading.{AreFresh, IsFresh, IsRead}
 use Rattle.cargo_toml_features.specs.Recorded.{is_reserved}
-use Rattle.cargo_toml_resolve.specs.Slots.{held_in, table_held}
-use Rattle.cargo_toml_resolve.specs.declared.slots.Slots.{Slots}
+use Rattle.cargo_toml_features.specs.InOrder.{feature_at, table_among}
 use Rattle.cargo_toml_features.proofs.Listings.{listed_one, names_listed}
 use Rattle.cargo_toml_graph.proofs.Texts.{bytes_eq_refl}
 
@@ -33,20 +32,27 @@ Holds f d None (Some v) = ⊥
 Holds f d (Some actions) None = ⊥
 Holds f d (Some actions) (Some v) = IsListed f d (map item_of actions) v
 
-pub record HasRead (listed : Listed) (details : Details) (m : Slots Feature) : Type 0 where
-  pub at : (f : Text) → Holds f (detail_at details f) (lookup (bytes_eq f) listed) (held_in m f)
+pub record HasRead (listed : Listed) (details : Details) (m : List Feature) : Type 0 where
+  pub at : (f : Text) → Holds f (detail_at details f) (lookup (bytes_eq f) listed) (feature_at m f)
 
--- what all actions on k come to
-abbrev pub noted_in : Listed → Text → Option Bool
-noted_in listed k = fold (λ o e. noted o (joined_in (map item_of e.1) k)) None listed
+-- what a list says of k
+abbrev pub said : Text → Text × List Text → Option Action
+said k e = joined_in (map item_of e.1) k
+
+-- some list says of k what passes
+abbrev pub told_in : (Option Action → Bool) → Listed → Text → Bool
+told_in passes listed k = list_any (λ e. passes (said k e)) listed
+
+abbrev pub is_dep_only : Option Action → Bool
+is_dep_only o = option_map_or (λ a. a.is_dep_only) o false
 
 or-false : (a : Bool) → (a || false) ≡ a
 or-false true = refl
 or-false false = refl
 
-or-assoc : (a b c : Bool) → ((a || b) || c) ≡ (a || (b || c))
-or-assoc true b c = refl
-or-assoc false b c = refl
+-- nothing is read of no lists
+pub none_read : (details : Details) (m : List Feature) → m ≡ [] → HasRead [] details m
+none_read details m none = record { at = λ f. subst (λ vs. Holds f (detail_at details f) None (feature_at vs f)) (sym none) tt }
 
 lookup_push : (f : Text) (es : Listed) (e : Text × List Text) → lookup (bytes_eq f) (es ++ e ∷ []) ≡ option_or (lookup (bytes_eq f) es) (cond (bytes_eq f e.0) (Some e.1) None)
 lookup_push f [] e = refl
@@ -97,24 +103,40 @@ module _ (ls : List Listing) (i : ℕ) (l : Listing) (below : i < length ls) (is
           go false later none = later none
 
   -- one more feature is read
-  pub read_more : (m m' : Slots Feature) (v : Feature) → HasRead (listed_of (take i ls)) (details_of ls) m
-      → IsListed l.name.now (detail_in l.detail) (map item_of (map string_bytes l.actions.now)) v → ((f : Text) → held_in m' f ≡ cond (bytes_eq f l.name.now) (Some v) (held_in m f)) → HasRead (listed_of (take (i + 1) ls)) (details_of ls) m'
-  read_more m m' v before listed put = record { at = λ f. subst (λ es. Holds f (detail_at (details_of ls) f) (lookup (bytes_eq f) es) (held_in m' f)) (sym one_more) (subst (λ o. Holds f (detail_at (details_of ls) f) o (held_in m' f)) (sym (lookup_push f (listed_of (take i ls)) (listed_one l))) (subst (Holds f (detail_at (details_of ls) f) _) (sym (put f)) (go f (bytes_eq f l.name.now) refl))) }
+  pub read_more : (m m' : List Feature) (v : Feature) → HasRead (listed_of (take i ls)) (details_of ls) m
+      → IsListed l.name.now (detail_in l.detail) (map item_of (map string_bytes l.actions.now)) v
+      → ((f : Text) → feature_at m' f ≡ option_or (feature_at m f) (cond (bytes_eq f v.key.now) (Some v) None)) → HasRead (listed_of (take (i + 1) ls)) (details_of ls) m'
+  read_more m m' v before listed put = record {
+    at = λ f. subst (λ es. Holds f (detail_at (details_of ls) f) (lookup (bytes_eq f) es) (feature_at m' f)) (sym one_more) (subst (λ o. Holds f (detail_at (details_of ls) f) o (feature_at m' f)) (sym (lookup_push f (listed_of (take i ls)) (listed_one l)))
+        (subst (Holds f (detail_at (details_of ls) f) _) (sym (put f ∙ ap (λ n. option_or (feature_at m f) (cond (bytes_eq f n) (Some v) None)) listed.fresh.key)) (go f (bytes_eq f l.name.now) refl)));
+  }
     where
-      or_none : (o : Option (List Text)) → option_or o None ≡ o
+      or_none : {X : Type 0} (o : Option X) → option_or o None ≡ o
       or_none None = refl
       or_none (Some ts) = refl
 
-      go : (f : Text) (b : Bool) → bytes_eq f l.name.now ≡ b → Holds f (detail_at (details_of ls) f) (option_or (lookup (bytes_eq f) (listed_of (take i ls))) (cond b (Some (map string_bytes l.actions.now)) None)) (cond b (Some v) (held_in m f))
-      go f true e = subst (λ n. Holds n (detail_at (details_of ls) n) (option_or (lookup (bytes_eq n) (listed_of (take i ls))) (Some (map string_bytes l.actions.now))) (Some v)) (sym ((bytes_eq-Decides f l.name.now).0 e))
-          (subst (λ o. Holds l.name.now (detail_at (details_of ls) l.name.now) (option_or o (Some (map string_bytes l.actions.now))) (Some v)) (sym not_before)
-          (subst (λ d. IsListed l.name.now d (map item_of (map string_bytes l.actions.now)) v) (sym said_here) listed))
-      go f false e = subst (λ o. Holds f (detail_at (details_of ls) f) o (held_in m f)) (sym (or_none (lookup (bytes_eq f) (listed_of (take i ls))))) (before.at f)
+      gone : (o : Option (List Text)) (w : Option Feature) → o ≡ None → Holds l.name.now (detail_at (details_of ls) l.name.now) o w → w ≡ None
+      gone None None e h = refl
+      gone None (Some w) e h = absurd h
+      gone (Some ts) w e h = absurd (false≢true (sym (ap is_some e)))
 
-  pub noted_next : (k : Text) (before now : Option Bool) → before ≡ noted_in (listed_of (take i ls)) k → now ≡ noted before (joined_in (map item_of (map string_bytes l.actions.now)) k) → now ≡ noted_in (listed_of (take (i + 1) ls)) k
-  noted_next k before now before_is now_is =
-      now_is ∙ ap (λ o. noted o (joined_in (map item_of (map string_bytes l.actions.now)) k)) before_is
-      ∙ sym (ap (λ es. noted_in es k) one_more ∙ fold_push (λ o e. noted o (joined_in (map item_of e.1) k)) None (listed_of (take i ls)) (listed_one l))
+      none_before : feature_at m l.name.now ≡ None
+      none_before = gone (lookup (bytes_eq l.name.now) (listed_of (take i ls))) (feature_at m l.name.now) not_before (before.at l.name.now)
+
+      go : (f : Text) (b : Bool) → bytes_eq f l.name.now ≡ b
+          → Holds f (detail_at (details_of ls) f) (option_or (lookup (bytes_eq f) (listed_of (take i ls))) (cond b (Some (map string_bytes l.actions.now)) None)) (option_or (feature_at m f) (cond b (Some v) None))
+      go f true e = subst (λ n. Holds n (detail_at (details_of ls) n) (option_or (lookup (bytes_eq n) (listed_of (take i ls))) (Some (map string_bytes l.actions.now))) (option_or (feature_at m n) (Some v))) (sym ((bytes_eq-Decides f l.name.now).0 e))
+          (subst (λ o. Holds l.name.now (detail_at (details_of ls) l.name.now) (option_or o (Some (map string_bytes l.actions.now))) (option_or (feature_at m l.name.now) (Some v))) (sym not_before)
+          (subst (λ o. Holds l.name.now (detail_at (details_of ls) l.name.now) (Some (map string_bytes l.actions.now)) (option_or o (Some v))) (sym none_before)
+          (subst (λ d. IsListed l.name.now d (map item_of (map string_bytes l.actions.now)) v) (sym said_here) listed)))
+      go f false e = subst (λ o. Holds f (detail_at (details_of ls) f) o (option_or (feature_at m f) None)) (sym (or_none (lookup (bytes_eq f) (listed_of (take i ls)))))
+          (subst (Holds f (detail_at (details_of ls) f) (lookup (bytes_eq f) (listed_of (take i ls)))) (sym (or_none (feature_at m f))) (before.at f))
+
+  pub told_next : (passes : Option Action → Bool) (k : Text) (before now : Bool) → before ≡ told_in passes (listed_of (take i ls)) k → now ≡ (before || passes (joined_in (map item_of (map string_bytes l.actions.now)) k)) → now ≡ told_in passes (listed_of (take (i + 1) ls)) k
+  told_next passes k before now before_is now_is =
+      now_is ∙ ap (λ b. b || passes (joined_in (map item_of (map string_bytes l.actions.now)) k)) before_is
+      ∙ sym (ap (λ es. told_in passes es k) one_more ∙ list_any-append (λ (e : Text × List Text). passes (said k e)) (listed_of (take i ls)) (listed_one l ∷ [])
+      ∙ ap (λ b. told_in passes (listed_of (take i ls)) k || b) (or-false _))
 
 -- what one list holds, by its look-up
 holds_some : (f : Text) (d : Detail) (o : Option (List Text)) (v : Option Feature) → Holds f d o v → is_some v ≡ is_some o
@@ -179,46 +201,18 @@ found_each (e ∷ es) once = (
   weaken _ _ (λ d h. ap (λ b. cond b (Some e.1) (lookup (bytes_eq d.0) es)) h.1 ∙ h.0) es (both _ _ es (found_each es once.1) (later_apart e.0 es once.0)),
 )
 
-module _ (k : Text) where
-  abbrev said : Text × List Text → Option Action
-  said e = joined_in (map item_of e.1) k
-
-  abbrev is_said_dep_only : Text × List Text → Bool
-  is_said_dep_only e = option_map_or (λ a. a.is_dep_only) (said e) false
-
-  noted_some : (o : Option Bool) (es : Listed) → is_some (fold (λ n e. noted n (said e)) o es) ≡ (is_some o || list_any (λ e. is_some (said e)) es)
-  noted_some o [] = sym (or-false (is_some o))
-  noted_some o (e ∷ es) = noted_some (noted o (said e)) es ∙ ap (λ b. b || list_any (λ e. is_some (said e)) es) (one o (said e)) ∙ or-assoc (is_some o) (is_some (said e)) _
-    where
-      one : (o : Option Bool) (a : Option Action) → is_some (noted o a) ≡ (is_some o || is_some a)
-      one o None = sym (or-false (is_some o))
-      one None (Some a) = refl
-      one (Some b) (Some a) = refl
-
-  noted_dep_only : (o : Option Bool) (es : Listed) → unwrap_or (fold (λ n e. noted n (said e)) o es) false ≡ (unwrap_or o false || list_any is_said_dep_only es)
-  noted_dep_only o [] = sym (or-false (unwrap_or o false))
-  noted_dep_only o (e ∷ es) = noted_dep_only (noted o (said e)) es ∙ ap (λ b. b || list_any is_said_dep_only es) (one o (said e)) ∙ or-assoc (unwrap_or o false) (is_said_dep_only e) _
-    where
-      one : (o : Option Bool) (a : Option Action) → unwrap_or (noted o a) false ≡ (unwrap_or o false || option_map_or (λ b. b.is_dep_only) a false)
-      one o None = sym (or-false (unwrap_or o false))
-      one None (Some a) = refl
-      one (Some b) (Some a) = refl
-
 module _ (listed : Listed) (once : IsOnce (map (λ e. e.0) listed)) (k : Text) where
   -- what the table's actions on k come to, of each entry
   joined_each : AllByRecursion (λ e. joined_action listed e.0 k ≡ said k e) listed
   joined_each = weaken _ _ (λ e found. ap (λ o. joined_in (map item_of (unwrap_or o [])) k) found) listed (found_each listed once)
 
-  noted_is_some : is_some (noted_in listed k) ≡ list_any (λ e. is_some (joined_action listed e.0 k)) listed
-  noted_is_some = noted_some k None listed ∙ sym (list_any_same _ _ listed (weaken _ _ (λ e same. ap is_some same) listed joined_each))
+  told_all : (passes : Option Action → Bool) → told_in passes listed k ≡ list_any (λ e. passes (joined_action listed e.0 k)) listed
+  told_all passes = sym (list_any_same _ _ listed (weaken _ _ (λ e same. ap passes same) listed joined_each))
 
-  noted_is_dep_only : unwrap_or (noted_in listed k) false ≡ is_reserved listed k
-  noted_is_dep_only = noted_dep_only k None listed ∙ sym (list_any_same _ _ listed (weaken _ _ (λ e same. ap (λ o. option_map_or (λ a. a.is_dep_only) o false) same) listed joined_each))
-
-module _ (listed : Listed) (details : Details) (m m' : Slots Feature) (read : HasRead listed details m)
-    (others : (f : Text) → bytes_eq f (codes "default") ≡ false → held_in m' f ≡ held_in m f)
-    (default : MatchOption (held_in m (codes "default")) (IsSomeAnd (held_in m' (codes "default")) (IsListed (codes "default") plain_detail [])) (λ v. held_in m' (codes "default") ≡ Some v)) where
-  holds_all : (f : Text) → Holds f (detail_listed listed details f) (with_default listed f) (held_in m' f)
+module _ (listed : Listed) (details : Details) (m m' : List Feature) (read : HasRead listed details m)
+    (others : (f : Text) → bytes_eq f (codes "default") ≡ false → feature_at m' f ≡ feature_at m f)
+    (default : MatchOption (feature_at m (codes "default")) (IsSomeAnd (feature_at m' (codes "default")) (IsListed (codes "default") plain_detail [])) (λ v. feature_at m' (codes "default") ≡ Some v)) where
+  holds_all : (f : Text) → Holds f (detail_listed listed details f) (with_default listed f) (feature_at m' f)
   holds_all f = go (bytes_eq f (codes "default")) refl
     where
       here : (d : Detail) (o : Option (List Text)) (v v' : Option Feature) → Holds (codes "default") d o v → MatchOption v (IsSomeAnd v' (IsListed (codes "default") plain_detail [])) (λ w. v' ≡ Some w) → Holds (codes "default") (cond (is_some o) d plain_detail) (option_or o (Some [])) v'
@@ -234,33 +228,24 @@ module _ (listed : Listed) (details : Details) (m m' : Slots Feature) (read : Ha
       there d (Some ts) None h = absurd h
       there d (Some ts) (Some v) h = h
 
-      go : (b : Bool) → bytes_eq f (codes "default") ≡ b → Holds f (detail_listed listed details f) (option_or (lookup (bytes_eq f) listed) (cond b (Some []) None)) (held_in m' f)
-      go true e = subst (λ q. Holds q (detail_listed listed details q) (option_or (lookup (bytes_eq q) listed) (Some [])) (held_in m' q)) (sym ((bytes_eq-Decides f (codes "default")).0 e))
-          (here (detail_at details (codes "default")) (lookup (bytes_eq (codes "default")) listed) (held_in m (codes "default")) (held_in m' (codes "default")) (read.at (codes "default")) default)
-      go false e = there (detail_at details f) (lookup (bytes_eq f) listed) (held_in m' f) (subst (Holds f (detail_at details f) (lookup (bytes_eq f) listed)) (sym (others f e)) (read.at f))
+      go : (b : Bool) → bytes_eq f (codes "default") ≡ b → Holds f (detail_listed listed details f) (option_or (lookup (bytes_eq f) listed) (cond b (Some []) None)) (feature_at m' f)
+      go true e = subst (λ q. Holds q (detail_listed listed details q) (option_or (lookup (bytes_eq q) listed) (Some [])) (feature_at m' q)) (sym ((bytes_eq-Decides f (codes "default")).0 e))
+          (here (detail_at details (codes "default")) (lookup (bytes_eq (codes "default")) listed) (feature_at m (codes "default")) (feature_at m' (codes "default")) (read.at (codes "default")) default)
+      go false e = there (detail_at details f) (lookup (bytes_eq f) listed) (feature_at m' f) (subst (Holds f (detail_at details f) (lookup (bytes_eq f) listed)) (sym (others f e)) (read.at f))
 
   -- each feature that is held is as its list and its details say
   pub all_fresh : AreFresh listed details m'
   all_fresh f v is = holds_fresh f (detail_listed listed details f) (with_default listed f) v (subst (Holds f (detail_listed listed details f) (with_default listed f)) is (holds_all f))
 
-  pub all_read : (acted : Text → Option Bool) → ((k : Text) → acted k ≡ noted_in listed k) → IsOnce (map (λ e. e.0) listed) → IsRead listed (table_held m') acted
-  all_read acted acted_is once = record {
-    has = λ f. holds_some f (detail_listed listed details f) (with_default listed f) (held_in m' f) (holds_all f) ∙ default_some (bytes_eq f (codes "default")) (lookup (bytes_eq f) listed);
-    names = λ f x. holds_names f x (detail_listed listed details f) (with_default listed f) (held_in m' f) (holds_all f) ∙ ap (λ is. list_any (item_names x) is) (lists f);
-    action = λ f k. holds_action f k (detail_listed listed details f) (with_default listed f) (held_in m' f) (holds_all f) ∙ ap (λ is. joined_in is k) (lists f);
-    acted_on = λ k. ap is_some (acted_is k) ∙ noted_is_some listed once k;
-    reserved = λ k. ap (λ o. unwrap_or o false) (acted_is k) ∙ noted_is_dep_only listed once k;
+  pub all_read : (acted reserved : Text → Bool) → ((k : Text) → acted k ≡ told_in is_some listed k) → ((k : Text) → reserved k ≡ told_in is_dep_only listed k) → IsOnce (map (λ e. e.0) listed)
+      → IsRead listed (table_among m') acted reserved
+  all_read acted reserved acted_is reserved_is once = record {
+    has = λ f. holds_some f (detail_listed listed details f) (with_default listed f) (feature_at m' f) (holds_all f) ∙ default_some (bytes_eq f (codes "default")) (lookup (bytes_eq f) listed);
+    names = λ f x. holds_names f x (detail_listed listed details f) (with_default listed f) (feature_at m' f) (holds_all f) ∙ ap (λ is. list_any (item_names x) is) (lists f);
+    action = λ f k. holds_action f k (detail_listed listed details f) (with_default listed f) (feature_at m' f) (holds_all f) ∙ ap (λ is. joined_in is k) (lists f);
+    acted_on = λ k. acted_is k ∙ told_all listed once k is_some;
+    reserves = λ k. reserved_is k ∙ told_all listed once k is_dep_only;
   }
     where
       lists : (f : Text) → map item_of (unwrap_or (with_default listed f) []) ≡ items listed f
       lists f = ap (map item_of) (default_list (bytes_eq f (codes "default")) (lookup (bytes_eq f) listed))
-
--- what is listed is explicit
-pub explicit_there : (ls : List Listing) (i : ℕ) (l : Listing) → i < length ls → l ≡ get_or ls i l → IsTrue (is_explicit (listed_of ls) l.name.now)
-explicit_there ls i l below is =
-    or_right (bytes_eq l.name.now (codes "default")) _ (is_some-lookup (bytes_eq l.name.now) (listed_of ls) ∙ ap (list_any (bytes_eq l.name.now)) (names_listed ls) ∙ listed_at)
-  where
-    listed_at : list_any (bytes_eq l.name.now) (map (λ (x : Listing). x.name.now) ls) ≡ true
-    listed_at =
-        list_any_at (bytes_eq l.name.now) (map (λ (x : Listing). x.name.now) ls) i l.name.now (subst (λ n. i < n) (sym (length-map ls (λ (x : Listing). x.name.now))) below)
-        (ap (bytes_eq l.name.now) (get_or-map (λ (x : Listing). x.name.now) ls i l l.name.now below ∙ ap (λ (x : Listing). x.name.now) (sym is)) ∙ bytes_eq_refl l.name.now)

@@ -8,10 +8,10 @@ use Rattle.cargo_toml_resolve.specs.declared.bins.Requirement.{Requirement}
 use Rattle.cargo_toml_features.specs.declared.features.Feature.{Feature}
 use Rattle.cargo_toml_graph.specs.Action.{Text}
 use Rattle.cargo_toml_graph.proofs.Texts.{bytes_eq_sym}
-use Rattle.cargo_toml_resolve.specs.Slots.{Relates, held_in}
+use Rattle.cargo_toml_features.specs.InOrder.{feature_at}
+use Rattle.cargo_toml_resolve.specs.Slots.{Relates}
 use Rattle.cargo_toml_resolve.specs.OwnBins.{own_of, requirement_of}
 use Rattle.cargo_toml_resolve.specs.Requiring.{Required, RequiredAll}
-use Rattle.cargo_toml_resolve.specs.declared.slots.Slots.{Slots}
 
 nothing : (own : List Text) → own ≡ [] → (o : Option Feature) → Relates (Required own) o o
 nothing own none None = tt
@@ -40,11 +40,11 @@ both p q r same (Some a) (Some b) (Some c) h k = record {
 }
 
 module _ where
-  pub required_more : (p q r : Text → List Text) (a b c : Slots Feature) → ((x : Text) → r x ≡ p x ++ q x) → RequiredAll p a b → RequiredAll q b c → RequiredAll r a c
-  required_more p q r a b c same h k = record { at = λ x. both (p x) (q x) (r x) (same x) (held_in a x) (held_in b x) (held_in c x) (h.at x) (k.at x) }
+  pub required_more : (p q r : Text → List Text) (a b c : List Feature) → ((x : Text) → r x ≡ p x ++ q x) → RequiredAll p a b → RequiredAll q b c → RequiredAll r a c
+  required_more p q r a b c same h k = record { at = λ x. both (p x) (q x) (r x) (same x) (feature_at a x) (feature_at b x) (feature_at c x) (h.at x) (k.at x) }
 
   -- one binary at one feature
-  module _ (key by : Text) (m : Slots Feature) where
+  module _ (key by : Text) (m : List Feature) where
     one : (q : Text) (t : Bool) → bytes_eq q key ≡ t → own_of ((key, by) ∷ []) q ≡ cond t (by ∷ []) []
     one q t is = ap (λ b. map (λ (r : Text × Text). r.1) (cond b ((key, by) ∷ []) [])) is ∙ pick t
       where
@@ -52,29 +52,26 @@ module _ where
         pick true = refl
         pick false = refl
 
-    pub required_nowhere : held_in m key ≡ None → RequiredAll (own_of ((key, by) ∷ [])) m m
+    pub required_nowhere : feature_at m key ≡ None → RequiredAll (own_of ((key, by) ∷ [])) m m
     required_nowhere gone = record { at = λ q. go q (bytes_eq q key) refl }
       where
-        go : (q : Text) (t : Bool) → bytes_eq q key ≡ t → Relates (Required (own_of ((key, by) ∷ []) q)) (held_in m q) (held_in m q)
-        go q true on = subst (λ o. Relates (Required (own_of ((key, by) ∷ []) q)) o o) (sym (ap (held_in m) ((bytes_eq-Decides q key).0 on) ∙ gone)) tt
-        go q false off = nothing (own_of ((key, by) ∷ []) q) (one q false off) (held_in m q)
+        go : (q : Text) (t : Bool) → bytes_eq q key ≡ t → Relates (Required (own_of ((key, by) ∷ []) q)) (feature_at m q) (feature_at m q)
+        go q true on = subst (λ o. Relates (Required (own_of ((key, by) ∷ []) q)) o o) (sym (ap (feature_at m) ((bytes_eq-Decides q key).0 on) ∙ gone)) tt
+        go q false off = nothing (own_of ((key, by) ∷ []) q) (one q false off) (feature_at m q)
 
-    pub required_back : (n : Slots Feature) → held_in m key ≡ None → ((q : Text) → held_in n q ≡ held_in m q) → RequiredAll (own_of ((key, by) ∷ [])) m n
-    required_back n gone same = record { at = λ q. subst (λ o. Relates (Required (own_of ((key, by) ∷ []) q)) (held_in m q) o) (sym (same q)) ((required_nowhere gone).at q) }
-
-    pub required_at : (n : Slots Feature) (old w : Feature) → held_in m key ≡ Some old → ((q : Text) → held_in n q ≡ cond (bytes_eq key q) (Some w) (held_in m q))
+    pub required_at : (n : List Feature) (old w : Feature) → feature_at m key ≡ Some old → ((q : Text) → feature_at n q ≡ cond (bytes_eq key q) (Some w) (feature_at m q))
         → Required (by ∷ []) old w → RequiredAll (own_of ((key, by) ∷ [])) m n
     required_at n old w was after is = record { at = λ q. go q (bytes_eq q key) refl }
       where
-        go : (q : Text) (t : Bool) → bytes_eq q key ≡ t → Relates (Required (own_of ((key, by) ∷ []) q)) (held_in m q) (held_in n q)
+        go : (q : Text) (t : Bool) → bytes_eq q key ≡ t → Relates (Required (own_of ((key, by) ∷ []) q)) (feature_at m q) (feature_at n q)
         go q true on =
-            subst (λ own. Relates (Required own) (held_in m q) (held_in n q)) (sym (one q true on))
-            (subst (λ o. Relates (Required (by ∷ [])) (held_in m q) o) (sym (after q ∙ ap (λ t. cond t (Some w) (held_in m q)) (bytes_eq_sym key q ∙ on)))
-            (subst (λ o. Relates (Required (by ∷ [])) o (Some w)) (sym (ap (held_in m) ((bytes_eq-Decides q key).0 on) ∙ was)) is))
+            subst (λ own. Relates (Required own) (feature_at m q) (feature_at n q)) (sym (one q true on))
+            (subst (λ o. Relates (Required (by ∷ [])) (feature_at m q) o) (sym (after q ∙ ap (λ t. cond t (Some w) (feature_at m q)) (bytes_eq_sym key q ∙ on)))
+            (subst (λ o. Relates (Required (by ∷ [])) o (Some w)) (sym (ap (feature_at m) ((bytes_eq-Decides q key).0 on) ∙ was)) is))
         go q false off =
-            subst (λ own. Relates (Required own) (held_in m q) (held_in n q)) (sym (one q false off))
-            (subst (λ o. Relates (Required []) (held_in m q) o) (sym (after q ∙ ap (λ t. cond t (Some w) (held_in m q)) (bytes_eq_sym key q ∙ off)))
-            (nothing [] refl (held_in m q)))
+            subst (λ own. Relates (Required own) (feature_at m q) (feature_at n q)) (sym (one q false off))
+            (subst (λ o. Relates (Required []) (feature_at m q) o) (sym (after q ∙ ap (λ t. cond t (Some w) (feature_at m q)) (bytes_eq_sym key q ∙ off)))
+            (nothing [] refl (feature_at m q)))
 
 -- one requirement more
 pub own_more : (r s : List (Text × Text)) (q : Text) → own_of (r ++ s) q ≡ own_of r q ++ own_of s q

@@ -1,10 +1,11 @@
 -- Features that optional dependencies imply: words of a step of resolving, on which no
 -- public contract rests.
 use Rattle.std.specs.Prelude.{◌≡◌, ◌&&◌, not, Bool, true, false, List, [], Option}
-use Rattle.std.specs.Prelude.{Some, None, bytes_eq, if◌then◌else◌, unwrap_or}
+use Rattle.std.specs.Prelude.{IsTrue, Vec, Some, None, bytes_eq, if◌then◌else◌}
 use Rattle.std.specs.Option.{IsSomeAnd}
 use Rattle.std.specs.List.{list_any}
 use Rattle.std.specs.Borrow.{Bor}
+use Rattle.std.specs.declared.alloc.Global.{Global}
 use Rattle.cargo_toml_dependencies.specs.Dependencies.{is_optional}
 use Rattle.cargo_toml_dependencies.specs.Details.{plain_detail}
 use Rattle.cargo_toml_features.specs.declared.features.Feature.{Feature}
@@ -13,10 +14,8 @@ use Rattle.cargo_toml_features.specs.Marks.{marked, marks_of}
 use Rattle.cargo_toml_features.specs.Recorded.{Entry}
 use Rattle.cargo_toml_features.specs.Resolved.{plain}
 use Rattle.cargo_toml_features.specs.Views.{has_text, action_at}
-use Rattle.cargo_toml_resolve.specs.Slots.{held_in}
-use Rattle.cargo_toml_resolve.specs.declared.slots.Slots.{Slots}
-use Rattle.std.specs.BTreeMap.{BTreeMap}
-use Rattle.cargo_toml_features.specs.InOrder.{sorted_at}
+use Rattle.cargo_toml_features.specs.InOrder.{feature_at}
+use Rattle.cargo_toml_resolve.specs.Searching.{has_key}
 
 -- the implied feature of the key q: it names nothing, has one plain action on itself, and
 -- nothing is said of it
@@ -39,13 +38,22 @@ Becomes false q (Some v) o = o ≡ Some v
 abbrev pub is_optional_at : Text → Entry → Bool
 is_optional_at q e = bytes_eq e.key q && is_optional e.dependency
 
--- some action on k is dep-only
-abbrev pub is_reserved_in : BTreeMap (Bor Text) Bool → Text → Bool
-is_reserved_in acted k = unwrap_or (sorted_at acted k) false
-
 -- some entry is optional, and its key is not reserved
-abbrev pub is_offered : BTreeMap (Bor Text) Bool → List Entry → Text → Bool
-is_offered acted entries q = list_any (is_optional_at q) entries && not (is_reserved_in acted q)
+abbrev pub is_offered : (Text → Bool) → List Entry → Text → Bool
+is_offered reserved entries q = list_any (is_optional_at q) entries && not (reserved q)
 
-pub record ImpliesAll (implied : Text → Bool) (old new : Slots Feature) : Type 0 where
-  pub at : (q : Text) → Becomes (implied q) q (held_in old q) (held_in new q)
+-- the entry is optional, and its key is not reserved
+abbrev pub is_offered_alone : (Text → Bool) → Entry → Bool
+is_offered_alone reserved e = is_optional e.dependency && not (reserved e.key)
+
+-- of the names that are implied, those without a feature gained the implied one
+pub record ImpliesAll (implied : Text → Bool) (old new : List Feature) : Type 0 where
+  pub at : (q : Text) → Becomes (implied q) q (feature_at old q) (feature_at new q)
+
+-- the key is one of these
+abbrev pub is_one_of : List Text → Text → Bool
+is_one_of keys q = list_any (bytes_eq q) keys
+
+-- none of the keys has a feature yet
+abbrev pub AreFree : Vec (Bor Text) Global → List Feature → Type 0
+AreFree keys vs = (q : Text) → IsTrue (has_key keys q) → feature_at vs q ≡ None

@@ -7,3 +7,6 @@ pub mod OwnBins
 pub mod Requiring
 pub mod Slots
 pub mod Ascending
+pub mod Searching
+pub mod Acting
+pub mod Placing

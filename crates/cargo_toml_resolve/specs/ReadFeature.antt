@@ -1,5 +1,5 @@
 -- One feature as its list is read.
-use Rattle.std.specs.Prelude.{◌≡◌, Bool, ◌||◌, List, Option, Some, None, bytes_eq, fold}
+use Rattle.std.specs.Prelude.{◌≡◌, List, Option, None, bytes_eq, fold}
 use Rattle.std.specs.List.{list_any}
 use Rattle.cargo_toml_dependencies.specs.Details.{Detail}
 use Rattle.cargo_toml_features.specs.declared.features.Feature.{Feature}
@@ -24,9 +24,3 @@ pub record IsGathered (f : Text) (d : Detail) (items : List Item) (named : List 
   pub fresh : IsFresh f d v
   pub names : (x : Text) → list_any (bytes_eq x) named ≡ list_any (item_names x) items
   pub action : (k : Text) → action_at v.enables_deps k ≡ joined_in items k
-
--- whether some action on a key is dep-only, once one more is read
-abbrev pub noted : Option Bool → Option Action → Option Bool
-noted o None = o
-noted None (Some a) = Some a.is_dep_only
-noted (Some b) (Some a) = Some (b || a.is_dep_only)

@@ -12,7 +12,8 @@ use Rattle.cargo_toml_features.specs.Recorded.{Entry, Recorded, target_cmp}
 use Rattle.cargo_toml_features.specs.Views.{recorded_in}
 use Rattle.cargo_toml_resolve.specs.Slots.{held_in}
 use Rattle.cargo_toml_resolve.specs.declared.slots.Slots.{Slots}
-use Rattle.cargo_toml_features.specs.InOrder.{sorted_at}
+use Rattle.cargo_toml_features.specs.InOrder.{feature_at}
+use Rattle.cargo_toml_resolve.specs.Searching.{has_key}
 
 -- what a map of dependencies records of a key
 abbrev pub recorded_at : Slots FeatureDependency → Text → Option Recorded
@@ -45,7 +46,7 @@ recorded_with (Some r) e = recorded_next r e
 
 -- k is a feature, or one acts on it
 abbrev pub is_mentioned_in : Mentions → Text → Bool
-is_mentioned_in m k = is_some (held_in m.features k) || is_some (sorted_at m.acted k)
+is_mentioned_in m k = is_some (feature_at m.features.items k) || has_key m.acted.keys k
 
 -- what is recorded of q after e, where o was recorded of q before: e counts if its key is recorded
 -- already or mentioned, or e is optional

@@ -4,7 +4,8 @@ use Rattle.std.specs.Prelude.{◌≡◌, List, option_map}
 use Rattle.cargo_toml_features.specs.declared.features.Feature.{Feature}
 use Rattle.cargo_toml_features.specs.declared.features.FeatureDependency.{FeatureDependency}
 use Rattle.cargo_toml_graph.specs.Action.{Text}
-use Rattle.cargo_toml_resolve.specs.Slots.{Relates, held_in}
+use Rattle.cargo_toml_resolve.specs.Slots.{Relates}
+use Rattle.cargo_toml_features.specs.InOrder.{feature_at}
 use Rattle.cargo_toml_features.specs.Marks.{marks_of}
 use Rattle.cargo_toml_features.specs.Recorded.{Entry, first_target, recorded_of, without_redundant}
 use Rattle.cargo_toml_resolve.specs.Recording.{recorded_at}
@@ -27,5 +28,5 @@ pub record Thinned (entries : Text → List Entry) (old new : Feature) : Type 0 
   pub marks : marks_of new ≡ marks_of old
 
 -- so did each feature
-pub record ThinnedAll (entries : Text → List Entry) (old new : Slots Feature) : Type 0 where
-  pub at : (q : Text) → Relates (Thinned entries) (held_in old q) (held_in new q)
+pub record ThinnedAll (entries : Text → List Entry) (old new : List Feature) : Type 0 where
+  pub at : (q : Text) → Relates (Thinned entries) (feature_at old q) (feature_at new q)

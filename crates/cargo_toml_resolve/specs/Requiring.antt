@@ -2,10 +2,10 @@
 -- public contract rests.
 use Rattle.std.specs.Prelude.{◌≡◌, ◌++◌, List, map}
 use Rattle.cargo_toml_features.specs.declared.features.Feature.{Feature}
+use Rattle.cargo_toml_features.specs.InOrder.{feature_at}
 use Rattle.cargo_toml_features.specs.Marks.{marks_of}
 use Rattle.cargo_toml_graph.specs.Action.{Text}
-use Rattle.cargo_toml_resolve.specs.Slots.{Relates, held_in}
-use Rattle.cargo_toml_resolve.specs.declared.slots.Slots.{Slots}
+use Rattle.cargo_toml_resolve.specs.Slots.{Relates}
 
 -- the feature gained these binaries, and nothing else changed
 pub record Required (more : List Text) (old new : Feature) : Type 0 where
@@ -18,5 +18,5 @@ pub record Required (more : List Text) (old new : Feature) : Type 0 where
       ≡ map (λ b. b.now) old.required_by_bins.items ++ more
 
 -- so did each feature
-pub record RequiredAll (own : Text → List Text) (old new : Slots Feature) : Type 0 where
-  pub at : (q : Text) → Relates (Required (own q)) (held_in old q) (held_in new q)
+pub record RequiredAll (own : Text → List Text) (old new : List Feature) : Type 0 where
+  pub at : (q : Text) → Relates (Required (own q)) (feature_at old q) (feature_at new q)

@@ -1,14 +1,10 @@
 -- Values under names that stand in byte order.
-use Rattle.std.specs.Prelude.{◌≡◌, if◌then◌else◌, false, List, [], ◌∷◌, length, map, Option, None}
-use Rattle.std.specs.Prelude.{Some, IfSome, bytes_eq, is_some}
-use Rattle.std.specs.Option.{option_map_or}
-use Rattle.cargo_toml_features.specs.declared.features.Feature.{Feature}
+use Rattle.std.specs.Prelude.{◌≡◌, if◌then◌else◌, List, [], ◌∷◌, length, map, Option, None}
+use Rattle.std.specs.Prelude.{Some, IfSome, bytes_eq}
 use Rattle.cargo_toml_features.specs.declared.features.FeatureDependency.{FeatureDependency}
 use Rattle.cargo_toml_features.specs.FirstTarget.{HasTarget}
 use Rattle.cargo_toml_resolve.specs.declared.slots.Slots.{Slots}
 use Rattle.cargo_toml_graph.specs.Action.{Text}
-use Rattle.cargo_toml_graph.specs.Graph.{Table}
-use Rattle.cargo_toml_features.specs.Views.{action_at, has_text}
 
 module _ {V : Type 0} where
   -- of names and as many values, the value of the first place of a name
@@ -35,18 +31,6 @@ module _ {V : Type 0} where
   Relates Changes None (Some b) = ⊥
   Relates Changes (Some a) None = ⊥
   Relates Changes (Some a) (Some b) = Changes a b
-
--- features under names, as a table
-abbrev pub table_held : Slots Feature → Table
-table_held s = record {
-  has = λ f. is_some (held_in s f);
-  names = λ f x. option_map_or (λ v. has_text v.enables_features x) (held_in s f) false;
-  action = λ f k. option_map_or (λ v. action_at v.enables_deps k) (held_in s f) None;
-}
-
--- each feature stands under its own key
-abbrev pub AreKeyed : Slots Feature → Type 0
-AreKeyed s = (f : Text) → IfSome (held_in s f) (λ v. v.key.now ≡ f)
 
 -- each dependency that stands under a name has a target
 abbrev pub HeldHaveTargets : Slots FeatureDependency → Type 0

@@ -1,12 +1,11 @@
 //! Which binaries require which features.
-ghost use Rattle.std.specs.Prelude.{◌<◌, ◌∷◌, [], length, map, OnOk};
+ghost use Rattle.std.specs.Prelude.{◌≡◌, ◌<◌, ◌∷◌, [], length, map, IfOk, OnOk};
 ghost use Rattle.cargo_toml_resolve.specs.OwnBins.{own_of, requirement_of};
 ghost use Rattle.cargo_toml_resolve.specs.Requiring.{RequiredAll};
-ghost use Rattle.cargo_toml_resolve.specs.Slots.{HaveSameNames, names_in};
+ghost use Rattle.cargo_toml_features.specs.InOrder.{AreInOrder, names_of};
 ghost use Rattle.cargo_toml_walk.specs.Numbered.{text_at};
 
-use crate::places::place_near;
-use crate::slots::Slots;
+use crate::ordered::place_among;
 use cargo_toml_features::features::Feature;
 use std::alloc::AllocError;
 
@@ -19,55 +18,70 @@ pub struct Requirement<'m> {
     pub bin: &'m str,
 }
 
-// Adds a binary to the feature at this place, if there is one.
+// Adds a binary to the feature at this place.
 fn require_at<'m>(
-    features: &mut Slots<'m, Feature<'m>>,
+    features: &mut [Feature<'m>],
     place: usize,
     bin: &'m str,
 ) -> Result<(), AllocError>
-    requires place { place < length features.old.names.items }
+    requires place { place < length features.old }
+    requires in_order { AreInOrder features.old }
     ensures required { OnOk result
-        (RequiredAll (own_of ((text_at (names_in features.old) place, bin.now) ∷ [])) features.old
+        (RequiredAll (own_of ((text_at (names_of features.old) place, bin.now) ∷ [])) features.old
         features.new) }
-    ensures same_names { OnOk result (HaveSameNames features.old features.new) }
+    ensures same_names { names_of features.new ≡ names_of features.old }
 {
-    if let Some(feature) = &mut features.values[place] {
-        feature.required_by_bins.push(bin)?;
-    }
+    features[place].required_by_bins.push(bin)?;
     Ok(())
 }
 
 // Adds the binary to the feature that it requires, if there is one of that name. The answer is
-// where the name stood, or else `near`, where it is looked for first.
+// where the feature stood, or else `near`, where it is looked for first.
 fn require<'m>(
-    features: &mut Slots<'m, Feature<'m>>,
+    features: &mut [Feature<'m>],
     requirement: &Requirement<'m>,
     near: usize,
 ) -> Result<usize, AllocError>
+    requires { AreInOrder features.old }
     ensures required { OnOk result
         (RequiredAll (own_of (requirement_of requirement.now ∷ [])) features.old features.new) }
-    ensures same_names { OnOk result (HaveSameNames features.old features.new) }
+    ensures same_names { names_of features.new ≡ names_of features.old }
 {
-    let Some(place) = place_near(features.names.as_slice(), requirement.feature, near) else {
+    let Some(place) = place_among(features, requirement.feature, near) else {
         return Ok(near);
     };
     require_at(features, place, requirement.bin)?;
     Ok(place.saturating_add(1))
 }
 
-/// Adds each binary to the features that it requires, once for each mention; a feature that isn't
-/// there is passed over. The names stay. It fails only where memory runs out.
-pub fn require_all<'m>(
-    features: &mut Slots<'m, Feature<'m>>,
+// Adds each binary to the features that it requires.
+fn require_all<'m>(
+    features: &mut [Feature<'m>],
     requirements: &[Requirement<'m>],
 ) -> Result<(), AllocError>
+    requires { AreInOrder features.old }
     ensures required { OnOk result
         (RequiredAll (own_of (map requirement_of requirements.now)) features.old features.new) }
-    ensures same_names { OnOk result (HaveSameNames features.old features.new) }
+    ensures same_names { names_of features.new ≡ names_of features.old }
 {
     let mut near = 0;
     for requirement in requirements {
         near = require(features, requirement, near)?;
     }
     Ok(())
+}
+
+/// The features, each with the binaries that require it, once for each mention. A feature that
+/// isn't there is passed over. It fails only where memory runs out.
+pub fn with_bins<'m>(
+    mut features: Vec<Feature<'m>>,
+    requirements: &[Requirement<'m>],
+) -> Result<Vec<Feature<'m>>, AllocError>
+    requires { AreInOrder features.items }
+    ensures in_order { IfOk result (λ vs. AreInOrder vs.items) }
+    ensures required { IfOk result (λ vs.
+        RequiredAll (own_of (map requirement_of requirements.now)) features.entry.items vs.items) }
+{
+    require_all(features.as_mut_slice(), requirements)?;
+    Ok(features)
 }

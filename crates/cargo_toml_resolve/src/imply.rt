@@ -1,20 +1,23 @@
 //! Which features optional dependencies imply.
-ghost use Rattle.std.specs.Prelude.{◌≡◌, ◌<◌, ◌∷◌, [], bytes_eq, length, map, IfOk, IsTrue, OnOk};
-ghost use Rattle.std.specs.List.{list_any};
-ghost use Rattle.cargo_toml_dependencies.specs.Dependencies.{dependency_meaning, is_optional};
-ghost use Rattle.cargo_toml_resolve.specs.Implying.{IsImplied, ImpliesAll, is_offered};
-ghost use Rattle.cargo_toml_resolve.specs.Implying.{is_optional_at, is_reserved_in};
-ghost use Rattle.cargo_toml_resolve.specs.Slots.{HaveSameNames, names_in};
-ghost use Rattle.cargo_toml_features.specs.Views.{entry_of};
-ghost use Rattle.cargo_toml_walk.specs.Numbered.{text_at};
+ghost use Rattle.std.specs.Prelude.{◌≡◌, ◌||◌, ◌∷◌, [], List, bytes_eq, map, take};
+ghost use Rattle.std.specs.Prelude.{IfOk, IsTrue, OnOk, None};
 ghost use Rattle.cargo_toml_graph.specs.Action.{Text};
-ghost use Rattle.cargo_toml_graph.specs.Reach.{Among};
+ghost use Rattle.cargo_toml_features.specs.InOrder.{AreInOrder, feature_at};
+ghost use Rattle.cargo_toml_features.specs.Views.{entry_of};
+ghost use Rattle.cargo_toml_resolve.specs.Implying.{AreFree, IsImplied, ImpliesAll};
+ghost use Rattle.cargo_toml_resolve.specs.Implying.{is_offered, is_offered_alone, is_one_of};
+ghost use Rattle.cargo_toml_resolve.specs.Searching.{has_key};
 
-use crate::places::place_near;
-use crate::slots::Slots;
+use crate::acted::Acted;
+use crate::names::ascending;
+use crate::ordered::{insert_at, is_there, lower_bound, put_feature, stands_at};
 use cargo_toml_features::features::{DepAction, Feature, ParseDependency};
 use std::alloc::{AllocError, Global};
 use std::collections::{BTreeMap, BTreeSet};
+
+/// So many optional entries have their features put among the others one by one. Of more they are
+/// merged with them, so that not each moves those behind it.
+pub const FEW: usize = 16;
 
 // The feature that the optional dependency of a key implies. Nothing is said of it, whatever is
 // said of features of that name.
@@ -40,74 +43,209 @@ fn implied_feature(alloc: Global, key: &str) -> Result<Feature<'_>, AllocError>
     })
 }
 
-// Whether some action on the key is dep-only.
-fn is_reserved(acted: &BTreeMap<&str, bool>, key: &str) -> bool
-    ensures { result ≡ is_reserved_in acted.now key.now }
-{
-    acted.get(key).copied().unwrap_or(false)
-}
-
-// The key implies a feature at its place, where none is there.
-fn imply_at<'m>(
+// The key implies a feature, where none of its name is there.
+fn imply_key<'m>(
     alloc: Global,
-    features: &mut Slots<'m, Feature<'m>>,
-    place: usize,
+    features: &mut Vec<Feature<'m>>,
     key: &'m str,
 ) -> Result<(), AllocError>
-    requires place { place < length features.old.names.items }
-    requires named { text_at (names_in features.old) place ≡ key.now }
-    ensures implied { OnOk result (ImpliesAll (λ q. bytes_eq q key.now) features.old features.new) }
-    ensures same_names { OnOk result (HaveSameNames features.old features.new) }
+    requires { AreInOrder features.old.items }
+    ensures in_order { OnOk result (AreInOrder features.new.items) }
+    ensures implied { OnOk result
+        (ImpliesAll (λ q. bytes_eq q key.now) features.old.items features.new.items) }
 {
-    if features.values[place].is_none() {
+    let place = lower_bound(features.as_slice(), key);
+    if !stands_at(features.as_slice(), place, key) {
         let feature = implied_feature(alloc, key)?;
-        features.put(place, feature);
+        insert_at(features, place, feature)?;
     }
     Ok(())
 }
 
-// Adds the feature that the entry implies, if it does. The answer is the place after it, or else
-// `near`, where it is looked for first. The key of an optional entry is a name.
+// Whether the entry is optional, and no action on its key is dep-only.
+fn offers(acted: &Acted<'_>, entry: &ParseDependency<'_, '_>) -> bool
+    ensures { result ≡ is_offered_alone (has_key acted.now.reserved) (entry_of entry.now) }
+{
+    entry.dep.optional() && !acted.reserves(entry.key)
+}
+
+// Adds the feature that the entry implies, if it does.
 fn imply<'m>(
     alloc: Global,
-    features: &mut Slots<'m, Feature<'m>>,
-    acted: &BTreeMap<&'m str, bool>,
+    features: &mut Vec<Feature<'m>>,
+    acted: &Acted<'m>,
     entry: &ParseDependency<'m, '_>,
-    near: usize,
-) -> Result<usize, AllocError>
-    requires named { IsTrue (is_optional (dependency_meaning entry.now.dep.now))
-        → Among (names_in features.old) entry.now.key.now }
+) -> Result<(), AllocError>
+    requires { AreInOrder features.old.items }
+    ensures in_order { OnOk result (AreInOrder features.new.items) }
     ensures implied { OnOk result
-        (ImpliesAll (is_offered acted.now (entry_of entry.now ∷ [])) features.old features.new) }
-    ensures same_names { OnOk result (HaveSameNames features.old features.new) }
+        (ImpliesAll (is_offered (has_key acted.now.reserved) (entry_of entry.now ∷ []))
+        features.old.items features.new.items) }
 {
-    if !entry.dep.optional() || is_reserved(acted, entry.key) {
-        return Ok(near);
+    if !offers(acted, entry) {
+        return Ok(());
     }
-    let Some(place) = place_near(features.names.as_slice(), entry.key, near) else {
-        unreachable!()
-    };
-    imply_at(alloc, features, place, entry.key)?;
-    Ok(place.saturating_add(1))
+    imply_key(alloc, features, entry.key)?;
+    Ok(())
 }
 
-/// Adds the features that optional dependencies imply. The keys of optional entries are among the
-/// names, which stay. It fails only where memory runs out.
-pub fn imply_all<'m>(
+// Adds the features that entries imply, each by itself.
+fn imply_all<'m>(
     alloc: Global,
-    features: &mut Slots<'m, Feature<'m>>,
-    acted: &BTreeMap<&'m str, bool>,
+    features: &mut Vec<Feature<'m>>,
+    acted: &Acted<'m>,
     entries: &[ParseDependency<'m, '_>],
 ) -> Result<(), AllocError>
-    requires named { (k : Text) → IsTrue (list_any (is_optional_at k) (map entry_of entries.now))
-        → Among (names_in features.old) k }
+    requires { AreInOrder features.old.items }
+    ensures in_order { OnOk result (AreInOrder features.new.items) }
     ensures implied { OnOk result
-        (ImpliesAll (is_offered acted.now (map entry_of entries.now)) features.old features.new) }
-    ensures same_names { OnOk result (HaveSameNames features.old features.new) }
+        (ImpliesAll (is_offered (has_key acted.now.reserved) (map entry_of entries.now))
+        features.old.items features.new.items) }
 {
-    let mut near = 0;
     for entry in entries {
-        near = imply(alloc, features, acted, entry, near)?;
+        imply(alloc, features, acted, entry)?;
     }
     Ok(())
+}
+
+// Notes the key of the entry, if it implies a feature and none of its name is there.
+fn note_implied<'m>(
+    keys: &mut Vec<&'m str>,
+    features: &[Feature<'m>],
+    acted: &Acted<'m>,
+    entry: &ParseDependency<'m, '_>,
+) -> Result<(), AllocError>
+    requires { AreInOrder features.now }
+    ensures noted { OnOk result ((q : Text) → feature_at features.now q ≡ None
+        → has_key keys.new q ≡ (has_key keys.old q
+        || is_offered (has_key acted.now.reserved) (entry_of entry.now ∷ []) q)) }
+    ensures free { OnOk result (AreFree keys.old features.now → AreFree keys.new features.now) }
+{
+    if !offers(acted, entry) || is_there(features, entry.key) {
+        return Ok(());
+    }
+    keys.push(entry.key)?;
+    Ok(())
+}
+
+// The keys of the features that entries imply and that aren't there, in byte order.
+fn implied_keys<'m>(
+    alloc: Global,
+    features: &[Feature<'m>],
+    acted: &Acted<'m>,
+    entries: &[ParseDependency<'m, '_>],
+    room: usize,
+) -> Result<Vec<&'m str>, AllocError>
+    requires { AreInOrder features.now }
+    ensures keys { IfOk result (λ ks. (q : Text) → feature_at features.now q ≡ None
+        → has_key ks q ≡ is_offered (has_key acted.now.reserved) (map entry_of entries.now) q) }
+    ensures free { IfOk result (λ ks. AreFree ks features.now) }
+{
+    let mut keys = Vec::with_capacity(alloc, room)?;
+    for entry in entries {
+        note_implied(&mut keys, features, acted, entry)?;
+    }
+    Ok(ascending(keys))
+}
+
+// Adds the features of the keys from a place on that are below the bound. The answer is the place
+// of the first key that isn't.
+fn imply_below<'m>(
+    alloc: Global,
+    all: &mut Vec<Feature<'m>>,
+    keys: &[&'m str],
+    from: usize,
+    bound: &str,
+) -> Result<usize, AllocError>
+    requires { AreInOrder all.old.items }
+    ensures in_order { OnOk result (AreInOrder all.new.items) }
+    ensures implied { IfOk result (λ next. (started : List Feature)
+        → ImpliesAll (is_one_of (map (λ k. k.now) (take from keys.now))) started all.old.items
+        → ImpliesAll (is_one_of (map (λ k. k.now) (take next keys.now))) started all.new.items) }
+{
+    let mut next = from;
+    while next < keys.len() && keys[next] < bound {
+        imply_key(alloc, all, keys[next])?;
+        next += 1;
+    }
+    Ok(next)
+}
+
+// Adds the features of the keys from a place on.
+fn imply_rest<'m>(
+    alloc: Global,
+    all: &mut Vec<Feature<'m>>,
+    keys: &[&'m str],
+    from: usize,
+) -> Result<(), AllocError>
+    requires { AreInOrder all.old.items }
+    ensures in_order { OnOk result (AreInOrder all.new.items) }
+    ensures implied { OnOk result ((started : List Feature)
+        → ImpliesAll (is_one_of (map (λ k. k.now) (take from keys.now))) started all.old.items
+        → ImpliesAll (is_one_of (map (λ k. k.now) keys.now)) started all.new.items) }
+{
+    let mut next = from;
+    while next < keys.len() {
+        imply_key(alloc, all, keys[next])?;
+        next += 1;
+    }
+    Ok(())
+}
+
+// The features and those of the keys, which aren't there: both in byte order, so that each is put
+// behind those before it.
+fn merged<'m>(
+    alloc: Global,
+    features: Vec<Feature<'m>>,
+    keys: &[&'m str],
+) -> Result<Vec<Feature<'m>>, AllocError>
+    requires free { (q : Text) → IsTrue (is_one_of (map (λ k. k.now) keys.now) q)
+        → feature_at features.items q ≡ None }
+    ensures in_order { IfOk result (λ vs. AreInOrder vs.items) }
+    ensures implied { IfOk result (λ vs.
+        ImpliesAll (is_one_of (map (λ k. k.now) keys.now)) features.entry.items vs.items) }
+{
+    let mut all = Vec::with_capacity(alloc, features.len().saturating_add(keys.len()))?;
+    let mut next = 0;
+    for feature in features {
+        next = imply_below(alloc, &mut all, keys, next, feature.key)?;
+        put_feature(&mut all, feature)?;
+    }
+    imply_rest(alloc, &mut all, keys, next)?;
+    Ok(all)
+}
+
+/// How many entries are optional, and so may imply a feature.
+pub fn optional_count(entries: &[ParseDependency<'_, '_>]) -> usize {
+    let mut count: usize = 0;
+    for entry in entries {
+        if entry.dep.optional() {
+            count = count.saturating_add(1);
+        }
+    }
+    count
+}
+
+/// The features with those that optional dependencies imply, of which there are so many entries.
+/// It fails only where memory runs out.
+pub fn with_implied<'m>(
+    alloc: Global,
+    mut features: Vec<Feature<'m>>,
+    acted: &Acted<'m>,
+    entries: &[ParseDependency<'m, '_>],
+    optional: usize,
+) -> Result<Vec<Feature<'m>>, AllocError>
+    requires { AreInOrder features.items }
+    ensures in_order { IfOk result (λ vs. AreInOrder vs.items) }
+    ensures implied { IfOk result (λ vs.
+        ImpliesAll (is_offered (has_key acted.now.reserved) (map entry_of entries.now))
+        features.entry.items vs.items) }
+{
+    if optional > FEW {
+        let keys = implied_keys(alloc, features.as_slice(), acted, entries, optional)?;
+        merged(alloc, features, keys.as_slice())
+    } else {
+        imply_all(alloc, &mut features, acted, entries)?;
+        Ok(features)
+    }
 }

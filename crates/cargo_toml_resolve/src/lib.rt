@@ -5,9 +5,12 @@
 //! `cargo_toml::features::Resolver`.
 #![tactic(auto)]
 
+mod acted;
+mod acting;
 pub mod bins;
 mod imply;
 mod names;
+mod ordered;
 pub mod places;
 mod read;
 pub mod record;

@@ -4,13 +4,11 @@ ghost use Rattle.std.specs.Prelude.{bytes_eq, if◌then◌else◌, length, map};
 ghost use Rattle.std.specs.Option.{option_copied};
 ghost use Rattle.cargo_toml_graph.specs.Action.{Text};
 ghost use Rattle.cargo_toml_graph.specs.Reach.{Among};
-ghost use Rattle.cargo_toml_features.specs.InOrder.{AreInOrder, feature_at};
 ghost use Rattle.cargo_toml_resolve.specs.Ascending.{Ascend};
-ghost use Rattle.cargo_toml_resolve.specs.Slots.{AreKeyed, HaveSameNames, held_in, names_in};
+ghost use Rattle.cargo_toml_resolve.specs.Slots.{HaveSameNames, held_in, names_in};
 ghost use Rattle.cargo_toml_walk.specs.Numbered.{text_at};
 
 use crate::slots::Slots;
-use cargo_toml_features::features::Feature;
 use cargo_toml_walk::texts::place_of;
 use std::alloc::{AllocError, Global};
 
@@ -75,23 +73,4 @@ impl<'n, V: Drop> Slots<'n, V> {
     {
         self.values[place] = Some(value);
     }
-}
-
-/// The features, in the byte order of their names, where each stands under its own key. It fails
-/// only where memory runs out.
-pub fn into_features<'m>(
-    alloc: Global,
-    slots: Slots<'m, Feature<'m>>,
-) -> Result<Vec<Feature<'m>>, AllocError>
-    requires keyed { AreKeyed slots }
-    ensures in_order { IfOk result (λ v. AreInOrder v.items) }
-    ensures same { IfOk result (λ v. (f : Text) → feature_at v.items f ≡ held_in slots.entry f) }
-{
-    let mut features = Vec::with_capacity(alloc, slots.values.len())?;
-    for value in slots.values {
-        if let Some(feature) = value {
-            features.push(feature)?;
-        }
-    }
-    Ok(features)
 }

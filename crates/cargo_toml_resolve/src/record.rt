@@ -5,6 +5,7 @@ ghost use Rattle.std.specs.List.{list_any};
 ghost use Rattle.cargo_toml_graph.specs.Action.{Text};
 ghost use Rattle.cargo_toml_graph.specs.Reach.{Among};
 ghost use Rattle.cargo_toml_graph.specs.Admitted.{Listed};
+ghost use Rattle.cargo_toml_features.specs.InOrder.{AreInOrder};
 ghost use Rattle.cargo_toml_features.specs.Recorded.{is_mentioned, entries_at, recorded_of};
 ghost use Rattle.cargo_toml_resolve.specs.Recording.{counts_alone, counts_at, is_mentioned_in};
 ghost use Rattle.cargo_toml_resolve.specs.Recording.{recorded_after, recorded_at, recorded_next};
@@ -14,6 +15,7 @@ ghost use Rattle.cargo_toml_features.specs.Views.{entry_of, recorded_in, target_
 ghost use Rattle.cargo_toml_walk.specs.Numbered.{text_at};
 
 use crate::names::ascending;
+use crate::ordered::is_there;
 use crate::places::{empty_slots, place_near};
 use crate::read::Mentions;
 use crate::slots::Slots;
@@ -60,11 +62,12 @@ fn add_target<'m: 'd, 'd>(
 
 // Whether an entry counts by itself.
 fn counts<'m>(mentions: &Mentions<'m>, entry: &ParseDependency<'m, '_>) -> bool
+    requires { AreInOrder mentions.now.features.items }
     ensures { result ≡ counts_alone (is_mentioned_in mentions.now) (entry_of entry.now) }
 {
     entry.dep.optional()
-        || mentions.features.get(entry.key).is_some()
-        || mentions.acted.contains_key(entry.key)
+        || mentions.acted.has(entry.key)
+        || is_there(mentions.features.as_slice(), entry.key)
 }
 
 // Which entries count by themselves, and the keys of these.
@@ -81,6 +84,7 @@ fn counting_entries<'m: 'd, 'd>(
     mentions: &Mentions<'m>,
     entries: &[ParseDependency<'m, 'd>],
 ) -> Result<Counting<'d>, AllocError>
+    requires { AreInOrder mentions.now.features.items }
     ensures flags { IfOk result (λ v. v.flags.items
         ≡ map (counts_alone (is_mentioned_in mentions.now)) (map entry_of entries.now)) }
     ensures keys { IfOk result (λ v. (k : Text) → Among (map (λ t. t.now) v.keys.items) k
@@ -154,6 +158,7 @@ pub fn record_dependencies<'m: 'd, 'd>(
     mentions: &Mentions<'m>,
     entries: &[ParseDependency<'m, 'd>],
 ) -> Result<Slots<'d, FeatureDependency<'d>>, AllocError>
+    requires { AreInOrder mentions.now.features.items }
     ensures recorded { IfOk result (λ s. (listed : Listed)
         → ((k : Text) → is_mentioned_in mentions.now k ≡ is_mentioned listed k) → (k : Text)
         → recorded_at s k ≡ recorded_of (entries_at listed (map entry_of entries.now) k)) }

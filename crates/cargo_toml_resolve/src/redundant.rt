@@ -6,8 +6,8 @@ ghost use Rattle.cargo_toml_graph.specs.Action.{Text};
 ghost use Rattle.cargo_toml_features.specs.Recorded.{Entry, first_target, is_redundant};
 ghost use Rattle.cargo_toml_features.specs.Recorded.{recorded_of, without_redundant};
 ghost use Rattle.cargo_toml_resolve.specs.Recording.{recorded_at};
-ghost use Rattle.cargo_toml_resolve.specs.Slots.{Relates, HaveSameNames};
 ghost use Rattle.cargo_toml_resolve.specs.Redundant.{IsRecordOf, Thinned, ThinnedAll};
+ghost use Rattle.cargo_toml_features.specs.InOrder.{AreInOrder, names_of};
 ghost use Rattle.cargo_toml_features.specs.Views.{action_of};
 
 use crate::slots::Slots;
@@ -72,8 +72,9 @@ fn thin_action_on(
 
 // The same of each action of the feature. `retain` lends each value to be written, and keeps all.
 fn thin_actions(feature: &mut Feature<'_>, dependencies: &Slots<'_, FeatureDependency<'_>>)
-    ensures { (entries : Text → List Entry) → IsRecordOf dependencies.now entries
+    ensures thinned { (entries : Text → List Entry) → IsRecordOf dependencies.now entries
         → Thinned entries feature.old feature.new }
+    ensures same_key { feature.new.key ≡ feature.old.key }
 {
     feature.enables_deps.retain(|key, action| {
         thin_action_on(*key, action, dependencies);
@@ -83,35 +84,38 @@ fn thin_actions(feature: &mut Feature<'_>, dependencies: &Slots<'_, FeatureDepen
 
 // The same; a feature without actions stays as it is.
 fn thin_feature(feature: &mut Feature<'_>, dependencies: &Slots<'_, FeatureDependency<'_>>)
-    ensures { (entries : Text → List Entry) → IsRecordOf dependencies.now entries
+    ensures thinned { (entries : Text → List Entry) → IsRecordOf dependencies.now entries
         → Thinned entries feature.old feature.new }
+    ensures same_key { feature.new.key ≡ feature.old.key }
 {
     if !feature.enables_deps.is_empty() {
         thin_actions(feature, dependencies);
     }
 }
 
-fn thin_value(value: &mut Option<Feature<'_>>, dependencies: &Slots<'_, FeatureDependency<'_>>)
-    ensures { (entries : Text → List Entry) → IsRecordOf dependencies.now entries
-        → Relates (Thinned entries) value.old value.new }
+// The same of each feature.
+fn drop_redundant(features: &mut [Feature<'_>], dependencies: &Slots<'_, FeatureDependency<'_>>)
+    ensures thinned { (entries : Text → List Entry) → IsRecordOf dependencies.now entries
+        → ThinnedAll entries features.old features.new }
+    ensures same_names { names_of features.new ≡ names_of features.old }
 {
-    if let Some(feature) = value {
+    for feature in features.iter_mut() {
         thin_feature(feature, dependencies);
     }
 }
 
-/// Takes out of each feature's actions the dependency features that are on anyway. A feature
+/// The features, without the dependency features that are on anyway in their actions. A feature
 /// `default` is where the dependency's first target has its default features, and any other where
 /// that target lists it.
-pub fn drop_redundant(
-    features: &mut Slots<'_, Feature<'_>>,
+pub fn without_redundant<'m>(
+    mut features: Vec<Feature<'m>>,
     dependencies: &Slots<'_, FeatureDependency<'_>>,
-)
+) -> Vec<Feature<'m>>
+    requires { AreInOrder features.items }
+    ensures in_order { AreInOrder result.items }
     ensures thinned { (entries : Text → List Entry) → IsRecordOf dependencies.now entries
-        → ThinnedAll entries features.old features.new }
-    ensures same_names { HaveSameNames features.old features.new }
+        → ThinnedAll entries features.entry.items result.items }
 {
-    for value in features.values.iter_mut() {
-        thin_value(value, dependencies);
-    }
+    drop_redundant(features.as_mut_slice(), dependencies);
+    features
 }

@@ -11,13 +11,11 @@ ghost use Rattle.cargo_toml_features.specs.Views.{listed_of, entry_of, recorded_
 ghost use Rattle.cargo_toml_features.specs.Recorded.{entries_at, recorded_of};
 ghost use Rattle.cargo_toml_features.specs.Resolved.{SameRecorded, table_of};
 
-use crate::bins::{Requirement, require_all};
-use crate::imply::imply_all;
-use crate::names::names_of_all;
-use crate::places::into_features;
+use crate::bins::{Requirement, with_bins};
+use crate::imply::{FEW, optional_count, with_implied};
 use crate::read::{Mentions, read_features};
 use crate::record::record_dependencies;
-use crate::redundant::drop_redundant;
+use crate::redundant::without_redundant;
 use crate::slots::Slots;
 use cargo_toml_features::admit::Listing;
 use cargo_toml_features::features::{Feature, FeatureDependency, ParseDependency};
@@ -58,19 +56,15 @@ pub fn resolve_all<'m: 'd, 'd>(
         (recorded_of (entries_at (listed_of listings.now) (map entry_of entries.now) k))) }
     ensures targets { IfOk result (λ a. HeldHaveTargets a.dependencies) }
 {
-    let names = names_of_all(alloc, listings, entries)?;
-    let mentions = read_features(alloc, names, listings)?;
+    let optional = optional_count(entries);
+    let mentions = read_features(alloc, listings, optional.min(FEW))?;
     // Before features are implied: an entry that isn't optional would count as mentioned, if an
     // optional entry of its key that comes later had made a feature of that name.
     let dependencies = record_dependencies(alloc, &mentions, entries)?;
-    let Mentions {
-        mut features,
-        acted,
-    } = mentions;
-    drop_redundant(&mut features, &dependencies);
-    imply_all(alloc, &mut features, &acted, entries)?;
-    require_all(&mut features, requirements)?;
-    let features = into_features(alloc, features)?;
+    let Mentions { features, acted } = mentions;
+    let thinned = without_redundant(features, &dependencies);
+    let implied = with_implied(alloc, thinned, &acted, entries, optional)?;
+    let features = with_bins(implied, requirements)?;
     Ok(Unremoved {
         features,
         dependencies,

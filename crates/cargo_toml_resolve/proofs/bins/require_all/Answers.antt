@@ -1,7 +1,6 @@
-use Rattle.std.proofs.Common.{◌+◌, ◌∷◌, [], get_or, map, take}
+use Rattle.std.proofs.Common.{◌+◌, ◌∷◌, [], get_or, map, take, ◌∙◌}
 use Rattle.cargo_toml_resolve.specs.OwnBins.{own_of, requirement_of}
 use Rattle.cargo_toml_resolve.proofs.Requiring.{blank, own_next, required_more}
-use Rattle.cargo_toml_resolve.proofs.HeldValues.{same_then}
 use Rattle.cargo_toml_resolve.proofs.bins.require_all.Goals as goal
 
 pub loop-requirement-preserved : goal.loop-requirement-preserved
@@ -11,5 +10,5 @@ loop-requirement-preserved c =
     record {
       required = required_more (own_of (map requirement_of (take i rs))) (own_of (requirement_of (get_or rs i blank) ∷ [])) (own_of (map requirement_of (take (i + 1) rs)))
           c.args.features.now c.loop-requirement.features c.require.new.features (own_next rs i c.loop-requirement-test.true) c.loop-requirement.invariant.required c.in_ok-near.ensures.required;
-      same_names = same_then c.args.features.now c.loop-requirement.features c.require.new.features c.loop-requirement.invariant.same_names c.in_ok-near.ensures.same_names;
+      same_names = c.require.ensures.same_names ∙ c.loop-requirement.invariant.same_names;
     }

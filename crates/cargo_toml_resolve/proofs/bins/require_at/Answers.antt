@@ -1,26 +1,30 @@
-use Rattle.std.proofs.Common.{Some, Bor, cond, map, refl, ap, ◌∙◌}
-use Rattle.std.proofs.lemmas.List.{map-append}
-use Rattle.cargo_toml_graph.specs.Action.{Text}
+use Rattle.std.proofs.Common.{get_or, map, Bor, refl, sym, ap, ◌∙◌, []}
+use Rattle.std.proofs.lemmas.List.{get_or-map, map-append}
 use Rattle.cargo_toml_features.specs.declared.features.Feature.{Feature}
+use Rattle.cargo_toml_features.specs.InOrder.{feature_at, names_of}
+use Rattle.cargo_toml_resolve.proofs.Placed.{feature_here, feature_set}
+use Rattle.cargo_toml_resolve.proofs.PlaceByPlace.{names_set}
+use Rattle.cargo_toml_resolve.proofs.Requiring.{required_at}
+use Rattle.cargo_toml_graph.specs.Action.{Text}
 use Rattle.cargo_toml_graph.proofs.Texts.{bytes_eq_sym}
-use Rattle.cargo_toml_resolve.specs.Slots.{held_in, names_in}
-use Rattle.cargo_toml_resolve.proofs.HeldValues.{value_back, value_put, value_there}
-use Rattle.cargo_toml_resolve.proofs.Requiring.{required_at, required_back}
+use Rattle.std.proofs.Common.{cond, Some}
 use Rattle.cargo_toml_walk.specs.Numbered.{text_at}
 use Rattle.cargo_toml_resolve.proofs.bins.require_at.Goals as goal
 
-pub returns-in_ok-push-clause-required : goal.returns-in_ok-push-clause-required
-returns-in_ok-push-clause-required c =
-    let s = c.args.features.now in
-    let key = text_at (names_in s) c.args.place in
-    let w : Feature = record c.in-Some.feature { required_by_bins = c.push.new.self } in
-    required_at key c.args.bin.now s _ c.in-Some.feature w (value_there s c.args.place c.requires.place c.index_mut.result.now c.index_mut.ensures.value ∙ c.in-Some.is)
-    (λ q. value_put s c.args.place c.requires.place (Some w) q ∙ ap (λ t. cond t (Some w) (held_in s q)) (bytes_eq_sym q key))
-    (record { key = refl; names = refl; actions = refl; enabled_by = refl; marks = refl; bins = ap (map (λ (b : Bor Text). b.now)) c.in_ok-push.ensures.items ∙ map-append (λ (b : Bor Text). b.now) _ _ })
+pub returns-in_err-push-clause-same_names : goal.returns-in_err-push-clause-same_names
+returns-in_err-push-clause-same_names c = names_set c.args.features.now c.args.place _ c.index-features-place.result c.requires.place refl
 
-pub returns-in_default-clause-required : goal.returns-in_default-clause-required
-returns-in_default-clause-required c =
-    let s = c.args.features.now in
-    required_back (text_at (names_in s) c.args.place) c.args.bin.now s _
-    (value_there s c.args.place c.requires.place c.index_mut.result.now c.index_mut.ensures.value ∙ c.in_default.is)
-    (value_back s c.args.place c.requires.place c.index_mut.result.now c.index_mut.ensures.value)
+pub returns-clause-same_names : goal.returns-clause-same_names
+returns-clause-same_names c = names_set c.args.features.now c.args.place _ c.index-features-place.result c.requires.place refl
+
+pub returns-clause-required : goal.returns-clause-required
+returns-clause-required c =
+    let vs = c.args.features.now in
+    let i = c.args.place in
+    let v : Feature = get_or vs i c.index-features-place.result in
+    let w : Feature = record v { required_by_bins = c.push.new.self } in
+    let key = text_at (names_of vs) i in
+    required_at key c.args.bin.now vs _ v w (feature_here vs i c.index-features-place.result c.requires.in_order c.requires.place)
+    (λ q. feature_set vs i w c.requires.in_order c.requires.place (sym (get_or-map (λ (x : Feature). x.key.now) vs i c.index-features-place.result [] c.requires.place)) q
+    ∙ ap (λ t. cond t (Some w) (feature_at vs q)) (bytes_eq_sym q key))
+    (record { key = refl; names = refl; actions = refl; enabled_by = refl; marks = refl; bins = ap (map (λ (b : Bor Text). b.now)) c.in_ok-push.ensures.items ∙ map-append (λ (b : Bor Text). b.now) _ _ })

@@ -1,15 +1,16 @@
-use Rattle.std.proofs.Common.{◌≡◌, take}
+use Rattle.std.proofs.Common.{◌≡◌, take, is_some}
 use Rattle.cargo_toml_graph.specs.Action.{Text}
+use Rattle.cargo_toml_features.specs.InOrder.{AreInOrder}
 use Rattle.cargo_toml_features.specs.Marks.{details_of}
 use Rattle.cargo_toml_features.specs.Views.{listed_of}
-use Rattle.cargo_toml_features.specs.InOrder.{sorted_at}
-use Rattle.cargo_toml_resolve.proofs.ReadAll.{HasRead, noted_in}
-use Rattle.cargo_toml_resolve.specs.Slots.{HaveSameNames}
+use Rattle.cargo_toml_resolve.specs.Searching.{has_key}
+use Rattle.cargo_toml_resolve.proofs.ReadAll.{HasRead, is_dep_only, told_in}
 use Rattle.cargo_toml_resolve.proofs.read.read_features.Given as goal
 
 abbrev pub invariant-loop-listing : goal.invariant-loop-listing
 invariant-loop-listing l = record {
-  features : HasRead (listed_of (take l.listing-index l.listings)) (details_of l.listings) l.features;
-  acted : (k : Text) → sorted_at l.acted k ≡ noted_in (listed_of (take l.listing-index l.listings)) k;
-  same_names : HaveSameNames l.initial.features l.features;
+  in_order : AreInOrder l.features.items;
+  features : HasRead (listed_of (take l.listing-index l.listings)) (details_of l.listings) l.features.items;
+  keys : (k : Text) → has_key l.acting.keys k ≡ told_in is_some (listed_of (take l.listing-index l.listings)) k;
+  reserved : (k : Text) → has_key l.acting.reserved k ≡ told_in is_dep_only (listed_of (take l.listing-index l.listings)) k;
 }

@@ -2,11 +2,11 @@ use Rattle.std.proofs.Common.{◌≡◌, Bor, arith, bytes_eq, map, take, string
 use Rattle.std.proofs.lemmas.List.{take_all}
 use Rattle.std.specs.List.{list_any}
 use Rattle.cargo_toml_graph.specs.Action.{Text, item_of}
-use Rattle.cargo_toml_resolve.specs.ReadFeature.{joined_in, noted, IsGathered, IsListed}
+use Rattle.cargo_toml_resolve.specs.ReadFeature.{joined_in, IsGathered, IsListed}
+use Rattle.cargo_toml_resolve.specs.Acting.{Notes}
 use Rattle.cargo_toml_features.specs.Marks.{detail_in}
-use Rattle.cargo_toml_features.specs.InOrder.{sorted_at}
 use Rattle.cargo_toml_resolve.proofs.Gathering.{has_gathered}
-use Rattle.cargo_toml_resolve.proofs.ReadOne.{items_more, noted_more}
+use Rattle.cargo_toml_resolve.proofs.ReadOne.{items_more, noted_more, noted_none}
 use Rattle.cargo_toml_resolve.proofs.read.read_list.Goals as goal
 
 pub loop-text-preserved : goal.loop-text-preserved
@@ -17,9 +17,8 @@ loop-text-preserved c =
     let more = items_more texts i c.text-item.result c.as_str.result.now c.loop-text-test.true c.text-item.is c.as_str.ensures.value in
     record {
       gathered = subst (λ is. IsGathered c.args.listing.name.now (detail_in c.args.listing.detail) is (map (λ t. t.now) c.add_item.new.named.items) c.add_item.new.feature) (sym more) (c.in_ok-add_item.ensures.gathered c.args.listing.name.now (detail_in c.args.listing.detail) items c.loop-text.invariant.gathered);
-      acted = λ k.
-          noted_more (sorted_at c.args.acted.now k) (sorted_at c.loop-text.acted k) (sorted_at c.add_item.new.acted k) items (item_of c.as_str.result.now) k (c.loop-text.invariant.acted k) (c.in_ok-add_item.ensures.noted k)
-          ∙ ap (λ is. noted (sorted_at c.args.acted.now k) (joined_in is k)) (sym more);
+      noted = subst (λ is. Notes (joined_in is) c.args.acting.now c.add_item.new.acting) (sym more)
+          (noted_more c.args.acting.now c.loop-text.acting c.add_item.new.acting items (item_of c.as_str.result.now) c.loop-text.invariant.noted c.in_ok-add_item.ensures.noted);
     }
 
 pub returns-clause-listed : goal.returns-clause-listed

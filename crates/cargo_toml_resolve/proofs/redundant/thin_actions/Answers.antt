@@ -13,8 +13,8 @@ use Rattle.cargo_toml_features.specs.Views.{action_of}
 use Rattle.cargo_toml_resolve.proofs.Thinning.{Finds, looked_up}
 use Rattle.cargo_toml_resolve.proofs.redundant.thin_actions.Goals as goal
 
-pub returns : goal.returns
-returns c = λ entries recorded. record {
+pub returns-clause-thinned : goal.returns-clause-thinned
+returns-clause-thinned c = λ entries recorded. record {
   key = refl;
   names = refl;
   actions = λ k.

@@ -94,6 +94,7 @@ pub use Rattle.cargo_toml_features.specs.Recorded
 pub use Rattle.cargo_toml_features.specs.Resolved
 pub use Rattle.cargo_toml_features.specs.TargetLaws
 pub use Rattle.cargo_toml_features.specs.Views
+pub use Rattle.cargo_toml_features.specs.InOrder
 pub use Rattle.cargo_toml_resolve.specs.Reading
 pub use Rattle.cargo_toml_resolve.specs.Slots
 pub use Rattle.cargo_toml_resolve.specs.Ascending

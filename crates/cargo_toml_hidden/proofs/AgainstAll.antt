@@ -1,10 +1,9 @@
 -- An answer beside one of a filter that keeps every name, and beside another by its own filter.
-use Rattle.std.proofs.Common.{◌≡◌, ◌↔◌, ◌&&◌, not, Bool, true, false, List, Bor, Option, codes, nat_eq, IsFalse, IsSome, IsTrue, is_some, refl, sym, ◌∙◌}
+use Rattle.std.proofs.Common.{◌≡◌, ◌&&◌, not, Bool, true, false, List, Bor, Option, codes, nat_eq, IsFalse, IsSome, IsTrue, is_some, refl}
 use Rattle.std.proofs.lemmas.Bool.{false≢true}
 use Rattle.std.specs.List.{starts_with}
 use Rattle.cargo_toml_graph.specs.Action.{Text}
 use Rattle.cargo_toml_graph.specs.Admitted.{Listed}
-use Rattle.cargo_toml_graph.specs.Bins.{IsComplete}
 use Rattle.cargo_toml_graph.specs.Graph.{Table, IsResolved}
 use Rattle.cargo_toml_graph.specs.Kept.{KeepsEnabling, LosesNothing, NoneIsLeft}
 use Rattle.cargo_toml_graph.specs.Removal.{is_removed}

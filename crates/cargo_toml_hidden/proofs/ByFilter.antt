@@ -1,5 +1,5 @@
 -- Features that the filter refuses, by their flags, and answers without them.
-use Rattle.std.proofs.Common.{◌≡◌, ◌≢◌, ◌↔◌, ◌&&◌, ◌||◌, ◌<◌, not, ℕ, zero, suc, Bool, true, false, List, [], ◌∷◌, length, Bor, Option, Some, None, IfSome, IsSome, IsTrue, is_some, bytes_eq, codes, nat_eq, arith, refl, sym, subst, inl, inr, ◌∙◌}
+use Rattle.std.proofs.Common.{◌≡◌, ◌↔◌, ◌&&◌, ◌||◌, ◌<◌, not, ℕ, zero, suc, Bool, true, false, List, [], ◌∷◌, length, Bor, Option, Some, None, IfSome, IsTrue, is_some, bytes_eq, codes, nat_eq, arith, refl, sym, subst, inl, inr, ◌∙◌}
 use Rattle.std.proofs.lemmas.Bool.{false≢true, and_from, and_parts, or_cases, or_left, or_right}
 use Rattle.std.proofs.lemmas.Slice.Eq.{bytes_eq-Decides}
 use Rattle.std.specs.List.{slice_index_or, starts_with}

@@ -1,17 +1,15 @@
 -- Texts that ascend in byte order.
-use Rattle.std.proofs.Common.{◌≡◌, ◌↔◌, ◌⊎◌, false, ◌<◌, ◌≤◌, ◌+◌, ◌-◌, ℕ, zero, suc, List, [], ◌∷◌, ◌++◌, length, map, take, take_all, drop, get_or, Bor, IsTrue, refl, sym, ap, subst, inl, inr, arith, ◌∙◌}
+use Rattle.std.proofs.Common.{◌≡◌, false, ◌<◌, ◌≤◌, ◌+◌, ◌-◌, ℕ, zero, suc, List, [], ◌∷◌, length, map, get_or, Bor, IsTrue, refl, sym, ap, subst, inl, inr, arith}
 use Rattle.std.proofs.lemmas.Bool.{false≢true, cases_lt}
 use Rattle.std.proofs.lemmas.Cmp.{nat_list_cmp_total}
-use Rattle.std.proofs.lemmas.Map.Lookups.{exact_bytes}
-use Rattle.std.proofs.lemmas.List.{get_or-map, map-append, length-drop, drop_more, drop_all}
+use Rattle.std.proofs.lemmas.List.{get_or-map}
 use Rattle.std.specs.Cmp.Lexicographic.{slice_cmp}
-use Rattle.std.specs.Ordering.{nat_cmp, is_lt, is_ge, ordering_reverse}
+use Rattle.std.specs.Ordering.{nat_cmp, is_lt, is_ge}
 use Rattle.std.specs.declared.cmp.Ordering.{Ordering}
 use Rattle.std.specs.declared.cmp.Ordering.TheVariants.{Less, Equal, Greater}
 use Rattle.cargo_toml_graph.specs.Action.{Text}
 use Rattle.cargo_toml_graph.specs.Admitted.{is_below}
 use Rattle.cargo_toml_graph.specs.Reach.{Among}
-use Rattle.cargo_toml_graph.proofs.BinLists.{among-first, among-second, among-either}
 use Rattle.cargo_toml_resolve.specs.Ascending.{Ascend}
 use Rattle.cargo_toml_walk.specs.Numbered.{text_at}
 

@@ -1,5 +1,5 @@
 -- The feature `default` put where none is.
-use Rattle.std.proofs.Common.{◌≡◌, Bool, true, false, cond, [], Option, Some, None, MatchOption, bytes_eq, codes, refl, sym, ap, subst, ◌∙◌}
+use Rattle.std.proofs.Common.{◌≡◌, false, cond, [], Option, Some, None, MatchOption, bytes_eq, codes, refl, sym, ap, subst, ◌∙◌}
 use Rattle.std.proofs.lemmas.Slice.Eq.{bytes_eq-Decides}
 use Rattle.std.specs.Option.{IsSomeAnd, option_or}
 use Rattle.cargo_toml_dependencies.specs.Details.{plain_detail}

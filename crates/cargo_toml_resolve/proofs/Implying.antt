@@ -15,15 +15,14 @@ use Rattle.std.specs.List.{list_any}
 use Rattle.std.specs.Map.{lookup}
 use Rattle.std.specs.Option.{IsSomeAnd, option_or}
 use Rattle.std.specs.Ordering.{nat_cmp}
-use Rattle.cargo_toml_dependencies.specs.Dependencies.{dependency_meaning, is_optional}
+use Rattle.cargo_toml_dependencies.specs.Dependencies.{is_optional}
 use Rattle.cargo_toml_features.specs.declared.features.DepAction.{DepAction}
 use Rattle.cargo_toml_features.specs.declared.features.Feature.{Feature}
-use Rattle.cargo_toml_features.specs.declared.features.ParseDependency.{ParseDependency}
 use Rattle.cargo_toml_graph.specs.Action.{Text}
 use Rattle.cargo_toml_resolve.specs.Implying.{AreFree, IsImplied, Becomes, ImpliesAll, is_optional_at, is_offered, is_offered_alone, is_one_of}
 use Rattle.cargo_toml_features.specs.Recorded.{Entry}
 use Rattle.cargo_toml_features.specs.Resolved.{plain}
-use Rattle.cargo_toml_features.specs.Views.{action_of, action_at, entry_of}
+use Rattle.cargo_toml_features.specs.Views.{action_of, action_at}
 use Rattle.cargo_toml_features.specs.InOrder.{feature_at}
 use Rattle.cargo_toml_graph.proofs.Texts.{bytes_eq_sym}
 use Rattle.cargo_toml_features.proofs.TextKeys.{none_in}

@@ -1,6 +1,5 @@
 -- Texts that are looked up: a few in any order, and more in byte order.
 use Rattle.std.specs.Prelude.{Bool, IsTrue, List, Vec, bytes_eq, length, map, nat_lt}
-use Rattle.std.specs.Coded.{Unit-prop}
 use Rattle.std.specs.Borrow.{Bor}
 use Rattle.std.specs.List.{list_any}
 use Rattle.std.specs.declared.alloc.Global.{Global}

@@ -1,4 +1,4 @@
-use Rattle.std.proofs.Common.{◌-◌, ◌≤◌, List, length, map, take}
+use Rattle.std.proofs.Common.{◌-◌, List, length, map, take}
 use Rattle.cargo_toml_features.specs.InOrder.{AreInOrder}
 use Rattle.cargo_toml_features.specs.declared.features.Feature.{Feature}
 use Rattle.cargo_toml_resolve.specs.Implying.{ImpliesAll, is_one_of}

@@ -1,4 +1,4 @@
-use Rattle.std.proofs.Common.{◌≤◌, ◌<◌, ◌-◌, ◌+◌, ◌/◌, length, sym, arith, ◌∙◌}
+use Rattle.std.proofs.Common.{◌<◌, ◌-◌, ◌+◌, ◌/◌, length, sym, arith, ◌∙◌}
 use Rattle.cargo_toml_resolve.proofs.Placed.{below_through}
 use Rattle.cargo_toml_resolve.proofs.ordered.lower_bound.Goals as goal
 

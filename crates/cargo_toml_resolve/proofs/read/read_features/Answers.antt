@@ -1,7 +1,6 @@
-use Rattle.std.proofs.Common.{◌≡◌, [], take, is_some, sym, subst, ap, refl, ◌∙◌, arith}
+use Rattle.std.proofs.Common.{◌≡◌, take, is_some, sym, subst, ap, ◌∙◌, arith}
 use Rattle.std.proofs.lemmas.List.{take_all}
 use Rattle.cargo_toml_graph.specs.Reach.{IsOnce}
-use Rattle.cargo_toml_graph.specs.Action.{Text}
 use Rattle.cargo_toml_features.specs.InOrder.{AreInOrder}
 use Rattle.cargo_toml_features.specs.Marks.{details_of}
 use Rattle.cargo_toml_features.specs.Views.{listed_of}

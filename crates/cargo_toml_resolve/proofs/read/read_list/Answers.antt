@@ -6,7 +6,7 @@ use Rattle.cargo_toml_resolve.specs.ReadFeature.{joined_in, IsGathered, IsListed
 use Rattle.cargo_toml_resolve.specs.Acting.{Notes}
 use Rattle.cargo_toml_features.specs.Marks.{detail_in}
 use Rattle.cargo_toml_resolve.proofs.Gathering.{has_gathered}
-use Rattle.cargo_toml_resolve.proofs.ReadOne.{items_more, noted_more, noted_none}
+use Rattle.cargo_toml_resolve.proofs.ReadOne.{items_more, noted_more}
 use Rattle.cargo_toml_resolve.proofs.read.read_list.Goals as goal
 
 pub loop-text-preserved : goal.loop-text-preserved

@@ -4,16 +4,20 @@
     compare/tools.py index|lint|document|graph FILE..     # prints what is wanted of these manifests
     compare/tools.py audit|report FOLDER..                # and of these workspaces
     compare/tools.py --compare TOOL FILE|FOLDER..         # holds the program against that
+    compare/tools.py --random TOOL COUNT [SEED]           # the same, on manifests of compare/run
 
 Nothing here follows the program's code. Features are found by definitions.py.
 """
 
+import concurrent.futures
 import fnmatch
+import importlib.machinery
 import json
 import os
 import re
 import subprocess
 import sys
+import tempfile
 import tomllib
 
 from definitions import Graph, enabled_by, in_order, join, mention
@@ -551,26 +555,46 @@ def wanted(tool, path):
         return f"error: {for_line(path)}: {for_line(str(why))}\n"
 
 
+def told(tool, path):
+    """What the program tells, with its status where that says what was found."""
+    words = [PROGRAM, *WORDS[tool], path]
+    done = subprocess.run(words, capture_output=True, text=True, check=False)
+    if tool in TELLING and not done.stderr:
+        return f"{done.stdout}status {done.returncode}\n"
+    return done.stdout or done.stderr
+
+
 def compare(tool, paths):
     """Holds the program against what is wanted, and returns how many answers differ."""
-    differ = 0
-    for path in paths:
-        words = [PROGRAM, *WORDS[tool], path]
-        done = subprocess.run(words, capture_output=True, text=True, check=False)
-        told = done.stdout or done.stderr
-        if tool in TELLING and not done.stderr:
-            told += f"status {done.returncode}\n"
-        if told != (want := wanted(tool, path)):
-            differ += 1
-            if differ <= 3:
-                print(path, told, want, sep="\n")
-    print(f"{len(paths)} of {tool}, {differ} differ")
-    return differ
+    with concurrent.futures.ThreadPoolExecutor(os.cpu_count()) as pool:
+        answers = pool.map(lambda path: (told(tool, path), wanted(tool, path)), paths)
+        differ = [each for each in zip(paths, answers) if each[1][0] != each[1][1]]
+    for path, (found, want) in differ[:3]:
+        if os.path.isfile(path):
+            with open(path, encoding="utf-8") as file:
+                print(file.read())
+        print(f"{path}\nprinted: {found}\nwanted:  {want}\n")
+    print(f"{len(paths)} of {tool}, {len(differ)} differ")
+    return len(differ)
+
+
+def compare_random(tool, count, seed=1):
+    """The same, on random manifests."""
+    run = importlib.machinery.SourceFileLoader("run", f"{HERE}/run").load_module()
+    manifests = run.Manifests(int(seed), run.NAMES + run.HIDDEN, has_details=True)
+    with tempfile.TemporaryDirectory() as folder:
+        paths = [f"{folder}/{number}.toml" for number in range(int(count))]
+        for path in paths:
+            with open(path, "w", encoding="utf-8") as file:
+                file.write(manifests.manifest())
+        return compare(tool, paths)
 
 
 def main(words):
     if words[:1] == ["--compare"]:
         return min(compare(words[1], words[2:]), 1)
+    if words[:1] == ["--random"]:
+        return min(compare_random(*words[1:]), 1)
     for path in words[1:]:
         sys.stdout.write(wanted(words[0], path))
     return 0

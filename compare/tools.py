@@ -227,9 +227,21 @@ class Document:
     def is_private(self, name):
         return name.startswith("_") or self.tables.get(name, {}).get("public") is False
 
+    def led_to(self, name):
+        """What a feature turns on in one step."""
+        for text in self.lists.get(name, []):
+            key, action = mention(text)
+            if not action or not (action[0] or action[1]):
+                yield key
+
     def reached(self, name):
         """The feature and all that it turns on."""
-        return {name} | self.graph.reached(name, self.graph.names.keys())
+        found, left = {name}, [name]
+        while left:
+            for other in self.graph.names.keys() & set(self.led_to(left.pop())) - found:
+                found.add(other)
+                left.append(other)
+        return found
 
     def actions(self, names):
         joined = {}

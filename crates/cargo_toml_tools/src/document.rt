@@ -6,8 +6,8 @@ mod dot;
 mod reached;
 
 use crate::escape::{Format, push_code, push_escaped};
-use cargo_toml::Manifest;
 use cargo_toml::features::{DepAction, Feature, Features};
+use cargo_toml::{FeatureSet, Manifest};
 pub use dot::graph;
 use reached::{Reached, reach, turned_on};
 use std::alloc::{AllocError, Global};
@@ -31,14 +31,13 @@ struct Row<'m> {
 /// by default, and what it turns on, by any number of names. Optional dependencies that serve as
 /// features stand in a table of their own. Hidden and private features are left out.
 ///
-/// Hidden features were removed from what is resolved.
+/// What is resolved has hidden features, since what these turn on counts for others.
 pub fn page<M, S: BuildHasher>(
     alloc: Global,
     manifest: &Manifest<M>,
     resolved: &Features<'_, '_, S>,
 ) -> Result<String, AllocError> {
-    let has_default = manifest.features.contains_key("default");
-    let rows = rows(alloc, &resolved.features, has_default)?;
+    let rows = rows(alloc, &manifest.features, &resolved.features)?;
     let mut page = String::new(alloc);
     push_title(&mut page, manifest)?;
     push_table(alloc, &mut page, rows.as_slice(), true)?;
@@ -49,16 +48,17 @@ pub fn page<M, S: BuildHasher>(
 /// The rows of all features that are told of, in byte order of their names.
 fn rows<'m, S: BuildHasher>(
     alloc: Global,
+    lists: &FeatureSet,
     features: &FeatureMap<'m, S>,
-    has_default: bool,
 ) -> Result<Vec<Row<'m>>, AllocError> {
-    let defaults = turned_on(alloc, "default", features)?;
+    let has_default = lists.contains_key("default");
+    let defaults = turned_on(alloc, "default", lists, features)?;
     let mut rows = Vec::new(alloc);
     let names = names(alloc, features)?;
     for name in &names {
         if let Some(feature) = features.get(*name) {
             if is_shown(feature, has_default) {
-                rows.push(row_of(alloc, feature, features, &defaults)?)?;
+                rows.push(row_of(alloc, feature, lists, features, &defaults)?)?;
             }
         }
     }
@@ -68,10 +68,11 @@ fn rows<'m, S: BuildHasher>(
 fn row_of<'m, S: BuildHasher>(
     alloc: Global,
     feature: &Feature<'m>,
+    lists: &FeatureSet,
     features: &FeatureMap<'m, S>,
     defaults: &BTreeSet<&str>,
 ) -> Result<Row<'m>, AllocError> {
-    let turns_on = reach(alloc, feature.key, features)?;
+    let turns_on = reach(alloc, feature.key, lists, features)?;
     Ok(Row {
         name: feature.key,
         is_listed: feature.explicit,

@@ -1,5 +1,5 @@
 //! What is documented of features.
-ghost use Rattle.std.specs.Prelude.{◌≡◌, false, true};
+ghost use Rattle.std.specs.Prelude.{◌≡◌, true};
 
 use crate::reading::manifest_in;
 use cargo_toml::features::Resolver;
@@ -17,17 +17,7 @@ pub fn document<R: Files + RandomSource + AllocGlobal>(
     dot: bool,
 ) -> Result<String, Error> {
     let manifest = manifest_in(rt, file)?;
-    if dot {
-        graph_of(rt, &*manifest)
-    } else {
-        page_of(rt, &*manifest)
-    }
-}
-
-fn keep_none(_name: &str) -> bool
-    ensures { result ≡ false }
-{
-    false
+    document_of(rt, &*manifest, dot)
 }
 
 fn keep_every(_name: &str) -> bool
@@ -36,20 +26,20 @@ fn keep_every(_name: &str) -> bool
     true
 }
 
-/// The page on a manifest, without hidden features.
-fn page_of<R: RandomSource + AllocGlobal>(rt: &R, manifest: &Manifest) -> Result<String, Error> {
-    let state = RandomState::new(rt)?;
-    let keep = keep_none;
-    let resolver = Resolver::new_with_hasher_and_filter(state, &keep);
-    let resolved = resolver.parse(rt.alloc(), manifest)?;
-    Ok(page(rt.alloc(), manifest, &resolved)?)
-}
-
-/// The graph of a manifest, with hidden features.
-fn graph_of<R: RandomSource + AllocGlobal>(rt: &R, manifest: &Manifest) -> Result<String, Error> {
+/// The graph of a manifest, or a page. Hidden features are resolved like others.
+fn document_of<R: RandomSource + AllocGlobal>(
+    rt: &R,
+    manifest: &Manifest,
+    dot: bool,
+) -> Result<String, Error> {
     let state = RandomState::new(rt)?;
     let keep = keep_every;
     let resolver = Resolver::new_with_hasher_and_filter(state, &keep);
     let resolved = resolver.parse(rt.alloc(), manifest)?;
-    Ok(graph(rt.alloc(), manifest, &resolved)?)
+    let text = if dot {
+        graph(rt.alloc(), manifest, &resolved)?
+    } else {
+        page(rt.alloc(), manifest, &resolved)?
+    };
+    Ok(text)
 }

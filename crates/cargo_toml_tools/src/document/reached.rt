@@ -1,7 +1,9 @@
 //! What a feature turns on, by any number of steps.
 
 use super::{FeatureMap, is_private};
+use cargo_toml::FeatureSet;
 use cargo_toml::features::{DepAction, Feature};
+use cargo_toml_features::action::read_action;
 use std::alloc::{AllocError, Global};
 use std::collections::{BTreeMap, BTreeSet};
 use std::hash::BuildHasher;
@@ -19,11 +21,12 @@ pub struct Reached<'m> {
 pub fn reach<'m, S: BuildHasher>(
     alloc: Global,
     name: &str,
+    lists: &FeatureSet,
     features: &FeatureMap<'m, S>,
 ) -> Result<Reached<'m>, AllocError> {
     let mut others = BTreeSet::new(alloc);
     let mut actions = BTreeMap::new(alloc);
-    let names = turned_on(alloc, name, features)?;
+    let names = turned_on(alloc, name, lists, features)?;
     for other in &names {
         if let Some(feature) = features.get(*other) {
             add_other(&mut others, feature, name)?;
@@ -36,11 +39,13 @@ pub fn reach<'m, S: BuildHasher>(
     })
 }
 
-/// The names of the feature of this name and of all that it turns on: what it names, and what has
-/// the name of a dependency that it acts on neither conditionally nor by `dep:`.
+/// The names of the feature of this name and of all that it turns on, by these lists: what a list
+/// names, and what has the name of a dependency on which a text acts, neither conditionally nor by
+/// `dep:`.
 pub fn turned_on<'m, S: BuildHasher>(
     alloc: Global,
     name: &str,
+    lists: &FeatureSet,
     features: &FeatureMap<'m, S>,
 ) -> Result<BTreeSet<&'m str>, AllocError> {
     let mut found = BTreeSet::new(alloc);
@@ -51,8 +56,8 @@ pub fn turned_on<'m, S: BuildHasher>(
         let Some(next) = left.pop() else {
             break;
         };
-        if let Some(feature) = features.get(next) {
-            add_next(&mut found, &mut left, features, feature)?;
+        if let Some(texts) = lists.get(next) {
+            add_next(&mut found, &mut left, features, texts.as_slice())?;
         }
     }
     Ok(found)
@@ -73,19 +78,17 @@ fn add<'m, S: BuildHasher>(
     Ok(())
 }
 
-/// Adds what a feature turns on in one step.
+/// Adds what the texts of a feature's list turn on in one step.
 fn add_next<'m, S: BuildHasher>(
     found: &mut BTreeSet<&'m str>,
     left: &mut Vec<&'m str>,
     features: &FeatureMap<'m, S>,
-    feature: &Feature<'m>,
+    texts: &[String],
 ) -> Result<(), AllocError> {
-    for name in &feature.enables_features {
-        add(found, left, features, *name)?;
-    }
-    for (key, action) in &feature.enables_deps {
-        if !action.is_conditional && !action.is_dep_only {
-            add(found, left, features, *key)?;
+    for text in texts {
+        let action = read_action(text.as_str());
+        if !action.acts() || (!action.is_conditional && !action.is_dep_only) {
+            add(found, left, features, action.target)?;
         }
     }
     Ok(())

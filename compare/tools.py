@@ -446,14 +446,22 @@ def members(root, manifest):
 
 
 def summary(folder, manifest, workspace):
+    if "package" not in manifest:
+        raise Refused("there is no package")
     package = manifest["package"]
+    # what a table `workspace.package` gives, also where it says nothing of publishing or a readme
+    given = {*workspace["package"], "publish", "readme"} if "package" in workspace else {}
+    if any(is_inherited(package.get(key)) and key not in given for key in INHERITED):
+        name = package["name"]
+        raise Refused(f"not all fields of `{name}` have been present in workspace.package")
 
     def value(key, missing=None):
         found = package_value(key, package, workspace)
         return missing if found is None else found
 
     publish = value("publish", True)
-    if value("version", "0.0.0") == "0.0.0" and publish is True:
+    is_unversioned = value("version", "0.0.0") == "0.0.0"
+    if is_unversioned and publish is True and not is_inherited(package.get("publish")):
         publish = False
     if isinstance(publish, list):
         publish = ", ".join(publish) or "no"

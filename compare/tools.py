@@ -398,7 +398,7 @@ class Lint:
             front = "" if name is None else for_line(name) + ": "
             for feature in in_order(found[code]):
                 text += f"{front}{level} | {code} | {for_line(feature)} | {words}\n"
-                status = 0 if level == "hint" else 3
+                status = status if level == "hint" else 3
         return text, status
 
 

@@ -23,9 +23,9 @@ pub returns-in_err-push_target-clause-refused : goal.returns-in_err-push_target-
 returns-in_err-push_target-clause-refused c =
     let p = err_from_is_err_and c.from_residual.result c.from_residual.ensures.1 in
     rw (p.1, p.2) (or_then c.in_err-push_target.ensures.refused
-    (λ h. any_here (λ (t : Text × TargetMeaning). is_told _ (tables_in t.1)) _ _ _ _
+    (λ h. any_here (λ (t : Text × TargetMeaning). is_told c.in_err-push_target.field-0.0 (tables_in t.1)) _ _ _ _
     (ap (map target_of) (rest_more deref_pair _ _ _ (c.in-Some.name, c.in-Some.target) c.in-Some.is c.next.ensures.steps))
-    (c.loop-name.invariant.told _) h))
+    (c.loop-name.invariant.told c.in_err-push_target.field-0.0) h))
 
 pub returns-clause-taken : goal.returns-clause-taken
 returns-clause-taken c = all_end (λ (t : Text × TargetMeaning). are_taken (tables_in t.1)) _ _

@@ -39,7 +39,11 @@ class Program:
         return ran.returncode == 0, ran.stdout.strip()
 
     def build_time(self):
-        return f"some {self.times['build']:g} minutes on four cores"
+        return f"some {self.minutes('build'):g} minutes on four cores"
+
+    def minutes(self, what):
+        """How long something takes: of this program, where that was measured, or of the first."""
+        return self.times.get(f"{self.crate}_{what}", self.times[what])
 
 
 def times_of(root):

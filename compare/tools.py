@@ -1,0 +1,624 @@
+#!/usr/bin/env python3
+"""Holds what `cargo-toml-tools` prints against the rules of docs/TOOLS.md, read once more.
+
+    compare/tools.py index|lint|document|graph FILE..     # prints what is wanted of these manifests
+    compare/tools.py audit|report FOLDER..                # and of these workspaces
+    compare/tools.py --compare TOOL FILE|FOLDER..         # holds the program against that
+    compare/tools.py --random TOOL COUNT [SEED]           # the same, on manifests of compare/run
+
+Nothing here follows the program's code. Features are found by definitions.py.
+"""
+
+import concurrent.futures
+import fnmatch
+import importlib.machinery
+import json
+import os
+import re
+import subprocess
+import sys
+import tempfile
+import tomllib
+
+from definitions import Graph, enabled_by, in_order, join, mention
+
+HERE = os.path.dirname(os.path.realpath(__file__))
+PROGRAM = os.path.join(os.path.dirname(HERE), "cargo-toml-tools")
+LIMIT = 2048
+TABLES = [("dependencies", "normal"), ("dev-dependencies", "dev"), ("build-dependencies", "build")]
+CRATES_IO = "https://github.com/rust-lang/crates.io-index"
+INHERITED = [
+    *("version", "edition", "authors", "categories", "exclude", "include", "keywords", "publish"),
+    *("readme", "description", "documentation", "homepage", "license", "license-file"),
+    *("repository", "rust-version"),
+]
+
+
+class Refused(Exception):
+    """Why there is no answer."""
+
+
+def load(path):
+    with open(path, "rb") as file:
+        return tomllib.load(file)
+
+
+# requirements, as the crate `semver` writes them
+
+
+def comparator(text):
+    op, rest = re.fullmatch(r"\s*(>=|<=|[=<>~^]?)\s*(.*?)\s*", text).groups()
+    rest = rest.partition("+")[0]
+    numbers, dash, pre = rest.partition("-")
+    parts = numbers.split(".")
+    known = [part for part in parts if part not in ("*", "x", "X")]
+    if len(known) < len(parts) and not op:
+        return ".".join(known) + ".*" if known else ""
+    return (op or "^") + ".".join(known) + dash + pre
+
+
+def requirement(text):
+    return ", ".join(filter(None, map(comparator, text.split(",")))) or "*"
+
+
+# dependencies and inheritance
+
+
+def is_inherited(value):
+    return isinstance(value, dict) and value.get("workspace") is True
+
+
+def detail(value):
+    return {"version": value} if isinstance(value, str) else value
+
+
+def tables(manifest):
+    """The tables of dependencies, each with its name, its kind and its target."""
+    targets = manifest.get("target", {})
+    for target, place in [(None, manifest), *((name, targets[name]) for name in in_order(targets))]:
+        for name, kind in TABLES:
+            yield name, kind, target, place.get(name, {})
+
+
+def filled(key, value, workspace):
+    """A dependency with what its workspace gives."""
+    if not is_inherited(value):
+        return detail(value)
+    given = workspace.get("dependencies", {})
+    if key not in given:
+        raise Refused(f"workspace dependencies are missing `{key}`")
+    given = dict(detail(given[key]))
+    given["features"] = given.get("features", []) + value.get("features", [])
+    given["optional"] = value.get("optional", False)
+    return given
+
+
+def root_of(path, manifest):
+    """The workspace of a manifest."""
+    if "workspace" in manifest:
+        return manifest["workspace"]
+    folder = os.path.dirname(os.path.abspath(path))
+    while folder != os.path.dirname(folder):
+        folder = os.path.dirname(folder)
+        found = os.path.join(folder, "Cargo.toml")
+        if os.path.exists(found) and "workspace" in load(found):
+            return load(found)["workspace"]
+    return {}
+
+
+def package_value(key, package, workspace):
+    value = package.get(key)
+    return workspace.get("package", {}).get(key) if is_inherited(value) else value
+
+
+# index
+
+
+def index(path, checksum=None):
+    manifest = load(path)
+    workspace = root_of(path, manifest)
+    if "package" not in manifest:
+        raise Refused("there is no package")
+    package = manifest["package"]
+    version = package_value("version", package, workspace)
+    if version is None:
+        raise Refused("the package has no version")
+    features = manifest.get("features", {})
+    lists = {name: enabled_by(value) for name, value in features.items()}
+    later = {name for name, texts in lists.items() if any(map(is_of_second_version, texts))}
+    line = {
+        "name": package["name"],
+        "vers": version,
+        "deps": [entry for entry in entries(manifest, workspace) if entry],
+        "features": {name: texts for name, texts in lists.items() if name not in later},
+        "yanked": False,
+        "links": package.get("links"),
+        "rust_version": package_value("rust-version", package, workspace),
+    }
+    if later:
+        line |= {"features2": {name: lists[name] for name in later}, "v": 2}
+    if checksum:
+        line["cksum"] = checksum
+    return json.dumps(line, ensure_ascii=False, separators=(",", ":"), sort_keys=True) + "\n"
+
+
+def is_of_second_version(text):
+    return text.startswith("dep:") or "?/" in text
+
+
+def entries(manifest, workspace):
+    for _, kind, target, table in tables(manifest):
+        for key in in_order(table):
+            yield entry(key, kind, target, filled(key, table[key], workspace))
+
+
+def entry(key, kind, target, value):
+    text = value.get("version")
+    if text is None and ("path" in value or "git" in value):
+        if kind == "dev":
+            return None
+        raise Refused(f"the dependency {key} has no version")
+    registry = value.get("registry-index")
+    if registry is None and "registry" in value:
+        if value["registry"] != "crates-io":
+            raise Refused(f"the registry of the dependency {key} has no address")
+        registry = CRATES_IO
+    made = {
+        "name": key,
+        "req": requirement(text or "*"),
+        "features": value.get("features", []),
+        "optional": value.get("optional", False),
+        "default_features": value.get("default-features", True),
+        "target": target,
+        "kind": kind,
+        "registry": registry,
+    }
+    return made | ({"package": value["package"]} if value.get("package", key) != key else {})
+
+
+# escapes
+
+
+def is_control(c):
+    """No sign: a line's end, another control, what takes no place or turns the direction."""
+    return bool(re.match("[\0-\x1f\x7f-\x9f\u200b-\u200f\u2028-\u202e\u2060-\u206f\ufeff]", c))
+
+
+def sign_for_line(c):
+    return f"\\u{{{ord(c):x}}}" if is_control(c) else "\\" + c if c in "\\|" else c
+
+
+def for_line(text):
+    return "".join(map(sign_for_line, text))
+
+
+def is_plain(c):
+    return c in " -+.,:;/?()=%" or (c.isalnum() if c.isascii() else not is_control(c))
+
+
+def for_markdown(text):
+    return "".join(c if is_plain(c) else f"&#{ord(c)};" for c in text)
+
+
+def code(name):
+    if name and all(is_plain(c) or c == "_" for c in name):
+        return f"`{name}`"
+    return f"<code>{for_markdown(name)}</code>"
+
+
+def for_dot(text):
+    signs = {"\\": "\\\\", '"': '\\"', "&": "&amp;"}
+    return "".join(f"&#{ord(c)};" if is_control(c) else signs.get(c, c) for c in text)
+
+
+# document
+
+
+class Document:
+    """The features of a manifest, each with what it turns on."""
+
+    def __init__(self, path):
+        self.manifest = load(path)
+        features = self.manifest.get("features", {})
+        self.tables = {k: v for k, v in features.items() if isinstance(v, dict)}
+        self.lists = {k: enabled_by(v) for k, v in features.items()}
+        self.graph = Graph(self.manifest | {"features": self.lists}, LIMIT)
+
+    def is_private(self, name):
+        return name.startswith("_") or self.tables.get(name, {}).get("public") is False
+
+    def led_to(self, name):
+        """What a feature turns on in one step."""
+        for text in self.lists.get(name, []):
+            key, action = mention(text)
+            if not action or not (action[0] or action[1]):
+                yield key
+
+    def reached(self, name):
+        """The feature and all that it turns on."""
+        found, left = {name}, [name]
+        while left:
+            for other in self.graph.names.keys() & set(self.led_to(left.pop())) - found:
+                found.add(other)
+                left.append(other)
+        return found
+
+    def actions(self, names):
+        joined = {}
+        for name in names:
+            for key, action in self.graph.actions[name].items():
+                joined[key] = join(joined.get(key), action)
+        return joined
+
+    def row(self, name):
+        reached = self.reached(name)
+        names = in_order(other for other in reached - {name} if not self.is_private(other))
+        words = []
+        actions = self.actions(reached)
+        for key in in_order(actions):
+            is_conditional, _, features = actions[key]
+            front = key + "?" * is_conditional
+            words += [f"{front}/{feature}" for feature in in_order(features)] or [front]
+        cells = [
+            code(name),
+            for_markdown(self.tables.get(name, {}).get("doc", "")),
+            "yes" if name in self.reached("default") else "no",
+            ", ".join(map(code, names)),
+            ", ".join(map(code, words)),
+        ]
+        return "| " + " | ".join(cells) + " |\n"
+
+    def page(self):
+        name = self.manifest.get("package", {}).get("name")
+        text = "# Features" + (f" of {code(name)}" if name is not None else "") + "\n"
+        shown = [name for name in in_order(self.graph.names) if not self.is_private(name)]
+        if "default" not in self.lists:
+            shown.remove("default")
+        head = "| Feature | Text | Default | Features | Dependencies |\n|---|---|---|---|---|\n"
+        for front, is_listed in ("\n", True), ("\n## Optional dependencies\n\n", False):
+            rows = [name for name in shown if (name in self.graph.explicit) == is_listed]
+            text += (front + head if rows else "") + "".join(map(self.row, rows))
+        return text
+
+    def dot(self):
+        text = "digraph {\n"
+        if "package" in self.manifest:
+            text += f'    label="{for_dot(self.manifest["package"]["name"])}";\n'
+        keys = set()
+        for name in in_order(self.graph.names):
+            style = "dashed" if self.is_private(name) else "solid"
+            front = f'    "feature:{for_dot(name)}"'
+            text += f'{front} [label="{for_dot(name)}", style={style}];\n'
+            for other in in_order(self.graph.names[name] & self.graph.names.keys()):
+                text += f'{front} -> "feature:{for_dot(other)}";\n'
+            for key in in_order(self.graph.actions[name]):
+                is_conditional, _, features = self.graph.actions[name][key]
+                label = ", ".join(map(for_dot, in_order(features)))
+                mark = ", style=dotted" if is_conditional else ""
+                text += f'{front} -> "dependency:{for_dot(key)}" [label="{label}"{mark}];\n'
+                keys.add(key)
+        for key in in_order(keys):
+            text += f'    "dependency:{for_dot(key)}" [label="{for_dot(key)}", shape=box];\n'
+        return text + "}\n"
+
+
+# lint
+
+
+WORDS_OF = {
+    "not-optional": ("error", "uses `dep:` or `?` on a dependency that isn't optional"),
+    "same-name": (
+        "error",
+        "has the name of an optional dependency that no feature names by `dep:`",
+    ),
+    "unknown": ("error", "names or requires what the manifest doesn't have"),
+    "implied": (
+        "hint",
+        "an optional dependency that no feature names by `dep:` is a feature for users",
+    ),
+    "private-default": ("hint", "only `default` enables this hidden or private feature"),
+    "cycle": ("warning", "enables itself through others"),
+    "over-limit": ("warning", "has a name or actions beyond the limit"),
+    "unreachable": ("warning", "no feature for users leads to this hidden one"),
+}
+
+
+class Lint:
+    """What is odd of a manifest's features, each as the name of a finding's code and a feature."""
+
+    def __init__(self, manifest, limit=LIMIT):
+        self.lists = {k: enabled_by(v) for k, v in manifest.get("features", {}).items()}
+        self.graph = Graph(manifest, limit)
+        entries = [one for _, _, _, table in tables(manifest) for one in table.items()]
+        self.dependencies = {key for key, _ in entries}
+        self.optional = {key for key, one in entries if detail(one).get("optional", False)}
+        mentions = [mention(text) for texts in self.lists.values() for text in texts]
+        self.reserved = {key for key, action in mentions if action and action[1]}
+        bins = manifest.get("bin", [])
+        self.required = [text for bin in bins for text in bin.get("required-features", [])]
+        self.limit = limit
+
+    def led_to(self, name):
+        """The features to which this one leads by one name or more."""
+        found, left = set(), [name]
+        while left:
+            for other in self.graph.names[left.pop()] & self.graph.names.keys() - found:
+                found.add(other)
+                left.append(other)
+        return found
+
+    def is_unknown(self, text, names):
+        key, action = mention(text)
+        return key not in (self.dependencies if action else names)
+
+    def is_not_optional(self, text):
+        key, action = mention(text)
+        is_marked = bool(action) and (action[0] or action[1])
+        return is_marked and key in self.dependencies - self.optional
+
+    def found(self):
+        graph, lists = self.graph, self.lists
+        hidden = {name for name in graph.names if name.startswith("_")}
+        private = {name for name, (is_public, _) in graph.said.items() if not is_public}
+        names = lists.keys() | {"default"} | self.optional
+        there = lists.keys() | graph.names.keys()
+        led_to = {name: self.led_to(name) for name in graph.names}
+        enablers = {
+            name: {one for one in graph.names if name in graph.edges[one]}
+            for name in hidden | private
+        }
+        of_users = set().union(*(led_to[name] for name in graph.names.keys() - hidden))
+        admitted = {name for name in graph.explicit if len(lists.get(name, [])) <= self.limit}
+        return {
+            "not-optional": {name for name in lists if any(map(self.is_not_optional, lists[name]))},
+            "same-name": lists.keys() & self.optional - self.reserved,
+            "unknown": {
+                name
+                for name in lists
+                if any(self.is_unknown(text, names) for text in lists[name])
+            }
+            | {text for text in self.required if self.is_unknown(text, there)},
+            "implied": graph.names.keys() - graph.explicit,
+            "private-default": {name for name in enablers if enablers[name] == {"default"}},
+            "cycle": {
+                name
+                for name in graph.names
+                if any(name in led_to[one] for one in led_to[name] - {name})
+            },
+            "over-limit": lists.keys() - admitted,
+            "unreachable": hidden - of_users,
+        }
+
+    def lines(self, name=None):
+        """The lines, each with the name of the file in front where one is given, and the status."""
+        text, status = "", 0
+        found = self.found()
+        for code in sorted(found, key=lambda code: (WORDS_OF[code][0], code)):
+            level, words = WORDS_OF[code]
+            front = "" if name is None else for_line(name) + ": "
+            for feature in in_order(found[code]):
+                text += f"{front}{level} | {code} | {for_line(feature)} | {words}\n"
+                status = status if level == "hint" else 3
+        return text, status
+
+
+def lint(path):
+    text, status = Lint(load(path)).lines()
+    return f"{text}status {status}\n"
+
+
+# audit
+
+
+def expanded(root, entry):
+    """The folders that an entry of `members` stands for."""
+    found = ["/" if entry.startswith("/") else ""]
+    for name in filter(None, entry.split("/")):
+        if not set("*?") & set(name):
+            found = [os.path.join(folder, name) for folder in found]
+            continue
+        further = []
+        for folder in found:
+            place = os.path.join(root, folder)
+            within = os.listdir(place) if os.path.isdir(place) else []
+            for other in fnmatch.filter(within, name.replace("[", "[[]")):
+                if os.path.isdir(os.path.join(place, other)):
+                    further.append(os.path.join(folder, other))
+        found = further
+    return found or [entry]
+
+
+def lies_in(folder, outers):
+    outers = map(os.path.normpath, outers)
+    return any(outer == "." or f"{folder}/".startswith(f"{outer}/") for outer in outers)
+
+
+def members(root, manifest):
+    """The members, and those that are listed twice."""
+    workspace, found, twice = manifest["workspace"], set(), set()
+    written = workspace.get("members", [])
+    for entry in written:
+        for folder in map(os.path.normpath, expanded(root, entry)):
+            if lies_in(folder, workspace.get("exclude", [])) and not lies_in(folder, written):
+                continue
+            (twice if folder in found else found).add(folder)
+    return found | ({"."} if "package" in manifest else set()), twice
+
+
+def summary(folder, manifest, workspace):
+    if "package" not in manifest:
+        raise Refused("there is no package")
+    package = manifest["package"]
+    # what a table `workspace.package` gives, also where it says nothing of publishing or a readme
+    given = {*workspace["package"], "publish", "readme"} if "package" in workspace else {}
+    if any(is_inherited(package.get(key)) and key not in given for key in INHERITED):
+        name = package["name"]
+        raise Refused(f"not all fields of `{name}` have been present in workspace.package")
+
+    def value(key, missing=None):
+        found = package_value(key, package, workspace)
+        return missing if found is None else found
+
+    publish = value("publish", True)
+    is_unversioned = value("version", "0.0.0") == "0.0.0"
+    if is_unversioned and publish is True and not is_inherited(package.get("publish")):
+        publish = False
+    if isinstance(publish, list):
+        publish = ", ".join(publish) or "no"
+    inherits = [key for key in INHERITED if is_inherited(package.get(key))]
+    inherits += ["lints"] * is_inherited(manifest.get("lints"))
+    for name, _, _, table in tables(manifest):
+        inherits += [f"{name}.{key}" for key in in_order(table) if is_inherited(table[key])]
+    return {
+        "folder": folder,
+        "name": package["name"],
+        "version": value("version", "0.0.0"),
+        "edition": value("edition", "2015"),
+        "rust_version": value("rust-version"),
+        "license": value("license"),
+        "publish": {True: "yes", False: "no"}.get(publish, publish),
+        "inherits": inherits,
+    }
+
+
+def inspected(root):
+    """What is told of each member, and what is odd."""
+    manifest = load(os.path.join(root, "Cargo.toml"))
+    if "workspace" not in manifest:
+        raise Refused("there is no workspace")
+    workspace = manifest["workspace"]
+    folders, twice = members(root, manifest)
+    told, uses, inherited = [], {}, set()
+    odd = {("listed-twice", folder, "two entries of members lead to it") for folder in twice}
+    for folder in in_order(folders):
+        if folder.startswith(("/", "../")) or folder == "..":
+            odd.add(("outside", folder, "it lies outside the workspace's folder"))
+        try:
+            member = load(os.path.join(root, folder, "Cargo.toml"))
+            for _, _, _, table in tables(member):
+                inherited |= {key for key in table if is_inherited(table[key])}
+            asked = [
+                (given.get("package", key), requirement(given["version"]))
+                for _, _, _, table in tables(member)
+                for key in in_order(table)
+                if "version" in (given := filled(key, table[key], workspace))
+            ]
+            told.append(summary(folder, member, workspace))
+        except FileNotFoundError:
+            odd.add(("incomplete", folder, "No such file or directory (os error 2)"))
+            continue
+        except Refused as why:
+            odd.add(("incomplete", folder, str(why)))
+            continue
+        for crate, text in asked:
+            uses.setdefault(crate, {}).setdefault(text, set()).add(folder)
+        given = workspace.get("package", {})
+        for key, word in ("edition", "other-edition"), ("license", "other-license"):
+            own = told[-1][key] or "none"
+            if key in given and given[key] != own:
+                odd.add((word, folder, f"{own}, where the workspace has {given[key]}"))
+    for crate, texts in uses.items():
+        if len(texts) > 1:
+            parts = [f"{text} in {', '.join(in_order(texts[text]))}" for text in in_order(texts)]
+            odd.add(("several-requirements", crate, "; ".join(parts)))
+    for key in workspace.get("dependencies", {}).keys() - inherited:
+        odd.add(("unused-dependency", key, "no member inherits it"))
+    return told, sorted(odd, key=lambda one: [text.encode() for text in one])
+
+
+def audit(root):
+    told, odd = inspected(root)
+    text = ""
+    for one in told:
+        keys = "name", "version", "edition", "rust_version", "license", "publish"
+        cells = [one[key] or "-" for key in keys]
+        inherits = ", ".join(map(for_line, one["inherits"])) or "-"
+        front = f"member {for_line(one['folder'])}"
+        text += " | ".join([front, *map(for_line, cells), inherits]) + "\n"
+    for one in odd:
+        text += "finding " + " | ".join(map(for_line, one)) + "\n"
+    return text + f"status {3 if odd else 0}\n"
+
+
+def report(root):
+    told, odd = inspected(root)
+    findings = [dict(zip(("code", "subject", "words"), one)) for one in odd]
+    made = {"members": told, "findings": findings}
+    line = json.dumps(made, ensure_ascii=False, separators=(",", ":"), sort_keys=True)
+    return f"{line}\nstatus {3 if odd else 0}\n"
+
+
+TOOLS = {
+    "index": index,
+    "lint": lint,
+    "document": lambda path: Document(path).page(),
+    "graph": lambda path: Document(path).dot(),
+    "audit": audit,
+    "report": report,
+}
+WORDS = {
+    "index": ["index"],
+    "lint": ["lint"],
+    "document": ["document"],
+    "graph": ["document", "--dot"],
+    "audit": ["audit"],
+    "report": ["audit", "--json"],
+}
+# the tools whose status says what they found
+TELLING = ["lint", "audit", "report"]
+
+
+def wanted(tool, path):
+    try:
+        return TOOLS[tool](path)
+    except Refused as why:
+        return f"error: {for_line(path)}: {for_line(str(why))}\n"
+
+
+def told(tool, path):
+    """What the program tells, with its status where that says what was found."""
+    words = [PROGRAM, *WORDS[tool], path]
+    done = subprocess.run(words, capture_output=True, text=True, check=False)
+    if tool in TELLING and not done.stderr:
+        return f"{done.stdout}status {done.returncode}\n"
+    return done.stdout or done.stderr
+
+
+def compare(tool, paths):
+    """Holds the program against what is wanted, and returns how many answers differ."""
+    with concurrent.futures.ThreadPoolExecutor(os.cpu_count()) as pool:
+        answers = pool.map(lambda path: (told(tool, path), wanted(tool, path)), paths)
+        differ = [each for each in zip(paths, answers) if each[1][0] != each[1][1]]
+    for path, (found, want) in differ[:3]:
+        if os.path.isfile(path):
+            with open(path, encoding="utf-8") as file:
+                print(file.read())
+        print(f"{path}\nprinted: {found}\nwanted:  {want}\n")
+    print(f"{len(paths)} of {tool}, {len(differ)} differ")
+    return len(differ)
+
+
+def compare_random(tool, count, seed=1):
+    """The same, on random manifests."""
+    run = importlib.machinery.SourceFileLoader("run", f"{HERE}/run").load_module()
+    manifests = run.Manifests(int(seed), run.NAMES + run.HIDDEN, has_details=True)
+    with tempfile.TemporaryDirectory() as folder:
+        paths = [f"{folder}/{number}.toml" for number in range(int(count))]
+        for path in paths:
+            with open(path, "w", encoding="utf-8") as file:
+                file.write(manifests.manifest())
+        return compare(tool, paths)
+
+
+def main(words):
+    if words[:1] == ["--compare"]:
+        return min(compare(words[1], words[2:]), 1)
+    if words[:1] == ["--random"]:
+        return min(compare_random(*words[1:]), 1)
+    for path in words[1:]:
+        sys.stdout.write(wanted(words[0], path))
+    return 0
+
+
+if __name__ == "__main__":
+    sys.exit(main(sys.argv[1:]))

@@ -1,0 +1,5 @@
+pub mod Explained
+pub mod Matched
+pub mod Signs
+pub mod Told
+pub mod Weighed

@@ -1,0 +1,181 @@
+//! The report on a workspace: what each member is, and what is odd.
+ghost use Rattle.std.specs.Prelude.{◌≡◌};
+
+mod differences;
+mod inherited;
+mod report;
+mod summary;
+
+use crate::members::Members;
+use cargo_toml::{Error, Manifest, Workspace};
+use inherited::{add_inherited_dependencies, inherited_keys};
+pub use report::{json, lines};
+use std::alloc::{AllocError, Global};
+use std::collections::BTreeSet;
+use summary::{add_uses, summarize};
+
+/// What a member is. What isn't there is `None`.
+#[derive(Debug, Drop)]
+pub struct Member {
+    /// Its folder, from the workspace's on.
+    pub folder: String,
+    /// The name of its package.
+    pub name: String,
+    /// The version.
+    pub version: String,
+    /// The edition.
+    pub edition: String,
+    /// The oldest compiler that it promises to build with.
+    pub rust_version: Option<String>,
+    /// The licence.
+    pub license: Option<String>,
+    /// Where it may be published: `yes`, `no` or the names of registries.
+    pub publish: String,
+    /// What it leaves to the workspace, by key.
+    pub inherits: Vec<String>,
+}
+
+/// What kind of oddity was found. They stand in the order of their words.
+#[derive(Debug, Clone, Copy, PartialEq, Eq, PartialOrd, Ord)]
+pub enum Code {
+    /// A member doesn't complete.
+    Incomplete,
+    /// A member is listed twice.
+    ListedTwice,
+    /// A member's edition is another than the workspace's.
+    OtherEdition,
+    /// A member's licence is another than the workspace's.
+    OtherLicense,
+    /// A member lies outside the workspace's folder.
+    Outside,
+    /// Members ask for one crate by several requirements.
+    SeveralRequirements,
+    /// No member inherits a dependency of the workspace.
+    UnusedDependency,
+}
+
+impl Code {
+    /// The word that stands for it in a report.
+    pub fn word(self) -> &'static str {
+        match self {
+            Code::Incomplete => "incomplete",
+            Code::ListedTwice => "listed-twice",
+            Code::OtherEdition => "other-edition",
+            Code::OtherLicense => "other-license",
+            Code::Outside => "outside",
+            Code::SeveralRequirements => "several-requirements",
+            Code::UnusedDependency => "unused-dependency",
+        }
+    }
+}
+
+/// Something odd, of a member or a dependency.
+#[derive(Debug, PartialEq, Eq, PartialOrd, Ord, Drop)]
+pub struct Finding {
+    /// What kind of oddity.
+    pub code: Code,
+    /// The member's folder, or the dependency's key or crate.
+    pub subject: String,
+    /// What is odd.
+    pub words: String,
+}
+
+/// A crate that a member asks for.
+#[derive(Debug, PartialEq, Eq, PartialOrd, Ord, Drop)]
+struct Use {
+    name: String,
+    requirement: String,
+    folder: String,
+}
+
+/// A report that is being made.
+#[derive(Drop)]
+pub struct Audit {
+    /// The members that complete, in the order in which they were added.
+    pub members: Vec<Member>,
+    /// What is odd.
+    pub findings: BTreeSet<Finding>,
+    /// What the members ask for.
+    uses: BTreeSet<Use>,
+    /// The keys of the workspace's dependencies that some member inherits.
+    inherited: BTreeSet<String>,
+}
+
+impl Audit {
+    /// The report on no member.
+    pub fn new(alloc: Global) -> Audit {
+        Audit {
+            members: Vec::new(alloc),
+            findings: BTreeSet::new(alloc),
+            uses: BTreeSet::new(alloc),
+            inherited: BTreeSet::new(alloc),
+        }
+    }
+
+    fn find(&mut self, code: Code, subject: &str, words: String) -> Result<(), AllocError>
+        ensures { self.new.members ≡ self.old.members }
+    {
+        let subject = String::from_str(*self.members.allocator(), subject)?;
+        self.findings.insert(Finding {
+            code,
+            subject,
+            words,
+        })?;
+        Ok(())
+    }
+
+    /// Adds what is odd of how members are listed.
+    pub fn add_listing(&mut self, alloc: Global, members: &Members) -> Result<(), AllocError> {
+        for folder in &members.twice {
+            let words = String::from_str(alloc, "two entries of members lead to it")?;
+            self.find(Code::ListedTwice, folder.as_str(), words)?;
+        }
+        for folder in &members.folders {
+            if folder.as_str() == ".." || folder.starts_with("../") || folder.starts_with('/') {
+                let words = String::from_str(alloc, "it lies outside the workspace's folder")?;
+                self.find(Code::Outside, folder.as_str(), words)?;
+            }
+        }
+        Ok(())
+    }
+
+    /// Takes in a member's manifest as it is written, and answers the keys that it leaves to the
+    /// workspace.
+    pub fn add_written<M>(
+        &mut self,
+        alloc: Global,
+        manifest: &Manifest<M>,
+    ) -> Result<Vec<String>, AllocError> {
+        let mut keys = inherited_keys(alloc, manifest)?;
+        add_inherited_dependencies(alloc, manifest, &mut keys, &mut self.inherited)?;
+        Ok(keys)
+    }
+
+    /// Adds a member whose manifest is completed.
+    pub fn add_completed<M>(
+        &mut self,
+        alloc: Global,
+        folder: &str,
+        manifest: &Manifest<M>,
+        inherits: Vec<String>,
+        workspace: &Workspace<M>,
+    ) -> Result<(), Error> {
+        let member = summarize(alloc, folder, manifest, inherits)?;
+        add_uses(alloc, folder, manifest, &mut self.uses)?;
+        self.compare(alloc, &member, workspace)?;
+        self.members.push(member)?;
+        Ok(())
+    }
+
+    /// Adds a member that doesn't complete, by the words of its fault.
+    pub fn add_refused(
+        &mut self,
+        alloc: Global,
+        folder: &str,
+        words: &str,
+    ) -> Result<(), AllocError>
+        ensures { self.new.members ≡ self.old.members }
+    {
+        self.find(Code::Incomplete, folder, String::from_str(alloc, words)?)
+    }
+}

@@ -1,0 +1,105 @@
+//! How a report is written.
+
+use super::{Audit, Finding, Member};
+use crate::escape::{Format, push_escaped};
+use crate::json::{put_text, put_texts};
+use serde_json::{Map, Value, push, put};
+use std::alloc::{AllocError, Global};
+
+/// The report as lines: one for each member, and then one for each finding, in byte order.
+///
+/// `member FOLDER | NAME | VERSION | EDITION | RUST-VERSION | LICENSE | PUBLISH | INHERITS`, and
+/// `finding CODE | SUBJECT | WORDS`, where `-` stands for what isn't there.
+pub fn lines(alloc: Global, audit: &Audit) -> Result<String, AllocError> {
+    let mut text = String::new(alloc);
+    for member in &audit.members {
+        push_member(&mut text, member)?;
+    }
+    for finding in &audit.findings {
+        push_finding(&mut text, finding)?;
+    }
+    Ok(text)
+}
+
+fn push_member(text: &mut String, member: &Member) -> Result<(), AllocError> {
+    text.push_str("member ")?;
+    push_escaped(text, member.folder.as_str(), Format::Line)?;
+    push_cell(text, member.name.as_str())?;
+    push_cell(text, member.version.as_str())?;
+    push_cell(text, member.edition.as_str())?;
+    push_cell(text, member.rust_version.as_deref().unwrap_or("-"))?;
+    push_cell(text, member.license.as_deref().unwrap_or("-"))?;
+    push_cell(text, member.publish.as_str())?;
+    push_keys(text, member.inherits.as_slice())
+}
+
+fn push_finding(text: &mut String, finding: &Finding) -> Result<(), AllocError> {
+    text.push_str("finding ")?;
+    text.push_str(finding.code.word())?;
+    push_cell(text, finding.subject.as_str())?;
+    push_cell(text, finding.words.as_str())?;
+    text.push_str("\n")
+}
+
+fn push_cell(text: &mut String, cell: &str) -> Result<(), AllocError> {
+    text.push_str(" | ")?;
+    push_escaped(text, cell, Format::Line)
+}
+
+fn push_keys(text: &mut String, keys: &[String]) -> Result<(), AllocError> {
+    text.push_str(if keys.is_empty() { " | -" } else { " | " })?;
+    for (i, key) in keys.iter().enumerate() {
+        text.push_str(if i == 0 { "" } else { ", " })?;
+        push_escaped(text, key.as_str(), Format::Line)?;
+    }
+    text.push_str("\n")
+}
+
+/// The same as a line of JSON, an object of two lists: `findings` and `members`.
+pub fn json(alloc: Global, audit: &Audit) -> Result<String, AllocError> {
+    let mut members = Vec::new(alloc);
+    for member in &audit.members {
+        push(&mut members, member_value(alloc, member)?)?;
+    }
+    let mut findings = Vec::new(alloc);
+    for finding in &audit.findings {
+        push(&mut findings, finding_value(alloc, finding)?)?;
+    }
+    let mut report = Map::new(alloc);
+    put(&mut report, alloc, "members", Value::Array(members))?;
+    put(&mut report, alloc, "findings", Value::Array(findings))?;
+    let mut text = Value::Object(report).to_string(alloc)?;
+    text.push_str("\n")?;
+    Ok(text)
+}
+
+fn member_value(alloc: Global, member: &Member) -> Result<Value, AllocError> {
+    let mut object = Map::new(alloc);
+    put_text(alloc, &mut object, "folder", Some(member.folder.as_str()))?;
+    put_text(alloc, &mut object, "name", Some(member.name.as_str()))?;
+    put_text(alloc, &mut object, "version", Some(member.version.as_str()))?;
+    put_text(alloc, &mut object, "edition", Some(member.edition.as_str()))?;
+    put_text(
+        alloc,
+        &mut object,
+        "rust_version",
+        member.rust_version.as_deref(),
+    )?;
+    put_text(alloc, &mut object, "license", member.license.as_deref())?;
+    put_text(alloc, &mut object, "publish", Some(member.publish.as_str()))?;
+    put_texts(alloc, &mut object, "inherits", member.inherits.as_slice())?;
+    Ok(Value::Object(object))
+}
+
+fn finding_value(alloc: Global, finding: &Finding) -> Result<Value, AllocError> {
+    let mut object = Map::new(alloc);
+    put_text(alloc, &mut object, "code", Some(finding.code.word()))?;
+    put_text(
+        alloc,
+        &mut object,
+        "subject",
+        Some(finding.subject.as_str()),
+    )?;
+    put_text(alloc, &mut object, "words", Some(finding.words.as_str()))?;
+    Ok(Value::Object(object))
+}

@@ -1,0 +1,197 @@
+//! What is documented of a crate's features: a page in Markdown, or the graph for Graphviz.
+ghost use Rattle.std.specs.Prelude.{◌≡◌};
+ghost use Rattle.cargo_toml_tools.specs.Documented.{is_private, is_shown};
+
+mod dot;
+mod reached;
+
+use crate::escape::{Format, push_code, push_escaped};
+use cargo_toml::features::{DepAction, Feature, Features};
+use cargo_toml::{FeatureSet, Manifest};
+pub use dot::graph;
+use reached::{Reached, reach, turned_on};
+use std::alloc::{AllocError, Global};
+use std::collections::{BTreeMap, BTreeSet, HashMap};
+use std::hash::BuildHasher;
+
+/// The features of a manifest by name, as they are resolved.
+pub(crate) type FeatureMap<'m, S> = HashMap<&'m str, Feature<'m>, S>;
+
+/// A feature that users may ask for, and what is told of it.
+#[derive(Drop)]
+struct Row<'m> {
+    name: &'m str,
+    is_listed: bool,
+    doc: Option<&'m str>,
+    is_default: bool,
+    turns_on: Reached<'m>,
+}
+
+/// A page in Markdown on the features that users may ask for: each with its text, whether it is on
+/// by default, and what it turns on, by any number of names. Optional dependencies that serve as
+/// features stand in a table of their own. Hidden and private features are left out.
+///
+/// What is resolved has hidden features, since what these turn on counts for others.
+pub fn page<M, S: BuildHasher>(
+    alloc: Global,
+    manifest: &Manifest<M>,
+    resolved: &Features<'_, '_, S>,
+) -> Result<String, AllocError> {
+    let rows = rows(alloc, &manifest.features, &resolved.features)?;
+    let mut page = String::new(alloc);
+    push_title(&mut page, manifest)?;
+    push_table(alloc, &mut page, rows.as_slice(), true)?;
+    push_table(alloc, &mut page, rows.as_slice(), false)?;
+    Ok(page)
+}
+
+/// The rows of all features that are told of, in byte order of their names.
+fn rows<'m, S: BuildHasher>(
+    alloc: Global,
+    lists: &FeatureSet,
+    features: &FeatureMap<'m, S>,
+) -> Result<Vec<Row<'m>>, AllocError> {
+    let has_default = lists.contains_key("default");
+    let defaults = turned_on(alloc, "default", lists, features)?;
+    let mut rows = Vec::new(alloc);
+    let names = names(alloc, features)?;
+    for name in &names {
+        if let Some(feature) = features.get(*name) {
+            if is_shown(feature, has_default) {
+                rows.push(row_of(alloc, feature, lists, features, &defaults)?)?;
+            }
+        }
+    }
+    Ok(rows)
+}
+
+fn row_of<'m, S: BuildHasher>(
+    alloc: Global,
+    feature: &Feature<'m>,
+    lists: &FeatureSet,
+    features: &FeatureMap<'m, S>,
+    defaults: &BTreeSet<&str>,
+) -> Result<Row<'m>, AllocError> {
+    let turns_on = reach(alloc, feature.key, lists, features)?;
+    Ok(Row {
+        name: feature.key,
+        is_listed: feature.explicit,
+        doc: feature.doc,
+        is_default: defaults.contains(feature.key),
+        turns_on,
+    })
+}
+
+/// The names of the features.
+fn names<'m, S: BuildHasher>(
+    alloc: Global,
+    features: &FeatureMap<'m, S>,
+) -> Result<BTreeSet<&'m str>, AllocError> {
+    let mut names = BTreeSet::new(alloc);
+    for name in features.keys() {
+        names.insert(*name)?;
+    }
+    Ok(names)
+}
+
+/// Whether a feature is told of: one that isn't private, and `default` where the manifest has it.
+fn is_shown(feature: &Feature<'_>, has_default: bool) -> bool
+    ensures { result ≡ is_shown has_default feature.now }
+{
+    !is_private(feature) && (has_default || feature.key != "default")
+}
+
+/// Whether a feature is hidden, by its name, or private, by its table.
+fn is_private(feature: &Feature<'_>) -> bool
+    ensures { result ≡ is_private feature.now }
+{
+    !feature.public || feature.key.starts_with('_')
+}
+
+fn push_title<M>(page: &mut String, manifest: &Manifest<M>) -> Result<(), AllocError> {
+    page.push_str("# Features")?;
+    if let Some(package) = &manifest.package {
+        page.push_str(" of ")?;
+        push_code(page, package.name.as_str())?;
+    }
+    page.push_str("\n")
+}
+
+/// The table of the features that are listed, or of those that are optional dependencies.
+fn push_table(
+    alloc: Global,
+    page: &mut String,
+    rows: &[Row<'_>],
+    listed: bool,
+) -> Result<(), AllocError> {
+    if !rows.iter().any(|row| row.is_listed == listed) {
+        return Ok(());
+    }
+    page.push_str(if listed {
+        "\n| Feature | Text | Default | Features | Dependencies |\n|---|---|---|---|---|\n"
+    } else {
+        "\n## Optional dependencies\n\n\
+            | Feature | Text | Default | Features | Dependencies |\n|---|---|---|---|---|\n"
+    })?;
+    for row in rows {
+        if row.is_listed == listed {
+            push_row(alloc, page, row)?;
+        }
+    }
+    Ok(())
+}
+
+fn push_row(alloc: Global, page: &mut String, row: &Row<'_>) -> Result<(), AllocError> {
+    page.push_str("| ")?;
+    push_code(page, row.name)?;
+    page.push_str(" | ")?;
+    push_escaped(page, row.doc.unwrap_or(""), Format::Markdown)?;
+    page.push_str(if row.is_default {
+        " | yes | "
+    } else {
+        " | no | "
+    })?;
+    push_names(page, &row.turns_on.features)?;
+    page.push_str(" | ")?;
+    push_actions(alloc, page, &row.turns_on.actions)?;
+    page.push_str(" |\n")
+}
+
+fn push_names(page: &mut String, names: &BTreeSet<&str>) -> Result<(), AllocError> {
+    for (i, name) in names.iter().enumerate() {
+        page.push_str(if i == 0 { "" } else { ", " })?;
+        push_code(page, *name)?;
+    }
+    Ok(())
+}
+
+/// Actions as a feature's list says them: `log`, `log/std`, or `log?/std` where something else has
+/// to turn the dependency on.
+fn push_actions(
+    alloc: Global,
+    page: &mut String,
+    actions: &BTreeMap<&str, DepAction<'_>>,
+) -> Result<(), AllocError> {
+    for (i, (key, action)) in actions.iter().enumerate() {
+        page.push_str(if i == 0 { "" } else { ", " })?;
+        push_action(alloc, page, *key, action)?;
+    }
+    Ok(())
+}
+
+fn push_action(
+    alloc: Global,
+    page: &mut String,
+    key: &str,
+    action: &DepAction<'_>,
+) -> Result<(), AllocError> {
+    let mark = if action.is_conditional { "?" } else { "" };
+    if action.dep_features.is_empty() {
+        return push_code(page, format!(in alloc; "{key}{mark}")?.as_str());
+    }
+    for (i, feature) in action.dep_features.iter().enumerate() {
+        page.push_str(if i == 0 { "" } else { ", " })?;
+        push_code(page, format!(in alloc; "{key}{mark}/{feature}")?.as_str())?;
+    }
+    Ok(())
+}

@@ -1,0 +1,152 @@
+//! Paths of folders, and those that an entry of `members` stands for.
+
+use super::matching::{is_pattern, matches};
+use cargo_toml::Error;
+use std::alloc::{AllocError, Global};
+use std::collections::BTreeSet;
+use std::rt::Files;
+use std::{fs, io};
+
+/// Whether a folder is `outer`, or lies in it.
+pub fn is_within(folder: &str, outer: &str) -> bool {
+    match folder.strip_prefix(outer) {
+        Some(rest) => rest.is_empty() || rest.starts_with('/'),
+        None => false,
+    }
+}
+
+/// The path with no `.` in it, and with `..` at its front alone. The folder itself is `.`.
+pub fn normalized(alloc: Global, path: &str) -> Result<String, AllocError> {
+    let mut names = Vec::new(alloc);
+    for name in path.split('/') {
+        step(&mut names, name)?;
+    }
+    let first = if path.starts_with('/') { "/" } else { "" };
+    let mut whole = String::from_str(alloc, first)?;
+    for (i, name) in names.iter().enumerate() {
+        whole.push_str(if i == 0 { "" } else { "/" })?;
+        whole.push_str(*name)?;
+    }
+    if whole.is_empty() {
+        whole.push_str(".")?;
+    }
+    Ok(whole)
+}
+
+/// Goes one name further.
+fn step<'a>(names: &mut Vec<&'a str>, name: &'a str) -> Result<(), AllocError> {
+    if name.is_empty() || name == "." {
+        return Ok(());
+    }
+    if name == ".." && can_go_back(names.as_slice()) {
+        names.pop();
+        return Ok(());
+    }
+    names.push(name)?;
+    Ok(())
+}
+
+fn can_go_back(names: &[&str]) -> bool {
+    match names.last() {
+        Some(last) => *last != "..",
+        None => false,
+    }
+}
+
+/// The path of what lies in a folder. The empty path is the folder in which all others are seen.
+pub fn below(alloc: Global, folder: &str, name: &str) -> Result<String, AllocError> {
+    let mut path = String::from_str(alloc, folder)?;
+    if !folder.is_empty() && !folder.ends_with('/') {
+        path.push_str("/")?;
+    }
+    path.push_str(name)?;
+    Ok(path)
+}
+
+/// The folders that an entry of `members` stands for, seen from `root`.
+pub fn expanded<R: Files + AllocGlobal>(
+    rt: &R,
+    root: &str,
+    entry: &str,
+) -> Result<BTreeSet<String>, Error> {
+    let alloc = rt.alloc();
+    let first = if entry.starts_with('/') { "/" } else { "" };
+    let mut folders = BTreeSet::new(alloc);
+    folders.insert(String::from_str(alloc, first)?)?;
+    for name in entry.split('/') {
+        if !name.is_empty() {
+            folders = one_further(rt, root, &folders, name)?;
+        }
+    }
+    if folders.is_empty() {
+        folders.insert(String::from_str(alloc, entry)?)?;
+    }
+    Ok(folders)
+}
+
+/// What a name of an entry leads to from each of these folders.
+fn one_further<R: Files + AllocGlobal>(
+    rt: &R,
+    root: &str,
+    folders: &BTreeSet<String>,
+    name: &str,
+) -> Result<BTreeSet<String>, Error> {
+    let alloc = rt.alloc();
+    let mut all = BTreeSet::new(alloc);
+    for folder in folders {
+        if is_pattern(name) {
+            add_matched(rt, root, folder.as_str(), name, &mut all)?;
+        } else {
+            all.insert(below(alloc, folder.as_str(), name)?)?;
+        }
+    }
+    Ok(all)
+}
+
+/// Adds the folders in this one whose names match. One that isn't there has none.
+fn add_matched<R: Files + AllocGlobal>(
+    rt: &R,
+    root: &str,
+    folder: &str,
+    pattern: &str,
+    all: &mut BTreeSet<String>,
+) -> Result<(), Error> {
+    let alloc = rt.alloc();
+    let place = seen_from(alloc, root, folder)?;
+    let entries = match fs::read_dir(&rt, place.as_str()) {
+        Ok(entries) => entries,
+        Err(fault) if is_absent(fault.kind()) => return Ok(()),
+        Err(fault) => return Err(Error::from(fault)),
+    };
+    for entry in entries {
+        let entry = entry?;
+        let name = String::from_str(alloc, entry.file_name())?;
+        let path = below(alloc, place.as_str(), name.as_str())?;
+        if matches(alloc, pattern, name.as_str())? && is_folder(rt, path.as_str()) {
+            all.insert(below(alloc, folder, name.as_str())?)?;
+        }
+    }
+    Ok(())
+}
+
+fn is_absent(kind: io::ErrorKind) -> bool {
+    matches!(kind, io::ErrorKind::NotFound | io::ErrorKind::NotADirectory)
+}
+
+fn is_folder<R: Files>(rt: &R, path: &str) -> bool {
+    match fs::metadata(rt, path) {
+        Ok(found) => found.is_dir(),
+        Err(_) => false,
+    }
+}
+
+/// The path of a folder that is seen from `root`.
+pub fn seen_from(alloc: Global, root: &str, folder: &str) -> Result<String, AllocError> {
+    if folder.is_empty() || folder == "." {
+        return String::from_str(alloc, root);
+    }
+    if folder.starts_with('/') {
+        return String::from_str(alloc, folder);
+    }
+    below(alloc, root, folder)
+}

@@ -1,0 +1,125 @@
+//! `cargo-toml-tools index [--checksum HEX] FILE..` prints the line that a registry's index has of
+//! each crate, `lint FILE..` what is amiss with features, `audit [--json] FOLDER` reports on a
+//! workspace, and `document [--dot] FILE..` prints what is documented of features.
+#![tactic(auto)]
+
+mod words;
+
+use cargo_toml_tools::escape::fault_line;
+use cargo_toml_tools_files::{audit, document, index, lint};
+use std::fmt::Display;
+use std::io::{IsTerminal, Write};
+use std::process::ExitCode;
+use std::random::RandomSource;
+use std::rt::{Env, Files};
+use std::{env, io};
+use words::{Request, USAGE, read_request};
+
+/// What came of what was asked. Of several files the worst counts, which is the last of these.
+#[derive(Clone, Copy, PartialEq, Eq, PartialOrd, Ord)]
+enum Outcome {
+    Done,
+    Odd,
+    Refused,
+    NoCommand,
+}
+
+impl Outcome {
+    fn status(self) -> u8 {
+        match self {
+            Outcome::Done => 0,
+            Outcome::Odd => 3,
+            Outcome::Refused => 1,
+            Outcome::NoCommand => 2,
+        }
+    }
+}
+
+/// Writes what came of a file, and whether that is odd; or tells why the file is refused.
+fn put<R: Print + Eprint + AllocGlobal, F: Display + Drop>(
+    rt: &R,
+    file: &str,
+    made: Result<(String, bool), F>,
+) -> io::Result<Outcome> {
+    match made {
+        Ok((text, odd)) => {
+            let mut output = io::writer(rt);
+            output.write_all(text.as_bytes())?;
+            output.flush()?;
+            Ok(if odd { Outcome::Odd } else { Outcome::Done })
+        }
+        Err(fault) => {
+            let words = format!(in rt.alloc(); "{fault}")?;
+            let line = fault_line(rt.alloc(), file, words.as_str())?;
+            eprint!(rt; "{line}")?;
+            Ok(Outcome::Refused)
+        }
+    }
+}
+
+/// What came of a file, where nothing in it is odd.
+fn as_due<F: Drop>(made: Result<String, F>) -> Result<(String, bool), F> {
+    match made {
+        Ok(text) => Ok((text, false)),
+        Err(fault) => Err(fault),
+    }
+}
+
+/// Does what is asked.
+fn answer<R: Files + Print + Eprint + RandomSource + AllocGlobal>(
+    rt: &R,
+    request: &Request<'_>,
+    shows: bool,
+) -> io::Result<Outcome> {
+    let mut outcome = Outcome::Done;
+    match request {
+        Request::Index(files, checksum) => {
+            for file in files {
+                let made = as_due(index(rt, *file, *checksum));
+                outcome = put(rt, *file, made)?.max(outcome);
+            }
+        }
+        Request::Lint(files) => {
+            for file in files {
+                let made = lint(rt, *file, files.len() > 1);
+                outcome = put(rt, *file, made)?.max(outcome);
+            }
+        }
+        Request::Document(files, dot) => {
+            for file in files {
+                let made = as_due(document(rt, *file, *dot));
+                outcome = put(rt, *file, made)?.max(outcome);
+            }
+        }
+        Request::Audit(folder, as_json) => {
+            let made = audit(rt, *folder, *as_json, shows);
+            outcome = put(rt, *folder, made)?;
+        }
+    }
+    Ok(outcome)
+}
+
+fn run<R: Env + Files + Print + Eprint + RandomSource + AllocGlobal>(
+    rt: &R,
+    shows: bool,
+) -> io::Result<Outcome> {
+    let words: Vec<String> = env::args(rt)?.collect(rt.alloc())?;
+    match read_request(rt.alloc(), words.as_slice())? {
+        Some(request) => answer(rt, &request, shows),
+        None => {
+            eprint!(rt; "{USAGE}")?;
+            Ok(Outcome::NoCommand)
+        }
+    }
+}
+
+fn main(rt: HostRuntime) -> ExitCode {
+    let shows = rt.stderr().is_terminal();
+    match run(&rt, shows) {
+        Ok(outcome) => ExitCode::from(outcome.status()),
+        Err(fault) => {
+            let _ = eprintln!(rt; "error: {fault}");
+            ExitCode::from(1)
+        }
+    }
+}

@@ -1,0 +1,45 @@
+//! What is documented of features.
+ghost use Rattle.std.specs.Prelude.{◌≡◌, true};
+
+use crate::reading::manifest_in;
+use cargo_toml::features::Resolver;
+use cargo_toml::{Error, Manifest};
+use cargo_toml_tools::document::{graph, page};
+use std::hash::RandomState;
+use std::random::RandomSource;
+use std::rt::Files;
+
+/// What is documented of the features of the crate of this file: the graph where `dot` is set, and
+/// else a page.
+pub fn document<R: Files + RandomSource + AllocGlobal>(
+    rt: &R,
+    file: &str,
+    dot: bool,
+) -> Result<String, Error> {
+    let manifest = manifest_in(rt, file)?;
+    document_of(rt, &*manifest, dot)
+}
+
+fn keep_every(_name: &str) -> bool
+    ensures { result ≡ true }
+{
+    true
+}
+
+/// The graph of a manifest, or a page. Hidden features are resolved like others.
+fn document_of<R: RandomSource + AllocGlobal>(
+    rt: &R,
+    manifest: &Manifest,
+    dot: bool,
+) -> Result<String, Error> {
+    let state = RandomState::new(rt)?;
+    let keep = keep_every;
+    let resolver = Resolver::new_with_hasher_and_filter(state, &keep);
+    let resolved = resolver.parse(rt.alloc(), manifest)?;
+    let text = if dot {
+        graph(rt.alloc(), manifest, &resolved)?
+    } else {
+        page(rt.alloc(), manifest, &resolved)?
+    };
+    Ok(text)
+}

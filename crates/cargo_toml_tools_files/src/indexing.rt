@@ -1,0 +1,58 @@
+//! The line of a registry's index.
+
+use crate::reading::{completed_of, text_in};
+use cargo_toml::Error;
+use cargo_toml_tools::index::{IndexError, index_line};
+use std::alloc::AllocError;
+use std::fmt;
+use std::rt::Files;
+
+/// Why a crate has no line in an index.
+#[derive(Debug, Drop)]
+pub enum Fault {
+    /// Its manifest doesn't read or complete.
+    Manifest(Error),
+    /// Its manifest has what no index takes.
+    Index(IndexError),
+}
+
+impl From<Error> for Fault {
+    fn from(fault: Error) -> Fault {
+        Fault::Manifest(fault)
+    }
+}
+
+impl From<IndexError> for Fault {
+    fn from(fault: IndexError) -> Fault {
+        Fault::Index(fault)
+    }
+}
+
+impl From<AllocError> for Fault {
+    fn from(fault: AllocError) -> Fault {
+        Fault::Manifest(Error::from(fault))
+    }
+}
+
+impl fmt::Display for Fault {
+    fn fmt<W: fmt::Write>(&self, f: &mut fmt::Formatter<W>) -> fmt::Result {
+        match self {
+            Fault::Manifest(fault) => write!(f, "{fault}"),
+            Fault::Index(fault) => write!(f, "{fault}"),
+        }
+    }
+}
+
+/// The line that an index has of the crate of this file, which is completed first. The checksum is
+/// that of the crate's archive.
+pub fn index<R: Files + AllocGlobal>(
+    rt: &R,
+    file: &str,
+    checksum: Option<&str>,
+) -> Result<String, Fault> {
+    let text = text_in(rt, file)?;
+    let manifest = completed_of(rt, file, text.as_str())?;
+    let mut line = index_line(rt.alloc(), &*manifest, text.as_str(), checksum)?;
+    line.push_str("\n")?;
+    Ok(line)
+}

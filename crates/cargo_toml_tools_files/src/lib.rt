@@ -1,0 +1,13 @@
+//! What the tools make of files: each manifest is read, completed and held here, on the heap.
+#![tactic(auto)]
+
+mod auditing;
+mod documenting;
+mod indexing;
+mod linting;
+mod reading;
+
+pub use auditing::audit;
+pub use documenting::document;
+pub use indexing::{Fault, index};
+pub use linting::lint;

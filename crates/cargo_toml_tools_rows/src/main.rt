@@ -1,0 +1,102 @@
+//! Holds the tools to rows that are kept as data: each is a folder with a manifest or a workspace,
+//! and beside it what has to come of it.
+//!
+//! The words of the command line are the rows' folders, which end with KIND/NAME. A line for each
+//! says that all is as expected, or what came instead.
+#![tactic(auto)]
+
+use cargo_toml::Error;
+use cargo_toml_tools::escape::fault_line;
+use cargo_toml_tools_files::{audit, document, index, lint};
+use std::alloc::Global;
+use std::random::RandomSource;
+use std::rt::Files;
+use std::{env, fmt, fs};
+
+/// The text that is made, or the line that tells the fault. The file is named as the row's.
+fn told<F: fmt::Display + Drop>(
+    alloc: Global,
+    file: &str,
+    made: Result<String, F>,
+) -> Result<String, Error> {
+    match made {
+        Ok(text) => Ok(text),
+        Err(fault) => {
+            let words = format!(in alloc; "{fault}")?;
+            Ok(fault_line(alloc, file, words.as_str())?)
+        }
+    }
+}
+
+/// What came of an audit or of lint, with the status at its end.
+fn reported(
+    alloc: Global,
+    file: &str,
+    made: Result<(String, bool), Error>,
+) -> Result<String, Error> {
+    match made {
+        Ok((report, odd)) => {
+            let status = if odd { 3 } else { 0 };
+            Ok(format!(in alloc; "{report}status {status}\n")?)
+        }
+        Err(fault) => told(alloc, file, Err(fault)),
+    }
+}
+
+/// The checksum beside a manifest, if there is one.
+fn checksum_in<R: Files + AllocGlobal>(rt: &R, folder: &str) -> Result<Option<String>, Error> {
+    let path = format!(in rt.alloc(); "{folder}/checksum")?;
+    match fs::read_to_string(rt, path.as_str()) {
+        Ok(text) => Ok(Some(text)),
+        Err(_) => Ok(None),
+    }
+}
+
+/// What came of a row of this kind.
+fn answer<R: Files + RandomSource + Eprint + AllocGlobal>(
+    rt: &R,
+    kind: &str,
+    row: &str,
+) -> Result<String, Error> {
+    let alloc = rt.alloc();
+    let file = format!(in alloc; "{row}/Cargo.toml")?;
+    match kind {
+        "index" => {
+            let checksum = checksum_in(rt, row)?;
+            let checksum = checksum.as_ref().map(|text| text.as_str().trim_end());
+            told(alloc, "FILE", index(rt, file.as_str(), checksum))
+        }
+        "lint" => reported(alloc, "FILE", lint(rt, file.as_str(), false)),
+        "document" => told(alloc, "FILE", document(rt, file.as_str(), false)),
+        "graph" => told(alloc, "FILE", document(rt, file.as_str(), true)),
+        "audit" => reported(alloc, "FOLDER", audit(rt, row, false, false)),
+        "report" => reported(alloc, "FOLDER", audit(rt, row, true, false)),
+        _ => Err(Error::Other("no such kind of row")),
+    }
+}
+
+/// The line of a row.
+fn line<R: Files + RandomSource + Eprint + AllocGlobal>(
+    rt: &R,
+    row: &str,
+) -> Result<String, Error> {
+    let alloc = rt.alloc();
+    let (folder, name) = row.rsplit_once('/').unwrap_or(("", row));
+    let kind = folder.rsplit('/').next().unwrap_or("");
+    let path = format!(in alloc; "{row}/expected")?;
+    let expected = fs::read_to_string(rt, path.as_str())?;
+    let made = answer(rt, kind, row)?;
+    if made == expected {
+        Ok(format!(in alloc; "{kind} {name}: as expected\n")?)
+    } else {
+        Ok(format!(in alloc; "{kind} {name}: {made}")?)
+    }
+}
+
+fn main(rt: HostRuntime) -> Result<(), Error> {
+    for row in env::args(&rt)?.skip(1) {
+        let line = line(&rt, row.as_str())?;
+        print!(rt; "{line}")?;
+    }
+    Ok(())
+}

@@ -1,14 +1,13 @@
--- a caller names each of these as a file of this crate
+-- what the contracts of public calls say, and what that rests on: a user has to believe these. A
+-- caller names each as a file of this crate
 pub use Rattle.cargo_toml_resolver.specs.Filtered
 pub use Rattle.cargo_toml_resolver.specs.Parsed
 pub use Rattle.cargo_toml_resolver.specs.Lent
 pub use Rattle.cargo_toml_paths.specs.Paths
 pub use Rattle.cargo_toml_parts.specs.Answers
-pub use Rattle.cargo_toml_parts.specs.Copies
 pub use Rattle.cargo_toml_parts.specs.Faults
 pub use Rattle.cargo_toml_parts.specs.FaultValues
 pub use Rattle.cargo_toml_parts.specs.Floats
-pub use Rattle.cargo_toml_parts.specs.InheritableLaws
 pub use Rattle.cargo_toml_parts.specs.InheritableValues
 pub use Rattle.cargo_toml_parts.specs.Inherits
 pub use Rattle.cargo_toml_parts.specs.Lending
@@ -18,7 +17,6 @@ pub use Rattle.cargo_toml_parts.specs.Readings
 pub use Rattle.cargo_toml_parts.specs.Reads
 pub use Rattle.cargo_toml_settings.specs.SettingAnswers
 pub use Rattle.cargo_toml_settings.specs.Settings
-pub use Rattle.cargo_toml_settings.specs.SettingsLaws
 pub use Rattle.cargo_toml_parts.specs.Versions
 pub use Rattle.cargo_toml_parts.specs.Wrapping
 pub use Rattle.cargo_toml_tables.specs.Badges
@@ -94,12 +92,16 @@ pub use Rattle.cargo_toml_features.specs.Recorded
 pub use Rattle.cargo_toml_features.specs.Resolved
 pub use Rattle.cargo_toml_features.specs.TargetLaws
 pub use Rattle.cargo_toml_features.specs.Views
-pub use Rattle.cargo_toml_features.specs.InOrder
-pub use Rattle.cargo_toml_resolve.specs.Reading
-pub use Rattle.cargo_toml_resolve.specs.Slots
-pub use Rattle.cargo_toml_resolve.specs.Ascending
 pub use Rattle.cargo_toml_features.specs.Reached
 pub use Rattle.cargo_toml_features.specs.NonDefault
+-- what proofs alone use: nothing here has to be believed
+pub use Rattle.cargo_toml_parts.specs.Copies
+pub use Rattle.cargo_toml_parts.specs.InheritableLaws
+pub use Rattle.cargo_toml_features.specs.InOrder
+pub use Rattle.cargo_toml_resolve.specs.Ascending
+pub use Rattle.cargo_toml_resolve.specs.Reading
+pub use Rattle.cargo_toml_resolve.specs.Slots
+pub use Rattle.cargo_toml_settings.specs.SettingsLaws
 -- the same of the types that a caller's own definitions name, with their variants
 pub use Rattle.cargo_toml_parts.specs.declared.error.Error
 pub use Rattle.cargo_toml_parts.specs.declared.error.ParseFault

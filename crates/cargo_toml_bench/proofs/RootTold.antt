@@ -1,4 +1,4 @@
--- What is read for a root that is told by its text.
+-- What is read for a root whose text is stated.
 use Rattle.std.proofs.Common.{◌≡◌, ℕ, Bool, true, false, cond, subst, List, Option, Some, None, Result, Ok, Err, IsErrAnd, String, Vec, string_bytes, refl, sym, ◌∙◌, ap}
 use Rattle.std.specs.Prelude.{IsUtf8, is_some, if◌then◌else◌}
 use Rattle.std.specs.declared.alloc.Global.{Global}
@@ -51,7 +51,7 @@ memory_in : (d : Option (ManifestMeaning Data)) (path : List ℕ) → ReadsRoot 
 memory_in None path = tt
 memory_in (Some m) path = memory_by m path (is_some m.workspace)
 
--- want of memory answers whatever is told
+-- `Memory` answers whatever is stated
 pub read_memory : (bytes path : List ℕ) → ReadsRoot (told_bytes bytes path) (Err Memory)
 read_memory bytes path = memory_in (document_reads (manifest_reads any_tree) (parse_document bytes)) path
 

@@ -1,5 +1,5 @@
--- Features of a map that tell of no feature that enables them: words of a step of reporting, on
--- which no public contract rests.
+-- Features of a map that name no feature that enables them: words of a step of reporting, on which
+-- no public contract rests.
 use Rattle.std.specs.Prelude.{Bool, false, ◌&&◌, ◌==◌, not, bytes_eq, codes}
 use Rattle.std.specs.Borrow.{Bor}
 use Rattle.std.specs.BTreeSet.{btree_set_len}

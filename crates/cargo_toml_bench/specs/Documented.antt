@@ -38,11 +38,11 @@ module _ {M : Type 0} (m : ManifestMeaning M) where
         ⊎ ((e : Text) → ¬ IsEnabledBy (parsed_table MAX_ITEMS m) IsHidden f e)
     pub text : said ≡ (marks_at f).doc
 
--- what a map tells of a name
+-- what a map says of a name
 abbrev pub said_at : BTreeMap (Bor Text) (Option (Bor Text)) → Text → Option (Option Text)
 said_at s f = option_map option_copied (tree.get_by (λ k. slice_cmp nat_cmp f k.now) s)
 
--- the map tells of exactly these features, and of each its text
+-- the map has exactly these features, and for each its text
 abbrev pub AreDocumented : {M : Type 0} → ManifestMeaning M
     → BTreeMap (Bor Text) (Option (Bor Text)) → Type 0
 AreDocumented m s =

@@ -13,11 +13,11 @@ use Rattle.cargo_toml_bench.specs.Printing.{Spells}
 abbrev pub HasEnabling : Table → Text → Text → Type 0
 HasEnabling t f g = IsTrue (t.has f) × Enables t f g
 
--- so the answer tells of a manifest
+-- the answer says so of a manifest
 abbrev pub IsAnswered : {M : Type 0} → ManifestMeaning M → Text → Text → Bool → Type 0
 IsAnswered m f g answer = IsTrue answer ↔ HasEnabling (parsed_table MAX_ITEMS m) f g
 
--- the answer tells so of the manifest that the bytes spell
+-- the answer says so of the manifest that the bytes spell
 pub record IsAnsweredFrom (bytes : List ℕ) (f g : Text) (answer : Bool) : Type 0 where
   pub manifest : ManifestMeaning Data
   pub spelled : Spells bytes manifest

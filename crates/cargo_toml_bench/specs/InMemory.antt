@@ -1,4 +1,4 @@
--- What a file system in memory tells.
+-- What a file system in memory states.
 use Rattle.std.specs.Prelude.{ℕ, List, [], ◌∷◌, map, Bool, true, false, if◌then◌else◌, Option, Some}
 use Rattle.std.specs.Prelude.{None, option_map, is_some, Result, Ok, Err, String, string_bytes}
 use Rattle.std.specs.Str.{bytes_eq}

@@ -10,7 +10,7 @@ use Rattle.cargo_toml.specs.Resolved.{Answer}
 use Rattle.cargo_toml.specs.ToldFolders.{Told}
 use Rattle.cargo_toml_bench.specs.Enabled.{HasEnabling}
 
--- the answer tells so of what is resolved of what completion gives
+-- the answer says so of what is resolved of what completion gives
 pub record IsToldOfMember {M : Type 0} (m : ManifestMeaning M) (handed : Option Handed)
     (roots : RootsTold) (told : List ℕ → Told) (name other : Text) (answer : Bool) : Type 0 where
   pub completed : ManifestMeaning M

@@ -1,4 +1,4 @@
--- What a report tells of a manifest.
+-- What a report says of a manifest.
 use Rattle.std.specs.Prelude.{◌≢◌, ◌↔◌, IsTrue, List, map, filter, Vec, codes}
 use Rattle.std.specs.Borrow.{Bor}
 use Rattle.std.specs.Cmp.Lexicographic.{slice_cmp}

@@ -24,7 +24,7 @@ use std::hash::BuildHasherDefault;
 /// Resolves the features of a manifest by both bodies, without the hidden ones: first as callers
 /// do, then by the plain body.
 ///
-/// Both tell the same, and of each feature the same binaries. The one refusal is [`Error::Memory`].
+/// Both are the same, and each feature has the same binaries. The one refusal is [`Error::Memory`].
 pub fn resolve_by_both<'m, M>(
     alloc: Global,
     manifest: &'m Manifest<M>,

@@ -15,8 +15,7 @@ use cargo_toml::{AbstractFilesystem, Edition, Error, Manifest};
 use std::alloc::Global;
 use std::rt::Files;
 
-/// Completes the manifest of a member from that of its workspace, of which the bytes and
-/// the path are told.
+/// Completes the manifest of a member from that of its workspace, whose bytes and path are given.
 ///
 /// Refused where those bytes are no manifest, and where the workspace lacks what the member leaves
 /// to it. The member is then as it was.
@@ -65,8 +64,8 @@ pub fn read_member(
     Ok(manifest)
 }
 
-/// Completes the manifest of a member in the same way, and tells the edition of its
-/// package, if it has one.
+/// Completes the manifest of a member in the same way, and answers the edition of its package, if
+/// it has one.
 pub fn edition_of_member(
     alloc: Global,
     member: &mut Manifest,
@@ -84,7 +83,7 @@ pub fn edition_of_member(
     }
 }
 
-/// Reads the manifest of the file at this path, completes it from the files around it, and tells
+/// Reads the manifest of the file at this path, completes it from the files around it, and answers
 /// the edition of its package, if it has one.
 pub fn edition_of_file<'a, R: Files + AllocGlobal>(
     rt: &'a R,

@@ -14,11 +14,11 @@ use std::io;
 /// What is answered of a folder.
 #[derive(Drop)]
 pub enum Answer {
-    /// These names, which are told.
+    /// These names, which are stated.
     Names(Vec<String>),
-    /// This fault, which is told.
+    /// This fault, which is stated.
     Denied(Error),
-    /// These names, of which nothing is told.
+    /// These names, which are answered but not stated.
     Open(Vec<String>),
 }
 
@@ -29,8 +29,8 @@ pub struct Root {
     pub hint: Option<String>,
     /// The path that is answered.
     pub path: String,
-    /// The text of its manifest, or the fault that is answered in place of one, of which nothing is
-    /// told.
+    /// The text of its manifest, which is stated, or the fault that is answered in place of one,
+    /// which is not.
     pub text: Result<String, Error>,
 }
 

@@ -12,8 +12,8 @@ use cargo_toml::features::{Resolver, complete_and_parse_into};
 use cargo_toml::{AbstractFilesystem, Error, Manifest};
 use std::alloc::Global;
 
-/// Completes a member, and tells whether it then has the feature `name` and asking for that enables
-/// the feature `other`.
+/// Completes a member, and answers whether it then has the feature `name` and asking for that
+/// enables the feature `other`.
 ///
 /// Refuses as completion does, with [`Error::Memory`] where there was no room.
 pub fn enables_in_member<Fs: AbstractFilesystem + Drop>(
@@ -44,8 +44,8 @@ pub fn enables_in_member<Fs: AbstractFilesystem + Drop>(
 
 /// Completes a member, and counts the features that it then has.
 ///
-/// A refusal leaves the member as it was, unless it is want of memory: then the
-/// member may be completed.
+/// A refusal leaves the member as it was, unless it is `Error::Memory`: then the member may be
+/// completed.
 pub fn count_features<Fs: AbstractFilesystem + Drop>(
     alloc: Global,
     member: &mut Manifest,

@@ -25,13 +25,13 @@ use std::alloc::{AllocError, Global};
 use std::collections::{BTreeSet, HashMap};
 use std::hash::BuildHasher;
 
-/// What is told of a manifest. The texts are borrowed from it.
+/// What a report says of a manifest. The texts are borrowed from it.
 #[derive(Debug, Drop)]
 pub struct Report<'m> {
     /// The keys of the optional dependencies, in byte order.
     pub optional: Vec<&'m str>,
-    /// The names of the features that nothing in the manifest enables, but for
-    /// `default`, in byte order.
+    /// The names of the features that nothing in the manifest enables, except `default`, in byte
+    /// order.
     pub unreferenced: Vec<&'m str>,
 }
 
@@ -68,8 +68,8 @@ pub fn optional_dependencies<'m>(
     Ok(optional)
 }
 
-/// The names of the features that nothing in the manifest enables, but for `default`, in byte
-/// order. The one refusal is [`Error::Memory`].
+/// The names of the features that nothing in the manifest enables, except `default`, in byte order.
+/// The one refusal is [`Error::Memory`].
 pub fn unreferenced_features<'m, M>(
     alloc: Global,
     manifest: &'m Manifest<M>,
@@ -83,7 +83,7 @@ pub fn unreferenced_features<'m, M>(
     Ok(in_order(alloc, &names)?)
 }
 
-// The names of the features of a map that tell of no feature that enables them, but for `default`.
+// The names of the features of a map that name no feature that enables them, except `default`.
 fn unreferenced_names<'m, S: BuildHasher>(
     alloc: Global,
     features: &HashMap<&'m str, Feature<'m>, S>,

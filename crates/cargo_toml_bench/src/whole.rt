@@ -61,8 +61,8 @@ pub fn resolve_keeping_a<'m, M>(
 /// Resolves the features of a manifest twice: first with none removed, then
 /// without the hidden ones.
 ///
-/// Between features of the second answer, what enables what at last is the same in both, and none
-/// of them enables less by the second. The one refusal is [`Error::Memory`].
+/// Between features of the second answer, what enables what transitively is the same in both, and
+/// none of them enables less by the second. The one refusal is [`Error::Memory`].
 pub fn resolve_both<'m, M>(
     alloc: Global,
     manifest: &'m Manifest<M>,

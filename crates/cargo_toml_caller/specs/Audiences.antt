@@ -58,8 +58,8 @@ pub record IsAudienceOf (bytes : List ℕ) (answer : Option Audience) : Type 0 w
   pub reads : document_reads (manifest_reads audience_reads) (parse_document bytes) ≡ Some manifest
   pub exact : answer ≡ audience_in manifest
 
--- why nothing is told: there was no memory, the bytes are no text, or their document is
--- refused with this fault
+-- why there is no answer: there was no memory, the bytes are no text, or their document is refused
+-- with this fault
 abbrev pub Refuses : List ℕ → Error → Type 0
 Refuses bytes e =
     (e ≡ Memory)

@@ -12,7 +12,7 @@ use Rattle.cargo_toml.specs.Resolved.{table_of}
 abbrev pub LeavesName : Table → (Text → Type 0) → Text → Text → Type 0
 LeavesName t Removed f x = IsKept t Removed f × KeepsName t Removed f x
 
--- so the answer tells of the features that are listed and the entries
+-- the answer says so of the features that are listed and the entries
 abbrev pub IsNamed : Listed → List Entry → Text → Text → Bool → Type 0
 IsNamed listed entries f x answer =
     let t = table_of (admitted MAX_ITEMS listed) entries in

@@ -44,8 +44,8 @@ pub type Twice<'m, 'd> = (
     Features<'m, 'd, BuildHasherDefault<FoldHasher>>,
 );
 
-/// Where the table and the entries are those of the manifest, the two agree in all but binaries.
-/// The one refusal is [`Error::Memory`].
+/// Where the table and the entries are those of the manifest, the two agree in all but the binaries
+/// that require features, what is public, and texts. The one refusal is [`Error::Memory`].
 pub fn resolve_twice<'m: 'd, 'd, M, S: BuildHasher>(
     alloc: Global,
     manifest: &'m Manifest<M>,

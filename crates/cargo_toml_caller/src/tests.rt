@@ -1,4 +1,4 @@
-//! Metadata of a caller's own, read and written, and the faults that they tell.
+//! Metadata of a caller's own, read and written, and the faults that it gives.
 use super::*;
 use crate::custom::is_named;
 use crate::dependencies::{is_optional_at, kind_from};

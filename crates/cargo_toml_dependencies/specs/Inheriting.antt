@@ -22,7 +22,7 @@ abbrev pub entry_at : List ℕ → Entries → Option DependencyMeaning
 entry_at key [] = None
 entry_at key (e ∷ es) = if bytes_eq key e.0 then Some e.1 else entry_at key es
 
--- a detail of which the requirement alone is told
+-- a detail that has only a requirement
 abbrev pub plain_detail : List Held → DetailMeaning
 plain_detail requirement = record no_detail { version = Some requirement }
 
@@ -35,7 +35,7 @@ with_entry base entry d = record d {
   inherited = true;
 }
 
--- a detail of the workspace that tells no more than a requirement, features and flags
+-- a detail of the workspace that has no keys except a requirement, features and flags
 abbrev pub short_detail : Option (List Held) → List (List ℕ) → Bool → Bool → DetailMeaning
 short_detail version features optional default_features = record no_detail {
   version = version;
@@ -45,7 +45,8 @@ short_detail version features optional default_features = record no_detail {
   inherited = true;
 }
 
--- the detail of the workspace tells no more than these, so that neither does what comes of it
+-- the detail of the workspace has no keys except these, so that what comes of it has no others
+-- either
 abbrev pub IsShort : DetailMeaning → Type 0
 IsShort d =
     (base : List ℕ) (entry : InheritedMeaning) → with_entry base entry d

@@ -1,4 +1,4 @@
--- A finite record of names that were told.
+-- A finite record of names that were answered.
 use Rattle.std.specs.Prelude.{Bool, ◌&&◌, List, [], ◌∷◌, map, filter, Option, Some, None}
 use Rattle.std.specs.Prelude.{if◌then◌else◌, codes, unwrap_or, string_bytes, String}
 use Rattle.std.specs.BTreeSet.{BTreeSet}
@@ -18,7 +18,7 @@ abbrev pub answer_at : Answers → Text → Option (List Text)
 answer_at [] p = None
 answer_at (a ∷ ans) p = if bytes_eq p a.0 then Some a.1 else answer_at ans p
 
--- what is told where an open path has this answer
+-- what is stated where an open path has this answer
 abbrev pub filled_by : Told → Option (List Text) → Told
 filled_by (names ts) a = names ts
 filled_by absent a = absent

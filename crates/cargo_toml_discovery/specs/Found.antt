@@ -51,7 +51,7 @@ still_open is_taken (Some o) = if is_taken o.path then None else Some o
 abbrev pub open_offer : Text → (Text → Bool) → Named → Option Offered
 open_offer dir is_taken e = still_open is_taken (offer_of dir e)
 
--- what the names of the folder offer, but for the paths that are taken
+-- what the names of the folder offer, except the paths that are taken
 abbrev pub offers : Text → (Text → Bool) → List Named → List Offered
 offers dir is_taken es = filter_map (open_offer dir is_taken) es
 

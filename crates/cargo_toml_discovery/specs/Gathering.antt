@@ -1,5 +1,5 @@
--- How names are gathered that discovery needs: what is kept is what was told, and all that
--- is needed is kept.
+-- How names are gathered that discovery needs: what is kept is what was answered, and all that is
+-- needed is kept.
 use Rattle.std.specs.Prelude.{◌≡◌, Bool, true, false, List, [], ◌∷◌, Some}
 use Rattle.std.specs.Prelude.{is_some, codes, String, Result, MatchResult, ◌⊎◌}
 use Rattle.std.specs.BTreeSet.{BTreeSet}
@@ -13,7 +13,7 @@ use Rattle.cargo_toml_discovery.specs.Seen.{seen, names_at, root_names, MayTell,
 use Rattle.cargo_toml_discovery.specs.Told.{Told}
 use Rattle.cargo_toml_discovery.specs.declared.listings.Wanted.{Wanted}
 
--- the names are an answer of what is told
+-- the names are an answer by what is stated
 abbrev pub IsAnswer : Told → List Text → Type 0
 IsAnswer t ns = names_at (filled_by t (Some ns)) ≡ seen ns
 
@@ -42,8 +42,8 @@ HasProducts true dir ans = Has ans dir × HasEach ans (below dir (names_in ans d
 abbrev pub HasRoot : (Text → Told) → Answers → Type 0
 HasRoot told ans = root_names (filled told ans []) ≡ seen (names_in ans [])
 
--- every path is kept that a package asks for whose lists of these kinds are wanted, but
--- for its own folder
+-- every path that a package asks for is kept, except its own folder, where its lists of these kinds
+-- are wanted
 abbrev pub HasAll : Wanted → Answers → Type 0
 HasAll wanted ans =
     Has ans (codes "src")
@@ -52,7 +52,7 @@ HasAll wanted ans =
     × (HasProducts wanted.tests (codes "tests") ans
     × HasProducts wanted.benches (codes "benches") ans)))
 
--- the fault may be told at one of these
+-- the fault may be reported at one of these
 abbrev pub MayTellOneOf : (Text → Told) → List Text → Fault → Type 0
 MayTellOneOf told [] f = ⊥
 MayTellOneOf told (p ∷ ps) f = MayTell (names_at (told p)) f ⊎ MayTellOneOf told ps f

@@ -62,17 +62,17 @@ abbrev pub IsOneOf : Fault → List Fault → Type 0
 IsOneOf f [] = ⊥
 IsOneOf f (g ∷ gs) = (f ≡ g) ⊎ IsOneOf f gs
 
--- the fault may be told
+-- the fault may be reported
 abbrev pub MayTell : {A : Type 0} → Seen A → Fault → Type 0
 MayTell (seen x) f = ⊥
 MayTell (faulty fs) f = IsOneOf f fs
 MayTell unclear f = Unit {0}
 
--- the refusal: want of memory, or a fault that may be told
+-- the refusal: `Memory`, or a fault that may be reported
 abbrev pub Tells : {A : Type 0} → Seen A → Error → Type 0
 Tells s e = (e ≡ Memory) ⊎ MayTell s (fault_of e)
 
--- the faults, told with this path
+-- the faults, reported with this path
 abbrev pub at_path : {A : Type 0} → Option Text → Seen A → Seen A
 at_path p (seen x) = seen x
 at_path p (faulty fs) = faulty (map (wrap p) fs)

@@ -255,8 +255,8 @@ pub fn readme(
     Ok(OptionalFile::Path(String::from_str(alloc, name)?))
 }
 
-/// What discovery makes of what a manifest states, by the names that were told of the folders
-/// around it. It is refused only where there was no memory.
+/// What discovery makes of what a manifest states, by the names in the folders around it that were
+/// answered. It is refused only where there was no memory.
 pub fn discover(
     alloc: Global,
     stated: &Stated<'_>,

@@ -26,8 +26,8 @@ fn answers_extend()
         ⊎ (around (filled told answers) wanted ≡ around told wanted) }
 {}
 
-// Where answers fit what is told and are there for each path that is asked for, what is seen around
-// a package is what they say.
+// Where answers fit what is stated and are there for each path that is asked for, what is seen
+// around a package is what they say.
 fn answers_tell()
     ensures { (told : Text → Told) (answers : Answers) (wanted : Wanted) → Fits told answers
         → HasRoot told answers → HasAll wanted answers

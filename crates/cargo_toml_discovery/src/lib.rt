@@ -1,8 +1,8 @@
 //! Which library, binaries, examples, tests and benchmarks of a package are found by the names in
 //! its folders, and which build script and readme.
 //!
-//! Nothing here asks a file system. What was told of the folders stands in `Listings`, what a
-//! manifest states in `Stated`, and `discover` makes `Discovered` of both.
+//! Nothing here asks a file system. The names in the folders stand in `Listings`, what a manifest
+//! states in `Stated`, and `discover` makes `Discovered` of both.
 #![tactic(auto)]
 
 pub mod discovery;

@@ -1,4 +1,4 @@
-//! The names that were told of folders.
+//! The names in folders, as they were answered.
 ghost use Rattle.std.specs.Prelude.{◌≡◌, [], IfOk, OnOk, Some, map, string_bytes, if◌then◌else◌};
 ghost use Rattle.std.specs.BTreeSet.{contains_text, IsOrdered};
 ghost use Rattle.std.specs.HashSet.{contains_text as has_in};
@@ -54,7 +54,7 @@ pub fn sorted_names(alloc: Global, names: HashSet<String>) -> Result<BTreeSet<St
 }
 
 impl Listings {
-    /// Without any folder.
+    /// No folder yet. It takes no memory.
     pub fn new(alloc: Global) -> Listings
         ensures { answers_of result ≡ [] }
     {

@@ -28,7 +28,7 @@ pub fn sort_products(products: &mut Vec<Product>) -> Result<(), AllocError>
     products.sort_by(|a, b| compare(a, b))
 }
 
-/// A product of which no key is given. It takes no memory.
+/// A product without any key. It takes no memory.
 pub fn plain(alloc: Global) -> Product
     ensures { product_meaning result ≡ no_product }
 {

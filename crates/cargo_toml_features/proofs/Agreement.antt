@@ -1,4 +1,4 @@
--- What is listed, the entries and what is kept settle an answer but for its binaries.
+-- What is listed, the entries and what is kept settle an answer except its binaries.
 use Rattle.std.proofs.Common.{◌≡◌, ◌↔◌, Bool, true, false, List, Option, Some, None, IsTrue, IfSome, is_some, refl, sym, ap, subst, ◌∙◌}
 use Rattle.std.proofs.lemmas.Bool.{false≢true}
 use Rattle.cargo_toml_graph.specs.Action.{Text}

@@ -30,7 +30,7 @@ AreInOrder vs = IsAscending (λ a b. IsTrue (is_below a b)) (names_of vs)
 abbrev pub feature_at : List Feature → Text → Option Feature
 feature_at vs f = find (λ v. bytes_eq f v.key.now) vs
 
--- none of them tells what enables it
+-- none of them has its enablers yet
 abbrev pub HaveNoEnablers : List Feature → Type 0
 HaveNoEnablers vs = (f : Text) → IfSome (feature_at vs f) (λ v. v.enabled_by.keys ≡ [])
 
@@ -42,7 +42,7 @@ table_among vs = record {
   action = λ f k. option_map_or (λ v. action_at v.enables_deps k) (feature_at vs f) None;
 }
 
--- the same with the enablers that they tell
+-- the same with their enablers
 abbrev pub resolution_among : List Feature → Resolution
 resolution_among vs = record {
   table = table_among vs;

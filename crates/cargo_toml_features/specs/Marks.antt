@@ -1,5 +1,5 @@
--- What is told of a feature beside what it does: its marks. Resolving takes them from where the
--- feature is listed.
+-- What a feature has beside what it does: its marks. Resolving takes them from where the feature is
+-- listed.
 use Rattle.std.specs.Prelude.{Bool, if◌then◌else◌, List, map, Option}
 use Rattle.std.specs.Prelude.{Some, None, bytes_eq, is_some, unwrap_or}
 use Rattle.std.specs.Option.{option_copied}

@@ -1,4 +1,4 @@
--- The dependencies that features can speak of.
+-- The dependencies that an answer has.
 use Rattle.std.specs.Prelude.{ℕ, Bool, false, not, if◌then◌else◌, ◌&&◌, ◌||◌, List}
 use Rattle.std.specs.Prelude.{[], ◌∷◌, is_some, option_map, Option, Some, None}
 use Rattle.std.specs.Prelude.{unwrap_or, codes, bytes_eq, find, fold, filter}

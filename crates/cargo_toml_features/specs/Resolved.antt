@@ -34,8 +34,8 @@ module _ (listed : Listed) (entries : List Entry) where
         (joined_table.action f k);
   }
 
--- what a resolution answers: under each name its feature, the key that it tells and its marks,
--- under each key its dependency, under each removed name its redirect
+-- what a resolution answers: under each name its feature, the key that it has and its marks, under
+-- each key its dependency, under each removed name its redirect
 pub record Answer : Type 0 where
   pub resolution : Resolution
   pub key : Text → Option Text

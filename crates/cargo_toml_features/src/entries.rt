@@ -17,11 +17,13 @@ use std::alloc::{AllocError, Global};
 /// The dependency tables of a manifest.
 #[derive(Debug, Clone, Copy)]
 pub struct Tables<'m> {
-    /// Those of no target in particular.
+    /// The normal dependencies of no target in particular.
     pub dependencies: &'m DepsSet,
+    /// The build dependencies of no target in particular.
     pub build_dependencies: &'m DepsSet,
+    /// The dev dependencies of no target in particular.
     pub dev_dependencies: &'m DepsSet,
-    /// Those of each target.
+    /// The dependencies of each target.
     pub target: &'m TargetDepsSet,
 }
 

@@ -10,7 +10,8 @@ use std::hash::{BuildHasher, BuildHasherDefault, FoldHasher};
 pub struct Features<'m, 'd, S: BuildHasher = BuildHasherDefault<FoldHasher>> {
     /// The features by name, those that optional dependencies imply included.
     pub features: HashMap<&'m str, Feature<'m>, S>,
-    /// The dependencies that features can speak of, by key.
+    /// By key, the dependencies that are optional, that a feature acts on, or whose key a feature
+    /// has.
     pub dependencies: HashMap<&'d str, FeatureDependency<'d>, S>,
     /// Whether some feature was hidden and removed.
     pub removed_hidden_features: bool,
@@ -51,7 +52,7 @@ pub struct DepAction<'a> {
     pub dep_features: BTreeSet<&'a str>,
 }
 
-/// A dependency that features can speak of.
+/// A dependency that is optional, that a feature acts on, or whose key a feature has.
 #[derive(Debug, Drop)]
 pub struct FeatureDependency<'d> {
     /// The name of the dependency's crate.

@@ -28,8 +28,8 @@ pub fn targets<'a>()
     ensures agree { Agree ⟦<TargetKey<'a> as Ord>⟧.cmp ⟦<TargetKey<'a> as PartialEq>⟧.eq }
 {}
 
-// What is listed, the entries and what is kept settle an answer, but for its binaries, what is
-// public, and texts.
+// What is listed, the entries and what is kept settle an answer, except the binaries that require
+// features, what is public, and texts.
 fn answers()
     ensures { (listed : Listed) (entries : List Entry) (details told : Details)
         (own others : Text → List Text) (keep : Text → Bool) (a b : Answer)

@@ -1,5 +1,5 @@
-//! What a feature tells of itself and of those that enable it, and a dependency
-//! of its first target.
+//! Methods of a feature, about itself and its enablers, and of a dependency, about its first
+//! target.
 ghost use Rattle.std.specs.Prelude.{◌≡◌, ◌<◌, ◌⊎◌, ◌↔◌, IsTrue, IsFalse};
 ghost use Rattle.std.specs.Prelude.{List, Option, Some, nat_eq, codes};
 ghost use Rattle.std.specs.Borrow.{Bor};
@@ -22,7 +22,7 @@ use cargo_toml_dependencies::Dependency;
 use std::collections::btree_set;
 use std::marker::Model;
 
-/// The names of the features that enable a feature, in byte order, but for `default`.
+/// The names of the features that enable a feature, in byte order, except `default`.
 #[derive(Debug, Drop)]
 pub struct NonDefaultEnabledBy<'f, 'a> {
     names: btree_set::Iter<'f, &'a str>,
@@ -64,7 +64,7 @@ impl<'a> Feature<'a> {
         (self.explicit || !self.is_referenced()) && !self.key.starts_with('_') && self.public
     }
 
-    /// The names of the features that enable this one directly, in byte order, but for `default`.
+    /// The names of the features that enable this one directly, in byte order, except `default`.
     pub fn non_default_enabled_by(&self) -> NonDefaultEnabledBy<'_, 'a>
         ensures names { result ≡ without_default self.now.enabled_by.keys }
         ensures in_order { IsStrictlySortedBy (λ x y. slice_cmp nat_cmp x.now y.now) result }

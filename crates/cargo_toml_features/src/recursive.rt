@@ -41,7 +41,7 @@ fn add_pair<'f, 'a, S: BuildHasher>(
     Ok(())
 }
 
-// Adds what the feature does to dependencies, but for what it does only conditionally.
+// Adds what the feature does to dependencies, except what it does only conditionally.
 fn add_actions<'f, 'a, S: BuildHasher>(
     alloc: Global,
     feature: &'f Feature<'a>,
@@ -95,7 +95,7 @@ fn make_room<'f, 'a, S: BuildHasher>(
     Ok(())
 }
 
-// Puts the feature among those that are found, and tells whether it wasn't there.
+// Puts the feature among those that are found, and answers whether it wasn't there.
 fn add_found<'f, 'a, S: BuildHasher>(
     found: &mut HashMap<&'a str, &'f Feature<'a>, S>,
     feature: &'f Feature<'a>,
@@ -156,7 +156,7 @@ impl<'a> Feature<'a> {
         requires start { IsHeldBy features.now self.now }
         ensures { value_at features.now self.now.key.now ≡ Some result.now }
     {
-        // tells that no key of the map stands there twice
+        // by `len` no key stands in the map twice
         let _count = features.len();
         &features[self.key]
     }
@@ -174,11 +174,10 @@ impl<'a> Feature<'a> {
     /// of them, or `features` must have one under its key. That one counts where it differs
     /// from this feature.
     ///
-    /// The only refusal is [`Error::Memory`]. A feature is visited once, and each of its names
-    /// is then looked up once; a feature may wait for its visit once for each feature that names
-    /// it. The features are visited depth first, and those that one names in byte order; the
-    /// lists are in this order. Nothing is called in itself, so a long chain of features needs
-    /// memory and no stack.
+    /// The only refusal is [`Error::Memory`]. A feature is visited once, and each of its names is
+    /// then looked up once; a feature may wait for its visit once for each feature that names it.
+    /// The features are visited depth first, and those that one names in byte order; the lists are
+    /// in this order. It doesn't recurse, so a long chain of features needs memory and no stack.
     pub fn enables_recursive<'f, S: BuildHasher + Clone>(
         &'f self,
         alloc: Global,

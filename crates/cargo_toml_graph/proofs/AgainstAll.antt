@@ -14,7 +14,7 @@ use Rattle.cargo_toml_graph.proofs.NothingLost.{keeps_enabled, keeps_dependency}
 use Rattle.cargo_toml_graph.proofs.Settled.{resolution_settled}
 use Rattle.cargo_toml_graph.proofs.Unremoved.{resolved_unremoved}
 
--- features that hold the same enable the same at last
+-- features that hold the same enable the same transitively
 same_at_last : (m n : Resolution) → SameKept m n → {a b : Text} → IsTrue (m.table.has b) → EnablesAtLast m a b → EnablesAtLast n a b
 same_at_last m n s k (edge e) = edge (sym (s.enabled_by _ _ k) ∙ e)
 same_at_last m n s k (through e h p) = through (sym (s.enabled_by _ _ h) ∙ e) (sym (s.has _) ∙ h) (same_at_last m n s k p)

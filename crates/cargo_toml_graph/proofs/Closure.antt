@@ -1,4 +1,4 @@
--- Between kept features, what enables what at last is as it was before anything was removed.
+-- Between kept features, what enables what transitively is as it was before anything was removed.
 use Rattle.std.proofs.Common.{◌≡◌, ◌⊎◌, Bool, false, IsTrue, refl, sym, subst, inl, inr, ◌∙◌}
 use Rattle.std.proofs.lemmas.Bool.{false≢true, cases_Bool, false_from_ne_true}
 use Rattle.cargo_toml_graph.specs.Action.{Text}

@@ -6,7 +6,7 @@ use Rattle.cargo_toml_graph.specs.Reach.{Among, IsOnce, Reaches, GathersLabel}
 use Rattle.cargo_toml_graph.specs.Graph.{Table, Edge, IsKept}
 use Rattle.cargo_toml_graph.specs.Removal.{IsAscending, pass_all, unremoved}
 
--- bins are own, then texts without doubling that are not in own, of each of which P holds
+-- bins are own, then texts without doubling that are not in own and that P holds of
 pub record Grown (own : List Text) (P : Text → Type 0) (bins : List Text) : Type 0 where
   pub passed : List Text
   pub whole : bins ≡ own ++ passed

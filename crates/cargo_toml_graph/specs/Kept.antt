@@ -11,7 +11,7 @@ pub record NoneIsLeft (Removed : Text → Type 0) (m : Resolution) : Type 0 wher
   pub names : (f r : Text) → IsTrue (m.table.has f) → Removed r → IsFalse (m.table.names f r)
   pub enabled_by : (f r : Text) → IsTrue (m.table.has f) → Removed r → IsFalse (m.enabled_by f r)
 
--- between features that m has, what enables what at last is what it is in full
+-- between features that m has, what enables what transitively is what it is in full
 abbrev pub KeepsEnabling : Resolution → Resolution → Type 0
 KeepsEnabling full m =
     (a b : Text) → IsTrue (m.table.has a) → IsTrue (m.table.has b)

@@ -1,4 +1,4 @@
--- What a feature enables at last.
+-- What a feature enables transitively.
 use Rattle.std.specs.Prelude.{◌≡◌, IsTrue, IsFalse, List, Some, map}
 use Rattle.cargo_toml_graph.specs.Action.{Text, Action}
 use Rattle.cargo_toml_graph.specs.Reach.{Among, IsOnce}

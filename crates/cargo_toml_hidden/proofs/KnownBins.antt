@@ -1,4 +1,4 @@
--- Sets that tell which binaries stand in the lists of features.
+-- Sets that say which binaries stand in the lists of features.
 use Rattle.std.proofs.Common.{◌≡◌, ◌||◌, ℕ, Bool, true, false, cond, not, List, [], ◌∷◌, ◌++◌, length, slice_get, Some, Bor, bytes_eq, IsTrue, refl, sym, ap, subst, inl, inr, ◌↔◌, ◌∙◌}
 use Rattle.std.proofs.lemmas.Bool.{false≢true, false_from_ne_true}
 use Rattle.std.proofs.lemmas.Slice.Eq.{bytes_eq-Decides}

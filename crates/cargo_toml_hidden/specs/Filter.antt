@@ -37,7 +37,7 @@ abbrev pub IsFlagOf : {F : Type 0} → Asked F → Option (Bor F) → Text → B
 IsFlagOf g filter n true = IsRefused g filter n
 IsFlagOf g filter n false = IsHiddenName n → Answers g filter n true
 
--- `keep` tells what the filter answers; without a filter it keeps no name
+-- `keep` is what the filter answers; without a filter it keeps no name
 abbrev pub Tells : {F : Type 0} → Asked F → Option (Bor F) → (Text → Bool) → Type 0
 Tells g None keep = (n : Text) → keep n ≡ false
 Tells g (Some f) keep = (n : Text) (r : Bool) → FnReturnsAt g f.now n r → r ≡ keep n

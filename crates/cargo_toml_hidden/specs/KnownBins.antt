@@ -1,4 +1,4 @@
--- Sets that tell which binaries stand in a list.
+-- Sets that say which binaries stand in a list.
 use Rattle.std.specs.Prelude.{◌≡◌, ◌⊎◌, ℕ, List, length, slice_get, Some}
 use Rattle.std.specs.Borrow.{Bor}
 use Rattle.std.specs.BTreeSet.{BTreeSet, btree_set_len}

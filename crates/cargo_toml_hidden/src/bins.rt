@@ -15,8 +15,8 @@ use cargo_toml_features::features::Feature;
 use std::alloc::{AllocError, Global};
 use std::collections::BTreeSet;
 
-/// A copy of the first ten, for the lists may change while it is read. It fails only
-/// where memory runs out.
+/// A copy of the first ten, since the lists may change while it is read. It fails only where memory
+/// runs out.
 pub fn first_ten<'m>(bins: &Vec<&'m str>) -> Result<Vec<&'m str>, AllocError>
     ensures { IfOk result (λ v. texts_of v.items ≡ take 10 (texts_of bins.now.items)) }
 {
@@ -58,7 +58,7 @@ fn know<'m>(known: &mut BTreeSet<&'m str>, bins: &Vec<&'m str>) -> Result<(), Al
     Ok(())
 }
 
-// The binary is put into the set; the answer tells whether it wasn't there.
+// The binary is put into the set; the answer says whether it wasn't there.
 fn add_known<'m>(known: &mut BTreeSet<&'m str>, bin: &'m str) -> Result<bool, AllocError>
     ensures is_new { IfOk result (λ is_new. is_new ≡ not (has_text known.old bin.now)) }
     ensures added { OnOk result ((x : Text) → has_text known.new x
@@ -67,7 +67,7 @@ fn add_known<'m>(known: &mut BTreeSet<&'m str>, bin: &'m str) -> Result<bool, Al
     Ok(known.insert(bin)?)
 }
 
-// The binary is put at the end, unless it is there. A set tells whether it is, since a feature may
+// The binary is put at the end, unless it is there. A set says whether it is, since a feature may
 // come to have thousands.
 fn put_bin<'m>(
     own: &mut Vec<&'m str>,

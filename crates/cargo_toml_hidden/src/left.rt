@@ -99,8 +99,8 @@ fn publish<'m, S: BuildHasher + Clone>(
     })
 }
 
-/// Takes the features out whose flag stands. It fails only where memory runs out, or the
-/// clone of `state` does.
+/// Takes out the features whose flag is true. It fails only where memory runs out, or the clone of
+/// `state` does.
 pub fn take_out<'m, S: BuildHasher + Clone>(
     alloc: Global,
     state: &S,

@@ -46,8 +46,8 @@ fn put_kept<'m, S: BuildHasher>(
     put(by_name, feature.key, feature)
 }
 
-/// The features whose flag doesn't stand by their names, in a hashed map; no two have one name. It
-/// fails only where memory runs out.
+/// The features whose flag is false, by name, in a hashed map. No two have one name. It fails only
+/// where memory runs out.
 pub fn hashed_kept<'m, S: BuildHasher + Drop>(
     state: S,
     alloc: Global,
@@ -126,7 +126,7 @@ pub fn hashed_dependencies<'d, S: BuildHasher + Drop>(
 {
     let Slots { names, values } = dependencies;
     let by_key = hashed(state, alloc, names.as_slice(), values)?;
-    // tells that no key of the map stands there twice
+    // by `len` no key stands in the map twice
     let _count = by_key.len();
     Ok(by_key)
 }

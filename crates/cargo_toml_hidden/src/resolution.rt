@@ -20,9 +20,9 @@ use cargo_toml_resolve::resolve_all;
 use std::alloc::{AllocError, Global};
 use std::hash::BuildHasher;
 
-/// Resolves features as they are listed, with entries of whatever dependency tables and
-/// what binaries require, and removes those whose names begin with `_`, but for the ones
-/// that the filter keeps.
+/// Resolves features as they are listed, with entries of whatever dependency tables and what
+/// binaries require, and removes those whose names begin with `_`, except those that the filter
+/// keeps.
 ///
 /// Each name is listed once. Each map of the answer gets a clone of `state`; nothing is hashed
 /// before the answer stands. It fails only where memory runs out, or the clone does.

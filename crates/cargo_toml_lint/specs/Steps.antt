@@ -71,7 +71,7 @@ module _ {S : Type 0} (m : HashMap (Bor Text) Feature S) where
   HoldsIn known bins limit OverLimit f = IsTrue (over_at limit (listed_by known) f)
   HoldsIn known bins limit Unreachable f = IsUnreachable (table_in m) f
 
--- codes with features, as findings tell them
+-- codes with features, as findings have them
 abbrev pub Abouts : Type 0
 Abouts = List (Code × Text)
 

@@ -101,9 +101,12 @@ impl Code {
 /// One finding: a code holds for a feature.
 #[derive(Debug, Clone, Copy)]
 pub struct Finding<'m> {
+    /// How much it weighs: the level of its code.
     pub level: Level,
+    /// What is found.
     pub code: Code,
     /// The feature, as the manifest writes it.
     pub feature: &'m str,
+    /// What a finding of this code says.
     pub words: &'static str,
 }

@@ -1,4 +1,4 @@
-//! What is amiss with the features of a manifest: the findings of each code, exactly.
+//! What is wrong with the features of a manifest: exactly the findings of each code.
 #![tactic(auto)]
 
 mod adding;

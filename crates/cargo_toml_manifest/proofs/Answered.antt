@@ -40,7 +40,7 @@ absent_fault : (fault : Fault) → is_absence fault ≡ true → fault ≡ io No
 absent_fault (io kind) h = ap io (absent_kind kind h)
 absent_fault fault h = cc
 
--- a fault is told, but for an absent folder
+-- a fault is reported, except an absent folder
 denied_tells : (fault : Fault) (e : Error) (b : Bool) → is_absence fault ≡ b → fault_of e ≡ fault →
     ¬ (fault_of e ≡ io NotFound) →
     Tells (cond {A = Seen (List Text)} b (seen []) (faulty (fault ∷ []))) e

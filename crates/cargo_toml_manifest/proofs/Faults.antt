@@ -12,7 +12,7 @@ use Rattle.cargo_toml_parts.specs.declared.error.Error.TheVariants.{rolls-Io, ro
 use Rattle.cargo_toml_parts.specs.declared.error.ParseFault.TheVariants.{Toml, Shape}
 use Rattle.cargo_toml_parts.specs.FaultValues.{Fault, fault_of, fault_step, io, memory}
 
--- want of memory is one error alone
+-- `Memory` is one error alone
 layer_alone : (l : Error-F Error) → fault_step (map-Error _ _ fault_of l) ≡ memory → l ≡ Error-F.Memory
 layer_alone (Error-F.Parse (Toml f)) h = cc
 layer_alone (Error-F.Parse (Shape t)) h = cc

@@ -25,7 +25,7 @@ use Rattle.cargo_toml_manifest.specs.declared.manifest.Manifest.{Manifest}
 use Rattle.cargo_toml_manifest.specs.declared.workspace.Workspace.{Workspace}
 use Rattle.cargo_toml_manifest.proofs.Rooted.{memory_wrapped}
 
--- want of memory meets each
+-- `Memory` meets each
 pub meets_memory : {T A : Type 0} (f : T → A) (o : Outcome A) (e : Error) → e ≡ Memory → Meets f o (Err e)
 meets_memory f (gives x) e h = h
 meets_memory f (refuses faults) e h = inl h

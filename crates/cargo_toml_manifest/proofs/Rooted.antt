@@ -1,4 +1,4 @@
--- The root of what was read is the root that is told.
+-- The root of what was read is the root that is stated.
 use Rattle.std.proofs.Common.{◌≡◌, ◌⊎◌, inl, inr, sym, ap, ◌∙◌, refl, ℕ, List, Option, Some, None, Result, Ok, Err, String, string_bytes, Vec}
 use Rattle.std.specs.Prelude.{is_some, option_map}
 use Rattle.std.specs.declared.alloc.Global.{Global}
@@ -22,7 +22,7 @@ Read = Vec ℕ Global × String Global
 abbrev Found : Type 0
 Found = Manifest Value × String Global
 
--- want of memory stays what it is
+-- `Memory` stays what it is
 pub memory_wrapped : (path : Option (List ℕ)) (own e : Error) → own ≡ Memory → fault_of e ≡ wrap path (fault_of own) → e ≡ Memory
 memory_wrapped path own e memory h = memory_alone e (h ∙ ap (λ (f : Error). wrap path (fault_of f)) memory ∙ ap (wrap path) fault_of-memory)
 

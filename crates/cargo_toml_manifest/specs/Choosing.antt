@@ -20,7 +20,7 @@ shared_of workspace = option_map (λ w. shared (workspace_meaning (λ x. x) w)) 
 abbrev pub handed_of : {N : Type 0} → Bor (Manifest N) × Bor (List ℕ) → Handed
 handed_of handed = (shared_of handed.0.now.workspace, handed.1.now)
 
--- what is told of the root that a hint leads to
+-- what is stated of the root that a hint leads to
 abbrev pub RootsTold : Type 0
 RootsTold = Option (List ℕ) → ToldRoot
 
@@ -29,7 +29,7 @@ abbrev pub roots_of : Bool → RootsTold → RootsTold
 roots_of reads told hint = heard reads (told hint)
 
 -- no inheritance; this workspace table, or none, with its path; that none was found; or that
--- nothing is told of it
+-- nothing is stated of it
 pub data Choice : Type 0 where
   alone : Choice
   from : Option Shared → List ℕ → Choice
@@ -56,7 +56,7 @@ abbrev pub choice : {M : Type 0} → ManifestMeaning M → Option Handed → Roo
 choice m (Some handed) told = from handed.0 handed.1
 choice m None told = own_choice (option_map shared m.workspace) (needs m) (told (hint_of m))
 
--- answers in place of what isn't told, with the rest as it is told
+-- answers in place of what isn't stated, with the rest as it is stated
 abbrev pub AnswersRoots : RootsTold → RootsTold → Type 0
 AnswersRoots told answered =
     (hint : Option (List ℕ)) → (told hint ≡ answered hint) ⊎ (told hint ≡ open_root)

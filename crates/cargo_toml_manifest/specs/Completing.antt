@@ -16,20 +16,20 @@ use Rattle.cargo_toml_manifest.specs.Manifests.{ManifestMeaning}
 use Rattle.cargo_toml_manifest.specs.Told.{ToldRoot, open_root}
 
 -- what completion gives: a value, one of these faults, any fault of the search for a root with this
--- path, or what isn't told
+-- path, or what isn't stated
 pub data Outcome (A : Type 0) : Type 0 where
   gives : A → Outcome A
   refuses : List Fault → Outcome A
   no_workspace : Option (List ℕ) → Outcome A
   untold : Outcome A
 
--- what is seen, where a fault is told with this path
+-- what is seen, where a fault is reported with this path
 abbrev pub seen_at : {A : Type 0} → Option (List ℕ) → Seen A → Outcome A
 seen_at path (seen x) = gives x
 seen_at path (faulty faults) = refuses (map (wrap path) faults)
 seen_at path unclear = untold
 
--- what is found comes after what is inherited, whose fault is told with the same path
+-- what is found comes after what is inherited, whose fault is reported with the same path
 abbrev pub then_found : {M : Type 0} → Option (List ℕ) → (Text → Told)
     → Result (ManifestMeaning M) Fault → Outcome (ManifestMeaning M)
 then_found path told (Ok m) = seen_at path (found_around m told)
@@ -43,14 +43,14 @@ complete_by m (from workspace path) told =
 complete_by m lost told = no_workspace (hint_of m)
 complete_by m unclear_root told = untold
 
--- a manifest after completion, by the workspace that is handed in, if any, and by what is told of
+-- a manifest after completion, by the workspace that is handed in, if any, and by what is stated of
 -- roots and of folders
 abbrev pub complete : {M : Type 0} → ManifestMeaning M → Option Handed → RootsTold → (Text → Told)
     → Outcome (ManifestMeaning M)
 complete m handed roots told = complete_by m (choice m handed roots) told
 
--- an answer is the outcome, or there was no memory; where the outcome isn't told,
--- it is not said here
+-- an answer is the outcome, or there was no memory; where the outcome isn't stated, nothing is said
+-- of the answer here
 abbrev pub Meets : {T A : Type 0} → (T → A) → Outcome A → Result T Error → Type 0
 Meets f untold result = Unit {0}
 Meets f (gives x) (Ok t) = f t ≡ x
@@ -75,7 +75,8 @@ GivenByRoot m lookup told n =
     (answered : ToldRoot) × ((lookup ≡ answered) ⊎ (lookup ≡ open_root))
     × ((answers : Answers) × (complete_by m (told_choice answered) (filled told answers) ≡ gives n))
 
--- completing the result again, with the same workspace and by what is told alike, gives it again
+-- completing the result again, with the same workspace and by the same stated answers, gives it
+-- again
 abbrev pub IsLasting : {M : Type 0} → ManifestMeaning M → Option Handed → ManifestMeaning M → Type 0
 IsLasting m handed n =
     (roots : RootsTold) (told : Text → Told) → complete m handed roots told ≡ gives n

@@ -35,7 +35,7 @@ folder_of files = files.path.now
 abbrev pub or_here : List ℕ → List ℕ
 or_here path = if length path == 0 then codes "." else path
 
--- of real files nothing is told, neither of a root nor of a folder
+-- of real files nothing is stated, neither of a root nor of a folder
 abbrev pub real_roots : RootsTold
 real_roots hint = open_root
 
@@ -100,7 +100,7 @@ IsCandidate (Ok (Other e)) = IsSearchFault e
 IsCandidate (Ok Absent) = Unit {0}
 IsCandidate (Err e) = IsSearchFault e
 
--- why the one file that a hint leads to is no root: a fault of reading is told with its path
+-- why the one file that a hint leads to is no root: a fault of reading is reported with its path
 abbrev pub IsHintFault : List ℕ → Error → Type 0
 IsHintFault file e =
     (e ≡ Memory)

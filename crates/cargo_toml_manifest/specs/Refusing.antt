@@ -15,12 +15,12 @@ use Rattle.cargo_toml_manifest.specs.Manifests.{ManifestMeaning}
 use Rattle.cargo_toml_manifest.specs.Roots.{IsNoRoot}
 use Rattle.cargo_toml_manifest.specs.Told.{ToldRoot, open_root}
 
--- a refusal is want of memory, or one of these faults
+-- a refusal is `Memory`, or one of these faults
 abbrev pub RefusesBy : {T : Type 0} → (Fault → Type 0) → Result T Error → Type 0
 RefusesBy may result = IfErr result (λ e. (e ≡ Memory) ⊎ may (fault_of e))
 
--- the fault may stand in place of the root of this hint: it is one of these, or tells that
--- no root is ever read
+-- the fault may stand in place of the root of this hint: it is one of these, or says that no root
+-- is ever read
 abbrev pub MayLose : Bool → (Option (List ℕ) → Fault → Type 0) → Option (List ℕ) → Fault → Type 0
 MayLose reads may hint fault =
     may hint fault ⊎ ((reads ≡ false) × (fault ≡ wrap hint (io Unsupported)))
@@ -46,7 +46,7 @@ abbrev pub IsCause : {M : Type 0} → Result (ManifestMeaning M) Fault → (List
 IsCause (Ok m) names fault = IsListed names fault
 IsCause (Err own) names fault = fault ≡ own
 
--- the error is a fault of such a cause, told with this path
+-- the error is a fault of such a cause, reported with this path
 abbrev pub IsToldWith : Option (List ℕ) → (Fault → Type 0) → Error → Type 0
 IsToldWith path cause e = (fault : Fault) × (cause fault × (fault_of e ≡ wrap path fault))
 
@@ -61,8 +61,7 @@ IsRefusedAt m roots names (from workspace path) e =
 IsRefusedAt m roots names lost e = IsToldWith (hint_of m) (roots (hint_of m)) e
 IsRefusedAt m roots names unclear_root e = ⊥
 
--- the refusal of completion: want of memory, or one by some answers in place of
--- roots that aren't told
+-- the refusal of completion: `Memory`, or one by some answers in place of roots that aren't stated
 abbrev pub IsRefusedBy : {M : Type 0} → ManifestMeaning M → Option Handed → RootsTold
     → (Option (List ℕ) → Fault → Type 0) → (List ℕ → Fault → Type 0) → Error → Type 0
 IsRefusedBy m handed told roots names e =

@@ -1,4 +1,4 @@
--- What an implementor of `AbstractFilesystem` tells, and what its answers have to be by that.
+-- What an implementor of `AbstractFilesystem` states, and what its answers have to be by that.
 use Rattle.std.specs.Prelude.{◌≡◌, ◌⊎◌, ℕ, List, Bool, true, false, Some, is_some, Result}
 use Rattle.std.specs.Prelude.{string_bytes, String, Vec, IsUtf8, MatchResult, IsErr, IsErrAnd, IfOk}
 use Rattle.std.specs.HashSet.{HashSet, contains_text}
@@ -17,8 +17,8 @@ use Rattle.cargo_toml_manifest.specs.Manifests.{ManifestMeaning, manifest_meanin
 use Rattle.cargo_toml_manifest.specs.Texts.{any_tree, document_reads}
 use Rattle.cargo_toml_discovery.specs.Told.{Told, names, absent, denied, open_path}
 
--- what is told of the workspace that a hint leads to: its manifest and the path of that, that there
--- is none, or nothing
+-- what is stated of the workspace that a hint leads to: its manifest and the path of that, that
+-- there is none, or nothing
 pub data ToldRoot : Type 0 where
   root : ManifestMeaning Data → List ℕ → ToldRoot
   no_root : ToldRoot
@@ -57,7 +57,7 @@ AnswersRoot (root m path) result =
 AnswersRoot no_root result = IsErr result
 AnswersRoot open_root result = Unit {0}
 
--- what is heard of a root: where no root is ever read, none can be told
+-- what is heard of a root: where no root is ever read, none can be stated
 abbrev pub heard : Bool → ToldRoot → ToldRoot
 heard true told = told
 heard false (root m path) = open_root

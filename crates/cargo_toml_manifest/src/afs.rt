@@ -47,19 +47,19 @@ impl Roots for OwnRoot {
 
 /// The files around a manifest: what a folder holds, and where the root of the workspace is.
 ///
-/// Of each path and each hint an implementor may tell, for proofs alone, what it answers; by
-/// default it tells nothing. What it tells its calls then answer, want of memory aside. It may
-/// state too, in the same way, which faults its calls may give; by default these are all. A refusal
-/// of completion then has no other cause.
+/// For proofs alone, an implementor may state what it answers for each path and each hint; by
+/// default it states nothing. Its calls then answer what it states, or `Memory`. In the same way it
+/// may state which faults its calls may give; by default these are all. A refusal of completion
+/// then has no other cause.
 pub trait AbstractFilesystem {
     /// `OwnRoot` where `read_root_workspace` is written, and `NoRoot` where it is left out. With
-    /// `NoRoot` nothing is told of a root but that there is none.
+    /// `NoRoot` nothing is stated of a root except that there is none.
     type Roots: Roots;
 
-    /// What is told of a path, as seen from the folder of the manifest.
+    /// What is stated of a path, as seen from the folder of the manifest.
     ghost names_at: { Self → List ℕ → Told } = { λ _ _. open_path };
 
-    /// What is told of the workspace that a hint leads to.
+    /// What is stated of the workspace that a hint leads to.
     ghost root_for: { Self → Option (List ℕ) → ToldRoot } = { λ _ _. open_root };
 
     /// Which faults may stand in place of the names at a path, as seen from the
@@ -82,8 +82,8 @@ pub trait AbstractFilesystem {
 
     /// The bytes of the `Cargo.toml` of the workspace's root, and their path.
     ///
-    /// The path should be absolute. Its folder becomes the base of what is inherited, as the
-    /// path of a readme, and nobody could tell where a relative base begins.
+    /// The path should be absolute. Its folder becomes the base of what is inherited, as the path
+    /// of a readme, and nobody could know where a relative base begins.
     ///
     /// The hint is that of `parse_root_workspace`. Where this call is left out, it is refused with
     /// `Error::Io` of the kind `Unsupported`. (An implementor that leaves it out and yet says
@@ -116,9 +116,9 @@ pub trait AbstractFilesystem {
     /// path in the answer should be absolute, as that of `read_root_workspace`.
     ///
     /// Where this call is left out, it is what `read_root_workspace` and `Manifest::from_slice`
-    /// answer. A fault of reading is then told as `Error::Workspace` with the hint as its path, and
-    /// a fault of the bytes with their path; so is a manifest without a workspace table, as
-    /// `Error::WorkspaceIntegrity`. Want of memory is `Error::Memory` as ever.
+    /// answer. A fault of reading is then reported as `Error::Workspace` with the hint as its path,
+    /// and a fault of the bytes with their path; so is a manifest without a workspace table, as
+    /// `Error::WorkspaceIntegrity`. Refused memory is `Error::Memory` as ever.
     fn parse_root_workspace(
         &self,
         alloc: Global,
@@ -186,7 +186,7 @@ fn root_at(alloc: Global, bytes: Vec<u8>, path: String) -> Result<(Manifest, Str
 }
 
 /// The fault as one of a workspace at this path, where one is known. A fault that is one of a
-/// workspace already, and want of memory, stay as they are. Where there is no memory for it, the
+/// workspace already, and `Error::Memory`, stay as they are. Where there is no memory for it, the
 /// answer is `Error::Memory`.
 pub fn wrapped(alloc: Global, fault: Error, path: Option<&str>) -> Error
     ensures { (result ≡ Memory)

@@ -25,8 +25,8 @@ use cargo_toml_parts::Error;
 use cargo_toml_paths::workspace_folder;
 use std::alloc::Global;
 
-// What completion puts into a manifest that takes these parts, with the path that is
-// told with a fault.
+// What completion puts into a manifest that takes these parts, with the path that is reported with
+// a fault.
 fn completion<Metadata, Fs: AbstractFilesystem>(
     alloc: Global,
     manifest: &Manifest<Metadata>,
@@ -184,14 +184,14 @@ impl<Metadata: Drop> Manifest<Metadata> {
     ///
     /// Where there is a package, `fs` is asked for the names in its folder, in `src`, in `src/bin`,
     /// `examples`, `tests` and `benches` unless the package turns that off, and in the folders in
-    /// these, each once. They tell the library, binaries, examples, tests and benchmarks as Cargo
-    /// finds them, the build script and the readme; the lists are put in order of name and path. A
-    /// folder that is absent counts as empty, but that of the package must be there.
+    /// these, each once. From them come the library, binaries, examples, tests and benchmarks as
+    /// Cargo finds them, the build script and the readme; the lists are put in order of name and
+    /// path. A folder that is absent counts as empty, but that of the package must be there.
     ///
     /// Afterwards nothing is left to the workspace, every getter of the package may be called, and
     /// completing again with the same workspace and folders changes nothing.
     ///
-    /// Each fault is told as `Error::Workspace` with the path of that workspace (with the hint
+    /// Each fault is reported as `Error::Workspace` with the path of that workspace (with the hint
     /// where no root was found), unless it is one already: what `fs` answers in place of a root;
     /// `WorkspaceIntegrity` for a dependency that the workspace lacks, for lints without a
     /// workspace table and for a field of the package that is still left; `InheritedUnknownValue`

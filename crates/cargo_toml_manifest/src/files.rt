@@ -22,7 +22,7 @@ use std::{fs, io};
 /// The files on the disk, as seen from the folder of a manifest.
 ///
 /// A name that is no folder has no names in it: it is refused as one that is absent. Of what stands
-/// on a disk nothing is told beforehand.
+/// on a disk nothing is stated.
 #[derive(Drop)]
 pub struct Filesystem<'a, R> {
     path: &'a str,
@@ -70,7 +70,7 @@ fn names_in<R: Files + AllocGlobal>(
     Ok(names)
 }
 
-/// What stands on the disk. Nothing is told of it but which faults it gives.
+/// What stands on the disk. Nothing is stated of it except which faults it gives.
 impl<R: Files + AllocGlobal> AbstractFilesystem for Filesystem<'_, R> {
     type Roots = NoRoot;
 

@@ -119,7 +119,7 @@ impl<Metadata: FromValue> Manifest<Metadata> {
     /// The manifest in the file at this path, whose free tables `metadata` are read as the type
     /// says, completed from the real files around it.
     ///
-    /// It refuses as `from_path` does; a fault that the metadata type tells is handed on as it is.
+    /// It refuses as `from_path` does; a fault of the metadata type is handed on as it is.
     pub fn from_path_with_metadata<'a, R: Files + AllocGlobal>(
         rt: &'a R,
         alloc: Global,

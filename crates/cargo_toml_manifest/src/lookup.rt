@@ -51,10 +51,10 @@ fn workspace_of(alloc: Global, bytes: &[u8], path: &str) -> Result<Box<Manifest>
 /// path of its folder.
 ///
 /// The file is the `Cargo.toml` in the folder that the hint names. Where it can't be read, the
-/// fault is told as `Error::Workspace` with the path of that file. A fault of its bytes is the
+/// fault is reported as `Error::Workspace` with the path of that file. A fault of its bytes is the
 /// one of `Manifest::from_slice`, and that of a manifest without a workspace table
-/// `Error::WorkspaceIntegrity`, whose text names the file; neither is wrapped. Want of memory
-/// is `Error::Memory`.
+/// `Error::WorkspaceIntegrity`, whose text names the file; neither is wrapped. Refused memory is
+/// `Error::Memory`.
 pub fn root_by_hint<R: Files + AllocGlobal>(
     rt: &R,
     alloc: Global,
@@ -110,7 +110,7 @@ fn look_at<R: Files + AllocGlobal>(rt: &R, alloc: Global, file: &str) -> Result<
 /// no `Cargo.toml`, one that is no manifest, or one without a workspace table, the next is tried.
 /// If none is left, the fault is that of the last such file, and else `Error::Io` of the kind
 /// `NotFound`. A `Cargo.toml` that can't be read for another cause is refused at once as
-/// `Error::Io`, and want of memory as `Error::Memory`.
+/// `Error::Io`, and refused memory as `Error::Memory`.
 pub fn root_above<R: Files + AllocGlobal>(
     rt: &R,
     alloc: Global,

@@ -105,8 +105,8 @@ pub struct Manifest<Metadata = Value> {
     /// The examples that are written down.
     pub example: Vec<Product>,
 
-    /// The lints, by tool and then by name, which may be left to the workspace.
-    /// Missing: `Set` of none.
+    /// The lints, by tool and then by name, which may be left to the workspace. Missing: `Set` and
+    /// empty.
     pub lints: Inheritable<LintGroups>,
 
     /// What is said of features beside what they enable: an entry for each whose table has a `doc`,
@@ -239,8 +239,8 @@ impl Manifest {
     ///
     /// Bytes that are not UTF-8 are `Error::Other("utf8")`. A text that `toml` refuses is
     /// `Error::Parse` of its fault. A document that holds a float at any depth is `Error::Parse` of
-    /// the shape `floats are not supported`; one that has another fault is `Error::Parse` of the
-    /// shape that names it, one of several. Want of memory is `Error::Memory`.
+    /// the shape `floats are not supported`; any other fault of shape is `Error::Parse` with its
+    /// text. Where there are several, one is reported. Refused memory is `Error::Memory`.
     pub fn from_slice(alloc: Global, bytes: &[u8]) -> Result<Manifest, Error>
         ensures { IsFromBytes (manifest_meaning view) (manifest_reads any_tree)
             (ManifestRefuses any_tree AnyRefuses) bytes.now result }
@@ -263,8 +263,8 @@ impl Manifest {
 impl<Metadata: FromValue> Manifest<Metadata> {
     /// The manifest that these bytes spell, whose free tables `metadata` are read as the type says.
     ///
-    /// It refuses as `from_slice` does; a fault that the metadata type tells is handed on as it is.
-    /// A float is refused in every manifest, whatever that type would make of it.
+    /// It refuses as `from_slice` does; a fault of the metadata type is handed on as it is. A float
+    /// is refused in every manifest, whatever that type would make of it.
     pub fn from_slice_with_metadata(
         alloc: Global,
         bytes: &[u8],

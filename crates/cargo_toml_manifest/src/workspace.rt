@@ -42,7 +42,7 @@ pub struct Workspace<Metadata = Value> {
     /// The free table `metadata`, which Cargo leaves to other tools, as the type that they give it.
     pub metadata: Option<Metadata>,
 
-    /// The version of Cargo's resolver of features.
+    /// The version of Cargo's resolver of dependencies.
     pub resolver: Option<Resolver>,
 
     /// The dependencies that members may take from the workspace.

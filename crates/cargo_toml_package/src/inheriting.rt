@@ -48,7 +48,7 @@ pub struct NewFields {
     /// In place of the address of the documentation.
     pub documentation: Option<String>,
 
-    /// In place of the readme file; a path is as seen from where the workspace's path is.
+    /// In place of the readme file; a path is joined to the workspace's folder.
     pub readme: Option<OptionalFile>,
 
     /// In place of the words to find the package by.
@@ -66,7 +66,7 @@ pub struct NewFields {
     /// In place of the licence.
     pub license: Option<String>,
 
-    /// In place of the licence's file; its path is as seen from where the workspace's path is.
+    /// In place of the licence's file; its path is joined to the workspace's folder.
     pub license_file: Option<String>,
 
     /// In place of the address of the source's repository.
@@ -76,7 +76,7 @@ pub struct NewFields {
     pub publish: Option<Publish>,
 }
 
-// A package without new values is the same package.
+// No new values. With these a package stays the same.
 fn no_fields() -> NewFields
     ensures { result ≡ no_fields }
 {
@@ -279,7 +279,7 @@ fn check_none_stays<M>(alloc: Global, package: &Package<M>, new: &NewFields) -> 
 /// What a package takes from the template of its workspace, where there is one. A path of the
 /// workspace is joined to `base`, the workspace's folder.
 ///
-/// Refused by `WorkspaceIntegrity`, which tells the package's name, where a field would still be
+/// Refused by `WorkspaceIntegrity`, which holds the package's name, where a field would still be
 /// left to the workspace, and by `Memory`. The package is only read: [`install`] changes it.
 pub fn new_fields<M>(
     alloc: Global,

@@ -1,7 +1,7 @@
 //! Paths as texts, by the rules of Unix: what two join to, the folder above, the last name, and the
 //! folder of a workspace.
 //!
-//! The pieces of a path are what stands between its slashes, but for empty ones and `.`; only a `.`
+//! The pieces of a path are what stands between its slashes, except empty ones and `.`; only a `.`
 //! at the front of a relative path counts. Nothing is looked up in a file system, and nothing is
 //! resolved: `..` is a piece like any other.
 #![tactic(auto)]
@@ -46,8 +46,8 @@ pub fn ancestors(path: &str) -> Ancestors<'_>
     Path::new(path).ancestors()
 }
 
-/// The folder of a workspace that is told by its path: that of its `Cargo.toml`, or the path itself
-/// where that is a folder.
+/// The folder of a workspace with this path: that of its `Cargo.toml`, or the path itself where
+/// that is a folder.
 pub fn workspace_folder(path: &str) -> &str
     ensures { result.now ≡ workspace_folder path.now }
 {

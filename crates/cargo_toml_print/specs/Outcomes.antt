@@ -1,4 +1,4 @@
--- What a run of the program tells of its end.
+-- What a run of the program says of its end.
 use Rattle.std.specs.Prelude.{◌≡◌, ◌⊎◌, ℕ, List, [], ◌∷◌, ◌++◌, Option}
 use Rattle.std.specs.Prelude.{Some, option_map, codes, Result, Ok, Err, ⊤}
 use Rattle.std.specs.declared.io.Error.{Error as IoError}
@@ -32,7 +32,7 @@ text_of_outcome Done = Some []
 text_of_outcome (Refused e) = option_map (λ t. line (codes "error: " ++ t)) (text_of e)
 text_of_outcome NotACommand = Some (line usage)
 
--- the end of a run whose words couldn't be had: want of memory, or else words that are no command
+-- the end of a run whose words couldn't be had: `Memory`, or else words that are no command
 abbrev pub IsOfWords : IoError → Outcome → Type 0
 IsOfWords fault outcome =
     ((error_kind fault ≡ io.OutOfMemory) × (outcome ≡ Refused Memory))

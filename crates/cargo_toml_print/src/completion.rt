@@ -18,7 +18,7 @@ use std::io::Write;
 ///
 /// What isn't known, as the name of a product that has none or a readme that is left to the
 /// workspace, is written `-`. Refuses with `Io` where `output` can't be written, and with `Memory`
-/// for want of memory. Nothing is written before all lines stand.
+/// where there is not enough memory. Nothing is written before all lines stand.
 pub fn print_complete<Metadata, W: Write>(
     alloc: Global,
     manifest: &Manifest<Metadata>,

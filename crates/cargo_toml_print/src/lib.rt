@@ -1,5 +1,5 @@
-//! What the program `cargo-toml` is asked, writes and tells at its end, as a library: what checks
-//! it against stored lines writes by the same code.
+//! The commands of the program `cargo-toml`, what it writes and how it ends, as a library, so that
+//! its tests against stored lines run the same code.
 #![tactic(auto)]
 
 ghost use Rattle.std.specs.Prelude.{◌≤◌, IfErr};
@@ -28,12 +28,12 @@ use std::io::{Read, Write};
 pub use words::command;
 
 /// Reads a manifest from `input` and writes to `output` a line for each of its features, and then
-/// one for each that is removed since it is hidden, as a resolver tells of them whose limit of
-/// items is `max_items`, at least 1.
+/// one for each that is removed since it is hidden. They are resolved with the limit of items
+/// `max_items`, at least 1.
 ///
 /// Refuses as `Manifest::from_slice` does, with `Io` where `input` can't be read or `output` can't
-/// be written, and with `Memory` for want of memory. Nothing is written before all lines stand, so
-/// that a fault of the manifest leaves `output` as it was.
+/// be written, and with `Memory` where there is not enough memory. Nothing is written before all
+/// lines stand, so that a fault of the manifest leaves `output` as it was.
 pub fn print_features<R: Read, W: Write>(
     alloc: Global,
     input: &mut R,

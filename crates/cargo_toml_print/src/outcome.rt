@@ -1,4 +1,4 @@
-//! How a run of the program ends, and what it tells of that.
+//! How a run of the program ends, and what it writes on standard error then.
 ghost use Rattle.std.specs.Prelude.{◌≡◌};
 ghost use Rattle.cargo_toml_print.specs.Outcomes.{IsOfWords, outcome_of};
 ghost use Rattle.cargo_toml_print.specs.Outcomes.{status_of, text_of_outcome};
@@ -51,9 +51,9 @@ impl Outcome {
     }
 }
 
-/// What is told on standard error: nothing of what is done, the fault after `error: `, and else
-/// how the program is called, each as a line of its own. It takes no memory, since want of
-/// memory is a fault too.
+/// What is written on standard error: nothing where all is done, a line with the fault after
+/// `error: ` where it was refused, and else a line that says how the program is called. It takes no
+/// memory, since refused memory is reported in the same way.
 impl fmt::Display for Outcome {
     ghost output = { text_of_outcome };
 

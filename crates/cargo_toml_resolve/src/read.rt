@@ -35,7 +35,7 @@ pub struct Mentions<'m> {
     pub acted: Acted<'m>,
 }
 
-// A feature whose list is empty, and of which this is said.
+// A feature with this detail whose list is empty.
 fn empty_feature<'m>(alloc: Global, key: &'m str, detail: Option<&'m FeatureDetail>) -> Feature<'m>
     ensures { IsListed key.now (detail_in detail.entry) [] result }
 {

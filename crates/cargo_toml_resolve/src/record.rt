@@ -1,4 +1,4 @@
-//! Which dependencies features can speak of.
+//! Which dependencies an answer has.
 ghost use Rattle.std.specs.Prelude.{◌≡◌, ◌↔◌, ◌<◌, Bool, IfOk, IsTrue, OnOk};
 ghost use Rattle.std.specs.Prelude.{Some, bytes_eq, if◌then◌else◌, length, map};
 ghost use Rattle.std.specs.List.{list_any};
@@ -125,7 +125,7 @@ fn record_at<'m: 'd, 'd>(
     Ok(())
 }
 
-// Records an entry if it counts; `is_counted` tells whether it does by itself. The answer is the
+// Records an entry if it counts; `is_counted` says whether it does by itself. The answer is the
 // place after it, or else `near`, where it is looked for first. The key of an entry that counts by
 // itself is a name.
 fn record_entry<'m: 'd, 'd>(

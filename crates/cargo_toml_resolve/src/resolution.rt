@@ -24,16 +24,17 @@ use std::alloc::{AllocError, Global};
 /// What is resolved before any feature is removed.
 #[derive(Drop)]
 pub struct Unremoved<'m, 'd> {
-    /// The features, in the byte order of their names. None tells yet what enables it.
+    /// The features, in the byte order of their names. None has its enablers yet.
     pub features: Vec<Feature<'m>>,
-    /// The dependencies that features can speak of, by key.
+    /// By key, the dependencies that are optional, that a feature acts on, or whose key a feature
+    /// has.
     pub dependencies: Slots<'d, FeatureDependency<'d>>,
 }
 
 /// Resolves features as they are listed, with entries of whatever dependency tables and what
 /// binaries require, and removes none of them.
 ///
-/// Each name is listed once. What enables a feature isn't told: where features are removed, that is
+/// Each name is listed once. No feature has its enablers: where features are removed, these are
 /// found anew. It fails only where memory runs out.
 pub fn resolve_all<'m: 'd, 'd>(
     alloc: Global,

@@ -34,7 +34,7 @@ given_alike f g (refuses faults) t u same h = h
 given_alike f g (no_workspace path) t u same h = h
 given_alike f g untold t u same h = tt
 
--- where there is a success, want of memory may still be the answer
+-- where there is a success, `Memory` may still be the answer
 memory_after : {T U A : Type 0} (f : T → A) (g : U → A) (o : Outcome A) (t : T) (e : Error) → e ≡ Memory → Meets f o (Ok t) → Meets g o (Err e)
 memory_after f g (gives x) t e memory h = memory
 memory_after f g (refuses faults) t e memory h = absurd h

@@ -30,7 +30,7 @@ requirements m = option_map_or (λ p. flat_map (requirements_by p.name) m.bin) m
 -- where so many names count, actions of a feature, and keys of a table of dependencies
 module _ (limit : ℕ) where
   -- the answer for features in byte order of their names, these entries, what is said of features
-  -- beside and what binaries require, where the names are kept that `keep` tells
+  -- beside and what binaries require, where the names are kept that `keep` is true of
   abbrev pub IsAnswerFor : Listed → List Entry → Details → (Text → List Text) → (Text → Bool)
       → Answer → Type 0
   IsAnswerFor listed entries details own keep a =
@@ -45,7 +45,7 @@ module _ (limit : ℕ) where
     abbrev pub parsed_table : Table
     parsed_table = table_of (admitted limit m.features) parsed_entries
 
-    -- the answer for the manifest, where the names are kept that `keep` tells
+    -- the answer for the manifest, where the names are kept that `keep` is true of
     abbrev pub IsParsed : (Text → Bool) → Answer → Type 0
     IsParsed keep a =
         IsAnswerFor m.features parsed_entries m.feature_details (own_of (requirements m)) keep a

@@ -115,9 +115,9 @@ impl<'config, F: Fn(&str) -> bool, S: BuildHasher + Clone> Resolver<'config, F, 
     /// key no feature has and no `dep:` keeps for itself. It has the dependencies that are
     /// optional, that a feature acts on, or whose key a feature has, with each target that they
     /// stand under: normal and build dependencies come before those of targets, and dev
-    /// dependencies last. Each feature tells which others enable it: those that name it, and those
-    /// that act on the dependency of its name neither conditionally nor by `dep:`. And it tells
-    /// which binaries require it, once for each mention.
+    /// dependencies last. Each feature names its enablers: those that name it, and those that act
+    /// on the dependency of its name neither conditionally nor by `dep:`. It names the binaries
+    /// that require it, once for each mention.
     ///
     /// Features of a dependency that its first target asks for anyway are left out of actions:
     /// `default`, unless it turns default features off, and those that it lists.
@@ -137,24 +137,24 @@ impl<'config, F: Fn(&str) -> bool, S: BuildHasher + Clone> Resolver<'config, F, 
     /// [`Feature::enables_recursive`] asks, and each dependency has a target, as
     /// [`FeatureDependency::dep`] asks.
     ///
-    /// Features whose names begin with `_` are then removed, but for those that the filter
-    /// keeps. What a removed feature says, those that enable it say in its place, through any
-    /// number of removed ones: they name what it names and act as it acts, and are enablers
-    /// of what it enables.
+    /// Features whose names begin with `_` are then removed, except those that the filter keeps.
+    /// What a removed feature says, those that enable it say in its place, through any number of
+    /// removed ones: they name what it names and act as it acts, and are enablers of what it
+    /// enables.
     ///
     /// In byte order of their names, each removed feature passes its binaries on to each feature
     /// that it then names: the first ten of its list, as it then stands. So where binaries mention
     /// removed features at most ten times, none is lost on its way along names.
     ///
-    /// `removed_hidden_features` tells whether some feature was removed, and
-    /// `hidden_features` has a set for each: what it names, where smaller removed names are
-    /// replaced by what they stand for.
+    /// `removed_hidden_features` says whether some feature was removed, and `hidden_features` has a
+    /// set for each: what it names, where smaller removed names are replaced by what they stand
+    /// for.
     ///
     /// Beside an answer at the same limit, by a filter that keeps every name:
     ///
     /// - between features of this answer the transitive closure of `enabled_by` is the same;
-    /// - what [`Feature::enables_recursive`] tells of one of them loses no feature of this answer
-    ///   and no dependency.
+    /// - what [`Feature::enables_recursive`] answers for one of them loses no feature of this
+    ///   answer and no dependency.
     ///
     /// No name of a removed feature is left in `enables_features` or `enabled_by`.
     ///
@@ -197,15 +197,15 @@ impl<'config, F: Fn(&str) -> bool, S: BuildHasher + Clone> Resolver<'config, F, 
         )?)
     }
 
-    /// Resolves features and dependencies that stand in no manifest, as those of
-    /// a registry's index.
+    /// Resolves features and dependencies that stand in no manifest, as those of a registry's
+    /// index.
     ///
     /// It answers as [`Resolver::parse`] does of the same features and of these entries in their
     /// order, of which each counts, however many there are. In two points it differs: no binary
-    /// requires a feature, and each feature is public and has no text. The walk of the hashed table
-    /// changes nothing: of its names those count
-    /// that come first in byte order, up to the limit, and `default`. Features borrow from the
-    /// table and from the entries' keys, dependencies from the entries.
+    /// requires a feature, and each feature is public and has no text. The hashed table's order
+    /// doesn't matter: of its names those count that come first in byte order, up to the limit, and
+    /// `default`. Features borrow from the table and from the entries' keys, dependencies from the
+    /// entries.
     ///
     /// The one refusal is [`Error::Memory`], where there was no room for the answer.
     pub fn parse_custom<'m: 'd, 'd, S2: BuildHasher>(

@@ -57,8 +57,8 @@ fn compared(alloc: Global, called: &Answer<'_>, plain: &Answer<'_>) -> Result<St
 /// How many tables over `a`, `_a` and `_b` there are in which each of the three names any of them.
 const TABLES: u32 = 512;
 
-/// That the same is printed of each of these tables, or else what is of the first
-/// of which it isn't.
+/// That the same is printed of each of these tables, or else what is printed of the first that
+/// differs.
 fn tables(alloc: Global) -> Result<String, Error> {
     for number in 0..TABLES {
         let text = table(alloc, number)?;

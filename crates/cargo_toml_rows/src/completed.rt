@@ -1,5 +1,5 @@
 //! What completion makes of a manifest: with a workspace that is handed in, with its own, or with a
-//! root that is told.
+//! root that is stated.
 use crate::manifests::{read, with_lines};
 use crate::recorder::Recorder;
 use cargo_toml::features::Resolver;
@@ -60,9 +60,9 @@ pub fn answer_of(alloc: Global, words: &str) -> Result<Answer, Error> {
     Ok(Answer::Names(texts(alloc, words)?))
 }
 
-/// The folders around the manifest, a line each: `PATH: NAME NAME ..`, with `!open` before names of
-/// which nothing is told, or a fault in place of names. The folder of the manifest is the empty
-/// path. Other folders are absent.
+/// The folders around the manifest, a line each: `PATH: NAME NAME ..`, with `!open` before names
+/// that aren't stated, or a fault in place of names. The folder of the manifest is the empty path.
+/// Other folders are absent.
 fn folders(alloc: Global, lines: &str) -> Result<Vec<(String, Answer)>, Error> {
     let mut folders = Vec::new(alloc);
     for line in lines.split_terminator('\n') {

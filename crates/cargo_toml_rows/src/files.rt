@@ -141,7 +141,7 @@ fn handed<R: Files + AllocGlobal>(
     told(alloc, &*manifest, before.as_str(), outcome, field)
 }
 
-/// What is told of a completion, with whether a manifest that isn't completed is as it was.
+/// What is printed of a completion, with whether a manifest that isn't completed is as it was.
 fn told(
     alloc: Global,
     manifest: &Manifest,

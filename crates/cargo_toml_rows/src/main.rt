@@ -57,7 +57,7 @@ enum Kind {
     Report,
     /// Which of its features a caller documents, each with its text.
     Documented,
-    /// What one of its features enables at last. The file `start` names the feature.
+    /// What one of its features enables transitively. The file `start` names the feature.
     Recursion,
     /// What values of one type read as, and how these are written, or what comes of paths.
     Values,

@@ -5,8 +5,8 @@ use std::alloc::Global;
 use std::cell::RefCell;
 use std::collections::HashSet;
 
-/// Answers as the files do and notes each question. Of what it answers nothing is told. It finds
-/// roots by a call of its own, and has none to read.
+/// Answers as the files do and notes each question. It states none of its answers. It finds roots
+/// by a call of its own, and has none to read.
 #[derive(Drop)]
 pub struct Recorder<'a> {
     files: &'a InMemory,

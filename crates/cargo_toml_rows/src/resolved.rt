@@ -52,7 +52,7 @@ fn push_dependency(
     Ok(())
 }
 
-/// What a feature enables at last: a line for each feature, in byte order, and one for each
+/// What a feature enables transitively: a line for each feature, in byte order, and one for each
 /// dependency with the features that act on it, in the order in which they are visited.
 pub fn enabled(alloc: Global, bytes: &[u8], start: &str) -> Result<String, Error> {
     let manifest = read(alloc, bytes)?;

@@ -230,7 +230,7 @@ inheritable_left P way left Inherited h = tt
 pub inheritable_exact : {X : Type 0} {P : X → Type 0} (way : Way X) → Exact way P → Exact (inheritable_way way) (IfSet P)
 inheritable_exact way e = record { has = set_has way e; only = set_only way e; floatless = inheritable_floatless way e.floatless }
 
--- what has a tree is refused for want of memory alone
+-- what has a tree is refused with `Memory` alone
 pub memory_alone : {X : Type 0} (way : Way X) (x : X) (r : Result Value Error) → IsWriting way x r → HasTree way x → IfErr r (λ e. e ≡ Memory)
 memory_alone way x (Ok v) written tree = tt
 memory_alone way x (Err e) (inl memory) tree = memory

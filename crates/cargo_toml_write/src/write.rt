@@ -26,7 +26,7 @@ use toml::{Table, Value};
 /// What can be written to a value of TOML. Each type of a manifest is; the type of a package's
 /// metadata is any such type.
 ///
-/// A type tells what its values mean, and the way in which that is written: which trees it is
+/// A type says what its values mean, and the way in which that is written: which trees it is
 /// written to, and which faults a value that has none may be refused with. By the law `floatless`
 /// no tree holds a float, so that each can be read again.
 pub trait ToValue {

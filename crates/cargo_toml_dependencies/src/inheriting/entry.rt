@@ -102,8 +102,8 @@ fn boxed_with_entry(
     Ok(Box::new(alloc, with_entry(alloc, base, entry, template)?)?)
 }
 
-// Whether a detail of the workspace tells no more than a requirement, features and
-// flags, as most do.
+// Whether a detail of the workspace has no keys except a requirement, features and flags, as most
+// do.
 fn is_short(template: &DependencyDetail) -> bool
     ensures { IsTrue result → IsShort (detail_meaning template.now) }
 {
@@ -118,7 +118,7 @@ fn is_short(template: &DependencyDetail) -> bool
         && template.unstable.is_empty()
 }
 
-// A detail that tells no more than these. It is filled in where it stays, and not moved there.
+// A detail that has no keys except these. It is filled in where it stays, and not moved there.
 #[inline(always)]
 fn short_detail(
     alloc: Global,
@@ -193,7 +193,7 @@ fn detail_with_entry(
     boxed_with_entry(alloc, base, entry, template)
 }
 
-// A detail of which the workspace tells the requirement alone, with what a member's entry adds.
+// A detail that has only a requirement in the workspace, with what a member's entry adds.
 fn requirement_with_entry(
     alloc: Global,
     entry: &InheritedDependencyDetail,
@@ -208,7 +208,7 @@ fn requirement_with_entry(
     short_detail(alloc, Some(version), features, entry.optional, true)
 }
 
-// Whether the entry asks for nothing beside what the workspace tells.
+// Whether the entry adds neither features nor `optional`.
 fn adds_nothing(entry: &InheritedDependencyDetail) -> bool
     ensures { result ≡ adds_nothing (inherited_meaning entry.now) }
 {

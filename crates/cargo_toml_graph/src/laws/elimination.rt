@@ -43,7 +43,8 @@ pub fn any_order_leaves_the_same()
         → ((v : Text) → Among a v ↔ Among b v) → SameKept (without_all a m) (without_all b m) }
 {}
 
-/// Between kept features, what enables what at last is as in a resolution that removes nothing.
+/// Between kept features, what enables what transitively is as in a resolution that removes
+/// nothing.
 pub fn removal_keeps_enabling()
     ensures { (t : Table) (removed nothing : Text → Bool) (full m : Resolution)
         → ((v : Text) → IsFalse (nothing v)) → IsResolved t (λ v. IsTrue (nothing v)) full

@@ -13,7 +13,7 @@ use cargo_toml_paths::join;
 use cargo_toml_settings::OptionalFile;
 use std::alloc::{AllocError, Global};
 
-// The file of a workspace, as seen from where its folder is.
+// The file of a workspace; its path is joined to the workspace's folder.
 fn based_file(alloc: Global, base: &str, file: &OptionalFile) -> Result<OptionalFile, AllocError>
     ensures { IfOk result (λ f. file_meaning f ≡ based base.now (file_meaning file.now)) }
 {
@@ -23,8 +23,8 @@ fn based_file(alloc: Global, base: &str, file: &OptionalFile) -> Result<Optional
     }
 }
 
-/// The making of one value after the other, and whether memory was refused. What is answered after
-/// that means nothing.
+/// The making of one value after the other, and whether memory was refused. After a refusal an
+/// answer may be a stand-in, and `finish` refuses.
 #[derive(Drop)]
 pub struct Filling {
     /// Where memory is taken from.
@@ -34,7 +34,7 @@ pub struct Filling {
 }
 
 impl Filling {
-    /// A filling of which nothing was refused yet.
+    /// A filling in which nothing was refused yet.
     pub fn new(alloc: Global) -> Filling
         ensures { result.refused ≡ false }
     {

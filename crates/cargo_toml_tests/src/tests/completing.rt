@@ -1,4 +1,4 @@
-//! Completion over implementors of a caller's own, which tell nothing.
+//! Completion over implementors of a caller's own, which state nothing.
 use super::manifest;
 use cargo_toml::{AbstractFilesystem, Error, NoRoot, Value};
 use std::alloc::Global;

@@ -1,4 +1,4 @@
-//! What the words of the command line ask for, and what the program tells at its end.
+//! What the words of the command line ask for, and what the program writes at its end.
 use cargo_toml::Error;
 use cargo_toml_print::{Command, Outcome, command, print_features};
 use std::alloc::AllocError;
@@ -24,7 +24,7 @@ fn words_of_commands(rt: HostRuntime) -> Result<(), Fail> {
     Ok(())
 }
 
-// The program ends with this status, and tells this.
+// The program ends with this status, and writes this.
 fn assert_told(
     rt: &(impl Abort + AllocGlobal),
     outcome: &Outcome,

@@ -10,7 +10,7 @@ use std::alloc::{AllocError, Global};
 use std::hash::{BuildHasher, FoldHasher};
 use std::test::Fail;
 
-// What can't be copied or read for want of memory.
+// What can't be copied or read without memory.
 #[derive(Debug, Drop)]
 struct Costly;
 
@@ -51,7 +51,7 @@ fn refused_memory_of_metadata(rt: HostRuntime) {
     assert!(rt; matches!(read, Err(Error::Memory)));
 }
 
-// A state of hashed maps that can't be copied for want of memory.
+// A state of hashed maps that can't be copied without memory.
 #[derive(Drop)]
 struct State {
     hasher: FoldHasher,

@@ -1,5 +1,5 @@
 //! Completing a manifest, and resolving the features that it then has.
-ghost use Rattle.std.specs.Prelude.{◌≡◌, Err, IfErr, IfOk};
+ghost use Rattle.std.specs.Prelude.{◌≡◌, false, Err, IfErr, IfOk};
 ghost use Rattle.std.specs.Prelude.{IfSome, IsSome, OnOk, option_map};
 ghost use Rattle.std.specs.Borrow.{sem};
 ghost use Rattle.cargo_toml_parts.specs.declared.error.Error.{Memory};
@@ -7,6 +7,7 @@ ghost use Rattle.cargo_toml_hidden.specs.Filter.{HasNameFilter};
 ghost use Rattle.cargo_toml_manifest.specs.Choosing.{handed_of, roots_of};
 ghost use Rattle.cargo_toml_manifest.specs.Completed.{IsCompleted};
 ghost use Rattle.cargo_toml_manifest.specs.Completing.{Meets, complete};
+ghost use Rattle.cargo_toml_manifest.specs.Inheriting.{needs};
 ghost use Rattle.cargo_toml_manifest.specs.Manifests.{held};
 ghost use Rattle.cargo_toml_manifest.specs.Refusing.{IsRefusedBy, MayLose};
 ghost use Rattle.cargo_toml_features.specs.FirstTarget.{HaveTargets};
@@ -49,6 +50,7 @@ pub fn complete_and_parse_into<
     ensures completed { IfSome result
         (λ lent. IsCompleted manifest.old (option_map handed_of workspace.entry)
         (roots_of Fs.Roots.ARE_READ (Fs.root_for fs)) (Fs.names_at fs) lent.now) }
+    ensures needs { IfSome result (λ m. needs (held m.now) ≡ false) }
     ensures memory { IfSome result (λ _. IfSome slot.new (λ r. IfErr r (λ e. e ≡ Memory))) }
     ensures outcome { IfSome (with_lent result slot.new)
         (Meets (λ p. held p.0.now)

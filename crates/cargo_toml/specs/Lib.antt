@@ -82,6 +82,7 @@ pub use Rattle.cargo_toml_graph.specs.Recursive
 pub use Rattle.cargo_toml_graph.specs.Kept
 pub use Rattle.cargo_toml_graph.specs.Admitted
 pub use Rattle.cargo_toml_hidden.specs.Filter
+pub use Rattle.cargo_toml_hidden.specs.Removed
 pub use Rattle.cargo_toml_features.specs.Agreement
 pub use Rattle.cargo_toml_features.specs.Entries
 pub use Rattle.cargo_toml_features.specs.FirstTarget

@@ -5,6 +5,7 @@ pub mod bodies;
 pub mod completing;
 pub mod documented;
 pub mod enabled;
+pub mod filtered;
 pub mod in_memory;
 pub mod members;
 pub mod report;

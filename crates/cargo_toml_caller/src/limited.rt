@@ -2,7 +2,8 @@
 ghost use Rattle.std.specs.Prelude.{◌≡◌, ◌≤◌, bytes_eq, codes, IfErr, IfOk};
 ghost use Rattle.cargo_toml.specs.Error.{Memory};
 ghost use Rattle.cargo_toml.specs.Manifests.{manifest_meaning};
-ghost use Rattle.cargo_toml.specs.Parsed.{AreBinsComplete, IsParsed};
+ghost use Rattle.cargo_toml.specs.Parsed.{AreBinsComplete, IsParsed, parsed_table};
+ghost use Rattle.cargo_toml.specs.Removal.{is_removed};
 ghost use Rattle.cargo_toml.specs.Views.{answer_of};
 
 use cargo_toml::features::{Features, Resolver};
@@ -28,8 +29,9 @@ pub fn resolve_limited<'m, M>(
     ensures resolved { IfOk result (λ a. IsParsed max_items (manifest_meaning (λ m. m) manifest.now)
         (λ n. bytes_eq n (codes "_internal")) (answer_of a)) }
     ensures complete_bins { IfOk result (λ a. AreBinsComplete max_items
-        (manifest_meaning (λ m. m) manifest.now) (λ n. bytes_eq n (codes "_internal"))
-        (answer_of a)) }
+        (manifest_meaning (λ m. m) manifest.now)
+        (is_removed (parsed_table max_items (manifest_meaning (λ m. m) manifest.now))
+        (λ n. bytes_eq n (codes "_internal"))) (answer_of a)) }
     ensures refused { IfErr result (λ e. e ≡ Memory) }
 {
     let keep = keep_internal;

@@ -10,8 +10,8 @@ use Rattle.cargo_toml_graph.specs.Admitted.{Listed, is_below}
 use Rattle.cargo_toml_graph.specs.Bins.{ArePassedOn}
 use Rattle.cargo_toml_graph.specs.Graph.{Table}
 use Rattle.cargo_toml_graph.specs.Redirects.{RedirectsTo}
-use Rattle.cargo_toml_graph.specs.Removal.{is_removed, unremoved}
-use Rattle.cargo_toml_graph.proofs.InByteOrder.{alike_itself, passed_all_alike, passed_has, removed_there}
+use Rattle.cargo_toml_graph.specs.Removal.{unremoved}
+use Rattle.cargo_toml_graph.proofs.InByteOrder.{alike_itself, passed_all_alike, passed_has}
 use Rattle.cargo_toml_walk.specs.Numbered.{text_at}
 use Rattle.cargo_toml_dependencies.specs.Details.{plain_detail}
 use Rattle.cargo_toml_features.specs.declared.features.Feature.{Feature}
@@ -20,25 +20,26 @@ use Rattle.cargo_toml_features.specs.InOrder.{AreTable, feature_at, names_of}
 use Rattle.cargo_toml_features.specs.Reached.{IsKeyed}
 use Rattle.cargo_toml_features.specs.Marks.{Details, marked, marks_in, marks_of}
 use Rattle.cargo_toml_features.specs.Recorded.{Entry, entries_at, recorded_of}
-use Rattle.cargo_toml_features.specs.Resolved.{IsAnswer, SameRecorded, table_of}
+use Rattle.cargo_toml_features.specs.Resolved.{SameRecorded, table_of}
 use Rattle.cargo_toml_features.specs.Views.{answer_of, has_text, value_at}
 use Rattle.cargo_toml_hidden.specs.KeptFeatures.{IsNamedAlike, own_bins}
 use Rattle.cargo_toml_hidden.specs.Left.{AreLeft}
 use Rattle.cargo_toml_hidden.specs.Numbering.{IsFlagged}
+use Rattle.cargo_toml_hidden.specs.Removed.{IsAnswerWithout}
 use Rattle.cargo_toml_hidden.proofs.InPlace.{found_stands}
 
-module _ {S H : Type 0} (listed : Listed) (entries : List Entry) (details : Details) (own : Text → List Text) (keep : Text → Bool) (vs : List Feature) (a : Features S H)
-    (start : AreTable (table_of listed entries) vs)
+module _ {S H : Type 0} (listed : Listed) (entries : List Entry) (details : Details) (own : Text → List Text) (removed : Text → Bool) (vs : List Feature) (a : Features S H)
+    (start : AreTable (table_of listed entries) vs) (there : (f : Text) → IsTrue (removed f) → IsTrue ((table_of listed entries).has f))
     (marks : (f : Text) → IfSome (feature_at vs f) (λ v. marks_of v ≡ marks_in listed details f))
     (bins : (f : Text) → IfSome (feature_at vs f) (λ v. map (λ b. b.now) v.required_by_bins.items ≡ own f))
     (dependencies : (k : Text) → SameRecorded ((answer_of a).dependencies k) (recorded_of (entries_at listed entries k)))
-    (kept : AreLeft (table_of listed entries) (is_removed (table_of listed entries) keep) vs a.features a.hidden_features)
-    (some : IsTrue a.removed_hidden_features ↔ ((r : Text) × IsTrue (is_removed (table_of listed entries) keep r))) where
+    (kept : AreLeft (table_of listed entries) removed vs a.features a.hidden_features)
+    (some : IsTrue a.removed_hidden_features ↔ ((r : Text) × IsTrue (removed r))) where
   abbrev t : Table
   t = table_of listed entries
 
   abbrev R : Text → Type 0
-  R f = IsTrue (is_removed t keep f)
+  R f = IsTrue (removed f)
 
   abbrev Stays : Text → Feature → Type 0
   Stays f w = (v : Feature) × (feature_at vs f ≡ Some v) × IsNamedAlike v w
@@ -65,7 +66,7 @@ module _ {S H : Type 0} (listed : Listed) (entries : List Entry) (details : Deta
       go (Some w) s y = s.2.marks ∙ subst (λ o. IfSome o (λ v. marks_of v ≡ marks_in listed details f)) s.1 (marks f)
 
   own_at : (f : Text) → IsTrue (t.has f) → own_bins vs f ≡ own f
-  own_at f there = go (feature_at vs f) (start.has f ∙ there) (bins f)
+  own_at f has = go (feature_at vs f) (start.has f ∙ has) (bins f)
     where
       go : (o : Option Feature) → IsTrue (is_some o) → IfSome o (λ v. map (λ b. b.now) v.required_by_bins.items ≡ own f) → option_map_or (λ v. map (λ (b : Bor Text). b.now) v.required_by_bins.items) o [] ≡ own f
       go None y e = absurd (false≢true y)
@@ -76,10 +77,10 @@ module _ {S H : Type 0} (listed : Listed) (entries : List Entry) (details : Deta
     order = kept.bins.order;
     in_order = kept.bins.in_order;
     lists = λ f k. kept.bins.lists f k
-        ∙ passed_all_alike (λ v. IsTrue (t.has v)) kept.bins.order (unremoved t) (unremoved t) (own_bins vs) own (alike_itself (unremoved t)) (λ v i. removed_there t keep v ((kept.bins.in_order.members v).0 i)) own_at f k.0;
+        ∙ passed_all_alike (λ v. IsTrue (t.has v)) kept.bins.order (unremoved t) (unremoved t) (own_bins vs) own (alike_itself (unremoved t)) (λ v i. there v ((kept.bins.in_order.members v).0 i)) own_at f k.0;
   }
 
-  redirected : (r : Text) → is_some (option_map has_text (value_at a.hidden_features r)) ≡ is_removed t keep r
+  redirected : (r : Text) → is_some (option_map has_text (value_at a.hidden_features r)) ≡ removed r
   redirected r = go (value_at a.hidden_features r) ∙ kept.redirected r
     where
       go : (o : Option (BTreeSet (Bor Text))) → is_some (option_map has_text o) ≡ is_some o
@@ -94,18 +95,16 @@ module _ {S H : Type 0} (listed : Listed) (entries : List Entry) (details : Deta
       go None h = tt
       go (Some names) h = h
 
-  pub answers : IsAnswer listed entries details own keep (answer_of a)
+  pub answers : IsAnswerWithout listed entries details own R (answer_of a)
   answers = record {
-    kept = record {
-      resolved = kept.resolved;
-      keyed = key_at;
-      marks = marks_at;
-      dependencies = dependencies;
-      some = some;
-    };
-    bins = λ f y. passed_has t R own (removed_there t keep) (answer_of a).bins passed_on f ((kept.resolved.kept f).0 y);
+    resolved = kept.resolved;
+    keyed = key_at;
+    marks = marks_at;
+    dependencies = dependencies;
+    some = some;
+    bins = λ f y. passed_has t R own there (answer_of a).bins passed_on f ((kept.resolved.kept f).0 y);
     passed_on = passed_on;
-    redirected = redirected;
+    redirected = λ r. (λ y. sym (redirected r) ∙ y, λ y. redirected r ∙ y);
     redirects = redirects;
   }
 

@@ -1,16 +1,14 @@
 -- Features in order, by their places.
-use Rattle.std.proofs.Common.{◌≡◌, ◌↔◌, ◌<◌, ◌&&◌, if◌then◌else◌, ℕ, zero, suc, Bool, true, false, not, List, [], ◌∷◌, length, Option, Some, None, IsTrue, bytes_eq, is_some, nat_eq, codes, refl, sym, ap, subst, inl, inr, ◌∙◌, arith}
+use Rattle.std.proofs.Common.{◌≡◌, ◌↔◌, ◌<◌, if◌then◌else◌, ℕ, zero, suc, Bool, true, false, List, [], ◌∷◌, length, Option, Some, None, IsTrue, bytes_eq, is_some, refl, sym, ap, subst, inl, inr, ◌∙◌, arith}
 use Rattle.std.proofs.lemmas.Bool.{false≢true}
 use Rattle.std.proofs.lemmas.Option.{slice_get_cases}
 use Rattle.std.proofs.lemmas.Slice.Eq.{bytes_eq-Decides}
-use Rattle.std.specs.List.{slice_get, slice_index_or, starts_with}
+use Rattle.std.specs.List.{slice_get}
 use Rattle.cargo_toml_graph.specs.Action.{Text}
 use Rattle.cargo_toml_graph.specs.Admitted.{is_below}
 use Rattle.cargo_toml_graph.specs.Graph.{Table}
 use Rattle.cargo_toml_graph.specs.Reach.{Among}
-use Rattle.cargo_toml_graph.specs.Removal.{is_removed}
 use Rattle.cargo_toml_graph.proofs.RedirectsInOrder.{below_one_way}
-use Rattle.cargo_toml_walk.specs.Numbers.{IsWanted}
 use Rattle.cargo_toml_walk.specs.Numbered.{text_at}
 use Rattle.cargo_toml_features.specs.declared.features.Feature.{Feature}
 use Rattle.cargo_toml_features.specs.InOrder.{AreInOrder, AreTable, feature_at, names_of}
@@ -90,30 +88,3 @@ module _ (t : Table) (vs : List Feature) (same : AreTable t vs) (up : AreInOrder
           let v = stands_in vs w.0 w.1 in
           let name : v.0.key.now ≡ f = sym (name_in vs w.0 v.0 v.1) ∙ w.2 in
           sym (same.has f) ∙ ap is_some (subst (λ x. feature_at vs x ≡ Some v.0) name (stands_found vs up w.0 v.0 v.1))
-
-  -- and the removed ones are those with a flag
-  pub removed_is : (keep : Text → Bool) (flags : List Bool) →
-      ((i : ℕ) → i < length vs → slice_index_or flags i false ≡ (starts_with nat_eq (text_at (names_of vs) i) (codes "_") && not (keep (text_at (names_of vs) i)))) →
-      (f : Text) → IsTrue (is_removed t keep f) ↔ ((i : ℕ) × (i < length vs) × (text_at (names_of vs) i ≡ f) × IsWanted flags true i)
-  removed_is keep flags tells f = (
-    λ y. let h = (has_place f).0 (first (t.has f) (starts_with nat_eq f (codes "_")) (not (keep f)) y) in (
-      h.0,
-      h.1,
-      h.2,
-      tells h.0 h.1 ∙ (subst (λ x. (starts_with nat_eq x (codes "_") && not (keep x)) ≡ true) (sym h.2) (rest (t.has f) (starts_with nat_eq f (codes "_")) (not (keep f)) y)),
-    ),
-    λ w. both (t.has f) (starts_with nat_eq f (codes "_")) (not (keep f)) ((has_place f).1 (w.0, w.1, w.2))
-        (subst (λ x. (starts_with nat_eq x (codes "_") && not (keep x)) ≡ true) w.2 (sym (tells w.0 w.1) ∙ w.3)),
-  )
-    where
-      first : (a b c : Bool) → (a && b && c) ≡ true → a ≡ true
-      first false b c e = e
-      first true b c e = refl
-
-      rest : (a b c : Bool) → (a && b && c) ≡ true → (b && c) ≡ true
-      rest false b c e = absurd (false≢true e)
-      rest true b c e = e
-
-      both : (a b c : Bool) → a ≡ true → (b && c) ≡ true → (a && b && c) ≡ true
-      both false b c e k = absurd (false≢true e)
-      both true b c e k = k

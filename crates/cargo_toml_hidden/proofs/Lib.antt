@@ -24,6 +24,7 @@ mod LeftOver
 mod KeptAll
 mod HashedSlots
 mod AnsweringLeft
+pub mod ByFilter
 mod PutAlong
 mod BinTurns
 mod KnownBins

@@ -1,4 +1,5 @@
 pub mod Filter
+pub mod Removed
 pub mod Leaving
 pub mod TakingOver
 pub mod KeptFeatures

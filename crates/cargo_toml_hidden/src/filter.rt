@@ -3,7 +3,7 @@ ghost use Rattle.std.specs.Prelude.{◌≡◌, ◌&&◌, Bool, codes, nat_eq, no
 ghost use Rattle.std.specs.Fn.{FnReturnsAt};
 ghost use Rattle.std.specs.List.{starts_with};
 ghost use Rattle.cargo_toml_graph.specs.Action.{Text};
-ghost use Rattle.cargo_toml_hidden.specs.Filter.{HasNameFilter, IsNameFilter, Tells};
+ghost use Rattle.cargo_toml_hidden.specs.Filter.{Answers, HasNameFilter, IsFlagOf, IsNameFilter, Tells};
 
 fn answer<F: Fn(&str) -> bool>(filter: &F, name: &str) -> bool
     requires { IsNameFilter F.Fn filter.now }
@@ -15,7 +15,8 @@ fn answer<F: Fn(&str) -> bool>(filter: &F, name: &str) -> bool
 // Whether the filter keeps a name; without a filter none is kept.
 fn is_kept<F: Fn(&str) -> bool>(filter: Option<&F>, name: &str) -> bool
     requires { HasNameFilter F.Fn filter }
-    ensures { (keep : Text → Bool) → Tells F.Fn filter.entry keep → result ≡ keep name.now }
+    ensures answered { Answers F.Fn filter.entry name.now result }
+    ensures told { (keep : Text → Bool) → Tells F.Fn filter.entry keep → result ≡ keep name.now }
 {
     match filter {
         Some(filter) => answer(filter, name),
@@ -27,7 +28,8 @@ fn is_kept<F: Fn(&str) -> bool>(filter: Option<&F>, name: &str) -> bool
 /// that begin with `_`.
 pub fn is_hidden<F: Fn(&str) -> bool>(filter: Option<&F>, name: &str) -> bool
     requires { HasNameFilter F.Fn filter }
-    ensures { (keep : Text → Bool) → Tells F.Fn filter.entry keep
+    ensures flag { IsFlagOf F.Fn filter.entry name.now result }
+    ensures told { (keep : Text → Bool) → Tells F.Fn filter.entry keep
         → result ≡ (starts_with nat_eq name.now (codes "_") && not (keep name.now)) }
 {
     name.starts_with('_') && !is_kept(filter, name)

@@ -1,11 +1,9 @@
 //! Which features are removed, by their places.
-ghost use Rattle.std.specs.Prelude.{◌≡◌, ◌<◌, ◌&&◌, ℕ, Bool, IfOk};
-ghost use Rattle.std.specs.Prelude.{codes, false, length, nat_eq, not};
-ghost use Rattle.std.specs.List.{slice_index_or, starts_with};
-ghost use Rattle.cargo_toml_graph.specs.Action.{Text};
+ghost use Rattle.std.specs.Prelude.{◌≡◌, ◌<◌, ℕ, IfOk, false, length};
+ghost use Rattle.std.specs.List.{slice_index_or};
 ghost use Rattle.cargo_toml_features.specs.InOrder.{names_of};
 ghost use Rattle.cargo_toml_walk.specs.Numbered.{text_at};
-ghost use Rattle.cargo_toml_hidden.specs.Filter.{HasNameFilter, Tells};
+ghost use Rattle.cargo_toml_hidden.specs.Filter.{HasNameFilter, IsFlagOf};
 
 use crate::filter::is_hidden;
 use cargo_toml_features::features::Feature;
@@ -21,10 +19,9 @@ pub fn hidden_flags<F: Fn(&str) -> bool>(
 ) -> Result<Vec<bool>, AllocError>
     requires { HasNameFilter F.Fn filter }
     ensures len { IfOk result (λ v. length v.items ≡ length features.now) }
-    ensures flags { IfOk result (λ v. (keep : Text → Bool) → Tells F.Fn filter.entry keep
-        → (i : ℕ) → i < length features.now → slice_index_or v.items i false
-        ≡ (starts_with nat_eq (text_at (names_of features.now) i) (codes "_")
-        && not (keep (text_at (names_of features.now) i)))) }
+    ensures flags { IfOk result (λ v. (i : ℕ) → i < length features.now
+        → IsFlagOf F.Fn filter.entry (text_at (names_of features.now) i)
+        (slice_index_or v.items i false)) }
 {
     let mut flags = Vec::with_capacity(alloc, features.len())?;
     for feature in features {

@@ -1,14 +1,13 @@
 //! From what a manifest lists to the whole answer.
-ghost use Rattle.std.specs.Prelude.{Bool, map, IfOk};
-ghost use Rattle.cargo_toml_graph.specs.Action.{Text};
+ghost use Rattle.std.specs.Prelude.{map, IfOk};
 ghost use Rattle.cargo_toml_graph.specs.Reach.{IsOnce};
 ghost use Rattle.cargo_toml_features.specs.FirstTarget.{HaveTargets};
 ghost use Rattle.cargo_toml_resolve.specs.OwnBins.{own_of, requirement_of};
 ghost use Rattle.cargo_toml_features.specs.Marks.{details_of};
 ghost use Rattle.cargo_toml_features.specs.Reached.{IsKeyed};
 ghost use Rattle.cargo_toml_features.specs.Views.{listed_of, answer_of, entry_of};
-ghost use Rattle.cargo_toml_features.specs.Resolved.{IsAnswer};
-ghost use Rattle.cargo_toml_hidden.specs.Filter.{HasNameFilter, Tells};
+ghost use Rattle.cargo_toml_hidden.specs.Filter.{HasNameFilter};
+ghost use Rattle.cargo_toml_hidden.specs.Removed.{IsAnswerBy};
 
 use crate::flags::hidden_flags;
 use crate::left::{Left, left_of};
@@ -37,9 +36,9 @@ pub fn resolve<'m: 'd, 'd, F: Fn(&str) -> bool, S: BuildHasher + Clone>(
 ) -> Result<Features<'m, 'd, S>, AllocError>
     requires once { IsOnce (map (λ l. l.name.now) listings.now) }
     requires filter { HasNameFilter F.Fn filter }
-    ensures resolved { IfOk result (λ a. (keep : Text → Bool) → Tells F.Fn filter.entry keep →
-        IsAnswer (listed_of listings.now) (map entry_of entries.now) (details_of listings.now)
-        (own_of (map requirement_of requirements.now)) keep (answer_of a)) }
+    ensures resolved { IfOk result (λ a. IsAnswerBy F.Fn filter.entry
+        (listed_of listings.now) (map entry_of entries.now) (details_of listings.now)
+        (own_of (map requirement_of requirements.now)) (answer_of a)) }
     ensures keyed { IfOk result (λ a. IsKeyed a.features) }
     ensures targets { IfOk result (λ a. HaveTargets a.dependencies) }
 {

@@ -2,3 +2,4 @@ mod Lent
 mod Words
 mod Mentions
 mod CompleteBins
+mod ToldBy

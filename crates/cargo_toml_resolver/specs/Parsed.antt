@@ -1,12 +1,12 @@
 -- What resolving the features of a manifest answers.
-use Rattle.std.specs.Prelude.{◌≤◌, ℕ, Bool, IsTrue, List, [], count_by, map, unwrap_or}
+use Rattle.std.specs.Prelude.{◌≤◌, ℕ, Bool, IsTrue, List, [], Option, count_by, map, unwrap_or}
+use Rattle.std.specs.Borrow.{Bor}
 use Rattle.std.specs.List.{flat_map}
 use Rattle.std.specs.Option.{option_map_or}
 use Rattle.cargo_toml_graph.specs.Action.{Text}
 use Rattle.cargo_toml_graph.specs.Admitted.{Listed, admitted}
 use Rattle.cargo_toml_graph.specs.Bins.{IsComplete}
 use Rattle.cargo_toml_graph.specs.Graph.{Table}
-use Rattle.cargo_toml_graph.specs.Removal.{is_removed}
 use Rattle.cargo_toml_tables.specs.Products.{ProductMeaning}
 use Rattle.cargo_toml_manifest.specs.Inheriting.{own_tables}
 use Rattle.cargo_toml_manifest.specs.Manifests.{ManifestMeaning}
@@ -15,6 +15,8 @@ use Rattle.cargo_toml_resolve.specs.OwnBins.{own_of}
 use Rattle.cargo_toml_features.specs.Marks.{Details}
 use Rattle.cargo_toml_features.specs.Recorded.{Entry}
 use Rattle.cargo_toml_features.specs.Resolved.{Answer, IsAnswer, table_of}
+use Rattle.cargo_toml_hidden.specs.Filter.{Asked}
+use Rattle.cargo_toml_hidden.specs.Removed.{IsAnswerBy}
 
 -- the features that a binary requires, each with the binary's name, or that of the
 -- package where it has none
@@ -48,10 +50,16 @@ module _ (limit : ℕ) where
     IsParsed keep a =
         IsAnswerFor m.features parsed_entries m.feature_details (own_of (requirements m)) keep a
 
+    -- the same by what the filter answers
+    abbrev pub IsParsedBy : {F : Type 0} → Asked F → Option (Bor F) → Answer → Type 0
+    IsParsedBy g filter a =
+        IsAnswerBy g filter (admitted limit m.features) parsed_entries m.feature_details
+        (own_of (requirements m)) a
+
     -- with at most ten mentions of removed features, each binary that requires one of these
     -- requires each kept feature to which naming alone leads from it through removed ones
     abbrev pub AreBinsComplete : (Text → Bool) → Answer → Type 0
-    AreBinsComplete keep a =
-        count_by (λ q. is_removed parsed_table keep q.0) (requirements m) ≤ 10 → (f : Text)
+    AreBinsComplete removed a =
+        count_by (λ q. removed q.0) (requirements m) ≤ 10 → (f : Text)
         → IsTrue (a.resolution.table.has f) → IsComplete parsed_table
-        (λ r. IsTrue (is_removed parsed_table keep r)) (own_of (requirements m)) f (a.bins f)
+        (λ r. IsTrue (removed r)) (own_of (requirements m)) f (a.bins f)

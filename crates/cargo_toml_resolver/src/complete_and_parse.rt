@@ -1,10 +1,9 @@
 //! Completing a manifest, and resolving the features that it then has.
-ghost use Rattle.std.specs.Prelude.{◌≡◌, Bool, false, Err, IfErr, IfOk};
+ghost use Rattle.std.specs.Prelude.{◌≡◌, false, Err, IfErr, IfOk};
 ghost use Rattle.std.specs.Prelude.{IfSome, IsSome, Ok, OnOk, option_map};
 ghost use Rattle.std.specs.Borrow.{sem};
 ghost use Rattle.cargo_toml_parts.specs.declared.error.Error.{Memory};
-ghost use Rattle.cargo_toml_graph.specs.Action.{Text};
-ghost use Rattle.cargo_toml_hidden.specs.Filter.{HasNameFilter, Tells};
+ghost use Rattle.cargo_toml_hidden.specs.Filter.{HasNameFilter};
 ghost use Rattle.cargo_toml_package.specs.Filled.{IsFilled};
 ghost use Rattle.cargo_toml_manifest.specs.Choosing.{handed_of};
 ghost use Rattle.cargo_toml_manifest.specs.Completing.{GivenBy, IsLasting, Meets, complete};
@@ -17,7 +16,7 @@ ghost use Rattle.cargo_toml_features.specs.Reached.{IsKeyed};
 ghost use Rattle.cargo_toml_features.specs.Views.{answer_of};
 ghost use Rattle.cargo_toml_resolver.specs.Filtered.{filter_of, limit_of};
 ghost use Rattle.cargo_toml_resolver.specs.Lent.{IsLentAfter, IsLentAs, IsLentOn, with_lent};
-ghost use Rattle.cargo_toml_resolver.specs.Parsed.{IsParsed};
+ghost use Rattle.cargo_toml_resolver.specs.Parsed.{IsParsedBy};
 
 use crate::features::{Features, Resolver};
 use cargo_toml_manifest::{AbstractFilesystem, Manifest};
@@ -69,10 +68,9 @@ pub fn complete_and_parse_into<
         (manifest_meaning (λ m. m) manifest.old) (option_map handed_of workspace.entry)
         (λ hint. heard Fs.Roots.ARE_READ (Fs.root_for fs hint))
         (MayLose Fs.Roots.ARE_READ (Fs.may_refuse_root fs)) (Fs.may_refuse fs))) }
-    ensures resolved { IfSome (with_lent result slot.new) (λ r. IfOk r (λ p. (keep : Text → Bool)
-        → Tells F.Fn (filter_of resolver.now) keep
-        → IsParsed (limit_of resolver.now) (manifest_meaning (λ m. m) p.0.now) keep
-        (answer_of p.1))) }
+    ensures resolved { IfSome (with_lent result slot.new) (λ r. IfOk r (λ p.
+        IsParsedBy (limit_of resolver.now) (manifest_meaning (λ m. m) p.0.now)
+        F.Fn (filter_of resolver.now) (answer_of p.1))) }
     ensures keyed { IfSome (with_lent result slot.new) (λ r. IfOk r (λ p. IsKeyed p.1.features)) }
     ensures targets { IfSome (with_lent result slot.new)
         (λ r. IfOk r (λ p. HaveTargets p.1.dependencies)) }
@@ -133,9 +131,8 @@ impl<'config, F: Fn(&str) -> bool, S: BuildHasher + Clone + Drop> Resolver<'conf
             (λ hint. heard Fs.Roots.ARE_READ (Fs.root_for fs hint))
             (MayLose Fs.Roots.ARE_READ (Fs.may_refuse_root fs)) (Fs.may_refuse fs)) }
         ensures resolved { IfOk result
-            (λ p. (keep : Text → Bool) → Tells F.Fn (filter_of self.now) keep
-            → IsParsed (limit_of self.now) (manifest_meaning (λ m. m) p.0.now) keep
-            (answer_of p.1)) }
+            (λ p. IsParsedBy (limit_of self.now) (manifest_meaning (λ m. m) p.0.now)
+            F.Fn (filter_of self.now) (answer_of p.1)) }
         ensures keyed { IfOk result (λ p. IsKeyed p.1.features) }
         ensures targets { IfOk result (λ p. HaveTargets p.1.dependencies) }
     {
@@ -158,9 +155,8 @@ impl<'config, F: Fn(&str) -> bool, S: BuildHasher + Clone + Drop> Resolver<'conf
         ensures memory { OnOk completed (IfErr result (λ e. e ≡ Memory)) }
         ensures lent { IfOk result (λ p. p.0 ≡ manifest.entry) }
         ensures resolved { IfOk result
-            (λ p. (keep : Text → Bool) → Tells F.Fn (filter_of self.now) keep
-            → IsParsed (limit_of self.now) (manifest_meaning (λ m. m) p.0.now) keep
-            (answer_of p.1)) }
+            (λ p. IsParsedBy (limit_of self.now) (manifest_meaning (λ m. m) p.0.now)
+            F.Fn (filter_of self.now) (answer_of p.1)) }
         ensures keyed { IfOk result (λ p. IsKeyed p.1.features) }
         ensures targets { IfOk result (λ p. HaveTargets p.1.dependencies) }
     {

@@ -1,26 +1,25 @@
 //! What the features of a manifest enable, and which features enable them.
-ghost use Rattle.std.specs.Prelude.{◌≡◌, ◌≤◌, [], Bool, List, None, Some};
-ghost use Rattle.std.specs.Prelude.{map, true, IfOk, IfErr, IsSome};
+ghost use Rattle.std.specs.Prelude.{◌≡◌, ◌≤◌, [], None, Some};
+ghost use Rattle.std.specs.Prelude.{is_some, map, true, IfOk, IfErr, IsSome};
 ghost use Rattle.cargo_toml_parts.specs.declared.error.Error.{Memory};
 ghost use Rattle.cargo_toml_parts.specs.Reads.{map_meaning};
 ghost use Rattle.cargo_toml_dependencies.specs.Targets.{target_meaning};
 ghost use Rattle.cargo_toml_manifest.specs.Inheriting.{own_tables};
 ghost use Rattle.cargo_toml_manifest.specs.Manifests.{manifest_meaning};
-ghost use Rattle.cargo_toml_graph.specs.Action.{Text};
-ghost use Rattle.cargo_toml_graph.specs.Admitted.{Listed};
+ghost use Rattle.cargo_toml_graph.specs.Admitted.{Listed, admitted};
 ghost use Rattle.cargo_toml_graph.specs.Kept.{KeepsEnabling, LosesNothing, NoneIsLeft};
-ghost use Rattle.cargo_toml_hidden.specs.Filter.{HasNameFilter, IsNameFilter, Tells};
-ghost use Rattle.cargo_toml_features.specs.Agreement.{Agree};
+ghost use Rattle.cargo_toml_hidden.specs.Filter.{HasNameFilter, IsNameFilter};
+ghost use Rattle.cargo_toml_hidden.specs.Removed.{AgreesWithAll, IsAnswerBy};
 ghost use Rattle.cargo_toml_features.specs.declared.admit.TheConstants.{MAX_ITEMS};
 ghost use Rattle.cargo_toml_features.specs.Entries.{tables_meaning};
 ghost use Rattle.cargo_toml_features.specs.FirstTarget.{HaveTargets};
 ghost use Rattle.cargo_toml_features.specs.Hashed.{IsListingOf};
-ghost use Rattle.cargo_toml_features.specs.Marks.{Details};
 ghost use Rattle.cargo_toml_features.specs.Reached.{IsKeyed};
 ghost use Rattle.cargo_toml_features.specs.Resolved.{Answer};
 ghost use Rattle.cargo_toml_features.specs.Views.{answer_of, entry_of};
 ghost use Rattle.cargo_toml_resolver.specs.Filtered.{filter_of, limit_of, state_of};
 ghost use Rattle.cargo_toml_resolver.specs.Parsed.{AreBinsComplete, IsAnswerFor, IsParsed};
+ghost use Rattle.cargo_toml_resolver.specs.Parsed.{IsParsedBy};
 
 pub use crate::complete_and_parse::complete_and_parse_into;
 use crate::heap::keep_heap;
@@ -166,24 +165,18 @@ impl<'config, F: Fn(&str) -> bool, S: BuildHasher + Clone> Resolver<'config, F, 
         manifest: &'m Manifest<M>,
     ) -> Result<Features<'m, 'm, S>, Error>
         requires { HasNameFilter F.Fn (filter_of self.now) }
-        ensures resolved { IfOk result (λ a. (keep : Text → Bool)
-            → Tells F.Fn (filter_of self.now) keep
-            → IsParsed (limit_of self.now) (manifest_meaning (λ m. m) manifest.now) keep
-            (answer_of a)) }
-        ensures no_removed_name { IfOk result
-            (λ a. (keep : Text → Bool) → Tells F.Fn (filter_of self.now) keep
-            → NoneIsLeft (λ r. IsSome ((answer_of a).redirects r)) (answer_of a).resolution) }
-        ensures closure { IfOk result (λ a. (keep : Text → Bool) (full : Answer)
-            → Tells F.Fn (filter_of self.now) keep
+        ensures resolved { IfOk result (λ a. IsParsedBy (limit_of self.now)
+            (manifest_meaning (λ m. m) manifest.now) F.Fn (filter_of self.now) (answer_of a)) }
+        ensures no_removed_name { IfOk result (λ a.
+            NoneIsLeft (λ r. IsSome ((answer_of a).redirects r)) (answer_of a).resolution) }
+        ensures closure { IfOk result (λ a. (full : Answer)
             → IsParsed (limit_of self.now) (manifest_meaning (λ m. m) manifest.now) (λ _. true) full
             → KeepsEnabling full.resolution (answer_of a).resolution) }
-        ensures nothing_lost { IfOk result (λ a. (keep : Text → Bool) (full : Answer)
-            → Tells F.Fn (filter_of self.now) keep
+        ensures nothing_lost { IfOk result (λ a. (full : Answer)
             → IsParsed (limit_of self.now) (manifest_meaning (λ m. m) manifest.now) (λ _. true) full
             → LosesNothing full.resolution (answer_of a).resolution) }
-        ensures complete_bins { IfOk result (λ a. (keep : Text → Bool)
-            → Tells F.Fn (filter_of self.now) keep
-            → AreBinsComplete (limit_of self.now) (manifest_meaning (λ m. m) manifest.now) keep
+        ensures complete_bins { IfOk result (λ a. AreBinsComplete (limit_of self.now)
+            (manifest_meaning (λ m. m) manifest.now) (λ r. is_some ((answer_of a).redirects r))
             (answer_of a)) }
         ensures keyed { IfOk result (λ a. IsKeyed a.features) }
         ensures targets { IfOk result (λ a. HaveTargets a.dependencies) }
@@ -222,16 +215,20 @@ impl<'config, F: Fn(&str) -> bool, S: BuildHasher + Clone> Resolver<'config, F, 
         dependencies: &[ParseDependency<'m, 'd>],
     ) -> Result<Features<'m, 'd, S>, Error>
         requires { HasNameFilter F.Fn (filter_of self.now) }
-        ensures resolved { IfOk result (λ a. (keep : Text → Bool) (listed : Listed)
-            → Tells F.Fn (filter_of self.now) keep → IsListingOf features.now listed
-            → IsAnswerFor (limit_of self.now) listed (map entry_of dependencies.now) [] (λ _. [])
-            keep (answer_of a)) }
-        ensures agreement { IfOk result (λ b. (keep : Text → Bool) (listed : Listed)
-            → Tells F.Fn (filter_of self.now) keep → IsListingOf features.now listed
-            → (details : Details) (own : Text → List Text) (a : Answer)
-            → IsAnswerFor (limit_of self.now) listed (map entry_of dependencies.now)
-            details own keep a
-            → Agree a (answer_of b)) }
+        ensures resolved { IfOk result (λ a. (listed : Listed) → IsListingOf features.now listed
+            → IsAnswerBy F.Fn (filter_of self.now) (admitted (limit_of self.now) listed)
+            (map entry_of dependencies.now) [] (λ _. []) (answer_of a)) }
+        ensures agreement { IfOk result (λ b. (listed : Listed) → IsListingOf features.now listed
+            → AgreesWithAll F.Fn (filter_of self.now) (admitted (limit_of self.now) listed)
+            (map entry_of dependencies.now) (answer_of b)) }
+        ensures closure { IfOk result (λ a. (listed : Listed) (full : Answer)
+            → IsListingOf features.now listed → IsAnswerFor (limit_of self.now) listed
+            (map entry_of dependencies.now) [] (λ _. []) (λ _. true) full
+            → KeepsEnabling full.resolution (answer_of a).resolution) }
+        ensures nothing_lost { IfOk result (λ a. (listed : Listed) (full : Answer)
+            → IsListingOf features.now listed → IsAnswerFor (limit_of self.now) listed
+            (map entry_of dependencies.now) [] (λ _. []) (λ _. true) full
+            → LosesNothing full.resolution (answer_of a).resolution) }
         ensures listed { IfOk result (λ _. (listed : Listed) × IsListingOf features.now listed) }
         ensures keyed { IfOk result (λ a. IsKeyed a.features) }
         ensures targets { IfOk result (λ a. HaveTargets a.dependencies) }

@@ -15,7 +15,7 @@ returns-clause-agree g c =
     let called = answer_of c.in_ok-called.called in
     parsed_agree MAX_ITEMS m (λ _. false) called (answer_of c.in_ok-plain.plain)
     (parsed_at m (λ _. false) called made.limit
-    (c.in_ok-called.ensures.resolved (λ _. false) tells))
+    (c.in_ok-called.ensures.resolved.told (λ _. false) tells))
     (c.in_ok-plain.ensures.resolved (λ _. false) (λ n. refl))
 
 pub returns-clause-bins : goal.returns-clause-bins
@@ -26,5 +26,5 @@ returns-clause-bins g c =
     let called = answer_of c.in_ok-called.called in
     parsed_bins MAX_ITEMS m (λ _. false) called (answer_of c.in_ok-plain.plain)
     (parsed_at m (λ _. false) called made.limit
-    (c.in_ok-called.ensures.resolved (λ _. false) tells))
+    (c.in_ok-called.ensures.resolved.told (λ _. false) tells))
     (c.in_ok-plain.ensures.resolved (λ _. false) (λ n. refl))

@@ -17,6 +17,6 @@ returns-clause-documented g c =
     let resolved = c.in_ok-resolved.resolved in
     let answer : IsParsed MAX_ITEMS m (λ _. false) (answer_of resolved) =
     parsed_at m (λ _. false) (answer_of resolved) made.limit
-    (c.in_ok-resolved.ensures.resolved (λ _. false) tells) in
+    (c.in_ok-resolved.ensures.resolved.told (λ _. false) tells) in
     documented_is m resolved.features answer.kept.resolved c.in_ok-resolved.ensures.keyed
     answer.kept.marks c.in_ok-documented.field-0 c.in_ok-documented.ensures

@@ -21,7 +21,7 @@ returns-in_default-clause-answer g c =
       given = c.in_ok-_completed.ensures.given;
       resolved = resolved;
       parsed = parsed_at m (λ _. false) resolved made.limit
-          (c.in_ok-_completed.ensures.resolved (λ _. false) tells);
+          (c.in_ok-_completed.ensures.resolved.told (λ _. false) tells);
       exact = missing_in features c.args.name.now c.args.other.now missing;
     }
 
@@ -39,7 +39,7 @@ returns-clause-answer g c =
       given = c.in_ok-_completed.ensures.given;
       resolved = resolved;
       parsed = parsed_at m (λ _. false) resolved made.limit
-          (c.in_ok-_completed.ensures.resolved (λ _. false) tells);
+          (c.in_ok-_completed.ensures.resolved.told (λ _. false) tells);
       exact = told_in features c.args.name.now c.args.other.now c.in_ok-_completed.ensures.keyed
           c.in-Some.feature.now here c.in_ok-features.features c.in_ok-features.ensures.features
           c.contains_key.result c.contains_key.ensures;

@@ -17,5 +17,5 @@ returns-clause-resolved g c =
     let tells = tells_of _ _ _ keep made.kept
     (λ n r answer. answer.says.met ∙ ap keep answer.shows) in
     IfOk-weaker c.parse.result _ (λ a. IsParsed MAX_ITEMS m keep (answer_of a))
-    (λ a told. parsed_at m keep (answer_of a) made.limit (told keep tells))
+    (λ a by. parsed_at m keep (answer_of a) made.limit (by.told keep tells))
     c.parse.ensures.resolved

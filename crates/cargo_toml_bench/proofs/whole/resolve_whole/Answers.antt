@@ -16,5 +16,5 @@ returns-clause-resolved g c =
     let keep : Text → Bool = λ x. true in
     let tells = tells_of _ _ _ keep made.kept (λ n r answer. answer.says.met) in
     IfOk-weaker c.parse.result _ (λ a. IsParsed MAX_ITEMS m keep (answer_of a))
-    (λ a told. parsed_at m keep (answer_of a) made.limit (told keep tells))
+    (λ a by. parsed_at m keep (answer_of a) made.limit (by.told keep tells))
     c.parse.ensures.resolved

@@ -36,7 +36,7 @@ returns-in_default-clause-answer g c = λ listed is.
     let answer : IsAnswerFor MAX_ITEMS listed entries [] (λ _. []) (λ _. false)
     (answer_of c.in_ok-resolved.resolved) =
     answered_at (λ _. false) (answer_of c.in_ok-resolved.resolved) c.new.ensures.limit
-    listed entries [] (λ _. []) (c.in_ok-resolved.ensures.resolved (λ _. false) listed tells is) in
+    listed entries [] (λ _. []) ((c.in_ok-resolved.ensures.resolved listed is).told (λ _. false) tells) in
     no_feature t (λ r. IsTrue (is_removed t (λ _. false) r)) c.in_ok-resolved.resolved.features
     answer.kept.resolved c.args.name.now c.args.other.now
     (sym c.get.ensures.value ∙ ap option_copied c.in_default.is)
@@ -49,7 +49,7 @@ returns-clause-answer g c = λ listed is.
     let answer : IsAnswerFor MAX_ITEMS listed entries [] (λ _. []) (λ _. false)
     (answer_of c.in_ok-resolved.resolved) =
     answered_at (λ _. false) (answer_of c.in_ok-resolved.resolved) c.new.ensures.limit
-    listed entries [] (λ _. []) (c.in_ok-resolved.ensures.resolved (λ _. false) listed tells is) in
+    listed entries [] (λ _. []) ((c.in_ok-resolved.ensures.resolved listed is).told (λ _. false) tells) in
     let told = names_it t (λ r. IsTrue (is_removed t (λ _. false) r))
     c.in_ok-resolved.resolved.features answer.kept.resolved c.args.name.now c.args.other.now
     c.in-Some.feature.now (sym c.get.ensures.value ∙ ap option_copied c.in-Some.is) in

@@ -1,10 +1,11 @@
-use Rattle.std.proofs.Common.{false, ap, sym, ◌∙◌, subst}
+use Rattle.std.proofs.Common.{ap, sym, ◌∙◌, subst}
+use Rattle.cargo_toml.specs.Admitted.{admitted}
 use Rattle.cargo_toml.specs.Filtered.{limit_of}
 use Rattle.cargo_toml.specs.Manifests.{manifest_meaning}
 use Rattle.cargo_toml.specs.OwnBins.{own_of}
-use Rattle.cargo_toml.specs.Parsed.{IsAnswerFor, parsed_entries, requirements}
+use Rattle.cargo_toml.specs.Parsed.{parsed_entries, requirements}
+use Rattle.cargo_toml.specs.Removed.{IsAnswerBy}
 use Rattle.cargo_toml.specs.Views.{answer_of}
-use Rattle.cargo_toml_caller.proofs.Unfiltered.{keeps_none}
 use Rattle.cargo_toml_caller.proofs.custom.resolve_twice.Goals as goal
 
 pub returns-clause-agree : goal.returns-clause-agree
@@ -14,9 +15,7 @@ returns-clause-agree g c = λ is same.
     let a = answer_of c.in_ok-parsed.parsed in
     let made = c.new-resolver.ensures in
     let limit = limit_of c.new-resolver.result in
-    let tells = keeps_none _ c.new-resolver.result.should_keep_hidden_feature made.unfiltered in
     let entries = same ∙ ap (λ n. parsed_entries n m) (sym made.limit) in
-    c.in_ok-custom.ensures.agreement (λ _. false) m.features tells is
-    m.feature_details own a
-    (subst (λ es. IsAnswerFor limit m.features es m.feature_details own (λ _. false) a) (sym entries)
-    (c.in_ok-parsed.ensures.resolved (λ _. false) tells))
+    (c.in_ok-custom.ensures.agreement m.features is).by_filter m.feature_details own a
+    (subst (λ es. IsAnswerBy _ _ (admitted limit m.features) es m.feature_details own a)
+    (sym entries) c.in_ok-parsed.ensures.resolved)

@@ -23,7 +23,7 @@ returns-in_default-clause-answer g c =
     let resolved = c.in_ok-resolved.resolved in
     let answer : IsParsed MAX_ITEMS m (λ _. false) (answer_of resolved) =
     parsed_at (λ _. false) (answer_of resolved) c.new.ensures.limit m
-    (c.in_ok-resolved.ensures.resolved (λ _. false) tells) in
+    (c.in_ok-resolved.ensures.resolved.told (λ _. false) tells) in
     let es : List Entry =
     entries_at (admitted MAX_ITEMS m.features) (parsed_entries MAX_ITEMS m) c.args.key.now in
     let missing : value_at resolved.dependencies c.args.key.now ≡ None =
@@ -39,7 +39,7 @@ returns-clause-answer g c =
     let resolved = c.in_ok-resolved.resolved in
     let answer : IsParsed MAX_ITEMS m (λ _. false) (answer_of resolved) =
     parsed_at (λ _. false) (answer_of resolved) c.new.ensures.limit m
-    (c.in_ok-resolved.ensures.resolved (λ _. false) tells) in
+    (c.in_ok-resolved.ensures.resolved.told (λ _. false) tells) in
     let es : List Entry =
     entries_at (admitted MAX_ITEMS m.features) (parsed_entries MAX_ITEMS m) c.args.key.now in
     let here : value_at resolved.dependencies c.args.key.now ≡ Some c.in-Some.dependency.now =

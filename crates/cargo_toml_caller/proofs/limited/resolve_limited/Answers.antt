@@ -2,9 +2,10 @@ use Rattle.std.proofs.Common.{Bool, bytes_eq, codes, ap, ◌∙◌}
 use Rattle.std.proofs.lemmas.Result.{IfOk-weaker}
 use Rattle.cargo_toml.specs.Action.{Text}
 use Rattle.cargo_toml.specs.Manifests.{manifest_meaning}
-use Rattle.cargo_toml.specs.Parsed.{AreBinsComplete, IsParsed}
+use Rattle.cargo_toml.specs.Parsed.{AreBinsComplete, IsParsed, parsed_table}
+use Rattle.cargo_toml.specs.Removal.{is_removed}
 use Rattle.cargo_toml.specs.Views.{answer_of}
-use Rattle.cargo_toml_caller.proofs.AtLimit.{complete_at, parsed_at}
+use Rattle.cargo_toml_caller.proofs.AtLimit.{both_told, complete_at, parsed_at}
 use Rattle.cargo_toml_caller.proofs.Kept.{tells_of}
 use Rattle.cargo_toml_caller.proofs.limited.resolve_limited.Goals as goal
 
@@ -17,7 +18,7 @@ returns-clause-resolved g c =
     let tells = tells_of _ _ _ keep (limited.filter ∙ made.kept)
     (λ n r answer. answer.says.met ∙ ap keep answer.shows) in
     IfOk-weaker c.parse.result _ (λ a. IsParsed c.args.max_items m keep (answer_of a))
-    (λ a told. parsed_at keep (answer_of a) limited.limit m (told keep tells))
+    (λ a by. parsed_at keep (answer_of a) limited.limit m (by.told keep tells))
     c.parse.ensures.resolved
 
 pub returns-clause-complete_bins : goal.returns-clause-complete_bins
@@ -28,6 +29,7 @@ returns-clause-complete_bins g c =
     let keep : Text → Bool = λ x. bytes_eq x (codes "_internal") in
     let tells = tells_of _ _ _ keep (limited.filter ∙ made.kept)
     (λ n r answer. answer.says.met ∙ ap keep answer.shows) in
-    IfOk-weaker c.parse.result _ (λ a. AreBinsComplete c.args.max_items m keep (answer_of a))
-    (λ a told. complete_at keep (answer_of a) limited.limit m (told keep tells))
-    c.parse.ensures.complete_bins
+    both_told c.parse.result _ _ (λ a. AreBinsComplete c.args.max_items m
+    (is_removed (parsed_table c.args.max_items m) keep) (answer_of a))
+    (λ a by are. complete_at keep (answer_of a) limited.limit m (by.told keep tells) are)
+    c.parse.ensures.resolved c.parse.ensures.complete_bins

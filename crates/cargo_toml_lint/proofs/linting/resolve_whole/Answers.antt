@@ -15,5 +15,5 @@ returns-clause-resolved g c =
     let keep : Text → Bool = λ x. true in
     let tells = tells_of _ _ _ keep (limited.filter ∙ made.kept) (λ n r answer. answer.says.met) in
     IfOk-weaker c.parse.result _ (λ a. IsParsed c.args.limit m keep (answer_of a))
-    (λ a told. parsed_at keep (answer_of a) limited.limit m (told keep tells))
+    (λ a by. parsed_at keep (answer_of a) limited.limit m (by.told keep tells))
     c.parse.ensures.resolved

@@ -9,7 +9,7 @@ use Rattle.cargo_toml_plain.proofs.names.hidden_set.Goals as goal
 pub loop-name-preserved-in_ok-insert : goal.loop-name-preserved-in_ok-insert
 loop-name-preserved-in_ok-insert g c = (
   λ keep tells f.
-      let hidden : is_hidden keep c.in-Some.name.now.now ≡ true = sym (c.is_hidden.ensures keep tells) ∙ c.if-is_hidden.true in
+      let hidden : is_hidden keep c.in-Some.name.now.now ≡ true = sym (c.is_hidden.ensures.told keep tells) ∙ c.if-is_hidden.true in
       put keep f c.loop-name.names c.insert.new.self c.in-Some.name.now c.in-Some._feature.now c.loop-name.name-iterator c.next.new.self
       (rest_more deref_pair _ _ _ (c.in-Some.name, c.in-Some._feature) c.in-Some.is c.next.ensures.steps) hidden
       (inserted c.in-Some.name.now.now c.loop-name.names c.insert.new.self c.in_ok-insert.ensures.updates) ∙ c.loop-name.invariant.0 keep tells f,

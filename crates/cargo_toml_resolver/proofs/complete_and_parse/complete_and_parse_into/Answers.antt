@@ -1,12 +1,10 @@
-use Rattle.std.proofs.Common.{Bool, inl, refl}
-use Rattle.cargo_toml_graph.specs.Action.{Text}
-use Rattle.cargo_toml_hidden.specs.Filter.{Tells}
+use Rattle.std.proofs.Common.{inl, refl}
 use Rattle.cargo_toml_manifest.specs.Manifests.{manifest_meaning}
 use Rattle.cargo_toml_features.specs.FirstTarget.{HaveTargets}
 use Rattle.cargo_toml_features.specs.Reached.{IsKeyed}
 use Rattle.cargo_toml_features.specs.Views.{answer_of}
 use Rattle.cargo_toml_resolver.specs.Filtered.{filter_of, limit_of}
-use Rattle.cargo_toml_resolver.specs.Parsed.{IsParsed}
+use Rattle.cargo_toml_resolver.specs.Parsed.{IsParsedBy}
 use Rattle.cargo_toml_resolver.proofs.Lent.{refused_alike, given_alike, is_answered, outcome_with, wrapped_with, resolved_with}
 use Rattle.cargo_toml_resolver.proofs.complete_and_parse.complete_and_parse_into.Goals as goal
 
@@ -45,9 +43,9 @@ returns g c =
         memory = c.parse.ensures.refused;
         outcome = outcome_with _ (λ m. meaning m.now) _ _ _ c.parse.result refl c.in-Ok.ensures.outcome c.parse.ensures.refused;
         wrapped = wrapped_with _ _ c.parse.result (λ e memory. inl memory) c.parse.ensures.refused;
-        resolved = resolved_with (λ m a. (keep : Text → Bool) →
-            Tells g.F.Fn (filter_of c.args.resolver.now) keep →
-            IsParsed (limit_of c.args.resolver.now) (meaning m.now) keep (answer_of a))
+        resolved = resolved_with (λ m a.
+            IsParsedBy (limit_of c.args.resolver.now) (meaning m.now)
+            g.F.Fn (filter_of c.args.resolver.now) (answer_of a))
             _ c.parse.result c.parse.ensures.resolved;
         keyed = resolved_with (λ _ a. IsKeyed a.features) _ c.parse.result c.parse.ensures.keyed;
         targets = resolved_with (λ _ a. HaveTargets a.dependencies) _ c.parse.result c.parse.ensures.targets;

@@ -40,7 +40,7 @@ use denote.Triple.Spec.{triple_of}
 use denote.Triple.Table.{framed}
 use denote.Triple.Walked.{Stays, stay_dropped, walk_of, Goes-dropped}
 use denote.Builtin.{unit}
-use Rattle.std.specs.Prelude.{OnErr, OnOk, IfErr, IfOk, Err, Bool, false, IfSome, option_map}
+use Rattle.std.specs.Prelude.{OnErr, OnOk, IfErr, IfOk, Err, false, IfSome, option_map}
 use Rattle.std.specs.contracts.result.Result as Result
 use Rattle.std.proofs.result.Result.TheLaws.{the_row_laws as result_laws}
 use Rattle.cargo_toml_features.proofs.features.Features.TheLaws as Features-laws
@@ -70,7 +70,7 @@ use Rattle.cargo_toml_resolver.specs.contracts.features.Resolver.complete_and_pa
 use Rattle.cargo_toml_resolver.proofs.features.Resolver.complete_and_parse.Statement.{statement}
 use Rattle.cargo_toml_resolver.proofs.features.Resolver.complete_and_parse.Code as code
 use Rattle.cargo_toml_graph.specs.Action.{Text}
-use Rattle.cargo_toml_hidden.specs.Filter.{HasNameFilter, Tells}
+use Rattle.cargo_toml_hidden.specs.Filter.{HasNameFilter}
 use Rattle.cargo_toml_manifest.specs.Choosing.{handed_of, RootsTold}
 use Rattle.cargo_toml_manifest.specs.Manifests.{ManifestMeaning, manifest_meaning}
 use Rattle.cargo_toml_manifest.specs.Told.{heard as heard_of}
@@ -79,7 +79,7 @@ use Rattle.cargo_toml_manifest.specs.Refusing.{IsRefusedBy, MayLose}
 use Rattle.cargo_toml_manifest.specs.Inheriting.{needs}
 use Rattle.cargo_toml_package.specs.Filled.{IsFilled}
 use Rattle.cargo_toml_resolver.specs.Filtered.{filter_of, limit_of}
-use Rattle.cargo_toml_resolver.specs.Parsed.{IsParsed}
+use Rattle.cargo_toml_resolver.specs.Parsed.{IsParsedBy}
 use Rattle.cargo_toml_features.specs.FirstTarget.{HaveTargets}
 use Rattle.cargo_toml_features.specs.Reached.{IsKeyed}
 use Rattle.cargo_toml_features.specs.Views.{answer_of}
@@ -212,9 +212,8 @@ complete_and_parse_spec 𝓤 𝓛 𝓜 𝓡 wired F S I X N P Q LF LS LI LX LN L
     calls_at ! (framed 𝓤 H 𝓜 𝓣) G3 (resolved-met.met 𝓤 𝓛 𝓜 𝓡 (code.calls-cargo_toml_resolver::features::Resolver::resolved 𝓡.env wired) F S I X LF LS LI LX f df dfm dfo b' db h dh c dc drF drS drI mF mFm mFo mB mH mC gF gS gI) z3
     (and_then ! (get ! refl) (and_then ! (get ! refl) (and_then ! (get ! refl) (and_then ! (get ! refl) (no_more !))))) (λ v.
     let End = type_at T.signature.result κs in
-    let Parsed : End.Denot → Type 0 = λ y. IfOk y (λ w. (keep : Text → Bool) →
-    Tells f (filter_of r.now) keep →
-    IsParsed (limit_of r.now) (manifest_meaning (λ m. m) w.0.now) keep (answer_of w.1)) in
+    let Parsed : End.Denot → Type 0 = λ y. IfOk y (λ w.
+    IsParsedBy (limit_of r.now) (manifest_meaning (λ m. m) w.0.now) f (filter_of r.now) (answer_of w.1)) in
     let Keyed : End.Denot → Type 0 = λ y. IfOk y (λ w. IsKeyed w.1.features) in let Targets : End.Denot → Type 0 = λ y. IfOk y (λ w. HaveTargets w.1.dependencies) in
     use1 𝓛 (later (some (λ (y : End.Denot). ((t0 ⊛ t1 ⊛ t2 ⊛ t5 ⊛ t6 ⊛ t7 ⊛ t8 ⊛ ‵ ftrue) ⊛ ‵ (End.own_val y (v ∷ []))) ⊛ some (λ (ws' : Lasts E3 z3.0.0 z3.0.3). ‵ (lasts E3 z3.0.0 z3.0.3 ws') ⊛
     raw (fact 𝓤 (IfErr d (λ e. y ≡ Err e))) ⊛ raw (fact 𝓤 (OnOk d (IfErr y (λ e. e ≡ Memory)))) ⊛ raw (fact 𝓤 (IfOk y (λ w. w.0 ≡ l))) ⊛ raw (fact 𝓤 (Parsed y)) ⊛ raw (fact 𝓤 (Keyed y)) ⊛ raw (fact 𝓤 (Targets y)))))) (id⊢ 𝓤 _) $

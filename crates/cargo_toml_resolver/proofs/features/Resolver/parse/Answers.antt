@@ -1,4 +1,4 @@
-use Rattle.std.proofs.Common.{◌≡◌, ℕ, Bool, List, map, sym, ap, ap₂, subst, ◌∙◌}
+use Rattle.std.proofs.Common.{◌≡◌, ℕ, List, Bor, Option, map, sym, ap, ap₂, subst, ◌∙◌}
 use Rattle.cargo_toml_graph.specs.Action.{Text}
 use Rattle.cargo_toml_graph.specs.Admitted.{Listed, admitted}
 use Rattle.cargo_toml_manifest.specs.Manifests.{ManifestMeaning, manifest_meaning}
@@ -7,29 +7,31 @@ use Rattle.cargo_toml_resolve.specs.OwnBins.{own_of, requirement_of}
 use Rattle.cargo_toml_features.specs.Views.{listed_of, answer_of, entry_of}
 use Rattle.cargo_toml_features.specs.Marks.{Details, details_listed, details_of}
 use Rattle.cargo_toml_features.specs.Recorded.{Entry}
-use Rattle.cargo_toml_features.specs.Resolved.{Answer, IsAnswer}
-use Rattle.cargo_toml_features.proofs.Marked.{told_by_listed}
-use Rattle.cargo_toml_resolver.specs.Filtered.{limit_of}
-use Rattle.cargo_toml_resolver.specs.Parsed.{IsParsed, parsed_entries, requirements}
+use Rattle.cargo_toml_features.specs.Resolved.{Answer}
+use Rattle.cargo_toml_resolver.specs.Filtered.{filter_of, limit_of}
+use Rattle.cargo_toml_resolver.specs.Parsed.{IsParsedBy, parsed_entries, parsed_table, requirements}
+use Rattle.cargo_toml_hidden.specs.Filter.{Asked}
+use Rattle.cargo_toml_hidden.specs.Removed.{IsAnswerBy, IsRemovedBy}
 use Rattle.cargo_toml_hidden.proofs.AgainstAll.{none_left, keeps_enabling, loses_nothing}
 use Rattle.cargo_toml_resolver.proofs.CompleteBins.{complete_bins}
+use Rattle.cargo_toml_resolver.proofs.ToldBy.{answer_by_listed}
 use Rattle.cargo_toml_resolver.proofs.features.Resolver.parse.Goals as goal
 
 -- the answer for what stands in a manifest is the answer for the manifest
-module _ {M : Type 0} (limit : ℕ) (m : ManifestMeaning M) (keep : Text → Bool) (a : Answer) where
+module _ {M F : Type 0} (limit : ℕ) (m : ManifestMeaning M) (g : Asked F) (filter : Option (Bor F)) (a : Answer) where
   parsed_from : (fs : Listed) (es : List Entry) (ds : Details) (rs : List (Text × Text)) →
       fs ≡ admitted limit m.features → es ≡ parsed_entries limit m →
       ds ≡ details_listed fs m.feature_details → rs ≡ requirements m →
-      IsAnswer fs es ds (own_of rs) keep a → IsParsed limit m keep a
+      IsAnswerBy g filter fs es ds (own_of rs) a → IsParsedBy limit m g filter a
   parsed_from fs es ds rs listed entries told required is =
-      subst (λ xs. IsAnswer xs (parsed_entries limit m) m.feature_details (own_of (requirements m)) keep a) listed
-      (told_by_listed fs (parsed_entries limit m) m.feature_details (own_of (requirements m)) keep a
-      (subst (λ xs. IsAnswer fs xs (details_listed fs m.feature_details) (own_of (requirements m)) keep a) entries
-      (subst (λ xs. IsAnswer fs es xs (own_of (requirements m)) keep a) told
-      (subst (λ xs. IsAnswer fs es ds (own_of xs) keep a) required is))))
+      subst (λ xs. IsAnswerBy g filter xs (parsed_entries limit m) m.feature_details (own_of (requirements m)) a) listed
+      (answer_by_listed g filter fs (parsed_entries limit m) m.feature_details (own_of (requirements m)) a
+      (subst (λ xs. IsAnswerBy g filter fs xs (details_listed fs m.feature_details) (own_of (requirements m)) a) entries
+      (subst (λ xs. IsAnswerBy g filter fs es xs (own_of (requirements m)) a) told
+      (subst (λ xs. IsAnswerBy g filter fs es ds (own_of xs) a) required is))))
 
 pub returns-clause-resolved : goal.returns-clause-resolved
-returns-clause-resolved g c = λ keep tells.
+returns-clause-resolved g c =
     let limit = limit_of c.args.self.now in
     let m = manifest_meaning (λ m. m) c.args.manifest.now in
     let listed : listed_of c.as_slice.result.now ≡ admitted limit m.features =
@@ -41,34 +43,37 @@ returns-clause-resolved g c = λ keep tells.
     subst (λ ls. details_of ls ≡ details_listed (listed_of ls) m.feature_details) (sym c.as_slice.ensures.value) c.in_ok-listings.ensures.details in
     let required : map requirement_of c.as_slice-3.result.now ≡ requirements m =
     ap (map requirement_of) c.as_slice-3.ensures.value ∙ c.in_ok-requirements.ensures in
-    parsed_from limit m keep (answer_of c.in_ok-resolve.field-0) (listed_of c.as_slice.result.now)
+    parsed_from limit m g.F.Fn (filter_of c.args.self.now) (answer_of c.in_ok-resolve.field-0) (listed_of c.as_slice.result.now)
     (map entry_of c.as_slice-2.result.now) (details_of c.as_slice.result.now) (map requirement_of c.as_slice-3.result.now)
-    listed entries told required (c.in_ok-resolve.ensures.resolved keep tells)
+    listed entries told required c.in_ok-resolve.ensures.resolved
 
 pub returns-clause-no_removed_name : goal.returns-clause-no_removed_name
-returns-clause-no_removed_name g c = λ keep tells.
+returns-clause-no_removed_name g c =
     let limit = limit_of c.args.self.now in
     let m = manifest_meaning (λ m. m) c.args.manifest.now in
-    none_left (admitted limit m.features) (parsed_entries limit m) m.feature_details (own_of (requirements m)) keep
-    (answer_of c.in_ok-resolve.field-0) (returns-clause-resolved g c keep tells)
+    none_left (admitted limit m.features) (parsed_entries limit m) m.feature_details (own_of (requirements m))
+    (IsRemovedBy g.F.Fn (filter_of c.args.self.now) (parsed_table limit m)) (answer_of c.in_ok-resolve.field-0) (returns-clause-resolved g c).answer
 
 pub returns-clause-closure : goal.returns-clause-closure
-returns-clause-closure g c = λ keep full tells all.
+returns-clause-closure g c = λ full all.
     let limit = limit_of c.args.self.now in
     let m = manifest_meaning (λ m. m) c.args.manifest.now in
     keeps_enabling (admitted limit m.features) (parsed_entries limit m) m.feature_details (own_of (requirements m))
-    keep full (answer_of c.in_ok-resolve.field-0) all (returns-clause-resolved g c keep tells)
+    (IsRemovedBy g.F.Fn (filter_of c.args.self.now) (parsed_table limit m)) (answer_of c.in_ok-resolve.field-0) (returns-clause-resolved g c).answer
+    m.feature_details (own_of (requirements m)) full all
 
 pub returns-clause-nothing_lost : goal.returns-clause-nothing_lost
-returns-clause-nothing_lost g c = λ keep full tells all.
+returns-clause-nothing_lost g c = λ full all.
     let limit = limit_of c.args.self.now in
     let m = manifest_meaning (λ m. m) c.args.manifest.now in
     loses_nothing (admitted limit m.features) (parsed_entries limit m) m.feature_details (own_of (requirements m))
-    keep full (answer_of c.in_ok-resolve.field-0) all (returns-clause-resolved g c keep tells)
+    (IsRemovedBy g.F.Fn (filter_of c.args.self.now) (parsed_table limit m)) (answer_of c.in_ok-resolve.field-0) (returns-clause-resolved g c).answer
+    m.feature_details (own_of (requirements m)) full all
 
 pub returns-clause-complete_bins : goal.returns-clause-complete_bins
-returns-clause-complete_bins g c = λ keep tells few f there.
+returns-clause-complete_bins g c =
     let limit = limit_of c.args.self.now in
     let m = manifest_meaning (λ m. m) c.args.manifest.now in
-    complete_bins (admitted limit m.features) (parsed_entries limit m) m.feature_details (requirements m) keep
-    (answer_of c.in_ok-resolve.field-0) (returns-clause-resolved g c keep tells) few f there
+    complete_bins (admitted limit m.features) (parsed_entries limit m) m.feature_details (requirements m)
+    (IsRemovedBy g.F.Fn (filter_of c.args.self.now) (parsed_table limit m)) (answer_of c.in_ok-resolve.field-0) (λ r gone. gone.there)
+    (returns-clause-resolved g c).answer

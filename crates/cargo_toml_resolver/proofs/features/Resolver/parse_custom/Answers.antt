@@ -2,26 +2,41 @@ use Rattle.std.proofs.Common.{◌≡◌, [], map, sym, ap, subst, ◌∙◌}
 use Rattle.cargo_toml_graph.specs.Admitted.{Listed, admitted}
 use Rattle.cargo_toml_features.specs.Marks.{details_listed, details_of}
 use Rattle.cargo_toml_features.specs.Views.{listed_of, answer_of, entry_of}
-use Rattle.cargo_toml_features.specs.Resolved.{IsAnswer}
-use Rattle.cargo_toml_features.proofs.Agreement.{settled}
-use Rattle.cargo_toml_features.proofs.Marked.{told_by_listed}
-use Rattle.cargo_toml_resolver.specs.Filtered.{limit_of}
+use Rattle.cargo_toml_features.specs.Resolved.{table_of}
+use Rattle.cargo_toml_hidden.specs.Removed.{IsAnswerBy, IsRemovedBy}
+use Rattle.cargo_toml_hidden.proofs.AgainstAll.{agrees, keeps_enabling, loses_nothing}
+use Rattle.cargo_toml_resolver.specs.Filtered.{filter_of, limit_of}
+use Rattle.cargo_toml_resolver.proofs.ToldBy.{answer_by_listed}
 use Rattle.cargo_toml_resolver.proofs.features.Resolver.parse_custom.Goals as goal
 
 pub returns-clause-resolved : goal.returns-clause-resolved
-returns-clause-resolved g c = λ keep listed tells is.
+returns-clause-resolved g c = λ listed is.
     let a = answer_of c.in_ok-resolve.field-0 in
+    let filter = filter_of c.args.self.now in
     let es = map entry_of c.args.dependencies.now in
     let ls = c.as_slice-listings.result.now in
     let told : details_of ls ≡ details_listed (listed_of ls) [] =
     subst (λ xs. details_of xs ≡ details_listed (listed_of xs) []) (sym c.as_slice-listings.ensures.value) c.in_ok-listings.ensures.details in
-    subst (λ (fs : Listed). IsAnswer fs es [] (λ _. []) keep a)
+    subst (λ (fs : Listed). IsAnswerBy g.F.Fn filter fs es [] (λ _. []) a)
     (ap listed_of c.as_slice-listings.ensures.value ∙ c.in_ok-listings.ensures.all listed is)
-    (told_by_listed (listed_of ls) es [] (λ _. []) keep a
-    (subst (λ ds. IsAnswer (listed_of ls) es ds (λ _. []) keep a) told (c.in_ok-resolve.ensures.resolved keep tells)))
+    (answer_by_listed g.F.Fn filter (listed_of ls) es [] (λ _. []) a
+    (subst (λ ds. IsAnswerBy g.F.Fn filter (listed_of ls) es ds (λ _. []) a) told c.in_ok-resolve.ensures.resolved))
 
 pub returns-clause-agreement : goal.returns-clause-agreement
-returns-clause-agreement g c = λ keep listed tells is details own a answers.
-    settled (admitted (limit_of c.args.self.now) listed) (map entry_of c.args.dependencies.now)
-    details [] own (λ _. []) keep a (answer_of c.in_ok-resolve.field-0) answers
-    (returns-clause-resolved g c keep listed tells is)
+returns-clause-agreement g c = λ listed is.
+    agrees (admitted (limit_of c.args.self.now) listed) (map entry_of c.args.dependencies.now)
+    g.F.Fn (filter_of c.args.self.now) (answer_of c.in_ok-resolve.field-0) [] (λ _. []) (returns-clause-resolved g c listed is)
+
+pub returns-clause-closure : goal.returns-clause-closure
+returns-clause-closure g c = λ listed full is all.
+    let fs = admitted (limit_of c.args.self.now) listed in
+    let es = map entry_of c.args.dependencies.now in
+    keeps_enabling fs es [] (λ _. []) (IsRemovedBy g.F.Fn (filter_of c.args.self.now) (table_of fs es))
+    (answer_of c.in_ok-resolve.field-0) (returns-clause-resolved g c listed is).answer [] (λ _. []) full all
+
+pub returns-clause-nothing_lost : goal.returns-clause-nothing_lost
+returns-clause-nothing_lost g c = λ listed full is all.
+    let fs = admitted (limit_of c.args.self.now) listed in
+    let es = map entry_of c.args.dependencies.now in
+    loses_nothing fs es [] (λ _. []) (IsRemovedBy g.F.Fn (filter_of c.args.self.now) (table_of fs es))
+    (answer_of c.in_ok-resolve.field-0) (returns-clause-resolved g c listed is).answer [] (λ _. []) full all

@@ -1,0 +1,78 @@
+//! A manifest's features by a filter of which nothing is known but that it gives each name one
+//! answer.
+ghost use Rattle.std.specs.Prelude.{◌≡◌, ◌↔◌, Some, true, IfErr, IfOk, IsSome, IsTrue};
+ghost use Rattle.cargo_toml.specs.Action.{Text};
+ghost use Rattle.cargo_toml.specs.Error.{Memory};
+ghost use Rattle.cargo_toml.specs.Filter.{Answers, HasNameFilter, IsHiddenName, IsNameFilter};
+ghost use Rattle.cargo_toml.specs.Filtered.{filter_of, limit_of};
+ghost use Rattle.cargo_toml.specs.Kept.{KeepsEnabling, LosesNothing, NoneIsLeft};
+ghost use Rattle.cargo_toml.specs.Limits.{MAX_ITEMS};
+ghost use Rattle.cargo_toml.specs.Manifests.{manifest_meaning};
+ghost use Rattle.cargo_toml.specs.Parsed.{IsParsed, parsed_table};
+ghost use Rattle.cargo_toml.specs.Removed.{IsRemovedBy};
+ghost use Rattle.cargo_toml.specs.Views.{answer_of};
+
+use crate::whole::{Answer, resolve_whole};
+use cargo_toml::features::Resolver;
+use cargo_toml::{Error, Manifest};
+use std::alloc::Global;
+use std::hash::BuildHasherDefault;
+
+/// Resolves the features of a manifest beside `whole`, an answer with none removed at the same
+/// limit.
+///
+/// Something stands in the answer for exactly the features that the filter refuses. It keeps each
+/// hidden one that is left. No name of a removed feature is left, and what is left enables what
+/// it does in `whole`. The one refusal is [`Error::Memory`].
+pub fn resolve_beside<'m, M, F: Fn(&str) -> bool>(
+    alloc: Global,
+    resolver: &Resolver<'_, F>,
+    manifest: &'m Manifest<M>,
+    whole: &Answer<'_>,
+) -> Result<Answer<'m>, Error>
+    requires filter { HasNameFilter F.Fn (filter_of resolver.now) }
+    requires whole { IsParsed (limit_of resolver.now) (manifest_meaning (λ m. m) manifest.now)
+        (λ _. true) (answer_of whole.now) }
+    ensures removed { IfOk result (λ a. (r : Text) → IsSome ((answer_of a).redirects r)
+        ↔ IsRemovedBy F.Fn (filter_of resolver.now)
+        (parsed_table (limit_of resolver.now) (manifest_meaning (λ m. m) manifest.now)) r) }
+    ensures kept { IfOk result (λ a. (f : Text) → IsTrue ((answer_of a).resolution.table.has f)
+        → IsHiddenName f → Answers F.Fn (filter_of resolver.now) f true) }
+    ensures no_removed_name { IfOk result (λ a.
+        NoneIsLeft (λ r. IsSome ((answer_of a).redirects r)) (answer_of a).resolution) }
+    ensures closure { IfOk result (λ a.
+        KeepsEnabling (answer_of whole.now).resolution (answer_of a).resolution) }
+    ensures nothing_lost { IfOk result (λ a.
+        LosesNothing (answer_of whole.now).resolution (answer_of a).resolution) }
+    ensures refused { IfErr result (λ e. e ≡ Memory) }
+{
+    let resolved = resolver.parse(alloc, manifest)?;
+    Ok(resolved)
+}
+
+/// Resolves the features of a manifest twice: first with none removed, then by this filter.
+///
+/// The second answer has no name of a feature that the filter refuses, and what it has enables what
+/// it does in the first. The one refusal is [`Error::Memory`].
+pub fn resolve_by<'m, M, F: Fn(&str) -> bool>(
+    alloc: Global,
+    manifest: &'m Manifest<M>,
+    filter: &F,
+) -> Result<(Answer<'m>, Answer<'m>), Error>
+    requires { IsNameFilter F.Fn filter.now }
+    ensures removed { IfOk result (λ p. (r : Text) → IsSome ((answer_of p.1).redirects r)
+        ↔ IsRemovedBy F.Fn (Some filter.entry)
+        (parsed_table MAX_ITEMS (manifest_meaning (λ m. m) manifest.now)) r) }
+    ensures no_removed_name { IfOk result (λ p.
+        NoneIsLeft (λ r. IsSome ((answer_of p.1).redirects r)) (answer_of p.1).resolution) }
+    ensures closure { IfOk result
+        (λ p. KeepsEnabling (answer_of p.0).resolution (answer_of p.1).resolution) }
+    ensures nothing_lost { IfOk result
+        (λ p. LosesNothing (answer_of p.0).resolution (answer_of p.1).resolution) }
+    ensures refused { IfErr result (λ e. e ≡ Memory) }
+{
+    let whole = resolve_whole(alloc, manifest)?;
+    let resolver = Resolver::new_with_hasher_and_filter(BuildHasherDefault::new(), filter);
+    let left = resolve_beside(alloc, &resolver, manifest, &whole)?;
+    Ok((whole, left))
+}

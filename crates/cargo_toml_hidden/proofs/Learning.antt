@@ -1,10 +1,15 @@
 -- Enablers that features learn, place by place.
-use Rattle.std.proofs.Common.{◌≡◌, ◌≢◌, ◌↔◌, ◌⊎◌, ◌<◌, ◌+◌, ◌||◌, ◌∷◌, ℕ, suc, Bool, true, false, cond, List, [], length, map, get_or, set, slice_get, Option, Some, None, Bor, IsTrue, IfSome, is_some, bytes_eq, refl, sym, ap, subst, inl, inr, ◌∙◌, arith}
+use Rattle.std.proofs.Common.{◌≡◌, ◌≢◌, ◌↔◌, ◌⊎◌, ◌<◌, ◌+◌, ◌||◌, ◌∷◌, ℕ, suc, Bool, true, false, cond, List, [], length, map, get_or, set, slice_get, Option, Some, None, Bor, IsTrue, IfSome, is_some, option_map, bytes_eq, refl, sym, ap, subst, inl, inr, ◌∙◌, arith}
 use Rattle.std.proofs.lemmas.Bool.{cases_eq, false≢true, or_cases, or_left, or_right}
 use Rattle.std.proofs.lemmas.List.{get_or-map, length-map}
 use Rattle.std.proofs.lemmas.Option.{same_Some, slice_get-get_or, slice_get_read, slice_get_within}
 use Rattle.std.proofs.lemmas.Slice.Eq.{bytes_eq-Decides}
 use Rattle.std.specs.BTreeSet.{BTreeSet}
+use Rattle.std.specs.BTreeSet.{btree_set_len}
+use Rattle.std.specs.BTreeMap.{btree_map_len, is_at}
+use Rattle.std.specs.Cmp.Lexicographic.{slice_cmp}
+use Rattle.std.specs.Map.{lookup}
+use Rattle.std.specs.Ordering.{nat_cmp}
 use Rattle.std.specs.HashMap.{HashMap}
 use Rattle.std.specs.Option.{option_map_or}
 use Rattle.cargo_toml_walk.proofs.Places.{Ascends}
@@ -13,10 +18,11 @@ use Rattle.cargo_toml_graph.specs.Action.{Text}
 use Rattle.cargo_toml_graph.specs.Graph.{Edge, IsPlain, IsUnremoved, Table}
 use Rattle.cargo_toml_graph.specs.Reach.{Among}
 use Rattle.cargo_toml_walk.specs.Numbered.{text_at}
+use Rattle.cargo_toml_features.specs.declared.features.DepAction.{DepAction}
 use Rattle.cargo_toml_features.specs.declared.features.Feature.{Feature}
 use Rattle.cargo_toml_features.specs.InOrder.{AreInOrder, AreTable, HaveNoEnablers, feature_at, names_of, resolution_among}
 use Rattle.cargo_toml_features.specs.Marks.{Marks, marks_of}
-use Rattle.cargo_toml_features.specs.Views.{action_at, has_text, value_at}
+use Rattle.cargo_toml_features.specs.Views.{action_at, action_of, has_text, value_at}
 use Rattle.cargo_toml_features.proofs.TextKeys.{none_in}
 use Rattle.cargo_toml_hidden.specs.Enabling.{AreSameButEnablers, Enables, IsSameButEnablers, LeadsTo, LearnEach, Learns}
 use Rattle.cargo_toml_hidden.specs.KeptFeatures.{IsNamedAlike, own_bins}
@@ -110,6 +116,21 @@ text_gained old new source h x = (
   λ y. elim (or_cases _ _ (sym (h x) ∙ y)) [ inl o ↦ inl o | inr b ↦ inr ((bytes_eq-Decides x source).0 b) ],
   λ s. h x ∙ elim s [ inl o ↦ or_left _ _ o | inr is ↦ or_right (has_text old x) _ ((bytes_eq-Decides x source).1 is) ],
 )
+
+-- what names nothing and acts on nothing leads nowhere
+pub led_nowhere : (v : Feature) → btree_set_len v.enables_features ≡ 0 → btree_map_len v.enables_deps ≡ 0 → (x : Text) → ¬ LeadsTo v x
+led_nowhere v names actions x l = elim l [
+  | inl n ↦ absurd (false≢true (sym (none_in v.enables_features (nil v.enables_features.keys names) x) ∙ n))
+  | inr p ↦ no_action v.enables_deps.entries actions x p
+]
+  where
+    nil : (ks : List (Bor Text)) → length ks ≡ 0 → ks ≡ []
+    nil [] e = refl
+    nil (k ∷ ks) e = absurd (omega arith)
+
+    no_action : (es : List (Bor Text × DepAction)) → length es ≡ 0 → (k : Text) → IsPlain (option_map action_of (lookup (is_at (λ q. slice_cmp nat_cmp k q.now)) es)) → ⊥
+    no_action [] none k p = p
+    no_action (e ∷ es) none k p = absurd (omega arith)
 
 pub nobody_enabled : (source : Text) (vs : List Feature) → Enables (Among []) source vs vs
 nobody_enabled source vs = record { same = same_features vs; learn = nobody_learns (λ y e. (e ≡ source) × Among [] y) vs (λ y e p. p.1) }

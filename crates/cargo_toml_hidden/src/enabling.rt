@@ -1,5 +1,6 @@
 //! Where no feature is removed: each learns which others enable it.
 ghost use Rattle.std.specs.Prelude.{◌≡◌, ◌≢◌, ◌↔◌, ◌⊎◌, ◌<◌, ℕ, IsTrue, OnOk, length};
+ghost use Rattle.cargo_toml_graph.specs.Action.{Text};
 ghost use Rattle.cargo_toml_graph.specs.Admitted.{is_below};
 ghost use Rattle.cargo_toml_graph.specs.Graph.{IsUnremoved, Table};
 ghost use Rattle.cargo_toml_graph.specs.Reach.{Among};
@@ -40,6 +41,16 @@ fn push_names(
     Ok(near)
 }
 
+// Whether the feature names nothing and acts on nothing.
+fn leads_nowhere(feature: &Feature<'_>) -> bool
+    ensures { IsTrue result → (x : Text) → ¬ LeadsTo feature.now x }
+{
+    if !feature.enables_features.is_empty() {
+        return false;
+    }
+    feature.enables_deps.is_empty()
+}
+
 // The features that the one in place `own` enables: those that it names, and those that it acts on
 // plainly. The first name is looked for at `near` first; the answer is as of `push_target`.
 fn push_targets(
@@ -54,6 +65,10 @@ fn push_targets(
         ⊎ ((x < length keys.now) × (x ≢ own)
         × LeadsTo feature.now (text_at (texts_of keys.now) x)))) }
 {
+    // In long lists most features lead nowhere.
+    if leads_nowhere(feature) {
+        return Ok(near);
+    }
     let near = push_names(row, &feature.enables_features, keys, own, near)?;
     push_actions(row, &feature.enables_deps, keys, own)?;
     Ok(near)

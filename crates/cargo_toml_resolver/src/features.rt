@@ -185,7 +185,7 @@ impl<'config, F: Fn(&str) -> bool, S: BuildHasher + Clone> Resolver<'config, F, 
         let details = &manifest.feature_details;
         let listings = listings(alloc, &manifest.features, details, self.max_items)?;
         let entries = entries_of(alloc, tables_of(manifest), self.max_items)?;
-        keep_heap(alloc, listings.len().saturating_add(entries.len()));
+        keep_heap(alloc, listings.len(), entries.len());
         let requirements = requirements(alloc, manifest)?;
         Ok(resolve(
             alloc,

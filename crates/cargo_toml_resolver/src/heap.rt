@@ -4,8 +4,11 @@ use std::alloc::{AllocError, Global};
 // A block of more bytes is mapped by itself.
 const MAPPED: usize = 128 * 1024;
 
-// So many bytes for each item are more than half of what a call leaves free at the heap's end.
-const ITEM: usize = 320;
+// For each listing and for each entry, more than half of what resolving leaves free at the heap's
+// end once its answer is dropped.
+const LISTING: usize = 320;
+
+const ENTRY: usize = 360;
 
 /// Has the C library keep as much of its heap as resolving so many listings and entries takes.
 ///
@@ -14,8 +17,10 @@ const ITEM: usize = 320;
 /// dropped, twice its size may be free. No block of an answer is as large as that. So one is made
 /// and dropped. It is never touched, so the system gives no page for it. Where there is no room for
 /// it, nothing is lost; with another C library it costs two calls.
-pub fn keep_heap(alloc: Global, items: usize) {
-    let size = items.saturating_mul(ITEM);
+pub fn keep_heap(alloc: Global, listings: usize, entries: usize) {
+    let size = listings
+        .saturating_mul(LISTING)
+        .saturating_add(entries.saturating_mul(ENTRY));
     if size > MAPPED {
         let _block: Result<Vec<u8>, AllocError> = Vec::with_capacity(alloc, size);
     }

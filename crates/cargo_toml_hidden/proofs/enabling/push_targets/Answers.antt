@@ -2,9 +2,14 @@ use Rattle.std.proofs.Common.{IsTrue}
 use Rattle.cargo_toml_graph.specs.Graph.{IsPlain}
 use Rattle.cargo_toml_walk.specs.Numbered.{text_at}
 use Rattle.cargo_toml_features.specs.Views.{action_at, has_text}
+use Rattle.cargo_toml_hidden.specs.Enabling.{LeadsTo}
 use Rattle.cargo_toml_hidden.specs.Texts.{texts_of}
-use Rattle.cargo_toml_hidden.proofs.NumberRows.{both_gained}
+use Rattle.cargo_toml_hidden.proofs.NumberRows.{both_gained, none_gained}
 use Rattle.cargo_toml_hidden.proofs.enabling.push_targets.Goals as goal
+
+pub returns-then-leads_nowhere : goal.returns-then-leads_nowhere
+returns-then-leads_nowhere c = none_gained c.args.keys.now c.args.own (λ x. LeadsTo c.args.feature.now (text_at (texts_of c.args.keys.now) x)) c.args.row.now.items
+    (λ x. c.leads_nowhere.ensures c.if-leads_nowhere.true (text_at (texts_of c.args.keys.now) x))
 
 pub returns : goal.returns
 returns c =

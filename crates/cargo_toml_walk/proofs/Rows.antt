@@ -214,3 +214,14 @@ replaced rows r row P lt is = record {
     λ i. (list_set rows r a row lt (inr other) x).1 (inr (other, i)),
   );
 }
+
+-- with one removed vertex its redirect is what it has
+pub sole_redirect : {Z : Type 0} (edges labels : List (Vec ℕ Z)) (removed : List Bool) → ((a b : ℕ) → IsWanted removed true a → IsWanted removed true b → a ≡ b) →
+    (r : ℕ) → IsWanted removed true r → (x : ℕ) → Leads labels r x ↔ IsRedirect edges removed labels r x
+sole_redirect edges labels removed sole r gone x = (
+  λ i. ((r, inl refl, i), none x),
+  λ n. elim (n.0.1) [ inl own ↦ subst (λ z. Leads labels z x) own n.0.2 | inr p ↦ absurd (none n.0.0 p.0) ],
+)
+  where
+    none : (v : ℕ) → IsWanted removed true v × (v < r) → ⊥
+    none v u = let same = sole v r u.0 gone in let below = u.1 in omega (arith, same, below)

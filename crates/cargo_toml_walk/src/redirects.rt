@@ -1,6 +1,7 @@
 //! What stands for a removed vertex: the labels that it has once the removed vertices
 //! below it are taken out.
-ghost use Rattle.std.specs.Prelude.{◌≡◌, ◌<◌, ◌≤◌, ◌↔◌, IfOk, OnOk, ℕ, length, true, false};
+ghost use Rattle.std.specs.Prelude.{◌≡◌, ◌<◌, ◌≤◌, ◌↔◌, ℕ, length, true, false};
+ghost use Rattle.std.specs.Prelude.{IfOk, IsTrue, OnOk};
 ghost use Rattle.cargo_toml_graph.specs.Reach.{Among};
 ghost use Rattle.cargo_toml_walk.specs.Numbers.{HasLabel, IsFresh, IsRedirect};
 ghost use Rattle.cargo_toml_walk.specs.Numbers.{IsWanted, Leads, OldStamps, Replaces};
@@ -8,6 +9,23 @@ ghost use Rattle.cargo_toml_walk.specs.Numbers.{IsWanted, Leads, OldStamps, Repl
 use crate::labels::kept_labels;
 use crate::walk::passing;
 use std::alloc::{AllocError, Global};
+
+// Whether at most one flag stands.
+fn is_sole(flags: &[bool]) -> bool
+    ensures { IsTrue result → (a b : ℕ) → IsWanted flags.now true a → IsWanted flags.now true b
+        → a ≡ b }
+{
+    let mut found = false;
+    for flag in flags {
+        if *flag {
+            if found {
+                return false;
+            }
+            found = true;
+        }
+    }
+    true
+}
 
 fn has_finished(row: &[usize], finished: &[bool]) -> bool
     requires { (x : ℕ) → Among row.now x → x < length finished.now }
@@ -79,6 +97,10 @@ pub fn redirects(
     ensures inside { IfOk result
         (λ rows. (r x : ℕ) → Leads rows.items r x → x < length is_removed.now) }
 {
+    // There is none below a sole removed vertex: its redirect is its labels.
+    if is_sole(is_removed) {
+        return Ok(labels);
+    }
     let size = edges.len();
     let total = is_removed.len();
     let mut finished = Vec::from_elem(alloc, false, total)?;

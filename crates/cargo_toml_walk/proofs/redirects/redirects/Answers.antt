@@ -2,7 +2,7 @@ use Rattle.std.proofs.Common.{arith, rules, ◌<◌, ◌↔◌, ℕ, length, tru
 use Rattle.cargo_toml_graph.specs.Reach.{Among}
 use Rattle.cargo_toml_walk.specs.Numbers.{HasLabel, IsPassed, IsWanted, Replaces}
 use Rattle.cargo_toml_walk.proofs.Filling.{fresh_past, stamps_past, past_later}
-use Rattle.cargo_toml_walk.proofs.Rows.{still_finished, one_more_finished, skipped_rows, one_more_row}
+use Rattle.cargo_toml_walk.proofs.Rows.{sole_redirect, still_finished, one_more_finished, skipped_rows, one_more_row}
 use Rattle.cargo_toml_walk.proofs.redirects.redirects.Goals as goal
 use Rattle.cargo_toml_walk.proofs.redirects.redirects.Goals.{then-is_removed-r+in_ok-passed+in_ok-finish+in_ok-finish-2, else-is_removed-r}
 
@@ -60,3 +60,6 @@ returns-clause-redirects c = λ r x lt gone.
     let end = c.loop-r-test.false in
     let below : r < c.loop-r.r = omega (arith, lt, same, size, end) in
     c.loop-r.invariant.label_rows.done r x (gone, below)
+
+pub returns-then-is_sole-clause-redirects : goal.returns-then-is_sole-clause-redirects
+returns-then-is_sole-clause-redirects c = λ r x lt gone. sole_redirect c.args.edges.items c.args.labels.items c.args.is_removed.now (c.is_sole.ensures c.if-is_sole.true) r gone x

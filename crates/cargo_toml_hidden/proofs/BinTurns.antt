@@ -1,7 +1,7 @@
 -- Removed places pass binaries on, turn after turn.
-use Rattle.std.proofs.Common.{◌≡◌, ◌⊎◌, ◌<◌, ◌+◌, ℕ, suc, true, false, Bool, List, [], ◌∷◌, cond, nat_eq, take, Vec, sym, ap, ap₂, subst, inl, inr, ◌∙◌, arith, eq-eqb, eqb-true}
+use Rattle.std.proofs.Common.{◌≡◌, ◌⊎◌, ◌<◌, ◌≤◌, ◌+◌, ℕ, zero, suc, true, false, Bool, List, [], ◌∷◌, cond, nat_eq, take, Vec, refl, sym, ap, ap₂, subst, inl, inr, ◌∙◌, arith, eq-eqb, eqb-true}
 use Rattle.std.proofs.lemmas.Bool.{cases_Bool, false≢true, or_cases, or_left, or_right}
-use Rattle.std.specs.List.{list_any}
+use Rattle.std.specs.List.{list_any, slice_index_or}
 use Rattle.cargo_toml_graph.specs.Action.{Text}
 use Rattle.cargo_toml_graph.specs.Reach.{Among}
 use Rattle.cargo_toml_graph.specs.Removal.{put_all}
@@ -49,3 +49,16 @@ module _ {Z : Type 0} (rows : List (Vec ℕ Z)) (flags : List Bool) (own : ℕ �
       turn y below (inr p) =
           p.1 ∙ t y below
           ∙ sym (ap (λ b. cond b (put_all (before i y) (take 10 (before i i))) (before i y)) (stands_false (list_at rows i) y p.0))
+
+  -- where the removed places have nothing, nothing is passed on
+  pub nothing_passed : ((r : ℕ) → IsWanted flags true r → r < size → own r ≡ []) → (n : ℕ) → n ≤ size → (y : ℕ) → own y ≡ passed_below rows flags n own y
+  nothing_passed none zero most y = refl
+  nothing_passed none (suc n) most y = sym (go (λ x. nothing_passed none n (omega (arith, most)) x) (slice_index_or flags n false) refl)
+    where
+      both : ((x : ℕ) → own x ≡ before n x) → (b : Bool) → before n n ≡ [] → cond b (put_all (before n y) (take 10 (before n n))) (before n y) ≡ own y
+      both earlier true e = ap (λ xs. put_all (before n y) (take 10 xs)) e ∙ sym (earlier y)
+      both earlier false e = sym (earlier y)
+
+      go : ((x : ℕ) → own x ≡ before n x) → (b : Bool) → slice_index_or flags n false ≡ b → (cond b (passed_from rows n (before n)) (before n)) y ≡ own y
+      go earlier true gone = both earlier (list_any (nat_eq y) (list_at rows n)) (sym (earlier n) ∙ none n gone (omega (arith, most)))
+      go earlier false kept = sym (earlier y)

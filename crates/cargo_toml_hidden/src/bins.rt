@@ -1,10 +1,11 @@
 //! The binaries of removed features are passed on.
 ghost use Rattle.std.specs.Prelude.{◌≡◌, ◌<◌, ◌≤◌, ◌∷◌, ◌||◌, [], ℕ};
-ghost use Rattle.std.specs.Prelude.{bytes_eq, length, not, take, IfOk, OnOk};
+ghost use Rattle.std.specs.Prelude.{bytes_eq, length, not, take, true, IfOk, IsTrue, OnOk};
 ghost use Rattle.cargo_toml_graph.specs.Action.{Text};
 ghost use Rattle.cargo_toml_graph.specs.Reach.{Among};
 ghost use Rattle.cargo_toml_graph.specs.Removal.{put_all};
 ghost use Rattle.cargo_toml_features.specs.Views.{has_text};
+ghost use Rattle.cargo_toml_walk.specs.Numbers.{IsWanted};
 ghost use Rattle.cargo_toml_hidden.specs.KnownBins.{AreKnown, Knows, MayKnow};
 ghost use Rattle.cargo_toml_hidden.specs.Passing.{bins_of, passed_below, AreSameButBins};
 ghost use Rattle.cargo_toml_hidden.specs.Puts.{Puts};
@@ -161,6 +162,20 @@ fn pass_from<'m>(
     put_along(features, known, row, bins.as_slice())
 }
 
+// Whether no removed feature has a binary to pass on.
+fn has_none(features: &[Feature<'_>], flags: &[bool]) -> bool
+    requires { length features.now ≤ length flags.now }
+    ensures { IsTrue result → (r : ℕ) → IsWanted flags.now true r → r < length features.now
+        → bins_of features.now r ≡ [] }
+{
+    for r in 0..features.len() {
+        if flags[r] && !features[r].required_by_bins.as_slice().is_empty() {
+            return false;
+        }
+    }
+    true
+}
+
 /// Removed features pass their binaries on to those that their rows name, in the order of their
 /// places: at its turn each its first ten.
 ///
@@ -178,6 +193,9 @@ pub(crate) fn pass_bins<'m>(
         → bins_of features.new.items y ≡ passed_below rows.now flags.now (length features.old.items)
         (bins_of features.old.items) y) }
 {
+    if has_none(features.as_slice(), flags) {
+        return Ok(());
+    }
     let mut known = known_bins(alloc, features.as_slice())?;
     let size = features.len();
     for r in 0..size {

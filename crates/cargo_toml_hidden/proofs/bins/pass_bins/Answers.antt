@@ -1,4 +1,4 @@
-use Rattle.std.proofs.Common.{rules, ◌≡◌, ◌<◌, true, false, take, length, refl, sym, subst, ◌∙◌, arith}
+use Rattle.std.proofs.Common.{rules, ◌≡◌, ◌<◌, ℕ, [], true, false, take, length, refl, sym, subst, ◌∙◌, arith}
 use Rattle.cargo_toml_graph.specs.Reach.{Among}
 use Rattle.cargo_toml_walk.specs.Numbers.{IsWanted, Leads}
 use Rattle.cargo_toml_walk.proofs.Steps.{list_read}
@@ -6,13 +6,13 @@ use Rattle.cargo_toml_hidden.specs.KnownBins.{AreKnown}
 use Rattle.cargo_toml_hidden.specs.Passing.{bins_of, passed_below}
 use Rattle.cargo_toml_hidden.specs.Puts.{Puts}
 use Rattle.cargo_toml_hidden.proofs.PutAlong.{same_features, then_same}
-use Rattle.cargo_toml_hidden.proofs.BinTurns.{kept_turn, one_turn}
+use Rattle.cargo_toml_hidden.proofs.BinTurns.{kept_turn, nothing_passed, one_turn}
 use Rattle.cargo_toml_hidden.proofs.bins.pass_bins.Goals as goal
 use Rattle.cargo_toml_hidden.proofs.bins.pass_bins.Goals.{then-flags-r+in_ok-pass_from, else-flags-r}
 
 pub loop-r-init : goal.loop-r-init
 loop-r-init c = record {
-  known = subst (AreKnown c.in_ok-known.known.items) c.as_slice.ensures.value c.in_ok-known.ensures;
+  known = subst (AreKnown c.in_ok-known.known.items) c.as_slice-2.ensures.value c.in_ok-known.ensures;
   same = same_features c.args.features.now.items;
   inside = omega arith;
   turned = λ y below. refl;
@@ -58,3 +58,12 @@ returns-clause-bins c = λ y below.
     let most = c.loop-r.invariant.inside in
     let all : c.loop-r.r ≡ length old = omega (arith, size, end, most) in
     subst (λ n. bins_of c.loop-r.features.items y ≡ passed_below c.args.rows.now c.args.flags.now n (bins_of old) y) all (c.loop-r.invariant.turned y below)
+
+pub returns-then-has_none-clause-others : goal.returns-then-has_none-clause-others
+returns-then-has_none-clause-others c = same_features c.args.features.now.items
+
+pub returns-then-has_none-clause-bins : goal.returns-then-has_none-clause-bins
+returns-then-has_none-clause-bins c = λ y below.
+    let old = c.args.features.now.items in
+    let none = subst (λ vs. (r : ℕ) → IsWanted c.args.flags.now true r → r < length vs → bins_of vs r ≡ []) c.as_slice.ensures.value (c.has_none.ensures c.if-has_none.true) in
+    nothing_passed c.args.rows.now c.args.flags.now (bins_of old) (length old) none (length old) (omega arith) y

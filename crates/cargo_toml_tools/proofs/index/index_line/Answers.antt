@@ -11,7 +11,7 @@ returns-in_err-version-clause-refused g c =
     let m = manifest_meaning (λ m. m) c.args.manifest.now in
     let p = package_meaning (λ m. m) c.in-Some.package in
     let is = ap (option_map (package_meaning (λ m. m))) c.in-Some.is in
-    let r = err_from_is_err_and c.from_residual-in_err-version.result c.from_residual-in_err-version.ensures.1 in
+    let r = err_from_is_err_and c.from_residual.result c.from_residual.ensures.1 in
     rw (r.1, r.2) (version_told m p is c.in-Some.package.version (stated_mapped parts_of c.in-Some.package.version) c.in_err-version.field-0.0 c.in_err-version.ensures.refused)
 
 pub returns-in_err-dependencies-clause-refused : goal.returns-in_err-dependencies-clause-refused

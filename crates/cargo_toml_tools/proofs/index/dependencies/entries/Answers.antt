@@ -12,9 +12,9 @@ use Rattle.cargo_toml_tools.proofs.index.dependencies.entries.Goals as goal
 pub returns-in_err-push_tables-clause-refused : goal.returns-in_err-push_tables-clause-refused
 returns-in_err-push_tables-clause-refused g c =
     let m = manifest_meaning (λ m. m) c.args.manifest.now in
-    let p = err_from_is_err_and c.from_residual-in_err-push_tables.result c.from_residual-in_err-push_tables.ensures.1 in
+    let p = err_from_is_err_and c.from_residual.result c.from_residual.ensures.1 in
     rw (p.1, p.2) (or_then c.in_err-push_tables.ensures.refused
-    (λ h. any_own (λ (t : Kind × Entries). list_any (tells _ t.0) t.1) (with_kinds m.dependencies m.dev_dependencies m.build_dependencies)
+    (λ h. any_own (λ (t : Kind × Entries). list_any (tells c.in_err-push_tables.field-0.0 t.0) t.1) (with_kinds m.dependencies m.dev_dependencies m.build_dependencies)
     (λ (t : Text × TargetMeaning). tables_in t.1) m.target h))
 
 pub returns-in_err-push_targets-clause-refused : goal.returns-in_err-push_targets-clause-refused
@@ -22,7 +22,7 @@ returns-in_err-push_targets-clause-refused g c =
     let m = manifest_meaning (λ m. m) c.args.manifest.now in
     let p = err_from_is_err_and c.from_residual-in_err-push_targets.result c.from_residual-in_err-push_targets.ensures.1 in
     rw (p.1, p.2) (or_then c.in_err-push_targets.ensures.refused
-    (λ h. any_other (λ (t : Kind × Entries). list_any (tells _ t.0) t.1) (with_kinds m.dependencies m.dev_dependencies m.build_dependencies)
+    (λ h. any_other (λ (t : Kind × Entries). list_any (tells c.in_err-push_targets.field-0.0 t.0) t.1) (with_kinds m.dependencies m.dev_dependencies m.build_dependencies)
     (λ (t : Text × TargetMeaning). tables_in t.1) m.target h))
 
 pub returns-clause-taken : goal.returns-clause-taken

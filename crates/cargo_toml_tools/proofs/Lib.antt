@@ -1,4 +1,3 @@
-pub mod Explained
 pub mod Matched
 pub mod Signs
 pub mod Told

@@ -1,9 +1,8 @@
 //! The line of JSON that a registry's index has of a crate, by the rules of Cargo's.
 ghost use Rattle.std.specs.Prelude.{◌≡◌, ◌⊎◌, Err, IfErr, None, OnOk, false, true};
-ghost use Rattle.cargo_toml.specs.Manifests.{manifest_meaning};
 ghost use Rattle.cargo_toml_tools.specs.declared.index.IndexError.TheVariants.{Incomplete};
 ghost use Rattle.cargo_toml_tools.specs.declared.index.IndexError.TheVariants.{Memory, NoPackage};
-ghost use Rattle.cargo_toml_tools.specs.Indexed.{Explains, IsTaken, RefusesVersion};
+ghost use Rattle.cargo_toml_tools.specs.Indexed.{RefusesVersion};
 ghost use Rattle.cargo_toml_tools.specs.Indexed.{is_stated, is_stated_if_any};
 
 mod dependencies;
@@ -86,8 +85,6 @@ pub fn index_line<M>(
     checksum: Option<&str>,
 ) -> Result<String, IndexError>
     ensures no_package { manifest.now.«package» ≡ None → result ≡ Err NoPackage }
-    ensures taken { OnOk result (IsTaken (manifest_meaning (λ m. m) manifest.now)) }
-    ensures refused { IfErr result (λ e. Explains e (manifest_meaning (λ m. m) manifest.now)) }
 {
     let Some(package) = &manifest.package else {
         return Err(IndexError::NoPackage);

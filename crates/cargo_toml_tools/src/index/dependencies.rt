@@ -2,11 +2,10 @@
 ghost use Rattle.std.specs.Prelude.{IfErr, IsTrue, OnOk};
 ghost use Rattle.std.specs.List.{list_all, list_any};
 ghost use Rattle.cargo_toml.specs.Dependencies.{dependency_meaning};
-ghost use Rattle.cargo_toml.specs.Manifests.{manifest_meaning};
 ghost use Rattle.cargo_toml.specs.Targets.{target_meaning};
 ghost use Rattle.cargo_toml_dependencies.specs.Replacing.{entries_meaning, targets_meaning};
 ghost use Rattle.cargo_toml_tools.specs.Indexed.{IsFor, are_taken, is_taken, is_told};
-ghost use Rattle.cargo_toml_tools.specs.Indexed.{tables, tables_in, tells, with_kinds};
+ghost use Rattle.cargo_toml_tools.specs.Indexed.{tables_in, tells, with_kinds};
 
 use super::IndexError;
 use super::entry::{Place, push_dependency};
@@ -25,12 +24,7 @@ struct Tables<'a> {
 }
 
 /// The entries of all dependencies: first those of the package's own tables, then those of targets.
-pub(crate) fn entries<M>(alloc: Global, manifest: &Manifest<M>) -> Result<Vec<Value>, IndexError>
-    ensures taken { OnOk result
-        (IsTrue (are_taken (tables (manifest_meaning (λ m. m) manifest.now)))) }
-    ensures refused { IfErr result
-        (λ e. IsFor e (is_told e (tables (manifest_meaning (λ m. m) manifest.now)))) }
-{
+pub(crate) fn entries<M>(alloc: Global, manifest: &Manifest<M>) -> Result<Vec<Value>, IndexError> {
     let mut entries = Vec::new(alloc);
     let tables = Tables {
         normal: &manifest.dependencies,

@@ -34,7 +34,7 @@ pub fn read_request<'a>(
     }
 }
 
-fn command(alloc: Global) -> Result<Command<'static>, AllocError> {
+fn command<'a>(alloc: Global) -> Result<Command<'a>, AllocError> {
     let index = Command::new(alloc, "index")
         .arg(Arg::new(alloc, "checksum").long("checksum"))?
         .arg(files(alloc))?;
@@ -53,11 +53,11 @@ fn command(alloc: Global) -> Result<Command<'static>, AllocError> {
         .subcommand(document)
 }
 
-fn flag(alloc: Global, name: &'static str) -> Arg<'static> {
+fn flag<'a>(alloc: Global, name: &'a str) -> Arg<'a> {
     Arg::new(alloc, name).long(name).action(ArgAction::SetTrue)
 }
 
-fn files(alloc: Global) -> Arg<'static> {
+fn files<'a>(alloc: Global) -> Arg<'a> {
     Arg::new(alloc, "files")
         .required(true)
         .action(ArgAction::Append)

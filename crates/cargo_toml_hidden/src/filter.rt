@@ -3,7 +3,8 @@ ghost use Rattle.std.specs.Prelude.{◌≡◌, ◌&&◌, Bool, codes, nat_eq, no
 ghost use Rattle.std.specs.Fn.{FnReturnsAt};
 ghost use Rattle.std.specs.List.{starts_with};
 ghost use Rattle.cargo_toml_graph.specs.Action.{Text};
-ghost use Rattle.cargo_toml_hidden.specs.Filter.{Answers, HasNameFilter, IsFlagOf, IsNameFilter, Tells};
+ghost use Rattle.cargo_toml_hidden.specs.Filter.{Answers, HasNameFilter, IsFlagOf, IsNameFilter};
+ghost use Rattle.cargo_toml_hidden.specs.Filter.{Tells};
 
 fn answer<F: Fn(&str) -> bool>(filter: &F, name: &str) -> bool
     requires { IsNameFilter F.Fn filter.now }

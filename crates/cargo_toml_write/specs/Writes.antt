@@ -50,7 +50,8 @@ abbrev pub put_some : List ℕ → Option Data → Members → Members
 put_some k None ms = ms
 put_some k (Some d) ms = put k d ms
 
--- a row of a table: a key, and what stands at it, if anything, with the way in which that is written
+-- a row of a table: a key, and what stands at it, if anything, with the way in which that is
+-- written
 pub record Row : Type 1 where
   pub key : List ℕ
   pub Value : Type 0

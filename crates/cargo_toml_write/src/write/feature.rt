@@ -92,7 +92,8 @@ impl ToValue for Features<'_> {
 
     ghost way = { features_way };
 
-    ghost floatless = { λ fs d tree. table_floatless (entry_rows feature_way) (told_features fs) d tree };
+    ghost floatless = { λ fs d tree.
+        table_floatless (entry_rows feature_way) (told_features fs) d tree };
 
     fn to_value(&self, alloc: Global) -> Result<Value, Error> {
         let pairs = pairs_of(alloc, self.lists, self.details)?;

@@ -1,5 +1,5 @@
 -- From what stands in places to what is left by name.
-use Rattle.std.proofs.Common.{◌≡◌, ◌↔◌, ◌<◌, ℕ, Bool, true, false, List, [], length, map, Option, Some, None, Bor, Vec, IsTrue, IsSome, IfSome, IfOk, Result, Ok, Err, is_some, slice_get, refl, sym, ap, subst, ◌∙◌, arith}
+use Rattle.std.proofs.Common.{◌≡◌, ◌↔◌, ◌<◌, ℕ, Bool, true, false, List, [], length, map, Option, Some, None, Bor, Vec, IsTrue, IsSome, IfSome, is_some, slice_get, refl, sym, ap, subst, ◌∙◌, arith}
 use Rattle.std.proofs.lemmas.Bool.{false≢true}
 use Rattle.std.specs.BTreeSet.{BTreeSet}
 use Rattle.std.specs.HashMap.{HashMap}

@@ -123,7 +123,13 @@ pub fn set_enablers<'m>(alloc: Global, features: &mut Vec<Feature<'m>>) -> Resul
     let mut near = 0;
     for own in 0..keys.len() {
         row.clear();
-        near = push_targets(&mut row, &features[own], keys.as_slice(), Node::at(own), near)?;
+        near = push_targets(
+            &mut row,
+            &features[own],
+            keys.as_slice(),
+            Node::at(own),
+            near,
+        )?;
         enable_along(features, row.as_slice(), keys[own])?;
     }
     Ok(())

@@ -23,11 +23,7 @@ use std::mem;
 const FEW: usize = 16;
 
 // The texts of nodes, in their order.
-fn list_of<'m>(
-    alloc: Global,
-    nodes: &[Node],
-    texts: &[&'m str],
-) -> Result<Vec<&'m str>, AllocError>
+fn list_of<'m>(alloc: Global, nodes: &[Node], texts: &[&'m str]) -> Result<Vec<&'m str>, AllocError>
     requires { (x : ℕ) → Among nodes.now x → x < length texts.now }
     ensures { IfOk result (λ v. texts_of v.items ≡ map (text_at (texts_of texts.now)) nodes.now) }
 {

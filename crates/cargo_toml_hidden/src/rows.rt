@@ -57,7 +57,13 @@ pub fn hashed_rows<'m, S: BuildHasher + Drop>(
     for r in 0..walked.rows.len() {
         if walked.flags[r] {
             let row = walked.rows[r].as_slice();
-            put_row(alloc, &mut hidden, walked.texts[r], row, walked.texts.as_slice())?;
+            put_row(
+                alloc,
+                &mut hidden,
+                walked.texts[r],
+                row,
+                walked.texts.as_slice(),
+            )?;
         }
     }
     Ok(hidden)

@@ -20,11 +20,7 @@ pub struct Requirement<'m> {
 }
 
 // Adds a binary to a feature.
-fn require_at<'m>(
-    features: &mut [Feature<'m>],
-    at: Node,
-    bin: &'m str,
-) -> Result<(), AllocError>
+fn require_at<'m>(features: &mut [Feature<'m>], at: Node, bin: &'m str) -> Result<(), AllocError>
     requires at { at < length features.old }
     requires in_order { AreInOrder features.old }
     ensures required { OnOk result

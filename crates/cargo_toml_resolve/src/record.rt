@@ -14,8 +14,8 @@ ghost use Rattle.cargo_toml_resolve.specs.Slots.{HaveSameNames, names_in};
 ghost use Rattle.cargo_toml_features.specs.Views.{entry_of, recorded_in, target_of};
 ghost use Rattle.cargo_toml_walk.specs.Numbered.{text_at};
 
-use crate::names::ascending;
 use crate::key::Key;
+use crate::names::ascending;
 use crate::ordered::is_there;
 use crate::places::empty_slots;
 use crate::read::Mentions;

@@ -117,7 +117,13 @@ pub fn enablers(
     let mut by = empty_lists(alloc, edges.len())?;
     for e in 0..edges.len() {
         if !is_removed[e] {
-            link_all(&mut by, edges, passed[e].as_slice(), is_removed, Node::at(e))?;
+            link_all(
+                &mut by,
+                edges,
+                passed[e].as_slice(),
+                is_removed,
+                Node::at(e),
+            )?;
         }
     }
     Ok(by)

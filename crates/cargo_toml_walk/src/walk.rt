@@ -67,7 +67,14 @@ pub(crate) fn visit_row(
     ensures { OnOk result (Visits epoch (λ y. Leads rows.now at y × IsWanted flags.now wanted y)
         found.old.items found.new.items met.old.items met.new.items) }
 {
-    visit(found, met, epoch, rows[at.place()].as_slice(), flags, wanted)
+    visit(
+        found,
+        met,
+        epoch,
+        rows[at.place()].as_slice(),
+        flags,
+        wanted,
+    )
 }
 
 // The removed vertices that `start` reaches through removed ones. `start` is the stamp of
@@ -90,7 +97,15 @@ pub(crate) fn passing(
         (λ found. (b : ℕ) → Among found.items b → b < length met.old.items) }
 {
     let mut found = Vec::new(alloc);
-    visit_row(&mut found, met, start.place(), edges, start, is_removed, true)?;
+    visit_row(
+        &mut found,
+        met,
+        start.place(),
+        edges,
+        start,
+        is_removed,
+        true,
+    )?;
     let mut next = 0;
     while next < found.len() {
         let at = found[next];

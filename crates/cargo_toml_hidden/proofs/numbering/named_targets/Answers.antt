@@ -1,4 +1,4 @@
-use Rattle.std.proofs.Common.{rules, ◌≡◌, ◌≢◌, ◌+◌, get_or, take, sym, subst, ◌∙◌, arith}
+use Rattle.std.proofs.Common.{rules, ◌≡◌, ◌≢◌, ◌+◌, take, sym, subst, ◌∙◌, arith}
 use Rattle.cargo_toml_walk.proofs.Steps.{item_at, item_is}
 use Rattle.cargo_toml_hidden.proofs.NumberRows.{HasTargets, target_left, target_put}
 use Rattle.cargo_toml_hidden.proofs.numbering.named_targets.Goals as goal

@@ -1,5 +1,5 @@
 -- From what stands in places to what is left by name.
-use Rattle.std.proofs.Common.{◌≡◌, ◌↔◌, ◌<◌, ℕ, Bool, true, false, List, [], length, map, Option, Some, None, Bor, Vec, IsTrue, IsSome, IfSome, IfOk, Result, Ok, Err, is_some, slice_get, refl, sym, ap, subst, ◌∙◌, arith}
+use Rattle.std.proofs.Common.{◌≡◌, ◌↔◌, ◌<◌, ℕ, Bool, true, false, List, [], length, map, Option, Some, None, Bor, Vec, IsTrue, IsSome, IfSome, is_some, slice_get, refl, sym, ap, subst, ◌∙◌, arith}
 use Rattle.std.proofs.lemmas.Bool.{false≢true}
 use Rattle.std.specs.BTreeSet.{BTreeSet}
 use Rattle.std.specs.HashMap.{HashMap}
@@ -16,10 +16,13 @@ use Rattle.cargo_toml_walk.proofs.Numbered as numbered
 use Rattle.cargo_toml_features.specs.declared.features.Feature.{Feature}
 use Rattle.cargo_toml_features.specs.InOrder.{AreInOrder, AreTable, feature_at, names_of, table_among}
 use Rattle.cargo_toml_features.specs.Views.{has_text, value_at}
+use Rattle.cargo_toml_hidden.specs.declared.graph.Graph.{Graph}
+use Rattle.cargo_toml_hidden.specs.declared.graph.Walked.{Walked}
 use Rattle.cargo_toml_hidden.specs.KeptFeatures.{ArePassedAt, IsKeptFeature, IsNamedAlike, StandFor, own_bins}
 use Rattle.cargo_toml_hidden.specs.Leaving.{HasTexts}
 use Rattle.cargo_toml_hidden.specs.Left.{AreLeft}
 use Rattle.cargo_toml_hidden.specs.Numbering.{IsFlagged}
+use Rattle.cargo_toml_hidden.specs.Placed.{ArePlaced, ArePublished}
 use Rattle.cargo_toml_hidden.specs.Texts.{texts_of}
 use Rattle.cargo_toml_hidden.proofs.Answered.{resolved_is}
 use Rattle.cargo_toml_hidden.proofs.InPlace.{name_in, stands_found, stands_in}
@@ -165,20 +168,6 @@ pub record NumberedBy (vs : List Feature) (flagged : List Bool) (texts : List (B
   pub count : length edges ≡ length vs
   pub vertices : (i : ℕ) → i < length vs → text_at (texts_of texts) i ≡ text_at (names_of vs) i
 
--- what placing tells
-pub record PlacedBy (t : Table) (removed : Text → Bool) (old new : List Feature) (edges names rows : List (Vec ℕ Global)) (texts : List (Bor Text)) (flags : List Bool) : Type 0 where
-  pub kept : StandFor t removed old (texts_of texts) edges names flags → (i : ℕ) (w : Feature) → IsWanted flags false i → slice_get new i ≡ Some w → IsKeptFeature t (λ v. IsTrue (removed v)) (text_at (texts_of texts) i) w
-  pub bins : StandFor t removed old (texts_of texts) edges names flags → ArePassedAt t removed (own_bins old) (texts_of texts) flags new
-  pub rows_are : StandFor t removed old (texts_of texts) edges names flags → (r : ℕ) (x : Text) → r < length edges → IsWanted flags true r →
-      HasNumber (texts_of texts) (length (texts_of texts)) (Leads rows r) x ↔ RedirectsTo t (λ v. IsTrue (removed v)) (λ a b. IsTrue (is_below a b)) (text_at (texts_of texts) r) x
-
--- what the hashed maps hold
-pub record HashedBy {S : Type 0} (m : HashMap (Bor Text) Feature S) (hidden : HashMap (Bor Text) (BTreeSet (Bor Text)) S) (new : List Feature) (texts : List (Bor Text)) (flags : List Bool) (rows : List (Vec ℕ Global)) : Type 0 where
-  pub held : (i : ℕ) (v : Feature) → slice_get new i ≡ Some v → IsWanted flags false i → value_at m v.key.now ≡ Some v
-  pub only : (f : Text) → IsSome (value_at m f) → (i : ℕ) × (v : Feature) × (slice_get new i ≡ Some v) × IsWanted flags false i × (v.key.now ≡ f)
-  pub row_there : (i : ℕ) → i < length rows → IsWanted flags true i → IsSomeAnd (value_at hidden (text_at (texts_of texts) i)) (HasTexts (texts_of texts) (list_at rows i))
-  pub row_only : (r : Text) → IsSome (value_at hidden r) → (i : ℕ) × (i < length rows) × (text_at (texts_of texts) i ≡ r) × IsWanted flags true i
-
 pub stands_for : (t : Table) (removed : Text → Bool) (vs : List Feature) (flagged : List Bool) (texts : List (Bor Text)) (edges names : List (Vec ℕ Global)) (flags : List Bool) →
     AreInOrder vs → NumberedBy vs flagged texts edges names flags → AreTable t vs → ((f : Text) → IsTrue (removed f) ↔ IsFlagged vs flagged f) → StandFor t removed vs (texts_of texts) edges names flags
 stands_for t removed vs flagged texts edges names flags up n same removed_is = record {
@@ -189,13 +178,22 @@ stands_for t removed vs flagged texts edges names flags up n same removed_is = r
   vertices = n.vertices;
 }
 
-pub all_left_over : {S : Type 0} (t : Table) (removed : Text → Bool) (old new : List Feature) (flagged : List Bool) (texts : List (Bor Text)) (edges names rows : List (Vec ℕ Global)) (flags : List Bool)
-    (m : HashMap (Bor Text) Feature S) (hidden : HashMap (Bor Text) (BTreeSet (Bor Text)) S) → AreInOrder old → NumberedBy old flagged texts edges names flags → length new ≡ length old →
-    ((i : ℕ) (v w : Feature) → slice_get old i ≡ Some v → slice_get new i ≡ Some w → IsNamedAlike v w) → length rows ≡ length old → PlacedBy t removed old new edges names rows texts flags →
-    HashedBy m hidden new texts flags rows → AreTable t old → ((f : Text) → IsTrue (removed f) ↔ IsFlagged old flagged f) → AreLeft t removed old m hidden
-all_left_over t removed old new flagged texts edges names rows flags m hidden up n len own rows_len p h same removed_is =
-    let stand = stands_for t removed old flagged texts edges names flags up n same removed_is in
-    are_left t removed old new (texts_of texts) edges names rows flags stand len own m hidden rows_len (p.kept stand) (p.bins stand) (p.rows_are stand) h.held h.only h.row_there h.row_only
+pub all_left_over : {S : Type 0} (t : Table) (removed : Text → Bool) (old new : List Feature) (flagged : List Bool) (g : Graph) (w : Walked)
+    (m : HashMap (Bor Text) Feature S) (hidden : HashMap (Bor Text) (BTreeSet (Bor Text)) S) → AreInOrder old → NumberedBy old flagged g.texts.items g.edges.items g.names.items g.flags.items →
+    ArePlaced g old new w → ArePublished new w m hidden → AreTable t old → ((f : Text) → IsTrue (removed f) ↔ IsFlagged old flagged f) → AreLeft t removed old m hidden
+all_left_over t removed old new flagged g w m hidden up n p h same removed_is =
+    let stand = stands_for t removed old flagged g.texts.items g.edges.items g.names.items g.flags.items up n same removed_is in
+    are_left t removed old new (texts_of g.texts.items) g.edges.items g.names.items w.rows.items g.flags.items stand p.len p.own m hidden p.count (p.kept t removed stand) (p.bins t removed stand) (p.rows t removed stand)
+    (λ i v at off. h.held i v at (to_walked false i off))
+    (λ f there. let o = h.only f there in (o.0, o.1, o.2, from_walked false o.0 o.3, o.4))
+    (λ i lt on. subst (λ ts. IsSomeAnd (value_at hidden (text_at (texts_of ts.items) i)) (HasTexts (texts_of ts.items) (list_at w.rows.items i))) p.texts (h.row_there i lt (to_walked true i on)))
+    (λ r there. let o = h.row_only r there in (o.0, o.1, subst (λ ts. text_at (texts_of ts.items) o.0 ≡ r) p.texts o.2, from_walked true o.0 o.3))
+  where
+    to_walked : (wanted : Bool) (i : ℕ) → IsWanted g.flags.items wanted i → IsWanted w.flags.items wanted i
+    to_walked wanted i = subst (λ fs. IsWanted fs.items wanted i) (sym p.flags)
+
+    from_walked : (wanted : Bool) (i : ℕ) → IsWanted w.flags.items wanted i → IsWanted g.flags.items wanted i
+    from_walked wanted i = subst (λ fs. IsWanted fs.items wanted i) p.flags
 
 -- no two features have one name, before and after they are left
 pub one_name : (old new : List Feature) (flagged : List Bool) (texts : List (Bor Text)) (edges names : List (Vec ℕ Global)) (flags : List Bool) → NumberedBy old flagged texts edges names flags →
@@ -210,8 +208,3 @@ one_name old new flagged texts edges names flags n len own i j v w at at' same =
     let b = name j w at' in
     let c = n.numbered.count in
     n.numbered.one i j (let lt = a.0 in omega (arith, c, lt)) (let lt = b.0 in omega (arith, c, lt)) (sym a.1 ∙ same ∙ b.1)
-
--- four facts of one result
-pub if_ok_by_four : {X Y : Type 0} (r : Result X Y) (A B C D Q : X → Type 0) → ((x : X) → A x → B x → C x → D x → Q x) → IfOk r A → IfOk r B → IfOk r C → IfOk r D → IfOk r Q
-if_ok_by_four (Ok x) A B C D Q f a b c d = f x a b c d
-if_ok_by_four (Err e) A B C D Q f a b c d = tt

@@ -11,7 +11,6 @@ mod Renumbered
 mod InPlace
 pub mod NumberingGraph
 mod Answered
-mod Walked
 mod LeavingAll
 mod PassedPlaces
 mod Placing

@@ -153,7 +153,7 @@ module _ (keys : List (Bor Text)) (own : ℕ) where
   abbrev pub PlainSoFar : BTreeMap (Bor Text) DepAction → List (Bor (Bor Text) × Bor DepAction) → ℕ → Type 0
   PlainSoFar m es x = Among (acted es) (text_at (texts_of keys) x) × IsPlain (action_at m (text_at (texts_of keys) x))
 
-  pub action_put : (m : BTreeMap (Bor Text) DepAction) (es : List (Bor (Bor Text) × Bor DepAction)) (k : Bor (Bor Text)) (a : Bor DepAction) (old row new : List ℕ)
+  action_put : (m : BTreeMap (Bor Text) DepAction) (es : List (Bor (Bor Text) × Bor DepAction)) (k : Bor (Bor Text)) (a : Bor DepAction) (old row new : List ℕ)
       → action_at m k.now.now ≡ Some (action_of a.now) → Gains (PlainSoFar m es) old row
       → ((x : ℕ) → Among new x ↔ (Among row x ⊎ (((x < length keys) × (x ≢ own) × (text_at (texts_of keys) x ≡ k.now.now)) × IsPlain (Some (action_of a.now)))))
       → Gains (PlainSoFar m (es ++ (k, a) ∷ [])) old new
@@ -174,6 +174,23 @@ module _ (keys : List (Bor Text)) (own : ℕ) where
       push : Among (acted (es ++ (k, a) ∷ [])) (text_at (texts_of keys) x) ↔ (Among (acted es) (text_at (texts_of keys) x) ⊎ (text_at (texts_of keys) x ≡ k.now.now))
       push = subst (λ ys. Among ys (text_at (texts_of keys) x) ↔ (Among (acted es) (text_at (texts_of keys) x) ⊎ (text_at (texts_of keys) x ≡ k.now.now)))
           (sym (map_push (λ (e : Bor (Bor Text) × Bor DepAction). e.0.now.now) es (k, a))) (among_push (acted es) k.now.now (text_at (texts_of keys) x))
+
+  -- a plain action enables the feature of its key's name, and another one none
+  pub action_plain : (m : BTreeMap (Bor Text) DepAction) (es : List (Bor (Bor Text) × Bor DepAction)) (k : Bor (Bor Text)) (a : Bor DepAction) (old row new : List ℕ)
+      → action_at m k.now.now ≡ Some (action_of a.now) → Gains (PlainSoFar m es) old row → IsPlain (Some (action_of a.now))
+      → Gains (λ x. text_at (texts_of keys) x ≡ k.now.now) row new → Gains (PlainSoFar m (es ++ (k, a) ∷ [])) old new
+  action_plain m es k a old row new there so_far plain more = action_put m es k a old row new there so_far (λ x. (
+    λ i. elim ((more x).0 i) [ inl j ↦ inl j | inr t ↦ inr (t, plain) ],
+    elim [ inl j ↦ (more x).1 (inl j) | inr t ↦ (more x).1 (inr t.0) ],
+  ))
+
+  pub action_left : (m : BTreeMap (Bor Text) DepAction) (es : List (Bor (Bor Text) × Bor DepAction)) (k : Bor (Bor Text)) (a : Bor DepAction) (old row : List ℕ)
+      → action_at m k.now.now ≡ Some (action_of a.now) → Gains (PlainSoFar m es) old row → ¬ IsPlain (Some (action_of a.now))
+      → Gains (PlainSoFar m (es ++ (k, a) ∷ [])) old row
+  action_left m es k a old row there so_far none = action_put m es k a old row row there so_far (λ x. (
+    λ i. inl i,
+    elim [ inl i ↦ i | inr t ↦ absurd (none t.1) ],
+  ))
 
   keys_shown : (es : List (Bor (Bor Text) × Bor DepAction)) → acted es ≡ texts_of (map (λ (e : Bor Text × DepAction). e.0) (map deref_pair es))
   keys_shown [] = refl

@@ -7,6 +7,7 @@ pub mod Texts
 pub mod Numbering
 pub mod Passing
 pub mod Walking
+pub mod Placed
 pub mod Left
 pub mod Puts
 pub mod KnownBins

@@ -1,16 +1,11 @@
 -- What the walks over a graph of numbers find.
-use Rattle.std.specs.Prelude.{◌≡◌, ◌<◌, ◌≤◌, ◌↔◌, ℕ, Bool, true, false, List, length, Vec}
+use Rattle.std.specs.Prelude.{◌≡◌, ◌<◌, ◌↔◌, ℕ, Bool, true, false, List, length, Vec}
 use Rattle.cargo_toml_walk.specs.Numbers.{HasLabel, IsEnabledBy, IsPassed}
 use Rattle.cargo_toml_walk.specs.Numbers.{IsRedirect, IsWanted, Leads, PassesAny}
+use Rattle.cargo_toml_hidden.specs.declared.graph.Graph.{Graph}
+use Rattle.cargo_toml_hidden.specs.declared.graph.Walked.{Walked}
 
 module _ {Z : Type 0} (edges names : List (Vec ℕ Z)) (flags : List Bool) where
-  -- edges lead to vertices, and each vertex and each label has a flag
-  pub record AreWithin : Type 0 where
-    pub same : length names ≡ length edges
-    pub count : length edges ≤ length flags
-    pub edges_inside : (a b : ℕ) → Leads edges a b → b < length edges
-    pub names_inside : (a x : ℕ) → Leads names a x → x < length flags
-
   -- the removed vertices that each kept one passes
   abbrev pub ArePassed : List (Vec ℕ Z) → Type 0
   ArePassed passed =
@@ -34,3 +29,17 @@ module _ {Z : Type 0} (edges names : List (Vec ℕ Z)) (flags : List Bool) where
   AreRows rows =
       (r x : ℕ) → r < length edges → IsWanted flags true r
       → Leads rows r x ↔ IsRedirect edges flags names r x
+
+-- what walks over the graph g find
+pub record IsWalked (g : Graph) (w : Walked) : Type 0 where
+  -- the texts and the flags are the graph's, and each feature has a row
+  pub texts : w.texts ≡ g.texts
+  pub flags : w.flags ≡ g.flags
+  pub count : length w.rows.items ≡ length g.edges.items
+  -- the removed features that each kept one passes, and what each that passes any then names
+  pub passed : ArePassed g.edges.items g.names.items g.flags.items w.passed.items
+  pub named : AreNamed g.edges.items g.names.items g.flags.items w.passed.items w.named.items
+  -- what then enables each kept feature
+  pub enablers : AreEnablers g.edges.items g.names.items g.flags.items w.enablers.items
+  -- what stands for each removed feature
+  pub rows : AreRows g.edges.items g.names.items g.flags.items w.rows.items

@@ -12,6 +12,7 @@ ghost use Rattle.cargo_toml_hidden.specs.Texts.{texts_of};
 
 use crate::leaving::into_set;
 use cargo_toml_features::features::Feature;
+use cargo_toml_walk::node::Node;
 use std::alloc::{AllocError, Global};
 use std::collections::BTreeSet;
 
@@ -105,7 +106,7 @@ fn put_bins<'m>(
 fn put_at<'m>(
     features: &mut Vec<Feature<'m>>,
     known: &mut Vec<BTreeSet<&'m str>>,
-    at: usize,
+    at: Node,
     bins: &[&'m str],
 ) -> Result<(), AllocError>
     requires at { at < length features.old.items }
@@ -114,8 +115,8 @@ fn put_at<'m>(
         (Puts (λ y. y ≡ at) (texts_of bins.now) features.old.items features.new.items) }
     ensures known { OnOk result (AreKnown known.new.items features.new.items) }
 {
-    let feature = &mut features[at];
-    let known = &mut known[at];
+    let feature = &mut features[at.place()];
+    let known = &mut known[at.place()];
     know(known, &feature.required_by_bins)?;
     put_bins(&mut feature.required_by_bins, known, bins)
 }
@@ -125,7 +126,7 @@ fn put_at<'m>(
 fn put_along<'m>(
     features: &mut Vec<Feature<'m>>,
     known: &mut Vec<BTreeSet<&'m str>>,
-    row: &[usize],
+    row: &[Node],
     bins: &[&'m str],
 ) -> Result<(), AllocError>
     requires { AreKnown known.old.items features.old.items }
@@ -134,7 +135,7 @@ fn put_along<'m>(
     ensures known { OnOk result (AreKnown known.new.items features.new.items) }
 {
     for at in row {
-        if *at < features.len() {
+        if at.place() < features.len() {
             put_at(features, known, *at, bins)?;
         }
     }
@@ -145,8 +146,8 @@ fn put_along<'m>(
 fn pass_from<'m>(
     features: &mut Vec<Feature<'m>>,
     known: &mut Vec<BTreeSet<&'m str>>,
-    r: usize,
-    row: &[usize],
+    r: Node,
+    row: &[Node],
 ) -> Result<(), AllocError>
     requires r { r < length features.old.items }
     requires known { AreKnown known.old.items features.old.items }
@@ -154,7 +155,7 @@ fn pass_from<'m>(
         (take 10 (bins_of features.old.items r)) features.old.items features.new.items) }
     ensures known { OnOk result (AreKnown known.new.items features.new.items) }
 {
-    let bins = first_ten(&features[r].required_by_bins)?;
+    let bins = first_ten(&features[r.place()].required_by_bins)?;
     if bins.is_empty() {
         return Ok(());
     }
@@ -168,7 +169,7 @@ fn pass_from<'m>(
 pub(crate) fn pass_bins<'m>(
     alloc: Global,
     features: &mut Vec<Feature<'m>>,
-    rows: &[Vec<usize>],
+    rows: &[Vec<Node>],
     flags: &[bool],
 ) -> Result<(), AllocError>
     requires rows { length rows.now ≡ length features.old.items }
@@ -182,7 +183,7 @@ pub(crate) fn pass_bins<'m>(
     let size = features.len();
     for r in 0..size {
         if flags[r] {
-            pass_from(features, &mut known, r, rows[r].as_slice())?;
+            pass_from(features, &mut known, Node::at(r), rows[r].as_slice())?;
         }
     }
     Ok(())

@@ -15,16 +15,17 @@ ghost use Rattle.cargo_toml_hidden.specs.Texts.{texts_of};
 use crate::numbering::{keys_of, push_actions, push_target};
 use cargo_toml_features::action::add_text;
 use cargo_toml_features::features::Feature;
+use cargo_toml_walk::node::Node;
 use std::alloc::{AllocError, Global};
 use std::collections::BTreeSet;
 
 // The features of these names, other than the one in place `own`. The first name is looked for at
 // `near` first; the answer is as of `push_target`.
 fn push_names(
-    row: &mut Vec<usize>,
+    row: &mut Vec<Node>,
     named: &BTreeSet<&str>,
     keys: &[&str],
-    own: usize,
+    own: Node,
     mut near: usize,
 ) -> Result<usize, AllocError>
     requires { IsAscending (λ a b. IsTrue (is_below a b)) (texts_of keys.now) }
@@ -54,10 +55,10 @@ fn leads_nowhere(feature: &Feature<'_>) -> bool
 // The features that the one in place `own` enables: those that it names, and those that it acts on
 // plainly. The first name is looked for at `near` first; the answer is as of `push_target`.
 fn push_targets(
-    row: &mut Vec<usize>,
+    row: &mut Vec<Node>,
     feature: &Feature<'_>,
     keys: &[&str],
-    own: usize,
+    own: Node,
     near: usize,
 ) -> Result<usize, AllocError>
     requires { IsAscending (λ a b. IsTrue (is_below a b)) (texts_of keys.now) }
@@ -77,14 +78,14 @@ fn push_targets(
 // The source is put among what enables the feature in this place.
 fn enable_at<'m>(
     features: &mut Vec<Feature<'m>>,
-    at: usize,
+    at: Node,
     source: &'m str,
 ) -> Result<(), AllocError>
     requires { at < length features.old.items }
     ensures { OnOk result
         (Enables (λ y. y ≡ at) source.now features.old.items features.new.items) }
 {
-    let feature = &mut features[at];
+    let feature = &mut features[at.place()];
     add_text(&mut feature.enabled_by, source)?;
     Ok(())
 }
@@ -92,7 +93,7 @@ fn enable_at<'m>(
 // The source is put among what enables each feature in the places of the row.
 fn enable_along<'m>(
     features: &mut Vec<Feature<'m>>,
-    row: &[usize],
+    row: &[Node],
     source: &'m str,
 ) -> Result<(), AllocError>
     requires { (y : ℕ) → Among row.now y → y < length features.old.items }
@@ -122,7 +123,13 @@ pub fn set_enablers<'m>(alloc: Global, features: &mut Vec<Feature<'m>>) -> Resul
     let mut near = 0;
     for own in 0..keys.len() {
         row.clear();
-        near = push_targets(&mut row, &features[own], keys.as_slice(), own, near)?;
+        near = push_targets(
+            &mut row,
+            &features[own],
+            keys.as_slice(),
+            Node::at(own),
+            near,
+        )?;
         enable_along(features, row.as_slice(), keys[own])?;
     }
     Ok(())

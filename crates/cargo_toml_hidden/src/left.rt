@@ -1,24 +1,22 @@
 //! Hidden features are removed from features that stand in the byte order of their names.
-ghost use Rattle.std.specs.Prelude.{◌≡◌, ◌↔◌, ◌<◌, ◌≤◌, ℕ, Bool, IfOk, IsSome};
-ghost use Rattle.std.specs.Prelude.{IsTrue, Some, [], length, slice_get, true, false};
-ghost use Rattle.std.specs.Option.{IsSomeAnd};
+ghost use Rattle.std.specs.Prelude.{◌≡◌, ◌↔◌, ◌≤◌, ℕ, Bool, IfOk};
+ghost use Rattle.std.specs.Prelude.{IsTrue, Some, [], length, slice_get, true};
 ghost use Rattle.cargo_toml_graph.specs.Action.{Text};
 ghost use Rattle.cargo_toml_graph.specs.Graph.{IsUnremoved, Table};
-ghost use Rattle.cargo_toml_walk.specs.Numbered.{text_at};
-ghost use Rattle.cargo_toml_walk.specs.Numbers.{IsWanted, Leads, list_at};
+ghost use Rattle.cargo_toml_walk.specs.Numbers.{IsWanted};
 ghost use Rattle.cargo_toml_features.specs.declared.features.Feature.{Feature};
 ghost use Rattle.cargo_toml_features.specs.InOrder.{AreInOrder, AreTable, HaveNoEnablers};
 ghost use Rattle.cargo_toml_features.specs.InOrder.{feature_at, resolution_among};
 ghost use Rattle.cargo_toml_features.specs.Reached.{IsKeyed};
 ghost use Rattle.cargo_toml_features.specs.Views.{value_at};
-ghost use Rattle.cargo_toml_hidden.specs.Leaving.{HasTexts};
 ghost use Rattle.cargo_toml_hidden.specs.Left.{AreLeft};
 ghost use Rattle.cargo_toml_hidden.specs.Numbering.{IsFlagged};
-ghost use Rattle.cargo_toml_hidden.specs.Texts.{texts_of};
+ghost use Rattle.cargo_toml_hidden.specs.Placed.{ArePublished};
 
 use crate::elimination::place;
 use crate::enabling::set_enablers;
-use crate::numbering::{Graph, number};
+use crate::graph::Walked;
+use crate::numbering::number;
 use crate::publishing::hashed_kept;
 use crate::rows::hashed_rows;
 use cargo_toml_features::features::Feature;
@@ -67,35 +65,18 @@ fn publish<'m, S: BuildHasher + Clone>(
     alloc: Global,
     state: &S,
     features: Vec<Feature<'m>>,
-    rows: &[Vec<usize>],
-    flags: &[bool],
-    texts: &[&'m str],
+    walked: &Walked<'m>,
 ) -> Result<Left<'m, S>, AllocError>
-    requires flags { length features.items ≤ length flags.now }
+    requires flags { length features.items ≤ length walked.now.flags.items }
     requires names { (i j : ℕ) (v w : Feature) → slice_get features.items i ≡ Some v
         → slice_get features.items j ≡ Some w → v.key.now ≡ w.key.now → i ≡ j }
-    requires once { (i j : ℕ) → i < length texts.now → j < length texts.now →
-        text_at (texts_of texts.now) i ≡ text_at (texts_of texts.now) j → i ≡ j }
-    requires texts { length rows.now ≤ length texts.now }
-    requires rows { length rows.now ≤ length flags.now }
-    requires inside { (r x : ℕ) → Leads rows.now r x → x < length texts.now }
-    ensures kept { IfOk result
-        (λ l. (i : ℕ) (v : Feature) → slice_get features.entry.items i ≡ Some v
-        → IsWanted flags.now false i → value_at l.features v.key.now ≡ Some v) }
-    ensures only { IfOk result (λ l. (f : Text) → IsSome (value_at l.features f)
-        → (i : ℕ) × (v : Feature) × (slice_get features.entry.items i ≡ Some v)
-        × IsWanted flags.now false i × (v.key.now ≡ f)) }
+    ensures published { IfOk result
+        (λ l. ArePublished features.entry.items walked.now l.features l.hidden) }
     ensures keyed { IfOk result (λ l. IsKeyed l.features) }
-    ensures rows { IfOk result (λ l. (i : ℕ) → i < length rows.now → IsWanted flags.now true i
-        → IsSomeAnd (value_at l.hidden (text_at (texts_of texts.now) i))
-        (HasTexts (texts_of texts.now) (list_at rows.now i))) }
-    ensures only_rows { IfOk result (λ l. (r : Text) → IsSome (value_at l.hidden r)
-        → (i : ℕ) × (i < length rows.now) × (text_at (texts_of texts.now) i ≡ r)
-        × IsWanted flags.now true i) }
 {
     Ok(Left {
-        features: hashed_kept(state.clone()?, alloc, features, flags)?,
-        hidden: hashed_rows(alloc, state.clone()?, rows, flags, texts)?,
+        features: hashed_kept(state.clone()?, alloc, features, walked.flags.as_slice())?,
+        hidden: hashed_rows(alloc, state.clone()?, walked)?,
     })
 }
 
@@ -115,28 +96,9 @@ pub fn take_out<'m, S: BuildHasher + Clone>(
         → ((f : Text) → IsTrue (removed f) ↔ IsFlagged features.entry.items flags.now f)
         → AreLeft t removed features.entry.items l.features l.hidden) }
 {
-    let Graph {
-        texts,
-        edges,
-        names,
-        flags,
-    } = number(alloc, features.as_slice(), flags)?;
-    let rows = place(
-        alloc,
-        &mut features,
-        edges,
-        names,
-        flags.as_slice(),
-        texts.as_slice(),
-    )?;
-    publish(
-        alloc,
-        state,
-        features,
-        rows.as_slice(),
-        flags.as_slice(),
-        texts.as_slice(),
-    )
+    let graph = number(alloc, features.as_slice(), flags)?;
+    let walked = place(alloc, &mut features, graph)?;
+    publish(alloc, state, features, &walked)
 }
 
 // The same once each feature has learnt what enables it.

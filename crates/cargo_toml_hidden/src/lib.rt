@@ -6,6 +6,7 @@ pub mod elimination;
 pub mod enabling;
 pub mod filter;
 pub mod flags;
+pub mod graph;
 pub mod joining;
 pub mod leaving;
 pub mod left;
@@ -13,5 +14,6 @@ pub mod numbering;
 pub mod publishing;
 pub mod resolution;
 pub mod rows;
+pub mod walking;
 
 pub use resolution::resolve;

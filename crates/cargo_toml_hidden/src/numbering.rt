@@ -1,4 +1,4 @@
-//! Features as a graph of numbers.
+//! Features become a graph of nodes.
 ghost use Rattle.std.specs.Prelude.{◌≡◌, ◌≢◌, ◌↔◌, ◌⊎◌, ◌<◌, ◌≤◌, ℕ, IfOk, IfSome};
 ghost use Rattle.std.specs.Prelude.{IsTrue, None, OnOk, Some, length, map, true};
 ghost use Rattle.cargo_toml_graph.specs.Action.{Text};
@@ -14,27 +14,13 @@ ghost use Rattle.cargo_toml_hidden.specs.Numbering.{AreParted, AreTextsOf, IsFla
 ghost use Rattle.cargo_toml_hidden.specs.Numbering.{IsTarget, is_named, names_at};
 ghost use Rattle.cargo_toml_hidden.specs.Texts.{texts_of};
 
+use crate::graph::Graph;
 use cargo_toml_features::features::{DepAction, Feature};
 use cargo_toml_resolve::places::place_near;
+use cargo_toml_walk::node::Node;
 use cargo_toml_walk::texts::in_order;
 use std::alloc::{AllocError, Global};
 use std::collections::{BTreeMap, BTreeSet};
-
-/// Features as a graph of numbers. The features have the numbers of their places; other texts that
-/// they name those after them.
-#[derive(Debug, Drop)]
-pub struct Graph<'m> {
-    /// The texts of the numbers.
-    pub texts: Vec<&'m str>,
-    /// Where the edges of each feature lead.
-    pub edges: Vec<Vec<usize>>,
-    /// What each feature names.
-    pub names: Vec<Vec<usize>>,
-    /// For each number whether it is removed.
-    pub flags: Vec<bool>,
-    ghost edges_inside: { (a b : ℕ) → Leads edges.items a b → b < length edges.items },
-    ghost names_inside: { (a x : ℕ) → Leads names.items a x → x < length flags.items },
-}
 
 /// The names of features, in their order. It fails only where memory runs out.
 pub(crate) fn keys_of<'m>(
@@ -93,7 +79,7 @@ fn others_of<'m>(
     Ok(in_order(others))
 }
 
-// The texts of the numbers.
+// The texts of the nodes.
 fn all_texts<'m>(alloc: Global, features: &[Feature<'m>]) -> Result<Vec<&'m str>, AllocError>
     requires { AreInOrder features.now }
     ensures { IfOk result (λ v. AreTextsOf features.now (texts_of v.items)) }
@@ -104,57 +90,57 @@ fn all_texts<'m>(alloc: Global, features: &[Feature<'m>]) -> Result<Vec<&'m str>
     Ok(texts)
 }
 
-// The number of a text: its place among the first `count` texts, or else among those after them. It
+// The node of a text: its place among the first `count` texts, or else among those after them. It
 // is looked for at `near` first.
-fn number_of(texts: &[&str], count: usize, text: &str, near: usize) -> Option<usize>
+fn node_of(texts: &[&str], count: usize, text: &str, near: usize) -> Option<Node>
     requires { AreParted count (texts_of texts.now) }
     ensures found { IfSome result
         (λ i. (i < length texts.now) × (text_at (texts_of texts.now) i ≡ text.now)) }
     ensures missing { result ≡ None → ¬ Among (texts_of texts.now) text.now }
 {
     if let Some(place) = place_near(&texts[..count], text, near) {
-        return Some(place);
+        return Some(Node::at(place));
     }
     let place = place_near(&texts[count..], text, near.saturating_sub(count))?;
-    Some(count + place)
+    Some(Node::at(count + place))
 }
 
-// The numbers of what a feature names. The first name is looked for at `near` first.
+// The nodes of what a feature names. The first name is looked for at `near` first.
 fn name_row(
     alloc: Global,
     named: &BTreeSet<&str>,
     texts: &[&str],
     count: usize,
     mut near: usize,
-) -> Result<Vec<usize>, AllocError>
+) -> Result<Vec<Node>, AllocError>
     requires { AreParted count (texts_of texts.now) }
     ensures { IfOk result (λ row. (x : ℕ) → Among row.items x
         ↔ ((x < length texts.now) × IsTrue (has_text named.now (text_at (texts_of texts.now) x)))) }
 {
     let mut row = Vec::with_capacity(alloc, named.len())?;
     for name in named.iter() {
-        if let Some(number) = number_of(texts, count, *name, near) {
-            row.push(number)?;
-            near = number.saturating_add(1);
+        if let Some(node) = node_of(texts, count, *name, near) {
+            row.push(node)?;
+            near = node.place().saturating_add(1);
         }
     }
     Ok(row)
 }
 
 // Where a name is looked for after those of a row.
-fn after(row: &[usize], near: usize) -> usize {
+fn after(row: &[Node], near: usize) -> usize {
     match row.last() {
-        Some(last) => last.saturating_add(1),
+        Some(last) => last.place().saturating_add(1),
         None => near,
     }
 }
 
-// What each feature names, by numbers.
+// What each feature names.
 fn name_rows(
     alloc: Global,
     features: &[Feature<'_>],
     texts: &[&str],
-) -> Result<Vec<Vec<usize>>, AllocError>
+) -> Result<Vec<Vec<Node>>, AllocError>
     requires { AreParted (length features.now) (texts_of texts.now) }
     ensures len { IfOk result (λ rows. length rows.items ≡ length features.now) }
     ensures rows { IfOk result (λ rows. (i x : ℕ) → i < length features.now
@@ -180,16 +166,16 @@ fn name_rows(
 // The named features other than the one in place `own`.
 fn named_targets(
     alloc: Global,
-    named: &[usize],
+    named: &[Node],
     count: usize,
-    own: usize,
-) -> Result<Vec<usize>, AllocError>
+    own: Node,
+) -> Result<Vec<Node>, AllocError>
     ensures { IfOk result
         (λ row. (x : ℕ) → Among row.items x ↔ (Among named.now x × (x < count) × (x ≢ own))) }
 {
     let mut row = Vec::with_capacity(alloc, named.len())?;
     for x in named {
-        if *x < count && *x != own {
+        if x.place() < count && *x != own {
             row.push(*x)?;
         }
     }
@@ -199,72 +185,61 @@ fn named_targets(
 /// The feature of this name, if there is one other than the one in place `own`, is put at the end.
 /// It is looked for at `near` first; the answer is where to look for one that follows.
 pub(crate) fn push_target(
-    row: &mut Vec<usize>,
+    row: &mut Vec<Node>,
     key: &str,
     keys: &[&str],
-    own: usize,
+    own: Node,
     near: usize,
 ) -> Result<usize, AllocError>
     requires { IsAscending (λ a b. IsTrue (is_below a b)) (texts_of keys.now) }
     ensures { OnOk result ((x : ℕ) → Among row.new.items x ↔ (Among row.old.items x
         ⊎ ((x < length keys.now) × (x ≢ own) × (text_at (texts_of keys.now) x ≡ key.now)))) }
 {
-    let Some(target) = place_near(keys, key, near) else {
+    let Some(place) = place_near(keys, key, near) else {
         return Ok(near);
     };
+    let target = Node::at(place);
     if target != own {
         row.push(target)?;
     }
-    Ok(target.saturating_add(1))
+    Ok(place.saturating_add(1))
 }
 
-// A plain action enables the feature of the key's name, which is looked for at `near` first. The
-// answer is as of `push_target`.
-fn push_action(
-    row: &mut Vec<usize>,
-    key: &str,
-    action: &DepAction<'_>,
-    keys: &[&str],
-    own: usize,
-    near: usize,
-) -> Result<usize, AllocError>
-    requires { IsAscending (λ a b. IsTrue (is_below a b)) (texts_of keys.now) }
-    ensures { OnOk result ((x : ℕ) → Among row.new.items x ↔ (Among row.old.items x
-        ⊎ (((x < length keys.now) × (x ≢ own) × (text_at (texts_of keys.now) x ≡ key.now))
-        × IsPlain (Some (action_of action.now))))) }
+// Whether an action enables the feature of its key's name.
+fn is_plain(action: &DepAction<'_>) -> bool
+    ensures { IsTrue result ↔ IsPlain (Some (action_of action.now)) }
 {
-    if action.is_conditional || action.is_dep_only {
-        return Ok(near);
-    }
-    push_target(row, key, keys, own, near)
+    !action.is_conditional && !action.is_dep_only
 }
 
-// The same where there is an action. An implied feature acts on the dependency of its own name, so
-// the first is looked for there.
+// Those that the actions enable, other than the one in place `own`, where there is an action. An
+// implied feature acts on the dependency of its own name, so the first is looked for there.
 fn push_each_action(
-    row: &mut Vec<usize>,
+    row: &mut Vec<Node>,
     actions: &BTreeMap<&str, DepAction<'_>>,
     keys: &[&str],
-    own: usize,
+    own: Node,
 ) -> Result<(), AllocError>
     requires { IsAscending (λ a b. IsTrue (is_below a b)) (texts_of keys.now) }
     ensures { OnOk result ((x : ℕ) → Among row.new.items x ↔ (Among row.old.items x
         ⊎ ((x < length keys.now) × (x ≢ own)
         × IsPlain (action_at actions.now (text_at (texts_of keys.now) x))))) }
 {
-    let mut near = own;
+    let mut near = own.place();
     for (key, action) in actions.iter() {
-        near = push_action(row, *key, action, keys, own, near)?;
+        if is_plain(action) {
+            near = push_target(row, *key, keys, own, near)?;
+        }
     }
     Ok(())
 }
 
 /// Those that the actions enable, other than the one in place `own`.
 pub(crate) fn push_actions(
-    row: &mut Vec<usize>,
+    row: &mut Vec<Node>,
     actions: &BTreeMap<&str, DepAction<'_>>,
     keys: &[&str],
-    own: usize,
+    own: Node,
 ) -> Result<(), AllocError>
     requires { IsAscending (λ a b. IsTrue (is_below a b)) (texts_of keys.now) }
     ensures { OnOk result ((x : ℕ) → Among row.new.items x
@@ -278,14 +253,14 @@ pub(crate) fn push_actions(
     push_each_action(row, actions, keys, own)
 }
 
-// The features that the one in place `own` enables; `named` has the numbers of what it names.
+// The features that the one in place `own` enables; `named` has the nodes of what it names.
 fn edge_row(
     alloc: Global,
     feature: &Feature<'_>,
-    named: &[usize],
+    named: &[Node],
     keys: &[&str],
-    own: usize,
-) -> Result<Vec<usize>, AllocError>
+    own: Node,
+) -> Result<Vec<Node>, AllocError>
     requires { IsAscending (λ a b. IsTrue (is_below a b)) (texts_of keys.now) }
     ensures { IfOk result (λ row. (x : ℕ) → Among row.items x
         ↔ ((x < length keys.now) × (x ≢ own) × (Among named.now x
@@ -296,13 +271,13 @@ fn edge_row(
     Ok(row)
 }
 
-// The features that each feature enables; `names` has the numbers of what each names.
+// The features that each feature enables; `names` has the nodes of what each names.
 fn edge_rows(
     alloc: Global,
     features: &[Feature<'_>],
-    names: &[Vec<usize>],
+    names: &[Vec<Node>],
     keys: &[&str],
-) -> Result<Vec<Vec<usize>>, AllocError>
+) -> Result<Vec<Vec<Node>>, AllocError>
     requires names { length names.now ≡ length features.now }
     requires keys { IsAscending (λ a b. IsTrue (is_below a b)) (texts_of keys.now) }
     ensures len { IfOk result (λ rows. length rows.items ≡ length features.now) }
@@ -311,7 +286,13 @@ fn edge_rows(
 {
     let mut rows = Vec::with_capacity(alloc, features.len())?;
     for own in 0..features.len() {
-        let row = edge_row(alloc, &features[own], names[own].as_slice(), keys, own)?;
+        let row = edge_row(
+            alloc,
+            &features[own],
+            names[own].as_slice(),
+            keys,
+            Node::at(own),
+        )?;
         rows.push(row)?;
     }
     Ok(rows)
@@ -330,7 +311,7 @@ fn all_flags(alloc: Global, flags: &[bool], size: usize) -> Result<Vec<bool>, Al
     Ok(all)
 }
 
-/// The features as a graph of numbers, with a flag for each number. An edge leads from a feature to
+/// The features as a graph of nodes, with a flag for each node. An edge leads from a feature to
 /// another one that it names or acts on plainly. It fails only where memory runs out.
 pub fn number<'m>(
     alloc: Global,
@@ -345,7 +326,6 @@ pub fn number<'m>(
     ensures count { IfOk result (λ g. length g.edges.items ≡ length features.now) }
     ensures vertices { IfOk result (λ g. (i : ℕ) → i < length features.now →
         text_at (texts_of g.texts.items) i ≡ text_at (names_of features.now) i) }
-    ensures names_len { IfOk result (λ g. length g.names.items ≡ length features.now) }
 {
     let texts = all_texts(alloc, features)?;
     let names = name_rows(alloc, features, texts.as_slice())?;

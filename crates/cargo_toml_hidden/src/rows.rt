@@ -1,16 +1,18 @@
 //! What stands for removed features, in a map by their names.
-ghost use Rattle.std.specs.Prelude.{◌≡◌, ◌<◌, ◌≤◌, ℕ, true, IfOk, IsFalse};
+ghost use Rattle.std.specs.Prelude.{◌≡◌, ◌<◌, ℕ, true, IfOk, IsFalse};
 ghost use Rattle.std.specs.Prelude.{IsSome, OnOk, bytes_eq, length};
 ghost use Rattle.std.specs.Option.{IsSomeAnd};
 ghost use Rattle.cargo_toml_graph.specs.Action.{Text};
 ghost use Rattle.cargo_toml_graph.specs.Reach.{Among};
 ghost use Rattle.cargo_toml_features.specs.Views.{value_at};
 ghost use Rattle.cargo_toml_walk.specs.Numbered.{text_at};
-ghost use Rattle.cargo_toml_walk.specs.Numbers.{IsWanted, Leads, list_at};
+ghost use Rattle.cargo_toml_walk.specs.Numbers.{IsWanted, list_at};
 ghost use Rattle.cargo_toml_hidden.specs.Leaving.{HasTexts};
 ghost use Rattle.cargo_toml_hidden.specs.Texts.{texts_of};
 
+use crate::graph::Walked;
 use crate::leaving::set_of;
+use cargo_toml_walk::node::Node;
 use std::alloc::{AllocError, Global};
 use std::collections::{BTreeSet, HashMap};
 use std::hash::BuildHasher;
@@ -20,7 +22,7 @@ fn put_row<'m, S: BuildHasher>(
     alloc: Global,
     hidden: &mut HashMap<&'m str, BTreeSet<&'m str>, S>,
     name: &'m str,
-    row: &[usize],
+    row: &[Node],
     texts: &[&'m str],
 ) -> Result<(), AllocError>
     requires { (x : ℕ) → Among row.now x → x < length texts.now }
@@ -34,34 +36,34 @@ fn put_row<'m, S: BuildHasher>(
     Ok(())
 }
 
-/// What stands for each removed feature, by its name, in a hashed map: the texts of its row.
-///
-/// The names of the features are the first of `texts`, one for each row, and those whose flag
-/// stands are removed. It fails only where memory runs out.
+/// What stands for each removed feature, by its name, in a hashed map: the texts of its row. It
+/// fails only where memory runs out.
 pub fn hashed_rows<'m, S: BuildHasher + Drop>(
     alloc: Global,
     state: S,
-    rows: &[Vec<usize>],
-    flags: &[bool],
-    texts: &[&'m str],
+    walked: &Walked<'m>,
 ) -> Result<HashMap<&'m str, BTreeSet<&'m str>, S>, AllocError>
-    requires once { (i j : ℕ) → i < length texts.now → j < length texts.now
-        → text_at (texts_of texts.now) i ≡ text_at (texts_of texts.now) j → i ≡ j }
-    requires texts { length rows.now ≤ length texts.now }
-    requires flags { length rows.now ≤ length flags.now }
-    requires inside { (r x : ℕ) → Leads rows.now r x → x < length texts.now }
-    ensures there { IfOk result (λ m. (i : ℕ) → i < length rows.now → IsWanted flags.now true i
-        → IsSomeAnd (value_at m (text_at (texts_of texts.now) i))
-        (HasTexts (texts_of texts.now) (list_at rows.now i))) }
+    ensures there { IfOk result
+        (λ m. (i : ℕ) → i < length walked.now.rows.items → IsWanted walked.now.flags.items true i
+        → IsSomeAnd (value_at m (text_at (texts_of walked.now.texts.items) i))
+        (HasTexts (texts_of walked.now.texts.items) (list_at walked.now.rows.items i))) }
     ensures only { IfOk result (λ m. (r : Text) → IsSome (value_at m r)
-        → (i : ℕ) × (i < length rows.now) × (text_at (texts_of texts.now) i ≡ r)
-        × IsWanted flags.now true i) }
+        → (i : ℕ) × (i < length walked.now.rows.items)
+        × (text_at (texts_of walked.now.texts.items) i ≡ r)
+        × IsWanted walked.now.flags.items true i) }
 {
-    let count = flags.iter().filter(|flag| **flag).count();
+    let count = walked.flags.iter().filter(|flag| **flag).count();
     let mut hidden = HashMap::with_capacity_and_hasher(alloc, count, state)?;
-    for (i, row) in rows.iter().enumerate() {
-        if flags[i] {
-            put_row(alloc, &mut hidden, texts[i], row.as_slice(), texts)?;
+    for r in 0..walked.rows.len() {
+        if walked.flags[r] {
+            let row = walked.rows[r].as_slice();
+            put_row(
+                alloc,
+                &mut hidden,
+                walked.texts[r],
+                row,
+                walked.texts.as_slice(),
+            )?;
         }
     }
     Ok(hidden)

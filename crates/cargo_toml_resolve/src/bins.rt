@@ -5,8 +5,9 @@ ghost use Rattle.cargo_toml_resolve.specs.Requiring.{RequiredAll};
 ghost use Rattle.cargo_toml_features.specs.InOrder.{AreInOrder, names_of};
 ghost use Rattle.cargo_toml_walk.specs.Numbered.{text_at};
 
-use crate::ordered::place_among;
+use crate::ordered::node_among;
 use cargo_toml_features::features::Feature;
+use cargo_toml_walk::node::Node;
 use std::alloc::AllocError;
 
 /// A feature that a binary requires.
@@ -18,20 +19,16 @@ pub struct Requirement<'m> {
     pub bin: &'m str,
 }
 
-// Adds a binary to the feature at this place.
-fn require_at<'m>(
-    features: &mut [Feature<'m>],
-    place: usize,
-    bin: &'m str,
-) -> Result<(), AllocError>
-    requires place { place < length features.old }
+// Adds a binary to a feature.
+fn require_at<'m>(features: &mut [Feature<'m>], at: Node, bin: &'m str) -> Result<(), AllocError>
+    requires at { at < length features.old }
     requires in_order { AreInOrder features.old }
     ensures required { OnOk result
-        (RequiredAll (own_of ((text_at (names_of features.old) place, bin.now) ∷ [])) features.old
+        (RequiredAll (own_of ((text_at (names_of features.old) at, bin.now) ∷ [])) features.old
         features.new) }
     ensures same_names { names_of features.new ≡ names_of features.old }
 {
-    features[place].required_by_bins.push(bin)?;
+    features[at.place()].required_by_bins.push(bin)?;
     Ok(())
 }
 
@@ -47,11 +44,11 @@ fn require<'m>(
         (RequiredAll (own_of (requirement_of requirement.now ∷ [])) features.old features.new) }
     ensures same_names { names_of features.new ≡ names_of features.old }
 {
-    let Some(place) = place_among(features, requirement.feature, near) else {
+    let Some(at) = node_among(features, requirement.feature, near) else {
         return Ok(near);
     };
-    require_at(features, place, requirement.bin)?;
-    Ok(place.saturating_add(1))
+    require_at(features, at, requirement.bin)?;
+    Ok(at.place().saturating_add(1))
 }
 
 // Adds each binary to the features that it requires.

@@ -9,6 +9,7 @@ mod acted;
 mod acting;
 pub mod bins;
 mod imply;
+pub mod key;
 mod names;
 mod ordered;
 pub mod places;

@@ -9,6 +9,7 @@ ghost use Rattle.cargo_toml_resolve.specs.Placing.{IsBoundOf, IsPlaceOf};
 ghost use Rattle.cargo_toml_walk.specs.Numbered.{text_at};
 
 use cargo_toml_features::features::Feature;
+use cargo_toml_walk::node::Node;
 use std::alloc::AllocError;
 
 // Whether the name of the feature at this place is below another.
@@ -59,19 +60,19 @@ pub fn is_there(features: &[Feature<'_>], name: &str) -> bool
     stands_at(features, lower_bound(features, name), name)
 }
 
-/// Where the feature of a name stands, if there is one. It is looked for at `near` first.
-pub fn place_among(features: &[Feature<'_>], name: &str, near: usize) -> Option<usize>
+/// The feature of a name, if there is one. It is looked for at `near` first.
+pub fn node_among(features: &[Feature<'_>], name: &str, near: usize) -> Option<Node>
     requires { AreInOrder features.now }
     ensures found { IfSome result (λ i. (i < length features.now)
         × (text_at (names_of features.now) i ≡ name.now)) }
     ensures there { is_some result ≡ is_some (feature_at features.now name.now) }
 {
     if stands_at(features, near, name) {
-        return Some(near);
+        return Some(Node::at(near));
     }
     let place = lower_bound(features, name);
     if stands_at(features, place, name) {
-        Some(place)
+        Some(Node::at(place))
     } else {
         None
     }

@@ -8,6 +8,7 @@ ghost use Rattle.cargo_toml_resolve.specs.Ascending.{Ascend};
 ghost use Rattle.cargo_toml_resolve.specs.Slots.{HaveSameNames, held_in, names_in};
 ghost use Rattle.cargo_toml_walk.specs.Numbered.{text_at};
 
+use crate::key::Key;
 use crate::slots::Slots;
 use cargo_toml_walk::texts::place_of;
 use std::alloc::{AllocError, Global};
@@ -63,14 +64,24 @@ impl<'n, V: Drop> Slots<'n, V> {
         self.values[place].as_ref()
     }
 
-    /// Puts a value under the name of this place.
-    pub fn put(&mut self, place: usize, value: V)
-        requires place { place < length self.old.names.items }
+    /// The key of a name, if it is there. It is looked for as by [`place_near`].
+    pub fn key_near(&self, name: &str, near: usize) -> Option<Key>
+        ensures found { IfSome result (λ k. (k < length self.now.names.items)
+            × (text_at (names_in self.now) k ≡ name.now)) }
+        ensures missing { result ≡ None → ¬ Among (names_in self.now) name.now }
+    {
+        let place = place_near(self.names.as_slice(), name, near)?;
+        Some(Key::at(place))
+    }
+
+    /// Puts a value under a key.
+    pub fn put(&mut self, key: Key, value: V)
+        requires key { key < length self.old.names.items }
         ensures same_names { HaveSameNames self.old self.new }
         ensures held { (f : Text) → held_in self.new f
-            ≡ (if bytes_eq f (text_at (names_in self.old) place) then Some value
+            ≡ (if bytes_eq f (text_at (names_in self.old) key) then Some value
             else held_in self.old f) }
     {
-        self.values[place] = Some(value);
+        self.values[key.place()] = Some(value);
     }
 }

@@ -14,9 +14,10 @@ ghost use Rattle.cargo_toml_resolve.specs.Slots.{HaveSameNames, names_in};
 ghost use Rattle.cargo_toml_features.specs.Views.{entry_of, recorded_in, target_of};
 ghost use Rattle.cargo_toml_walk.specs.Numbered.{text_at};
 
+use crate::key::Key;
 use crate::names::ascending;
 use crate::ordered::is_there;
-use crate::places::{empty_slots, place_near};
+use crate::places::empty_slots;
 use crate::read::Mentions;
 use crate::slots::Slots;
 use cargo_toml_features::features::{FeatureDependency, ParseDependency, TargetKey};
@@ -103,15 +104,15 @@ fn counting_entries<'m: 'd, 'd>(
     Ok(Counting { flags, keys })
 }
 
-// Records an entry at the place of its key.
+// Records an entry under its key.
 fn record_at<'m: 'd, 'd>(
     alloc: Global,
     dependencies: &mut Slots<'d, FeatureDependency<'d>>,
-    place: usize,
+    key: Key,
     entry: &ParseDependency<'m, 'd>,
 ) -> Result<(), AllocError>
-    requires place { place < length dependencies.old.names.items }
-    requires named { text_at (names_in dependencies.old) place ≡ entry.now.key.now }
+    requires key { key < length dependencies.old.names.items }
+    requires named { text_at (names_in dependencies.old) key ≡ entry.now.key.now }
     ensures recorded { OnOk result ((q : Text) → recorded_at dependencies.new q
         ≡ (if bytes_eq entry.now.key.now q
         then Some (recorded_with (recorded_at dependencies.old q) (entry_of entry.now))
@@ -119,9 +120,9 @@ fn record_at<'m: 'd, 'd>(
     ensures same_names { OnOk result (HaveSameNames dependencies.old dependencies.new) }
 {
     let first = without_targets(alloc, entry);
-    let mut dependency = dependencies.values[place].take().unwrap_or(first);
+    let mut dependency = dependencies.values[key.place()].take().unwrap_or(first);
     add_target(&mut dependency, entry)?;
-    dependencies.put(place, dependency);
+    dependencies.put(key, dependency);
     Ok(())
 }
 
@@ -142,12 +143,12 @@ fn record_entry<'m: 'd, 'd>(
         ≡ recorded_after mentioned (entry_of entry.now) q (recorded_at dependencies.old q)) }
     ensures same_names { OnOk result (HaveSameNames dependencies.old dependencies.new) }
 {
-    let Some(place) = place_near(dependencies.names.as_slice(), entry.key, near) else {
+    let Some(key) = dependencies.key_near(entry.key, near) else {
         return Ok(near);
     };
-    let next = place.saturating_add(1);
-    if is_counted || dependencies.values[place].is_some() {
-        record_at(alloc, dependencies, place, entry)?;
+    let next = key.place().saturating_add(1);
+    if is_counted || dependencies.values[key.place()].is_some() {
+        record_at(alloc, dependencies, key, entry)?;
     }
     Ok(next)
 }

@@ -170,5 +170,16 @@ list_read [] i v lt e = absurd (omega arith)
 list_read (y ∷ ys) zero v lt e = ap (λ w. w.items) (sym e)
 list_read (y ∷ ys) (suc i) v lt e = list_read ys i v (omega arith) e
 
+-- an element of a list, and its place
+pub item_is : (xs : List ℕ) (i x : ℕ) → i < length xs → x ≡ get_or xs i x → x ≡ get_or xs i 0
+item_is xs i x lt is = sym (read_at xs i 0 x lt is)
+
+pub item_at : (xs : List ℕ) (i x p : ℕ) → i < length xs → x ≡ get_or xs i x → p ≡ x → p ≡ get_or xs i 0
+item_at xs i x p lt is at = at ∙ item_is xs i x lt is
+
+-- a row that is read at the place of a node
+pub row_read : {Z : Type 0} (rows : List (Vec ℕ Z)) (i p : ℕ) (v : Vec ℕ Z) → i < length rows → p ≡ i → v ≡ get_or rows p v → list_at rows i ≡ v.items
+row_read rows i p v lt at is = list_read rows i v lt (subst (λ n. v ≡ get_or rows n v) at is)
+
 pub older_stamps : (epoch : ℕ) (m0 m1 m2 : List ℕ) → OldStamps epoch m0 m1 → OldStamps epoch m1 m2 → OldStamps epoch m0 m2
 older_stamps epoch m0 m1 m2 v w = λ y. elim (w y) [ inr e ↦ inr e | inl e ↦ elim (v y) [ inl d ↦ inl (e ∙ d) | inr d ↦ inr (e ∙ d) ] ]

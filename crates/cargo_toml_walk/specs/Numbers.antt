@@ -34,6 +34,22 @@ OldStamps epoch met met' =
 abbrev pub unmet : ℕ → List ℕ → ℕ
 unmet epoch met = sum_by (λ s. if nat_eq s epoch then 0 else 1) met
 
+-- what is met on the way along the rows may be stamped by `epoch`
+pub record CanMeet {Z : Type 0} (epoch : ℕ) (rows : List (Vec ℕ Z)) (flags : List Bool)
+    (met : List ℕ) : Type 0 where
+  -- each that a row leads to has a stamp, and each that has a stamp has a flag
+  pub inside : (a x : ℕ) → Leads rows a x → x < length met
+  pub fits : length met ≤ length flags
+  -- none has this stamp yet
+  pub fresh : IsFresh epoch met
+
+-- edges lead to vertices, and each vertex and each label has a flag
+pub record AreWithin {Z : Type 0} (edges labels : List (Vec ℕ Z)) (flags : List Bool) : Type 0 where
+  pub same : length labels ≡ length edges
+  pub count : length edges ≤ length flags
+  pub edges_inside : (a b : ℕ) → Leads edges a b → b < length edges
+  pub labels_inside : (a x : ℕ) → Leads labels a x → x < length flags
+
 -- the named numbers are found too, each that was not there put at the end, and nothing else changes
 pub record Visits (epoch : ℕ) (Named : ℕ → Type 0) (found found' met met' : List ℕ) : Type 0 where
   pub marks : Marks epoch found' met'

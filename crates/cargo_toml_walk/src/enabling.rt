@@ -4,9 +4,10 @@ ghost use Rattle.cargo_toml_graph.specs.Reach.{Among};
 ghost use Rattle.cargo_toml_walk.specs.Numbers.{HasLabel, IsEnabledBy, IsPassed};
 ghost use Rattle.cargo_toml_walk.specs.Numbers.{IsWanted, Leads, Links};
 
+use crate::node::Node;
 use std::alloc::{AllocError, Global};
 
-fn ends_with(list: &[usize], e: usize) -> bool
+fn ends_with(list: &[Node], e: Node) -> bool
     ensures { IsTrue result → Among list.now e }
 {
     list.last() == Some(&e)
@@ -14,11 +15,11 @@ fn ends_with(list: &[usize], e: usize) -> bool
 
 // e is put at the end of y's list, unless it stands there. The lists get all that is linked to e at
 // a stretch: a list with e ends with it.
-fn link(by: &mut Vec<Vec<usize>>, y: usize, e: usize) -> Result<(), AllocError>
+fn link(by: &mut Vec<Vec<Node>>, y: Node, e: Node) -> Result<(), AllocError>
     requires { y < length by.old.items }
     ensures { OnOk result (Links (λ f. f ≡ y) e by.old.items by.new.items) }
 {
-    let list = &mut by[y];
+    let list = &mut by[y.place()];
     if !ends_with(list.as_slice(), e) {
         list.push(e)?;
     }
@@ -27,10 +28,10 @@ fn link(by: &mut Vec<Vec<usize>>, y: usize, e: usize) -> Result<(), AllocError>
 
 // e is put into the lists of the kept targets.
 fn link_targets(
-    by: &mut Vec<Vec<usize>>,
-    targets: &[usize],
+    by: &mut Vec<Vec<Node>>,
+    targets: &[Node],
     is_removed: &[bool],
-    e: usize,
+    e: Node,
 ) -> Result<(), AllocError>
     requires fits { length by.old.items ≤ length is_removed.now }
     requires inside { (y : ℕ) → Among targets.now y → y < length by.old.items }
@@ -38,7 +39,7 @@ fn link_targets(
         by.old.items by.new.items) }
 {
     for y in targets {
-        if !is_removed[*y] {
+        if !is_removed[y.place()] {
             link(by, *y, e)?;
         }
     }
@@ -47,11 +48,11 @@ fn link_targets(
 
 // e is put into the lists of the kept targets of the row `at`.
 fn link_row(
-    by: &mut Vec<Vec<usize>>,
-    edges: &[Vec<usize>],
-    at: usize,
+    by: &mut Vec<Vec<Node>>,
+    edges: &[Vec<Node>],
+    at: Node,
     is_removed: &[bool],
-    e: usize,
+    e: Node,
 ) -> Result<(), AllocError>
     requires at { at < length edges.now }
     requires fits { length by.old.items ≤ length is_removed.now }
@@ -59,16 +60,16 @@ fn link_row(
     ensures { OnOk result (Links (λ f. Leads edges.now at f × IsWanted is_removed.now false f) e
         by.old.items by.new.items) }
 {
-    link_targets(by, edges[at].as_slice(), is_removed, e)
+    link_targets(by, edges[at.place()].as_slice(), is_removed, e)
 }
 
 // e is put into the lists of the kept ones to which e or a passed vertex has an edge.
 fn link_all(
-    by: &mut Vec<Vec<usize>>,
-    edges: &[Vec<usize>],
-    passed: &[usize],
+    by: &mut Vec<Vec<Node>>,
+    edges: &[Vec<Node>],
+    passed: &[Node],
     is_removed: &[bool],
-    e: usize,
+    e: Node,
 ) -> Result<(), AllocError>
     requires own { e < length edges.now }
     requires passed { (b : ℕ) → Among passed.now b → b < length edges.now }
@@ -84,11 +85,11 @@ fn link_all(
     Ok(())
 }
 
-fn empty_lists(alloc: Global, size: usize) -> Result<Vec<Vec<usize>>, AllocError>
+fn empty_lists(alloc: Global, size: usize) -> Result<Vec<Vec<Node>>, AllocError>
     ensures len { IfOk result (λ by. length by.items ≡ size) }
     ensures empty { IfOk result (λ by. (f x : ℕ) → ¬ Leads by.items f x) }
 {
-    let mut by: Vec<Vec<usize>> = Vec::with_capacity(alloc, size)?;
+    let mut by: Vec<Vec<Node>> = Vec::with_capacity(alloc, size)?;
     while by.len() < size {
         by.push(Vec::new(alloc))?;
     }
@@ -98,10 +99,10 @@ fn empty_lists(alloc: Global, size: usize) -> Result<Vec<Vec<usize>>, AllocError
 /// For each vertex that isn't removed, those that aren't removed and reach it through removed ones.
 pub fn enablers(
     alloc: Global,
-    edges: &[Vec<usize>],
-    passed: &[Vec<usize>],
+    edges: &[Vec<Node>],
+    passed: &[Vec<Node>],
     is_removed: &[bool],
-) -> Result<Vec<Vec<usize>>, AllocError>
+) -> Result<Vec<Vec<Node>>, AllocError>
     requires whole { length edges.now ≤ length is_removed.now }
     requires inside { (a b : ℕ) → Leads edges.now a b → b < length edges.now }
     requires len { length passed.now ≡ length edges.now }
@@ -116,7 +117,13 @@ pub fn enablers(
     let mut by = empty_lists(alloc, edges.len())?;
     for e in 0..edges.len() {
         if !is_removed[e] {
-            link_all(&mut by, edges, passed[e].as_slice(), is_removed, e)?;
+            link_all(
+                &mut by,
+                edges,
+                passed[e].as_slice(),
+                is_removed,
+                Node::at(e),
+            )?;
         }
     }
     Ok(by)

@@ -1,19 +1,20 @@
 //! The labels that vertices have once removed ones are taken out.
 ghost use Rattle.std.specs.Prelude.{◌≡◌, ◌<◌, ◌≤◌, ◌↔◌, IfOk, OnOk, ℕ, length, false};
 ghost use Rattle.cargo_toml_graph.specs.Reach.{Among};
-ghost use Rattle.cargo_toml_walk.specs.Numbers.{HasLabel, IsFresh, IsWanted, Leads};
-ghost use Rattle.cargo_toml_walk.specs.Numbers.{Marks, OldStamps, PassesAny, Visits};
+ghost use Rattle.cargo_toml_walk.specs.Numbers.{AreWithin, CanMeet, HasLabel, IsWanted};
+ghost use Rattle.cargo_toml_walk.specs.Numbers.{Leads, Marks, OldStamps, PassesAny, Visits};
 
+use crate::node::Node;
 use crate::walk::visit_row;
 use std::alloc::{AllocError, Global};
 
 // The labels of the passed vertices whose flag is false are met.
 fn visit_rows(
-    found: &mut Vec<usize>,
+    found: &mut Vec<Node>,
     met: &mut Vec<usize>,
     epoch: usize,
-    labels: &[Vec<usize>],
-    passed: &[usize],
+    labels: &[Vec<Node>],
+    passed: &[Node],
     flags: &[bool],
 ) -> Result<(), AllocError>
     requires passed { (b : ℕ) → Among passed.now b → b < length labels.now }
@@ -33,42 +34,39 @@ fn visit_rows(
 // of those that are met.
 pub(crate) fn kept_labels(
     alloc: Global,
-    own: usize,
-    passed: &[usize],
-    labels: &[Vec<usize>],
+    own: Node,
+    passed: &[Node],
+    labels: &[Vec<Node>],
     flags: &[bool],
     met: &mut Vec<usize>,
-) -> Result<Vec<usize>, AllocError>
+) -> Result<Vec<Node>, AllocError>
     requires own { own < length labels.now }
     requires passed { (b : ℕ) → Among passed.now b → b < length labels.now }
-    requires fits { length met.old.items ≤ length flags.now }
-    requires inside { (a x : ℕ) → Leads labels.now a x → x < length met.old.items }
-    requires fresh { IsFresh own met.old.items }
+    requires ready { CanMeet own labels.now flags.now met.old.items }
     ensures labels { IfOk result (λ found. (x : ℕ) → Among found.items x
         ↔ HasLabel (Among passed.now) labels.now flags.now own x) }
     ensures len { OnOk result (length met.new.items ≡ length met.old.items) }
     ensures stamps { OnOk result (OldStamps own met.old.items met.new.items) }
 {
-    let mut found = Vec::with_capacity(alloc, labels[own].len())?;
-    visit_row(&mut found, met, own, labels, own, flags, false)?;
-    visit_rows(&mut found, met, own, labels, passed, flags)?;
+    let epoch = own.place();
+    let mut found = Vec::with_capacity(alloc, labels[own.place()].len())?;
+    visit_row(&mut found, met, epoch, labels, own, flags, false)?;
+    visit_rows(&mut found, met, epoch, labels, passed, flags)?;
     Ok(found)
 }
 
 // The labels that a vertex then has, if it passes any; else nothing, which takes no memory.
 fn labels_of(
     alloc: Global,
-    own: usize,
-    passed: &[usize],
-    labels: &[Vec<usize>],
+    own: Node,
+    passed: &[Node],
+    labels: &[Vec<Node>],
     is_removed: &[bool],
     met: &mut Vec<usize>,
-) -> Result<Vec<usize>, AllocError>
+) -> Result<Vec<Node>, AllocError>
     requires own { own < length labels.now }
     requires passed { (b : ℕ) → Among passed.now b → b < length labels.now }
-    requires fits { length met.old.items ≤ length is_removed.now }
-    requires inside { (a x : ℕ) → Leads labels.now a x → x < length met.old.items }
-    requires fresh { IsFresh own met.old.items }
+    requires ready { CanMeet own labels.now is_removed.now met.old.items }
     ensures labels { IfOk result (λ found. (x : ℕ) → Among found.items x
         ↔ (((c : ℕ) × Among passed.now c)
         × HasLabel (Among passed.now) labels.now is_removed.now own x)) }
@@ -85,14 +83,11 @@ fn labels_of(
 /// the passed ones, without the removed. Nothing for the others.
 pub fn all_labels(
     alloc: Global,
-    passed: &[Vec<usize>],
-    labels: &[Vec<usize>],
+    passed: &[Vec<Node>],
+    labels: &[Vec<Node>],
     is_removed: &[bool],
-) -> Result<Vec<Vec<usize>>, AllocError>
-    requires same { length passed.now ≡ length labels.now }
-    requires whole { length labels.now ≤ length is_removed.now }
-    requires passed { (a b : ℕ) → Leads passed.now a b → b < length labels.now }
-    requires inside { (a x : ℕ) → Leads labels.now a x → x < length is_removed.now }
+) -> Result<Vec<Vec<Node>>, AllocError>
+    requires { AreWithin passed.now labels.now is_removed.now }
     ensures len { IfOk result (λ r. length r.items ≡ length labels.now) }
     ensures labels { IfOk result (λ r. (a x : ℕ) → a < length labels.now → PassesAny passed.now a
         → Leads r.items a x ↔ HasLabel (Leads passed.now a) labels.now is_removed.now a x) }
@@ -106,7 +101,7 @@ pub fn all_labels(
     for own in 0..size {
         let row = labels_of(
             alloc,
-            own,
+            Node::at(own),
             passed[own].as_slice(),
             labels,
             is_removed,

@@ -3,6 +3,7 @@
 
 pub mod enabling;
 pub mod labels;
+pub mod node;
 pub mod redirects;
 pub mod texts;
 pub mod walk;

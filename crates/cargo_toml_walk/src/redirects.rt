@@ -1,12 +1,13 @@
 //! What stands for a removed vertex: the labels that it has once the removed vertices
 //! below it are taken out.
-ghost use Rattle.std.specs.Prelude.{◌≡◌, ◌<◌, ◌≤◌, ◌↔◌, ℕ, length, true, false};
+ghost use Rattle.std.specs.Prelude.{◌≡◌, ◌<◌, ◌↔◌, ℕ, length, true, false};
 ghost use Rattle.std.specs.Prelude.{IfOk, IsTrue, OnOk};
 ghost use Rattle.cargo_toml_graph.specs.Reach.{Among};
-ghost use Rattle.cargo_toml_walk.specs.Numbers.{HasLabel, IsFresh, IsRedirect};
+ghost use Rattle.cargo_toml_walk.specs.Numbers.{AreWithin, CanMeet, HasLabel, IsRedirect};
 ghost use Rattle.cargo_toml_walk.specs.Numbers.{IsWanted, Leads, OldStamps, Replaces};
 
 use crate::labels::kept_labels;
+use crate::node::Node;
 use crate::walk::passing;
 use std::alloc::{AllocError, Global};
 
@@ -27,12 +28,12 @@ fn is_sole(flags: &[bool]) -> bool
     true
 }
 
-fn has_finished(row: &[usize], finished: &[bool]) -> bool
+fn has_finished(row: &[Node], finished: &[bool]) -> bool
     requires { (x : ℕ) → Among row.now x → x < length finished.now }
     ensures { result ≡ false → (x : ℕ) → Among row.now x → IsWanted finished.now false x }
 {
     for x in row {
-        if finished[*x] {
+        if finished[x.place()] {
             return true;
         }
     }
@@ -40,29 +41,27 @@ fn has_finished(row: &[usize], finished: &[bool]) -> bool
 }
 
 // Whether r passes nothing and its row has nothing finished: the row then stays as it is.
-fn stays(r: usize, rows: &[Vec<usize>], passed: &[usize], finished: &[bool]) -> bool
+fn stays(r: Node, rows: &[Vec<Node>], passed: &[Node], finished: &[bool]) -> bool
     requires own { r < length rows.now }
     requires inside { (a x : ℕ) → Leads rows.now a x → x < length finished.now }
     ensures { result ≡ true
         → Replaces r (HasLabel (Among passed.now) rows.now finished.now r) rows.now rows.now }
 {
-    passed.is_empty() && !has_finished(rows[r].as_slice(), finished)
+    passed.is_empty() && !has_finished(rows[r.place()].as_slice(), finished)
 }
 
 // The row of r becomes what it and the passed rows have, without the finished ones.
 fn finish(
     alloc: Global,
-    r: usize,
-    rows: &mut Vec<Vec<usize>>,
-    passed: &[usize],
+    r: Node,
+    rows: &mut Vec<Vec<Node>>,
+    passed: &[Node],
     finished: &[bool],
     met: &mut Vec<usize>,
 ) -> Result<(), AllocError>
     requires own { r < length rows.old.items }
     requires passed { (b : ℕ) → Among passed.now b → b < length rows.old.items }
-    requires fits { length met.old.items ≤ length finished.now }
-    requires inside { (a x : ℕ) → Leads rows.old.items a x → x < length met.old.items }
-    requires fresh { IsFresh r met.old.items }
+    requires ready { CanMeet r rows.old.items finished.now met.old.items }
     ensures row { OnOk result (Replaces r
         (HasLabel (Among passed.now) rows.old.items finished.now r) rows.old.items rows.new.items) }
     ensures len { OnOk result (length met.new.items ≡ length met.old.items) }
@@ -72,7 +71,7 @@ fn finish(
         return Ok(());
     }
     let row = kept_labels(alloc, r, passed, rows.as_slice(), finished, met)?;
-    rows[r] = row;
+    rows[r.place()] = row;
     Ok(())
 }
 
@@ -80,14 +79,11 @@ fn finish(
 /// are taken out. The others keep their labels.
 pub fn redirects(
     alloc: Global,
-    mut edges: Vec<Vec<usize>>,
-    mut labels: Vec<Vec<usize>>,
+    mut edges: Vec<Vec<Node>>,
+    mut labels: Vec<Vec<Node>>,
     is_removed: &[bool],
-) -> Result<Vec<Vec<usize>>, AllocError>
-    requires same { length edges.items ≡ length labels.items }
-    requires whole { length labels.items ≤ length is_removed.now }
-    requires edges { (a b : ℕ) → Leads edges.items a b → b < length edges.items }
-    requires labels { (a x : ℕ) → Leads labels.items a x → x < length is_removed.now }
+) -> Result<Vec<Vec<Node>>, AllocError>
+    requires { AreWithin edges.items labels.items is_removed.now }
     ensures len { IfOk result (λ rows. length rows.items ≡ length labels.items) }
     ensures redirects { IfOk result
         (λ rows. (r x : ℕ) → r < length labels.items → IsWanted is_removed.now true r
@@ -109,11 +105,12 @@ pub fn redirects(
     let mut met_labels = Vec::from_elem(alloc, total, total)?;
     for r in 0..size {
         if is_removed[r] {
+            let own = Node::at(r);
             let flags = finished.as_slice();
-            let passed = passing(alloc, r, edges.as_slice(), flags, &mut met)?;
+            let passed = passing(alloc, own, edges.as_slice(), flags, &mut met)?;
             let below = passed.as_slice();
-            finish(alloc, r, &mut labels, below, flags, &mut met_labels)?;
-            finish(alloc, r, &mut edges, below, flags, &mut met_targets)?;
+            finish(alloc, own, &mut labels, below, flags, &mut met_labels)?;
+            finish(alloc, own, &mut edges, below, flags, &mut met_targets)?;
             finished[r] = true;
         }
     }

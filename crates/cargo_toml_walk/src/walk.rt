@@ -1,24 +1,25 @@
 //! What each vertex reaches through removed vertices.
 ghost use Rattle.std.specs.Prelude.{◌≡◌, ◌<◌, ◌≤◌, ◌↔◌, IfOk, OnOk, ℕ, length, true, false};
 ghost use Rattle.cargo_toml_graph.specs.Reach.{Among};
-ghost use Rattle.cargo_toml_walk.specs.Numbers.{IsFresh, IsPassed, IsWanted};
+ghost use Rattle.cargo_toml_walk.specs.Numbers.{CanMeet, IsPassed, IsWanted};
 ghost use Rattle.cargo_toml_walk.specs.Numbers.{Leads, Marks, OldStamps, Visits};
 
+use crate::node::Node;
 use std::alloc::{AllocError, Global};
 
 // x is met, and put at the end where it was not met before.
 fn meet(
-    found: &mut Vec<usize>,
+    found: &mut Vec<Node>,
     met: &mut Vec<usize>,
     epoch: usize,
-    x: usize,
+    x: Node,
 ) -> Result<(), AllocError>
     requires inside { x < length met.old.items }
     requires marks { Marks epoch found.old.items met.old.items }
     ensures { OnOk result
         (Visits epoch (λ y. y ≡ x) found.old.items found.new.items met.old.items met.new.items) }
 {
-    let stamp = &mut met[x];
+    let stamp = &mut met[x.place()];
     if *stamp != epoch {
         *stamp = epoch;
         found.push(x)?;
@@ -28,10 +29,10 @@ fn meet(
 
 // The targets whose flag is `wanted` are met.
 fn visit(
-    found: &mut Vec<usize>,
+    found: &mut Vec<Node>,
     met: &mut Vec<usize>,
     epoch: usize,
-    targets: &[usize],
+    targets: &[Node],
     flags: &[bool],
     wanted: bool,
 ) -> Result<(), AllocError>
@@ -42,7 +43,7 @@ fn visit(
         found.old.items found.new.items met.old.items met.new.items) }
 {
     for x in targets {
-        if flags[*x] == wanted {
+        if flags[x.place()] == wanted {
             meet(found, met, epoch, *x)?;
         }
     }
@@ -51,11 +52,11 @@ fn visit(
 
 // The targets in the row `at` whose flag is `wanted` are met.
 pub(crate) fn visit_row(
-    found: &mut Vec<usize>,
+    found: &mut Vec<Node>,
     met: &mut Vec<usize>,
     epoch: usize,
-    rows: &[Vec<usize>],
-    at: usize,
+    rows: &[Vec<Node>],
+    at: Node,
     flags: &[bool],
     wanted: bool,
 ) -> Result<(), AllocError>
@@ -66,23 +67,28 @@ pub(crate) fn visit_row(
     ensures { OnOk result (Visits epoch (λ y. Leads rows.now at y × IsWanted flags.now wanted y)
         found.old.items found.new.items met.old.items met.new.items) }
 {
-    visit(found, met, epoch, rows[at].as_slice(), flags, wanted)
+    visit(
+        found,
+        met,
+        epoch,
+        rows[at.place()].as_slice(),
+        flags,
+        wanted,
+    )
 }
 
 // The removed vertices that `start` reaches through removed ones. `start` is the stamp of
 // those that are met.
 pub(crate) fn passing(
     alloc: Global,
-    start: usize,
-    edges: &[Vec<usize>],
+    start: Node,
+    edges: &[Vec<Node>],
     is_removed: &[bool],
     met: &mut Vec<usize>,
-) -> Result<Vec<usize>, AllocError>
+) -> Result<Vec<Node>, AllocError>
     requires start { start < length met.old.items }
-    requires fits { length met.old.items ≤ length is_removed.now }
     requires whole { length edges.now ≡ length met.old.items }
-    requires inside { (a b : ℕ) → Leads edges.now a b → b < length met.old.items }
-    requires fresh { IsFresh start met.old.items }
+    requires ready { CanMeet start edges.now is_removed.now met.old.items }
     ensures passed { IfOk result
         (λ found. (b : ℕ) → Among found.items b ↔ IsPassed edges.now is_removed.now start b) }
     ensures len { OnOk result (length met.new.items ≡ length met.old.items) }
@@ -91,11 +97,19 @@ pub(crate) fn passing(
         (λ found. (b : ℕ) → Among found.items b → b < length met.old.items) }
 {
     let mut found = Vec::new(alloc);
-    visit_row(&mut found, met, start, edges, start, is_removed, true)?;
+    visit_row(
+        &mut found,
+        met,
+        start.place(),
+        edges,
+        start,
+        is_removed,
+        true,
+    )?;
     let mut next = 0;
     while next < found.len() {
         let at = found[next];
-        visit_row(&mut found, met, start, edges, at, is_removed, true)?;
+        visit_row(&mut found, met, start.place(), edges, at, is_removed, true)?;
         next += 1;
     }
     Ok(found)
@@ -104,22 +118,20 @@ pub(crate) fn passing(
 // What a kept vertex passes; nothing for a removed one.
 fn passed_by(
     alloc: Global,
-    start: usize,
-    edges: &[Vec<usize>],
+    start: Node,
+    edges: &[Vec<Node>],
     is_removed: &[bool],
     met: &mut Vec<usize>,
-) -> Result<Vec<usize>, AllocError>
+) -> Result<Vec<Node>, AllocError>
     requires start { start < length met.old.items }
-    requires fits { length met.old.items ≤ length is_removed.now }
     requires whole { length edges.now ≡ length met.old.items }
-    requires inside { (a b : ℕ) → Leads edges.now a b → b < length met.old.items }
-    requires fresh { IsFresh start met.old.items }
+    requires ready { CanMeet start edges.now is_removed.now met.old.items }
     ensures passed { IfOk result (λ found. (b : ℕ) → Among found.items b
         ↔ (IsWanted is_removed.now false start × IsPassed edges.now is_removed.now start b)) }
     ensures len { OnOk result (length met.new.items ≡ length met.old.items) }
     ensures stamps { OnOk result (OldStamps start met.old.items met.new.items) }
 {
-    if is_removed[start] {
+    if is_removed[start.place()] {
         return Ok(Vec::new(alloc));
     }
     passing(alloc, start, edges, is_removed, met)
@@ -129,9 +141,9 @@ fn passed_by(
 /// nothing for a removed one.
 pub fn all_passed(
     alloc: Global,
-    edges: &[Vec<usize>],
+    edges: &[Vec<Node>],
     is_removed: &[bool],
-) -> Result<Vec<Vec<usize>>, AllocError>
+) -> Result<Vec<Vec<Node>>, AllocError>
     requires whole { length edges.now ≤ length is_removed.now }
     requires inside { (a b : ℕ) → Leads edges.now a b → b < length edges.now }
     ensures len { IfOk result (λ p. length p.items ≡ length edges.now) }
@@ -146,7 +158,8 @@ pub fn all_passed(
     let mut met = Vec::from_elem(alloc, size, size)?;
     let mut passed = Vec::with_capacity(alloc, size)?;
     for start in 0..size {
-        passed.push(passed_by(alloc, start, edges, is_removed, &mut met)?)?;
+        let removed = passed_by(alloc, Node::at(start), edges, is_removed, &mut met)?;
+        passed.push(removed)?;
     }
     Ok(passed)
 }

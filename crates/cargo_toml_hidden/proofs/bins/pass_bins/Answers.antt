@@ -32,7 +32,7 @@ loop-r-preserved c =
           let gone : IsWanted flags true r = search rules in
           let new = w.pass_from.new.features.items in
           let read = w.as_slice-then-flags-r.ensures.value ∙ sym (list_read rows r w.index-rows-r.result there w.index-rows-r.is) in
-          let puts : Puts (Leads rows r) (take 10 (bins_of mid r)) mid new = subst (λ row. Puts (Among row) (take 10 (bins_of mid r)) mid new) read w.in_ok-pass_from.ensures.put in
+          let puts : Puts (Leads rows r) (take 10 (bins_of mid r)) mid new = subst (λ row. Puts (Among row) (take 10 (bins_of mid r)) mid new) read (rw w.at.ensures at w.in_ok-pass_from.ensures.put) in
           let same = c.loop-r.invariant.same.len in
           rw (w.features-is) (rw (w.known-is) (record {
             known = w.in_ok-pass_from.ensures.known;

@@ -19,7 +19,7 @@ loop-own-preserved c =
     one_more_learnt c.loop-own.own keys c.as_slice-in-loop-own.result.now c.args.features.now.items c.loop-own.features.items c.enable_along.new.features.items
     c.clear.new.self.items c.push_targets.new.row.items c.as_slice-in-loop-own-2.result.now c.index.result.now c.index-in-loop-own.result.now lt
     (c.in_ok-keys.ensures ∙ ap names_of c.as_slice.ensures.value) c.as_slice-in-loop-own.ensures.value c.clear.ensures.items c.as_slice-in-loop-own-2.ensures.value
-    c.index.ensures c.index-in-loop-own.ensures c.in_ok-near.ensures c.loop-own.invariant c.in_ok-enable_along.ensures
+    c.index.ensures c.index-in-loop-own.ensures (rw c.at.ensures at c.in_ok-near.ensures) c.loop-own.invariant c.in_ok-enable_along.ensures
 
 pub returns-clause-unremoved : goal.returns-clause-unremoved
 returns-clause-unremoved c = λ t made.

@@ -7,4 +7,4 @@ use Rattle.cargo_toml_hidden.specs.Texts.{texts_of}
 use Rattle.cargo_toml_hidden.proofs.leaving.few_of.Given as goal
 
 abbrev pub invariant-loop-x : goal.invariant-loop-x
-invariant-loop-x l = (x : Text) → IsTrue (has_text l.set x) ↔ Among (map (text_at (texts_of l.texts)) (take l.x-index l.numbers)) x
+invariant-loop-x l = (x : Text) → IsTrue (has_text l.set x) ↔ Among (map (text_at (texts_of l.texts)) (take l.x-index l.nodes)) x

@@ -4,4 +4,4 @@ use Rattle.cargo_toml_hidden.specs.Texts.{texts_of}
 use Rattle.cargo_toml_hidden.proofs.leaving.list_of.Given as goal
 
 abbrev pub invariant-loop-x : goal.invariant-loop-x
-invariant-loop-x l = texts_of l.list.items ≡ map (text_at (texts_of l.texts)) (take l.x-index l.numbers)
+invariant-loop-x l = texts_of l.list.items ≡ map (text_at (texts_of l.texts)) (take l.x-index l.nodes)

@@ -19,4 +19,4 @@ loop-own-preserved c =
     let read = list_read names own c.index-names-own.result inside c.index-names-own.is ∙ sym c.as_slice.ensures.value in
     subst (IsFilled (λ i x. (x < length keys) × IsTarget vs names (texts_of keys) i x) (own + 1)) (sym c.in_ok-push.ensures.items)
     (one_more_filled (λ i x. (x < length keys) × IsTarget vs names (texts_of keys) i x) own c.loop-own.rows.items c.in_ok-row.row c.loop-own.invariant
-    (target_is vs names keys own c.index-features-own.result c.as_slice.result.now c.in_ok-row.row.items there read c.in_ok-row.ensures))
+    (target_is vs names keys own c.index-features-own.result c.as_slice.result.now c.in_ok-row.row.items there read (rw c.at.ensures at c.in_ok-row.ensures)))

@@ -6,13 +6,13 @@ use Rattle.cargo_toml_hidden.proofs.NumberRows.{HasNumbers, all_numbers, number_
 use Rattle.cargo_toml_hidden.proofs.NumberTexts.{one_number}
 use Rattle.cargo_toml_hidden.proofs.numbering.name_row.Goals as goal
 
-pub loop-name-preserved-in-Some-number_of : goal.loop-name-preserved-in-Some-number_of
-loop-name-preserved-in-Some-number_of c =
+pub loop-name-preserved-in-Some-node_of : goal.loop-name-preserved-in-Some-node_of
+loop-name-preserved-in-Some-node_of c =
     subst (HasNumbers c.args.texts.now (Among (seen (c.loop-name.yielded ++ c.in-Some.name ∷ [])))) (sym c.in_ok-push.ensures.items)
-    (number_put c.args.texts.now c.loop-name.yielded c.in-Some.name c.loop-name.row.items c.loop-name.invariant (one_number c.args.count c.args.texts.now c.requires) c.in-Some-number_of.number c.in-Some-number_of.ensures.found)
+    (number_put c.args.texts.now c.loop-name.yielded c.in-Some.name c.loop-name.row.items c.loop-name.invariant (one_number c.args.count c.args.texts.now c.requires) c.in-Some-node_of.node c.in-Some-node_of.ensures.found)
 
 pub loop-name-preserved : goal.loop-name-preserved
-loop-name-preserved c = number_missing c.args.texts.now c.loop-name.yielded c.in-Some.name c.loop-name.row.items c.loop-name.invariant (c.number_of.ensures.missing c.in_default.is)
+loop-name-preserved c = number_missing c.args.texts.now c.loop-name.yielded c.in-Some.name c.loop-name.row.items c.loop-name.invariant (c.node_of.ensures.missing c.in_default.is)
 
 pub returns : goal.returns
 returns c =

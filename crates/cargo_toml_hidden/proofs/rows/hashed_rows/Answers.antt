@@ -1,26 +1,35 @@
-use Rattle.std.proofs.Common.{◌<◌, [], Bor, length, get_or, rules, arith, sym, subst, ◌∙◌}
-use Rattle.std.proofs.Math.ListN.{get_or-map}
+use Rattle.std.proofs.Common.{◌≡◌, ◌<◌, [], Bor, length, ap, rules, sym, subst, ◌∙◌}
+use Rattle.std.proofs.lemmas.List.{get_or-map}
 use Rattle.cargo_toml_graph.specs.Action.{Text}
 use Rattle.cargo_toml_graph.specs.Reach.{Among}
+use Rattle.cargo_toml_walk.specs.Numbered.{text_at}
+use Rattle.cargo_toml_walk.specs.Numbers.{list_at}
 use Rattle.cargo_toml_walk.proofs.Steps.{list_read}
+use Rattle.cargo_toml_hidden.specs.Texts.{texts_of}
 use Rattle.cargo_toml_hidden.proofs.HashedRows.{row_left, row_put}
 use Rattle.cargo_toml_hidden.proofs.rows.hashed_rows.Goals as goal
-use Rattle.cargo_toml_hidden.proofs.rows.hashed_rows.Goals.{then-flags-i+in_ok-put_row, else-flags-i}
+use Rattle.cargo_toml_hidden.proofs.rows.hashed_rows.Goals.{then-index+in_ok-put_row, else-index}
 
 pub put_row-requires : goal.put_row-requires
-put_row-requires g c = λ x among.
-    let row = list_read c.args.rows.now c.loop-i.i c.index-rows-i.result c.loop-i-test.true c.index-rows-i.is in
-    c.requires.inside c.loop-i.i x (subst (λ xs. Among xs x) (c.as_slice.ensures.value ∙ sym row) among)
+put_row-requires g c = λ x i.
+    let w = c.args.walked.now in
+    let r = c.loop-r.r in
+    let lt : r < length w.rows.items = search rules in
+    let read : list_at w.rows.items r ≡ c.as_slice-row.result.now = list_read w.rows.items r c.index-then-index.result.now lt c.index-then-index.ensures ∙ sym c.as_slice-row.ensures.value in
+    rw c.as_slice.ensures.value (w.rows_inside r x (subst (λ xs. Among xs x) (sym read) i))
 
-pub loop-i-preserved : goal.loop-i-preserved
-loop-i-preserved g c =
-    let texts = c.args.texts.now in
-    let i = c.loop-i.i in
-    let blank : Bor Text = record { ref_ptr = (0, 0); now = [] } in
-    let inside : i < length texts = (let t = c.loop-i-test.true in let e = c.requires.texts in omega arith) in
-    elim c.if-flags-i.branch [
-      | then-flags-i+in_ok-put_row w ↦ rw w.hidden-is (row_put c.args.rows.now c.args.flags.now texts i c.loop-i.hidden w.put_row.new.hidden (get_or texts i blank) w.as_slice.result.now inside
-          (sym (get_or-map (λ (k : Bor Text). k.now) texts i blank)) (w.as_slice.ensures.value ∙ sym (list_read c.args.rows.now i c.index-rows-i.result c.loop-i-test.true c.index-rows-i.is))
-          (search rules) c.requires.once w.in_ok-put_row.ensures.here w.in_ok-put_row.ensures.others c.loop-i.invariant)
-      | else-flags-i w ↦ rw w.hidden-is (row_left c.args.rows.now c.args.flags.now texts i c.loop-i.hidden (search rules) c.loop-i.invariant)
+pub loop-r-preserved : goal.loop-r-preserved
+loop-r-preserved g c =
+    let w = c.args.walked.now in
+    let texts = w.texts.items in
+    let r = c.loop-r.r in
+    let lt : r < length w.rows.items = search rules in
+    let inside : r < length texts = search rules in
+    elim c.if-index.branch [
+      | then-index+in_ok-put_row b ↦
+          let row : b.as_slice-row.result.now ≡ list_at w.rows.items r = b.as_slice-row.ensures.value ∙ sym (list_read w.rows.items r b.index-then-index.result.now lt b.index-then-index.ensures) in
+          let name : b.index-then-index-2.result.now.now ≡ text_at (texts_of texts) r = ap (λ (t : Bor Text). t.now) b.index-then-index-2.ensures ∙ sym (get_or-map (λ (t : Bor Text). t.now) texts r b.index-then-index-2.result.now [] inside) in
+          rw b.hidden-is (row_put w.rows.items w.flags.items texts r c.loop-r.hidden b.put_row.new.hidden b.index-then-index-2.result.now b.as_slice-row.result.now inside name row (search rules) w.once
+          (rw b.as_slice.ensures.value at b.in_ok-put_row.ensures.here) b.in_ok-put_row.ensures.others c.loop-r.invariant)
+      | else-index b ↦ rw b.hidden-is (row_left w.rows.items w.flags.items texts r c.loop-r.hidden (search rules) c.loop-r.invariant)
     ]

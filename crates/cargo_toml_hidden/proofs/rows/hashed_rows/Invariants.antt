@@ -1,5 +1,5 @@
 use Rattle.cargo_toml_hidden.proofs.HashedRows.{HasRows}
 use Rattle.cargo_toml_hidden.proofs.rows.hashed_rows.Given as goal
 
-abbrev pub invariant-loop-i : goal.invariant-loop-i
-invariant-loop-i g l = HasRows l.rows l.flags l.texts l.i l.hidden
+abbrev pub invariant-loop-r : goal.invariant-loop-r
+invariant-loop-r g l = HasRows l.walked.rows.items l.walked.flags.items l.walked.texts.items l.r l.hidden

@@ -8,4 +8,4 @@ pub returns-in_default-clause-required : goal.returns-in_default-clause-required
 returns-in_default-clause-required c =
     let vs = c.args.features.now in
     let name = c.args.requirement.now.feature.now in
-    required_nowhere name c.args.requirement.now.bin.now vs (none_from (feature_at vs name) (sym c.place_among.ensures.there ∙ ap is_some c.in_default.is))
+    required_nowhere name c.args.requirement.now.bin.now vs (none_from (feature_at vs name) (sym c.node_among.ensures.there ∙ ap is_some c.in_default.is))

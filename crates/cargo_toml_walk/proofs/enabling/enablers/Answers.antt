@@ -20,7 +20,7 @@ loop-e-preserved c = elim c.if-not-is_removed-e.branch [
       let read = w.as_slice.ensures.value ∙ sym (list_read c.args.passed.now c.loop-e.e w.index-passed-e.result own w.index-passed-e.is) in
       let kept : IsWanted c.args.is_removed.now false c.loop-e.e = search rules in
       let links : Links (HasLabel (Leads c.args.passed.now c.loop-e.e) c.args.edges.now c.args.is_removed.now c.loop-e.e) c.loop-e.e c.loop-e.by.items w.link_all.new.by.items =
-      subst (λ t. Links (HasLabel (Among t) c.args.edges.now c.args.is_removed.now c.loop-e.e) c.loop-e.e c.loop-e.by.items w.link_all.new.by.items) read w.in_ok-link_all.ensures in
+      subst (λ t. Links (HasLabel (Among t) c.args.edges.now c.args.is_removed.now c.loop-e.e) c.loop-e.e c.loop-e.by.items w.link_all.new.by.items) read (rw w.at.ensures at w.in_ok-link_all.ensures) in
       rw (w.by-is) (record {
         len = links.len ∙ c.loop-e.invariant.len;
         done = one_more_row c.args.edges.now c.args.is_removed.now c.loop-e.e c.loop-e.by.items w.link_all.new.by.items _ c.loop-e.invariant.done kept (λ b. c.requires.passed c.loop-e.e b c.loop-e-test.true kept) links;

@@ -14,20 +14,20 @@ loop-r-preserved c = elim c.if-is_removed-r.branch [
       let old = c.loop-r.invariant in
       let passed : (b : ℕ) → Among w.in_ok-passed.passed.items b ↔ IsPassed c.loop-r.edges.items c.loop-r.finished.items c.loop-r.r b =
       subst (λ t. (b : ℕ) → Among w.in_ok-passed.passed.items b ↔ IsPassed c.loop-r.edges.items t c.loop-r.r b) w.as_slice-flags.ensures.value
-      (subst (λ t. (b : ℕ) → Among w.in_ok-passed.passed.items b ↔ IsPassed t w.as_slice-flags.result.now c.loop-r.r b) w.as_slice.ensures.value w.in_ok-passed.ensures.passed) in
+      (subst (λ t. (b : ℕ) → Among w.in_ok-passed.passed.items b ↔ IsPassed t w.as_slice-flags.result.now c.loop-r.r b) w.as_slice.ensures.value (rw w.at-own.ensures at w.in_ok-passed.ensures.passed)) in
       let targets : Replaces c.loop-r.r (HasLabel (Among w.in_ok-passed.passed.items) c.loop-r.edges.items c.loop-r.finished.items c.loop-r.r) c.loop-r.edges.items w.finish-then-is_removed-r.new.rows.items =
       subst (λ t. Replaces c.loop-r.r (HasLabel (Among w.in_ok-passed.passed.items) c.loop-r.edges.items t c.loop-r.r) c.loop-r.edges.items w.finish-then-is_removed-r.new.rows.items) w.as_slice-flags.ensures.value
-      (subst (λ t. Replaces c.loop-r.r (HasLabel (Among t) c.loop-r.edges.items w.as_slice-flags.result.now c.loop-r.r) c.loop-r.edges.items w.finish-then-is_removed-r.new.rows.items) w.as_slice-below.ensures.value w.in_ok-finish-2.ensures.row) in
+      (subst (λ t. Replaces c.loop-r.r (HasLabel (Among t) c.loop-r.edges.items w.as_slice-flags.result.now c.loop-r.r) c.loop-r.edges.items w.finish-then-is_removed-r.new.rows.items) w.as_slice-below.ensures.value (rw w.at-own.ensures at w.in_ok-finish-2.ensures.row)) in
       let row : Replaces c.loop-r.r (HasLabel (Among w.in_ok-passed.passed.items) c.loop-r.labels.items c.loop-r.finished.items c.loop-r.r) c.loop-r.labels.items w.finish.new.rows.items =
       subst (λ t. Replaces c.loop-r.r (HasLabel (Among w.in_ok-passed.passed.items) c.loop-r.labels.items t c.loop-r.r) c.loop-r.labels.items w.finish.new.rows.items) w.as_slice-flags.ensures.value
-      (subst (λ t. Replaces c.loop-r.r (HasLabel (Among t) c.loop-r.labels.items w.as_slice-flags.result.now c.loop-r.r) c.loop-r.labels.items w.finish.new.rows.items) w.as_slice-below.ensures.value w.in_ok-finish.ensures.row) in
+      (subst (λ t. Replaces c.loop-r.r (HasLabel (Among t) c.loop-r.labels.items w.as_slice-flags.result.now c.loop-r.r) c.loop-r.labels.items w.finish.new.rows.items) w.as_slice-below.ensures.value (rw w.at-own.ensures at w.in_ok-finish.ensures.row)) in
       rw (w.edges-is, w.labels-is, w.finished-is, w.met-is, w.met_targets-is, w.met_labels-is) (record {
         met = w.in_ok-passed.ensures.len ∙ old.met;
-        met_past = stamps_past c.loop-r.r _ c.loop-r.met.items w.passing.new.met.items w.in_ok-passed.ensures.len old.met_past w.in_ok-passed.ensures.stamps;
+        met_past = stamps_past c.loop-r.r _ c.loop-r.met.items w.passing.new.met.items w.in_ok-passed.ensures.len old.met_past (rw w.at-own.ensures at w.in_ok-passed.ensures.stamps);
         targets = w.in_ok-finish-2.ensures.len ∙ old.targets;
-        targets_past = stamps_past c.loop-r.r _ c.loop-r.met_targets.items w.finish-then-is_removed-r.new.met.items w.in_ok-finish-2.ensures.len old.targets_past w.in_ok-finish-2.ensures.stamps;
+        targets_past = stamps_past c.loop-r.r _ c.loop-r.met_targets.items w.finish-then-is_removed-r.new.met.items w.in_ok-finish-2.ensures.len old.targets_past (rw w.at-own.ensures at w.in_ok-finish-2.ensures.stamps);
         labels = w.in_ok-finish.ensures.len ∙ old.labels;
-        labels_past = stamps_past c.loop-r.r _ c.loop-r.met_labels.items w.finish.new.met.items w.in_ok-finish.ensures.len old.labels_past w.in_ok-finish.ensures.stamps;
+        labels_past = stamps_past c.loop-r.r _ c.loop-r.met_labels.items w.finish.new.met.items w.in_ok-finish.ensures.len old.labels_past (rw w.at-own.ensures at w.in_ok-finish.ensures.stamps);
         flags = length-set c.loop-r.finished.items c.loop-r.r true ∙ old.flags;
         is_finished = one_more_finished c.args.is_removed.now c.loop-r.finished.items c.loop-r.r inside gone old.is_finished;
         edge_rows = one_more_row c.args.edges.items c.args.is_removed.now c.args.edges.items _ _ c.loop-r.r c.loop-r.edges.items c.loop-r.edges.items old.edge_rows old.edge_rows c.loop-r.finished.items old.is_finished w.in_ok-passed.passed.items passed gone w.finish-then-is_removed-r.new.rows.items targets;
@@ -50,8 +50,12 @@ loop-r-preserved c = elim c.if-is_removed-r.branch [
       })
 ]
 
-pub finish-requires-then-is_removed-r-clause-fresh : goal.finish-requires-then-is_removed-r-clause-fresh
-finish-requires-then-is_removed-r-clause-fresh c = fresh_past c.loop-r.r _ c.loop-r.met_targets.items c.loop-r.invariant.targets_past c.loop-r-test.true
+pub finish-requires-then-is_removed-r-clause-ready : goal.finish-requires-then-is_removed-r-clause-ready
+finish-requires-then-is_removed-r-clause-ready c = record {
+  inside = search rules;
+  fits = search rules;
+  fresh = rw c.at-own.ensures (fresh_past c.loop-r.r _ c.loop-r.met_targets.items c.loop-r.invariant.targets_past c.loop-r-test.true);
+}
 
 pub returns-clause-redirects : goal.returns-clause-redirects
 returns-clause-redirects c = λ r x lt gone.

@@ -7,10 +7,10 @@ use Rattle.cargo_toml_walk.proofs.walk.all_passed.Goals as goal
 
 pub loop-start-preserved : goal.loop-start-preserved
 loop-start-preserved c = record {
-  met = c.in_ok-passed_by.ensures.len ∙ c.loop-start.invariant.met;
-  past = stamps_past c.loop-start.start (length c.args.edges.now) c.loop-start.met.items c.passed_by.new.met.items c.in_ok-passed_by.ensures.len c.loop-start.invariant.past c.in_ok-passed_by.ensures.stamps;
+  met = c.in_ok-removed.ensures.len ∙ c.loop-start.invariant.met;
+  past = stamps_past c.loop-start.start (length c.args.edges.now) c.loop-start.met.items c.passed_by.new.met.items c.in_ok-removed.ensures.len c.loop-start.invariant.past (rw c.at.ensures at c.in_ok-removed.ensures.stamps);
   filled = subst (IsFilled (λ a b. IsWanted c.args.is_removed.now false a × IsPassed c.args.edges.now c.args.is_removed.now a b) (c.loop-start.start + 1)) (sym c.in_ok-push.ensures.items)
-      (one_more_filled (λ a b. IsWanted c.args.is_removed.now false a × IsPassed c.args.edges.now c.args.is_removed.now a b) c.loop-start.start c.loop-start.passed.items _ c.loop-start.invariant.filled c.in_ok-passed_by.ensures.passed);
+      (one_more_filled (λ a b. IsWanted c.args.is_removed.now false a × IsPassed c.args.edges.now c.args.is_removed.now a b) c.loop-start.start c.loop-start.passed.items _ c.loop-start.invariant.filled (rw c.at.ensures at c.in_ok-removed.ensures.passed));
 }
 
 pub returns-clause-removed : goal.returns-clause-removed

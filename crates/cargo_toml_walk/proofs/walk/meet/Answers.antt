@@ -6,5 +6,5 @@ use Rattle.cargo_toml_walk.proofs.walk.meet.Goals as goal
 pub returns-in_ok-push : goal.returns-in_ok-push
 returns-in_ok-push c =
     let pushed : c.push.new.self.items ≡ c.args.found.now.items ++ c.args.x ∷ [] = search rules in
-    subst (λ (f : List ℕ). Visits c.args.epoch (λ y. y ≡ c.args.x) c.args.found.now.items f c.args.met.now.items (set c.args.met.now.items c.args.x c.args.epoch)) (sym pushed)
-    (is_new c.args.epoch c.args.x c.args.found.now.items c.args.met.now.items c.requires.marks c.requires.inside (λ e. c.if-stamp-epoch.true (sym (read_at c.args.met.now.items c.args.x 0 c.index_mut-stamp.result.now c.requires.inside (search rules)) ∙ e)))
+    rw c.place.ensures (subst (λ (f : List ℕ). Visits c.args.epoch (λ y. y ≡ c.args.x) c.args.found.now.items f c.args.met.now.items (set c.args.met.now.items c.args.x c.args.epoch)) (sym pushed)
+    (is_new c.args.epoch c.args.x c.args.found.now.items c.args.met.now.items c.requires.marks c.requires.inside (λ e. c.if-stamp-epoch.true (sym (read_at c.args.met.now.items c.args.x 0 c.index_mut-stamp.result.now c.requires.inside (search rules)) ∙ e))))

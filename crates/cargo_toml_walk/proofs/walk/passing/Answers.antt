@@ -7,7 +7,7 @@ use Rattle.cargo_toml_walk.proofs.walk.passing.Goals as goal
 pub loop-next-init : goal.loop-next-init
 loop-next-init c =
     let v : Visits c.args.start (λ y. Leads c.args.edges.now c.args.start y × IsWanted c.args.is_removed.now true y) [] c.visit_row.new.found.items c.args.met.now.items c.visit_row.new.met.items =
-    subst (λ f. Visits c.args.start (λ y. Leads c.args.edges.now c.args.start y × IsWanted c.args.is_removed.now true y) f c.visit_row.new.found.items c.args.met.now.items c.visit_row.new.met.items) c.new-found.ensures.items c.in_ok-visit_row.ensures in
+    subst (λ f. Visits c.args.start (λ y. Leads c.args.edges.now c.args.start y × IsWanted c.args.is_removed.now true y) f c.visit_row.new.found.items c.args.met.now.items c.visit_row.new.met.items) c.new-found.ensures.items (rw c.place.ensures at c.in_ok-visit_row.ensures) in
     record {
       walks = begins c.args.edges.now c.args.is_removed.now c.args.start c.args.start c.visit_row.new.found.items c.args.met.now.items c.visit_row.new.met.items v;
       len = v.len;
@@ -22,7 +22,7 @@ visit_row-requires-in-loop-next-clause-at c =
 pub loop-next-preserved : goal.loop-next-preserved
 loop-next-preserved c =
     let below : c.loop-next.next < length c.loop-next.found.items = search rules in
-    let v = c.in_ok-visit_row-2.ensures in
+    let v = rw c.place-in-loop-next.ensures at c.in_ok-visit_row-2.ensures in
     let longer = v.longer in
     record {
       walks = goes_on c.args.edges.now c.args.is_removed.now c.args.start c.args.start c.loop-next.next c.loop-next.found.items _ c.loop-next.met.items _ below c.loop-next.invariant.walks c.index-at.result.now c.index-at.ensures v;

@@ -1,6 +1,6 @@
 use Rattle.std.proofs.Common.{is_some, sym, ap}
 use Rattle.cargo_toml_resolve.proofs.Placed.{feature_missing, feature_there, place_free}
-use Rattle.cargo_toml_resolve.proofs.ordered.place_among.Goals as goal
+use Rattle.cargo_toml_resolve.proofs.ordered.node_among.Goals as goal
 
 pub returns-then-stands_at-clause-there : goal.returns-then-stands_at-clause-there
 returns-then-stands_at-clause-there c =

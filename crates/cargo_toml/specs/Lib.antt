@@ -80,12 +80,12 @@ pub use Rattle.cargo_toml_graph.specs.Bins
 pub use Rattle.cargo_toml_graph.specs.Recursive
 pub use Rattle.cargo_toml_graph.specs.Kept
 pub use Rattle.cargo_toml_graph.specs.Admitted
-pub use Rattle.cargo_toml_hidden.specs.Filter
-pub use Rattle.cargo_toml_hidden.specs.Removed
+pub use Rattle.cargo_toml_resolve.specs.Filter
+pub use Rattle.cargo_toml_resolve.specs.Removed
 pub use Rattle.cargo_toml_features.specs.Agreement
 pub use Rattle.cargo_toml_features.specs.Entries
 pub use Rattle.cargo_toml_features.specs.FirstTarget
-pub use Rattle.cargo_toml_resolve.specs.OwnBins
+pub use Rattle.cargo_toml_full.specs.OwnBins
 pub use Rattle.cargo_toml_features.specs.Hashed
 pub use Rattle.cargo_toml_features.specs.Marks
 pub use Rattle.cargo_toml_features.specs.Recorded
@@ -98,9 +98,9 @@ pub use Rattle.cargo_toml_features.specs.NonDefault
 pub use Rattle.cargo_toml_parts.specs.Copies
 pub use Rattle.cargo_toml_parts.specs.InheritableLaws
 pub use Rattle.cargo_toml_features.specs.InOrder
-pub use Rattle.cargo_toml_resolve.specs.Ascending
-pub use Rattle.cargo_toml_resolve.specs.Reading
-pub use Rattle.cargo_toml_resolve.specs.Slots
+pub use Rattle.cargo_toml_full.specs.Ascending
+pub use Rattle.cargo_toml_full.specs.Reading
+pub use Rattle.cargo_toml_full.specs.Slots
 pub use Rattle.cargo_toml_settings.specs.SettingsLaws
 -- the same of the types that a caller's own definitions name, with their variants
 pub use Rattle.cargo_toml_parts.specs.declared.error.Error

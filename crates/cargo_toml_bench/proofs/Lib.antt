@@ -12,3 +12,10 @@ mod Kept
 mod SameAnswers
 mod AtLimit
 mod UserFacing
+mod Put
+mod AllNames
+mod Turns
+mod Taken
+mod InTurn
+mod Hiding
+mod Resolving

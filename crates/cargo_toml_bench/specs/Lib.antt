@@ -6,3 +6,4 @@ pub mod Rewriting
 pub mod InMemory
 pub mod Members
 pub mod Documented
+pub mod Removing

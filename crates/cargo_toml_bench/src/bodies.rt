@@ -17,7 +17,7 @@ use cargo_toml::features::Resolver;
 use cargo_toml::{Error, Manifest, Product};
 use cargo_toml_features::admit::{MAX_ITEMS, listings};
 use cargo_toml_features::entries::{Tables, entries_of};
-use cargo_toml_resolve::bins::Requirement;
+use cargo_toml_full::required::Requirement;
 use std::alloc::{AllocError, Global};
 use std::hash::BuildHasherDefault;
 
@@ -78,7 +78,7 @@ fn resolve_plainly<'m, M, F: Fn(&str) -> bool>(
     };
     let entries = entries_of(alloc, tables, MAX_ITEMS)?;
     let requirements = requirements(alloc, manifest)?;
-    Ok(cargo_toml_plain::resolve(
+    Ok(crate::plain::resolve(
         alloc,
         &BuildHasherDefault::new(),
         filter,

@@ -1,4 +1,7 @@
 //! Callers of `cargo_toml` that are proved, written as a user of the crate writes them.
+//!
+//! `plain` is no such caller: it resolves features in a way that is easy to follow, to compare
+//! with.
 #![tactic(auto)]
 
 pub mod bodies;
@@ -8,6 +11,7 @@ pub mod enabled;
 pub mod filtered;
 pub mod in_memory;
 pub mod members;
+pub mod plain;
 pub mod report;
 pub mod round_trip;
 pub mod whole;

@@ -16,3 +16,5 @@ mod Hashed
 pub mod Agreement
 pub mod Marked
 pub mod HashedListing
+pub mod Places
+pub mod ByteOrder

@@ -13,3 +13,4 @@ pub mod TargetLaws
 pub mod Hashed
 pub mod InOrder
 pub mod Agreement
+pub mod Places

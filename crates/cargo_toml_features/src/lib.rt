@@ -12,3 +12,4 @@ pub mod features;
 pub mod laws;
 pub mod questions;
 pub mod recursive;
+pub mod texts;

@@ -1,18 +1,31 @@
-pub mod Thinning
-pub mod Counting
-pub mod Recording
-pub mod PlaceByPlace
-pub mod Implying
-pub mod Answering
-pub mod SlotValues
-pub mod Placed
-pub mod Searched
-mod Defaulted
-pub mod ReadAll
-pub mod ReadOne
-mod Requiring
-pub mod HeldValues
-pub mod Ascending
-pub mod GatheredKeys
-mod HeldTargets
-pub mod Gathering
+pub mod Put
+pub mod Sets
+mod Actions
+pub mod InOrder
+mod Gathered
+mod NumberTexts
+mod NumberRows
+pub mod SameKept
+pub mod AgainstAll
+mod Renumbered
+mod InPlace
+pub mod NumberingGraph
+mod Answered
+mod LeavingAll
+mod PassedPlaces
+mod Placing
+mod TextSets
+mod Passers
+mod TakingOver
+mod HashedRows
+mod HashedKept
+mod LeftOver
+mod KeptAll
+mod HashedSlots
+mod AnsweringLeft
+pub mod ByFilter
+mod PutAlong
+mod BinTurns
+mod KnownBins
+pub mod Learning
+pub mod NumberedTables

@@ -1,22 +1,22 @@
-//! Features are resolved: from the lists of a manifest and entries of dependency tables to what
-//! each feature enables.
+//! Features are resolved: the full graph of `cargo_toml_full`, without the hidden features. These
+//! are those whose names begin with `_` and which a filter doesn't keep.
 //!
-//! [`resolve_all`] is the whole of it; hidden features are removed after it. Callers use it by
-//! `cargo_toml::features::Resolver`.
+//! [`resolve`] is the whole of it. Callers use it by `cargo_toml::features::Resolver`.
 #![tactic(auto)]
 
-mod acted;
-mod acting;
-pub mod bins;
-mod imply;
-pub mod key;
-mod names;
-mod ordered;
-pub mod places;
-mod read;
-pub mod record;
-mod redundant;
+pub mod elimination;
+pub mod enabling;
+pub mod filter;
+pub mod flags;
+pub mod graph;
+pub mod joining;
+pub mod leaving;
+pub mod left;
+pub mod numbering;
+pub mod passing;
+pub mod publishing;
 pub mod resolution;
-pub mod slots;
+pub mod rows;
+pub mod walking;
 
-pub use resolution::resolve_all;
+pub use resolution::resolve;

@@ -7,9 +7,9 @@ use Rattle.cargo_toml_graph.proofs.InByteOrder.{ascending_once, passed_complete}
 use Rattle.cargo_toml_features.specs.Marks.{Details}
 use Rattle.cargo_toml_features.specs.Recorded.{Entry}
 use Rattle.cargo_toml_features.specs.Resolved.{Answer, table_of}
-use Rattle.cargo_toml_hidden.specs.Removed.{IsAnswerWithout}
-use Rattle.cargo_toml_hidden.proofs.ByFilter.{answer_alike}
-use Rattle.cargo_toml_resolve.specs.OwnBins.{own_of}
+use Rattle.cargo_toml_resolve.specs.Removed.{IsAnswerWithout}
+use Rattle.cargo_toml_resolve.proofs.ByFilter.{answer_alike}
+use Rattle.cargo_toml_full.specs.OwnBins.{own_of}
 use Rattle.cargo_toml_resolver.proofs.Mentions.{mentions_counted}
 
 module _ (listed : Listed) (entries : List Entry) (details : Details) (required : List (Text × Text)) (R : Text → Type 0) (a : Answer)

@@ -6,7 +6,7 @@ use Rattle.std.proofs.lemmas.Slice.Eq.{bytes_eq-Decides}
 use Rattle.cargo_toml_graph.specs.Action.{Text}
 use Rattle.cargo_toml_graph.specs.Bins.{mentions}
 use Rattle.cargo_toml_graph.specs.Reach.{Among, IsOnce}
-use Rattle.cargo_toml_resolve.specs.OwnBins.{own_of}
+use Rattle.cargo_toml_full.specs.OwnBins.{own_of}
 
 abbrev Required : Type 0
 Required = List (Text × Text)

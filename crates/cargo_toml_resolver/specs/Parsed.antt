@@ -11,12 +11,12 @@ use Rattle.cargo_toml_tables.specs.Products.{ProductMeaning}
 use Rattle.cargo_toml_manifest.specs.Inheriting.{own_tables}
 use Rattle.cargo_toml_manifest.specs.Manifests.{ManifestMeaning}
 use Rattle.cargo_toml_features.specs.Entries.{entries_of}
-use Rattle.cargo_toml_resolve.specs.OwnBins.{own_of}
+use Rattle.cargo_toml_full.specs.OwnBins.{own_of}
 use Rattle.cargo_toml_features.specs.Marks.{Details}
 use Rattle.cargo_toml_features.specs.Recorded.{Entry}
 use Rattle.cargo_toml_features.specs.Resolved.{Answer, IsAnswer, table_of}
-use Rattle.cargo_toml_hidden.specs.Filter.{Asked}
-use Rattle.cargo_toml_hidden.specs.Removed.{IsAnswerBy}
+use Rattle.cargo_toml_resolve.specs.Filter.{Asked}
+use Rattle.cargo_toml_resolve.specs.Removed.{IsAnswerBy}
 
 -- the features that a binary requires, each with the binary's name, or that of the
 -- package where it has none

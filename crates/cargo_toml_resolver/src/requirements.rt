@@ -2,12 +2,12 @@
 ghost use Rattle.std.specs.Prelude.{◌≡◌, ◌++◌, IfOk, OnOk, map};
 ghost use Rattle.std.specs.List.{flat_map};
 ghost use Rattle.cargo_toml_manifest.specs.Manifests.{manifest_meaning};
-ghost use Rattle.cargo_toml_resolve.specs.OwnBins.{requirement_of};
+ghost use Rattle.cargo_toml_full.specs.OwnBins.{requirement_of};
 ghost use Rattle.cargo_toml_tables.specs.Products.{product_meaning};
 ghost use Rattle.cargo_toml_resolver.specs.Parsed.{requirements, requirements_by};
 
+use cargo_toml_full::required::Requirement;
 use cargo_toml_manifest::Manifest;
-use cargo_toml_resolve::bins::Requirement;
 use cargo_toml_tables::Product;
 use std::alloc::{AllocError, Global};
 

@@ -1,6 +1,3 @@
-pub mod Places
-pub mod Numbered
-pub mod ByteOrder
 pub mod Steps
 pub mod Walking
 pub mod Filling

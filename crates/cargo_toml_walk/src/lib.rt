@@ -1,9 +1,8 @@
-//! Walks over a graph of numbered vertices, some of which are removed, and the numbers of texts.
+//! Walks over a graph of numbered vertices, some of which are removed.
 #![tactic(auto)]
 
-pub mod enabling;
+pub mod enablers;
 pub mod labels;
 pub mod node;
 pub mod redirects;
-pub mod texts;
 pub mod walk;

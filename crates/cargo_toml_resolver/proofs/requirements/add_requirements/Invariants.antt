@@ -1,5 +1,5 @@
 use Rattle.std.proofs.Common.{◌≡◌, ◌++◌, map, string_bytes, take}
-use Rattle.cargo_toml_resolve.specs.OwnBins.{requirement_of}
+use Rattle.cargo_toml_full.specs.OwnBins.{requirement_of}
 use Rattle.cargo_toml_resolver.proofs.requirements.add_requirements.Given as goal
 
 abbrev pub invariant-loop-feature : goal.invariant-loop-feature

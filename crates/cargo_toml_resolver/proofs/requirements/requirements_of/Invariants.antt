@@ -1,6 +1,6 @@
 use Rattle.std.proofs.Common.{◌≡◌, map, take}
 use Rattle.std.specs.List.{flat_map}
-use Rattle.cargo_toml_resolve.specs.OwnBins.{requirement_of}
+use Rattle.cargo_toml_full.specs.OwnBins.{requirement_of}
 use Rattle.cargo_toml_tables.specs.Products.{product_meaning}
 use Rattle.cargo_toml_resolver.specs.Parsed.{requirements_by}
 use Rattle.cargo_toml_resolver.proofs.requirements.requirements_of.Given as goal

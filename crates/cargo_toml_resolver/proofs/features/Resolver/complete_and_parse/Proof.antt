@@ -70,7 +70,7 @@ use Rattle.cargo_toml_resolver.specs.contracts.features.Resolver.complete_and_pa
 use Rattle.cargo_toml_resolver.proofs.features.Resolver.complete_and_parse.Statement.{statement}
 use Rattle.cargo_toml_resolver.proofs.features.Resolver.complete_and_parse.Code as code
 use Rattle.cargo_toml_graph.specs.Action.{Text}
-use Rattle.cargo_toml_hidden.specs.Filter.{HasNameFilter}
+use Rattle.cargo_toml_resolve.specs.Filter.{HasNameFilter}
 use Rattle.cargo_toml_manifest.specs.Choosing.{handed_of, roots_of, RootsTold}
 use Rattle.cargo_toml_manifest.specs.Manifests.{ManifestMeaning, held}
 use Rattle.cargo_toml_manifest.specs.Completed.{IsCompleted}

@@ -3,16 +3,16 @@ use Rattle.cargo_toml_graph.specs.Action.{Text}
 use Rattle.cargo_toml_graph.specs.Admitted.{Listed, admitted}
 use Rattle.cargo_toml_manifest.specs.Manifests.{ManifestMeaning, manifest_meaning}
 use Rattle.cargo_toml_features.specs.Entries.{entries_of}
-use Rattle.cargo_toml_resolve.specs.OwnBins.{own_of, requirement_of}
+use Rattle.cargo_toml_full.specs.OwnBins.{own_of, requirement_of}
 use Rattle.cargo_toml_features.specs.Views.{listed_of, answer_of, entry_of}
 use Rattle.cargo_toml_features.specs.Marks.{Details, details_listed, details_of}
 use Rattle.cargo_toml_features.specs.Recorded.{Entry}
 use Rattle.cargo_toml_features.specs.Resolved.{Answer}
 use Rattle.cargo_toml_resolver.specs.Filtered.{filter_of, limit_of}
 use Rattle.cargo_toml_resolver.specs.Parsed.{IsParsedBy, parsed_entries, parsed_table, requirements}
-use Rattle.cargo_toml_hidden.specs.Filter.{Asked}
-use Rattle.cargo_toml_hidden.specs.Removed.{IsAnswerBy, IsRemovedBy}
-use Rattle.cargo_toml_hidden.proofs.AgainstAll.{none_left, keeps_enabling, loses_nothing}
+use Rattle.cargo_toml_resolve.specs.Filter.{Asked}
+use Rattle.cargo_toml_resolve.specs.Removed.{IsAnswerBy, IsRemovedBy}
+use Rattle.cargo_toml_resolve.proofs.AgainstAll.{none_left, keeps_enabling, loses_nothing}
 use Rattle.cargo_toml_resolver.proofs.CompleteBins.{complete_bins}
 use Rattle.cargo_toml_resolver.proofs.ToldBy.{answer_by_listed}
 use Rattle.cargo_toml_resolver.proofs.features.Resolver.parse.Goals as goal

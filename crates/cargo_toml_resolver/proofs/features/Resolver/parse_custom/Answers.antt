@@ -3,8 +3,8 @@ use Rattle.cargo_toml_graph.specs.Admitted.{Listed, admitted}
 use Rattle.cargo_toml_features.specs.Marks.{details_listed, details_of}
 use Rattle.cargo_toml_features.specs.Views.{listed_of, answer_of, entry_of}
 use Rattle.cargo_toml_features.specs.Resolved.{table_of}
-use Rattle.cargo_toml_hidden.specs.Removed.{IsAnswerBy, IsRemovedBy}
-use Rattle.cargo_toml_hidden.proofs.AgainstAll.{agrees, keeps_enabling, loses_nothing}
+use Rattle.cargo_toml_resolve.specs.Removed.{IsAnswerBy, IsRemovedBy}
+use Rattle.cargo_toml_resolve.proofs.AgainstAll.{agrees, keeps_enabling, loses_nothing}
 use Rattle.cargo_toml_resolver.specs.Filtered.{filter_of, limit_of}
 use Rattle.cargo_toml_resolver.proofs.ToldBy.{answer_by_listed}
 use Rattle.cargo_toml_resolver.proofs.features.Resolver.parse_custom.Goals as goal

@@ -1,0 +1,12 @@
+-- What stands in a list of texts.
+use Rattle.std.proofs.Common.{◌≡◌, ◌||◌, List, [], ◌∷◌, bytes_eq, refl, ap₂}
+use Rattle.std.specs.Borrow.{Bor}
+use Rattle.std.specs.List.{list_any}
+use Rattle.cargo_toml_graph.specs.Action.{Text}
+use Rattle.cargo_toml_graph.specs.Removal.{is_among}
+use Rattle.cargo_toml_graph.proofs.Texts.{bytes_eq_sym}
+use Rattle.cargo_toml_bench.specs.Removing.{texts_of}
+
+pub among_texts : (ks : List (Bor Text)) (x : Text) → list_any (λ k. bytes_eq k.now x) ks ≡ is_among (texts_of ks) x
+among_texts [] x = refl
+among_texts (k ∷ ks) x = ap₂ (λ a b. a || b) (bytes_eq_sym k.now x) (among_texts ks x)

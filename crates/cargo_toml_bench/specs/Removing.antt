@@ -1,0 +1,101 @@
+-- What features hold while some are taken out, one after another.
+use Rattle.std.specs.Prelude.{◌≡◌, ◌&&◌, ◌||◌, not, if◌then◌else◌, Bool, false, List, []}
+use Rattle.std.specs.Prelude.{Option, IsFalse, IfSome, IsSome, bytes_eq, map, option_map, take}
+use Rattle.std.specs.Option.{option_map_or}
+use Rattle.std.specs.Borrow.{Bor}
+use Rattle.std.specs.BTreeSet.{BTreeSet}
+use Rattle.std.specs.HashMap.{HashMap}
+use Rattle.cargo_toml_dependencies.specs.Details.{plain_detail}
+use Rattle.cargo_toml_features.specs.declared.features.Feature.{Feature}
+use Rattle.cargo_toml_graph.specs.Action.{Text, join_option}
+use Rattle.cargo_toml_graph.specs.Graph.{Resolution}
+use Rattle.cargo_toml_graph.specs.Removal.{SameKept, pass_bins, put_all, without}
+use Rattle.cargo_toml_full.specs.Slots.{Relates}
+use Rattle.cargo_toml_features.specs.Marks.{Marks, marked, marks_of}
+use Rattle.cargo_toml_features.specs.Views.{has_text, action_at, resolution_of, value_at}
+
+abbrev pub texts_of : List (Bor Text) → List Text
+texts_of ks = map (λ k. k.now) ks
+
+-- what the feature of a name says of itself
+module _ {S : Type 0} (m : HashMap (Bor Text) Feature S) (f : Text) where
+  abbrev pub key_at : Option Text
+  key_at = option_map (λ v. v.key.now) (value_at m f)
+
+  abbrev pub marks_at : Marks
+  marks_at = option_map_or marks_of (value_at m f) (marked false plain_detail)
+
+  -- the binaries that require it
+  abbrev pub bins_at : List Text
+  bins_at = option_map_or (λ v. texts_of v.required_by_bins.items) (value_at m f) []
+
+-- what a set has once it has gained what the feature that is gone had, and lost its key
+abbrev pub passed_on : BTreeSet (Bor Text) → BTreeSet (Bor Text) → Text → Text → Bool
+passed_on own gone key x = (has_text own x || has_text gone x) && not (bytes_eq x key)
+
+-- what the feature `name` names once `gone`, whose name is `key`, is taken out, and how it acts: a
+-- parent takes over both
+pub record TakesNames (gone : Feature) (key name : Text) (old new : Feature) : Type 0 where
+  pub own_key : new.key ≡ old.key
+  pub marks : marks_of new ≡ marks_of old
+  pub enabled_by : new.enabled_by ≡ old.enabled_by
+  pub bins : new.required_by_bins ≡ old.required_by_bins
+  pub names : (x : Text) → has_text new.enables_features x
+      ≡ (if has_text gone.enabled_by name
+      then passed_on old.enables_features gone.enables_features key x
+      else has_text old.enables_features x)
+  pub actions : (k : Text) → action_at new.enables_deps k
+      ≡ (if has_text gone.enabled_by name
+      then join_option (action_at old.enables_deps k) (action_at gone.enables_deps k)
+      else action_at old.enables_deps k)
+
+-- what the feature `name` becomes by that
+pub record Loses (gone : Feature) (key name : Text) (old new : Feature) : Type 0 where
+  pub own_key : new.key ≡ old.key
+  pub marks : marks_of new ≡ marks_of old
+  -- a parent names what it named, and acts as it did
+  pub names : (x : Text) → has_text new.enables_features x
+      ≡ (if has_text gone.enabled_by name
+      then passed_on old.enables_features gone.enables_features key x
+      else has_text old.enables_features x)
+  pub actions : (k : Text) → action_at new.enables_deps k
+      ≡ (if has_text gone.enabled_by name
+      then join_option (action_at old.enables_deps k) (action_at gone.enables_deps k)
+      else action_at old.enables_deps k)
+  -- what it enabled is enabled by its parents
+  pub enabled_by : (e : Text) → has_text new.enabled_by e
+      ≡ (if has_text old.enabled_by key then passed_on old.enabled_by gone.enabled_by key e
+      else has_text old.enabled_by e)
+  -- what it named is required by its first ten binaries
+  pub bins : texts_of new.required_by_bins.items
+      ≡ (if has_text gone.enables_features name
+      then put_all (texts_of old.required_by_bins.items)
+      (take 10 (texts_of gone.required_by_bins.items))
+      else texts_of old.required_by_bins.items)
+
+-- at k the feature, where there is one, changes so, and no other does
+pub record ChangesAt {S : Type 0} (Changes : Feature → Feature → Type 0) (k : Text)
+    (old new : HashMap (Bor Text) Feature S) : Type 0 where
+  pub here : Relates Changes (value_at old k) (value_at new k)
+  pub others : (q : Text) → IsFalse (bytes_eq k q) → value_at new q ≡ value_at old q
+
+-- each feature loses it
+pub record LosesAll {S : Type 0} (gone : Feature) (key : Text)
+    (old new : HashMap (Bor Text) Feature S) : Type 0 where
+  pub at : (q : Text) → Relates (Loses gone key q) (value_at old q) (value_at new q)
+
+-- the feature `key` is taken out
+pub record TakesOut {S : Type 0} (key : Text)
+    (old new : HashMap (Bor Text) Feature S) : Type 0 where
+  pub left : SameKept (without key (resolution_of old)) (resolution_of new)
+  pub keys : (f : Text) → IsSome (value_at new f) → key_at new f ≡ key_at old f
+  pub marks : (f : Text) → IsSome (value_at new f) → marks_at new f ≡ marks_at old f
+  pub bins : (f : Text) → IsSome (value_at new f)
+      → bins_at new f ≡ pass_bins (resolution_of old) key (bins_at old) f
+
+-- what r names goes to its redirect, and all others stay
+pub record Redirects {S : Type 0} (r : Text) (m : Resolution)
+    (old new : HashMap (Bor Text) (BTreeSet (Bor Text)) S) : Type 0 where
+  pub there : IsSome (value_at new r)
+  pub own : IfSome (value_at new r) (λ names. (x : Text) → has_text names x ≡ m.table.names r x)
+  pub others : (q : Text) → IsFalse (bytes_eq r q) → value_at new q ≡ value_at old q

@@ -1,0 +1,8 @@
+-- Where texts stand in a list.
+use Rattle.std.specs.Prelude.{ℕ, List, []}
+use Rattle.std.specs.List.{slice_index_or}
+use Rattle.cargo_toml_graph.specs.Action.{Text}
+
+-- the text of the place i, empty past the end
+abbrev pub text_at : List Text → ℕ → Text
+text_at texts i = slice_index_or texts i []

@@ -1,0 +1,59 @@
+//! Texts in byte order, and where one stands among them.
+ghost use Rattle.std.specs.Prelude.{◌≡◌, ◌↔◌, ◌<◌, IfSome, IsTrue, None, length, map};
+ghost use Rattle.cargo_toml_graph.specs.Action.{Text};
+ghost use Rattle.cargo_toml_graph.specs.Admitted.{is_below};
+ghost use Rattle.cargo_toml_graph.specs.Reach.{Among};
+ghost use Rattle.cargo_toml_graph.specs.Removal.{IsAscending};
+ghost use Rattle.cargo_toml_features.specs.Places.{text_at};
+
+// So many texts are gone through sooner than halved: most differ from another by their length.
+const FEW: usize = 24;
+
+/// The texts in byte order, each once.
+pub fn in_order<'m>(mut texts: Vec<&'m str>) -> Vec<&'m str>
+    ensures all { (x : Text) → Among (map (λ t. t.now) result.items) x
+        ↔ Among (map (λ t. t.now) texts.entry.items) x }
+    ensures ascending { IsAscending (λ a b. IsTrue (is_below a b)) (map (λ t. t.now) result.items) }
+{
+    texts.sort_unstable();
+    texts.dedup();
+    texts
+}
+
+// Where a text stands first among texts, if it does.
+fn first_of(texts: &[&str], text: &str) -> Option<usize>
+    ensures found { IfSome result (λ i.
+        (i < length texts.now) × (text_at (map (λ t. t.now) texts.now) i ≡ text.now)) }
+    ensures missing { result ≡ None → ¬ Among (map (λ t. t.now) texts.now) text.now }
+{
+    for (i, other) in texts.iter().enumerate() {
+        if *other == text {
+            return Some(i);
+        }
+    }
+    None
+}
+
+// The same, where the texts stand in byte order.
+fn searched(texts: &[&str], text: &str) -> Option<usize>
+    requires { IsAscending (λ a b. IsTrue (is_below a b)) (map (λ t. t.now) texts.now) }
+    ensures found { IfSome result (λ i.
+        (i < length texts.now) × (text_at (map (λ t. t.now) texts.now) i ≡ text.now)) }
+    ensures missing { result ≡ None → ¬ Among (map (λ t. t.now) texts.now) text.now }
+{
+    texts.binary_search(&text).ok()
+}
+
+/// Where a text stands among texts in byte order, if it does.
+pub fn place_of(texts: &[&str], text: &str) -> Option<usize>
+    requires { IsAscending (λ a b. IsTrue (is_below a b)) (map (λ t. t.now) texts.now) }
+    ensures found { IfSome result
+        (λ i. (i < length texts.now) × (text_at (map (λ t. t.now) texts.now) i ≡ text.now)) }
+    ensures missing { result ≡ None → ¬ Among (map (λ t. t.now) texts.now) text.now }
+{
+    if texts.len() > FEW {
+        searched(texts, text)
+    } else {
+        first_of(texts, text)
+    }
+}

@@ -1,0 +1,285 @@
+-- From the features that are read to all that are resolved, before any is removed.
+use Rattle.std.proofs.Common.{◌≡◌, ◌&&◌, ◌||◌, not, Bool, true, false, cond, List, [], ◌++◌, map, Option, Some, None, IfSome, is_some, option_map, bytes_eq, codes, Bor, refl, sym, ap, ap₂, subst, ◌∙◌}
+use Rattle.std.proofs.lemmas.Bool.{false≢true}
+use Rattle.std.specs.List.{list_any}
+use Rattle.std.specs.Map.{lookup}
+use Rattle.std.specs.Option.{option_map_or}
+use Rattle.cargo_toml_features.specs.declared.features.Feature.{Feature}
+use Rattle.cargo_toml_features.specs.declared.features.FeatureDependency.{FeatureDependency}
+use Rattle.cargo_toml_features.specs.InOrder.{AreTable, feature_at, table_among}
+use Rattle.cargo_toml_full.specs.Searching.{has_key}
+use Rattle.cargo_toml_full.specs.declared.read.Mentions.{Mentions}
+use Rattle.cargo_toml_graph.specs.Action.{Text, Action}
+use Rattle.cargo_toml_graph.specs.Admitted.{Listed, is_explicit, joined_action}
+use Rattle.cargo_toml_full.specs.Slots.{Relates}
+use Rattle.cargo_toml_graph.specs.Graph.{Table}
+use Rattle.cargo_toml_full.specs.Implying.{Becomes, ImpliesAll, is_optional_at, is_offered}
+use Rattle.cargo_toml_full.specs.Reading.{IsRead, IsFresh, AreFresh}
+use Rattle.cargo_toml_full.specs.Requiring.{Required, RequiredAll}
+use Rattle.cargo_toml_features.specs.Recorded.{Entry, Recorded, is_mentioned, is_reserved, entries_at, recorded_of, first_target, without_redundant}
+use Rattle.cargo_toml_full.specs.Recording.{recorded_at, is_mentioned_in}
+use Rattle.cargo_toml_full.specs.Redundant.{IsRecordOf, Thinned, ThinnedAll}
+use Rattle.cargo_toml_features.specs.Resolved.{table_of, plain, SameRecorded}
+use Rattle.cargo_toml_dependencies.specs.Details.{plain_detail}
+use Rattle.cargo_toml_features.specs.Marks.{Details, Marks, detail_at, detail_listed, marked, marks_in, marks_of}
+use Rattle.cargo_toml_features.specs.Views.{has_text, action_at}
+use Rattle.cargo_toml_full.specs.declared.slots.Slots.{Slots}
+
+-- tables that say the same
+pub record Same (t u : Table) : Type 0 where
+  pub has : (f : Text) → t.has f ≡ u.has f
+  pub names : (f x : Text) → t.names f x ≡ u.names f x
+  pub action : (f k : Text) → t.action f k ≡ u.action f k
+
+or_not : (a i : Bool) → (a || i) ≡ (a || (i && not a))
+or_not true i = refl
+or_not false true = refl
+or_not false false = refl
+
+-- the features without what dependencies have anyway
+module _ (entries : Text → List Entry) (old new : List Feature) (h : ThinnedAll entries old new) where
+  has_thinned : (f : Text) → is_some (feature_at new f) ≡ is_some (feature_at old f)
+  has_thinned f = go (feature_at old f) (feature_at new f) (h.at f)
+    where
+      go : (o o' : Option Feature) → Relates (Thinned entries) o o' → is_some o' ≡ is_some o
+      go None None r = refl
+      go None (Some b) r = absurd r
+      go (Some a) None r = absurd r
+      go (Some a) (Some b) r = refl
+
+  names_thinned : (f x : Text) → (table_among new).names f x ≡ (table_among old).names f x
+  names_thinned f x = go (feature_at old f) (feature_at new f) (h.at f)
+    where
+      go : (o o' : Option Feature) → Relates (Thinned entries) o o' → option_map_or (λ v. has_text v.enables_features x) o' false ≡ option_map_or (λ v. has_text v.enables_features x) o false
+      go None None r = refl
+      go None (Some b) r = absurd r
+      go (Some a) None r = absurd r
+      go (Some a) (Some b) r = rw r.names
+
+  action_thinned : (f k : Text) → (table_among new).action f k ≡ option_map (without_redundant (first_target (entries k))) ((table_among old).action f k)
+  action_thinned f k = go (feature_at old f) (feature_at new f) (h.at f)
+    where
+      go : (o o' : Option Feature) → Relates (Thinned entries) o o' → option_map_or (λ v. action_at v.enables_deps k) o' None ≡ option_map (without_redundant (first_target (entries k))) (option_map_or (λ v. action_at v.enables_deps k) o None)
+      go None None r = refl
+      go None (Some b) r = absurd r
+      go (Some a) None r = absurd r
+      go (Some a) (Some b) r = r.actions k
+
+  fresh_thinned : (listed : Listed) (details : Details) → AreFresh listed details old → AreFresh listed details new
+  fresh_thinned listed details fresh f v s = subst (λ o. IfSome o (IsFresh f (detail_listed listed details f))) s (go (feature_at old f) (feature_at new f) refl (h.at f))
+    where
+      go : (o o' : Option Feature) → feature_at old f ≡ o → Relates (Thinned entries) o o' → IfSome o' (IsFresh f (detail_listed listed details f))
+      go None None s r = tt
+      go None (Some b) s r = absurd r
+      go (Some a) None s r = absurd r
+      go (Some a) (Some b) s r =
+          let k = fresh f a s in
+          record { key = ap (λ q. q.now) r.key ∙ k.key; marks = r.marks ∙ k.marks; enabled_by = ap (λ q. q.keys) r.enabled_by ∙ k.enabled_by; bins = ap (λ q. q.items) r.bins ∙ k.bins }
+
+-- the table with the implied features
+module _ (implied : Text → Bool) (old new : List Feature) (h : ImpliesAll implied old new) where
+  has_after : (f : Text) → is_some (feature_at new f) ≡ (is_some (feature_at old f) || implied f)
+  has_after f = go (implied f) (feature_at old f) (feature_at new f) (h.at f)
+    where
+      go : (t : Bool) (o o' : Option Feature) → Becomes t f o o' → is_some o' ≡ (is_some o || t)
+      go true None None b = absurd b
+      go true None (Some v) b = refl
+      go false None o' b = ap is_some b
+      go true (Some v) o' b = ap is_some b
+      go false (Some v) o' b = ap is_some b
+
+  names_after : (f x : Text) → (table_among new).names f x ≡ (table_among old).names f x
+  names_after f x = go (implied f) (feature_at old f) (feature_at new f) (h.at f)
+    where
+      go : (t : Bool) (o o' : Option Feature) → Becomes t f o o' → option_map_or (λ v. has_text v.enables_features x) o' false ≡ option_map_or (λ v. has_text v.enables_features x) o false
+      go true None None b = absurd b
+      go true None (Some v) b = b.names x
+      go false None o' b = rw b
+      go true (Some v) o' b = rw b
+      go false (Some v) o' b = rw b
+
+  action_after : (f k : Text) → (table_among new).action f k ≡ cond (is_some (feature_at old f)) ((table_among old).action f k) (cond (implied f && bytes_eq k f) (Some plain) None)
+  action_after f k = go (implied f) (feature_at old f) (feature_at new f) (h.at f)
+    where
+      go : (t : Bool) (o o' : Option Feature) → Becomes t f o o' → option_map_or (λ v. action_at v.enables_deps k) o' None ≡ cond (is_some o) (option_map_or (λ v. action_at v.enables_deps k) o None) (cond (t && bytes_eq k f) (Some plain) None)
+      go true None None b = absurd b
+      go true None (Some v) b = b.action k
+      go false None o' b = rw b
+      go true (Some v) o' b = rw b
+      go false (Some v) o' b = rw b
+
+-- a feature that sits under its key, with these marks, and with neither enablers nor binaries
+record IsMarked (f : Text) (these : Marks) (v : Feature) : Type 0 where
+  key : v.key.now ≡ f
+  enabled_by : v.enabled_by.keys ≡ []
+  bins : v.required_by_bins.items ≡ []
+  marks : marks_of v ≡ these
+
+-- the same with the binaries that require it
+record IsTold (f : Text) (these : Marks) (own : List Text) (v : Feature) : Type 0 where
+  key : v.key.now ≡ f
+  enabled_by : v.enabled_by.keys ≡ []
+  bins : map (λ b. b.now) v.required_by_bins.items ≡ own
+  marks : marks_of v ≡ these
+
+-- binaries change neither what features say nor which enable them
+module _ (own : Text → List Text) (old new : List Feature) (h : RequiredAll own old new) where
+  has_required : (f : Text) → is_some (feature_at new f) ≡ is_some (feature_at old f)
+  has_required f = go (feature_at old f) (feature_at new f) (h.at f)
+    where
+      go : (o o' : Option Feature) → Relates (Required (own f)) o o' → is_some o' ≡ is_some o
+      go None None r = refl
+      go None (Some b) r = absurd r
+      go (Some a) None r = absurd r
+      go (Some a) (Some b) r = refl
+
+  names_required : (f x : Text) → (table_among new).names f x ≡ (table_among old).names f x
+  names_required f x = go (feature_at old f) (feature_at new f) (h.at f)
+    where
+      go : (o o' : Option Feature) → Relates (Required (own f)) o o' → option_map_or (λ v. has_text v.enables_features x) o' false ≡ option_map_or (λ v. has_text v.enables_features x) o false
+      go None None r = refl
+      go None (Some b) r = absurd r
+      go (Some a) None r = absurd r
+      go (Some a) (Some b) r = rw r.names
+
+  action_required : (f k : Text) → (table_among new).action f k ≡ (table_among old).action f k
+  action_required f k = go (feature_at old f) (feature_at new f) (h.at f)
+    where
+      go : (o o' : Option Feature) → Relates (Required (own f)) o o' → option_map_or (λ v. action_at v.enables_deps k) o' None ≡ option_map_or (λ v. action_at v.enables_deps k) o None
+      go None None r = refl
+      go None (Some b) r = absurd r
+      go (Some a) None r = absurd r
+      go (Some a) (Some b) r = rw r.actions
+
+  told_required : (f : Text) (these : Marks) → IfSome (feature_at old f) (IsMarked f these) → IfSome (feature_at new f) (IsTold f these (own f))
+  told_required f these = go (feature_at old f) (feature_at new f) (h.at f)
+    where
+      go : (o o' : Option Feature) → Relates (Required (own f)) o o' → IfSome o (IsMarked f these) → IfSome o' (IsTold f these (own f))
+      go None None r m = tt
+      go None (Some b) r m = absurd r
+      go (Some a) None r m = absurd r
+      go (Some a) (Some b) r m = record {
+        key = ap (λ q. q.now) r.key ∙ m.key;
+        enabled_by = ap (λ q. q.keys) r.enabled_by ∙ m.enabled_by;
+        bins = r.bins ∙ ap (λ xs. map (λ (b : Bor Text). b.now) xs ++ own f) m.bins;
+        marks = r.marks ∙ m.marks;
+      }
+
+same_recorded : (a b : Option Recorded) → a ≡ b → SameRecorded a b
+same_recorded a b e = subst (SameRecorded a) e (own a)
+  where
+    own : (o : Option Recorded) → SameRecorded o o
+    own None = tt
+    own (Some r) = (refl, λ t. refl)
+
+module _ (listed : Listed) (entries : List Entry) (details : Details) (own : Text → List Text) (mentions : Mentions) (thinned implied last : List Feature) (deps : Slots FeatureDependency)
+    (r : IsRead listed (table_among mentions.features.items) (has_key mentions.acted.keys) (has_key mentions.acted.reserved)) (fresh : AreFresh listed details mentions.features.items)
+    (thins : (entries : Text → List Entry) → IsRecordOf deps entries → ThinnedAll entries mentions.features.items thinned) (i : ImpliesAll (is_offered (has_key mentions.acted.reserved) entries) thinned implied)
+    (b : RequiredAll own implied last)
+    (recorded : ((k : Text) → is_mentioned_in mentions k ≡ is_mentioned listed k) → (k : Text) → recorded_at deps k ≡ recorded_of (entries_at listed entries k)) where
+  abbrev t : Table
+  t = table_of listed entries
+
+  mentioned : (k : Text) → is_mentioned_in mentions k ≡ is_mentioned listed k
+  mentioned k = ap₂ (λ x y. x || y) (r.has k) (r.acted_on k)
+
+  less : ThinnedAll (entries_at listed entries) mentions.features.items thinned
+  less = thins (entries_at listed entries) (recorded mentioned)
+
+  pub fresh_still : AreFresh listed details thinned
+  fresh_still = fresh_thinned (entries_at listed entries) mentions.features.items thinned less listed details fresh
+
+  -- what is left of an action on k
+  abbrev left : Text → Action → Action
+  left k = without_redundant (first_target (entries_at listed entries k))
+
+  has_still : (f : Text) → is_some (feature_at thinned f) ≡ is_explicit listed f
+  has_still f = has_thinned (entries_at listed entries) mentions.features.items thinned less f ∙ r.has f
+
+  action_still : (f k : Text) → (table_among thinned).action f k ≡ option_map (left k) (joined_action listed f k)
+  action_still f k = action_thinned (entries_at listed entries) mentions.features.items thinned less f k ∙ ap (option_map (left k)) (r.action f k)
+
+  offered_is : (f : Text) → is_offered (has_key mentions.acted.reserved) entries f ≡ (list_any (is_optional_at f) entries && not (is_reserved listed f))
+  offered_is f = ap (λ b. list_any (is_optional_at f) entries && not b) (r.reserves f)
+
+  same : Same (table_among implied) t
+  same = record {
+    has = λ f. has_after (is_offered (has_key mentions.acted.reserved) entries) thinned implied i f ∙ ap (λ b. b || is_offered (has_key mentions.acted.reserved) entries f) (has_still f) ∙ ap (λ b. is_explicit listed f || b) (offered_is f) ∙ or_not (is_explicit listed f) _;
+    names = λ f x. names_after (is_offered (has_key mentions.acted.reserved) entries) thinned implied i f x ∙ names_thinned (entries_at listed entries) mentions.features.items thinned less f x ∙ r.names f x;
+    action = λ f k.
+        action_after (is_offered (has_key mentions.acted.reserved) entries) thinned implied i f k ∙ ap (λ b. cond b ((table_among thinned).action f k) (cond (is_offered (has_key mentions.acted.reserved) entries f && bytes_eq k f) (Some plain) None)) (has_still f)
+        ∙ ap (λ o. cond (is_explicit listed f) o (cond (is_offered (has_key mentions.acted.reserved) entries f && bytes_eq k f) (Some plain) None)) (action_still f k)
+        ∙ ap (λ b. cond (is_explicit listed f) (option_map (left k) (joined_action listed f k)) (cond (b && bytes_eq k f) (Some plain) None)) (offered_is f)
+        ∙ go (left k) refl (is_explicit listed f) (joined_action listed f k) (list_any (is_optional_at f) entries && not (is_reserved listed f)) (bytes_eq k f);
+  }
+    where
+      go : (w : Action → Action) → w plain ≡ plain → (a : Bool) (o : Option Action) (i b : Bool) → cond a (option_map w o) (cond (i && b) (Some plain) None) ≡ option_map w (cond a o (cond ((i && not a) && b) (Some plain) None))
+      go w p true o i b = refl
+      go w p false o true true = ap Some (sym p)
+      go w p false o true false = refl
+      go w p false o false b = refl
+
+  pub same_last : Same (table_among last) t
+  same_last = record {
+    has = λ f. has_required own implied last b f ∙ same.has f;
+    names = λ f x. names_required own implied last b f x ∙ same.names f x;
+    action = λ f k. action_required own implied last b f k ∙ same.action f k;
+  }
+
+  -- the marks of one that stays from the lists on, and of one that is implied
+  listed_marks : (f : Text) → is_explicit listed f ≡ true → marked true (detail_listed listed details f) ≡ marks_in listed details f
+  listed_marks f on = ap (λ b. marked b (detail_listed listed details f)) (sym on)
+
+  implied_marks : (f : Text) → is_explicit listed f ≡ false → marked false plain_detail ≡ marks_in listed details f
+  implied_marks f off = ap₂ marked (sym off) (sym (go (bytes_eq f (codes "default")) (is_some (lookup (bytes_eq f) listed)) off))
+    where
+      go : (d l : Bool) → (d || l) ≡ false → cond l (detail_at details f) plain_detail ≡ plain_detail
+      go true l e = absurd (false≢true (sym e))
+      go false true e = absurd (false≢true (sym e))
+      go false false e = refl
+
+  marked_all : (f : Text) → IfSome (feature_at implied f) (IsMarked f (marks_in listed details f))
+  marked_all f = middle (is_offered (has_key mentions.acted.reserved) entries f) (feature_at thinned f) (feature_at implied f) refl (i.at f)
+    where
+      listed_one : (v : Feature) → feature_at thinned f ≡ Some v → IsMarked f (marks_in listed details f) v
+      listed_one v s =
+          let k = fresh_still f v s in
+          record { key = k.key; enabled_by = k.enabled_by; bins = k.bins; marks = k.marks ∙ listed_marks f (sym (has_still f) ∙ ap is_some s) }
+
+      middle : (b : Bool) (o o' : Option Feature) → feature_at thinned f ≡ o → Becomes b f o o' → IfSome o' (IsMarked f (marks_in listed details f))
+      middle true None None s b = absurd b
+      middle true None (Some v) s b = record { key = b.key; enabled_by = b.enabled_by; bins = b.bins; marks = b.marks ∙ implied_marks f (sym (has_still f) ∙ ap is_some s) }
+      middle false None o' s b = subst (λ o. IfSome o (IsMarked f (marks_in listed details f))) (sym b) tt
+      middle true (Some v) o' s b = subst (λ o. IfSome o (IsMarked f (marks_in listed details f))) (sym b) (listed_one v s)
+      middle false (Some v) o' s b = subst (λ o. IfSome o (IsMarked f (marks_in listed details f))) (sym b) (listed_one v s)
+
+  told : (f : Text) → IfSome (feature_at last f) (IsTold f (marks_in listed details f) (own f))
+  told f = told_required own implied last b f (marks_in listed details f) (marked_all f)
+
+  pub marks_told : (f : Text) → IfSome (feature_at last f) (λ v. marks_of v ≡ marks_in listed details f)
+  marks_told f = go (feature_at last f) (told f)
+    where
+      go : (o : Option Feature) → IfSome o (IsTold f (marks_in listed details f) (own f)) → IfSome o (λ v. marks_of v ≡ marks_in listed details f)
+      go None k = tt
+      go (Some v) k = k.marks
+
+  pub bins_told : (f : Text) → IfSome (feature_at last f) (λ v. map (λ b. b.now) v.required_by_bins.items ≡ own f)
+  bins_told f = go (feature_at last f) (told f)
+    where
+      go : (o : Option Feature) → IfSome o (IsTold f (marks_in listed details f) (own f)) → IfSome o (λ v. map (λ b. b.now) v.required_by_bins.items ≡ own f)
+      go None k = tt
+      go (Some v) k = k.bins
+
+  pub no_enablers_told : (f : Text) → IfSome (feature_at last f) (λ v. v.enabled_by.keys ≡ [])
+  no_enablers_told f = go (feature_at last f) (told f)
+    where
+      go : (o : Option Feature) → IfSome o (IsTold f (marks_in listed details f) (own f)) → IfSome o (λ v. v.enabled_by.keys ≡ [])
+      go None k = tt
+      go (Some v) k = k.enabled_by
+
+  pub dependencies_told : (k : Text) → SameRecorded (recorded_at deps k) (recorded_of (entries_at listed entries k))
+  dependencies_told k = same_recorded (recorded_at deps k) (recorded_of (entries_at listed entries k)) (recorded mentioned k)
+
+-- tables that say the same, of a list
+pub are_table : (vs : List Feature) (t : Table) → Same (table_among vs) t → AreTable t vs
+are_table vs t u = record { has = u.has; names = u.names; action = u.action }

@@ -1,0 +1,96 @@
+-- The keys of the entries that pass a test.
+use Rattle.std.proofs.Common.{◌≡◌, ◌↔◌, ◌⊎◌, ◌<◌, ◌+◌, ◌&&◌, ◌||◌, ℕ, Bool, true, false, List, [], ◌∷◌, ◌++◌, length, map, take, get_or, Bor, IsTrue, bytes_eq, refl, sym, ap, subst, inl, inr, ◌∙◌}
+use Rattle.std.proofs.lemmas.Bool.{false≢true}
+use Rattle.std.proofs.lemmas.List.{get_or-map, length-map, map-append, take_more}
+use Rattle.std.proofs.lemmas.List.Folds.{list_any-append}
+use Rattle.std.proofs.lemmas.Slice.Eq.{bytes_eq-Decides}
+use Rattle.std.specs.List.{list_any}
+use Rattle.cargo_toml_graph.specs.Action.{Text}
+use Rattle.cargo_toml_graph.specs.Reach.{Among}
+use Rattle.cargo_toml_graph.proofs.BinLists.{among-first, among-second, among-either}
+use Rattle.cargo_toml_features.specs.declared.features.ParseDependency.{ParseDependency}
+use Rattle.cargo_toml_features.specs.Recorded.{Entry}
+use Rattle.cargo_toml_features.specs.Views.{entry_of}
+use Rattle.cargo_toml_full.specs.Recording.{counts_alone}
+use Rattle.cargo_toml_full.proofs.Ascending.{texts}
+
+either : (a b : Bool) → IsTrue (a || (b || false)) → IsTrue a ⊎ IsTrue b
+either true b h = inl refl
+either false true h = inr refl
+either false false h = absurd (false≢true h)
+
+from_first : (a b : Bool) → IsTrue a → IsTrue (a || (b || false))
+from_first true b h = refl
+from_first false b h = absurd (false≢true h)
+
+from_second : (a b : Bool) → IsTrue b → IsTrue (a || (b || false))
+from_second true b h = refl
+from_second false true h = refl
+from_second false false h = absurd (false≢true h)
+
+both : (a b : Bool) → IsTrue (a && b) → IsTrue a × IsTrue b
+both true true h = (refl, refl)
+both true false h = absurd (false≢true h)
+both false b h = absurd (false≢true h)
+
+module _ (test : Text → Entry → Bool) where
+  abbrev passes_at : Text → Entry → Bool
+  passes_at k e = bytes_eq e.key k && test k e
+
+  abbrev pub Gathers : List Text → List Entry → Type 0
+  Gathers ks es = (k : Text) → Among ks k ↔ IsTrue (list_any (passes_at k) es)
+
+  put_last : (ks : List Text) (es : List Entry) (e : Entry) → IsTrue (test e.key e) → Gathers ks es → Gathers (ks ++ e.key ∷ []) (es ++ e ∷ [])
+  put_last ks es e on g k = subst (λ b. Among (ks ++ e.key ∷ []) k ↔ IsTrue b) (sym (list_any-append (passes_at k) es (e ∷ []))) (
+    λ there. elim (among-either ks (e.key ∷ []) k there) [
+      | inl i ↦ from_first (list_any (passes_at k) es) (passes_at k e) ((g k).0 i)
+      | inr i ↦ elim i [ inl is ↦ from_second (list_any (passes_at k) es) (passes_at k e) (subst (λ x. IsTrue (passes_at x e)) (sym is) itself) | inr none ↦ absurd none ]
+    ],
+    λ there. elim (either (list_any (passes_at k) es) (passes_at k e) there) [
+      | inl i ↦ among-first ks (e.key ∷ []) k ((g k).1 i)
+      | inr i ↦ among-second ks (e.key ∷ []) k (inl (sym ((bytes_eq-Decides e.key k).0 (both (bytes_eq e.key k) (test k e) i).0)))
+    ],
+  )
+    where
+      itself : IsTrue (passes_at e.key e)
+      itself = ap (λ b. b && test e.key e) ((bytes_eq-Decides e.key e.key).1 refl) ∙ on
+
+  leave_last : (ks : List Text) (es : List Entry) (e : Entry) → test e.key e ≡ false → Gathers ks es → Gathers ks (es ++ e ∷ [])
+  leave_last ks es e off g k = subst (λ b. Among ks k ↔ IsTrue b) (sym (list_any-append (passes_at k) es (e ∷ []))) (
+    λ there. from_first (list_any (passes_at k) es) (passes_at k e) ((g k).0 there),
+    λ there. elim (either (list_any (passes_at k) es) (passes_at k e) there) [
+      | inl i ↦ (g k).1 i
+      | inr i ↦ let h = both (bytes_eq e.key k) (test k e) i in
+          absurd (false≢true (sym off ∙ subst (λ x. IsTrue (test x e)) (sym ((bytes_eq-Decides e.key k).0 h.0)) h.1))
+    ],
+  )
+
+  -- the same of the entry at a place
+  module _ (es : List ParseDependency) (keys : List (Bor Text)) (i : ℕ) (p : ParseDependency) (inside : i < length es) (is : p ≡ get_or es i p)
+      (gathered : Gathers (texts keys) (map entry_of (take i es))) where
+    more : map entry_of (take (i + 1) es) ≡ map entry_of (take i es) ++ entry_of p ∷ []
+    more = ap (map entry_of) (take_more es i p inside ∙ ap (λ x. take i es ++ x ∷ []) (sym is)) ∙ map-append entry_of (take i es) (p ∷ [])
+
+    pub key_put : (new : List (Bor Text)) → new ≡ keys ++ p.key ∷ [] → test p.key.now (entry_of p) ≡ true → Gathers (texts new) (map entry_of (take (i + 1) es))
+    key_put new put on = subst (λ ks. Gathers ks (map entry_of (take (i + 1) es))) (sym (ap texts put ∙ map-append (λ (t : Bor Text). t.now) keys (p.key ∷ [])))
+        (subst (Gathers (texts keys ++ p.key.now ∷ [])) (sym more) (put_last (texts keys) (map entry_of (take i es)) (entry_of p) on gathered))
+
+    pub key_left : (new : List (Bor Text)) → new ≡ keys → test p.key.now (entry_of p) ≡ false → Gathers (texts new) (map entry_of (take (i + 1) es))
+    key_left new same off = subst (λ ks. Gathers (texts ks) (map entry_of (take (i + 1) es))) (sym same)
+        (subst (Gathers (texts keys)) (sym more) (leave_last (texts keys) (map entry_of (take i es)) (entry_of p) off gathered))
+
+-- the flag of one more entry
+pub flag_put : (mentioned : Text → Bool) (es : List ParseDependency) (i : ℕ) (p : ParseDependency) → i < length es → p ≡ get_or es i p → (flags : List Bool) (b : Bool) → b ≡ counts_alone mentioned (entry_of p)
+    → flags ≡ map (counts_alone mentioned) (map entry_of (take i es)) → (new : List Bool) → new ≡ flags ++ b ∷ [] → new ≡ map (counts_alone mentioned) (map entry_of (take (i + 1) es))
+flag_put mentioned es i p inside is flags b counted so_far new put =
+    put ∙ ap (λ fs. fs ++ b ∷ []) so_far ∙ ap (λ c. map (counts_alone mentioned) (map entry_of (take i es)) ++ c ∷ []) counted
+    ∙ sym (ap (map (counts_alone mentioned)) (ap (map entry_of) (take_more es i p inside ∙ ap (λ x. take i es ++ x ∷ []) (sym is)) ∙ map-append entry_of (take i es) (p ∷ []))
+    ∙ map-append (counts_alone mentioned) (map entry_of (take i es)) (entry_of p ∷ []))
+
+-- and the flag at the place of an entry
+pub flag_there : (mentioned : Text → Bool) (es : List ParseDependency) (i : ℕ) (p : ParseDependency) (flags : List Bool) (d : Bool) → i < length es → p ≡ get_or es i p
+    → flags ≡ map (counts_alone mentioned) (map entry_of es) → get_or flags i d ≡ counts_alone mentioned (entry_of p)
+flag_there mentioned es i p flags d inside is are =
+    let long : i < length (map entry_of es) = subst (λ n. i < n) (sym (length-map es entry_of)) inside in
+    ap (λ fs. get_or fs i d) are ∙ get_or-map (counts_alone mentioned) (map entry_of es) i (entry_of p) d long
+    ∙ ap (counts_alone mentioned) (get_or-map entry_of es i p (entry_of p) inside ∙ ap entry_of (sym is))

@@ -1,0 +1,93 @@
+-- The names of a feature's list, gathered beside the feature, and the set that is made of them.
+use Rattle.std.proofs.Common.{◌≡◌, Bool, true, false, cond, ◌||◌, List, [], ◌∷◌, ◌++◌, map, is_some, Option, Some, None, bytes_eq, Bor, take, length, get_or, ℕ, ◌+◌, ◌<◌, Result, Ok, Err, IfOk, refl, sym, ap, ap₂, ◌∙◌}
+use Rattle.std.proofs.Math.Bool.{or-false}
+use Rattle.std.proofs.lemmas.List.Folds.{list_any-append}
+use Rattle.std.proofs.lemmas.List.Sums.{fold_push}
+use Rattle.std.proofs.lemmas.List.{map_push, take_more}
+use Rattle.std.proofs.lemmas.Map.Text.{is_eq-slice_cmp}
+use Rattle.std.specs.BTreeMap.{BTreeMap, is_at}
+use Rattle.std.specs.BTreeSet as sorted
+use Rattle.std.specs.BTreeSet.{BTreeSet}
+use Rattle.std.specs.Cmp.Lexicographic.{slice_cmp}
+use Rattle.std.specs.Ordering.{nat_cmp}
+use Rattle.std.specs.List.{list_any}
+use Rattle.cargo_toml_dependencies.specs.Details.{Detail}
+use Rattle.cargo_toml_features.specs.declared.action.ActionText.{ActionText}
+use Rattle.cargo_toml_features.specs.declared.features.DepAction.{DepAction}
+use Rattle.cargo_toml_features.specs.declared.features.Feature.{Feature}
+use Rattle.cargo_toml_graph.specs.Action.{Text, Action, Item, join_option}
+use Rattle.cargo_toml_graph.specs.Action.Item.{Name, On}
+use Rattle.cargo_toml_graph.specs.Admitted.{action_on, item_names}
+use Rattle.cargo_toml_features.specs.ActionText.{action_in, item_in}
+use Rattle.cargo_toml_features.specs.Views.{action_at, has_text}
+use Rattle.cargo_toml_full.specs.ReadFeature.{IsGathered, IsListed, joined_in}
+
+pub acting : (t : ActionText) → true ≡ (t.is_dep_only || is_some t.dep_feature) → item_in t ≡ On t.target.now (action_in t)
+acting t e = ap (λ b. cond b (On t.target.now (action_in t)) (Name t.target.now)) (sym e)
+
+pub naming : (t : ActionText) → false ≡ (t.is_dep_only || is_some t.dep_feature) → item_in t ≡ Name t.target.now
+naming t e = ap (λ b. cond b (On t.target.now (action_in t)) (Name t.target.now)) (sym e)
+
+join_none : (o : Option Action) → join_option o None ≡ o
+join_none None = refl
+join_none (Some a) = refl
+
+module _ (f : Text) (d : Detail) (items : List Item) (named : List Text) (v : Feature) (h : IsGathered f d items named v) where
+  joined : (i : Item) (k : Text) → joined_in (items ++ i ∷ []) k ≡ join_option (joined_in items k) (action_on k i)
+  joined i k = fold_push (λ o j. join_option o (action_on k j)) None items i
+
+  -- one more action
+  pub gathered_on : (i : Item) (key : Text) (a : Action) → i ≡ On key a → (deps : BTreeMap (Bor Text) DepAction)
+      → ((q : Text) → action_at deps q ≡ join_option (action_at v.enables_deps q) (cond (bytes_eq q key) (Some a) None)) → IsGathered f d (items ++ i ∷ []) named (record v { enables_deps = deps })
+  gathered_on i key a is deps more = record {
+    fresh = record { key = h.fresh.key; marks = h.fresh.marks; enabled_by = h.fresh.enabled_by; bins = h.fresh.bins };
+    names = λ x. h.names x ∙ sym (list_any-append (item_names x) items (i ∷ []) ∙ ap (λ j. list_any (item_names x) items || (item_names x j || false)) is ∙ or-false _);
+    action = λ k. more k ∙ ap (λ o. join_option o (cond (bytes_eq k key) (Some a) None)) (h.action k) ∙ sym (joined i k ∙ ap (λ j. join_option (joined_in items k) (action_on k j)) is);
+  }
+
+  -- one more name
+  pub gathered_name : (i : Item) (y : Text) → i ≡ Name y → (more : List Text) → more ≡ named ++ y ∷ [] → IsGathered f d (items ++ i ∷ []) more v
+  gathered_name i y is more more_is = record {
+    fresh = h.fresh;
+    names = λ x.
+        ap (list_any (bytes_eq x)) more_is ∙ list_any-append (bytes_eq x) named (y ∷ [])
+        ∙ ap₂ (λ b j. b || (item_names x j || false)) (h.names x) (sym is) ∙ sym (list_any-append (item_names x) items (i ∷ []));
+    action = λ k. h.action k ∙ sym (joined i k ∙ ap (λ j. join_option (joined_in items k) (action_on k j)) is ∙ join_none (joined_in items k));
+  }
+
+-- ---- sets of texts
+-- a key of the list is the text x
+abbrev pub is_text_in : List (Bor Text) → Text → Bool
+is_text_in ks x = list_any (is_at (λ k. slice_cmp nat_cmp x k.now)) ks
+
+text_in : (ks : List (Bor Text)) (x : Text) → is_text_in ks x ≡ list_any (bytes_eq x) (map (λ k. k.now) ks)
+text_in [] x = refl
+text_in (k ∷ ks) x = ap₂ (λ a b. a || b) (is_eq-slice_cmp x k.now) (text_in ks x)
+
+-- a set that is made of texts has them
+pub texts_made : {E : Type 0} (ks : List (Bor Text)) (r : Result (BTreeSet (Bor Text)) E) → IfOk r (λ s. sorted.IsFromIterResult (λ x y. slice_cmp nat_cmp x.now y.now) ks s)
+    → IfOk r (λ s. (x : Text) → has_text s x ≡ list_any (bytes_eq x) (map (λ k. k.now) ks))
+texts_made ks (Err e) h = tt
+texts_made ks (Ok s) h = λ x. h.0 (record { ref_ptr = (0, 0); now = x }) ∙ text_in ks x
+
+-- what an index past the end reads
+abbrev pub no_text : Bor Text
+no_text = record { ref_ptr = (0, 0); now = [] }
+
+-- one more text
+pub more_texts : (ks : List (Bor Text)) (i : ℕ) (s n : Text → Bool) → i < length ks → ((x : Text) → s x ≡ list_any (bytes_eq x) (map (λ k. k.now) (take i ks)))
+    → ((x : Text) → n x ≡ (s x || bytes_eq x (get_or ks i no_text).now)) → (x : Text) → n x ≡ list_any (bytes_eq x) (map (λ k. k.now) (take (i + 1) ks))
+more_texts ks i s n lt h more x =
+    more x ∙ ap (λ b. b || bytes_eq x (get_or ks i no_text).now) (h x)
+    ∙ sym (ap (λ us. list_any (bytes_eq x) (map (λ (u : Bor Text). u.now) us)) (take_more ks i no_text lt)
+    ∙ ap (list_any (bytes_eq x)) (map_push (λ (u : Bor Text). u.now) (take i ks) (get_or ks i no_text))
+    ∙ list_any-append (bytes_eq x) (map (λ u. u.now) (take i ks)) ((get_or ks i no_text).now ∷ []) ∙ ap (λ b. list_any (bytes_eq x) (map (λ u. u.now) (take i ks)) || b) (or-false _))
+
+-- a feature whose names were gathered, once it has them
+pub has_gathered : (f : Text) (d : Detail) (items : List Item) (named : List Text) (v : Feature) (s : BTreeSet (Bor Text)) → IsGathered f d items named v
+    → ((x : Text) → has_text s x ≡ list_any (bytes_eq x) named) → IsListed f d items (record v { enables_features = s })
+has_gathered f d items named v s h has = record {
+  fresh = record { key = h.fresh.key; marks = h.fresh.marks; enabled_by = h.fresh.enabled_by; bins = h.fresh.bins };
+  names = λ x. has x ∙ h.names x;
+  action = h.action;
+}

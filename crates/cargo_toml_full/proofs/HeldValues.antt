@@ -1,0 +1,106 @@
+-- Values under names that ascend.
+use Rattle.std.proofs.Common.{◌≡◌, ◌<◌, ℕ, zero, suc, Bool, true, false, cond, List, [], ◌∷◌, length, map, set, get_or, Option, None, Bor, IsTrue, bytes_eq, refl, sym, ap, subst, inl, inr, arith, ◌∙◌}
+use Rattle.std.proofs.lemmas.List.{length-map, set-get_or}
+use Rattle.std.proofs.lemmas.Slice.Eq.{bytes_eq-Decides}
+use Rattle.cargo_toml_graph.specs.Action.{Text}
+use Rattle.cargo_toml_graph.specs.Admitted.{is_below}
+use Rattle.cargo_toml_graph.specs.Reach.{Among}
+use Rattle.cargo_toml_graph.proofs.RedirectsInOrder.{below_one_way}
+use Rattle.cargo_toml_full.specs.Ascending.{Ascend}
+use Rattle.cargo_toml_full.specs.Slots.{HaveSameNames, held_among, held_in, names_in}
+use Rattle.cargo_toml_full.specs.declared.slots.Slots.{Slots}
+use Rattle.cargo_toml_features.specs.Places.{text_at}
+use Rattle.cargo_toml_features.proofs.Places.{among_at}
+
+module _ {V : Type 0} where
+  -- a name that isn't there has no value
+  pub held_missing : (ns : List Text) (vs : List (Option V)) (f : Text) → (¬ Among ns f) → held_among ns vs f ≡ None
+  held_missing [] vs f gone = refl
+  held_missing (n ∷ ns) [] f gone = refl
+  held_missing (n ∷ ns) (v ∷ vs) f gone = go (bytes_eq f n) refl (held_missing ns vs f (λ there. gone (inr there)))
+    where
+      go : (t : Bool) → bytes_eq f n ≡ t → held_among ns vs f ≡ None → cond t v (held_among ns vs f) ≡ None
+      go true on later = absurd (gone (inl ((bytes_eq-Decides f n).0 on)))
+      go false off later = later
+
+  -- under the name of a place stands its value
+  pub held_at : (ns : List Text) (vs : List (Option V)) (i : ℕ) (d : Option V) → Ascend ns → length vs ≡ length ns → i < length ns → held_among ns vs (text_at ns i) ≡ get_or vs i d
+  held_at [] vs i d up same below = absurd (omega arith)
+  held_at (n ∷ ns) [] i d up same below = absurd (omega arith)
+  held_at (n ∷ ns) (v ∷ vs) zero d up same below = ap (λ t. cond t v (held_among ns vs n)) ((bytes_eq-Decides n n).1 refl)
+  held_at (n ∷ ns) (v ∷ vs) (suc i) d up same below = go (bytes_eq (text_at ns i) n) refl (held_at ns vs i d up.1 (omega arith) (omega arith))
+    where
+      inside : i < length ns
+      inside = omega arith
+
+      go : (t : Bool) → bytes_eq (text_at ns i) n ≡ t → held_among ns vs (text_at ns i) ≡ get_or vs i d → cond t v (held_among ns vs (text_at ns i)) ≡ get_or vs i d
+      go true on later = absurd (below_one_way n n (apart on) (apart on))
+        where
+          apart : bytes_eq (text_at ns i) n ≡ true → IsTrue (is_below n n)
+          apart on = subst (λ x. IsTrue (is_below n x)) ((bytes_eq-Decides (text_at ns i) n).0 on) (up.0 (text_at ns i) (among_at ns i [] inside))
+      go false off later = later
+
+  -- a value is put in a place
+  pub held_set : (ns : List Text) (vs : List (Option V)) (i : ℕ) (o : Option V) → Ascend ns → length vs ≡ length ns → i < length ns
+      → (f : Text) → held_among ns (set vs i o) f ≡ cond (bytes_eq f (text_at ns i)) o (held_among ns vs f)
+  held_set [] vs i o up same below f = absurd (omega arith)
+  held_set (n ∷ ns) [] i o up same below f = absurd (omega arith)
+  held_set (n ∷ ns) (v ∷ vs) zero o up same below f = go (bytes_eq f n)
+    where
+      go : (t : Bool) → cond t o (held_among ns vs f) ≡ cond t o (cond t v (held_among ns vs f))
+      go true = refl
+      go false = refl
+  held_set (n ∷ ns) (v ∷ vs) (suc i) o up same below f = ap (cond (bytes_eq f n) v) (held_set ns vs i o up.1 (omega arith) (omega arith) f) ∙ go (bytes_eq f n) refl (bytes_eq f (text_at ns i)) refl
+    where
+      inside : i < length ns
+      inside = omega arith
+
+      go : (s : Bool) → bytes_eq f n ≡ s → (t : Bool) → bytes_eq f (text_at ns i) ≡ t → cond s v (cond t o (held_among ns vs f)) ≡ cond t o (cond s v (held_among ns vs f))
+      go true on true there = absurd (below_one_way n n itself itself)
+        where
+          itself : IsTrue (is_below n n)
+          itself = subst (λ x. IsTrue (is_below n x)) (sym ((bytes_eq-Decides f (text_at ns i)).0 there) ∙ (bytes_eq-Decides f n).0 on) (up.0 (text_at ns i) (among_at ns i [] inside))
+      go true on false there = refl
+      go false off true there = refl
+      go false off false there = refl
+
+  -- names that stay, one change after another
+  pub same_then : (a b c : Slots V) → HaveSameNames a b → HaveSameNames b c → HaveSameNames a c
+  same_then a b c h k = record { names = k.names ∙ h.names; count = k.count ∙ h.count }
+
+  pub same_self : (a : Slots V) → HaveSameNames a a
+  same_self a = record { names = refl; count = refl }
+
+  -- the same of slots: what stands at a place, and what a new value there makes
+  module _ (s : Slots V) (i : ℕ) (below : i < length s.names.items) where
+    inside : i < length (names_in s)
+    inside = subst (λ k. i < k) (sym (length-map s.names.items (λ (n : Bor Text). n.now))) below
+
+    as_many : length s.values.items ≡ length (names_in s)
+    as_many = s.count ∙ sym (length-map s.names.items (λ (n : Bor Text). n.now))
+
+    pub value_there : (o : Option V) → o ≡ get_or s.values.items i o → held_in s (text_at (names_in s) i) ≡ o
+    value_there o is = held_at (names_in s) s.values.items i o s.ascend as_many inside ∙ sym is
+
+    pub value_put : (o : Option V) (f : Text) → held_among (names_in s) (set s.values.items i o) f ≡ cond (bytes_eq f (text_at (names_in s) i)) o (held_in s f)
+    value_put o f = held_set (names_in s) s.values.items i o s.ascend as_many inside f
+
+    -- the value that stood there is put back
+    pub value_back : (o : Option V) → o ≡ get_or s.values.items i o → (f : Text) → held_among (names_in s) (set s.values.items i o) f ≡ held_in s f
+    value_back o is f = ap (λ v. held_among (names_in s) (set s.values.items i v) f) is ∙ ap (λ vs. held_among (names_in s) vs f) (set-get_or s.values.items i o)
+
+  -- what stands where a name is found
+  pub value_found : (s : Slots V) → (ts : List (Bor Text)) (i : ℕ) (f : Text) (o : Option V) → ts ≡ s.names.items
+      → ((i < length ts) × (text_at (map (λ n. n.now) ts) i ≡ f)) → o ≡ get_or s.values.items i o → held_in s f ≡ o
+  value_found s ts i f o same found is =
+      let here = subst (λ (us : List (Bor Text)). (i < length us) × (text_at (map (λ n. n.now) us) i ≡ f)) same found in
+      ap (held_in s) (sym here.1) ∙ value_there s i here.0 o is
+
+  -- of two values put under one name the later stays
+  pub put_again : (b : Bool) (later earlier old mid new : Option V) → new ≡ cond b later mid → mid ≡ cond b earlier old → new ≡ cond b later old
+  put_again true later earlier old mid new h k = h
+  put_again false later earlier old mid new h k = h ∙ k
+
+  -- a name that a search doesn't find has no value
+  pub unfound : (s : Slots V) (ts : List (Bor Text)) (f : Text) → ts ≡ s.names.items → (¬ Among (map (λ n. n.now) ts) f) → held_in s f ≡ None
+  unfound s ts f same gone = held_missing (names_in s) s.values.items f (λ there. gone (subst (λ us. Among (map (λ (n : Bor Text). n.now) us) f) (sym same) there))

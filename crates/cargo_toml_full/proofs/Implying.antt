@@ -1,0 +1,227 @@
+-- Features implied one after another.
+use Rattle.std.proofs.Common.{◌≡◌, ◌<◌, ◌&&◌, ◌||◌, not, ℕ, zero, suc, Bool, true, false, cond, List, [], ◌∷◌, ◌++◌, length, map, get_or, take, ◌+◌, Vec, Option, Some, None, is_some, option_map, bytes_eq, Bor, refl, sym, ap, subst, ◌∙◌}
+use Rattle.std.proofs.Math.Bool.{and-or_distrib_right}
+use Rattle.std.proofs.lemmas.Bool.{false≢true}
+use Rattle.std.proofs.lemmas.List.{map_push, take_more}
+use Rattle.std.proofs.lemmas.List.Folds.{list_any-append}
+use Rattle.std.proofs.Math.Bool.{or-false}
+use Rattle.std.proofs.lemmas.Slice.Eq.{bytes_eq-Decides}
+use Rattle.std.proofs.lemmas.Map.Text.{btree_map_updates_str}
+use Rattle.std.specs.BTreeMap as tree
+use Rattle.std.specs.BTreeMap.{BTreeMap}
+use Rattle.std.specs.BTreeSet.{BTreeSet}
+use Rattle.std.specs.Cmp.Lexicographic.{slice_cmp}
+use Rattle.std.specs.List.{list_any}
+use Rattle.std.specs.Map.{lookup}
+use Rattle.std.specs.Option.{IsSomeAnd, option_or}
+use Rattle.std.specs.Ordering.{nat_cmp}
+use Rattle.cargo_toml_dependencies.specs.Dependencies.{is_optional}
+use Rattle.cargo_toml_features.specs.declared.features.DepAction.{DepAction}
+use Rattle.cargo_toml_features.specs.declared.features.Feature.{Feature}
+use Rattle.cargo_toml_graph.specs.Action.{Text}
+use Rattle.cargo_toml_full.specs.Implying.{AreFree, IsImplied, Becomes, ImpliesAll, is_optional_at, is_offered, is_offered_alone, is_one_of}
+use Rattle.cargo_toml_features.specs.Recorded.{Entry}
+use Rattle.cargo_toml_features.specs.Resolved.{plain}
+use Rattle.cargo_toml_features.specs.Views.{action_of, action_at}
+use Rattle.cargo_toml_features.specs.InOrder.{feature_at}
+use Rattle.cargo_toml_graph.proofs.Texts.{bytes_eq_sym}
+use Rattle.cargo_toml_features.proofs.TextKeys.{none_in}
+use Rattle.cargo_toml_full.specs.Searching.{has_key}
+use Rattle.cargo_toml_full.proofs.Placed.{none_from}
+use Rattle.cargo_toml_full.proofs.ReadOne.{has_more}
+use Rattle.std.specs.declared.alloc.Global.{Global}
+
+stays : (t : Bool) (q : Text) (o : Option Feature) → (t ≡ true → is_some o ≡ true) → Becomes t q o o
+stays true q None h = absurd (false≢true (h refl))
+stays false q None h = refl
+stays true q (Some v) h = refl
+stays false q (Some v) h = refl
+
+kept : (t : Bool) (q : Text) (o o' : Option Feature) (v : Feature) → o ≡ Some v → Becomes t q o o' → o' ≡ Some v
+kept true q None o' v e b = cc
+kept false q None o' v e b = cc
+kept true q (Some w) o' v e b = b ∙ e
+kept false q (Some w) o' v e b = b ∙ e
+
+some-and : (q : Text) (o o' : Option Feature) → IsSomeAnd o (IsImplied q) → ((v : Feature) → o ≡ Some v → o' ≡ Some v) → IsSomeAnd o' (IsImplied q)
+some-and q None o' i same = absurd i
+some-and q (Some v) o' i same = subst (λ o. IsSomeAnd o (IsImplied q)) (sym (same v refl)) i
+
+twice : (t s : Bool) (q : Text) (a b c : Option Feature) → Becomes t q a b → Becomes s q b c → Becomes (t || s) q a c
+twice true s q None b c h k = some-and q b c h (λ v e. kept s q b c v e k)
+twice false s q None b c h k = subst (λ o. Becomes s q o c) h k
+twice true s q (Some v) b c h k = kept s q b c v h k
+twice false true q (Some v) b c h k = kept true q b c v h k
+twice false false q (Some v) b c h k = kept false q b c v h k
+
+-- what one more entry offers
+pub offered_more : (reserved : Text → Bool) (es : List Entry) (e : Entry) (q : Text) → is_offered reserved (es ++ e ∷ []) q ≡ (is_offered reserved es q || is_offered reserved (e ∷ []) q)
+offered_more reserved es e q = ap (λ t. t && not (reserved q)) (list_any-append (is_optional_at q) es (e ∷ [])) ∙ and-or_distrib_right (list_any (is_optional_at q) es) (list_any (is_optional_at q) (e ∷ [])) (not (reserved q))
+
+module _ where
+  implied_more : (p r s : Text → Bool) (a b c : List Feature) → ((q : Text) → s q ≡ (p q || r q)) → ImpliesAll p a b → ImpliesAll r b c → ImpliesAll s a c
+  implied_more p r s a b c same h k = record { at = λ q. subst (λ t. Becomes t q (feature_at a q) (feature_at c q)) (sym (same q)) (twice (p q) (r q) q (feature_at a q) (feature_at b q) (feature_at c q) (h.at q) (k.at q)) }
+
+  -- the entries es, and then e
+  pub implied_next : (reserved : Text → Bool) (es : List Entry) (e : Entry) (a b c : List Feature)
+      → ImpliesAll (is_offered reserved es) a b → ImpliesAll (is_offered reserved (e ∷ [])) b c → ImpliesAll (is_offered reserved (es ++ e ∷ [])) a c
+  implied_next reserved es e a b c = implied_more (is_offered reserved es) (is_offered reserved (e ∷ [])) (is_offered reserved (es ++ e ∷ [])) a b c
+      (offered_more reserved es e)
+
+  -- the feature of the key is put where none is
+  pub implied_put : (key : Text) (m n : List Feature) (w : Feature) → feature_at m key ≡ None → IsImplied key w
+      → ((q : Text) → feature_at n q ≡ cond (bytes_eq q key) (Some w) (feature_at m q)) → ImpliesAll (λ q. bytes_eq q key) m n
+  implied_put key m n w none is put = record { at = λ q. go q (bytes_eq q key) refl }
+    where
+      go : (q : Text) (t : Bool) → bytes_eq q key ≡ t → Becomes (bytes_eq q key) q (feature_at m q) (feature_at n q)
+      go q true on = subst (λ v. Becomes (bytes_eq v key) v (feature_at m v) (feature_at n v)) (sym ((bytes_eq-Decides q key).0 on)) at_key
+        where
+          self : bytes_eq key key ≡ true
+          self = (bytes_eq-Decides key key).1 refl
+
+          at_key : Becomes (bytes_eq key key) key (feature_at m key) (feature_at n key)
+          at_key = subst (λ t. Becomes t key (feature_at m key) (feature_at n key)) (sym self)
+              (subst (λ o. Becomes true key o (feature_at n key)) (sym none)
+              (subst (Becomes true key None) (sym (put key ∙ ap (λ t. cond t (Some w) (feature_at m key)) self)) is))
+      go q false off = subst (Becomes (bytes_eq q key) q (feature_at m q)) (sym (put q ∙ ap (λ t. cond t (Some w) (feature_at m q)) off))
+          (stays (bytes_eq q key) q (feature_at m q) (λ y. absurd (false≢true (sym off ∙ y))))
+
+  -- where the key has a feature, it stays
+  pub implied_there : (key : Text) (m : List Feature) → is_some (feature_at m key) ≡ true → ImpliesAll (λ q. bytes_eq q key) m m
+  implied_there key m there = record { at = λ q. stays (bytes_eq q key) q (feature_at m q) (λ y. subst (λ v. is_some (feature_at m v) ≡ true) (sym ((bytes_eq-Decides q key).0 y)) there) }
+
+  -- an entry that isn't optional, or is reserved, implies nothing
+  pub offers_none : (e : Entry) (reserved : Text → Bool) (m : List Feature) → ((q : Text) → is_offered reserved (e ∷ []) q ≡ false) → ImpliesAll (is_offered reserved (e ∷ [])) m m
+  offers_none e reserved m off = record { at = λ q. stays (is_offered reserved (e ∷ []) q) q (feature_at m q) (λ y. absurd (false≢true (sym (off q) ∙ y))) }
+
+-- the one plain action
+pub plain_made : (key : Text) (m n : BTreeMap (Bor Text) DepAction) (s : BTreeSet (Bor Text)) → m.entries ≡ [] → s.keys ≡ []
+    → tree.UpdatesBy (λ x y. slice_cmp nat_cmp x.now y.now) (λ q. slice_cmp nat_cmp key q.now) m n (Some (record { is_conditional = false; is_dep_only = false; dep_features = s }))
+    → (k : Text) → action_at n k ≡ cond (bytes_eq k key) (Some plain) None
+plain_made key m n s none empty u k =
+    ap (option_map action_of) (btree_map_updates_str key m n _ u k)
+    ∙ ap (λ es. option_map action_of (cond (bytes_eq key k) (Some (record { is_conditional = false; is_dep_only = false; dep_features = s })) (lookup (tree.is_at (λ (q : Bor Text). slice_cmp nat_cmp k q.now)) es))) none
+    ∙ go (bytes_eq key k) ∙ ap (λ t. cond t (Some plain) None) (bytes_eq_sym key k)
+  where
+    go : (t : Bool) → option_map action_of (cond t (Some (record { is_conditional = false; is_dep_only = false; dep_features = s })) None) ≡ cond t (Some plain) None
+    go true = λ i. Some (record { is_conditional = false; is_dep_only = false; features = λ x. none_in s empty x i })
+    go false = refl
+
+-- the same tests
+pub implied_same : (p r : Text → Bool) (a b : List Feature) → ((q : Text) → r q ≡ p q) → ImpliesAll p a b → ImpliesAll r a b
+implied_same p r a b same h = record { at = λ q. subst (λ t. Becomes t q (feature_at a q) (feature_at b q)) (sym (same q)) (h.at q) }
+
+-- no entries offer anything
+pub offers_nothing : (reserved : Text → Bool) (vs : List Feature) → ImpliesAll (is_offered reserved []) vs vs
+offers_nothing reserved vs = record { at = λ q. stays false q (feature_at vs q) (λ y. absurd (false≢true y)) }
+
+-- one entry offers its key, if any
+pub offered_one : (reserved : Text → Bool) (e : Entry) (q : Text) → is_offered reserved (e ∷ []) q ≡ cond (is_offered_alone reserved e) (bytes_eq q e.key) false
+offered_one reserved e q = ap (λ b. ((b && is_optional e.dependency) || false) && not (reserved q)) (bytes_eq_sym e.key q) ∙ go (bytes_eq q e.key) refl
+  where
+    both : (o r : Bool) → (((true && o) || false) && not r) ≡ cond (o && not r) true false
+    both true true = refl
+    both true false = refl
+    both false true = refl
+    both false false = refl
+
+    neither : (o r : Bool) → false ≡ cond (o && not r) false false
+    neither true true = refl
+    neither true false = refl
+    neither false r = refl
+
+    go : (b : Bool) → bytes_eq q e.key ≡ b → (((b && is_optional e.dependency) || false) && not (reserved q)) ≡ cond (is_optional e.dependency && not (reserved e.key)) b false
+    go true on = ap (λ x. ((true && is_optional e.dependency) || false) && not (reserved x)) ((bytes_eq-Decides q e.key).0 on) ∙ both (is_optional e.dependency) (reserved e.key)
+    go false off = neither (is_optional e.dependency) (reserved e.key)
+
+-- no name is implied yet
+pub implied_none : (vs : List Feature) → ImpliesAll (is_one_of []) vs vs
+implied_none vs = record { at = λ q. stays false q (feature_at vs q) (λ y. absurd (false≢true y)) }
+
+-- one more key of a list
+pub implied_one_more : (ks : List (Bor Text)) (i : ℕ) (k : Bor Text) (started a b : List Feature) → i < length ks → k ≡ get_or ks i k → ImpliesAll (is_one_of (map (λ t. t.now) (take i ks))) started a
+    → ImpliesAll (λ q. bytes_eq q k.now) a b → ImpliesAll (is_one_of (map (λ t. t.now) (take (i + 1) ks))) started b
+implied_one_more ks i k started a b below is h more = implied_more (is_one_of (map (λ t. t.now) (take i ks))) (λ q. bytes_eq q k.now) (is_one_of (map (λ t. t.now) (take (i + 1) ks))) started a b
+    (λ q. ap (λ ts. is_one_of (map (λ (t : Bor Text). t.now) ts) q) (take_more ks i k below ∙ ap (λ x. take i ks ++ x ∷ []) (sym is)) ∙ ap (λ ts. is_one_of ts q) (map_push (λ (t : Bor Text). t.now) (take i ks) k)
+    ∙ list_any-append (bytes_eq q) (map (λ t. t.now) (take i ks)) (k.now ∷ []) ∙ ap (λ b. is_one_of (map (λ t. t.now) (take i ks)) q || b) (or-false _)) h more
+
+-- a feature that was there comes to those that have the implied ones
+pub implied_listed : (p : Text → Bool) (done all new : List Feature) (v : Feature) → p v.key.now ≡ false → ImpliesAll p done all
+    → ((f : Text) → feature_at new f ≡ option_or (feature_at all f) (cond (bytes_eq f v.key.now) (Some v) None)) → ImpliesAll p (done ++ v ∷ []) new
+implied_listed p done all new v free h put = record {
+  at = λ q. subst (Becomes (p q) q (feature_at (done ++ v ∷ []) q)) (sym (put q)) (subst (λ o. Becomes (p q) q o (option_or (feature_at all q) (cond (bytes_eq q v.key.now) (Some v) None))) (sym (pushed q))
+      (go q (p q) refl (bytes_eq q v.key.now) refl (feature_at done q) (feature_at all q) (h.at q)));
+}
+  where
+    pushed : (q : Text) → feature_at (done ++ v ∷ []) q ≡ option_or (feature_at done q) (cond (bytes_eq q v.key.now) (Some v) None)
+    pushed q = push done
+      where
+        push : (vs : List Feature) → feature_at (vs ++ v ∷ []) q ≡ option_or (feature_at vs q) (cond (bytes_eq q v.key.now) (Some v) None)
+        push [] = refl
+        push (w ∷ ws) = pick (bytes_eq q w.key.now) (push ws)
+          where
+            pick : (t : Bool) → feature_at (ws ++ v ∷ []) q ≡ option_or (feature_at ws q) (cond (bytes_eq q v.key.now) (Some v) None)
+                → cond t (Some w) (feature_at (ws ++ v ∷ []) q) ≡ option_or (cond t (Some w) (feature_at ws q)) (cond (bytes_eq q v.key.now) (Some v) None)
+            pick true later = refl
+            pick false later = later
+
+    none_or : (o : Option Feature) → option_or o None ≡ o
+    none_or None = refl
+    none_or (Some w) = refl
+
+    given : (q : Text) (c : Option Feature) → Becomes false q c c
+    given q None = refl
+    given q (Some w) = refl
+
+    go : (q : Text) (t : Bool) → p q ≡ t → (b : Bool) → bytes_eq q v.key.now ≡ b → (o o' : Option Feature) → Becomes t q o o' → Becomes t q (option_or o (cond b (Some v) None)) (option_or o' (cond b (Some v) None))
+    go q true on true same o o' k = absurd (false≢true (sym free ∙ subst (λ x. p x ≡ true) ((bytes_eq-Decides q v.key.now).0 same) on))
+    go q true on false apart None o' k = subst (λ o. IsSomeAnd o (IsImplied q)) (sym (none_or o')) k
+    go q true on false apart (Some w) o' k = ap (λ o. option_or o None) k
+    go q false off b same None o' k = subst (λ o. Becomes false q (cond b (Some v) None) (option_or o (cond b (Some v) None))) (sym k) (given q (cond b (Some v) None))
+    go q false off b same (Some w) o' k = ap (λ o. option_or o (cond b (Some v) None)) k
+
+-- one more key that has no feature
+pub free_more : (vs : List Feature) (new old : Vec (Bor Text) Global) (t : Bor Text) → new.items ≡ old.items ++ t ∷ [] → is_some (feature_at vs t.now) ≡ false → AreFree old vs → AreFree new vs
+free_more vs new old t put gone free q on = go (has_key old q) refl (bytes_eq q t.now) refl (sym (has_more new old t put q) ∙ on)
+  where
+    go : (a : Bool) → has_key old q ≡ a → (b : Bool) → bytes_eq q t.now ≡ b → (a || b) ≡ true → feature_at vs q ≡ None
+    go true there b same h = free q there
+    go false there true same h = subst (λ x. feature_at vs x ≡ None) (sym ((bytes_eq-Decides q t.now).0 same)) (none_from (feature_at vs t.now) gone)
+    go false there false same h = absurd (false≢true h)
+
+-- other tests of the names without a feature
+pub implied_as : (p r : Text → Bool) (a b : List Feature) → ((q : Text) → feature_at a q ≡ None → p q ≡ r q) → ImpliesAll p a b → ImpliesAll r a b
+implied_as p r a b same h = record { at = λ q. go q (p q) (r q) (feature_at a q) (feature_at b q) (same q) (h.at q) }
+  where
+    go : (q : Text) (t s : Bool) (o o' : Option Feature) → (o ≡ None → t ≡ s) → Becomes t q o o' → Becomes s q o o'
+    go q t s None o' e k = subst (λ u. Becomes u q None o') (e refl) k
+    go q true true (Some v) o' e k = k
+    go q true false (Some v) o' e k = k
+    go q false true (Some v) o' e k = k
+    go q false false (Some v) o' e k = k
+
+-- a feature that is there is none of those that are implied
+pub listed_free : (ks : List (Bor Text)) (i : ℕ) (done rest : List Feature) (v : Feature) → ((q : Text) → is_one_of (map (λ k. k.now) ks) q ≡ true → feature_at (done ++ v ∷ rest) q ≡ None)
+    → is_one_of (map (λ k. k.now) (take i ks)) v.key.now ≡ false
+listed_free ks i done rest v free = go (is_one_of (map (λ (k : Bor Text). k.now) (take i ks)) v.key.now) refl
+  where
+    some : (ks : List (Bor Text)) (i : ℕ) (q : Text) → is_one_of (map (λ k. k.now) (take i ks)) q ≡ true → is_one_of (map (λ k. k.now) ks) q ≡ true
+    some ks zero q on = absurd (false≢true on)
+    some [] (suc i) q on = on
+    some (k ∷ ks) (suc i) q on = pick (bytes_eq q k.now) (some ks i q) on
+      where
+        pick : (b : Bool) → (is_one_of (map (λ k. k.now) (take i ks)) q ≡ true → is_one_of (map (λ k. k.now) ks) q ≡ true) → (b || is_one_of (map (λ k. k.now) (take i ks)) q) ≡ true → (b || is_one_of (map (λ k. k.now) ks) q) ≡ true
+        pick true later h = refl
+        pick false later h = later h
+
+    there : (vs : List Feature) → is_some (feature_at (vs ++ v ∷ rest) v.key.now) ≡ true
+    there [] = ap (λ t. is_some (cond t (Some v) (feature_at rest v.key.now))) ((bytes_eq-Decides v.key.now v.key.now).1 refl)
+    there (w ∷ ws) = pick (bytes_eq v.key.now w.key.now) (there ws)
+      where
+        pick : (b : Bool) → is_some (feature_at (ws ++ v ∷ rest) v.key.now) ≡ true → is_some (cond b (Some w) (feature_at (ws ++ v ∷ rest) v.key.now)) ≡ true
+        pick true later = refl
+        pick false later = later
+
+    go : (b : Bool) → is_one_of (map (λ (k : Bor Text). k.now) (take i ks)) v.key.now ≡ b → b ≡ false
+    go true on = absurd (false≢true (sym (ap is_some (free v.key.now (some ks i v.key.now on))) ∙ there done))
+    go false off = refl

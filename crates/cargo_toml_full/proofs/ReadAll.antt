@@ -1,0 +1,248 @@
+-- The lists of all features, read one after another.
+use Rattle.std.proofs.Common.{◌≡◌, ◌≢◌, ◌+◌, ◌<◌, ℕ, Bool, true, false, cond, ◌||◌, List, [], ◌∷◌, ◌++◌, map, take, drop, length, get_or, is_some, MatchOption, Option, Some, None, unwrap_or, codes, bytes_eq, string_bytes, refl, sym, ap, subst, ◌∙◌, inl, inr, suc, add-one, ap₂}
+use Rattle.std.specs.List.{list_any, AllByRecursion}
+use Rattle.std.specs.Map.{lookup}
+use Rattle.std.specs.Option.{option_map_or, option_or, IsSomeAnd}
+use Rattle.std.proofs.lemmas.Bool.{false≢true, false_from_ne_true}
+use Rattle.std.proofs.lemmas.List.{map_push, map-append, take_more, take-append-drop}
+use Rattle.std.proofs.lemmas.List.Folds.{list_any-append}
+use Rattle.std.proofs.lemmas.Slice.Eq.{bytes_eq-Decides}
+use Rattle.std.proofs.Math.Seq.{drop-cons}
+use Rattle.cargo_toml_features.specs.declared.features.Feature.{Feature}
+use Rattle.cargo_toml_features.specs.declared.admit.Listing.{Listing}
+use Rattle.cargo_toml_graph.specs.Action.{Text, Action, item_of}
+use Rattle.cargo_toml_graph.specs.Admitted.{Listed, items, item_names, joined_action}
+use Rattle.cargo_toml_graph.specs.Reach.{Among, IsOnce}
+use Rattle.cargo_toml_full.specs.ReadFeature.{joined_in, IsListed}
+use Rattle.cargo_toml_dependencies.specs.Details.{Detail, plain_detail}
+use Rattle.cargo_toml_features.specs.Marks.{Details, detail_at, detail_in, detail_listed, details_of}
+use Rattle.cargo_toml_features.specs.Views.{listed_of, has_text, action_at}
+use Rattle.cargo_toml_full.specs.Reading.{AreFresh, IsFresh, IsRead}
+use Rattle.cargo_toml_features.specs.InOrder.{feature_at, table_among}
+use Rattle.cargo_toml_features.proofs.Listings.{listed_one, names_listed}
+use Rattle.cargo_toml_graph.proofs.Texts.{bytes_eq_refl}
+
+-- what stands under f, where the table lists these actions for it, if any, and says d of it
+abbrev Holds : Text → Detail → Option (List Text) → Option Feature → Type 0
+Holds f d None None = Unit {0}
+Holds f d None (Some v) = ⊥
+Holds f d (Some actions) None = ⊥
+Holds f d (Some actions) (Some v) = IsListed f d (map item_of actions) v
+
+pub record HasRead (listed : Listed) (details : Details) (m : List Feature) : Type 0 where
+  pub at : (f : Text) → Holds f (detail_at details f) (lookup (bytes_eq f) listed) (feature_at m f)
+
+-- what a list says of k
+abbrev pub said : Text → Text × List Text → Option Action
+said k e = joined_in (map item_of e.1) k
+
+-- some list says of k what passes
+abbrev pub told_in : (Option Action → Bool) → Listed → Text → Bool
+told_in passes listed k = list_any (λ e. passes (said k e)) listed
+
+abbrev pub is_dep_only : Option Action → Bool
+is_dep_only o = option_map_or (λ a. a.is_dep_only) o false
+
+or-false : (a : Bool) → (a || false) ≡ a
+or-false true = refl
+or-false false = refl
+
+-- nothing is read of no lists
+pub none_read : (details : Details) (m : List Feature) → m ≡ [] → HasRead [] details m
+none_read details m none = record { at = λ f. subst (λ vs. Holds f (detail_at details f) None (feature_at vs f)) (sym none) tt }
+
+lookup_push : (f : Text) (es : Listed) (e : Text × List Text) → lookup (bytes_eq f) (es ++ e ∷ []) ≡ option_or (lookup (bytes_eq f) es) (cond (bytes_eq f e.0) (Some e.1) None)
+lookup_push f [] e = refl
+lookup_push f (x ∷ xs) e = go (bytes_eq f x.0) (lookup_push f xs e)
+  where
+    go : (b : Bool) → lookup (bytes_eq f) (xs ++ e ∷ []) ≡ option_or (lookup (bytes_eq f) xs) (cond (bytes_eq f e.0) (Some e.1) None)
+        → cond b (Some x.1) (lookup (bytes_eq f) (xs ++ e ∷ [])) ≡ option_or (cond b (Some x.1) (lookup (bytes_eq f) xs)) (cond (bytes_eq f e.0) (Some e.1) None)
+    go true h = refl
+    go false h = h
+
+among_later : (xs ys : List Text) (y : Text) → Among (xs ++ y ∷ ys) y
+among_later [] ys y = inl refl
+among_later (x ∷ xs) ys y = inr (among_later xs ys y)
+
+apart : (x y : Text) → x ≢ y → bytes_eq x y ≡ false
+apart x y ne = false_from_ne_true _ (λ e. ne ((bytes_eq-Decides x y).0 e))
+
+-- a name is not listed before
+new_name : (before : Listed) (after : List Text) (n : Text) → IsOnce (map (λ e. e.0) before ++ n ∷ after) → lookup (bytes_eq n) before ≡ None
+new_name [] after n once = refl
+new_name (e ∷ es) after n once =
+    ap (λ b. cond b (Some e.1) (lookup (bytes_eq n) es)) (apart n e.0 (λ same. once.0 (subst (Among (map (λ d. d.0) es ++ n ∷ after)) same (among_later (map (λ d. d.0) es) after n))))
+    ∙ new_name es after n once.1
+
+module _ (ls : List Listing) (i : ℕ) (l : Listing) (below : i < length ls) (is : l ≡ get_or ls i l) (once : IsOnce (map (λ l. l.name.now) ls)) where
+  split : ls ≡ take i ls ++ l ∷ drop (i + 1) ls
+  split = sym (take-append-drop i ls) ∙ ap (λ xs. take i ls ++ xs) (drop-cons ls i l below ∙ ap (λ x. x ∷ drop (suc i) ls) (sym is) ∙ ap (λ n. l ∷ drop n ls) (sym (add-one i)))
+
+  pub one_more : listed_of (take (i + 1) ls) ≡ listed_of (take i ls) ++ listed_one l ∷ []
+  one_more = ap listed_of (take_more ls i l below ∙ ap (λ x. take i ls ++ x ∷ []) (sym is)) ∙ map_push listed_one (take i ls) l
+
+  not_before : lookup (bytes_eq l.name.now) (listed_of (take i ls)) ≡ None
+  not_before = new_name (listed_of (take i ls)) (map (λ l. l.name.now) (drop (i + 1) ls)) l.name.now
+      (subst IsOnce (ap (map (λ l. l.name.now)) split ∙ map-append (λ l. l.name.now) (take i ls) (l ∷ drop (i + 1) ls) ∙ ap (λ ns. ns ++ l.name.now ∷ map (λ l. l.name.now) (drop (i + 1) ls)) (sym (names_listed (take i ls)))) once)
+
+  -- what the listings say of the name is what this one says
+  said_here : detail_at (details_of ls) l.name.now ≡ detail_in l.detail
+  said_here = ap (λ xs. detail_at (details_of xs) l.name.now) split ∙ ap (λ o. unwrap_or o plain_detail) (found_behind (take i ls) not_before)
+    where
+      found_behind : (before : List Listing) → lookup (bytes_eq l.name.now) (listed_of before) ≡ None → lookup (bytes_eq l.name.now) (details_of (before ++ l ∷ drop (i + 1) ls)) ≡ Some (detail_in l.detail)
+      found_behind [] none = ap (λ b. cond b (Some (detail_in l.detail)) (lookup (bytes_eq l.name.now) (details_of (drop (i + 1) ls)))) (bytes_eq_refl l.name.now)
+      found_behind (x ∷ xs) none = go (bytes_eq l.name.now x.name.now) (found_behind xs) none
+        where
+          go : (b : Bool) → (lookup (bytes_eq l.name.now) (listed_of xs) ≡ None → lookup (bytes_eq l.name.now) (details_of (xs ++ l ∷ drop (i + 1) ls)) ≡ Some (detail_in l.detail))
+              → cond b (Some (map string_bytes x.actions.now)) (lookup (bytes_eq l.name.now) (listed_of xs)) ≡ None
+              → cond b (Some (detail_in x.detail)) (lookup (bytes_eq l.name.now) (details_of (xs ++ l ∷ drop (i + 1) ls))) ≡ Some (detail_in l.detail)
+          go true later some = absurd (false≢true (sym (ap is_some some)))
+          go false later none = later none
+
+  -- one more feature is read
+  pub read_more : (m m' : List Feature) (v : Feature) → HasRead (listed_of (take i ls)) (details_of ls) m
+      → IsListed l.name.now (detail_in l.detail) (map item_of (map string_bytes l.actions.now)) v
+      → ((f : Text) → feature_at m' f ≡ option_or (feature_at m f) (cond (bytes_eq f v.key.now) (Some v) None)) → HasRead (listed_of (take (i + 1) ls)) (details_of ls) m'
+  read_more m m' v before listed put = record {
+    at = λ f. subst (λ es. Holds f (detail_at (details_of ls) f) (lookup (bytes_eq f) es) (feature_at m' f)) (sym one_more) (subst (λ o. Holds f (detail_at (details_of ls) f) o (feature_at m' f)) (sym (lookup_push f (listed_of (take i ls)) (listed_one l)))
+        (subst (Holds f (detail_at (details_of ls) f) _) (sym (put f ∙ ap (λ n. option_or (feature_at m f) (cond (bytes_eq f n) (Some v) None)) listed.fresh.key)) (go f (bytes_eq f l.name.now) refl)));
+  }
+    where
+      or_none : {X : Type 0} (o : Option X) → option_or o None ≡ o
+      or_none None = refl
+      or_none (Some ts) = refl
+
+      gone : (o : Option (List Text)) (w : Option Feature) → o ≡ None → Holds l.name.now (detail_at (details_of ls) l.name.now) o w → w ≡ None
+      gone None None e h = refl
+      gone None (Some w) e h = absurd h
+      gone (Some ts) w e h = absurd (false≢true (sym (ap is_some e)))
+
+      none_before : feature_at m l.name.now ≡ None
+      none_before = gone (lookup (bytes_eq l.name.now) (listed_of (take i ls))) (feature_at m l.name.now) not_before (before.at l.name.now)
+
+      go : (f : Text) (b : Bool) → bytes_eq f l.name.now ≡ b
+          → Holds f (detail_at (details_of ls) f) (option_or (lookup (bytes_eq f) (listed_of (take i ls))) (cond b (Some (map string_bytes l.actions.now)) None)) (option_or (feature_at m f) (cond b (Some v) None))
+      go f true e = subst (λ n. Holds n (detail_at (details_of ls) n) (option_or (lookup (bytes_eq n) (listed_of (take i ls))) (Some (map string_bytes l.actions.now))) (option_or (feature_at m n) (Some v))) (sym ((bytes_eq-Decides f l.name.now).0 e))
+          (subst (λ o. Holds l.name.now (detail_at (details_of ls) l.name.now) (option_or o (Some (map string_bytes l.actions.now))) (option_or (feature_at m l.name.now) (Some v))) (sym not_before)
+          (subst (λ o. Holds l.name.now (detail_at (details_of ls) l.name.now) (Some (map string_bytes l.actions.now)) (option_or o (Some v))) (sym none_before)
+          (subst (λ d. IsListed l.name.now d (map item_of (map string_bytes l.actions.now)) v) (sym said_here) listed)))
+      go f false e = subst (λ o. Holds f (detail_at (details_of ls) f) o (option_or (feature_at m f) None)) (sym (or_none (lookup (bytes_eq f) (listed_of (take i ls)))))
+          (subst (Holds f (detail_at (details_of ls) f) (lookup (bytes_eq f) (listed_of (take i ls)))) (sym (or_none (feature_at m f))) (before.at f))
+
+  pub told_next : (passes : Option Action → Bool) (k : Text) (before now : Bool) → before ≡ told_in passes (listed_of (take i ls)) k → now ≡ (before || passes (joined_in (map item_of (map string_bytes l.actions.now)) k)) → now ≡ told_in passes (listed_of (take (i + 1) ls)) k
+  told_next passes k before now before_is now_is =
+      now_is ∙ ap (λ b. b || passes (joined_in (map item_of (map string_bytes l.actions.now)) k)) before_is
+      ∙ sym (ap (λ es. told_in passes es k) one_more ∙ list_any-append (λ (e : Text × List Text). passes (said k e)) (listed_of (take i ls)) (listed_one l ∷ [])
+      ∙ ap (λ b. told_in passes (listed_of (take i ls)) k || b) (or-false _))
+
+-- what one list holds, by its look-up
+holds_some : (f : Text) (d : Detail) (o : Option (List Text)) (v : Option Feature) → Holds f d o v → is_some v ≡ is_some o
+holds_some f d None None h = refl
+holds_some f d None (Some v) h = absurd h
+holds_some f d (Some ts) None h = absurd h
+holds_some f d (Some ts) (Some v) h = refl
+
+holds_names : (f x : Text) (d : Detail) (o : Option (List Text)) (v : Option Feature) → Holds f d o v → option_map_or (λ w. has_text w.enables_features x) v false ≡ list_any (item_names x) (map item_of (unwrap_or o []))
+holds_names f x d None None h = refl
+holds_names f x d None (Some v) h = absurd h
+holds_names f x d (Some ts) None h = absurd h
+holds_names f x d (Some ts) (Some v) h = h.names x
+
+holds_action : (f k : Text) (d : Detail) (o : Option (List Text)) (v : Option Feature) → Holds f d o v → option_map_or (λ w. action_at w.enables_deps k) v None ≡ joined_in (map item_of (unwrap_or o [])) k
+holds_action f k d None None h = refl
+holds_action f k d None (Some v) h = absurd h
+holds_action f k d (Some ts) None h = absurd h
+holds_action f k d (Some ts) (Some v) h = h.action k
+
+holds_fresh : (f : Text) (d : Detail) (o : Option (List Text)) (v : Feature) → Holds f d o (Some v) → IsFresh f d v
+holds_fresh f d None v h = absurd h
+holds_fresh f d (Some ts) v h = h.fresh
+
+-- the default feature lists nothing where it isn't listed
+abbrev with_default : Listed → Text → Option (List Text)
+with_default listed f = option_or (lookup (bytes_eq f) listed) (cond (bytes_eq f (codes "default")) (Some []) None)
+
+default_some : (b : Bool) (o : Option (List Text)) → is_some (option_or o (cond b (Some []) None)) ≡ (b || is_some o)
+default_some true None = refl
+default_some false None = refl
+default_some true (Some ts) = refl
+default_some false (Some ts) = refl
+
+default_list : (b : Bool) (o : Option (List Text)) → unwrap_or (option_or o (cond b (Some []) None)) [] ≡ unwrap_or o []
+default_list true None = refl
+default_list false None = refl
+default_list b (Some ts) = refl
+
+-- equal tests on each element
+list_any_same : {X : Type 0} (p q : X → Bool) (xs : List X) → AllByRecursion (λ x. p x ≡ q x) xs → list_any p xs ≡ list_any q xs
+list_any_same p q [] h = refl
+list_any_same p q (x ∷ xs) h = ap₂ (λ a b. a || b) h.0 (list_any_same p q xs h.1)
+
+weaken : {X : Type 0} (P Q : X → Type 0) → ((x : X) → P x → Q x) → (xs : List X) → AllByRecursion P xs → AllByRecursion Q xs
+weaken P Q f [] h = tt
+weaken P Q f (x ∷ xs) h = (f x h.0, weaken P Q f xs h.1)
+
+both : {X : Type 0} (P Q : X → Type 0) (xs : List X) → AllByRecursion P xs → AllByRecursion Q xs → AllByRecursion (λ x. P x × Q x) xs
+both P Q [] g h = tt
+both P Q (x ∷ xs) g h = ((g.0, h.0), both P Q xs g.1 h.1)
+
+later_apart : (n : Text) (es : Listed) → (Among (map (λ e. e.0) es) n → ⊥) → AllByRecursion (λ e. bytes_eq e.0 n ≡ false) es
+later_apart n [] not = tt
+later_apart n (e ∷ es) not = (apart e.0 n (λ same. not (inl (sym same))), later_apart n es (λ a. not (inr a)))
+
+-- each entry is found under its name
+found_each : (es : Listed) → IsOnce (map (λ e. e.0) es) → AllByRecursion (λ e. lookup (bytes_eq e.0) es ≡ Some e.1) es
+found_each [] once = tt
+found_each (e ∷ es) once = (
+  ap (λ b. cond b (Some e.1) (lookup (bytes_eq e.0) es)) (bytes_eq_refl e.0),
+  weaken _ _ (λ d h. ap (λ b. cond b (Some e.1) (lookup (bytes_eq d.0) es)) h.1 ∙ h.0) es (both _ _ es (found_each es once.1) (later_apart e.0 es once.0)),
+)
+
+module _ (listed : Listed) (once : IsOnce (map (λ e. e.0) listed)) (k : Text) where
+  -- what the table's actions on k come to, of each entry
+  joined_each : AllByRecursion (λ e. joined_action listed e.0 k ≡ said k e) listed
+  joined_each = weaken _ _ (λ e found. ap (λ o. joined_in (map item_of (unwrap_or o [])) k) found) listed (found_each listed once)
+
+  told_all : (passes : Option Action → Bool) → told_in passes listed k ≡ list_any (λ e. passes (joined_action listed e.0 k)) listed
+  told_all passes = sym (list_any_same _ _ listed (weaken _ _ (λ e same. ap passes same) listed joined_each))
+
+module _ (listed : Listed) (details : Details) (m m' : List Feature) (read : HasRead listed details m)
+    (others : (f : Text) → bytes_eq f (codes "default") ≡ false → feature_at m' f ≡ feature_at m f)
+    (default : MatchOption (feature_at m (codes "default")) (IsSomeAnd (feature_at m' (codes "default")) (IsListed (codes "default") plain_detail [])) (λ v. feature_at m' (codes "default") ≡ Some v)) where
+  holds_all : (f : Text) → Holds f (detail_listed listed details f) (with_default listed f) (feature_at m' f)
+  holds_all f = go (bytes_eq f (codes "default")) refl
+    where
+      here : (d : Detail) (o : Option (List Text)) (v v' : Option Feature) → Holds (codes "default") d o v → MatchOption v (IsSomeAnd v' (IsListed (codes "default") plain_detail [])) (λ w. v' ≡ Some w) → Holds (codes "default") (cond (is_some o) d plain_detail) (option_or o (Some [])) v'
+      here d None None None h a = absurd a
+      here d None None (Some v) h a = a
+      here d None (Some v) v' h a = absurd h
+      here d (Some ts) None v' h a = absurd h
+      here d (Some ts) (Some v) v' h a = subst (Holds (codes "default") d (Some ts)) (sym a) h
+
+      there : (d : Detail) (o : Option (List Text)) (v : Option Feature) → Holds f d o v → Holds f (cond (is_some o) d plain_detail) (option_or o None) v
+      there d None None h = tt
+      there d None (Some v) h = absurd h
+      there d (Some ts) None h = absurd h
+      there d (Some ts) (Some v) h = h
+
+      go : (b : Bool) → bytes_eq f (codes "default") ≡ b → Holds f (detail_listed listed details f) (option_or (lookup (bytes_eq f) listed) (cond b (Some []) None)) (feature_at m' f)
+      go true e = subst (λ q. Holds q (detail_listed listed details q) (option_or (lookup (bytes_eq q) listed) (Some [])) (feature_at m' q)) (sym ((bytes_eq-Decides f (codes "default")).0 e))
+          (here (detail_at details (codes "default")) (lookup (bytes_eq (codes "default")) listed) (feature_at m (codes "default")) (feature_at m' (codes "default")) (read.at (codes "default")) default)
+      go false e = there (detail_at details f) (lookup (bytes_eq f) listed) (feature_at m' f) (subst (Holds f (detail_at details f) (lookup (bytes_eq f) listed)) (sym (others f e)) (read.at f))
+
+  -- each feature that is held is as its list and its details say
+  pub all_fresh : AreFresh listed details m'
+  all_fresh f v is = holds_fresh f (detail_listed listed details f) (with_default listed f) v (subst (Holds f (detail_listed listed details f) (with_default listed f)) is (holds_all f))
+
+  pub all_read : (acted reserved : Text → Bool) → ((k : Text) → acted k ≡ told_in is_some listed k) → ((k : Text) → reserved k ≡ told_in is_dep_only listed k) → IsOnce (map (λ e. e.0) listed)
+      → IsRead listed (table_among m') acted reserved
+  all_read acted reserved acted_is reserved_is once = record {
+    has = λ f. holds_some f (detail_listed listed details f) (with_default listed f) (feature_at m' f) (holds_all f) ∙ default_some (bytes_eq f (codes "default")) (lookup (bytes_eq f) listed);
+    names = λ f x. holds_names f x (detail_listed listed details f) (with_default listed f) (feature_at m' f) (holds_all f) ∙ ap (λ is. list_any (item_names x) is) (lists f);
+    action = λ f k. holds_action f k (detail_listed listed details f) (with_default listed f) (feature_at m' f) (holds_all f) ∙ ap (λ is. joined_in is k) (lists f);
+    acted_on = λ k. acted_is k ∙ told_all listed once k is_some;
+    reserves = λ k. reserved_is k ∙ told_all listed once k is_dep_only;
+  }
+    where
+      lists : (f : Text) → map item_of (unwrap_or (with_default listed f) []) ≡ items listed f
+      lists f = ap (map item_of) (default_list (bytes_eq f (codes "default")) (lookup (bytes_eq f) listed))

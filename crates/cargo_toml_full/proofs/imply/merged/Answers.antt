@@ -1,0 +1,36 @@
+use Rattle.std.proofs.Common.{◌≡◌, ◌++◌, ◌∷◌, [], map, take, sym, ap, rules, ◌∙◌}
+use Rattle.std.proofs.lemmas.List.{append_assoc, append-nil, nil_from_length}
+use Rattle.cargo_toml_features.specs.InOrder.{feature_at}
+use Rattle.cargo_toml_full.specs.Implying.{ImpliesAll, is_one_of}
+use Rattle.cargo_toml_full.proofs.Implying.{implied_listed, listed_free}
+use Rattle.std.proofs.Common.{subst}
+use Rattle.cargo_toml_full.proofs.imply.merged.Goals as goal
+
+pub loop-feature-preserved : goal.loop-feature-preserved
+loop-feature-preserved c =
+    let done = c.loop-feature.invariant.implied.0 in
+    let rest = c.next.new.self.rest.items in
+    let v = c.in-Some.feature in
+    let keys = c.args.keys.now in
+    let next = c.in_ok-next.next in
+    let first : c.loop-feature.feature-iterator.rest.items ≡ v ∷ rest = search rules in
+    let whole : done ++ v ∷ rest ≡ c.args.features.items = ap (λ r. done ++ r) (sym first) ∙ c.loop-feature.invariant.implied.1.0 in
+    record {
+      in_order = c.in_ok-put_feature.ensures.in_order;
+      implied = (
+        done ++ v ∷ [],
+        (
+          append_assoc done (v ∷ []) rest ∙ whole,
+          implied_listed (is_one_of (map (λ k. k.now) (take next keys))) done c.imply_below.new.all.items c.put_feature.new.features.items v
+              (listed_free keys next done rest v (λ q on. ap (λ vs. feature_at vs q) whole ∙ c.requires.free q on))
+              (c.in_ok-next.ensures.implied done c.loop-feature.invariant.implied.1.1) c.in_ok-put_feature.ensures.held,
+        ),
+      );
+    }
+
+pub returns-clause-implied : goal.returns-clause-implied
+returns-clause-implied c =
+    let done = c.loop-feature.invariant.implied.0 in
+    let none : c.loop-feature.feature-iterator.rest.items ≡ [] = nil_from_length _ (sym c.loop-feature.feature-iterator.rest.ok.0 ∙ c.in-None.ensures.steps.0) in
+    let all : done ≡ c.args.features.items = sym (append-nil done) ∙ ap (λ r. done ++ r) (sym none) ∙ c.loop-feature.invariant.implied.1.0 in
+    subst (λ vs. ImpliesAll (is_one_of (map (λ k. k.now) c.args.keys.now)) vs c.imply_rest.new.all.items) all (c.in_ok-imply_rest.ensures.implied done c.loop-feature.invariant.implied.1.1)

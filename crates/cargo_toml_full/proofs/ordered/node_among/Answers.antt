@@ -1,0 +1,19 @@
+use Rattle.std.proofs.Common.{is_some, sym, ap}
+use Rattle.cargo_toml_full.proofs.Placed.{feature_missing, feature_there, place_free}
+use Rattle.cargo_toml_full.proofs.ordered.node_among.Goals as goal
+
+pub returns-then-stands_at-clause-there : goal.returns-then-stands_at-clause-there
+returns-then-stands_at-clause-there c =
+    let here = c.stands_at.ensures.yes c.if-stands_at.true in
+    sym (feature_there c.args.features.now c.args.near c.args.name.now here.0 here.1)
+
+pub returns-then-stands_at-2-clause-there : goal.returns-then-stands_at-2-clause-there
+returns-then-stands_at-2-clause-there c =
+    let here = c.stands_at-2.ensures.yes c.if-stands_at-2.true in
+    sym (feature_there c.args.features.now c.lower_bound-place.result c.args.name.now here.0 here.1)
+
+pub returns-else-stands_at-2-clause-there : goal.returns-else-stands_at-2-clause-there
+returns-else-stands_at-2-clause-there c =
+    let vs = c.args.features.now in
+    let f = c.args.name.now in
+    sym (ap is_some (feature_missing vs f (place_free vs c.lower_bound-place.result f c.requires (record { bound = c.lower_bound-place.ensures; free = c.stands_at-2.ensures.no c.if-stands_at-2.false }))))

@@ -1,0 +1,12 @@
+use Rattle.std.proofs.Common.{◌≡◌, ◌||◌, map, take}
+use Rattle.cargo_toml_dependencies.specs.Dependencies.{is_optional}
+use Rattle.cargo_toml_full.specs.Recording.{counts_alone, is_mentioned_in}
+use Rattle.cargo_toml_features.specs.Views.{entry_of}
+use Rattle.cargo_toml_full.proofs.GatheredKeys.{Gathers}
+use Rattle.cargo_toml_full.proofs.record.counting_entries.Given as goal
+
+abbrev pub invariant-loop-entry : goal.invariant-loop-entry
+invariant-loop-entry l = record {
+  flags : l.flags.items ≡ map (counts_alone (is_mentioned_in l.mentions)) (map entry_of (take l.entry-index l.entries));
+  keys : Gathers (λ k e. is_optional e.dependency || is_mentioned_in l.mentions k) (map (λ t. t.now) l.keys.items) (map entry_of (take l.entry-index l.entries));
+}

@@ -1,0 +1,29 @@
+use Rattle.std.proofs.Common.{◌<◌, ◌∙◌, length, refl, ap, arith}
+use Rattle.cargo_toml_full.specs.Redundant.{Thinned}
+use Rattle.cargo_toml_full.proofs.PlaceByPlace.{all_turned, names_set, none_turned, one_turned}
+use Rattle.cargo_toml_full.proofs.redundant.drop_redundant.Goals as goal
+
+pub loop-feature-init : goal.loop-feature-init
+loop-feature-init c = record { names = refl; thinned = λ entries recorded. none_turned (Thinned entries) c.args.features.now }
+
+pub loop-feature-preserved : goal.loop-feature-preserved
+loop-feature-preserved c =
+    let i = c.loop-feature.feature-index in
+    let mid = c.loop-feature.features in
+    let test = c.loop-feature-test.true in
+    let below : i < length mid = omega (arith, test) in
+    record {
+      names = names_set mid i c.thin_feature.new.feature _ below (ap (λ k. k.now) c.thin_feature.ensures.same_key) ∙ c.loop-feature.invariant.names;
+      thinned = λ entries recorded. one_turned (Thinned entries) i c.args.features.now mid _ c.thin_feature.new.feature (c.loop-feature.invariant.thinned entries recorded) below (c.thin_feature.ensures.thinned entries recorded);
+    }
+
+pub returns-clause-thinned : goal.returns-clause-thinned
+returns-clause-thinned c = λ entries recorded.
+    let i = c.loop-feature.feature-index in
+    let new = c.loop-feature.features in
+    let test = c.loop-feature-test.false in
+    let end : ¬ (i < length new) = omega (arith, test) in
+    record { at = all_turned (Thinned entries) i c.args.features.now new c.loop-feature.invariant.names end (c.loop-feature.invariant.thinned entries recorded) }
+
+pub returns-clause-same_names : goal.returns-clause-same_names
+returns-clause-same_names c = c.loop-feature.invariant.names

@@ -1,0 +1,12 @@
+pub mod Reading
+pub mod Recording
+pub mod Redundant
+pub mod Implying
+pub mod ReadFeature
+pub mod OwnBins
+pub mod Requiring
+pub mod Slots
+pub mod Ascending
+pub mod Searching
+pub mod Acting
+pub mod Placing

@@ -1,0 +1,121 @@
+//! Features in the byte order of their names: where one stands, and where one is put.
+ghost use Rattle.std.specs.Prelude.{◌≡◌, ◌<◌, IfSome, IsTrue, None, OnOk, Some, is_some};
+ghost use Rattle.std.specs.Prelude.{bytes_eq, false, if◌then◌else◌, length};
+ghost use Rattle.std.specs.Option.{option_or};
+ghost use Rattle.cargo_toml_graph.specs.Action.{Text};
+ghost use Rattle.cargo_toml_graph.specs.Admitted.{is_below};
+ghost use Rattle.cargo_toml_features.specs.InOrder.{AreInOrder, feature_at, names_of};
+ghost use Rattle.cargo_toml_full.specs.Placing.{IsBoundOf, IsPlaceOf};
+ghost use Rattle.cargo_toml_features.specs.Places.{text_at};
+
+use cargo_toml_features::features::Feature;
+use cargo_toml_walk::node::Node;
+use std::alloc::AllocError;
+
+// Whether the name of the feature at this place is below another.
+fn is_below(features: &[Feature<'_>], place: usize, name: &str) -> bool
+    requires { place < length features.now }
+    ensures { result ≡ is_below (text_at (names_of features.now) place) name.now }
+{
+    features[place].key < name
+}
+
+/// How many features stand below a name. Where names come in their order, all do.
+pub fn lower_bound(features: &[Feature<'_>], name: &str) -> usize
+    requires { AreInOrder features.now }
+    ensures { IsBoundOf features.now result name.now }
+{
+    let count = features.len();
+    if count > 0 && is_below(features, count - 1, name) {
+        return count;
+    }
+    let mut low = 0;
+    let mut high = count;
+    while low < high {
+        let middle = low + (high - low) / 2;
+        if is_below(features, middle, name) {
+            low = middle + 1;
+        } else {
+            high = middle;
+        }
+    }
+    low
+}
+
+/// Whether the feature at this place has the name.
+pub fn stands_at(features: &[Feature<'_>], place: usize, name: &str) -> bool
+    ensures yes { IsTrue result → (place < length features.now)
+        × (text_at (names_of features.now) place ≡ name.now) }
+    ensures no { result ≡ false → place < length features.now
+        → text_at (names_of features.now) place ≡ name.now → ⊥ }
+{
+    place < features.len() && features[place].key == name
+}
+
+/// Whether there is a feature of the name.
+pub fn is_there(features: &[Feature<'_>], name: &str) -> bool
+    requires { AreInOrder features.now }
+    ensures { result ≡ is_some (feature_at features.now name.now) }
+{
+    stands_at(features, lower_bound(features, name), name)
+}
+
+/// The feature of a name, if there is one. It is looked for at `near` first.
+pub fn node_among(features: &[Feature<'_>], name: &str, near: usize) -> Option<Node>
+    requires { AreInOrder features.now }
+    ensures found { IfSome result (λ i. (i < length features.now)
+        × (text_at (names_of features.now) i ≡ name.now)) }
+    ensures there { is_some result ≡ is_some (feature_at features.now name.now) }
+{
+    if stands_at(features, near, name) {
+        return Some(Node::at(near));
+    }
+    let place = lower_bound(features, name);
+    if stands_at(features, place, name) {
+        Some(Node::at(place))
+    } else {
+        None
+    }
+}
+
+/// Puts a feature in its place, below those that aren't below it. It fails only where memory runs
+/// out.
+pub fn insert_at<'m>(
+    features: &mut Vec<Feature<'m>>,
+    place: usize,
+    feature: Feature<'m>,
+) -> Result<(), AllocError>
+    requires in_order { AreInOrder features.old.items }
+    requires place { IsPlaceOf features.old.items place feature.key.now }
+    ensures in_order { OnOk result (AreInOrder features.new.items) }
+    ensures held { OnOk result ((f : Text) → feature_at features.new.items f
+        ≡ (if bytes_eq f feature.entry.key.now then Some feature.entry
+        else feature_at features.old.items f)) }
+{
+    // It mostly comes last: then none is moved.
+    if place >= features.len() {
+        features.push(feature)?;
+        return Ok(());
+    }
+    features.insert(place, feature)?;
+    Ok(())
+}
+
+/// Puts a feature in its place, where none of its name is there. It fails only where memory runs
+/// out.
+pub fn put_feature<'m>(
+    features: &mut Vec<Feature<'m>>,
+    feature: Feature<'m>,
+) -> Result<(), AllocError>
+    requires { AreInOrder features.old.items }
+    ensures in_order { OnOk result (AreInOrder features.new.items) }
+    ensures held { OnOk result ((f : Text) → feature_at features.new.items f
+        ≡ option_or (feature_at features.old.items f)
+        (if bytes_eq f feature.entry.key.now then Some feature.entry else None)) }
+{
+    let place = lower_bound(features.as_slice(), feature.key);
+    if !stands_at(features.as_slice(), place, feature.key) {
+        insert_at(features, place, feature)?;
+    }
+    Ok(())
+}

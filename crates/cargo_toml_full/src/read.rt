@@ -1,0 +1,183 @@
+//! What the lists of features say.
+ghost use Rattle.std.specs.Prelude.{◌≡◌, ◌∷◌, ◌++◌, [], List};
+ghost use Rattle.std.specs.Prelude.{bytes_eq, string_bytes, codes, map, false};
+ghost use Rattle.std.specs.Prelude.{IfOk, OnOk, Some, MatchOption};
+ghost use Rattle.std.specs.List.{list_any};
+ghost use Rattle.std.specs.Option.{IsSomeAnd};
+ghost use Rattle.cargo_toml_graph.specs.Action.{Text, Item, item_of};
+ghost use Rattle.cargo_toml_graph.specs.Admitted.{action_on};
+ghost use Rattle.cargo_toml_graph.specs.Reach.{IsOnce};
+ghost use Rattle.cargo_toml_dependencies.specs.Details.{Detail, plain_detail};
+ghost use Rattle.cargo_toml_features.specs.InOrder.{AreInOrder, feature_at, table_among};
+ghost use Rattle.cargo_toml_features.specs.Marks.{detail_in, details_of};
+ghost use Rattle.cargo_toml_features.specs.Views.{has_text, listed_of};
+ghost use Rattle.cargo_toml_full.specs.Acting.{Notes};
+ghost use Rattle.cargo_toml_full.specs.Reading.{IsRead, AreFresh};
+ghost use Rattle.cargo_toml_full.specs.ReadFeature.{joined_in, IsGathered, IsListed};
+ghost use Rattle.cargo_toml_full.specs.Searching.{has_key};
+
+use crate::acted::Acted;
+use crate::acting::Acting;
+use crate::ordered::put_feature;
+use cargo_toml_dependencies::FeatureDetail;
+use cargo_toml_features::action::{add_text, join_action, read_action};
+use cargo_toml_features::admit::Listing;
+use cargo_toml_features::features::Feature;
+use std::alloc::{AllocError, Global};
+use std::collections::{BTreeMap, BTreeSet};
+
+/// What the lists of features say, before dependencies are looked at.
+#[derive(Drop)]
+pub struct Mentions<'m> {
+    /// The features, in the byte order of their names.
+    pub features: Vec<Feature<'m>>,
+    /// The keys that features act on.
+    pub acted: Acted<'m>,
+}
+
+// A feature with this detail whose list is empty.
+fn empty_feature<'m>(alloc: Global, key: &'m str, detail: Option<&'m FeatureDetail>) -> Feature<'m>
+    ensures { IsListed key.now (detail_in detail.entry) [] result }
+{
+    let (public, doc) = match detail {
+        Some(detail) => (detail.public, detail.doc.as_deref()),
+        None => (true, None),
+    };
+    Feature {
+        key,
+        enables_deps: BTreeMap::new(alloc),
+        enables_features: BTreeSet::new(alloc),
+        enabled_by: BTreeSet::new(alloc),
+        required_by_bins: Vec::new(alloc),
+        explicit: true,
+        public,
+        doc,
+    }
+}
+
+// Reads one more text of the feature's list. A name goes to the end of `named`.
+fn add_item<'m>(
+    alloc: Global,
+    feature: &mut Feature<'m>,
+    named: &mut Vec<&'m str>,
+    acting: &mut Acting<'m>,
+    text: &'m str,
+) -> Result<(), AllocError>
+    ensures gathered { OnOk result ((f : Text) (d : Detail) (items : List Item)
+        → IsGathered f d items (map (λ t. t.now) named.old.items) feature.old
+        → IsGathered f d (items ++ item_of text.now ∷ [])
+        (map (λ t. t.now) named.new.items) feature.new) }
+    ensures noted { OnOk result
+        (Notes (λ k. action_on k (item_of text.now)) acting.old acting.new) }
+{
+    let action = read_action(text);
+    if action.acts() {
+        join_action(alloc, &mut feature.enables_deps, action)?;
+        acting.note(action)?;
+    } else {
+        named.push(action.target)?;
+    }
+    Ok(())
+}
+
+// The texts one after another, as a set.
+fn inserted<'m>(alloc: Global, texts: &[&'m str]) -> Result<BTreeSet<&'m str>, AllocError>
+    ensures { IfOk result
+        (λ s. (x : Text) → has_text s x ≡ list_any (bytes_eq x) (map (λ t. t.now) texts.now)) }
+{
+    let mut set = BTreeSet::new(alloc);
+    for text in texts {
+        add_text(&mut set, *text)?;
+    }
+    Ok(set)
+}
+
+// The texts as a set, which is made in one go.
+fn collected<'m>(alloc: Global, texts: &[&'m str]) -> Result<BTreeSet<&'m str>, AllocError>
+    ensures { IfOk result
+        (λ s. (x : Text) → has_text s x ≡ list_any (bytes_eq x) (map (λ t. t.now) texts.now)) }
+{
+    texts.iter().copied().collect(alloc)
+}
+
+// The texts as a set. Few are inserted, which takes less memory than to sort them.
+fn set_of<'m>(alloc: Global, texts: &[&'m str]) -> Result<BTreeSet<&'m str>, AllocError>
+    ensures { IfOk result
+        (λ s. (x : Text) → has_text s x ≡ list_any (bytes_eq x) (map (λ t. t.now) texts.now)) }
+{
+    if texts.len() > 16 {
+        collected(alloc, texts)
+    } else {
+        inserted(alloc, texts)
+    }
+}
+
+// Reads the list of one feature. The names that it has are gathered in `named`, whatever was there.
+fn read_list<'m>(
+    alloc: Global,
+    named: &mut Vec<&'m str>,
+    acting: &mut Acting<'m>,
+    listing: Listing<'m>,
+) -> Result<Feature<'m>, AllocError>
+    ensures listed { IfOk result (IsListed listing.entry.name.now (detail_in listing.entry.detail)
+        (map item_of (map string_bytes listing.entry.actions.now))) }
+    ensures noted { OnOk result
+        (Notes (joined_in (map item_of (map string_bytes listing.entry.actions.now))) acting.old
+        acting.new) }
+{
+    named.clear();
+    let mut feature = empty_feature(alloc, listing.name, listing.detail);
+    for text in listing.actions {
+        add_item(alloc, &mut feature, named, acting, text.as_str())?;
+    }
+    feature.enables_features = set_of(alloc, named.as_slice())?;
+    Ok(feature)
+}
+
+// Adds the feature `default` where it isn't listed; nothing is said of it then.
+fn add_default<'m>(alloc: Global, features: &mut Vec<Feature<'m>>) -> Result<(), AllocError>
+    requires { AreInOrder features.old.items }
+    ensures in_order { OnOk result (AreInOrder features.new.items) }
+    ensures others { OnOk result ((f : Text) → bytes_eq f (codes "default") ≡ false
+        → feature_at features.new.items f ≡ feature_at features.old.items f) }
+    ensures default { OnOk result (MatchOption (feature_at features.old.items (codes "default"))
+        (IsSomeAnd (feature_at features.new.items (codes "default"))
+        (IsListed (codes "default") plain_detail []))
+        (λ v. feature_at features.new.items (codes "default") ≡ Some v)) }
+{
+    let feature = empty_feature(alloc, "default", None);
+    put_feature(features, feature)?;
+    Ok(())
+}
+
+/// Reads the lists of all features, of which each name is listed once, and adds `default` where it
+/// isn't listed. There is room for so many more features.
+///
+/// It fails only where memory runs out.
+pub fn read_features<'m>(
+    alloc: Global,
+    listings: &[Listing<'m>],
+    more: usize,
+) -> Result<Mentions<'m>, AllocError>
+    requires { IsOnce (map (λ l. l.name.now) listings.now) }
+    ensures in_order { IfOk result (λ r. AreInOrder r.features.items) }
+    ensures read { IfOk result (λ r. IsRead (listed_of listings.now)
+        (table_among r.features.items) (has_key r.acted.keys) (has_key r.acted.reserved)) }
+    ensures fresh { IfOk result (λ r.
+        AreFresh (listed_of listings.now) (details_of listings.now) r.features.items) }
+{
+    let room = listings.len().saturating_add(1).saturating_add(more);
+    let mut features = Vec::with_capacity(alloc, room)?;
+    let mut acting = Acting::new(alloc);
+    let mut named = Vec::new(alloc);
+    // Listings come in the order of their names, so each feature goes to the end.
+    for listing in listings {
+        let feature = read_list(alloc, &mut named, &mut acting, *listing)?;
+        put_feature(&mut features, feature)?;
+    }
+    add_default(alloc, &mut features)?;
+    Ok(Mentions {
+        features,
+        acted: acting.into_acted(),
+    })
+}

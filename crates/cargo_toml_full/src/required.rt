@@ -1,0 +1,84 @@
+//! Which binaries require which features.
+ghost use Rattle.std.specs.Prelude.{◌≡◌, ◌<◌, ◌∷◌, [], length, map, IfOk, OnOk};
+ghost use Rattle.cargo_toml_full.specs.OwnBins.{own_of, requirement_of};
+ghost use Rattle.cargo_toml_full.specs.Requiring.{RequiredAll};
+ghost use Rattle.cargo_toml_features.specs.InOrder.{AreInOrder, names_of};
+ghost use Rattle.cargo_toml_features.specs.Places.{text_at};
+
+use crate::ordered::node_among;
+use cargo_toml_features::features::Feature;
+use cargo_toml_walk::node::Node;
+use std::alloc::AllocError;
+
+/// A feature that a binary requires.
+#[derive(Debug, Clone, Copy)]
+pub struct Requirement<'m> {
+    /// The feature's name.
+    pub feature: &'m str,
+    /// The binary's name.
+    pub bin: &'m str,
+}
+
+// Adds a binary to a feature.
+fn require_at<'m>(features: &mut [Feature<'m>], at: Node, bin: &'m str) -> Result<(), AllocError>
+    requires at { at < length features.old }
+    requires in_order { AreInOrder features.old }
+    ensures required { OnOk result
+        (RequiredAll (own_of ((text_at (names_of features.old) at, bin.now) ∷ [])) features.old
+        features.new) }
+    ensures same_names { names_of features.new ≡ names_of features.old }
+{
+    features[at.place()].required_by_bins.push(bin)?;
+    Ok(())
+}
+
+// Adds the binary to the feature that it requires, if there is one of that name. The answer is
+// where the feature stood, or else `near`, where it is looked for first.
+fn require<'m>(
+    features: &mut [Feature<'m>],
+    requirement: &Requirement<'m>,
+    near: usize,
+) -> Result<usize, AllocError>
+    requires { AreInOrder features.old }
+    ensures required { OnOk result
+        (RequiredAll (own_of (requirement_of requirement.now ∷ [])) features.old features.new) }
+    ensures same_names { names_of features.new ≡ names_of features.old }
+{
+    let Some(at) = node_among(features, requirement.feature, near) else {
+        return Ok(near);
+    };
+    require_at(features, at, requirement.bin)?;
+    Ok(at.place().saturating_add(1))
+}
+
+// Adds each binary to the features that it requires.
+fn require_all<'m>(
+    features: &mut [Feature<'m>],
+    requirements: &[Requirement<'m>],
+) -> Result<(), AllocError>
+    requires { AreInOrder features.old }
+    ensures required { OnOk result
+        (RequiredAll (own_of (map requirement_of requirements.now)) features.old features.new) }
+    ensures same_names { names_of features.new ≡ names_of features.old }
+{
+    let mut near = 0;
+    for requirement in requirements {
+        near = require(features, requirement, near)?;
+    }
+    Ok(())
+}
+
+/// The features, each with the binaries that require it, once for each mention. A feature that
+/// isn't there is passed over. It fails only where memory runs out.
+pub fn with_bins<'m>(
+    mut features: Vec<Feature<'m>>,
+    requirements: &[Requirement<'m>],
+) -> Result<Vec<Feature<'m>>, AllocError>
+    requires { AreInOrder features.items }
+    ensures in_order { IfOk result (λ vs. AreInOrder vs.items) }
+    ensures required { IfOk result (λ vs.
+        RequiredAll (own_of (map requirement_of requirements.now)) features.entry.items vs.items) }
+{
+    require_all(features.as_mut_slice(), requirements)?;
+    Ok(features)
+}

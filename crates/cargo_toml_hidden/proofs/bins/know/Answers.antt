@@ -1,6 +1,0 @@
-use Rattle.cargo_toml_hidden.specs.Texts.{texts_of}
-use Rattle.cargo_toml_hidden.proofs.KnownBins.{filled}
-use Rattle.cargo_toml_hidden.proofs.bins.know.Goals as goal
-
-pub returns-else-is_empty : goal.returns-else-is_empty
-returns-else-is_empty c = filled c.args.known.now (texts_of c.args.bins.now.items) c.is_empty.result c.is_empty.ensures c.if-is_empty.false c.requires

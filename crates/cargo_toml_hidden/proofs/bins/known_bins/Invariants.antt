@@ -1,5 +1,0 @@
-use Rattle.cargo_toml_hidden.proofs.KnownBins.{AreBlank}
-use Rattle.cargo_toml_hidden.proofs.bins.known_bins.Given as goal
-
-abbrev pub invariant-loop : goal.invariant-loop
-invariant-loop l = AreBlank l.known.items l.index

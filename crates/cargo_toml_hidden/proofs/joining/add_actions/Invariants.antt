@@ -1,8 +1,0 @@
-use Rattle.std.proofs.Common.{◌≡◌, cond, map}
-use Rattle.cargo_toml_graph.specs.Action.{Text, join_option}
-use Rattle.cargo_toml_features.specs.Views.{action_at}
-use Rattle.cargo_toml_resolve.proofs.Gathering.{is_text_in}
-use Rattle.cargo_toml_hidden.proofs.joining.add_actions.Given as goal
-
-abbrev pub invariant-loop-key : goal.invariant-loop-key
-invariant-loop-key l = (k : Text) → action_at l.own k ≡ cond (is_text_in (map (λ e. e.0.now) l.yielded) k) (join_option (action_at l.initial.own k) (action_at l.other k)) (action_at l.initial.own k)

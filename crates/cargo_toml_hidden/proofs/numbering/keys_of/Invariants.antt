@@ -1,7 +1,0 @@
-use Rattle.std.proofs.Common.{◌≡◌, take}
-use Rattle.cargo_toml_features.specs.InOrder.{names_of}
-use Rattle.cargo_toml_hidden.specs.Texts.{texts_of}
-use Rattle.cargo_toml_hidden.proofs.numbering.keys_of.Given as goal
-
-abbrev pub invariant-loop-feature : goal.invariant-loop-feature
-invariant-loop-feature l = texts_of l.keys.items ≡ names_of (take l.feature-index l.features)

@@ -1,7 +1,0 @@
-mod Put
-mod AllNames
-mod Turns
-mod Taken
-mod InTurn
-mod Hiding
-mod Resolving

@@ -1,7 +1,0 @@
-use Rattle.std.proofs.Common.{take}
-use Rattle.cargo_toml_plain.specs.Removing.{Loses, texts_of}
-use Rattle.cargo_toml_plain.proofs.Turns.{ChangesAll}
-use Rattle.cargo_toml_plain.proofs.removal.lose_all.Given as goal
-
-abbrev pub invariant-loop-name : goal.invariant-loop-name
-invariant-loop-name g l = ChangesAll (Loses l.gone l.key) (texts_of (take l.name-index l.names)) l.initial.features l.features

@@ -1,0 +1,81 @@
+-- An answer beside one of a filter that keeps every name, and beside another by its own filter.
+use Rattle.std.proofs.Common.{◌≡◌, ◌&&◌, not, Bool, true, false, List, Bor, Option, codes, nat_eq, IsFalse, IsSome, IsTrue, is_some, refl}
+use Rattle.std.proofs.lemmas.Bool.{false≢true}
+use Rattle.std.specs.List.{starts_with}
+use Rattle.cargo_toml_graph.specs.Action.{Text}
+use Rattle.cargo_toml_graph.specs.Admitted.{Listed}
+use Rattle.cargo_toml_graph.specs.Graph.{Table, IsResolved}
+use Rattle.cargo_toml_graph.specs.Kept.{KeepsEnabling, LosesNothing, NoneIsLeft}
+use Rattle.cargo_toml_graph.specs.Removal.{is_removed}
+use Rattle.cargo_toml_graph.proofs.AgainstAll as graph
+use Rattle.cargo_toml_graph.proofs.Closure as closure
+use Rattle.cargo_toml_graph.proofs.Members.{resolved_alike}
+use Rattle.cargo_toml_features.specs.Agreement.{Agree}
+use Rattle.cargo_toml_features.specs.Marks.{Details}
+use Rattle.cargo_toml_features.specs.Recorded.{Entry}
+use Rattle.cargo_toml_features.specs.Resolved.{Answer, IsAnswer, table_of}
+use Rattle.cargo_toml_features.proofs.Agreement.{settled}
+use Rattle.cargo_toml_resolve.specs.Filter.{Asked}
+use Rattle.cargo_toml_resolve.specs.Removed.{AgreesWithAll, IsAnswerBy, IsAnswerWithout, IsRemovedBy}
+use Rattle.cargo_toml_resolve.proofs.ByFilter.{answer_alike, by_test}
+
+-- where every name is kept, none is removed
+none_removed : (t : Table) (v : Text) → IsFalse (is_removed t (λ _. true) v)
+none_removed t v = go (t.has v) (starts_with nat_eq v (codes "_"))
+  where
+    go : (h s : Bool) → IsFalse (h && s && false)
+    go false s = refl
+    go true false = refl
+    go true true = refl
+
+module _ (listed : Listed) (entries : List Entry) where
+  abbrev t : Table
+  t = table_of listed entries
+
+  module _ (details : Details) (own : Text → List Text) (R : Text → Type 0) (a : Answer) (h : IsAnswerWithout listed entries details own R a) where
+    -- something stands for exactly the removed ones
+    resolved : IsResolved t (λ r. IsTrue (is_some (a.redirects r))) a.resolution
+    resolved = resolved_alike t R (λ r. IsTrue (is_some (a.redirects r))) (λ r. (h.redirected r).1) (λ r. (h.redirected r).0) a.resolution h.resolved
+
+    pub none_left : NoneIsLeft (λ r. IsSome (a.redirects r)) a.resolution
+    none_left = closure.none_left t (λ r. is_some (a.redirects r)) a.resolution resolved
+
+    module _ (others : Details) (mentioned : Text → List Text) (full : Answer) (all : IsAnswer listed entries others mentioned (λ _. true) full) where
+      pub keeps_enabling : KeepsEnabling full.resolution a.resolution
+      keeps_enabling = graph.keeps_enabling t (λ r. is_some (a.redirects r)) (is_removed t (λ _. true)) full.resolution a.resolution (none_removed t) all.kept.resolved resolved
+
+      pub loses_nothing : LosesNothing full.resolution a.resolution
+      loses_nothing = graph.loses_nothing t (λ r. is_some (a.redirects r)) (is_removed t (λ _. true)) full.resolution a.resolution (none_removed t) all.kept.resolved resolved
+
+  module _ {F : Type 0} (g : Asked F) (filter : Option (Bor F)) (b : Answer) (details : Details) (own : Text → List Text) (h : IsAnswerBy g filter listed entries details own b) where
+    -- the test that keeps what nothing stands for
+    abbrev keep : Text → Bool
+    keep r = not (is_some (b.redirects r))
+
+    first : (x y z : Bool) → (x && y && not (not z)) ≡ true → z ≡ true
+    first true true true e = refl
+    first true true false e = absurd (false≢true e)
+    first true false z e = absurd (false≢true e)
+    first false y z e = absurd (false≢true e)
+
+    all : (x y z : Bool) → x ≡ true → y ≡ true → z ≡ true → (x && y && not (not z)) ≡ true
+    all true true true e e' e'' = refl
+    all true true false e e' e'' = absurd (false≢true e'')
+    all true false z e e' e'' = absurd (false≢true e')
+    all false y z e e' e'' = absurd (false≢true e)
+
+    into : (r : Text) → IsRemovedBy g filter t r → IsTrue (is_removed t keep r)
+    into r gone = all (t.has r) (starts_with nat_eq r (codes "_")) (is_some (b.redirects r)) gone.there gone.hidden ((h.answer.redirected r).1 gone)
+
+    back : (r : Text) → IsTrue (is_removed t keep r) → IsRemovedBy g filter t r
+    back r y = (h.answer.redirected r).0 (first (t.has r) (starts_with nat_eq r (codes "_")) (is_some (b.redirects r)) y)
+
+    tested : (others : Details) (mentioned : Text → List Text) (a : Answer) → IsAnswerBy g filter listed entries others mentioned a → IsAnswer listed entries others mentioned keep a
+    tested others mentioned a k = by_test listed entries others mentioned keep a
+        (answer_alike listed entries others mentioned (IsRemovedBy g filter t) (λ r. IsTrue (is_removed t keep r)) a into back k.answer)
+
+    pub agrees : AgreesWithAll g filter listed entries b
+    agrees = record {
+      by_filter = λ others mentioned a k. settled listed entries others details mentioned own keep a b (tested others mentioned a k) (tested details own b h);
+      by_test = λ test others mentioned a tells k. settled listed entries others details mentioned own test a b k (h.told test tells);
+    }

@@ -1,0 +1,184 @@
+-- What the graph of numbers leaves to features is what removal leaves.
+use Rattle.std.proofs.Common.{◌≡◌, ◌≢◌, ◌↔◌, ◌<◌, ◌⊎◌, ℕ, Bool, true, false, List, [], ◌∷◌, length, Option, Some, None, Bor, Vec, IsTrue, is_some, refl, sym, ap, subst, inl, inr, ◌∙◌, arith}
+use Rattle.std.proofs.lemmas.Bool.{cases_Bool, false≢true}
+use Rattle.std.specs.HashMap.{HashMap}
+use Rattle.std.specs.List.{slice_get}
+use Rattle.std.specs.Option.{IsSomeAnd, option_and_then, option_map_or}
+use Rattle.cargo_toml_graph.specs.Action.{Text, Action, IsJoin}
+use Rattle.cargo_toml_graph.specs.Graph.{Table, IsKept, IsResolved, IsEnabledBy, KeepsName, ReachesThrough, Says}
+use Rattle.cargo_toml_graph.specs.Reach.{Among}
+use Rattle.cargo_toml_graph.specs.Reach.Reaches.{edge}
+use Rattle.cargo_toml_graph.proofs.Joins.{join_alike}
+use Rattle.cargo_toml_walk.specs.Numbers.{HasLabel, IsPassed, IsWanted, KeepsLabel, Leads, PassesAny, list_at}
+use Rattle.cargo_toml_walk.specs.Numbers as numbers
+use Rattle.cargo_toml_features.specs.Places.{text_at}
+use Rattle.cargo_toml_resolve.specs.NumberedTables.{HasNumber, IsNumbered}
+use Rattle.cargo_toml_resolve.proofs.NumberedTables as numbered
+use Rattle.cargo_toml_features.specs.declared.features.Feature.{Feature}
+use Rattle.cargo_toml_features.specs.InOrder.{AreInOrder, AreTable, feature_at, names_of}
+use Rattle.cargo_toml_features.specs.Views.{action_at, has_text, resolution_of, value_at}
+use Rattle.cargo_toml_resolve.specs.KeptFeatures.{IsKeptFeature}
+use Rattle.cargo_toml_resolve.specs.Leaving.{Holds, action_by}
+use Rattle.cargo_toml_resolve.proofs.InPlace.{name_in, stands_found, stands_in}
+
+no_some : {X : Type 0} {x : X} → None ≡ Some x → ⊥
+no_some e = false≢true (ap is_some e)
+
+empty_or : (xs : List ℕ) → (xs ≡ []) ⊎ ((xs ≢ []) × ((c : ℕ) × Among xs c))
+empty_or [] = inl refl
+empty_or (x ∷ xs) = inr ((λ e. false≢true (sym (ap is_cons e))), (x, inl refl))
+  where
+    is_cons : List ℕ → Bool
+    is_cons [] = false
+    is_cons (y ∷ ys) = true
+
+module _ {Z : Type 0} (t : Table) (removed : Text → Bool) (vs : List Feature) (same : AreTable t vs) (up : AreInOrder vs)
+    (texts : List Text) (edges names : List (Vec ℕ Z)) (flags : List Bool) (h : IsNumbered t (λ v. IsTrue (removed v)) texts edges names flags)
+    (count : length edges ≡ length vs) (vertices : (i : ℕ) → i < length vs → text_at texts i ≡ text_at (names_of vs) i)
+    (passed labels enablers : List (Vec ℕ Z))
+    (passed_is : (a b : ℕ) → a < length edges → IsWanted flags false a → Leads passed a b ↔ IsPassed edges flags a b)
+    (labels_are : (a x : ℕ) → a < length edges → PassesAny passed a → Leads labels a x ↔ HasLabel (Leads passed a) names flags a x)
+    (enablers_are : (f e : ℕ) → f < length edges → IsWanted flags false f → Leads enablers f e ↔ numbers.IsEnabledBy edges flags f e) where
+  abbrev R : Text → Type 0
+  R v = IsTrue (removed v)
+
+  fits : (i : ℕ) → i < length edges → i < length texts
+  fits i lt = let c = h.count in omega (arith, c, lt)
+
+  inside : (i : ℕ) → i < length edges → i < length vs
+  inside i lt = subst (λ n. i < n) count lt
+
+  -- the table's own words of the feature in place i
+  in_table : (i : ℕ) (v : Feature) → i < length edges → slice_get vs i ≡ Some v → feature_at vs (text_at texts i) ≡ Some v
+  in_table i v lt is = subst (λ f. feature_at vs f ≡ Some v) (sym (vertices i (inside i lt) ∙ name_in vs i v is)) (stands_found vs up i v is)
+
+  named_by : (i : ℕ) (v : Feature) → i < length edges → slice_get vs i ≡ Some v → (x : Text) → has_text v.enables_features x ≡ t.names (text_at texts i) x
+  named_by i v lt is x = sym (ap (λ o. option_map_or (λ (w : Feature). has_text w.enables_features x) o false) (in_table i v lt is)) ∙ same.names (text_at texts i) x
+
+  acts_by : (b : ℕ) (k : Text) → b < length edges → action_by vs b k ≡ t.action (text_at texts b) k
+  acts_by b k lt =
+      let v = stands_in vs b (inside b lt) in
+      ap (λ o. option_and_then (λ (w : Feature). action_at w.enables_deps k) o) v.1
+      ∙ sym (ap (λ o. option_map_or (λ (w : Feature). action_at w.enables_deps k) o None) (in_table b v.0 lt v.1)) ∙ same.action (text_at texts b) k
+
+  kept_text : (i : ℕ) → i < length edges → IsWanted flags false i → ¬ R (text_at texts i)
+  kept_text i lt kept = (numbered.unflagged t R texts edges names flags h i (fits i lt)).0 kept
+
+  -- a kept vertex that passes none names nothing removed, and reaches nothing
+  module _ (i : ℕ) (lt : i < length edges) (kept : IsWanted flags false i) where
+    no_step : list_at passed i ≡ [] → (b : Text) → R b → ReachesThrough t R (text_at texts i) b → ⊥
+    no_step none b gone path =
+        let k = (h.vertex b).0 (h.removed b gone) in
+        let r : R (text_at texts k.0) = subst R (sym k.2) gone in
+        let p = (numbered.reaches_text t R texts edges names flags h i k.0 lt k.1).1 (subst (λ v. ReachesThrough t R (text_at texts i) v) (sym k.2) path) in
+        let l : Leads passed i k.0 = (passed_is i k.0 lt kept).1 ((h.flagged k.0 (fits k.0 k.1)).1 r, p) in
+        subst (λ xs. Among xs k.0) none l
+
+    plain_names : list_at passed i ≡ [] → (x : Text) → IsTrue (t.names (text_at texts i) x) ↔ KeepsName t R (text_at texts i) x
+    plain_names none x = (
+      λ y. (
+        (text_at texts i, inl refl, y),
+        λ gone. no_step none x gone (edge (record {
+          source = (h.vertex (text_at texts i)).1 (i, lt, refl);
+          target = h.removed x gone;
+          apart = λ e. kept_text i lt kept (subst R (sym e) gone);
+          leads = inl y;
+        })),
+      ),
+      λ n. elim (n.0.1) [
+        | inl e ↦ subst (λ b. IsTrue (t.names b x)) e n.0.2
+        | inr g ↦ absurd (no_step none n.0.0 g.0 g.1)
+      ],
+    )
+
+    passing_names : (c : ℕ) → Leads passed i c → (x : Text) → HasNumber texts (length texts) (Leads labels i) x ↔ KeepsName t R (text_at texts i) x
+    passing_names c some x = (
+      λ n.
+          let l = (labels_are i n.0 lt (c, some)).0 n.3 in
+          (numbered.keeps_name t R texts edges names flags h i x lt).1 (n.0, n.1, n.2, ((l.0.0, elim (l.0.1) [ inl e ↦ inl e | inr p ↦ inr ((passed_is i l.0.0 lt kept).0 p) ], l.0.2), l.1)),
+      λ k.
+          let n = (numbered.keeps_name t R texts edges names flags h i x lt).0 k in
+          let g = n.3.0 in
+          (n.0, n.1, n.2, (labels_are i n.0 lt (c, some)).1 ((g.0, elim (g.1) [ inl e ↦ inl e | inr p ↦ inr ((passed_is i g.0 lt kept).1 p) ], g.2), n.3.1)),
+    )
+
+    enabling : (e : Text) → HasNumber texts (length texts) (Leads enablers i) e ↔ IsEnabledBy t R (text_at texts i) e
+    enabling e = (
+      λ n. let l = (enablers_are i n.0 lt kept).0 n.3 in (numbered.is_enabled_by t R texts edges names flags h i e lt).1 (n.0, l.0, n.2, (l.1, l.2)),
+      λ k. let n = (numbered.is_enabled_by t R texts edges names flags h i e lt).0 k in (n.0, fits n.0 n.1, n.2, (enablers_are i n.0 lt kept).1 (n.1, n.3.0, n.3.1)),
+    )
+
+    saying : (k : Text) (a : Action) → ((b : ℕ) × ((b ≡ i) ⊎ Leads passed i b) × (action_by vs b k ≡ Some a)) ↔ Says t R (text_at texts i) k a
+    saying k a = (
+      λ d. (numbered.says t R texts edges names flags h i k a lt).1
+          (d.0, elim (d.1) [ inl e ↦ inl e | inr p ↦ inr ((passed_is i d.0 lt kept).0 p) ], sym (acts_by d.0 k (of d.0 d.1)) ∙ d.2),
+      λ s.
+          let d = (numbered.says t R texts edges names flags h i k a lt).0 s in
+          let p : (d.0 ≡ i) ⊎ Leads passed i d.0 = elim (d.1) [ inl e ↦ inl e | inr q ↦ inr ((passed_is i d.0 lt kept).1 q) ] in
+          (d.0, p, acts_by d.0 k (of d.0 p) ∙ d.2),
+    )
+      where
+        of : (b : ℕ) → (b ≡ i) ⊎ Leads passed i b → b < length edges
+        of b (inl e) = subst (λ n. n < length edges) (sym e) lt
+        of b (inr p) = numbered.reaches_inside t R texts edges names flags h (IsWanted flags true) R (numbered.vertex_flag t R texts edges names flags h) i b lt ((passed_is i b lt kept).0 p).1
+
+    module _ (v w : Feature) (is : slice_get vs i ≡ Some v) (holds : Holds vs texts i (list_at passed i) (list_at labels i) (list_at enablers i) v w) where
+      holds_names : (x : Text) → IsTrue (has_text w.enables_features x) ↔ KeepsName t R (text_at texts i) x
+      holds_names x = elim (empty_or (list_at passed i)) [
+        | inl none ↦
+            let kept_set : has_text w.enables_features x ≡ t.names (text_at texts i) x = ap (λ s. has_text s x) (holds.same_names none) ∙ named_by i v lt is x in
+            (λ y. (plain_names none x).0 (sym kept_set ∙ y), λ n. kept_set ∙ (plain_names none x).1 n)
+        | inr some ↦
+            let p = passing_names some.1.0 some.1.1 x in
+            (λ y. p.0 ((holds.names some.0 x).0 y), λ n. (holds.names some.0 x).1 (p.1 n))
+      ]
+
+      holds_enablers : (e : Text) → IsTrue (has_text w.enabled_by e) ↔ IsEnabledBy t R (text_at texts i) e
+      holds_enablers e = (λ y. (enabling e).0 ((holds.enabled_by e).0 y), λ n. (holds.enabled_by e).1 ((enabling e).1 n))
+
+      holds_actions : (k : Text) → IsJoin (Says t R (text_at texts i) k) (action_at w.enables_deps k)
+      holds_actions k = join_alike (saying k) (action_at w.enables_deps k) (holds.actions k)
+
+      pub is_kept_feature : IsKeptFeature t R (text_at texts i) w
+      is_kept_feature = record { names = holds_names; enabled_by = holds_enablers; action = holds_actions }
+
+-- a map that has each kept feature under its name, and nothing else, is resolved
+module _ {S : Type 0} (t : Table) (removed : Text → Bool) (m : HashMap (Bor Text) Feature S)
+    (kept : (f : Text) → IsKept t (λ v. IsTrue (removed v)) f → IsSomeAnd (value_at m f) (IsKeptFeature t (λ v. IsTrue (removed v)) f))
+    (gone : (f : Text) → IsTrue (removed f) → value_at m f ≡ None)
+    (missing : (f : Text) → ¬ IsTrue (t.has f) → value_at m f ≡ None) where
+  -- what stands under the name of a kept feature
+  abbrev Here : Text → Type 0
+  Here f = (v : Feature) × (value_at m f ≡ Some v) × IsKeptFeature t (λ v. IsTrue (removed v)) f v
+
+  here : (f : Text) → IsKept t (λ v. IsTrue (removed v)) f → Here f
+  here f k = go (value_at m f) refl (kept f k)
+    where
+      go : (o : Option Feature) → value_at m f ≡ o → IsSomeAnd o (IsKeptFeature t (λ v. IsTrue (removed v)) f) → Here f
+      go None e h = absurd h
+      go (Some v) e h = (v, e, h)
+
+  none_there : (f : Text) → value_at m f ≡ None → ¬ IsTrue (is_some (value_at m f))
+  none_there f e y = false≢true (sym (ap is_some e) ∙ y)
+
+  is_kept : (f : Text) → IsTrue (is_some (value_at m f)) → IsKept t (λ v. IsTrue (removed v)) f
+  is_kept f y = elim (cases_Bool (t.has f)) [
+    | inl there ↦ (there, λ r. none_there f (gone f r) y)
+    | inr lacks ↦ absurd (none_there f (missing f (λ there. false≢true (sym lacks ∙ there))) y)
+  ]
+
+  pub resolved_is : IsResolved t (λ v. IsTrue (removed v)) (resolution_of m)
+  resolved_is = record {
+    kept = λ f. (is_kept f, λ k. ap is_some (here f k).1);
+    names = λ f x k.
+        let v = here f k in
+        let same : option_map_or (λ (w : Feature). has_text w.enables_features x) (value_at m f) false ≡ has_text v.0.enables_features x = ap (λ o. option_map_or (λ (w : Feature). has_text w.enables_features x) o false) v.1 in
+        (λ y. (v.2.names x).0 (sym same ∙ y), λ n. same ∙ (v.2.names x).1 n);
+    enabled_by = λ f e k.
+        let v = here f k in
+        let same : option_map_or (λ (w : Feature). has_text w.enabled_by e) (value_at m f) false ≡ has_text v.0.enabled_by e = ap (λ o. option_map_or (λ (w : Feature). has_text w.enabled_by e) o false) v.1 in
+        (λ y. (v.2.enabled_by e).0 (sym same ∙ y), λ n. same ∙ (v.2.enabled_by e).1 n);
+    action = λ f d k.
+        let v = here f k in
+        subst (λ o. IsJoin (Says t (λ v. IsTrue (removed v)) f d) o) (sym (ap (λ o. option_map_or (λ (w : Feature). action_at w.enables_deps d) o None) v.1)) (v.2.action d);
+  }

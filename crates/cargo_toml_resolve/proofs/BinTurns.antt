@@ -1,0 +1,51 @@
+-- Removed places pass binaries on, turn after turn.
+use Rattle.std.proofs.Common.{◌≡◌, ◌⊎◌, ◌<◌, ◌+◌, ℕ, suc, true, false, Bool, List, [], ◌∷◌, cond, nat_eq, take, Vec, sym, ap, ap₂, subst, inl, inr, ◌∙◌, arith, eq-eqb, eqb-true}
+use Rattle.std.proofs.lemmas.Bool.{cases_Bool, false≢true, or_cases, or_left, or_right}
+use Rattle.std.specs.List.{list_any}
+use Rattle.cargo_toml_graph.specs.Action.{Text}
+use Rattle.cargo_toml_graph.specs.Reach.{Among}
+use Rattle.cargo_toml_graph.specs.Removal.{put_all}
+use Rattle.cargo_toml_walk.specs.Numbers.{IsWanted, Leads, list_at}
+use Rattle.cargo_toml_resolve.specs.Passing.{passed_below, passed_from}
+
+-- a test tells whether a number stands in a list
+pub stands_true : (xs : List ℕ) (y : ℕ) → Among xs y → list_any (nat_eq y) xs ≡ true
+stands_true [] y i = absurd i
+stands_true (x ∷ xs) y (inl e) = or_left (nat_eq y x) _ (eq-eqb y x e)
+stands_true (x ∷ xs) y (inr i) = or_right (nat_eq y x) _ (stands_true xs y i)
+
+pub true_stands : (xs : List ℕ) (y : ℕ) → list_any (nat_eq y) xs ≡ true → Among xs y
+true_stands [] y e = absurd (false≢true e)
+true_stands (x ∷ xs) y e = elim (or_cases (nat_eq y x) (list_any (nat_eq y) xs) e) [ inl i ↦ inl (eqb-true y x i) | inr i ↦ inr (true_stands xs y i) ]
+
+stands_false : (xs : List ℕ) (y : ℕ) → ¬ Among xs y → list_any (nat_eq y) xs ≡ false
+stands_false xs y n = elim (cases_Bool (list_any (nat_eq y) xs)) [ inl t ↦ absurd (n (true_stands xs y t)) | inr f ↦ f ]
+
+module _ {Z : Type 0} (rows : List (Vec ℕ Z)) (flags : List Bool) (own : ℕ → List Text) (size : ℕ) where
+  -- the lists once the places below i have had their turns
+  abbrev pub Turned : ℕ → (ℕ → List Text) → Type 0
+  Turned i lists = (y : ℕ) → y < size → lists y ≡ passed_below rows flags i own y
+
+  abbrev before : ℕ → ℕ → List Text
+  before i y = passed_below rows flags i own y
+
+  next : (i : ℕ) (lists : ℕ → List Text) → Turned (suc i) lists → Turned (i + 1) lists
+  next i lists t = let e : suc i ≡ i + 1 = omega arith in subst (λ n. Turned n lists) e t
+
+  -- a kept place has no turn
+  pub kept_turn : (i : ℕ) (lists : ℕ → List Text) → IsWanted flags false i → Turned i lists → Turned (i + 1) lists
+  kept_turn i lists kept t = next i lists (λ y below. t y below ∙ sym (ap (λ b. (cond b (passed_from rows i (before i)) (before i)) y) kept))
+
+  -- a removed place has its turn
+  pub one_turn : (i : ℕ) → i < size → IsWanted flags true i → (lists lists' : ℕ → List Text) → Turned i lists →
+      ((y : ℕ) → y < size → (Leads rows i y × (lists' y ≡ put_all (lists y) (take 10 (lists i)))) ⊎ ((¬ Leads rows i y) × (lists' y ≡ lists y))) → Turned (i + 1) lists'
+  one_turn i inside gone lists lists' t puts = next i lists' (λ y below.
+      turn y below (puts y below) ∙ sym (ap (λ b. (cond b (passed_from rows i (before i)) (before i)) y) gone))
+    where
+      turn : (y : ℕ) → y < size → (Leads rows i y × (lists' y ≡ put_all (lists y) (take 10 (lists i)))) ⊎ ((¬ Leads rows i y) × (lists' y ≡ lists y)) → lists' y ≡ passed_from rows i (before i) y
+      turn y below (inl p) =
+          p.1 ∙ ap₂ (λ xs ys. put_all xs (take 10 ys)) (t y below) (t i inside)
+          ∙ sym (ap (λ b. cond b (put_all (before i y) (take 10 (before i i))) (before i y)) (stands_true (list_at rows i) y p.0))
+      turn y below (inr p) =
+          p.1 ∙ t y below
+          ∙ sym (ap (λ b. cond b (put_all (before i y) (take 10 (before i i))) (before i y)) (stands_false (list_at rows i) y p.0))

@@ -1,0 +1,189 @@
+-- Features that the filter refuses, by their flags, and answers without them.
+use Rattle.std.proofs.Common.{◌≡◌, ◌↔◌, ◌&&◌, ◌||◌, ◌<◌, not, ℕ, zero, suc, Bool, true, false, List, [], ◌∷◌, length, Bor, Option, Some, None, IfSome, IsTrue, is_some, bytes_eq, codes, nat_eq, arith, refl, sym, subst, inl, inr, ◌∙◌}
+use Rattle.std.proofs.lemmas.Bool.{false≢true, and_from, and_parts, or_cases, or_left, or_right}
+use Rattle.std.proofs.lemmas.Slice.Eq.{bytes_eq-Decides}
+use Rattle.std.specs.List.{slice_index_or, starts_with}
+use Rattle.cargo_toml_graph.specs.Action.{Text}
+use Rattle.cargo_toml_graph.specs.Admitted.{Listed, is_below}
+use Rattle.cargo_toml_graph.specs.Graph.{Table, IsKept}
+use Rattle.cargo_toml_graph.specs.Redirects.{RedirectsTo}
+use Rattle.cargo_toml_graph.specs.Removal.{is_removed}
+use Rattle.cargo_toml_graph.proofs.InByteOrder.{by_true}
+use Rattle.cargo_toml_graph.proofs.Members.{label_within, resolved_alike}
+use Rattle.cargo_toml_graph.proofs.PassedBins.{grown_weaker, passed_alike}
+use Rattle.cargo_toml_features.specs.declared.features.Feature.{Feature}
+use Rattle.cargo_toml_features.specs.InOrder.{AreInOrder, AreTable, names_of}
+use Rattle.cargo_toml_features.specs.Marks.{Details}
+use Rattle.cargo_toml_features.specs.Recorded.{Entry}
+use Rattle.cargo_toml_features.specs.Resolved.{Answer, IsAnswer, table_of}
+use Rattle.cargo_toml_features.specs.Places.{text_at}
+use Rattle.cargo_toml_walk.specs.Numbers.{IsWanted}
+use Rattle.cargo_toml_resolve.specs.Filter.{Answers, Asked, HasNameFilter, IsFlagOf, IsHiddenName, Tells}
+use Rattle.cargo_toml_resolve.specs.Numbering.{IsFlagged}
+use Rattle.cargo_toml_resolve.specs.Removed.{IsAnswerBy, IsAnswerWithout, IsRemovedBy}
+use Rattle.cargo_toml_resolve.proofs.InPlace.{has_place}
+
+-- the flag of the feature of this name, by looking it up
+abbrev pub flag_at : List Feature → List Bool → Text → Bool
+flag_at [] flags f = false
+flag_at (v ∷ vs) [] f = false
+flag_at (v ∷ vs) (b ∷ flags) f = (bytes_eq f v.key.now && b) || flag_at vs flags f
+
+pub flag_is : (vs : List Feature) (flags : List Bool) (f : Text) → IsTrue (flag_at vs flags f) ↔ IsFlagged vs flags f
+flag_is [] flags f = (λ y. absurd (false≢true y), λ w. absurd (let lt = w.1 in omega (arith, lt)))
+flag_is (v ∷ vs) [] f = (λ y. absurd (false≢true y), λ w. absurd (false≢true w.3))
+flag_is (v ∷ vs) (b ∷ flags) f = (into (flag_is vs flags f), out (flag_is vs flags f))
+  where
+    into : IsTrue (flag_at vs flags f) ↔ IsFlagged vs flags f → IsTrue (flag_at (v ∷ vs) (b ∷ flags) f) → IsFlagged (v ∷ vs) (b ∷ flags) f
+    into rest y = elim (or_cases _ _ y) [
+      | inl h ↦ (let p = and_parts _ _ h in (0, omega arith, sym ((bytes_eq-Decides f v.key.now).0 p.0), p.1))
+      | inr h ↦ (let w = rest.0 h in (suc w.0, (let lt = w.1 in omega (arith, lt)), w.2, w.3))
+    ]
+
+    at : IsTrue (flag_at vs flags f) ↔ IsFlagged vs flags f → (i : ℕ) → i < length (v ∷ vs) → text_at (names_of (v ∷ vs)) i ≡ f → IsWanted (b ∷ flags) true i
+        → IsTrue (flag_at (v ∷ vs) (b ∷ flags) f)
+    at rest zero lt same stands = or_left _ _ (and_from _ _ ((bytes_eq-Decides f v.key.now).1 (sym same)) stands)
+    at rest (suc i) lt same stands = or_right _ _ (rest.1 (i, omega (arith, lt), same, stands))
+
+    out : IsTrue (flag_at vs flags f) ↔ IsFlagged vs flags f → IsFlagged (v ∷ vs) (b ∷ flags) f → IsTrue (flag_at (v ∷ vs) (b ∷ flags) f)
+    out rest w = at rest w.0 w.1 w.2 w.3
+
+module _ {F : Type 0} (g : Asked F) (filter : Option (Bor F)) where
+  -- no name is kept and refused
+  one_answer : HasNameFilter g filter → (n : Text) → Answers g filter n true → Answers g filter n false → ⊥
+  one_answer has n = go filter has
+    where
+      go : (o : Option (Bor F)) → HasNameFilter g o → Answers g o n true → Answers g o n false → ⊥
+      go None has keeps refuses = false≢true (sym keeps)
+      go (Some f) has keeps refuses = false≢true ((has f refl).one_answer n false true refuses keeps)
+
+  -- a test that agrees with the filter is what it answers
+  told_as : (keep : Text → Bool) → Tells g filter keep → (n : Text) (b : Bool) → Answers g filter n b → b ≡ keep n
+  told_as keep tells n b = go filter tells
+    where
+      go : (o : Option (Bor F)) → Tells g o keep → Answers g o n b → b ≡ keep n
+      go None tells is = is ∙ sym (tells n)
+      go (Some f) tells is = tells n b is
+
+  -- the features whose flag stands are those that the filter refuses
+  module _ (has : HasNameFilter g filter) (t : Table) (vs : List Feature) (same : AreTable t vs) (up : AreInOrder vs) (flags : List Bool)
+      (are : (i : ℕ) → i < length vs → IsFlagOf g filter (text_at (names_of vs) i) (slice_index_or flags i false)) where
+    flag_of : (f : Text) → IsTrue (t.has f) → (i : ℕ) × (i < length vs) × (text_at (names_of vs) i ≡ f) × IsFlagOf g filter f (slice_index_or flags i false)
+    flag_of f known =
+        let p = (has_place t vs same up f).0 known in
+        (p.0, p.1, p.2, subst (λ x. IsFlagOf g filter x (slice_index_or flags p.0 false)) p.2 (are p.0 p.1))
+
+    pub removed_by : (f : Text) → IsFlagged vs flags f ↔ IsRemovedBy g filter t f
+    removed_by f = (
+      λ w.
+          let r = subst (λ x. IsFlagOf g filter x true) w.2 (subst (IsFlagOf g filter (text_at (names_of vs) w.0)) w.3 (are w.0 w.1)) in
+          record { there = (has_place t vs same up f).1 (w.0, w.1, w.2); hidden = r.hidden; refused = r.refused },
+      λ r. let p = flag_of f r.there in (p.0, p.1, p.2, stands (slice_index_or flags p.0 false) p.3 r),
+    )
+      where
+        stands : (b : Bool) → IsFlagOf g filter f b → IsRemovedBy g filter t f → b ≡ true
+        stands true flag r = refl
+        stands false flag r = absurd (one_answer has f (flag r.hidden) r.refused)
+
+    -- and one that isn't refused is kept
+    pub kept_by : (f : Text) → IsTrue (t.has f) → ¬ IsRemovedBy g filter t f → IsHiddenName f → Answers g filter f true
+    kept_by f known stays hidden = let p = flag_of f known in go (slice_index_or flags p.0 false) p.3
+      where
+        go : (b : Bool) → IsFlagOf g filter f b → Answers g filter f true
+        go true r = absurd (stays (record { there = known; hidden = hidden; refused = r.refused }))
+        go false keeps = keeps hidden
+
+module _ (listed : Listed) (entries : List Entry) (details : Details) (own : Text → List Text) where
+  abbrev t : Table
+  t = table_of listed entries
+
+  -- it is one answer, whichever fact tells of the removed ones
+  module _ (R S : Text → Type 0) (a : Answer) (into : (r : Text) → R r → S r) (back : (r : Text) → S r → R r) (h : IsAnswerWithout listed entries details own R a) where
+    old : (f : Text) → IsKept t S f → IsKept t R f
+    old f k = (k.0, λ r. k.1 (into f r))
+
+    redirects : (r : Text) → IfSome (a.redirects r) (λ names. (x : Text) → IsTrue (names x) ↔ RedirectsTo t S (λ s b. IsTrue (is_below s b)) r x)
+    redirects r = go (a.redirects r) (h.redirects r)
+      where
+        across : (P Q : Text → Type 0) → ((v : Text) → P v → Q v) → ((v : Text) → Q v → P v) → (x : Text) → RedirectsTo t P (λ s b. IsTrue (is_below s b)) r x → RedirectsTo t Q (λ s b. IsTrue (is_below s b)) r x
+        across P Q to from x n = (label_within (λ b z. IsTrue (t.names b z)) (λ s. P s × IsTrue (is_below s r)) (λ s. Q s × IsTrue (is_below s r)) (λ v p. (to v p.0, p.1)) r x n.0, λ p. n.1 (from x p.0, p.1))
+
+        go : (o : Option (Text → Bool)) → IfSome o (λ names. (x : Text) → IsTrue (names x) ↔ RedirectsTo t R (λ s b. IsTrue (is_below s b)) r x)
+            → IfSome o (λ names. (x : Text) → IsTrue (names x) ↔ RedirectsTo t S (λ s b. IsTrue (is_below s b)) r x)
+        go None e = tt
+        go (Some names) e = λ x. (λ y. across R S into back x ((e x).0 y), λ n. (e x).1 (across S R back into x n))
+
+    pub answer_alike : IsAnswerWithout listed entries details own S a
+    answer_alike = record {
+      resolved = resolved_alike t R S into back a.resolution h.resolved;
+      keyed = h.keyed;
+      marks = h.marks;
+      dependencies = h.dependencies;
+      some = (λ y. let s = h.some.0 y in (s.0, into s.0 s.1), λ s. h.some.1 (s.0, back s.0 s.1));
+      bins = λ f left.
+          let b = h.bins f left in
+          record { lists = grown_weaker (λ x c. passed_alike t own R S into f x c) b.lists; direct = λ r x gone n j. b.direct r x (back r gone) n j };
+      passed_on = record {
+        order = h.passed_on.order;
+        in_order = record {
+          ascending = h.passed_on.in_order.ascending;
+          members = λ r. (λ i. into r ((h.passed_on.in_order.members r).0 i), λ y. (h.passed_on.in_order.members r).1 (back r y));
+        };
+        lists = λ f k. h.passed_on.lists f (old f k);
+      };
+      redirected = λ r. (λ y. into r ((h.redirected r).0 y), λ y. (h.redirected r).1 (back r y));
+      redirects = redirects;
+    }
+
+  -- in the words of a test
+  pub by_test : (keep : Text → Bool) (a : Answer) → IsAnswerWithout listed entries details own (λ r. IsTrue (is_removed t keep r)) a → IsAnswer listed entries details own keep a
+  by_test keep a h = record {
+    kept = record { resolved = h.resolved; keyed = h.keyed; marks = h.marks; dependencies = h.dependencies; some = h.some };
+    bins = h.bins;
+    passed_on = h.passed_on;
+    redirected = λ r. by_true _ _ (h.redirected r);
+    redirects = h.redirects;
+  }
+
+  module _ {F : Type 0} (g : Asked F) (filter : Option (Bor F)) where
+    abbrev R : Text → Type 0
+    R = IsRemovedBy g filter t
+
+    three : (h s k : Bool) → h ≡ true → s ≡ true → false ≡ k → (h && s && not k) ≡ true
+    three true true false e e' e'' = refl
+    three true true true e e' e'' = absurd (false≢true e'')
+    three true false k e e' e'' = absurd (false≢true e')
+    three false s k e e' e'' = absurd (false≢true e)
+
+    parts : (h s k : Bool) → (h && s && not k) ≡ true → (h ≡ true) × (s ≡ true) × (k ≡ false)
+    parts true true false e = (refl, refl, refl)
+    parts true true true e = absurd (false≢true e)
+    parts true false k e = absurd (false≢true e)
+    parts false s k e = absurd (false≢true e)
+
+    -- each test that agrees with the filter tells the same as it
+    pub tell_alike : (keep : Text → Bool) (a : Answer) → IsAnswerWithout listed entries details own R a
+        → ((f : Text) → IsTrue (a.resolution.table.has f) → IsHiddenName f → Answers g filter f true)
+        → Tells g filter keep → IsAnswer listed entries details own keep a
+    tell_alike keep a h kept tells = by_test keep a (answer_alike R (λ r. IsTrue (is_removed t keep r)) a into back h)
+      where
+        into : (r : Text) → R r → IsTrue (is_removed t keep r)
+        into r gone = three (t.has r) (starts_with nat_eq r (codes "_")) (keep r) gone.there gone.hidden (told_as g filter keep tells r false gone.refused)
+
+        back : (r : Text) → IsTrue (is_removed t keep r) → R r
+        back r y = go (is_some (a.redirects r)) (h.redirected r)
+          where
+            p : (t.has r ≡ true) × IsHiddenName r × (keep r ≡ false)
+            p = parts (t.has r) (starts_with nat_eq r (codes "_")) (keep r) y
+
+            go : (b : Bool) → IsTrue b ↔ R r → R r
+            go true e = e.0 refl
+            go false e =
+                let left = (h.resolved.kept r).1 (p.0, λ gone. false≢true (e.1 gone)) in
+                absurd (false≢true (sym p.2 ∙ sym (told_as g filter keep tells r true (kept r left p.1))))
+
+    -- an answer without the refused features is the answer by the filter
+    pub answer_by : (a : Answer) → IsAnswerWithout listed entries details own R a
+        → ((f : Text) → IsTrue (a.resolution.table.has f) → IsHiddenName f → Answers g filter f true)
+        → IsAnswerBy g filter listed entries details own a
+    answer_by a h kept = record { answer = h; kept = kept; told = λ keep tells. tell_alike keep a h kept tells }

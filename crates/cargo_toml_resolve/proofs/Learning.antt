@@ -1,0 +1,414 @@
+-- Enablers that features learn, place by place.
+use Rattle.std.proofs.Common.{◌≡◌, ◌≢◌, ◌↔◌, ◌⊎◌, ◌<◌, ◌+◌, ◌||◌, ◌∷◌, ℕ, suc, Bool, true, false, cond, List, [], length, map, get_or, set, slice_get, Option, Some, None, Bor, IsTrue, IfSome, is_some, option_map, bytes_eq, refl, sym, ap, subst, inl, inr, ◌∙◌, arith}
+use Rattle.std.proofs.lemmas.Bool.{cases_eq, false≢true, or_cases, or_left, or_right}
+use Rattle.std.proofs.lemmas.List.{get_or-map, length-map}
+use Rattle.std.proofs.lemmas.Option.{same_Some, slice_get-get_or, slice_get_read, slice_get_within}
+use Rattle.std.proofs.lemmas.Slice.Eq.{bytes_eq-Decides}
+use Rattle.std.specs.BTreeSet.{BTreeSet}
+use Rattle.std.specs.BTreeSet.{btree_set_len}
+use Rattle.std.specs.BTreeMap.{btree_map_len, is_at}
+use Rattle.std.specs.Cmp.Lexicographic.{slice_cmp}
+use Rattle.std.specs.Map.{lookup}
+use Rattle.std.specs.Ordering.{nat_cmp}
+use Rattle.std.specs.HashMap.{HashMap}
+use Rattle.std.specs.Option.{option_map_or}
+use Rattle.cargo_toml_features.proofs.Places.{Ascends}
+use Rattle.cargo_toml_graph.specs.Bins.{ArePassedOn}
+use Rattle.cargo_toml_graph.specs.Action.{Text}
+use Rattle.cargo_toml_graph.specs.Graph.{Edge, IsPlain, IsUnremoved, Table}
+use Rattle.cargo_toml_graph.specs.Reach.{Among}
+use Rattle.cargo_toml_features.specs.Places.{text_at}
+use Rattle.cargo_toml_features.specs.declared.features.DepAction.{DepAction}
+use Rattle.cargo_toml_features.specs.declared.features.Feature.{Feature}
+use Rattle.cargo_toml_features.specs.InOrder.{AreInOrder, AreTable, HaveNoEnablers, feature_at, names_of, resolution_among}
+use Rattle.cargo_toml_features.specs.Marks.{Marks, marks_of}
+use Rattle.cargo_toml_features.specs.Views.{action_at, action_of, has_text, value_at}
+use Rattle.cargo_toml_features.proofs.TextKeys.{none_in}
+use Rattle.cargo_toml_resolve.specs.Enabling.{AreSameButEnablers, Enables, IsSameButEnablers, LeadsTo, LearnEach, Learns}
+use Rattle.cargo_toml_resolve.specs.KeptFeatures.{IsNamedAlike, own_bins}
+use Rattle.cargo_toml_resolve.specs.Left.{AreLeft}
+use Rattle.cargo_toml_resolve.specs.TakingOver.{ChangesIn}
+use Rattle.cargo_toml_resolve.specs.Texts.{texts_of}
+use Rattle.cargo_toml_resolve.proofs.InPlace.{found_stands, name_in, one_place, stands_found, stands_in}
+use Rattle.cargo_toml_resolve.proofs.TakingOver.{then_set, unchanged}
+
+itself : (v : Feature) → IsSameButEnablers v v
+itself v = record { key = refl; marks = refl; names = refl; actions = refl; bins = refl }
+
+pub same_features : (vs : List Feature) → AreSameButEnablers vs vs
+same_features vs = record { len = refl; each = λ i v w old new. subst (IsSameButEnablers v) (same_Some v w (sym old ∙ new)) (itself v) }
+
+-- what stands in a place of a list that is as long
+there_too : (vs ws : List Feature) → length ws ≡ length vs → (i : ℕ) (v : Feature) → slice_get vs i ≡ Some v → (w : Feature) × (slice_get ws i ≡ Some w)
+there_too vs ws len i v old =
+    let inside : i < length ws = subst (λ n. i < n) (sym len) (slice_get_within vs i v old) in
+    (get_or ws i v, slice_get-get_or ws i v inside)
+
+pub then_same : (vs ws us : List Feature) → AreSameButEnablers vs ws → AreSameButEnablers ws us → AreSameButEnablers vs us
+then_same vs ws us a b = record {
+  len = b.len ∙ a.len;
+  each = λ i v u old new.
+      let w = there_too vs ws a.len i v old in
+      let s = a.each i v w.0 old w.1 in
+      let t = b.each i w.0 u w.1 new in
+      record { key = t.key ∙ s.key; marks = t.marks ∙ s.marks; names = t.names ∙ s.names; actions = t.actions ∙ s.actions; bins = t.bins ∙ s.bins };
+}
+
+learns_nothing : (By : Text → Type 0) (v : Feature) → ((e : Text) → ¬ By e) → Learns By v v
+learns_nothing By v none e = (λ y. inl y, elim [ inl y ↦ y | inr b ↦ absurd (none e b) ])
+
+pub nobody_learns : (By : ℕ → Text → Type 0) (vs : List Feature) → ((y : ℕ) (e : Text) → ¬ By y e) → LearnEach By vs vs
+nobody_learns By vs none y v w old new = subst (Learns (By y) v) (same_Some v w (sym old ∙ new)) (learns_nothing (By y) v (none y))
+
+-- first these texts, then those
+pub then_learn : (A B C : ℕ → Text → Type 0) (vs ws us : List Feature) → length ws ≡ length vs → ((y : ℕ) (e : Text) → y < length vs → C y e ↔ (A y e ⊎ B y e))
+    → LearnEach A vs ws → LearnEach B ws us → LearnEach C vs us
+then_learn A B C vs ws us len both a b y v u old new e =
+    let w = there_too vs ws len y v old in
+    let c = both y e (slice_get_within vs y v old) in
+    let first = a y v w.0 old w.1 e in
+    let last = b y w.0 u w.1 new e in (
+      λ t. elim (last.0 t) [
+        | inl m ↦ elim (first.0 m) [ inl o ↦ inl o | inr x ↦ inr (c.1 (inl x)) ]
+        | inr x ↦ inr (c.1 (inr x))
+      ],
+      λ s. elim s [
+        | inl o ↦ last.1 (inl (first.1 (inl o)))
+        | inr x ↦ elim (c.0 x) [ inl h ↦ last.1 (inl (first.1 (inr h))) | inr h ↦ last.1 (inr h) ]
+      ],
+    )
+
+-- the feature in one place learns of the source
+pub one_learns : (vs : List Feature) (i : ℕ) (source : Text) (v : Feature) (by : BTreeSet (Bor Text)) → i < length vs → v ≡ get_or vs i v
+    → ((x : Text) → IsTrue (has_text by x) ↔ (IsTrue (has_text v.enabled_by x) ⊎ (x ≡ source))) → Enables (λ y. y ≡ i) source vs (set vs i (record v { enabled_by = by }))
+one_learns vs i source v by lt read gains = record {
+  same = record {
+    len = all.len;
+    each = λ j u w old new. elim (cases_eq j i) [
+      | inl is ↦ let h = here j is u w old new in h.0
+      | inr ne ↦ subst (IsSameButEnablers u) (other j ne u w old new) (itself u)
+    ];
+  };
+  learn = λ j u w old new e. elim (cases_eq j i) [
+    | inl is ↦ let h = here j is u w old new in (λ t. elim ((h.1 e).0 t) [ inl o ↦ inl o | inr x ↦ inr (x, is) ], λ s. (h.1 e).1 (elim s [ inl o ↦ inl o | inr x ↦ inr x.0 ]))
+    | inr ne ↦ subst (λ x. IsTrue (has_text x.enabled_by e) ↔ (IsTrue (has_text u.enabled_by e) ⊎ ((e ≡ source) × (j ≡ i)))) (other j ne u w old new)
+        (λ t. inl t, λ s. elim s [ inl o ↦ o | inr x ↦ absurd (ne x.1) ])
+  ];
+}
+  where
+    Changes : Feature → Feature → Type 0
+    Changes u w = IsSameButEnablers u w × Learns (λ e. e ≡ source) u w
+
+    all : ChangesIn Changes i vs (set vs i (record v { enabled_by = by }))
+    all = then_set (λ u x. x ≡ u) Changes i vs vs v (record v { enabled_by = by }) lt read (unchanged (λ u x. x ≡ u) i vs (λ x e. refl))
+        (λ u e. subst (λ x. Changes x (record v { enabled_by = by })) e (record { key = refl; marks = refl; names = refl; actions = refl; bins = refl }, gains))
+
+    here : (j : ℕ) → j ≡ i → (u w : Feature) → slice_get vs j ≡ Some u → slice_get (set vs i (record v { enabled_by = by })) j ≡ Some w → Changes u w
+    here j is u w old new = all.here u w (subst (λ k. slice_get vs k ≡ Some u) is old) (subst (λ k. slice_get (set vs i (record v { enabled_by = by })) k ≡ Some w) is new)
+
+    other : (j : ℕ) → j ≢ i → (u w : Feature) → slice_get vs j ≡ Some u → slice_get (set vs i (record v { enabled_by = by })) j ≡ Some w → u ≡ w
+    other j ne u w old new = same_Some u w (sym old ∙ sym (all.others j ne) ∙ new)
+
+-- a set gained the source
+pub text_gained : (old new : BTreeSet (Bor Text)) (source : Text) → ((x : Text) → has_text new x ≡ (has_text old x || bytes_eq x source))
+    → (x : Text) → IsTrue (has_text new x) ↔ (IsTrue (has_text old x) ⊎ (x ≡ source))
+text_gained old new source h x = (
+  λ y. elim (or_cases _ _ (sym (h x) ∙ y)) [ inl o ↦ inl o | inr b ↦ inr ((bytes_eq-Decides x source).0 b) ],
+  λ s. h x ∙ elim s [ inl o ↦ or_left _ _ o | inr is ↦ or_right (has_text old x) _ ((bytes_eq-Decides x source).1 is) ],
+)
+
+-- what names nothing and acts on nothing leads nowhere
+pub led_nowhere : (v : Feature) → btree_set_len v.enables_features ≡ 0 → btree_map_len v.enables_deps ≡ 0 → (x : Text) → ¬ LeadsTo v x
+led_nowhere v names actions x l = elim l [
+  | inl n ↦ absurd (false≢true (sym (none_in v.enables_features (nil v.enables_features.keys names) x) ∙ n))
+  | inr p ↦ no_action v.enables_deps.entries actions x p
+]
+  where
+    nil : (ks : List (Bor Text)) → length ks ≡ 0 → ks ≡ []
+    nil [] e = refl
+    nil (k ∷ ks) e = absurd (omega arith)
+
+    no_action : (es : List (Bor Text × DepAction)) → length es ≡ 0 → (k : Text) → IsPlain (option_map action_of (lookup (is_at (λ q. slice_cmp nat_cmp k q.now)) es)) → ⊥
+    no_action [] none k p = p
+    no_action (e ∷ es) none k p = absurd (omega arith)
+
+pub nobody_enabled : (source : Text) (vs : List Feature) → Enables (Among []) source vs vs
+nobody_enabled source vs = record { same = same_features vs; learn = nobody_learns (λ y e. (e ≡ source) × Among [] y) vs (λ y e p. p.1) }
+
+pub then_enabled : (A B C : ℕ → Type 0) (source : Text) (vs ws us : List Feature) → ((y : ℕ) → C y ↔ (A y ⊎ B y)) → Enables A source vs ws → Enables B source ws us → Enables C source vs us
+then_enabled A B C source vs ws us both a b = record {
+  same = then_same vs ws us a.same b.same;
+  learn = then_learn (λ y e. (e ≡ source) × A y) (λ y e. (e ≡ source) × B y) (λ y e. (e ≡ source) × C y) vs ws us a.same.len (λ y e below. (
+    λ p. elim ((both y).0 p.1) [ inl x ↦ inl (p.0, x) | inr x ↦ inr (p.0, x) ],
+    λ s. elim s [ inl p ↦ (p.0, (both y).1 (inl p.1)) | inr p ↦ (p.0, (both y).1 (inr p.1)) ],
+  )) a.learn b.learn;
+}
+
+-- the feature in place j of vs, other than the one in place y, has the name e and leads to the name of that in place y
+abbrev pub Leader : List Feature → ℕ → ℕ → Text → Type 0
+Leader vs j y e = (y ≢ j) × (text_at (names_of vs) j ≡ e) × ((u : Feature) × (slice_get vs j ≡ Some u) × LeadsTo u (text_at (names_of vs) y))
+
+abbrev pub LeaderBelow : List Feature → ℕ → ℕ → Text → Type 0
+LeaderBelow vs n y e = (j : ℕ) × (j < n) × Leader vs j y e
+
+pub no_leader : (vs : List Feature) (y : ℕ) (e : Text) → ¬ LeaderBelow vs 0 y e
+no_leader vs y e l = let lt = l.1 in omega (arith, lt)
+
+-- the first n features have told what they lead to
+pub record HaveLearnt (n : ℕ) (old new : List Feature) : Type 0 where
+  pub same : AreSameButEnablers old new
+  pub learn : LearnEach (LeaderBelow old n) old new
+
+pub none_learnt : (vs : List Feature) → HaveLearnt 0 vs vs
+none_learnt vs = record { same = same_features vs; learn = nobody_learns (LeaderBelow vs 0) vs (no_leader vs) }
+
+-- then the next, of which the row tells where it leads
+pub next_learnt : (n : ℕ) (keys : List (Bor Text)) (vs ws us : List Feature) (row : List ℕ) (u : Feature) → n < length vs → texts_of keys ≡ names_of vs → slice_get ws n ≡ Some u
+    → ((x : ℕ) → Among row x ↔ (Among [] x ⊎ ((x < length keys) × (x ≢ n) × LeadsTo u (text_at (texts_of keys) x))))
+    → HaveLearnt n vs ws → Enables (Among row) (text_at (texts_of keys) n) ws us → HaveLearnt (n + 1) vs us
+next_learnt n keys vs ws us row u lt are there rows h more = record {
+  same = then_same vs ws us h.same more.same;
+  learn = then_learn (LeaderBelow vs n) (λ y e. (e ≡ text_at (texts_of keys) n) × Among row y) (LeaderBelow vs (n + 1)) vs ws us h.same.len both h.learn more.learn;
+}
+  where
+    first : (v : Feature) × (slice_get vs n ≡ Some v)
+    first = stands_in vs n lt
+
+    same : IsSameButEnablers first.0 u
+    same = h.same.each n first.0 u first.1 there
+
+    led : (x : Text) → LeadsTo u x ↔ LeadsTo first.0 x
+    led x = (
+      λ l. elim l [ inl i ↦ inl (subst (λ s. IsTrue (has_text s x)) same.names i) | inr p ↦ inr (subst (λ m. IsPlain (action_at m x)) same.actions p) ],
+      λ l. elim l [ inl i ↦ inl (subst (λ s. IsTrue (has_text s x)) (sym same.names) i) | inr p ↦ inr (subst (λ m. IsPlain (action_at m x)) (sym same.actions) p) ],
+    )
+
+    long : length keys ≡ length vs
+    long = sym (length-map keys (λ (t : Bor Text). t.now)) ∙ ap length are ∙ length-map vs (λ (v : Feature). v.key.now)
+
+    key : (y : ℕ) → text_at (names_of vs) y ≡ text_at (texts_of keys) y
+    key y = ap (λ ks. text_at ks y) (sym are)
+
+    both : (y : ℕ) (e : Text) → y < length vs → LeaderBelow vs (n + 1) y e ↔ (LeaderBelow vs n y e ⊎ ((e ≡ text_at (texts_of keys) n) × Among row y))
+    both y e below = (
+      λ l. elim (cases_eq l.0 n) [
+        | inl is ↦
+            let s = subst (λ j. Leader vs j y e) is l.2 in
+            let w : first.0 ≡ s.2.0 = same_Some first.0 s.2.0 (sym first.1 ∙ s.2.1) in
+            inr (
+              sym s.1 ∙ key n,
+              (rows y).1 (inr (
+                subst (λ m. y < m) (sym long) below,
+                s.0,
+                (led (text_at (texts_of keys) y)).1 (subst (LeadsTo first.0) (key y) (subst (λ x. LeadsTo x (text_at (names_of vs) y)) (sym w) s.2.2)),
+              )),
+            )
+        | inr ne ↦ inl (l.0, (let less = l.1 in omega (arith, less, ne)), l.2)
+      ],
+      λ s. elim s [
+        | inl l ↦ (l.0, (let less = l.1 in omega (arith, less)), l.2)
+        | inr r ↦ elim ((rows y).0 r.1) [
+          | inl none ↦ absurd none
+          | inr t ↦ (n, omega arith, (t.1, key n ∙ sym r.0, (first.0, first.1, subst (LeadsTo first.0) (sym (key y)) ((led (text_at (texts_of keys) y)).0 t.2))))
+        ]
+      ],
+    )
+
+-- the same by what a loop reads
+pub one_more_learnt : (n : ℕ) (keys seen : List (Bor Text)) (vs ws us : List Feature) (cleared row given : List ℕ) (u : Feature) (source : Bor Text) → n < length keys → texts_of keys ≡ names_of vs
+    → seen ≡ keys → cleared ≡ [] → given ≡ row → u ≡ get_or ws n u → source ≡ get_or keys n source
+    → ((x : ℕ) → Among row x ↔ (Among cleared x ⊎ ((x < length seen) × (x ≢ n) × LeadsTo u (text_at (texts_of seen) x))))
+    → HaveLearnt n vs ws → Enables (Among given) source.now ws us → HaveLearnt (n + 1) vs us
+one_more_learnt n keys seen vs ws us cleared row given u source lt are saw clear gave read key rows h more =
+    let long : length keys ≡ length vs = sym (length-map keys (λ (t : Bor Text). t.now)) ∙ ap length are ∙ length-map vs (λ (v : Feature). v.key.now) in
+    let inside : n < length vs = subst (λ m. n < m) long lt in
+    next_learnt n keys vs ws us row u inside are (slice_get_read ws (length ws) n u refl (subst (λ m. n < m) (sym h.same.len) inside) read)
+    (subst (λ ys. (x : ℕ) → Among row x ↔ (Among ys x ⊎ ((x < length keys) × (x ≢ n) × LeadsTo u (text_at (texts_of keys) x)))) clear
+    (subst (λ (ks : List (Bor Text)). (x : ℕ) → Among row x ↔ (Among cleared x ⊎ ((x < length ks) × (x ≢ n) × LeadsTo u (text_at (texts_of ks) x)))) saw rows))
+    h
+    (subst (λ e. Enables (Among row) e ws us) (sym (get_or-map (λ (t : Bor Text). t.now) keys n source [] lt ∙ ap (λ (t : Bor Text). t.now) (sym key)))
+    (subst (λ xs. Enables (Among xs) source.now ws us) gave more))
+
+-- under a name stands a feature in one list where one of the same place stands in the other
+abbrev Alike : List Feature → List Feature → Option Feature → Option Feature → Type 0
+Alike vs ws None None = Unit {0}
+Alike vs ws None (Some w) = ⊥
+Alike vs ws (Some v) None = ⊥
+Alike vs ws (Some v) (Some w) = (i : ℕ) × (slice_get vs i ≡ Some v) × (slice_get ws i ≡ Some w)
+
+alike_at : (vs ws : List Feature) → AreSameButEnablers vs ws → (f : Text) → Alike vs ws (feature_at vs f) (feature_at ws f)
+alike_at [] [] s f = tt
+alike_at [] (w ∷ ws) s f = absurd (let len = s.len in omega (arith, len))
+alike_at (v ∷ vs) [] s f = absurd (let len = s.len in omega (arith, len))
+alike_at (v ∷ vs) (w ∷ ws) s f =
+    subst (λ k. Alike (v ∷ vs) (w ∷ ws) (feature_at (v ∷ vs) f) (cond (bytes_eq f k) (Some w) (feature_at ws f))) (ap (λ q. q.now) (sym (s.each 0 v w refl refl).key)) (go (alike_at vs ws later f) (bytes_eq f v.key.now))
+  where
+    later : AreSameButEnablers vs ws
+    later = record { len = (let len = s.len in omega (arith, len)); each = λ i a b old new. s.each (suc i) a b old new }
+
+    shift : (o o' : Option Feature) → Alike vs ws o o' → Alike (v ∷ vs) (w ∷ ws) o o'
+    shift None None a = tt
+    shift None (Some y) a = a
+    shift (Some x) None a = a
+    shift (Some x) (Some y) a = (suc a.0, a.1, a.2)
+
+    go : Alike vs ws (feature_at vs f) (feature_at ws f) → (b : Bool) → Alike (v ∷ vs) (w ∷ ws) (cond b (Some v) (feature_at vs f)) (cond b (Some w) (feature_at ws f))
+    go rest true = (0, refl, refl)
+    go rest false = shift (feature_at vs f) (feature_at ws f) rest
+
+keys_still : (vs ws : List Feature) → AreSameButEnablers vs ws → names_of ws ≡ names_of vs
+keys_still [] [] s = refl
+keys_still [] (w ∷ ws) s = absurd (let len = s.len in omega (arith, len))
+keys_still (v ∷ vs) [] s = absurd (let len = s.len in omega (arith, len))
+keys_still (v ∷ vs) (w ∷ ws) s =
+    ap (λ x. x ∷ names_of ws) (ap (λ q. q.now) (s.each 0 v w refl refl).key)
+    ∙ ap (λ xs. v.key.now ∷ xs) (keys_still vs ws (record { len = (let len = s.len in omega (arith, len)); each = λ i a b old new. s.each (suc i) a b old new }))
+
+-- what doesn't speak of enablers still holds
+module _ (vs ws : List Feature) (same : AreSameButEnablers vs ws) where
+  pub in_order_still : AreInOrder vs → AreInOrder ws
+  in_order_still up = subst Ascends (sym (keys_still vs ws same)) up
+
+  pub marks_still : (m : Text → Marks) → ((f : Text) → IfSome (feature_at vs f) (λ v. marks_of v ≡ m f)) → (f : Text) → IfSome (feature_at ws f) (λ v. marks_of v ≡ m f)
+  marks_still m h f = go (feature_at vs f) (feature_at ws f) (alike_at vs ws same f) (h f)
+    where
+      go : (o o' : Option Feature) → Alike vs ws o o' → IfSome o (λ v. marks_of v ≡ m f) → IfSome o' (λ v. marks_of v ≡ m f)
+      go None None a k = tt
+      go None (Some w) a k = absurd a
+      go (Some v) None a k = absurd a
+      go (Some v) (Some w) a k = (same.each a.0 v w a.1 a.2).marks ∙ k
+
+  pub bins_still : (own : Text → List Text) → ((f : Text) → IfSome (feature_at vs f) (λ v. map (λ b. b.now) v.required_by_bins.items ≡ own f))
+      → (f : Text) → IfSome (feature_at ws f) (λ v. map (λ b. b.now) v.required_by_bins.items ≡ own f)
+  bins_still own h f = go (feature_at vs f) (feature_at ws f) (alike_at vs ws same f) (h f)
+    where
+      go : (o o' : Option Feature) → Alike vs ws o o' → IfSome o (λ v. map (λ b. b.now) v.required_by_bins.items ≡ own f) → IfSome o' (λ v. map (λ b. b.now) v.required_by_bins.items ≡ own f)
+      go None None a k = tt
+      go None (Some w) a k = absurd a
+      go (Some v) None a k = absurd a
+      go (Some v) (Some w) a k = ap (λ bs. map (λ (b : Bor Text). b.now) bs.items) (same.each a.0 v w a.1 a.2).bins ∙ k
+
+  own_still : (f : Text) → own_bins ws f ≡ own_bins vs f
+  own_still f = go (feature_at vs f) (feature_at ws f) (alike_at vs ws same f)
+    where
+      go : (o o' : Option Feature) → Alike vs ws o o' → option_map_or (λ v. map (λ (b : Bor Text). b.now) v.required_by_bins.items) o' [] ≡ option_map_or (λ v. map (λ (b : Bor Text). b.now) v.required_by_bins.items) o []
+      go None None a = refl
+      go None (Some w) a = absurd a
+      go (Some v) None a = absurd a
+      go (Some v) (Some w) a = ap (λ bs. map (λ (b : Bor Text). b.now) bs.items) (same.each a.0 v w a.1 a.2).bins
+
+  pub left_still : {S : Type 0} (t : Table) (removed : Text → Bool) (features : HashMap (Bor Text) Feature S) (hidden : HashMap (Bor Text) (BTreeSet (Bor Text)) S)
+      → AreLeft t removed ws features hidden → AreLeft t removed vs features hidden
+  left_still t removed features hidden l = record {
+    resolved = l.resolved;
+    own = λ f. own_at f (value_at features f) (l.own f);
+    bins = subst (λ own. ArePassedOn t (λ r. IsTrue (removed r)) own (λ f. option_map_or (λ v. map (λ b. b.now) v.required_by_bins.items) (value_at features f) [])) (λ i f. own_still f i) l.bins;
+    redirected = l.redirected;
+    redirects = l.redirects;
+  }
+    where
+      Stays : List Feature → Text → Feature → Type 0
+      Stays xs f w = (v : Feature) × (feature_at xs f ≡ Some v) × IsNamedAlike v w
+
+      found : (f : Text) (w x : Feature) → feature_at ws f ≡ Some x → IsNamedAlike x w → (o o' : Option Feature) → feature_at vs f ≡ o → feature_at ws f ≡ o' → Alike vs ws o o' → Stays vs f w
+      found f w x is alike None None none none' a = absurd (false≢true (sym (ap is_some none') ∙ ap is_some is))
+      found f w x is alike None (Some y) none is' a = absurd a
+      found f w x is alike (Some v) None is' none a = absurd a
+      found f w x is alike (Some v) (Some y) was is' a =
+          let s = same.each a.0 v y a.1 a.2 in
+          let e : y ≡ x = same_Some y x (sym is' ∙ is) in
+          (v, was, record { key = alike.key ∙ ap (λ (z : Feature). z.key) (sym e) ∙ s.key; marks = alike.marks ∙ ap marks_of (sym e) ∙ s.marks })
+
+      own_at : (f : Text) (o : Option Feature) → IfSome o (Stays ws f) → IfSome o (Stays vs f)
+      own_at f None s = tt
+      own_at f (Some w) s = found f w s.0 s.1 s.2 (feature_at vs f) (feature_at ws f) refl refl (alike_at vs ws same f)
+
+-- once all have, what they have learnt are the sources of edges
+module _ (t : Table) (vs ws : List Feature) (up : AreInOrder vs) (none : HaveNoEnablers vs) (made : AreTable t vs) (h : HaveLearnt (length vs) vs ws) where
+  has_still : (f : Text) → is_some (feature_at ws f) ≡ t.has f
+  has_still f = go (feature_at vs f) (feature_at ws f) (alike_at vs ws h.same f) ∙ made.has f
+    where
+      go : (o o' : Option Feature) → Alike vs ws o o' → is_some o' ≡ is_some o
+      go None None a = refl
+      go None (Some w) a = absurd a
+      go (Some v) None a = absurd a
+      go (Some v) (Some w) a = refl
+
+  names_still : (f x : Text) → (resolution_among ws).table.names f x ≡ t.names f x
+  names_still f x = go (feature_at vs f) (feature_at ws f) (alike_at vs ws h.same f) ∙ made.names f x
+    where
+      go : (o o' : Option Feature) → Alike vs ws o o' → option_map_or (λ v. has_text v.enables_features x) o' false ≡ option_map_or (λ v. has_text v.enables_features x) o false
+      go None None a = refl
+      go None (Some w) a = absurd a
+      go (Some v) None a = absurd a
+      go (Some v) (Some w) a = ap (λ s. has_text s x) (h.same.each a.0 v w a.1 a.2).names
+
+  action_still : (f k : Text) → (resolution_among ws).table.action f k ≡ t.action f k
+  action_still f k = go (feature_at vs f) (feature_at ws f) (alike_at vs ws h.same f) ∙ made.action f k
+    where
+      go : (o o' : Option Feature) → Alike vs ws o o' → option_map_or (λ v. action_at v.enables_deps k) o' None ≡ option_map_or (λ v. action_at v.enables_deps k) o None
+      go None None a = refl
+      go None (Some w) a = absurd a
+      go (Some v) None a = absurd a
+      go (Some v) (Some w) a = ap (λ m. action_at m k) (h.same.each a.0 v w a.1 a.2).actions
+
+  -- what a feature of vs leads to, by the table
+  leads_is : (e f : Text) (u : Feature) → feature_at vs e ≡ Some u → LeadsTo u f → IsTrue (t.names e f) ⊎ IsPlain (t.action e f)
+  leads_is e f u is l = elim l [
+    | inl n ↦ inl (sym (made.names e f) ∙ ap (λ o. option_map_or (λ v. has_text v.enables_features f) o false) is ∙ n)
+    | inr p ↦ inr (subst IsPlain (made.action e f) (subst (λ o. IsPlain (option_map_or (λ v. action_at v.enables_deps f) o None)) (sym is) p))
+  ]
+
+  is_leading : (e f : Text) (u : Feature) → feature_at vs e ≡ Some u → IsTrue (t.names e f) ⊎ IsPlain (t.action e f) → LeadsTo u f
+  is_leading e f u is l = elim l [
+    | inl n ↦ inl (sym (ap (λ o. option_map_or (λ v. has_text v.enables_features f) o false) is) ∙ made.names e f ∙ n)
+    | inr p ↦ inr (subst (λ o. IsPlain (option_map_or (λ v. action_at v.enables_deps f) o None)) is (subst IsPlain (sym (made.action e f)) p))
+  ]
+
+  into_edge : (f e : Text) → IsTrue ((resolution_among ws).enabled_by f e) → Edge t e f
+  into_edge f e = go (feature_at vs f) refl (feature_at ws f) (alike_at vs ws h.same f)
+    where
+      go : (o : Option Feature) → feature_at vs f ≡ o → (o' : Option Feature) → Alike vs ws o o' → IsTrue (option_map_or (λ v. has_text v.enabled_by e) o' false) → Edge t e f
+      go None is None a y = absurd (false≢true y)
+      go None is (Some w) a y = absurd a
+      go (Some v) is None a y = absurd a
+      go (Some v) is (Some w) a y = elim ((h.learn a.0 v w a.1 a.2 e).0 y) [
+        | inl o ↦ absurd (false≢true (sym (none_in v.enabled_by (subst (λ p. IfSome p (λ x. x.enabled_by.keys ≡ [])) is (none f)) e) ∙ o))
+        | inr l ↦
+            let s = found_stands vs f v is in
+            let name : text_at (names_of vs) a.0 ≡ f = name_in vs a.0 v a.1 ∙ s.3 in
+            let u = l.2.2.0 in
+            let key : u.key.now ≡ e = sym (name_in vs l.0 u l.2.2.1) ∙ l.2.1 in
+            let stands : feature_at vs e ≡ Some u = subst (λ k. feature_at vs k ≡ Some u) key (stands_found vs up l.0 u l.2.2.1) in
+            record {
+              source = sym (made.has e) ∙ ap is_some stands;
+              target = sym (made.has f) ∙ ap is_some is;
+              apart = λ same. l.2.0 (one_place vs up a.0 l.0 v u a.1 l.2.2.1 (s.3 ∙ sym same ∙ sym key));
+              leads = leads_is e f u stands (subst (LeadsTo u) name l.2.2.2);
+            }
+      ]
+
+  from_edge : (f e : Text) → Edge t e f → IsTrue ((resolution_among ws).enabled_by f e)
+  from_edge f e d = go (feature_at vs f) refl (feature_at ws f) (alike_at vs ws h.same f) (feature_at vs e) refl
+    where
+      go : (o : Option Feature) → feature_at vs f ≡ o → (o' : Option Feature) → Alike vs ws o o' → (p : Option Feature) → feature_at vs e ≡ p → IsTrue (option_map_or (λ v. has_text v.enabled_by e) o' false)
+      go None is o' a p from = absurd (false≢true (sym (ap is_some is) ∙ made.has f ∙ d.target))
+      go (Some v) is None a p from = absurd a
+      go (Some v) is (Some w) a None from = absurd (false≢true (sym (ap is_some from) ∙ made.has e ∙ d.source))
+      go (Some v) is (Some w) a (Some u) from =
+          let s = found_stands vs f v is in
+          let r = found_stands vs e u from in
+          let name : text_at (names_of vs) a.0 ≡ f = name_in vs a.0 v a.1 ∙ s.3 in
+          let source : text_at (names_of vs) r.0 ≡ e = name_in vs r.0 u r.2 ∙ r.3 in
+          (h.learn a.0 v w a.1 a.2 e).1 (inr (
+            r.0,
+            r.1,
+            (
+              λ same. d.apart (sym source ∙ ap (text_at (names_of vs)) (sym same) ∙ name),
+              source,
+              (u, r.2, subst (LeadsTo u) (sym name) (is_leading e f u from d.leads)),
+            ),
+          ))
+
+  pub unremoved : IsUnremoved t (resolution_among ws)
+  unremoved = record { has = has_still; names = names_still; action = action_still; enabled_by = λ f e. (into_edge f e, from_edge f e) }

@@ -1,0 +1,246 @@
+-- Rows of numbers, number after number.
+use Rattle.std.proofs.Common.{◌≡◌, ◌≢◌, ◌↔◌, ◌⊎◌, ◌<◌, ◌≤◌, ◌+◌, ℕ, zero, suc, Bool, true, false, List, [], ◌∷◌, ◌++◌, length, map, take, get_or, replicate, slice_get, IsTrue, Option, Some, None, is_some, option_map, Vec, Global, Bor, refl, sym, ap, subst, inl, inr, ◌∙◌, arith}
+use Rattle.std.proofs.lemmas.Bool.{false≢true}
+use Rattle.std.proofs.lemmas.List.{length-map, map_push, take_all}
+use Rattle.std.proofs.lemmas.Map.Made.{is_some-lookup}
+use Rattle.std.specs.BTreeMap.{BTreeMap, is_at}
+use Rattle.std.specs.BTreeSet.{BTreeSet}
+use Rattle.std.specs.Cmp.Lexicographic.{slice_cmp}
+use Rattle.std.specs.Map.{lookup}
+use Rattle.std.specs.Map.Iter.{deref_pair}
+use Rattle.std.specs.Option.{IsSomeAnd}
+use Rattle.std.specs.Ordering.{nat_cmp}
+use Rattle.cargo_toml_graph.specs.Action.{Text}
+use Rattle.cargo_toml_graph.specs.Graph.{IsPlain}
+use Rattle.cargo_toml_graph.specs.Reach.{Among}
+use Rattle.cargo_toml_walk.specs.Numbers.{IsWanted, list_at}
+use Rattle.cargo_toml_features.specs.Places.{text_at}
+use Rattle.cargo_toml_features.proofs.Places.{Ascends, among_at, once}
+use Rattle.cargo_toml_walk.proofs.Steps.{among_more}
+use Rattle.cargo_toml_features.specs.declared.features.DepAction.{DepAction}
+use Rattle.cargo_toml_features.specs.declared.features.Feature.{Feature}
+use Rattle.cargo_toml_features.specs.Views.{action_at, action_of, has_text}
+use Rattle.cargo_toml_resolve.specs.Numbering.{IsTarget}
+use Rattle.cargo_toml_resolve.specs.Texts.{texts_of}
+use Rattle.cargo_toml_resolve.proofs.Gathered.{all_seen, among_push, seen, seen_push}
+use Rattle.cargo_toml_resolve.proofs.InOrder.{among_keys}
+
+-- the row has the numbers of the texts of which P holds
+abbrev pub HasNumbers : List (Bor Text) → (Text → Type 0) → List ℕ → Type 0
+HasNumbers ts P row = (x : ℕ) → Among row x ↔ ((x < length ts) × P (text_at (texts_of ts) x))
+
+module _ (ts : List (Bor Text)) (ks : List (Bor (Bor Text))) (k : Bor (Bor Text)) (row : List ℕ) (so_far : HasNumbers ts (Among (seen ks)) row) where
+  pub number_put : ((i j : ℕ) → i < length ts → j < length ts → text_at (texts_of ts) i ≡ text_at (texts_of ts) j → i ≡ j) → (n : ℕ) → (n < length ts) × (text_at (texts_of ts) n ≡ k.now.now)
+      → HasNumbers ts (Among (seen (ks ++ k ∷ []))) (row ++ n ∷ [])
+  number_put one n at x = (
+    λ i. elim ((among_push row n x).0 i) [
+      | inl j ↦ let w = (so_far x).0 j in (w.0, (seen_push ks k _).1 (inl w.1))
+      | inr is ↦ (subst (λ m. m < length ts) (sym is) at.0, (seen_push ks k _).1 (inr (ap (λ m. text_at (texts_of ts) m) is ∙ at.1)))
+    ],
+    λ w. (among_push row n x).1 (elim ((seen_push ks k _).0 w.1) [ inl s ↦ inl ((so_far x).1 (w.0, s)) | inr is ↦ inr (one x n w.0 at.0 (is ∙ sym at.1)) ]),
+  )
+
+  pub number_missing : (Among (texts_of ts) k.now.now → ⊥) → HasNumbers ts (Among (seen (ks ++ k ∷ []))) row
+  number_missing none x = (
+    λ i. let w = (so_far x).0 i in (w.0, (seen_push ks k _).1 (inl w.1)),
+    λ w. elim ((seen_push ks k _).0 w.1) [
+      | inl s ↦ (so_far x).1 (w.0, s)
+      | inr is ↦ absurd (none (subst (Among (texts_of ts)) is (among_at (texts_of ts) x [] (let long = length-map ts (λ (t : Bor Text). t.now) in let lt = w.0 in omega (arith, long, lt)))))
+    ],
+  )
+
+pub all_numbers : (ts : List (Bor Text)) (s : BTreeSet (Bor Text)) (ks : List (Bor (Bor Text))) (row : List ℕ) → map (λ k. k.now) ks ≡ s.keys
+    → HasNumbers ts (Among (seen ks)) row → HasNumbers ts (λ x. IsTrue (has_text s x)) row
+all_numbers ts s ks row all h x = (
+  λ i. let w = (h x).0 i in (w.0, (all_seen s ks all _).0 w.1),
+  λ w. (h x).1 (w.0, (all_seen s ks all _).1 w.1),
+)
+
+-- of numbers those below `count` other than `own`
+module _ (count own : ℕ) where
+  abbrev pub HasTargets : List ℕ → List ℕ → Type 0
+  HasTargets named row = (x : ℕ) → Among row x ↔ (Among named x × (x < count) × (x ≢ own))
+
+  module _ (named : List ℕ) (i : ℕ) (lt : i < length named) (row : List ℕ) (so_far : HasTargets (take i named) row) where
+    pub target_put : get_or named i 0 < count → get_or named i 0 ≢ own → HasTargets (take (i + 1) named) (row ++ get_or named i 0 ∷ [])
+    target_put below other x = (
+      λ j. elim ((among_push row (get_or named i 0) x).0 j) [
+        | inl k ↦ let w = (so_far x).0 k in ((among_more named i x lt).1 (inl w.0), w.1, w.2)
+        | inr is ↦ ((among_more named i x lt).1 (inr is), subst (λ m. m < count) (sym is) below, λ e. other (sym is ∙ e))
+      ],
+      λ w. (among_push row (get_or named i 0) x).1 (elim ((among_more named i x lt).0 w.0) [ inl k ↦ inl ((so_far x).1 (k, w.1, w.2)) | inr is ↦ inr is ]),
+    )
+
+    pub target_left : (get_or named i 0 < count → get_or named i 0 ≢ own → ⊥) → HasTargets (take (i + 1) named) row
+    target_left out x = (
+      λ j. let w = (so_far x).0 j in ((among_more named i x lt).1 (inl w.0), w.1, w.2),
+      λ w. elim ((among_more named i x lt).0 w.0) [
+        | inl k ↦ (so_far x).1 (k, w.1, w.2)
+        | inr is ↦ absurd (out (subst (λ m. m < count) is w.1) (λ e. w.2 (is ∙ e)))
+      ],
+    )
+
+-- the row gains the features, other than the one in place `own`, of which P holds
+module _ (keys : List (Bor Text)) (own : ℕ) where
+  abbrev pub Gains : (ℕ → Type 0) → List ℕ → List ℕ → Type 0
+  Gains P old new = (x : ℕ) → Among new x ↔ (Among old x ⊎ ((x < length keys) × (x ≢ own) × P x))
+
+  module _ (up : Ascends (texts_of keys)) (key : Text) (row : List ℕ) where
+    one_key : (i j : ℕ) → i < length keys → j < length keys → text_at (texts_of keys) i ≡ text_at (texts_of keys) j → i ≡ j
+    one_key i j lt lt' same = let long = length-map keys (λ (t : Bor Text). t.now) in once (texts_of keys) up i j (omega (arith, long, lt)) (omega (arith, long, lt')) same
+
+    pub key_put : (n : ℕ) → (n < length keys) × (text_at (texts_of keys) n ≡ key) → n ≢ own → Gains (λ x. text_at (texts_of keys) x ≡ key) row (row ++ n ∷ [])
+    key_put n at other x = (
+      λ i. elim ((among_push row n x).0 i) [
+        | inl j ↦ inl j
+        | inr is ↦ inr (subst (λ m. m < length keys) (sym is) at.0, λ e. other (sym is ∙ e), ap (λ m. text_at (texts_of keys) m) is ∙ at.1)
+      ],
+      λ w. (among_push row n x).1 (elim w [ inl j ↦ inl j | inr t ↦ inr (one_key x n t.0 at.0 (t.2 ∙ sym at.1)) ]),
+    )
+
+    pub key_own : (n : ℕ) → (n < length keys) × (text_at (texts_of keys) n ≡ key) → n ≡ own → Gains (λ x. text_at (texts_of keys) x ≡ key) row row
+    key_own n at is x = (λ i. inl i, elim [ inl i ↦ i | inr t ↦ absurd (t.1 (one_key x n t.0 at.0 (t.2 ∙ sym at.1) ∙ is)) ])
+
+    pub key_missing : (Among (texts_of keys) key → ⊥) → Gains (λ x. text_at (texts_of keys) x ≡ key) row row
+    key_missing none x = (
+      λ i. inl i,
+      elim [ inl i ↦ i | inr t ↦ absurd (none (subst (Among (texts_of keys)) t.2 (among_at (texts_of keys) x [] (let long = length-map keys (λ (t : Bor Text). t.now) in let lt = t.0 in omega (arith, long, lt))))) ],
+    )
+
+  -- one more name
+  pub name_gained : (ks : List (Bor (Bor Text))) (k : Bor (Bor Text)) (old row new : List ℕ) → Gains (λ x. Among (seen ks) (text_at (texts_of keys) x)) old row
+      → Gains (λ x. text_at (texts_of keys) x ≡ k.now.now) row new → Gains (λ x. Among (seen (ks ++ k ∷ [])) (text_at (texts_of keys) x)) old new
+  name_gained ks k old row new so_far more x = (
+    λ i. elim ((more x).0 i) [
+      | inl j ↦ elim ((so_far x).0 j) [ inl o ↦ inl o | inr t ↦ inr (t.0, t.1, (seen_push ks k _).1 (inl t.2)) ]
+      | inr t ↦ inr (t.0, t.1, (seen_push ks k _).1 (inr t.2))
+    ],
+    λ w. (more x).1 (elim w [
+      | inl o ↦ inl ((so_far x).1 (inl o))
+      | inr t ↦ elim ((seen_push ks k _).0 t.2) [ inl s ↦ inl ((so_far x).1 (inr (t.0, t.1, s))) | inr is ↦ inr (t.0, t.1, is) ]
+    ]),
+  )
+
+  pub names_gained : (s : BTreeSet (Bor Text)) (ks : List (Bor (Bor Text))) (old row : List ℕ) → map (λ k. k.now) ks ≡ s.keys → Gains (λ x. Among (seen ks) (text_at (texts_of keys) x)) old row
+      → Gains (λ x. IsTrue (has_text s (text_at (texts_of keys) x))) old row
+  names_gained s ks old row all h x = (
+    λ i. elim ((h x).0 i) [ inl o ↦ inl o | inr t ↦ inr (t.0, t.1, (all_seen s ks all _).0 t.2) ],
+    elim [ inl o ↦ (h x).1 (inl o) | inr t ↦ (h x).1 (inr (t.0, t.1, (all_seen s ks all _).1 t.2)) ],
+  )
+
+  -- nothing is gained
+  pub none_gained : (P : ℕ → Type 0) (row : List ℕ) → ((x : ℕ) → ¬ P x) → Gains P row row
+  none_gained P row none x = (λ i. inl i, elim [ inl i ↦ i | inr t ↦ absurd (none x t.2) ])
+
+  -- first these, then those
+  pub both_gained : (P Q : ℕ → Type 0) (old mid new : List ℕ) → Gains P old mid → Gains Q mid new → Gains (λ x. P x ⊎ Q x) old new
+  both_gained P Q old mid new p q x = (
+    λ i. elim ((q x).0 i) [
+      | inl j ↦ elim ((p x).0 j) [ inl o ↦ inl o | inr t ↦ inr (t.0, t.1, inl t.2) ]
+      | inr t ↦ inr (t.0, t.1, inr t.2)
+    ],
+    elim [
+      | inl o ↦ (q x).1 (inl ((p x).1 (inl o)))
+      | inr t ↦ elim (t.2) [ inl l ↦ (q x).1 (inl ((p x).1 (inr (t.0, t.1, l)))) | inr r ↦ (q x).1 (inr (t.0, t.1, r)) ]
+    ],
+  )
+
+  -- the keys of actions that a loop has met
+  abbrev pub acted : List (Bor (Bor Text) × Bor DepAction) → List Text
+  acted es = map (λ e. e.0.now.now) es
+
+  -- those of the keys so far that are acted on plainly
+  abbrev pub PlainSoFar : BTreeMap (Bor Text) DepAction → List (Bor (Bor Text) × Bor DepAction) → ℕ → Type 0
+  PlainSoFar m es x = Among (acted es) (text_at (texts_of keys) x) × IsPlain (action_at m (text_at (texts_of keys) x))
+
+  action_put : (m : BTreeMap (Bor Text) DepAction) (es : List (Bor (Bor Text) × Bor DepAction)) (k : Bor (Bor Text)) (a : Bor DepAction) (old row new : List ℕ)
+      → action_at m k.now.now ≡ Some (action_of a.now) → Gains (PlainSoFar m es) old row
+      → ((x : ℕ) → Among new x ↔ (Among row x ⊎ (((x < length keys) × (x ≢ own) × (text_at (texts_of keys) x ≡ k.now.now)) × IsPlain (Some (action_of a.now)))))
+      → Gains (PlainSoFar m (es ++ (k, a) ∷ [])) old new
+  action_put m es k a old row new there so_far more x = (
+    λ i. elim ((more x).0 i) [
+      | inl j ↦ elim ((so_far x).0 j) [ inl o ↦ inl o | inr t ↦ inr (t.0, t.1, (push.1 (inl t.2.0), t.2.1)) ]
+      | inr t ↦ inr (t.0.0, t.0.1, (push.1 (inr t.0.2), subst IsPlain (sym (ap (action_at m) t.0.2 ∙ there)) t.1))
+    ],
+    λ w. (more x).1 (elim w [
+      | inl o ↦ inl ((so_far x).1 (inl o))
+      | inr t ↦ elim (push.0 t.2.0) [
+        | inl s ↦ inl ((so_far x).1 (inr (t.0, t.1, (s, t.2.1))))
+        | inr is ↦ inr ((t.0, t.1, is), subst IsPlain (ap (action_at m) is ∙ there) t.2.1)
+      ]
+    ]),
+  )
+    where
+      push : Among (acted (es ++ (k, a) ∷ [])) (text_at (texts_of keys) x) ↔ (Among (acted es) (text_at (texts_of keys) x) ⊎ (text_at (texts_of keys) x ≡ k.now.now))
+      push = subst (λ ys. Among ys (text_at (texts_of keys) x) ↔ (Among (acted es) (text_at (texts_of keys) x) ⊎ (text_at (texts_of keys) x ≡ k.now.now)))
+          (sym (map_push (λ (e : Bor (Bor Text) × Bor DepAction). e.0.now.now) es (k, a))) (among_push (acted es) k.now.now (text_at (texts_of keys) x))
+
+  -- a plain action enables the feature of its key's name, and another one none
+  pub action_plain : (m : BTreeMap (Bor Text) DepAction) (es : List (Bor (Bor Text) × Bor DepAction)) (k : Bor (Bor Text)) (a : Bor DepAction) (old row new : List ℕ)
+      → action_at m k.now.now ≡ Some (action_of a.now) → Gains (PlainSoFar m es) old row → IsPlain (Some (action_of a.now))
+      → Gains (λ x. text_at (texts_of keys) x ≡ k.now.now) row new → Gains (PlainSoFar m (es ++ (k, a) ∷ [])) old new
+  action_plain m es k a old row new there so_far plain more = action_put m es k a old row new there so_far (λ x. (
+    λ i. elim ((more x).0 i) [ inl j ↦ inl j | inr t ↦ inr (t, plain) ],
+    elim [ inl j ↦ (more x).1 (inl j) | inr t ↦ (more x).1 (inr t.0) ],
+  ))
+
+  pub action_left : (m : BTreeMap (Bor Text) DepAction) (es : List (Bor (Bor Text) × Bor DepAction)) (k : Bor (Bor Text)) (a : Bor DepAction) (old row : List ℕ)
+      → action_at m k.now.now ≡ Some (action_of a.now) → Gains (PlainSoFar m es) old row → ¬ IsPlain (Some (action_of a.now))
+      → Gains (PlainSoFar m (es ++ (k, a) ∷ [])) old row
+  action_left m es k a old row there so_far none = action_put m es k a old row row there so_far (λ x. (
+    λ i. inl i,
+    elim [ inl i ↦ i | inr t ↦ absurd (none t.1) ],
+  ))
+
+  keys_shown : (es : List (Bor (Bor Text) × Bor DepAction)) → acted es ≡ texts_of (map (λ (e : Bor Text × DepAction). e.0) (map deref_pair es))
+  keys_shown [] = refl
+  keys_shown (e ∷ es) = ap (λ ys. e.0.now.now ∷ ys) (keys_shown es)
+
+  plain_there : (o : Option DepAction) → IsPlain (option_map action_of o) → is_some o ≡ true
+  plain_there None p = absurd p
+  plain_there (Some a) p = refl
+
+  pub all_actions : (m : BTreeMap (Bor Text) DepAction) (es : List (Bor (Bor Text) × Bor DepAction)) (old row : List ℕ) → map deref_pair es ≡ m.entries → Gains (PlainSoFar m es) old row
+      → Gains (λ x. IsPlain (action_at m (text_at (texts_of keys) x))) old row
+  all_actions m es old row all h x = (
+    λ i. elim ((h x).0 i) [ inl o ↦ inl o | inr t ↦ inr (t.0, t.1, t.2.1) ],
+    elim [ inl o ↦ (h x).1 (inl o) | inr t ↦ (h x).1 (inr (t.0, t.1, (met (text_at (texts_of keys) x) t.2, t.2))) ],
+  )
+    where
+      met : (y : Text) → IsPlain (action_at m y) → Among (acted es) y
+      met y p = subst (λ ys. Among ys y) (sym (keys_shown es ∙ ap (λ (us : List (Bor Text × DepAction)). texts_of (map (λ e. e.0) us)) all))
+          ((among_keys y (map (λ e. e.0) m.entries)).1 (sym (is_some-lookup (is_at (λ (k : Bor Text). slice_cmp nat_cmp y k.now)) m.entries) ∙ plain_there (lookup (is_at (λ k. slice_cmp nat_cmp y k.now)) m.entries) p))
+
+-- flags with others after them that don't stand
+pub flags_kept : (flags : List Bool) (k i : ℕ) → IsWanted (flags ++ replicate k false) true i ↔ IsWanted flags true i
+flags_kept [] k i = (λ w. absurd (false≢true (sym (unset k i) ∙ w)), λ w. absurd (false≢true w))
+  where
+    unset : (k i : ℕ) → get_or (replicate k false) i false ≡ false
+    unset zero i = refl
+    unset (suc k) zero = refl
+    unset (suc k) (suc i) = unset k i
+flags_kept (b ∷ flags) k zero = (λ w. w, λ w. w)
+flags_kept (b ∷ flags) k (suc i) = flags_kept flags k i
+
+pub all_kept : (flags first mid new : List Bool) (size k : ℕ) → length flags ≤ size → first ≡ [] → mid ≡ first ++ flags → new ≡ take size mid ++ replicate k false
+    → (i : ℕ) → IsWanted new true i ↔ IsWanted flags true i
+all_kept flags first mid new size k fits none joined filled i =
+    let whole : mid ≡ flags = joined ∙ ap (λ fs. fs ++ flags) none in
+    subst (λ fs. IsWanted fs true i ↔ IsWanted flags true i) (sym (filled ∙ ap (λ fs. take size fs ++ replicate k false) whole ∙ ap (λ fs. fs ++ replicate k false) (take_all size flags fits))) (flags_kept flags k i)
+
+-- the row of one feature is that of its place
+pub target_is : (vs : List Feature) (names : List (Vec ℕ Global)) (keys : List (Bor Text)) (own : ℕ) (v : Feature) (named row : List ℕ) → slice_get vs own ≡ Some v → list_at names own ≡ named
+    → ((x : ℕ) → Among row x ↔ ((x < length keys) × (x ≢ own) × (Among named x ⊎ IsPlain (action_at v.enables_deps (text_at (texts_of keys) x)))))
+    → (x : ℕ) → Among row x ↔ ((x < length keys) × IsTarget vs names (texts_of keys) own x)
+target_is vs names keys own v named row there read h x = (
+  λ i.
+      let w = (h x).0 i in (
+        w.0,
+        (w.1, elim (w.2) [ inl n ↦ inl (subst (λ xs. Among xs x) (sym read) n) | inr p ↦ inr (subst (λ o. IsSomeAnd o (λ u. IsPlain (action_at u.enables_deps (text_at (texts_of keys) x)))) (sym there) p) ]),
+      ),
+  λ w. (h x).1 (
+    w.0,
+    w.1.0,
+    elim (w.1.1) [ inl n ↦ inl (subst (λ xs. Among xs x) read n) | inr p ↦ inr (subst (λ o. IsSomeAnd o (λ u. IsPlain (action_at u.enables_deps (text_at (texts_of keys) x)))) there p) ],
+  ),
+)

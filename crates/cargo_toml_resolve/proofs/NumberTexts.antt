@@ -1,0 +1,126 @@
+-- The texts of numbers: the names of features, and after them others.
+use Rattle.std.proofs.Common.{◌≡◌, ◌↔◌, ◌<◌, ◌≤◌, ◌+◌, ◌-◌, ℕ, Bool, true, false, List, [], ◌++◌, length, map, take, drop, IsTrue, Bor, refl, sym, ap, subst, inl, inr, ◌∙◌, arith}
+use Rattle.std.proofs.lemmas.Bool.{false≢true, cases_lt}
+use Rattle.std.proofs.lemmas.List.{length-append, length-map, length-take-le, length-drop, take_at, drop_at, map-append, take-map, drop-map, take_rest, get_or-take, get_or-drop, get_or_append_left, get_or-append_right}
+use Rattle.cargo_toml_graph.specs.Action.{Text}
+use Rattle.cargo_toml_graph.specs.Reach.{Among}
+use Rattle.cargo_toml_graph.specs.Removal.{is_among}
+use Rattle.cargo_toml_graph.proofs.BinLists.{among-first, among-second, among-true, is_among-true}
+use Rattle.cargo_toml_features.specs.Places.{text_at}
+use Rattle.cargo_toml_features.proofs.Places.{Ascends, among_at, at_among, once}
+use Rattle.cargo_toml_features.specs.declared.features.Feature.{Feature}
+use Rattle.cargo_toml_features.specs.InOrder.{AreInOrder, names_of}
+use Rattle.cargo_toml_resolve.specs.Numbering.{AreParted, AreTextsOf, is_named}
+use Rattle.cargo_toml_resolve.specs.Texts.{texts_of}
+
+-- a text that stands in a place is among them
+pub stands_among : (ts : List (Bor Text)) (x : Text) (i : ℕ) → (i < length ts) × (text_at (texts_of ts) i ≡ x) → Among (texts_of ts) x
+stands_among ts x i at = subst (Among (texts_of ts)) at.1 (among_at (texts_of ts) i [] (let long = length-map ts (λ (t : Bor Text). t.now) in let lt = at.0 in omega (arith, long, lt)))
+
+-- two lists, each in byte order, that have no text in common
+module _ (ks os : List Text) (up : Ascends ks) (rise : Ascends os) (apart : (x : Text) → Among os x → Among ks x → ⊥) where
+  in_front : (i : ℕ) → i < length ks → Among ks (text_at (ks ++ os) i)
+  in_front i lt = subst (Among ks) (sym (get_or_append_left ks os [] i lt)) (among_at ks i [] lt)
+
+  in_back : (i : ℕ) → length ks ≤ i → i < length (ks ++ os) → Among os (text_at (ks ++ os) i)
+  in_back i le lt =
+      let long = length-append ks os in
+      subst (Among os) (sym (get_or-append_right ks os (length ks) i [] refl le)) (among_at os (i - length ks) [] (omega (arith, long, le, lt)))
+
+  one_place : (i j : ℕ) → i < length (ks ++ os) → j < length (ks ++ os) → text_at (ks ++ os) i ≡ text_at (ks ++ os) j → i ≡ j
+  one_place i j lt lt' same =
+      elim (cases_lt i (length ks)) [
+        | inl a ↦ elim (cases_lt j (length ks)) [
+          | inl b ↦ once ks up i j a b (sym (get_or_append_left ks os [] i a) ∙ same ∙ get_or_append_left ks os [] j b)
+          | inr b ↦ absurd (apart _ (in_back j b lt') (subst (Among ks) same (in_front i a)))
+        ]
+        | inr a ↦ elim (cases_lt j (length ks)) [
+          | inl b ↦ absurd (apart _ (in_back i a lt) (subst (Among ks) (sym same) (in_front j b)))
+          | inr b ↦
+              let long = length-append ks os in
+              let is = once os rise (i - length ks) (j - length ks) (omega (arith, long, a, lt)) (omega (arith, long, b, lt'))
+              (sym (get_or-append_right ks os (length ks) i [] refl a) ∙ same ∙ get_or-append_right ks os (length ks) j [] refl b) in
+              omega (arith, is, a, b)
+        ]
+      ]
+
+-- the names of features and what these name besides
+pub texts_made : (vs : List Feature) (os : List Text) → AreInOrder vs → Ascends os → ((x : Text) → Among os x ↔ (IsTrue (is_named vs x) × (¬ Among (names_of vs) x))) → AreTextsOf vs (names_of vs ++ os)
+texts_made vs os up rise others =
+    let long : length (names_of vs) ≡ length vs = length-map vs (λ (v : Feature). v.key.now) in
+    let whole = length-append (names_of vs) os in
+    record {
+      parted = record {
+        fits = omega (arith, long, whole);
+        front = subst Ascends (sym (take_at (names_of vs) os (length vs) long)) up;
+        rest = subst Ascends (sym (drop_at (names_of vs) os (length vs) long)) rise;
+        one = one_place (names_of vs) os up rise (λ x o k. ((others x).0 o).1 k);
+      };
+      keys = take_at (names_of vs) os (length vs) long;
+      named = λ x y. go x y (is_among (names_of vs) x) refl;
+    }
+  where
+    go : (x : Text) → IsTrue (is_named vs x) → (b : Bool) → is_among (names_of vs) x ≡ b → Among (names_of vs ++ os) x
+    go x y true is = among-first (names_of vs) os x (is_among-true (names_of vs) x is)
+    go x y false is = among-second (names_of vs) os x ((others x).1 (y, λ i. false≢true (sym is ∙ among-true (names_of vs) x i)))
+
+pub texts_joined : (vs : List Feature) (keys others front back new : List (Bor Text)) → AreInOrder vs → texts_of keys ≡ names_of vs → front ≡ keys → back ≡ others → Ascends (texts_of others)
+    → ((x : Text) → Among (texts_of others) x ↔ (IsTrue (is_named vs x) × (¬ Among (texts_of front) x))) → new ≡ keys ++ back → AreTextsOf vs (texts_of new)
+texts_joined vs keys others front back new up same read read' rise besides joined =
+    subst (AreTextsOf vs) (sym (ap (map (λ (t : Bor Text). t.now)) (joined ∙ ap (λ ts. keys ++ ts) read') ∙ map-append (λ (t : Bor Text). t.now) keys others ∙ ap (λ ks. ks ++ texts_of others) same))
+    (texts_made vs (texts_of others) up rise (subst (λ ks. (x : Text) → Among (texts_of others) x ↔ (IsTrue (is_named vs x) × (¬ Among ks x))) (ap (map (λ (t : Bor Text). t.now)) read ∙ same) besides))
+
+-- texts in two parts, of which the first has n
+module _ (n : ℕ) (ts : List (Bor Text)) (h : AreParted n (texts_of ts)) where
+  pub fits_in : n ≤ length ts
+  fits_in = let long = length-map ts (λ (t : Bor Text). t.now) in let fits = h.fits in omega (arith, long, fits)
+
+  pub one_number : (i j : ℕ) → i < length ts → j < length ts → text_at (texts_of ts) i ≡ text_at (texts_of ts) j → i ≡ j
+  one_number i j lt lt' same = let long = length-map ts (λ (t : Bor Text). t.now) in h.one i j (omega (arith, long, lt)) (omega (arith, long, lt')) same
+
+  pub front_up : Ascends (texts_of (take n ts))
+  front_up = subst Ascends (take-map (λ (t : Bor Text). t.now) n ts) h.front
+
+  pub rest_up : Ascends (texts_of (take (length ts - n) (drop n ts)))
+  rest_up = subst (λ (us : List (Bor Text)). Ascends (texts_of us)) (sym (take_rest ts n)) (subst Ascends (drop-map (λ (t : Bor Text). t.now) n ts) h.rest)
+
+  front_text : (i : ℕ) → i < n → text_at (texts_of (take n ts)) i ≡ text_at (texts_of ts) i
+  front_text i lt = ap (λ xs. text_at xs i) (sym (take-map (λ (t : Bor Text). t.now) n ts)) ∙ get_or-take n (texts_of ts) i [] lt
+
+  rest_text : (i : ℕ) → text_at (texts_of (take (length ts - n) (drop n ts))) i ≡ text_at (texts_of ts) (n + i)
+  rest_text i = ap (λ (us : List (Bor Text)). text_at (texts_of us) i) (take_rest ts n) ∙ ap (λ xs. text_at xs i) (sym (drop-map (λ (t : Bor Text). t.now) n ts)) ∙ get_or-drop n (texts_of ts) i []
+
+  front_length : length (take n ts) ≡ n
+  front_length = length-take-le n ts fits_in
+
+  rest_length : length (take (length ts - n) (drop n ts)) ≡ length ts - n
+  rest_length = ap length (take_rest ts n) ∙ length-drop n ts
+
+  -- a number that is found in one of the parts
+  pub first_number : (i : ℕ) (x : Text) → (i < length (take n ts)) × (text_at (texts_of (take n ts)) i ≡ x) → (i < length ts) × (text_at (texts_of ts) i ≡ x)
+  first_number i x w =
+      let long = front_length in
+      let fits = fits_in in
+      let lt = w.0 in
+      (omega (arith, long, fits, lt), sym (front_text i (omega (arith, long, lt))) ∙ w.1)
+
+  pub later_number : (i : ℕ) (x : Text) → (i < length (take (length ts - n) (drop n ts))) × (text_at (texts_of (take (length ts - n) (drop n ts))) i ≡ x)
+      → (n + i < length ts) × (text_at (texts_of ts) (n + i) ≡ x)
+  later_number i x w = let long = rest_length in let fits = fits_in in let lt = w.0 in (omega (arith, long, fits, lt), sym (rest_text i) ∙ w.1)
+
+  pub no_number : (x : Text) → (Among (texts_of (take n ts)) x → ⊥) → (Among (texts_of (take (length ts - n) (drop n ts))) x → ⊥) → Among (texts_of ts) x → ⊥
+  no_number x front rest there =
+      let k = at_among (texts_of ts) x [] there in
+      let long = length-map ts (λ (t : Bor Text). t.now) in
+      let before = length-map (take n ts) (λ (t : Bor Text). t.now) in
+      let after = length-map (take (length ts - n) (drop n ts)) (λ (t : Bor Text). t.now) in
+      let size = front_length in
+      let size' = rest_length in
+      let lt = k.1 in
+      elim (cases_lt k.0 n) [
+        | inl early ↦ front (subst (Among (texts_of (take n ts))) (front_text k.0 early ∙ k.2) (among_at (texts_of (take n ts)) k.0 [] (omega (arith, before, size, early))))
+        | inr late ↦
+            let at : n + (k.0 - n) ≡ k.0 = omega (arith, late) in
+            rest (subst (Among (texts_of (take (length ts - n) (drop n ts)))) (rest_text (k.0 - n) ∙ ap (λ i. text_at (texts_of ts) i) at ∙ k.2)
+            (among_at (texts_of (take (length ts - n) (drop n ts))) (k.0 - n) [] (omega (arith, after, size', long, lt, late))))
+      ]

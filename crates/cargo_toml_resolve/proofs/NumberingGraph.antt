@@ -1,0 +1,180 @@
+-- The graph of numbers that stands for features in order.
+use Rattle.std.proofs.Common.{◌≡◌, ◌↔◌, ◌<◌, ◌≤◌, ℕ, zero, suc, Bool, true, false, List, [], ◌∷◌, length, take, slice_get, IsTrue, Option, Some, None, Vec, Global, Bor, refl, sym, ap, subst, inl, inr, ◌∙◌, arith}
+use Rattle.std.proofs.lemmas.Bool.{false≢true, cases_lt, or_left, or_right}
+use Rattle.std.proofs.lemmas.List.{length-map, take-map, get_or-take, get_or_past}
+use Rattle.std.specs.Option.{IsSomeAnd, option_map_or}
+use Rattle.cargo_toml_graph.specs.Action.{Text}
+use Rattle.cargo_toml_graph.specs.Admitted.{is_below}
+use Rattle.cargo_toml_graph.specs.Graph.{Table, Edge, IsPlain}
+use Rattle.cargo_toml_walk.specs.Numbers.{IsWanted, Leads}
+use Rattle.cargo_toml_features.specs.Places.{text_at}
+use Rattle.cargo_toml_resolve.specs.NumberedTables.{HasNumber, IsNumbered}
+use Rattle.cargo_toml_walk.proofs.Filling.{has_row}
+use Rattle.cargo_toml_features.proofs.Places.{at_among, rises}
+use Rattle.cargo_toml_features.specs.declared.features.Feature.{Feature}
+use Rattle.cargo_toml_features.specs.InOrder.{AreInOrder, feature_at, names_of, table_among}
+use Rattle.cargo_toml_features.specs.Views.{action_at, has_text}
+use Rattle.cargo_toml_resolve.specs.Numbering.{ActsOn, AreTextsOf, IsFlagged, IsTarget, is_named, names_at}
+use Rattle.cargo_toml_resolve.specs.Texts.{texts_of}
+use Rattle.cargo_toml_resolve.proofs.InPlace.{has_place, name_in, stands_found, stands_in}
+
+-- the same vertices are removed
+pub same_removed : {Z : Type 0} (t : Table) (vs : List Feature) (kept : List Bool) (Removed : Text → Type 0) (texts : List Text) (edges names : List (Vec ℕ Z)) (flags : List Bool)
+    → IsNumbered t (IsFlagged vs kept) texts edges names flags → ((f : Text) → Removed f ↔ IsFlagged vs kept f) → IsNumbered t Removed texts edges names flags
+same_removed t vs kept Removed texts edges names flags n same = record {
+  one = n.one;
+  count = n.count;
+  vertex = n.vertex;
+  in_order = n.in_order;
+  leads = n.leads;
+  labels = n.labels;
+  labels_inside = n.labels_inside;
+  flag_count = n.flag_count;
+  flagged = λ i lt. (λ w. (same (text_at texts i)).1 ((n.flagged i lt).0 w), λ r. (n.flagged i lt).1 ((same (text_at texts i)).0 r));
+  removed = λ v r. n.removed v ((same v).0 r);
+}
+
+-- a feature in a place is one of those that name what it names
+named_there : (vs : List Feature) (i : ℕ) (x : Text) → IsTrue (names_at vs i x) → IsTrue (is_named vs x)
+named_there [] i x y = absurd (false≢true y)
+named_there (v ∷ vs) zero x y = or_left _ _ y
+named_there (v ∷ vs) (suc i) x y = or_right (has_text v.enables_features x) _ (named_there vs i x y)
+
+-- a flag past the end doesn't stand
+wanted_inside : (flags : List Bool) (i : ℕ) → IsWanted flags true i → i < length flags
+wanted_inside flags i w = elim (cases_lt i (length flags)) [ inl lt ↦ lt | inr past ↦ absurd (false≢true (sym (get_or_past flags i false past) ∙ w)) ]
+
+plain_same : (o : Option Feature) (k : Text) → IsSomeAnd o (λ v. IsPlain (action_at v.enables_deps k)) ↔ IsPlain (option_map_or (λ v. action_at v.enables_deps k) o None)
+plain_same None k = (λ p. p, λ p. p)
+plain_same (Some v) k = (λ p. p, λ p. p)
+
+-- what is said of slices holds of the lists that they show
+pub keys_are : (vs : List Feature) (us ts : List (Bor Text)) → us ≡ ts → AreTextsOf vs (texts_of ts) → texts_of (take (length vs) us) ≡ names_of vs
+keys_are vs us ts read h = sym (take-map (λ (t : Bor Text). t.now) (length vs) us) ∙ ap (λ (ws : List (Bor Text)). take (length vs) (texts_of ws)) read ∙ h.keys
+
+pub named_by : (vs : List Feature) (names : List (Vec ℕ Global)) (us ts : List (Bor Text)) → us ≡ ts
+    → ((i x : ℕ) → i < length vs → Leads names i x ↔ ((x < length us) × IsTrue (names_at vs i (text_at (texts_of us) x))))
+    → (i x : ℕ) → i < length vs → Leads names i x ↔ ((x < length (texts_of ts)) × IsTrue (names_at vs i (text_at (texts_of ts) x)))
+named_by vs names us ts read h i x lt =
+    subst (λ n. Leads names i x ↔ ((x < n) × IsTrue (names_at vs i (text_at (texts_of ts) x)))) (sym (length-map ts (λ (t : Bor Text). t.now)))
+    (subst (λ (ws : List (Bor Text)). Leads names i x ↔ ((x < length ws) × IsTrue (names_at vs i (text_at (texts_of ws) x)))) read (h i x lt))
+
+pub targets_by : (vs : List Feature) (edges rows names : List (Vec ℕ Global)) (keys : List (Bor Text)) → rows ≡ names → texts_of keys ≡ names_of vs
+    → ((i x : ℕ) → i < length vs → Leads edges i x ↔ ((x < length keys) × IsTarget vs rows (texts_of keys) i x))
+    → (i x : ℕ) → i < length vs → Leads edges i x ↔ ((x < length vs) × IsTarget vs names (names_of vs) i x)
+targets_by vs edges rows names keys read same h i x lt =
+    let long : length keys ≡ length vs = sym (length-map keys (λ (t : Bor Text). t.now)) ∙ ap length same ∙ length-map vs (λ (v : Feature). v.key.now) in
+    subst (λ n. Leads edges i x ↔ ((x < n) × IsTarget vs names (names_of vs) i x)) long
+    (subst (λ ks. Leads edges i x ↔ ((x < length keys) × IsTarget vs names ks i x)) same
+    (subst (λ (ns : List (Vec ℕ Global)). Leads edges i x ↔ ((x < length keys) × IsTarget vs ns (texts_of keys) i x)) read (h i x lt)))
+
+module _ (vs : List Feature) (marks : List Bool) (texts : List Text) (edges names : List (Vec ℕ Global)) (flags : List Bool)
+    (up : AreInOrder vs) (marked : length marks ≡ length vs) (h : AreTextsOf vs texts)
+    (name_len : length names ≡ length vs) (named : (i x : ℕ) → i < length vs → Leads names i x ↔ ((x < length texts) × IsTrue (names_at vs i (text_at texts x))))
+    (edge_len : length edges ≡ length vs) (targets : (i x : ℕ) → i < length vs → Leads edges i x ↔ ((x < length vs) × IsTarget vs names (names_of vs) i x))
+    (flag_len : length flags ≡ length texts) (flag : (i : ℕ) → IsWanted flags true i ↔ IsWanted marks true i) where
+  vertex_in : (i : ℕ) → i < length edges → i < length vs
+  vertex_in i lt = subst (λ n. i < n) edge_len lt
+
+  vertex_out : (i : ℕ) → i < length vs → i < length edges
+  vertex_out i lt = subst (λ n. i < n) (sym edge_len) lt
+
+  -- a feature's number is its place
+  key_text : (i : ℕ) → i < length vs → text_at texts i ≡ text_at (names_of vs) i
+  key_text i lt = sym (get_or-take (length vs) texts i [] lt) ∙ ap (λ ks. text_at ks i) h.keys
+
+  inside : (i : ℕ) → i < length vs → i < length texts
+  inside i lt = let fits = h.parted.fits in omega (arith, fits, lt)
+
+  feature_here : (i : ℕ) → i < length vs → feature_at vs (text_at texts i) ≡ slice_get vs i
+  feature_here i lt =
+      let v = stands_in vs i lt in
+      ap (feature_at vs) (key_text i lt ∙ name_in vs i v.0 v.1) ∙ stands_found vs up i v.0 v.1 ∙ sym v.1
+
+  names_here : (i : ℕ) (x : Text) → i < length vs → (table_among vs).names (text_at texts i) x ≡ names_at vs i x
+  names_here i x lt = ap (λ o. option_map_or (λ v. has_text v.enables_features x) o false) (feature_here i lt)
+
+  acts_here : (i : ℕ) (k : Text) → i < length vs → ActsOn vs i k ↔ IsPlain ((table_among vs).action (text_at texts i) k)
+  acts_here i k lt = subst (λ o. ActsOn vs i k ↔ IsPlain (option_map_or (λ v. action_at v.enables_deps k) o None)) (sym (feature_here i lt)) (plain_same (slice_get vs i) k)
+
+  has_key : (f : Text) → IsTrue ((table_among vs).has f) ↔ ((i : ℕ) × (i < length vs) × (text_at (names_of vs) i ≡ f))
+  has_key f = has_place (table_among vs) vs (record { has = λ f. refl; names = λ f x. refl; action = λ f k. refl }) up f
+
+  is_vertex : (f : Text) → IsTrue ((table_among vs).has f) ↔ ((i : ℕ) × (i < length edges) × (text_at texts i ≡ f))
+  is_vertex f = (
+    λ y. let w = (has_key f).0 y in (w.0, vertex_out w.0 w.1, key_text w.0 w.1 ∙ w.2),
+    λ w. (has_key f).1 (w.0, vertex_in w.0 w.1, sym (key_text w.0 (vertex_in w.0 w.1)) ∙ w.2),
+  )
+
+  is_edge : (i j : ℕ) → i < length edges → Leads edges i j → (j < length edges) × Edge (table_among vs) (text_at texts i) (text_at texts j)
+  is_edge i j lt l =
+      let i' = vertex_in i lt in
+      let t = (targets i j i').0 l in (
+        vertex_out j t.0,
+        record {
+          source = (is_vertex (text_at texts i)).1 (i, lt, refl);
+          target = (is_vertex (text_at texts j)).1 (j, vertex_out j t.0, refl);
+          apart = λ same. t.1.0 (sym (h.parted.one i j (inside i i') (inside j t.0) same));
+          leads = elim (t.1.1) [
+            | inl n ↦ inl (names_here i (text_at texts j) i' ∙ ((named i j i').0 n).1)
+            | inr a ↦ inr ((acts_here i (text_at texts j) i').0 (subst (ActsOn vs i) (sym (key_text j t.0)) a))
+          ];
+        },
+      )
+
+  from_edge : (i j : ℕ) → i < length edges → j < length edges → Edge (table_among vs) (text_at texts i) (text_at texts j) → Leads edges i j
+  from_edge i j lt lt' e =
+      let i' = vertex_in i lt in
+      let j' = vertex_in j lt' in
+      (targets i j i').1 (
+        j',
+        (
+          λ same. e.apart (ap (text_at texts) (sym same)),
+          elim (e.leads) [
+            | inl n ↦ inl ((named i j i').1 (inside j j', sym (names_here i (text_at texts j) i') ∙ n))
+            | inr a ↦ inr (subst (ActsOn vs i) (key_text j j') ((acts_here i (text_at texts j) i').1 a))
+          ],
+        ),
+      )
+
+  has_label : (i : ℕ) (x : Text) → i < length edges → IsTrue ((table_among vs).names (text_at texts i) x) ↔ HasNumber texts (length texts) (Leads names i) x
+  has_label i x lt =
+      let i' = vertex_in i lt in (
+        λ y.
+            let here : IsTrue (names_at vs i x) = sym (names_here i x i') ∙ y in
+            let k = at_among texts x [] (h.named x (named_there vs i x here)) in
+            (k.0, k.1, k.2, (named i k.0 i').1 (k.1, subst (λ z. IsTrue (names_at vs i z)) (sym k.2) here)),
+        λ w. names_here i x i' ∙ subst (λ z. IsTrue (names_at vs i z)) w.2 ((named i w.0 i').0 w.3).1,
+      )
+
+  labels_within : (i x : ℕ) → Leads names i x → x < length texts
+  labels_within i x l = ((named i x (subst (λ n. i < n) name_len (has_row names i x l))).0 l).0
+
+  is_flagged : (i : ℕ) → i < length texts → IsWanted flags true i ↔ IsFlagged vs marks (text_at texts i)
+  is_flagged i lt = (
+    λ w.
+        let m = (flag i).0 w in
+        let below : i < length vs = subst (λ n. i < n) marked (wanted_inside marks i m) in
+        (i, below, sym (key_text i below), m),
+    λ k.
+        let is : k.0 ≡ i = h.parted.one k.0 i (inside k.0 k.1) lt (key_text k.0 k.1 ∙ k.2) in
+        (flag i).1 (subst (IsWanted marks true) is k.3),
+  )
+
+  pub graph_stands : IsNumbered (table_among vs) (IsFlagged vs marks) texts edges names flags
+  graph_stands = record {
+    one = h.parted.one;
+    count = subst (λ n. n ≤ length texts) (sym edge_len) h.parted.fits;
+    vertex = is_vertex;
+    in_order = λ i j earlier lt.
+        let j' = vertex_in j lt in
+        let i' : i < length vs = omega (arith, earlier, j') in
+        let long = length-map vs (λ (v : Feature). v.key.now) in
+        subst (λ x. IsTrue (is_below x (text_at texts j))) (sym (key_text i i')) (subst (λ y. IsTrue (is_below (text_at (names_of vs) i) y)) (sym (key_text j j')) (rises (names_of vs) up i j earlier (omega (arith, long, j'))));
+    leads = λ i j lt. (is_edge i j lt, λ w. from_edge i j lt w.0 w.1);
+    labels = has_label;
+    labels_inside = labels_within;
+    flag_count = flag_len;
+    flagged = is_flagged;
+    removed = λ v r. (has_key v).1 (r.0, r.1, r.2);
+  }

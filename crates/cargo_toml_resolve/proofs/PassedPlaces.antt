@@ -1,0 +1,161 @@
+-- Places that pass binaries on in turn do so as the features of their names, in byte order.
+use Rattle.std.proofs.Common.{◌≡◌, ◌↔◌, ◌<◌, ◌≤◌, ◌++◌, ℕ, zero, suc, Bool, true, false, cond, List, [], ◌∷◌, length, map, nat_eq, take, Some, Vec, IsTrue, slice_get, refl, sym, ap, ap₂, subst, inl, inr, ◌∙◌, arith}
+use Rattle.std.proofs.lemmas.Bool.{cases_eq, false≢true}
+use Rattle.std.specs.List.{list_any, slice_index_or}
+use Rattle.std.specs.declared.alloc.Global.{Global}
+use Rattle.cargo_toml_graph.specs.Action.{Text}
+use Rattle.cargo_toml_graph.specs.Admitted.{is_below}
+use Rattle.cargo_toml_graph.specs.Graph.{KeepsName, Table}
+use Rattle.cargo_toml_graph.specs.Reach.{Among}
+use Rattle.cargo_toml_graph.specs.Redirects.{RedirectsTo}
+use Rattle.cargo_toml_graph.specs.Removal.{IsAscending, pass_all, put_all, unremoved, without_all}
+use Rattle.cargo_toml_graph.proofs.BinLists.{among-either, among-first, among-second}
+use Rattle.cargo_toml_graph.proofs.Edges.{unremoved_is}
+use Rattle.cargo_toml_graph.proofs.Elimination.{all_taken_out}
+use Rattle.cargo_toml_graph.proofs.InByteOrder.{ascending_last, ascending_once, by_true, last_passes}
+use Rattle.cargo_toml_graph.proofs.Members.{label_within}
+use Rattle.cargo_toml_graph.proofs.RedirectsInOrder.{below_one_way}
+use Rattle.cargo_toml_features.specs.Places.{text_at}
+use Rattle.cargo_toml_resolve.specs.NumberedTables.{HasNumber}
+use Rattle.cargo_toml_walk.specs.Numbers.{IsWanted, Leads, list_at}
+use Rattle.cargo_toml_resolve.proofs.NumberedTables as numbered
+use Rattle.cargo_toml_features.specs.declared.features.Feature.{Feature}
+use Rattle.cargo_toml_resolve.specs.KeptFeatures.{ArePassedAt, StandFor}
+use Rattle.cargo_toml_resolve.specs.Passing.{passed_below, passed_from}
+use Rattle.cargo_toml_resolve.proofs.BinTurns.{stands_true, true_stands}
+
+-- the texts of the flagged numbers below n
+abbrev names_below : List Text → List Bool → ℕ → List Text
+names_below texts flags zero = []
+names_below texts flags (suc n) = cond (slice_index_or flags n false) (names_below texts flags n ++ text_at texts n ∷ []) (names_below texts flags n)
+
+abbrev StandsBelow : List Text → List Bool → ℕ → Text → Type 0
+StandsBelow texts flags n v = (j : ℕ) × (j < n) × (text_at texts j ≡ v) × IsWanted flags true j
+
+one_more : (texts : List Text) (flags : List Bool) (n : ℕ) (v : Text) → Among (names_below texts flags n) v ↔ StandsBelow texts flags n v →
+    Among (names_below texts flags (suc n)) v ↔ StandsBelow texts flags (suc n) v
+one_more texts flags n v h = (λ i. there (slice_index_or flags n false) refl i, λ s. back (slice_index_or flags n false) refl s)
+  where
+    wider : StandsBelow texts flags n v → StandsBelow texts flags (suc n) v
+    wider s = (s.0, (let lt = s.1 in omega (arith, lt)), s.2, s.3)
+
+    there : (b : Bool) → slice_index_or flags n false ≡ b → Among (cond b (names_below texts flags n ++ text_at texts n ∷ []) (names_below texts flags n)) v → StandsBelow texts flags (suc n) v
+    there true e i = elim (among-either (names_below texts flags n) (text_at texts n ∷ []) v i) [
+      | inl i ↦ wider (h.0 i)
+      | inr j ↦ elim j [ inl is ↦ (n, omega arith, sym is, e) | inr k ↦ absurd k ]
+    ]
+    there false e i = wider (h.0 i)
+
+    back : (b : Bool) → slice_index_or flags n false ≡ b → StandsBelow texts flags (suc n) v → Among (cond b (names_below texts flags n ++ text_at texts n ∷ []) (names_below texts flags n)) v
+    back true e s = elim (cases_eq s.0 n) [
+      | inl same ↦ among-second (names_below texts flags n) (text_at texts n ∷ []) v (inl (sym s.2 ∙ ap (text_at texts) same))
+      | inr other ↦ among-first (names_below texts flags n) (text_at texts n ∷ []) v (h.1 (s.0, (let lt = s.1 in omega (arith, lt, other)), s.2, s.3))
+    ]
+    back false e s = elim (cases_eq s.0 n) [
+      | inl same ↦ absurd (false≢true (sym e ∙ subst (IsWanted flags true) same s.3))
+      | inr other ↦ h.1 (s.0, (let lt = s.1 in omega (arith, lt, other)), s.2, s.3)
+    ]
+
+named_below : (texts : List Text) (flags : List Bool) (n : ℕ) (v : Text) → Among (names_below texts flags n) v ↔ StandsBelow texts flags n v
+named_below texts flags zero v = (λ i. absurd i, λ s. let lt = s.1 in absurd (omega (arith, lt)))
+named_below texts flags (suc n) v = one_more texts flags n v (named_below texts flags n v)
+
+module _ (t : Table) (removed : Text → Bool) (old : List Feature) (texts : List Text) (edges names rows : List (Vec ℕ Global)) (flags : List Bool) (stand : StandFor t removed old texts edges names flags)
+    (rows_are : (r : ℕ) (x : Text) → r < length edges → IsWanted flags true r → HasNumber texts (length texts) (Leads rows r) x ↔ RedirectsTo t (λ v. IsTrue (removed v)) (λ a b. IsTrue (is_below a b)) (text_at texts r) x) where
+  abbrev R : Text → Type 0
+  R v = IsTrue (removed v)
+
+  abbrev Below : Text → Text → Type 0
+  Below a b = IsTrue (is_below a b)
+
+  fits : (i : ℕ) → i < length edges → i < length texts
+  fits i lt = let c = stand.numbered.count in omega (arith, c, lt)
+
+  -- these names are removed, and below those that follow
+  lower_there : (n : ℕ) → n < length edges → (v : Text) → Among (names_below texts flags n) v → R v × Below v (text_at texts n)
+  lower_there n lt v i =
+      let s = (named_below texts flags n v).0 i in
+      let u = (numbered.vertex_under t R texts edges names flags stand.numbered n lt s.0 (let less = s.1 in omega (arith, less, lt))).0 (s.3, s.1) in
+      (subst R s.2 u.0, subst (λ w. Below w (text_at texts n)) s.2 u.1)
+
+  lower_back : (n : ℕ) → n < length edges → (v : Text) → R v × Below v (text_at texts n) → Among (names_below texts flags n) v
+  lower_back n lt v l =
+      let k = (stand.numbered.vertex v).0 (stand.numbered.removed v l.0) in
+      let u = (numbered.vertex_under t R texts edges names flags stand.numbered n lt k.0 k.1).1 (subst R (sym k.2) l.0, subst (λ w. Below w (text_at texts n)) (sym k.2) l.1) in
+      (named_below texts flags n v).1 (k.0, u.1, k.2, u.0)
+
+  ascends_below : (n : ℕ) → n ≤ length edges → IsAscending (λ a b. IsTrue (is_below a b)) (names_below texts flags n)
+  ascends_below zero le = tt
+  ascends_below (suc n) le = go (slice_index_or flags n false) (ascends_below n (omega (arith, le)))
+    where
+      go : (b : Bool) → IsAscending (λ a b. IsTrue (is_below a b)) (names_below texts flags n) → IsAscending (λ a b. IsTrue (is_below a b)) (cond b (names_below texts flags n ++ text_at texts n ∷ []) (names_below texts flags n))
+      go true up = ascending_last (names_below texts flags n) (text_at texts n) up (λ v i. (lower_there n (omega (arith, le)) v i).1)
+      go false up = up
+
+  there_below : (n : ℕ) → n < length edges → (v : Text) → Among (names_below texts flags n) v → IsTrue (t.has v)
+  there_below n lt v i = stand.numbered.removed v (lower_there n lt v i).0
+
+  abbrev Earlier : ℕ → Text → Type 0
+  Earlier n v = Among (names_below texts flags n) v
+
+  abbrev Lower : ℕ → Text → Type 0
+  Lower n v = R v × Below v (text_at texts n)
+
+  at_its_turn : (n : ℕ) → n < length edges → (x : Text) → IsTrue ((without_all (names_below texts flags n) (unremoved t)).table.names (text_at texts n) x) ↔ KeepsName t (Earlier n) (text_at texts n) x
+  at_its_turn n lt x =
+      let up = ascends_below n (omega (arith, lt)) in
+      (all_taken_out t (names_below texts flags n) (unremoved t) (unremoved_is t) (there_below n lt) (ascending_once (names_below texts flags n) up)).names (text_at texts n) x (
+        (stand.numbered.vertex (text_at texts n)).1 (n, lt, refl),
+        λ i. let b = (lower_there n lt (text_at texts n) i).1 in below_one_way (text_at texts n) (text_at texts n) b b,
+      )
+
+  to_earlier : (n : ℕ) → n < length edges → (x : Text) → KeepsName t (Lower n) (text_at texts n) x → KeepsName t (Earlier n) (text_at texts n) x
+  to_earlier n lt x k = (label_within (λ b z. IsTrue (t.names b z)) (Lower n) (Earlier n) (lower_back n lt) (text_at texts n) x k.0, λ s. k.1 (lower_there n lt x s))
+
+  to_lower : (n : ℕ) → n < length edges → (x : Text) → KeepsName t (Earlier n) (text_at texts n) x → KeepsName t (Lower n) (text_at texts n) x
+  to_lower n lt x k = (label_within (λ b z. IsTrue (t.names b z)) (Earlier n) (Lower n) (lower_there n lt) (text_at texts n) x k.0, λ s. k.1 (lower_back n lt x s))
+
+  -- what a removed place's row has, its feature names at its turn
+  names_at : (n i : ℕ) → n < length edges → i < length edges → IsWanted flags true n →
+      list_any (nat_eq i) (list_at rows n) ≡ (without_all (names_below texts flags n) (unremoved t)).table.names (text_at texts n) (text_at texts i)
+  names_at n i lt below gone = by_true _ _ (
+    λ y. (at_its_turn n lt (text_at texts i)).1 (to_earlier n lt (text_at texts i) ((rows_are n (text_at texts i) lt gone).0 (i, fits i below, refl, true_stands (list_at rows n) i y))),
+    λ y.
+        let j = (rows_are n (text_at texts i) lt gone).1 (to_lower n lt (text_at texts i) ((at_its_turn n lt (text_at texts i)).0 y)) in
+        stands_true (list_at rows n) i (subst (Among (list_at rows n)) (stand.numbered.one j.0 i j.1 (fits i below) j.2) j.3),
+  )
+
+  module _ (own : Text → List Text) (lists : ℕ → List Text) (start : (i : ℕ) → i < length edges → lists i ≡ own (text_at texts i)) where
+    abbrev Agrees : ℕ → Type 0
+    Agrees n = (i : ℕ) → i < length edges → passed_below rows flags n lists i ≡ pass_all (names_below texts flags n) (unremoved t) own (text_at texts i)
+
+    one_turn : (n : ℕ) → n < length edges → Agrees n → Agrees (suc n)
+    one_turn n lt agrees i below = go (slice_index_or flags n false) refl
+      where
+        go : (b : Bool) → slice_index_or flags n false ≡ b → (cond b (passed_from rows n (passed_below rows flags n lists)) (passed_below rows flags n lists)) i
+            ≡ pass_all (cond b (names_below texts flags n ++ text_at texts n ∷ []) (names_below texts flags n)) (unremoved t) own (text_at texts i)
+        go true gone =
+            ap (λ b. cond b (put_all (passed_below rows flags n lists i) (take 10 (passed_below rows flags n lists n))) (passed_below rows flags n lists i)) (names_at n i lt below gone)
+            ∙ ap₂ (λ xs ys. cond ((without_all (names_below texts flags n) (unremoved t)).table.names (text_at texts n) (text_at texts i)) (put_all xs (take 10 ys)) xs) (agrees i below) (agrees n lt)
+            ∙ sym (last_passes (names_below texts flags n) (text_at texts n) (unremoved t) own (text_at texts i))
+        go false kept = agrees i below
+
+    all_turns : (n : ℕ) → n ≤ length edges → Agrees n
+    all_turns zero le = start
+    all_turns (suc n) le = one_turn n (omega (arith, le)) (all_turns n (omega (arith, le)))
+
+    order_is : (v : Text) → Among (names_below texts flags (length edges)) v ↔ R v
+    order_is v = (
+      λ i. let s = (named_below texts flags (length edges) v).0 i in subst R s.2 ((stand.numbered.flagged s.0 (fits s.0 s.1)).0 s.3),
+      λ r.
+          let k = (stand.numbered.vertex v).0 (stand.numbered.removed v r) in
+          (named_below texts flags (length edges) v).1 (k.0, k.1, k.2, (stand.numbered.flagged k.0 (fits k.0 k.1)).1 (subst R (sym k.2) r)),
+    )
+
+    pub passed_at : (new : List Feature) → ((i : ℕ) (w : Feature) → slice_get new i ≡ Some w →
+        (i < length edges) × (map (λ b. b.now) w.required_by_bins.items ≡ passed_below rows flags (length edges) lists i)) → ArePassedAt t removed own texts flags new
+    passed_at new has = record {
+      order = names_below texts flags (length edges);
+      in_order = record { ascending = ascends_below (length edges) (omega arith); members = order_is };
+      lists = λ i w kept at. let h = has i w at in h.1 ∙ all_turns (length edges) (omega arith) i h.0;
+    }

@@ -1,0 +1,19 @@
+-- Binaries, put one after another.
+use Rattle.std.proofs.Common.{◌≡◌, ◌+◌, ◌<◌, ℕ, take, length, get_or, if◌then◌else◌, List, [], ◌∷◌, ◌++◌, refl, ap, ◌∙◌}
+use Rattle.std.proofs.lemmas.List.{map_more}
+use Rattle.std.specs.Borrow.{Bor}
+use Rattle.cargo_toml_graph.specs.Action.{Text}
+use Rattle.cargo_toml_graph.specs.Removal.{is_among, put_all}
+use Rattle.cargo_toml_resolve.specs.Texts.{texts_of}
+
+put_last : (xs ys : List Text) (y : Text) → put_all xs (ys ++ y ∷ []) ≡ put_all (put_all xs ys) (y ∷ [])
+put_last xs [] y = refl
+put_last xs (z ∷ ys) y = put_last (if is_among xs z then xs else (xs ++ z ∷ [])) ys y
+
+-- one more binary
+pub put_more : (own : List Text) (ks : List (Bor Text)) (i : ℕ) (d : Bor Text) → i < length ks → put_all own (texts_of (take (i + 1) ks)) ≡ put_all (put_all own (texts_of (take i ks))) ((get_or ks i d).now ∷ [])
+put_more own ks i d lt = ap (put_all own) (map_more (λ (k : Bor Text). k.now) ks i d lt) ∙ put_last own (texts_of (take i ks)) (get_or ks i d).now
+
+-- what an index past the end reads
+abbrev pub blank : Bor Text
+blank = record { ref_ptr = (0, 0); now = [] }

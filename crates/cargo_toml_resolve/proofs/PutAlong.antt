@@ -1,0 +1,90 @@
+-- Binaries that are put into the lists of features, place after place.
+use Rattle.std.proofs.Common.{◌≡◌, ◌⊎◌, ◌↔◌, ◌<◌, ◌≤◌, ℕ, cond, List, [], ◌∷◌, ◌++◌, length, get_or, slice_get, Option, Some, Bor, refl, sym, ap, subst, inl, inr, ◌∙◌, arith}
+use Rattle.std.proofs.lemmas.Bool.{cases_eq}
+use Rattle.std.proofs.lemmas.Option.{same_Some, slice_get-get_or, slice_get_read, slice_get_within}
+use Rattle.std.specs.Option.{option_map_or}
+use Rattle.cargo_toml_graph.specs.Action.{Text}
+use Rattle.cargo_toml_graph.specs.Reach.{Among}
+use Rattle.cargo_toml_graph.specs.Removal.{put_all}
+use Rattle.cargo_toml_graph.proofs.BinLists.{among-true, put_puts}
+use Rattle.cargo_toml_features.specs.declared.features.Feature.{Feature}
+use Rattle.cargo_toml_resolve.specs.Passing.{bins_of, IsSameButBins, AreSameButBins}
+use Rattle.cargo_toml_resolve.specs.Puts.{Puts}
+use Rattle.cargo_toml_resolve.specs.Texts.{texts_of}
+
+-- what is there already isn't put
+put_none : (xs ys : List Text) → ((x : Text) → Among ys x → Among xs x) → put_all xs ys ≡ xs
+put_none xs [] there = refl
+put_none xs (y ∷ ys) there = ap (λ b. put_all (cond b xs (xs ++ y ∷ [])) ys) (among-true xs y (there y (inl refl))) ∙ put_none xs ys (λ x i. there x (inr i))
+
+put_again : (xs ys : List Text) → put_all (put_all xs ys) ys ≡ put_all xs ys
+put_again xs ys = put_none (put_all xs ys) ys (λ x i. put_puts xs ys x i)
+
+itself : (v : Feature) → IsSameButBins v v
+itself v = record { key = refl; marks = refl; names = refl; actions = refl; enabled_by = refl }
+
+pub same_features : (vs : List Feature) → AreSameButBins vs vs
+same_features vs = record { len = refl; each = λ i v w old new. subst (IsSameButBins v) (same_Some v w (sym old ∙ new)) (itself v) }
+
+pub then_same : (vs ws us : List Feature) → AreSameButBins vs ws → AreSameButBins ws us → AreSameButBins vs us
+then_same vs ws us a b = record {
+  len = b.len ∙ a.len;
+  each = λ i v u old new.
+      let inside : i < length ws = subst (λ n. i < n) (sym a.len) (slice_get_within vs i v old) in
+      let w = get_or ws i v in
+      let there : slice_get ws i ≡ Some w = slice_get-get_or ws i v inside in
+      let s = a.each i v w old there in
+      let t = b.each i w u there new in
+      record { key = t.key ∙ s.key; marks = t.marks ∙ s.marks; names = t.names ∙ s.names; actions = t.actions ∙ s.actions; enabled_by = t.enabled_by ∙ s.enabled_by };
+}
+
+abbrev list_in : Option Feature → List Text
+list_in o = option_map_or (λ v. texts_of v.required_by_bins.items) o []
+
+pub bins_read : (vs : List Feature) (i : ℕ) (v : Feature) → i < length vs → v ≡ get_or vs i v → bins_of vs i ≡ texts_of v.required_by_bins.items
+bins_read vs i v lt is = ap list_in (slice_get_read vs (length vs) i v refl lt is)
+
+-- no place is named
+pub put_nowhere : (bins : List Text) (vs : List Feature) → Puts (λ y. ⊥) bins vs vs
+put_nowhere bins vs = record { same = same_features vs; lists = λ y below. inr (λ n. n, refl) }
+
+decided_among : (xs : List ℕ) (y : ℕ) → Among xs y ⊎ (¬ Among xs y)
+decided_among [] y = inr (λ i. i)
+decided_among (x ∷ xs) y = elim (cases_eq y x) [
+  | inl same ↦ inl (inl same)
+  | inr other ↦ elim (decided_among xs y) [ inl i ↦ inl (inr i) | inr n ↦ inr (λ i. elim i [ inl e ↦ other e | inr i ↦ n i ]) ]
+]
+
+-- no binary is put
+pub put_nothing : (row : List ℕ) (ks : List (Bor Text)) (bins : List Text) (vs : List Feature) → length ks ≡ 0 → texts_of ks ≡ bins → Puts (Among row) bins vs vs
+put_nothing row [] bins vs none are = subst (λ xs. Puts (Among row) xs vs vs) are (record { same = same_features vs; lists = λ y below. elim (decided_among row y) [ inl i ↦ inl (i, refl) | inr n ↦ inr (n, refl) ] })
+put_nothing row (k ∷ ks) bins vs none are = absurd (omega arith)
+
+module _ (A B C : ℕ → Type 0) (bins : List Text) (vs ws : List Feature) (old : Puts A bins vs ws) where
+  -- into these lists, then into those
+  pub then_put : (us : List Feature) → ((y : ℕ) → C y ↔ (A y ⊎ B y)) → Puts B bins ws us → Puts C bins vs us
+  then_put us both new = record {
+    same = then_same vs ws us old.same new.same;
+    lists = λ y below. after y (old.lists y below) (new.lists y (subst (λ n. y < n) (sym old.same.len) below));
+  }
+    where
+      put : {xs ys : List Text} → xs ≡ ys → put_all xs bins ≡ put_all ys bins
+      put e = ap (λ xs. put_all xs bins) e
+
+      after : (y : ℕ) → (A y × (bins_of ws y ≡ put_all (bins_of vs y) bins)) ⊎ ((¬ A y) × (bins_of ws y ≡ bins_of vs y))
+          → (B y × (bins_of us y ≡ put_all (bins_of ws y) bins)) ⊎ ((¬ B y) × (bins_of us y ≡ bins_of ws y))
+          → (C y × (bins_of us y ≡ put_all (bins_of vs y) bins)) ⊎ ((¬ C y) × (bins_of us y ≡ bins_of vs y))
+      after y (inl a) (inl b) = inl ((both y).1 (inl a.0), b.1 ∙ put a.1 ∙ put_again (bins_of vs y) bins)
+      after y (inl a) (inr b) = inl ((both y).1 (inl a.0), b.1 ∙ a.1)
+      after y (inr a) (inl b) = inl ((both y).1 (inr b.0), b.1 ∙ put a.1)
+      after y (inr a) (inr b) = inr (λ n. elim ((both y).0 n) [ inl i ↦ a.0 i | inr i ↦ b.0 i ], b.1 ∙ a.1)
+
+  -- those are no places of features
+  pub put_past : ((y : ℕ) → C y ↔ (A y ⊎ B y)) → ((y : ℕ) → B y → length vs ≤ y) → Puts C bins vs ws
+  put_past both past = record {
+    same = old.same;
+    lists = λ y below. elim (old.lists y below) [
+      | inl a ↦ inl ((both y).1 (inl a.0), a.1)
+      | inr a ↦ inr (λ n. elim ((both y).0 n) [ inl i ↦ a.0 i | inr i ↦ let le = past y i in omega (arith, le, below) ], a.1)
+    ];
+  }

@@ -1,0 +1,135 @@
+-- One feature of a list changes, and takes over what those that it passes do.
+use Rattle.std.proofs.Common.{◌≡◌, ◌≢◌, ◌↔◌, ◌<◌, ◌⊎◌, ℕ, zero, suc, List, [], ◌∷◌, length, set, get_or, Some, Bor, refl, sym, ap, subst, inl, inr, ◌∙◌, arith, length-set}
+use Rattle.std.proofs.lemmas.Option.{get_or_from_slice_get, same_Some, slice_get_read}
+use Rattle.std.specs.List.{slice_get}
+use Rattle.std.specs.Option.{option_and_then}
+use Rattle.std.specs.BTreeMap.{BTreeMap}
+use Rattle.std.specs.BTreeSet.{BTreeSet}
+use Rattle.cargo_toml_graph.specs.Action.{Text, Action, IsJoin}
+use Rattle.cargo_toml_graph.specs.Reach.{Among}
+use Rattle.cargo_toml_graph.proofs.Joins.{join_alike, join_one}
+use Rattle.cargo_toml_features.specs.declared.features.DepAction.{DepAction}
+use Rattle.cargo_toml_features.specs.declared.features.Feature.{Feature}
+use Rattle.cargo_toml_features.specs.Views.{action_at}
+use Rattle.cargo_toml_resolve.specs.Leaving.{DoesAt, HasActions, HasTexts, Holds, KeepsOwn, Leaves, action_by}
+use Rattle.cargo_toml_resolve.specs.TakingOver.{ChangesIn, TakesActions, TakesOver}
+
+set_here : (vs : List Feature) (i : ℕ) (w : Feature) → i < length vs → slice_get (set vs i w) i ≡ Some w
+set_here [] i w lt = absurd (omega arith)
+set_here (v ∷ vs) zero w lt = refl
+set_here (v ∷ vs) (suc i) w lt = set_here vs i w (omega arith)
+
+pub set_others : (vs : List Feature) (i j : ℕ) (w : Feature) → j ≢ i → slice_get (set vs i w) j ≡ slice_get vs j
+set_others [] i j w ne = refl
+set_others (v ∷ vs) zero zero w ne = absurd (ne refl)
+set_others (v ∷ vs) zero (suc j) w ne = refl
+set_others (v ∷ vs) (suc i) zero w ne = refl
+set_others (v ∷ vs) (suc i) (suc j) w ne = set_others vs i j w (λ e. ne (ap suc e))
+
+-- no change
+pub unchanged : (Changes : Feature → Feature → Type 0) (i : ℕ) (vs : List Feature) → ((v : Feature) → slice_get vs i ≡ Some v → Changes v v) → ChangesIn Changes i vs vs
+unchanged Changes i vs same = record {
+  len = refl;
+  here = λ v w a b. subst (Changes v) (same_Some v w (sym a ∙ b)) (same v a);
+  others = λ j ne. refl;
+}
+
+-- a change, and then one of the feature v that stands there by then
+pub then_set : (First Both : Feature → Feature → Type 0) (i : ℕ) (old mid : List Feature) (v w : Feature) → i < length old → v ≡ get_or mid i v → ChangesIn First i old mid → ((u : Feature) → First u v → Both u w) → ChangesIn Both i old (set mid i w)
+then_set First Both i old mid v w lt read h both =
+    let inside : i < length mid = subst (λ n. i < n) (sym h.len) lt in
+    let stands : slice_get mid i ≡ Some v = slice_get_read mid (length mid) i v refl inside read in
+    record {
+      len = length-set mid i w ∙ h.len;
+      here = λ u x a b. subst (Both u) (same_Some w x (sym (set_here mid i w inside) ∙ b)) (both u (h.here u v a stands));
+      others = λ j ne. set_others mid i j w ne ∙ h.others j ne;
+    }
+
+pub is_nothing : (xs : List ℕ) → length xs ≡ 0 → xs ≡ []
+is_nothing [] e = refl
+is_nothing (x ∷ xs) e = absurd (omega arith)
+
+-- its map of actions is another, and what it says of itself and names stays
+pub record ActsAnew (old new : Feature) : Type 0 where
+  pub own : KeepsOwn old new
+  pub names : new.enables_features ≡ old.enables_features
+
+module _ (vs : List Feature) (i : ℕ) (passed : List ℕ) where
+  -- what passes nothing does what it did
+  own_actions : (v : Feature) → slice_get vs i ≡ Some v → passed ≡ [] → HasActions vs (λ b. (b ≡ i) ⊎ Among passed b) v.enables_deps
+  own_actions v is none k = join_alike same (action_at v.enables_deps k) (join_one (action_at v.enables_deps k))
+    where
+      here : action_by vs i k ≡ action_at v.enables_deps k
+      here = ap (option_and_then (λ (w : Feature). action_at w.enables_deps k)) is
+
+      same : (a : Action) → (action_at v.enables_deps k ≡ Some a) ↔ DoesAt vs (λ b. (b ≡ i) ⊎ Among passed b) k a
+      same a = (
+        λ e. (i, inl refl, here ∙ e),
+        λ d. elim (d.1) [ inl e ↦ sym here ∙ sym (ap (λ b. action_by vs b k) e) ∙ d.2 | inr p ↦ absurd (subst (λ bs. Among bs d.0) none p) ],
+      )
+
+  pub takes_nothing : (texts : List Text) (named : List ℕ) → passed ≡ [] → ChangesIn (TakesOver vs texts i passed named) i vs vs
+  takes_nothing texts named none = unchanged (TakesOver vs texts i passed named) i vs (λ v is. record {
+    own = record { key = refl; marks = refl; bins = refl };
+    same_names = λ e. refl;
+    names = λ some. absurd (some none);
+    actions = own_actions v is none;
+  })
+
+  -- what the others do is joined to what it did, which is `first`
+  module _ (apart : ¬ Among passed i) (mid seen : List Feature) (sees : seen ≡ mid) (others : (j : ℕ) → j ≢ i → slice_get mid j ≡ slice_get vs j)
+      (v : Feature) (is : slice_get vs i ≡ Some v) (first own : BTreeMap (Bor Text) DepAction) (was : first ≡ v.enables_deps)
+      (joined : (k : Text) → IsJoin (λ a. (action_at first k ≡ Some a) ⊎ DoesAt seen (Among passed) k a) (action_at own k)) where
+    pub all_actions : HasActions vs (λ b. (b ≡ i) ⊎ Among passed b) own
+    all_actions k = join_alike same (action_at own k) (joined k)
+      where
+        here : action_by vs i k ≡ action_at first k
+        here = ap (option_and_then (λ (w : Feature). action_at w.enables_deps k)) is ∙ ap (λ m. action_at m k) (sym was)
+
+        there : (b : ℕ) → Among passed b → action_by seen b k ≡ action_by vs b k
+        there b p = ap (λ us. action_by us b k) sees ∙ ap (option_and_then (λ (w : Feature). action_at w.enables_deps k)) (others b (λ e. apart (subst (Among passed) e p)))
+
+        same : (a : Action) → ((action_at first k ≡ Some a) ⊎ DoesAt seen (Among passed) k a) ↔ DoesAt vs (λ b. (b ≡ i) ⊎ Among passed b) k a
+        same a = (
+          elim [ inl e ↦ (i, inl refl, here ∙ e) | inr d ↦ (d.0, inr d.1, sym (there d.0 d.1) ∙ d.2) ],
+          λ d. elim (d.1) [ inl e ↦ inl (sym here ∙ sym (ap (λ b. action_by vs b k) e) ∙ d.2) | inr p ↦ inr (d.0, p, there d.0 p ∙ d.2) ],
+        )
+
+    -- the map is taken out of it, the others' are joined to it, and it is put back
+    pub actions_taken : (empty : BTreeMap (Bor Text) DepAction) (w : Feature) → i < length vs → mid ≡ set vs i (record v { enables_deps = empty }) → w ≡ get_or mid i w →
+        ChangesIn (TakesActions vs i passed) i vs (set mid i (record w { enables_deps = own }))
+    actions_taken empty w lt set_is read = then_set ActsAnew (TakesActions vs i passed) i vs mid w (record w { enables_deps = own }) lt read emptied (λ u h. record {
+      own = record { key = h.own.key; marks = h.own.marks; bins = h.own.bins };
+      names = h.names;
+      actions = all_actions;
+    })
+      where
+        emptied : ChangesIn ActsAnew i vs mid
+        emptied = subst (ChangesIn ActsAnew i vs) (sym set_is) (then_set (λ u x. x ≡ u) ActsAnew i vs vs v (record v { enables_deps = empty }) lt (sym (get_or_from_slice_get vs i v v is)) (unchanged (λ u x. x ≡ u) i vs (λ x e. refl)) (λ u e.
+            subst (λ u. ActsAnew u (record v { enables_deps = empty })) e (record { own = record { key = refl; marks = refl; bins = refl }; names = refl })))
+
+-- then its names are another set
+pub names_taken : (vs : List Feature) (i : ℕ) (passed named : List ℕ) (texts : List Text) (mid : List Feature) (names : BTreeSet (Bor Text)) (w : Feature) → i < length vs → passed ≢ [] →
+    w ≡ get_or mid i w → ChangesIn (TakesActions vs i passed) i vs mid → HasTexts texts named names → ChangesIn (TakesOver vs texts i passed named) i vs (set mid i (record w { enables_features = names }))
+names_taken vs i passed named texts mid names w lt some read h has = then_set (TakesActions vs i passed) (TakesOver vs texts i passed named) i vs mid w (record w { enables_features = names }) lt read h (λ u t. record {
+  own = record { key = t.own.key; marks = t.own.marks; bins = t.own.bins };
+  same_names = λ none. absurd (some none);
+  names = λ _. has;
+  actions = t.actions;
+})
+
+-- and its enablers
+pub leaves : (vs : List Feature) (i : ℕ) (passed named enablers : List ℕ) (texts : List Text) (mid : List Feature) (by : BTreeSet (Bor Text)) (w : Feature) → i < length vs →
+    w ≡ get_or mid i w → ChangesIn (TakesOver vs texts i passed named) i vs mid → HasTexts texts enablers by → Leaves i passed named enablers texts vs (set mid i (record w { enabled_by = by }))
+leaves vs i passed named enablers texts mid by w lt read h has = record {
+  len = all.len;
+  own = λ u x a b. (all.here u x a b).0;
+  holds = λ u x a b. (all.here u x a b).1;
+  others = all.others;
+}
+  where
+    all : ChangesIn (λ u x. KeepsOwn u x × Holds vs texts i passed named enablers u x) i vs (set mid i (record w { enabled_by = by }))
+    all = then_set (TakesOver vs texts i passed named) (λ u x. KeepsOwn u x × Holds vs texts i passed named enablers u x) i vs mid w (record w { enabled_by = by }) lt read h (λ u t. (
+      record { key = t.own.key; marks = t.own.marks; bins = t.own.bins },
+      record { same_names = t.same_names; names = t.names; actions = t.actions; enabled_by = has },
+    ))

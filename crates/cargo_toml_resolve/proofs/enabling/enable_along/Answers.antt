@@ -1,0 +1,28 @@
+use Rattle.std.proofs.Common.{◌≡◌, ◌<◌, ◌+◌, get_or, take, take_all, sym, subst}
+use Rattle.cargo_toml_graph.specs.Reach.{Among}
+use Rattle.cargo_toml_features.proofs.Places.{among_at}
+use Rattle.cargo_toml_walk.proofs.Steps.{among_more, item_is}
+use Rattle.cargo_toml_resolve.specs.Enabling.{Enables}
+use Rattle.cargo_toml_resolve.proofs.Learning.{nobody_enabled, then_enabled}
+use Rattle.cargo_toml_resolve.proofs.enabling.enable_along.Goals as goal
+
+pub loop-at-init : goal.loop-at-init
+loop-at-init c = nobody_enabled c.args.source.now c.args.features.now.items
+
+pub enable_at-requires : goal.enable_at-requires
+enable_at-requires c =
+    let row = c.args.row.now in
+    let at = get_or row c.loop-at.at-index 0 in
+    rw (item_is c.args.row.now c.loop-at.at-index _ c.loop-at-test.true c.at-item.is) (subst (λ n. at < n) (sym c.loop-at.invariant.same.len) (c.requires at (among_at row c.loop-at.at-index 0 c.loop-at-test.true)))
+
+pub loop-at-preserved : goal.loop-at-preserved
+loop-at-preserved c =
+    let row = c.args.row.now in
+    let i = c.loop-at.at-index in
+    then_enabled (Among (take i row)) (λ y. y ≡ get_or row i 0) (Among (take (i + 1) row)) c.args.source.now c.args.features.now.items c.loop-at.features.items c.enable_at.new.features.items
+    (λ y. among_more row i y c.loop-at-test.true) c.loop-at.invariant (rw (item_is c.args.row.now c.loop-at.at-index _ c.loop-at-test.true c.at-item.is) at c.in_ok-enable_at.ensures)
+
+pub returns : goal.returns
+returns c =
+    let all : take c.loop-at.at-index c.args.row.now ≡ c.args.row.now = take_all c.loop-at.at-index c.args.row.now c.loop-at-test.false in
+    subst (λ row. Enables (Among row) c.args.source.now c.args.features.now.items c.loop-at.features.items) all c.loop-at.invariant

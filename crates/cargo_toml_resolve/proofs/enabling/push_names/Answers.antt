@@ -1,0 +1,12 @@
+use Rattle.std.proofs.Common.{rules, ◌≡◌, map}
+use Rattle.std.proofs.lemmas.Map.Iter.{iter_end}
+use Rattle.cargo_toml_resolve.proofs.NumberRows.{name_gained, names_gained}
+use Rattle.cargo_toml_resolve.proofs.enabling.push_names.Goals as goal
+
+pub loop-name-preserved : goal.loop-name-preserved
+loop-name-preserved c = name_gained c.args.keys.now c.args.own c.loop-name.yielded c.in-Some.name c.args.row.now.items c.loop-name.row.items c.push_target.new.row.items c.loop-name.invariant c.in_ok-near.ensures
+
+pub returns : goal.returns
+returns c =
+    let all : map (λ k. k.now) c.loop-name.yielded ≡ c.args.named.now.keys = search (rules, iter_end) in
+    names_gained c.args.keys.now c.args.own c.args.named.now c.loop-name.yielded c.args.row.now.items c.loop-name.row.items all c.loop-name.invariant

@@ -1,0 +1,15 @@
+use Rattle.std.proofs.Common.{rules, ◌≡◌, ◌||◌, ap, ◌∙◌, map}
+use Rattle.std.proofs.lemmas.Map.Iter.{iter_end}
+use Rattle.cargo_toml_features.specs.Views.{has_text}
+use Rattle.cargo_toml_full.proofs.Gathering.{is_text_in}
+use Rattle.cargo_toml_features.proofs.TextKeys.{inserted}
+use Rattle.cargo_toml_resolve.proofs.Sets.{one_more}
+use Rattle.cargo_toml_resolve.proofs.joining.add_all.Goals as goal
+
+pub loop-text-preserved : goal.loop-text-preserved
+loop-text-preserved c = λ x. one_more c.args.texts.now c.loop-text.texts c.insert.new.self c.loop-text.yielded c.in-Some.text x (c.loop-text.invariant x) (inserted c.in-Some.text.now.now c.loop-text.texts c.insert.new.self c.in_ok-insert.ensures.updates x)
+
+pub returns : goal.returns
+returns c = λ x.
+    let all : map (λ k. k.now) c.loop-text.yielded ≡ c.args.other.now.keys = search (rules, iter_end) in
+    c.loop-text.invariant x ∙ ap (λ ks. has_text c.args.texts.now x || is_text_in ks x) all

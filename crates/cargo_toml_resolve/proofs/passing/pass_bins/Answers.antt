@@ -1,0 +1,60 @@
+use Rattle.std.proofs.Common.{rules, ◌≡◌, ◌<◌, true, false, take, length, refl, sym, subst, ◌∙◌, arith}
+use Rattle.cargo_toml_graph.specs.Reach.{Among}
+use Rattle.cargo_toml_walk.specs.Numbers.{IsWanted, Leads}
+use Rattle.cargo_toml_walk.proofs.Steps.{list_read}
+use Rattle.cargo_toml_resolve.specs.KnownBins.{AreKnown}
+use Rattle.cargo_toml_resolve.specs.Passing.{bins_of, passed_below}
+use Rattle.cargo_toml_resolve.specs.Puts.{Puts}
+use Rattle.cargo_toml_resolve.proofs.PutAlong.{same_features, then_same}
+use Rattle.cargo_toml_resolve.proofs.BinTurns.{kept_turn, one_turn}
+use Rattle.cargo_toml_resolve.proofs.passing.pass_bins.Goals as goal
+use Rattle.cargo_toml_resolve.proofs.passing.pass_bins.Goals.{then-flags-r+in_ok-pass_from, else-flags-r}
+
+pub loop-r-init : goal.loop-r-init
+loop-r-init c = record {
+  known = subst (AreKnown c.in_ok-known.known.items) c.as_slice.ensures.value c.in_ok-known.ensures;
+  same = same_features c.args.features.now.items;
+  inside = omega arith;
+  turned = λ y below. refl;
+}
+
+pub loop-r-preserved : goal.loop-r-preserved
+loop-r-preserved c =
+    let old = c.args.features.now.items in
+    let mid = c.loop-r.features.items in
+    let rows = c.args.rows.now in
+    let flags = c.args.flags.now in
+    let r = c.loop-r.r in
+    let inside : r < length old = search rules in
+    elim c.if-flags-r.branch [
+      | then-flags-r+in_ok-pass_from w ↦
+          let there : r < length rows = search rules in
+          let gone : IsWanted flags true r = search rules in
+          let new = w.pass_from.new.features.items in
+          let read = w.as_slice-then-flags-r.ensures.value ∙ sym (list_read rows r w.index-rows-r.result there w.index-rows-r.is) in
+          let puts : Puts (Leads rows r) (take 10 (bins_of mid r)) mid new = subst (λ row. Puts (Among row) (take 10 (bins_of mid r)) mid new) read (rw w.at.ensures at w.in_ok-pass_from.ensures.put) in
+          let same = c.loop-r.invariant.same.len in
+          rw (w.features-is) (rw (w.known-is) (record {
+            known = w.in_ok-pass_from.ensures.known;
+            same = then_same old mid new c.loop-r.invariant.same puts.same;
+            inside = omega (arith, inside);
+            turned = one_turn rows flags (bins_of old) (length old) r inside gone (bins_of mid) (bins_of new) c.loop-r.invariant.turned (λ y below. puts.lists y (subst (λ n. y < n) (sym same) below));
+          }))
+      | else-flags-r w ↦
+          let kept : IsWanted flags false r = search rules in
+          rw (w.features-is) (rw (w.known-is) (record {
+            known = c.loop-r.invariant.known;
+            same = c.loop-r.invariant.same;
+            inside = omega (arith, inside);
+            turned = kept_turn rows flags (bins_of old) (length old) r (bins_of mid) kept c.loop-r.invariant.turned;
+          }))
+    ]
+
+pub returns-clause-bins : goal.returns-clause-bins
+returns-clause-bins c = λ y below.
+    let old = c.args.features.now.items in
+    let size = c.len-size.ensures in
+    let end = c.loop-r-test.false in
+    let most = c.loop-r.invariant.inside in
+    let all : c.loop-r.r ≡ length old = omega (arith, size, end, most) in
+    subst (λ n. bins_of c.loop-r.features.items y ≡ passed_below c.args.rows.now c.args.flags.now n (bins_of old) y) all (c.loop-r.invariant.turned y below)

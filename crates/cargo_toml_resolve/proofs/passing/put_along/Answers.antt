@@ -1,0 +1,39 @@
+use Rattle.std.proofs.Common.{◌≡◌, ◌≤◌, ◌+◌, take, length, get_or, subst, take_all, arith}
+use Rattle.cargo_toml_graph.specs.Reach.{Among}
+use Rattle.cargo_toml_walk.proofs.Steps.{among_more, item_at, item_is}
+use Rattle.cargo_toml_resolve.specs.Puts.{Puts}
+use Rattle.cargo_toml_resolve.specs.Texts.{texts_of}
+use Rattle.cargo_toml_resolve.proofs.PutAlong.{put_nowhere, put_past, then_put}
+use Rattle.cargo_toml_resolve.proofs.passing.put_along.Goals as goal
+use Rattle.cargo_toml_resolve.proofs.passing.put_along.Goals.{then-place-len+in_ok-put_at, else-place-len}
+
+pub loop-at-init : goal.loop-at-init
+loop-at-init c = record { put = put_nowhere (texts_of c.args.bins.now) c.args.features.now.items; known = c.requires }
+
+pub put_at-requires-clause-known : goal.put_at-requires-clause-known
+put_at-requires-clause-known c = c.loop-at.invariant.known
+
+pub loop-at-preserved : goal.loop-at-preserved
+loop-at-preserved c =
+    let row = c.args.row.now in
+    let i = c.loop-at.at-index in
+    let bins = texts_of c.args.bins.now in
+    elim c.if-place-len.branch [
+      | then-place-len+in_ok-put_at w ↦ rw (w.features-is) (rw (w.known-is) (record {
+        put = then_put (Among (take i row)) (λ y. y ≡ get_or row i 0) (Among (take (i + 1) row)) bins c.args.features.now.items c.loop-at.features.items c.loop-at.invariant.put
+            w.put_at.new.features.items (λ y. among_more row i y c.loop-at-test.true) (rw (item_is row i _ c.loop-at-test.true c.at-item.is) at w.in_ok-put_at.ensures.put);
+        known = w.in_ok-put_at.ensures.known;
+      }))
+      | else-place-len w ↦
+          let past : length c.args.features.now.items ≤ get_or row i 0 = (let same = c.loop-at.invariant.put.same.len in let out = w.if-place-len.false in let len = c.len.ensures in let at = item_at row i _ _ c.loop-at-test.true c.at-item.is c.place.ensures in omega (arith, same, out, len, at)) in
+          rw (w.features-is) (rw (w.known-is) (record {
+            put = put_past (Among (take i row)) (λ y. y ≡ get_or row i 0) (Among (take (i + 1) row)) bins c.args.features.now.items c.loop-at.features.items c.loop-at.invariant.put
+                (λ y. among_more row i y c.loop-at-test.true) (λ y is. omega (arith, past, is));
+            known = c.loop-at.invariant.known;
+          }))
+    ]
+
+pub returns-clause-put : goal.returns-clause-put
+returns-clause-put c =
+    let all : take c.loop-at.at-index c.args.row.now ≡ c.args.row.now = take_all c.loop-at.at-index c.args.row.now c.loop-at-test.false in
+    subst (λ row. Puts (Among row) (texts_of c.args.bins.now) c.args.features.now.items c.loop-at.features.items) all c.loop-at.invariant.put

@@ -1,0 +1,50 @@
+-- What is left of features once some are removed, feature by feature.
+use Rattle.std.specs.Prelude.{◌≡◌, ◌↔◌, ◌<◌, ℕ, Bool, false, List, length}
+use Rattle.std.specs.Prelude.{IsTrue, Vec, [], map, slice_get, Some}
+use Rattle.std.specs.Option.{option_map_or}
+use Rattle.std.specs.declared.alloc.Global.{Global}
+use Rattle.cargo_toml_graph.specs.Action.{Text, IsJoin}
+use Rattle.cargo_toml_graph.specs.Bins.{AreInByteOrder}
+use Rattle.cargo_toml_graph.specs.Graph.{Table, IsEnabledBy, KeepsName, Says}
+use Rattle.cargo_toml_graph.specs.Removal.{pass_all, unremoved}
+use Rattle.cargo_toml_features.specs.Places.{text_at}
+use Rattle.cargo_toml_resolve.specs.NumberedTables.{IsNumbered}
+use Rattle.cargo_toml_walk.specs.Numbers.{IsWanted}
+use Rattle.cargo_toml_features.specs.declared.features.Feature.{Feature}
+use Rattle.cargo_toml_features.specs.InOrder.{AreInOrder, AreTable, feature_at, names_of}
+use Rattle.cargo_toml_features.specs.Marks.{marks_of}
+use Rattle.cargo_toml_features.specs.Views.{action_at, has_text}
+
+-- v holds what the kept feature f does
+pub record IsKeptFeature (t : Table) (Removed : Text → Type 0) (f : Text)
+    (v : Feature) : Type 0 where
+  pub names : (x : Text) → IsTrue (has_text v.enables_features x) ↔ KeepsName t Removed f x
+  pub enabled_by : (e : Text) → IsTrue (has_text v.enabled_by e) ↔ IsEnabledBy t Removed f e
+  pub action : (k : Text) → IsJoin (Says t Removed f k) (action_at v.enables_deps k)
+
+-- the features vs make the table t, and the graph of numbers stands for it
+pub record StandFor (t : Table) (removed : Text → Bool) (vs : List Feature) (texts : List Text)
+    (edges names : List (Vec ℕ Global)) (flags : List Bool) : Type 0 where
+  pub table : AreTable t vs
+  pub in_order : AreInOrder vs
+  pub numbered : IsNumbered t (λ v. IsTrue (removed v)) texts edges names flags
+  pub count : length edges ≡ length vs
+  pub vertices : (i : ℕ) → i < length vs → text_at texts i ≡ text_at (names_of vs) i
+
+-- it has the name of the other, and its marks
+pub record IsNamedAlike (old new : Feature) : Type 0 where
+  pub key : new.key ≡ old.key
+  pub marks : marks_of new ≡ marks_of old
+
+-- the binaries that a feature of this name requires itself
+abbrev pub own_bins : List Feature → Text → List Text
+own_bins vs f = option_map_or (λ v. map (λ b. b.now) v.required_by_bins.items) (feature_at vs f) []
+
+-- the kept features in their places have the binaries that the removed ones pass on in byte order
+pub record ArePassedAt (t : Table) (removed : Text → Bool) (own : Text → List Text)
+    (texts : List Text) (flags : List Bool) (vs : List Feature) : Type 0 where
+  pub order : List Text
+  pub in_order : AreInByteOrder (λ v. IsTrue (removed v)) order
+  pub lists : (i : ℕ) (v : Feature) → IsWanted flags false i → slice_get vs i ≡ Some v
+      → map (λ b. b.now) v.required_by_bins.items
+      ≡ pass_all order (unremoved t) own (text_at texts i)

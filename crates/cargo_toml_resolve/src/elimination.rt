@@ -1,0 +1,57 @@
+//! Removed features are taken out by walks over their graph, and leave to others what they said.
+ghost use Rattle.std.specs.Prelude.{◌≡◌, IfOk, OnOk, length};
+ghost use Rattle.cargo_toml_resolve.specs.Leaving.{LeavesAll};
+ghost use Rattle.cargo_toml_resolve.specs.Placed.{ArePlaced};
+ghost use Rattle.cargo_toml_resolve.specs.Texts.{texts_of};
+
+use crate::graph::{Graph, Walked};
+use crate::leaving::leave;
+use crate::passing::pass_bins;
+use crate::walking::walk;
+use cargo_toml_features::features::Feature;
+use cargo_toml_walk::node::Node;
+use std::alloc::{AllocError, Global};
+
+// Each kept feature is left, by what was found of it.
+fn leave_all<'m>(
+    alloc: Global,
+    features: &mut Vec<Feature<'m>>,
+    walked: &Walked<'m>,
+) -> Result<(), AllocError>
+    requires { length walked.now.rows.items ≡ length features.old.items }
+    ensures { OnOk result (LeavesAll walked.now.flags.items walked.now.passed.items
+        walked.now.named.items walked.now.enablers.items (texts_of walked.now.texts.items)
+        features.old.items features.new.items) }
+{
+    let count = features.len();
+    for at in 0..count {
+        if !walked.flags[at] {
+            leave(alloc, features, Node::at(at), walked)?;
+        }
+    }
+    Ok(())
+}
+
+/// In each place what is kept of the feature there, and what walks over the graph of the features
+/// found.
+///
+/// A removed feature stays in its place, for whatever it then holds. It fails only where memory
+/// runs out.
+pub(crate) fn place<'m>(
+    alloc: Global,
+    features: &mut Vec<Feature<'m>>,
+    graph: Graph<'m>,
+) -> Result<Walked<'m>, AllocError>
+    requires { length graph.edges.items ≡ length features.old.items }
+    ensures { IfOk result (ArePlaced graph.entry features.old.items features.new.items) }
+{
+    let walked = walk(alloc, graph)?;
+    leave_all(alloc, features, &walked)?;
+    pass_bins(
+        alloc,
+        features,
+        walked.rows.as_slice(),
+        walked.flags.as_slice(),
+    )?;
+    Ok(walked)
+}

@@ -1,0 +1,136 @@
+//! Where no feature is removed: each learns which others enable it.
+ghost use Rattle.std.specs.Prelude.{◌≡◌, ◌≢◌, ◌↔◌, ◌⊎◌, ◌<◌, ℕ, IsTrue, OnOk, length};
+ghost use Rattle.cargo_toml_graph.specs.Action.{Text};
+ghost use Rattle.cargo_toml_graph.specs.Admitted.{is_below};
+ghost use Rattle.cargo_toml_graph.specs.Graph.{IsUnremoved, Table};
+ghost use Rattle.cargo_toml_graph.specs.Reach.{Among};
+ghost use Rattle.cargo_toml_graph.specs.Removal.{IsAscending};
+ghost use Rattle.cargo_toml_features.specs.InOrder.{AreInOrder, AreTable, HaveNoEnablers};
+ghost use Rattle.cargo_toml_features.specs.InOrder.{resolution_among};
+ghost use Rattle.cargo_toml_features.specs.Views.{has_text};
+ghost use Rattle.cargo_toml_features.specs.Places.{text_at};
+ghost use Rattle.cargo_toml_resolve.specs.Enabling.{AreSameButEnablers, Enables, LeadsTo};
+ghost use Rattle.cargo_toml_resolve.specs.Texts.{texts_of};
+
+use crate::numbering::{keys_of, push_actions, push_target};
+use cargo_toml_features::action::add_text;
+use cargo_toml_features::features::Feature;
+use cargo_toml_walk::node::Node;
+use std::alloc::{AllocError, Global};
+use std::collections::BTreeSet;
+
+// The features of these names, other than the one in place `own`. The first name is looked for at
+// `near` first; the answer is as of `push_target`.
+fn push_names(
+    row: &mut Vec<Node>,
+    named: &BTreeSet<&str>,
+    keys: &[&str],
+    own: Node,
+    mut near: usize,
+) -> Result<usize, AllocError>
+    requires { IsAscending (λ a b. IsTrue (is_below a b)) (texts_of keys.now) }
+    ensures { OnOk result ((x : ℕ) → Among row.new.items x ↔ (Among row.old.items x
+        ⊎ ((x < length keys.now) × (x ≢ own)
+        × IsTrue (has_text named.now (text_at (texts_of keys.now) x))))) }
+{
+    if named.is_empty() {
+        return Ok(near);
+    }
+    for name in named.iter() {
+        near = push_target(row, *name, keys, own, near)?;
+    }
+    Ok(near)
+}
+
+// Whether the feature names nothing and acts on nothing.
+fn leads_nowhere(feature: &Feature<'_>) -> bool
+    ensures { IsTrue result → (x : Text) → ¬ LeadsTo feature.now x }
+{
+    if !feature.enables_features.is_empty() {
+        return false;
+    }
+    feature.enables_deps.is_empty()
+}
+
+// The features that the one in place `own` enables: those that it names, and those that it acts on
+// plainly. The first name is looked for at `near` first; the answer is as of `push_target`.
+fn push_targets(
+    row: &mut Vec<Node>,
+    feature: &Feature<'_>,
+    keys: &[&str],
+    own: Node,
+    near: usize,
+) -> Result<usize, AllocError>
+    requires { IsAscending (λ a b. IsTrue (is_below a b)) (texts_of keys.now) }
+    ensures { OnOk result ((x : ℕ) → Among row.new.items x ↔ (Among row.old.items x
+        ⊎ ((x < length keys.now) × (x ≢ own)
+        × LeadsTo feature.now (text_at (texts_of keys.now) x)))) }
+{
+    // In long lists most features lead nowhere.
+    if leads_nowhere(feature) {
+        return Ok(near);
+    }
+    let near = push_names(row, &feature.enables_features, keys, own, near)?;
+    push_actions(row, &feature.enables_deps, keys, own)?;
+    Ok(near)
+}
+
+// The source is put among what enables the feature in this place.
+fn enable_at<'m>(
+    features: &mut Vec<Feature<'m>>,
+    at: Node,
+    source: &'m str,
+) -> Result<(), AllocError>
+    requires { at < length features.old.items }
+    ensures { OnOk result
+        (Enables (λ y. y ≡ at) source.now features.old.items features.new.items) }
+{
+    let feature = &mut features[at.place()];
+    add_text(&mut feature.enabled_by, source)?;
+    Ok(())
+}
+
+// The source is put among what enables each feature in the places of the row.
+fn enable_along<'m>(
+    features: &mut Vec<Feature<'m>>,
+    row: &[Node],
+    source: &'m str,
+) -> Result<(), AllocError>
+    requires { (y : ℕ) → Among row.now y → y < length features.old.items }
+    ensures { OnOk result
+        (Enables (Among row.now) source.now features.old.items features.new.items) }
+{
+    for at in row {
+        enable_at(features, *at, source)?;
+    }
+    Ok(())
+}
+
+/// Each feature learns which others enable it: those that name it, and those that act plainly on
+/// the dependency of its name.
+///
+/// The features stand in byte order, and none of them knows an enabler yet. It fails only where
+/// memory runs out.
+pub fn set_enablers<'m>(alloc: Global, features: &mut Vec<Feature<'m>>) -> Result<(), AllocError>
+    requires in_order { AreInOrder features.old.items }
+    requires no_enablers { HaveNoEnablers features.old.items }
+    ensures same { OnOk result (AreSameButEnablers features.old.items features.new.items) }
+    ensures unremoved { OnOk result ((t : Table) → AreTable t features.old.items →
+        IsUnremoved t (resolution_among features.new.items)) }
+{
+    let keys = keys_of(alloc, features.as_slice())?;
+    let mut row = Vec::new(alloc);
+    let mut near = 0;
+    for own in 0..keys.len() {
+        row.clear();
+        near = push_targets(
+            &mut row,
+            &features[own],
+            keys.as_slice(),
+            Node::at(own),
+            near,
+        )?;
+        enable_along(features, row.as_slice(), keys[own])?;
+    }
+    Ok(())
+}

@@ -1,0 +1,190 @@
+//! The binaries of removed features are passed on.
+ghost use Rattle.std.specs.Prelude.{◌≡◌, ◌<◌, ◌≤◌, ◌∷◌, ◌||◌, [], ℕ};
+ghost use Rattle.std.specs.Prelude.{bytes_eq, length, not, take, IfOk, OnOk};
+ghost use Rattle.cargo_toml_graph.specs.Action.{Text};
+ghost use Rattle.cargo_toml_graph.specs.Reach.{Among};
+ghost use Rattle.cargo_toml_graph.specs.Removal.{put_all};
+ghost use Rattle.cargo_toml_features.specs.Views.{has_text};
+ghost use Rattle.cargo_toml_resolve.specs.KnownBins.{AreKnown, Knows, MayKnow};
+ghost use Rattle.cargo_toml_resolve.specs.Passing.{bins_of, passed_below, AreSameButBins};
+ghost use Rattle.cargo_toml_resolve.specs.Puts.{Puts};
+ghost use Rattle.cargo_toml_resolve.specs.Texts.{texts_of};
+
+use crate::leaving::into_set;
+use cargo_toml_features::features::Feature;
+use cargo_toml_walk::node::Node;
+use std::alloc::{AllocError, Global};
+use std::collections::BTreeSet;
+
+/// A copy of the first ten, since the lists may change while it is read. It fails only where memory
+/// runs out.
+pub fn first_ten<'m>(bins: &Vec<&'m str>) -> Result<Vec<&'m str>, AllocError>
+    ensures { IfOk result (λ v. texts_of v.items ≡ take 10 (texts_of bins.now.items)) }
+{
+    let count = bins.len().min(10);
+    bins[..count].to_vec(*bins.allocator())
+}
+
+// The binaries of a list, as a set.
+fn known_in<'m>(bins: &Vec<&'m str>) -> Result<BTreeSet<&'m str>, AllocError>
+    ensures { IfOk result (λ s. Knows s (texts_of bins.now.items)) }
+{
+    let alloc = *bins.allocator();
+    into_set(alloc, bins.to_vec(alloc)?)
+}
+
+// A set for each feature, by places. Most features never come to have another binary, so
+// none is filled yet.
+fn known_bins<'m>(
+    alloc: Global,
+    features: &[Feature<'m>],
+) -> Result<Vec<BTreeSet<&'m str>>, AllocError>
+    ensures { IfOk result (λ v. AreKnown v.items features.now) }
+{
+    let mut known = Vec::with_capacity(alloc, features.len())?;
+    for _ in features {
+        known.push(BTreeSet::new(alloc))?;
+    }
+    Ok(known)
+}
+
+// The set is filled, unless it is already.
+fn know<'m>(known: &mut BTreeSet<&'m str>, bins: &Vec<&'m str>) -> Result<(), AllocError>
+    requires { MayKnow known.old (texts_of bins.now.items) }
+    ensures { OnOk result (Knows known.new (texts_of bins.now.items)) }
+{
+    if known.is_empty() {
+        *known = known_in(bins)?;
+    }
+    Ok(())
+}
+
+// The binary is put into the set; the answer says whether it wasn't there.
+fn add_known<'m>(known: &mut BTreeSet<&'m str>, bin: &'m str) -> Result<bool, AllocError>
+    ensures is_new { IfOk result (λ is_new. is_new ≡ not (has_text known.old bin.now)) }
+    ensures added { OnOk result ((x : Text) → has_text known.new x
+        ≡ (has_text known.old x || bytes_eq x bin.now)) }
+{
+    Ok(known.insert(bin)?)
+}
+
+// The binary is put at the end, unless it is there. A set says whether it is, since a feature may
+// come to have thousands.
+fn put_bin<'m>(
+    own: &mut Vec<&'m str>,
+    known: &mut BTreeSet<&'m str>,
+    bin: &'m str,
+) -> Result<(), AllocError>
+    requires { Knows known.old (texts_of own.old.items) }
+    ensures put { OnOk result (texts_of own.new.items
+        ≡ put_all (texts_of own.old.items) (bin.now ∷ [])) }
+    ensures known { OnOk result (Knows known.new (texts_of own.new.items)) }
+{
+    if add_known(known, bin)? {
+        own.push(bin)?;
+    }
+    Ok(())
+}
+
+// Each binary is put at the end, unless it is there.
+fn put_bins<'m>(
+    own: &mut Vec<&'m str>,
+    known: &mut BTreeSet<&'m str>,
+    bins: &[&'m str],
+) -> Result<(), AllocError>
+    requires { Knows known.old (texts_of own.old.items) }
+    ensures put { OnOk result (texts_of own.new.items
+        ≡ put_all (texts_of own.old.items) (texts_of bins.now)) }
+    ensures known { OnOk result (Knows known.new (texts_of own.new.items)) }
+{
+    for bin in bins {
+        put_bin(own, known, *bin)?;
+    }
+    Ok(())
+}
+
+fn put_at<'m>(
+    features: &mut Vec<Feature<'m>>,
+    known: &mut Vec<BTreeSet<&'m str>>,
+    at: Node,
+    bins: &[&'m str],
+) -> Result<(), AllocError>
+    requires at { at < length features.old.items }
+    requires known { AreKnown known.old.items features.old.items }
+    ensures put { OnOk result
+        (Puts (λ y. y ≡ at) (texts_of bins.now) features.old.items features.new.items) }
+    ensures known { OnOk result (AreKnown known.new.items features.new.items) }
+{
+    let feature = &mut features[at.place()];
+    let known = &mut known[at.place()];
+    know(known, &feature.required_by_bins)?;
+    put_bins(&mut feature.required_by_bins, known, bins)
+}
+
+// The binaries are put into the lists of the features that the row names; it may name what
+// is no feature, too.
+fn put_along<'m>(
+    features: &mut Vec<Feature<'m>>,
+    known: &mut Vec<BTreeSet<&'m str>>,
+    row: &[Node],
+    bins: &[&'m str],
+) -> Result<(), AllocError>
+    requires { AreKnown known.old.items features.old.items }
+    ensures put { OnOk result
+        (Puts (Among row.now) (texts_of bins.now) features.old.items features.new.items) }
+    ensures known { OnOk result (AreKnown known.new.items features.new.items) }
+{
+    for at in row {
+        if at.place() < features.len() {
+            put_at(features, known, *at, bins)?;
+        }
+    }
+    Ok(())
+}
+
+// The feature in place r passes its first ten binaries on along the row.
+fn pass_from<'m>(
+    features: &mut Vec<Feature<'m>>,
+    known: &mut Vec<BTreeSet<&'m str>>,
+    r: Node,
+    row: &[Node],
+) -> Result<(), AllocError>
+    requires r { r < length features.old.items }
+    requires known { AreKnown known.old.items features.old.items }
+    ensures put { OnOk result (Puts (Among row.now)
+        (take 10 (bins_of features.old.items r)) features.old.items features.new.items) }
+    ensures known { OnOk result (AreKnown known.new.items features.new.items) }
+{
+    let bins = first_ten(&features[r.place()].required_by_bins)?;
+    if bins.is_empty() {
+        return Ok(());
+    }
+    put_along(features, known, row, bins.as_slice())
+}
+
+/// Removed features pass their binaries on to those that their rows name, in the order of their
+/// places: at its turn each its first ten.
+///
+/// A kept feature passes nothing on. It fails only where memory runs out.
+pub(crate) fn pass_bins<'m>(
+    alloc: Global,
+    features: &mut Vec<Feature<'m>>,
+    rows: &[Vec<Node>],
+    flags: &[bool],
+) -> Result<(), AllocError>
+    requires rows { length rows.now ≡ length features.old.items }
+    requires flags { length features.old.items ≤ length flags.now }
+    ensures others { OnOk result (AreSameButBins features.old.items features.new.items) }
+    ensures bins { OnOk result ((y : ℕ) → y < length features.old.items
+        → bins_of features.new.items y ≡ passed_below rows.now flags.now (length features.old.items)
+        (bins_of features.old.items) y) }
+{
+    let mut known = known_bins(alloc, features.as_slice())?;
+    let size = features.len();
+    for r in 0..size {
+        if flags[r] {
+            pass_from(features, &mut known, Node::at(r), rows[r].as_slice())?;
+        }
+    }
+    Ok(())
+}

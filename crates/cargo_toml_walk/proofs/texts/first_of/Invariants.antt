@@ -1,6 +1,0 @@
-use Rattle.std.proofs.Common.{◌≡◌, ◌<◌, ℕ, map}
-use Rattle.cargo_toml_walk.specs.Numbered.{text_at}
-use Rattle.cargo_toml_walk.proofs.texts.first_of.Given as goal
-
-abbrev pub invariant-loop-i : goal.invariant-loop-i
-invariant-loop-i l = (k : ℕ) → k < l.i → text_at (map (λ t. t.now) l.texts) k ≡ l.text → ⊥

@@ -7,6 +7,7 @@ use Rattle.cargo_toml_graph.specs.Action.{Text}
 use Rattle.cargo_toml_graph.specs.Admitted.{Listed, admitted}
 use Rattle.cargo_toml_graph.specs.Bins.{IsComplete}
 use Rattle.cargo_toml_graph.specs.Graph.{Table}
+use Rattle.cargo_toml_graph.specs.Kept.{KeepsEnabling, LosesNothing}
 use Rattle.cargo_toml_tables.specs.Products.{ProductMeaning}
 use Rattle.cargo_toml_manifest.specs.Inheriting.{own_tables}
 use Rattle.cargo_toml_manifest.specs.Manifests.{ManifestMeaning}
@@ -26,6 +27,13 @@ requirements_by name b = map (λ f. (f, unwrap_or b.name name)) b.required_featu
 -- what the binaries require, binary by binary and mention by mention; nothing without a package
 abbrev pub requirements : {M : Type 0} → ManifestMeaning M → List (Text × Text)
 requirements m = option_map_or (λ p. flat_map (requirements_by p.name) m.bin) m.«package» []
+
+-- what hiding leaves, beside each full answer: one of a filter that keeps every name
+pub record IsHiding (IsFull : Answer → Type 0) (a : Answer) : Type 0 where
+  -- between features that are left, what enables what transitively is the same
+  pub closure : (full : Answer) → IsFull full → KeepsEnabling full.resolution a.resolution
+  -- what one of them enables recursively loses no feature that is left and no dependency
+  pub nothing_lost : (full : Answer) → IsFull full → LosesNothing full.resolution a.resolution
 
 -- where so many names count, actions of a feature, and keys of a table of dependencies
 module _ (limit : ℕ) where

@@ -7,7 +7,7 @@ ghost use Rattle.cargo_toml_dependencies.specs.Targets.{target_meaning};
 ghost use Rattle.cargo_toml_manifest.specs.Inheriting.{own_tables};
 ghost use Rattle.cargo_toml_manifest.specs.Manifests.{manifest_meaning};
 ghost use Rattle.cargo_toml_graph.specs.Admitted.{Listed, admitted};
-ghost use Rattle.cargo_toml_graph.specs.Kept.{KeepsEnabling, LosesNothing, NoneIsLeft};
+ghost use Rattle.cargo_toml_graph.specs.Kept.{NoneIsLeft};
 ghost use Rattle.cargo_toml_resolve.specs.Filter.{HasNameFilter, IsNameFilter};
 ghost use Rattle.cargo_toml_resolve.specs.Removed.{AgreesWithAll, IsAnswerBy};
 ghost use Rattle.cargo_toml_features.specs.declared.admit.TheConstants.{MAX_ITEMS};
@@ -15,11 +15,10 @@ ghost use Rattle.cargo_toml_features.specs.Entries.{tables_meaning};
 ghost use Rattle.cargo_toml_features.specs.FirstTarget.{HaveTargets};
 ghost use Rattle.cargo_toml_features.specs.Hashed.{IsListingOf};
 ghost use Rattle.cargo_toml_features.specs.Reached.{IsKeyed};
-ghost use Rattle.cargo_toml_features.specs.Resolved.{Answer};
 ghost use Rattle.cargo_toml_features.specs.Views.{answer_of, entry_of};
 ghost use Rattle.cargo_toml_resolver.specs.Filtered.{filter_of, limit_of, state_of};
 ghost use Rattle.cargo_toml_resolver.specs.Parsed.{AreBinsComplete, IsAnswerFor, IsParsed};
-ghost use Rattle.cargo_toml_resolver.specs.Parsed.{IsParsedBy};
+ghost use Rattle.cargo_toml_resolver.specs.Parsed.{IsHiding, IsParsedBy};
 
 pub use crate::complete_and_parse::complete_and_parse_into;
 use crate::heap::keep_heap;
@@ -169,12 +168,9 @@ impl<'config, F: Fn(&str) -> bool, S: BuildHasher + Clone> Resolver<'config, F, 
             (manifest_meaning (λ m. m) manifest.now) F.Fn (filter_of self.now) (answer_of a)) }
         ensures no_removed_name { IfOk result (λ a.
             NoneIsLeft (λ r. IsSome ((answer_of a).redirects r)) (answer_of a).resolution) }
-        ensures closure { IfOk result (λ a. (full : Answer)
-            → IsParsed (limit_of self.now) (manifest_meaning (λ m. m) manifest.now) (λ _. true) full
-            → KeepsEnabling full.resolution (answer_of a).resolution) }
-        ensures nothing_lost { IfOk result (λ a. (full : Answer)
-            → IsParsed (limit_of self.now) (manifest_meaning (λ m. m) manifest.now) (λ _. true) full
-            → LosesNothing full.resolution (answer_of a).resolution) }
+        ensures hiding { IfOk result (λ a. IsHiding
+            (IsParsed (limit_of self.now) (manifest_meaning (λ m. m) manifest.now) (λ _. true))
+            (answer_of a)) }
         ensures complete_bins { IfOk result (λ a. AreBinsComplete (limit_of self.now)
             (manifest_meaning (λ m. m) manifest.now) (λ r. is_some ((answer_of a).redirects r))
             (answer_of a)) }
@@ -221,14 +217,9 @@ impl<'config, F: Fn(&str) -> bool, S: BuildHasher + Clone> Resolver<'config, F, 
         ensures agreement { IfOk result (λ b. (listed : Listed) → IsListingOf features.now listed
             → AgreesWithAll F.Fn (filter_of self.now) (admitted (limit_of self.now) listed)
             (map entry_of dependencies.now) (answer_of b)) }
-        ensures closure { IfOk result (λ a. (listed : Listed) (full : Answer)
-            → IsListingOf features.now listed → IsAnswerFor (limit_of self.now) listed
-            (map entry_of dependencies.now) [] (λ _. []) (λ _. true) full
-            → KeepsEnabling full.resolution (answer_of a).resolution) }
-        ensures nothing_lost { IfOk result (λ a. (listed : Listed) (full : Answer)
-            → IsListingOf features.now listed → IsAnswerFor (limit_of self.now) listed
-            (map entry_of dependencies.now) [] (λ _. []) (λ _. true) full
-            → LosesNothing full.resolution (answer_of a).resolution) }
+        ensures hiding { IfOk result (λ a. (listed : Listed) → IsListingOf features.now listed
+            → IsHiding (IsAnswerFor (limit_of self.now) listed (map entry_of dependencies.now) []
+            (λ _. []) (λ _. true)) (answer_of a)) }
         ensures listed { IfOk result (λ _. (listed : Listed) × IsListingOf features.now listed) }
         ensures keyed { IfOk result (λ a. IsKeyed a.features) }
         ensures targets { IfOk result (λ a. HaveTargets a.dependencies) }

@@ -9,8 +9,8 @@ returns-clause-kept g c = c.in_ok-resolved.ensures.resolved.kept
 
 pub returns-clause-closure : goal.returns-clause-closure
 returns-clause-closure g c =
-    c.in_ok-resolved.ensures.closure (answer_of c.args.whole.now) c.requires.whole
+    c.in_ok-resolved.ensures.hiding.closure (answer_of c.args.whole.now) c.requires.whole
 
 pub returns-clause-nothing_lost : goal.returns-clause-nothing_lost
 returns-clause-nothing_lost g c =
-    c.in_ok-resolved.ensures.nothing_lost (answer_of c.args.whole.now) c.requires.whole
+    c.in_ok-resolved.ensures.hiding.nothing_lost (answer_of c.args.whole.now) c.requires.whole

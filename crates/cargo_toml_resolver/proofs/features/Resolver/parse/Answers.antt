@@ -54,21 +54,20 @@ returns-clause-no_removed_name g c =
     none_left (admitted limit m.features) (parsed_entries limit m) m.feature_details (own_of (requirements m))
     (IsRemovedBy g.F.Fn (filter_of c.args.self.now) (parsed_table limit m)) (answer_of c.in_ok-resolve.field-0) (returns-clause-resolved g c).answer
 
-pub returns-clause-closure : goal.returns-clause-closure
-returns-clause-closure g c = λ full all.
+pub returns-clause-hiding : goal.returns-clause-hiding
+returns-clause-hiding g c =
     let limit = limit_of c.args.self.now in
     let m = manifest_meaning (λ m. m) c.args.manifest.now in
-    keeps_enabling (admitted limit m.features) (parsed_entries limit m) m.feature_details (own_of (requirements m))
-    (IsRemovedBy g.F.Fn (filter_of c.args.self.now) (parsed_table limit m)) (answer_of c.in_ok-resolve.field-0) (returns-clause-resolved g c).answer
-    m.feature_details (own_of (requirements m)) full all
-
-pub returns-clause-nothing_lost : goal.returns-clause-nothing_lost
-returns-clause-nothing_lost g c = λ full all.
-    let limit = limit_of c.args.self.now in
-    let m = manifest_meaning (λ m. m) c.args.manifest.now in
-    loses_nothing (admitted limit m.features) (parsed_entries limit m) m.feature_details (own_of (requirements m))
-    (IsRemovedBy g.F.Fn (filter_of c.args.self.now) (parsed_table limit m)) (answer_of c.in_ok-resolve.field-0) (returns-clause-resolved g c).answer
-    m.feature_details (own_of (requirements m)) full all
+    let fs = admitted limit m.features in
+    let es = parsed_entries limit m in
+    let own = own_of (requirements m) in
+    let removed = IsRemovedBy g.F.Fn (filter_of c.args.self.now) (parsed_table limit m) in
+    let a = answer_of c.in_ok-resolve.field-0 in
+    let answer = (returns-clause-resolved g c).answer in
+    record {
+      closure = λ full all. keeps_enabling fs es m.feature_details own removed a answer m.feature_details own full all;
+      nothing_lost = λ full all. loses_nothing fs es m.feature_details own removed a answer m.feature_details own full all;
+    }
 
 pub returns-clause-complete_bins : goal.returns-clause-complete_bins
 returns-clause-complete_bins g c =

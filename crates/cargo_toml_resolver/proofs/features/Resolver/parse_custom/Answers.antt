@@ -27,16 +27,14 @@ returns-clause-agreement g c = λ listed is.
     agrees (admitted (limit_of c.args.self.now) listed) (map entry_of c.args.dependencies.now)
     g.F.Fn (filter_of c.args.self.now) (answer_of c.in_ok-resolve.field-0) [] (λ _. []) (returns-clause-resolved g c listed is)
 
-pub returns-clause-closure : goal.returns-clause-closure
-returns-clause-closure g c = λ listed full is all.
+pub returns-clause-hiding : goal.returns-clause-hiding
+returns-clause-hiding g c = λ listed is.
     let fs = admitted (limit_of c.args.self.now) listed in
     let es = map entry_of c.args.dependencies.now in
-    keeps_enabling fs es [] (λ _. []) (IsRemovedBy g.F.Fn (filter_of c.args.self.now) (table_of fs es))
-    (answer_of c.in_ok-resolve.field-0) (returns-clause-resolved g c listed is).answer [] (λ _. []) full all
-
-pub returns-clause-nothing_lost : goal.returns-clause-nothing_lost
-returns-clause-nothing_lost g c = λ listed full is all.
-    let fs = admitted (limit_of c.args.self.now) listed in
-    let es = map entry_of c.args.dependencies.now in
-    loses_nothing fs es [] (λ _. []) (IsRemovedBy g.F.Fn (filter_of c.args.self.now) (table_of fs es))
-    (answer_of c.in_ok-resolve.field-0) (returns-clause-resolved g c listed is).answer [] (λ _. []) full all
+    let removed = IsRemovedBy g.F.Fn (filter_of c.args.self.now) (table_of fs es) in
+    let a = answer_of c.in_ok-resolve.field-0 in
+    let answer = (returns-clause-resolved g c listed is).answer in
+    record {
+      closure = λ full all. keeps_enabling fs es [] (λ _. []) removed a answer [] (λ _. []) full all;
+      nothing_lost = λ full all. loses_nothing fs es [] (λ _. []) removed a answer [] (λ _. []) full all;
+    }

@@ -1,9 +1,11 @@
+-- what binaries require: a user has to believe these
+pub mod OwnBins
+-- the code's own steps, in contracts of inner functions alone: nothing here has to be believed
 pub mod Reading
 pub mod Recording
 pub mod Redundant
 pub mod Implying
 pub mod ReadFeature
-pub mod OwnBins
 pub mod Requiring
 pub mod Slots
 pub mod Ascending

@@ -1,3 +1,4 @@
+-- actions, the graph and what removal leaves: a user has to believe these
 pub mod Action
 pub mod Reach
 pub mod Graph
@@ -7,4 +8,5 @@ pub mod Bins
 pub mod Recursive
 pub mod Kept
 pub mod Admitted
+-- worked examples, which compute: nothing here has to be believed
 pub mod Examples

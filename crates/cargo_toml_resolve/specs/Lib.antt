@@ -1,5 +1,7 @@
+-- which features are removed: a user has to believe these
 pub mod Filter
 pub mod Removed
+-- the code's own steps, in contracts of inner functions alone: nothing here has to be believed
 pub mod Leaving
 pub mod TakingOver
 pub mod KeptFeatures

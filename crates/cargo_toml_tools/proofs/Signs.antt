@@ -24,7 +24,7 @@ pub adds_if : {T E : Type 0} (test : List ℕ → Bool) (r : Result T E) (old ne
 adds_if test (Ok x) old new t e p = adds_one test old new t e p
 adds_if test (Err x) old new t e p = tt
 
-line_append : (xs ys : List ℕ) → is_line xs ≡ true → is_line ys ≡ true → is_line (xs ++ ys) ≡ true
+pub line_append : (xs ys : List ℕ) → is_line xs ≡ true → is_line ys ≡ true → is_line (xs ++ ys) ≡ true
 line_append xs ys e f = list_all-append is_sign xs ys ∙ and_from (is_line xs) (is_line ys) e f
 
 guarded_append : (mark : ℕ) (behind : Bool) (xs ys : List ℕ) → is_guarded mark behind xs ≡ true → is_guarded mark false ys ≡ true → is_guarded mark behind (xs ++ ys) ≡ true
@@ -228,3 +228,9 @@ one_line a b c d e sep h first then_sep g second ends = record {
   ends = ends;
   signs = line_after c d (ap is_line then_sep ∙ line_append b sep (line_after a b h first) g) second;
 }
+
+pub cell_line : (bs : List ℕ) → is_cell bs ≡ true → is_line bs ≡ true
+cell_line [] h = refl
+cell_line (b ∷ bs) h =
+    let p = and_parts (is_sign b && not (nat_eq b 124)) (is_cell bs) h in
+    and_from (is_sign b) (is_line bs) (and_parts (is_sign b) (not (nat_eq b 124)) p.0).0 (cell_line bs p.1)

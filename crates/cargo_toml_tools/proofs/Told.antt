@@ -1,5 +1,6 @@
 -- Entries and tables of dependencies, one after another.
-use Rattle.std.proofs.Common.{◌≡◌, ◌⊎◌, ◌++◌, ◌&&◌, ◌||◌, Bool, true, List, [], ◌∷◌, String, Global, string_bytes, inl, inr, refl, sym, ap, ◌∙◌}
+use Rattle.std.proofs.Common.{◌≡◌, ◌⊎◌, ◌++◌, ◌&&◌, ◌||◌, Bool, true, List, [], ◌∷◌, String, Global, string_bytes, inl, inr, refl, sym, ap, subst, ◌∙◌}
+use Rattle.std.specs.Prelude.{Result, Err, IfErr}
 use Rattle.std.proofs.lemmas.Bool.{and_from, or_left, or_right}
 use Rattle.std.proofs.lemmas.List.Folds.{list_all-append, list_any-append}
 use Rattle.std.specs.List.{flat_map, list_all, list_any}
@@ -56,3 +57,9 @@ module _ {A : Type 0} (test : A → Bool) where
   pub any_other : {B : Type 0} (xs : List A) (g : B → List A) (bs : List B) → list_any (λ b. list_any test (g b)) bs ≡ true
       → list_any test (xs ++ flat_map g bs) ≡ true
   any_other xs g bs e = list_any-append test xs (flat_map g bs) ∙ or_right (list_any test xs) (list_any test (flat_map g bs)) (any_flat g bs ∙ e)
+
+-- what holds of a fault holds of the refusal with it
+pub at_err : {T E : Type 0} (r : Result T E) (e f : E) (P : E → Type 0) → r ≡ Err e → e ≡ f → P f → IfErr r P
+at_err {T} {E} r e f P at same h =
+    let Q : Result T E → Type 0 = λ s. IfErr s P in
+    subst Q (sym at) (subst P (sym same) h)

@@ -1,7 +1,7 @@
 -- What is written of a stranger's text.
 use Rattle.std.specs.Prelude.{◌≡◌, ◌++◌, ◌&&◌, ◌||◌, ℕ, Bool, List, [], ◌∷◌, true, false}
-use Rattle.std.specs.Prelude.{codes, not, nat_eq, nat_le}
-use Rattle.std.specs.List.{list_all, list_any}
+use Rattle.std.specs.Prelude.{codes, length, not, nat_eq, nat_le}
+use Rattle.std.specs.List.{flat_map, list_all, list_any}
 use Rattle.cargo_toml_tools.specs.declared.escape.Format.{Format}
 use Rattle.cargo_toml_tools.specs.declared.escape.Format.TheVariants.{Dot, Line, Markdown}
 
@@ -45,6 +45,19 @@ is_plain Dot c = is_sign c && (not (nat_eq c 34) && not (nat_eq c 92))
 -- no byte is a control of ASCII or a bar, as in a cell of a table
 abbrev pub is_cell : List ℕ → Bool
 is_cell bytes = list_all (λ b. is_sign b && not (nat_eq b 124)) bytes
+
+-- a text has one more whole line
+pub record AddsLine (old new : List ℕ) : Type 0 where
+  pub line : List ℕ
+  pub follows : new ≡ old ++ (line ++ (10 ∷ []))
+  pub signs : is_line line ≡ true
+
+-- a text of so many whole lines, in which no other control of ASCII stands
+pub record AreLines (count : ℕ) (bytes : List ℕ) : Type 0 where
+  pub lines : List (List ℕ)
+  pub whole : bytes ≡ flat_map (λ line. line ++ (10 ∷ [])) lines
+  pub signs : list_all is_line lines ≡ true
+  pub counted : length lines ≡ count
 
 -- a text of one line, with its end
 pub record IsOneLine (bytes : List ℕ) : Type 0 where

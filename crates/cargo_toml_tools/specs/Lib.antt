@@ -1,6 +1,9 @@
+pub mod Audited
+pub mod Checked
 pub mod Documented
 pub mod Escapes
 pub mod Indexed
+pub mod IndexRows
 pub mod Linted
 pub mod Patterns
 pub mod Rows

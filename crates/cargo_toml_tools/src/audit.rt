@@ -1,5 +1,7 @@
 //! The report on a workspace: what each member is, and what is odd.
-ghost use Rattle.std.specs.Prelude.{◌≡◌};
+ghost use Rattle.std.specs.Prelude.{◌≡◌, [], OnOk};
+ghost use Rattle.std.specs.BTreeSet.{btree_set_len};
+ghost use Rattle.cargo_toml_tools.specs.Audited.{AddsMember, word_of};
 
 mod differences;
 mod inherited;
@@ -56,7 +58,9 @@ pub enum Code {
 
 impl Code {
     /// The word that stands for it in a report.
-    pub fn word(self) -> &'static str {
+    pub fn word(self) -> &'static str
+        ensures { result.now ≡ word_of self }
+    {
         match self {
             Code::Incomplete => "incomplete",
             Code::ListedTwice => "listed-twice",
@@ -103,7 +107,10 @@ pub struct Audit {
 
 impl Audit {
     /// The report on no member.
-    pub fn new(alloc: Global) -> Audit {
+    pub fn new(alloc: Global) -> Audit
+        ensures members { result.members.items ≡ [] }
+        ensures findings { btree_set_len result.findings ≡ 0 }
+    {
         Audit {
             members: Vec::new(alloc),
             findings: BTreeSet::new(alloc),
@@ -125,15 +132,17 @@ impl Audit {
     }
 
     /// Adds what is odd of how members are listed.
-    pub fn add_listing(&mut self, alloc: Global, members: &Members) -> Result<(), AllocError> {
+    pub fn add_listing(&mut self, alloc: Global, members: &Members) -> Result<(), AllocError>
+        ensures { self.new.members ≡ self.old.members }
+    {
         for folder in &members.twice {
             let words = String::from_str(alloc, "two entries of members lead to it")?;
             self.find(Code::ListedTwice, folder.as_str(), words)?;
         }
-        for folder in &members.folders {
-            if folder.as_str() == ".." || folder.starts_with("../") || folder.starts_with('/') {
+        for member in &members.folders {
+            if is_outside(member.as_str()) {
                 let words = String::from_str(alloc, "it lies outside the workspace's folder")?;
-                self.find(Code::Outside, folder.as_str(), words)?;
+                self.find(Code::Outside, member.as_str(), words)?;
             }
         }
         Ok(())
@@ -145,7 +154,10 @@ impl Audit {
         &mut self,
         alloc: Global,
         manifest: &Manifest<M>,
-    ) -> Result<Vec<String>, AllocError> {
+    ) -> Result<Vec<String>, AllocError>
+        ensures members { self.new.members ≡ self.old.members }
+        ensures findings { self.new.findings ≡ self.old.findings }
+    {
         let mut keys = inherited_keys(alloc, manifest)?;
         add_inherited_dependencies(alloc, manifest, &mut keys, &mut self.inherited)?;
         Ok(keys)
@@ -159,7 +171,10 @@ impl Audit {
         manifest: &Manifest<M>,
         inherits: Vec<String>,
         workspace: &Workspace<M>,
-    ) -> Result<(), Error> {
+    ) -> Result<(), Error>
+        ensures { OnOk result
+            (AddsMember folder.now inherits self.old.members.items self.new.members.items) }
+    {
         let member = summarize(alloc, folder, manifest, inherits)?;
         add_uses(alloc, folder, manifest, &mut self.uses)?;
         self.compare(alloc, &member, workspace)?;
@@ -178,4 +193,9 @@ impl Audit {
     {
         self.find(Code::Incomplete, folder, String::from_str(alloc, words)?)
     }
+}
+
+/// Whether a folder that is seen from the workspace's lies outside that one.
+fn is_outside(folder: &str) -> bool {
+    folder == ".." || folder.starts_with("../") || folder.starts_with('/')
 }

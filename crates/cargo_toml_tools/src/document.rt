@@ -5,7 +5,7 @@ ghost use Rattle.cargo_toml_tools.specs.Documented.{is_private, is_shown};
 mod dot;
 mod reached;
 
-use crate::escape::{Format, push_code, push_escaped};
+use crate::escape::{Format, comma_before, push_code, push_escaped};
 use cargo_toml::features::{DepAction, Feature, Features};
 use cargo_toml::{FeatureSet, Manifest};
 pub use dot::graph;
@@ -159,7 +159,7 @@ fn push_row(alloc: Global, page: &mut String, row: &Row<'_>) -> Result<(), Alloc
 
 fn push_names(page: &mut String, names: &BTreeSet<&str>) -> Result<(), AllocError> {
     for (i, name) in names.iter().enumerate() {
-        page.push_str(if i == 0 { "" } else { ", " })?;
+        page.push_str(comma_before(i))?;
         push_code(page, *name)?;
     }
     Ok(())
@@ -173,7 +173,7 @@ fn push_actions(
     actions: &BTreeMap<&str, DepAction<'_>>,
 ) -> Result<(), AllocError> {
     for (i, (key, action)) in actions.iter().enumerate() {
-        page.push_str(if i == 0 { "" } else { ", " })?;
+        page.push_str(comma_before(i))?;
         push_action(alloc, page, *key, action)?;
     }
     Ok(())
@@ -190,7 +190,7 @@ fn push_action(
         return push_code(page, format!(in alloc; "{key}{mark}")?.as_str());
     }
     for (i, feature) in action.dep_features.iter().enumerate() {
-        page.push_str(if i == 0 { "" } else { ", " })?;
+        page.push_str(comma_before(i))?;
         push_code(page, format!(in alloc; "{key}{mark}/{feature}")?.as_str())?;
     }
     Ok(())

@@ -46,6 +46,13 @@ pub fn push_code(text: &mut String, name: &str) -> Result<(), AllocError>
     }
 }
 
+/// What stands before the item at this place of a list: a comma, but not before the first.
+pub(crate) fn comma_before(place: usize) -> &'static str
+    ensures { is_cell result.now ≡ true }
+{
+    if place == 0 { "" } else { ", " }
+}
+
 /// The line that tells why a file is refused.
 pub fn fault_line(alloc: Global, file: &str, words: &str) -> Result<String, AllocError>
     ensures { IfOk result (λ line. IsOneLine (string_bytes line)) }

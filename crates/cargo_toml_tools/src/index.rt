@@ -1,17 +1,23 @@
 //! The line of JSON that a registry's index has of a crate, by the rules of Cargo's.
-ghost use Rattle.std.specs.Prelude.{◌≡◌, ◌⊎◌, Err, IfErr, None, OnOk, false, true};
-ghost use Rattle.cargo_toml_tools.specs.declared.index.IndexError.TheVariants.{Incomplete};
+ghost use Rattle.std.specs.Prelude.{◌≡◌, ◌↔◌, ◌⊎◌, Err, IfErr, IfOk, None, OnOk, string_bytes};
+ghost use Rattle.std.specs.Option.{option_copied};
+ghost use Rattle.serde_json.specs.View.{members_view};
+ghost use Rattle.cargo_toml.specs.Manifests.{manifest_meaning};
 ghost use Rattle.cargo_toml_tools.specs.declared.index.IndexError.TheVariants.{Memory, NoPackage};
-ghost use Rattle.cargo_toml_tools.specs.Indexed.{RefusesVersion};
-ghost use Rattle.cargo_toml_tools.specs.Indexed.{is_stated, is_stated_if_any};
+ghost use Rattle.cargo_toml_tools.specs.Indexed.{Explains, IsTaken};
+ghost use Rattle.cargo_toml_tools.specs.IndexRows.{AddsFeatures, HasRows, IsLineOf};
+ghost use Rattle.cargo_toml_tools.specs.IndexRows.{checksum_rows, stated_rows, with_rows};
 
+mod checks;
 mod dependencies;
 mod entry;
 mod refusals;
 
 use crate::json::{put_text, put_texts};
-use cargo_toml::{FeatureSet, Inheritable, Manifest, Package, SemVer};
+use cargo_toml::{FeatureSet, Manifest};
+use checks::{Stated, check_crate};
 use dependencies::entries;
+use refusals::{AllTables, Tables};
 use serde_json::{Map, Value, put};
 use std::alloc::{AllocError, AllocFailed, Global};
 use std::fmt;
@@ -84,78 +90,81 @@ pub fn index_line<M>(
     text: &str,
     checksum: Option<&str>,
 ) -> Result<String, IndexError>
-    ensures no_package { manifest.now.«package» ≡ None → result ≡ Err NoPackage }
+    ensures no_package { (result ≡ Err NoPackage) ↔ (manifest.now.«package» ≡ None) }
+    ensures taken { OnOk result (IsTaken text.now (manifest_meaning (λ m. m) manifest.now)) }
+    ensures refused { IfErr result (Explains text.now (manifest_meaning (λ m. m) manifest.now)) }
+    ensures exact { IfErr result
+        (λ e. (e ≡ Memory) ⊎ ¬ IsTaken text.now (manifest_meaning (λ m. m) manifest.now)) }
+    ensures line { IfOk result (λ line. IsLineOf (manifest_meaning (λ m. m) manifest.now)
+        (option_copied checksum.entry) (string_bytes line)) }
 {
     let Some(package) = &manifest.package else {
         return Err(IndexError::NoPackage);
     };
-    let version = stated_version(alloc, &package.version, text)?;
-    let dependencies = entries(alloc, manifest)?;
-    let mut line = package_members(alloc, package, version, dependencies)?;
-    put_features(alloc, &mut line, &manifest.features)?;
-    if checksum.is_some() {
-        put_text(alloc, &mut line, "cksum", checksum)?;
-    }
-    Ok(Value::Object(line).to_string(alloc)?)
-}
-
-/// The version, where the text states one: a manifest without one reads as of version 0.0.0.
-fn stated_version(
-    alloc: Global,
-    version: &Inheritable<SemVer>,
-    text: &str,
-) -> Result<String, IndexError>
-    ensures stated { OnOk result (is_stated version.now ≡ true) }
-    ensures refused { IfErr result (RefusesVersion version.now) }
-{
-    let Inheritable::Set(version) = version else {
-        return Err(IndexError::Incomplete);
+    let dependencies = AllTables {
+        own: Tables {
+            normal: &manifest.dependencies,
+            dev: &manifest.dev_dependencies,
+            build: &manifest.build_dependencies,
+        },
+        targets: &manifest.target,
     };
-    let words = format!(in alloc; "{version}")?;
-    if words.as_str() == "0.0.0" && !states_version(alloc, text)? {
-        return Err(IndexError::NoVersion);
-    }
-    Ok(words)
+    let stated = check_crate(alloc, package, dependencies, text)?;
+    Ok(line_of(alloc, stated, dependencies, &manifest.features, checksum)?)
 }
 
-/// Whether the table `package` of this text has a key `version`.
-fn states_version(alloc: Global, text: &str) -> Result<bool, IndexError>
-    ensures { IfErr result (λ e. e ≡ Memory) }
-{
-    match toml::table_from_str(alloc, text) {
-        Ok(table) => Ok(match table.get("package") {
-            Some(package) => package.get("version").is_some(),
-            None => false,
-        }),
-        Err(fault) if fault.is_memory() => Err(IndexError::Memory),
-        Err(_) => Ok(false),
-    }
-}
-
-/// The members that are of the package alone, and its dependencies.
-fn package_members<M>(
+/// The line of a crate that an index takes.
+fn line_of(
     alloc: Global,
-    package: &Package<M>,
-    version: String,
-    dependencies: Vec<Value>,
-) -> Result<Map<String, Value>, IndexError>
-    ensures stated { OnOk result (is_stated_if_any «package».now.rust_version ≡ true) }
-    ensures refused { IfErr result (λ e. (e ≡ Memory)
-        ⊎ ((e ≡ Incomplete) × (is_stated_if_any «package».now.rust_version ≡ false))) }
+    stated: Stated<'_>,
+    dependencies: AllTables<'_>,
+    features: &FeatureSet,
+    checksum: Option<&str>,
+) -> Result<String, AllocError>
+    ensures { IfOk result (λ line. HasRows (stated_rows stated.entry)
+        (option_copied checksum.entry) (string_bytes line)) }
 {
-    let rust_version = match &package.rust_version {
-        Some(Inheritable::Set(text)) => Some(text.as_str()),
-        Some(Inheritable::Inherited) => return Err(IndexError::Incomplete),
-        None => None,
-    };
+    let dependencies = entries(alloc, dependencies)?;
     let mut line = Map::new(alloc);
-    put_text(alloc, &mut line, "name", Some(package.name.as_str()))?;
-    put(&mut line, alloc, "vers", Value::String(version))?;
-    put(&mut line, alloc, "deps", Value::Array(dependencies))?;
-    put(&mut line, alloc, "yanked", Value::Bool(false))?;
-    put_text(alloc, &mut line, "links", package.links.as_deref())?;
-    put_text(alloc, &mut line, "rust_version", rust_version)?;
-    Ok(line)
+    put_stated(alloc, &mut line, stated)?;
+    put(&mut line, alloc, "deps", Value::from(dependencies))?;
+    put_features(alloc, &mut line, features)?;
+    put_checksum(alloc, &mut line, checksum)?;
+    Value::from(line).to_string(alloc)
+}
+
+/// The members that are of the package alone.
+fn put_stated(
+    alloc: Global,
+    line: &mut Map<String, Value>,
+    stated: Stated<'_>,
+) -> Result<(), AllocError>
+    ensures { OnOk result (members_view line.new.entries
+        ≡ with_rows (stated_rows stated.entry) (members_view line.old.entries)) }
+{
+    let version = stated.version;
+    let version = format!(in alloc; "{version}")?;
+    put_text(alloc, line, "name", Some(stated.name))?;
+    put_text(alloc, line, "vers", Some(version.as_str()))?;
+    put(line, alloc, "yanked", Value::from(false))?;
+    put_text(alloc, line, "links", stated.links)?;
+    put_text(alloc, line, "rust_version", stated.rust_version)?;
+    Ok(())
+}
+
+fn put_checksum(
+    alloc: Global,
+    line: &mut Map<String, Value>,
+    checksum: Option<&str>,
+) -> Result<(), AllocError>
+    ensures { OnOk result (members_view line.new.entries
+        ≡ with_rows (checksum_rows (option_copied checksum.entry))
+        (members_view line.old.entries)) }
+{
+    match checksum {
+        Some(_) => put_text(alloc, line, "cksum", checksum),
+        None => Ok(()),
+    }
 }
 
 /// The members that are of the features.
@@ -163,13 +172,16 @@ fn put_features(
     alloc: Global,
     line: &mut Map<String, Value>,
     features: &FeatureSet,
-) -> Result<(), AllocError> {
+) -> Result<(), AllocError>
+    ensures { OnOk result
+        (AddsFeatures (members_view line.old.entries) (members_view line.new.entries)) }
+{
     put(line, alloc, "features", listed(alloc, features, false)?)?;
-    if features.values().any(|list| is_extended(list.as_slice())) {
-        put(line, alloc, "features2", listed(alloc, features, true)?)?;
-        put(line, alloc, "v", Value::from(2u8))?;
+    if !features.values().any(|list| is_extended(list.as_slice())) {
+        return Ok(());
     }
-    Ok(())
+    put(line, alloc, "features2", listed(alloc, features, true)?)?;
+    put(line, alloc, "v", Value::from(2u8))
 }
 
 /// The features whose lists are extended, or those whose aren't.

@@ -1,4 +1,9 @@
 //! Values of JSON that several tools make.
+ghost use Rattle.std.specs.Prelude.{◌≡◌, OnOk};
+ghost use Rattle.std.specs.Option.{option_copied};
+ghost use Rattle.serde_json.specs.Data.{put as with_member};
+ghost use Rattle.serde_json.specs.View.{members_view};
+ghost use Rattle.cargo_toml_tools.specs.IndexRows.{text_or_null};
 
 use serde_json::{Map, Value, push, put};
 use std::alloc::{AllocError, Global};
@@ -9,10 +14,14 @@ pub fn put_text(
     object: &mut Map<String, Value>,
     key: &str,
     text: Option<&str>,
-) -> Result<(), AllocError> {
+) -> Result<(), AllocError>
+    ensures { OnOk result (members_view object.new.entries
+        ≡ with_member key.now (text_or_null (option_copied text.entry))
+        (members_view object.old.entries)) }
+{
     let value = match text {
         Some(text) => Value::try_from_str(alloc, text)?,
-        None => Value::Null,
+        None => Value::from(()),
     };
     put(object, alloc, key, value)
 }

@@ -1,4 +1,5 @@
 //! What members have otherwise than their workspace, or than one another.
+ghost use Rattle.std.specs.Prelude.{◌≡◌};
 
 use super::{Audit, Code, Finding, Member, Use};
 use cargo_toml::Workspace;
@@ -12,7 +13,9 @@ impl Audit {
         alloc: Global,
         member: &Member,
         workspace: &Workspace<M>,
-    ) -> Result<(), AllocError> {
+    ) -> Result<(), AllocError>
+        ensures { self.new.members ≡ self.old.members }
+    {
         let Some(package) = &workspace.package else {
             return Ok(());
         };
@@ -35,7 +38,9 @@ impl Audit {
 
     /// Adds what shows once all members were added: dependencies of the workspace that none
     /// inherits, and crates that are asked for by several requirements.
-    pub fn finish<M>(&mut self, alloc: Global, workspace: &Workspace<M>) -> Result<(), AllocError> {
+    pub fn finish<M>(&mut self, alloc: Global, workspace: &Workspace<M>) -> Result<(), AllocError>
+        ensures { self.new.members ≡ self.old.members }
+    {
         for key in workspace.dependencies.keys() {
             if !self.inherited.contains(key.as_str()) {
                 let words = String::from_str(alloc, "no member inherits it")?;

@@ -1,7 +1,10 @@
 //! How a report is written.
+ghost use Rattle.std.specs.Prelude.{◌+◌, IfOk, OnOk, string_bytes, vec_len};
+ghost use Rattle.std.specs.BTreeSet.{btree_set_len};
+ghost use Rattle.cargo_toml_tools.specs.Escapes.{Adds, AddsLine, AreLines, is_line};
 
 use super::{Audit, Finding, Member};
-use crate::escape::{Format, push_escaped};
+use crate::escape::{Format, comma_before, push_escaped};
 use crate::json::{put_text, put_texts};
 use serde_json::{Map, Value, push, put};
 use std::alloc::{AllocError, Global};
@@ -10,7 +13,10 @@ use std::alloc::{AllocError, Global};
 ///
 /// `member FOLDER | NAME | VERSION | EDITION | RUST-VERSION | LICENSE | PUBLISH | INHERITS`, and
 /// `finding CODE | SUBJECT | WORDS`, where `-` stands for what isn't there.
-pub fn lines(alloc: Global, audit: &Audit) -> Result<String, AllocError> {
+pub fn lines(alloc: Global, audit: &Audit) -> Result<String, AllocError>
+    ensures { IfOk result (λ text. AreLines
+        (vec_len audit.now.members + btree_set_len audit.now.findings) (string_bytes text)) }
+{
     let mut text = String::new(alloc);
     for member in &audit.members {
         push_member(&mut text, member)?;
@@ -21,7 +27,9 @@ pub fn lines(alloc: Global, audit: &Audit) -> Result<String, AllocError> {
     Ok(text)
 }
 
-fn push_member(text: &mut String, member: &Member) -> Result<(), AllocError> {
+fn push_member(text: &mut String, member: &Member) -> Result<(), AllocError>
+    ensures { OnOk result (AddsLine (string_bytes text.old) (string_bytes text.new)) }
+{
     text.push_str("member ")?;
     push_escaped(text, member.folder.as_str(), Format::Line)?;
     push_cell(text, member.name.as_str())?;
@@ -33,7 +41,9 @@ fn push_member(text: &mut String, member: &Member) -> Result<(), AllocError> {
     push_keys(text, member.inherits.as_slice())
 }
 
-fn push_finding(text: &mut String, finding: &Finding) -> Result<(), AllocError> {
+fn push_finding(text: &mut String, finding: &Finding) -> Result<(), AllocError>
+    ensures { OnOk result (AddsLine (string_bytes text.old) (string_bytes text.new)) }
+{
     text.push_str("finding ")?;
     text.push_str(finding.code.word())?;
     push_cell(text, finding.subject.as_str())?;
@@ -41,15 +51,22 @@ fn push_finding(text: &mut String, finding: &Finding) -> Result<(), AllocError> 
     text.push_str("\n")
 }
 
-fn push_cell(text: &mut String, cell: &str) -> Result<(), AllocError> {
+fn push_cell(text: &mut String, cell: &str) -> Result<(), AllocError>
+    ensures { OnOk result (Adds is_line (string_bytes text.old) (string_bytes text.new)) }
+{
     text.push_str(" | ")?;
     push_escaped(text, cell, Format::Line)
 }
 
-fn push_keys(text: &mut String, keys: &[String]) -> Result<(), AllocError> {
-    text.push_str(if keys.is_empty() { " | -" } else { " | " })?;
+fn push_keys(text: &mut String, keys: &[String]) -> Result<(), AllocError>
+    ensures { OnOk result (AddsLine (string_bytes text.old) (string_bytes text.new)) }
+{
+    if keys.is_empty() {
+        return text.push_str(" | -\n");
+    }
+    text.push_str(" | ")?;
     for (i, key) in keys.iter().enumerate() {
-        text.push_str(if i == 0 { "" } else { ", " })?;
+        text.push_str(comma_before(i))?;
         push_escaped(text, key.as_str(), Format::Line)?;
     }
     text.push_str("\n")

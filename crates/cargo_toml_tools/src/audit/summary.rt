@@ -1,6 +1,8 @@
 //! What the report tells of a member that completes.
+ghost use Rattle.std.specs.Prelude.{◌≡◌, IfOk, string_bytes};
 
 use super::{Member, Use};
+use crate::escape::comma_before;
 use cargo_toml::{DepsSet, Error, Inheritable, Manifest, Package, Publish};
 use std::alloc::{AllocError, Global};
 use std::collections::BTreeSet;
@@ -11,7 +13,10 @@ pub fn summarize<M>(
     folder: &str,
     manifest: &Manifest<M>,
     inherits: Vec<String>,
-) -> Result<Member, Error> {
+) -> Result<Member, Error>
+    ensures folder { IfOk result (λ m. string_bytes m.folder ≡ folder.now) }
+    ensures inherits { IfOk result (λ m. m.inherits ≡ inherits) }
+{
     let Some(package) = &manifest.package else {
         return Err(Error::Other("there is no package"));
     };
@@ -62,7 +67,7 @@ fn publish<M>(alloc: Global, package: &Package<M>) -> Result<String, Error> {
 fn joined(alloc: Global, names: &[String]) -> Result<String, AllocError> {
     let mut all = String::from_str(alloc, if names.is_empty() { "no" } else { "" })?;
     for (i, name) in names.iter().enumerate() {
-        all.push_str(if i == 0 { "" } else { ", " })?;
+        all.push_str(comma_before(i))?;
         all.push_str(name.as_str())?;
     }
     Ok(all)

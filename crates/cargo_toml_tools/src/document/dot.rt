@@ -1,7 +1,7 @@
 //! The graph of features, in Graphviz's language.
 
 use super::{FeatureMap, is_private, names};
-use crate::escape::{Format, push_escaped};
+use crate::escape::{Format, comma_before, push_escaped};
 use cargo_toml::Manifest;
 use cargo_toml::features::{DepAction, Feature, Features};
 use std::alloc::{AllocError, Global};
@@ -131,7 +131,7 @@ fn push_edge(graph: &mut String, from: &str, kind: &str, to: &str) -> Result<(),
 fn push_action(graph: &mut String, action: &DepAction<'_>) -> Result<(), AllocError> {
     graph.push_str(" [label=\"")?;
     for (i, feature) in action.dep_features.iter().enumerate() {
-        graph.push_str(if i == 0 { "" } else { ", " })?;
+        graph.push_str(comma_before(i))?;
         push_escaped(graph, *feature, Format::Dot)?;
     }
     graph.push_str(if action.is_conditional {

@@ -1,22 +1,104 @@
 //! Which dependencies an index takes.
 ghost use Rattle.std.specs.Prelude.{◌≡◌, IfErr, IsTrue, OnOk, option_map, string_bytes};
+ghost use Rattle.std.specs.List.{list_all, list_any};
 ghost use Rattle.cargo_toml.specs.Dependencies.{dependency_meaning};
-ghost use Rattle.cargo_toml_tools.specs.Indexed.{IsFor, is_dev, is_left, is_other};
-ghost use Rattle.cargo_toml_tools.specs.Indexed.{is_taken, lacks_address, lacks_version, tells};
+ghost use Rattle.cargo_toml.specs.Targets.{target_meaning};
+ghost use Rattle.cargo_toml_dependencies.specs.Replacing.{entries_meaning, targets_meaning};
+ghost use Rattle.cargo_toml_tools.specs.Checked.{all_tables, own_tables};
+ghost use Rattle.cargo_toml_tools.specs.Indexed.{IsFor, are_taken, is_dev, is_left, is_other};
+ghost use Rattle.cargo_toml_tools.specs.Indexed.{is_taken, is_told, lacks_address, lacks_version};
+ghost use Rattle.cargo_toml_tools.specs.Indexed.{tables_in, tells};
 
 use super::IndexError;
-use cargo_toml::Dependency;
 use cargo_toml::features::Kind;
+use cargo_toml::{Dependency, DepsSet, Target, TargetDepsSet};
 use std::alloc::Global;
 
-/// Whether an index has an entry of a dependency: none of a dev-dependency with a path or a
-/// repository and no version. Any other of that kind is refused.
-pub(super) fn is_listed(
+/// The tables of dependencies that a package has, or a target.
+#[derive(Clone, Copy)]
+pub(super) struct Tables<'a> {
+    pub normal: &'a DepsSet,
+    pub dev: &'a DepsSet,
+    pub build: &'a DepsSet,
+}
+
+/// All dependencies of a crate: those of its own tables, and those of targets.
+#[derive(Clone, Copy)]
+pub(super) struct AllTables<'a> {
+    pub own: Tables<'a>,
+    pub targets: &'a TargetDepsSet,
+}
+
+/// Refuses dependencies that no index takes: first those of the package's own tables, then those of
+/// targets.
+pub(super) fn check_dependencies(
+    alloc: Global,
+    dependencies: AllTables<'_>,
+) -> Result<(), IndexError>
+    ensures taken { OnOk result (IsTrue (are_taken (all_tables dependencies.entry))) }
+    ensures refused { IfErr result
+        (λ e. IsFor e (is_told e (all_tables dependencies.entry))) }
+{
+    check_tables(alloc, dependencies.own)?;
+    check_targets(alloc, dependencies.targets)?;
+    Ok(())
+}
+
+fn check_targets(alloc: Global, targets: &TargetDepsSet) -> Result<(), IndexError>
+    ensures taken { OnOk result
+        (IsTrue (list_all (λ t. are_taken (tables_in t.1)) (targets_meaning targets.now))) }
+    ensures refused { IfErr result (λ e. IsFor e
+        (list_any (λ t. is_told e (tables_in t.1)) (targets_meaning targets.now))) }
+{
+    for (_, target) in targets {
+        check_target(alloc, target)?;
+    }
+    Ok(())
+}
+
+fn check_target(alloc: Global, target: &Target) -> Result<(), IndexError>
+    ensures taken { OnOk result (IsTrue (are_taken (tables_in (target_meaning target.now)))) }
+    ensures refused { IfErr result
+        (λ e. IsFor e (is_told e (tables_in (target_meaning target.now)))) }
+{
+    let tables = Tables {
+        normal: &target.dependencies,
+        dev: &target.dev_dependencies,
+        build: &target.build_dependencies,
+    };
+    check_tables(alloc, tables)
+}
+
+fn check_tables(alloc: Global, tables: Tables<'_>) -> Result<(), IndexError>
+    ensures taken { OnOk result (IsTrue (are_taken (own_tables tables.entry))) }
+    ensures refused { IfErr result (λ e. IsFor e (is_told e (own_tables tables.entry))) }
+{
+    check_table(alloc, tables.normal, Kind::Normal)?;
+    check_table(alloc, tables.dev, Kind::Dev)?;
+    check_table(alloc, tables.build, Kind::Build)?;
+    Ok(())
+}
+
+fn check_table(alloc: Global, table: &DepsSet, kind: Kind) -> Result<(), IndexError>
+    ensures taken { OnOk result
+        (IsTrue (list_all (λ e. is_taken kind e.1) (entries_meaning table.now))) }
+    ensures refused { IfErr result
+        (λ e. IsFor e (list_any (tells e kind) (entries_meaning table.now))) }
+{
+    for (key, dependency) in table {
+        check(alloc, key.as_str(), dependency, kind)?;
+    }
+    Ok(())
+}
+
+/// Refuses a dependency that no index takes. One with a path or a repository and no version is
+/// refused, unless it is a dev-dependency.
+fn check(
     alloc: Global,
     key: &str,
     dependency: &Dependency,
     kind: Kind,
-) -> Result<bool, IndexError>
+) -> Result<(), IndexError>
     ensures taken { OnOk result (IsTrue (is_taken kind (dependency_meaning dependency.now))) }
     ensures refused { IfErr result
         (λ e. IsFor e (tells e kind (key.now, dependency_meaning dependency.now))) }
@@ -26,7 +108,7 @@ pub(super) fn is_listed(
     }
     if lacks_version(dependency) {
         if is_dev(kind) {
-            return Ok(false);
+            return Ok(());
         }
         let key = String::from_str(alloc, key)?;
         return Err(IndexError::NoRequirement(key));
@@ -35,7 +117,7 @@ pub(super) fn is_listed(
         let key = String::from_str(alloc, key)?;
         return Err(IndexError::NoAddress(key));
     }
-    Ok(true)
+    Ok(())
 }
 
 /// Whether a dependency is left to the workspace.
@@ -46,7 +128,7 @@ fn is_left(dependency: &Dependency) -> bool
 }
 
 /// Whether a dependency has a path or a repository, and no version.
-fn lacks_version(dependency: &Dependency) -> bool
+pub(super) fn lacks_version(dependency: &Dependency) -> bool
     ensures { result ≡ lacks_version (dependency_meaning dependency.now) }
 {
     match dependency {

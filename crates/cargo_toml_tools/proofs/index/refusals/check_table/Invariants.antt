@@ -6,7 +6,7 @@ use Rattle.cargo_toml.specs.Reads.{map_meaning}
 use Rattle.cargo_toml_tools.specs.declared.index.IndexError.{IndexError}
 use Rattle.cargo_toml_tools.specs.Indexed.{is_taken, tells}
 use Rattle.cargo_toml_tools.proofs.Told.{entry_of}
-use Rattle.cargo_toml_tools.proofs.index.dependencies.push_table.Given as goal
+use Rattle.cargo_toml_tools.proofs.index.refusals.check_table.Given as goal
 
 abbrev pub invariant-loop-key : goal.invariant-loop-key
 invariant-loop-key l = record {

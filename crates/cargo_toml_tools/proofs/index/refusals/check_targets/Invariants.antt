@@ -6,12 +6,12 @@ use Rattle.cargo_toml.specs.Targets.{TargetMeaning, target_meaning}
 use Rattle.cargo_toml_tools.specs.declared.index.IndexError.{IndexError}
 use Rattle.cargo_toml_tools.specs.Indexed.{are_taken, is_told, tables_in}
 use Rattle.cargo_toml_tools.proofs.Told.{target_of}
-use Rattle.cargo_toml_tools.proofs.index.dependencies.push_targets.Given as goal
+use Rattle.cargo_toml_tools.proofs.index.refusals.check_targets.Given as goal
 
-abbrev pub invariant-loop-name : goal.invariant-loop-name
-invariant-loop-name l = record {
-  taken : list_all (λ (t : Text × TargetMeaning). are_taken (tables_in t.1)) (map target_of l.name-iterator)
+abbrev pub invariant-loop-target : goal.invariant-loop-target
+invariant-loop-target l = record {
+  taken : list_all (λ (t : Text × TargetMeaning). are_taken (tables_in t.1)) (map target_of l.target-iterator)
       ≡ list_all (λ (t : Text × TargetMeaning). are_taken (tables_in t.1)) (map_meaning target_meaning l.targets);
-  told : (f : IndexError) → list_any (λ (t : Text × TargetMeaning). is_told f (tables_in t.1)) (map target_of l.name-iterator) ≡ true
+  told : (f : IndexError) → list_any (λ (t : Text × TargetMeaning). is_told f (tables_in t.1)) (map target_of l.target-iterator) ≡ true
       → list_any (λ (t : Text × TargetMeaning). is_told f (tables_in t.1)) (map_meaning target_meaning l.targets) ≡ true;
 }

@@ -1,0 +1,45 @@
+use Rattle.std.proofs.Common.{◌∙◌, None, Some, ap, inl, inr, option_map, refl, sym}
+use Rattle.std.proofs.lemmas.Result.{err_from_is_err_and}
+use Rattle.cargo_toml.specs.Manifests.{manifest_meaning}
+use Rattle.cargo_toml.specs.Packages.{package_meaning}
+use Rattle.cargo_toml_tools.specs.Indexed.{tables}
+use Rattle.cargo_toml_tools.proofs.Explained.{checked_taken, explained, not_no_package, not_taken, other_fault}
+use Rattle.cargo_toml_tools.proofs.Placed.{same_rows}
+use Rattle.cargo_toml_tools.proofs.index.index_line.Goals as goal
+
+pub returns-in_err-stated-clause-no_package : goal.returns-in_err-stated-clause-no_package
+returns-in_err-stated-clause-no_package g c =
+    let r = err_from_is_err_and c.from_residual.result c.from_residual.ensures.1 in
+    other_fault c.from_residual.result c.args.manifest.now.package c.in-Some.package r.0 r.1 c.in-Some.is
+    (λ h. not_no_package c.args.text.now (package_meaning (λ m. m) c.in-Some.package) (tables (manifest_meaning (λ m. m) c.args.manifest.now))
+    c.in_err-stated.field-0.0 c.in_err-stated.ensures.refused (sym r.2 ∙ h))
+
+pub returns-in_err-stated-clause-refused : goal.returns-in_err-stated-clause-refused
+returns-in_err-stated-clause-refused g c =
+    let m = manifest_meaning (λ m. m) c.args.manifest.now in
+    let p = package_meaning (λ m. m) c.in-Some.package in
+    let is = ap (option_map (package_meaning (λ m. m))) c.in-Some.is in
+    let r = err_from_is_err_and c.from_residual.result c.from_residual.ensures.1 in
+    rw (r.1, r.2) (explained c.args.text.now m p is c.in_err-stated.field-0.0 c.in_err-stated.ensures.refused)
+
+pub returns-in_err-stated-clause-exact : goal.returns-in_err-stated-clause-exact
+returns-in_err-stated-clause-exact g c =
+    let m = manifest_meaning (λ m. m) c.args.manifest.now in
+    let p = package_meaning (λ m. m) c.in-Some.package in
+    let is = ap (option_map (package_meaning (λ m. m))) c.in-Some.is in
+    let r = err_from_is_err_and c.from_residual.result c.from_residual.ensures.1 in
+    rw (r.1, r.2) (not_taken c.args.text.now m p is c.in_err-stated.field-0.0 c.in_err-stated.ensures.refused)
+
+pub returns-clause-taken : goal.returns-clause-taken
+returns-clause-taken g c =
+    let m = manifest_meaning (λ m. m) c.args.manifest.now in
+    let p = package_meaning (λ m. m) c.in-Some.package in
+    let is = ap (option_map (package_meaning (λ m. m))) c.in-Some.is in
+    checked_taken c.args.text.now m p is c.in_ok-stated.ensures.taken
+
+pub returns-clause-line : goal.returns-clause-line
+returns-clause-line g c = record {
+  of = package_meaning (λ m. m) c.in-Some.package;
+  is = ap (option_map (package_meaning (λ m. m))) c.in-Some.is;
+  rows = same_rows _ _ _ _ c.in_ok-stated.ensures.told c.in_ok-line_of.ensures;
+}

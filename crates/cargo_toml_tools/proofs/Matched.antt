@@ -1,9 +1,8 @@
 -- A row of tests with one more character of the pattern.
-use Rattle.std.proofs.Common.{◌≡◌, ◌+◌, ◌++◌, ◌&&◌, ◌||◌, ◌∙◌, ℕ, zero, suc, Bool, List, [], ◌∷◌, true, false, refl, sym, ap, append_assoc, inl, inr, ◌⊎◌, ◌<◌, add-one, drop, drop-cons, take, length, get_or, replicate, reverse, nat_eq}
+use Rattle.std.proofs.Common.{◌≡◌, ◌+◌, ◌++◌, ◌&&◌, ◌||◌, ◌∙◌, ℕ, Bool, List, [], ◌∷◌, true, false, refl, sym, ap, append_assoc, inl, inr, ◌⊎◌, ◌<◌, add-one, drop, drop-cons, take, length, get_or, replicate, reverse}
 use Rattle.std.proofs.Math.Bool.{and_comm, or_comm}
 use Rattle.std.proofs.lemmas.List.{append-nil, reverse-append, take_more}
-use Rattle.std.specs.List.{list_any}
-use Rattle.cargo_toml_tools.specs.Patterns.{after_any, after_one, begins, ends, is_empty, matches}
+use Rattle.cargo_toml_tools.specs.Patterns.{after_any, after_one, begins, is_empty, matches}
 use Rattle.cargo_toml_tools.specs.Rows.{fits, next, row, scan, shift}
 use mathlib.Core.List.{reverse_aux}
 

@@ -1,5 +1,5 @@
 -- What is added to a text piece by piece.
-use Rattle.std.proofs.Common.{◌≡◌, ◌⊎◌, ◌<◌, ◌≤◌, ◌++◌, ◌&&◌, ◌||◌, ◌^◌, ◌∙◌, ℕ, Bool, List, [], ◌∷◌, true, false, refl, sym, ap, subst, append_assoc, arith, rules, inl, inr, lit<, lit≤}
+use Rattle.std.proofs.Common.{◌≡◌, ◌<◌, ◌≤◌, ◌++◌, ◌&&◌, ◌||◌, ◌^◌, ◌∙◌, ℕ, Bool, List, [], ◌∷◌, true, false, refl, sym, ap, subst, append_assoc, arith, inl, inr, lit<, lit≤}
 use Rattle.std.proofs.lemmas.Bool.{agree_below, agree_below_at, and_from, and_parts, cases_Bool, cases_lt, eqb-true, false≢true, le-leb, leb-true, lt-ltb, ltb-true, ne_eqb, not-true, not_from_false, or_from}
 use Rattle.std.proofs.lemmas.Fmt.{digits_is_IsNumeral, decimal_is_IsNumeral}
 use Rattle.std.proofs.lemmas.List.{append-nil}

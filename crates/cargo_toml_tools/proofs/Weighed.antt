@@ -1,9 +1,9 @@
 -- Findings that are no hints.
-use Rattle.std.proofs.Common.{◌≡◌, ◌⊎◌, Bool, true, false, List, [], ◌∷◌, IsTrue, map, refl, sym, ap, inl, inr, ◌∙◌}
+use Rattle.std.proofs.Common.{◌≡◌, true, List, [], ◌∷◌, IsTrue, refl, sym, ap, inl, inr, ◌∙◌}
 use Rattle.std.proofs.lemmas.Bool.{false≢true, or_cases, or_left, or_right}
 use Rattle.std.specs.List.{AllByRecursion, list_any}
 use Rattle.cargo_toml.specs.Action.{Text}
-use Rattle.cargo_toml_lint.specs.Findings.{IsFound, IsTold, about, level_of}
+use Rattle.cargo_toml_lint.specs.Findings.{IsFound, IsTold, level_of}
 use Rattle.cargo_toml_lint.specs.declared.finding.Code.{Code}
 use Rattle.cargo_toml_lint.specs.declared.finding.Finding.{Finding}
 use Rattle.cargo_toml_tools.specs.Linted.{weighs}

@@ -30,7 +30,6 @@ ended a b c start e = record {
 pub no_lines : (bytes : List ℕ) → bytes ≡ [] → AreLines 0 bytes
 no_lines bytes e = record { lines = []; whole = e; signs = refl; counted = refl }
 
-
 pub one_more : (n : ℕ) (a b : List ℕ) → AreLines n a → AddsLine a b → AreLines (n + 1) b
 one_more n a b before more = record {
   lines = before.lines ++ (more.line ∷ []);

@@ -1,5 +1,5 @@
 -- What is checked of a package and of its tables of dependencies, before it has a line.
-use Rattle.std.specs.Prelude.{◌≡◌, ◌⊎◌, Bool, List, IsTrue}
+use Rattle.std.specs.Prelude.{◌⊎◌, List, IsTrue}
 use Rattle.cargo_toml.specs.Action.{Text}
 use Rattle.cargo_toml.specs.InheritedDependencies.{Entries}
 use Rattle.cargo_toml.specs.Kind.{Kind}

@@ -1,5 +1,5 @@
 -- What is written of a stranger's text.
-use Rattle.std.specs.Prelude.{◌≡◌, ◌++◌, ◌&&◌, ◌||◌, ℕ, Bool, List, [], ◌∷◌, true, false}
+use Rattle.std.specs.Prelude.{◌≡◌, ◌++◌, ◌&&◌, ℕ, Bool, List, [], ◌∷◌, true, false}
 use Rattle.std.specs.Prelude.{codes, length, not, nat_eq, nat_le}
 use Rattle.std.specs.List.{flat_map, list_all, list_any}
 use Rattle.cargo_toml_tools.specs.declared.escape.Format.{Format}

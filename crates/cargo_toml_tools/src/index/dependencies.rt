@@ -2,8 +2,8 @@
 
 use super::entry::{Place, push_dependency};
 use super::refusals::{AllTables, Tables, lacks_version};
-use cargo_toml::features::Kind;
 use cargo_toml::DepsSet;
+use cargo_toml::features::Kind;
 use serde_json::Value;
 use std::alloc::{AllocError, Global};
 

@@ -93,12 +93,7 @@ fn check_table(alloc: Global, table: &DepsSet, kind: Kind) -> Result<(), IndexEr
 
 /// Refuses a dependency that no index takes. One with a path or a repository and no version is
 /// refused, unless it is a dev-dependency.
-fn check(
-    alloc: Global,
-    key: &str,
-    dependency: &Dependency,
-    kind: Kind,
-) -> Result<(), IndexError>
+fn check(alloc: Global, key: &str, dependency: &Dependency, kind: Kind) -> Result<(), IndexError>
     ensures taken { OnOk result (IsTrue (is_taken kind (dependency_meaning dependency.now))) }
     ensures refused { IfErr result
         (λ e. IsFor e (tells e kind (key.now, dependency_meaning dependency.now))) }

@@ -1,9 +1,9 @@
-use Rattle.std.proofs.Common.{[], ◌∷◌, arith, false, decimal, refl}
+use Rattle.std.proofs.Common.{[], ◌∷◌, false, refl}
 use Rattle.std.proofs.lemmas.Result.{on_ok_weaker}
 use Rattle.std.specs.Fmt.{digits}
 use Rattle.cargo_toml_tools.specs.declared.escape.Format.TheVariants.{Line}
 use Rattle.cargo_toml_tools.specs.Escapes.{fits}
-use Rattle.cargo_toml_tools.proofs.Signs.{adds_one, adds_if, between, fits_decimal, fits_hex, fits_encode}
+use Rattle.cargo_toml_tools.proofs.Signs.{adds_one, between, fits_hex}
 use Rattle.cargo_toml_tools.proofs.escape.push_braced.Goals as goal
 
 pub returns : goal.returns

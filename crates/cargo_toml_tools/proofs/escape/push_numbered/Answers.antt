@@ -1,9 +1,7 @@
-use Rattle.std.proofs.Common.{[], ◌∷◌, arith, false, decimal, refl}
+use Rattle.std.proofs.Common.{[], ◌∷◌, decimal}
 use Rattle.std.proofs.lemmas.Result.{on_ok_weaker}
-use Rattle.std.specs.Fmt.{digits}
-use Rattle.cargo_toml_tools.specs.declared.escape.Format.TheVariants.{Line}
 use Rattle.cargo_toml_tools.specs.Escapes.{fits}
-use Rattle.cargo_toml_tools.proofs.Signs.{adds_one, adds_if, between, fits_decimal, fits_end, fits_front}
+use Rattle.cargo_toml_tools.proofs.Signs.{adds_one, between, fits_decimal, fits_end, fits_front}
 use Rattle.cargo_toml_tools.proofs.escape.push_numbered.Goals as goal
 
 pub returns : goal.returns

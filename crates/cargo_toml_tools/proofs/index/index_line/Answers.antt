@@ -1,4 +1,4 @@
-use Rattle.std.proofs.Common.{◌∙◌, None, Some, ap, inl, inr, option_map, refl, sym}
+use Rattle.std.proofs.Common.{◌∙◌, ap, option_map, sym}
 use Rattle.std.proofs.lemmas.Result.{err_from_is_err_and}
 use Rattle.cargo_toml.specs.Manifests.{manifest_meaning}
 use Rattle.cargo_toml.specs.Packages.{package_meaning}

@@ -16,7 +16,7 @@ returns c =
     let three = members_view c.put_features.new.line.entries in
     let four = members_view c.put_checksum.new.line.entries in
     let rows = stated_rows c.args.stated
-        ++ ((codes "deps", deps) ∷ (feature_rows adds.features adds.others ++ checksum_rows (option_copied c.args.checksum))) in
+    ++ ((codes "deps", deps) ∷ (feature_rows adds.features adds.others ++ checksum_rows (option_copied c.args.checksum))) in
     if_ok_weaker c.to_string.result _ _ (λ s h. record {
       dependencies = items_view c.in_ok-dependencies.dependencies.items;
       features = adds.features;

@@ -4,7 +4,7 @@ use Rattle.cargo_toml_tools.specs.declared.audit.Code.{Code}
 use Rattle.cargo_toml_tools.specs.declared.audit.Code.TheVariants.{Incomplete, ListedTwice, OtherEdition, OtherLicense, Outside, SeveralRequirements, UnusedDependency}
 use Rattle.cargo_toml_tools.specs.Audited.{word_of}
 use Rattle.cargo_toml_tools.specs.Escapes.{is_line}
-use Rattle.cargo_toml_tools.proofs.Signs.{adds_line, adds_one}
+use Rattle.cargo_toml_tools.proofs.Signs.{adds_one}
 use Rattle.cargo_toml_tools.proofs.WholeLines.{begun, ended, ended_if}
 use Rattle.cargo_toml_tools.proofs.audit.report.push_finding.Goals as goal
 

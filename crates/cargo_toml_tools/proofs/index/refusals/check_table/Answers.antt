@@ -1,10 +1,9 @@
-use Rattle.std.proofs.Common.{◌≡◌, ◌∙◌, ◌∷◌, ap, map}
+use Rattle.std.proofs.Common.{ap, map}
 use Rattle.std.proofs.lemmas.Map.Iter.{rest_all, rest_more}
 use Rattle.std.proofs.lemmas.Result.{err_from_is_err_and}
 use Rattle.std.specs.Map.Iter.{deref_pair}
 use Rattle.cargo_toml.specs.Action.{Text}
-use Rattle.cargo_toml.specs.Dependencies.{DependencyMeaning, dependency_meaning}
-use Rattle.cargo_toml.specs.Reads.{map_meaning}
+use Rattle.cargo_toml.specs.Dependencies.{DependencyMeaning}
 use Rattle.cargo_toml_tools.specs.Indexed.{is_taken, tells}
 use Rattle.cargo_toml_tools.proofs.Told.{all_end, all_step, any_here, any_step, entry_of, or_then}
 use Rattle.cargo_toml_tools.proofs.index.refusals.check_table.Goals as goal

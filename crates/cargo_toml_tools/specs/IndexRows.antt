@@ -42,7 +42,8 @@ stated_rows s =
 abbrev pub feature_rows : Data → Option Data → List (Text × Data)
 feature_rows features None = (codes "features", features) ∷ []
 feature_rows features (Some others) =
-    (codes "features", features) ∷ (codes "features2", others) ∷ (codes "v", number (unsigned 2)) ∷ []
+    (codes "features", features) ∷ (codes "features2", others)
+    ∷ (codes "v", number (unsigned 2)) ∷ []
 
 abbrev pub checksum_rows : Option Text → List (Text × Data)
 checksum_rows None = []

@@ -4,22 +4,17 @@
 
 ghost use Rattle.std.specs.Prelude.{◌≤◌, IfErr};
 ghost use Rattle.std.specs.Io.KnownBytes.{Keeps};
-ghost use Rattle.cargo_toml_print.specs.Printing.{IsOfManifest};
+ghost use Rattle.cargo_toml_print_complete.specs.Printing.{IsOfManifest};
 
 mod arguments;
-mod completion;
-mod files;
-mod items;
 mod outcome;
 mod words;
 
 pub use arguments::Command;
-use cargo_toml_manifest::Manifest;
 use cargo_toml_parts::Error;
+pub use cargo_toml_print_complete::{print_complete, print_completed};
+use cargo_toml_print_complete::{separate, with_manifest, write_none};
 use cargo_toml_resolver::features::{DepAction, Feature, Features, Resolver};
-pub use completion::print_complete;
-pub use files::print_completed;
-use items::{separate, write_none};
 pub use outcome::Outcome;
 use std::alloc::Global;
 use std::collections::{BTreeMap, BTreeSet, HashMap};
@@ -56,20 +51,10 @@ pub fn print_features<R: Read, W: Write>(
 fn lines_of(alloc: Global, bytes: &[u8], max_items: usize) -> Result<String, Error>
     requires { 1 ≤ max_items }
 {
-    let manifest = manifest_of(alloc, bytes)?;
-    let features = Resolver::new()
-        .with_max_items(max_items)
-        .parse(alloc, &*manifest)?;
-    feature_lines(alloc, &features)
-}
-
-/// The manifest that the bytes spell, on the heap. It is wide, and so no call that does more than
-/// this holds it on the stack.
-fn manifest_of(alloc: Global, bytes: &[u8]) -> Result<Box<Manifest>, Error> {
-    match Manifest::from_slice(alloc, bytes) {
-        Ok(manifest) => Ok(Box::new(alloc, manifest)?),
-        Err(fault) => Err(fault),
-    }
+    with_manifest(alloc, bytes, |manifest| {
+        let resolver = Resolver::new().with_max_items(max_items);
+        feature_lines(alloc, &resolver.parse(alloc, manifest)?)
+    })
 }
 
 /// The lines that the program prints of resolved features: one for each feature, and then one for

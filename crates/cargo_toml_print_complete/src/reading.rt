@@ -4,13 +4,13 @@ use cargo_toml_manifest::Manifest;
 use cargo_toml_parts::Error;
 use std::alloc::Global;
 
-/// What `then` makes of the manifest that the bytes spell. Refuses as `Manifest::from_slice` and
-/// `then` do.
-pub fn with_manifest<T, F: FnOnce(&Manifest) -> Result<T, Error>>(
+/// The text that `then` makes of the manifest that the bytes spell. Refuses as
+/// `Manifest::from_slice` and `then` do.
+pub fn with_manifest<F: FnOnce(&Manifest) -> Result<String, Error>>(
     alloc: Global,
     bytes: &[u8],
     then: F,
-) -> Result<T, Error> {
+) -> Result<String, Error> {
     let manifest = manifest_of(alloc, bytes)?;
     then(&*manifest)
 }

@@ -11,9 +11,10 @@ mod outcome;
 mod words;
 
 pub use arguments::Command;
+use cargo_toml_manifest::Manifest;
 use cargo_toml_parts::Error;
 pub use cargo_toml_print_complete::{print_complete, print_completed};
-use cargo_toml_print_complete::{separate, with_manifest, write_none};
+use cargo_toml_print_complete::{Printer, separate, text_of, write_none};
 use cargo_toml_resolver::features::{DepAction, Feature, Features, Resolver};
 pub use outcome::Outcome;
 use std::alloc::Global;
@@ -41,20 +42,23 @@ pub fn print_features<R: Read, W: Write>(
 {
     let mut bytes = Vec::new(alloc);
     input.read_to_end(&mut bytes)?;
-    let lines = lines_of(alloc, bytes.as_slice(), max_items)?;
+    let resolver = Resolver::new().with_max_items(max_items);
+    let lines = text_of(alloc, bytes.as_slice(), &FeaturePrinter { resolver })?;
     output.write_all(lines.as_bytes())?;
     output.flush()?;
     Ok(())
 }
 
-/// The lines of the manifest that the bytes spell.
-fn lines_of(alloc: Global, bytes: &[u8], max_items: usize) -> Result<String, Error>
-    requires { 1 ≤ max_items }
-{
-    with_manifest(alloc, bytes, |manifest| {
-        let resolver = Resolver::new().with_max_items(max_items);
-        feature_lines(alloc, &resolver.parse(alloc, manifest)?)
-    })
+/// Prints the features of a manifest, as this resolver resolves them.
+#[derive(Drop)]
+struct FeaturePrinter<'c> {
+    resolver: Resolver<'c>,
+}
+
+impl Printer for FeaturePrinter<'_> {
+    fn text(&self, alloc: Global, manifest: &Manifest) -> Result<String, Error> {
+        feature_lines(alloc, &self.resolver.parse(alloc, manifest)?)
+    }
 }
 
 /// The lines that the program prints of resolved features: one for each feature, and then one for

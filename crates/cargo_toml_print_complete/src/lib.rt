@@ -13,4 +13,4 @@ mod reading;
 pub use completion::print_complete;
 pub use files::print_completed;
 pub use items::{separate, write_none};
-pub use reading::with_manifest;
+pub use reading::{Printer, text_of};

@@ -4,15 +4,17 @@ use cargo_toml_manifest::Manifest;
 use cargo_toml_parts::Error;
 use std::alloc::Global;
 
-/// The text that `then` makes of the manifest that the bytes spell. Refuses as
-/// `Manifest::from_slice` and `then` do.
-pub fn with_manifest<F: FnOnce(&Manifest) -> Result<String, Error>>(
-    alloc: Global,
-    bytes: &[u8],
-    then: F,
-) -> Result<String, Error> {
+/// What makes a text of a manifest.
+pub trait Printer {
+    /// The text of a manifest.
+    fn text(&self, alloc: Global, manifest: &Manifest) -> Result<String, Error>;
+}
+
+/// The text that a printer makes of the manifest that the bytes spell. Who calls it holds no
+/// manifest. Refuses as `Manifest::from_slice` and the printer do.
+pub fn text_of<P: Printer>(alloc: Global, bytes: &[u8], printer: &P) -> Result<String, Error> {
     let manifest = manifest_of(alloc, bytes)?;
-    then(&*manifest)
+    printer.text(alloc, &*manifest)
 }
 
 /// The manifest that the bytes spell, on the heap. It is wide, and so no call that does more than

@@ -42,22 +42,23 @@ pub fn print_features<R: Read, W: Write>(
 {
     let mut bytes = Vec::new(alloc);
     input.read_to_end(&mut bytes)?;
-    let resolver = Resolver::new().with_max_items(max_items);
-    let lines = text_of(alloc, bytes.as_slice(), &FeaturePrinter { resolver })?;
+    let lines = text_of(alloc, bytes.as_slice(), &FeaturePrinter { max_items })?;
     output.write_all(lines.as_bytes())?;
     output.flush()?;
     Ok(())
 }
 
-/// Prints the features of a manifest, as this resolver resolves them.
+/// Prints the features of a manifest, resolved with this limit of items.
 #[derive(Drop)]
-struct FeaturePrinter<'c> {
-    resolver: Resolver<'c>,
+struct FeaturePrinter {
+    max_items: usize,
+    ghost at_least_one: { 1 ≤ max_items },
 }
 
-impl Printer for FeaturePrinter<'_> {
+impl Printer for FeaturePrinter {
     fn text(&self, alloc: Global, manifest: &Manifest) -> Result<String, Error> {
-        feature_lines(alloc, &self.resolver.parse(alloc, manifest)?)
+        let resolver = Resolver::new().with_max_items(self.max_items);
+        feature_lines(alloc, &resolver.parse(alloc, manifest)?)
     }
 }
 

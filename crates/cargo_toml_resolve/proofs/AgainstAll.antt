@@ -10,7 +10,6 @@ use Rattle.cargo_toml_graph.specs.Removal.{is_removed}
 use Rattle.cargo_toml_graph.proofs.AgainstAll as graph
 use Rattle.cargo_toml_graph.proofs.Closure as closure
 use Rattle.cargo_toml_graph.proofs.Members.{resolved_alike}
-use Rattle.cargo_toml_features.specs.Agreement.{Agree}
 use Rattle.cargo_toml_features.specs.Marks.{Details}
 use Rattle.cargo_toml_features.specs.Recorded.{Entry}
 use Rattle.cargo_toml_features.specs.Resolved.{Answer, IsAnswer, table_of}

@@ -6,13 +6,13 @@ use Rattle.std.specs.List.{slice_get}
 use Rattle.std.specs.Option.{IsSomeAnd, option_and_then, option_map_or}
 use Rattle.cargo_toml_graph.specs.Action.{Text, Action, IsJoin}
 use Rattle.cargo_toml_graph.specs.Graph.{Table, IsKept, IsResolved, IsEnabledBy, KeepsName, ReachesThrough, Says}
-use Rattle.cargo_toml_graph.specs.Reach.{Among}
-use Rattle.cargo_toml_graph.specs.Reach.Reaches.{edge}
+use Rattle.cargo_toml_graph.specs.Reach.{Among, Reaches}
+use Rattle.cargo_toml_graph.specs.Reach.Reaches.{edge, through}
 use Rattle.cargo_toml_graph.proofs.Joins.{join_alike}
-use Rattle.cargo_toml_walk.specs.Numbers.{HasLabel, IsPassed, IsWanted, KeepsLabel, Leads, PassesAny, list_at}
-use Rattle.cargo_toml_walk.specs.Numbers as numbers
+use Rattle.cargo_toml_walk.specs.Numbers.{HasLabel, IsPassed, IsWanted, Leads, PassesAny, list_at}
+use Rattle.cargo_toml_resolve.specs.Enabling.{EnablesThrough}
 use Rattle.cargo_toml_features.specs.Places.{text_at}
-use Rattle.cargo_toml_resolve.specs.NumberedTables.{HasNumber, IsNumbered}
+use Rattle.cargo_toml_resolve.specs.NumberedTables.{HasNumber, IsNaming, IsNumbered}
 use Rattle.cargo_toml_resolve.proofs.NumberedTables as numbered
 use Rattle.cargo_toml_features.specs.declared.features.Feature.{Feature}
 use Rattle.cargo_toml_features.specs.InOrder.{AreInOrder, AreTable, feature_at, names_of}
@@ -32,13 +32,17 @@ empty_or (x ∷ xs) = inr ((λ e. false≢true (sym (ap is_cons e))), (x, inl re
     is_cons [] = false
     is_cons (y ∷ ys) = true
 
+-- a path to one of S begins by an edge to one
+first_step : {E : ℕ → ℕ → Type 0} {S : ℕ → Type 0} {a f : ℕ} → Reaches E S a f → S f → (b : ℕ) × E a b × S b
+first_step {f} (edge e) s = (f, e, s)
+first_step (through {b} e s p) last = (b, e, s)
+
 module _ {Z : Type 0} (t : Table) (removed : Text → Bool) (vs : List Feature) (same : AreTable t vs) (up : AreInOrder vs)
     (texts : List Text) (edges names : List (Vec ℕ Z)) (flags : List Bool) (h : IsNumbered t (λ v. IsTrue (removed v)) texts edges names flags)
     (count : length edges ≡ length vs) (vertices : (i : ℕ) → i < length vs → text_at texts i ≡ text_at (names_of vs) i)
-    (passed labels enablers : List (Vec ℕ Z))
+    (passed labels : List (Vec ℕ Z))
     (passed_is : (a b : ℕ) → a < length edges → IsWanted flags false a → Leads passed a b ↔ IsPassed edges flags a b)
-    (labels_are : (a x : ℕ) → a < length edges → PassesAny passed a → Leads labels a x ↔ HasLabel (Leads passed a) names flags a x)
-    (enablers_are : (f e : ℕ) → f < length edges → IsWanted flags false f → Leads enablers f e ↔ numbers.IsEnabledBy edges flags f e) where
+    (labels_are : (a x : ℕ) → a < length edges → PassesAny passed a → Leads labels a x ↔ HasLabel (Leads passed a) names flags a x) where
   abbrev R : Text → Type 0
   R v = IsTrue (removed v)
 
@@ -91,21 +95,19 @@ module _ {Z : Type 0} (t : Table) (removed : Text → Bool) (vs : List Feature) 
       ],
     )
 
+    -- what passes any has an edge to a removed one
+    asked : (c : ℕ) → Leads passed i c → IsNaming edges flags i
+    asked c some = let p = (passed_is i c lt kept).0 some in inr (first_step p.1 p.0)
+
     passing_names : (c : ℕ) → Leads passed i c → (x : Text) → HasNumber texts (length texts) (Leads labels i) x ↔ KeepsName t R (text_at texts i) x
     passing_names c some x = (
       λ n.
           let l = (labels_are i n.0 lt (c, some)).0 n.3 in
-          (numbered.keeps_name t R texts edges names flags h i x lt).1 (n.0, n.1, n.2, ((l.0.0, elim (l.0.1) [ inl e ↦ inl e | inr p ↦ inr ((passed_is i l.0.0 lt kept).0 p) ], l.0.2), l.1)),
+          (numbered.keeps_name t R texts edges names flags h i x lt (asked c some)).1 (n.0, n.1, n.2, ((l.0.0, elim (l.0.1) [ inl e ↦ inl e | inr p ↦ inr ((passed_is i l.0.0 lt kept).0 p) ], l.0.2), l.1)),
       λ k.
-          let n = (numbered.keeps_name t R texts edges names flags h i x lt).0 k in
+          let n = (numbered.keeps_name t R texts edges names flags h i x lt (asked c some)).0 k in
           let g = n.3.0 in
           (n.0, n.1, n.2, (labels_are i n.0 lt (c, some)).1 ((g.0, elim (g.1) [ inl e ↦ inl e | inr p ↦ inr ((passed_is i g.0 lt kept).1 p) ], g.2), n.3.1)),
-    )
-
-    enabling : (e : Text) → HasNumber texts (length texts) (Leads enablers i) e ↔ IsEnabledBy t R (text_at texts i) e
-    enabling e = (
-      λ n. let l = (enablers_are i n.0 lt kept).0 n.3 in (numbered.is_enabled_by t R texts edges names flags h i e lt).1 (n.0, l.0, n.2, (l.1, l.2)),
-      λ k. let n = (numbered.is_enabled_by t R texts edges names flags h i e lt).0 k in (n.0, fits n.0 n.1, n.2, (enablers_are i n.0 lt kept).1 (n.1, n.3.0, n.3.1)),
     )
 
     saying : (k : Text) (a : Action) → ((b : ℕ) × ((b ≡ i) ⊎ Leads passed i b) × (action_by vs b k ≡ Some a)) ↔ Says t R (text_at texts i) k a
@@ -122,7 +124,8 @@ module _ {Z : Type 0} (t : Table) (removed : Text → Bool) (vs : List Feature) 
         of b (inl e) = subst (λ n. n < length edges) (sym e) lt
         of b (inr p) = numbered.reaches_inside t R texts edges names flags h (IsWanted flags true) R (numbered.vertex_flag t R texts edges names flags h) i b lt ((passed_is i b lt kept).0 p).1
 
-    module _ (v w : Feature) (is : slice_get vs i ≡ Some v) (holds : Holds vs texts i (list_at passed i) (list_at labels i) (list_at enablers i) v w) where
+    module _ (v w : Feature) (is : slice_get vs i ≡ Some v) (holds : Holds vs texts i (list_at passed i) (list_at labels i) v w)
+        (learnt : (e : Text) → IsTrue (has_text w.enabled_by e) ↔ HasNumber texts (length edges) (EnablesThrough edges flags i) e) where
       holds_names : (x : Text) → IsTrue (has_text w.enables_features x) ↔ KeepsName t R (text_at texts i) x
       holds_names x = elim (empty_or (list_at passed i)) [
         | inl none ↦
@@ -134,7 +137,9 @@ module _ {Z : Type 0} (t : Table) (removed : Text → Bool) (vs : List Feature) 
       ]
 
       holds_enablers : (e : Text) → IsTrue (has_text w.enabled_by e) ↔ IsEnabledBy t R (text_at texts i) e
-      holds_enablers e = (λ y. (enabling e).0 ((holds.enabled_by e).0 y), λ n. (holds.enabled_by e).1 ((enabling e).1 n))
+      holds_enablers e =
+          let is = numbered.is_enabled_by t R texts edges names flags h i e lt in
+          (λ y. is.1 ((learnt e).0 y), λ k. (learnt e).1 (is.0 k))
 
       holds_actions : (k : Text) → IsJoin (Says t R (text_at texts i) k) (action_at w.enables_deps k)
       holds_actions k = join_alike (saying k) (action_at w.enables_deps k) (holds.actions k)

@@ -1,7 +1,8 @@
 -- Removed places pass binaries on, turn after turn.
-use Rattle.std.proofs.Common.{◌≡◌, ◌⊎◌, ◌<◌, ◌+◌, ℕ, suc, true, false, Bool, List, [], ◌∷◌, cond, nat_eq, take, Vec, sym, ap, ap₂, subst, inl, inr, ◌∙◌, arith, eq-eqb, eqb-true}
+use Rattle.std.proofs.Common.{◌≡◌, ◌⊎◌, ◌<◌, ◌+◌, ◌&&◌, ℕ, zero, suc, true, false, Bool, List, [], ◌∷◌, cond, length, map, nat_eq, not, take, Vec, Bor, refl, sym, ap, ap₂, subst, inl, inr, ◌∙◌, arith, eq-eqb, eqb-true}
 use Rattle.std.proofs.lemmas.Bool.{cases_Bool, false≢true, or_cases, or_left, or_right}
-use Rattle.std.specs.List.{list_any}
+use Rattle.std.proofs.lemmas.Bool.Decides.{nat_tests}
+use Rattle.std.specs.List.{list_any, slice_index_or}
 use Rattle.cargo_toml_graph.specs.Action.{Text}
 use Rattle.cargo_toml_graph.specs.Reach.{Among}
 use Rattle.cargo_toml_graph.specs.Removal.{put_all}
@@ -20,6 +21,29 @@ true_stands (x ∷ xs) y e = elim (or_cases (nat_eq y x) (list_any (nat_eq y) xs
 
 stands_false : (xs : List ℕ) (y : ℕ) → ¬ Among xs y → list_any (nat_eq y) xs ≡ false
 stands_false xs y n = elim (cases_Bool (list_any (nat_eq y) xs)) [ inl t ↦ absurd (n (true_stands xs y t)) | inr f ↦ f ]
+
+-- what passes none, though it is removed, has no binary
+pub no_bins : (b : Bool) (bins : List (Bor Text)) → (b && not (nat_eq (length bins) 0)) ≡ false → b ≡ true → map (λ x. x.now) bins ≡ []
+no_bins false bins none on = absurd (false≢true on)
+no_bins true [] none on = refl
+no_bins true (x ∷ bins) none on = let some : not (nat_eq (length (x ∷ bins)) 0) ≡ true = grind (arith, nat_tests) in absurd (false≢true (sym none ∙ some))
+
+-- where no removed place below n has a binary, none is passed on
+pub none_passed : {Z : Type 0} (rows : List (Vec ℕ Z)) (flags : List Bool) (own : ℕ → List Text) (n : ℕ) → ((r : ℕ) → r < n → IsWanted flags true r → own r ≡ [])
+    → (y : ℕ) → passed_below rows flags n own y ≡ own y
+none_passed rows flags own zero none y = refl
+none_passed rows flags own (suc n) none y = go (none_passed rows flags own n (λ r lt gone. none r (omega (arith, lt)) gone)) (slice_index_or flags n false) refl
+  where
+    P : ℕ → List Text
+    P = passed_below rows flags n own
+
+    put : ((x : ℕ) → P x ≡ own x) → P n ≡ [] → (b : Bool) → cond b (put_all (P y) (take 10 (P n))) (P y) ≡ own y
+    put below is true = ap (λ bs. put_all (P y) (take 10 bs)) is ∙ below y
+    put below is false = below y
+
+    go : ((x : ℕ) → P x ≡ own x) → (b : Bool) → slice_index_or flags n false ≡ b → (cond b (passed_from rows n P) P) y ≡ own y
+    go below true gone = put below (below n ∙ none n (omega arith) gone) (list_any (nat_eq y) (list_at rows n))
+    go below false kept = below y
 
 module _ {Z : Type 0} (rows : List (Vec ℕ Z)) (flags : List Bool) (own : ℕ → List Text) (size : ℕ) where
   -- the lists once the places below i have had their turns

@@ -1,14 +1,15 @@
 -- What stands in lists that are gathered of sets, element after element.
-use Rattle.std.proofs.Common.{◌≡◌, ◌↔◌, ◌⊎◌, ◌<◌, ◌+◌, ℕ, List, [], ◌∷◌, ◌++◌, length, map, take, get_or, IsTrue, Bor, sym, subst, inl, inr, ◌∙◌}
-use Rattle.std.proofs.lemmas.Bool.{or_left, or_right, or_cases}
+use Rattle.std.proofs.Common.{◌≡◌, ◌≢◌, ◌↔◌, ◌⊎◌, ◌+◌, ℕ, Bool, true, false, List, [], ◌∷◌, ◌++◌, map, get_or, slice_get, Option, Some, IsTrue, Bor, sym, ap, subst, inl, inr, ◌∙◌, arith}
+use Rattle.std.proofs.lemmas.Bool.{cases_eq, false≢true}
 use Rattle.std.proofs.lemmas.List.{map_push}
-use Rattle.std.proofs.lemmas.List.Folds.{list_any_more}
 use Rattle.std.specs.BTreeSet.{BTreeSet}
+use Rattle.std.specs.Option.{option_map_or}
 use Rattle.cargo_toml_graph.specs.Action.{Text}
 use Rattle.cargo_toml_graph.specs.Reach.{Among}
 use Rattle.cargo_toml_features.specs.declared.features.Feature.{Feature}
 use Rattle.cargo_toml_features.specs.Views.{has_text}
-use Rattle.cargo_toml_resolve.specs.Numbering.{is_named}
+use Rattle.cargo_toml_walk.specs.Numbers.{IsWanted}
+use Rattle.cargo_toml_resolve.specs.Numbering.{IsNamedBy, names_at}
 use Rattle.cargo_toml_resolve.specs.Texts.{texts_of}
 use Rattle.cargo_toml_resolve.proofs.InOrder.{among_keys}
 
@@ -74,17 +75,36 @@ module _ (keys : List Text) where
     elim [ inl o ↦ (h x).1 (inl o) | inr p ↦ (h x).1 (inr ((all_seen s ks all x).1 p.0, p.1)) ],
   )
 
-  -- of features those that the first ones name
-  abbrev pub PutsNamed : List Feature → List (Bor Text) → Type 0
-  PutsNamed vs now = (x : Text) → Among (texts_of now) x ↔ (IsTrue (is_named vs x) × (¬ Among keys x))
+  -- what the first n features name whose flags stand
+  module _ (naming : List Bool) (vs : List Feature) where
+    abbrev pub PutsNamed : ℕ → List (Bor Text) → Type 0
+    PutsNamed n now = (x : Text) → Among (texts_of now) x ↔ (IsNamedBy naming vs n x × (¬ Among keys x))
 
-  pub feature_put : (vs : List Feature) (i : ℕ) (d : Feature) (now new : List (Bor Text)) → i < length vs → PutsNamed (take i vs) now
-      → Puts (λ x. IsTrue (has_text (get_or vs i d).enables_features x)) now new → PutsNamed (take (i + 1) vs) new
-  feature_put vs i d now new lt h p x =
-      let more = list_any_more (λ v. has_text v.enables_features x) vs i d lt in (
-        λ j. elim ((p x).0 j) [
-          | inl o ↦ let n = (h x).0 o in (more ∙ or_left _ _ n.0, n.1)
-          | inr n ↦ (more ∙ or_right (is_named (take i vs) x) _ n.0, n.1)
-        ],
-        λ n. (p x).1 (elim (or_cases (is_named (take i vs) x) (has_text (get_or vs i d).enables_features x) (sym more ∙ n.0)) [ inl o ↦ inl ((h x).1 (o, n.1)) | inr o ↦ inr (o, n.1) ]),
-      )
+    pub none_named : (now : List (Bor Text)) → now ≡ [] → PutsNamed 0 now
+    none_named now none x = (λ i. absurd (subst (λ (ts : List (Bor Text)). Among (texts_of ts) x) none i), λ n. absurd (let lt = n.0.1 in omega (arith, lt)))
+
+    later : (n : ℕ) (x : Text) → IsNamedBy naming vs n x → IsNamedBy naming vs (n + 1) x
+    later n x w = (w.0, (let lt = w.1 in omega (arith, lt)), w.2)
+
+    pub feature_put : (n : ℕ) (v : Feature) (now new : List (Bor Text)) → slice_get vs n ≡ Some v → IsWanted naming true n → PutsNamed n now
+        → Puts (λ x. IsTrue (has_text v.enables_features x)) now new → PutsNamed (n + 1) new
+    feature_put n v now new is picked h p x =
+        let named : names_at vs n x ≡ has_text v.enables_features x = ap (λ (o : Option Feature). option_map_or (λ u. has_text u.enables_features x) o false) is in (
+          λ j. elim ((p x).0 j) [
+            | inl o ↦ let w = (h x).0 o in (later n x w.0, w.1)
+            | inr w ↦ ((n, omega arith, (picked, named ∙ w.0)), w.1)
+          ],
+          λ w. (p x).1 (elim (cases_eq w.0.0 n) [
+            | inl at ↦ inr (sym named ∙ subst (λ i. IsTrue (names_at vs i x)) at w.0.2.1, w.1)
+            | inr ne ↦ inl ((h x).1 ((w.0.0, (let lt = w.0.1 in omega (arith, lt, ne)), w.0.2), w.1))
+          ]),
+        )
+
+    pub feature_left : (n : ℕ) (now : List (Bor Text)) → IsWanted naming false n → PutsNamed n now → PutsNamed (n + 1) now
+    feature_left n now off h x = (
+      λ j. let w = (h x).0 j in (later n x w.0, w.1),
+      λ w. (h x).1 ((w.0.0, (let lt = w.0.1 in let ne = other w.0.0 w.0.2.0 in omega (arith, lt, ne)), w.0.2), w.1),
+    )
+      where
+        other : (i : ℕ) → IsWanted naming true i → i ≢ n
+        other i on at = false≢true (sym off ∙ sym (ap (λ z. get_or naming z false) at) ∙ on)

@@ -1,5 +1,5 @@
 -- Enablers that features learn, place by place.
-use Rattle.std.proofs.Common.{◌≡◌, ◌≢◌, ◌↔◌, ◌⊎◌, ◌<◌, ◌+◌, ◌||◌, ◌∷◌, ℕ, suc, Bool, true, false, cond, List, [], length, map, get_or, set, slice_get, Option, Some, None, Bor, IsTrue, IfSome, is_some, option_map, bytes_eq, refl, sym, ap, subst, inl, inr, ◌∙◌, arith}
+use Rattle.std.proofs.Common.{◌≡◌, ◌≢◌, ◌↔◌, ◌⊎◌, ◌<◌, ◌+◌, ◌||◌, ◌∷◌, ℕ, suc, Bool, true, false, cond, List, [], length, map, get_or, set, slice_get, Option, Some, None, Bor, Global, IsTrue, IfSome, Vec, is_some, option_map, bytes_eq, refl, sym, ap, subst, inl, inr, ◌∙◌, arith}
 use Rattle.std.proofs.lemmas.Bool.{cases_eq, false≢true, or_cases, or_left, or_right}
 use Rattle.std.proofs.lemmas.List.{get_or-map, length-map}
 use Rattle.std.proofs.lemmas.Option.{same_Some, slice_get-get_or, slice_get_read, slice_get_within}
@@ -20,12 +20,12 @@ use Rattle.cargo_toml_graph.specs.Reach.{Among}
 use Rattle.cargo_toml_features.specs.Places.{text_at}
 use Rattle.cargo_toml_features.specs.declared.features.DepAction.{DepAction}
 use Rattle.cargo_toml_features.specs.declared.features.Feature.{Feature}
-use Rattle.cargo_toml_features.specs.InOrder.{AreInOrder, AreTable, HaveNoEnablers, feature_at, names_of, resolution_among}
+use Rattle.cargo_toml_features.specs.InOrder.{AreInOrder, AreTable, HaveNoEnablers, feature_at, names_of, resolution_among, table_among}
 use Rattle.cargo_toml_features.specs.Marks.{Marks, marks_of}
 use Rattle.cargo_toml_features.specs.Views.{action_at, action_of, has_text, value_at}
 use Rattle.cargo_toml_features.proofs.TextKeys.{none_in}
 use Rattle.cargo_toml_resolve.specs.Enabling.{AreSameButEnablers, Enables, IsSameButEnablers, LeadsTo, LearnEach, Learns}
-use Rattle.cargo_toml_resolve.specs.KeptFeatures.{IsNamedAlike, own_bins}
+use Rattle.cargo_toml_resolve.specs.KeptFeatures.{IsNamedAlike, StandFor, own_bins}
 use Rattle.cargo_toml_resolve.specs.Left.{AreLeft}
 use Rattle.cargo_toml_resolve.specs.TakingOver.{ChangesIn}
 use Rattle.cargo_toml_resolve.specs.Texts.{texts_of}
@@ -39,7 +39,7 @@ pub same_features : (vs : List Feature) → AreSameButEnablers vs vs
 same_features vs = record { len = refl; each = λ i v w old new. subst (IsSameButEnablers v) (same_Some v w (sym old ∙ new)) (itself v) }
 
 -- what stands in a place of a list that is as long
-there_too : (vs ws : List Feature) → length ws ≡ length vs → (i : ℕ) (v : Feature) → slice_get vs i ≡ Some v → (w : Feature) × (slice_get ws i ≡ Some w)
+pub there_too : (vs ws : List Feature) → length ws ≡ length vs → (i : ℕ) (v : Feature) → slice_get vs i ≡ Some v → (w : Feature) × (slice_get ws i ≡ Some w)
 there_too vs ws len i v old =
     let inside : i < length ws = subst (λ n. i < n) (sym len) (slice_get_within vs i v old) in
     (get_or ws i v, slice_get-get_or ws i v inside)
@@ -288,7 +288,7 @@ module _ (vs ws : List Feature) (same : AreSameButEnablers vs ws) where
       go (Some v) None a k = absurd a
       go (Some v) (Some w) a k = ap (λ bs. map (λ (b : Bor Text). b.now) bs.items) (same.each a.0 v w a.1 a.2).bins ∙ k
 
-  own_still : (f : Text) → own_bins ws f ≡ own_bins vs f
+  pub own_still : (f : Text) → own_bins ws f ≡ own_bins vs f
   own_still f = go (feature_at vs f) (feature_at ws f) (alike_at vs ws same f)
     where
       go : (o o' : Option Feature) → Alike vs ws o o' → option_map_or (λ v. map (λ (b : Bor Text). b.now) v.required_by_bins.items) o' [] ≡ option_map_or (λ v. map (λ (b : Bor Text). b.now) v.required_by_bins.items) o []
@@ -323,10 +323,10 @@ module _ (vs ws : List Feature) (same : AreSameButEnablers vs ws) where
       own_at f None s = tt
       own_at f (Some w) s = found f w s.0 s.1 s.2 (feature_at vs f) (feature_at ws f) refl refl (alike_at vs ws same f)
 
--- once all have, what they have learnt are the sources of edges
-module _ (t : Table) (vs ws : List Feature) (up : AreInOrder vs) (none : HaveNoEnablers vs) (made : AreTable t vs) (h : HaveLearnt (length vs) vs ws) where
+-- they still make the table
+module _ (t : Table) (vs ws : List Feature) (made : AreTable t vs) (same : AreSameButEnablers vs ws) where
   has_still : (f : Text) → is_some (feature_at ws f) ≡ t.has f
-  has_still f = go (feature_at vs f) (feature_at ws f) (alike_at vs ws h.same f) ∙ made.has f
+  has_still f = go (feature_at vs f) (feature_at ws f) (alike_at vs ws same f) ∙ made.has f
     where
       go : (o o' : Option Feature) → Alike vs ws o o' → is_some o' ≡ is_some o
       go None None a = refl
@@ -334,24 +334,40 @@ module _ (t : Table) (vs ws : List Feature) (up : AreInOrder vs) (none : HaveNoE
       go (Some v) None a = absurd a
       go (Some v) (Some w) a = refl
 
-  names_still : (f x : Text) → (resolution_among ws).table.names f x ≡ t.names f x
-  names_still f x = go (feature_at vs f) (feature_at ws f) (alike_at vs ws h.same f) ∙ made.names f x
+  names_still : (f x : Text) → (table_among ws).names f x ≡ t.names f x
+  names_still f x = go (feature_at vs f) (feature_at ws f) (alike_at vs ws same f) ∙ made.names f x
     where
       go : (o o' : Option Feature) → Alike vs ws o o' → option_map_or (λ v. has_text v.enables_features x) o' false ≡ option_map_or (λ v. has_text v.enables_features x) o false
       go None None a = refl
       go None (Some w) a = absurd a
       go (Some v) None a = absurd a
-      go (Some v) (Some w) a = ap (λ s. has_text s x) (h.same.each a.0 v w a.1 a.2).names
+      go (Some v) (Some w) a = ap (λ s. has_text s x) (same.each a.0 v w a.1 a.2).names
 
-  action_still : (f k : Text) → (resolution_among ws).table.action f k ≡ t.action f k
-  action_still f k = go (feature_at vs f) (feature_at ws f) (alike_at vs ws h.same f) ∙ made.action f k
+  action_still : (f k : Text) → (table_among ws).action f k ≡ t.action f k
+  action_still f k = go (feature_at vs f) (feature_at ws f) (alike_at vs ws same f) ∙ made.action f k
     where
       go : (o o' : Option Feature) → Alike vs ws o o' → option_map_or (λ v. action_at v.enables_deps k) o' None ≡ option_map_or (λ v. action_at v.enables_deps k) o None
       go None None a = refl
       go None (Some w) a = absurd a
       go (Some v) None a = absurd a
-      go (Some v) (Some w) a = ap (λ m. action_at m k) (h.same.each a.0 v w a.1 a.2).actions
+      go (Some v) (Some w) a = ap (λ m. action_at m k) (same.each a.0 v w a.1 a.2).actions
 
+  pub table_still : AreTable t ws
+  table_still = record { has = has_still; names = names_still; action = action_still }
+
+-- and the graph still stands for them
+pub stand_still : (t : Table) (removed : Text → Bool) (vs ws : List Feature) (texts : List Text) (edges names : List (Vec ℕ Global)) (flags : List Bool) → AreSameButEnablers vs ws
+    → StandFor t removed vs texts edges names flags → StandFor t removed ws texts edges names flags
+stand_still t removed vs ws texts edges names flags same stand = record {
+  table = table_still t vs ws stand.table same;
+  in_order = in_order_still vs ws same stand.in_order;
+  numbered = stand.numbered;
+  count = stand.count ∙ sym same.len;
+  vertices = λ i lt. stand.vertices i (subst (λ n. i < n) same.len lt) ∙ ap (λ ks. text_at ks i) (sym (keys_still vs ws same));
+}
+
+-- once all have, what they have learnt are the sources of edges
+module _ (t : Table) (vs ws : List Feature) (up : AreInOrder vs) (none : HaveNoEnablers vs) (made : AreTable t vs) (h : HaveLearnt (length vs) vs ws) where
   -- what a feature of vs leads to, by the table
   leads_is : (e f : Text) (u : Feature) → feature_at vs e ≡ Some u → LeadsTo u f → IsTrue (t.names e f) ⊎ IsPlain (t.action e f)
   leads_is e f u is l = elim l [
@@ -411,4 +427,6 @@ module _ (t : Table) (vs ws : List Feature) (up : AreInOrder vs) (none : HaveNoE
           ))
 
   pub unremoved : IsUnremoved t (resolution_among ws)
-  unremoved = record { has = has_still; names = names_still; action = action_still; enabled_by = λ f e. (into_edge f e, from_edge f e) }
+  unremoved =
+      let still = table_still t vs ws made h.same in
+      record { has = still.has; names = still.names; action = still.action; enabled_by = λ f e. (into_edge f e, from_edge f e) }

@@ -10,7 +10,8 @@ use Rattle.cargo_toml_walk.specs.Numbers.{IsWanted, Leads, list_at}
 use Rattle.cargo_toml_features.specs.declared.features.Feature.{Feature}
 use Rattle.cargo_toml_features.specs.Marks.{marks_of}
 use Rattle.cargo_toml_features.specs.Views.{action_at}
-use Rattle.cargo_toml_resolve.specs.Leaving.{HasActions, Holds, KeepsOwn, Leaves, LeavesAll}
+use Rattle.cargo_toml_resolve.specs.Leaving.{HasActions, Holds, KeepsOwn, LeavesAll}
+use Rattle.cargo_toml_resolve.specs.TakingOver.{ChangesIn, TakesOver}
 
 some_same : {v w : Feature} → Some v ≡ Some w → w ≡ v
 some_same e = cc
@@ -22,6 +23,7 @@ keeps_itself vs i v w at at' =
       key = ap (λ (u : Feature). u.key) same;
       marks = ap marks_of same;
       bins = ap (λ (u : Feature). u.required_by_bins) same;
+      enabled_by = ap (λ (u : Feature). u.enabled_by) same;
     }
 
 -- actions of features that are the same in the places that count
@@ -31,13 +33,13 @@ actions_alike vs ws P same v h k = join_alike (λ a. (
   λ d. (d.0, d.1, ap (λ (o : Option Feature). option_and_then (λ u. action_at u.enables_deps k) o) (same d.0 d.1) ∙ d.2),
 )) (action_at v.enables_deps k) (h k)
 
-module _ {Z : Type 0} (flags : List Bool) (passed named enablers : List (Vec ℕ Z)) (texts : List Text) (old : List Feature) where
+module _ {Z : Type 0} (flags : List Bool) (passed named : List (Vec ℕ Z)) (texts : List Text) (old : List Feature) where
   -- those below n are left, and the others as they were
   pub record LeavesUpTo (n : ℕ) (now : List Feature) : Type 0 where
     pub len : length now ≡ length old
     pub own : (i : ℕ) (v w : Feature) → slice_get old i ≡ Some v → slice_get now i ≡ Some w → KeepsOwn v w
     pub holds : (i : ℕ) (v w : Feature) → i < n → IsWanted flags false i → slice_get old i ≡ Some v → slice_get now i ≡ Some w →
-        Holds old texts i (list_at passed i) (list_at named i) (list_at enablers i) v w
+        Holds old texts i (list_at passed i) (list_at named i) v w
     pub rest : (j : ℕ) → (n ≤ j) ⊎ IsWanted flags true j → slice_get now j ≡ slice_get old j
 
   pub none_left : LeavesUpTo 0 old
@@ -60,31 +62,30 @@ module _ {Z : Type 0} (flags : List Bool) (passed named enablers : List (Vec ℕ
   }
 
   module _ (n : ℕ) (now next : List Feature) (kept : IsWanted flags false n) (removed : (b : ℕ) → Leads passed n b → IsWanted flags true b)
-      (h : LeavesUpTo n now) (l : Leaves n (list_at passed n) (list_at named n) (list_at enablers n) texts now next) where
+      (h : LeavesUpTo n now) (l : ChangesIn (TakesOver now texts n (list_at passed n) (list_at named n)) n now next) where
     -- its own place, and those that it passes, are still as they were
     unchanged : (b : ℕ) → (b ≡ n) ⊎ Among (list_at passed n) b → slice_get now b ≡ slice_get old b
     unchanged b (inl same) = h.rest b (inl (omega (arith, same)))
     unchanged b (inr p) = h.rest b (inr (removed b p))
 
-    here : (v w : Feature) → slice_get old n ≡ Some v → slice_get next n ≡ Some w → Holds old texts n (list_at passed n) (list_at named n) (list_at enablers n) v w
+    here : (v w : Feature) → slice_get old n ≡ Some v → slice_get next n ≡ Some w → Holds old texts n (list_at passed n) (list_at named n) v w
     here v w at at' =
-        let g = l.holds v w (unchanged n (inl refl) ∙ at) at' in
+        let g = l.here v w (unchanged n (inl refl) ∙ at) at' in
         record {
           same_names = g.same_names;
           names = g.names;
           actions = actions_alike now old (λ b. (b ≡ n) ⊎ Among (list_at passed n) b) unchanged w g.actions;
-          enabled_by = g.enabled_by;
         }
 
     pub one_more_left : LeavesUpTo (n + 1) next
     one_more_left = record {
       len = l.len ∙ h.len;
       own = λ i v w at at'. elim (cases_eq i n) [
-        | inl same ↦ l.own v w (unchanged n (inl refl) ∙ subst (λ m. slice_get old m ≡ Some v) same at) (subst (λ m. slice_get next m ≡ Some w) same at')
+        | inl same ↦ (l.here v w (unchanged n (inl refl) ∙ subst (λ m. slice_get old m ≡ Some v) same at) (subst (λ m. slice_get next m ≡ Some w) same at')).own
         | inr apart ↦ h.own i v w at (sym (l.others i apart) ∙ at')
       ];
       holds = λ i v w lt k at at'. elim (cases_eq i n) [
-        | inl same ↦ subst (λ m. Holds old texts m (list_at passed m) (list_at named m) (list_at enablers m) v w) (sym same)
+        | inl same ↦ subst (λ m. Holds old texts m (list_at passed m) (list_at named m) v w) (sym same)
             (here v w (subst (λ m. slice_get old m ≡ Some v) same at) (subst (λ m. slice_get next m ≡ Some w) same at'))
         | inr apart ↦ h.holds i v w (omega (arith, lt, apart)) k at (sym (l.others i apart) ∙ at')
       ];
@@ -100,7 +101,7 @@ module _ {Z : Type 0} (flags : List Bool) (passed named enablers : List (Vec ℕ
     | inr le ↦ absurd (false≢true (ap is_some (sym (slice_get_past old i le) ∙ at)))
   ]
 
-  pub all_left : (now : List Feature) → LeavesUpTo (length old) now → LeavesAll flags passed named enablers texts old now
+  pub all_left : (now : List Feature) → LeavesUpTo (length old) now → LeavesAll flags passed named texts old now
   all_left now h = record {
     len = h.len;
     own = h.own;

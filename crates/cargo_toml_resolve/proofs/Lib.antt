@@ -28,4 +28,5 @@ mod PutAlong
 mod BinTurns
 mod KnownBins
 pub mod Learning
+mod KeptEnablers
 pub mod NumberedTables

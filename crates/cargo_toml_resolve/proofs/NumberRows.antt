@@ -1,14 +1,14 @@
 -- Rows of numbers, number after number.
 use Rattle.std.proofs.Common.{◌≡◌, ◌≢◌, ◌↔◌, ◌⊎◌, ◌<◌, ◌≤◌, ◌+◌, ℕ, zero, suc, Bool, true, false, List, [], ◌∷◌, ◌++◌, length, map, take, get_or, replicate, slice_get, IsTrue, Option, Some, None, is_some, option_map, Vec, Global, Bor, refl, sym, ap, subst, inl, inr, ◌∙◌, arith}
-use Rattle.std.proofs.lemmas.Bool.{false≢true}
-use Rattle.std.proofs.lemmas.List.{length-map, map_push, take_all}
+use Rattle.std.proofs.lemmas.Bool.{cases_eq, false≢true}
+use Rattle.std.proofs.lemmas.List.{get_or_append_left, length-map, map_push, take_all}
 use Rattle.std.proofs.lemmas.Map.Made.{is_some-lookup}
 use Rattle.std.specs.BTreeMap.{BTreeMap, is_at}
 use Rattle.std.specs.BTreeSet.{BTreeSet}
 use Rattle.std.specs.Cmp.Lexicographic.{slice_cmp}
 use Rattle.std.specs.Map.{lookup}
 use Rattle.std.specs.Map.Iter.{deref_pair}
-use Rattle.std.specs.Option.{IsSomeAnd}
+use Rattle.std.specs.Option.{IsSomeAnd, option_map_or}
 use Rattle.std.specs.Ordering.{nat_cmp}
 use Rattle.cargo_toml_graph.specs.Action.{Text}
 use Rattle.cargo_toml_graph.specs.Graph.{IsPlain}
@@ -16,11 +16,12 @@ use Rattle.cargo_toml_graph.specs.Reach.{Among}
 use Rattle.cargo_toml_walk.specs.Numbers.{IsWanted, list_at}
 use Rattle.cargo_toml_features.specs.Places.{text_at}
 use Rattle.cargo_toml_features.proofs.Places.{Ascends, among_at, once}
-use Rattle.cargo_toml_walk.proofs.Steps.{among_more}
 use Rattle.cargo_toml_features.specs.declared.features.DepAction.{DepAction}
 use Rattle.cargo_toml_features.specs.declared.features.Feature.{Feature}
 use Rattle.cargo_toml_features.specs.Views.{action_at, action_of, has_text}
-use Rattle.cargo_toml_resolve.specs.Numbering.{IsTarget}
+use Rattle.cargo_toml_resolve.specs.Enabling.{LeadsTo}
+use Rattle.cargo_toml_resolve.specs.Numbering.{IsPicked, IsTarget, names_at}
+use Rattle.cargo_toml_resolve.specs.NumberedTables.{IsNaming}
 use Rattle.cargo_toml_resolve.specs.Texts.{texts_of}
 use Rattle.cargo_toml_resolve.proofs.Gathered.{all_seen, among_push, seen, seen_push}
 use Rattle.cargo_toml_resolve.proofs.InOrder.{among_keys}
@@ -55,30 +56,6 @@ all_numbers ts s ks row all h x = (
   λ i. let w = (h x).0 i in (w.0, (all_seen s ks all _).0 w.1),
   λ w. (h x).1 (w.0, (all_seen s ks all _).1 w.1),
 )
-
--- of numbers those below `count` other than `own`
-module _ (count own : ℕ) where
-  abbrev pub HasTargets : List ℕ → List ℕ → Type 0
-  HasTargets named row = (x : ℕ) → Among row x ↔ (Among named x × (x < count) × (x ≢ own))
-
-  module _ (named : List ℕ) (i : ℕ) (lt : i < length named) (row : List ℕ) (so_far : HasTargets (take i named) row) where
-    pub target_put : get_or named i 0 < count → get_or named i 0 ≢ own → HasTargets (take (i + 1) named) (row ++ get_or named i 0 ∷ [])
-    target_put below other x = (
-      λ j. elim ((among_push row (get_or named i 0) x).0 j) [
-        | inl k ↦ let w = (so_far x).0 k in ((among_more named i x lt).1 (inl w.0), w.1, w.2)
-        | inr is ↦ ((among_more named i x lt).1 (inr is), subst (λ m. m < count) (sym is) below, λ e. other (sym is ∙ e))
-      ],
-      λ w. (among_push row (get_or named i 0) x).1 (elim ((among_more named i x lt).0 w.0) [ inl k ↦ inl ((so_far x).1 (k, w.1, w.2)) | inr is ↦ inr is ]),
-    )
-
-    pub target_left : (get_or named i 0 < count → get_or named i 0 ≢ own → ⊥) → HasTargets (take (i + 1) named) row
-    target_left out x = (
-      λ j. let w = (so_far x).0 j in ((among_more named i x lt).1 (inl w.0), w.1, w.2),
-      λ w. elim ((among_more named i x lt).0 w.0) [
-        | inl k ↦ (so_far x).1 (k, w.1, w.2)
-        | inr is ↦ absurd (out (subst (λ m. m < count) is w.1) (λ e. w.2 (is ∙ e)))
-      ],
-    )
 
 -- the row gains the features, other than the one in place `own`, of which P holds
 module _ (keys : List (Bor Text)) (own : ℕ) where
@@ -229,18 +206,44 @@ all_kept flags first mid new size k fits none joined filled i =
     subst (λ fs. IsWanted fs true i ↔ IsWanted flags true i) (sym (filled ∙ ap (λ fs. take size fs ++ replicate k false) whole ∙ ap (λ fs. fs ++ replicate k false) (take_all size flags fits))) (flags_kept flags k i)
 
 -- the row of one feature is that of its place
-pub target_is : (vs : List Feature) (names : List (Vec ℕ Global)) (keys : List (Bor Text)) (own : ℕ) (v : Feature) (named row : List ℕ) → slice_get vs own ≡ Some v → list_at names own ≡ named
-    → ((x : ℕ) → Among row x ↔ ((x < length keys) × (x ≢ own) × (Among named x ⊎ IsPlain (action_at v.enables_deps (text_at (texts_of keys) x)))))
-    → (x : ℕ) → Among row x ↔ ((x < length keys) × IsTarget vs names (texts_of keys) own x)
-target_is vs names keys own v named row there read h x = (
-  λ i.
-      let w = (h x).0 i in (
-        w.0,
-        (w.1, elim (w.2) [ inl n ↦ inl (subst (λ xs. Among xs x) (sym read) n) | inr p ↦ inr (subst (λ o. IsSomeAnd o (λ u. IsPlain (action_at u.enables_deps (text_at (texts_of keys) x)))) (sym there) p) ]),
-      ),
-  λ w. (h x).1 (
-    w.0,
-    w.1.0,
-    elim (w.1.1) [ inl n ↦ inl (subst (λ xs. Among xs x) read n) | inr p ↦ inr (subst (λ o. IsSomeAnd o (λ u. IsPlain (action_at u.enables_deps (text_at (texts_of keys) x)))) there p) ],
-  ),
+pub target_is : (vs : List Feature) (keys : List (Bor Text)) (own : ℕ) (v : Feature) (row : List ℕ) → slice_get vs own ≡ Some v
+    → ((x : ℕ) → Among row x ↔ (Among [] x ⊎ ((x < length keys) × (x ≢ own) × LeadsTo v (text_at (texts_of keys) x))))
+    → (x : ℕ) → Among row x ↔ ((x < length keys) × IsTarget vs (texts_of keys) own x)
+target_is vs keys own v row there h x = (
+  λ i. elim ((h x).0 i) [ inl none ↦ absurd none | inr t ↦ (t.0, (t.1, subst (λ o. IsSomeAnd o (λ u. LeadsTo u (text_at (texts_of keys) x))) (sym there) t.2)) ],
+  λ w. (h x).1 (inr (w.0, w.1.0, subst (λ o. IsSomeAnd o (λ u. LeadsTo u (text_at (texts_of keys) x))) there w.1.1)),
 )
+
+-- what one feature names is what its place is asked for
+pub picked_is : (naming : List Bool) (vs : List Feature) (ts : List (Bor Text)) (i : ℕ) (v : Feature) (row : List ℕ) → slice_get vs i ≡ Some v → IsWanted naming true i
+    → ((x : ℕ) → Among row x ↔ ((x < length ts) × IsTrue (has_text v.enables_features (text_at (texts_of ts) x))))
+    → (x : ℕ) → Among row x ↔ ((x < length ts) × IsPicked naming vs i (text_at (texts_of ts) x))
+picked_is naming vs ts i v row there on h x =
+    let named : names_at vs i (text_at (texts_of ts) x) ≡ has_text v.enables_features (text_at (texts_of ts) x) = ap (λ (o : Option Feature). option_map_or (λ u. has_text u.enables_features (text_at (texts_of ts) x)) o false) there in
+    (λ m. let w = (h x).0 m in (w.0, (on, named ∙ w.1)), λ w. (h x).1 (w.0, sym named ∙ w.1.1))
+
+-- and nothing where its flag doesn't stand
+pub unpicked_is : (naming : List Bool) (vs : List Feature) (ts : List (Bor Text)) (i : ℕ) (row : List ℕ) → row ≡ [] → IsWanted naming false i
+    → (x : ℕ) → Among row x ↔ ((x < length ts) × IsPicked naming vs i (text_at (texts_of ts) x))
+unpicked_is naming vs ts i row none off x = (λ m. absurd (subst (λ xs. Among xs x) none m), λ w. absurd (false≢true (sym off ∙ w.1.0)))
+
+-- a flag is put at the end, and stands where P holds of its place
+pub flag_put : (P : ℕ → Type 0) (flags new : List Bool) (b : Bool) (i : ℕ) → length flags ≡ i → new ≡ flags ++ b ∷ [] → ((j : ℕ) → j < i → P j → IsWanted flags true j) → (P i → b ≡ true)
+    → (j : ℕ) → j < i + 1 → P j → IsWanted new true j
+flag_put P flags new b i len made old last j lt p = subst (λ fs. IsWanted fs true j) (sym made) (elim (cases_eq j i) [
+  | inl at ↦ ap (λ k. get_or (flags ++ b ∷ []) k false) (at ∙ sym len) ∙ end flags ∙ last (subst P at p)
+  | inr ne ↦ get_or_append_left flags (b ∷ []) false j (omega (arith, lt, ne, len)) ∙ old j (omega (arith, lt, ne)) p
+])
+  where
+    end : (fs : List Bool) → get_or (fs ++ b ∷ []) (length fs) false ≡ b
+    end [] = refl
+    end (f ∷ fs) = end fs
+
+-- what leads to no removed one isn't asked for its names, unless it is removed
+pub naming_is : (edges : List (Vec ℕ Global)) (flags : List Bool) (i : ℕ) (row : List ℕ) (found : Bool) → list_at edges i ≡ row → IsWanted flags false i
+    → (found ≡ false → (x : ℕ) → Among row x → IsWanted flags false x) → IsNaming edges flags i → found ≡ true
+naming_is edges flags i row true read off none asked = refl
+naming_is edges flags i row false read off none asked = elim asked [
+  | inl on ↦ absurd (false≢true (sym off ∙ on))
+  | inr b ↦ absurd (false≢true (sym (none refl b.0 (subst (λ xs. Among xs b.0) read b.1)) ∙ b.2))
+]

@@ -1,5 +1,5 @@
 -- The texts of numbers: the names of features, and after them others.
-use Rattle.std.proofs.Common.{◌≡◌, ◌↔◌, ◌<◌, ◌≤◌, ◌+◌, ◌-◌, ℕ, Bool, true, false, List, [], ◌++◌, length, map, take, drop, IsTrue, Bor, refl, sym, ap, subst, inl, inr, ◌∙◌, arith}
+use Rattle.std.proofs.Common.{◌≡◌, ◌↔◌, ◌<◌, ◌≤◌, ◌+◌, ◌-◌, ℕ, Bool, true, false, List, [], ◌++◌, length, map, take, drop, Bor, refl, sym, ap, subst, inl, inr, ◌∙◌, arith}
 use Rattle.std.proofs.lemmas.Bool.{false≢true, cases_lt}
 use Rattle.std.proofs.lemmas.List.{length-append, length-map, length-take-le, length-drop, take_at, drop_at, map-append, take-map, drop-map, take_rest, get_or-take, get_or-drop, get_or_append_left, get_or-append_right}
 use Rattle.cargo_toml_graph.specs.Action.{Text}
@@ -10,7 +10,7 @@ use Rattle.cargo_toml_features.specs.Places.{text_at}
 use Rattle.cargo_toml_features.proofs.Places.{Ascends, among_at, at_among, once}
 use Rattle.cargo_toml_features.specs.declared.features.Feature.{Feature}
 use Rattle.cargo_toml_features.specs.InOrder.{AreInOrder, names_of}
-use Rattle.cargo_toml_resolve.specs.Numbering.{AreParted, AreTextsOf, is_named}
+use Rattle.cargo_toml_resolve.specs.Numbering.{AreParted, AreTextsOf, IsNamedBy}
 use Rattle.cargo_toml_resolve.specs.Texts.{texts_of}
 
 -- a text that stands in a place is among them
@@ -45,8 +45,8 @@ module _ (ks os : List Text) (up : Ascends ks) (rise : Ascends os) (apart : (x :
       ]
 
 -- the names of features and what these name besides
-pub texts_made : (vs : List Feature) (os : List Text) → AreInOrder vs → Ascends os → ((x : Text) → Among os x ↔ (IsTrue (is_named vs x) × (¬ Among (names_of vs) x))) → AreTextsOf vs (names_of vs ++ os)
-texts_made vs os up rise others =
+pub texts_made : (naming : List Bool) (vs : List Feature) (os : List Text) → AreInOrder vs → Ascends os → ((x : Text) → Among os x ↔ (IsNamedBy naming vs (length vs) x × (¬ Among (names_of vs) x))) → AreTextsOf naming vs (names_of vs ++ os)
+texts_made naming vs os up rise others =
     let long : length (names_of vs) ≡ length vs = length-map vs (λ (v : Feature). v.key.now) in
     let whole = length-append (names_of vs) os in
     record {
@@ -60,15 +60,15 @@ texts_made vs os up rise others =
       named = λ x y. go x y (is_among (names_of vs) x) refl;
     }
   where
-    go : (x : Text) → IsTrue (is_named vs x) → (b : Bool) → is_among (names_of vs) x ≡ b → Among (names_of vs ++ os) x
+    go : (x : Text) → IsNamedBy naming vs (length vs) x → (b : Bool) → is_among (names_of vs) x ≡ b → Among (names_of vs ++ os) x
     go x y true is = among-first (names_of vs) os x (is_among-true (names_of vs) x is)
     go x y false is = among-second (names_of vs) os x ((others x).1 (y, λ i. false≢true (sym is ∙ among-true (names_of vs) x i)))
 
-pub texts_joined : (vs : List Feature) (keys others front back new : List (Bor Text)) → AreInOrder vs → texts_of keys ≡ names_of vs → front ≡ keys → back ≡ others → Ascends (texts_of others)
-    → ((x : Text) → Among (texts_of others) x ↔ (IsTrue (is_named vs x) × (¬ Among (texts_of front) x))) → new ≡ keys ++ back → AreTextsOf vs (texts_of new)
-texts_joined vs keys others front back new up same read read' rise besides joined =
-    subst (AreTextsOf vs) (sym (ap (map (λ (t : Bor Text). t.now)) (joined ∙ ap (λ ts. keys ++ ts) read') ∙ map-append (λ (t : Bor Text). t.now) keys others ∙ ap (λ ks. ks ++ texts_of others) same))
-    (texts_made vs (texts_of others) up rise (subst (λ ks. (x : Text) → Among (texts_of others) x ↔ (IsTrue (is_named vs x) × (¬ Among ks x))) (ap (map (λ (t : Bor Text). t.now)) read ∙ same) besides))
+pub texts_joined : (naming : List Bool) (vs : List Feature) (keys others front back new : List (Bor Text)) → AreInOrder vs → texts_of keys ≡ names_of vs → front ≡ keys → back ≡ others → Ascends (texts_of others)
+    → ((x : Text) → Among (texts_of others) x ↔ (IsNamedBy naming vs (length vs) x × (¬ Among (texts_of front) x))) → new ≡ keys ++ back → AreTextsOf naming vs (texts_of new)
+texts_joined naming vs keys others front back new up same read read' rise besides joined =
+    subst (AreTextsOf naming vs) (sym (ap (map (λ (t : Bor Text). t.now)) (joined ∙ ap (λ ts. keys ++ ts) read') ∙ map-append (λ (t : Bor Text). t.now) keys others ∙ ap (λ ks. ks ++ texts_of others) same))
+    (texts_made naming vs (texts_of others) up rise (subst (λ ks. (x : Text) → Among (texts_of others) x ↔ (IsNamedBy naming vs (length vs) x × (¬ Among ks x))) (ap (map (λ (t : Bor Text). t.now)) read ∙ same) besides))
 
 -- texts in two parts, of which the first has n
 module _ (n : ℕ) (ts : List (Bor Text)) (h : AreParted n (texts_of ts)) where

@@ -12,7 +12,7 @@ use Rattle.cargo_toml_graph.specs.Reach.Reaches.{edge, through}
 use Rattle.cargo_toml_graph.specs.Redirects.{RedirectsTo}
 use Rattle.cargo_toml_walk.specs.Numbers.{Leads, IsWanted, IsPassed, IsUnder, IsRedirect, KeepsLabel}
 use Rattle.cargo_toml_features.specs.Places.{text_at}
-use Rattle.cargo_toml_resolve.specs.NumberedTables.{HasNumber, IsNumbered}
+use Rattle.cargo_toml_resolve.specs.NumberedTables.{HasNumber, IsNaming, IsNumbered}
 use Rattle.cargo_toml_features.proofs.Places.{lower_place}
 
 -- what leads on has a list
@@ -81,16 +81,16 @@ module _ {Z : Type 0} (t : Table) (Removed : Text → Type 0) (texts : List Text
       λ l. (text_at texts l.0, gathers_to i l.0 below l.1, l.2),
     )
 
-    pub gathers_label : (i : ℕ) (x : Text) → i < length edges
+    pub gathers_label : (i : ℕ) (x : Text) → i < length edges → ((k : ℕ) → Gathers (Leads edges) S i k → IsNaming edges flags k)
         → GathersLabel (Edge t) T (λ b y. IsTrue (t.names b y)) (text_at texts i) x ↔ HasNumber texts (length texts) (GathersLabel (Leads edges) S (Leads names) i) x
-    gathers_label i x below = (
+    gathers_label i x below asked = (
       λ l.
           let k = gathers_from i l.0 below l.1 in
-          let n = (h.labels k.0 x k.1).0 (subst (λ v. IsTrue (t.names v x)) (sym k.2) l.2) in
+          let n = (h.labels k.0 x k.1 (asked k.0 k.3)).0 (subst (λ v. IsTrue (t.names v x)) (sym k.2) l.2) in
           (n.0, n.1, n.2, (k.0, k.3, n.3)),
       λ n.
           let b = n.3.0 in
-          (text_at texts b, gathers_to i b below n.3.1, (h.labels b x (gathers_inside i b below n.3.1)).1 (n.0, n.1, n.2, n.3.2)),
+          (text_at texts b, gathers_to i b below n.3.1, (h.labels b x (gathers_inside i b below n.3.1) (asked b n.3.1)).1 (n.0, n.1, n.2, n.3.2)),
     )
 
   pub vertex_flag : (i : ℕ) → i < length edges → IsWanted flags true i ↔ Removed (text_at texts i)
@@ -107,13 +107,18 @@ module _ {Z : Type 0} (t : Table) (Removed : Text → Type 0) (texts : List Text
     λ kept. elim (cases_Bool (slice_index_or flags j false)) [ inl f ↦ absurd (kept ((h.flagged j below).0 f)) | inr f ↦ f ],
   )
 
-  pub keeps_name : (i : ℕ) (x : Text) → i < length edges → KeepsName t Removed (text_at texts i) x ↔ HasNumber texts (length texts) (KeepsLabel edges flags names i) x
-  keeps_name i x below = (
+  -- what one of these gathers is asked for its names too
+  all_asked : (i : ℕ) → IsNaming edges flags i → (k : ℕ) → Gathers (Leads edges) (IsWanted flags true) i k → IsNaming edges flags k
+  all_asked i asked k (inl is) = subst (IsNaming edges flags) (sym is) asked
+  all_asked i asked k (inr g) = inl g.0
+
+  pub keeps_name : (i : ℕ) (x : Text) → i < length edges → IsNaming edges flags i → KeepsName t Removed (text_at texts i) x ↔ HasNumber texts (length texts) (KeepsLabel edges flags names i) x
+  keeps_name i x below asked = (
     λ n.
-        let l = (gathers_label (IsWanted flags true) Removed vertex_flag i x below).0 n.0 in
+        let l = (gathers_label (IsWanted flags true) Removed vertex_flag i x below (all_asked i asked)).0 n.0 in
         (l.0, l.1, l.2, (l.3, (unflagged l.0 l.1).1 (λ r. n.1 (subst Removed l.2 r)))),
     λ l. (
-      (gathers_label (IsWanted flags true) Removed vertex_flag i x below).1 (l.0, l.1, l.2, l.3.0),
+      (gathers_label (IsWanted flags true) Removed vertex_flag i x below (all_asked i asked)).1 (l.0, l.1, l.2, l.3.0),
       λ r. (unflagged l.0 l.1).0 l.3.1 (subst Removed (sym l.2) r),
     ),
   )
@@ -154,14 +159,18 @@ module _ {Z : Type 0} (t : Table) (Removed : Text → Type 0) (texts : List Text
       → Reaches (Leads edges) (IsUnder edges flags r) i j ↔ Reaches (Edge t) (Lower r) (text_at texts i) (text_at texts j)
   reaches_under r below i j inside inside' = reaches_between (IsUnder edges flags r) (Lower r) (vertex_under r below) i j inside inside'
 
-  pub redirects_to : (r : ℕ) (x : Text) → r < length edges
+  under_asked : (r : ℕ) → IsWanted flags true r → (k : ℕ) → Gathers (Leads edges) (IsUnder edges flags r) r k → IsNaming edges flags k
+  under_asked r gone k (inl is) = inl (subst (IsWanted flags true) (sym is) gone)
+  under_asked r gone k (inr g) = inl g.0.0
+
+  pub redirects_to : (r : ℕ) (x : Text) → r < length edges → IsWanted flags true r
       → RedirectsTo t Removed (λ a b. IsTrue (is_below a b)) (text_at texts r) x ↔ HasNumber texts (length texts) (IsRedirect edges flags names r) x
-  redirects_to r x below = (
+  redirects_to r x below gone = (
     λ n.
-        let l = (gathers_label (IsUnder edges flags r) (Lower r) (vertex_under r below) r x below).0 n.0 in
+        let l = (gathers_label (IsUnder edges flags r) (Lower r) (vertex_under r below) r x below (under_asked r gone)).0 n.0 in
         (l.0, l.1, l.2, (l.3, λ u. n.1 (subst (Lower r) l.2 ((under r below l.0 l.1).0 u)))),
     λ l. (
-      (gathers_label (IsUnder edges flags r) (Lower r) (vertex_under r below) r x below).1 (l.0, l.1, l.2, l.3.0),
+      (gathers_label (IsUnder edges flags r) (Lower r) (vertex_under r below) r x below (under_asked r gone)).1 (l.0, l.1, l.2, l.3.0),
       λ u. l.3.1 ((under r below l.0 l.1).1 (subst (Lower r) (sym l.2) u)),
     ),
   )

@@ -1,6 +1,6 @@
 -- The graph of numbers that stands for features in order.
-use Rattle.std.proofs.Common.{◌≡◌, ◌↔◌, ◌<◌, ◌≤◌, ℕ, zero, suc, Bool, true, false, List, [], ◌∷◌, length, take, slice_get, IsTrue, Option, Some, None, Vec, Global, Bor, refl, sym, ap, subst, inl, inr, ◌∙◌, arith}
-use Rattle.std.proofs.lemmas.Bool.{false≢true, cases_lt, or_left, or_right}
+use Rattle.std.proofs.Common.{◌≡◌, ◌↔◌, ◌⊎◌, ◌<◌, ◌≤◌, ℕ, Bool, true, false, List, [], length, take, slice_get, IsTrue, Option, Some, None, Vec, Global, Bor, refl, sym, ap, subst, inl, inr, ◌∙◌, arith}
+use Rattle.std.proofs.lemmas.Bool.{false≢true, cases_lt}
 use Rattle.std.proofs.lemmas.List.{length-map, take-map, get_or-take, get_or_past}
 use Rattle.std.specs.Option.{IsSomeAnd, option_map_or}
 use Rattle.cargo_toml_graph.specs.Action.{Text}
@@ -8,13 +8,14 @@ use Rattle.cargo_toml_graph.specs.Admitted.{is_below}
 use Rattle.cargo_toml_graph.specs.Graph.{Table, Edge, IsPlain}
 use Rattle.cargo_toml_walk.specs.Numbers.{IsWanted, Leads}
 use Rattle.cargo_toml_features.specs.Places.{text_at}
-use Rattle.cargo_toml_resolve.specs.NumberedTables.{HasNumber, IsNumbered}
+use Rattle.cargo_toml_resolve.specs.NumberedTables.{HasNumber, IsNaming, IsNumbered}
 use Rattle.cargo_toml_walk.proofs.Filling.{has_row}
 use Rattle.cargo_toml_features.proofs.Places.{at_among, rises}
 use Rattle.cargo_toml_features.specs.declared.features.Feature.{Feature}
 use Rattle.cargo_toml_features.specs.InOrder.{AreInOrder, feature_at, names_of, table_among}
 use Rattle.cargo_toml_features.specs.Views.{action_at, has_text}
-use Rattle.cargo_toml_resolve.specs.Numbering.{ActsOn, AreTextsOf, IsFlagged, IsTarget, is_named, names_at}
+use Rattle.cargo_toml_resolve.specs.Enabling.{LeadsTo}
+use Rattle.cargo_toml_resolve.specs.Numbering.{AreTextsOf, IsFlagged, IsPicked, IsTarget, names_at}
 use Rattle.cargo_toml_resolve.specs.Texts.{texts_of}
 use Rattle.cargo_toml_resolve.proofs.InPlace.{has_place, name_in, stands_found, stands_in}
 
@@ -34,44 +35,40 @@ same_removed t vs kept Removed texts edges names flags n same = record {
   removed = λ v r. n.removed v ((same v).0 r);
 }
 
--- a feature in a place is one of those that name what it names
-named_there : (vs : List Feature) (i : ℕ) (x : Text) → IsTrue (names_at vs i x) → IsTrue (is_named vs x)
-named_there [] i x y = absurd (false≢true y)
-named_there (v ∷ vs) zero x y = or_left _ _ y
-named_there (v ∷ vs) (suc i) x y = or_right (has_text v.enables_features x) _ (named_there vs i x y)
-
 -- a flag past the end doesn't stand
 wanted_inside : (flags : List Bool) (i : ℕ) → IsWanted flags true i → i < length flags
 wanted_inside flags i w = elim (cases_lt i (length flags)) [ inl lt ↦ lt | inr past ↦ absurd (false≢true (sym (get_or_past flags i false past) ∙ w)) ]
 
-plain_same : (o : Option Feature) (k : Text) → IsSomeAnd o (λ v. IsPlain (action_at v.enables_deps k)) ↔ IsPlain (option_map_or (λ v. action_at v.enables_deps k) o None)
-plain_same None k = (λ p. p, λ p. p)
-plain_same (Some v) k = (λ p. p, λ p. p)
+leads_same : (o : Option Feature) (k : Text)
+    → IsSomeAnd o (λ v. LeadsTo v k) ↔ (IsTrue (option_map_or (λ v. has_text v.enables_features k) o false) ⊎ IsPlain (option_map_or (λ v. action_at v.enables_deps k) o None))
+leads_same None k = (λ p. absurd p, elim [ inl n ↦ absurd (false≢true n) | inr p ↦ p ])
+leads_same (Some v) k = (λ p. p, λ p. p)
 
 -- what is said of slices holds of the lists that they show
-pub keys_are : (vs : List Feature) (us ts : List (Bor Text)) → us ≡ ts → AreTextsOf vs (texts_of ts) → texts_of (take (length vs) us) ≡ names_of vs
-keys_are vs us ts read h = sym (take-map (λ (t : Bor Text). t.now) (length vs) us) ∙ ap (λ (ws : List (Bor Text)). take (length vs) (texts_of ws)) read ∙ h.keys
+pub keys_are : (naming : List Bool) (vs : List Feature) (us ts : List (Bor Text)) → us ≡ ts → AreTextsOf naming vs (texts_of ts) → texts_of (take (length vs) us) ≡ names_of vs
+keys_are naming vs us ts read h = sym (take-map (λ (t : Bor Text). t.now) (length vs) us) ∙ ap (λ (ws : List (Bor Text)). take (length vs) (texts_of ws)) read ∙ h.keys
 
-pub named_by : (vs : List Feature) (names : List (Vec ℕ Global)) (us ts : List (Bor Text)) → us ≡ ts
-    → ((i x : ℕ) → i < length vs → Leads names i x ↔ ((x < length us) × IsTrue (names_at vs i (text_at (texts_of us) x))))
-    → (i x : ℕ) → i < length vs → Leads names i x ↔ ((x < length (texts_of ts)) × IsTrue (names_at vs i (text_at (texts_of ts) x)))
-named_by vs names us ts read h i x lt =
-    subst (λ n. Leads names i x ↔ ((x < n) × IsTrue (names_at vs i (text_at (texts_of ts) x)))) (sym (length-map ts (λ (t : Bor Text). t.now)))
-    (subst (λ (ws : List (Bor Text)). Leads names i x ↔ ((x < length ws) × IsTrue (names_at vs i (text_at (texts_of ws) x)))) read (h i x lt))
+pub named_by : (naming shown : List Bool) (vs : List Feature) (names : List (Vec ℕ Global)) (us ts : List (Bor Text)) → us ≡ ts → shown ≡ naming
+    → ((i x : ℕ) → i < length vs → Leads names i x ↔ ((x < length us) × IsPicked shown vs i (text_at (texts_of us) x)))
+    → (i x : ℕ) → i < length vs → Leads names i x ↔ ((x < length (texts_of ts)) × IsPicked naming vs i (text_at (texts_of ts) x))
+named_by naming shown vs names us ts read see h i x lt =
+    subst (λ n. Leads names i x ↔ ((x < n) × IsPicked naming vs i (text_at (texts_of ts) x))) (sym (length-map ts (λ (t : Bor Text). t.now)))
+    (subst (λ fs. Leads names i x ↔ ((x < length ts) × IsPicked fs vs i (text_at (texts_of ts) x))) see
+    (subst (λ (ws : List (Bor Text)). Leads names i x ↔ ((x < length ws) × IsPicked shown vs i (text_at (texts_of ws) x))) read (h i x lt)))
 
-pub targets_by : (vs : List Feature) (edges rows names : List (Vec ℕ Global)) (keys : List (Bor Text)) → rows ≡ names → texts_of keys ≡ names_of vs
-    → ((i x : ℕ) → i < length vs → Leads edges i x ↔ ((x < length keys) × IsTarget vs rows (texts_of keys) i x))
-    → (i x : ℕ) → i < length vs → Leads edges i x ↔ ((x < length vs) × IsTarget vs names (names_of vs) i x)
-targets_by vs edges rows names keys read same h i x lt =
+pub targets_by : (vs : List Feature) (edges : List (Vec ℕ Global)) (keys : List (Bor Text)) → texts_of keys ≡ names_of vs
+    → ((i x : ℕ) → i < length vs → Leads edges i x ↔ ((x < length keys) × IsTarget vs (texts_of keys) i x))
+    → (i x : ℕ) → i < length vs → Leads edges i x ↔ ((x < length vs) × IsTarget vs (names_of vs) i x)
+targets_by vs edges keys same h i x lt =
     let long : length keys ≡ length vs = sym (length-map keys (λ (t : Bor Text). t.now)) ∙ ap length same ∙ length-map vs (λ (v : Feature). v.key.now) in
-    subst (λ n. Leads edges i x ↔ ((x < n) × IsTarget vs names (names_of vs) i x)) long
-    (subst (λ ks. Leads edges i x ↔ ((x < length keys) × IsTarget vs names ks i x)) same
-    (subst (λ (ns : List (Vec ℕ Global)). Leads edges i x ↔ ((x < length keys) × IsTarget vs ns (texts_of keys) i x)) read (h i x lt)))
+    subst (λ n. Leads edges i x ↔ ((x < n) × IsTarget vs (names_of vs) i x)) long
+    (subst (λ ks. Leads edges i x ↔ ((x < length keys) × IsTarget vs ks i x)) same (h i x lt))
 
-module _ (vs : List Feature) (marks : List Bool) (texts : List Text) (edges names : List (Vec ℕ Global)) (flags : List Bool)
-    (up : AreInOrder vs) (marked : length marks ≡ length vs) (h : AreTextsOf vs texts)
-    (name_len : length names ≡ length vs) (named : (i x : ℕ) → i < length vs → Leads names i x ↔ ((x < length texts) × IsTrue (names_at vs i (text_at texts x))))
-    (edge_len : length edges ≡ length vs) (targets : (i x : ℕ) → i < length vs → Leads edges i x ↔ ((x < length vs) × IsTarget vs names (names_of vs) i x))
+module _ (vs : List Feature) (marks naming : List Bool) (texts : List Text) (edges names : List (Vec ℕ Global)) (flags : List Bool)
+    (up : AreInOrder vs) (marked : length marks ≡ length vs) (h : AreTextsOf naming vs texts)
+    (picked : (i : ℕ) → i < length vs → IsNaming edges marks i → IsWanted naming true i)
+    (name_len : length names ≡ length vs) (named : (i x : ℕ) → i < length vs → Leads names i x ↔ ((x < length texts) × IsPicked naming vs i (text_at texts x)))
+    (edge_len : length edges ≡ length vs) (targets : (i x : ℕ) → i < length vs → Leads edges i x ↔ ((x < length vs) × IsTarget vs (names_of vs) i x))
     (flag_len : length flags ≡ length texts) (flag : (i : ℕ) → IsWanted flags true i ↔ IsWanted marks true i) where
   vertex_in : (i : ℕ) → i < length edges → i < length vs
   vertex_in i lt = subst (λ n. i < n) edge_len lt
@@ -94,8 +91,9 @@ module _ (vs : List Feature) (marks : List Bool) (texts : List Text) (edges name
   names_here : (i : ℕ) (x : Text) → i < length vs → (table_among vs).names (text_at texts i) x ≡ names_at vs i x
   names_here i x lt = ap (λ o. option_map_or (λ v. has_text v.enables_features x) o false) (feature_here i lt)
 
-  acts_here : (i : ℕ) (k : Text) → i < length vs → ActsOn vs i k ↔ IsPlain ((table_among vs).action (text_at texts i) k)
-  acts_here i k lt = subst (λ o. ActsOn vs i k ↔ IsPlain (option_map_or (λ v. action_at v.enables_deps k) o None)) (sym (feature_here i lt)) (plain_same (slice_get vs i) k)
+  leads_here : (i : ℕ) (k : Text) → i < length vs → IsSomeAnd (slice_get vs i) (λ v. LeadsTo v k) ↔ (IsTrue ((table_among vs).names (text_at texts i) k) ⊎ IsPlain ((table_among vs).action (text_at texts i) k))
+  leads_here i k lt = subst (λ o. IsSomeAnd (slice_get vs i) (λ v. LeadsTo v k) ↔ (IsTrue (option_map_or (λ v. has_text v.enables_features k) o false) ⊎ IsPlain (option_map_or (λ v. action_at v.enables_deps k) o None)))
+      (sym (feature_here i lt)) (leads_same (slice_get vs i) k)
 
   has_key : (f : Text) → IsTrue ((table_among vs).has f) ↔ ((i : ℕ) × (i < length vs) × (text_at (names_of vs) i ≡ f))
   has_key f = has_place (table_among vs) vs (record { has = λ f. refl; names = λ f x. refl; action = λ f k. refl }) up f
@@ -115,10 +113,7 @@ module _ (vs : List Feature) (marks : List Bool) (texts : List Text) (edges name
           source = (is_vertex (text_at texts i)).1 (i, lt, refl);
           target = (is_vertex (text_at texts j)).1 (j, vertex_out j t.0, refl);
           apart = λ same. t.1.0 (sym (h.parted.one i j (inside i i') (inside j t.0) same));
-          leads = elim (t.1.1) [
-            | inl n ↦ inl (names_here i (text_at texts j) i' ∙ ((named i j i').0 n).1)
-            | inr a ↦ inr ((acts_here i (text_at texts j) i').0 (subst (ActsOn vs i) (sym (key_text j t.0)) a))
-          ];
+          leads = (leads_here i (text_at texts j) i').0 (subst (λ k. IsSomeAnd (slice_get vs i) (λ v. LeadsTo v k)) (sym (key_text j t.0)) t.1.1);
         },
       )
 
@@ -130,21 +125,24 @@ module _ (vs : List Feature) (marks : List Bool) (texts : List Text) (edges name
         j',
         (
           λ same. e.apart (ap (text_at texts) (sym same)),
-          elim (e.leads) [
-            | inl n ↦ inl ((named i j i').1 (inside j j', sym (names_here i (text_at texts j) i') ∙ n))
-            | inr a ↦ inr (subst (ActsOn vs i) (key_text j j') ((acts_here i (text_at texts j) i').1 a))
-          ],
+          subst (λ k. IsSomeAnd (slice_get vs i) (λ v. LeadsTo v k)) (key_text j j') ((leads_here i (text_at texts j) i').1 e.leads),
         ),
       )
 
-  has_label : (i : ℕ) (x : Text) → i < length edges → IsTrue ((table_among vs).names (text_at texts i) x) ↔ HasNumber texts (length texts) (Leads names i) x
-  has_label i x lt =
-      let i' = vertex_in i lt in (
+  -- by the flags of all texts
+  is_asked : (i : ℕ) → IsNaming edges flags i → IsNaming edges marks i
+  is_asked i (inl w) = inl ((flag i).0 w)
+  is_asked i (inr b) = inr (b.0, b.1, (flag b.0).0 b.2)
+
+  has_label : (i : ℕ) (x : Text) → i < length edges → IsNaming edges flags i → IsTrue ((table_among vs).names (text_at texts i) x) ↔ HasNumber texts (length texts) (Leads names i) x
+  has_label i x lt asked =
+      let i' = vertex_in i lt in
+      let pick : IsWanted naming true i = picked i i' (is_asked i asked) in (
         λ y.
             let here : IsTrue (names_at vs i x) = sym (names_here i x i') ∙ y in
-            let k = at_among texts x [] (h.named x (named_there vs i x here)) in
-            (k.0, k.1, k.2, (named i k.0 i').1 (k.1, subst (λ z. IsTrue (names_at vs i z)) (sym k.2) here)),
-        λ w. names_here i x i' ∙ subst (λ z. IsTrue (names_at vs i z)) w.2 ((named i w.0 i').0 w.3).1,
+            let k = at_among texts x [] (h.named x (i, i', (pick, here))) in
+            (k.0, k.1, k.2, (named i k.0 i').1 (k.1, (pick, subst (λ z. IsTrue (names_at vs i z)) (sym k.2) here))),
+        λ w. names_here i x i' ∙ subst (λ z. IsTrue (names_at vs i z)) w.2 ((named i w.0 i').0 w.3).1.1,
       )
 
   labels_within : (i x : ℕ) → Leads names i x → x < length texts

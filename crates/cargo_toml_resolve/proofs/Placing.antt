@@ -15,10 +15,12 @@ use Rattle.cargo_toml_resolve.specs.NumberedTables.{HasNumber}
 use Rattle.cargo_toml_resolve.proofs.NumberedTables as numbered
 use Rattle.cargo_toml_features.specs.declared.features.Feature.{Feature}
 use Rattle.cargo_toml_features.specs.InOrder.{feature_at}
+use Rattle.cargo_toml_features.specs.Views.{has_text}
+use Rattle.cargo_toml_resolve.specs.Enabling.{EnablesThrough}
 use Rattle.cargo_toml_resolve.specs.KeptFeatures.{ArePassedAt, IsKeptFeature, IsNamedAlike, StandFor, own_bins}
 use Rattle.cargo_toml_resolve.specs.Leaving.{HasActions, HasTexts, Holds, LeavesAll}
 use Rattle.cargo_toml_resolve.specs.Passing.{AreSameButBins, IsSameButBins, bins_of, passed_below}
-use Rattle.cargo_toml_resolve.specs.Walking.{AreEnablers, AreNamed, ArePassed, AreRows}
+use Rattle.cargo_toml_resolve.specs.Walking.{AreNamed, ArePassed, AreRows}
 use Rattle.cargo_toml_resolve.proofs.Answered.{is_kept_feature}
 use Rattle.cargo_toml_resolve.proofs.InPlace.{name_in, stands_found, stands_in}
 use Rattle.cargo_toml_resolve.proofs.PassedPlaces.{passed_at}
@@ -34,18 +36,17 @@ place_inside vs i v at = elim (cases_lt i (length vs)) [
 pub stood : (old new : List Feature) → length new ≡ length old → (i : ℕ) (w : Feature) → slice_get new i ≡ Some w → (v : Feature) × (slice_get old i ≡ Some v)
 stood old new len i w at = stands_in old i (subst (λ n. i < n) len (place_inside new i w at))
 
-still_holds : {vs : List Feature} {texts : List Text} {i : ℕ} {passed named enablers : List ℕ} {v w u : Feature} → Holds vs texts i passed named enablers v w → IsSameButBins w u → Holds vs texts i passed named enablers v u
-still_holds {vs} {texts} {i} {passed} {named} {enablers} {v} {w} {u} h same = record {
+still_holds : {vs : List Feature} {texts : List Text} {i : ℕ} {passed named : List ℕ} {v w u : Feature} → Holds vs texts i passed named v w → IsSameButBins w u → Holds vs texts i passed named v u
+still_holds {vs} {texts} {i} {passed} {named} {v} {w} {u} h same = record {
   same_names = λ none. same.names ∙ h.same_names none;
   names = λ some. subst (λ s. HasTexts texts named s) (sym same.names) (h.names some);
   actions = subst (λ m. HasActions vs (λ b. (b ≡ i) ⊎ Among passed b) m) (sym same.actions) h.actions;
-  enabled_by = subst (λ s. HasTexts texts enablers s) (sym same.enabled_by) h.enabled_by;
 }
 
 -- a feature that is left keeps its name and its marks
-pub named_alike_there : {Z : Type 0} (flags : List Bool) (passed named enablers : List (Vec ℕ Z)) (texts : List Text) (old left new : List Feature) →
-    LeavesAll flags passed named enablers texts old left → AreSameButBins left new → (i : ℕ) (v w : Feature) → slice_get old i ≡ Some v → slice_get new i ≡ Some w → IsNamedAlike v w
-named_alike_there flags passed named enablers texts old left new l s i v w at at' =
+pub named_alike_there : {Z : Type 0} (flags : List Bool) (passed named : List (Vec ℕ Z)) (texts : List Text) (old left new : List Feature) →
+    LeavesAll flags passed named texts old left → AreSameButBins left new → (i : ℕ) (v w : Feature) → slice_get old i ≡ Some v → slice_get new i ≡ Some w → IsNamedAlike v w
+named_alike_there flags passed named texts old left new l s i v w at at' =
     let u = stood left new s.len i w at' in
     let own = l.own i v u.0 at u.1 in
     let same = s.each i u.0 w u.1 at' in
@@ -62,19 +63,21 @@ module _ (t : Table) (removed : Text → Bool) (old left new : List Feature) (te
   vertex_place : (i : ℕ) → i < length edges → i < length old
   vertex_place i lt = subst (λ n. i < n) stand.count lt
 
-  pub kept_there : (passed named enablers : List (Vec ℕ Global)) → ArePassed edges names flags passed → AreNamed edges names flags passed named → AreEnablers edges names flags enablers →
-      LeavesAll flags passed named enablers texts old left → AreSameButBins left new → (i : ℕ) (w : Feature) → IsWanted flags false i → slice_get new i ≡ Some w → IsKeptFeature t R (text_at texts i) w
-  kept_there passed named enablers are_passed are_named are_enablers l s i w kept at =
+  pub kept_there : (passed named : List (Vec ℕ Global)) → ArePassed edges names flags passed → AreNamed edges names flags passed named →
+      ((i : ℕ) (v : Feature) → IsWanted flags false i → slice_get old i ≡ Some v → (e : Text) → IsTrue (has_text v.enabled_by e) ↔ HasNumber texts (length edges) (EnablesThrough edges flags i) e) →
+      LeavesAll flags passed named texts old left → AreSameButBins left new → (i : ℕ) (w : Feature) → IsWanted flags false i → slice_get new i ≡ Some w → IsKeptFeature t R (text_at texts i) w
+  kept_there passed named are_passed are_named learnt l s i w kept at =
       let u = stood left new s.len i w at in
       let v = stood old left l.len i u.0 u.1 in
       let lt : i < length edges = subst (λ n. i < n) (sym stand.count) (place_inside old i v.0 v.1) in
-      is_kept_feature t removed old stand.table stand.in_order texts edges names flags stand.numbered stand.count stand.vertices passed named enablers
-      are_passed are_named are_enablers i lt kept v.0 w v.1 (still_holds (l.holds i v.0 u.0 kept v.1 u.1) (s.each i u.0 w u.1 at))
+      is_kept_feature t removed old stand.table stand.in_order texts edges names flags stand.numbered stand.count stand.vertices passed named
+      are_passed are_named i lt kept v.0 w v.1 (still_holds (l.holds i v.0 u.0 kept v.1 u.1) (s.each i u.0 w u.1 at))
+      (λ e. subst (λ b. IsTrue (has_text b e) ↔ HasNumber texts (length edges) (EnablesThrough edges flags i) e) (sym ((s.each i u.0 w u.1 at).enabled_by ∙ (l.own i v.0 u.0 v.1 u.1).enabled_by)) (learnt i v.0 kept v.1 e))
 
   pub rows_there : (rows : List (Vec ℕ Global)) → AreRows edges names flags rows → (r : ℕ) (x : Text) → r < length edges → IsWanted flags true r →
       HasNumber texts (length texts) (Leads rows r) x ↔ RedirectsTo t R (λ a b. IsTrue (is_below a b)) (text_at texts r) x
   rows_there rows are_rows r x lt gone =
-      let to = numbered.redirects_to t R texts edges names flags stand.numbered r x lt in (
+      let to = numbered.redirects_to t R texts edges names flags stand.numbered r x lt gone in (
         λ n. to.1 (n.0, n.1, n.2, (are_rows r n.0 lt gone).0 n.3),
         λ d. let n = to.0 d in (n.0, n.1, n.2, (are_rows r n.0 lt gone).1 n.3),
       )
@@ -86,18 +89,18 @@ module _ (t : Table) (removed : Text → Bool) (old left new : List Feature) (te
       let there : feature_at old (text_at texts i) ≡ Some v.0 = subst (λ f. feature_at old f ≡ Some v.0) (sym (stand.vertices i (vertex_place i lt) ∙ name_in old i v.0 v.1)) (stands_found old stand.in_order i v.0 v.1) in
       ap (λ (o : Option Feature). option_map_or (λ u. map (λ b. b.now) u.required_by_bins.items) o []) (there ∙ sym v.1)
 
-  same_bins : (passed named enablers : List (Vec ℕ Global)) → LeavesAll flags passed named enablers texts old left → (i : ℕ) → i < length old → bins_of left i ≡ bins_of old i
-  same_bins passed named enablers l i lt =
+  same_bins : (passed named : List (Vec ℕ Global)) → LeavesAll flags passed named texts old left → (i : ℕ) → i < length old → bins_of left i ≡ bins_of old i
+  same_bins passed named l i lt =
       let v = stands_in old i lt in
       let u = stands_in left i (subst (λ n. i < n) (sym l.len) lt) in
       ap (λ (o : Option Feature). option_map_or (λ w. map (λ b. b.now) w.required_by_bins.items) o []) u.1
       ∙ ap (λ bs. map (λ b. b.now) bs.items) (l.own i v.0 u.0 v.1 u.1).bins
       ∙ sym (ap (λ (o : Option Feature). option_map_or (λ w. map (λ b. b.now) w.required_by_bins.items) o []) v.1)
 
-  pub bins_there : (passed named enablers rows : List (Vec ℕ Global)) → AreRows edges names flags rows → LeavesAll flags passed named enablers texts old left → AreSameButBins left new →
+  pub bins_there : (passed named rows : List (Vec ℕ Global)) → AreRows edges names flags rows → LeavesAll flags passed named texts old left → AreSameButBins left new →
       ((y : ℕ) → y < length left → bins_of new y ≡ passed_below rows flags (length left) (bins_of left) y) → ArePassedAt t removed (own_bins old) texts flags new
-  bins_there passed named enablers rows are_rows l s has = passed_at t removed old texts edges names rows flags stand (rows_there rows are_rows) (own_bins old) (bins_of left)
-      (λ i lt. same_bins passed named enablers l i (vertex_place i lt) ∙ sym (own_there i lt)) new
+  bins_there passed named rows are_rows l s has = passed_at t removed old texts edges names rows flags stand (rows_there rows are_rows) (own_bins old) (bins_of left)
+      (λ i lt. same_bins passed named l i (vertex_place i lt) ∙ sym (own_there i lt)) new
       (λ i w at.
       let u = stood left new s.len i w at in
       let below : i < length left = place_inside left i u.0 u.1 in

@@ -28,7 +28,7 @@ renumbered t vs Removed texts edges names flags h n = record {
     λ l. let e = (n.leads i j lt).0 l in (e.0, same_edge (table_among vs) t h.has h.names h.action (text_at texts i) (text_at texts j) e.1),
     λ e. (n.leads i j lt).1 (e.0, same_edge t (table_among vs) (λ f. sym (h.has f)) (λ f x. sym (h.names f x)) (λ f k. sym (h.action f k)) (text_at texts i) (text_at texts j) e.1),
   );
-  labels = λ i x lt. (λ y. (n.labels i x lt).0 (h.names (text_at texts i) x ∙ y), λ w. sym (h.names (text_at texts i) x) ∙ (n.labels i x lt).1 w);
+  labels = λ i x lt asked. (λ y. (n.labels i x lt asked).0 (h.names (text_at texts i) x ∙ y), λ w. sym (h.names (text_at texts i) x) ∙ (n.labels i x lt asked).1 w);
   labels_inside = n.labels_inside;
   flag_count = n.flag_count;
   flagged = n.flagged;

@@ -11,7 +11,7 @@ use Rattle.cargo_toml_graph.proofs.Joins.{join_alike, join_one}
 use Rattle.cargo_toml_features.specs.declared.features.DepAction.{DepAction}
 use Rattle.cargo_toml_features.specs.declared.features.Feature.{Feature}
 use Rattle.cargo_toml_features.specs.Views.{action_at}
-use Rattle.cargo_toml_resolve.specs.Leaving.{DoesAt, HasActions, HasTexts, Holds, KeepsOwn, Leaves, action_by}
+use Rattle.cargo_toml_resolve.specs.Leaving.{DoesAt, HasActions, HasTexts, KeepsOwn, action_by}
 use Rattle.cargo_toml_resolve.specs.TakingOver.{ChangesIn, TakesActions, TakesOver}
 
 set_here : (vs : List Feature) (i : ℕ) (w : Feature) → i < length vs → slice_get (set vs i w) i ≡ Some w
@@ -70,7 +70,7 @@ module _ (vs : List Feature) (i : ℕ) (passed : List ℕ) where
 
   pub takes_nothing : (texts : List Text) (named : List ℕ) → passed ≡ [] → ChangesIn (TakesOver vs texts i passed named) i vs vs
   takes_nothing texts named none = unchanged (TakesOver vs texts i passed named) i vs (λ v is. record {
-    own = record { key = refl; marks = refl; bins = refl };
+    own = record { key = refl; marks = refl; bins = refl; enabled_by = refl };
     same_names = λ e. refl;
     names = λ some. absurd (some none);
     actions = own_actions v is none;
@@ -99,37 +99,21 @@ module _ (vs : List Feature) (i : ℕ) (passed : List ℕ) where
     pub actions_taken : (empty : BTreeMap (Bor Text) DepAction) (w : Feature) → i < length vs → mid ≡ set vs i (record v { enables_deps = empty }) → w ≡ get_or mid i w →
         ChangesIn (TakesActions vs i passed) i vs (set mid i (record w { enables_deps = own }))
     actions_taken empty w lt set_is read = then_set ActsAnew (TakesActions vs i passed) i vs mid w (record w { enables_deps = own }) lt read emptied (λ u h. record {
-      own = record { key = h.own.key; marks = h.own.marks; bins = h.own.bins };
+      own = record { key = h.own.key; marks = h.own.marks; bins = h.own.bins; enabled_by = h.own.enabled_by };
       names = h.names;
       actions = all_actions;
     })
       where
         emptied : ChangesIn ActsAnew i vs mid
         emptied = subst (ChangesIn ActsAnew i vs) (sym set_is) (then_set (λ u x. x ≡ u) ActsAnew i vs vs v (record v { enables_deps = empty }) lt (sym (get_or_from_slice_get vs i v v is)) (unchanged (λ u x. x ≡ u) i vs (λ x e. refl)) (λ u e.
-            subst (λ u. ActsAnew u (record v { enables_deps = empty })) e (record { own = record { key = refl; marks = refl; bins = refl }; names = refl })))
+            subst (λ u. ActsAnew u (record v { enables_deps = empty })) e (record { own = record { key = refl; marks = refl; bins = refl; enabled_by = refl }; names = refl })))
 
 -- then its names are another set
 pub names_taken : (vs : List Feature) (i : ℕ) (passed named : List ℕ) (texts : List Text) (mid : List Feature) (names : BTreeSet (Bor Text)) (w : Feature) → i < length vs → passed ≢ [] →
     w ≡ get_or mid i w → ChangesIn (TakesActions vs i passed) i vs mid → HasTexts texts named names → ChangesIn (TakesOver vs texts i passed named) i vs (set mid i (record w { enables_features = names }))
 names_taken vs i passed named texts mid names w lt some read h has = then_set (TakesActions vs i passed) (TakesOver vs texts i passed named) i vs mid w (record w { enables_features = names }) lt read h (λ u t. record {
-  own = record { key = t.own.key; marks = t.own.marks; bins = t.own.bins };
+  own = record { key = t.own.key; marks = t.own.marks; bins = t.own.bins; enabled_by = t.own.enabled_by };
   same_names = λ none. absurd (some none);
   names = λ _. has;
   actions = t.actions;
 })
-
--- and its enablers
-pub leaves : (vs : List Feature) (i : ℕ) (passed named enablers : List ℕ) (texts : List Text) (mid : List Feature) (by : BTreeSet (Bor Text)) (w : Feature) → i < length vs →
-    w ≡ get_or mid i w → ChangesIn (TakesOver vs texts i passed named) i vs mid → HasTexts texts enablers by → Leaves i passed named enablers texts vs (set mid i (record w { enabled_by = by }))
-leaves vs i passed named enablers texts mid by w lt read h has = record {
-  len = all.len;
-  own = λ u x a b. (all.here u x a b).0;
-  holds = λ u x a b. (all.here u x a b).1;
-  others = all.others;
-}
-  where
-    all : ChangesIn (λ u x. KeepsOwn u x × Holds vs texts i passed named enablers u x) i vs (set mid i (record w { enabled_by = by }))
-    all = then_set (TakesOver vs texts i passed named) (λ u x. KeepsOwn u x × Holds vs texts i passed named enablers u x) i vs mid w (record w { enabled_by = by }) lt read h (λ u t. (
-      record { key = t.own.key; marks = t.own.marks; bins = t.own.bins },
-      record { same_names = t.same_names; names = t.names; actions = t.actions; enabled_by = has },
-    ))

@@ -1,10 +1,14 @@
 -- Features that learn what enables them, place by place.
-use Rattle.std.specs.Prelude.{◌≡◌, ◌↔◌, ◌⊎◌, ℕ, IsTrue, List, length, slice_get, Some}
+use Rattle.std.specs.Prelude.{◌≡◌, ◌↔◌, ◌⊎◌, ℕ, Bool, IsTrue, List, Vec, false, true}
+use Rattle.std.specs.Prelude.{length, slice_get, Some}
 use Rattle.cargo_toml_graph.specs.Action.{Text}
 use Rattle.cargo_toml_graph.specs.Graph.{IsPlain}
 use Rattle.cargo_toml_features.specs.declared.features.Feature.{Feature}
 use Rattle.cargo_toml_features.specs.Marks.{marks_of}
 use Rattle.cargo_toml_features.specs.Views.{action_at, has_text}
+use Rattle.cargo_toml_graph.specs.Reach.{Reaches}
+use Rattle.cargo_toml_walk.specs.Numbers.{IsWanted, Leads}
+use Rattle.cargo_toml_resolve.specs.NumberedTables.{HasNumber}
 
 -- what a feature holds beside its enablers stays
 pub record IsSameButEnablers (old new : Feature) : Type 0 where
@@ -39,3 +43,17 @@ LearnEach By old new =
 pub record Enables (Named : ℕ → Type 0) (source : Text) (old new : List Feature) : Type 0 where
   pub same : AreSameButEnablers old new
   pub learn : LearnEach (λ y e. (e ≡ source) × Named y) old new
+
+-- e isn't removed and reaches f through removed vertices
+abbrev pub EnablesThrough : {Z : Type 0} → List (Vec ℕ Z) → List Bool → ℕ → ℕ → Type 0
+EnablesThrough edges flags f e =
+    IsWanted flags false e × Reaches (Leads edges) (IsWanted flags true) e f
+
+-- each kept feature learns which kept ones of the numbers below n enable it, themselves or through
+-- removed ones; nothing else changes
+pub record LearnThrough {Z : Type 0} (edges : List (Vec ℕ Z)) (flags : List Bool)
+    (texts : List Text) (n : ℕ) (old new : List Feature) : Type 0 where
+  pub same : AreSameButEnablers old new
+  pub learn : LearnEach
+      (λ y e. IsWanted flags false y × HasNumber texts n (EnablesThrough edges flags y) e)
+      old new

@@ -30,36 +30,27 @@ HasTexts texts numbers s =
 abbrev pub HasActions : List Feature → (ℕ → Type 0) → BTreeMap (Bor Text) DepAction → Type 0
 HasActions vs P m = (k : Text) → IsJoin (DoesAt vs P k) (action_at m k)
 
--- what the feature in place i names, does and is enabled by, where it passes the removed features
--- in the places `passed`
-pub record Holds (vs : List Feature) (texts : List Text) (i : ℕ) (passed named enablers : List ℕ)
+-- what the feature in place i names and does, where it passes the removed features in the places
+-- `passed`
+pub record Holds (vs : List Feature) (texts : List Text) (i : ℕ) (passed named : List ℕ)
     (old new : Feature) : Type 0 where
   pub same_names : passed ≡ [] → new.enables_features ≡ old.enables_features
   pub names : passed ≢ [] → HasTexts texts named new.enables_features
   pub actions : HasActions vs (λ b. (b ≡ i) ⊎ Among passed b) new.enables_deps
-  pub enabled_by : HasTexts texts enablers new.enabled_by
 
--- what a feature says of itself stays
+-- what a feature says of itself stays, and what enables it
 pub record KeepsOwn (old new : Feature) : Type 0 where
   pub key : new.key ≡ old.key
   pub marks : marks_of new ≡ marks_of old
   pub bins : new.required_by_bins ≡ old.required_by_bins
+  pub enabled_by : new.enabled_by ≡ old.enabled_by
 
--- the feature in place i changes so, and no other does
-pub record Leaves (i : ℕ) (passed named enablers : List ℕ) (texts : List Text)
-    (old new : List Feature) : Type 0 where
-  pub len : length new ≡ length old
-  pub own : (v w : Feature) → slice_get old i ≡ Some v → slice_get new i ≡ Some w → KeepsOwn v w
-  pub holds : (v w : Feature) → slice_get old i ≡ Some v → slice_get new i ≡ Some w
-      → Holds old texts i passed named enablers v w
-  pub others : (j : ℕ) → j ≢ i → slice_get new j ≡ slice_get old j
-
--- each feature that isn't removed changes so, by what it passes, then names and is enabled by
-pub record LeavesAll {Z : Type 0} (flags : List Bool) (passed named enablers : List (Vec ℕ Z))
+-- each feature that isn't removed changes so, by what it passes and then names
+pub record LeavesAll {Z : Type 0} (flags : List Bool) (passed named : List (Vec ℕ Z))
     (texts : List Text) (old new : List Feature) : Type 0 where
   pub len : length new ≡ length old
   pub own : (i : ℕ) (v w : Feature) → slice_get old i ≡ Some v → slice_get new i ≡ Some w
       → KeepsOwn v w
   pub holds : (i : ℕ) (v w : Feature) → IsWanted flags false i → slice_get old i ≡ Some v
       → slice_get new i ≡ Some w
-      → Holds old texts i (list_at passed i) (list_at named i) (list_at enablers i) v w
+      → Holds old texts i (list_at passed i) (list_at named i) v w

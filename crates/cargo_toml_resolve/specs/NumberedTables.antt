@@ -1,5 +1,6 @@
 -- When a graph of numbers stands for a table of features.
-use Rattle.std.specs.Prelude.{◌≡◌, ◌↔◌, ◌<◌, ◌≤◌, ℕ, Bool, true, List, length, Vec, IsTrue}
+use Rattle.std.specs.Prelude.{◌≡◌, ◌↔◌, ◌⊎◌, ◌<◌, ◌≤◌, ℕ, Bool, true, List, length, Vec}
+use Rattle.std.specs.Prelude.{IsTrue}
 use Rattle.cargo_toml_graph.specs.Action.{Text}
 use Rattle.cargo_toml_graph.specs.Admitted.{is_below}
 use Rattle.cargo_toml_graph.specs.Graph.{Table, Edge}
@@ -9,6 +10,11 @@ use Rattle.cargo_toml_walk.specs.Numbers.{Leads, IsWanted}
 -- x is the text of a number below n of which P holds
 abbrev pub HasNumber : List Text → ℕ → (ℕ → Type 0) → Text → Type 0
 HasNumber texts n P x = (j : ℕ) × (j < n) × (text_at texts j ≡ x) × P j
+
+-- i is removed, or has an edge to a removed one: what it names is asked for
+abbrev pub IsNaming : {Z : Type 0} → List (Vec ℕ Z) → List Bool → ℕ → Type 0
+IsNaming edges flags i =
+    IsWanted flags true i ⊎ ((b : ℕ) × Leads edges i b × IsWanted flags true b)
 
 -- the vertices of t have the numbers below the length of `edges`, and other texts
 -- those from there on
@@ -25,8 +31,8 @@ pub record IsNumbered {Z : Type 0} (t : Table) (Removed : Text → Type 0) (text
       → IsTrue (is_below (text_at texts i) (text_at texts j))
   pub leads : (i j : ℕ) → i < length edges
       → Leads edges i j ↔ ((j < length edges) × Edge t (text_at texts i) (text_at texts j))
-  -- what a vertex names has a number too, be it a vertex or not
-  pub labels : (i : ℕ) (x : Text) → i < length edges
+  -- what such a vertex names has a number too, be it a vertex or not
+  pub labels : (i : ℕ) (x : Text) → i < length edges → IsNaming edges flags i
       → IsTrue (t.names (text_at texts i) x) ↔ HasNumber texts (length texts) (Leads names i) x
   pub labels_inside : (i j : ℕ) → Leads names i j → j < length texts
   -- the flags of the removed stand, and only vertices are removed

@@ -1,6 +1,6 @@
 -- What the walks over a graph of numbers find.
 use Rattle.std.specs.Prelude.{◌≡◌, ◌<◌, ◌↔◌, ℕ, Bool, true, false, List, length, Vec}
-use Rattle.cargo_toml_walk.specs.Numbers.{HasLabel, IsEnabledBy, IsPassed}
+use Rattle.cargo_toml_walk.specs.Numbers.{HasLabel, IsPassed}
 use Rattle.cargo_toml_walk.specs.Numbers.{IsRedirect, IsWanted, Leads, PassesAny}
 use Rattle.cargo_toml_resolve.specs.declared.graph.Graph.{Graph}
 use Rattle.cargo_toml_resolve.specs.declared.graph.Walked.{Walked}
@@ -18,12 +18,6 @@ module _ {Z : Type 0} (edges names : List (Vec ℕ Z)) (flags : List Bool) where
       (a x : ℕ) → a < length edges → PassesAny passed a
       → Leads named a x ↔ HasLabel (Leads passed a) names flags a x
 
-  -- what then enables each kept vertex
-  abbrev pub AreEnablers : List (Vec ℕ Z) → Type 0
-  AreEnablers enablers =
-      (f e : ℕ) → f < length edges → IsWanted flags false f
-      → Leads enablers f e ↔ IsEnabledBy edges flags f e
-
   -- what stands for each removed vertex
   abbrev pub AreRows : List (Vec ℕ Z) → Type 0
   AreRows rows =
@@ -39,7 +33,5 @@ pub record IsWalked (g : Graph) (w : Walked) : Type 0 where
   -- the removed features that each kept one passes, and what each that passes any then names
   pub passed : ArePassed g.edges.items g.names.items g.flags.items w.passed.items
   pub named : AreNamed g.edges.items g.names.items g.flags.items w.passed.items w.named.items
-  -- what then enables each kept feature
-  pub enablers : AreEnablers g.edges.items g.names.items g.flags.items w.enablers.items
   -- what stands for each removed feature
   pub rows : AreRows g.edges.items g.names.items g.flags.items w.rows.items

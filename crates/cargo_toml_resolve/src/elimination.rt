@@ -1,11 +1,12 @@
 //! Removed features are taken out by walks over their graph, and leave to others what they said.
 ghost use Rattle.std.specs.Prelude.{◌≡◌, IfOk, OnOk, length};
+ghost use Rattle.cargo_toml_features.specs.InOrder.{HaveNoEnablers};
 ghost use Rattle.cargo_toml_resolve.specs.Leaving.{LeavesAll};
 ghost use Rattle.cargo_toml_resolve.specs.Placed.{ArePlaced};
 ghost use Rattle.cargo_toml_resolve.specs.Texts.{texts_of};
 
 use crate::graph::{Graph, Walked};
-use crate::leaving::leave;
+use crate::leaving::take_over;
 use crate::passing::pass_bins;
 use crate::walking::walk;
 use cargo_toml_features::features::Feature;
@@ -20,20 +21,20 @@ fn leave_all<'m>(
 ) -> Result<(), AllocError>
     requires { length walked.now.rows.items ≡ length features.old.items }
     ensures { OnOk result (LeavesAll walked.now.flags.items walked.now.passed.items
-        walked.now.named.items walked.now.enablers.items (texts_of walked.now.texts.items)
+        walked.now.named.items (texts_of walked.now.texts.items)
         features.old.items features.new.items) }
 {
     let count = features.len();
     for at in 0..count {
         if !walked.flags[at] {
-            leave(alloc, features, Node::at(at), walked)?;
+            take_over(alloc, features, Node::at(at), walked)?;
         }
     }
     Ok(())
 }
 
 /// In each place what is kept of the feature there, and what walks over the graph of the features
-/// found.
+/// found. None of them knows an enabler before.
 ///
 /// A removed feature stays in its place, for whatever it then holds. It fails only where memory
 /// runs out.
@@ -42,10 +43,11 @@ pub(crate) fn place<'m>(
     features: &mut Vec<Feature<'m>>,
     graph: Graph<'m>,
 ) -> Result<Walked<'m>, AllocError>
-    requires { length graph.edges.items ≡ length features.old.items }
+    requires count { length graph.edges.items ≡ length features.old.items }
+    requires no_enablers { HaveNoEnablers features.old.items }
     ensures { IfOk result (ArePlaced graph.entry features.old.items features.new.items) }
 {
-    let walked = walk(alloc, graph)?;
+    let walked = walk(alloc, features, graph)?;
     leave_all(alloc, features, &walked)?;
     pass_bins(
         alloc,

@@ -54,7 +54,7 @@ fn leads_nowhere(feature: &Feature<'_>) -> bool
 
 // The features that the one in place `own` enables: those that it names, and those that it acts on
 // plainly. The first name is looked for at `near` first; the answer is as of `push_target`.
-fn push_targets(
+pub(crate) fn push_targets(
     row: &mut Vec<Node>,
     feature: &Feature<'_>,
     keys: &[&str],
@@ -76,7 +76,7 @@ fn push_targets(
 }
 
 // The source is put among what enables the feature in this place.
-fn enable_at<'m>(
+pub(crate) fn enable_at<'m>(
     features: &mut Vec<Feature<'m>>,
     at: Node,
     source: &'m str,

@@ -17,7 +17,7 @@ pub struct Graph<'m> {
     pub texts: Vec<&'m str>,
     /// Where the edges of each feature lead.
     pub edges: Vec<Vec<Node>>,
-    /// What each feature names.
+    /// What each feature names that is removed, or has an edge to a removed one.
     pub names: Vec<Vec<Node>>,
     /// For each node whether it is removed.
     pub flags: Vec<bool>,
@@ -43,8 +43,6 @@ pub struct Walked<'m> {
     pub passed: Vec<Vec<Node>>,
     /// What each that passes any then names.
     pub named: Vec<Vec<Node>>,
-    /// What then enables each kept feature.
-    pub enablers: Vec<Vec<Node>>,
     /// What stands for each removed feature.
     pub rows: Vec<Vec<Node>>,
     ghost once: { (i j : ℕ) → i < length texts.items → j < length texts.items
@@ -53,11 +51,9 @@ pub struct Walked<'m> {
     ghost flags_count: { length flags.items ≡ length texts.items },
     ghost passed_count: { length passed.items ≡ length rows.items },
     ghost named_count: { length named.items ≡ length rows.items },
-    ghost enablers_count: { length enablers.items ≡ length rows.items },
     ghost passed_inside: { (a b : ℕ) → Leads passed.items a b → b < length rows.items },
     ghost passed_removed: { (a b : ℕ) → a < length rows.items → IsWanted flags.items false a
         → Leads passed.items a b → IsWanted flags.items true b },
     ghost named_inside: { (a x : ℕ) → Leads named.items a x → x < length texts.items },
-    ghost enablers_inside: { (f e : ℕ) → Leads enablers.items f e → e < length texts.items },
     ghost rows_inside: { (r x : ℕ) → Leads rows.items r x → x < length texts.items },
 }

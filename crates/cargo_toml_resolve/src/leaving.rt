@@ -6,7 +6,7 @@ ghost use Rattle.cargo_toml_graph.specs.Reach.{Among};
 ghost use Rattle.cargo_toml_features.specs.Views.{action_at, has_text};
 ghost use Rattle.cargo_toml_features.specs.Places.{text_at};
 ghost use Rattle.cargo_toml_walk.specs.Numbers.{IsWanted, list_at};
-ghost use Rattle.cargo_toml_resolve.specs.Leaving.{DoesAt, HasTexts, Leaves};
+ghost use Rattle.cargo_toml_resolve.specs.Leaving.{DoesAt, HasTexts};
 ghost use Rattle.cargo_toml_resolve.specs.TakingOver.{ChangesIn, TakesActions, TakesOver};
 ghost use Rattle.cargo_toml_resolve.specs.Texts.{texts_of};
 
@@ -129,8 +129,11 @@ fn take_actions<'m>(
     Ok(())
 }
 
-// What the passed features name and do is taken over. Where there are none, nothing is copied.
-fn take_over<'m>(
+/// Takes the removed features that a kept one passes out of what it holds.
+///
+/// It comes to name what was found for it, and to do what it and the passed ones do. Where it
+/// passes none, it stays as it is, and nothing is copied. It fails only where memory runs out.
+pub(crate) fn take_over<'m>(
     alloc: Global,
     features: &mut Vec<Feature<'m>>,
     at: Node,
@@ -152,31 +155,5 @@ fn take_over<'m>(
     let names = set_of(alloc, named, walked.texts.as_slice())?;
     take_actions(alloc, features, at, passed)?;
     features[at.place()].enables_features = names;
-    Ok(())
-}
-
-/// Takes the removed features that a kept one passes out of what it holds.
-///
-/// It comes to name what was found for it, and to do what it and the passed ones do; where it
-/// passes none, it names and does what it did. It is enabled by what was found for it. It fails
-/// only where memory runs out.
-pub(crate) fn leave<'m>(
-    alloc: Global,
-    features: &mut Vec<Feature<'m>>,
-    at: Node,
-    walked: &Walked<'m>,
-) -> Result<(), AllocError>
-    requires count { length walked.now.rows.items ≡ length features.old.items }
-    requires at { at < length features.old.items }
-    requires kept { IsWanted walked.now.flags.items false at }
-    ensures { OnOk result (Leaves at (list_at walked.now.passed.items at)
-        (list_at walked.now.named.items at) (list_at walked.now.enablers.items at)
-        (texts_of walked.now.texts.items) features.old.items features.new.items) }
-{
-    let enablers = walked.enablers[at.place()].as_slice();
-    let texts = walked.texts.as_slice();
-    let enabled_by = set_of(alloc, enablers, texts)?;
-    take_over(alloc, features, at, walked)?;
-    features[at.place()].enabled_by = enabled_by;
     Ok(())
 }

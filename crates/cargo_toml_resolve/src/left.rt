@@ -80,15 +80,15 @@ fn publish<'m, S: BuildHasher + Clone>(
     })
 }
 
-/// Takes out the features whose flag is true. It fails only where memory runs out, or the clone of
-/// `state` does.
-pub fn take_out<'m, S: BuildHasher + Clone>(
+// Takes out the features whose flag is true.
+fn take_out<'m, S: BuildHasher + Clone>(
     alloc: Global,
     state: &S,
     mut features: Vec<Feature<'m>>,
     flags: &[bool],
 ) -> Result<Left<'m, S>, AllocError>
     requires in_order { AreInOrder features.items }
+    requires no_enablers { HaveNoEnablers features.items }
     requires len { length flags.now ≡ length features.items }
     ensures keyed { IfOk result (λ l. IsKeyed l.features) }
     ensures taken { IfOk result

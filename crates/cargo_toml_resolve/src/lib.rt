@@ -15,6 +15,7 @@ pub mod left;
 pub mod numbering;
 pub mod passing;
 pub mod publishing;
+pub mod reaching;
 pub mod resolution;
 pub mod rows;
 pub mod walking;

@@ -1,6 +1,6 @@
 //! Features become a graph of nodes.
 ghost use Rattle.std.specs.Prelude.{◌≡◌, ◌≢◌, ◌↔◌, ◌⊎◌, ◌<◌, ◌≤◌, ℕ, IfOk, IfSome};
-ghost use Rattle.std.specs.Prelude.{IsTrue, None, OnOk, Some, length, map, true};
+ghost use Rattle.std.specs.Prelude.{IsTrue, None, OnOk, Some, false, length, map, true};
 ghost use Rattle.cargo_toml_graph.specs.Action.{Text};
 ghost use Rattle.cargo_toml_graph.specs.Admitted.{is_below};
 ghost use Rattle.cargo_toml_graph.specs.Graph.{IsPlain};
@@ -10,11 +10,12 @@ ghost use Rattle.cargo_toml_features.specs.InOrder.{AreInOrder, names_of, table_
 ghost use Rattle.cargo_toml_features.specs.Views.{action_at, action_of, has_text};
 ghost use Rattle.cargo_toml_walk.specs.Numbers.{IsWanted, Leads};
 ghost use Rattle.cargo_toml_features.specs.Places.{text_at};
-ghost use Rattle.cargo_toml_resolve.specs.NumberedTables.{IsNumbered};
+ghost use Rattle.cargo_toml_resolve.specs.NumberedTables.{IsNaming, IsNumbered};
 ghost use Rattle.cargo_toml_resolve.specs.Numbering.{AreParted, AreTextsOf, IsFlagged};
-ghost use Rattle.cargo_toml_resolve.specs.Numbering.{IsTarget, is_named, names_at};
+ghost use Rattle.cargo_toml_resolve.specs.Numbering.{IsNamedBy, IsPicked, IsTarget};
 ghost use Rattle.cargo_toml_resolve.specs.Texts.{texts_of};
 
+use crate::enabling::push_targets;
 use crate::graph::Graph;
 use cargo_toml_features::features::{DepAction, Feature};
 use cargo_toml_features::texts::in_order;
@@ -60,35 +61,46 @@ fn push_others<'m>(
     Ok(near)
 }
 
-// What features name that is no key, in byte order.
+// What is named that is no key, in byte order: of the features whose flag in `naming` stands.
 fn others_of<'m>(
     alloc: Global,
     features: &[Feature<'m>],
+    naming: &[bool],
     keys: &[&'m str],
 ) -> Result<Vec<&'m str>, AllocError>
-    requires { IsAscending (λ a b. IsTrue (is_below a b)) (texts_of keys.now) }
+    requires naming { length naming.now ≡ length features.now }
+    requires keys { IsAscending (λ a b. IsTrue (is_below a b)) (texts_of keys.now) }
     ensures all { IfOk result (λ v. (x : Text) → Among (texts_of v.items) x
-        ↔ (IsTrue (is_named features.now x) × (¬ Among (texts_of keys.now) x))) }
+        ↔ (IsNamedBy naming.now features.now (length features.now) x
+        × (¬ Among (texts_of keys.now) x))) }
     ensures ascending { IfOk result
         (λ v. IsAscending (λ a b. IsTrue (is_below a b)) (texts_of v.items)) }
 {
-    let mut others = Vec::with_capacity(alloc, features.len())?;
+    let mut others = Vec::new(alloc);
     let mut near = 0;
-    for feature in features {
-        near = push_others(&mut others, &feature.enables_features, keys, near)?;
+    for i in 0..features.len() {
+        if naming[i] {
+            near = push_others(&mut others, &features[i].enables_features, keys, near)?;
+        }
     }
     Ok(in_order(others))
 }
 
-// The texts of the nodes.
-fn all_texts<'m>(alloc: Global, features: &[Feature<'m>]) -> Result<Vec<&'m str>, AllocError>
-    requires { AreInOrder features.now }
-    ensures { IfOk result (λ v. AreTextsOf features.now (texts_of v.items)) }
+// The texts of the nodes: the keys, and what else is named.
+fn all_texts<'m>(
+    alloc: Global,
+    features: &[Feature<'m>],
+    naming: &[bool],
+    mut keys: Vec<&'m str>,
+) -> Result<Vec<&'m str>, AllocError>
+    requires in_order { AreInOrder features.now }
+    requires naming { length naming.now ≡ length features.now }
+    requires keys { texts_of keys.items ≡ names_of features.now }
+    ensures { IfOk result (λ v. AreTextsOf naming.now features.now (texts_of v.items)) }
 {
-    let mut texts = keys_of(alloc, features)?;
-    let others = others_of(alloc, features, texts.as_slice())?;
-    texts.extend_from_slice(others.as_slice())?;
-    Ok(texts)
+    let others = others_of(alloc, features, naming, keys.as_slice())?;
+    keys.extend_from_slice(others.as_slice())?;
+    Ok(keys)
 }
 
 // The node of a text: its place among the first `count` texts, or else among those after them. It
@@ -136,51 +148,33 @@ fn after(row: &[Node], near: usize) -> usize {
     }
 }
 
-// What each feature names.
+// What each feature names whose flag in `naming` stands; nothing for the others.
 fn name_rows(
     alloc: Global,
     features: &[Feature<'_>],
+    naming: &[bool],
     texts: &[&str],
 ) -> Result<Vec<Vec<Node>>, AllocError>
-    requires { AreParted (length features.now) (texts_of texts.now) }
+    requires naming { length naming.now ≡ length features.now }
+    requires texts { AreParted (length features.now) (texts_of texts.now) }
     ensures len { IfOk result (λ rows. length rows.items ≡ length features.now) }
     ensures rows { IfOk result (λ rows. (i x : ℕ) → i < length features.now
         → Leads rows.items i x ↔ ((x < length texts.now)
-        × IsTrue (names_at features.now i (text_at (texts_of texts.now) x)))) }
+        × IsPicked naming.now features.now i (text_at (texts_of texts.now) x))) }
 {
     let mut rows = Vec::with_capacity(alloc, features.len())?;
     let mut near = 0;
-    for feature in features {
-        let row = name_row(
-            alloc,
-            &feature.enables_features,
-            texts,
-            features.len(),
-            near,
-        )?;
-        near = after(row.as_slice(), near);
-        rows.push(row)?;
-    }
-    Ok(rows)
-}
-
-// The named features other than the one in place `own`.
-fn named_targets(
-    alloc: Global,
-    named: &[Node],
-    count: usize,
-    own: Node,
-) -> Result<Vec<Node>, AllocError>
-    ensures { IfOk result
-        (λ row. (x : ℕ) → Among row.items x ↔ (Among named.now x × (x < count) × (x ≢ own))) }
-{
-    let mut row = Vec::with_capacity(alloc, named.len())?;
-    for x in named {
-        if x.place() < count && *x != own {
-            row.push(*x)?;
+    for i in 0..features.len() {
+        if naming[i] {
+            let named = &features[i].enables_features;
+            let row = name_row(alloc, named, texts, features.len(), near)?;
+            near = after(row.as_slice(), near);
+            rows.push(row)?;
+        } else {
+            rows.push(Vec::new(alloc))?;
         }
     }
-    Ok(row)
+    Ok(rows)
 }
 
 /// The feature of this name, if there is one other than the one in place `own`, is put at the end.
@@ -254,49 +248,53 @@ pub(crate) fn push_actions(
     push_each_action(row, actions, keys, own)
 }
 
-// The features that the one in place `own` enables; `named` has the nodes of what it names.
-fn edge_row(
-    alloc: Global,
-    feature: &Feature<'_>,
-    named: &[Node],
-    keys: &[&str],
-    own: Node,
-) -> Result<Vec<Node>, AllocError>
-    requires { IsAscending (λ a b. IsTrue (is_below a b)) (texts_of keys.now) }
-    ensures { IfOk result (λ row. (x : ℕ) → Among row.items x
-        ↔ ((x < length keys.now) × (x ≢ own) × (Among named.now x
-        ⊎ IsPlain (action_at feature.now.enables_deps (text_at (texts_of keys.now) x))))) }
-{
-    let mut row = named_targets(alloc, named, keys.len(), own)?;
-    push_actions(&mut row, &feature.enables_deps, keys, own)?;
-    Ok(row)
-}
-
-// The features that each feature enables; `names` has the nodes of what each names.
+// The features that each feature enables.
 fn edge_rows(
     alloc: Global,
     features: &[Feature<'_>],
-    names: &[Vec<Node>],
     keys: &[&str],
 ) -> Result<Vec<Vec<Node>>, AllocError>
-    requires names { length names.now ≡ length features.now }
-    requires keys { IsAscending (λ a b. IsTrue (is_below a b)) (texts_of keys.now) }
+    requires { IsAscending (λ a b. IsTrue (is_below a b)) (texts_of keys.now) }
     ensures len { IfOk result (λ rows. length rows.items ≡ length features.now) }
     ensures rows { IfOk result (λ rows. (i x : ℕ) → i < length features.now → Leads rows.items i x
-        ↔ ((x < length keys.now) × IsTarget features.now names.now (texts_of keys.now) i x)) }
+        ↔ ((x < length keys.now) × IsTarget features.now (texts_of keys.now) i x)) }
 {
     let mut rows = Vec::with_capacity(alloc, features.len())?;
+    let mut near = 0;
     for own in 0..features.len() {
-        let row = edge_row(
-            alloc,
-            &features[own],
-            names[own].as_slice(),
-            keys,
-            Node::at(own),
-        )?;
+        let mut row = Vec::with_capacity(alloc, features[own].enables_features.len())?;
+        near = push_targets(&mut row, &features[own], keys, Node::at(own), near)?;
         rows.push(row)?;
     }
     Ok(rows)
+}
+
+// Whether the flag of one of the row stands.
+fn has_flagged(row: &[Node], flags: &[bool]) -> bool
+    requires { (x : ℕ) → Among row.now x → x < length flags.now }
+    ensures { result ≡ false → (x : ℕ) → Among row.now x → IsWanted flags.now false x }
+{
+    for x in row {
+        if flags[x.place()] {
+            return true;
+        }
+    }
+    false
+}
+
+// For each feature whether its names are asked for: it is removed, or has an edge to a removed one.
+fn naming_flags(alloc: Global, edges: &[Vec<Node>], flags: &[bool]) -> Result<Vec<bool>, AllocError>
+    requires len { length edges.now ≡ length flags.now }
+    requires inside { (a b : ℕ) → Leads edges.now a b → b < length flags.now }
+    ensures len { IfOk result (λ v. length v.items ≡ length edges.now) }
+    ensures naming { IfOk result (λ v. (i : ℕ) → i < length edges.now
+        → IsNaming edges.now flags.now i → IsWanted v.items true i) }
+{
+    let mut naming = Vec::with_capacity(alloc, edges.len())?;
+    for i in 0..edges.len() {
+        naming.push(flags[i] || has_flagged(edges[i].as_slice(), flags))?;
+    }
+    Ok(naming)
 }
 
 // The flags of features, and those of other texts, which aren't removed.
@@ -328,10 +326,12 @@ pub fn number<'m>(
     ensures vertices { IfOk result (λ g. (i : ℕ) → i < length features.now →
         text_at (texts_of g.texts.items) i ≡ text_at (names_of features.now) i) }
 {
-    let texts = all_texts(alloc, features)?;
-    let names = name_rows(alloc, features, texts.as_slice())?;
-    let keys = &texts.as_slice()[..features.len()];
-    let edges = edge_rows(alloc, features, names.as_slice(), keys)?;
+    let keys = keys_of(alloc, features)?;
+    let edges = edge_rows(alloc, features, keys.as_slice())?;
+    // A kept feature that has no edge to a removed one names what it named: no row is made for it.
+    let naming = naming_flags(alloc, edges.as_slice(), flags)?;
+    let texts = all_texts(alloc, features, naming.as_slice(), keys)?;
+    let names = name_rows(alloc, features, naming.as_slice(), texts.as_slice())?;
     let flags = all_flags(alloc, flags, texts.len())?;
     Ok(Graph {
         texts,

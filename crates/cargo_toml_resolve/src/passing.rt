@@ -1,10 +1,12 @@
 //! The binaries of removed features are passed on.
-ghost use Rattle.std.specs.Prelude.{◌≡◌, ◌<◌, ◌≤◌, ◌∷◌, ◌||◌, [], ℕ};
-ghost use Rattle.std.specs.Prelude.{bytes_eq, length, not, take, IfOk, OnOk};
+ghost use Rattle.std.specs.Prelude.{◌≡◌, ◌<◌, ◌≤◌, ◌∷◌, ◌&&◌, ◌||◌, [], ℕ};
+ghost use Rattle.std.specs.Prelude.{bytes_eq, false, length, nat_eq, not, take, true, IfOk};
+ghost use Rattle.std.specs.Prelude.{OnOk};
 ghost use Rattle.cargo_toml_graph.specs.Action.{Text};
 ghost use Rattle.cargo_toml_graph.specs.Reach.{Among};
 ghost use Rattle.cargo_toml_graph.specs.Removal.{put_all};
 ghost use Rattle.cargo_toml_features.specs.Views.{has_text};
+ghost use Rattle.cargo_toml_walk.specs.Numbers.{IsWanted};
 ghost use Rattle.cargo_toml_resolve.specs.KnownBins.{AreKnown, Knows, MayKnow};
 ghost use Rattle.cargo_toml_resolve.specs.Passing.{bins_of, passed_below, AreSameButBins};
 ghost use Rattle.cargo_toml_resolve.specs.Puts.{Puts};
@@ -16,12 +18,15 @@ use cargo_toml_walk::node::Node;
 use std::alloc::{AllocError, Global};
 use std::collections::BTreeSet;
 
+// So many binaries a removed feature passes on: the ten of the definitions.
+const MAX_PASSED_BINS: usize = 10;
+
 /// A copy of the first ten, since the lists may change while it is read. It fails only where memory
 /// runs out.
 pub fn first_ten<'m>(bins: &Vec<&'m str>) -> Result<Vec<&'m str>, AllocError>
     ensures { IfOk result (λ v. texts_of v.items ≡ take 10 (texts_of bins.now.items)) }
 {
-    let count = bins.len().min(10);
+    let count = bins.len().min(MAX_PASSED_BINS);
     bins[..count].to_vec(*bins.allocator())
 }
 
@@ -162,6 +167,28 @@ fn pass_from<'m>(
     put_along(features, known, row, bins.as_slice())
 }
 
+// Whether the feature is removed and has a binary.
+fn passes_any(feature: &Feature<'_>, is_removed: bool) -> bool
+    ensures { result
+        ≡ (is_removed && not (nat_eq (length feature.now.required_by_bins.items) 0)) }
+{
+    is_removed && !feature.required_by_bins.is_empty()
+}
+
+// Whether a removed feature has a binary.
+fn have_bins(features: &[Feature<'_>], flags: &[bool]) -> bool
+    requires { length features.now ≤ length flags.now }
+    ensures { result ≡ false → (r : ℕ) → r < length features.now → IsWanted flags.now true r
+        → bins_of features.now r ≡ [] }
+{
+    for r in 0..features.len() {
+        if passes_any(&features[r], flags[r]) {
+            return true;
+        }
+    }
+    false
+}
+
 /// Removed features pass their binaries on to those that their rows name, in the order of their
 /// places: at its turn each its first ten.
 ///
@@ -179,6 +206,10 @@ pub(crate) fn pass_bins<'m>(
         → bins_of features.new.items y ≡ passed_below rows.now flags.now (length features.old.items)
         (bins_of features.old.items) y) }
 {
+    // Mostly none has a binary: then no set is made.
+    if !have_bins(features.as_slice(), flags) {
+        return Ok(());
+    }
     let mut known = known_bins(alloc, features.as_slice())?;
     let size = features.len();
     for r in 0..size {

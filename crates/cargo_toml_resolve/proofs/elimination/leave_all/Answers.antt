@@ -4,7 +4,7 @@ use Rattle.cargo_toml_walk.proofs.Steps.{read_at}
 use Rattle.cargo_toml_resolve.specs.Texts.{texts_of}
 use Rattle.cargo_toml_resolve.proofs.LeavingAll.{LeavesUpTo, all_left, one_more_left, skips}
 use Rattle.cargo_toml_resolve.proofs.elimination.leave_all.Goals as goal
-use Rattle.cargo_toml_resolve.proofs.elimination.leave_all.Goals.{then-not-index+in_ok-leave, else-not-index}
+use Rattle.cargo_toml_resolve.proofs.elimination.leave_all.Goals.{then-not-index+in_ok-take_over, else-not-index}
 
 pub loop-at-preserved : goal.loop-at-preserved
 loop-at-preserved c =
@@ -15,15 +15,15 @@ loop-at-preserved c =
     let n = c.loop-at.at in
     let inside : n < length w.rows.items = search rules in
     elim c.if-not-index.branch [
-      | then-not-index+in_ok-leave b ↦
+      | then-not-index+in_ok-take_over b ↦
           let kept : IsWanted f false n = search rules in
-          rw (b.features-is) (one_more_left f w.passed.items w.named.items w.enablers.items ts old n c.loop-at.features.items b.leave.new.features.items kept
-          (λ m. w.passed_removed n m inside kept) c.loop-at.invariant (rw b.at.ensures at b.in_ok-leave.ensures))
+          rw (b.features-is) (one_more_left f w.passed.items w.named.items ts old n c.loop-at.features.items b.take_over.new.features.items kept
+          (λ m. w.passed_removed n m inside kept) c.loop-at.invariant (rw b.at.ensures at b.in_ok-take_over.ensures))
       | else-not-index b ↦
           let below : n < length f = search rules in
           let set : c.index.result.now ≡ true = search rules in
           let gone : IsWanted f true n = read_at f n false c.index.result.now below c.index.ensures ∙ set in
-          rw (b.features-is) (skips f w.passed.items w.named.items w.enablers.items ts old n c.loop-at.features.items gone c.loop-at.invariant)
+          rw (b.features-is) (skips f w.passed.items w.named.items ts old n c.loop-at.features.items gone c.loop-at.invariant)
     ]
 
 pub returns : goal.returns
@@ -33,5 +33,5 @@ returns c =
     let ts = texts_of w.texts.items in
     let old = c.args.features.now.items in
     let end : c.loop-at.at ≡ length old = search rules in
-    all_left f w.passed.items w.named.items w.enablers.items ts old c.loop-at.features.items
-    (subst (λ n. LeavesUpTo f w.passed.items w.named.items w.enablers.items ts old n c.loop-at.features.items) end c.loop-at.invariant)
+    all_left f w.passed.items w.named.items ts old c.loop-at.features.items
+    (subst (λ n. LeavesUpTo f w.passed.items w.named.items ts old n c.loop-at.features.items) end c.loop-at.invariant)

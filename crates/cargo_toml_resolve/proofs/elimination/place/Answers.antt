@@ -1,7 +1,10 @@
-use Rattle.std.proofs.Common.{◌≡◌, ◌<◌, ℕ, length, subst, ◌∙◌}
+use Rattle.std.proofs.Common.{◌≡◌, ◌<◌, ℕ, length, subst, sym, ◌∙◌}
+use Rattle.cargo_toml_resolve.specs.KeptFeatures.{ArePassedAt}
 use Rattle.cargo_toml_resolve.specs.Leaving.{LeavesAll}
 use Rattle.cargo_toml_resolve.specs.Passing.{bins_of, passed_below}
 use Rattle.cargo_toml_resolve.specs.Texts.{texts_of}
+use Rattle.cargo_toml_resolve.proofs.KeptEnablers.{learnt_through}
+use Rattle.cargo_toml_resolve.proofs.Learning.{own_still, stand_still, there_too}
 use Rattle.cargo_toml_resolve.proofs.Placing.{bins_there, kept_there, named_alike_there, rows_there}
 use Rattle.cargo_toml_resolve.proofs.elimination.place.Goals as goal
 
@@ -9,8 +12,10 @@ pub returns : goal.returns
 returns c =
     let g = c.args.graph in
     let w = c.in_ok-walked.walked in
-    let found = c.in_ok-walked.ensures in
+    let found = c.in_ok-walked.ensures.walked in
+    let learnt = c.in_ok-walked.ensures.learnt in
     let old = c.args.features.now.items in
+    let mid = c.walk.new.features.items in
     let left = c.leave_all.new.features.items in
     let new = c.pass_bins.new.features.items in
     let ts = texts_of g.texts.items in
@@ -19,11 +24,10 @@ returns c =
     let fs = g.flags.items in
     let ps = w.passed.items in
     let ms = w.named.items in
-    let bs = w.enablers.items in
     let others = c.in_ok-pass_bins.ensures.others in
-    let leaves : LeavesAll fs ps ms bs ts old left =
-    subst (λ f. LeavesAll f.items ps ms bs ts old left) found.flags
-    (subst (λ t. LeavesAll w.flags.items ps ms bs (texts_of t.items) old left) found.texts c.in_ok-leave_all.ensures) in
+    let leaves : LeavesAll fs ps ms ts mid left =
+    subst (λ f. LeavesAll f.items ps ms ts mid left) found.flags
+    (subst (λ t. LeavesAll w.flags.items ps ms (texts_of t.items) mid left) found.texts c.in_ok-leave_all.ensures) in
     let passed : (y : ℕ) → y < length left → bins_of new y ≡ passed_below w.rows.items fs (length left) (bins_of left) y =
     subst (λ f. (y : ℕ) → y < length left → bins_of new y ≡ passed_below w.rows.items f.items (length left) (bins_of left) y) found.flags
     (subst (λ f. (y : ℕ) → y < length left → bins_of new y ≡ passed_below w.rows.items f (length left) (bins_of left) y) c.as_slice-2.ensures.value
@@ -31,10 +35,19 @@ returns c =
     record {
       texts = found.texts;
       flags = found.flags;
-      count = found.count ∙ c.requires;
-      len = others.len ∙ leaves.len;
-      own = named_alike_there fs ps ms bs ts old left new leaves others;
-      kept = λ t removed stand. kept_there t removed old left new ts es ns fs stand ps ms bs found.passed found.named found.enablers leaves others;
-      bins = λ t removed stand. bins_there t removed old left new ts es ns fs stand ps ms bs w.rows.items found.rows leaves others passed;
-      rows = λ t removed stand. rows_there t removed old left new ts es ns fs stand w.rows.items found.rows;
+      count = found.count ∙ c.requires.count;
+      len = others.len ∙ leaves.len ∙ learnt.same.len;
+      own = λ i v u at at'.
+          let m = there_too old mid learnt.same.len i v at in
+          let first = learnt.same.each i v m.0 at m.1 in
+          let then = named_alike_there fs ps ms ts mid left new leaves others i m.0 u m.1 at' in
+          record { key = then.key ∙ first.key; marks = then.marks ∙ first.marks };
+      kept = λ t removed stand. kept_there t removed mid left new ts es ns fs (stand_still t removed old mid ts es ns fs learnt.same stand) ps ms found.passed found.named
+          (λ i m kept at e.
+          let v = there_too mid old (sym learnt.same.len) i m at in
+          learnt_through es fs ts (length es) old mid stand.in_order c.requires.no_enablers learnt i v.0 m v.1 at kept e)
+          leaves others;
+      bins = λ t removed stand. subst (λ own. ArePassedAt t removed own ts fs new) (λ i f. own_still old mid learnt.same f i)
+          (bins_there t removed mid left new ts es ns fs (stand_still t removed old mid ts es ns fs learnt.same stand) ps ms w.rows.items found.rows leaves others passed);
+      rows = λ t removed stand. rows_there t removed mid left new ts es ns fs (stand_still t removed old mid ts es ns fs learnt.same stand) w.rows.items found.rows;
     }

@@ -6,13 +6,22 @@ use Rattle.cargo_toml_resolve.specs.KnownBins.{AreKnown}
 use Rattle.cargo_toml_resolve.specs.Passing.{bins_of, passed_below}
 use Rattle.cargo_toml_resolve.specs.Puts.{Puts}
 use Rattle.cargo_toml_resolve.proofs.PutAlong.{same_features, then_same}
-use Rattle.cargo_toml_resolve.proofs.BinTurns.{kept_turn, one_turn}
+use Rattle.cargo_toml_resolve.proofs.BinTurns.{kept_turn, none_passed, one_turn}
 use Rattle.cargo_toml_resolve.proofs.passing.pass_bins.Goals as goal
 use Rattle.cargo_toml_resolve.proofs.passing.pass_bins.Goals.{then-flags-r+in_ok-pass_from, else-flags-r}
 
+pub returns-then-not-have_bins-clause-others : goal.returns-then-not-have_bins-clause-others
+returns-then-not-have_bins-clause-others c = same_features c.args.features.now.items
+
+pub returns-then-not-have_bins-clause-bins : goal.returns-then-not-have_bins-clause-bins
+returns-then-not-have_bins-clause-bins c = λ y below.
+    let old = c.args.features.now.items in
+    let none = (rw c.as_slice.ensures.value at c.have_bins.ensures) c.if-not-have_bins.true in
+    sym (none_passed c.args.rows.now c.args.flags.now (bins_of old) (length old) none y)
+
 pub loop-r-init : goal.loop-r-init
 loop-r-init c = record {
-  known = subst (AreKnown c.in_ok-known.known.items) c.as_slice.ensures.value c.in_ok-known.ensures;
+  known = subst (AreKnown c.in_ok-known.known.items) c.as_slice-2.ensures.value c.in_ok-known.ensures;
   same = same_features c.args.features.now.items;
   inside = omega arith;
   turned = λ y below. refl;

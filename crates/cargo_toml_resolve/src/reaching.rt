@@ -1,0 +1,100 @@
+//! Where features are removed: each kept one learns which kept ones enable it, themselves or
+//! through removed ones.
+ghost use Rattle.std.specs.Prelude.{◌≡◌, ◌<◌, ◌≤◌, ℕ, OnOk, false, length};
+ghost use Rattle.cargo_toml_graph.specs.Reach.{Among};
+ghost use Rattle.cargo_toml_features.specs.Places.{text_at};
+ghost use Rattle.cargo_toml_walk.specs.Numbers.{HasLabel, IsWanted, Leads};
+ghost use Rattle.cargo_toml_resolve.specs.Enabling.{Enables, LearnThrough};
+ghost use Rattle.cargo_toml_resolve.specs.Texts.{texts_of};
+ghost use Rattle.cargo_toml_resolve.specs.Walking.{ArePassed};
+
+use crate::enabling::enable_at;
+use crate::graph::Graph;
+use cargo_toml_features::features::Feature;
+use cargo_toml_walk::node::Node;
+use std::alloc::AllocError;
+
+// The source is put among what enables each kept feature in the places of the row.
+fn enable_kept<'m>(
+    features: &mut Vec<Feature<'m>>,
+    row: &[Node],
+    is_removed: &[bool],
+    source: &'m str,
+) -> Result<(), AllocError>
+    requires fits { length features.old.items ≤ length is_removed.now }
+    requires inside { (y : ℕ) → Among row.now y → y < length features.old.items }
+    ensures { OnOk result (Enables (λ y. Among row.now y × IsWanted is_removed.now false y)
+        source.now features.old.items features.new.items) }
+{
+    for at in row {
+        if !is_removed[at.place()] {
+            enable_at(features, *at, source)?;
+        }
+    }
+    Ok(())
+}
+
+// The source is put among what enables each kept feature to which the one in place `from` has an
+// edge.
+fn enable_from<'m>(
+    features: &mut Vec<Feature<'m>>,
+    graph: &Graph<'m>,
+    from: Node,
+    source: &'m str,
+) -> Result<(), AllocError>
+    requires count { length graph.now.edges.items ≡ length features.old.items }
+    requires from { from < length graph.now.edges.items }
+    ensures { OnOk result (Enables (λ y. Leads graph.now.edges.items from y
+        × IsWanted graph.now.flags.items false y)
+        source.now features.old.items features.new.items) }
+{
+    let row = graph.edges[from.place()].as_slice();
+    enable_kept(features, row, graph.flags.as_slice(), source)
+}
+
+// The name of the kept feature in place `own` is put among what enables each kept one to which it,
+// or one that it passes, has an edge.
+fn enable_through<'m>(
+    features: &mut Vec<Feature<'m>>,
+    graph: &Graph<'m>,
+    own: Node,
+    passed: &[Node],
+) -> Result<(), AllocError>
+    requires count { length graph.now.edges.items ≡ length features.old.items }
+    requires own { own < length graph.now.edges.items }
+    requires passed { (b : ℕ) → Among passed.now b → b < length graph.now.edges.items }
+    ensures { OnOk result (Enables (HasLabel (Among passed.now) graph.now.edges.items
+        graph.now.flags.items own) (text_at (texts_of graph.now.texts.items) own)
+        features.old.items features.new.items) }
+{
+    let source = graph.texts[own.place()];
+    enable_from(features, graph, own, source)?;
+    for b in passed {
+        enable_from(features, graph, *b, source)?;
+    }
+    Ok(())
+}
+
+/// Each kept feature learns which kept ones enable it, themselves or through removed ones: through
+/// those that they pass. It fails only where memory runs out.
+pub(crate) fn set_kept_enablers<'m>(
+    features: &mut Vec<Feature<'m>>,
+    graph: &Graph<'m>,
+    passed: &[Vec<Node>],
+) -> Result<(), AllocError>
+    requires count { length graph.now.edges.items ≡ length features.old.items }
+    requires len { length passed.now ≡ length graph.now.edges.items }
+    requires inside { (a b : ℕ) → Leads passed.now a b → b < length graph.now.edges.items }
+    requires passed { ArePassed graph.now.edges.items graph.now.names.items graph.now.flags.items
+        passed.now }
+    ensures { OnOk result (LearnThrough graph.now.edges.items graph.now.flags.items
+        (texts_of graph.now.texts.items) (length graph.now.edges.items)
+        features.old.items features.new.items) }
+{
+    for own in 0..passed.len() {
+        if !graph.flags[own] {
+            enable_through(features, graph, Node::at(own), passed[own].as_slice())?;
+        }
+    }
+    Ok(())
+}

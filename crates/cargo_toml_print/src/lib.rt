@@ -1,27 +1,20 @@
-//! The commands of the program `cargo-toml`, what it writes and how it ends, as a library, so that
-//! its tests against stored lines run the same code.
+//! What `cargo-toml features` prints, as a library, so that its tests against stored lines run the
+//! same code. It hands on what the program needs beside.
 #![tactic(auto)]
 
 ghost use Rattle.std.specs.Prelude.{◌≤◌, IfErr};
 ghost use Rattle.std.specs.Io.KnownBytes.{Keeps};
-ghost use Rattle.cargo_toml_print_complete.specs.Printing.{IsOfManifest};
+ghost use Rattle.cargo_toml_command.specs.Printing.{IsOfManifest};
 
-mod arguments;
-mod outcome;
-mod words;
-
-pub use arguments::Command;
+pub use cargo_toml_command::{Command, Outcome, command, print_complete, print_completed};
+use cargo_toml_command::{Printer, separate, text_of, write_none};
 use cargo_toml_manifest::Manifest;
 use cargo_toml_parts::Error;
-pub use cargo_toml_print_complete::{print_complete, print_completed};
-use cargo_toml_print_complete::{Printer, separate, text_of, write_none};
 use cargo_toml_resolver::features::{DepAction, Feature, Features, Resolver};
-pub use outcome::Outcome;
 use std::alloc::Global;
 use std::collections::{BTreeMap, BTreeSet, HashMap};
 use std::hash::BuildHasher;
 use std::io::{Read, Write};
-pub use words::command;
 
 /// Reads a manifest from `input` and writes to `output` a line for each of its features, and then
 /// one for each that is removed since it is hidden. They are resolved with the limit of items

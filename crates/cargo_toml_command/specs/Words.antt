@@ -2,8 +2,8 @@
 use Rattle.std.specs.Prelude.{◌≡◌, ◌⊎◌, ◌≤◌, ℕ, List, [], ◌∷◌, length, codes, ⊤}
 use Rattle.std.specs.Str.Parse.{IsNumeral, digits_value}
 use Rattle.cargo_toml_features.specs.declared.admit.TheConstants.{MAX_ITEMS}
-use Rattle.cargo_toml_print.specs.declared.arguments.Command.{Command}
-use Rattle.cargo_toml_print.specs.declared.arguments.Command.TheVariants.{Features, Complete}
+use Rattle.cargo_toml_command.specs.declared.arguments.Command.{Command}
+use Rattle.cargo_toml_command.specs.declared.arguments.Command.TheVariants.{Features, Complete}
 
 -- the word is one to five digits, of which the first ones may be zeros, and these write the number
 -- n, from 1 to 65535

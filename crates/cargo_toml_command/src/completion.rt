@@ -1,7 +1,7 @@
 //! What the program writes of a completed manifest.
 ghost use Rattle.std.specs.Prelude.{ℕ, List, IfErr, OnOk};
 ghost use Rattle.std.specs.Io.KnownBytes.{Appends};
-ghost use Rattle.cargo_toml_print_complete.specs.Printing.{IsOfOutput};
+ghost use Rattle.cargo_toml_command.specs.Printing.{IsOfOutput};
 
 use crate::items::{separate, write_none};
 use cargo_toml_manifest::Manifest;

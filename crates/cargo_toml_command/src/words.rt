@@ -1,7 +1,7 @@
 //! What the words of the command line ask for.
 ghost use Rattle.std.specs.Prelude.{IfSome, IfNone, map, ℕ, string_bytes};
-ghost use Rattle.cargo_toml_print.specs.Words.{AskFor, HasLimit, IsLimit};
-ghost use Rattle.cargo_toml_print.specs.declared.arguments.Command.{Command};
+ghost use Rattle.cargo_toml_command.specs.Words.{AskFor, HasLimit, IsLimit};
+ghost use Rattle.cargo_toml_command.specs.declared.arguments.Command.{Command};
 
 use crate::arguments::Command;
 

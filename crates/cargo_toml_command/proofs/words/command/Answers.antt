@@ -2,10 +2,10 @@ use Rattle.std.proofs.Common.{arith, ◌≡◌, ℕ, List, [], map, length, stri
 use Rattle.std.proofs.Common.{IfNone, sym, ap, ◌∙◌, subst, inl, inr}
 use Rattle.std.proofs.lemmas.List.{get_or-map, length-map}
 use lib.ListN.{get_or}
-use Rattle.cargo_toml_print.specs.declared.arguments.Command.{Command}
-use Rattle.cargo_toml_print.specs.declared.arguments.Command.TheVariants.{Features, Complete}
-use Rattle.cargo_toml_print.specs.Words.{AskFor, IsLimit}
-use Rattle.cargo_toml_print.proofs.words.command.Goals as goal
+use Rattle.cargo_toml_command.specs.declared.arguments.Command.{Command}
+use Rattle.cargo_toml_command.specs.declared.arguments.Command.TheVariants.{Features, Complete}
+use Rattle.cargo_toml_command.specs.Words.{AskFor, IsLimit}
+use Rattle.cargo_toml_command.proofs.words.command.Goals as goal
 
 -- of four words that ask for a command the third is a limit
 third_is : (words : List (List ℕ)) (c : Command) → length words ≡ 4 → AskFor words c →

@@ -6,8 +6,8 @@ use Rattle.std.specs.declared.io.ErrorKind.TheVariants as io
 use Rattle.std.specs.IoError.{error_kind}
 use Rattle.cargo_toml_parts.specs.declared.error.Error.{Error, Memory}
 use Rattle.cargo_toml_parts.specs.Faults.{text_of}
-use Rattle.cargo_toml_print.specs.declared.outcome.Outcome.{Outcome}
-use Rattle.cargo_toml_print.specs.declared.outcome.Outcome.TheVariants.{Done, Refused, NotACommand}
+use Rattle.cargo_toml_command.specs.declared.outcome.Outcome.{Outcome}
+use Rattle.cargo_toml_command.specs.declared.outcome.Outcome.TheVariants.{Done, Refused, NotACommand}
 
 -- the end of a run whose command was done or refused
 abbrev pub outcome_of : Result ⊤ Error → Outcome
@@ -15,10 +15,10 @@ outcome_of (Ok _) = Done
 outcome_of (Err e) = Refused e
 
 -- the status of the program
-abbrev pub status_of : Outcome → ℕ
-status_of Done = 0
-status_of (Refused e) = 1
-status_of NotACommand = 2
+abbrev pub exit_status : Outcome → ℕ
+exit_status Done = 0
+exit_status (Refused e) = 1
+exit_status NotACommand = 2
 
 abbrev pub usage : List ℕ
 usage = codes "usage: cargo-toml features [--max N] FILE | complete FILE"

@@ -51,12 +51,15 @@ pub use Rattle.cargo_toml_manifest.specs.Told
 pub use Rattle.cargo_toml_discovery.specs.Answers as FolderAnswers
 pub use Rattle.cargo_toml_discovery.specs.Around
 pub use Rattle.cargo_toml_discovery.specs.Discovering
+pub use Rattle.cargo_toml_discovery.specs.Disk
+pub use Rattle.cargo_toml_discovery.specs.Folders
 pub use Rattle.cargo_toml_discovery.specs.Found
 pub use Rattle.cargo_toml_discovery.specs.Names
 pub use Rattle.cargo_toml_discovery.specs.Seen
 pub use Rattle.cargo_toml_discovery.specs.Sorting
 pub use Rattle.cargo_toml_discovery.specs.Told as ToldFolders
-pub use Rattle.cargo_toml_manifest.specs.Workspaces
+pub use Rattle.cargo_toml_workspace.specs.Sharing
+pub use Rattle.cargo_toml_workspace.specs.Workspaces
 pub use Rattle.cargo_toml_write.specs.NoFloats
 pub use Rattle.cargo_toml_write.specs.Ways
 pub use Rattle.cargo_toml_write.specs.WrittenBadges
@@ -109,7 +112,7 @@ pub use Rattle.cargo_toml_parts.specs.declared.inheritable.Inheritable
 pub use Rattle.cargo_toml_dependencies.specs.declared.dependency.Dependency
 pub use Rattle.cargo_toml_package.specs.declared.package.Package
 pub use Rattle.cargo_toml_manifest.specs.declared.manifest.Manifest
-pub use Rattle.cargo_toml_manifest.specs.declared.workspace.Workspace
+pub use Rattle.cargo_toml_workspace.specs.declared.workspace.Workspace
 pub use Rattle.cargo_toml_features.specs.declared.features.Feature
 pub use Rattle.cargo_toml_features.specs.declared.features.Kind
 -- the number of items that count

@@ -1,9 +1,11 @@
 pub mod Again
+pub mod Answered
 pub mod Ascend
 pub mod Ascends
 pub mod Copies
 pub mod Dashes
 pub mod Extends
+pub mod Faults
 pub mod Heard
 pub mod Joins
 pub mod LastWaiting

@@ -1,12 +1,15 @@
 //! Which library, binaries, examples, tests and benchmarks of a package are found by the names in
 //! its folders, and which build script and readme.
 //!
-//! Nothing here asks a file system. The names in the folders stand in `Listings`, what a manifest
-//! states in `Stated`, and `discover` makes `Discovered` of both.
+//! The names in the folders stand in `Listings`, what a manifest states in `Stated`, and `discover`
+//! makes `Discovered` of both. `gather` asks for the names, each folder once.
 #![tactic(auto)]
 
 pub mod discovery;
+pub mod disk;
+pub mod folders;
 pub mod found;
+pub mod gather;
 mod laws;
 pub mod listings;
 mod names;

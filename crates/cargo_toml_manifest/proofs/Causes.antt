@@ -10,22 +10,24 @@ use Rattle.toml.specs.View.{view}
 use Rattle.cargo_toml_parts.specs.declared.error.Error.{Error, Memory, Io}
 use Rattle.cargo_toml_parts.specs.FaultValues.{Fault, fault_of, io}
 use Rattle.cargo_toml_parts.specs.Wrapping.{wrap}
-use Rattle.cargo_toml_manifest.specs.Choosing.{AnswersRoots, Choice, Handed, RootsTold, alone, choice, from, hint_of, lost, shared_of, told_choice}
-use Rattle.cargo_toml_manifest.specs.Inheriting.{shared, needs}
+use Rattle.cargo_toml_workspace.specs.Sharing.{shared_of, shared}
+use Rattle.cargo_toml_manifest.specs.Choosing.{AnswersRoots, Choice, Handed, RootsTold, alone, choice, from, hint_of, lost, told_choice}
+use Rattle.cargo_toml_manifest.specs.Inheriting.{needs}
 use Rattle.cargo_toml_manifest.specs.Manifests.{ManifestMeaning, manifest_meaning}
-use Rattle.cargo_toml_manifest.specs.Refusing.{IsCause, IsListed, IsRefusedAt, IsRefusedBy, IsRefusedByRoot, IsToldWith, MayLose, ReadsBy, RefusesBy}
+use Rattle.cargo_toml_discovery.specs.Folders.{IsListed, RefusesBy}
+use Rattle.cargo_toml_manifest.specs.Refusing.{IsCause, IsRefusedAt, IsRefusedBy, IsRefusedByRoot, IsToldWith, MayLose, ReadsBy}
 use Rattle.cargo_toml_manifest.specs.Roots.{IsRootAt}
 use Rattle.cargo_toml_manifest.specs.Told.{ToldRoot, root, no_root, open_root, AnswersRoot}
-use Rattle.cargo_toml_manifest.specs.Workspaces.{WorkspaceMeaning}
+use Rattle.cargo_toml_workspace.specs.Workspaces.{WorkspaceMeaning}
 use Rattle.cargo_toml_manifest.specs.declared.manifest.Manifest.{Manifest}
-use Rattle.cargo_toml_manifest.proofs.FileFaults.{io_fault}
+use Rattle.cargo_toml_discovery.proofs.Faults.{fault_of-io}
 use Rattle.cargo_toml_manifest.proofs.Meeting.{answer_there, answered, answered_by, as_told, found_choice, own_alone, own_by_root, own_by_table, told_itself, Found}
 use Rattle.cargo_toml_manifest.proofs.Rooted.{Read, memory_wrapped}
 
 -- no root is read by a call that is left out
 pub never_read : (reads : _) (may : Option (List ℕ) → Fault → Type 0) (hint : Option (List ℕ)) (f : IoError) → reads ≡ false → error_kind f ≡ Unsupported →
     (Io f ≡ Memory) ⊎ MayLose reads may hint (wrap hint (fault_of (Io f)))
-never_read reads may hint f none kind = inr (inr (none, ap (wrap hint) (io_fault f ∙ ap io kind)))
+never_read reads may hint f none kind = inr (inr (none, ap (wrap hint) (fault_of-io f ∙ ap io kind)))
 
 -- what becomes of bytes that were read may stand in place of the root, where it is a fault
 pub lost_at : (reads : _) (may : Option (List ℕ) → Fault → Type 0) (hint : Option (List ℕ)) (r : Read) (found : Result Found Error) →

@@ -5,36 +5,30 @@ use Rattle.std.specs.IoError.{error_kind}
 use Rattle.std.specs.declared.alloc.Global.{Global}
 use Rattle.std.specs.declared.io.Error.{Error as IoError}
 use Rattle.toml.specs.declared.value.Value.{Value}
-use Rattle.cargo_toml_parts.specs.declared.error.Error.{Error, Memory, Io, WorkspaceIntegrity, fold-roll-Error}
+use Rattle.cargo_toml_parts.specs.declared.error.Error.{Error, Memory, WorkspaceIntegrity, fold-roll-Error}
 use Rattle.cargo_toml_parts.specs.declared.error.Error.TheOpen.{Error-F}
-use Rattle.cargo_toml_parts.specs.declared.error.Error.TheVariants.{rolls-Io, rolls-WorkspaceIntegrity}
+use Rattle.cargo_toml_parts.specs.declared.error.Error.TheVariants.{rolls-WorkspaceIntegrity}
 use Rattle.cargo_toml_parts.specs.Faults.{IsFromIo}
 use Rattle.cargo_toml_parts.specs.FaultValues.{Fault, fault_of, fault_step, io, workspace_integrity}
 use Rattle.cargo_toml_parts.specs.Wrapping.{wrap}
-use Rattle.cargo_toml_manifest.specs.RealFiles.{IsHintFault, IsInput, IsNoWorkspace, IsRootFault, IsSearchFault, expected_workspace, real_losses}
-use Rattle.cargo_toml_manifest.specs.Refusing.{MayLose, RefusesBy}
+use Rattle.cargo_toml_manifest.specs.RealFiles.{IsHintFault, IsNoWorkspace, IsRootFault, IsSearchFault, expected_workspace, real_losses}
+use Rattle.cargo_toml_discovery.specs.Folders.{RefusesBy}
+use Rattle.cargo_toml_manifest.specs.Refusing.{MayLose}
 use Rattle.cargo_toml_manifest.specs.Roots.{IsFromSlice}
 use Rattle.cargo_toml_manifest.specs.declared.manifest.Manifest.{Manifest}
+use Rattle.cargo_toml_discovery.proofs.Faults.{fault_of-io}
 use Rattle.cargo_toml_manifest.proofs.Rooted.{memory_wrapped}
-
-pub io_fault : (f : IoError) → fault_of (Io f) ≡ io (error_kind f)
-io_fault f = ap fault_of (sym (rolls-Io f)) ∙ fold-roll-Error Fault fault_step (Error-F.Io f)
 
 integrity_fault : (text : String Global) → fault_of (WorkspaceIntegrity text) ≡ workspace_integrity (string_bytes text)
 integrity_fault text =
     ap fault_of (sym (rolls-WorkspaceIntegrity text)) ∙ fold-roll-Error Fault fault_step (Error-F.WorkspaceIntegrity text)
 
--- a fault of reading, once it is an error
-pub from_input : (f : IoError) (e : Error) → IsFromIo f e → (e ≡ Memory) ⊎ IsInput e
-from_input f e (inl h) = inl h.1
-from_input f e (inr h) = inr (error_kind f, ap fault_of h.1 ∙ io_fault f)
-
--- the same with the path of the file
+-- a fault of reading, with the path of the file
 pub read_fault : (file : List ℕ) (f : IoError) (own e : Error) → IsFromIo f own → (e ≡ Memory) ⊎ (fault_of e ≡ wrap (Some file) (fault_of own)) → IsHintFault file e
 read_fault file f own e from (inl memory) = inl memory
 read_fault file f own e (inl h) (inr same) = inl (memory_wrapped (Some file) own e h.1 same)
 read_fault file f own e (inr h) (inr same) =
-    inr (inl (error_kind f, same ∙ ap (wrap (Some file)) (ap fault_of h.1 ∙ io_fault f)))
+    inr (inl (error_kind f, same ∙ ap (wrap (Some file)) (ap fault_of h.1 ∙ fault_of-io f)))
 
 -- a manifest without a workspace
 pub no_table : (bytes path : List ℕ) (m : Manifest Value) (text : String Global) → IsFromSlice bytes (Ok m) → is_some m.workspace ≡ false →

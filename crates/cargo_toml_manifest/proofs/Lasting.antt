@@ -22,7 +22,8 @@ use Rattle.cargo_toml_manifest.proofs.Steps.{then}
 use Rattle.cargo_toml_manifest.specs.Choosing.{Handed, RootsTold, from, hint_of, own_choice}
 use Rattle.cargo_toml_manifest.specs.Completing.{IsLasting, complete, complete_by, gives, seen_at, then_found}
 use Rattle.cargo_toml_manifest.specs.Finding.{found_around}
-use Rattle.cargo_toml_manifest.specs.Inheriting.{Lints, Shared, inherited_if_there, inherited_lints, inherited_manifest, needs, own_tables, shared}
+use Rattle.cargo_toml_workspace.specs.Sharing.{Lints, Shared, inherited_lints, shared}
+use Rattle.cargo_toml_manifest.specs.Inheriting.{inherited_if_there, inherited_manifest, needs, own_tables}
 use Rattle.cargo_toml_manifest.specs.Manifests.{ManifestMeaning}
 use Rattle.cargo_toml_manifest.specs.Told.{ToldRoot}
 

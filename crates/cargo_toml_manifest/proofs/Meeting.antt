@@ -12,17 +12,18 @@ use Rattle.cargo_toml_discovery.specs.Names.{Text}
 use Rattle.cargo_toml_discovery.specs.Seen.{IsOneOf, Seen, Tells, seen, faulty, unclear}
 use Rattle.cargo_toml_discovery.specs.Told.{Told}
 use Rattle.cargo_toml_discovery.proofs.Extends.{tell-at}
-use Rattle.cargo_toml_manifest.specs.Choosing.{AnswersRoots, Choice, Handed, RootsTold, alone, choice, from, hint_of, own_choice, shared_of, told_choice}
+use Rattle.cargo_toml_workspace.specs.Sharing.{shared_of, Shared, shared}
+use Rattle.cargo_toml_manifest.specs.Choosing.{AnswersRoots, Choice, Handed, RootsTold, alone, choice, from, hint_of, own_choice, told_choice}
 use Rattle.cargo_toml_manifest.specs.Completing.{GivenBy, GivenByRoot, Meets, Outcome, complete, complete_by, gives, no_workspace, refuses, seen_at, then_found, untold}
 use Rattle.cargo_toml_manifest.specs.Finding.{with_found}
-use Rattle.cargo_toml_manifest.specs.Inheriting.{Shared, shared, needs}
+use Rattle.cargo_toml_manifest.specs.Inheriting.{needs}
 use Rattle.cargo_toml_manifest.specs.Installing.{installed, with_completion}
 use Rattle.cargo_toml_manifest.specs.Manifests.{ManifestMeaning, manifest_meaning}
 use Rattle.cargo_toml_manifest.specs.Told.{ToldRoot, root, no_root, open_root, AnswersRoot}
-use Rattle.cargo_toml_manifest.specs.Workspaces.{WorkspaceMeaning, workspace_meaning}
+use Rattle.cargo_toml_workspace.specs.Workspaces.{WorkspaceMeaning, workspace_meaning}
 use Rattle.cargo_toml_manifest.specs.declared.finding.Completion.{Completion}
 use Rattle.cargo_toml_manifest.specs.declared.manifest.Manifest.{Manifest}
-use Rattle.cargo_toml_manifest.specs.declared.workspace.Workspace.{Workspace}
+use Rattle.cargo_toml_workspace.specs.declared.workspace.Workspace.{Workspace}
 use Rattle.cargo_toml_manifest.proofs.Rooted.{memory_wrapped}
 
 -- `Memory` meets each

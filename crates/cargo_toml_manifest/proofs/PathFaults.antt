@@ -11,9 +11,10 @@ use Rattle.cargo_toml_manifest.specs.Choosing.{Choice, Handed, RootsTold, alone,
 use Rattle.cargo_toml_manifest.specs.Completing.{GivenBy, Meets, complete}
 use Rattle.cargo_toml_manifest.specs.Manifests.{ManifestMeaning, held, manifest_meaning}
 use Rattle.cargo_toml_manifest.specs.Refusing.{IsRefusedAt, IsRefusedBy, MayLose}
-use Rattle.cargo_toml_manifest.specs.RealFiles.{IsCompletionFault, IsPathFault, IsReadAndCompleted, IsReadFromText, bad_path, or_here, real_folders, real_listings, real_losses, real_roots}
+use Rattle.cargo_toml_manifest.specs.RealFiles.{IsCompletionFault, IsPathFault, IsReadAndCompleted, IsReadFromText, bad_path, real_folders, real_listings, real_losses, real_roots}
 use Rattle.cargo_toml_manifest.specs.declared.manifest.Manifest.{Manifest}
-use Rattle.cargo_toml_manifest.proofs.Faults.{fault_of-memory}
+use Rattle.cargo_toml_discovery.specs.Disk.{or_here}
+use Rattle.cargo_toml_discovery.proofs.Faults.{fault_of-memory}
 use Rattle.cargo_toml_manifest.proofs.Meeting.{refused_again}
 
 -- what holds once it is completed, holds of the answer

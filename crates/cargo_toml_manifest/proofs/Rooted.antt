@@ -14,7 +14,7 @@ use Rattle.cargo_toml_manifest.specs.Manifests.{ManifestMeaning, manifest_meanin
 use Rattle.cargo_toml_manifest.specs.Roots.{IsRootAt, IsNoRoot, IsFromSlice}
 use Rattle.cargo_toml_manifest.specs.Texts.{any_tree, document_reads}
 use Rattle.cargo_toml_manifest.specs.Told.{ToldRoot, root, no_root, open_root, IsRootIn, ReadsRoot, AnswersRoot}
-use Rattle.cargo_toml_manifest.proofs.Faults.{memory_alone, fault_of-memory}
+use Rattle.cargo_toml_discovery.proofs.Faults.{memory_alone, fault_of-memory}
 
 abbrev pub Read : Type 0
 Read = Vec ℕ Global × String Global

@@ -1,21 +1,17 @@
 -- From which workspace a manifest inherits.
 use Rattle.std.specs.Prelude.{◌≡◌, ◌⊎◌, List, ℕ, [], Bool, true, false}
 use Rattle.std.specs.Prelude.{Option, Some, None, option_map, option_and_then}
-use Rattle.cargo_toml_manifest.specs.Inheriting.{Shared, shared, needs}
+use Rattle.cargo_toml_workspace.specs.Sharing.{Shared, shared, shared_of}
+use Rattle.cargo_toml_manifest.specs.Inheriting.{needs}
 use Rattle.cargo_toml_manifest.specs.Manifests.{ManifestMeaning}
 use Rattle.cargo_toml_manifest.specs.Told.{ToldRoot, root, no_root, open_root, heard}
-use Rattle.cargo_toml_manifest.specs.Workspaces.{workspace_meaning}
 use Rattle.cargo_toml_manifest.specs.declared.manifest.Manifest.{Manifest}
-use Rattle.cargo_toml_manifest.specs.declared.workspace.Workspace.{Workspace}
 use denote.Ref.{Bor}
 
 -- a workspace that is handed in: what its manifest shares, where it has a workspace
 -- table, and the path
 abbrev pub Handed : Type 0
 Handed = Option Shared × List ℕ
-
-abbrev pub shared_of : {N : Type 0} → Option (Workspace N) → Option Shared
-shared_of workspace = option_map (λ w. shared (workspace_meaning (λ x. x) w)) workspace
 
 abbrev pub handed_of : {N : Type 0} → Bor (Manifest N) × Bor (List ℕ) → Handed
 handed_of handed = (shared_of handed.0.now.workspace, handed.1.now)

@@ -1,40 +1,18 @@
 -- What a manifest becomes whose parts are left to the workspace.
-use Rattle.std.specs.Prelude.{ℕ, List, codes, Bool, false, not, ◌||◌, Option, Some}
-use Rattle.std.specs.Prelude.{None, option_map, option_and_then, Result, Ok, Err}
+use Rattle.std.specs.Prelude.{ℕ, List, Bool, false, not, ◌||◌, Option, Some}
+use Rattle.std.specs.Prelude.{None, option_map, option_and_then, Result, Ok}
 use Rattle.std.specs.Option.{option_map_or}
 use Rattle.cargo_toml_parts.specs.Answers.{◌>>=◌}
-use Rattle.cargo_toml_parts.specs.FaultValues.{Fault, workspace_integrity}
+use Rattle.cargo_toml_parts.specs.FaultValues.{Fault}
 use Rattle.cargo_toml_parts.specs.InheritableValues.{is_set}
-use Rattle.cargo_toml_parts.specs.declared.inheritable.Inheritable.{Inheritable}
-use Rattle.cargo_toml_parts.specs.declared.inheritable.Inheritable.TheVariants.{Set, Inherited}
 use Rattle.cargo_toml_dependencies.specs.Inheriting.{Entries, inherited_target, inherited_targets}
 use Rattle.cargo_toml_dependencies.specs.Inheriting.{any_left, any_target_left}
 use Rattle.cargo_toml_dependencies.specs.Targets.{TargetMeaning}
 use Rattle.cargo_toml_package.specs.Inheriting.{inherited_package, any_field_left}
 use Rattle.cargo_toml_package.specs.Packages.{PackageMeaning}
 use Rattle.cargo_toml_package.specs.Templates.{TemplateMeaning}
-use Rattle.cargo_toml_tables.specs.Lints.{LintMeaning}
+use Rattle.cargo_toml_workspace.specs.Sharing.{Lints, Shared, inherited_lints}
 use Rattle.cargo_toml_manifest.specs.Manifests.{ManifestMeaning}
-use Rattle.cargo_toml_manifest.specs.Workspaces.{WorkspaceMeaning}
-
--- lints by tool, and then by name
-abbrev pub Lints : Type 0
-Lints = List (List ℕ × List (List ℕ × LintMeaning))
-
--- what a workspace gives to its members
-pub record Shared : Type 0 where
-  pub template : Option TemplateMeaning
-  pub dependencies : Entries
-  pub lints : Lints
-
-abbrev pub shared : {N : Type 0} → WorkspaceMeaning N → Shared
-shared w = record { template = w.«package»; dependencies = w.dependencies; lints = w.lints }
-
-abbrev pub inherited_lints : Option Lints → Inheritable Lints → Result (Inheritable Lints) Fault
-inherited_lints table (Set lints) = Ok (Set lints)
-inherited_lints (Some lints) Inherited = Ok (Set lints)
-inherited_lints None Inherited =
-    Err (workspace_integrity (codes "lints are inherited, but there is no workspace table"))
 
 -- the package, where there is one
 abbrev pub inherited_if_there : {M : Type 0} → Option TemplateMeaning → List ℕ

@@ -1,6 +1,5 @@
 -- what a manifest is, what it inherits and what is found: a user has to believe these
 pub mod Manifests
-pub mod Workspaces
 pub mod Texts
 pub mod Told
 pub mod Roots

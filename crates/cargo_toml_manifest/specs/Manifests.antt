@@ -24,8 +24,8 @@ use Rattle.cargo_toml_manifest.specs.declared.manifest.Manifest.{Manifest}
 use Rattle.cargo_toml_parts.specs.Keys.{inherited_at}
 use Rattle.cargo_toml_package.specs.Packages.{PackageMeaning, package_meaning}
 use Rattle.cargo_toml_package.specs.Packages.{package_reads, PackageRefuses}
-use Rattle.cargo_toml_manifest.specs.Workspaces.{WorkspaceMeaning, workspace_meaning}
-use Rattle.cargo_toml_manifest.specs.Workspaces.{workspace_reads, WorkspaceRefuses}
+use Rattle.cargo_toml_workspace.specs.Workspaces.{WorkspaceMeaning, workspace_meaning}
+use Rattle.cargo_toml_workspace.specs.Workspaces.{workspace_reads, WorkspaceRefuses}
 
 -- what a manifest holds, whose metadata are M
 pub record ManifestMeaning (M : Type 0) : Type 0 where

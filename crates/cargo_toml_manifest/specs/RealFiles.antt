@@ -1,7 +1,7 @@
 -- Files on the disk: where they are looked for, which root is found among them, and
 -- what faults they give.
-use Rattle.std.specs.Prelude.{◌≡◌, ◌⊎◌, ℕ, suc, zero, List, ◌++◌, codes, length, ◌==◌}
-use Rattle.std.specs.Prelude.{if◌then◌else◌, Bool, true, false, Option, Some, None}
+use Rattle.std.specs.Prelude.{◌≡◌, ◌⊎◌, ℕ, suc, zero, List, ◌++◌, codes}
+use Rattle.std.specs.Prelude.{Bool, true, false, Option, Some, None}
 use Rattle.std.specs.Prelude.{option_and_then, is_some, Result, Ok, Err, IsUtf8}
 use Rattle.std.specs.Prelude.{Box}
 use Rattle.std.specs.Path.{path_join, path_parent}
@@ -14,6 +14,7 @@ use Rattle.toml.specs.declared.value.Value.{Value}
 use Rattle.cargo_toml_parts.specs.declared.error.Error.{Error, Memory}
 use Rattle.cargo_toml_parts.specs.FaultValues.{Fault, fault_of, io, other}
 use Rattle.cargo_toml_parts.specs.FaultValues.{workspace, workspace_integrity}
+use Rattle.cargo_toml_discovery.specs.Disk.{IsInput, IsInputFault, or_here}
 use Rattle.cargo_toml_discovery.specs.Told.{Told, open_path}
 use Rattle.cargo_toml_manifest.specs.Choosing.{Handed, RootsTold}
 use Rattle.cargo_toml_manifest.specs.Completing.{GivenBy, Meets, complete}
@@ -31,10 +32,6 @@ use Rattle.cargo_toml_manifest.specs.declared.manifest.Manifest.{Manifest}
 abbrev pub folder_of : {R : Type 0} → Filesystem R → List ℕ
 folder_of files = files.path.now
 
--- the empty path is the folder that the program runs in
-abbrev pub or_here : List ℕ → List ℕ
-or_here path = if length path == 0 then codes "." else path
-
 -- of real files nothing is stated, neither of a root nor of a folder
 abbrev pub real_roots : RootsTold
 real_roots hint = open_root
@@ -47,19 +44,6 @@ abbrev pub is_absent : ErrorKind → Bool
 is_absent NotFound = true
 is_absent NotADirectory = true
 is_absent kind = false
-
--- the kind of a fault of listing: a name that is no folder counts as absent
-abbrev pub listed_as : ErrorKind → ErrorKind
-listed_as NotADirectory = NotFound
-listed_as kind = kind
-
--- the fault is one of reading a file or a folder
-abbrev pub IsInputFault : Fault → Type 0
-IsInputFault fault = (kind : ErrorKind) × (fault ≡ io kind)
-
--- the error is such a fault
-abbrev pub IsInput : Error → Type 0
-IsInput e = IsInputFault (fault_of e)
 
 -- the faults that stand in place of names among real files
 abbrev pub real_listings : List ℕ → Fault → Type 0

@@ -1,23 +1,20 @@
 -- Which faults an implementor of `AbstractFilesystem` may give, and what has to do with them where
 -- completion is refused.
 use Rattle.std.specs.Prelude.{◌≡◌, ◌⊎◌, ℕ, List, Bool, false, Option, Some, None, Result}
-use Rattle.std.specs.Prelude.{Ok, Err, IfErr, MatchResult, String, string_bytes, Vec}
+use Rattle.std.specs.Prelude.{Ok, Err, MatchResult, String, string_bytes, Vec}
 use Rattle.std.specs.declared.alloc.Global.{Global}
 use Rattle.std.specs.declared.io.ErrorKind.TheVariants.{Unsupported}
 use Rattle.cargo_toml_paths.specs.Paths.{workspace_folder}
 use Rattle.cargo_toml_parts.specs.declared.error.Error.{Error, Memory}
 use Rattle.cargo_toml_parts.specs.FaultValues.{Fault, fault_of, io}
 use Rattle.cargo_toml_parts.specs.Wrapping.{wrap}
+use Rattle.cargo_toml_discovery.specs.Folders.{IsListed}
 use Rattle.cargo_toml_manifest.specs.Choosing.{AnswersRoots, Choice, Handed, RootsTold, alone, from}
 use Rattle.cargo_toml_manifest.specs.Choosing.{lost, unclear_root, choice, hint_of, told_choice}
 use Rattle.cargo_toml_manifest.specs.Inheriting.{inherited_manifest}
 use Rattle.cargo_toml_manifest.specs.Manifests.{ManifestMeaning}
 use Rattle.cargo_toml_manifest.specs.Roots.{IsNoRoot}
 use Rattle.cargo_toml_manifest.specs.Told.{ToldRoot, open_root}
-
--- a refusal is `Memory`, or one of these faults
-abbrev pub RefusesBy : {T : Type 0} → (Fault → Type 0) → Result T Error → Type 0
-RefusesBy may result = IfErr result (λ e. (e ≡ Memory) ⊎ may (fault_of e))
 
 -- the fault may stand in place of the root of this hint: it is one of these, or says that no root
 -- is ever read
@@ -34,10 +31,6 @@ ReadsBy reads may hint result =
     (λ r. (e : Error) → IsNoRoot r.0.items (string_bytes r.1) e
     → (e ≡ Memory) ⊎ may hint (fault_of e))
     (λ e. (e ≡ Memory) ⊎ MayLose reads may hint (wrap hint (fault_of e)))
-
--- the fault may stand in place of the names at some path
-abbrev pub IsListed : (List ℕ → Fault → Type 0) → Fault → Type 0
-IsListed names fault = (path : List ℕ) × names path fault
 
 -- the cause of a refusal: the fault of what is inherited, and where that has none,
 -- one in place of names

@@ -1,21 +1,15 @@
 -- What an implementor of `AbstractFilesystem` states, and what its answers have to be by that.
-use Rattle.std.specs.Prelude.{◌≡◌, ◌⊎◌, ℕ, List, Bool, true, false, Some, is_some, Result}
-use Rattle.std.specs.Prelude.{string_bytes, String, Vec, IsUtf8, MatchResult, IsErr, IsErrAnd, IfOk}
-use Rattle.std.specs.HashSet.{HashSet, contains_text}
-use Rattle.std.specs.List.{list_any}
-use Rattle.std.specs.Str.{bytes_eq}
+use Rattle.std.specs.Prelude.{◌≡◌, ℕ, List, Bool, true, false, Some, is_some, Result}
+use Rattle.std.specs.Prelude.{string_bytes, String, Vec, IsUtf8, MatchResult, IsErr, IfOk}
 use Rattle.std.specs.declared.alloc.Global.{Global}
-use Rattle.std.specs.declared.io.ErrorKind.TheVariants.{NotFound}
 use Rattle.toml.specs.Data.{Data}
 use Rattle.toml.specs.Parse.{parse_document}
 use Rattle.toml.specs.View.{view}
 use Rattle.toml.specs.declared.value.Value.{Value}
 use Rattle.cargo_toml_parts.specs.declared.error.Error.{Error, Memory}
-use Rattle.cargo_toml_parts.specs.FaultValues.{fault_of, io}
 use Rattle.cargo_toml_manifest.specs.declared.manifest.Manifest as code
 use Rattle.cargo_toml_manifest.specs.Manifests.{ManifestMeaning, manifest_meaning, manifest_reads}
 use Rattle.cargo_toml_manifest.specs.Texts.{any_tree, document_reads}
-use Rattle.cargo_toml_discovery.specs.Told.{Told, names, absent, denied, open_path}
 
 -- what is stated of the workspace that a hint leads to: its manifest and the path of that, that
 -- there is none, or nothing
@@ -23,17 +17,6 @@ pub data ToldRoot : Type 0 where
   root : ManifestMeaning Data → List ℕ → ToldRoot
   no_root : ToldRoot
   open_root : ToldRoot
-
--- the set has just these texts
-abbrev pub HasTexts : {S : Type 0} → HashSet (String Global) S → List (List ℕ) → Type 0
-HasTexts set texts = (text : List ℕ) → contains_text set text ≡ list_any (bytes_eq text) texts
-
--- the answer to the question for the names in a folder
-abbrev pub AnswersNames : {S : Type 0} → Told → Result (HashSet (String Global) S) Error → Type 0
-AnswersNames (names texts) result = MatchResult result (λ set. HasTexts set texts) (λ e. e ≡ Memory)
-AnswersNames absent result = IsErrAnd result (λ e. (e ≡ Memory) ⊎ (fault_of e ≡ io NotFound))
-AnswersNames (denied fault) result = IsErrAnd result (λ e. (e ≡ Memory) ⊎ (fault_of e ≡ fault))
-AnswersNames open_path result = Unit {0}
 
 -- the bytes are those of a manifest with a workspace
 abbrev pub IsRootIn : List ℕ → ManifestMeaning Data → Type 0

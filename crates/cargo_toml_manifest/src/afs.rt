@@ -1,17 +1,18 @@
 //! The files around a manifest, as an implementor of a trait answers for them.
 ghost use Rattle.std.specs.Prelude.{◌≡◌, ◌⊎◌, ℕ, List, Bool, true, false, Option, IfOk};
-ghost use Rattle.std.specs.Prelude.{string_bytes};
+ghost use Rattle.std.specs.Prelude.{Ok, Err, IfErr, string_bytes};
 ghost use Rattle.std.specs.Option.{option_copied};
 ghost use Rattle.cargo_toml_parts.specs.declared.error.Error.{Memory};
 ghost use Rattle.cargo_toml_parts.specs.Answers.{Gives};
 ghost use Rattle.cargo_toml_parts.specs.FaultValues.{Fault, fault_of, workspace};
 ghost use Rattle.cargo_toml_parts.specs.FaultValues.{workspace_integrity};
 ghost use Rattle.cargo_toml_parts.specs.Wrapping.{wrap};
-ghost use Rattle.cargo_toml_manifest.specs.Refusing.{MayLose, ReadsBy, RefusesBy};
-ghost use Rattle.cargo_toml_manifest.specs.Roots.{IsRootAt, not_a_workspace};
+ghost use Rattle.cargo_toml_discovery.specs.Folders.{AnswersNames, RefusesBy};
 ghost use Rattle.cargo_toml_discovery.specs.Told.{Told, open_path};
+ghost use Rattle.cargo_toml_manifest.specs.Refusing.{MayLose, ReadsBy};
+ghost use Rattle.cargo_toml_manifest.specs.Roots.{IsFromSlice, IsRootAt, not_a_workspace};
 ghost use Rattle.cargo_toml_manifest.specs.Told.{ToldRoot, open_root, heard};
-ghost use Rattle.cargo_toml_manifest.specs.Told.{AnswersNames, ReadsRoot, AnswersRoot};
+ghost use Rattle.cargo_toml_manifest.specs.Told.{ReadsRoot, AnswersRoot};
 
 use crate::manifest::Manifest;
 use cargo_toml_parts::Error;
@@ -168,13 +169,25 @@ impl<T: AbstractFilesystem> AbstractFilesystem for &T {
     }
 }
 
+// The manifest that these bytes spell, on the heap: it is wide, and on the stack the manifest that is
+// being completed is there already.
+pub(crate) fn boxed(alloc: Global, bytes: &[u8]) -> Result<Box<Manifest>, Error>
+    ensures read { IfOk result (λ manifest. IsFromSlice bytes.now (Ok manifest.value)) }
+    ensures refused { IfErr result (λ e. (e ≡ Memory) ⊎ IsFromSlice bytes.now (Err e)) }
+{
+    match Manifest::from_slice(alloc, bytes) {
+        Ok(manifest) => Ok(Box::new(alloc, manifest)?),
+        Err(fault) => Err(fault),
+    }
+}
+
 // The root of these bytes, which were read at this path. A fault of the bytes, and
 // `Error::WorkspaceIntegrity` for a manifest without a workspace table, become faults of a
 // workspace with that path.
 fn root_at(alloc: Global, bytes: Vec<u8>, path: String) -> Result<(Manifest, String), Error>
     ensures { IsRootAt bytes.items (string_bytes path) result }
 {
-    let manifest = match Manifest::from_slice(alloc, bytes.as_slice()) {
+    let manifest = match boxed(alloc, bytes.as_slice()) {
         Ok(manifest) => manifest,
         Err(fault) => return Err(wrapped(alloc, fault, Some(path.as_str()))),
     };
@@ -182,7 +195,7 @@ fn root_at(alloc: Global, bytes: Vec<u8>, path: String) -> Result<(Manifest, Str
         let fault = not_a_workspace(alloc)?;
         return Err(wrapped(alloc, fault, Some(path.as_str())));
     }
-    Ok((manifest, path))
+    Ok((Box::into_inner(manifest), path))
 }
 
 /// The fault as one of a workspace at this path, where one is known. A fault that is one of a

@@ -4,25 +4,28 @@ ghost use Rattle.std.specs.Prelude.{IfErr, IfOk, OnErr, OnOk, option_map};
 ghost use Rattle.std.specs.Option.{option_copied};
 ghost use Rattle.cargo_toml_parts.specs.declared.error.Error.{Memory};
 ghost use Rattle.cargo_toml_discovery.specs.Answers.{Answers, filled};
+ghost use Rattle.cargo_toml_discovery.specs.Folders.{IsListed};
+ghost use Rattle.cargo_toml_workspace.specs.Sharing.{shared_of};
 ghost use Rattle.cargo_toml_manifest.specs.Choosing.{from, handed_of, hint_of, roots_of};
-ghost use Rattle.cargo_toml_manifest.specs.Choosing.{shared_of, told_choice};
+ghost use Rattle.cargo_toml_manifest.specs.Choosing.{told_choice};
 ghost use Rattle.cargo_toml_manifest.specs.Completed.{IsCompleted};
 ghost use Rattle.cargo_toml_manifest.specs.Completing.{GivenBy, GivenByRoot, Meets};
 ghost use Rattle.cargo_toml_manifest.specs.Completing.{complete, complete_by, gives, seen_at};
 ghost use Rattle.cargo_toml_manifest.specs.Finding.{found_around};
 ghost use Rattle.cargo_toml_manifest.specs.Installing.{installed, with_completion};
 ghost use Rattle.cargo_toml_manifest.specs.Manifests.{held};
-ghost use Rattle.cargo_toml_manifest.specs.Refusing.{IsListed, IsRefusedAt, IsRefusedBy};
+ghost use Rattle.cargo_toml_manifest.specs.Refusing.{IsRefusedAt, IsRefusedBy};
 ghost use Rattle.cargo_toml_manifest.specs.Refusing.{IsRefusedByRoot, IsToldWith, MayLose};
 ghost use Rattle.cargo_toml_manifest.specs.Told.{heard};
 
 use crate::afs::{AbstractFilesystem, wrapped};
 use crate::finding::{Completion, find, put_found};
-use crate::inheriting::{NewParts, install_parts, new_parts, no_parts};
+use crate::inheriting::{install_parts, new_parts};
 use crate::manifest::Manifest;
-use crate::workspace::Workspace;
 use cargo_toml_parts::Error;
 use cargo_toml_paths::workspace_folder;
+use cargo_toml_workspace::Workspace;
+use cargo_toml_workspace::inheriting::{NewParts, no_parts};
 use std::alloc::Global;
 
 // What completion puts into a manifest that takes these parts, with the path that is reported with

@@ -1,23 +1,22 @@
 //! Real files around a manifest.
 ghost use Rattle.std.specs.Prelude.{◌≡◌, ◌⊎◌, false, IfErr, IfOk, string_bytes};
-ghost use Rattle.std.specs.IoError.{error_kind};
 ghost use Rattle.std.specs.Option.{option_copied};
 ghost use Rattle.cargo_toml_parts.specs.declared.error.Error.{Memory};
-ghost use Rattle.cargo_toml_parts.specs.FaultValues.{fault_of, io};
-ghost use Rattle.cargo_toml_manifest.specs.RealFiles.{IsInput, IsRootFault, IsRootManifest};
-ghost use Rattle.cargo_toml_manifest.specs.RealFiles.{IsRootPath, folder_of, listed_as};
-ghost use Rattle.cargo_toml_manifest.specs.RealFiles.{or_here, real_listings, real_losses};
-ghost use Rattle.cargo_toml_manifest.specs.Refusing.{MayLose, RefusesBy};
+ghost use Rattle.cargo_toml_discovery.specs.Disk.{IsInput, or_here};
+ghost use Rattle.cargo_toml_discovery.specs.Folders.{RefusesBy};
+ghost use Rattle.cargo_toml_manifest.specs.RealFiles.{IsRootFault, IsRootManifest, IsRootPath};
+ghost use Rattle.cargo_toml_manifest.specs.RealFiles.{folder_of, real_listings, real_losses};
+ghost use Rattle.cargo_toml_manifest.specs.Refusing.{MayLose};
 
 use crate::afs::{AbstractFilesystem, NoRoot};
 use crate::lookup::{root_above, root_by_hint};
 use crate::manifest::Manifest;
+use cargo_toml_discovery::disk::{names_in, or_here};
 use cargo_toml_parts::Error;
 use cargo_toml_paths::join;
 use std::alloc::Global;
 use std::collections::HashSet;
 use std::rt::Files;
-use std::{fs, io};
 
 /// The files on the disk, as seen from the folder of a manifest.
 ///
@@ -35,39 +34,11 @@ impl<'a, R: Files + AllocGlobal> Filesystem<'a, R> {
     pub fn new(rt: &'a R, path: &'a str) -> Filesystem<'a, R>
         ensures { folder_of result ≡ or_here path.now }
     {
-        let path = if path.is_empty() { "." } else { path };
-        Filesystem { path, rt }
+        Filesystem {
+            path: or_here(path),
+            rt,
+        }
     }
-}
-
-// A fault of listing a folder, where a name that is no folder counts as absent.
-fn listing_fault(fault: io::Error) -> Error
-    ensures { (result ≡ Memory) ⊎ (fault_of result ≡ io (listed_as (error_kind fault))) }
-{
-    match fault.kind() {
-        io::ErrorKind::NotADirectory => Error::Io(io::Error::from(io::ErrorKind::NotFound)),
-        _ => Error::from(fault),
-    }
-}
-
-// The names in a folder on the disk.
-fn names_in<R: Files + AllocGlobal>(
-    rt: &R,
-    alloc: Global,
-    folder: &str,
-) -> Result<HashSet<String>, Error>
-    ensures { IfErr result (λ e. (e ≡ Memory) ⊎ IsInput e) }
-{
-    let entries = match fs::read_dir(&rt, folder) {
-        Ok(entries) => entries,
-        Err(fault) => return Err(listing_fault(fault)),
-    };
-    let mut names = HashSet::new(alloc);
-    for entry in entries {
-        let entry = entry?;
-        names.insert(String::from_str(alloc, entry.file_name())?)?;
-    }
-    Ok(names)
 }
 
 /// What stands on the disk. Nothing is stated of it except which faults it gives.

@@ -7,24 +7,42 @@ ghost use Rattle.cargo_toml_settings.specs.Settings.{file_meaning};
 ghost use Rattle.cargo_toml_settings.specs.declared.settings.Edition.TheVariants.{E2015};
 ghost use Rattle.cargo_toml_discovery.specs.Answers.{Answers, answers_of, around_in, filled};
 ghost use Rattle.cargo_toml_discovery.specs.Discovering.{discovered, discovered_meaning};
+ghost use Rattle.cargo_toml_discovery.specs.Folders.{IsListed, RefusesBy};
 ghost use Rattle.cargo_toml_discovery.specs.Seen.{Tells, seen, unclear};
 ghost use Rattle.cargo_toml_package.specs.Packages.{package_meaning};
 ghost use Rattle.cargo_toml_manifest.specs.Finding.{found_around, stated_by, wanted_by, with_found};
 ghost use Rattle.cargo_toml_manifest.specs.Installing.{installed, taken};
 ghost use Rattle.cargo_toml_manifest.specs.Manifests.{held};
-ghost use Rattle.cargo_toml_manifest.specs.Refusing.{IsListed, RefusesBy};
 
 use crate::afs::AbstractFilesystem;
-use crate::gather::gather;
-use crate::inheriting::NewParts;
 use crate::manifest::Manifest;
+use cargo_toml_discovery::folders::Folders;
+use cargo_toml_discovery::gather::gather;
 use cargo_toml_discovery::listings::{Listings, Wanted};
 use cargo_toml_discovery::{Discovered, Stated, discover};
 use cargo_toml_package::Package;
 use cargo_toml_package::inheriting::NewFields;
 use cargo_toml_parts::{Error, Inheritable};
 use cargo_toml_settings::{Edition, OptionalFile};
+use cargo_toml_workspace::inheriting::NewParts;
 use std::alloc::{AllocError, Global};
+use std::collections::HashSet;
+
+// The folders that an implementor answers for.
+#[derive(Drop)]
+struct FoldersOf<'a, Fs> {
+    fs: &'a Fs,
+}
+
+impl<Fs: AbstractFilesystem> Folders for FoldersOf<'_, Fs> {
+    ghost names_at = { λ folders path. Fs.names_at folders.fs.now path };
+
+    ghost may_refuse = { λ folders path. Fs.may_refuse folders.fs.now path };
+
+    fn file_names_in(&self, alloc: Global, rel_path: &str) -> Result<HashSet<String>, Error> {
+        self.fs.file_names_in(alloc, rel_path)
+    }
+}
 
 /// What completion puts into a manifest.
 #[derive(Drop)]
@@ -130,7 +148,8 @@ pub fn find<Metadata, Fs: AbstractFilesystem>(
     let Some(package) = &manifest.package else {
         return Ok(None);
     };
-    let listings = gather(alloc, fs, wanted(package))?;
+    let folders = FoldersOf { fs };
+    let listings = gather(alloc, &folders, wanted(package))?;
     let found = found_in(alloc, manifest, package, parts.package.as_ref(), &listings)?;
     Ok(Some(found))
 }

@@ -1,52 +1,33 @@
 //! What a manifest takes from its workspace: first made, then put in, so that a
 //! refusal changes nothing.
-ghost use Rattle.std.specs.Prelude.{◌≡◌, Option, None, [], option_map};
+ghost use Rattle.std.specs.Prelude.{◌≡◌, option_map};
 ghost use Rattle.std.specs.Option.{option_copied};
 ghost use Rattle.cargo_toml_parts.specs.Answers.{Gives};
-ghost use Rattle.cargo_toml_parts.specs.Inherits.{inheritable_map};
 ghost use Rattle.cargo_toml_parts.specs.Reads.{map_meaning};
 ghost use Rattle.cargo_toml_dependencies.specs.Dependencies.{dependency_meaning};
 ghost use Rattle.cargo_toml_dependencies.specs.Inheriting.{inherited_target};
 ghost use Rattle.cargo_toml_dependencies.specs.Replacing.{replaced_target};
-ghost use Rattle.cargo_toml_package.specs.Installing.{put};
 ghost use Rattle.cargo_toml_package.specs.Packages.{package_meaning};
 ghost use Rattle.cargo_toml_package.specs.Templates.{template_meaning};
 ghost use Rattle.cargo_toml_tables.specs.Lints.{lint_meaning};
-ghost use Rattle.cargo_toml_manifest.specs.Choosing.{shared_of};
-ghost use Rattle.cargo_toml_manifest.specs.Inheriting.{own_tables, inherited_lints};
+ghost use Rattle.cargo_toml_workspace.specs.Sharing.{shared_of};
 ghost use Rattle.cargo_toml_manifest.specs.Inheriting.{inherited_if_there, inherited_from};
-ghost use Rattle.cargo_toml_manifest.specs.Inheriting.{inherited_manifest};
+ghost use Rattle.cargo_toml_manifest.specs.Inheriting.{inherited_manifest, own_tables};
 ghost use Rattle.cargo_toml_manifest.specs.Installing.{installed, installed_if_there};
 ghost use Rattle.cargo_toml_manifest.specs.Manifests.{held};
 
 use crate::manifest::Manifest;
-use crate::workspace::Workspace;
 use cargo_toml_dependencies::DepsSet;
 use cargo_toml_dependencies::inheriting::{
     NewTarget, replace, replace_targets, replacements, target_replacements,
 };
 use cargo_toml_package::inheriting::{NewFields, install, new_fields};
 use cargo_toml_package::{Package, PackageTemplate};
-use cargo_toml_parts::{Error, Inheritable};
+use cargo_toml_parts::Error;
 use cargo_toml_tables::LintGroups;
-use cargo_toml_tables::lint::duplicate_lints;
+use cargo_toml_workspace::Workspace;
+use cargo_toml_workspace::inheriting::{NewParts, new_lints, put_lints};
 use std::alloc::Global;
-
-/// What a manifest takes from its workspace, in place of what it left to it.
-#[derive(Drop)]
-pub struct NewParts {
-    /// In place of the inherited dependencies of its own three tables.
-    pub tables: NewTarget,
-
-    /// In place of those of each target, in the order of the targets' names.
-    pub targets: Vec<NewTarget>,
-
-    /// In place of the lints; `None` where the manifest keeps its own.
-    pub lints: Option<LintGroups>,
-
-    /// In place of fields of the package, where there is one.
-    pub package: Option<NewFields>,
-}
 
 // What the inherited dependencies of the manifest's own tables become.
 fn new_tables<Metadata>(
@@ -68,30 +49,6 @@ fn new_tables<Metadata>(
         build_dependencies,
         dev_dependencies,
     })
-}
-
-// What inherited lints become, by those of the workspace where it has a table.
-fn new_lints(
-    alloc: Global,
-    lints: &Inheritable<LintGroups>,
-    groups: Option<&LintGroups>,
-) -> Result<Option<LintGroups>, Error>
-    ensures { Gives
-        (λ new. put (inheritable_map (map_meaning (map_meaning lint_meaning)) lints.now)
-        (option_map (map_meaning (map_meaning lint_meaning)) new))
-        result
-        (inherited_lints
-        (option_map (map_meaning (map_meaning lint_meaning)) (option_copied groups.entry))
-        (inheritable_map (map_meaning (map_meaning lint_meaning)) lints.now)) }
-{
-    match (lints, groups) {
-        (Inheritable::Set(_), _) => Ok(None),
-        (Inheritable::Inherited, Some(groups)) => Ok(Some(duplicate_lints(groups)?)),
-        (Inheritable::Inherited, None) => {
-            let text = "lints are inherited, but there is no workspace table";
-            Err(Error::WorkspaceIntegrity(String::from_str(alloc, text)?))
-        }
-    }
 }
 
 // What the package takes, where there is one.
@@ -168,38 +125,6 @@ pub fn new_parts<Metadata, N>(
             base,
         ),
         None => parts_from(alloc, manifest, None, None, None, base),
-    }
-}
-
-/// Nothing: a manifest takes it and stays as it is. It takes no memory.
-pub fn no_parts(alloc: Global) -> NewParts
-    ensures tables { result.tables.dependencies.items ≡ []
-        × (result.tables.build_dependencies.items ≡ []
-        × result.tables.dev_dependencies.items ≡ []) }
-    ensures targets { result.targets.items ≡ [] }
-    ensures lints { result.lints ≡ None }
-    ensures fields { result.«package» ≡ None }
-{
-    NewParts {
-        tables: NewTarget {
-            dependencies: Vec::new(alloc),
-            build_dependencies: Vec::new(alloc),
-            dev_dependencies: Vec::new(alloc),
-        },
-        targets: Vec::new(alloc),
-        lints: None,
-        package: None,
-    }
-}
-
-// Puts in new lints, if there are some.
-fn put_lints(lints: &mut Inheritable<LintGroups>, new: Option<LintGroups>)
-    ensures { inheritable_map (map_meaning (map_meaning lint_meaning)) lints.new
-        ≡ put (inheritable_map (map_meaning (map_meaning lint_meaning)) lints.old)
-        (option_map (map_meaning (map_meaning lint_meaning)) new) }
-{
-    if let Some(new) = new {
-        *lints = Inheritable::Set(new);
     }
 }
 

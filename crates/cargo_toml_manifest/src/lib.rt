@@ -6,14 +6,12 @@ pub mod complete;
 pub mod files;
 pub mod finding;
 pub mod from_path;
-pub mod gather;
 mod heap;
 pub mod inheriting;
 pub mod lookup;
 pub mod manifest;
-pub mod workspace;
 
 pub use afs::{AbstractFilesystem, NoRoot, OwnRoot, Roots};
+pub use cargo_toml_workspace::Workspace;
 pub use files::Filesystem;
 pub use manifest::Manifest;
-pub use workspace::Workspace;

@@ -1,13 +1,11 @@
 //! The search for the root of a workspace among real files.
-ghost use Rattle.std.specs.Prelude.{◌≡◌, ◌⊎◌, ℕ, List, codes, Ok, Err, IfErr, IfOk, string_bytes};
+ghost use Rattle.std.specs.Prelude.{◌≡◌, ℕ, List, codes, IfErr, IfOk, string_bytes};
 ghost use Rattle.std.specs.Path.{path_join};
-ghost use Rattle.cargo_toml_parts.specs.declared.error.Error.{Memory};
-ghost use Rattle.cargo_toml_manifest.specs.Roots.{IsFromSlice};
 ghost use Rattle.cargo_toml_manifest.specs.RealFiles.{IsAbove, IsCandidate, IsHintFault};
 ghost use Rattle.cargo_toml_manifest.specs.RealFiles.{IsRootManifest, IsSearchFault};
 ghost use Rattle.cargo_toml_manifest.specs.RealFiles.{IsWorkspaceOf, is_absent};
 
-use crate::afs::wrapped;
+use crate::afs::{boxed, wrapped};
 use crate::manifest::Manifest;
 use cargo_toml_parts::Error;
 use cargo_toml_paths::{ancestors, join, parent};
@@ -21,18 +19,6 @@ fn is_absent(kind: io::ErrorKind) -> bool
     ensures { result ≡ is_absent kind }
 {
     matches!(kind, io::ErrorKind::NotFound | io::ErrorKind::NotADirectory)
-}
-
-// The manifest of the bytes of a file, on the heap: it is wide, and on the stack the manifest that
-// is being completed is there already.
-fn boxed(alloc: Global, bytes: &[u8]) -> Result<Box<Manifest>, Error>
-    ensures read { IfOk result (λ manifest. IsFromSlice bytes.now (Ok manifest.value)) }
-    ensures refused { IfErr result (λ e. (e ≡ Memory) ⊎ IsFromSlice bytes.now (Err e)) }
-{
-    match Manifest::from_slice(alloc, bytes) {
-        Ok(manifest) => Ok(Box::new(alloc, manifest)?),
-        Err(fault) => Err(fault),
-    }
 }
 
 // The manifest of a workspace of the bytes of a file.

@@ -25,7 +25,6 @@ ghost use Rattle.cargo_toml_manifest.specs.Texts.{IsTree, IsTreeOfBytes};
 mod questions;
 
 use crate::heap::keep_heap;
-use crate::workspace::Workspace;
 use cargo_toml_dependencies::feature::features;
 use cargo_toml_dependencies::{DepsSet, FeatureDetails, FeatureSet, PatchSet, TargetDepsSet};
 use cargo_toml_package::Package;
@@ -37,6 +36,7 @@ use cargo_toml_parts::value::floats_unsupported;
 use cargo_toml_parts::{Error, FromValue, Inheritable};
 use cargo_toml_settings::Publish;
 use cargo_toml_tables::{Badges, LintGroups, Product, Profiles};
+use cargo_toml_workspace::Workspace;
 use std::alloc::{AllocError, Global};
 use std::collections::BTreeMap;
 use std::str;

@@ -8,7 +8,7 @@ use Rattle.cargo_toml_dependencies.specs.Dependencies as kind
 use Rattle.cargo_toml_dependencies.specs.Targets.{target_of}
 use Rattle.cargo_toml_manifest.specs.Manifests.{ManifestMeaning, by_zero_rule, zero_rule_applies, target_reads, product_reads, badges_reads, no_badges, profiles_reads, no_profiles, manifest_of, manifest_reads}
 use Rattle.cargo_toml_manifest.specs.Texts.{any_tree, document_reads}
-use Rattle.cargo_toml_manifest.specs.Workspaces.{WorkspaceMeaning, workspace_of, workspace_reads}
+use Rattle.cargo_toml_workspace.specs.Workspaces.{WorkspaceMeaning, workspace_of, workspace_reads}
 use Rattle.cargo_toml_package.specs.Packages.{PackageMeaning, package_of, package_reads}
 use Rattle.cargo_toml_parts.specs.declared.inheritable.Inheritable.TheVariants.{Set}
 use Rattle.cargo_toml_parts.specs.Floats.{has_no_float, without_floats}

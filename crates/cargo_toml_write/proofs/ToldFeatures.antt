@@ -12,7 +12,7 @@ use Rattle.cargo_toml_dependencies.specs.Details.{Detail, is_plain}
 use Rattle.cargo_toml_dependencies.specs.Features.{FeaturesMeaning, apart, details_of, feature_of, features_of, lists_of, no_features}
 use Rattle.cargo_toml_manifest.specs.Manifests.{ManifestMeaning, badges_reads, manifest_of, manifest_reads, no_badges, no_profiles, product_reads, profiles_reads, target_reads}
 use Rattle.cargo_toml_manifest.specs.Texts.{any_tree, document_reads}
-use Rattle.cargo_toml_manifest.specs.Workspaces.{workspace_reads}
+use Rattle.cargo_toml_workspace.specs.Workspaces.{workspace_reads}
 use Rattle.cargo_toml_package.specs.Packages.{package_reads}
 use Rattle.cargo_toml_parts.specs.Floats.{has_no_float, without_floats}
 use Rattle.cargo_toml_parts.specs.Keys.{inherited_at}

@@ -6,7 +6,7 @@ ghost use Rattle.cargo_toml_dependencies.specs.Dependencies.{DetailMeaning, Depe
 ghost use Rattle.cargo_toml_dependencies.specs.Targets.{TargetMeaning};
 ghost use Rattle.cargo_toml_manifest.specs.Manifests.{ManifestMeaning, manifest_reads};
 ghost use Rattle.cargo_toml_manifest.specs.Texts.{any_tree, document_reads};
-ghost use Rattle.cargo_toml_manifest.specs.Workspaces.{WorkspaceMeaning};
+ghost use Rattle.cargo_toml_workspace.specs.Workspaces.{WorkspaceMeaning};
 ghost use Rattle.cargo_toml_package.specs.Packages.{PackageMeaning};
 ghost use Rattle.cargo_toml_parts.specs.Floats.{without_floats};
 ghost use Rattle.cargo_toml_tables.specs.Lints.{LintMeaning};

@@ -1,6 +1,6 @@
 //! The writer of workspaces.
 ghost use Rattle.std.specs.Prelude.{◌≡◌, IfErr};
-ghost use Rattle.cargo_toml_manifest.specs.Workspaces.{WorkspaceMeaning, workspace_meaning};
+ghost use Rattle.cargo_toml_workspace.specs.Workspaces.{WorkspaceMeaning, workspace_meaning};
 ghost use Rattle.cargo_toml_parts.specs.declared.error.Error.{Error};
 ghost use Rattle.cargo_toml_write.specs.Floatless.{table_floatless};
 ghost use Rattle.cargo_toml_write.specs.NoFloats.{WorkspaceHoldsNoFloat};
@@ -9,7 +9,7 @@ ghost use Rattle.cargo_toml_write.specs.Writes.{HasTree, IsWriting};
 
 use crate::write::ToValue;
 use crate::write::writing::Writing;
-use cargo_toml_manifest::Workspace;
+use cargo_toml_workspace::Workspace;
 use cargo_toml_parts::Error;
 use std::alloc::Global;
 use toml::Value;

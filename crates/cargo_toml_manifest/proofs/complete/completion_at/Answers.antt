@@ -4,7 +4,7 @@ use Rattle.std.proofs.lemmas.Result.{IfErr-weaker}
 use Rattle.cargo_toml_paths.specs.Paths.{workspace_folder}
 use Rattle.cargo_toml_parts.specs.FaultValues.{Fault}
 use Rattle.cargo_toml_discovery.specs.Answers.{Answers, filled}
-use Rattle.cargo_toml_manifest.specs.Choosing.{shared_of}
+use Rattle.cargo_toml_workspace.specs.Sharing.{shared_of}
 use Rattle.cargo_toml_manifest.specs.Completing.{Meets, gives, then_found}
 use Rattle.cargo_toml_manifest.specs.Inheriting.{inherited_manifest}
 use Rattle.cargo_toml_manifest.specs.Installing.{installed, with_completion}

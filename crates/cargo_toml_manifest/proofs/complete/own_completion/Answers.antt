@@ -8,7 +8,7 @@ use Rattle.cargo_toml_manifest.specs.Finding.{found_around}
 use Rattle.cargo_toml_manifest.specs.Installing.{with_completion}
 use Rattle.cargo_toml_manifest.specs.Manifests.{ManifestMeaning, held}
 use Rattle.cargo_toml_manifest.specs.Refusing.{MayLose}
-use Rattle.cargo_toml_manifest.specs.Workspaces.{workspace_meaning}
+use Rattle.cargo_toml_workspace.specs.Workspaces.{workspace_meaning}
 use Rattle.cargo_toml_manifest.proofs.Causes.{refused_alone, refused_by_hint, refused_by_table}
 use Rattle.cargo_toml_manifest.proofs.Meeting.{given_alone, given_by_hint, given_by_table, met_alone}
 use Rattle.cargo_toml_manifest.proofs.Unchanged.{installed-none}

@@ -4,16 +4,16 @@ use Rattle.std.specs.Path.{path_bytes}
 use Rattle.std.specs.Path.Iter.{ancestors_next}
 use Rattle.std.proofs.lemmas.Result.{err_from_is_err_and}
 use Rattle.cargo_toml_manifest.proofs.Above.{above_now, first_above, next_above}
-use Rattle.cargo_toml_manifest.proofs.FileFaults.{io_fault}
+use Rattle.cargo_toml_discovery.proofs.Faults.{fault_of-io}
 use Rattle.cargo_toml_manifest.proofs.lookup.root_above.Goals as goal
 use Rattle.cargo_toml_manifest.proofs.lookup.root_above.Goals.{in-Other, in-Absent}
 
 pub returns-in_default-clause-refused : goal.returns-in_default-clause-refused
-returns-in_default-clause-refused g c = inr (inl (error_kind c.from.result, io_fault c.from.result))
+returns-in_default-clause-refused g c = inr (inl (error_kind c.from.result, fault_of-io c.from.result))
 
 pub loop-above-init : goal.loop-above-init
 loop-above-init g c = record {
-  last = inr (inl (error_kind c.from.result, io_fault c.from.result));
+  last = inr (inl (error_kind c.from.result, fault_of-io c.from.result));
   next =
       rw c.into_iter-above-iterator.ensures.into_iter_gives
       (first_above c.args.folder.now c.in-Some.nearest.now _ (sym c.in-Some.ensures) c.ancestors-above-items.ensures);

@@ -1,0 +1,57 @@
+-- What an implementor answers of a folder, as names in order.
+use Rattle.std.proofs.Common.{◌≡◌, inl, inr, ap, ◌∙◌, cond, refl, Bool, true, false, List, [], ◌∷◌, Some, Ok, Err, String}
+use Rattle.std.specs.BTreeSet.{BTreeSet, IsOrdered, contains_text}
+use Rattle.std.specs.HashSet.{HashSet, contains_text as has_in}
+use Rattle.std.specs.String.{string_cmp}
+use Rattle.std.specs.declared.alloc.Global.{Global}
+use Rattle.std.specs.declared.io.ErrorKind.{ErrorKind}
+use Rattle.std.specs.declared.io.ErrorKind.TheVariants.{NotFound}
+use Rattle.cargo_toml_parts.specs.declared.error.Error.{Error}
+use Rattle.cargo_toml_parts.specs.FaultValues.{Fault, fault_of, io}
+use Rattle.cargo_toml_discovery.specs.Answers.{filled_by, texts_in}
+use Rattle.cargo_toml_discovery.specs.Gathering.{IsAnswer}
+use Rattle.cargo_toml_discovery.specs.Names.{Text}
+use Rattle.cargo_toml_discovery.specs.Seen.{Seen, seen, faulty, is_absence, is_not_found, names_at, root_names, Tells}
+use Rattle.cargo_toml_discovery.specs.Told.{Told, names, absent, denied, open_path}
+use Rattle.cargo_toml_discovery.proofs.Heard.{root_is_answer}
+use Rattle.cargo_toml_discovery.proofs.Unique.{texts_in-ordered, texts_in-itself}
+use Rattle.cargo_toml_discovery.specs.Folders.{AnswersNames}
+
+-- the set has the names that were answered, in order
+abbrev pub Sorts : {S : Type 0} → HashSet (String Global) S → BTreeSet (String Global) → Type 0
+Sorts set s = IsOrdered string_cmp s × ((x : Text) → contains_text s x ≡ has_in set x)
+
+pub root_heard : {S : Type 0} (t : Told) (set : HashSet (String Global) S) (s : BTreeSet (String Global)) →
+    AnswersNames t (Ok set) → Sorts set s → root_names (filled_by t (Some (texts_in s))) ≡ seen (texts_in s)
+root_heard (names ts) set s told sorts = ap seen (texts_in-ordered s ts sorts.0 (λ x. sorts.1 x ∙ told x))
+root_heard absent set s told sorts = absurd told
+root_heard (denied fault) set s told sorts = absurd told
+root_heard open_path set s told sorts = ap seen (texts_in-itself s sorts.0)
+
+pub heard : {S : Type 0} (t : Told) (set : HashSet (String Global) S) (s : BTreeSet (String Global)) →
+    AnswersNames t (Ok set) → Sorts set s → IsAnswer t (texts_in s)
+heard t set s told sorts = root_is_answer t (texts_in s) (root_heard t set s told sorts)
+
+absent_kind : (kind : ErrorKind) → is_not_found kind ≡ true → kind ≡ NotFound
+absent_kind NotFound h = refl
+absent_kind kind h = cc
+
+absent_fault : (fault : Fault) → is_absence fault ≡ true → fault ≡ io NotFound
+absent_fault (io kind) h = ap io (absent_kind kind h)
+absent_fault fault h = cc
+
+-- a fault is reported, except an absent folder
+denied_tells : (fault : Fault) (e : Error) (b : Bool) → is_absence fault ≡ b → fault_of e ≡ fault →
+    ¬ (fault_of e ≡ io NotFound) →
+    Tells (cond {A = Seen (List Text)} b (seen []) (faulty (fault ∷ []))) e
+denied_tells fault e true is f other = absurd (other (f ∙ absent_fault fault is))
+denied_tells fault e false is f other = inr (inl f)
+
+pub fault_tells : (S : Type 0) (t : Told) (e : Error) → AnswersNames {S = S} t (Err e) → ¬ (fault_of e ≡ io NotFound) →
+    Tells (names_at t) e
+fault_tells S (names ts) e told other = inl told
+fault_tells S absent e (inl m) other = inl m
+fault_tells S absent e (inr f) other = absurd (other f)
+fault_tells S (denied fault) e (inl m) other = inl m
+fault_tells S (denied fault) e (inr f) other = denied_tells fault e (is_absence fault) refl f other
+fault_tells S open_path e told other = inr tt

@@ -1,0 +1,66 @@
+-- What an error is by its fault.
+use Rattle.std.proofs.Common.{◌≡◌, ◌⊎◌, inl, inr, sym, ap, ◌∙◌, refl, false}
+use denote.Enum.Bare.{sameb}
+use Rattle.std.specs.IoError.{error_kind}
+use Rattle.std.specs.contracts.io.ErrorKind.{the_type}
+use Rattle.std.specs.declared.io.Error.{Error as IoError}
+use Rattle.std.specs.declared.io.ErrorKind.{ErrorKind}
+use Rattle.std.specs.declared.io.ErrorKind.TheVariants.{NotFound}
+use Rattle.cargo_toml_parts.specs.declared.error.Error.{Error, Io, Memory, out-Error, roll-Error, roll-out-Error, fold_out-Error, fold-roll-Error, map-Error}
+use Rattle.cargo_toml_parts.specs.declared.error.Error.TheOpen.{Error-F}
+use Rattle.cargo_toml_parts.specs.declared.error.Error.TheVariants.{rolls-Io, rolls-Memory}
+use Rattle.cargo_toml_parts.specs.declared.error.ParseFault.TheVariants.{Toml, Shape}
+use Rattle.cargo_toml_parts.specs.Faults.{IsFromIo}
+use Rattle.cargo_toml_parts.specs.FaultValues.{Fault, fault_of, fault_step, io, memory}
+use Rattle.cargo_toml_discovery.specs.Disk.{IsInput}
+
+-- `Memory` is one error alone
+layer_alone : (l : Error-F Error) → fault_step (map-Error _ _ fault_of l) ≡ memory → l ≡ Error-F.Memory
+layer_alone (Error-F.Parse (Toml f)) h = cc
+layer_alone (Error-F.Parse (Shape t)) h = cc
+layer_alone (Error-F.Io f) h = cc
+layer_alone (Error-F.Workspace b) h = cc
+layer_alone Error-F.InheritedUnknownValue h = cc
+layer_alone (Error-F.WorkspaceIntegrity s) h = cc
+layer_alone (Error-F.Other t) h = cc
+layer_alone Error-F.Memory h = refl
+
+pub memory_alone : (e : Error) → fault_of e ≡ memory → e ≡ Memory
+memory_alone e h = sym (roll-out-Error e) ∙ ap roll-Error (layer_alone (out-Error e) (sym (fold_out-Error Fault fault_step e) ∙ h)) ∙ rolls-Memory
+
+pub fault_of-memory : fault_of Memory ≡ memory
+fault_of-memory = ap fault_of (sym rolls-Memory) ∙ fold-roll-Error Fault fault_step Error-F.Memory
+
+-- a kind of input comes of a fault of input alone
+layer_of_input : (kind : ErrorKind) (l : Error-F Error) → fault_step (map-Error _ _ fault_of l) ≡ io kind →
+    (found : IoError) × (l ≡ Error-F.Io found)
+layer_of_input kind (Error-F.Parse (Toml f)) h = cc
+layer_of_input kind (Error-F.Parse (Shape t)) h = cc
+layer_of_input kind (Error-F.Io f) h = (f, refl)
+layer_of_input kind (Error-F.Workspace b) h = cc
+layer_of_input kind Error-F.InheritedUnknownValue h = cc
+layer_of_input kind (Error-F.WorkspaceIntegrity s) h = cc
+layer_of_input kind (Error-F.Other t) h = cc
+layer_of_input kind Error-F.Memory h = cc
+
+pub no_input : (e : Error) (kind : ErrorKind) → ((found : IoError) → ¬ (e ≡ Io found)) → ¬ (fault_of e ≡ io kind)
+no_input e kind none h =
+    let layer = layer_of_input kind (out-Error e) (sym (fold_out-Error Fault fault_step e) ∙ h) in
+    none layer.0 (sym (roll-out-Error e) ∙ ap roll-Error layer.1 ∙ rolls-Io layer.0)
+
+pub fault_of-io : (found : IoError) → fault_of (Io found) ≡ io (error_kind found)
+fault_of-io found = ap fault_of (sym (rolls-Io found)) ∙ fold-roll-Error Fault fault_step (Error-F.Io found)
+
+-- a fault of input of another kind is no absence
+pub no_absence : (e : Error) (found : IoError) → e ≡ Io found → sameb the_type (error_kind found) NotFound ≡ false →
+    ¬ (fault_of e ≡ io NotFound)
+no_absence e found is other h =
+    let input : io (error_kind found) ≡ io NotFound = sym (fault_of-io found) ∙ ap fault_of (sym is) ∙ h in
+    let kind : error_kind found ≡ NotFound = cc in
+    let same = ap (λ (k : ErrorKind). sameb the_type k NotFound) kind in
+    let clash : sameb the_type NotFound NotFound ≡ false = sym same ∙ other in cc
+
+-- a fault of reading, once it is an error
+pub from_input : (f : IoError) (e : Error) → IsFromIo f e → (e ≡ Memory) ⊎ IsInput e
+from_input f e (inl h) = inl h.1
+from_input f e (inr h) = inr (error_kind f, ap fault_of h.1 ∙ fault_of-io f)

@@ -1,0 +1,93 @@
+//! What a manifest takes from its workspace, as far as it is no dependency and no field of the
+//! package.
+ghost use Rattle.std.specs.Prelude.{◌≡◌, None, [], option_map};
+ghost use Rattle.std.specs.Option.{option_copied};
+ghost use Rattle.cargo_toml_parts.specs.Answers.{Gives};
+ghost use Rattle.cargo_toml_parts.specs.Inherits.{inheritable_map};
+ghost use Rattle.cargo_toml_parts.specs.Reads.{map_meaning};
+ghost use Rattle.cargo_toml_package.specs.Installing.{put};
+ghost use Rattle.cargo_toml_tables.specs.Lints.{lint_meaning};
+ghost use Rattle.cargo_toml_workspace.specs.Sharing.{inherited_lints};
+
+use cargo_toml_dependencies::inheriting::NewTarget;
+use cargo_toml_package::inheriting::NewFields;
+use cargo_toml_parts::{Error, Inheritable};
+use cargo_toml_tables::LintGroups;
+use cargo_toml_tables::lint::duplicate_lints;
+use std::alloc::Global;
+
+/// What a manifest takes from its workspace, in place of what it left to it.
+#[derive(Drop)]
+pub struct NewParts {
+    /// In place of the inherited dependencies of its own three tables.
+    pub tables: NewTarget,
+
+    /// In place of those of each target, in the order of the targets' names.
+    pub targets: Vec<NewTarget>,
+
+    /// In place of the lints; `None` where the manifest keeps its own.
+    pub lints: Option<LintGroups>,
+
+    /// In place of fields of the package, where there is one.
+    pub package: Option<NewFields>,
+}
+
+/// Nothing: a manifest takes it and stays as it is. It takes no memory.
+pub fn no_parts(alloc: Global) -> NewParts
+    ensures tables { result.tables.dependencies.items ≡ []
+        × (result.tables.build_dependencies.items ≡ []
+        × result.tables.dev_dependencies.items ≡ []) }
+    ensures targets { result.targets.items ≡ [] }
+    ensures lints { result.lints ≡ None }
+    ensures fields { result.«package» ≡ None }
+{
+    NewParts {
+        tables: NewTarget {
+            dependencies: Vec::new(alloc),
+            build_dependencies: Vec::new(alloc),
+            dev_dependencies: Vec::new(alloc),
+        },
+        targets: Vec::new(alloc),
+        lints: None,
+        package: None,
+    }
+}
+
+/// What inherited lints become, by those of the workspace where it has a table; `None` where a
+/// manifest keeps its own.
+///
+/// Refused by `WorkspaceIntegrity` where they are left to a workspace without a table, and by
+/// `Memory`.
+pub fn new_lints(
+    alloc: Global,
+    lints: &Inheritable<LintGroups>,
+    groups: Option<&LintGroups>,
+) -> Result<Option<LintGroups>, Error>
+    ensures { Gives
+        (λ new. put (inheritable_map (map_meaning (map_meaning lint_meaning)) lints.now)
+        (option_map (map_meaning (map_meaning lint_meaning)) new))
+        result
+        (inherited_lints
+        (option_map (map_meaning (map_meaning lint_meaning)) (option_copied groups.entry))
+        (inheritable_map (map_meaning (map_meaning lint_meaning)) lints.now)) }
+{
+    match (lints, groups) {
+        (Inheritable::Set(_), _) => Ok(None),
+        (Inheritable::Inherited, Some(groups)) => Ok(Some(duplicate_lints(groups)?)),
+        (Inheritable::Inherited, None) => {
+            let text = "lints are inherited, but there is no workspace table";
+            Err(Error::WorkspaceIntegrity(String::from_str(alloc, text)?))
+        }
+    }
+}
+
+/// Puts in new lints, if there are some. It takes no memory.
+pub fn put_lints(lints: &mut Inheritable<LintGroups>, new: Option<LintGroups>)
+    ensures { inheritable_map (map_meaning (map_meaning lint_meaning)) lints.new
+        ≡ put (inheritable_map (map_meaning (map_meaning lint_meaning)) lints.old)
+        (option_map (map_meaning (map_meaning lint_meaning)) new) }
+{
+    if let Some(new) = new {
+        *lints = Inheritable::Set(new);
+    }
+}

@@ -15,10 +15,10 @@ outcome_of (Ok _) = Done
 outcome_of (Err e) = Refused e
 
 -- the status of the program
-abbrev pub status_of : Outcome → ℕ
-status_of Done = 0
-status_of (Refused e) = 1
-status_of NotACommand = 2
+abbrev pub exit_status : Outcome → ℕ
+exit_status Done = 0
+exit_status (Refused e) = 1
+exit_status NotACommand = 2
 
 abbrev pub usage : List ℕ
 usage = codes "usage: cargo-toml features [--max N] FILE | complete FILE"

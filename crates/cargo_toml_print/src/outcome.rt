@@ -1,7 +1,7 @@
 //! How a run of the program ends, and what it writes on standard error then.
 ghost use Rattle.std.specs.Prelude.{◌≡◌};
 ghost use Rattle.cargo_toml_print.specs.Outcomes.{IsOfWords, outcome_of};
-ghost use Rattle.cargo_toml_print.specs.Outcomes.{status_of, text_of_outcome};
+ghost use Rattle.cargo_toml_print.specs.Outcomes.{exit_status, text_of_outcome};
 
 use cargo_toml_parts::Error;
 use std::{fmt, io};
@@ -41,7 +41,7 @@ impl Outcome {
 
     /// The status that the program ends with.
     pub fn status(&self) -> u8
-        ensures { result ≡ status_of self.now }
+        ensures { result ≡ exit_status self.now }
     {
         match self {
             Outcome::Done => 0,

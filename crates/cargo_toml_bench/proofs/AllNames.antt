@@ -10,7 +10,7 @@ use Rattle.cargo_toml_graph.specs.Action.{Text}
 use Rattle.cargo_toml_graph.specs.Reach.{Among, IsOnce}
 use Rattle.cargo_toml_features.specs.declared.features.Feature.{Feature}
 use Rattle.cargo_toml_features.specs.Views.{value_at}
-use Rattle.cargo_toml_bench.specs.Removing.{texts_of}
+use Rattle.cargo_toml_resolve.specs.Texts.{texts_of}
 
 keys_shown : (xs : List (Bor (Bor Text) × Bor Feature)) → map (λ e. e.0.now) xs ≡ map (λ (e : Bor Text × Feature). e.0) (map deref_pair xs)
 keys_shown [] = refl

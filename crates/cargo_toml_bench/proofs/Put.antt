@@ -5,7 +5,7 @@ use Rattle.std.specs.List.{list_any}
 use Rattle.cargo_toml_graph.specs.Action.{Text}
 use Rattle.cargo_toml_graph.specs.Removal.{is_among}
 use Rattle.cargo_toml_graph.proofs.Texts.{bytes_eq_sym}
-use Rattle.cargo_toml_bench.specs.Removing.{texts_of}
+use Rattle.cargo_toml_resolve.specs.Texts.{texts_of}
 
 pub among_texts : (ks : List (Bor Text)) (x : Text) → list_any (λ k. bytes_eq k.now x) ks ≡ is_among (texts_of ks) x
 among_texts [] x = refl

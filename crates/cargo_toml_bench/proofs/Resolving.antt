@@ -27,7 +27,8 @@ use Rattle.cargo_toml_features.specs.Marks.{Details, marked, marks_in, marks_of}
 use Rattle.cargo_toml_features.specs.Recorded.{Entry, entries_at, recorded_of}
 use Rattle.cargo_toml_features.specs.Resolved.{IsAnswer, SameRecorded, table_of}
 use Rattle.cargo_toml_features.specs.Views.{action_at, answer_of, has_text, resolution_of, table_in, value_at}
-use Rattle.cargo_toml_bench.specs.Removing.{bins_at, key_at, marks_at, texts_of}
+use Rattle.cargo_toml_resolve.specs.Texts.{texts_of}
+use Rattle.cargo_toml_bench.specs.Removing.{bins_at, key_at, marks_at}
 use Rattle.cargo_toml_resolve.proofs.SameKept.{resolved_same}
 
 abbrev Below : Text → Text → Type 0

@@ -14,7 +14,8 @@ use Rattle.cargo_toml_full.specs.Slots.{Relates}
 use Rattle.cargo_toml_dependencies.specs.Details.{plain_detail}
 use Rattle.cargo_toml_features.specs.Marks.{marked, marks_of}
 use Rattle.cargo_toml_features.specs.Views.{has_text, action_at, resolution_of, value_at}
-use Rattle.cargo_toml_bench.specs.Removing.{texts_of, bins_at, Loses, LosesAll, TakesOut, Redirects}
+use Rattle.cargo_toml_resolve.specs.Texts.{texts_of}
+use Rattle.cargo_toml_bench.specs.Removing.{bins_at, Loses, LosesAll, TakesOut, Redirects}
 use Rattle.cargo_toml_bench.proofs.Turns.{at_key, elsewhere}
 
 -- a name that is still there was there

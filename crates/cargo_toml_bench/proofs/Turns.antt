@@ -14,7 +14,8 @@ use Rattle.cargo_toml_graph.specs.Removal.{is_among}
 use Rattle.cargo_toml_features.specs.declared.features.Feature.{Feature}
 use Rattle.cargo_toml_full.specs.Slots.{Relates}
 use Rattle.cargo_toml_features.specs.Views.{value_at}
-use Rattle.cargo_toml_bench.specs.Removing.{ChangesAt, texts_of}
+use Rattle.cargo_toml_resolve.specs.Texts.{texts_of}
+use Rattle.cargo_toml_bench.specs.Removing.{ChangesAt}
 
 module _ {X S : Type 0} (k : Text) (m n : HashMap (Bor Text) X S) (w : Option X) (h : hash.UpdatesBy (λ x y. bytes_eq x.now y.now) (λ q. bytes_eq k q.now) m n w) where
   pub at_key : value_at n k ≡ w

@@ -23,7 +23,8 @@ use Rattle.cargo_toml.specs.Views.{has_text, resolution_of, value_at}
 use Rattle.cargo_toml_graph.proofs.Texts.{bytes_eq_refl}
 use Rattle.cargo_toml_features.proofs.TextKeys.{none_in}
 use Rattle.cargo_toml_bench.specs.Alone.{is_alone, is_alone_at}
-use Rattle.cargo_toml_bench.specs.Reports.{texts, texts_of, IsUnreferenced}
+use Rattle.cargo_toml_resolve.specs.Texts.{texts_of}
+use Rattle.cargo_toml_bench.specs.Reports.{texts, IsUnreferenced}
 
 -- a filter that keeps each feature removes none
 pub nothing_removed : (t : Table) (f : Text) → ¬ IsTrue (is_removed t (λ _. true) f)

@@ -30,7 +30,7 @@ use Rattle.cargo_toml.specs.Reached.{IsKeyed}
 use Rattle.cargo_toml.specs.Views.{has_text, resolution_of, value_at}
 use Rattle.cargo_toml_graph.proofs.Texts.{bytes_eq_sym}
 use Rattle.cargo_toml_features.proofs.TextKeys.{none_in}
-use Rattle.cargo_toml_bench.specs.Documented.{AreDocumented, IsDocumented, IsHidden, marks_at, said_at, shown, shown_at}
+use Rattle.cargo_toml_bench.specs.Documented.{AreDocumented, IsDocumented, IsHidden, marks_stated, said_at, documented_text, documented_at}
 use Rattle.cargo_toml_bench.proofs.Unreferenced.{no_keys, no_texts}
 
 abbrev Walked : Type 0
@@ -44,7 +44,7 @@ is_walked yielded f = list_any (λ (k : Bor Text). bytes_eq f k.now) (map (λ e.
 
 -- what is told once these have had their turn
 abbrev pub IsTold : {S : Type 0} → HashMap (Bor Text) Feature S → Walked → Said → Type 0
-IsTold m yielded s = (f : Text) → said_at s f ≡ cond (is_walked yielded f) (shown_at m f) None
+IsTold m yielded s = (f : Text) → said_at s f ≡ cond (is_walked yielded f) (documented_at m f) None
 
 by_true : (a b : Bool) → IsTrue a ↔ IsTrue b → a ≡ b
 by_true false false e = refl
@@ -67,7 +67,7 @@ asked v = (
 
 -- by what `is_user_facing` answers
 pub shown_by : (r : Bool) (v : Feature) → IsTrue r ↔ ((IsTrue v.explicit ⊎ (btree_set_len v.enabled_by ≡ 0)) × IsFalse (starts_with nat_eq v.key.now (codes "_")) × IsTrue v.public)
-    → shown v ≡ cond r (Some (option_copied v.doc)) None
+    → documented_text v ≡ cond r (Some (option_copied v.doc)) None
 shown_by r v is = ap (λ b. cond b (Some (option_copied v.doc)) None) (by_true (is_shown v) r (λ t. is.1 ((asked v).0 t), λ t. (asked v).1 (is.0 t)))
 
 walked_more : (yielded : Walked) (k : Bor (Bor Text)) (v : Bor Feature) (f : Text) → is_walked (yielded ++ (k, v) ∷ []) f ≡ (is_walked yielded f || bytes_eq f k.now.now)
@@ -78,21 +78,21 @@ walked_more yielded k v f =
 
 module _ {S : Type 0} (m : HashMap (Bor Text) Feature S) where
   told_next : (yielded : Walked) (k : Bor (Bor Text)) (v : Bor Feature) (s s' : Said) → value_at m k.now.now ≡ Some v.now
-      → ((f : Text) → said_at s' f ≡ cond (bytes_eq k.now.now f) (shown v.now) (said_at s f)) → IsTold m yielded s → IsTold m (yielded ++ (k, v) ∷ []) s'
-  told_next yielded k v s s' there put before f = put f ∙ go (bytes_eq k.now.now f) refl ∙ sym (ap (λ t. cond t (shown_at m f) None) (walked_more yielded k v f))
+      → ((f : Text) → said_at s' f ≡ cond (bytes_eq k.now.now f) (documented_text v.now) (said_at s f)) → IsTold m yielded s → IsTold m (yielded ++ (k, v) ∷ []) s'
+  told_next yielded k v s s' there put before f = put f ∙ go (bytes_eq k.now.now f) refl ∙ sym (ap (λ t. cond t (documented_at m f) None) (walked_more yielded k v f))
     where
       or-true : (t : Bool) → (t || true) ≡ true
       or-true true = refl
       or-true false = refl
 
-      go : (t : Bool) → bytes_eq k.now.now f ≡ t → cond t (shown v.now) (said_at s f) ≡ cond (is_walked yielded f || bytes_eq f k.now.now) (shown_at m f) None
+      go : (t : Bool) → bytes_eq k.now.now f ≡ t → cond t (documented_text v.now) (said_at s f) ≡ cond (is_walked yielded f || bytes_eq f k.now.now) (documented_at m f) None
       go true on =
-          ap (option_and_then shown) (sym (ap (value_at m) (sym ((bytes_eq-Decides k.now.now f).0 on)) ∙ there))
-          ∙ sym (ap (λ b. cond (is_walked yielded f || b) (shown_at m f) None) (bytes_eq_sym f k.now.now ∙ on) ∙ ap (λ b. cond b (shown_at m f) None) (or-true (is_walked yielded f)))
-      go false off = before f ∙ sym (ap (λ b. cond (is_walked yielded f || b) (shown_at m f) None) (bytes_eq_sym f k.now.now ∙ off) ∙ ap (λ b. cond b (shown_at m f) None) (or-false _))
+          ap (option_and_then documented_text) (sym (ap (value_at m) (sym ((bytes_eq-Decides k.now.now f).0 on)) ∙ there))
+          ∙ sym (ap (λ b. cond (is_walked yielded f || b) (documented_at m f) None) (bytes_eq_sym f k.now.now ∙ on) ∙ ap (λ b. cond b (documented_at m f) None) (or-true (is_walked yielded f)))
+      go false off = before f ∙ sym (ap (λ b. cond (is_walked yielded f || b) (documented_at m f) None) (bytes_eq_sym f k.now.now ∙ off) ∙ ap (λ b. cond b (documented_at m f) None) (or-false _))
 
   -- a feature is told of
-  pub told_one : (yielded : Walked) (k : Bor (Bor Text)) (v : Bor Feature) (s s' : Said) → value_at m k.now.now ≡ Some v.now → shown v.now ≡ Some (option_copied v.now.doc)
+  pub told_one : (yielded : Walked) (k : Bor (Bor Text)) (v : Bor Feature) (s s' : Said) → value_at m k.now.now ≡ Some v.now → documented_text v.now ≡ Some (option_copied v.now.doc)
       → tree.UpdatesBy (λ x y. slice_cmp nat_cmp x.now y.now) (λ q. slice_cmp nat_cmp k.now.now q.now) s s' (Some v.now.doc) → IsTold m yielded s → IsTold m (yielded ++ (k, v) ∷ []) s'
   told_one yielded k v s s' there is u = told_next yielded k v s s' there (λ f.
       ap (option_map option_copied) (btree_map_updates_str k.now.now s s' (Some v.now.doc) u f)
@@ -103,17 +103,17 @@ module _ {S : Type 0} (m : HashMap (Bor Text) Feature S) where
       go false o = refl
 
   -- or it is not
-  pub told_none : (yielded : Walked) (k : Bor (Bor Text)) (v : Bor Feature) (s : Said) → value_at m k.now.now ≡ Some v.now → shown v.now ≡ None → IsTold m yielded s → IsTold m (yielded ++ (k, v) ∷ []) s
+  pub told_none : (yielded : Walked) (k : Bor (Bor Text)) (v : Bor Feature) (s : Said) → value_at m k.now.now ≡ Some v.now → documented_text v.now ≡ None → IsTold m yielded s → IsTold m (yielded ++ (k, v) ∷ []) s
   told_none yielded k v s there is before = told_next yielded k v s s there (λ f. go f (bytes_eq k.now.now f) refl) before
     where
       nothing : (t : Bool) (o : Option (Option Text)) → o ≡ None → cond t o None ≡ None
       nothing true o e = e
       nothing false o e = refl
 
-      go : (f : Text) (t : Bool) → bytes_eq k.now.now f ≡ t → said_at s f ≡ cond t (shown v.now) (said_at s f)
+      go : (f : Text) (t : Bool) → bytes_eq k.now.now f ≡ t → said_at s f ≡ cond t (documented_text v.now) (said_at s f)
       go f true on =
           before f
-          ∙ nothing (is_walked yielded f) (shown_at m f) (ap (option_and_then shown) (ap (value_at m) (sym ((bytes_eq-Decides k.now.now f).0 on)) ∙ there) ∙ is)
+          ∙ nothing (is_walked yielded f) (documented_at m f) (ap (option_and_then documented_text) (ap (value_at m) (sym ((bytes_eq-Decides k.now.now f).0 on)) ∙ there) ∙ is)
           ∙ sym is
       go f false off = refl
 
@@ -122,14 +122,14 @@ module _ {S : Type 0} (m : HashMap (Bor Text) Feature S) where
   keys_shown (x ∷ xs) = ap (λ ys. x.0.now ∷ ys) (keys_shown xs)
 
   -- once all have had their turn
-  pub all_told : (yielded : Walked) (s : Said) → map deref_pair yielded ≡ m.entries → IsTold m yielded s → (f : Text) → said_at s f ≡ shown_at m f
+  pub all_told : (yielded : Walked) (s : Said) → map deref_pair yielded ≡ m.entries → IsTold m yielded s → (f : Text) → said_at s f ≡ documented_at m f
   all_told yielded s all h f =
       h f
-      ∙ ap (λ ks. cond (list_any (λ (k : Bor Text). bytes_eq f k.now) ks) (shown_at m f) None) (keys_shown yielded ∙ ap (map (λ (e : Bor Text × Feature). e.0)) all)
-      ∙ ap (λ t. cond t (shown_at m f) None) (sym (is_some-lookup (λ (k : Bor Text). bytes_eq f k.now) m.entries))
+      ∙ ap (λ ks. cond (list_any (λ (k : Bor Text). bytes_eq f k.now) ks) (documented_at m f) None) (keys_shown yielded ∙ ap (map (λ (e : Bor Text × Feature). e.0)) all)
+      ∙ ap (λ t. cond t (documented_at m f) None) (sym (is_some-lookup (λ (k : Bor Text). bytes_eq f k.now) m.entries))
       ∙ go (lookup (λ (k : Bor Text). bytes_eq f k.now) m.entries)
     where
-      go : (o : Option Feature) → cond (is_some o) (option_and_then shown o) None ≡ option_and_then shown o
+      go : (o : Option Feature) → cond (is_some o) (option_and_then documented_text o) None ≡ option_and_then documented_text o
       go None = refl
       go (Some v) = refl
 
@@ -139,21 +139,21 @@ parts_of true x said e = (refl, cc)
 
 -- what is told of the resolved features is told of those of the manifest
 module _ {M S : Type 0} (m : ManifestMeaning M) (fs : HashMap (Bor Text) Feature S) (resolved : IsResolved (parsed_table MAX_ITEMS m) (IsHidden m) (resolution_of fs)) (keyed : IsKeyed fs)
-    (marks : (f : Text) → IsTrue (is_some (value_at fs f)) → option_map_or marks_of (value_at fs f) (marked false plain_detail) ≡ marks_at m f) where
-  pub documented_is : (s : Said) → ((f : Text) → said_at s f ≡ shown_at fs f) → AreDocumented m s
+    (marks : (f : Text) → IsTrue (is_some (value_at fs f)) → option_map_or marks_of (value_at fs f) (marked false plain_detail) ≡ marks_stated m f) where
+  pub documented_is : (s : Said) → ((f : Text) → said_at s f ≡ documented_at fs f) → AreDocumented m s
   documented_is s is f said = go (value_at fs f) refl
     where
       go : (o : Option Feature) → value_at fs f ≡ o → (said_at s f ≡ Some said) ↔ IsDocumented m f said
       go None here = (
-        λ y. absurd (false≢true (ap is_some (sym (is f ∙ ap (option_and_then shown) here) ∙ y))),
+        λ y. absurd (false≢true (ap is_some (sym (is f ∙ ap (option_and_then documented_text) here) ∙ y))),
         λ d. absurd (false≢true (sym (ap is_some here) ∙ (resolved.kept f).1 d.kept)),
       )
       go (Some v) here =
           let has : IsTrue (is_some (value_at fs f)) = ap is_some here in
           let kept = (resolved.kept f).0 has in
           let key : v.key.now ≡ f = subst (λ o. IfSome o (λ w. w.key.now ≡ f)) here (keyed f) in
-          let same : marks_of v ≡ marks_at m f = subst (λ o. option_map_or marks_of o (marked false plain_detail) ≡ marks_at m f) here (marks f has) in
-          let told : said_at s f ≡ shown v = is f ∙ ap (option_and_then shown) here in
+          let same : marks_of v ≡ marks_stated m f = subst (λ o. option_map_or marks_of o (marked false plain_detail) ≡ marks_stated m f) here (marks f has) in
+          let told : said_at s f ≡ documented_text v = is f ∙ ap (option_and_then documented_text) here in
           let by : (e : Text) → option_map_or (λ w. has_text w.enabled_by e) (value_at fs f) false ≡ has_text v.enabled_by e = λ e. ap (λ o. option_map_or (λ w. has_text w.enabled_by e) o false) here in (
             λ y.
                 let p = parts_of (is_shown v) (option_copied v.doc) said (sym told ∙ y) in

@@ -26,17 +26,17 @@ module _ {M : Type 0} (m : ManifestMeaning M) where
   abbrev pub IsHidden : Text → Type 0
   IsHidden f = IsTrue (is_removed (parsed_table MAX_ITEMS m) (λ _. false) f)
 
-  abbrev pub marks_at : Text → Marks
-  marks_at = marks_in (admitted MAX_ITEMS m.features) m.feature_details
+  abbrev pub marks_stated : Text → Marks
+  marks_stated = marks_in (admitted MAX_ITEMS m.features) m.feature_details
 
   -- f is a feature that isn't hidden and that is public, and either it is listed or no other
   -- feature enables it; `said` is its text
   pub record IsDocumented (f : Text) (said : Option Text) : Type 0 where
     pub kept : IsKept (parsed_table MAX_ITEMS m) IsHidden f
-    pub public : IsTrue (marks_at f).public
-    pub wanted : IsTrue (marks_at f).explicit
+    pub public : IsTrue (marks_stated f).public
+    pub wanted : IsTrue (marks_stated f).explicit
         ⊎ ((e : Text) → ¬ IsEnabledBy (parsed_table MAX_ITEMS m) IsHidden f e)
-    pub text : said ≡ (marks_at f).doc
+    pub text : said ≡ (marks_stated f).doc
 
 -- what a map says of a name
 abbrev pub said_at : BTreeMap (Bor Text) (Option (Bor Text)) → Text → Option (Option Text)
@@ -50,12 +50,12 @@ AreDocumented m s =
 
 -- the text of a resolved feature that users are meant to ask for: a word of the step, on which no
 -- public contract rests
-abbrev pub shown : Feature → Option (Option Text)
-shown v =
+abbrev pub documented_text : Feature → Option (Option Text)
+documented_text v =
     if (v.explicit || (btree_set_len v.enabled_by == 0))
     && not (starts_with nat_eq v.key.now (codes "_")) && v.public
     then Some (option_copied v.doc)
     else None
 
-abbrev pub shown_at : {S : Type 0} → HashMap (Bor Text) Feature S → Text → Option (Option Text)
-shown_at m f = option_and_then shown (value_at m f)
+abbrev pub documented_at : {S : Type 0} → HashMap (Bor Text) Feature S → Text → Option (Option Text)
+documented_at m f = option_and_then documented_text (value_at m f)

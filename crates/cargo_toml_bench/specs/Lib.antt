@@ -1,9 +1,11 @@
-pub mod Alone
-pub mod Printing
+-- what the proved callers promise, and what files in memory state: a user has to believe these
 pub mod Reports
+pub mod Printing
+pub mod Documented
 pub mod Enabled
+pub mod Members
 pub mod Rewriting
 pub mod InMemory
-pub mod Members
-pub mod Documented
+-- the code's own steps, in contracts of inner functions alone: nothing here has to be believed
+pub mod Alone
 pub mod Removing

@@ -29,24 +29,24 @@ IsFaultOf bytes e =
     × DocumentRefuses (ManifestRefuses any_tree AnyRefuses) (parse_document bytes) e)
 
 -- why nothing is reported: there was no memory, or the bytes are no manifest
-abbrev pub Refuses : List ℕ → Error → Type 0
-Refuses bytes e = (e ≡ Memory) ⊎ IsFaultOf bytes e
+abbrev pub RefusesBytes : List ℕ → Error → Type 0
+RefusesBytes bytes e = (e ≡ Memory) ⊎ IsFaultOf bytes e
 
 -- why nothing is printed: the same, or the output couldn't be written
 abbrev pub RefusesToPrint : List ℕ → Error → Type 0
-RefusesToPrint bytes e = ((fault : IoError) × (e ≡ Io fault)) ⊎ Refuses bytes e
+RefusesToPrint bytes e = ((fault : IoError) × (e ≡ Io fault)) ⊎ RefusesBytes bytes e
 
 -- the word, the name and the end of a line; the same for each name
-abbrev pub line : Text → Text → Text
-line word name = word ++ name ++ 10 ∷ []
+abbrev pub line_with : Text → Text → Text
+line_with word name = word ++ name ++ 10 ∷ []
 
-abbrev pub lines : Text → List Text → Text
-lines word names = flat_map (line word) names
+abbrev pub lines_with : Text → List Text → Text
+lines_with word names = flat_map (line_with word) names
 
 -- a line for each optional dependency, then one for each unreferenced feature
 abbrev pub report_text : List Text → List Text → Text
 report_text optional unreferenced =
-    lines (codes "optional ") optional ++ lines (codes "unreferenced ") unreferenced
+    lines_with (codes "optional ") optional ++ lines_with (codes "unreferenced ") unreferenced
 
 -- the text is the report of the manifest that the bytes spell
 pub record IsReport (bytes : List ℕ) (text : Text) : Type 0 where

@@ -13,9 +13,7 @@ use Rattle.cargo_toml_graph.specs.Removal.{SameKept, pass_bins, put_all, without
 use Rattle.cargo_toml_full.specs.Slots.{Relates}
 use Rattle.cargo_toml_features.specs.Marks.{Marks, marked, marks_of}
 use Rattle.cargo_toml_features.specs.Views.{has_text, action_at, resolution_of, value_at}
-
-abbrev pub texts_of : List (Bor Text) → List Text
-texts_of ks = map (λ k. k.now) ks
+use Rattle.cargo_toml_resolve.specs.Texts.{texts_of}
 
 -- what the feature of a name says of itself
 module _ {S : Type 0} (m : HashMap (Bor Text) Feature S) (f : Text) where

@@ -9,11 +9,9 @@ use Rattle.cargo_toml.specs.Dependencies.{DependencyMeaning, is_optional}
 use Rattle.cargo_toml.specs.Action.{Text}
 use Rattle.cargo_toml.specs.Graph.{Table, Edge}
 use Rattle.cargo_toml.specs.Reach.{Among}
+use Rattle.cargo_toml_resolve.specs.Texts.{texts_of}
 
 -- borrowed texts, read
-abbrev pub texts_of : List (Bor Text) → List Text
-texts_of ts = map (λ t. t.now) ts
-
 abbrev pub texts : Vec (Bor Text) Global → List Text
 texts v = texts_of v.items
 

@@ -4,7 +4,7 @@ ghost use Rattle.std.specs.Prelude.{◌≡◌, IfErr, IfOk};
 ghost use Rattle.cargo_toml.specs.Action.{Text};
 ghost use Rattle.cargo_toml.specs.Error.{Memory};
 ghost use Rattle.cargo_toml.specs.Manifests.{manifest_meaning};
-ghost use Rattle.cargo_toml_bench.specs.Documented.{AreDocumented, said_at, shown_at};
+ghost use Rattle.cargo_toml_bench.specs.Documented.{AreDocumented, said_at, documented_at};
 
 use cargo_toml::features::{Feature, Resolver};
 use cargo_toml::{Error, Manifest};
@@ -34,7 +34,7 @@ fn documented<'m, S: BuildHasher>(
     alloc: Global,
     features: &HashMap<&'m str, Feature<'m>, S>,
 ) -> Result<BTreeMap<&'m str, Option<&'m str>>, AllocError>
-    ensures { IfOk result (λ s. (f : Text) → said_at s f ≡ shown_at features.now f) }
+    ensures { IfOk result (λ s. (f : Text) → said_at s f ≡ documented_at features.now f) }
 {
     let mut documented = BTreeMap::new(alloc);
     for (name, feature) in features {

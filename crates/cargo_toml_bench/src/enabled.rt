@@ -6,7 +6,7 @@ ghost use Rattle.cargo_toml.specs.Recursive.{ArePairs};
 ghost use Rattle.cargo_toml.specs.Manifests.{manifest_meaning};
 ghost use Rattle.cargo_toml.specs.Views.{table_in, value_at};
 ghost use Rattle.cargo_toml_bench.specs.Enabled.{IsAnswered, IsAnsweredFrom};
-ghost use Rattle.cargo_toml_bench.specs.Printing.{Refuses};
+ghost use Rattle.cargo_toml_bench.specs.Printing.{RefusesBytes};
 
 use crate::whole::resolve_whole;
 use cargo_toml::features::{DependenciesEnabledByFeatures, Feature, Features};
@@ -78,7 +78,7 @@ pub fn enables<M>(
 /// `Memory` where there was no room.
 pub fn enables_from(alloc: Global, bytes: &[u8], name: &str, other: &str) -> Result<bool, Error>
     ensures answer { IfOk result (IsAnsweredFrom bytes.now name.now other.now) }
-    ensures refused { IfErr result (Refuses bytes.now) }
+    ensures refused { IfErr result (RefusesBytes bytes.now) }
 {
     let manifest = Manifest::from_slice(alloc, bytes)?;
     enables(alloc, &manifest, name, other)

@@ -13,7 +13,7 @@ ghost use Rattle.cargo_toml.specs.Ways.{free_way};
 ghost use Rattle.cargo_toml.specs.Writes.{HasTree};
 ghost use Rattle.cargo_toml.specs.WrittenLints.{IsApart};
 ghost use Rattle.cargo_toml.specs.WrittenPackages.{VersionAgain};
-ghost use Rattle.cargo_toml_bench.specs.Printing.{Refuses};
+ghost use Rattle.cargo_toml_bench.specs.Printing.{RefusesBytes};
 ghost use Rattle.cargo_toml_bench.specs.Rewriting.{IsRewritten};
 ghost use Rattle.cargo_toml_parts.specs.declared.error.Error.{Error};
 ghost use Rattle.cargo_toml.specs.NoFloats.{LintHoldsNoFloat, PackageHoldsNoFloat};
@@ -108,7 +108,7 @@ pub fn package_again(alloc: Global, written: &Package) -> Result<Package, Error>
 /// [`Manifest::from_slice`] does, with `Memory` where there was no room.
 pub fn rewrite(alloc: Global, bytes: &[u8]) -> Result<Value, Error>
     ensures tree { IfOk result (λ v. IsRewritten bytes.now (view v)) }
-    ensures refused { IfErr result (Refuses bytes.now) }
+    ensures refused { IfErr result (RefusesBytes bytes.now) }
 {
     let manifest = Manifest::from_slice(alloc, bytes)?;
     read_manifests_are_written();

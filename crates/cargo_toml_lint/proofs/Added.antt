@@ -15,8 +15,8 @@ use Rattle.cargo_toml.specs.Action.{Text}
 use Rattle.cargo_toml.specs.Feature.{Feature}
 use Rattle.cargo_toml.specs.Products.{ProductMeaning}
 use Rattle.cargo_toml.specs.Reach.{Among}
-use Rattle.cargo_toml_lint.specs.Findings.{IsTold, about, about_cmp, rank}
-use Rattle.cargo_toml_lint.specs.Steps.{Abouts, Adds, AddsOne, AreBelow, AreErrors, AreHints, AreTold, AreWarnings, At, HoldsIn}
+use Rattle.cargo_toml_lint.specs.Findings.{IsTold, about, about_cmp, code_rank}
+use Rattle.cargo_toml_lint.specs.Steps.{Abouts, AddsFindings, AddsOne, AreBelow, AreErrors, AreHints, AreAllTold, AreWarnings, At, HoldsIn}
 use Rattle.cargo_toml_lint.specs.declared.finding.Code.{Code}
 use Rattle.cargo_toml_lint.specs.declared.finding.Code.TheVariants.{NotOptional, SameName, Unknown, Implied, PrivateDefault, Cycle, OverLimit, Unreachable}
 use Rattle.cargo_toml_lint.specs.declared.finding.Finding.{Finding}
@@ -72,15 +72,15 @@ each_all : {X : Type 0} (P Q : X → Type 0) (xs : List X) → ((x : X) → P x 
 each_all P Q [] so all = tt
 each_all P Q (x ∷ xs) so all = (so x all.0, each_all P Q xs so all.1)
 
-lower : (c d : Code) (f g : Text) → rank c < rank d → about_cmp (c, f) (d, g) ≡ Less
+lower : (c d : Code) (f g : Text) → code_rank c < code_rank d → about_cmp (c, f) (d, g) ≡ Less
 lower c d f g h = ap (λ o. ordering_then o (slice_cmp nat_cmp f g))
-    (sym (nat_cmp_is (rank c) (rank d) Less h))
+    (sym (nat_cmp_is (code_rank c) (code_rank d) Less h))
 
 alike : (d : Code) (f g : Text) → slice_cmp nat_cmp f g ≡ Less → about_cmp (d, f) (d, g) ≡ Less
 alike d f g h = ap (λ o. ordering_then o (slice_cmp nat_cmp f g))
-    (sym (nat_cmp_is (rank d) (rank d) Equal refl)) ∙ h
+    (sym (nat_cmp_is (code_rank d) (code_rank d) Equal refl)) ∙ h
 
-below_all : (x : Code × Text) (d : Code) (ks : List (Bor Text)) → rank x.0 < rank d
+below_all : (x : Code × Text) (d : Code) (ks : List (Bor Text)) → code_rank x.0 < code_rank d
     → AllByRecursion (λ y. about_cmp x y ≡ Less) (with_code d ks)
 below_all x d [] h = tt
 below_all x d (k ∷ ks) h = (lower x.0 d x.1 k.now h, below_all x d ks h)
@@ -101,7 +101,7 @@ code_in_order d (k ∷ ks) ordered = (next_all d k ks ordered.0, code_in_order d
 all_in_order : (d : Code) (ks : List (Bor Text))
     → IsStrictlySortedBy (λ (x : Bor Text) (y : Bor Text). slice_cmp nat_cmp x.now y.now) ks
     → (xs : Abouts)
-    → IsStrictlySortedBy about_cmp xs → AllByRecursion (λ x. rank x.0 < rank d) xs
+    → IsStrictlySortedBy about_cmp xs → AllByRecursion (λ x. code_rank x.0 < code_rank d) xs
     → IsStrictlySortedBy about_cmp (xs ++ with_code d ks)
 unfolding IsStrictlySortedBy
 all_in_order d ks ordered [] old below = code_in_order d ks ordered
@@ -111,7 +111,7 @@ all_in_order d ks ordered (x ∷ xs) old below = (
 )
 
 code_below : (d : Code) (ks : List (Bor Text))
-    → AllByRecursion (λ x. rank x.0 < rank d + 1) (with_code d ks)
+    → AllByRecursion (λ x. code_rank x.0 < code_rank d + 1) (with_code d ks)
 code_below d [] = tt
 code_below d (k ∷ ks) = (omega arith, code_below d ks)
 
@@ -129,10 +129,10 @@ adds_one d ks old new is ordered = record {
           | inr p ↦ among_right old (with_code d ks) (c, f) (of_code d c f ks p)
         ]),
   );
-  below = λ b. subst (AreBelow (rank d + 1)) (sym is) (record {
+  below = λ b. subst (AreBelow (code_rank d + 1)) (sym is) (record {
     in_order = all_in_order d ks ordered old b.in_order b.below;
     below = both_all _ old (with_code d ks)
-        (each_all (λ x. rank x.0 < rank d) (λ x. rank x.0 < rank d + 1) old
+        (each_all (λ x. code_rank x.0 < code_rank d) (λ x. code_rank x.0 < code_rank d + 1) old
         (λ x h. omega arith) b.below) (code_below d ks);
   });
 }
@@ -149,14 +149,14 @@ one_added d k left rest old new x all is put code feature before =
     ∙ (λ i. map about old ++ (code i, feature i) ∷ with_code d rest)
     ∙ ap (λ ks. map about old ++ with_code d ks) (sym is) ∙ before
 
-pub one_told : (old new : List Finding) (x : Finding) → new ≡ old ++ x ∷ [] → IsTold x → AreTold old
-    → AreTold new
+pub one_told : (old new : List Finding) (x : Finding) → new ≡ old ++ x ∷ [] → IsTold x → AreAllTold old
+    → AreAllTold new
 one_told old new x put told all =
-    subst AreTold (sym put) (both_all IsTold old (x ∷ []) all (told, tt))
+    subst AreAllTold (sym put) (both_all IsTold old (x ∷ []) all (told, tt))
 
 -- one after the other
-pub adds_both : {r s u : ℕ} {P Q : Code → Text → Type 0} {a b c : Abouts} → Adds r s P a b
-    → Adds s u Q b c → Adds r u (λ d f. P d f ⊎ Q d f) a c
+pub adds_both : {r s u : ℕ} {P Q : Code → Text → Type 0} {a b c : Abouts} → AddsFindings r s P a b
+    → AddsFindings s u Q b c → AddsFindings r u (λ d f. P d f ⊎ Q d f) a c
 adds_both h k = record {
   found = λ d f. (
     λ i. elim ((k.found d f).0 i) [
@@ -227,7 +227,7 @@ module _ {S : Type 0} (m : HashMap (Bor Text) Feature S) (known : Known)
   say Unreachable f h = inr (inr (refl, h))
 
   -- findings that began with none
-  pub all_codes : {r s : ℕ} (old new : Abouts) → old ≡ [] → Adds r s AreAll old new
+  pub all_codes : {r s : ℕ} (old new : Abouts) → old ≡ [] → AddsFindings r s AreAll old new
       → (c : Code) (f : Text) → Among new (c, f) ↔ HoldsIn m known bins limit c f
   all_codes old new none added c f = (
     λ i. elim ((added.found c f).0 i) [

@@ -9,9 +9,9 @@ use Rattle.cargo_toml.specs.Products.{ProductMeaning}
 use Rattle.cargo_toml.specs.Removal.{is_removed}
 use Rattle.cargo_toml.specs.Views.{answer_of, table_in}
 use Rattle.cargo_toml_features.specs.declared.features.Features.{Features}
-use Rattle.cargo_toml_lint.specs.Findings.{Holds, has_same_name, is_not_optional, is_required, is_unknown}
-use Rattle.cargo_toml_lint.specs.Known.{lists, names_of}
-use Rattle.cargo_toml_lint.specs.Names.{listed_by, names_in}
+use Rattle.cargo_toml_lint.specs.Findings.{HoldsOf, has_same_name, is_not_optional, is_required, is_unknown}
+use Rattle.cargo_toml_lint.specs.Known.{lists, all_names}
+use Rattle.cargo_toml_lint.specs.Names.{listed_by, held_names}
 use Rattle.cargo_toml_lint.specs.Steps.{HoldsIn, over_at}
 use Rattle.cargo_toml_lint.specs.declared.finding.Code.{Code}
 use Rattle.cargo_toml_lint.specs.declared.finding.Code.TheVariants.{NotOptional, SameName, Unknown, Implied, PrivateDefault, Cycle, OverLimit, Unreachable}
@@ -20,7 +20,7 @@ use Rattle.cargo_toml_lint.proofs.Added.{same_as}
 use Rattle.cargo_toml_lint.proofs.Whole.{cyclic_is, implied_is, nothing_removed, over_is, private_is, required_is, unreachable_is}
 
 module _ {M S H : Type 0} (limit : ℕ) (m : ManifestMeaning M) (a : Features S H) (known : Known)
-    (names : names_in known ≡ names_of m) (listed : listed_by known ≡ m.features)
+    (names : held_names known ≡ all_names m) (listed : listed_by known ≡ m.features)
     (parsed : IsParsed limit m (λ _. true) (answer_of a)) where
   abbrev Removed : Text → Type 0
   Removed f = IsTrue (is_removed (parsed_table limit m) (λ _. true) f)
@@ -34,22 +34,22 @@ module _ {M S H : Type 0} (limit : ℕ) (m : ManifestMeaning M) (a : Features S 
   both : {P Q R : Type 0} → P ↔ Q → Q ↔ R → P ↔ R
   both h k = (λ p. k.0 (h.0 p), λ r. h.1 (k.1 r))
 
-  holds_is : (c : Code) (f : Text) → HoldsIn a.features known m.bin limit c f ↔ Holds limit m c f
+  holds_is : (c : Code) (f : Text) → HoldsIn a.features known m.bin limit c f ↔ HoldsOf limit m c f
   holds_is NotOptional f = same_as (λ i. lists (listed i) (is_not_optional (names i)) f)
   holds_is SameName f = same_as (λ i. has_same_name (names i) f)
   holds_is Unknown f =
-      let required : is_required (names_in known) (table_in a.features).has m.bin f
-      ≡ is_required (names_of m) (parsed_table limit m).has m.bin f =
+      let required : is_required (held_names known) (table_in a.features).has m.bin f
+      ≡ is_required (all_names m) (parsed_table limit m).has m.bin f =
       ap (λ n. is_required n (table_in a.features).has m.bin f) names
       ∙ required_is a.features (parsed_table limit m) Removed none parsed.kept.resolved
-      (names_of m) m.bin f in
-      let same : (lists (listed_by known) (is_unknown (names_in known)) f
-      || is_required (names_in known) (table_in a.features).has m.bin f)
-      ≡ (lists m.features (is_unknown (names_of m)) f
-      || is_required (names_of m) (parsed_table limit m).has m.bin f) =
+      (all_names m) m.bin f in
+      let same : (lists (listed_by known) (is_unknown (held_names known)) f
+      || is_required (held_names known) (table_in a.features).has m.bin f)
+      ≡ (lists m.features (is_unknown (all_names m)) f
+      || is_required (all_names m) (parsed_table limit m).has m.bin f) =
       λ i. lists (listed i) (is_unknown (names i)) f || required i in
-      both (same_as same) (either (lists m.features (is_unknown (names_of m)) f)
-      (is_required (names_of m) (parsed_table limit m).has m.bin f))
+      both (same_as same) (either (lists m.features (is_unknown (all_names m)) f)
+      (is_required (all_names m) (parsed_table limit m).has m.bin f))
   holds_is Implied f = implied_is a.features (admitted limit m.features)
       (parsed_entries limit m) m.feature_details Removed none parsed.kept.resolved parsed.kept.marks
       f
@@ -68,7 +68,7 @@ module _ {M S H : Type 0} (limit : ℕ) (m : ManifestMeaning M) (a : Features S 
 
   -- the same of binaries that are told otherwise
   pub holds_in : (bins : List ProductMeaning) → bins ≡ m.bin → (c : Code) (f : Text)
-      → HoldsIn a.features known bins limit c f ↔ Holds limit m c f
+      → HoldsIn a.features known bins limit c f ↔ HoldsOf limit m c f
   holds_in bins same c f =
-      subst (λ bs. HoldsIn a.features known bs limit c f ↔ Holds limit m c f) (sym same)
+      subst (λ bs. HoldsIn a.features known bs limit c f ↔ HoldsOf limit m c f) (sym same)
       (holds_is c f)

@@ -17,7 +17,7 @@ use Rattle.cargo_toml.specs.Products.{ProductMeaning}
 use Rattle.cargo_toml.specs.Reach.{Among}
 use Rattle.cargo_toml.specs.Recorded.{is_implied}
 use Rattle.cargo_toml.specs.Recursive.{Enables}
-use Rattle.cargo_toml_lint.specs.Known.{Names, lists, names_of}
+use Rattle.cargo_toml_lint.specs.Known.{Names, lists, all_names}
 use Rattle.cargo_toml_lint.specs.declared.finding.Code.{Code}
 use Rattle.cargo_toml_lint.specs.declared.finding.Code.TheVariants.{NotOptional, SameName, Unknown}
 use Rattle.cargo_toml_lint.specs.declared.finding.Code.TheVariants.{Implied, PrivateDefault, Cycle}
@@ -92,40 +92,40 @@ pub record IsOnlyDefault (t : Table) (f : Text) : Type 0 where
 -- of dependencies
 module _ {M : Type 0} (limit : ℕ) (m : ManifestMeaning M) where
   -- what a finding of the code says of f
-  abbrev pub Holds : Code → Text → Type 0
-  Holds NotOptional f = IsTrue (lists m.features (is_not_optional (names_of m)) f)
-  Holds SameName f = IsTrue (has_same_name (names_of m) f)
-  Holds Unknown f =
-      IsTrue (lists m.features (is_unknown (names_of m)) f)
-      ⊎ IsTrue (is_required (names_of m) (parsed_table limit m).has m.bin f)
-  Holds Implied f = IsTrue (is_implied (admitted limit m.features) (parsed_entries limit m) f)
-  Holds PrivateDefault f =
+  abbrev pub HoldsOf : Code → Text → Type 0
+  HoldsOf NotOptional f = IsTrue (lists m.features (is_not_optional (all_names m)) f)
+  HoldsOf SameName f = IsTrue (has_same_name (all_names m) f)
+  HoldsOf Unknown f =
+      IsTrue (lists m.features (is_unknown (all_names m)) f)
+      ⊎ IsTrue (is_required (all_names m) (parsed_table limit m).has m.bin f)
+  HoldsOf Implied f = IsTrue (is_implied (admitted limit m.features) (parsed_entries limit m) f)
+  HoldsOf PrivateDefault f =
       IsTrue (is_hidden f || is_private (admitted limit m.features) m.feature_details f)
       × IsOnlyDefault (parsed_table limit m) f
-  Holds Cycle f = IsCyclic (parsed_table limit m) f
-  Holds OverLimit f = IsTrue (is_over limit m.features f)
-  Holds Unreachable f = IsUnreachable (parsed_table limit m) f
+  HoldsOf Cycle f = IsCyclic (parsed_table limit m) f
+  HoldsOf OverLimit f = IsTrue (is_over limit m.features f)
+  HoldsOf Unreachable f = IsUnreachable (parsed_table limit m) f
 
 -- the level of a code, and its place among them in byte order of level and code
-abbrev pub level_of : Code → Level
-level_of NotOptional = Error
-level_of SameName = Error
-level_of Unknown = Error
-level_of Implied = Hint
-level_of PrivateDefault = Hint
-level_of Cycle = Warning
-level_of OverLimit = Warning
-level_of Unreachable = Warning
+abbrev pub code_level : Code → Level
+code_level NotOptional = Error
+code_level SameName = Error
+code_level Unknown = Error
+code_level Implied = Hint
+code_level PrivateDefault = Hint
+code_level Cycle = Warning
+code_level OverLimit = Warning
+code_level Unreachable = Warning
 
-abbrev pub rank : Code → ℕ
-rank NotOptional = 0
-rank SameName = 1
-rank Unknown = 2
-rank Implied = 3
-rank PrivateDefault = 4
-rank Cycle = 5
-rank OverLimit = 6
-rank Unreachable = 7
+abbrev pub code_rank : Code → ℕ
+code_rank NotOptional = 0
+code_rank SameName = 1
+code_rank Unknown = 2
+code_rank Implied = 3
+code_rank PrivateDefault = 4
+code_rank Cycle = 5
+code_rank OverLimit = 6
+code_rank Unreachable = 7
 
 abbrev pub level_name : Level → Text
 level_name Error = codes "error"
@@ -163,11 +163,11 @@ IsFound xs c f = Among (map about xs) (c, f)
 
 -- by level and code, then by feature, each in byte order
 abbrev pub about_cmp : Code × Text → Code × Text → Ordering
-about_cmp a b = ordering_then (nat_cmp (rank a.0) (rank b.0)) (slice_cmp nat_cmp a.1 b.1)
+about_cmp a b = ordering_then (nat_cmp (code_rank a.0) (code_rank b.0)) (slice_cmp nat_cmp a.1 b.1)
 
-abbrev pub AreInOrder : List Finding → Type 0
-AreInOrder xs = IsStrictlySortedBy about_cmp (map about xs)
+abbrev pub AreSorted : List Finding → Type 0
+AreSorted xs = IsStrictlySortedBy about_cmp (map about xs)
 
 -- a finding has the level and the words of its code
 abbrev pub IsTold : Finding → Type 0
-IsTold x = (x.level ≡ level_of x.code) × (x.words.now ≡ words_of x.code)
+IsTold x = (x.level ≡ code_level x.code) × (x.words.now ≡ words_of x.code)

@@ -49,8 +49,8 @@ abbrev pub is_name : Listed → Text → Bool
 is_name listed f = list_any (λ e. bytes_eq f e.0) listed
 
 -- the names of a manifest
-abbrev pub names_of : {M : Type 0} → ManifestMeaning M → Names
-names_of m = record {
+abbrev pub all_names : {M : Type 0} → ManifestMeaning M → Names
+all_names m = record {
   listed = is_name m.features;
   dependency = λ k. list_any (has_entry (λ d. true) k) (tables m);
   optional = λ k. list_any (has_entry is_optional k) (tables m);

@@ -1,4 +1,6 @@
+-- what is found of a manifest: a user has to believe these
 pub mod Findings
 pub mod Known
+-- the code's own steps, in contracts of inner functions alone: nothing here has to be believed
 pub mod Names
 pub mod Steps

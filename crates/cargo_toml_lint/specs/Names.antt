@@ -16,8 +16,8 @@ abbrev pub listed_by : Known → Listed
 listed_by known = map_meaning (λ v. map string_bytes v.items) known.features.now
 
 -- the names that the sets hold
-abbrev pub names_in : Known → Names
-names_in known = record {
+abbrev pub held_names : Known → Names
+held_names known = record {
   listed = is_name (listed_by known);
   dependency = has_text known.dependencies;
   optional = has_text known.optional;

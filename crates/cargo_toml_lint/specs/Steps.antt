@@ -17,9 +17,9 @@ use Rattle.cargo_toml.specs.Recursive.{Enables}
 use Rattle.cargo_toml.specs.Views.{has_text, resolution_of, table_in, value_at}
 use Rattle.cargo_toml_lint.specs.Findings.{IsTold, IsUnreachable, about_cmp}
 use Rattle.cargo_toml_lint.specs.Findings.{has_same_name, is_hidden, is_not_optional}
-use Rattle.cargo_toml_lint.specs.Findings.{is_required, is_unknown, rank}
+use Rattle.cargo_toml_lint.specs.Findings.{is_required, is_unknown, code_rank}
 use Rattle.cargo_toml_lint.specs.Known.{lists}
-use Rattle.cargo_toml_lint.specs.Names.{listed_by, names_in}
+use Rattle.cargo_toml_lint.specs.Names.{listed_by, held_names}
 use Rattle.cargo_toml_lint.specs.declared.finding.Code.{Code}
 use Rattle.cargo_toml_lint.specs.declared.finding.Code.TheVariants.{NotOptional, SameName, Unknown}
 use Rattle.cargo_toml_lint.specs.declared.finding.Code.TheVariants.{Implied, PrivateDefault, Cycle}
@@ -60,11 +60,11 @@ module _ {S : Type 0} (m : HashMap (Bor Text) Feature S) where
   -- what a finding of the code says, of these maps
   abbrev pub HoldsIn : Known → List ProductMeaning → ℕ → Code → Text → Type 0
   HoldsIn known bins limit NotOptional f =
-      IsTrue (lists (listed_by known) (is_not_optional (names_in known)) f)
-  HoldsIn known bins limit SameName f = IsTrue (has_same_name (names_in known) f)
+      IsTrue (lists (listed_by known) (is_not_optional (held_names known)) f)
+  HoldsIn known bins limit SameName f = IsTrue (has_same_name (held_names known) f)
   HoldsIn known bins limit Unknown f =
-      IsTrue (lists (listed_by known) (is_unknown (names_in known)) f
-      || is_required (names_in known) (table_in m).has bins f)
+      IsTrue (lists (listed_by known) (is_unknown (held_names known)) f
+      || is_required (held_names known) (table_in m).has bins f)
   HoldsIn known bins limit Implied f = IsTrue (implied_at f)
   HoldsIn known bins limit PrivateDefault f = IsTrue (private_default_at f)
   HoldsIn known bins limit Cycle f = IsRing (resolution_of m) f
@@ -78,34 +78,34 @@ Abouts = List (Code × Text)
 -- they are in order, and of codes below this place
 pub record AreBelow (r : ℕ) (xs : Abouts) : Type 0 where
   pub in_order : IsStrictlySortedBy about_cmp xs
-  pub below : AllByRecursion (λ x. rank x.0 < r) xs
+  pub below : AllByRecursion (λ x. code_rank x.0 < r) xs
 
 -- so the code holds of f, and no other
 abbrev pub At : Code → (Text → Type 0) → Code → Text → Type 0
 At d P c f = (c ≡ d) × P f
 
 -- from codes below r to such below s: those of P are added
-pub record Adds (r s : ℕ) (P : Code → Text → Type 0) (old new : Abouts) : Type 0 where
+pub record AddsFindings (r s : ℕ) (P : Code → Text → Type 0) (old new : Abouts) : Type 0 where
   pub found : (c : Code) (f : Text) → Among new (c, f) ↔ (Among old (c, f) ⊎ P c f)
   pub below : AreBelow r old → AreBelow s new
 
 -- those of one code
 abbrev pub AddsOne : Code → (Text → Type 0) → Abouts → Abouts → Type 0
-AddsOne d P old new = Adds (rank d) (rank d + 1) (At d P) old new
+AddsOne d P old new = AddsFindings (code_rank d) (code_rank d + 1) (At d P) old new
 
 -- each has the level and the words of its code
-abbrev pub AreTold : List Finding → Type 0
-AreTold xs = AllByRecursion IsTold xs
+abbrev pub AreAllTold : List Finding → Type 0
+AreAllTold xs = AllByRecursion IsTold xs
 
 module _ {S : Type 0} (m : HashMap (Bor Text) Feature S) where
   -- what is found of the lists
   abbrev pub AreErrors : Known → List ProductMeaning → Code → Text → Type 0
   AreErrors known bins c f =
       (At NotOptional
-      (λ f. IsTrue (lists (listed_by known) (is_not_optional (names_in known)) f)) c f
-      ⊎ At SameName (λ f. IsTrue (has_same_name (names_in known) f)) c f)
-      ⊎ At Unknown (λ f. IsTrue (lists (listed_by known) (is_unknown (names_in known)) f
-      || is_required (names_in known) (table_in m).has bins f)) c f
+      (λ f. IsTrue (lists (listed_by known) (is_not_optional (held_names known)) f)) c f
+      ⊎ At SameName (λ f. IsTrue (has_same_name (held_names known) f)) c f)
+      ⊎ At Unknown (λ f. IsTrue (lists (listed_by known) (is_unknown (held_names known)) f
+      || is_required (held_names known) (table_in m).has bins f)) c f
 
   -- what is found of single features
   abbrev pub AreHints : Code → Text → Type 0

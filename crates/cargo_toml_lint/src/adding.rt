@@ -3,7 +3,7 @@ ghost use Rattle.std.specs.Prelude.{◌≡◌, IsTrue, OnOk, map};
 ghost use Rattle.cargo_toml.specs.Action.{Text};
 ghost use Rattle.cargo_toml.specs.Views.{has_text};
 ghost use Rattle.cargo_toml_lint.specs.Findings.{IsTold, about};
-ghost use Rattle.cargo_toml_lint.specs.Steps.{AddsOne, AreTold};
+ghost use Rattle.cargo_toml_lint.specs.Steps.{AddsOne, AreAllTold};
 
 use crate::finding::{Code, Finding};
 use std::alloc::AllocError;
@@ -31,7 +31,7 @@ pub(crate) fn add_findings<'m>(
 ) -> Result<(), AllocError>
     ensures added { OnOk result (AddsOne code (λ f. IsTrue (has_text names.now f))
         (map about findings.old.items) (map about findings.new.items)) }
-    ensures told { OnOk result (AreTold findings.old.items → AreTold findings.new.items) }
+    ensures told { OnOk result (AreAllTold findings.old.items → AreAllTold findings.new.items) }
 {
     for name in names {
         findings.push(finding_of(code, *name))?;

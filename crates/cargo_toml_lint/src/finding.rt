@@ -1,6 +1,6 @@
 //! What is found of a manifest.
 ghost use Rattle.std.specs.Prelude.{◌≡◌};
-ghost use Rattle.cargo_toml_lint.specs.Findings.{code_name, level_name, level_of, words_of};
+ghost use Rattle.cargo_toml_lint.specs.Findings.{code_name, level_name, code_level, words_of};
 
 /// How much a finding weighs.
 #[derive(Debug, Copy, Clone, PartialEq, Eq)]
@@ -68,7 +68,7 @@ impl Code {
 
     /// How much a finding of this code weighs.
     pub fn level(self) -> Level
-        ensures { result ≡ level_of self }
+        ensures { result ≡ code_level self }
     {
         match self {
             Code::NotOptional | Code::SameName | Code::Unknown => Level::Error,

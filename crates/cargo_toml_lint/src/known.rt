@@ -3,13 +3,13 @@ ghost use Rattle.std.specs.Prelude.{◌≡◌, ◌||◌, IfOk, OnOk, bytes_eq, c
 ghost use Rattle.std.specs.List.{list_any};
 ghost use Rattle.cargo_toml.specs.Action.{Text, item_of};
 ghost use Rattle.cargo_toml.specs.Dependencies.{dependency_meaning};
-ghost use Rattle.cargo_toml.specs.Manifests.{manifest_meaning};
+ghost use Rattle.cargo_toml.specs.Manifests.{held};
 ghost use Rattle.cargo_toml.specs.Reads.{map_meaning};
 ghost use Rattle.cargo_toml.specs.Targets.{target_meaning};
 ghost use Rattle.cargo_toml.specs.Views.{has_text};
-ghost use Rattle.cargo_toml_lint.specs.Known.{has_entry, names_of, reserves};
+ghost use Rattle.cargo_toml_lint.specs.Known.{has_entry, all_names, reserves};
 ghost use Rattle.cargo_toml_lint.specs.Known.{says, tables, tables_in};
-ghost use Rattle.cargo_toml_lint.specs.Names.{listed_by, names_in, tried};
+ghost use Rattle.cargo_toml_lint.specs.Names.{listed_by, held_names, tried};
 
 use cargo_toml::{Dependency, DepsSet, FeatureSet, Manifest, Target, TargetDepsSet};
 use cargo_toml_features::action::read_action;
@@ -91,7 +91,7 @@ fn keys_of<'m, M>(
 ) -> Result<BTreeSet<&'m str>, AllocError>
     ensures { IfOk result (λ s. (k : Text) → has_text s k
         ≡ list_any (has_entry (tried are_all) k)
-        (tables (manifest_meaning (λ m. m) manifest.now))) }
+        (tables (held manifest.now))) }
 {
     let mut keys = BTreeSet::new(alloc);
     add_table(&mut keys, &manifest.dependencies, are_all)?;
@@ -132,10 +132,10 @@ pub(crate) fn known_names<'m, M>(
     alloc: Global,
     manifest: &'m Manifest<M>,
 ) -> Result<Known<'m>, AllocError>
-    ensures names { IfOk result (λ known. names_in known
-        ≡ names_of (manifest_meaning (λ m. m) manifest.now)) }
+    ensures names { IfOk result (λ known. held_names known
+        ≡ all_names (held manifest.now)) }
     ensures listed { IfOk result (λ known. listed_by known
-        ≡ (manifest_meaning (λ m. m) manifest.now).features) }
+        ≡ (held manifest.now).features) }
 {
     let dependencies = keys_of(alloc, manifest, true)?;
     let optional = keys_of(alloc, manifest, false)?;
@@ -151,15 +151,15 @@ pub(crate) fn known_names<'m, M>(
 impl Known<'_> {
     /// Whether the table of features has the name.
     pub(crate) fn lists(&self, name: &str) -> bool
-        ensures { result ≡ (names_in self.now).listed name.now }
+        ensures { result ≡ (held_names self.now).listed name.now }
     {
         self.features.contains_key(name)
     }
 
     /// Whether the name is that of a feature or of an optional dependency.
     pub(crate) fn has_name(&self, name: &str) -> bool
-        ensures { result ≡ ((names_in self.now).listed name.now
-            || (bytes_eq name.now (codes "default") || (names_in self.now).optional name.now)) }
+        ensures { result ≡ ((held_names self.now).listed name.now
+            || (bytes_eq name.now (codes "default") || (held_names self.now).optional name.now)) }
     {
         self.lists(name) || name == "default" || self.optional.contains(name)
     }

@@ -3,15 +3,15 @@ ghost use Rattle.std.specs.Prelude.{◌≡◌, ◌≤◌, ◌⊎◌, ◌↔◌, 
 ghost use Rattle.std.specs.List.{AllByRecursion};
 ghost use Rattle.cargo_toml.specs.Action.{Text};
 ghost use Rattle.cargo_toml.specs.Error.{Memory};
-ghost use Rattle.cargo_toml.specs.Manifests.{manifest_meaning};
+ghost use Rattle.cargo_toml.specs.Manifests.{held};
 ghost use Rattle.cargo_toml.specs.Parsed.{IsParsed};
 ghost use Rattle.cargo_toml.specs.Products.{product_meaning};
 ghost use Rattle.cargo_toml.specs.Reached.{IsKeyed};
 ghost use Rattle.cargo_toml.specs.Views.{answer_of, has_text, table_in};
 ghost use Rattle.cargo_toml_lint.specs.declared.finding.Code.{Code};
-ghost use Rattle.cargo_toml_lint.specs.Findings.{AreInOrder, Holds, IsFound, IsTold, about};
-ghost use Rattle.cargo_toml_lint.specs.Steps.{Adds, AreErrors, AreHints};
-ghost use Rattle.cargo_toml_lint.specs.Steps.{AreTold, AreWarnings, HoldsIn};
+ghost use Rattle.cargo_toml_lint.specs.Findings.{AreSorted, HoldsOf, IsFound, IsTold, about};
+ghost use Rattle.cargo_toml_lint.specs.Steps.{AddsFindings, AreErrors, AreHints};
+ghost use Rattle.cargo_toml_lint.specs.Steps.{AreAllTold, AreWarnings, HoldsIn};
 
 use crate::adding::add_findings;
 use crate::finding::{Code, Finding};
@@ -44,7 +44,7 @@ fn resolve_whole<'m, M, S: BuildHasher + Clone + Drop>(
 ) -> Result<Features<'m, 'm, S>, Error>
     requires { 1 ≤ limit }
     ensures resolved { IfOk result (λ a.
-        IsParsed limit (manifest_meaning (λ m. m) manifest.now) (λ _. true) (answer_of a)) }
+        IsParsed limit (held manifest.now) (λ _. true) (answer_of a)) }
     ensures keyed { IfOk result (λ a. IsKeyed a.features) }
     ensures refused { IfErr result (λ e. e ≡ Memory) }
 {
@@ -62,10 +62,10 @@ fn add_errors<'m, S: BuildHasher>(
     features: &FeatureMap<'m, S>,
     bins: &'m [Product],
 ) -> Result<(), AllocError>
-    ensures added { OnOk result (Adds 0 3
+    ensures added { OnOk result (AddsFindings 0 3
         (AreErrors features.now known.now (map product_meaning bins.now))
         (map about findings.old.items) (map about findings.new.items)) }
-    ensures told { OnOk result (AreTold findings.old.items → AreTold findings.new.items) }
+    ensures told { OnOk result (AreAllTold findings.old.items → AreAllTold findings.new.items) }
 {
     let not_optional = not_optional(alloc, known)?;
     add_findings(findings, Code::NotOptional, &not_optional)?;
@@ -83,9 +83,9 @@ fn add_hints<'m, S: BuildHasher>(
     features: &FeatureMap<'m, S>,
 ) -> Result<(), AllocError>
     requires { (f : Text) → has_text names.now f ≡ (table_in features.now).has f }
-    ensures added { OnOk result (Adds 3 5 (AreHints features.now)
+    ensures added { OnOk result (AddsFindings 3 5 (AreHints features.now)
         (map about findings.old.items) (map about findings.new.items)) }
-    ensures told { OnOk result (AreTold findings.old.items → AreTold findings.new.items) }
+    ensures told { OnOk result (AreAllTold findings.old.items → AreAllTold findings.new.items) }
 {
     let implied = implied(alloc, names, features)?;
     add_findings(findings, Code::Implied, &implied)?;
@@ -104,9 +104,9 @@ fn add_warnings<'m, S: BuildHasher + Clone>(
 ) -> Result<(), Error>
     requires keyed { IsKeyed features.now }
     requires names { (f : Text) → has_text names.now f ≡ (table_in features.now).has f }
-    ensures added { OnOk result (Adds 5 8 (AreWarnings features.now known.now limit)
+    ensures added { OnOk result (AddsFindings 5 8 (AreWarnings features.now known.now limit)
         (map about findings.old.items) (map about findings.new.items)) }
-    ensures told { OnOk result (AreTold findings.old.items → AreTold findings.new.items) }
+    ensures told { OnOk result (AreAllTold findings.old.items → AreAllTold findings.new.items) }
     ensures refused { IfErr result (λ e. e ≡ Memory) }
 {
     let cyclic = cyclic(alloc, names, features)?;
@@ -129,7 +129,7 @@ fn found_in<'m, S: BuildHasher + Clone>(
     requires { IsKeyed features.now }
     ensures exact { IfOk result (λ v. (c : Code) (f : Text) → IsFound v.items c f
         ↔ HoldsIn features.now known.now (map product_meaning bins.now) limit c f) }
-    ensures in_order { IfOk result (λ v. AreInOrder v.items) }
+    ensures in_order { IfOk result (λ v. AreSorted v.items) }
     ensures told { IfOk result (λ v. AllByRecursion IsTold v.items) }
     ensures refused { IfErr result (λ e. e ≡ Memory) }
 {
@@ -154,8 +154,8 @@ pub fn lint_limited<'m, M, S: BuildHasher + Clone + Drop>(
 ) -> Result<Vec<Finding<'m>>, Error>
     requires { 1 ≤ limit }
     ensures exact { IfOk result (λ v. (c : Code) (f : Text) → IsFound v.items c f
-        ↔ Holds limit (manifest_meaning (λ m. m) manifest.now) c f) }
-    ensures in_order { IfOk result (λ v. AreInOrder v.items) }
+        ↔ HoldsOf limit (held manifest.now) c f) }
+    ensures in_order { IfOk result (λ v. AreSorted v.items) }
     ensures told { IfOk result (λ v. AllByRecursion IsTold v.items) }
     ensures refused { IfErr result (λ e. e ≡ Memory) }
 {
@@ -178,8 +178,8 @@ pub fn lint<'m, M, S: BuildHasher + Clone + Drop>(
     manifest: &'m Manifest<M>,
 ) -> Result<Vec<Finding<'m>>, Error>
     ensures exact { IfOk result (λ v. (c : Code) (f : Text) → IsFound v.items c f
-        ↔ Holds 2048 (manifest_meaning (λ m. m) manifest.now) c f) }
-    ensures in_order { IfOk result (λ v. AreInOrder v.items) }
+        ↔ HoldsOf 2048 (held manifest.now) c f) }
+    ensures in_order { IfOk result (λ v. AreSorted v.items) }
     ensures told { IfOk result (λ v. AllByRecursion IsTold v.items) }
     ensures refused { IfErr result (λ e. e ≡ Memory) }
 {

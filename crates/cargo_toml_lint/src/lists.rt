@@ -8,7 +8,7 @@ ghost use Rattle.cargo_toml.specs.Views.{has_text, table_in};
 ghost use Rattle.cargo_toml_lint.specs.Findings.{asks_for, has_same_name, is_missing};
 ghost use Rattle.cargo_toml_lint.specs.Findings.{is_not_optional, is_required, is_unknown};
 ghost use Rattle.cargo_toml_lint.specs.Known.{lists, says};
-ghost use Rattle.cargo_toml_lint.specs.Names.{listed_by, names_in};
+ghost use Rattle.cargo_toml_lint.specs.Names.{listed_by, held_names};
 ghost use Rattle.cargo_toml_lint.specs.Steps.{explicit_at, over_at};
 
 use crate::graph::FeatureMap;
@@ -22,7 +22,7 @@ use std::hash::BuildHasher;
 // Whether the text names what is neither a feature nor an optional dependency, or acts on no
 // dependency.
 fn is_unknown(known: &Known<'_>, text: &str) -> bool
-    ensures { result ≡ is_unknown (names_in known.now) (item_of text.now) }
+    ensures { result ≡ is_unknown (held_names known.now) (item_of text.now) }
 {
     let action = read_action(text);
     if action.acts() {
@@ -34,15 +34,15 @@ fn is_unknown(known: &Known<'_>, text: &str) -> bool
 
 // Whether the key is that of dependencies of which none is optional.
 fn is_never_optional(known: &Known<'_>, key: &str) -> bool
-    ensures { result ≡ ((names_in known.now).dependency key.now
-        && not ((names_in known.now).optional key.now)) }
+    ensures { result ≡ ((held_names known.now).dependency key.now
+        && not ((held_names known.now).optional key.now)) }
 {
     known.dependencies.contains(key) && !known.optional.contains(key)
 }
 
 // Whether the text is `dep:d` or `d?/f`, where `d` is a dependency that isn't optional.
 fn is_not_optional(known: &Known<'_>, text: &str) -> bool
-    ensures { result ≡ is_not_optional (names_in known.now) (item_of text.now) }
+    ensures { result ≡ is_not_optional (held_names known.now) (item_of text.now) }
 {
     let action = read_action(text);
     if action.acts() && (action.is_dep_only || action.is_conditional) {
@@ -55,7 +55,7 @@ fn is_not_optional(known: &Known<'_>, text: &str) -> bool
 // Whether the text names what isn't there, or acts on no dependency.
 fn is_missing<S: BuildHasher>(known: &Known<'_>, features: &FeatureMap<'_, S>, text: &str) -> bool
     ensures { result
-        ≡ is_missing (names_in known.now) (table_in features.now).has (item_of text.now) }
+        ≡ is_missing (held_names known.now) (table_in features.now).has (item_of text.now) }
 {
     let action = read_action(text);
     if action.acts() {
@@ -66,13 +66,13 @@ fn is_missing<S: BuildHasher>(known: &Known<'_>, features: &FeatureMap<'_, S>, t
 }
 
 fn has_unknown(known: &Known<'_>, texts: &[String]) -> bool
-    ensures { result ≡ says (is_unknown (names_in known.now)) (map string_bytes texts.now) }
+    ensures { result ≡ says (is_unknown (held_names known.now)) (map string_bytes texts.now) }
 {
     texts.iter().any(|text| is_unknown(known, text.as_str()))
 }
 
 fn has_not_optional(known: &Known<'_>, texts: &[String]) -> bool
-    ensures { result ≡ says (is_not_optional (names_in known.now)) (map string_bytes texts.now) }
+    ensures { result ≡ says (is_not_optional (held_names known.now)) (map string_bytes texts.now) }
 {
     texts
         .iter()
@@ -85,7 +85,7 @@ pub(crate) fn not_optional<'m>(
     known: &Known<'m>,
 ) -> Result<BTreeSet<&'m str>, AllocError>
     ensures { IfOk result (λ s. (f : Text) → has_text s f
-        ≡ lists (listed_by known.now) (is_not_optional (names_in known.now)) f) }
+        ≡ lists (listed_by known.now) (is_not_optional (held_names known.now)) f) }
 {
     let mut names = BTreeSet::new(alloc);
     for (name, texts) in known.features {
@@ -98,7 +98,7 @@ pub(crate) fn not_optional<'m>(
 
 // Whether a feature and an optional dependency have the name, which no action names by `dep:`.
 fn is_same_name(known: &Known<'_>, name: &str) -> bool
-    ensures { result ≡ has_same_name (names_in known.now) name.now }
+    ensures { result ≡ has_same_name (held_names known.now) name.now }
 {
     known.lists(name) && known.optional.contains(name) && !known.reserved.contains(name)
 }
@@ -109,7 +109,7 @@ pub(crate) fn same_name<'m>(
     known: &Known<'m>,
 ) -> Result<BTreeSet<&'m str>, AllocError>
     ensures { IfOk result (λ s. (f : Text) → IsTrue (has_text s f)
-        ↔ IsTrue (has_same_name (names_in known.now) f)) }
+        ↔ IsTrue (has_same_name (held_names known.now) f)) }
 {
     let mut names = BTreeSet::new(alloc);
     for name in &known.optional {
@@ -123,7 +123,7 @@ pub(crate) fn same_name<'m>(
 // The features whose lists have what the manifest doesn't.
 fn naming_unknown<'m>(alloc: Global, known: &Known<'m>) -> Result<BTreeSet<&'m str>, AllocError>
     ensures { IfOk result (λ s. (f : Text) → has_text s f
-        ≡ lists (listed_by known.now) (is_unknown (names_in known.now)) f) }
+        ≡ lists (listed_by known.now) (is_unknown (held_names known.now)) f) }
 {
     let mut names = BTreeSet::new(alloc);
     for (name, texts) in known.features {
@@ -163,8 +163,8 @@ pub(crate) fn unknown<'m, S: BuildHasher>(
     bins: &'m [Product],
 ) -> Result<BTreeSet<&'m str>, AllocError>
     ensures { IfOk result (λ s. (f : Text) → has_text s f
-        ≡ (lists (listed_by known.now) (is_unknown (names_in known.now)) f
-        || is_required (names_in known.now) (table_in features.now).has
+        ≡ (lists (listed_by known.now) (is_unknown (held_names known.now)) f
+        || is_required (held_names known.now) (table_in features.now).has
         (map product_meaning bins.now) f)) }
 {
     let mut names = naming_unknown(alloc, known)?;

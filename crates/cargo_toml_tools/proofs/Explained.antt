@@ -15,7 +15,8 @@ use Rattle.cargo_toml.specs.Packages.{PackageMeaning}
 use Rattle.cargo_toml_tools.specs.declared.index.IndexError.{IndexError}
 use Rattle.cargo_toml_tools.specs.declared.index.IndexError.TheVariants.{Incomplete, Memory, NoAddress, NoPackage, NoRequirement, NoVersion}
 use Rattle.cargo_toml_tools.specs.Checked.{AreChecked, IsRefusal}
-use Rattle.cargo_toml_tools.specs.Indexed.{Explains, IsTaken, RefusesVersion, are_taken, is_dev, is_left, is_stated, is_stated_if_any, is_taken, is_told, is_unwritten, is_version, lacks_address, lacks_version, leaves_some, tables, tells}
+use Rattle.cargo_toml.specs.InheritedDependencies.{is_left}
+use Rattle.cargo_toml_tools.specs.Indexed.{Explains, IsTaken, RefusesVersion, are_taken, is_dev, is_stated, is_stated_if_any, is_taken, is_told, is_unwritten, is_version, lacks_address, lacks_version, leaves_some, all_by_kind, tells}
 
 -- what is read of a value changes nothing
 pub if_any_mapped : {X Y : Type 0} (f : X → Y) (v : Option (Inheritable X)) → is_stated_if_any (option_map (inheritable_map f) v) ≡ is_stated_if_any v
@@ -116,21 +117,21 @@ module _ {M : Type 0} (text : Text) (m : ManifestMeaning M) (p : PackageMeaning 
   at_package : (test : PackageMeaning M → Bool) → option_map_or test m.«package» false ≡ test p
   at_package test = ap (λ (o : Option (PackageMeaning M)). option_map_or test o false) is
 
-  pub checked_taken : AreChecked text p (tables m) → IsTaken text m
+  pub checked_taken : AreChecked text p (all_by_kind m) → IsTaken text m
   checked_taken a = record {
     version = at_package (λ q. is_version text q.version) ∙ a.version;
     rust_version = at_package (λ q. is_stated_if_any q.rust_version) ∙ a.rust_version;
     dependencies = a.dependencies;
   }
 
-  taken_checked : IsTaken text m → AreChecked text p (tables m)
+  taken_checked : IsTaken text m → AreChecked text p (all_by_kind m)
   taken_checked a = record {
     version = sym (at_package (λ q. is_version text q.version)) ∙ a.version;
     rust_version = sym (at_package (λ q. is_stated_if_any q.rust_version)) ∙ a.rust_version;
     dependencies = a.dependencies;
   }
 
-  pub explained : (e : IndexError) → IsRefusal text p (tables m) e → Explains text m e
+  pub explained : (e : IndexError) → IsRefusal text p (all_by_kind m) e → Explains text m e
   explained NoPackage h = absurd h
   explained NoVersion h = at_package (λ q. is_unwritten text q.version) ∙ h
   explained Incomplete (inl h) = inl (at_package leaves_some ∙ h)
@@ -139,8 +140,8 @@ module _ {M : Type 0} (text : Text) (m : ManifestMeaning M) (p : PackageMeaning 
   explained (NoAddress key) h = h
   explained Memory h = tt
 
-  pub not_taken : (e : IndexError) → IsRefusal text p (tables m) e → (e ≡ Memory) ⊎ (IsTaken text m → ⊥)
-  not_taken e h = elim (refuted text p (tables m) e h) [
+  pub not_taken : (e : IndexError) → IsRefusal text p (all_by_kind m) e → (e ≡ Memory) ⊎ (IsTaken text m → ⊥)
+  not_taken e h = elim (refuted text p (all_by_kind m) e h) [
     | inl same ↦ inl same
     | inr bad ↦ inr (λ a. bad (taken_checked a))
   ]

@@ -3,13 +3,13 @@ use Rattle.std.proofs.Common.{◌≡◌, ◌+◌, ◌++◌, ◌&&◌, ◌||◌, 
 use Rattle.std.proofs.Math.Bool.{and_comm, or_comm}
 use Rattle.std.proofs.lemmas.List.{append-nil, reverse-append, take_more}
 use Rattle.cargo_toml_tools.specs.Patterns.{after_any, after_one, begins, is_empty, matches}
-use Rattle.cargo_toml_tools.specs.Rows.{fits, next, row, scan, shift}
+use Rattle.cargo_toml_tools.specs.Rows.{accepts, next, row, scan, shift}
 use mathlib.Core.List.{reverse_aux}
 
 shifted : (w : ℕ) (test : List ℕ → Bool) (end cs : List ℕ) → after_one w test end ∷ shift w (row test end cs) cs ≡ row (after_one w test) end cs
 shifted w test end [] = refl
 shifted w test end (c ∷ cs) =
-    ap (λ t. after_one w test end ∷ (t ∷ shift w (row test (c ∷ end) cs) cs)) (and_comm (test end) (fits w c))
+    ap (λ t. after_one w test end ∷ (t ∷ shift w (row test (c ∷ end) cs) cs)) (and_comm (test end) (accepts w c))
     ∙ ap (λ t. after_one w test end ∷ t) (shifted w test (c ∷ end) cs)
 
 scanned : (test : List ℕ → Bool) (some : Bool) (end cs : List ℕ) → (some || test end) ≡ after_any test end → scan some (row test end cs) ≡ row (after_any test) end cs
@@ -51,9 +51,9 @@ pub scan_end : (items : List Bool) (some : Bool) (left whole : List Bool) → le
 scan_end items some left whole none before = sym (append-nil items) ∙ ap (λ t. items ++ scan some t) (sym none) ∙ before
 
 pub shift_step : (w : ℕ) (items : List Bool) (here : Bool) (c : ℕ) (left rest : List Bool) (cs ds : List ℕ) (whole : List Bool) → left ≡ here ∷ rest → cs ≡ c ∷ ds
-    → items ++ shift w left cs ≡ whole → (items ++ (here && fits w c) ∷ []) ++ shift w rest ds ≡ whole
+    → items ++ shift w left cs ≡ whole → (items ++ (here && accepts w c) ∷ []) ++ shift w rest ds ≡ whole
 shift_step w items here c left rest cs ds whole is others before =
-    append_assoc items ((here && fits w c) ∷ []) (shift w rest ds)
+    append_assoc items ((here && accepts w c) ∷ []) (shift w rest ds)
     ∙ ap (λ t. items ++ shift w t (c ∷ ds)) (sym is) ∙ ap (λ t. items ++ shift w left t) (sym others) ∙ before
 
 shift_none : (w : ℕ) (left : List Bool) → shift w left [] ≡ []

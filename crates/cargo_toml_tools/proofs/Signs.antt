@@ -13,7 +13,7 @@ use Rattle.std.specs.Str.Parse.{AllDigits}
 use lib.Utf8.{encode}
 use Rattle.cargo_toml_tools.specs.declared.escape.Format.{Format}
 use Rattle.cargo_toml_tools.specs.declared.escape.Format.TheVariants.{Dot, Line, Markdown}
-use Rattle.cargo_toml_tools.specs.Escapes.{Adds, IsOneLine, fits, is_cell, is_guarded, is_line, is_mark, is_plain, is_sign}
+use Rattle.cargo_toml_tools.specs.Escapes.{Adds, IsOneLine, fits, is_cell, is_guarded, is_line, is_mark, is_unescaped, is_sign}
 
 -- one text is added
 pub adds_one : (test : List ℕ → Bool) (old new added : List ℕ) → new ≡ old ++ added → test added ≡ true → Adds test old new
@@ -65,7 +65,7 @@ pub adds_none : (f : Format) (a : List ℕ) → Adds (fits f) a a
 adds_none f a = record { added = []; follows = sym (append-nil a); passes = fits_none f }
 
 -- bytes that stand for themselves are not escaped
-plain_sign : (f : Format) (b : ℕ) → is_plain f b ≡ true → is_sign b ≡ true
+plain_sign : (f : Format) (b : ℕ) → is_unescaped f b ≡ true → is_sign b ≡ true
 plain_sign Line b h = (and_parts (is_sign b) (not (nat_eq b 124) && not (nat_eq b 92)) h).0
 plain_sign Markdown b h = (and_parts (is_sign b) (not (is_mark b)) h).0
 plain_sign Dot b h = (and_parts (is_sign b) (not (nat_eq b 34) && not (nat_eq b 92)) h).0
@@ -87,7 +87,7 @@ other_guarded mark (b ∷ bs) h =
     (and_from (is_sign b) (is_line bs) q.0 rest.0)
     (and_from (not (nat_eq b mark)) (is_guarded mark (nat_eq b 92) bs) r.0 (ap (λ t. is_guarded mark t bs) apart ∙ rest.1))
 
-pub plain_fits : (f : Format) (bs : List ℕ) → list_all (is_plain f) bs ≡ true → fits f bs ≡ true
+pub plain_fits : (f : Format) (bs : List ℕ) → list_all (is_unescaped f) bs ≡ true → fits f bs ≡ true
 unfolding is_other
 plain_fits Line bs h = other_guarded 124 bs h
 plain_fits Markdown bs h = h
@@ -103,7 +103,7 @@ apart_above b (x ∷ xs) h high =
 not_eq : (b n : ℕ) → n < 128 → 128 ≤ b → not (nat_eq b n) ≡ true
 not_eq b n low high = not_from_false (nat_eq b n) (ne_eqb b n (λ e. omega arith))
 
-pub plain_above : (f : Format) (b : ℕ) → 128 ≤ b → is_plain f b ≡ true
+pub plain_above : (f : Format) (b : ℕ) → 128 ≤ b → is_unescaped f b ≡ true
 plain_above Line b high =
     and_from (is_sign b) (not (nat_eq b 124) && not (nat_eq b 92)) (le-leb 32 b (omega arith))
     (and_from (not (nat_eq b 124)) (not (nat_eq b 92)) (not_eq b 124 (lit< tt) high) (not_eq b 92 (lit< tt) high))
@@ -115,7 +115,7 @@ plain_above Dot b high =
 
 -- digits, of any base up to 16
 is_digit_fine : Format → ℕ → Bool
-is_digit_fine f b = not (nat_lt (digit_value b) 16) || is_plain f b
+is_digit_fine f b = not (nat_lt (digit_value b) 16) || is_unescaped f b
 
 low_digits : (f : Format) → agree_below (is_digit_fine f) (λ b. true) 128 ≡ true
 unfolding is_digit_fine
@@ -123,19 +123,19 @@ low_digits Line = refl
 low_digits Markdown = refl
 low_digits Dot = refl
 
-plain_digit : (f : Format) (b : ℕ) → digit_value b < 16 → is_plain f b ≡ true
+plain_digit : (f : Format) (b : ℕ) → digit_value b < 16 → is_unescaped f b ≡ true
 unfolding is_digit_fine
 plain_digit f b h = elim (cases_lt b 128) [
   | inl low ↦ (let fine = agree_below_at (is_digit_fine f) (λ b. true) 128 b (low_digits f) low in
       let small : nat_lt (digit_value b) 16 ≡ true = lt-ltb (digit_value b) 16 h in
-      let e = ap (λ t. not t || is_plain f b) small in sym e ∙ fine)
+      let e = ap (λ t. not t || is_unescaped f b) small in sym e ∙ fine)
   | inr high ↦ plain_above f b high
 ]
 
-line_digits : (f : Format) (radix : ℕ) → radix ≤ 16 → (ds : List ℕ) → AllDigits radix ds → list_all (is_plain f) ds ≡ true
+line_digits : (f : Format) (radix : ℕ) → radix ≤ 16 → (ds : List ℕ) → AllDigits radix ds → list_all (is_unescaped f) ds ≡ true
 line_digits f radix r [] h = refl
 line_digits f radix r (c ∷ cs) h =
-    and_from (is_plain f c) (list_all (is_plain f) cs) (plain_digit f c (omega (arith, h.0))) (line_digits f radix r cs h.1)
+    and_from (is_unescaped f c) (list_all (is_unescaped f) cs) (plain_digit f c (omega (arith, h.0))) (line_digits f radix r cs h.1)
 
 pub fits_decimal : (f : Format) (n : ℕ) → n < 2 ^ 32 → fits f (decimal n) ≡ true
 fits_decimal f n h = plain_fits f (decimal n) (line_digits f 10 (lit≤ tt) (decimal n) (decimal_is_IsNumeral n (omega arith)).0.1)
@@ -148,16 +148,16 @@ encode_above : (f : Format) (c : ℕ) → 128 ≤ c → list_all (λ b. nat_le 1
 unfolding lib.Utf8.encode
 encode_above f c h = grind arith
 
-plain_all : (f : Format) (bs : List ℕ) → list_all (λ b. nat_le 128 b) bs ≡ true → list_all (is_plain f) bs ≡ true
+plain_all : (f : Format) (bs : List ℕ) → list_all (λ b. nat_le 128 b) bs ≡ true → list_all (is_unescaped f) bs ≡ true
 plain_all f [] h = refl
 plain_all f (b ∷ bs) h =
     let p = and_parts (nat_le 128 b) (list_all (λ b. nat_le 128 b) bs) h in
-    and_from (is_plain f b) (list_all (is_plain f) bs) (plain_above f b (leb-true 128 b p.0)) (plain_all f bs p.1)
+    and_from (is_unescaped f b) (list_all (is_unescaped f) bs) (plain_above f b (leb-true 128 b p.0)) (plain_all f bs p.1)
 
-pub fits_encode : (f : Format) (c : ℕ) → is_plain f c ≡ true → fits f (encode_utf8 c) ≡ true
+pub fits_encode : (f : Format) (c : ℕ) → is_unescaped f c ≡ true → fits f (encode_utf8 c) ≡ true
 fits_encode f c h = elim (cases_lt c 128) [
   | inl low ↦ (let e = encode_ascii c low in let P : List ℕ → Type 0 = λ bs. fits f bs ≡ true in
-      subst P (sym e) (plain_fits f (c ∷ []) (and_from (is_plain f c) true h refl)))
+      subst P (sym e) (plain_fits f (c ∷ []) (and_from (is_unescaped f c) true h refl)))
   | inr high ↦ plain_fits f (encode c) (plain_all f (encode c) (encode_above f c high))
 ]
 
@@ -176,10 +176,10 @@ fits_end Markdown = refl
 fits_end Dot = refl
 
 -- a cell of a table
-cell_quiet : (bs : List ℕ) → list_all (is_plain Markdown) bs ≡ true → is_cell bs ≡ true
+cell_quiet : (bs : List ℕ) → list_all (is_unescaped Markdown) bs ≡ true → is_cell bs ≡ true
 cell_quiet [] h = refl
 cell_quiet (b ∷ bs) h =
-    let p = and_parts (is_plain Markdown b) (list_all (is_plain Markdown) bs) h in
+    let p = and_parts (is_unescaped Markdown b) (list_all (is_unescaped Markdown) bs) h in
     let q = and_parts (is_sign b) (not (is_mark b)) p.0 in
     and_from (is_sign b && not (nat_eq b 124)) (is_cell bs)
     (and_from (is_sign b) (not (nat_eq b 124)) q.0 (no_bar b q.1)) (cell_quiet bs p.1)
@@ -193,7 +193,7 @@ cell_quiet (b ∷ bs) h =
 pub cell_append : (xs ys : List ℕ) → is_cell xs ≡ true → is_cell ys ≡ true → is_cell (xs ++ ys) ≡ true
 cell_append xs ys e f = list_all-append (λ b. is_sign b && not (nat_eq b 124)) xs ys ∙ and_from (is_cell xs) (is_cell ys) e f
 
-pub cell_encode : (c : ℕ) → is_plain Markdown c ≡ true → is_cell (encode_utf8 c) ≡ true
+pub cell_encode : (c : ℕ) → is_unescaped Markdown c ≡ true → is_cell (encode_utf8 c) ≡ true
 cell_encode c h = cell_quiet (encode_utf8 c) (fits_encode Markdown c h)
 
 -- one piece behind another, for any test that both keep

@@ -15,8 +15,8 @@ use Rattle.cargo_toml_tools.specs.Indexed.{are_taken, is_stated_if_any, is_told,
 use Rattle.cargo_toml_tools.specs.Indexed.{is_version, leaves_some, tables_among, with_kinds}
 
 -- the tables of a package or a target, and all those of a crate
-abbrev pub own_tables : Tables → List (Kind × Entries)
-own_tables t =
+abbrev pub own_by_kind : Tables → List (Kind × Entries)
+own_by_kind t =
     with_kinds (entries_meaning t.normal.now) (entries_meaning t.dev.now)
     (entries_meaning t.build.now)
 

@@ -37,10 +37,10 @@ pub record Adds (test : List ℕ → Bool) (old new : List ℕ) : Type 0 where
   pub passes : test added ≡ true
 
 -- a character that stands for itself in the format
-abbrev pub is_plain : Format → ℕ → Bool
-is_plain Line c = is_sign c && (not (nat_eq c 124) && not (nat_eq c 92))
-is_plain Markdown c = is_sign c && not (is_mark c)
-is_plain Dot c = is_sign c && (not (nat_eq c 34) && not (nat_eq c 92))
+abbrev pub is_unescaped : Format → ℕ → Bool
+is_unescaped Line c = is_sign c && (not (nat_eq c 124) && not (nat_eq c 92))
+is_unescaped Markdown c = is_sign c && not (is_mark c)
+is_unescaped Dot c = is_sign c && (not (nat_eq c 34) && not (nat_eq c 92))
 
 -- no byte is a control of ASCII or a bar, as in a cell of a table
 abbrev pub is_cell : List ℕ → Bool

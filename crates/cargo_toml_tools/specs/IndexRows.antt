@@ -22,8 +22,8 @@ text_or_null None = null
 text_or_null (Some text) = string text
 
 -- what is of the package alone
-abbrev pub package_rows : {M : Type 0} → PackageMeaning M → List (Text × Data)
-package_rows p =
+abbrev pub rows_of_package : {M : Type 0} → PackageMeaning M → List (Text × Data)
+rows_of_package p =
     (codes "name", string p.name)
     ∷ (codes "vers", text_or_null (option_map parts_text (value_of p.version)))
     ∷ (codes "yanked", boolean false)
@@ -71,4 +71,4 @@ pub record IsLineOf {M : Type 0} (m : ManifestMeaning M) (checksum : Option Text
     (line : Text) : Type 0 where
   pub of : PackageMeaning M
   pub is : m.«package» ≡ Some of
-  pub rows : HasRows (package_rows of) checksum line
+  pub rows : HasRows (rows_of_package of) checksum line

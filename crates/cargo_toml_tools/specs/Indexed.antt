@@ -6,7 +6,7 @@ use Rattle.std.specs.List.{flat_map, list_all, list_any}
 use Rattle.std.specs.Option.{option_map_or}
 use Rattle.cargo_toml.specs.Action.{Text}
 use Rattle.cargo_toml.specs.Dependencies.{DependencyMeaning, simple, inherited, detailed}
-use Rattle.cargo_toml.specs.InheritedDependencies.{Entries}
+use Rattle.cargo_toml.specs.InheritedDependencies.{Entries, is_left}
 use Rattle.toml.specs.Data.{Members, get, get_member}
 use Rattle.toml.specs.Parse.{parse_document}
 use Rattle.cargo_toml.specs.Manifests.{ManifestMeaning, is_zero}
@@ -21,12 +21,6 @@ use Rattle.cargo_toml_tools.specs.declared.index.IndexError.{IndexError}
 use Rattle.cargo_toml_tools.specs.declared.index.IndexError.TheVariants.{Incomplete, Memory}
 use Rattle.cargo_toml_tools.specs.declared.index.IndexError.TheVariants.{NoAddress, NoPackage}
 use Rattle.cargo_toml_tools.specs.declared.index.IndexError.TheVariants.{NoRequirement, NoVersion}
-
--- a dependency that is left to the workspace
-abbrev pub is_left : DependencyMeaning → Bool
-is_left (simple r) = false
-is_left (inherited i) = true
-is_left (detailed d) = false
 
 -- it has a path or a repository, and no version
 abbrev pub lacks_version : DependencyMeaning → Bool
@@ -69,17 +63,17 @@ tells Memory kind e = false
 abbrev pub with_kinds : Entries → Entries → Entries → List (Kind × Entries)
 with_kinds normal dev build = (Normal, normal) ∷ (Dev, dev) ∷ (Build, build) ∷ []
 
-abbrev pub tables_in : TargetMeaning → List (Kind × Entries)
-tables_in t = with_kinds t.dependencies t.dev_dependencies t.build_dependencies
+abbrev pub target_by_kind : TargetMeaning → List (Kind × Entries)
+target_by_kind t = with_kinds t.dependencies t.dev_dependencies t.build_dependencies
 
 -- all tables of a package, and those of targets behind them
 abbrev pub tables_among : Entries → Entries → Entries → List (Text × TargetMeaning)
     → List (Kind × Entries)
 tables_among normal dev build targets =
-    with_kinds normal dev build ++ flat_map (λ t. tables_in t.1) targets
+    with_kinds normal dev build ++ flat_map (λ t. target_by_kind t.1) targets
 
-abbrev pub tables : {M : Type 0} → ManifestMeaning M → List (Kind × Entries)
-tables m = tables_among m.dependencies m.dev_dependencies m.build_dependencies m.target
+abbrev pub all_by_kind : {M : Type 0} → ManifestMeaning M → List (Kind × Entries)
+all_by_kind m = tables_among m.dependencies m.dev_dependencies m.build_dependencies m.target
 
 abbrev pub are_taken : List (Kind × Entries) → Bool
 are_taken ts = list_all (λ t. list_all (λ e. is_taken t.0 e.1) t.1) ts
@@ -120,7 +114,7 @@ is_version text v = is_stated v && not (is_unwritten text v)
 pub record IsTaken {M : Type 0} (text : Text) (m : ManifestMeaning M) : Type 0 where
   pub version : IsTrue (option_map_or (λ p. is_version text p.version) m.«package» false)
   pub rust_version : IsTrue (option_map_or (λ p. is_stated_if_any p.rust_version) m.«package» false)
-  pub dependencies : IsTrue (are_taken (tables m))
+  pub dependencies : IsTrue (are_taken (all_by_kind m))
 
 -- the package leaves its version or its oldest compiler to the workspace
 abbrev pub leaves_some : {M : Type 0} → PackageMeaning M → Bool
@@ -132,9 +126,10 @@ Explains text m NoPackage = m.«package» ≡ None
 Explains text m NoVersion =
     IsTrue (option_map_or (λ p. is_unwritten text p.version) m.«package» false)
 Explains text m Incomplete =
-    IsTrue (option_map_or leaves_some m.«package» false) ⊎ IsTrue (is_told Incomplete (tables m))
-Explains text m (NoRequirement key) = IsTrue (is_told (NoRequirement key) (tables m))
-Explains text m (NoAddress key) = IsTrue (is_told (NoAddress key) (tables m))
+    IsTrue (option_map_or leaves_some m.«package» false)
+    ⊎ IsTrue (is_told Incomplete (all_by_kind m))
+Explains text m (NoRequirement key) = IsTrue (is_told (NoRequirement key) (all_by_kind m))
+Explains text m (NoAddress key) = IsTrue (is_told (NoAddress key) (all_by_kind m))
 Explains text m Memory = Unit {0}
 
 -- why a version isn't taken: it is left to the workspace, or none is written

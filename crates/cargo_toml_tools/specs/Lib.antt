@@ -1,9 +1,11 @@
-pub mod Audited
-pub mod Checked
-pub mod Documented
-pub mod Escapes
+-- what an index takes, what is amiss or odd, and how names are written: a user has to believe these
 pub mod Indexed
 pub mod IndexRows
 pub mod Linted
+pub mod Audited
+pub mod Escapes
 pub mod Patterns
+-- the code's own steps, in contracts of inner functions alone: nothing here has to be believed
+pub mod Checked
+pub mod Documented
 pub mod Rows

@@ -2,7 +2,7 @@
 use Rattle.std.specs.Prelude.{Bool, true, false, IsTrue}
 use Rattle.cargo_toml.specs.Action.{Text}
 use Rattle.cargo_toml.specs.Manifests.{ManifestMeaning}
-use Rattle.cargo_toml_lint.specs.Findings.{Holds, level_of}
+use Rattle.cargo_toml_lint.specs.Findings.{HoldsOf, code_level}
 use Rattle.cargo_toml_lint.specs.declared.finding.Code.{Code}
 use Rattle.cargo_toml_lint.specs.declared.finding.Level.{Level}
 use Rattle.cargo_toml_lint.specs.declared.finding.Level.TheVariants.{Error, Hint, Warning}
@@ -17,5 +17,5 @@ weighs Warning = true
 pub record IsAmiss {M : Type 0} (m : ManifestMeaning M) : Type 0 where
   pub code : Code
   pub feature : Text
-  pub weighed : IsTrue (weighs (level_of code))
-  pub holds : Holds 2048 m code feature
+  pub weighed : IsTrue (weighs (code_level code))
+  pub holds : HoldsOf 2048 m code feature

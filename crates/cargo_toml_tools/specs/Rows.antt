@@ -6,8 +6,8 @@ abbrev pub row : (List ℕ → Bool) → List ℕ → List ℕ → List Bool
 row test end [] = test end ∷ []
 row test end (c ∷ cs) = test end ∷ row test (c ∷ end) cs
 
-abbrev pub fits : ℕ → ℕ → Bool
-fits wanted c = nat_eq wanted 63 || nat_eq wanted c
+abbrev pub accepts : ℕ → ℕ → Bool
+accepts wanted c = nat_eq wanted 63 || nat_eq wanted c
 
 -- whether some end up to here passes
 abbrev pub scan : Bool → List Bool → List Bool
@@ -17,7 +17,7 @@ scan some (here ∷ rest) = (some || here) ∷ scan (some || here) rest
 abbrev pub shift : ℕ → List Bool → List ℕ → List Bool
 shift wanted [] cs = []
 shift wanted (here ∷ rest) [] = []
-shift wanted (here ∷ rest) (c ∷ cs) = (here && fits wanted c) ∷ shift wanted rest cs
+shift wanted (here ∷ rest) (c ∷ cs) = (here && accepts wanted c) ∷ shift wanted rest cs
 
 -- the row with one more character of the pattern
 abbrev pub next : Bool → ℕ → List Bool → List ℕ → List Bool

@@ -1,6 +1,6 @@
 //! What is documented of a crate's features: a page in Markdown, or the graph for Graphviz.
 ghost use Rattle.std.specs.Prelude.{◌≡◌};
-ghost use Rattle.cargo_toml_tools.specs.Documented.{is_private, is_shown};
+ghost use Rattle.cargo_toml_tools.specs.Documented.{is_internal, is_shown};
 
 mod dot;
 mod reached;
@@ -103,7 +103,7 @@ fn is_shown(feature: &Feature<'_>, has_default: bool) -> bool
 
 /// Whether a feature is hidden, by its name, or private, by its table.
 fn is_private(feature: &Feature<'_>) -> bool
-    ensures { result ≡ is_private feature.now }
+    ensures { result ≡ is_internal feature.now }
 {
     !feature.public || feature.key.starts_with('_')
 }

@@ -4,7 +4,7 @@
 ghost use Rattle.std.specs.Prelude.{◌≡◌, ◌≤◌, IfOk, IsFalse, IsTrue, OnOk, true};
 ghost use Rattle.std.specs.Prelude.{encode_utf8, string_bytes};
 ghost use Rattle.cargo_toml_tools.specs.declared.escape.Format.TheVariants.{Dot, Line, Markdown};
-ghost use Rattle.cargo_toml_tools.specs.Escapes.{Adds, IsOneLine, fits, is_cell, is_plain};
+ghost use Rattle.cargo_toml_tools.specs.Escapes.{Adds, IsOneLine, fits, is_cell, is_unescaped};
 
 use std::alloc::{AllocError, Global};
 use std::fmt::Write;
@@ -122,7 +122,7 @@ fn push_signs(text: &mut String, signs: &str, format: Format) -> Result<(), Allo
 
 /// Writes a character that stands for itself in this format.
 fn push_plain(text: &mut String, c: char, format: Format) -> Result<(), AllocError>
-    requires { is_plain format c ≡ true }
+    requires { is_unescaped format c ≡ true }
     ensures { OnOk result (Adds (fits format) (string_bytes text.old) (string_bytes text.new)) }
 {
     text.push(c)
@@ -155,7 +155,7 @@ fn is_control(c: char) -> bool
 
 /// Whether the character has no meaning in the text of a line of Markdown.
 fn is_plain_in_markdown(c: char) -> bool
-    ensures { IsTrue result → is_plain Markdown c ≡ true }
+    ensures { IsTrue result → is_unescaped Markdown c ≡ true }
 {
     match c {
         ' ' | '-' | '+' | '.' | ',' | ':' | ';' | '/' | '?' | '(' | ')' | '=' | '%' => true,

@@ -2,7 +2,7 @@
 ghost use Rattle.std.specs.Prelude.{◌≡◌, ◌↔◌, ◌⊎◌, Err, IfErr, IfOk, None, OnOk, string_bytes};
 ghost use Rattle.std.specs.Option.{option_copied};
 ghost use Rattle.serde_json.specs.View.{members_view};
-ghost use Rattle.cargo_toml.specs.Manifests.{manifest_meaning};
+ghost use Rattle.cargo_toml.specs.Manifests.{held};
 ghost use Rattle.cargo_toml_tools.specs.declared.index.IndexError.TheVariants.{Memory, NoPackage};
 ghost use Rattle.cargo_toml_tools.specs.Indexed.{Explains, IsTaken};
 ghost use Rattle.cargo_toml_tools.specs.IndexRows.{AddsFeatures, HasRows, IsLineOf};
@@ -91,11 +91,11 @@ pub fn index_line<M>(
     checksum: Option<&str>,
 ) -> Result<String, IndexError>
     ensures no_package { (result ≡ Err NoPackage) ↔ (manifest.now.«package» ≡ None) }
-    ensures taken { OnOk result (IsTaken text.now (manifest_meaning (λ m. m) manifest.now)) }
-    ensures refused { IfErr result (Explains text.now (manifest_meaning (λ m. m) manifest.now)) }
+    ensures taken { OnOk result (IsTaken text.now (held manifest.now)) }
+    ensures refused { IfErr result (Explains text.now (held manifest.now)) }
     ensures exact { IfErr result
-        (λ e. (e ≡ Memory) ⊎ ¬ IsTaken text.now (manifest_meaning (λ m. m) manifest.now)) }
-    ensures line { IfOk result (λ line. IsLineOf (manifest_meaning (λ m. m) manifest.now)
+        (λ e. (e ≡ Memory) ⊎ ¬ IsTaken text.now (held manifest.now)) }
+    ensures line { IfOk result (λ line. IsLineOf (held manifest.now)
         (option_copied checksum.entry) (string_bytes line)) }
 {
     let Some(package) = &manifest.package else {

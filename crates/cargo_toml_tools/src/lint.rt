@@ -2,7 +2,7 @@
 ghost use Rattle.std.specs.Prelude.{◌≡◌, ◌↔◌, IfErr, IfOk, IsTrue};
 ghost use Rattle.std.specs.List.{list_any};
 ghost use Rattle.cargo_toml.specs.Error.{Memory};
-ghost use Rattle.cargo_toml.specs.Manifests.{manifest_meaning};
+ghost use Rattle.cargo_toml.specs.Manifests.{held};
 ghost use Rattle.cargo_toml_tools.specs.Linted.{IsAmiss, weighs};
 
 use crate::escape::{Format, push_escaped};
@@ -22,7 +22,7 @@ pub fn lint_lines<M, S: BuildHasher + Clone + Drop>(
     file: Option<&str>,
 ) -> Result<(String, bool), Error>
     ensures status { IfOk result
-        (λ r. IsTrue r.1 ↔ IsAmiss (manifest_meaning (λ m. m) manifest.now)) }
+        (λ r. IsTrue r.1 ↔ IsAmiss (held manifest.now)) }
     ensures refused { IfErr result (λ e. e ≡ Memory) }
 {
     let findings = lint(alloc, state, manifest)?;

@@ -1,8 +1,7 @@
-pub mod Examples
-pub mod Floatless
-pub mod NoFloats
-pub mod Pairs
+-- how each type is written: a user has to believe these
+pub mod Writes
 pub mod Ways
+pub mod NoFloats
 pub mod WrittenBadges
 pub mod WrittenDependencies
 pub mod WrittenFeatures
@@ -14,4 +13,8 @@ pub mod WrittenProfiles
 pub mod WrittenSettings
 pub mod WrittenTemplates
 pub mod WrittenWorkspaces
-pub mod Writes
+-- why no float is written, the code's own steps, and worked examples: nothing here has to be
+-- believed
+pub mod Floatless
+pub mod Pairs
+pub mod Examples

@@ -1,7 +1,7 @@
 //! Binaries are put at the end of a list that is gone through for each of them.
 ghost use Rattle.std.specs.Prelude.{◌≡◌, ◌∷◌, [], OnOk};
 ghost use Rattle.cargo_toml_graph.specs.Removal.{put_all};
-ghost use Rattle.cargo_toml_bench.specs.Removing.{texts_of};
+ghost use Rattle.cargo_toml_resolve.specs.Texts.{texts_of};
 
 use std::alloc::AllocError;
 

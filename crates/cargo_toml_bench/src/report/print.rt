@@ -4,9 +4,11 @@ ghost use Rattle.std.specs.Io.KnownBytes.{Appends, Keeps};
 ghost use Rattle.toml.specs.View.{view};
 ghost use Rattle.cargo_toml.specs.Action.{Text};
 ghost use Rattle.cargo_toml.specs.Manifests.{manifest_meaning};
-ghost use Rattle.cargo_toml_bench.specs.Printing.{Spells, IsManifest, IsReport, Refuses};
-ghost use Rattle.cargo_toml_bench.specs.Printing.{RefusesToPrint, line, lines, report_text};
-ghost use Rattle.cargo_toml_bench.specs.Reports.{texts, texts_of};
+ghost use Rattle.cargo_toml_bench.specs.Printing.{Spells, IsManifest, IsReport, RefusesBytes};
+ghost use Rattle.cargo_toml_bench.specs.Printing.{RefusesToPrint, line_with, lines_with};
+ghost use Rattle.cargo_toml_bench.specs.Printing.{report_text};
+ghost use Rattle.cargo_toml_resolve.specs.Texts.{texts_of};
+ghost use Rattle.cargo_toml_bench.specs.Reports.{texts};
 
 use crate::report::{Report, make_report};
 use cargo_toml::{Error, Manifest};
@@ -35,7 +37,7 @@ pub fn print_report<W: Write>(alloc: Global, bytes: &[u8], output: &mut W) -> Re
 // The report of the manifest that the bytes spell, as text.
 fn report_of(alloc: Global, bytes: &[u8]) -> Result<String, Error>
     ensures text { IfOk result (λ s. IsReport bytes.now (string_bytes s)) }
-    ensures refused { IfErr result (Refuses bytes.now) }
+    ensures refused { IfErr result (RefusesBytes bytes.now) }
 {
     let manifest = read(alloc, bytes)?;
     let report = make_report(alloc, &manifest)?;
@@ -44,7 +46,7 @@ fn report_of(alloc: Global, bytes: &[u8]) -> Result<String, Error>
 
 fn read(alloc: Global, bytes: &[u8]) -> Result<Manifest, Error>
     ensures manifest { IfOk result (λ m. Spells bytes.now (manifest_meaning view m)) }
-    ensures refused { IfErr result (Refuses bytes.now) }
+    ensures refused { IfErr result (RefusesBytes bytes.now) }
 {
     Manifest::from_slice(alloc, bytes)
 }
@@ -63,7 +65,7 @@ fn report_text(alloc: Global, report: &Report<'_>) -> Result<String, AllocError>
 // A line for each name.
 fn push_lines(text: &mut String, word: &str, names: &[&str]) -> Result<(), AllocError>
     ensures { OnOk result (string_bytes text.new
-        ≡ string_bytes text.old ++ lines word.now (texts_of names.now)) }
+        ≡ string_bytes text.old ++ lines_with word.now (texts_of names.now)) }
 {
     for name in names {
         push_line(text, word, *name)?;
@@ -73,7 +75,7 @@ fn push_lines(text: &mut String, word: &str, names: &[&str]) -> Result<(), Alloc
 
 fn push_line(text: &mut String, word: &str, name: &str) -> Result<(), AllocError>
     ensures { OnOk result (string_bytes text.new
-        ≡ string_bytes text.old ++ line word.now name.now) }
+        ≡ string_bytes text.old ++ line_with word.now name.now) }
 {
     text.push_str(word)?;
     text.push_str(name)?;

@@ -11,7 +11,7 @@ ghost use Rattle.cargo_toml.specs.Manifests.{is_zero};
 ghost use Rattle.cargo_toml.specs.Packages.{package_meaning};
 ghost use Rattle.cargo_toml_tools.specs.declared.index.IndexError.TheVariants.{Incomplete, Memory};
 ghost use Rattle.cargo_toml_tools.specs.Checked.{AreChecked, IsRefusal, all_tables};
-ghost use Rattle.cargo_toml_tools.specs.IndexRows.{package_rows, stated_rows};
+ghost use Rattle.cargo_toml_tools.specs.IndexRows.{rows_of_package, stated_rows};
 ghost use Rattle.cargo_toml_tools.specs.Indexed.{RefusesVersion, is_stated_if_any, is_version};
 ghost use Rattle.cargo_toml_tools.specs.Indexed.{names_version, states_version};
 
@@ -44,7 +44,7 @@ pub(super) fn check_crate<'a, M>(
     ensures refused { IfErr result (IsRefusal text.now
         (package_meaning (λ m. m) «package».now) (all_tables dependencies.entry)) }
     ensures told { IfOk result
-        (λ s. stated_rows s ≡ package_rows (package_meaning (λ m. m) «package».now)) }
+        (λ s. stated_rows s ≡ rows_of_package (package_meaning (λ m. m) «package».now)) }
 {
     let version = stated_version(alloc, &package.version, text)?;
     check_dependencies(alloc, dependencies)?;

@@ -2,12 +2,13 @@
 ghost use Rattle.std.specs.Prelude.{◌≡◌, IfErr, IsTrue, OnOk, option_map, string_bytes};
 ghost use Rattle.std.specs.List.{list_all, list_any};
 ghost use Rattle.cargo_toml.specs.Dependencies.{dependency_meaning};
+ghost use Rattle.cargo_toml.specs.InheritedDependencies.{is_left};
 ghost use Rattle.cargo_toml.specs.Targets.{target_meaning};
 ghost use Rattle.cargo_toml_dependencies.specs.Replacing.{entries_meaning, targets_meaning};
-ghost use Rattle.cargo_toml_tools.specs.Checked.{all_tables, own_tables};
-ghost use Rattle.cargo_toml_tools.specs.Indexed.{IsFor, are_taken, is_dev, is_left, is_other};
+ghost use Rattle.cargo_toml_tools.specs.Checked.{all_tables, own_by_kind};
+ghost use Rattle.cargo_toml_tools.specs.Indexed.{IsFor, are_taken, is_dev, is_other};
 ghost use Rattle.cargo_toml_tools.specs.Indexed.{is_taken, is_told, lacks_address, lacks_version};
-ghost use Rattle.cargo_toml_tools.specs.Indexed.{tables_in, tells};
+ghost use Rattle.cargo_toml_tools.specs.Indexed.{target_by_kind, tells};
 
 use super::IndexError;
 use cargo_toml::features::Kind;
@@ -46,9 +47,9 @@ pub(super) fn check_dependencies(
 
 fn check_targets(alloc: Global, targets: &TargetDepsSet) -> Result<(), IndexError>
     ensures taken { OnOk result
-        (IsTrue (list_all (λ t. are_taken (tables_in t.1)) (targets_meaning targets.now))) }
+        (IsTrue (list_all (λ t. are_taken (target_by_kind t.1)) (targets_meaning targets.now))) }
     ensures refused { IfErr result (λ e. IsFor e
-        (list_any (λ t. is_told e (tables_in t.1)) (targets_meaning targets.now))) }
+        (list_any (λ t. is_told e (target_by_kind t.1)) (targets_meaning targets.now))) }
 {
     for (_, target) in targets {
         check_target(alloc, target)?;
@@ -57,9 +58,9 @@ fn check_targets(alloc: Global, targets: &TargetDepsSet) -> Result<(), IndexErro
 }
 
 fn check_target(alloc: Global, target: &Target) -> Result<(), IndexError>
-    ensures taken { OnOk result (IsTrue (are_taken (tables_in (target_meaning target.now)))) }
+    ensures taken { OnOk result (IsTrue (are_taken (target_by_kind (target_meaning target.now)))) }
     ensures refused { IfErr result
-        (λ e. IsFor e (is_told e (tables_in (target_meaning target.now)))) }
+        (λ e. IsFor e (is_told e (target_by_kind (target_meaning target.now)))) }
 {
     let tables = Tables {
         normal: &target.dependencies,
@@ -70,8 +71,8 @@ fn check_target(alloc: Global, target: &Target) -> Result<(), IndexError>
 }
 
 fn check_tables(alloc: Global, tables: Tables<'_>) -> Result<(), IndexError>
-    ensures taken { OnOk result (IsTrue (are_taken (own_tables tables.entry))) }
-    ensures refused { IfErr result (λ e. IsFor e (is_told e (own_tables tables.entry))) }
+    ensures taken { OnOk result (IsTrue (are_taken (own_by_kind tables.entry))) }
+    ensures refused { IfErr result (λ e. IsFor e (is_told e (own_by_kind tables.entry))) }
 {
     check_table(alloc, tables.normal, Kind::Normal)?;
     check_table(alloc, tables.dev, Kind::Dev)?;

@@ -3,7 +3,7 @@ ghost use Rattle.std.specs.Prelude.{◌≡◌, ◌∷◌, ◌||◌, IfOk, false,
 ghost use Rattle.std.specs.List.{list_any};
 ghost use Rattle.std.specs.Str.{chars};
 ghost use Rattle.cargo_toml_tools.specs.Patterns.{matches};
-ghost use Rattle.cargo_toml_tools.specs.Rows.{fits, next, scan, shift};
+ghost use Rattle.cargo_toml_tools.specs.Rows.{accepts, next, scan, shift};
 
 use std::alloc::{AllocError, Global};
 
@@ -74,7 +74,7 @@ fn after_star(alloc: Global, reached: &[bool]) -> Result<Vec<bool>, AllocError>
 }
 
 fn fits(wanted: char, c: char) -> bool
-    ensures { result ≡ fits wanted c }
+    ensures { result ≡ accepts wanted c }
 {
     wanted == '?' || wanted == c
 }

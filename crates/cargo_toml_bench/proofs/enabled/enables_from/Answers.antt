@@ -4,7 +4,7 @@ use Rattle.toml.specs.View.{view}
 use Rattle.cargo_toml.specs.Error.{Memory}
 use Rattle.cargo_toml.specs.Manifests.{manifest_meaning}
 use Rattle.cargo_toml_bench.specs.Enabled.{IsAnswered, IsAnsweredFrom}
-use Rattle.cargo_toml_bench.specs.Printing.{Spells, Refuses}
+use Rattle.cargo_toml_bench.specs.Printing.{Spells, RefusesBytes}
 use Rattle.cargo_toml_bench.proofs.enabled.enables_from.Goals as goal
 
 pub returns-clause-answer : goal.returns-clause-answer
@@ -20,4 +20,4 @@ returns-clause-answer c =
     c.enables.ensures.answer
 
 pub returns-clause-refused : goal.returns-clause-refused
-returns-clause-refused c = IfErr-weaker c.enables.result (λ e. e ≡ Memory) (Refuses c.args.bytes.now) (λ e memory. inl memory) c.enables.ensures.refused
+returns-clause-refused c = IfErr-weaker c.enables.result (λ e. e ≡ Memory) (RefusesBytes c.args.bytes.now) (λ e memory. inl memory) c.enables.ensures.refused

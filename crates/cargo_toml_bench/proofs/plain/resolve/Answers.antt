@@ -9,7 +9,7 @@ use Rattle.cargo_toml_features.specs.Recorded.{entries_at, recorded_of}
 use Rattle.cargo_toml_features.specs.Resolved.{SameRecorded, table_of}
 use Rattle.cargo_toml_features.specs.Views.{entry_of, listed_of, recorded_in, table_in}
 use Rattle.cargo_toml_graph.proofs.InByteOrder.{ascending_once}
-use Rattle.cargo_toml_bench.specs.Removing.{texts_of}
+use Rattle.cargo_toml_resolve.specs.Texts.{texts_of}
 use Rattle.cargo_toml_resolve.proofs.Learning.{bins_still, in_order_still, marks_still}
 use Rattle.cargo_toml_bench.proofs.Resolving.{answers, held_by_name, keyed_still, some_is, unremoved_by_name}
 use Rattle.cargo_toml_bench.proofs.plain.resolve.Goals as goal

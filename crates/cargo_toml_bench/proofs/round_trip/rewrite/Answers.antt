@@ -6,7 +6,7 @@ use Rattle.cargo_toml.specs.Error.{Memory}
 use Rattle.cargo_toml.specs.Manifests.{manifest_meaning}
 use Rattle.cargo_toml.specs.Ways.{free_way}
 use Rattle.cargo_toml.specs.WrittenManifests.{manifest_way}
-use Rattle.cargo_toml_bench.specs.Printing.{Spells, Refuses}
+use Rattle.cargo_toml_bench.specs.Printing.{Spells, RefusesBytes}
 use Rattle.cargo_toml_bench.specs.Rewriting.{IsRewritten}
 use Rattle.cargo_toml_bench.proofs.Rewriting.{tree_of}
 use Rattle.cargo_toml_bench.proofs.round_trip.rewrite.Goals as goal
@@ -22,5 +22,5 @@ returns-clause-tree c =
 pub returns-clause-refused : goal.returns-clause-refused
 returns-clause-refused c =
     let spelled : Spells c.args.bytes.now (manifest_meaning view c.in_ok-manifest.manifest) = elim (c.in_ok-manifest.ensures) [ inl b ↦ absurd b.1 | inr b ↦ record { text = b.0; reads = b.1 } ] in
-    IfErr-weaker c.to_value.result (λ e. e ≡ Memory) (Refuses c.args.bytes.now) (λ e memory. inl memory)
+    IfErr-weaker c.to_value.result (λ e. e ≡ Memory) (RefusesBytes c.args.bytes.now) (λ e memory. inl memory)
     (c.to_value.ensures.memory (c.read_manifests_are_written.ensures.of_document (parse_document c.args.bytes.now) (manifest_meaning view c.in_ok-manifest.manifest) spelled.reads))

@@ -1,7 +1,7 @@
 use Rattle.std.proofs.Common.{map, sym, subst, ap}
 use Rattle.cargo_toml.specs.Products.{product_meaning}
 use Rattle.cargo_toml_lint.specs.Findings.{about}
-use Rattle.cargo_toml_lint.specs.Steps.{AreTold}
+use Rattle.cargo_toml_lint.specs.Steps.{AreAllTold}
 use Rattle.cargo_toml_lint.proofs.Added.{adds_both, all_codes, none_below}
 use Rattle.cargo_toml_lint.proofs.linting.found_in.Goals as goal
 
@@ -24,4 +24,4 @@ pub returns-clause-told : goal.returns-clause-told
 returns-clause-told g c =
     c.in_ok-add_warnings.ensures.told
     (c.in_ok-add_hints.ensures.told
-    (c.in_ok-add_errors.ensures.told (subst AreTold (sym c.new-findings.ensures.items) tt)))
+    (c.in_ok-add_errors.ensures.told (subst AreAllTold (sym c.new-findings.ensures.items) tt)))

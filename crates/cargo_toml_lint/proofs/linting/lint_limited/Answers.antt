@@ -3,7 +3,7 @@ use Rattle.std.proofs.lemmas.Result.{IfOk-weaker}
 use Rattle.cargo_toml.specs.Action.{Text}
 use Rattle.cargo_toml.specs.Manifests.{manifest_meaning}
 use Rattle.cargo_toml.specs.Products.{product_meaning}
-use Rattle.cargo_toml_lint.specs.Findings.{Holds, IsFound}
+use Rattle.cargo_toml_lint.specs.Findings.{HoldsOf, IsFound}
 use Rattle.cargo_toml_lint.specs.declared.finding.Code.{Code}
 use Rattle.cargo_toml_lint.proofs.Exact.{holds_in}
 use Rattle.cargo_toml_lint.proofs.linting.lint_limited.Goals as goal
@@ -12,7 +12,7 @@ pub returns-clause-exact : goal.returns-clause-exact
 returns-clause-exact g c =
     let m = manifest_meaning (λ m. m) c.args.manifest.now in
     IfOk-weaker c.found_in.result _
-    (λ v. (d : Code) (f : Text) → IsFound v.items d f ↔ Holds c.args.limit m d f)
+    (λ v. (d : Code) (f : Text) → IsFound v.items d f ↔ HoldsOf c.args.limit m d f)
     (λ v told d f.
     let same =
     holds_in c.args.limit m c.in_ok-resolved.resolved c.in_ok-known.known

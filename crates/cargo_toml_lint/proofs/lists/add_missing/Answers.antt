@@ -3,7 +3,7 @@ use Rattle.std.proofs.lemmas.Bool.{and_right}
 use Rattle.cargo_toml.specs.Action.{Text, item_of}
 use Rattle.cargo_toml.specs.Views.{has_text, table_in}
 use Rattle.cargo_toml_lint.specs.Findings.{is_missing}
-use Rattle.cargo_toml_lint.specs.Names.{names_in}
+use Rattle.cargo_toml_lint.specs.Names.{held_names}
 use Rattle.cargo_toml_lint.proofs.Gathered.{any_more, more_hits, no_hit, put_if}
 use Rattle.cargo_toml_lint.proofs.Tables.{put_key}
 use Rattle.cargo_toml_lint.proofs.lists.add_missing.Goals as goal
@@ -12,7 +12,7 @@ use Rattle.cargo_toml_lint.proofs.lists.add_missing.Goals.{then-is_missing+in_ok
 pub loop-text-preserved : goal.loop-text-preserved
 loop-text-preserved g c = λ f.
     let test : Text → Bool =
-    λ text. is_missing (names_in c.args.known.now) (table_in c.args.features.now).has
+    λ text. is_missing (held_names c.args.known.now) (table_in c.args.features.now).has
     (item_of text) in
     let told = c.is_missing.ensures ∙ ap test c.as_str-text.ensures.value in
     let more = any_more (λ (text : Text). bytes_eq f text

@@ -1,6 +1,6 @@
 use Rattle.std.proofs.Common.{◌∙◌, not, sym, ap}
 use Rattle.cargo_toml_lint.specs.Findings.{is_unknown}
-use Rattle.cargo_toml_lint.specs.Names.{names_in}
+use Rattle.cargo_toml_lint.specs.Names.{held_names}
 use Rattle.cargo_toml_lint.proofs.Items.{acting, naming}
 use Rattle.cargo_toml_lint.proofs.lists.is_unknown.Goals as goal
 
@@ -8,10 +8,10 @@ pub returns-then-acts : goal.returns-then-acts
 returns-then-acts c =
     ap not c.contains.ensures
     ∙ sym (acting c.args.text.now c.read_action-action.result c.read_action-action.ensures
-    (is_unknown (names_in c.args.known.now)) c.acts.result c.acts.ensures c.if-acts.true)
+    (is_unknown (held_names c.args.known.now)) c.acts.result c.acts.ensures c.if-acts.true)
 
 pub returns-else-acts : goal.returns-else-acts
 returns-else-acts c =
     ap not c.has_name.ensures
     ∙ sym (naming c.args.text.now c.read_action-action.result c.read_action-action.ensures
-    (is_unknown (names_in c.args.known.now)) c.acts.result c.acts.ensures c.if-acts.false)
+    (is_unknown (held_names c.args.known.now)) c.acts.result c.acts.ensures c.if-acts.false)

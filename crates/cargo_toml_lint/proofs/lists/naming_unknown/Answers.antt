@@ -5,18 +5,18 @@ use Rattle.cargo_toml.specs.Action.{Text}
 use Rattle.cargo_toml.specs.Views.{has_text}
 use Rattle.cargo_toml_lint.specs.Findings.{is_unknown}
 use Rattle.cargo_toml_lint.specs.Known.{says}
-use Rattle.cargo_toml_lint.specs.Names.{names_in}
+use Rattle.cargo_toml_lint.specs.Names.{held_names}
 use Rattle.cargo_toml_lint.proofs.Gathered.{ends}
 use Rattle.cargo_toml_lint.proofs.Tables.{entry_passed, entry_put, put_key}
 use Rattle.cargo_toml_lint.proofs.lists.naming_unknown.Goals as goal
 
 pub loop-name-preserved-in_ok-insert : goal.loop-name-preserved-in_ok-insert
 loop-name-preserved-in_ok-insert c = λ f.
-    let test : Text × List Text → Bool = λ e. says (is_unknown (names_in c.args.known.now)) e.1 in
+    let test : Text × List Text → Bool = λ e. says (is_unknown (held_names c.args.known.now)) e.1 in
     entry_put (λ v. map string_bytes v.items) test f _ _ c.in-Some.name.now c.in-Some.texts.now
     (rest_more deref_pair _ _ _
     (c.in-Some.name, c.in-Some.texts) c.in-Some.is c.next.ensures.steps) c.has_unknown.result
-    (c.has_unknown.ensures ∙ ap (λ xs. says (is_unknown (names_in c.args.known.now))
+    (c.has_unknown.ensures ∙ ap (λ xs. says (is_unknown (held_names c.args.known.now))
     (map string_bytes xs)) c.as_slice.ensures.value) _ c.if-has_unknown.true
     (has_text c.loop-name.names f) (has_text c.insert.new.self f)
     (put_key c.as_str.result.now
@@ -26,11 +26,11 @@ loop-name-preserved-in_ok-insert c = λ f.
 
 pub loop-name-preserved : goal.loop-name-preserved
 loop-name-preserved c = λ f.
-    let test : Text × List Text → Bool = λ e. says (is_unknown (names_in c.args.known.now)) e.1 in
+    let test : Text × List Text → Bool = λ e. says (is_unknown (held_names c.args.known.now)) e.1 in
     entry_passed (λ v. map string_bytes v.items) test f _ _ c.in-Some.name.now c.in-Some.texts.now
     (rest_more deref_pair _ _ _
     (c.in-Some.name, c.in-Some.texts) c.in-Some.is c.next.ensures.steps) c.has_unknown.result
-    (c.has_unknown.ensures ∙ ap (λ xs. says (is_unknown (names_in c.args.known.now))
+    (c.has_unknown.ensures ∙ ap (λ xs. says (is_unknown (held_names c.args.known.now))
     (map string_bytes xs)) c.as_slice.ensures.value) _ c.if-has_unknown.false
     (has_text c.loop-name.names f) (c.loop-name.invariant f)
 

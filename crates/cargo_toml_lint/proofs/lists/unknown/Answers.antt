@@ -4,7 +4,7 @@ use Rattle.cargo_toml.specs.Products.{ProductMeaning, product_meaning}
 use Rattle.cargo_toml.specs.Views.{has_text, table_in}
 use Rattle.cargo_toml_lint.specs.Findings.{asks_for, is_unknown}
 use Rattle.cargo_toml_lint.specs.Known.{lists}
-use Rattle.cargo_toml_lint.specs.Names.{listed_by, names_in}
+use Rattle.cargo_toml_lint.specs.Names.{listed_by, held_names}
 use Rattle.cargo_toml_lint.proofs.Gathered.{all_seen, any_more, more_hits}
 use Rattle.cargo_toml_lint.proofs.lists.unknown.Goals as goal
 
@@ -13,20 +13,20 @@ loop-bin-init g c = λ f. c.in_ok-names.ensures f ∙ sym (or-false _)
 
 pub loop-bin-preserved : goal.loop-bin-preserved
 loop-bin-preserved g c = λ f.
-    more_hits (lists (listed_by c.args.known.now) (is_unknown (names_in c.args.known.now)) f) _
+    more_hits (lists (listed_by c.args.known.now) (is_unknown (held_names c.args.known.now)) f) _
     (has_text c.loop-bin.names f) (has_text c.add_missing.new.names f) _ _ (c.loop-bin.invariant f)
     (c.in_ok-add_missing.ensures f
     ∙ ap (λ xs. has_text c.loop-bin.names f
-    || asks_for (names_in c.args.known.now) (table_in c.args.features.now).has
+    || asks_for (held_names c.args.known.now) (table_in c.args.features.now).has
     (map string_bytes xs) f) c.as_slice.ensures.value)
-    (any_more (λ (b : ProductMeaning). asks_for (names_in c.args.known.now)
+    (any_more (λ (b : ProductMeaning). asks_for (held_names c.args.known.now)
     (table_in c.args.features.now).has b.required_features f) product_meaning
     c.args.bins.now c.loop-bin.bin-index c.bin-item.result (omega arith) c.bin-item.is)
 
 pub returns : goal.returns
 returns g c = λ f.
     c.loop-bin.invariant f
-    ∙ ap (λ b. lists (listed_by c.args.known.now) (is_unknown (names_in c.args.known.now)) f || b)
-    (all_seen (λ (b : ProductMeaning). asks_for (names_in c.args.known.now)
+    ∙ ap (λ b. lists (listed_by c.args.known.now) (is_unknown (held_names c.args.known.now)) f || b)
+    (all_seen (λ (b : ProductMeaning). asks_for (held_names c.args.known.now)
     (table_in c.args.features.now).has b.required_features f) product_meaning
     c.args.bins.now c.loop-bin.bin-index (omega arith))

@@ -2,7 +2,7 @@ use Rattle.std.proofs.Common.{◌∙◌, ap, option_map, sym}
 use Rattle.std.proofs.lemmas.Result.{err_from_is_err_and}
 use Rattle.cargo_toml.specs.Manifests.{manifest_meaning}
 use Rattle.cargo_toml.specs.Packages.{package_meaning}
-use Rattle.cargo_toml_tools.specs.Indexed.{tables}
+use Rattle.cargo_toml_tools.specs.Indexed.{all_by_kind}
 use Rattle.cargo_toml_tools.proofs.Explained.{checked_taken, explained, not_no_package, not_taken, other_fault}
 use Rattle.cargo_toml_tools.proofs.Placed.{same_rows}
 use Rattle.cargo_toml_tools.proofs.index.index_line.Goals as goal
@@ -11,7 +11,7 @@ pub returns-in_err-stated-clause-no_package : goal.returns-in_err-stated-clause-
 returns-in_err-stated-clause-no_package g c =
     let r = err_from_is_err_and c.from_residual.result c.from_residual.ensures.1 in
     other_fault c.from_residual.result c.args.manifest.now.package c.in-Some.package r.0 r.1 c.in-Some.is
-    (λ h. not_no_package c.args.text.now (package_meaning (λ m. m) c.in-Some.package) (tables (manifest_meaning (λ m. m) c.args.manifest.now))
+    (λ h. not_no_package c.args.text.now (package_meaning (λ m. m) c.in-Some.package) (all_by_kind (manifest_meaning (λ m. m) c.args.manifest.now))
     c.in_err-stated.field-0.0 c.in_err-stated.ensures.refused (sym r.2 ∙ h))
 
 pub returns-in_err-stated-clause-refused : goal.returns-in_err-stated-clause-refused

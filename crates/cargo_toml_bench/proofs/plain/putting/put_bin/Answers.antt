@@ -4,7 +4,7 @@ use Rattle.std.proofs.lemmas.List.{map_push}
 use Rattle.std.specs.List.{list_any}
 use Rattle.cargo_toml_graph.specs.Action.{Text}
 use Rattle.cargo_toml_graph.specs.Removal.{is_among}
-use Rattle.cargo_toml_bench.specs.Removing.{texts_of}
+use Rattle.cargo_toml_resolve.specs.Texts.{texts_of}
 use Rattle.cargo_toml_bench.proofs.Put.{among_texts}
 use Rattle.cargo_toml_bench.proofs.plain.putting.put_bin.Goals as goal
 

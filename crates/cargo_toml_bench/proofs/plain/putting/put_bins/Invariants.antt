@@ -1,6 +1,6 @@
 use Rattle.std.proofs.Common.{◌≡◌, take}
 use Rattle.cargo_toml_graph.specs.Removal.{put_all}
-use Rattle.cargo_toml_bench.specs.Removing.{texts_of}
+use Rattle.cargo_toml_resolve.specs.Texts.{texts_of}
 use Rattle.cargo_toml_bench.proofs.plain.putting.put_bins.Given as goal
 
 abbrev pub invariant-loop-bin : goal.invariant-loop-bin

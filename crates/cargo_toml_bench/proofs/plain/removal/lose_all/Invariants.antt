@@ -1,5 +1,6 @@
 use Rattle.std.proofs.Common.{take}
-use Rattle.cargo_toml_bench.specs.Removing.{Loses, texts_of}
+use Rattle.cargo_toml_resolve.specs.Texts.{texts_of}
+use Rattle.cargo_toml_bench.specs.Removing.{Loses}
 use Rattle.cargo_toml_bench.proofs.Turns.{ChangesAll}
 use Rattle.cargo_toml_bench.proofs.plain.removal.lose_all.Given as goal
 

@@ -1,5 +1,5 @@
 use Rattle.std.proofs.Common.{take, get_or, sym, subst}
-use Rattle.cargo_toml_bench.specs.Removing.{texts_of}
+use Rattle.cargo_toml_resolve.specs.Texts.{texts_of}
 use Rattle.cargo_toml_bench.proofs.Turns.{among_at, blank, fresh_at, texts_more}
 use Rattle.cargo_toml_bench.proofs.InTurn.{SoFar, next, there_now}
 use Rattle.cargo_toml_bench.proofs.plain.removal.remove_all.Goals as goal

@@ -1,5 +1,5 @@
 use Rattle.std.proofs.Common.{take}
-use Rattle.cargo_toml_bench.specs.Removing.{texts_of}
+use Rattle.cargo_toml_resolve.specs.Texts.{texts_of}
 use Rattle.cargo_toml_bench.proofs.InTurn.{SoFar}
 use Rattle.cargo_toml_bench.proofs.plain.removal.remove_all.Given as goal
 

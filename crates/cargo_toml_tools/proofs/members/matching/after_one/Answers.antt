@@ -2,7 +2,7 @@ use Rattle.std.proofs.Common.{◌≡◌, ◌&&◌, ◌++◌, ◌∷◌, [], ◌�
 use Rattle.std.proofs.lemmas.Slice.Zip.{Zip-more, either_empty_from_Zip}
 use Rattle.std.specs.Iterator.Adapters.{zip_first, zip_second}
 use Rattle.std.specs.Slice.Iter.{iter_rest}
-use Rattle.cargo_toml_tools.specs.Rows.{fits, shift}
+use Rattle.cargo_toml_tools.specs.Rows.{accepts, shift}
 use Rattle.cargo_toml_tools.proofs.Matched.{shift_step, shift_end}
 use Rattle.cargo_toml_tools.proofs.members.matching.after_one.Goals as goal
 use Rattle.cargo_toml_tools.proofs.members.matching.after_one.Goals.{then-here, else-here}
@@ -13,9 +13,9 @@ loop-here-preserved c =
     let here = c.in-Some.here.now in
     let d = c.in-Some.c.now in
     let next = c.next.new.self in
-    let same : c.if-here.push ≡ (here && fits w d) = elim c.if-here.branch [
-      | then-here b ↦ b.push-is ∙ b.fits.ensures ∙ ap (λ t. t && fits w d) (sym b.if-here.true)
-      | else-here b ↦ b.push-is ∙ b.if-here.false ∙ ap (λ t. t && fits w d) (sym b.if-here.false)
+    let same : c.if-here.push ≡ (here && accepts w d) = elim c.if-here.branch [
+      | then-here b ↦ b.push-is ∙ b.fits.ensures ∙ ap (λ t. t && accepts w d) (sym b.if-here.true)
+      | else-here b ↦ b.push-is ∙ b.if-here.false ∙ ap (λ t. t && accepts w d) (sym b.if-here.false)
     ] in
     let parts = Zip-more c.loop-here.here-iterator next c.next.result (c.in-Some.here, c.in-Some.c) c.in-Some.is c.next.ensures.steps in
     ap (λ t. t ++ shift w (iter_rest (zip_first next)) (iter_rest (zip_second next))) (c.in_ok-push-2.ensures.items ∙ ap (λ t. c.loop-here.next.items ++ t ∷ []) same)

@@ -9,8 +9,8 @@ ghost use Rattle.cargo_toml_write.specs.Writes.{HasTree, IsWriting};
 
 use crate::write::ToValue;
 use crate::write::writing::Writing;
-use cargo_toml_workspace::Workspace;
 use cargo_toml_parts::Error;
+use cargo_toml_workspace::Workspace;
 use std::alloc::Global;
 use toml::Value;
 

@@ -142,7 +142,7 @@ fn add_missing<'m, S: BuildHasher>(
     required: &'m [String],
 ) -> Result<(), AllocError>
     ensures { OnOk result ((f : Text) → has_text names.new f ≡ (has_text names.old f
-        || asks_for (names_in known.now) (table_in features.now).has
+        || asks_for (held_names known.now) (table_in features.now).has
         (map string_bytes required.now) f)) }
 {
     for text in required {

@@ -5,7 +5,7 @@
 ghost use Rattle.std.specs.Prelude.{◌≤◌};
 
 use cargo_toml_parts::Error;
-use cargo_toml_print::{Command, Outcome, command, print_completed, print_features};
+use cargo_toml_program::{Command, Outcome, command, print_completed, print_features};
 use std::process::ExitCode;
 use std::rt::{Env, Files};
 use std::{env, fs, io};

@@ -1,12 +1,12 @@
 //! What the program writes of a completed manifest.
 ghost use Rattle.std.specs.Prelude.{ℕ, List, IfErr, OnOk};
 ghost use Rattle.std.specs.Io.KnownBytes.{Appends};
-ghost use Rattle.cargo_toml_command.specs.Printing.{IsOfOutput};
+ghost use Rattle.cargo_toml_print.specs.Printing.{IsOfOutput};
 
-use crate::items::{separate, write_none};
 use cargo_toml_manifest::Manifest;
 use cargo_toml_package::Package;
 use cargo_toml_parts::{Error, Inheritable};
+use cargo_toml_print::{separate, write_none};
 use cargo_toml_settings::OptionalFile;
 use cargo_toml_tables::Product;
 use std::alloc::Global;

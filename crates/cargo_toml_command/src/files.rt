@@ -1,7 +1,7 @@
 //! What the program writes of a manifest in a file, completed from the files around it.
 ghost use Rattle.std.specs.Prelude.{IfErr};
 ghost use Rattle.std.specs.Io.KnownBytes.{Keeps};
-ghost use Rattle.cargo_toml_command.specs.Printing.{IsOfManifest};
+ghost use Rattle.cargo_toml_print.specs.Printing.{IsOfManifest};
 
 use crate::completion::completion_lines;
 use cargo_toml_manifest::Manifest;

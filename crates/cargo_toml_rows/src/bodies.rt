@@ -3,7 +3,7 @@ use crate::manifests::read;
 use cargo_toml::Error;
 use cargo_toml_bench::bodies::{resolve_by_both, resolve_by_both_keeping_a};
 use cargo_toml_bench::whole::Answer;
-use cargo_toml_print::feature_lines;
+use cargo_toml_program::feature_lines;
 use std::alloc::Global;
 use std::fs;
 use std::rt::Files;

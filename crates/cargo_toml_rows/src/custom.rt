@@ -2,7 +2,7 @@
 use crate::manifests::read;
 use cargo_toml::features::{Kind, ParseDependency, Resolver};
 use cargo_toml::{DepsSet, Error, FeatureSet, Manifest};
-use cargo_toml_print::feature_lines;
+use cargo_toml_program::feature_lines;
 use std::alloc::Global;
 use std::collections::HashMap;
 use std::hash::{BuildHasherDefault, FoldHasher};

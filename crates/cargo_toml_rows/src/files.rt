@@ -4,7 +4,7 @@ use crate::manifests::{read, text_of, with_lines};
 use crate::templates;
 use crate::tree::{fresh_folder, make_tree, reopen};
 use cargo_toml::{AbstractFilesystem, Error, Filesystem, Manifest, Value};
-use cargo_toml_print::print_complete;
+use cargo_toml_program::print_complete;
 use std::alloc::Global;
 use std::fs;
 use std::rt::Files;

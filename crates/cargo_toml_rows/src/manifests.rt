@@ -4,7 +4,7 @@ use cargo_toml::{Error, Manifest, ParseFault, ToValue, Value};
 use cargo_toml_bench::documented::documented_features;
 use cargo_toml_bench::report::print_report;
 use cargo_toml_bench::whole::{resolve_keeping_a, resolve_whole};
-use cargo_toml_print::{feature_lines, print_features};
+use cargo_toml_program::{feature_lines, print_features};
 use std::alloc::Global;
 use toml::Table;
 

@@ -1,6 +1,6 @@
 //! What words of a command line ask for, as text.
 use cargo_toml::Error;
-use cargo_toml_print::{Outcome, command};
+use cargo_toml_program::{Outcome, command};
 use std::alloc::Global;
 
 /// The lines again, each with what comes of it: WORDS, with a space between two of them, and the

@@ -1,7 +1,7 @@
 //! What a refusal of a printing call leaves.
 use super::manifest;
 use cargo_toml::{Error, ParseFault};
-use cargo_toml_print::{print_complete, print_features};
+use cargo_toml_program::{print_complete, print_features};
 use std::io;
 use std::io::{Read, Write};
 use std::test::Fail;

@@ -1,6 +1,6 @@
 //! What the words of the command line ask for, and what the program writes at its end.
 use cargo_toml::Error;
-use cargo_toml_print::{Command, Outcome, command, print_features};
+use cargo_toml_program::{Command, Outcome, command, print_features};
 use std::alloc::AllocError;
 use std::io;
 use std::process::Abort;

@@ -1,6 +1,6 @@
 //! How the items of one line are written.
 ghost use Rattle.std.specs.Prelude.{IfErr};
-ghost use Rattle.cargo_toml_command.specs.Printing.{IsOfOutput};
+ghost use Rattle.cargo_toml_print.specs.Printing.{IsOfOutput};
 
 use cargo_toml_parts::Error;
 

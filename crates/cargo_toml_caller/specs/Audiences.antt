@@ -29,14 +29,14 @@ abbrev pub AudienceRefuses : Data → Error → Type 0
 AudienceRefuses d e = IsOther (codes "unknown audience") e
 
 -- the trees of an audience
-abbrev pub IsTree : Audience → Data → Type 0
-IsTree Everyone d = d ≡ string (codes "everyone")
-IsTree Team d = d ≡ string (codes "team")
-IsTree Undecided d = ⊥
+abbrev pub IsAudienceTree : Audience → Data → Type 0
+IsAudienceTree Everyone d = d ≡ string (codes "everyone")
+IsAudienceTree Team d = d ≡ string (codes "team")
+IsAudienceTree Undecided d = ⊥
 
 abbrev pub audience_way : Way Audience
 audience_way = record {
-  trees = IsTree;
+  trees = IsAudienceTree;
   refuses = λ x e. IsOther (codes "undecided audience") e;
   left_out = never;
 }

@@ -10,7 +10,7 @@ use Rattle.cargo_toml.specs.Faults.{IsOther}
 use Rattle.cargo_toml.specs.Manifests.{ManifestMeaning, manifest_reads, ManifestRefuses}
 use Rattle.cargo_toml.specs.Texts.{document_reads, DocumentRefuses}
 use Rattle.cargo_toml.specs.Floats.{has_no_float}
-use Rattle.cargo_toml.specs.Writes.{Way, IsFloatless, never}
+use Rattle.cargo_toml.specs.Writes.{Way, IsFloatless, never_left_out}
 use Rattle.cargo_toml_caller.specs.declared.audience.Audience.{Audience}
 use Rattle.cargo_toml_caller.specs.declared.audience.Audience.TheVariants.{Everyone, Team}
 use Rattle.cargo_toml_caller.specs.declared.audience.Audience.TheVariants.{Undecided}
@@ -38,7 +38,7 @@ abbrev pub audience_way : Way Audience
 audience_way = record {
   trees = IsAudienceTree;
   refuses = λ x e. IsOther (codes "undecided audience") e;
-  left_out = never;
+  left_out = never_left_out;
 }
 
 -- none of these trees holds a float

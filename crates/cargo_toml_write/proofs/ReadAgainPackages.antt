@@ -15,7 +15,7 @@ use Rattle.cargo_toml_settings.specs.Settings.{File, flag, file_of, Registries, 
 use Rattle.cargo_toml_parts.specs.Versions.{version_of}
 use Rattle.cargo_toml_write.specs.Ways.{text_way, texts_way, version_way, inheritable_way, is_nil}
 use Rattle.cargo_toml_write.specs.WrittenPackages.{package_way, package_rows, VersionAgain, MetadataAgain}
-use Rattle.cargo_toml_write.specs.WrittenSettings.{edition_way, resolver_way, file_way, is_usual, publish_way, is_everywhere}
+use Rattle.cargo_toml_write.specs.WrittenSettings.{edition_way, resolver_way, file_way, is_usual, publish_way, is_unrestricted}
 use Rattle.cargo_toml_write.specs.Writes.{Way, IsHeld, AreWritten, unless}
 use Rattle.cargo_toml_write.proofs.ReadAgain.{ReadsAs, Holds, holds, got, required_again, optional_again, given_read, flag_again, text_again, texts_again, no_texts, inheritable_again, set_again, version_again}
 use Rattle.cargo_toml_write.proofs.ReadAgainSettings.{edition_again, resolver_again, file_again, usual_file, publish_again, published_everywhere}
@@ -45,7 +45,7 @@ known_publish : (x : Inheritable Registries) (o : Option Data) → Holds (inheri
     → given_of (inheritable_of publish_of) (Set (everywhere true)) o ≡ Some x
 known_publish x o h =
     given_read _ (inheritable_way publish_way) (inheritable_of publish_of) (Set (everywhere true)) x o (inheritable_again publish_way publish_of x publish_again refl)
-    (set_again is_everywhere (everywhere true) x published_everywhere) (holds (inheritable_way publish_way) _ _ h)
+    (set_again is_unrestricted (everywhere true) x published_everywhere) (holds (inheritable_way publish_way) _ _ h)
 
 -- the metadata
 metadata_read : {X W M : Type 0} (way : Way W) (held : X → W) (meaning : X → M) (reads : Data → Option M) (x : Option X) (o : Option Data)

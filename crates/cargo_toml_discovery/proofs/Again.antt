@@ -9,7 +9,7 @@ use Rattle.cargo_toml_discovery.proofs.Ranks.{products_rank}
 use Rattle.cargo_toml_discovery.proofs.Stable.{one_sort, sorted-sorted_by, filter-sorted_by}
 use Rattle.cargo_toml_discovery.proofs.Unique.{own}
 use Rattle.cargo_toml_discovery.specs.Around.{Around}
-use Rattle.cargo_toml_discovery.specs.Discovering.{library, or_plain_library, filled_library, at_library, build_in, may_build, readme_in, first_in, readme_names, list_of, main_of, main_offer, StatedMeaning, DiscoveredMeaning, discovered, restated}
+use Rattle.cargo_toml_discovery.specs.Discovering.{library, or_plain_library, filled_library, at_library, build_in, may_build, readme_in, first_in, readme_names, listed_products, main_of, main_offer, StatedMeaning, DiscoveredMeaning, discovered, restated}
 use Rattle.cargo_toml_discovery.specs.Found.{Named, Offered, offer_of, still_open, offers, is_text, is_path_of, has_path, product_for, product_among, taker, late_taker, last_product, all_found, found}
 use Rattle.cargo_toml_discovery.specs.Names.{Text, has_text}
 use Rattle.cargo_toml_discovery.specs.Sorting.{product_lt, insert_by, sorted_by, in_order}
@@ -225,13 +225,13 @@ module _ (edition : Edition) (dir : Text) (ps : List ProductMeaning) (es : List 
   main-again name false = refl
   main-again name true = ap (λ (b : Bool). cond b None (Some (main_of name))) (main-path (main_of name))
 
-  pub list-again : (wanted : Bool) → list_of edition wanted dir (list_of edition wanted dir ps es None) es None ≡ list_of edition wanted dir ps es None
+  pub list-again : (wanted : Bool) → listed_products edition wanted dir (listed_products edition wanted dir ps es None) es None ≡ listed_products edition wanted dir ps es None
   list-again false = sorted-again ps
   list-again true = found-again None
 
   pub bins-again : (wanted : Bool) (name : Text) (there : Bool) →
-      list_of edition wanted dir (list_of edition wanted dir ps es (main_offer name there ps)) es (main_offer name there (list_of edition wanted dir ps es (main_offer name there ps)))
-      ≡ list_of edition wanted dir ps es (main_offer name there ps)
+      listed_products edition wanted dir (listed_products edition wanted dir ps es (main_offer name there ps)) es (main_offer name there (listed_products edition wanted dir ps es (main_offer name there ps)))
+      ≡ listed_products edition wanted dir ps es (main_offer name there ps)
   bins-again false name there = sorted-again ps
   bins-again true name there =
       ap (λ (x : Option Offered). found edition dir (found edition dir ps es (main_offer name there ps)) es x) (main-again name there)

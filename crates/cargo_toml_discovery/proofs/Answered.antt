@@ -9,7 +9,7 @@ use Rattle.std.specs.declared.io.ErrorKind.TheVariants.{NotFound}
 use Rattle.cargo_toml_parts.specs.declared.error.Error.{Error}
 use Rattle.cargo_toml_parts.specs.FaultValues.{Fault, fault_of, io}
 use Rattle.cargo_toml_discovery.specs.Answers.{filled_by, texts_in}
-use Rattle.cargo_toml_discovery.specs.Gathering.{IsAnswer}
+use Rattle.cargo_toml_discovery.specs.Gathering.{AnswerFits}
 use Rattle.cargo_toml_discovery.specs.Names.{Text}
 use Rattle.cargo_toml_discovery.specs.Seen.{Seen, seen, faulty, is_absence, is_not_found, names_at, root_names, Tells}
 use Rattle.cargo_toml_discovery.specs.Told.{Told, names, absent, denied, open_path}
@@ -29,7 +29,7 @@ root_heard (denied fault) set s told sorts = absurd told
 root_heard open_path set s told sorts = ap seen (texts_in-itself s sorts.0)
 
 pub heard : {S : Type 0} (t : Told) (set : HashSet (String Global) S) (s : BTreeSet (String Global)) →
-    AnswersNames t (Ok set) → Sorts set s → IsAnswer t (texts_in s)
+    AnswersNames t (Ok set) → Sorts set s → AnswerFits t (texts_in s)
 heard t set s told sorts = root_is_answer t (texts_in s) (root_heard t set s told sorts)
 
 absent_kind : (kind : ErrorKind) → is_not_found kind ≡ true → kind ≡ NotFound

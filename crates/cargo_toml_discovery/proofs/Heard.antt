@@ -7,13 +7,13 @@ use Rattle.std.proofs.lemmas.List.{take_more, map_push}
 use Rattle.cargo_toml_parts.specs.declared.error.Error.{Error, Memory}
 use Rattle.cargo_toml_parts.specs.FaultValues.{Fault, fault_of}
 use Rattle.cargo_toml_discovery.specs.Answers.{Answers, answer_at, names_in, below, filled_by}
-use Rattle.cargo_toml_discovery.specs.Gathering.{IsAnswer, Fits, Grows, Has, HasEach, MayTellOneOf, HasProducts}
+use Rattle.cargo_toml_discovery.specs.Gathering.{AnswerFits, Fits, Grows, Has, HasEach, MayTellOneOf, HasProducts}
 use Rattle.cargo_toml_discovery.specs.Names.{Text}
 use Rattle.cargo_toml_discovery.specs.Seen.{Seen, seen, faulty, unclear, seen_as, pair, names_at, root_names, IsOneOf, MayTell, Tells}
 use Rattle.cargo_toml_discovery.specs.Told.{Told, names, absent, denied, open_path}
 use Rattle.cargo_toml_discovery.proofs.Unique.{own}
 
-pub root_is_answer : (t : Told) (ns : List Text) → root_names (filled_by t (Some ns)) ≡ seen ns → IsAnswer t ns
+pub root_is_answer : (t : Told) (ns : List Text) → root_names (filled_by t (Some ns)) ≡ seen ns → AnswerFits t ns
 root_is_answer (names ts) ns h = h
 root_is_answer absent ns h = cc
 root_is_answer (denied k) ns h = cc
@@ -53,11 +53,11 @@ module _ (told : Text → Told) (old new : Answers) (path : Text) (ns : List Tex
   stays p ms e true h = none_then_some (answer_at old path) ms missing (ap (λ (q : Text). answer_at old q) ((bytes_eq-Decides path p).0 h) ∙ e)
   stays p ms e false h = e
 
-  fits : IsAnswer (told path) ns → Fits told old → (p : Text) (ms : List Text) (b : Bool) → bytes_eq path p ≡ b → cond b (Some ns) (answer_at old p) ≡ Some ms → IsAnswer (told p) ms
-  fits one f p ms true h e = let s : path ≡ p = (bytes_eq-Decides path p).0 h in let same : ns ≡ ms = cc in subst (λ (q : Text). IsAnswer (told q) ms) s (subst (λ (xs : List Text). IsAnswer (told path) xs) same one)
+  fits : AnswerFits (told path) ns → Fits told old → (p : Text) (ms : List Text) (b : Bool) → bytes_eq path p ≡ b → cond b (Some ns) (answer_at old p) ≡ Some ms → AnswerFits (told p) ms
+  fits one f p ms true h e = let s : path ≡ p = (bytes_eq-Decides path p).0 h in let same : ns ≡ ms = cc in subst (λ (q : Text). AnswerFits (told q) ms) s (subst (λ (xs : List Text). AnswerFits (told path) xs) same one)
   fits one f p ms false h e = f p ms e
 
-  pub grows-one : IsAnswer (told path) ns → Grows told old new
+  pub grows-one : AnswerFits (told path) ns → Grows told old new
   grows-one one = ((λ p ms e. after p ∙ stays p ms e (bytes_eq path p) refl), (λ f p ms e. fits one f p ms (bytes_eq path p) refl (sym (after p) ∙ e)))
 
   pub has-one : answer_at new path ≡ Some ns

@@ -6,7 +6,7 @@ use Rattle.cargo_toml_parts.specs.FaultValues.{Fault, fault_of}
 use Rattle.cargo_toml_discovery.specs.Answers.{Answers, answer_at, names_in, below, named_in, entries_if, around_in, filled_by, filled}
 use Rattle.cargo_toml_discovery.specs.Around.{named_by, each_named, entries_at, make_around, around}
 use Rattle.cargo_toml_discovery.specs.Found.{Named}
-use Rattle.cargo_toml_discovery.specs.Gathering.{IsAnswer, Fits, Has, HasEach, MayTellOneOf, HasProducts, HasRoot, HasAll}
+use Rattle.cargo_toml_discovery.specs.Gathering.{AnswerFits, Fits, Has, HasEach, MayTellOneOf, HasProducts, HasRoot, HasAll}
 use Rattle.cargo_toml_discovery.specs.Names.{Text, has_text, in_dir, is_source, may_be_folder}
 use Rattle.cargo_toml_discovery.specs.Seen.{Seen, seen, unclear, seen_as, pair, and_then, names_at, root_names, MayTell, Tells}
 use Rattle.cargo_toml_discovery.specs.Told.{Told, names, absent, denied, open_path}
@@ -28,13 +28,13 @@ pub each-told : (told : Text → Told) (dir : Text) (ns : List Text) (f : Fault)
 each-told told dir [] f h = h
 each-told told dir (n ∷ ns) f h = each-step told dir n ns f (is_source n) (each-told told dir ns f) h
 
-pub told_or_open : (t : Told) (ns : List Text) → IsAnswer t ns → (names_at t ≡ unclear) ⊎ (names_at t ≡ seen ns)
+pub told_or_open : (t : Told) (ns : List Text) → AnswerFits t ns → (names_at t ≡ unclear) ⊎ (names_at t ≡ seen ns)
 told_or_open (names ts) ns h = inr h
 told_or_open absent ns h = inr h
 told_or_open (denied k) ns h = inr h
 told_or_open open_path ns h = inl refl
 
-pub products-told : (told : Text → Told) (dir : Text) (ns : List Text) (f : Fault) → IsAnswer (told dir) ns → MayTellOneOf told (below dir ns) f → MayTell (entries_at told true dir) f
+pub products-told : (told : Text → Told) (dir : Text) (ns : List Text) (f : Fault) → AnswerFits (told dir) ns → MayTellOneOf told (below dir ns) f → MayTell (entries_at told true dir) f
 products-told told dir ns f one h = elim (told_or_open (told dir) ns one)
     [ inl e ↦ rw e tt | inr e ↦ rw e (each-told told dir ns f h) ]
 
@@ -87,14 +87,14 @@ module _ (told : Text → Told) (wanted : Wanted) (f : Fault) where
   pub by-benches : MayTell (entries_at told wanted.benches (codes "benches")) f → MayTell (around told wanted) f
   by-benches h = tell-as make_around _ f (tell-right (pair (root_names (told [])) (names_at (told (codes "src")))) _ f (tell-right (pair (entries_at told wanted.bins (codes "src/bin")) (entries_at told wanted.examples (codes "examples"))) _ f (tell-right (entries_at told wanted.tests (codes "tests")) _ f h)))
 
-answer_is : (told : Text → Told) (ans : Answers) (p : Text) (r : Option (List Text)) → Fits told ans → answer_at ans p ≡ r → is_some r ≡ true → IsAnswer (told p) (unwrap_or r [])
+answer_is : (told : Text → Told) (ans : Answers) (p : Text) (r : Option (List Text)) → Fits told ans → answer_at ans p ≡ r → is_some r ≡ true → AnswerFits (told p) (unwrap_or r [])
 answer_is told ans p None f e h = cc
 answer_is told ans p (Some ns) f e h = f p ns e
 
-pub is_answer-here : (told : Text → Told) (ans : Answers) (p : Text) → Fits told ans → Has ans p → IsAnswer (told p) (names_in ans p)
+pub is_answer-here : (told : Text → Told) (ans : Answers) (p : Text) → Fits told ans → Has ans p → AnswerFits (told p) (names_in ans p)
 is_answer-here told ans p f h = answer_is told ans p (answer_at ans p) f refl h
 
-pub products-tells : (told : Text → Told) (wanted : Bool) (dir : Text) (ns : List Text) (e : Error) → wanted ≡ true → IsAnswer (told dir) ns → (e ≡ Memory) ⊎ MayTellOneOf told (below dir ns) (fault_of e) → Tells (entries_at told wanted dir) e
+pub products-tells : (told : Text → Told) (wanted : Bool) (dir : Text) (ns : List Text) (e : Error) → wanted ≡ true → AnswerFits (told dir) ns → (e ≡ Memory) ⊎ MayTellOneOf told (below dir ns) (fault_of e) → Tells (entries_at told wanted dir) e
 products-tells told wanted dir ns e is one (inl m) = inl m
 products-tells told wanted dir ns e is one (inr h) = inr (rw is (products-told told dir ns (fault_of e) one h))
 

@@ -54,10 +54,10 @@ main_offer name false ps = None
 main_offer name true ps = still_open (is_path_of ps) (Some (main_of name))
 
 -- a list of products: as it is found in its folder where that is wanted, and else only put in order
-abbrev pub list_of : Edition → Bool → Text → List ProductMeaning → List Named → Option Offered
-    → List ProductMeaning
-list_of edition false dir ps es extra = in_order ps
-list_of edition true dir ps es extra = found edition dir ps es extra
+abbrev pub listed_products : Edition → Bool → Text → List ProductMeaning → List Named
+    → Option Offered → List ProductMeaning
+listed_products edition false dir ps es extra = in_order ps
+listed_products edition true dir ps es extra = found edition dir ps es extra
 
 -- nothing is stated, or just that there is a build script
 abbrev pub may_build : Option File → Bool
@@ -155,10 +155,11 @@ main_around s a = main_offer s.name (has_text a.src (codes "main.rs")) s.bin
 abbrev pub discovered : StatedMeaning → Around → DiscoveredMeaning
 discovered s a = record {
   lib = library_around s a;
-  bin = list_of s.edition s.wanted.bins (codes "src/bin") s.bin a.bins (main_around s a);
-  example = list_of s.edition s.wanted.examples (codes "examples") s.example a.examples None;
-  test = list_of s.edition s.wanted.tests (codes "tests") s.test a.tests None;
-  bench = list_of s.edition s.wanted.benches (codes "benches") s.bench a.benches None;
+  bin = listed_products s.edition s.wanted.bins (codes "src/bin") s.bin a.bins (main_around s a);
+  example =
+      listed_products s.edition s.wanted.examples (codes "examples") s.example a.examples None;
+  test = listed_products s.edition s.wanted.tests (codes "tests") s.test a.tests None;
+  bench = listed_products s.edition s.wanted.benches (codes "benches") s.bench a.benches None;
   build = build_in a.root s.build;
   readme = readme_in a.root s.readme;
 }

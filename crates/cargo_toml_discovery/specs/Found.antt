@@ -93,12 +93,12 @@ abbrev pub product_among : Edition → List ProductMeaning → List Offered → 
 product_among edition ps os o = product_for edition o (taker ps os o)
 
 -- some offer has the product name
-abbrev pub named : List Offered → Text → Bool
-named os n = list_any (λ q. bytes_eq q.name n) os
+abbrev pub has_offer : List Offered → Text → Bool
+has_offer os n = list_any (λ q. bytes_eq q.name n) os
 
 -- a waiting product takes one offer more where no other offer has its name
 abbrev pub late_taker : List ProductMeaning → List Offered → Offered → Option ProductMeaning
-late_taker ps os o = if named os o.name then None else last_waiting ps o.name
+late_taker ps os o = if has_offer os o.name then None else last_waiting ps o.name
 
 abbrev pub last_product : Edition → List ProductMeaning → List Offered → Option Offered
     → List ProductMeaning

@@ -14,11 +14,11 @@ use Rattle.cargo_toml_discovery.specs.Told.{Told}
 use Rattle.cargo_toml_discovery.specs.declared.listings.Wanted.{Wanted}
 
 -- the names are an answer by what is stated
-abbrev pub IsAnswer : Told → List Text → Type 0
-IsAnswer t ns = names_at (filled_by t (Some ns)) ≡ seen ns
+abbrev pub AnswerFits : Told → List Text → Type 0
+AnswerFits t ns = names_at (filled_by t (Some ns)) ≡ seen ns
 
 abbrev pub Fits : (Text → Told) → Answers → Type 0
-Fits told ans = (p : Text) (ns : List Text) → answer_at ans p ≡ Some ns → IsAnswer (told p) ns
+Fits told ans = (p : Text) (ns : List Text) → answer_at ans p ≡ Some ns → AnswerFits (told p) ns
 
 -- answers stay, and those that fit go on to fit
 abbrev pub Grows : (Text → Told) → Answers → Answers → Type 0
@@ -59,7 +59,7 @@ MayTellOneOf told (p ∷ ps) f = MayTell (names_at (told p)) f ⊎ MayTellOneOf 
 
 -- the answer to the question for the names in a folder, in order; an absent one counts as empty
 abbrev pub Listed : Told → Result (BTreeSet (String Global)) Error → Type 0
-Listed t r = MatchResult r (λ s. IsAnswer t (texts_in s)) (λ e. Tells (names_at t) e)
+Listed t r = MatchResult r (λ s. AnswerFits t (texts_in s)) (λ e. Tells (names_at t) e)
 
 -- the same for the folder of the package, which must be there
 abbrev pub RootListed : Told → Result (BTreeSet (String Global)) Error → Type 0

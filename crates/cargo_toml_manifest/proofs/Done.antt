@@ -9,7 +9,7 @@ use Rattle.cargo_toml_parts.specs.InheritableValues.{is_set}
 use Rattle.cargo_toml_parts.specs.declared.inheritable.Inheritable.{Inheritable}
 use Rattle.cargo_toml_parts.specs.declared.inheritable.Inheritable.TheVariants.{Set, Inherited}
 use Rattle.cargo_toml_paths.specs.Paths.{workspace_folder}
-use Rattle.cargo_toml_discovery.specs.Names.{Text}
+use Rattle.cargo_toml_discovery.specs.Names.{Name}
 use Rattle.cargo_toml_discovery.specs.Seen.{Seen, seen, faulty, unclear}
 use Rattle.cargo_toml_discovery.specs.Told.{Told}
 use Rattle.cargo_toml_dependencies.specs.Dependencies.{DependencyMeaning, InheritedMeaning, simple, inherited, detailed}
@@ -131,26 +131,26 @@ seen-given path (faulty faults) x h = cc
 seen-given path unclear x h = cc
 
 -- before this was found in folders, it was a manifest that left nothing to the workspace
-pub record Completed {M : Type 0} (n : ManifestMeaning M) (told : Text → Told) : Type 0 where
+pub record Completed {M : Type 0} (n : ManifestMeaning M) (told : Name → Told) : Type 0 where
   pub inherited : ManifestMeaning M
   pub none : needs inherited ≡ false
   pub found : found_around inherited told ≡ seen n
 
-then-completed : {M : Type 0} (path : Option (List ℕ)) (told : Text → Told) (r : Result (ManifestMeaning M) Fault)
+then-completed : {M : Type 0} (path : Option (List ℕ)) (told : Name → Told) (r : Result (ManifestMeaning M) Fault)
     (n : ManifestMeaning M) → ((k : ManifestMeaning M) → r ≡ Ok k → needs k ≡ false) → then_found path told r ≡ gives n →
     Completed n told
 then-completed path told (Ok k) n well h =
     record { inherited = k; none = well k refl; found = seen-given path (found_around k told) n h }
 then-completed path told (Err e) n well h = cc
 
-from-completed : {M : Type 0} (workspace : Option Shared) (path : List ℕ) (m n : ManifestMeaning M) (told : Text → Told) →
+from-completed : {M : Type 0} (workspace : Option Shared) (path : List ℕ) (m n : ManifestMeaning M) (told : Name → Told) →
     complete_by m (from workspace path) told ≡ gives n → Completed n told
 from-completed workspace path m n told h =
     then-completed (Some path) told (inherited_manifest workspace (workspace_folder path) m) n
     (inherited-done (option_map (λ w. w.dependencies) workspace) (option_map (λ w. w.lints) workspace)
     (option_and_then (λ w. w.template) workspace) (workspace_folder path) m) h
 
-own-completed : {M : Type 0} (m n : ManifestMeaning M) (told : Text → Told) (table : Option Shared) (b : Bool)
+own-completed : {M : Type 0} (m n : ManifestMeaning M) (told : Name → Told) (table : Option Shared) (b : Bool)
     (t : ToldRoot) → needs m ≡ b → complete_by m (own_choice table b t) told ≡ gives n → Completed n told
 own-completed m n told (Some w) b t needed h = from-completed (Some w) [] m n told h
 own-completed m n told None false t needed h =
@@ -159,12 +159,12 @@ own-completed m n told None true (root r path) needed h = from-completed (option
 own-completed m n told None true no_root needed h = cc
 own-completed m n told None true open_root needed h = cc
 
-pub completed : {M : Type 0} (m n : ManifestMeaning M) (handed : Option Handed) (roots : RootsTold) (told : Text → Told) →
+pub completed : {M : Type 0} (m n : ManifestMeaning M) (handed : Option Handed) (roots : RootsTold) (told : Name → Told) →
     complete m handed roots told ≡ gives n → Completed n told
 completed m n (Some handed) roots told h = from-completed handed.0 handed.1 m n told h
 completed m n None roots told h = own-completed m n told (option_map shared m.workspace) (needs m) (roots (hint_of m)) refl h
 
-pub complete_done : {M : Type 0} (m n : ManifestMeaning M) (handed : Option Handed) (roots : RootsTold) (told : Text → Told) →
+pub complete_done : {M : Type 0} (m n : ManifestMeaning M) (handed : Option Handed) (roots : RootsTold) (told : Name → Told) →
     complete m handed roots told ≡ gives n → needs n ≡ false
 complete_done m n handed roots told h =
     let c = completed m n handed roots told h in

@@ -9,7 +9,7 @@ use Rattle.cargo_toml_parts.specs.declared.inheritable.Inheritable.TheVariants.{
 use Rattle.cargo_toml_paths.specs.Paths.{workspace_folder}
 use Rattle.cargo_toml_dependencies.proofs.Lasting.{target-kept, targets-kept}
 use Rattle.cargo_toml_dependencies.specs.Inheriting.{inherited_target, inherited_targets}
-use Rattle.cargo_toml_discovery.specs.Names.{Text}
+use Rattle.cargo_toml_discovery.specs.Names.{Name}
 use Rattle.cargo_toml_discovery.specs.Seen.{seen}
 use Rattle.cargo_toml_discovery.specs.Told.{Told}
 use Rattle.cargo_toml_package.proofs.Lasting.{package-kept}
@@ -59,7 +59,7 @@ nothing_left workspace base m none =
     (if_there-kept template base m.«package» lints.0) refl)))
 
 -- a manifest that leaves nothing, and in which everything is found, stays
-module _ {M : Type 0} (n : ManifestMeaning M) (told : Text → Told) (none : needs n ≡ false)
+module _ {M : Type 0} (n : ManifestMeaning M) (told : Name → Told) (none : needs n ≡ false)
     (again : found_around n told ≡ seen n) where
   from-stays : (workspace : Option Shared) (path : List ℕ) → complete_by n (from workspace path) told ≡ gives n
   from-stays workspace path =

@@ -3,7 +3,7 @@ use Rattle.std.proofs.Common.{◌≡◌, ◌∙◌, refl, ap, ℕ, List, [], cod
 use Rattle.semver.specs.Identifiers.{parts_of}
 use Rattle.toml.specs.Data.{Data, Members, no_members, get_member, as_str, as_table}
 use Rattle.cargo_toml_package.specs.declared.package.Package.{Package}
-use Rattle.cargo_toml_package.specs.Packages.{PackageMeaning, package_meaning, package_of, package_reads}
+use Rattle.cargo_toml_package.specs.Packages.{PackageMeaning, package_meaning, package_of_table, package_reads}
 use Rattle.cargo_toml_settings.specs.Settings.{edition_reads, resolver_reads}
 use Rattle.cargo_toml_parts.proofs.Steps.{then}
 use Rattle.cargo_toml_parts.specs.declared.inheritable.Inheritable.{Inheritable}
@@ -56,7 +56,7 @@ metadata_read way held meaning reads (Some x) (Some d) again is = ap (λ m. opti
 
 module _ {X W M : Type 0} (way : Way W) (held : X → W) (meaning : X → M) (reads : Data → Option M) (p : Package X) where
   members_again : (ms : Members) → VersionAgain (inheritable_map parts_of p.version) → MetadataAgain way held meaning reads p.metadata
-      → AreWritten (package_rows way (package_meaning held p)) no_members ms → package_of reads ms ≡ Some (package_meaning meaning p)
+      → AreWritten (package_rows way (package_meaning held p)) no_members ms → package_of_table reads ms ≡ Some (package_meaning meaning p)
   members_again ms version metadata written =
       let q : PackageMeaning W = package_meaning held p in
       let at = λ (k : List ℕ). got k (package_rows way q) no_members ms written in
@@ -93,4 +93,4 @@ module _ {X W M : Type 0} (way : Way W) (held : X → W) (meaning : X → M) (re
       → (d : Data) → (package_way way).trees (package_meaning held p) d → package_reads reads d ≡ Some (package_meaning meaning p)
   unfolding package_reads
   package_again version metadata d (ms, is, written) =
-      ap (λ t. option_and_then (package_of reads) (as_table t)) is ∙ members_again ms version metadata written
+      ap (λ t. option_and_then (package_of_table reads) (as_table t)) is ∙ members_again ms version metadata written

@@ -22,7 +22,7 @@ use Rattle.cargo_toml_manifest.proofs.FoundAgain.{needs_found}
 use Rattle.cargo_toml_manifest.specs.Choosing.{Handed, RootsTold, from, hint_of, own_choice}
 use Rattle.cargo_toml_manifest.specs.Completing.{complete, complete_by, gives, seen_at, then_found}
 use Rattle.cargo_toml_manifest.specs.Finding.{found_around}
-use Rattle.cargo_toml_workspace.specs.Sharing.{Lints, Shared, inherited_lints, shared}
+use Rattle.cargo_toml_workspace.specs.Sharing.{LintsByTool, Shared, inherited_lints, shared}
 use Rattle.cargo_toml_manifest.specs.Inheriting.{inherited_if_there, inherited_from, inherited_manifest, needs, own_tables}
 use Rattle.cargo_toml_manifest.specs.Manifests.{ManifestMeaning}
 use Rattle.cargo_toml_manifest.specs.Told.{ToldRoot, root, no_root, open_root}
@@ -95,7 +95,7 @@ targets-done templates base ts us h =
     (λ e y k. beside-done target_left e.0 (inherited_target templates base e.1) y (one-target-done templates base e.1) k) ts us h
 
 -- nor are the lints
-lints-done : (groups : Option Lints) (l k : Inheritable Lints) → inherited_lints groups l ≡ Ok k → is_set k ≡ true
+lints-done : (groups : Option LintsByTool) (l k : Inheritable LintsByTool) → inherited_lints groups l ≡ Ok k → is_set k ≡ true
 lints-done groups (Set x) k h = ap is_set (sym (same (Set x) k h))
 lints-done (Some x) Inherited k h = ap is_set (sym (same (Set x) k h))
 lints-done None Inherited k h = cc
@@ -112,7 +112,7 @@ package-done t base (Some p) q h =
     ap (λ (o : Option (PackageMeaning _)). option_map_or any_field_left o false) (sym (same (Some k.0) q k.2))
     ∙ checked-done (any_field_left (with_template_if_there base t p)) (with_template_if_there base t p) k.0 _ refl k.1
 
-inherited-done : {M : Type 0} (templates : Option Entries) (groups : Option Lints) (t : Option TemplateMeaning) (base : List ℕ) (m n : ManifestMeaning M) →
+inherited-done : {M : Type 0} (templates : Option Entries) (groups : Option LintsByTool) (t : Option TemplateMeaning) (base : List ℕ) (m n : ManifestMeaning M) →
     inherited_from templates groups t base m ≡ Ok n → needs n ≡ false
 inherited-done templates groups t base m n h =
     let a = both (inherited_target templates base (own_tables m)) _ n h in

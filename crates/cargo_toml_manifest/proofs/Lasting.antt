@@ -22,12 +22,12 @@ use Rattle.cargo_toml_manifest.proofs.Steps.{then}
 use Rattle.cargo_toml_manifest.specs.Choosing.{Handed, RootsTold, from, hint_of, own_choice}
 use Rattle.cargo_toml_manifest.specs.Completing.{IsLasting, complete, complete_by, gives, seen_at, then_found}
 use Rattle.cargo_toml_manifest.specs.Finding.{found_around}
-use Rattle.cargo_toml_workspace.specs.Sharing.{Lints, Shared, inherited_lints, shared}
+use Rattle.cargo_toml_workspace.specs.Sharing.{LintsByTool, Shared, inherited_lints, shared}
 use Rattle.cargo_toml_manifest.specs.Inheriting.{inherited_if_there, inherited_manifest, needs, own_tables}
 use Rattle.cargo_toml_manifest.specs.Manifests.{ManifestMeaning}
 use Rattle.cargo_toml_manifest.specs.Told.{ToldRoot}
 
-lints-kept : (groups : Option Lints) (lints : Inheritable Lints) → not (is_set lints) ≡ false →
+lints-kept : (groups : Option LintsByTool) (lints : Inheritable LintsByTool) → not (is_set lints) ≡ false →
     inherited_lints groups lints ≡ Ok lints
 lints-kept groups (Set x) none = refl
 lints-kept groups Inherited none = cc

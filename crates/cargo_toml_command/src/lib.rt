@@ -1,5 +1,5 @@
-//! What the program `cargo-toml` is asked, what `complete` prints, and how a run ends, as a library,
-//! so that its tests against stored lines run the same code.
+//! What the program `cargo-toml` is asked, what `complete` prints, and how a run ends, as a
+//! library, so that its tests against stored lines run the same code.
 //!
 //! It stands beside the resolver. It owns the manifests that `cargo_toml_print` borrows: a crate
 //! that owns one proves the drop of each type in it.

@@ -6,7 +6,7 @@ ghost use Rattle.cargo_toml.specs.Agreement.{Agree};
 ghost use Rattle.cargo_toml.specs.Error.{Memory};
 ghost use Rattle.cargo_toml.specs.Filter.{HasNameFilter, Tells};
 ghost use Rattle.cargo_toml.specs.Limits.{MAX_ITEMS};
-ghost use Rattle.cargo_toml.specs.Manifests.{manifest_meaning};
+ghost use Rattle.cargo_toml.specs.Manifests.{held};
 ghost use Rattle.cargo_toml.specs.OwnBins.{requirement_of};
 ghost use Rattle.cargo_toml.specs.Parsed.{IsParsed, requirements, requirements_by};
 ghost use Rattle.cargo_toml.specs.Products.{product_meaning};
@@ -65,7 +65,7 @@ fn resolve_plainly<'m, M, F: Fn(&str) -> bool>(
 ) -> Result<Answer<'m>, Error>
     requires { HasNameFilter F.Fn filter }
     ensures resolved { IfOk result (λ a. (keep : Text → Bool) → Tells F.Fn filter.entry keep
-        → IsParsed MAX_ITEMS (manifest_meaning (λ m. m) manifest.now) keep (answer_of a)) }
+        → IsParsed MAX_ITEMS (held manifest.now) keep (answer_of a)) }
     ensures refused { IfErr result (λ e. e ≡ Memory) }
 {
     let details = &manifest.feature_details;
@@ -94,7 +94,7 @@ fn requirements<'m, M>(
     manifest: &'m Manifest<M>,
 ) -> Result<Vec<Requirement<'m>>, AllocError>
     ensures { IfOk result
-        (λ v. map requirement_of v.items ≡ requirements (manifest_meaning (λ m. m) manifest.now)) }
+        (λ v. map requirement_of v.items ≡ requirements (held manifest.now)) }
 {
     match &manifest.package {
         Some(package) => requirements_of(alloc, manifest.bin.as_slice(), package.name.as_str()),

@@ -6,7 +6,8 @@ ghost use Rattle.cargo_toml.specs.Filled.{IsFilled};
 ghost use Rattle.cargo_toml.specs.InheritableValues.{value_of};
 ghost use Rattle.cargo_toml.specs.InheritedManifests.{needs};
 ghost use Rattle.cargo_toml.specs.Manifest.{Manifest};
-ghost use Rattle.cargo_toml.specs.Manifests.{manifest_meaning, manifest_reads, ManifestRefuses};
+ghost use Rattle.cargo_toml.specs.Manifests.{manifest_meaning, manifest_reads};
+ghost use Rattle.cargo_toml.specs.Manifests.{ManifestRefuses, held};
 ghost use Rattle.cargo_toml.specs.RealFiles.{IsPathFault, IsReadAndCompleted};
 ghost use Rattle.cargo_toml.specs.Texts.{AnyRefuses, any_tree};
 
@@ -25,7 +26,7 @@ pub fn complete_member(
     workspace: &[u8],
     path: &str,
 ) -> Result<(), Error>
-    ensures nothing_left { OnOk result (needs (manifest_meaning (λ m. m) member.new) ≡ false) }
+    ensures nothing_left { OnOk result (needs (held member.new) ≡ false) }
     ensures filled { OnOk result (IfSome member.new.«package» IsFilled) }
     ensures unchanged { OnErr result (member.new ≡ member.old) }
 {
@@ -43,7 +44,7 @@ pub fn complete_among<Fs: AbstractFilesystem + Drop>(
     workspace: &Manifest,
     path: &str,
 ) -> Result<(), Error>
-    ensures nothing_left { OnOk result (needs (manifest_meaning (λ m. m) member.new) ≡ false) }
+    ensures nothing_left { OnOk result (needs (held member.new) ≡ false) }
     ensures filled { OnOk result (IfSome member.new.«package» IsFilled) }
     ensures unchanged { OnErr result (member.new ≡ member.old) }
 {
@@ -57,7 +58,7 @@ pub fn read_member(
     workspace: &[u8],
     path: &str,
 ) -> Result<Manifest, Error>
-    ensures nothing_left { IfOk result (λ m. needs (manifest_meaning (λ x. x) m) ≡ false) }
+    ensures nothing_left { IfOk result (λ m. needs (held m) ≡ false) }
 {
     let mut manifest = Manifest::from_slice(alloc, member)?;
     complete_member(alloc, &mut manifest, workspace, path)?;

@@ -3,7 +3,7 @@
 ghost use Rattle.std.specs.Prelude.{◌≡◌, IfErr, IfOk};
 ghost use Rattle.cargo_toml.specs.Action.{Text};
 ghost use Rattle.cargo_toml.specs.Error.{Memory};
-ghost use Rattle.cargo_toml.specs.Manifests.{manifest_meaning};
+ghost use Rattle.cargo_toml.specs.Manifests.{held};
 ghost use Rattle.cargo_toml_bench.specs.Documented.{AreDocumented, said_at, documented_at};
 
 use cargo_toml::features::{Feature, Resolver};
@@ -21,7 +21,7 @@ pub fn documented_features<'m, M>(
     alloc: Global,
     manifest: &'m Manifest<M>,
 ) -> Result<BTreeMap<&'m str, Option<&'m str>>, Error>
-    ensures documented { IfOk result (AreDocumented (manifest_meaning (λ m. m) manifest.now)) }
+    ensures documented { IfOk result (AreDocumented (held manifest.now)) }
     ensures refused { IfErr result (λ e. e ≡ Memory) }
 {
     let resolver = Resolver::new();

@@ -3,7 +3,7 @@ ghost use Rattle.std.specs.Prelude.{◌≡◌, IfErr, IfOk, IfSome, option_map};
 ghost use Rattle.cargo_toml.specs.Action.{Text};
 ghost use Rattle.cargo_toml.specs.Reached.{AreEnabled, IsKeyed, pairs_at};
 ghost use Rattle.cargo_toml.specs.Recursive.{ArePairs};
-ghost use Rattle.cargo_toml.specs.Manifests.{manifest_meaning};
+ghost use Rattle.cargo_toml.specs.Manifests.{held};
 ghost use Rattle.cargo_toml.specs.Views.{table_in, value_at};
 ghost use Rattle.cargo_toml_bench.specs.Enabled.{IsAnswered, IsAnsweredFrom};
 ghost use Rattle.cargo_toml_bench.specs.Printing.{RefusesBytes};
@@ -63,7 +63,7 @@ pub fn enables<M>(
     other: &str,
 ) -> Result<bool, Error>
     ensures answer { IfOk result
-        (IsAnswered (manifest_meaning (λ m. m) manifest.now) name.now other.now) }
+        (IsAnswered (held manifest.now) name.now other.now) }
     ensures refused { IfErr result (λ e. e ≡ Error.Memory) }
 {
     let resolved = resolve_whole(alloc, manifest)?;

@@ -7,7 +7,7 @@ ghost use Rattle.cargo_toml.specs.Filter.{Answers, HasNameFilter, IsHiddenName, 
 ghost use Rattle.cargo_toml.specs.Filtered.{filter_of, limit_of};
 ghost use Rattle.cargo_toml.specs.Kept.{KeepsEnabling, LosesNothing, NoneIsLeft};
 ghost use Rattle.cargo_toml.specs.Limits.{MAX_ITEMS};
-ghost use Rattle.cargo_toml.specs.Manifests.{manifest_meaning};
+ghost use Rattle.cargo_toml.specs.Manifests.{held};
 ghost use Rattle.cargo_toml.specs.Parsed.{IsParsed, parsed_table};
 ghost use Rattle.cargo_toml.specs.Removed.{IsRemovedBy};
 ghost use Rattle.cargo_toml.specs.Views.{answer_of};
@@ -31,11 +31,11 @@ pub fn resolve_beside<'m, M, F: Fn(&str) -> bool>(
     whole: &Answer<'_>,
 ) -> Result<Answer<'m>, Error>
     requires filter { HasNameFilter F.Fn (filter_of resolver.now) }
-    requires whole { IsParsed (limit_of resolver.now) (manifest_meaning (λ m. m) manifest.now)
+    requires whole { IsParsed (limit_of resolver.now) (held manifest.now)
         (λ _. true) (answer_of whole.now) }
     ensures removed { IfOk result (λ a. (r : Text) → IsSome ((answer_of a).redirects r)
         ↔ IsRemovedBy F.Fn (filter_of resolver.now)
-        (parsed_table (limit_of resolver.now) (manifest_meaning (λ m. m) manifest.now)) r) }
+        (parsed_table (limit_of resolver.now) (held manifest.now)) r) }
     ensures kept { IfOk result (λ a. (f : Text) → IsTrue ((answer_of a).resolution.table.has f)
         → IsHiddenName f → Answers F.Fn (filter_of resolver.now) f true) }
     ensures no_removed_name { IfOk result (λ a.
@@ -62,7 +62,7 @@ pub fn resolve_by<'m, M, F: Fn(&str) -> bool>(
     requires { IsNameFilter F.Fn filter.now }
     ensures removed { IfOk result (λ p. (r : Text) → IsSome ((answer_of p.1).redirects r)
         ↔ IsRemovedBy F.Fn (Some filter.entry)
-        (parsed_table MAX_ITEMS (manifest_meaning (λ m. m) manifest.now)) r) }
+        (parsed_table MAX_ITEMS (held manifest.now)) r) }
     ensures no_removed_name { IfOk result (λ p.
         NoneIsLeft (λ r. IsSome ((answer_of p.1).redirects r)) (answer_of p.1).resolution) }
     ensures closure { IfOk result

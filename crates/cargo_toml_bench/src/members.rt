@@ -3,7 +3,7 @@ ghost use Rattle.std.specs.Prelude.{◌≡◌, ◌⊎◌, false, IfErr, IfOk, On
 ghost use Rattle.cargo_toml.specs.Choosing.{handed_of};
 ghost use Rattle.cargo_toml.specs.Error.{Memory};
 ghost use Rattle.cargo_toml.specs.InheritedManifests.{needs};
-ghost use Rattle.cargo_toml.specs.Manifests.{manifest_meaning};
+ghost use Rattle.cargo_toml.specs.Manifests.{held};
 ghost use Rattle.cargo_toml.specs.Refusing.{IsRefusedBy, MayLose};
 ghost use Rattle.cargo_toml.specs.Told.{heard};
 ghost use Rattle.cargo_toml_bench.specs.Members.{IsToldOfMember};
@@ -24,12 +24,12 @@ pub fn enables_in_member<Fs: AbstractFilesystem + Drop>(
     name: &str,
     other: &str,
 ) -> Result<bool, Error>
-    ensures answer { IfOk result (IsToldOfMember (manifest_meaning (λ m. m) member.old)
+    ensures answer { IfOk result (IsToldOfMember (held member.old)
         (option_map handed_of workspace.entry)
         (λ hint. heard Fs.Roots.ARE_READ (Fs.root_for files hint))
         (Fs.names_at files) name.now other.now) }
     ensures refused { IfErr result
-        (IsRefusedBy (manifest_meaning (λ m. m) member.old) (option_map handed_of workspace.entry)
+        (IsRefusedBy (held member.old) (option_map handed_of workspace.entry)
         (λ hint. heard Fs.Roots.ARE_READ (Fs.root_for files hint))
         (MayLose Fs.Roots.ARE_READ (Fs.may_refuse_root files)) (Fs.may_refuse files)) }
 {
@@ -52,9 +52,9 @@ pub fn count_features<Fs: AbstractFilesystem + Drop>(
     files: Fs,
     workspace: Option<(&Manifest, &str)>,
 ) -> Result<usize, Error>
-    ensures nothing_left { OnOk result (needs (manifest_meaning (λ m. m) member.new) ≡ false) }
+    ensures nothing_left { OnOk result (needs (held member.new) ≡ false) }
     ensures left { IfErr result (λ e. (member.new ≡ member.old)
-        ⊎ ((e ≡ Memory) × (needs (manifest_meaning (λ m. m) member.new) ≡ false))) }
+        ⊎ ((e ≡ Memory) × (needs (held member.new) ≡ false))) }
 {
     let mut slot = None;
     let resolver = Resolver::new();

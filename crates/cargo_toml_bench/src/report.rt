@@ -11,7 +11,7 @@ ghost use Rattle.cargo_toml.specs.Reads.{map_meaning};
 ghost use Rattle.cargo_toml.specs.Action.{Text};
 ghost use Rattle.cargo_toml.specs.Reach.{Among};
 ghost use Rattle.cargo_toml.specs.Limits.{MAX_ITEMS};
-ghost use Rattle.cargo_toml.specs.Manifests.{manifest_meaning};
+ghost use Rattle.cargo_toml.specs.Manifests.{held};
 ghost use Rattle.cargo_toml.specs.Parsed.{parsed_table};
 ghost use Rattle.cargo_toml.specs.Views.{has_text};
 ghost use Rattle.cargo_toml_bench.specs.Alone.{is_alone_at};
@@ -40,7 +40,7 @@ pub fn make_report<'m, M>(alloc: Global, manifest: &'m Manifest<M>) -> Result<Re
     ensures optional { IfOk result (λ r. texts r.optional
         ≡ optional_keys (map_meaning dependency_meaning manifest.now.dependencies)) }
     ensures unreferenced { IfOk result (λ r. AreUnreferenced
-        (parsed_table MAX_ITEMS (manifest_meaning (λ m. m) manifest.now)) (texts r.unreferenced)) }
+        (parsed_table MAX_ITEMS (held manifest.now)) (texts r.unreferenced)) }
     ensures refused { IfErr result (λ e. e ≡ Memory) }
 {
     Ok(Report {
@@ -75,7 +75,7 @@ pub fn unreferenced_features<'m, M>(
     manifest: &'m Manifest<M>,
 ) -> Result<Vec<&'m str>, Error>
     ensures names { IfOk result (λ v. AreUnreferenced
-        (parsed_table MAX_ITEMS (manifest_meaning (λ m. m) manifest.now)) (texts v)) }
+        (parsed_table MAX_ITEMS (held manifest.now)) (texts v)) }
     ensures refused { IfErr result (λ e. e ≡ Memory) }
 {
     let resolved = resolve_whole(alloc, manifest)?;

@@ -4,7 +4,7 @@ ghost use Rattle.std.specs.Prelude.{◌≡◌, true, bytes_eq, codes, IfErr, IfO
 ghost use Rattle.cargo_toml.specs.Error.{Memory};
 ghost use Rattle.cargo_toml.specs.Kept.{KeepsEnabling, LosesNothing};
 ghost use Rattle.cargo_toml.specs.Limits.{MAX_ITEMS};
-ghost use Rattle.cargo_toml.specs.Manifests.{manifest_meaning};
+ghost use Rattle.cargo_toml.specs.Manifests.{held};
 ghost use Rattle.cargo_toml.specs.Parsed.{IsParsed};
 ghost use Rattle.cargo_toml.specs.Reached.{IsKeyed};
 ghost use Rattle.cargo_toml.specs.Views.{answer_of};
@@ -33,7 +33,7 @@ pub(crate) fn keep_a(name: &str) -> bool
 /// The one refusal is [`Error::Memory`].
 pub fn resolve_whole<'m, M>(alloc: Global, manifest: &'m Manifest<M>) -> Result<Answer<'m>, Error>
     ensures resolved { IfOk result (λ a.
-        IsParsed MAX_ITEMS (manifest_meaning (λ m. m) manifest.now) (λ _. true) (answer_of a)) }
+        IsParsed MAX_ITEMS (held manifest.now) (λ _. true) (answer_of a)) }
     ensures keyed { IfOk result (λ a. IsKeyed a.features) }
     ensures refused { IfErr result (λ e. e ≡ Memory) }
 {
@@ -49,7 +49,7 @@ pub fn resolve_keeping_a<'m, M>(
     manifest: &'m Manifest<M>,
 ) -> Result<Answer<'m>, Error>
     ensures resolved { IfOk result (λ a.
-        IsParsed MAX_ITEMS (manifest_meaning (λ m. m) manifest.now) (λ n. bytes_eq n (codes "_a"))
+        IsParsed MAX_ITEMS (held manifest.now) (λ n. bytes_eq n (codes "_a"))
         (answer_of a)) }
     ensures refused { IfErr result (λ e. e ≡ Memory) }
 {

@@ -10,7 +10,7 @@ use Rattle.cargo_toml.specs.Faults.{IsOther}
 use Rattle.cargo_toml.specs.Manifests.{ManifestMeaning, manifest_reads, ManifestRefuses}
 use Rattle.cargo_toml.specs.Texts.{document_reads, DocumentRefuses}
 use Rattle.cargo_toml.specs.Floats.{has_no_float}
-use Rattle.cargo_toml.specs.Writes.{Way, IsFloatless, never}
+use Rattle.cargo_toml.specs.Writes.{Way, IsFloatless, never_left_out}
 use Rattle.cargo_toml_caller.specs.declared.audience.Audience.{Audience}
 use Rattle.cargo_toml_caller.specs.declared.audience.Audience.TheVariants.{Everyone, Team}
 use Rattle.cargo_toml_caller.specs.declared.audience.Audience.TheVariants.{Undecided}
@@ -29,16 +29,16 @@ abbrev pub AudienceRefuses : Data → Error → Type 0
 AudienceRefuses d e = IsOther (codes "unknown audience") e
 
 -- the trees of an audience
-abbrev pub IsTree : Audience → Data → Type 0
-IsTree Everyone d = d ≡ string (codes "everyone")
-IsTree Team d = d ≡ string (codes "team")
-IsTree Undecided d = ⊥
+abbrev pub IsAudienceTree : Audience → Data → Type 0
+IsAudienceTree Everyone d = d ≡ string (codes "everyone")
+IsAudienceTree Team d = d ≡ string (codes "team")
+IsAudienceTree Undecided d = ⊥
 
 abbrev pub audience_way : Way Audience
 audience_way = record {
-  trees = IsTree;
+  trees = IsAudienceTree;
   refuses = λ x e. IsOther (codes "undecided audience") e;
-  left_out = never;
+  left_out = never_left_out;
 }
 
 -- none of these trees holds a float

@@ -5,7 +5,7 @@ ghost use Rattle.cargo_toml.specs.Agreement.{Agree};
 ghost use Rattle.cargo_toml.specs.Error.{Memory};
 ghost use Rattle.cargo_toml.specs.Hashed.{IsListingOf};
 ghost use Rattle.cargo_toml.specs.Limits.{MAX_ITEMS};
-ghost use Rattle.cargo_toml.specs.Manifests.{manifest_meaning};
+ghost use Rattle.cargo_toml.specs.Manifests.{held};
 ghost use Rattle.cargo_toml.specs.Parsed.{parsed_entries};
 ghost use Rattle.cargo_toml.specs.Views.{answer_of, entry_of};
 ghost use Rattle.cargo_toml_caller.specs.CustomFeatures.{IsNamed};
@@ -52,7 +52,7 @@ pub fn resolve_twice<'m: 'd, 'd, M, S: BuildHasher>(
     features: &'m HashMap<String, Vec<String>, S>,
     dependencies: &[ParseDependency<'m, 'd>],
 ) -> Result<Twice<'m, 'd>, Error>
-    ensures agree { IfOk result (λ r. let m = manifest_meaning (λ m. m) manifest.now in
+    ensures agree { IfOk result (λ r. let m = held manifest.now in
         IsListingOf features.now m.features
         → map entry_of dependencies.now ≡ parsed_entries MAX_ITEMS m
         → Agree (answer_of r.0) (answer_of r.1)) }

@@ -2,7 +2,7 @@
 ghost use Rattle.std.specs.Prelude.{◌≡◌, IfErr, IfOk, option_map};
 ghost use Rattle.cargo_toml.specs.Dependencies.{is_optional};
 ghost use Rattle.cargo_toml.specs.Error.{Memory};
-ghost use Rattle.cargo_toml.specs.Manifests.{manifest_meaning};
+ghost use Rattle.cargo_toml.specs.Manifests.{held};
 ghost use Rattle.cargo_toml_caller.specs.Audiences.{Refuses};
 ghost use Rattle.cargo_toml_caller.specs.FirstDependencies.{first_under};
 
@@ -34,7 +34,7 @@ pub fn is_optional_at<M>(
     key: &str,
 ) -> Result<Option<bool>, Error>
     ensures answer { IfOk result (λ o. o
-        ≡ option_map is_optional (first_under (manifest_meaning (λ m. m) manifest.now) key.now)) }
+        ≡ option_map is_optional (first_under (held manifest.now) key.now)) }
     ensures refused { IfErr result (λ e. e ≡ Memory) }
 {
     let resolved = Resolver::new().parse(alloc, manifest)?;

@@ -12,8 +12,8 @@ mod tests;
 ghost use Rattle.std.specs.Prelude.{◌≡◌, IfErr, IfOk};
 ghost use Rattle.semver.specs.Identifiers.{parts_of};
 ghost use Rattle.cargo_toml.specs.Inherits.{inheritable_map};
-ghost use Rattle.cargo_toml.specs.Manifests.{manifest_meaning};
-ghost use Rattle.cargo_toml.specs.Packages.{package_meaning, package_reads};
+ghost use Rattle.cargo_toml.specs.Manifests.{held};
+ghost use Rattle.cargo_toml.specs.Packages.{held_package, package_reads};
 ghost use Rattle.cargo_toml.specs.WrittenManifests.{manifest_way};
 ghost use Rattle.cargo_toml.specs.WrittenPackages.{package_way, VersionAgain};
 ghost use Rattle.cargo_toml.specs.Writes.{IsReadAgain, IsWriting};
@@ -39,7 +39,7 @@ pub fn audience_of(alloc: Global, bytes: &[u8]) -> Result<Option<Audience>, Erro
 
 /// The audience that the metadata of a manifest's package say.
 pub fn package_audience(manifest: &Manifest<Audience>) -> Option<Audience>
-    ensures { result ≡ audience_in (manifest_meaning (λ x. x) manifest.now) }
+    ensures { result ≡ audience_in (held manifest.now) }
 {
     match &manifest.package {
         Some(package) => package.metadata,
@@ -50,7 +50,7 @@ pub fn package_audience(manifest: &Manifest<Audience>) -> Option<Audience>
 /// A tree of the manifest. Metadata that can't be written are refused with their own fault.
 pub fn write_manifest(alloc: Global, manifest: &Manifest<Audience>) -> Result<Value, Error>
     ensures { IsWriting (manifest_way audience_way)
-        (manifest_meaning (λ x. x) manifest.now) result }
+        (held manifest.now) result }
 {
     manifest.to_value(alloc)
 }
@@ -58,10 +58,10 @@ pub fn write_manifest(alloc: Global, manifest: &Manifest<Audience>) -> Result<Va
 /// A tree of the package, from which it is read again, its metadata too.
 pub fn write_package(alloc: Global, package: &Package<Audience>) -> Result<Value, Error>
     ensures written { IsWriting (package_way audience_way)
-        (package_meaning (λ x. x) «package».now) result }
+        (held_package «package».now) result }
     ensures read_again { VersionAgain (inheritable_map parts_of «package».now.version)
         → IsReadAgain (package_reads audience_reads)
-        (package_meaning (λ x. x) «package».now) result }
+        (held_package «package».now) result }
 {
     package.to_value(alloc)
 }

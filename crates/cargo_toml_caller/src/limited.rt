@@ -1,7 +1,7 @@
 //! Features at a limit and by a filter of a caller's own.
 ghost use Rattle.std.specs.Prelude.{◌≡◌, ◌≤◌, bytes_eq, codes, IfErr, IfOk};
 ghost use Rattle.cargo_toml.specs.Error.{Memory};
-ghost use Rattle.cargo_toml.specs.Manifests.{manifest_meaning};
+ghost use Rattle.cargo_toml.specs.Manifests.{held};
 ghost use Rattle.cargo_toml.specs.Parsed.{AreBinsComplete, IsParsed, parsed_table};
 ghost use Rattle.cargo_toml.specs.Removal.{is_removed};
 ghost use Rattle.cargo_toml.specs.Views.{answer_of};
@@ -26,11 +26,11 @@ pub fn resolve_limited<'m, M>(
     max_items: usize,
 ) -> Result<Features<'m, 'm, BuildHasherDefault<FoldHasher>>, Error>
     requires { 1 ≤ max_items }
-    ensures resolved { IfOk result (λ a. IsParsed max_items (manifest_meaning (λ m. m) manifest.now)
+    ensures resolved { IfOk result (λ a. IsParsed max_items (held manifest.now)
         (λ n. bytes_eq n (codes "_internal")) (answer_of a)) }
     ensures complete_bins { IfOk result (λ a. AreBinsComplete max_items
-        (manifest_meaning (λ m. m) manifest.now)
-        (is_removed (parsed_table max_items (manifest_meaning (λ m. m) manifest.now))
+        (held manifest.now)
+        (is_removed (parsed_table max_items (held manifest.now))
         (λ n. bytes_eq n (codes "_internal"))) (answer_of a)) }
     ensures refused { IfErr result (λ e. e ≡ Memory) }
 {

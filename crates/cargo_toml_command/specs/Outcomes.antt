@@ -7,7 +7,8 @@ use Rattle.std.specs.IoError.{error_kind}
 use Rattle.cargo_toml_parts.specs.declared.error.Error.{Error, Memory}
 use Rattle.cargo_toml_parts.specs.Faults.{text_of}
 use Rattle.cargo_toml_command.specs.declared.outcome.Outcome.{Outcome}
-use Rattle.cargo_toml_command.specs.declared.outcome.Outcome.TheVariants.{Done, Refused, NotACommand}
+use Rattle.cargo_toml_command.specs.declared.outcome.Outcome.TheVariants.{Done, Refused}
+use Rattle.cargo_toml_command.specs.declared.outcome.Outcome.TheVariants.{NotACommand}
 
 -- the end of a run whose command was done or refused
 abbrev pub outcome_of : Result ⊤ Error → Outcome

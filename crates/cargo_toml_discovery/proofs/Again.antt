@@ -9,9 +9,9 @@ use Rattle.cargo_toml_discovery.proofs.Ranks.{products_rank}
 use Rattle.cargo_toml_discovery.proofs.Stable.{one_sort, sorted-sorted_by, filter-sorted_by}
 use Rattle.cargo_toml_discovery.proofs.Unique.{own}
 use Rattle.cargo_toml_discovery.specs.Around.{Around}
-use Rattle.cargo_toml_discovery.specs.Discovering.{library, or_plain_library, filled_library, at_library, build_in, may_build, readme_in, first_in, readme_names, list_of, main_of, main_offer, StatedMeaning, DiscoveredMeaning, discovered, restated}
+use Rattle.cargo_toml_discovery.specs.Discovering.{library, or_plain_library, filled_library, at_library, build_in, may_build, readme_in, first_in, readme_names, listed_products, main_of, main_offer, StatedMeaning, DiscoveredMeaning, discovered, restated}
 use Rattle.cargo_toml_discovery.specs.Found.{Named, Offered, offer_of, still_open, offers, is_text, is_path_of, has_path, product_for, product_among, taker, late_taker, last_product, all_found, found}
-use Rattle.cargo_toml_discovery.specs.Names.{Text, has_text}
+use Rattle.cargo_toml_discovery.specs.Names.{Name, has_text}
 use Rattle.cargo_toml_discovery.specs.Sorting.{product_lt, insert_by, sorted_by, in_order}
 
 -- the build script
@@ -28,31 +28,31 @@ built false (Some (flag false)) = refl
 built true (Some (path p)) = refl
 built false (Some (path p)) = refl
 
-pub build-again : (root : List Text) (f : Option File) → build_in root (build_in root f) ≡ build_in root f
+pub build-again : (root : List Name) (f : Option File) → build_in root (build_in root f) ≡ build_in root f
 build-again root f = built (has_text root (codes "build.rs")) f
 
 -- the readme
-three : (a b c : Bool) (p q r : Text) (root : List Text) → cond a (path p) (cond b (path q) (cond c (path r) (flag true))) ≡ first_in root readme_names (flag true) →
+three : (a b c : Bool) (p q r : Name) (root : List Name) → cond a (path p) (cond b (path q) (cond c (path r) (flag true))) ≡ first_in root readme_names (flag true) →
     readme_in root (cond a (path p) (cond b (path q) (cond c (path r) (flag true)))) ≡ cond a (path p) (cond b (path q) (cond c (path r) (flag true)))
 three true b c p q r root h = refl
 three false true c p q r root h = refl
 three false false true p q r root h = refl
 three false false false p q r root h = sym h
 
-pub readme-again : (root : List Text) (f : File) → readme_in root (readme_in root f) ≡ readme_in root f
+pub readme-again : (root : List Name) (f : File) → readme_in root (readme_in root f) ≡ readme_in root f
 readme-again root (flag true) = three (has_text root (codes "README.md")) (has_text root (codes "README.txt")) (has_text root (codes "README")) (codes "README.md") (codes "README.txt") (codes "README") root refl
 readme-again root (flag false) = refl
 readme-again root (path p) = refl
 
 -- the library
-plain-again : (ts : List Text) → or_plain_library (or_plain_library ts) ≡ or_plain_library ts
+plain-again : (ts : List Name) → or_plain_library (or_plain_library ts) ≡ or_plain_library ts
 plain-again [] = refl
 plain-again (t ∷ ts) = refl
 
-filled-again : (name : Text) (edition : Edition) (p : ProductMeaning) → filled_library name edition (filled_library name edition p) ≡ filled_library name edition p
-filled-again name edition p = ap (λ (ts : List Text). record (filled_library name edition p) { crate_type = ts }) (plain-again p.crate_type)
+filled-again : (name : Name) (edition : Edition) (p : ProductMeaning) → filled_library name edition (filled_library name edition p) ≡ filled_library name edition p
+filled-again name edition p = ap (λ (ts : List Name). record (filled_library name edition p) { crate_type = ts }) (plain-again p.crate_type)
 
-pub library-again : (name : Text) (edition : Edition) (there made : Bool) (l : Option ProductMeaning) → library name edition there made (library name edition there made l) ≡ library name edition there made l
+pub library-again : (name : Name) (edition : Edition) (there made : Bool) (l : Option ProductMeaning) → library name edition there made (library name edition there made l) ≡ library name edition there made l
 library-again name edition false made None = refl
 library-again name edition false made (Some p) = ap (λ (q : ProductMeaning). Some q) (filled-again name edition p)
 library-again name edition true true None = refl
@@ -123,38 +123,38 @@ or-right : (a b : Bool) → b ≡ true → (a || b) ≡ true
 or-right true b h = refl
 or-right false b h = h
 
-path-append : (ps qs : List ProductMeaning) (t : Text) → is_path_of (ps ++ qs) t ≡ (is_path_of ps t || is_path_of qs t)
+path-append : (ps qs : List ProductMeaning) (t : Name) → is_path_of (ps ++ qs) t ≡ (is_path_of ps t || is_path_of qs t)
 path-append [] qs t = refl
 path-append (p ∷ ps) qs t = ap (λ (b : Bool). is_text t p.path || b) (path-append ps qs t) ∙ or-assoc (is_text t p.path) (is_path_of ps t) (is_path_of qs t)
 
-path-insert : (x : ProductMeaning) (ys : List ProductMeaning) (t : Text) → is_path_of (insert_by product_lt x ys) t ≡ (is_text t x.path || is_path_of ys t)
+path-insert : (x : ProductMeaning) (ys : List ProductMeaning) (t : Name) → is_path_of (insert_by product_lt x ys) t ≡ (is_text t x.path || is_path_of ys t)
 path-insert x [] t = refl
 path-insert x (y ∷ ys) t = elim (product_lt y x) as (λ b. is_path_of (cond b (y ∷ insert_by product_lt x ys) (x ∷ y ∷ ys)) t ≡ (is_text t x.path || is_path_of (y ∷ ys) t))
     [ true ↦ ap (λ (b : Bool). is_text t y.path || b) (path-insert x ys t) ∙ or-swap (is_text t y.path) (is_text t x.path) (is_path_of ys t) | false ↦ refl ]
 
-path-sorted : (xs : List ProductMeaning) (t : Text) → is_path_of (sorted_by product_lt xs) t ≡ is_path_of xs t
+path-sorted : (xs : List ProductMeaning) (t : Name) → is_path_of (sorted_by product_lt xs) t ≡ is_path_of xs t
 path-sorted [] t = refl
 path-sorted (x ∷ xs) t = path-insert x (sorted_by product_lt xs) t ∙ ap (λ (b : Bool). is_text t x.path || b) (path-sorted xs t)
 
-path-kept : (r : Option Text) (p : ProductMeaning) (qs : List ProductMeaning) (t : Text) → p.path ≡ r → is_path_of (cond (is_some r) (p ∷ qs) qs) t ≡ (is_text t r || is_path_of qs t)
+path-kept : (r : Option Name) (p : ProductMeaning) (qs : List ProductMeaning) (t : Name) → p.path ≡ r → is_path_of (cond (is_some r) (p ∷ qs) qs) t ≡ (is_text t r || is_path_of qs t)
 path-kept None p qs t e = refl
-path-kept (Some u) p qs t e = ap (λ (r : Option Text). is_text t r || is_path_of qs t) e
+path-kept (Some u) p qs t e = ap (λ (r : Option Name). is_text t r || is_path_of qs t) e
 
-path-filter : (ps : List ProductMeaning) (t : Text) → is_path_of (filter has_path ps) t ≡ is_path_of ps t
+path-filter : (ps : List ProductMeaning) (t : Name) → is_path_of (filter has_path ps) t ≡ is_path_of ps t
 path-filter [] t = refl
 path-filter (p ∷ ps) t = path-kept p.path p (filter has_path ps) t refl ∙ ap (λ (b : Bool). is_text t p.path || b) (path-filter ps t)
 
 -- some offer has the path
-abbrev offered : List Offered → Text → Bool
+abbrev offered : List Offered → Name → Bool
 offered os t = list_any (λ o. bytes_eq o.path t) os
 
-path-among : (edition : Edition) (ps : List ProductMeaning) (all os : List Offered) (t : Text) → is_path_of (map (product_among edition ps all) os) t ≡ offered os t
+path-among : (edition : Edition) (ps : List ProductMeaning) (all os : List Offered) (t : Name) → is_path_of (map (product_among edition ps all) os) t ≡ offered os t
 path-among edition ps all [] t = refl
 path-among edition ps all (o ∷ os) t =
-    ap (λ (r : Option Text). is_text t r || is_path_of (map (product_among edition ps all) os) t) (placed-path edition o (taker ps all o))
+    ap (λ (r : Option Name). is_text t r || is_path_of (map (product_among edition ps all) os) t) (placed-path edition o (taker ps all o))
     ∙ ap (λ (b : Bool). bytes_eq o.path t || b) (path-among edition ps all os t)
 
-path-found : (edition : Edition) (dir : Text) (ps : List ProductMeaning) (es : List Named) (x : Option Offered) (t : Text) →
+path-found : (edition : Edition) (dir : Name) (ps : List ProductMeaning) (es : List Named) (x : Option Offered) (t : Name) →
     is_path_of (found edition dir ps es x) t ≡ (is_path_of ps t || (offered (offers dir (is_path_of ps) es) t || is_path_of (last_product edition ps (offers dir (is_path_of ps) es) x) t))
 path-found edition dir ps es x t =
     let os = offers dir (is_path_of ps) es in
@@ -166,23 +166,23 @@ path-found edition dir ps es x t =
     ∙ ap (λ (b : Bool). is_path_of ps t || b) (path-append placed last t ∙ ap (λ (b : Bool). b || is_path_of last t) (path-among edition ps os os t))
 
 -- no offer is open any more
-module _ (dir : Text) (f g : Text → Bool) (more : (t : Text) → f t ≡ true → g t ≡ true) where
+module _ (dir : Name) (f g : Name → Bool) (more : (t : Name) → f t ≡ true → g t ≡ true) where
   taken : (o : Offered) (rest : List Offered) → g o.path ≡ true → rest ≡ [] → cons_option (still_open g (Some o)) rest ≡ []
   taken o rest e r = ap (λ (b : Bool). cons_option (cond b None (Some o)) rest) e ∙ r
 
-  none-step : (r : Option Offered) (os rest : List Offered) → ((t : Text) → offered (cons_option (still_open f r) os) t ≡ true → g t ≡ true) →
-      (((t : Text) → offered os t ≡ true → g t ≡ true) → rest ≡ []) → cons_option (still_open g r) rest ≡ []
+  none-step : (r : Option Offered) (os rest : List Offered) → ((t : Name) → offered (cons_option (still_open f r) os) t ≡ true → g t ≡ true) →
+      (((t : Name) → offered os t ≡ true → g t ≡ true) → rest ≡ []) → cons_option (still_open g r) rest ≡ []
   none-step None os rest h next = next h
-  none-step (Some o) os rest h next = elim (f o.path) as (λ b. f o.path ≡ b → ((t : Text) → offered (cons_option (cond b None (Some o)) os) t ≡ true → g t ≡ true) → cons_option (still_open g (Some o)) rest ≡ []) [
+  none-step (Some o) os rest h next = elim (f o.path) as (λ b. f o.path ≡ b → ((t : Name) → offered (cons_option (cond b None (Some o)) os) t ≡ true → g t ≡ true) → cons_option (still_open g (Some o)) rest ≡ []) [
     | true ↦ λ e k. taken o rest (more o.path e) (next k)
     | false ↦ λ e k. taken o rest (k o.path (ap (λ (b : Bool). b || offered os o.path) (own o.path))) (next (λ t i. k t (or-right (bytes_eq o.path t) (offered os t) i)))
   ] refl h
 
-  none-open : (es : List Named) → ((t : Text) → offered (offers dir f es) t ≡ true → g t ≡ true) → offers dir g es ≡ []
+  none-open : (es : List Named) → ((t : Name) → offered (offers dir f es) t ≡ true → g t ≡ true) → offers dir g es ≡ []
   none-open [] h = refl
   none-open (e ∷ es) h = none-step (offer_of dir e) (offers dir f es) (offers dir g es) h (none-open es)
 
-module _ (edition : Edition) (dir : Text) (ps : List ProductMeaning) (es : List Named) where
+module _ (edition : Edition) (dir : Name) (ps : List ProductMeaning) (es : List Named) where
   have-found : (x : Option Offered) → HavePaths (found edition dir ps es x)
   have-found x =
       let os = offers dir (is_path_of ps) es in
@@ -218,20 +218,20 @@ module _ (edition : Edition) (dir : Text) (ps : List ProductMeaning) (es : List 
         | false ↦ λ e. path-found edition dir ps es (Some m) t
             ∙ or-right (is_path_of ps t) (offered os t || is_path_of (last_product edition ps os (Some m)) t)
             (or-right (offered os t) (is_path_of (last_product edition ps os (Some m)) t)
-            (ap (λ (r : Option Text). is_text t r || false) (placed-path edition m (late_taker ps os m)) ∙ ap (λ (b : Bool). b || false) (own t)))
+            (ap (λ (r : Option Name). is_text t r || false) (placed-path edition m (late_taker ps os m)) ∙ ap (λ (b : Bool). b || false) (own t)))
       ] refl
 
-  main-again : (name : Text) (there : Bool) → main_offer name there (found edition dir ps es (main_offer name there ps)) ≡ None
+  main-again : (name : Name) (there : Bool) → main_offer name there (found edition dir ps es (main_offer name there ps)) ≡ None
   main-again name false = refl
   main-again name true = ap (λ (b : Bool). cond b None (Some (main_of name))) (main-path (main_of name))
 
-  pub list-again : (wanted : Bool) → list_of edition wanted dir (list_of edition wanted dir ps es None) es None ≡ list_of edition wanted dir ps es None
+  pub list-again : (wanted : Bool) → listed_products edition wanted dir (listed_products edition wanted dir ps es None) es None ≡ listed_products edition wanted dir ps es None
   list-again false = sorted-again ps
   list-again true = found-again None
 
-  pub bins-again : (wanted : Bool) (name : Text) (there : Bool) →
-      list_of edition wanted dir (list_of edition wanted dir ps es (main_offer name there ps)) es (main_offer name there (list_of edition wanted dir ps es (main_offer name there ps)))
-      ≡ list_of edition wanted dir ps es (main_offer name there ps)
+  pub bins-again : (wanted : Bool) (name : Name) (there : Bool) →
+      listed_products edition wanted dir (listed_products edition wanted dir ps es (main_offer name there ps)) es (main_offer name there (listed_products edition wanted dir ps es (main_offer name there ps)))
+      ≡ listed_products edition wanted dir ps es (main_offer name there ps)
   bins-again false name there = sorted-again ps
   bins-again true name there =
       ap (λ (x : Option Offered). found edition dir (found edition dir ps es (main_offer name there ps)) es x) (main-again name there)

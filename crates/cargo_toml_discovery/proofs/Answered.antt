@@ -9,8 +9,8 @@ use Rattle.std.specs.declared.io.ErrorKind.TheVariants.{NotFound}
 use Rattle.cargo_toml_parts.specs.declared.error.Error.{Error}
 use Rattle.cargo_toml_parts.specs.FaultValues.{Fault, fault_of, io}
 use Rattle.cargo_toml_discovery.specs.Answers.{filled_by, texts_in}
-use Rattle.cargo_toml_discovery.specs.Gathering.{IsAnswer}
-use Rattle.cargo_toml_discovery.specs.Names.{Text}
+use Rattle.cargo_toml_discovery.specs.Gathering.{AnswerFits}
+use Rattle.cargo_toml_discovery.specs.Names.{Name}
 use Rattle.cargo_toml_discovery.specs.Seen.{Seen, seen, faulty, is_absence, is_not_found, names_at, root_names, Tells}
 use Rattle.cargo_toml_discovery.specs.Told.{Told, names, absent, denied, open_path}
 use Rattle.cargo_toml_discovery.proofs.Heard.{root_is_answer}
@@ -19,7 +19,7 @@ use Rattle.cargo_toml_discovery.specs.Folders.{AnswersNames}
 
 -- the set has the names that were answered, in order
 abbrev pub Sorts : {S : Type 0} → HashSet (String Global) S → BTreeSet (String Global) → Type 0
-Sorts set s = IsOrdered string_cmp s × ((x : Text) → contains_text s x ≡ has_in set x)
+Sorts set s = IsOrdered string_cmp s × ((x : Name) → contains_text s x ≡ has_in set x)
 
 pub root_heard : {S : Type 0} (t : Told) (set : HashSet (String Global) S) (s : BTreeSet (String Global)) →
     AnswersNames t (Ok set) → Sorts set s → root_names (filled_by t (Some (texts_in s))) ≡ seen (texts_in s)
@@ -29,7 +29,7 @@ root_heard (denied fault) set s told sorts = absurd told
 root_heard open_path set s told sorts = ap seen (texts_in-itself s sorts.0)
 
 pub heard : {S : Type 0} (t : Told) (set : HashSet (String Global) S) (s : BTreeSet (String Global)) →
-    AnswersNames t (Ok set) → Sorts set s → IsAnswer t (texts_in s)
+    AnswersNames t (Ok set) → Sorts set s → AnswerFits t (texts_in s)
 heard t set s told sorts = root_is_answer t (texts_in s) (root_heard t set s told sorts)
 
 absent_kind : (kind : ErrorKind) → is_not_found kind ≡ true → kind ≡ NotFound
@@ -43,7 +43,7 @@ absent_fault fault h = cc
 -- a fault is reported, except an absent folder
 denied_tells : (fault : Fault) (e : Error) (b : Bool) → is_absence fault ≡ b → fault_of e ≡ fault →
     ¬ (fault_of e ≡ io NotFound) →
-    Tells (cond {A = Seen (List Text)} b (seen []) (faulty (fault ∷ []))) e
+    Tells (cond {A = Seen (List Name)} b (seen []) (faulty (fault ∷ []))) e
 denied_tells fault e true is f other = absurd (other (f ∙ absent_fault fault is))
 denied_tells fault e false is f other = inr (inl f)
 

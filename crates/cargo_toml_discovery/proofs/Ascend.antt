@@ -7,55 +7,55 @@ use Rattle.std.specs.Cmp.Lexicographic.{slice_cmp}
 use Rattle.cargo_toml_settings.specs.declared.settings.Edition.{Edition}
 use Rattle.cargo_toml_discovery.proofs.SetForm.{AllAfter, Ascending, walk-set}
 use Rattle.cargo_toml_discovery.specs.Found.{Named, Offered, offer_of, still_open, open_offer, offers, is_path_of, last_waiting, found, has_path}
-use Rattle.cargo_toml_discovery.specs.Names.{Text, is_source}
+use Rattle.cargo_toml_discovery.specs.Names.{Name, is_source}
 use Rattle.cargo_toml_discovery.specs.Sorting.{sorted_by, product_lt}
 use Rattle.cargo_toml_discovery.specs.Walk.{NamesAfter, NamesAscend, walk, with_extra}
 use Rattle.cargo_toml_tables.specs.Products.{ProductMeaning}
 
-abbrev FileIs : Text → Option Offered → Type 0
+abbrev FileIs : Name → Option Offered → Type 0
 FileIs f None = Unit {0}
 FileIs f (Some o) = o.file ≡ f
 
-file-cond : (b : Bool) (f : Text) (r s : Option Offered) → FileIs f r → FileIs f s → FileIs f (cond b r s)
+file-cond : (b : Bool) (f : Name) (r s : Option Offered) → FileIs f r → FileIs f s → FileIs f (cond b r s)
 file-cond true f r s h k = h
 file-cond false f r s h k = k
 
-file-open : (taken : Text → Bool) (f : Text) (r : Option Offered) → FileIs f r → FileIs f (still_open taken r)
+file-open : (taken : Name → Bool) (f : Name) (r : Option Offered) → FileIs f r → FileIs f (still_open taken r)
 file-open taken f None h = tt
 file-open taken f (Some o) h = file-cond (taken o.path) f None (Some o) tt h
 
-file-offer : (dir : Text) (taken : Text → Bool) (e : Named) → FileIs e.name (open_offer dir taken e)
+file-offer : (dir : Name) (taken : Name → Bool) (e : Named) → FileIs e.name (open_offer dir taken e)
 file-offer dir taken e = file-open taken e.name (offer_of dir e) (file-cond (is_source e.name) e.name _ _ refl (file-cond e.has_main e.name _ _ refl tt))
 
-after-cons : (f g : Text) (r : Option Offered) (os : List Offered) → FileIs g r → slice_cmp nat_cmp f g ≡ Less → AllAfter f os → AllAfter f (cons_option r os)
+after-cons : (f g : Name) (r : Option Offered) (os : List Offered) → FileIs g r → slice_cmp nat_cmp f g ≡ Less → AllAfter f os → AllAfter f (cons_option r os)
 after-cons f g None os h e k = k
-after-cons f g (Some o) os h e k = (ap (λ (t : Text). slice_cmp nat_cmp f t) h ∙ e, k)
+after-cons f g (Some o) os h e k = (ap (λ (t : Name). slice_cmp nat_cmp f t) h ∙ e, k)
 
-all-after : (dir : Text) (taken : Text → Bool) (f : Text) (es : List Named) → NamesAfter f es → AllAfter f (offers dir taken es)
+all-after : (dir : Name) (taken : Name → Bool) (f : Name) (es : List Named) → NamesAfter f es → AllAfter f (offers dir taken es)
 all-after dir taken f [] h = tt
 all-after dir taken f (e ∷ es) h = after-cons f e.name (open_offer dir taken e) (offers dir taken es) (file-offer dir taken e) h.0 (all-after dir taken f es h.1)
 
-ascending-cons : (f : Text) (r : Option Offered) (os : List Offered) → FileIs f r → AllAfter f os → Ascending os → Ascending (cons_option r os)
+ascending-cons : (f : Name) (r : Option Offered) (os : List Offered) → FileIs f r → AllAfter f os → Ascending os → Ascending (cons_option r os)
 ascending-cons f None os h k up = up
-ascending-cons f (Some o) os h k up = (subst (λ (t : Text). AllAfter t os) (sym h) k, up)
+ascending-cons f (Some o) os h k up = (subst (λ (t : Name). AllAfter t os) (sym h) k, up)
 
-pub ascending-offers : (dir : Text) (taken : Text → Bool) (es : List Named) → NamesAscend es → Ascending (offers dir taken es)
+pub ascending-offers : (dir : Name) (taken : Name → Bool) (es : List Named) → NamesAscend es → Ascending (offers dir taken es)
 ascending-offers dir taken [] h = tt
 ascending-offers dir taken (e ∷ es) h = ascending-cons e.name (open_offer dir taken e) (offers dir taken es) (file-offer dir taken e) (all-after dir taken e.name es h.0) (ascending-offers dir taken es h.1)
 
 -- offers, where the same paths are taken
-open-same : (f g : Text → Bool) → ((t : Text) → f t ≡ g t) → (o : Option Offered) → still_open f o ≡ still_open g o
+open-same : (f g : Name → Bool) → ((t : Name) → f t ≡ g t) → (o : Option Offered) → still_open f o ≡ still_open g o
 open-same f g h None = refl
 open-same f g h (Some o) = ap (λ (b : Bool). cond b None (Some o)) (h o.path)
 
-pub offers-same : (dir : Text) (f g : Text → Bool) → ((t : Text) → f t ≡ g t) → (es : List Named) → offers dir f es ≡ offers dir g es
+pub offers-same : (dir : Name) (f g : Name → Bool) → ((t : Name) → f t ≡ g t) → (es : List Named) → offers dir f es ≡ offers dir g es
 offers-same dir f g h [] = refl
 offers-same dir f g h (e ∷ es) =
     ap (λ (o : Option Offered). cons_option o (offers dir f es)) (open-same f g h (offer_of dir e))
     ∙ ap (λ (os : List Offered). cons_option (open_offer dir g e) os) (offers-same dir f g h es)
 
 -- the walk gives what is found
-pub walk-found : (edition : Edition) (dir : Text) (ps : List ProductMeaning) (es : List Named) (x : Option Offered) → NamesAscend es →
+pub walk-found : (edition : Edition) (dir : Name) (ps : List ProductMeaning) (es : List Named) (x : Option Offered) → NamesAscend es →
     sorted_by product_lt (filter has_path ps ++ walk edition (last_waiting ps) (with_extra (offers dir (is_path_of ps) es) x)) ≡ found edition dir ps es x
 walk-found edition dir ps es x up =
     ap (λ (qs : List ProductMeaning). sorted_by product_lt (filter has_path ps ++ qs)) (walk-set edition ps (offers dir (is_path_of ps) es) x (ascending-offers dir (is_path_of ps) es up))

@@ -8,27 +8,27 @@ use Rattle.std.specs.Str.Pattern.{HasCharAt}
 use Rattle.std.proofs.lemmas.Str.Pattern.{NoCharPasses-char, drop_at_char}
 use Rattle.std.proofs.lemmas.Str.{len_utf8_ascii}
 use Rattle.std.proofs.lemmas.Bool.{ne_eqb}
-use Rattle.cargo_toml_discovery.specs.Names.{Text, underscored}
+use Rattle.cargo_toml_discovery.specs.Names.{Name, underscored}
 
-kept : (s : Text) → ((i : ℕ) → i < length s → get_or s i 0 ≡ 45 → ⊥) → underscored s ≡ s
+kept : (s : Name) → ((i : ℕ) → i < length s → get_or s i 0 ≡ 45 → ⊥) → underscored s ≡ s
 kept [] h = refl
 kept (b ∷ s) h =
     ap (λ (e : Bool). cond e 95 b ∷ underscored s) (ne_eqb b 45 (h 0 (omega arith)))
-    ∙ ap (λ (t : Text). b ∷ t) (kept s (λ i below. h (suc i) (omega arith)))
+    ∙ ap (λ (t : Name). b ∷ t) (kept s (λ i below. h (suc i) (omega arith)))
 
-no_dash : (s : Text) → NoCharPasses (λ d. nat_eq d 45) s → underscored s ≡ s
+no_dash : (s : Name) → NoCharPasses (λ d. nat_eq d 45) s → underscored s ≡ s
 no_dash s h = kept s (λ i below. NoCharPasses-char 45 s i h (omega arith) below)
 
 module _ (finds : ℕ → List ℕ → Option (ℕ × ℕ) → Type 0) (keeps : ℕ → ℕ → Type 0) (pattern : IsCharPattern finds keeps 45 45) where
-  at_dash : (s : Text) (a b : ℕ) (rest : Text) → NoCharPasses (λ d. nat_eq d 45) (take a s) → HasCharAt 45 s a b → rest ≡ underscored (drop b s) → take a s ++ (95 ∷ rest) ≡ underscored s
+  at_dash : (s : Name) (a b : ℕ) (rest : Name) → NoCharPasses (λ d. nat_eq d 45) (take a s) → HasCharAt 45 s a b → rest ≡ underscored (drop b s) → take a s ++ (95 ∷ rest) ≡ underscored s
   at_dash s a b rest none here is =
-      ap (λ (t : Text). take a s ++ (95 ∷ t)) is
-      ∙ ap (λ (t : Text). t ++ underscored (45 ∷ drop b s)) (sym (no_dash (take a s) none))
-      ∙ ap (λ (t : Text). underscored (take a s) ++ underscored t) (sym (drop_at_char 45 s a b here (omega arith)))
+      ap (λ (t : Name). take a s ++ (95 ∷ t)) is
+      ∙ ap (λ (t : Name). t ++ underscored (45 ∷ drop b s)) (sym (no_dash (take a s) none))
+      ∙ ap (λ (t : Name). underscored (take a s) ++ underscored t) (sym (drop_at_char 45 s a b here (omega arith)))
       ∙ sym (map-append (λ b. cond (nat_eq b 45) 95 b) (take a s) (drop a s))
       ∙ ap underscored (take-append-drop a s)
 
-  pub dashes : (n : ℕ) (s out : Text) → ReplacesMatches finds keeps (95 ∷ []) n 45 s out → out ≡ underscored s
+  pub dashes : (n : ℕ) (s out : Name) → ReplacesMatches finds keeps (95 ∷ []) n 45 s out → out ≡ underscored s
   dashes zero s out r = r.1 ∙ sym (no_dash s (pattern.1 s None r.0))
   dashes (suc n) s out (a, b, q, rest, found, same, inl next, is) =
       let f = pattern.1 s (Some (a, b)) found in

@@ -4,7 +4,7 @@ use Rattle.cargo_toml_parts.specs.FaultValues.{Fault}
 use Rattle.cargo_toml_discovery.specs.Answers.{Answers, answer_at, filled_by, filled}
 use Rattle.cargo_toml_discovery.specs.Around.{named_by, named_at, each_named, entries_at, make_around, around}
 use Rattle.cargo_toml_discovery.specs.Found.{Named}
-use Rattle.cargo_toml_discovery.specs.Names.{Text, in_dir, is_source}
+use Rattle.cargo_toml_discovery.specs.Names.{Name, in_dir, is_source}
 use Rattle.cargo_toml_discovery.specs.Seen.{Seen, seen, faulty, unclear, seen_as, pair, and_then, names_at, root_names, IsOneOf, MayTell, at_path}
 use Rattle.cargo_toml_discovery.specs.Told.{Told, names, absent, denied, open_path}
 use Rattle.cargo_toml_discovery.specs.declared.listings.Wanted.{Wanted}
@@ -40,28 +40,28 @@ ext-then : {A B : Type 0} (s t : Seen A) (f g : A → Seen B) → Ext s t → ((
 ext-then s t f g (inl e) h = inl (ap (λ w. and_then w f) e)
 ext-then s t f g (inr e) h = subst (λ (w : Seen _). Ext (and_then s f) (and_then w g)) (sym e) (ext-seen s f g h)
 
-ext-names : (t : Told) (a : Option (List Text)) → Ext (names_at t) (names_at (filled_by t a))
+ext-names : (t : Told) (a : Option (List Name)) → Ext (names_at t) (names_at (filled_by t a))
 ext-names (names ts) a = inr refl
 ext-names absent a = inr refl
 ext-names (denied k) a = inr refl
 ext-names open_path a = inl refl
 
-ext-root : (t : Told) (a : Option (List Text)) → Ext (root_names t) (root_names (filled_by t a))
+ext-root : (t : Told) (a : Option (List Name)) → Ext (root_names t) (root_names (filled_by t a))
 ext-root (names ts) a = inr refl
 ext-root absent a = inr refl
 ext-root (denied k) a = inr refl
 ext-root open_path a = inl refl
 
-module _ (told : Text → Told) (ans : Answers) where
-  ext-named-step : (dir n : Text) (b : Bool) → Ext (cond b (seen (record { name = n; has_main = false })) (seen_as (named_by n) (names_at (told (in_dir dir n))))) (cond b (seen (record { name = n; has_main = false })) (seen_as (named_by n) (names_at (filled told ans (in_dir dir n)))))
+module _ (told : Name → Told) (ans : Answers) where
+  ext-named-step : (dir n : Name) (b : Bool) → Ext (cond b (seen (record { name = n; has_main = false })) (seen_as (named_by n) (names_at (told (in_dir dir n))))) (cond b (seen (record { name = n; has_main = false })) (seen_as (named_by n) (names_at (filled told ans (in_dir dir n)))))
   ext-named-step dir n true = inr refl
   ext-named-step dir n false = ext-as (named_by n) _ _ (ext-names (told (in_dir dir n)) (answer_at ans (in_dir dir n)))
 
-  ext-each : (dir : Text) (ns : List Text) → Ext (each_named told dir ns) (each_named (filled told ans) dir ns)
+  ext-each : (dir : Name) (ns : List Name) → Ext (each_named told dir ns) (each_named (filled told ans) dir ns)
   ext-each dir [] = inr refl
   ext-each dir (n ∷ ns) = ext-as (λ (e : Named × List Named). e.0 ∷ e.1) _ _ (ext-pair (named_at told dir n) (named_at (filled told ans) dir n) (each_named told dir ns) (each_named (filled told ans) dir ns) (ext-named-step dir n (is_source n)) (ext-each dir ns))
 
-  ext-entries : (wanted : Bool) (dir : Text) → Ext (entries_at told wanted dir) (entries_at (filled told ans) wanted dir)
+  ext-entries : (wanted : Bool) (dir : Name) → Ext (entries_at told wanted dir) (entries_at (filled told ans) wanted dir)
   ext-entries false dir = inr refl
   ext-entries true dir = ext-then (names_at (told dir)) (names_at (filled told ans dir)) (each_named told dir) (each_named (filled told ans) dir) (ext-names (told dir) (answer_at ans dir)) (ext-each dir)
 
@@ -69,16 +69,16 @@ module _ (told : Text → Told) (ans : Answers) where
   ext-around wanted = ext-as make_around _ _ (ext-pair _ _ _ _ (ext-pair _ _ _ _ (ext-root (told []) (answer_at ans [])) (ext-names (told (codes "src")) (answer_at ans (codes "src"))))
       (ext-pair _ _ _ _ (ext-pair _ _ _ _ (ext-entries wanted.bins (codes "src/bin")) (ext-entries wanted.examples (codes "examples"))) (ext-pair _ _ _ _ (ext-entries wanted.tests (codes "tests")) (ext-entries wanted.benches (codes "benches")))))
 
-pub ext-at : {A : Type 0} (p : Option Text) (s t : Seen A) → Ext s t → Ext (at_path p s) (at_path p t)
+pub ext-at : {A : Type 0} (p : Option Name) (s t : Seen A) → Ext s t → Ext (at_path p s) (at_path p t)
 ext-at p s t (inl e) = inl (ap (λ u. at_path p u) e)
 ext-at p s t (inr e) = inr (ap (λ u. at_path p u) e)
 
-one_of-wrapped : (p : Option Text) (f : Fault) (fs : List Fault) → IsOneOf f fs → IsOneOf (wrap p f) (map (wrap p) fs)
+one_of-wrapped : (p : Option Name) (f : Fault) (fs : List Fault) → IsOneOf f fs → IsOneOf (wrap p f) (map (wrap p) fs)
 one_of-wrapped p f [] h = h
 one_of-wrapped p f (g ∷ fs) (inl e) = inl (ap (wrap p) e)
 one_of-wrapped p f (g ∷ fs) (inr h) = inr (one_of-wrapped p f fs h)
 
-pub tell-at : {A : Type 0} (p : Option Text) (s : Seen A) (f : Fault) → MayTell s f → MayTell (at_path p s) (wrap p f)
+pub tell-at : {A : Type 0} (p : Option Name) (s : Seen A) (f : Fault) → MayTell s f → MayTell (at_path p s) (wrap p f)
 tell-at p (seen x) f h = h
 tell-at p (faulty fs) f h = one_of-wrapped p f fs h
 tell-at p unclear f h = h

@@ -7,57 +7,57 @@ use Rattle.std.proofs.lemmas.List.{take_more, map_push}
 use Rattle.cargo_toml_parts.specs.declared.error.Error.{Error, Memory}
 use Rattle.cargo_toml_parts.specs.FaultValues.{Fault, fault_of}
 use Rattle.cargo_toml_discovery.specs.Answers.{Answers, answer_at, names_in, below, filled_by}
-use Rattle.cargo_toml_discovery.specs.Gathering.{IsAnswer, Fits, Grows, Has, HasEach, MayTellOneOf, HasProducts}
-use Rattle.cargo_toml_discovery.specs.Names.{Text}
+use Rattle.cargo_toml_discovery.specs.Gathering.{AnswerFits, Fits, Grows, Has, HasEach, MayTellOneOf, HasProducts}
+use Rattle.cargo_toml_discovery.specs.Names.{Name}
 use Rattle.cargo_toml_discovery.specs.Seen.{Seen, seen, faulty, unclear, seen_as, pair, names_at, root_names, IsOneOf, MayTell, Tells}
 use Rattle.cargo_toml_discovery.specs.Told.{Told, names, absent, denied, open_path}
 use Rattle.cargo_toml_discovery.proofs.Unique.{own}
 
-pub root_is_answer : (t : Told) (ns : List Text) → root_names (filled_by t (Some ns)) ≡ seen ns → IsAnswer t ns
+pub root_is_answer : (t : Told) (ns : List Name) → root_names (filled_by t (Some ns)) ≡ seen ns → AnswerFits t ns
 root_is_answer (names ts) ns h = h
 root_is_answer absent ns h = cc
 root_is_answer (denied k) ns h = cc
 root_is_answer open_path ns h = h
 
 -- answers stay
-pub grows-on : (told : Text → Told) (a b c : Answers) → Grows told a b → Grows told b c → Grows told a c
+pub grows-on : (told : Name → Told) (a b c : Answers) → Grows told a b → Grows told b c → Grows told a c
 grows-on told a b c g h = ((λ p ns e. h.0 p ns (g.0 p ns e)), (λ f. h.1 (g.1 f)))
 
-pub has-grows : (told : Text → Told) (a b : Answers) (p : Text) → Grows told a b → Has a p → Has b p
+pub has-grows : (told : Name → Told) (a b : Answers) (p : Name) → Grows told a b → Has a p → Has b p
 has-grows told a b p g h = elim (answer_at a p) as (λ r. answer_at a p ≡ r → is_some r ≡ true → Has b p)
     [ None ↦ λ e k. cc | Some ns ↦ λ e k. ap is_some (g.0 p ns e) ] refl h
 
-pub has_each-grows : (told : Text → Told) (a b : Answers) (ps : List Text) → Grows told a b → HasEach a ps → HasEach b ps
+pub has_each-grows : (told : Name → Told) (a b : Answers) (ps : List Name) → Grows told a b → HasEach a ps → HasEach b ps
 has_each-grows told a b [] g h = tt
 has_each-grows told a b (p ∷ ps) g h = (has-grows told a b p g h.0, has_each-grows told a b ps g h.1)
 
-pub has_each-push : (a : Answers) (ps : List Text) (p : Text) → HasEach a ps → Has a p → HasEach a (ps ++ p ∷ [])
+pub has_each-push : (a : Answers) (ps : List Name) (p : Name) → HasEach a ps → Has a p → HasEach a (ps ++ p ∷ [])
 has_each-push a [] p h k = (k, tt)
 has_each-push a (q ∷ ps) p h k = (h.0, has_each-push a ps p h.1 k)
 
-pub names_in-grows : (told : Text → Told) (a b : Answers) (p : Text) → Grows told a b → Has a p → names_in a p ≡ names_in b p
+pub names_in-grows : (told : Name → Told) (a b : Answers) (p : Name) → Grows told a b → Has a p → names_in a p ≡ names_in b p
 names_in-grows told a b p g h = elim (answer_at a p) as (λ r. answer_at a p ≡ r → is_some r ≡ true → unwrap_or r [] ≡ names_in b p)
-    [ None ↦ λ e k. cc | Some ns ↦ λ e k. sym (ap (λ (r : Option (List Text)). unwrap_or r []) (g.0 p ns e)) ] refl h
+    [ None ↦ λ e k. cc | Some ns ↦ λ e k. sym (ap (λ (r : Option (List Name)). unwrap_or r []) (g.0 p ns e)) ] refl h
 
-pub has_products-grows : (told : Text → Told) (a b : Answers) (wanted : Bool) (dir : Text) → Grows told a b → HasProducts wanted dir a → HasProducts wanted dir b
+pub has_products-grows : (told : Name → Told) (a b : Answers) (wanted : Bool) (dir : Name) → Grows told a b → HasProducts wanted dir a → HasProducts wanted dir b
 has_products-grows told a b false dir g h = tt
-has_products-grows told a b true dir g h = (has-grows told a b dir g h.0, subst (λ (ns : List Text). HasEach b (below dir ns)) (names_in-grows told a b dir g h.0) (has_each-grows told a b (below dir (names_in a dir)) g h.1))
+has_products-grows told a b true dir g h = (has-grows told a b dir g h.0, subst (λ (ns : List Name). HasEach b (below dir ns)) (names_in-grows told a b dir g h.0) (has_each-grows told a b (below dir (names_in a dir)) g h.1))
 
 -- one answer more
-none_then_some : (r : Option (List Text)) (ns : List Text) {A : Type 0} → is_some r ≡ false → r ≡ Some ns → A
+none_then_some : (r : Option (List Name)) (ns : List Name) {A : Type 0} → is_some r ≡ false → r ≡ Some ns → A
 none_then_some None ns h e = cc
 none_then_some (Some ms) ns h e = cc
 
-module _ (told : Text → Told) (old new : Answers) (path : Text) (ns : List Text) (missing : is_some (answer_at old path) ≡ false) (after : (p : Text) → answer_at new p ≡ cond (bytes_eq path p) (Some ns) (answer_at old p)) where
-  stays : (p : Text) (ms : List Text) → answer_at old p ≡ Some ms → (b : Bool) → bytes_eq path p ≡ b → cond b (Some ns) (answer_at old p) ≡ Some ms
-  stays p ms e true h = none_then_some (answer_at old path) ms missing (ap (λ (q : Text). answer_at old q) ((bytes_eq-Decides path p).0 h) ∙ e)
+module _ (told : Name → Told) (old new : Answers) (path : Name) (ns : List Name) (missing : is_some (answer_at old path) ≡ false) (after : (p : Name) → answer_at new p ≡ cond (bytes_eq path p) (Some ns) (answer_at old p)) where
+  stays : (p : Name) (ms : List Name) → answer_at old p ≡ Some ms → (b : Bool) → bytes_eq path p ≡ b → cond b (Some ns) (answer_at old p) ≡ Some ms
+  stays p ms e true h = none_then_some (answer_at old path) ms missing (ap (λ (q : Name). answer_at old q) ((bytes_eq-Decides path p).0 h) ∙ e)
   stays p ms e false h = e
 
-  fits : IsAnswer (told path) ns → Fits told old → (p : Text) (ms : List Text) (b : Bool) → bytes_eq path p ≡ b → cond b (Some ns) (answer_at old p) ≡ Some ms → IsAnswer (told p) ms
-  fits one f p ms true h e = let s : path ≡ p = (bytes_eq-Decides path p).0 h in let same : ns ≡ ms = cc in subst (λ (q : Text). IsAnswer (told q) ms) s (subst (λ (xs : List Text). IsAnswer (told path) xs) same one)
+  fits : AnswerFits (told path) ns → Fits told old → (p : Name) (ms : List Name) (b : Bool) → bytes_eq path p ≡ b → cond b (Some ns) (answer_at old p) ≡ Some ms → AnswerFits (told p) ms
+  fits one f p ms true h e = let s : path ≡ p = (bytes_eq-Decides path p).0 h in let same : ns ≡ ms = cc in subst (λ (q : Name). AnswerFits (told q) ms) s (subst (λ (xs : List Name). AnswerFits (told path) xs) same one)
   fits one f p ms false h e = f p ms e
 
-  pub grows-one : IsAnswer (told path) ns → Grows told old new
+  pub grows-one : AnswerFits (told path) ns → Grows told old new
   grows-one one = ((λ p ms e. after p ∙ stays p ms e (bytes_eq path p) refl), (λ f p ms e. fits one f p ms (bytes_eq path p) refl (sym (after p) ∙ e)))
 
   pub has-one : answer_at new path ≡ Some ns
@@ -96,12 +96,12 @@ pub tells-by : {A B : Type 0} (s : Seen A) (t : Seen B) (e : Error) → ((f : Fa
 tells-by s t e g (inl m) = inl m
 tells-by s t e g (inr h) = inr (g (fault_of e) h)
 
-pub tell_one : (told : Text → Told) (xs : List (String Global)) (i : ℕ) (x d : String Global) (f : Fault) → i < length xs → x ≡ get_or xs i d → MayTell (names_at (told (string_bytes x))) f → MayTellOneOf told (map string_bytes xs) f
+pub tell_one : (told : Name → Told) (xs : List (String Global)) (i : ℕ) (x d : String Global) (f : Fault) → i < length xs → x ≡ get_or xs i d → MayTell (names_at (told (string_bytes x))) f → MayTellOneOf told (map string_bytes xs) f
 tell_one told [] i x d f below read h = absurd (omega arith)
 tell_one told (y ∷ ys) zero x d f below read h = inl (subst (λ (z : String Global). MayTell (names_at (told (string_bytes z))) f) read h)
 tell_one told (y ∷ ys) (suc i) x d f below read h = inr (tell_one told ys i x d f (omega arith) read h)
 
-pub tells-one : (told : Text → Told) (xs : List (String Global)) (i : ℕ) (x d : String Global) (e : Error) → i < length xs → x ≡ get_or xs i d → Tells (names_at (told (string_bytes x))) e → (e ≡ Memory) ⊎ MayTellOneOf told (map string_bytes xs) (fault_of e)
+pub tells-one : (told : Name → Told) (xs : List (String Global)) (i : ℕ) (x d : String Global) (e : Error) → i < length xs → x ≡ get_or xs i d → Tells (names_at (told (string_bytes x))) e → (e ≡ Memory) ⊎ MayTellOneOf told (map string_bytes xs) (fault_of e)
 tells-one told xs i x d e below read (inl m) = inl m
 tells-one told xs i x d e below read (inr h) = inr (tell_one told xs i x d (fault_of e) below read h)
 

@@ -1,17 +1,17 @@
 -- What is discovered, part by part.
 use Rattle.std.proofs.Common.{◌≡◌, map, option_map, codes, None, refl}
 use Rattle.cargo_toml_discovery.specs.Around.{Around}
-use Rattle.cargo_toml_discovery.specs.Discovering.{StatedMeaning, discovered, discovered_meaning, library_around, main_around, list_of, build_in, readme_in}
+use Rattle.cargo_toml_discovery.specs.Discovering.{StatedMeaning, discovered, discovered_meaning, library_around, main_around, listed_products, build_in, readme_in}
 use Rattle.cargo_toml_discovery.specs.declared.discovery.Discovered as code
 use Rattle.cargo_toml_settings.specs.Settings.{file_meaning}
 use Rattle.cargo_toml_tables.specs.Products.{product_meaning}
 
 pub joined : (s : StatedMeaning) (a : Around) (d : code.Discovered) →
     option_map product_meaning d.lib ≡ library_around s a →
-    map product_meaning d.bin.items ≡ list_of s.edition s.wanted.bins (codes "src/bin") s.bin a.bins (main_around s a) →
-    map product_meaning d.example.items ≡ list_of s.edition s.wanted.examples (codes "examples") s.example a.examples None →
-    map product_meaning d.test.items ≡ list_of s.edition s.wanted.tests (codes "tests") s.test a.tests None →
-    map product_meaning d.bench.items ≡ list_of s.edition s.wanted.benches (codes "benches") s.bench a.benches None →
+    map product_meaning d.bin.items ≡ listed_products s.edition s.wanted.bins (codes "src/bin") s.bin a.bins (main_around s a) →
+    map product_meaning d.example.items ≡ listed_products s.edition s.wanted.examples (codes "examples") s.example a.examples None →
+    map product_meaning d.test.items ≡ listed_products s.edition s.wanted.tests (codes "tests") s.test a.tests None →
+    map product_meaning d.bench.items ≡ listed_products s.edition s.wanted.benches (codes "benches") s.bench a.benches None →
     option_map file_meaning d.build ≡ build_in a.root s.build →
     file_meaning d.readme ≡ readme_in a.root s.readme →
     discovered_meaning d ≡ discovered s a

@@ -7,20 +7,20 @@ use Rattle.std.specs.declared.cmp.Ordering.{Ordering}
 use Rattle.std.specs.declared.cmp.Ordering.TheVariants.{Less, Equal, Greater}
 use Rattle.std.specs.Cmp.Lexicographic.{slice_cmp, nat_list_cmp_total}
 use Rattle.cargo_toml_settings.specs.declared.settings.Edition.{Edition}
-use Rattle.cargo_toml_discovery.specs.Found.{Offered, product_for, product_among, last_waiting, last_product, named}
-use Rattle.cargo_toml_discovery.specs.Names.{Text}
+use Rattle.cargo_toml_discovery.specs.Found.{Offered, product_for, product_among, last_waiting, last_product, has_offer}
+use Rattle.cargo_toml_discovery.specs.Names.{Name}
 use Rattle.cargo_toml_discovery.specs.Walk.{walk, with_extra, without}
 use Rattle.cargo_toml_tables.specs.Products.{ProductMeaning}
 
-abbrev less : Text → Text → Bool
+abbrev less : Name → Name → Bool
 less a b = is_lt (slice_cmp nat_cmp a b)
 
 -- the file of each stands before this one, or after it
-abbrev pub AllBefore : List Offered → Text → Type 0
+abbrev pub AllBefore : List Offered → Name → Type 0
 AllBefore [] f = Unit {0}
 AllBefore (q ∷ qs) f = (slice_cmp nat_cmp q.file f ≡ Less) × AllBefore qs f
 
-abbrev pub AllAfter : Text → List Offered → Type 0
+abbrev pub AllAfter : Name → List Offered → Type 0
 AllAfter f [] = Unit {0}
 AllAfter f (q ∷ qs) = (slice_cmp nat_cmp f q.file ≡ Less) × AllAfter f qs
 
@@ -39,14 +39,14 @@ and_false : (b : Bool) → b && false ≡ false
 and_false true = refl
 and_false false = refl
 
-rivals-before : (o : Offered) (qs rest : List Offered) → AllBefore qs o.file → list_any (rival o) rest ≡ false → list_any (rival o) (qs ++ rest) ≡ named qs o.name
+rivals-before : (o : Offered) (qs rest : List Offered) → AllBefore qs o.file → list_any (rival o) rest ≡ false → list_any (rival o) (qs ++ rest) ≡ has_offer qs o.name
 rivals-before o [] rest h e = e
 rivals-before o (q ∷ qs) rest h e =
     ap (λ (b : Bool). (bytes_eq q.name o.name && b) || list_any (rival o) (qs ++ rest)) (ap is_lt h.0)
     ∙ ap (λ (b : Bool). b || list_any (rival o) (qs ++ rest)) (and_true (bytes_eq q.name o.name))
     ∙ ap (λ (b : Bool). bytes_eq q.name o.name || b) (rivals-before o qs rest h.1 e)
 
-not_less : (a b : Text) → slice_cmp nat_cmp a b ≡ Less → less b a ≡ false
+not_less : (a b : Name) → slice_cmp nat_cmp a b ≡ Less → less b a ≡ false
 not_less a b h = let e = nat_list_cmp_total.antisymm b a in rw (e, h) refl
 
 rivals-after : (o : Offered) (qs : List Offered) → AllAfter o.file qs → list_any (rival o) qs ≡ false
@@ -56,12 +56,12 @@ rivals-after o (q ∷ qs) h =
     ∙ ap (λ (b : Bool). b || list_any (rival o) qs) (and_false (bytes_eq q.name o.name))
     ∙ rivals-after o qs h.1
 
-not_own : (a : Text) (r : Ordering) → slice_cmp nat_cmp a a ≡ r → less a a ≡ false
+not_own : (a : Name) (r : Ordering) → slice_cmp nat_cmp a a ≡ r → less a a ≡ false
 not_own a Less e = not_less a a e
 not_own a Equal e = ap is_lt e
 not_own a Greater e = ap is_lt e
 
-rivals : (o : Offered) (done os : List Offered) → AllBefore done o.file → AllAfter o.file os → list_any (rival o) (done ++ o ∷ os) ≡ named done o.name
+rivals : (o : Offered) (done os : List Offered) → AllBefore done o.file → AllAfter o.file os → list_any (rival o) (done ++ o ∷ os) ≡ has_offer done o.name
 rivals o done os h k = rivals-before o done (o ∷ os) h
     (ap (λ (b : Bool). (bytes_eq o.name o.name && b) || list_any (rival o) os) (not_own o.file (slice_cmp nat_cmp o.file o.file) refl)
     ∙ ap (λ (b : Bool). b || list_any (rival o) os) (and_false (bytes_eq o.name o.name)) ∙ rivals-after o os k)
@@ -87,12 +87,12 @@ twice : (b : Bool) → cond {A = Option ProductMeaning} b None None ≡ None
 twice true = refl
 twice false = refl
 
-named-push : (done : List Offered) (o : Offered) (n : Text) (x : Option ProductMeaning) → cond (bytes_eq o.name n) None (cond (named done n) None x) ≡ cond (named (done ++ o ∷ []) n) None x
+named-push : (done : List Offered) (o : Offered) (n : Name) (x : Option ProductMeaning) → cond (bytes_eq o.name n) None (cond (has_offer done n) None x) ≡ cond (has_offer (done ++ o ∷ []) n) None x
 named-push [] o n x = either (bytes_eq o.name n) x where
   either : (b : Bool) (x : Option ProductMeaning) → cond b None x ≡ cond (b || false) None x
   either true x = refl
   either false x = refl
-named-push (q ∷ done) o n x = elim (bytes_eq q.name n) as (λ b. cond (bytes_eq o.name n) None (cond (b || named done n) None x) ≡ cond (b || named (done ++ o ∷ []) n) None x)
+named-push (q ∷ done) o n x = elim (bytes_eq q.name n) as (λ b. cond (bytes_eq o.name n) None (cond (b || has_offer done n) None x) ≡ cond (b || has_offer (done ++ o ∷ []) n) None x)
     [ true ↦ twice (bytes_eq o.name n) | false ↦ named-push done o n x ]
 
 chosen : (b : Bool) (x : Option ProductMeaning) → cond b None x ≡ cond (not b) x None
@@ -100,16 +100,16 @@ chosen true x = refl
 chosen false x = refl
 
 module _ (edition : Edition) (ps : List ProductMeaning) where
-  last-product : (done : List Offered) (w : Text → Option ProductMeaning) (x : Option Offered) → ((n : Text) → w n ≡ cond (named done n) None (last_waiting ps n)) → walk edition w (option_to_list x) ≡ last_product edition ps done x
+  last-product : (done : List Offered) (w : Name → Option ProductMeaning) (x : Option Offered) → ((n : Name) → w n ≡ cond (has_offer done n) None (last_waiting ps n)) → walk edition w (option_to_list x) ≡ last_product edition ps done x
   last-product done w None h = refl
   last-product done w (Some o) h = ap (λ (p : Option ProductMeaning). product_for edition o p ∷ []) (h o.name)
 
-  walk-each : (done os : List Offered) (w : Text → Option ProductMeaning) (x : Option Offered) → Apart done os → Ascending os → ((n : Text) → w n ≡ cond (named done n) None (last_waiting ps n)) →
+  walk-each : (done os : List Offered) (w : Name → Option ProductMeaning) (x : Option Offered) → Apart done os → Ascending os → ((n : Name) → w n ≡ cond (has_offer done n) None (last_waiting ps n)) →
       walk edition w (with_extra os x) ≡ map (λ o. product_among edition ps (done ++ os) o) os ++ last_product edition ps (done ++ os) x
   walk-each done [] w x a up h = last-product done w x h ∙ ap (λ (os : List Offered). last_product edition ps os x) (simp append-nil)
   walk-each done (o ∷ os) w x a up h =
       let first : product_for edition o (w o.name) ≡ product_among edition ps (done ++ o ∷ os) o =
-      ap (λ (x : Option ProductMeaning). product_for edition o x) (h o.name ∙ chosen (named done o.name) (last_waiting ps o.name)
+      ap (λ (x : Option ProductMeaning). product_for edition o x) (h o.name ∙ chosen (has_offer done o.name) (last_waiting ps o.name)
       ∙ ap (λ (b : Bool). cond (not b) (last_waiting ps o.name) None) (sym (rivals o done os a.0 up.0))) in
       let rest = walk-each (done ++ o ∷ []) os (without w o.name) x (apart-push done o os a.1 up.0) up.1
       (λ n. ap (λ (x : Option ProductMeaning). cond (bytes_eq o.name n) None x) (h n) ∙ named-push done o n (last_waiting ps n)) in

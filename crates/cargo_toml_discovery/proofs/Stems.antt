@@ -1,53 +1,53 @@
 -- How often `.rs` is stripped.
 use Rattle.std.proofs.Common.{◌∙◌, ◌≡◌, ℕ, true, false, cond, [], ◌∷◌, refl, ap, sym, length, zero, suc, ◌≤◌, ◌<◌, ◌-◌, arith, length-take, ◌++◌, drop, take-append-drop, codes}
 use Rattle.std.proofs.lemmas.Slice.Eq.{bytes_eq-Decides}
-use Rattle.cargo_toml_discovery.specs.Names.{with_endings, Text, stripped, stem, without_ending, is_source}
+use Rattle.cargo_toml_discovery.specs.Names.{with_endings, Name, stripped, stem, without_ending, is_source}
 
 stripped-nil : (n : ℕ) → stripped n [] ≡ []
 stripped-nil zero = refl
 stripped-nil (suc n) = refl
 
-pub without_ending-length : (t : Text) → length (without_ending t) ≤ length t - 3
+pub without_ending-length : (t : Name) → length (without_ending t) ≤ length t - 3
 without_ending-length t = omega (arith, length-take (length t - 3) t)
 
-pub stripped-enough : (n m : ℕ) (t : Text) → length t ≤ n → length t ≤ m → stripped n t ≡ stripped m t
+pub stripped-enough : (n m : ℕ) (t : Name) → length t ≤ n → length t ≤ m → stripped n t ≡ stripped m t
 stripped-enough zero m [] h k = sym (stripped-nil m)
 stripped-enough zero m (x ∷ t) h k = absurd (omega arith)
 stripped-enough (suc n) zero [] h k = refl
 stripped-enough (suc n) zero (x ∷ t) h k = absurd (omega arith)
 stripped-enough (suc n) (suc m) t h k =
     let s = without_ending-length t in
-    ap (λ (u : Text). cond (is_source t) u t) (stripped-enough n m (without_ending t) (omega arith) (omega arith))
+    ap (λ (u : Name). cond (is_source t) u t) (stripped-enough n m (without_ending t) (omega arith) (omega arith))
 
-stripped-one : (n : ℕ) (t : Text) → is_source t ≡ true → stripped (suc n) t ≡ stripped n (without_ending t)
+stripped-one : (n : ℕ) (t : Name) → is_source t ≡ true → stripped (suc n) t ≡ stripped n (without_ending t)
 stripped-one n t h = rw h refl
 
-pub source-shorter : (t : Text) → is_source t ≡ true → length (without_ending t) < length t
+pub source-shorter : (t : Name) → is_source t ≡ true → length (without_ending t) < length t
 source-shorter [] h = cc
 source-shorter (x ∷ t) h = let s = without_ending-length (x ∷ t) in omega arith
 
-pub stem-shorter : (t : Text) → is_source t ≡ true → stem (without_ending t) ≡ stem t
+pub stem-shorter : (t : Name) → is_source t ≡ true → stem (without_ending t) ≡ stem t
 stem-shorter [] h = refl
 stem-shorter (x ∷ t) h =
     let s = without_ending-length (x ∷ t) in
     rw h (stripped-enough (length (without_ending (x ∷ t))) (length t) (without_ending (x ∷ t)) (omega arith) (omega arith))
 
-pub stem-done : (t : Text) → is_source t ≡ false → stem t ≡ t
+pub stem-done : (t : Name) → is_source t ≡ false → stem t ≡ t
 stem-done [] h = refl
 stem-done (x ∷ t) h = rw h refl
 
 -- nothing is left to take away
-pub stripped-done : (n : ℕ) (t : Text) → length t ≤ n → is_source (stripped n t) ≡ false
+pub stripped-done : (n : ℕ) (t : Name) → length t ≤ n → is_source (stripped n t) ≡ false
 stripped-done zero [] h = refl
 stripped-done zero (x ∷ t) h = absurd (omega arith)
 stripped-done (suc n) t h = elim (is_source t) as (λ b. is_source t ≡ b → is_source (cond b (stripped n (without_ending t)) t) ≡ false)
     [ true ↦ λ e. let s = source-shorter t e in stripped-done n (without_ending t) (omega arith) | false ↦ λ e. e ] refl
 
-put-back : (t : Text) → is_source t ≡ true → without_ending t ++ codes ".rs" ≡ t
-put-back t e = ap (λ (u : Text). without_ending t ++ u) ((bytes_eq-Decides (codes ".rs") (drop (length t - 3) t)).0 e) ∙ take-append-drop (length t - 3) t
+put-back : (t : Name) → is_source t ≡ true → without_ending t ++ codes ".rs" ≡ t
+put-back t e = ap (λ (u : Name). without_ending t ++ u) ((bytes_eq-Decides (codes ".rs") (drop (length t - 3) t)).0 e) ∙ take-append-drop (length t - 3) t
 
 -- what was taken away stands there again
-pub rebuilt : (k : ℕ) (t : Text) → (n : ℕ) × (with_endings n (stripped k t) ≡ t)
+pub rebuilt : (k : ℕ) (t : Name) → (n : ℕ) × (with_endings n (stripped k t) ≡ t)
 rebuilt zero t = (zero, refl)
 rebuilt (suc k) t = elim (is_source t) as (λ b. is_source t ≡ b → (n : ℕ) × (with_endings n (cond b (stripped k (without_ending t)) t) ≡ t))
-    [ true ↦ λ e. let r = rebuilt k (without_ending t) in (suc r.0, ap (λ (u : Text). u ++ codes ".rs") r.1 ∙ put-back t e) | false ↦ λ e. (zero, refl) ] refl
+    [ true ↦ λ e. let r = rebuilt k (without_ending t) in (suc r.0, ap (λ (u : Name). u ++ codes ".rs") r.1 ∙ put-back t e) | false ↦ λ e. (zero, refl) ] refl

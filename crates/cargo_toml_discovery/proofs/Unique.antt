@@ -13,41 +13,41 @@ use Rattle.std.specs.declared.alloc.Global.{Global}
 use Rattle.std.proofs.lemmas.Slice.Eq.{bytes_eq-Decides}
 use Rattle.std.proofs.lemmas.Map.Text.{is_eq-slice_cmp}
 use Rattle.cargo_toml_discovery.specs.Answers.{texts_in}
-use Rattle.cargo_toml_discovery.specs.Names.{Text, has_text, put_in, ordered}
+use Rattle.cargo_toml_discovery.specs.Names.{Name, has_text, put_in, ordered}
 
-abbrev pub compare : Text → Text → Ordering
+abbrev pub compare : Name → Name → Ordering
 compare a b = slice_cmp nat_cmp a b
 
-abbrev pub AllAbove : Text → List Text → Type 0
+abbrev pub AllAbove : Name → List Name → Type 0
 AllAbove t [] = Unit {0}
 AllAbove t (u ∷ us) = (compare t u ≡ Less) × AllAbove t us
 
-abbrev pub Ascend : List Text → Type 0
+abbrev pub Ascend : List Name → Type 0
 Ascend [] = Unit {0}
 Ascend (t ∷ ts) = AllAbove t ts × Ascend ts
 
-above-less : (t u : Text) (us : List Text) → compare t u ≡ Less → AllAbove u us → AllAbove t us
+above-less : (t u : Name) (us : List Name) → compare t u ≡ Less → AllAbove u us → AllAbove t us
 above-less t u [] h k = tt
 above-less t u (v ∷ vs) h k = (nat_list_cmp_total.trans t u v h k.0, above-less t u vs h k.1)
 
-turned : (t u : Text) → compare t u ≡ Greater → compare u t ≡ Less
+turned : (t u : Name) → compare t u ≡ Greater → compare u t ≡ Less
 turned t u h = let e = nat_list_cmp_total.antisymm u t in rw (e, h) refl
 
-above-put_in : (b t : Text) (us : List Text) → compare b t ≡ Less → AllAbove b us → AllAbove b (put_in t us)
+above-put_in : (b t : Name) (us : List Name) → compare b t ≡ Less → AllAbove b us → AllAbove b (put_in t us)
 above-put_in b t [] h k = (h, tt)
 above-put_in b t (u ∷ us) h k = elim (compare t u) as (λ o. AllAbove b (match_ordering o (t ∷ u ∷ us) (u ∷ us) (u ∷ put_in t us)))
     [ Less ↦ (h, k) | Equal ↦ k | Greater ↦ (k.0, above-put_in b t us h k.1) ]
 
-ascend-put_in : (t : Text) (us : List Text) → Ascend us → Ascend (put_in t us)
+ascend-put_in : (t : Name) (us : List Name) → Ascend us → Ascend (put_in t us)
 ascend-put_in t [] h = (tt, tt)
 ascend-put_in t (u ∷ us) h = elim (compare t u) as (λ o. compare t u ≡ o → Ascend (match_ordering o (t ∷ u ∷ us) (u ∷ us) (u ∷ put_in t us)))
     [ Less ↦ λ e. ((e, above-less t u us e h.0), h) | Equal ↦ λ e. h | Greater ↦ λ e. (above-put_in u t us (turned t u e) h.0, ascend-put_in t us h.1) ] refl
 
-pub ascend-ordered : (ts : List Text) → Ascend (ordered ts)
+pub ascend-ordered : (ts : List Name) → Ascend (ordered ts)
 ascend-ordered [] = tt
 ascend-ordered (t ∷ ts) = ascend-put_in t (ordered ts) (ascend-ordered ts)
 
-same_text : (a b : Text) → compare a b ≡ Equal → a ≡ b
+same_text : (a b : Name) → compare a b ≡ Equal → a ≡ b
 same_text a b h = (bytes_eq-Decides a b).0 (sym (is_eq-slice_cmp a b) ∙ ap is_eq h)
 
 or-swap : (a b r : Bool) → a || (b || r) ≡ b || (a || r)
@@ -60,41 +60,41 @@ or-twice : (a r : Bool) → a || r ≡ a || (a || r)
 or-twice true r = refl
 or-twice false r = refl
 
-has-put_in : (q t : Text) (us : List Text) → has_text (put_in t us) q ≡ bytes_eq q t || has_text us q
+has-put_in : (q t : Name) (us : List Name) → has_text (put_in t us) q ≡ bytes_eq q t || has_text us q
 has-put_in q t [] = refl
 has-put_in q t (u ∷ us) = elim (compare t u) as (λ o. compare t u ≡ o → has_text (match_ordering o (t ∷ u ∷ us) (u ∷ us) (u ∷ put_in t us)) q ≡ bytes_eq q t || (bytes_eq q u || has_text us q)) [
   | Less ↦ λ e. refl
-  | Equal ↦ λ e. or-twice (bytes_eq q u) (has_text us q) ∙ ap (λ (v : Text). bytes_eq q v || (bytes_eq q u || has_text us q)) (sym (same_text t u e))
+  | Equal ↦ λ e. or-twice (bytes_eq q u) (has_text us q) ∙ ap (λ (v : Name). bytes_eq q v || (bytes_eq q u || has_text us q)) (sym (same_text t u e))
   | Greater ↦ λ e. ap (λ (b : Bool). bytes_eq q u || b) (has-put_in q t us) ∙ or-swap (bytes_eq q u) (bytes_eq q t) (has_text us q)
 ] refl
 
-pub has-ordered : (q : Text) (ts : List Text) → has_text (ordered ts) q ≡ has_text ts q
+pub has-ordered : (q : Name) (ts : List Name) → has_text (ordered ts) q ≡ has_text ts q
 has-ordered q [] = refl
 has-ordered q (t ∷ ts) = has-put_in q t (ordered ts) ∙ ap (λ (b : Bool). bytes_eq q t || b) (has-ordered q ts)
 
-pub own : (t : Text) → bytes_eq t t ≡ true
+pub own : (t : Name) → bytes_eq t t ≡ true
 own t = (bytes_eq-Decides t t).1 refl
 
-not-less : (a b : Text) → compare a b ≡ Less → bytes_eq a b ≡ false
+not-less : (a b : Name) → compare a b ≡ Less → bytes_eq a b ≡ false
 not-less a b h = sym (is_eq-slice_cmp a b) ∙ ap is_eq h
 
-not-above : (t : Text) (us : List Text) → AllAbove t us → has_text us t ≡ false
+not-above : (t : Name) (us : List Name) → AllAbove t us → has_text us t ≡ false
 not-above t [] h = refl
 not-above t (u ∷ us) h = ap (λ (b : Bool). b || has_text us t) (not-less t u h.0) ∙ not-above t us h.1
 
-has-first : (t : Text) (ts : List Text) → has_text (t ∷ ts) t ≡ true
+has-first : (t : Name) (ts : List Name) → has_text (t ∷ ts) t ≡ true
 has-first t ts = ap (λ (b : Bool). b || has_text ts t) (own t)
 
 clash : {A : Type 0} (b : Bool) → b ≡ true → b ≡ false → A
 clash b h k = cc
 
-rest_same : (x q : Text) (xs ys : List Text) → AllAbove x xs → AllAbove x ys → (bytes_eq q x || has_text xs q) ≡ (bytes_eq q x || has_text ys q) → has_text xs q ≡ has_text ys q
+rest_same : (x q : Name) (xs ys : List Name) → AllAbove x xs → AllAbove x ys → (bytes_eq q x || has_text xs q) ≡ (bytes_eq q x || has_text ys q) → has_text xs q ≡ has_text ys q
 rest_same x q xs ys h k e = elim (bytes_eq q x) as (λ b. bytes_eq q x ≡ b → (b || has_text xs q) ≡ (b || has_text ys q) → has_text xs q ≡ has_text ys q) [
   | true ↦ λ is _. let s : q ≡ x = (bytes_eq-Decides q x).0 is in rw (s, not-above x xs h, not-above x ys k) refl
   | false ↦ λ _ r. r
 ] refl e
 
-pub unique : (xs ys : List Text) → Ascend xs → Ascend ys → ((q : Text) → has_text xs q ≡ has_text ys q) → xs ≡ ys
+pub unique : (xs ys : List Name) → Ascend xs → Ascend ys → ((q : Name) → has_text xs q ≡ has_text ys q) → xs ≡ ys
 unique [] [] a b h = refl
 unique [] (y ∷ ys) a b h = clash (has_text (y ∷ ys) y) (has-first y ys) (sym (h y))
 unique (x ∷ xs) [] a b h = clash (has_text (x ∷ xs) x) (has-first x xs) (h x)
@@ -102,9 +102,9 @@ unique (x ∷ xs) (y ∷ ys) a b h = elim (compare x y) as (λ o. compare x y �
   | Less ↦ λ e. clash (has_text (x ∷ xs) x) (has-first x xs) (h x ∙ not-above x (y ∷ ys) (e, above-less x y ys e b.0))
   | Equal ↦ λ e.
       let s : x ≡ y = same_text x y e in
-      let b' : AllAbove x ys = subst (λ (t : Text). AllAbove t ys) (sym s) b.0 in
-      let r : xs ≡ ys = unique xs ys a.1 b.1 (λ q. rest_same x q xs ys a.0 b' (h q ∙ ap (λ (t : Text). bytes_eq q t || has_text ys q) (sym s))) in
-      ap (λ (t : Text). t ∷ xs) s ∙ ap (λ (ts : List Text). y ∷ ts) r
+      let b' : AllAbove x ys = subst (λ (t : Name). AllAbove t ys) (sym s) b.0 in
+      let r : xs ≡ ys = unique xs ys a.1 b.1 (λ q. rest_same x q xs ys a.0 b' (h q ∙ ap (λ (t : Name). bytes_eq q t || has_text ys q) (sym s))) in
+      ap (λ (t : Name). t ∷ xs) s ∙ ap (λ (ts : List Name). y ∷ ts) r
   | Greater ↦ λ e. let k = turned x y e in clash (has_text (y ∷ ys) y) (has-first y ys) (sym (h y) ∙ not-above y (x ∷ xs) (k, above-less y x xs k a.0))
 ] refl
 
@@ -121,15 +121,15 @@ ascend-keys (k ∷ ks) h = (above-keys k ks h.0, ascend-keys ks h.1)
 pub ascend-set : (s : BTreeSet (String Global)) → IsOrdered string_cmp s → Ascend (texts_in s)
 ascend-set s h = ascend-keys s.keys h
 
-has-keys : (t : Text) (ks : List (String Global)) → list_any (λ k. is_eq (slice_cmp nat_cmp t (string_bytes k))) ks ≡ has_text (map (λ k. string_bytes k) ks) t
+has-keys : (t : Name) (ks : List (String Global)) → list_any (λ k. is_eq (slice_cmp nat_cmp t (string_bytes k))) ks ≡ has_text (map (λ k. string_bytes k) ks) t
 has-keys t [] = refl
 has-keys t (k ∷ ks) = ap (λ (b : Bool). b || list_any (λ k. is_eq (slice_cmp nat_cmp t (string_bytes k))) ks) (is_eq-slice_cmp t (string_bytes k)) ∙ ap (λ (b : Bool). bytes_eq t (string_bytes k) || b) (has-keys t ks)
 
-pub has-set : (t : Text) (s : BTreeSet (String Global)) → contains_text s t ≡ has_text (texts_in s) t
+pub has-set : (t : Name) (s : BTreeSet (String Global)) → contains_text s t ≡ has_text (texts_in s) t
 has-set t s = has-keys t s.keys
 
 -- a set in order has the texts, so they are these
-pub texts_in-ordered : (s : BTreeSet (String Global)) (ts : List Text) → IsOrdered string_cmp s → ((t : Text) → contains_text s t ≡ has_text ts t) → ordered ts ≡ texts_in s
+pub texts_in-ordered : (s : BTreeSet (String Global)) (ts : List Name) → IsOrdered string_cmp s → ((t : Name) → contains_text s t ≡ has_text ts t) → ordered ts ≡ texts_in s
 texts_in-ordered s ts h e = unique (ordered ts) (texts_in s) (ascend-ordered ts) (ascend-set s h) (λ q. has-ordered q ts ∙ sym (e q) ∙ has-set q s)
 
 pub texts_in-itself : (s : BTreeSet (String Global)) → IsOrdered string_cmp s → ordered (texts_in s) ≡ texts_in s

@@ -6,69 +6,69 @@ use Rattle.cargo_toml_parts.specs.FaultValues.{Fault, fault_of}
 use Rattle.cargo_toml_discovery.specs.Answers.{Answers, answer_at, names_in, below, named_in, entries_if, around_in, filled_by, filled}
 use Rattle.cargo_toml_discovery.specs.Around.{named_by, each_named, entries_at, make_around, around}
 use Rattle.cargo_toml_discovery.specs.Found.{Named}
-use Rattle.cargo_toml_discovery.specs.Gathering.{IsAnswer, Fits, Has, HasEach, MayTellOneOf, HasProducts, HasRoot, HasAll}
-use Rattle.cargo_toml_discovery.specs.Names.{Text, has_text, in_dir, is_source, may_be_folder}
+use Rattle.cargo_toml_discovery.specs.Gathering.{AnswerFits, Fits, Has, HasEach, MayTellOneOf, HasProducts, HasRoot, HasAll}
+use Rattle.cargo_toml_discovery.specs.Names.{Name, has_text, in_dir, is_source, may_be_folder}
 use Rattle.cargo_toml_discovery.specs.Seen.{Seen, seen, unclear, seen_as, pair, and_then, names_at, root_names, MayTell, Tells}
 use Rattle.cargo_toml_discovery.specs.Told.{Told, names, absent, denied, open_path}
 use Rattle.cargo_toml_discovery.specs.declared.listings.Wanted.{Wanted}
 use Rattle.cargo_toml_discovery.proofs.Heard.{tell-as, tell-left, tell-right, grows-one, has-one, root_is_answer}
 
-abbrev source_named : Text → Seen Named
+abbrev source_named : Name → Seen Named
 source_named n = seen (record { name = n; has_main = false })
 
 -- a fault below a directory
-each-step : (told : Text → Told) (dir n : Text) (ns : List Text) (f : Fault) (b : Bool) → (MayTellOneOf told (below dir ns) f → MayTell (each_named told dir ns) f) →
+each-step : (told : Name → Told) (dir n : Name) (ns : List Name) (f : Fault) (b : Bool) → (MayTellOneOf told (below dir ns) f → MayTell (each_named told dir ns) f) →
     MayTellOneOf told (map (in_dir dir) (cond (not b) (n ∷ filter may_be_folder ns) (filter may_be_folder ns))) f →
     MayTell (seen_as (λ (e : Named × List Named). e.0 ∷ e.1) (pair (cond b (seen (record { name = n; has_main = false })) (seen_as (named_by n) (names_at (told (in_dir dir n))))) (each_named told dir ns))) f
 each-step told dir n ns f true next h = tell-as (λ (e : Named × List Named). e.0 ∷ e.1) _ f (tell-right ((source_named n)) (each_named told dir ns) f (next h))
 each-step told dir n ns f false next (inl h) = tell-as (λ (e : Named × List Named). e.0 ∷ e.1) _ f (tell-left (seen_as (named_by n) (names_at (told (in_dir dir n)))) (each_named told dir ns) f (tell-as (named_by n) (names_at (told (in_dir dir n))) f h))
 each-step told dir n ns f false next (inr h) = tell-as (λ (e : Named × List Named). e.0 ∷ e.1) _ f (tell-right (seen_as (named_by n) (names_at (told (in_dir dir n)))) (each_named told dir ns) f (next h))
 
-pub each-told : (told : Text → Told) (dir : Text) (ns : List Text) (f : Fault) → MayTellOneOf told (below dir ns) f → MayTell (each_named told dir ns) f
+pub each-told : (told : Name → Told) (dir : Name) (ns : List Name) (f : Fault) → MayTellOneOf told (below dir ns) f → MayTell (each_named told dir ns) f
 each-told told dir [] f h = h
 each-told told dir (n ∷ ns) f h = each-step told dir n ns f (is_source n) (each-told told dir ns f) h
 
-pub told_or_open : (t : Told) (ns : List Text) → IsAnswer t ns → (names_at t ≡ unclear) ⊎ (names_at t ≡ seen ns)
+pub told_or_open : (t : Told) (ns : List Name) → AnswerFits t ns → (names_at t ≡ unclear) ⊎ (names_at t ≡ seen ns)
 told_or_open (names ts) ns h = inr h
 told_or_open absent ns h = inr h
 told_or_open (denied k) ns h = inr h
 told_or_open open_path ns h = inl refl
 
-pub products-told : (told : Text → Told) (dir : Text) (ns : List Text) (f : Fault) → IsAnswer (told dir) ns → MayTellOneOf told (below dir ns) f → MayTell (entries_at told true dir) f
+pub products-told : (told : Name → Told) (dir : Name) (ns : List Name) (f : Fault) → AnswerFits (told dir) ns → MayTellOneOf told (below dir ns) f → MayTell (entries_at told true dir) f
 products-told told dir ns f one h = elim (told_or_open (told dir) ns one)
     [ inl e ↦ rw e tt | inr e ↦ rw e (each-told told dir ns f h) ]
 
 -- what was heard
-heard_at : (told : Text → Told) (ans : Answers) (p : Text) (r : Option (List Text)) → Fits told ans → answer_at ans p ≡ r → is_some r ≡ true → names_at (filled_by (told p) r) ≡ seen (unwrap_or r [])
+heard_at : (told : Name → Told) (ans : Answers) (p : Name) (r : Option (List Name)) → Fits told ans → answer_at ans p ≡ r → is_some r ≡ true → names_at (filled_by (told p) r) ≡ seen (unwrap_or r [])
 heard_at told ans p None f e h = cc
 heard_at told ans p (Some ns) f e h = f p ns e
 
-pub heard : (told : Text → Told) (ans : Answers) (p : Text) → Fits told ans → Has ans p → names_at (filled told ans p) ≡ seen (names_in ans p)
+pub heard : (told : Name → Told) (ans : Answers) (p : Name) → Fits told ans → Has ans p → names_at (filled told ans p) ≡ seen (names_in ans p)
 heard told ans p f h = heard_at told ans p (answer_at ans p) f refl h
 
-each-heard-step : (told : Text → Told) (ans : Answers) (dir n : Text) (ns : List Text) (b : Bool) → Fits told ans →
+each-heard-step : (told : Name → Told) (ans : Answers) (dir n : Name) (ns : List Name) (b : Bool) → Fits told ans →
     (HasEach ans (below dir ns) → each_named (filled told ans) dir ns ≡ seen (map (named_in ans dir) ns)) →
     HasEach ans (map (in_dir dir) (cond (not b) (n ∷ filter may_be_folder ns) (filter may_be_folder ns))) →
     seen_as (λ (e : Named × List Named). e.0 ∷ e.1) (pair (cond b (seen (record { name = n; has_main = false })) (seen_as (named_by n) (names_at (filled told ans (in_dir dir n))))) (each_named (filled told ans) dir ns))
     ≡ seen ((record { name = n; has_main = not b && has_text (names_in ans (in_dir dir n)) (codes "main.rs") }) ∷ map (named_in ans dir) ns)
 each-heard-step told ans dir n ns true f next h = ap (λ (s : Seen (List Named)). seen_as (λ (e : Named × List Named). e.0 ∷ e.1) (pair ((source_named n)) s)) (next h)
 each-heard-step told ans dir n ns false f next h =
-    ap (λ (t : Seen (List Text)). seen_as (λ (e : Named × List Named). e.0 ∷ e.1) (pair (seen_as (named_by n) t) (each_named (filled told ans) dir ns))) (heard told ans (in_dir dir n) f h.0)
+    ap (λ (t : Seen (List Name)). seen_as (λ (e : Named × List Named). e.0 ∷ e.1) (pair (seen_as (named_by n) t) (each_named (filled told ans) dir ns))) (heard told ans (in_dir dir n) f h.0)
     ∙ ap (λ (s : Seen (List Named)). seen_as (λ (e : Named × List Named). e.0 ∷ e.1) (pair (seen (named_by n (names_in ans (in_dir dir n)))) s)) (next h.1)
 
-each-heard : (told : Text → Told) (ans : Answers) (dir : Text) (ns : List Text) → Fits told ans → HasEach ans (below dir ns) → each_named (filled told ans) dir ns ≡ seen (map (named_in ans dir) ns)
+each-heard : (told : Name → Told) (ans : Answers) (dir : Name) (ns : List Name) → Fits told ans → HasEach ans (below dir ns) → each_named (filled told ans) dir ns ≡ seen (map (named_in ans dir) ns)
 each-heard told ans dir [] f h = refl
 each-heard told ans dir (n ∷ ns) f h = each-heard-step told ans dir n ns (is_source n) f (each-heard told ans dir ns f) h
 
-pub products-heard : (told : Text → Told) (ans : Answers) (wanted : Bool) (dir : Text) → Fits told ans → HasProducts wanted dir ans → entries_at (filled told ans) wanted dir ≡ seen (entries_if wanted ans dir)
+pub products-heard : (told : Name → Told) (ans : Answers) (wanted : Bool) (dir : Name) → Fits told ans → HasProducts wanted dir ans → entries_at (filled told ans) wanted dir ≡ seen (entries_if wanted ans dir)
 products-heard told ans false dir f h = refl
-products-heard told ans true dir f h = ap (λ (s : Seen (List Text)). and_then s (each_named (filled told ans) dir)) (heard told ans dir f h.0) ∙ each-heard told ans dir (names_in ans dir) f h.1
+products-heard told ans true dir f h = ap (λ (s : Seen (List Name)). and_then s (each_named (filled told ans) dir)) (heard told ans dir f h.0) ∙ each-heard told ans dir (names_in ans dir) f h.1
 
-root-heard : (t : Told) (r : Option (List Text)) (ns : List Text) → r ≡ Some ns → root_names (filled_by t (Some ns)) ≡ seen ns → root_names (filled_by t r) ≡ seen (unwrap_or r [])
+root-heard : (t : Told) (r : Option (List Name)) (ns : List Name) → r ≡ Some ns → root_names (filled_by t (Some ns)) ≡ seen ns → root_names (filled_by t r) ≡ seen (unwrap_or r [])
 root-heard t r ns e h = rw e h
 
 -- a fault of one is a fault of all
-module _ (told : Text → Told) (wanted : Wanted) (f : Fault) where
+module _ (told : Name → Told) (wanted : Wanted) (f : Fault) where
   pub by-root : MayTell (root_names (told [])) f → MayTell (around told wanted) f
   by-root h = tell-as make_around _ f (tell-left _ _ f (tell-left _ _ f h))
 
@@ -87,38 +87,38 @@ module _ (told : Text → Told) (wanted : Wanted) (f : Fault) where
   pub by-benches : MayTell (entries_at told wanted.benches (codes "benches")) f → MayTell (around told wanted) f
   by-benches h = tell-as make_around _ f (tell-right (pair (root_names (told [])) (names_at (told (codes "src")))) _ f (tell-right (pair (entries_at told wanted.bins (codes "src/bin")) (entries_at told wanted.examples (codes "examples"))) _ f (tell-right (entries_at told wanted.tests (codes "tests")) _ f h)))
 
-answer_is : (told : Text → Told) (ans : Answers) (p : Text) (r : Option (List Text)) → Fits told ans → answer_at ans p ≡ r → is_some r ≡ true → IsAnswer (told p) (unwrap_or r [])
+answer_is : (told : Name → Told) (ans : Answers) (p : Name) (r : Option (List Name)) → Fits told ans → answer_at ans p ≡ r → is_some r ≡ true → AnswerFits (told p) (unwrap_or r [])
 answer_is told ans p None f e h = cc
 answer_is told ans p (Some ns) f e h = f p ns e
 
-pub is_answer-here : (told : Text → Told) (ans : Answers) (p : Text) → Fits told ans → Has ans p → IsAnswer (told p) (names_in ans p)
+pub is_answer-here : (told : Name → Told) (ans : Answers) (p : Name) → Fits told ans → Has ans p → AnswerFits (told p) (names_in ans p)
 is_answer-here told ans p f h = answer_is told ans p (answer_at ans p) f refl h
 
-pub products-tells : (told : Text → Told) (wanted : Bool) (dir : Text) (ns : List Text) (e : Error) → wanted ≡ true → IsAnswer (told dir) ns → (e ≡ Memory) ⊎ MayTellOneOf told (below dir ns) (fault_of e) → Tells (entries_at told wanted dir) e
+pub products-tells : (told : Name → Told) (wanted : Bool) (dir : Name) (ns : List Name) (e : Error) → wanted ≡ true → AnswerFits (told dir) ns → (e ≡ Memory) ⊎ MayTellOneOf told (below dir ns) (fault_of e) → Tells (entries_at told wanted dir) e
 products-tells told wanted dir ns e is one (inl m) = inl m
 products-tells told wanted dir ns e is one (inr h) = inr (rw is (products-told told dir ns (fault_of e) one h))
 
-pub has_products-here : (ans : Answers) (wanted : Bool) (dir : Text) → wanted ≡ true → Has ans dir → HasEach ans (below dir (names_in ans dir)) → HasProducts wanted dir ans
+pub has_products-here : (ans : Answers) (wanted : Bool) (dir : Name) → wanted ≡ true → Has ans dir → HasEach ans (below dir (names_in ans dir)) → HasProducts wanted dir ans
 has_products-here ans wanted dir is h k = rw is (h, k)
 
-none_at : (ans : Answers) (p : Text) → ans ≡ [] → answer_at ans p ≡ None
+none_at : (ans : Answers) (p : Name) → ans ≡ [] → answer_at ans p ≡ None
 none_at ans p e = ap (λ (given : Answers). answer_at given p) e
 
-none_fits : (told : Text → Told) (ans : Answers) → ans ≡ [] → Fits told ans
+none_fits : (told : Name → Told) (ans : Answers) → ans ≡ [] → Fits told ans
 none_fits told ans e p ns h = let n = none_at ans p e in cc
 
 -- the names of the package's own folder are the first answer
-pub started : (told : Text → Told) (old new : Answers) (root : List Text) → old ≡ [] →
-    ((p : Text) → answer_at new p ≡ cond (bytes_eq [] p) (Some root) (answer_at old p)) → root_names (filled_by (told []) (Some root)) ≡ seen root →
+pub started : (told : Name → Told) (old new : Answers) (root : List Name) → old ≡ [] →
+    ((p : Name) → answer_at new p ≡ cond (bytes_eq [] p) (Some root) (answer_at old p)) → root_names (filled_by (told []) (Some root)) ≡ seen root →
     Fits told new × (answer_at new [] ≡ Some root)
 started told old new root e h is =
     let missing = ap is_some (none_at old [] e) in
     ((grows-one told old new [] root missing h (root_is_answer (told []) root is)).1 (none_fits told old e), has-one told old new [] root missing h)
 
-pub has_root : (told : Text → Told) (ans : Answers) (root : List Text) → answer_at ans [] ≡ Some root → root_names (filled_by (told []) (Some root)) ≡ seen root → HasRoot told ans
+pub has_root : (told : Name → Told) (ans : Answers) (root : List Name) → answer_at ans [] ≡ Some root → root_names (filled_by (told []) (Some root)) ≡ seen root → HasRoot told ans
 has_root told ans root e h = root-heard (told []) (answer_at ans []) root e h
 
-pub all-told : (told : Text → Told) (ans : Answers) (wanted : Wanted) → Fits told ans → HasRoot told ans → HasAll wanted ans → around (filled told ans) wanted ≡ seen (around_in ans wanted)
+pub all-told : (told : Name → Told) (ans : Answers) (wanted : Wanted) → Fits told ans → HasRoot told ans → HasAll wanted ans → around (filled told ans) wanted ≡ seen (around_in ans wanted)
 all-told told ans wanted f root h =
     rw (
       root,

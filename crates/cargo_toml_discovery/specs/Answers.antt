@@ -6,59 +6,59 @@ use Rattle.std.specs.Str.{bytes_eq}
 use Rattle.std.specs.declared.alloc.Global.{Global}
 use Rattle.cargo_toml_discovery.specs.Around.{Around}
 use Rattle.cargo_toml_discovery.specs.Found.{Named}
-use Rattle.cargo_toml_discovery.specs.Names.{Text, has_text, in_dir, may_be_folder}
+use Rattle.cargo_toml_discovery.specs.Names.{Name, has_text, in_dir, may_be_folder}
 use Rattle.cargo_toml_discovery.specs.Told.{Told, names, absent, denied, open_path}
 use Rattle.cargo_toml_discovery.specs.declared.listings.Listings as code
 use Rattle.cargo_toml_discovery.specs.declared.listings.Wanted.{Wanted}
 
 abbrev pub Answers : Type 0
-Answers = List (Text × List Text)
+Answers = List (Name × List Name)
 
-abbrev pub answer_at : Answers → Text → Option (List Text)
+abbrev pub answer_at : Answers → Name → Option (List Name)
 answer_at [] p = None
 answer_at (a ∷ ans) p = if bytes_eq p a.0 then Some a.1 else answer_at ans p
 
 -- what is stated where an open path has this answer
-abbrev pub filled_by : Told → Option (List Text) → Told
+abbrev pub filled_by : Told → Option (List Name) → Told
 filled_by (names ts) a = names ts
 filled_by absent a = absent
 filled_by (denied fault) a = denied fault
 filled_by open_path None = open_path
 filled_by open_path (Some ts) = names ts
 
-abbrev pub filled : (Text → Told) → Answers → Text → Told
+abbrev pub filled : (Name → Told) → Answers → Name → Told
 filled told ans p = filled_by (told p) (answer_at ans p)
 
 -- the texts of a set, in order
-abbrev pub texts_in : BTreeSet (String Global) → List Text
+abbrev pub texts_in : BTreeSet (String Global) → List Name
 texts_in s = map (λ k. string_bytes k) s.keys
 
 abbrev pub answers_of : code.Listings → Answers
 answers_of l = map (λ e. (string_bytes e.0, texts_in e.1)) l.names.entries
 
 -- the names at a path, none where there is no answer
-abbrev pub names_in : Answers → Text → List Text
+abbrev pub names_in : Answers → Name → List Name
 names_in ans p = unwrap_or (answer_at ans p) []
 
 -- the names in a folder that were kept
-abbrev pub names_kept : code.Listings → Text → List Text
+abbrev pub names_kept : code.Listings → Name → List Name
 names_kept l p = names_in (answers_of l) p
 
 -- the folders in a folder that may hold `main.rs`
-abbrev pub below : Text → List Text → List Text
+abbrev pub below : Name → List Name → List Name
 below dir ns = map (in_dir dir) (filter may_be_folder ns)
 
-abbrev pub named_in : Answers → Text → Text → Named
+abbrev pub named_in : Answers → Name → Name → Named
 named_in ans dir n = record {
   name = n;
   has_main = may_be_folder n && has_text (names_in ans (in_dir dir n)) (codes "main.rs");
 }
 
 -- what a folder of products holds by these answers
-abbrev pub entries_in : Answers → Text → List Named
+abbrev pub entries_in : Answers → Name → List Named
 entries_in ans dir = map (named_in ans dir) (names_in ans dir)
 
-abbrev pub entries_if : Bool → Answers → Text → List Named
+abbrev pub entries_if : Bool → Answers → Name → List Named
 entries_if b ans dir = if b then entries_in ans dir else []
 
 -- what stands around a package by these answers

@@ -2,42 +2,42 @@
 use Rattle.std.specs.Prelude.{Bool, true, false, List, [], ◌∷◌, codes, if◌then◌else◌}
 use Rattle.cargo_toml_discovery.specs.declared.listings.Wanted.{Wanted}
 use Rattle.cargo_toml_discovery.specs.Found.{Named}
-use Rattle.cargo_toml_discovery.specs.Names.{Text, has_text, in_dir, is_source}
+use Rattle.cargo_toml_discovery.specs.Names.{Name, has_text, in_dir, is_source}
 use Rattle.cargo_toml_discovery.specs.Seen.{Seen, seen, seen_as, pair}
 use Rattle.cargo_toml_discovery.specs.Seen.{and_then, names_at, root_names}
 use Rattle.cargo_toml_discovery.specs.Told.{Told}
 
 -- a name, and whether `main.rs` is among the names in its folder
-abbrev pub named_by : Text → List Text → Named
+abbrev pub named_by : Name → List Name → Named
 named_by n ts = record { name = n; has_main = has_text ts (codes "main.rs") }
 
 -- a source is not asked for
-abbrev pub named_at : (Text → Told) → Text → Text → Seen Named
+abbrev pub named_at : (Name → Told) → Name → Name → Seen Named
 named_at told dir n =
     if is_source n then seen (record { name = n; has_main = false })
     else seen_as (named_by n) (names_at (told (in_dir dir n)))
 
-abbrev pub each_named : (Text → Told) → Text → List Text → Seen (List Named)
+abbrev pub each_named : (Name → Told) → Name → List Name → Seen (List Named)
 each_named told dir [] = seen []
 each_named told dir (n ∷ ns) =
     seen_as (λ e. e.0 ∷ e.1) (pair (named_at told dir n) (each_named told dir ns))
 
 -- what a folder of products holds, if it is wanted
-abbrev pub entries_at : (Text → Told) → Bool → Text → Seen (List Named)
+abbrev pub entries_at : (Name → Told) → Bool → Name → Seen (List Named)
 entries_at told false dir = seen []
 entries_at told true dir = and_then (names_at (told dir)) (each_named told dir)
 
 -- what stands around a package
 pub record Around : Type 0 where
-  pub root : List Text
-  pub src : List Text
+  pub root : List Name
+  pub src : List Name
   pub bins : List Named
   pub examples : List Named
   pub tests : List Named
   pub benches : List Named
 
 abbrev pub make_around :
-    (List Text × List Text) × ((List Named × List Named) × (List Named × List Named)) → Around
+    (List Name × List Name) × ((List Named × List Named) × (List Named × List Named)) → Around
 make_around a = record {
   root = a.0.0;
   src = a.0.1;
@@ -48,7 +48,7 @@ make_around a = record {
 }
 
 -- what is seen around a package whose lists of these kinds are wanted
-abbrev pub around : (Text → Told) → Wanted → Seen Around
+abbrev pub around : (Name → Told) → Wanted → Seen Around
 around told wanted =
     seen_as make_around (pair
     (pair (root_names (told [])) (names_at (told (codes "src"))))

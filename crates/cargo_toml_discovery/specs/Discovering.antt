@@ -13,7 +13,7 @@ use Rattle.cargo_toml_discovery.specs.declared.discovery.Stated as stated_type
 use Rattle.cargo_toml_discovery.specs.declared.listings.Wanted.{Wanted}
 use Rattle.cargo_toml_discovery.specs.Around.{Around}
 use Rattle.cargo_toml_discovery.specs.Found.{Named, Offered, found, is_path_of, still_open}
-use Rattle.cargo_toml_discovery.specs.Names.{Text, has_text, underscored}
+use Rattle.cargo_toml_discovery.specs.Names.{Name, has_text, underscored}
 use Rattle.cargo_toml_discovery.specs.Sorting.{in_order}
 
 -- a library without a path has this one, where the file is there
@@ -27,13 +27,13 @@ found_library true true None = Some (at_library no_product)
 found_library true false None = None
 found_library true made (Some p) = Some (at_library p)
 
-abbrev pub or_plain_library : List Text → List Text
+abbrev pub or_plain_library : List Name → List Name
 or_plain_library [] = codes "lib" ∷ []
 or_plain_library types = types
 
 -- the library with what it does not state: the name and the edition of the package, and the crate
 -- type `lib`; it requires no feature
-abbrev pub filled_library : Text → Edition → ProductMeaning → ProductMeaning
+abbrev pub filled_library : Name → Edition → ProductMeaning → ProductMeaning
 filled_library name edition p = record p {
   name = Some (unwrap_or p.name (underscored name));
   edition = Some (unwrap_or p.edition edition);
@@ -41,23 +41,23 @@ filled_library name edition p = record p {
   required_features = [];
 }
 
-abbrev pub library : Text → Edition → Bool → Bool → Option ProductMeaning → Option ProductMeaning
+abbrev pub library : Name → Edition → Bool → Bool → Option ProductMeaning → Option ProductMeaning
 library name edition is_there made lib =
     option_map (filled_library name edition) (found_library is_there made lib)
 
-abbrev pub main_of : Text → Offered
+abbrev pub main_of : Name → Offered
 main_of name = record { file = codes "main.rs"; name = name; path = codes "src/main.rs" }
 
 -- what `src/main.rs` offers, unless a product has that path
-abbrev pub main_offer : Text → Bool → List ProductMeaning → Option Offered
+abbrev pub main_offer : Name → Bool → List ProductMeaning → Option Offered
 main_offer name false ps = None
 main_offer name true ps = still_open (is_path_of ps) (Some (main_of name))
 
 -- a list of products: as it is found in its folder where that is wanted, and else only put in order
-abbrev pub list_of : Edition → Bool → Text → List ProductMeaning → List Named → Option Offered
-    → List ProductMeaning
-list_of edition false dir ps es extra = in_order ps
-list_of edition true dir ps es extra = found edition dir ps es extra
+abbrev pub listed_products : Edition → Bool → Name → List ProductMeaning → List Named
+    → Option Offered → List ProductMeaning
+listed_products edition false dir ps es extra = in_order ps
+listed_products edition true dir ps es extra = found edition dir ps es extra
 
 -- nothing is stated, or just that there is a build script
 abbrev pub may_build : Option File → Bool
@@ -66,28 +66,28 @@ may_build (Some (flag b)) = b
 may_build (Some (path p)) = false
 
 -- the build script, where these names stand beside the manifest
-abbrev pub build_in : List Text → Option File → Option File
+abbrev pub build_in : List Name → Option File → Option File
 build_in root build =
     if may_build build && has_text root (codes "build.rs") then Some (path (codes "build.rs"))
     else build
 
 -- the first of the names that is there
-abbrev pub first_in : List Text → List Text → File → File
+abbrev pub first_in : List Name → List Name → File → File
 first_in root [] otherwise = otherwise
 first_in root (n ∷ ns) otherwise = if has_text root n then path n else first_in root ns otherwise
 
-abbrev pub readme_names : List Text
+abbrev pub readme_names : List Name
 readme_names = codes "README.md" ∷ codes "README.txt" ∷ codes "README" ∷ []
 
 -- the readme, where these names stand beside the manifest
-abbrev pub readme_in : List Text → File → File
+abbrev pub readme_in : List Name → File → File
 readme_in root (flag true) = first_in root readme_names (flag true)
 readme_in root (flag false) = flag false
 readme_in root (path p) = path p
 
 -- what a manifest states of its package and of its products
 pub record StatedMeaning : Type 0 where
-  pub name : Text
+  pub name : Name
   pub edition : Edition
   pub autolib : Bool
   pub wanted : Wanted
@@ -155,10 +155,11 @@ main_around s a = main_offer s.name (has_text a.src (codes "main.rs")) s.bin
 abbrev pub discovered : StatedMeaning → Around → DiscoveredMeaning
 discovered s a = record {
   lib = library_around s a;
-  bin = list_of s.edition s.wanted.bins (codes "src/bin") s.bin a.bins (main_around s a);
-  example = list_of s.edition s.wanted.examples (codes "examples") s.example a.examples None;
-  test = list_of s.edition s.wanted.tests (codes "tests") s.test a.tests None;
-  bench = list_of s.edition s.wanted.benches (codes "benches") s.bench a.benches None;
+  bin = listed_products s.edition s.wanted.bins (codes "src/bin") s.bin a.bins (main_around s a);
+  example =
+      listed_products s.edition s.wanted.examples (codes "examples") s.example a.examples None;
+  test = listed_products s.edition s.wanted.tests (codes "tests") s.test a.tests None;
+  bench = listed_products s.edition s.wanted.benches (codes "benches") s.bench a.benches None;
   build = build_in a.root s.build;
   readme = readme_in a.root s.readme;
 }

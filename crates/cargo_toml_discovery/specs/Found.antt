@@ -8,22 +8,22 @@ use Rattle.std.specs.Cmp.Lexicographic.{slice_cmp}
 use Rattle.std.specs.Str.{bytes_eq}
 use Rattle.cargo_toml_settings.specs.declared.settings.Edition.{Edition}
 use Rattle.cargo_toml_tables.specs.Products.{ProductMeaning, no_product}
-use Rattle.cargo_toml_discovery.specs.Names.{Text, in_dir, is_source, stem}
+use Rattle.cargo_toml_discovery.specs.Names.{Name, in_dir, is_source, stem}
 use Rattle.cargo_toml_discovery.specs.Sorting.{in_order}
 
 -- a name in a folder, and whether the folder of that name holds `main.rs`
 pub record Named : Type 0 where
-  pub name : Text
+  pub name : Name
   pub has_main : Bool
 
 -- what a name in a folder offers: that name, and the name and the path of a product
 pub record Offered : Type 0 where
-  pub file : Text
-  pub name : Text
-  pub path : Text
+  pub file : Name
+  pub name : Name
+  pub path : Name
 
 -- a source offers itself, under its name without `.rs`; another name its `main.rs`, if it holds one
-abbrev pub offer_of : Text → Named → Option Offered
+abbrev pub offer_of : Name → Named → Option Offered
 offer_of dir e =
     if is_source e.name then
     Some (record { file = e.name; name = stem e.name; path = in_dir dir e.name })
@@ -32,7 +32,7 @@ offer_of dir e =
     else None
 
 -- there is a text, and it is this one
-abbrev pub is_text : Text → Option Text → Bool
+abbrev pub is_text : Name → Option Name → Bool
 is_text t None = false
 is_text t (Some u) = bytes_eq u t
 
@@ -40,31 +40,31 @@ is_text t (Some u) = bytes_eq u t
 abbrev pub has_path : ProductMeaning → Bool
 has_path p = is_some p.path
 
-abbrev pub is_path_of : List ProductMeaning → Text → Bool
+abbrev pub is_path_of : List ProductMeaning → Name → Bool
 is_path_of ps path = list_any (λ p. is_text path p.path) ps
 
 -- an offer, unless its path is taken
-abbrev pub still_open : (Text → Bool) → Option Offered → Option Offered
+abbrev pub still_open : (Name → Bool) → Option Offered → Option Offered
 still_open is_taken None = None
 still_open is_taken (Some o) = if is_taken o.path then None else Some o
 
-abbrev pub open_offer : Text → (Text → Bool) → Named → Option Offered
+abbrev pub open_offer : Name → (Name → Bool) → Named → Option Offered
 open_offer dir is_taken e = still_open is_taken (offer_of dir e)
 
 -- what the names of the folder offer, except the paths that are taken
-abbrev pub offers : Text → (Text → Bool) → List Named → List Offered
+abbrev pub offers : Name → (Name → Bool) → List Named → List Offered
 offers dir is_taken es = filter_map (open_offer dir is_taken) es
 
 -- a product without a path waits for an offer of its name
-abbrev pub waits_for : Text → ProductMeaning → Bool
+abbrev pub waits_for : Name → ProductMeaning → Bool
 waits_for n p = not (has_path p) && is_text n p.name
 
 -- the product, if it waits for the name, and else the other one
-abbrev pub waits_or : ProductMeaning → Text → Option ProductMeaning → Option ProductMeaning
+abbrev pub waits_or : ProductMeaning → Name → Option ProductMeaning → Option ProductMeaning
 waits_or p n other = if waits_for n p then Some p else other
 
 -- the last product that waits for the name
-abbrev pub last_waiting : List ProductMeaning → Text → Option ProductMeaning
+abbrev pub last_waiting : List ProductMeaning → Name → Option ProductMeaning
 last_waiting [] n = None
 last_waiting (p ∷ ps) n = option_or (last_waiting ps n) (waits_or p n None)
 
@@ -93,12 +93,12 @@ abbrev pub product_among : Edition → List ProductMeaning → List Offered → 
 product_among edition ps os o = product_for edition o (taker ps os o)
 
 -- some offer has the product name
-abbrev pub named : List Offered → Text → Bool
-named os n = list_any (λ q. bytes_eq q.name n) os
+abbrev pub has_offer : List Offered → Name → Bool
+has_offer os n = list_any (λ q. bytes_eq q.name n) os
 
 -- a waiting product takes one offer more where no other offer has its name
 abbrev pub late_taker : List ProductMeaning → List Offered → Offered → Option ProductMeaning
-late_taker ps os o = if named os o.name then None else last_waiting ps o.name
+late_taker ps os o = if has_offer os o.name then None else last_waiting ps o.name
 
 abbrev pub last_product : Edition → List ProductMeaning → List Offered → Option Offered
     → List ProductMeaning
@@ -113,7 +113,7 @@ all_found edition ps os extra =
 
 -- the products of a folder, in order: those that have a path, and one for each offer of the folder
 -- and of one beside it
-abbrev pub found : Edition → Text → List ProductMeaning → List Named → Option Offered
+abbrev pub found : Edition → Name → List ProductMeaning → List Named → Option Offered
     → List ProductMeaning
 found edition dir ps es extra =
     in_order (all_found edition ps (offers dir (is_path_of ps) es) extra)

@@ -8,38 +8,38 @@ use Rattle.cargo_toml_parts.specs.declared.error.Error.{Error}
 use Rattle.cargo_toml_parts.specs.FaultValues.{Fault}
 use Rattle.cargo_toml_discovery.specs.Answers.{Answers, answer_at, names_in}
 use Rattle.cargo_toml_discovery.specs.Answers.{below, filled, filled_by, texts_in}
-use Rattle.cargo_toml_discovery.specs.Names.{Text}
+use Rattle.cargo_toml_discovery.specs.Names.{Name}
 use Rattle.cargo_toml_discovery.specs.Seen.{seen, names_at, root_names, MayTell, Tells}
 use Rattle.cargo_toml_discovery.specs.Told.{Told}
 use Rattle.cargo_toml_discovery.specs.declared.listings.Wanted.{Wanted}
 
 -- the names are an answer by what is stated
-abbrev pub IsAnswer : Told → List Text → Type 0
-IsAnswer t ns = names_at (filled_by t (Some ns)) ≡ seen ns
+abbrev pub AnswerFits : Told → List Name → Type 0
+AnswerFits t ns = names_at (filled_by t (Some ns)) ≡ seen ns
 
-abbrev pub Fits : (Text → Told) → Answers → Type 0
-Fits told ans = (p : Text) (ns : List Text) → answer_at ans p ≡ Some ns → IsAnswer (told p) ns
+abbrev pub Fits : (Name → Told) → Answers → Type 0
+Fits told ans = (p : Name) (ns : List Name) → answer_at ans p ≡ Some ns → AnswerFits (told p) ns
 
 -- answers stay, and those that fit go on to fit
-abbrev pub Grows : (Text → Told) → Answers → Answers → Type 0
+abbrev pub Grows : (Name → Told) → Answers → Answers → Type 0
 Grows told old new =
-    ((p : Text) (ns : List Text) → answer_at old p ≡ Some ns → answer_at new p ≡ Some ns)
+    ((p : Name) (ns : List Name) → answer_at old p ≡ Some ns → answer_at new p ≡ Some ns)
     × (Fits told old → Fits told new)
 
-abbrev pub Has : Answers → Text → Type 0
+abbrev pub Has : Answers → Name → Type 0
 Has ans p = is_some (answer_at ans p) ≡ true
 
-abbrev pub HasEach : Answers → List Text → Type 0
+abbrev pub HasEach : Answers → List Name → Type 0
 HasEach ans [] = Unit {0}
 HasEach ans (p ∷ ps) = Has ans p × HasEach ans ps
 
 -- a folder of products, if it is wanted, and each folder in it
-abbrev pub HasProducts : Bool → Text → Answers → Type 0
+abbrev pub HasProducts : Bool → Name → Answers → Type 0
 HasProducts false dir ans = Unit {0}
 HasProducts true dir ans = Has ans dir × HasEach ans (below dir (names_in ans dir))
 
 -- the folder of the package is there and its names are kept
-abbrev pub HasRoot : (Text → Told) → Answers → Type 0
+abbrev pub HasRoot : (Name → Told) → Answers → Type 0
 HasRoot told ans = root_names (filled told ans []) ≡ seen (names_in ans [])
 
 -- every path that a package asks for is kept, except its own folder, where its lists of these kinds
@@ -53,13 +53,13 @@ HasAll wanted ans =
     × HasProducts wanted.benches (codes "benches") ans)))
 
 -- the fault may be reported at one of these
-abbrev pub MayTellOneOf : (Text → Told) → List Text → Fault → Type 0
+abbrev pub MayTellOneOf : (Name → Told) → List Name → Fault → Type 0
 MayTellOneOf told [] f = ⊥
 MayTellOneOf told (p ∷ ps) f = MayTell (names_at (told p)) f ⊎ MayTellOneOf told ps f
 
 -- the answer to the question for the names in a folder, in order; an absent one counts as empty
 abbrev pub Listed : Told → Result (BTreeSet (String Global)) Error → Type 0
-Listed t r = MatchResult r (λ s. IsAnswer t (texts_in s)) (λ e. Tells (names_at t) e)
+Listed t r = MatchResult r (λ s. AnswerFits t (texts_in s)) (λ e. Tells (names_at t) e)
 
 -- the same for the folder of the package, which must be there
 abbrev pub RootListed : Told → Result (BTreeSet (String Global)) Error → Type 0

@@ -7,7 +7,7 @@ use Rattle.std.specs.declared.io.ErrorKind.TheVariants.{NotFound}
 use Rattle.cargo_toml_parts.specs.FaultValues.{Fault, fault_of, io}
 use Rattle.cargo_toml_parts.specs.Wrapping.{wrap}
 use Rattle.cargo_toml_parts.specs.declared.error.Error.{Error, Memory}
-use Rattle.cargo_toml_discovery.specs.Names.{Text, ordered}
+use Rattle.cargo_toml_discovery.specs.Names.{Name, ordered}
 use Rattle.cargo_toml_discovery.specs.Told.{Told, names, absent, denied, open_path}
 
 pub data Seen (A : Type 0) : Type 0 where
@@ -44,14 +44,14 @@ is_absence (io kind) = is_not_found kind
 is_absence _ = false
 
 -- the names in a folder, in order; an absent folder counts as empty
-abbrev pub names_at : Told → Seen (List Text)
+abbrev pub names_at : Told → Seen (List Name)
 names_at (names ts) = seen (ordered ts)
 names_at absent = seen []
 names_at (denied fault) = if is_absence fault then seen [] else faulty (fault ∷ [])
 names_at open_path = unclear
 
 -- the names in the folder of the package, which must be there
-abbrev pub root_names : Told → Seen (List Text)
+abbrev pub root_names : Told → Seen (List Name)
 root_names (names ts) = seen (ordered ts)
 root_names absent = faulty (io NotFound ∷ [])
 root_names (denied fault) = faulty (fault ∷ [])
@@ -73,7 +73,7 @@ abbrev pub Tells : {A : Type 0} → Seen A → Error → Type 0
 Tells s e = (e ≡ Memory) ⊎ MayTell s (fault_of e)
 
 -- the faults, reported with this path
-abbrev pub at_path : {A : Type 0} → Option Text → Seen A → Seen A
+abbrev pub at_path : {A : Type 0} → Option Name → Seen A → Seen A
 at_path p (seen x) = seen x
 at_path p (faulty fs) = faulty (map (wrap p) fs)
 at_path p unclear = unclear

@@ -5,9 +5,9 @@ use Rattle.std.specs.Ordering.{nat_cmp, is_lt, ordering_then}
 use Rattle.std.specs.Option.{option_cmp}
 use Rattle.std.specs.Cmp.Lexicographic.{slice_cmp}
 use Rattle.cargo_toml_tables.specs.Products.{ProductMeaning}
-use Rattle.cargo_toml_discovery.specs.Names.{Text}
+use Rattle.cargo_toml_discovery.specs.Names.{Name}
 
-abbrev pub text_cmp : Option Text → Option Text → Ordering
+abbrev pub text_cmp : Option Name → Option Name → Ordering
 text_cmp a b = option_cmp (slice_cmp nat_cmp) a b
 
 abbrev pub product_cmp : ProductMeaning → ProductMeaning → Ordering

@@ -17,7 +17,7 @@ use Rattle.cargo_toml_discovery.specs.declared.found.Offer as code_offer
 use Rattle.cargo_toml_discovery.specs.declared.listings.Entry as code_entry
 use Rattle.cargo_toml_discovery.specs.Found.{Named, Offered, product_for, has_path}
 use Rattle.cargo_toml_discovery.specs.Found.{is_path_of, last_waiting, offers}
-use Rattle.cargo_toml_discovery.specs.Names.{Text}
+use Rattle.cargo_toml_discovery.specs.Names.{Name}
 
 abbrev pub named_of : code_entry.Entry → Named
 named_of e = record { name = e.name.now; has_main = e.has_main }
@@ -26,10 +26,10 @@ abbrev pub all_named : List code_entry.Entry → List Named
 all_named es = map named_of es
 
 -- what the code keeps of an offer
-abbrev pub offer_parts : Offered → Text × Text
+abbrev pub offer_parts : Offered → Name × Name
 offer_parts o = (o.name, o.path)
 
-abbrev pub parts_of_code : code_offer.Offer → Text × Text
+abbrev pub parts_of_code : code_offer.Offer → Name × Name
 parts_of_code o = (string_bytes o.name, string_bytes o.path)
 
 -- the code's offer is this one
@@ -37,21 +37,21 @@ abbrev pub IsOffer : Option Offered → Option code_offer.Offer → Type 0
 IsOffer o offer = option_map offer_parts o ≡ option_map parts_of_code offer
 
 abbrev pub Waiting : Type 0
-Waiting = BTreeMap (Bor Text) (Bor Product)
+Waiting = BTreeMap (Bor Name) (Bor Product)
 
 -- what waits in a map, and which paths are in a set
-abbrev pub waiting_in : Waiting → Text → Option ProductMeaning
+abbrev pub waiting_in : Waiting → Name → Option ProductMeaning
 waiting_in m n = option_map (λ p. product_meaning p.now) (get_by (λ k. slice_cmp nat_cmp n k.now) m)
 
-abbrev pub is_path_in : BTreeSet (Bor Text) → Text → Bool
+abbrev pub is_path_in : BTreeSet (Bor Name) → Name → Bool
 is_path_in s t = contains_by (λ k. slice_cmp nat_cmp t k.now) s
 
 -- what waits, without that which waits for this name
-abbrev pub without : (Text → Option ProductMeaning) → Text → Text → Option ProductMeaning
+abbrev pub without : (Name → Option ProductMeaning) → Name → Name → Option ProductMeaning
 without w n m = if bytes_eq n m then None else w m
 
 -- the products of the offers, where this waits
-abbrev pub walk : Edition → (Text → Option ProductMeaning) → List Offered → List ProductMeaning
+abbrev pub walk : Edition → (Name → Option ProductMeaning) → List Offered → List ProductMeaning
 walk edition w [] = []
 walk edition w (o ∷ os) = product_for edition o (w o.name) ∷ walk edition (without w o.name) os
 
@@ -64,14 +64,14 @@ abbrev pub with_extra : List Offered → Option Offered → List Offered
 with_extra os extra = os ++ option_to_list extra
 
 -- the products that stay, and those of the walk over all offers
-abbrev pub all_walked : Edition → Text → List ProductMeaning → List Named → Option Offered
+abbrev pub all_walked : Edition → Name → List ProductMeaning → List Named → Option Offered
     → List ProductMeaning
 all_walked edition dir ps es extra =
     filter has_path ps
     ++ walk edition (last_waiting ps) (with_extra (offers dir (is_path_of ps) es) extra)
 
 -- each name stands after this one in byte order, and names ascend
-abbrev pub NamesAfter : Text → List Named → Type 0
+abbrev pub NamesAfter : Name → List Named → Type 0
 NamesAfter n [] = Unit {0}
 NamesAfter n (e ∷ es) = (slice_cmp nat_cmp n e.name ≡ Less) × NamesAfter n es
 

@@ -5,7 +5,7 @@ ghost use Rattle.cargo_toml_discovery.specs.Answers.{answers_of, around_in, entr
 ghost use Rattle.cargo_toml_discovery.specs.Discovering.{at_library, build_in, discovered};
 ghost use Rattle.cargo_toml_discovery.specs.Discovering.{discovered_meaning, filled_library};
 ghost use Rattle.cargo_toml_discovery.specs.Discovering.{file_lent, found_library, library};
-ghost use Rattle.cargo_toml_discovery.specs.Discovering.{list_of, main_offer, meanings};
+ghost use Rattle.cargo_toml_discovery.specs.Discovering.{listed_products, main_offer, meanings};
 ghost use Rattle.cargo_toml_discovery.specs.Discovering.{product_lent, readme_in, stated_meaning};
 ghost use Rattle.cargo_toml_discovery.specs.Found.{Offered};
 ghost use Rattle.cargo_toml_discovery.specs.Names.{has_text};
@@ -185,7 +185,7 @@ pub fn list_of(
     extra: Option<Offer>,
 ) -> Result<Vec<Product>, AllocError>
     ensures { IfOk result (λ v. (x : Option Offered) → IsOffer x extra → meanings v.items
-        ≡ list_of edition is_wanted dir.now (meanings products.now)
+        ≡ listed_products edition is_wanted dir.now (meanings products.now)
         (entries_if is_wanted (answers_of listings.now) dir.now) x) }
 {
     if is_wanted {

@@ -8,7 +8,7 @@ ghost use Rattle.cargo_toml_discovery.specs.Discovering.{meanings, product_lent}
 ghost use Rattle.cargo_toml_discovery.specs.Found.{offer_of, Offered, has_path, is_path_of};
 ghost use Rattle.cargo_toml_discovery.specs.Found.{is_text, last_waiting, waits_or};
 ghost use Rattle.cargo_toml_discovery.specs.Found.{product_for, open_offer, offers, found};
-ghost use Rattle.cargo_toml_discovery.specs.Names.{Text};
+ghost use Rattle.cargo_toml_discovery.specs.Names.{Name};
 ghost use Rattle.cargo_toml_discovery.specs.Walk.{named_of, all_named, offer_parts};
 ghost use Rattle.cargo_toml_discovery.specs.Walk.{parts_of_code, waiting_in, is_path_in};
 ghost use Rattle.cargo_toml_discovery.specs.Walk.{walked, all_walked, IsOffer, NamesAscend};
@@ -55,7 +55,7 @@ fn offer_for(alloc: Global, dir: &str, entry: &Entry<'_>) -> Result<Option<Offer
 
 // Puts the path of a product into a set of paths, if it has one.
 fn add_path<'a>(paths: &mut BTreeSet<&'a str>, product: &'a Product) -> Result<(), AllocError>
-    ensures ok { OnOk result ((t : Text) → is_path_in paths.new t
+    ensures ok { OnOk result ((t : Name) → is_path_in paths.new t
         ≡ (is_path_in paths.old t || is_text t (product_meaning product.now).path)) }
 {
     if let Some(path) = &product.path {
@@ -67,7 +67,7 @@ fn add_path<'a>(paths: &mut BTreeSet<&'a str>, product: &'a Product) -> Result<(
 // The paths of the products.
 fn paths_of<'a>(alloc: Global, products: &'a [Product]) -> Result<BTreeSet<&'a str>, AllocError>
     ensures { IfOk result
-        (λ s. (t : Text) → is_path_in s t ≡ is_path_of (meanings products.now) t) }
+        (λ s. (t : Name) → is_path_in s t ≡ is_path_of (meanings products.now) t) }
 {
     let mut paths = BTreeSet::new(alloc);
     for product in products {
@@ -94,7 +94,7 @@ fn wait<'a>(
     map: &mut BTreeMap<&'a str, &'a Product>,
     product: &'a Product,
 ) -> Result<(), AllocError>
-    ensures ok { OnOk result ((n : Text)
+    ensures ok { OnOk result ((n : Name)
         → waiting_in map.new n ≡ waits_or (product_meaning product.now) n (waiting_in map.old n)) }
 {
     if product.path.is_none() {
@@ -111,7 +111,7 @@ fn waiting<'a>(
     products: &'a [Product],
 ) -> Result<BTreeMap<&'a str, &'a Product>, AllocError>
     ensures { IfOk result
-        (λ m. (n : Text) → waiting_in m n ≡ last_waiting (meanings products.now) n) }
+        (λ m. (n : Name) → waiting_in m n ≡ last_waiting (meanings products.now) n) }
 {
     let mut map = BTreeMap::new(alloc);
     for product in products {

@@ -5,7 +5,7 @@ ghost use Rattle.cargo_toml_discovery.specs.Answers.{Answers, around_in, filled}
 ghost use Rattle.cargo_toml_discovery.specs.Around.{Around, around};
 ghost use Rattle.cargo_toml_discovery.specs.Discovering.{discovered, restated, StatedMeaning};
 ghost use Rattle.cargo_toml_discovery.specs.Gathering.{Fits, HasAll, HasRoot};
-ghost use Rattle.cargo_toml_discovery.specs.Names.{Text, is_source, stem, with_endings};
+ghost use Rattle.cargo_toml_discovery.specs.Names.{Name, is_source, stem, with_endings};
 ghost use Rattle.cargo_toml_discovery.specs.Seen.{seen, unclear};
 ghost use Rattle.cargo_toml_discovery.specs.Sorting.{in_order, product_lt};
 ghost use Rattle.cargo_toml_discovery.specs.Told.{Told};
@@ -21,7 +21,7 @@ fn discovering_again()
 // Where open paths have answers, what is seen around a package stays as it was,
 // unless it was unclear.
 fn answers_extend()
-    ensures { (told : Text → Told) (answers : Answers) (wanted : Wanted)
+    ensures { (told : Name → Told) (answers : Answers) (wanted : Wanted)
         → (around told wanted ≡ unclear)
         ⊎ (around (filled told answers) wanted ≡ around told wanted) }
 {}
@@ -29,7 +29,7 @@ fn answers_extend()
 // Where answers fit what is stated and are there for each path that is asked for, what is seen
 // around a package is what they say.
 fn answers_tell()
-    ensures { (told : Text → Told) (answers : Answers) (wanted : Wanted) → Fits told answers
+    ensures { (told : Name → Told) (answers : Answers) (wanted : Wanted) → Fits told answers
         → HasRoot told answers → HasAll wanted answers
         → around (filled told answers) wanted ≡ seen (around_in answers wanted) }
 {}
@@ -42,6 +42,6 @@ fn order()
 
 // A stem does not end with `.rs`, and the name is the stem with some number of `.rs` after it.
 fn stems()
-    ensures end { (name : Text) → is_source (stem name) ≡ false }
-    ensures whole { (name : Text) → (n : ℕ) × (with_endings n (stem name) ≡ name) }
+    ensures end { (name : Name) → is_source (stem name) ≡ false }
+    ensures whole { (name : Name) → (n : ℕ) × (with_endings n (stem name) ≡ name) }
 {}

@@ -7,7 +7,7 @@ ghost use Rattle.std.specs.Str.{bytes_eq};
 ghost use Rattle.std.specs.String.{string_cmp};
 ghost use Rattle.cargo_toml_discovery.specs.Answers.{answers_of, answer_at, texts_in};
 ghost use Rattle.cargo_toml_discovery.specs.Answers.{names_kept, below, entries_in};
-ghost use Rattle.cargo_toml_discovery.specs.Names.{Text, has_text};
+ghost use Rattle.cargo_toml_discovery.specs.Names.{Name, has_text};
 ghost use Rattle.cargo_toml_discovery.specs.Walk.{all_named, NamesAscend};
 
 use crate::names::{in_dir, is_source};
@@ -45,7 +45,7 @@ pub struct Listings {
 
 /// The names in byte order. It is refused only where there was no memory.
 pub fn sorted_names(alloc: Global, names: HashSet<String>) -> Result<BTreeSet<String>, AllocError>
-    ensures names { IfOk result (λ s. (t : Text) → contains_text s t ≡ has_in names t) }
+    ensures names { IfOk result (λ s. (t : Name) → contains_text s t ≡ has_in names t) }
     ensures ordered { IfOk result (λ s. IsOrdered string_cmp s) }
 {
     // All at once: the names are moved, sorted and then built into the set, and none is
@@ -89,7 +89,7 @@ impl Listings {
         path: &str,
         names: BTreeSet<String>,
     ) -> Result<(), AllocError>
-        ensures ok { OnOk result ((p : Text) → answer_at (answers_of self.new) p
+        ensures ok { OnOk result ((p : Name) → answer_at (answers_of self.new) p
             ≡ (if bytes_eq path.now p then Some (texts_in names)
             else answer_at (answers_of self.old) p)) }
     {

@@ -9,7 +9,7 @@ use Rattle.cargo_toml_parts.specs.InheritableValues.{is_set}
 use Rattle.cargo_toml_parts.specs.declared.inheritable.Inheritable.{Inheritable}
 use Rattle.cargo_toml_parts.specs.declared.inheritable.Inheritable.TheVariants.{Set, Inherited}
 use Rattle.cargo_toml_paths.specs.Paths.{workspace_folder}
-use Rattle.cargo_toml_discovery.specs.Names.{Text}
+use Rattle.cargo_toml_discovery.specs.Names.{Name}
 use Rattle.cargo_toml_discovery.specs.Seen.{Seen, seen, faulty, unclear}
 use Rattle.cargo_toml_discovery.specs.Told.{Told}
 use Rattle.cargo_toml_dependencies.specs.Dependencies.{DependencyMeaning, InheritedMeaning, simple, inherited, detailed}
@@ -22,7 +22,7 @@ use Rattle.cargo_toml_manifest.proofs.FoundAgain.{needs_found}
 use Rattle.cargo_toml_manifest.specs.Choosing.{Handed, RootsTold, from, hint_of, own_choice}
 use Rattle.cargo_toml_manifest.specs.Completing.{complete, complete_by, gives, seen_at, then_found}
 use Rattle.cargo_toml_manifest.specs.Finding.{found_around}
-use Rattle.cargo_toml_workspace.specs.Sharing.{Lints, Shared, inherited_lints, shared}
+use Rattle.cargo_toml_workspace.specs.Sharing.{LintsByTool, Shared, inherited_lints, shared}
 use Rattle.cargo_toml_manifest.specs.Inheriting.{inherited_if_there, inherited_from, inherited_manifest, needs, own_tables}
 use Rattle.cargo_toml_manifest.specs.Manifests.{ManifestMeaning}
 use Rattle.cargo_toml_manifest.specs.Told.{ToldRoot, root, no_root, open_root}
@@ -95,7 +95,7 @@ targets-done templates base ts us h =
     (λ e y k. beside-done target_left e.0 (inherited_target templates base e.1) y (one-target-done templates base e.1) k) ts us h
 
 -- nor are the lints
-lints-done : (groups : Option Lints) (l k : Inheritable Lints) → inherited_lints groups l ≡ Ok k → is_set k ≡ true
+lints-done : (groups : Option LintsByTool) (l k : Inheritable LintsByTool) → inherited_lints groups l ≡ Ok k → is_set k ≡ true
 lints-done groups (Set x) k h = ap is_set (sym (same (Set x) k h))
 lints-done (Some x) Inherited k h = ap is_set (sym (same (Set x) k h))
 lints-done None Inherited k h = cc
@@ -112,7 +112,7 @@ package-done t base (Some p) q h =
     ap (λ (o : Option (PackageMeaning _)). option_map_or any_field_left o false) (sym (same (Some k.0) q k.2))
     ∙ checked-done (any_field_left (with_template_if_there base t p)) (with_template_if_there base t p) k.0 _ refl k.1
 
-inherited-done : {M : Type 0} (templates : Option Entries) (groups : Option Lints) (t : Option TemplateMeaning) (base : List ℕ) (m n : ManifestMeaning M) →
+inherited-done : {M : Type 0} (templates : Option Entries) (groups : Option LintsByTool) (t : Option TemplateMeaning) (base : List ℕ) (m n : ManifestMeaning M) →
     inherited_from templates groups t base m ≡ Ok n → needs n ≡ false
 inherited-done templates groups t base m n h =
     let a = both (inherited_target templates base (own_tables m)) _ n h in
@@ -131,26 +131,26 @@ seen-given path (faulty faults) x h = cc
 seen-given path unclear x h = cc
 
 -- before this was found in folders, it was a manifest that left nothing to the workspace
-pub record Completed {M : Type 0} (n : ManifestMeaning M) (told : Text → Told) : Type 0 where
+pub record Completed {M : Type 0} (n : ManifestMeaning M) (told : Name → Told) : Type 0 where
   pub inherited : ManifestMeaning M
   pub none : needs inherited ≡ false
   pub found : found_around inherited told ≡ seen n
 
-then-completed : {M : Type 0} (path : Option (List ℕ)) (told : Text → Told) (r : Result (ManifestMeaning M) Fault)
+then-completed : {M : Type 0} (path : Option (List ℕ)) (told : Name → Told) (r : Result (ManifestMeaning M) Fault)
     (n : ManifestMeaning M) → ((k : ManifestMeaning M) → r ≡ Ok k → needs k ≡ false) → then_found path told r ≡ gives n →
     Completed n told
 then-completed path told (Ok k) n well h =
     record { inherited = k; none = well k refl; found = seen-given path (found_around k told) n h }
 then-completed path told (Err e) n well h = cc
 
-from-completed : {M : Type 0} (workspace : Option Shared) (path : List ℕ) (m n : ManifestMeaning M) (told : Text → Told) →
+from-completed : {M : Type 0} (workspace : Option Shared) (path : List ℕ) (m n : ManifestMeaning M) (told : Name → Told) →
     complete_by m (from workspace path) told ≡ gives n → Completed n told
 from-completed workspace path m n told h =
     then-completed (Some path) told (inherited_manifest workspace (workspace_folder path) m) n
     (inherited-done (option_map (λ w. w.dependencies) workspace) (option_map (λ w. w.lints) workspace)
     (option_and_then (λ w. w.template) workspace) (workspace_folder path) m) h
 
-own-completed : {M : Type 0} (m n : ManifestMeaning M) (told : Text → Told) (table : Option Shared) (b : Bool)
+own-completed : {M : Type 0} (m n : ManifestMeaning M) (told : Name → Told) (table : Option Shared) (b : Bool)
     (t : ToldRoot) → needs m ≡ b → complete_by m (own_choice table b t) told ≡ gives n → Completed n told
 own-completed m n told (Some w) b t needed h = from-completed (Some w) [] m n told h
 own-completed m n told None false t needed h =
@@ -159,12 +159,12 @@ own-completed m n told None true (root r path) needed h = from-completed (option
 own-completed m n told None true no_root needed h = cc
 own-completed m n told None true open_root needed h = cc
 
-pub completed : {M : Type 0} (m n : ManifestMeaning M) (handed : Option Handed) (roots : RootsTold) (told : Text → Told) →
+pub completed : {M : Type 0} (m n : ManifestMeaning M) (handed : Option Handed) (roots : RootsTold) (told : Name → Told) →
     complete m handed roots told ≡ gives n → Completed n told
 completed m n (Some handed) roots told h = from-completed handed.0 handed.1 m n told h
 completed m n None roots told h = own-completed m n told (option_map shared m.workspace) (needs m) (roots (hint_of m)) refl h
 
-pub complete_done : {M : Type 0} (m n : ManifestMeaning M) (handed : Option Handed) (roots : RootsTold) (told : Text → Told) →
+pub complete_done : {M : Type 0} (m n : ManifestMeaning M) (handed : Option Handed) (roots : RootsTold) (told : Name → Told) →
     complete m handed roots told ≡ gives n → needs n ≡ false
 complete_done m n handed roots told h =
     let c = completed m n handed roots told h in

@@ -6,7 +6,7 @@ use Rattle.cargo_toml_parts.specs.declared.inheritable.Inheritable.TheVariants.{
 use Rattle.cargo_toml_discovery.proofs.Again.{discovered-again}
 use Rattle.cargo_toml_discovery.specs.Around.{Around, around}
 use Rattle.cargo_toml_discovery.specs.Discovering.{DiscoveredMeaning, StatedMeaning, discovered, restated}
-use Rattle.cargo_toml_discovery.specs.Names.{Text}
+use Rattle.cargo_toml_discovery.specs.Names.{Name}
 use Rattle.cargo_toml_discovery.specs.Seen.{Seen, seen, faulty, unclear, seen_as}
 use Rattle.cargo_toml_discovery.specs.Told.{Told}
 use Rattle.cargo_toml_package.proofs.Lasting.{files-own}
@@ -22,7 +22,7 @@ seen-from f (faulty faults) y h = cc
 seen-from f unclear y h = cc
 
 -- what holds of a manifest without a package and of what is discovered for one with a package, holds of what is found
-by_package : {M : Type 0} (P : ManifestMeaning M → Type 0) (m n : ManifestMeaning M) (told : Text → Told)
+by_package : {M : Type 0} (P : ManifestMeaning M → Type 0) (m n : ManifestMeaning M) (told : Name → Told)
     (o : Option (PackageMeaning M)) → m.«package» ≡ o →
     (m.«package» ≡ None → P m) →
     ((p : PackageMeaning M) (a : Around) → m.«package» ≡ Some p → around told (wanted_by p) ≡ seen a →
@@ -41,7 +41,7 @@ stated-again : {M : Type 0} (m : ManifestMeaning M) (p : PackageMeaning M) (d : 
     stated_by (with_discovered m p d) (with_files p d) ≡ restated (stated_by m p) d
 stated-again m p d = refl
 
-discovered-found : {M : Type 0} (m : ManifestMeaning M) (p : PackageMeaning M) (told : Text → Told) (a : Around)
+discovered-found : {M : Type 0} (m : ManifestMeaning M) (p : PackageMeaning M) (told : Name → Told) (a : Around)
     (d : DiscoveredMeaning) →
     discovered (stated_by m p) a ≡ d → around told (wanted_by p) ≡ seen a →
     found_around (with_discovered m p d) told ≡ seen (with_discovered m p d)
@@ -55,7 +55,7 @@ discovered-found m p told a d is at =
     ∙ ap (λ (e : DiscoveredMeaning). seen (with_discovered n (with_files p d) e)) again
 
 -- what is found is found again
-pub found_again : {M : Type 0} (m n : ManifestMeaning M) (told : Text → Told) → found_around m told ≡ seen n →
+pub found_again : {M : Type 0} (m n : ManifestMeaning M) (told : Name → Told) → found_around m told ≡ seen n →
     found_around n told ≡ seen n
 found_again m n told h =
     by_package (λ k. found_around k told ≡ seen k) m n told m.«package» refl
@@ -76,7 +76,7 @@ needs-discovered m p d there none =
     rw (files-own p d.build d.readme field, lints.1, own.1, dev.1, build.1, target.1) refl
 
 -- what is found leaves nothing to the workspace
-pub needs_found : {M : Type 0} (m n : ManifestMeaning M) (told : Text → Told) → needs m ≡ false →
+pub needs_found : {M : Type 0} (m n : ManifestMeaning M) (told : Name → Told) → needs m ≡ false →
     found_around m told ≡ seen n → needs n ≡ false
 needs_found m n told none h =
     by_package (λ k. needs k ≡ false) m n told m.«package» refl (λ _. none)

@@ -5,7 +5,7 @@ use Rattle.cargo_toml_parts.specs.declared.error.Error.{Error}
 use Rattle.cargo_toml_discovery.specs.Answers.{Answers, around_in, filled}
 use Rattle.cargo_toml_discovery.specs.Around.{Around, around}
 use Rattle.cargo_toml_discovery.specs.Discovering.{DiscoveredMeaning, discovered, discovered_meaning}
-use Rattle.cargo_toml_discovery.specs.Names.{Text}
+use Rattle.cargo_toml_discovery.specs.Names.{Name}
 use Rattle.cargo_toml_discovery.specs.Seen.{Seen, Tells, seen, seen_as, unclear}
 use Rattle.cargo_toml_discovery.specs.Told.{Told}
 use Rattle.cargo_toml_discovery.specs.declared.discovery.Discovered.{Discovered}
@@ -21,7 +21,7 @@ use Rattle.cargo_toml_workspace.specs.declared.inheriting.NewParts.{NewParts}
 
 -- what was found, and a refusal, by what is seen around the package
 module _ {M : Type 0} (m : ManifestMeaning M) (p : PackageMeaning M) (is : m.«package» ≡ Some p) where
-  around_package : (told : Text → Told) →
+  around_package : (told : Name → Told) →
       found_around m told
       ≡ seen_as (λ a. with_discovered m p (discovered (stated_by m p) a)) (around told (wanted_by p))
   around_package told = ap (λ (o : Option (PackageMeaning M)). found_for m o told) is
@@ -29,7 +29,7 @@ module _ {M : Type 0} (m : ManifestMeaning M) (p : PackageMeaning M) (is : m.«p
   found_package : (d : Discovered) → with_found m (Some d) ≡ with_discovered m p (discovered_meaning d)
   found_package d = ap (λ (o : Option (PackageMeaning M)). with_found_for m o (Some d)) is
 
-  found_seen : (told : Text → Told) (a : Around) (d : Discovered) → around told (wanted_by p) ≡ seen a →
+  found_seen : (told : Name → Told) (a : Around) (d : Discovered) → around told (wanted_by p) ≡ seen a →
       discovered_meaning d ≡ discovered (stated_by m p) a → found_around m told ≡ seen (with_found m (Some d))
   found_seen told a d h k =
       around_package told
@@ -37,7 +37,7 @@ module _ {M : Type 0} (m : ManifestMeaning M) (p : PackageMeaning M) (is : m.«p
       ∙ ap (λ (e : DiscoveredMeaning). seen (with_discovered m p e)) (sym k)
       ∙ ap (λ (n : ManifestMeaning M). seen n) (sym (found_package d))
 
-  found_faults : (told : Text → Told) (e : Error) → Tells (around told (wanted_by p)) e → Tells (found_around m told) e
+  found_faults : (told : Name → Told) (e : Error) → Tells (around told (wanted_by p)) e → Tells (found_around m told) e
   found_faults told e (inl memory) = inl memory
   found_faults told e (inr h) =
       subst (λ (s : Seen (ManifestMeaning M)). Tells s e) (sym (around_package told))
@@ -62,7 +62,7 @@ module _ {M : Type 0} (m : ManifestMeaning M) (p : PackageMeaning M) (new : NewP
   wants_still : wanted ≡ wanted_by (taken p new.«package»)
   wants_still = wants ∙ sym (wanted_taken p new.«package»)
 
-  pub parts_seen : (told : Text → Told) (answers : Answers) (d : Discovered) →
+  pub parts_seen : (told : Name → Told) (answers : Answers) (d : Discovered) →
       around (filled told answers) wanted ≡ seen (around_in answers wanted) →
       discovered_meaning d
       ≡ discovered (stated_by m (taken p new.«package»)) (around_in answers (wanted_by (taken p new.«package»))) →
@@ -71,14 +71,14 @@ module _ {M : Type 0} (m : ManifestMeaning M) (p : PackageMeaning M) (new : NewP
       found_seen (installed m new) (taken p new.«package») takes (filled told answers) _ d
       (subst (λ (w : Wanted). around (filled told answers) w ≡ seen (around_in answers w)) wants_still h) k
 
-  pub parts_faults : (told : Text → Told) (e : Error) →
+  pub parts_faults : (told : Name → Told) (e : Error) →
       Tells (around told wanted) e → Tells (found_around (installed m new) told) e
   parts_faults told e h =
       found_faults (installed m new) (taken p new.«package») takes told e
       (subst (λ (w : Wanted). Tells (around told w) e) wants_still h)
 
 -- nothing is found without a package
-pub found_nothing : {M : Type 0} (m : ManifestMeaning M) (new : NewParts) → m.«package» ≡ None → (told : Text → Told) →
+pub found_nothing : {M : Type 0} (m : ManifestMeaning M) (new : NewParts) → m.«package» ≡ None → (told : Name → Told) →
     found_around (installed m new) told ≡ seen (with_found (installed m new) None)
 found_nothing m new is told =
     let takes = ap (λ (o : Option (PackageMeaning _)). installed_if_there o new.«package») is in
@@ -86,12 +86,12 @@ found_nothing m new is told =
     ∙ ap (λ (o : Option (PackageMeaning _)). seen (with_found_for (installed m new) o None)) (sym takes)
 
 -- where open paths have answers, what is found stays as it was, unless it was unclear
-found_for-extends : {M : Type 0} (m : ManifestMeaning M) (o : Option (PackageMeaning M)) (told : Text → Told)
+found_for-extends : {M : Type 0} (m : ManifestMeaning M) (o : Option (PackageMeaning M)) (told : Name → Told)
     (answers : Answers) → Ext (found_for m o told) (found_for m o (filled told answers))
 found_for-extends m None told answers = inr refl
 found_for-extends m (Some p) told answers = ext-as _ _ _ (ext-around told answers (wanted_by p))
 
-pub seen_or_unclear : {M : Type 0} (m n : ManifestMeaning M) (told : Text → Told) (answers : Answers) →
+pub seen_or_unclear : {M : Type 0} (m n : ManifestMeaning M) (told : Name → Told) (answers : Answers) →
     found_around m (filled told answers) ≡ seen n → (found_around m told ≡ unclear) ⊎ (found_around m told ≡ seen n)
 seen_or_unclear m n told answers h = still (found_for-extends m m.«package» told answers)
   where

@@ -9,7 +9,7 @@ use Rattle.cargo_toml_parts.specs.declared.inheritable.Inheritable.TheVariants.{
 use Rattle.cargo_toml_paths.specs.Paths.{workspace_folder}
 use Rattle.cargo_toml_dependencies.proofs.Lasting.{target-kept, targets-kept}
 use Rattle.cargo_toml_dependencies.specs.Inheriting.{inherited_target, inherited_targets}
-use Rattle.cargo_toml_discovery.specs.Names.{Text}
+use Rattle.cargo_toml_discovery.specs.Names.{Name}
 use Rattle.cargo_toml_discovery.specs.Seen.{seen}
 use Rattle.cargo_toml_discovery.specs.Told.{Told}
 use Rattle.cargo_toml_package.proofs.Lasting.{package-kept}
@@ -22,12 +22,12 @@ use Rattle.cargo_toml_manifest.proofs.Steps.{then}
 use Rattle.cargo_toml_manifest.specs.Choosing.{Handed, RootsTold, from, hint_of, own_choice}
 use Rattle.cargo_toml_manifest.specs.Completing.{IsLasting, complete, complete_by, gives, seen_at, then_found}
 use Rattle.cargo_toml_manifest.specs.Finding.{found_around}
-use Rattle.cargo_toml_workspace.specs.Sharing.{Lints, Shared, inherited_lints, shared}
+use Rattle.cargo_toml_workspace.specs.Sharing.{LintsByTool, Shared, inherited_lints, shared}
 use Rattle.cargo_toml_manifest.specs.Inheriting.{inherited_if_there, inherited_manifest, needs, own_tables}
 use Rattle.cargo_toml_manifest.specs.Manifests.{ManifestMeaning}
 use Rattle.cargo_toml_manifest.specs.Told.{ToldRoot}
 
-lints-kept : (groups : Option Lints) (lints : Inheritable Lints) → not (is_set lints) ≡ false →
+lints-kept : (groups : Option LintsByTool) (lints : Inheritable LintsByTool) → not (is_set lints) ≡ false →
     inherited_lints groups lints ≡ Ok lints
 lints-kept groups (Set x) none = refl
 lints-kept groups Inherited none = cc
@@ -59,7 +59,7 @@ nothing_left workspace base m none =
     (if_there-kept template base m.«package» lints.0) refl)))
 
 -- a manifest that leaves nothing, and in which everything is found, stays
-module _ {M : Type 0} (n : ManifestMeaning M) (told : Text → Told) (none : needs n ≡ false)
+module _ {M : Type 0} (n : ManifestMeaning M) (told : Name → Told) (none : needs n ≡ false)
     (again : found_around n told ≡ seen n) where
   from-stays : (workspace : Option Shared) (path : List ℕ) → complete_by n (from workspace path) told ≡ gives n
   from-stays workspace path =

@@ -8,7 +8,7 @@ use Rattle.cargo_toml_parts.specs.declared.error.Error.{Error, Memory}
 use Rattle.cargo_toml_parts.specs.FaultValues.{Fault, fault_of}
 use Rattle.cargo_toml_parts.specs.Wrapping.{wrap}
 use Rattle.cargo_toml_discovery.specs.Answers.{Answers, filled}
-use Rattle.cargo_toml_discovery.specs.Names.{Text}
+use Rattle.cargo_toml_discovery.specs.Names.{Name}
 use Rattle.cargo_toml_discovery.specs.Seen.{IsOneOf, Seen, Tells, seen, faulty, unclear}
 use Rattle.cargo_toml_discovery.specs.Told.{Told}
 use Rattle.cargo_toml_discovery.proofs.Extends.{tell-at}
@@ -34,7 +34,7 @@ meets_memory f (no_workspace path) e h = inl h
 meets_memory f untold e h = tt
 
 -- a fault of inheritance, once it has its path
-pub refused_parts : {T M : Type 0} (f : T → ManifestMeaning M) (path : Option (List ℕ)) (told : Text → Told) (stated : Result (ManifestMeaning M) Fault) (own e : Error) →
+pub refused_parts : {T M : Type 0} (f : T → ManifestMeaning M) (path : Option (List ℕ)) (told : Name → Told) (stated : Result (ManifestMeaning M) Fault) (own e : Error) →
     (own ≡ Memory) ⊎ (stated ≡ Err (fault_of own)) → (e ≡ Memory) ⊎ (fault_of e ≡ wrap path (fault_of own)) →
     Meets f (then_found path told stated) (Err e)
 refused_parts f path told stated own e h (inl memory) = meets_memory f (then_found path told stated) e memory
@@ -75,7 +75,7 @@ pub as_told : (m : ManifestMeaning _) (path : List ℕ) (x : Found) → (manifes
 as_told m path x h = sym (ap (λ (n : ManifestMeaning _). root n (string_bytes x.1)) h.0 ∙ ap (λ (p : List ℕ). root m p) h.1)
 
 -- completion by a root that was found
-pub root_found : {T M : Type 0} (f : T → ManifestMeaning M) (m : ManifestMeaning M) (root_told : ToldRoot) (told : Text → Told) (x : Found) (r : Result T Error) →
+pub root_found : {T M : Type 0} (f : T → ManifestMeaning M) (m : ManifestMeaning M) (root_told : ToldRoot) (told : Name → Told) (x : Found) (r : Result T Error) →
     AnswersRoot root_told (Ok x) → Meets f (complete_by m (from (shared_of x.0.workspace) (string_bytes x.1)) told) r →
     Meets f (complete_by m (told_choice root_told) told) r
 root_found f m (root n path) told x r a h =
@@ -84,7 +84,7 @@ root_found f m no_root told x r a h = cc
 root_found f m open_root told x r a h = tt
 
 -- the refusal where none was
-pub root_refused : {T M : Type 0} (f : T → ManifestMeaning M) (m : ManifestMeaning M) (root_told : ToldRoot) (told : Text → Told) (own e : Error) →
+pub root_refused : {T M : Type 0} (f : T → ManifestMeaning M) (m : ManifestMeaning M) (root_told : ToldRoot) (told : Name → Told) (own e : Error) →
     AnswersRoot root_told (Err own) → (e ≡ Memory) ⊎ (fault_of e ≡ wrap (hint_of m) (fault_of own)) →
     Meets f (complete_by m (told_choice root_told) told) (Err e)
 root_refused f m root_told told own e a (inl memory) = meets_memory f (complete_by m (told_choice root_told) told) e memory
@@ -94,14 +94,14 @@ root_refused f m no_root told own e a (inr same) = inr (fault_of own, same)
 root_refused f m open_root told own e a (inr same) = tt
 
 -- this choice gives the value by some answers for folders
-abbrev pub GivenFrom : {M : Type 0} → ManifestMeaning M → Choice → (Text → Told) → ManifestMeaning M → Type 0
+abbrev pub GivenFrom : {M : Type 0} → ManifestMeaning M → Choice → (Name → Told) → ManifestMeaning M → Type 0
 GivenFrom m c told n = (answers : Answers) × (complete_by m c (filled told answers) ≡ gives n)
 
-chosen : {M : Type 0} (m n : ManifestMeaning M) (told : Text → Told) (c d : Choice) → c ≡ d → GivenFrom m d told n → GivenFrom m c told n
+chosen : {M : Type 0} (m n : ManifestMeaning M) (told : Name → Told) (c d : Choice) → c ≡ d → GivenFrom m d told n → GivenFrom m c told n
 chosen m n told c d same h = subst (λ (x : Choice). GivenFrom m x told n) (sym same) h
 
 -- the value that a root gives
-pub given_by_root : {M : Type 0} (m n : ManifestMeaning M) (root_told : ToldRoot) (told : Text → Told) (x : Found) →
+pub given_by_root : {M : Type 0} (m n : ManifestMeaning M) (root_told : ToldRoot) (told : Name → Told) (x : Found) →
     AnswersRoot root_told (Ok x) → GivenFrom m (from (shared_of x.0.workspace) (string_bytes x.1)) told n → GivenByRoot m root_told told n
 given_by_root m n (root r path) told x a h =
     (root (manifest_meaning view x.0) (string_bytes x.1), inl (as_told r path x a), chosen m n told _ _ (found_choice x) h)
@@ -134,7 +134,7 @@ pub told_itself : (roots : RootsTold) → AnswersRoots roots roots
 told_itself roots hint = inl refl
 
 -- by what is told of roots alone
-pub given_as_told : {M : Type 0} (m n : ManifestMeaning M) (handed : Option Handed) (roots : RootsTold) (told : Text → Told) →
+pub given_as_told : {M : Type 0} (m n : ManifestMeaning M) (handed : Option Handed) (roots : RootsTold) (told : Name → Told) →
     GivenFrom m (choice m handed roots) told n → GivenBy m handed roots told n
 given_as_told m n handed roots told h = (roots, told_itself roots, h)
 
@@ -149,25 +149,25 @@ pub own_by_table : {M : Type 0} (o : Option (WorkspaceMeaning M)) (w : Workspace
 own_by_table o w b t table = rw table refl
 
 -- by the root of its hint, where it has no table and needs one
-pub given_by_hint : {M : Type 0} (m n : ManifestMeaning M) (roots : RootsTold) (told : Text → Told) →
+pub given_by_hint : {M : Type 0} (m n : ManifestMeaning M) (roots : RootsTold) (told : Name → Told) →
     m.workspace ≡ None → needs m ≡ true → GivenByRoot m (roots (hint_of m)) told n → GivenBy m None roots told n
 given_by_hint m n roots told table needed (answer, known, h) =
     let here = answer_there (roots (hint_of m)) answer known in
     ((λ hint. answered_by answer (roots hint)), answered roots answer, chosen m n told _ _ (own_by_root m.workspace (needs m) _ _ table needed here) h)
 
 -- by its own table
-pub given_by_table : {M : Type 0} (m n : ManifestMeaning M) (roots : RootsTold) (told : Text → Told) (w : WorkspaceMeaning M) →
+pub given_by_table : {M : Type 0} (m n : ManifestMeaning M) (roots : RootsTold) (told : Name → Told) (w : WorkspaceMeaning M) →
     m.workspace ≡ Some w → GivenFrom m (from (Some (shared w)) []) told n → GivenBy m None roots told n
 given_by_table m n roots told w table h =
     given_as_told m n None roots told (chosen m n told _ _ (own_by_table m.workspace w (needs m) (roots (hint_of m)) table) h)
 
 -- and alone, where nothing is inherited
-pub met_alone : {T M : Type 0} (f : T → ManifestMeaning M) (m : ManifestMeaning M) (roots : RootsTold) (told : Text → Told) (r : Result T Error) →
+pub met_alone : {T M : Type 0} (f : T → ManifestMeaning M) (m : ManifestMeaning M) (roots : RootsTold) (told : Name → Told) (r : Result T Error) →
     m.workspace ≡ None → needs m ≡ false → Meets f (complete_by m alone told) r → Meets f (complete m None roots told) r
 met_alone f m roots told r table needed h =
     subst (λ (c : Choice). Meets f (complete_by m c told) r) (sym (own_alone m.workspace (needs m) (roots (hint_of m)) table needed)) h
 
-pub given_alone : {M : Type 0} (m n : ManifestMeaning M) (roots : RootsTold) (told : Text → Told) →
+pub given_alone : {M : Type 0} (m n : ManifestMeaning M) (roots : RootsTold) (told : Name → Told) →
     m.workspace ≡ None → needs m ≡ false → GivenFrom m alone told n → GivenBy m None roots told n
 given_alone m n roots told table needed h =
     given_as_told m n None roots told (chosen m n told _ _ (own_alone m.workspace (needs m) (roots (hint_of m)) table needed) h)

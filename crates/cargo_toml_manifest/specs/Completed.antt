@@ -1,6 +1,6 @@
 -- All that completion says of a manifest where it succeeds.
 use Rattle.std.specs.Prelude.{◌≡◌, false, IfSome, Option, Ok}
-use Rattle.cargo_toml_discovery.specs.Names.{Text}
+use Rattle.cargo_toml_discovery.specs.Names.{Name}
 use Rattle.cargo_toml_discovery.specs.Told.{Told}
 use Rattle.cargo_toml_package.specs.Filled.{IsFilled}
 use Rattle.cargo_toml_manifest.specs.Choosing.{Handed, RootsTold}
@@ -11,7 +11,7 @@ use Rattle.cargo_toml_manifest.specs.declared.manifest.Manifest.{Manifest}
 
 -- completed by a workspace that is handed in, if any, by what is told of roots and of folders
 module _ {M : Type 0} (old : Manifest M) (handed : Option Handed) (roots : RootsTold)
-    (told : Text → Told) where
+    (told : Name → Told) where
   pub record IsCompleted (new : Manifest M) : Type 0 where
     -- the definition gives it, where all that is asked for is told
     pub outcome : Meets held (complete (held old) handed roots told) (Ok new)

@@ -5,7 +5,7 @@ use Rattle.cargo_toml_parts.specs.declared.error.Error.{Error, Memory}
 use Rattle.cargo_toml_parts.specs.FaultValues.{Fault, fault_of}
 use Rattle.cargo_toml_parts.specs.Wrapping.{wrap}
 use Rattle.cargo_toml_discovery.specs.Answers.{Answers, filled}
-use Rattle.cargo_toml_discovery.specs.Names.{Text}
+use Rattle.cargo_toml_discovery.specs.Names.{Name}
 use Rattle.cargo_toml_discovery.specs.Seen.{IsOneOf, Seen, seen, faulty, unclear}
 use Rattle.cargo_toml_discovery.specs.Told.{Told}
 use Rattle.cargo_toml_manifest.specs.Choosing.{AnswersRoots, Choice, Handed, RootsTold, alone, from}
@@ -30,12 +30,12 @@ seen_at path (faulty faults) = refuses (map (wrap path) faults)
 seen_at path unclear = untold
 
 -- what is found comes after what is inherited, whose fault is reported with the same path
-abbrev pub then_found : {M : Type 0} → Option (List ℕ) → (Text → Told)
+abbrev pub then_found : {M : Type 0} → Option (List ℕ) → (Name → Told)
     → Result (ManifestMeaning M) Fault → Outcome (ManifestMeaning M)
 then_found path told (Ok m) = seen_at path (found_around m told)
 then_found path told (Err fault) = refuses (wrap path fault ∷ [])
 
-abbrev pub complete_by : {M : Type 0} → ManifestMeaning M → Choice → (Text → Told)
+abbrev pub complete_by : {M : Type 0} → ManifestMeaning M → Choice → (Name → Told)
     → Outcome (ManifestMeaning M)
 complete_by m alone told = then_found None told (Ok m)
 complete_by m (from workspace path) told =
@@ -45,7 +45,7 @@ complete_by m unclear_root told = untold
 
 -- a manifest after completion, by the workspace that is handed in, if any, and by what is stated of
 -- roots and of folders
-abbrev pub complete : {M : Type 0} → ManifestMeaning M → Option Handed → RootsTold → (Text → Told)
+abbrev pub complete : {M : Type 0} → ManifestMeaning M → Option Handed → RootsTold → (Name → Told)
     → Outcome (ManifestMeaning M)
 complete m handed roots told = complete_by m (choice m handed roots) told
 
@@ -62,14 +62,14 @@ Meets f (no_workspace path) (Err e) =
     (e ≡ Memory) ⊎ ((fault : Fault) × (fault_of e ≡ wrap path fault))
 
 -- the value is what completion gives by some answers, finitely many of them for folders
-abbrev pub GivenBy : {M : Type 0} → ManifestMeaning M → Option Handed → RootsTold → (Text → Told)
+abbrev pub GivenBy : {M : Type 0} → ManifestMeaning M → Option Handed → RootsTold → (Name → Told)
     → ManifestMeaning M → Type 0
 GivenBy m handed roots told n =
     (answered : RootsTold) × AnswersRoots roots answered
     × ((answers : Answers) × (complete m handed answered (filled told answers) ≡ gives n))
 
 -- the same of the root alone, where a root is looked up
-abbrev pub GivenByRoot : {M : Type 0} → ManifestMeaning M → ToldRoot → (Text → Told)
+abbrev pub GivenByRoot : {M : Type 0} → ManifestMeaning M → ToldRoot → (Name → Told)
     → ManifestMeaning M → Type 0
 GivenByRoot m lookup told n =
     (answered : ToldRoot) × ((lookup ≡ answered) ⊎ (lookup ≡ open_root))
@@ -79,5 +79,5 @@ GivenByRoot m lookup told n =
 -- again
 abbrev pub IsLasting : {M : Type 0} → ManifestMeaning M → Option Handed → ManifestMeaning M → Type 0
 IsLasting m handed n =
-    (roots : RootsTold) (told : Text → Told) → complete m handed roots told ≡ gives n
+    (roots : RootsTold) (told : Name → Told) → complete m handed roots told ≡ gives n
     → complete n handed roots told ≡ gives n

@@ -7,7 +7,7 @@ use Rattle.cargo_toml_settings.specs.declared.settings.Edition.TheVariants.{E201
 use Rattle.cargo_toml_discovery.specs.Around.{around}
 use Rattle.cargo_toml_discovery.specs.Discovering.{StatedMeaning, DiscoveredMeaning}
 use Rattle.cargo_toml_discovery.specs.Discovering.{discovered, discovered_meaning}
-use Rattle.cargo_toml_discovery.specs.Names.{Text}
+use Rattle.cargo_toml_discovery.specs.Names.{Name}
 use Rattle.cargo_toml_discovery.specs.Seen.{Seen, seen, seen_as}
 use Rattle.cargo_toml_discovery.specs.Told.{Told}
 use Rattle.cargo_toml_discovery.specs.declared.discovery.Discovered.{Discovered}
@@ -53,13 +53,13 @@ with_discovered m p d = record m {
 }
 
 -- the manifest with what is found around it: nothing is looked for without a package
-abbrev pub found_for : {M : Type 0} → ManifestMeaning M → Option (PackageMeaning M) → (Text → Told)
+abbrev pub found_for : {M : Type 0} → ManifestMeaning M → Option (PackageMeaning M) → (Name → Told)
     → Seen (ManifestMeaning M)
 found_for m None told = seen m
 found_for m (Some p) told =
     seen_as (λ a. with_discovered m p (discovered (stated_by m p) a)) (around told (wanted_by p))
 
-abbrev pub found_around : {M : Type 0} → ManifestMeaning M → (Text → Told)
+abbrev pub found_around : {M : Type 0} → ManifestMeaning M → (Name → Told)
     → Seen (ManifestMeaning M)
 found_around m told = found_for m m.«package» told
 

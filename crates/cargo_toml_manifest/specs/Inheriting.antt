@@ -11,7 +11,7 @@ use Rattle.cargo_toml_dependencies.specs.Targets.{TargetMeaning}
 use Rattle.cargo_toml_package.specs.Inheriting.{inherited_package, any_field_left}
 use Rattle.cargo_toml_package.specs.Packages.{PackageMeaning}
 use Rattle.cargo_toml_package.specs.Templates.{TemplateMeaning}
-use Rattle.cargo_toml_workspace.specs.Sharing.{Lints, Shared, inherited_lints}
+use Rattle.cargo_toml_workspace.specs.Sharing.{LintsByTool, Shared, inherited_lints}
 use Rattle.cargo_toml_manifest.specs.Manifests.{ManifestMeaning}
 
 -- the package, where there is one
@@ -33,8 +33,8 @@ own_tables m = record {
 -- a manifest after inheritance of dependencies from these templates, of lints and of package
 -- fields, whose paths are joined to `base`: each part is looked up in what was written, and the
 -- first fault in this order counts
-abbrev pub inherited_from : {M : Type 0} → Option Entries → Option Lints → Option TemplateMeaning
-    → List ℕ → ManifestMeaning M → Result (ManifestMeaning M) Fault
+abbrev pub inherited_from : {M : Type 0} → Option Entries → Option LintsByTool
+    → Option TemplateMeaning → List ℕ → ManifestMeaning M → Result (ManifestMeaning M) Fault
 inherited_from templates groups template base m = do
   tables ← inherited_target templates base (own_tables m)
   target ← inherited_targets templates base m.target

@@ -1,7 +1,7 @@
 -- A manifest, once what its workspace gives is put in.
 use Rattle.std.specs.Prelude.{Option, Some, None, option_map}
 use Rattle.cargo_toml_dependencies.specs.Replacing.{replaced_target, replaced_targets}
-use Rattle.cargo_toml_package.specs.Installing.{put, installed as installed_package}
+use Rattle.cargo_toml_package.specs.Installing.{put_field, installed_package}
 use Rattle.cargo_toml_package.specs.Packages.{PackageMeaning}
 use Rattle.cargo_toml_package.specs.declared.inheriting.NewFields.{NewFields}
 use Rattle.cargo_toml_parts.specs.Reads.{map_meaning}
@@ -30,7 +30,7 @@ installed m new = record m {
   dev_dependencies = (replaced_target (own_tables m) new.tables).dev_dependencies;
   build_dependencies = (replaced_target (own_tables m) new.tables).build_dependencies;
   target = replaced_targets m.target new.targets.items;
-  lints = put m.lints (option_map (map_meaning (map_meaning lint_meaning)) new.lints);
+  lints = put_field m.lints (option_map (map_meaning (map_meaning lint_meaning)) new.lints);
 }
 
 -- the manifest with these parts, and then with what was found by them

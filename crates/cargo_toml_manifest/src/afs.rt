@@ -169,8 +169,8 @@ impl<T: AbstractFilesystem> AbstractFilesystem for &T {
     }
 }
 
-// The manifest that these bytes spell, on the heap: it is wide, and on the stack the manifest that is
-// being completed is there already.
+// The manifest that these bytes spell, on the heap: it is wide, and on the stack the manifest that
+// is being completed is there already.
 pub(crate) fn boxed(alloc: Global, bytes: &[u8]) -> Result<Box<Manifest>, Error>
     ensures read { IfOk result (λ manifest. IsFromSlice bytes.now (Ok manifest.value)) }
     ensures refused { IfErr result (λ e. (e ≡ Memory) ⊎ IsFromSlice bytes.now (Err e)) }

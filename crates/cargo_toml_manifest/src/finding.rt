@@ -9,7 +9,7 @@ ghost use Rattle.cargo_toml_discovery.specs.Answers.{Answers, answers_of, around
 ghost use Rattle.cargo_toml_discovery.specs.Discovering.{discovered, discovered_meaning};
 ghost use Rattle.cargo_toml_discovery.specs.Folders.{IsListed, RefusesBy};
 ghost use Rattle.cargo_toml_discovery.specs.Seen.{Tells, seen, unclear};
-ghost use Rattle.cargo_toml_package.specs.Packages.{package_meaning};
+ghost use Rattle.cargo_toml_package.specs.Packages.{held_package};
 ghost use Rattle.cargo_toml_manifest.specs.Finding.{found_around, stated_by, wanted_by, with_found};
 ghost use Rattle.cargo_toml_manifest.specs.Installing.{installed, taken};
 ghost use Rattle.cargo_toml_manifest.specs.Manifests.{held};
@@ -56,7 +56,7 @@ pub struct Completion {
 
 // The lists that the package has found in folders.
 fn wanted<Metadata>(package: &Package<Metadata>) -> Wanted
-    ensures { result ≡ wanted_by (package_meaning (λ m. m) «package».now) }
+    ensures { result ≡ wanted_by (held_package «package».now) }
 {
     Wanted {
         bins: package.autobins,
@@ -68,7 +68,7 @@ fn wanted<Metadata>(package: &Package<Metadata>) -> Wanted
 
 // The edition of a package that takes these fields.
 fn edition<Metadata>(package: &Package<Metadata>, new: Option<&NewFields>) -> Edition
-    ensures { let p = taken (package_meaning (λ m. m) «package».now) (option_copied new.entry) in
+    ensures { let p = taken (held_package «package».now) (option_copied new.entry) in
         result ≡ unwrap_or (value_of p.edition) E2015 }
 {
     match (new.and_then(|new| new.edition), &package.edition) {
@@ -84,7 +84,7 @@ fn readme<'a, Metadata>(
     new: Option<&'a NewFields>,
     other: &'a OptionalFile,
 ) -> &'a OptionalFile
-    ensures { let p = taken (package_meaning (λ m. m) «package».now) (option_copied new.entry) in
+    ensures { let p = taken (held_package «package».now) (option_copied new.entry) in
         file_meaning result.now ≡ unwrap_or (value_of p.readme) (file_meaning other.now) }
 {
     match (new.and_then(|new| new.readme.as_ref()), &package.readme) {
@@ -102,7 +102,7 @@ fn found_in<Metadata>(
     new: Option<&NewFields>,
     listings: &Listings,
 ) -> Result<Discovered, AllocError>
-    ensures { let p = taken (package_meaning (λ m. m) «package».now) (option_copied new.entry) in
+    ensures { let p = taken (held_package «package».now) (option_copied new.entry) in
         IfOk result (λ d. discovered_meaning d
         ≡ discovered (stated_by (held manifest.now) p)
         (around_in (answers_of listings.now) (wanted_by p))) }

@@ -7,7 +7,7 @@ ghost use Rattle.cargo_toml_parts.specs.Reads.{map_meaning};
 ghost use Rattle.cargo_toml_dependencies.specs.Dependencies.{dependency_meaning};
 ghost use Rattle.cargo_toml_dependencies.specs.Inheriting.{inherited_target};
 ghost use Rattle.cargo_toml_dependencies.specs.Replacing.{replaced_target};
-ghost use Rattle.cargo_toml_package.specs.Packages.{package_meaning};
+ghost use Rattle.cargo_toml_package.specs.Packages.{held_package};
 ghost use Rattle.cargo_toml_package.specs.Templates.{template_meaning};
 ghost use Rattle.cargo_toml_tables.specs.Lints.{lint_meaning};
 ghost use Rattle.cargo_toml_workspace.specs.Sharing.{shared_of};
@@ -59,10 +59,10 @@ fn new_package<Metadata>(
     base: &str,
 ) -> Result<Option<NewFields>, Error>
     ensures { Gives
-        (installed_if_there (option_map (package_meaning (λ m. m)) (option_copied «package».entry)))
+        (installed_if_there (option_map held_package (option_copied «package».entry)))
         result
         (inherited_if_there (option_map template_meaning (option_copied template.entry)) base.now
-        (option_map (package_meaning (λ m. m)) (option_copied «package».entry))) }
+        (option_map held_package (option_copied «package».entry))) }
 {
     match package {
         Some(package) => Ok(Some(new_fields(alloc, package, template, base)?)),
@@ -130,8 +130,8 @@ pub fn new_parts<Metadata, N>(
 
 // Puts the fields into the package, where there is one.
 fn put_package<Metadata: Drop>(package: &mut Option<Package<Metadata>>, new: Option<NewFields>)
-    ensures { option_map (package_meaning (λ m. m)) «package».new
-        ≡ installed_if_there (option_map (package_meaning (λ m. m)) «package».old) new }
+    ensures { option_map held_package «package».new
+        ≡ installed_if_there (option_map held_package «package».old) new }
 {
     if let (Some(package), Some(new)) = (package, new) {
         install(package, new);

@@ -13,12 +13,12 @@ ghost use Rattle.cargo_toml_tables.specs.Profiles.{profiles_meaning};
 ghost use Rattle.cargo_toml_parts.specs.Reads.{Faulty, IsReading, given_of};
 ghost use Rattle.cargo_toml_parts.specs.Reads.{map_of, map_meaning, plain};
 ghost use Rattle.cargo_toml_parts.specs.Readings.{Ends, Goes};
-ghost use Rattle.cargo_toml_manifest.specs.Manifests.{ManifestMeaning, manifest_meaning};
+ghost use Rattle.cargo_toml_manifest.specs.Manifests.{ManifestMeaning, manifest_meaning, held};
 ghost use Rattle.cargo_toml_manifest.specs.Manifests.{manifest_of, ManifestFaults, manifest_reads};
 ghost use Rattle.cargo_toml_manifest.specs.Manifests.{ManifestRefuses, zero_rule_applies};
 ghost use Rattle.cargo_toml_manifest.specs.Manifests.{by_zero_rule, no_profiles, profiles_reads};
 ghost use Rattle.cargo_toml_manifest.specs.Manifests.{ProfilesRefuse, no_badges, badges_reads};
-ghost use Rattle.cargo_toml_package.specs.Packages.{package_meaning};
+ghost use Rattle.cargo_toml_package.specs.Packages.{package_meaning, held_package};
 ghost use Rattle.cargo_toml_manifest.specs.Texts.{IsFromText, IsFromBytes, any_tree, AnyRefuses};
 ghost use Rattle.cargo_toml_manifest.specs.Texts.{IsTree, IsTreeOfBytes};
 
@@ -204,7 +204,7 @@ impl<Metadata> Manifest<Metadata> {
     /// The manifest of the empty text. It takes no memory.
     pub fn default(alloc: Global) -> Manifest<Metadata>
         ensures { (reads : Data → Option Metadata)
-            → manifest_of reads no_members ≡ Some (manifest_meaning (λ x. x) result) }
+            → manifest_of reads no_members ≡ Some (held result) }
     {
         Manifest {
             package: None,
@@ -439,7 +439,7 @@ fn lints(reading: &mut Reading, value: Option<Value>) -> Inheritable<LintGroups>
 // Whether the version is 0.0.0, without pre-release and build metadata, and the package could be
 // published everywhere.
 fn zero_rule_applies<Metadata>(found: &Package<Metadata>) -> bool
-    ensures { result ≡ zero_rule_applies (package_meaning (λ x. x) found.now) }
+    ensures { result ≡ zero_rule_applies (held_package found.now) }
 {
     let Inheritable::Set(version) = &found.version else {
         return false;

@@ -6,12 +6,12 @@ use Rattle.cargo_toml_parts.specs.declared.inheritable.Inheritable.TheVariants.{
 use Rattle.cargo_toml_parts.specs.InheritableValues.{value_of}
 use Rattle.cargo_toml_parts.specs.Inherits.{inheritable_map}
 use Rattle.cargo_toml_package.specs.Filled.{IsFilled}
-use Rattle.cargo_toml_package.specs.Inheriting.{any_field_left, is_left, is_left_there}
+use Rattle.cargo_toml_package.specs.Inheriting.{any_field_left, field_is_left, is_left_there}
 use Rattle.cargo_toml_package.specs.PackageAnswers.{is_known}
 use Rattle.cargo_toml_package.specs.Packages.{package_meaning}
 use Rattle.cargo_toml_package.specs.declared.package.Package.{Package}
 
-set : {X M : Type 0} (f : X → M) (field : Inheritable X) → is_left (inheritable_map f field) ≡ false → IsSome (value_of field)
+set : {X M : Type 0} (f : X → M) (field : Inheritable X) → field_is_left (inheritable_map f field) ≡ false → IsSome (value_of field)
 set f (Set x) h = refl
 set f Inherited h = absurd cc
 

@@ -6,12 +6,12 @@ use Rattle.cargo_toml_parts.specs.Versions.{Parts}
 use Rattle.cargo_toml_parts.specs.declared.inheritable.Inheritable.{Inheritable}
 use Rattle.cargo_toml_settings.specs.Settings.{File, Registries}
 use Rattle.cargo_toml_settings.specs.declared.settings.Edition.{Edition}
-use Rattle.cargo_toml_package.specs.Installing.{Fills, installed, no_fields}
+use Rattle.cargo_toml_package.specs.Installing.{Fills, installed_package, no_fields}
 use Rattle.cargo_toml_package.specs.Packages.{PackageMeaning}
 use Rattle.cargo_toml_package.specs.declared.inheriting.NewFields.{NewFields}
 
 -- a package without new values
-pub nothing_put : {M : Type 0} (p : PackageMeaning M) (n : NewFields) → n ≡ no_fields → installed p n ≡ p
+pub nothing_put : {M : Type 0} (p : PackageMeaning M) (n : NewFields) → n ≡ no_fields → installed_package p n ≡ p
 nothing_put p n none = rw none refl
 
 -- a package with these fields

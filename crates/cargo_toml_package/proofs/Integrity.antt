@@ -6,7 +6,7 @@ use Rattle.cargo_toml_parts.specs.declared.error.Error.{Error, fold-roll-Error}
 use Rattle.cargo_toml_parts.specs.declared.error.Error.TheVariants.{WorkspaceIntegrity, rolls-WorkspaceIntegrity}
 use Rattle.cargo_toml_parts.specs.FaultValues.{Fault, fault_of, fault_step, workspace_integrity}
 use Rattle.cargo_toml_package.specs.Inheriting.{any_field_left, checked_package}
-use Rattle.cargo_toml_package.specs.Installing.{installed}
+use Rattle.cargo_toml_package.specs.Installing.{installed_package}
 use Rattle.cargo_toml_package.specs.Packages.{PackageMeaning}
 use Rattle.cargo_toml_package.specs.declared.inheriting.NewFields.{NewFields}
 
@@ -18,6 +18,6 @@ pub refused : {M : Type 0} (p : PackageMeaning M) (s : String Global) → true �
 refused p s left is = rw (← left, integrity s, is) refl
 
 -- new values that leave nothing to the workspace, or the fault
-pub given : {U M : Type 0} (p q : PackageMeaning M) (new : NewFields) (r : Result U Error) → installed p new ≡ q → Gives (λ _. installed p new) r (checked_package (installed p new)) → Gives (λ n. installed p n) (result_and r (Ok new)) (checked_package q)
+pub given : {U M : Type 0} (p q : PackageMeaning M) (new : NewFields) (r : Result U Error) → installed_package p new ≡ q → Gives (λ _. installed_package p new) r (checked_package (installed_package p new)) → Gives (λ n. installed_package p n) (result_and r (Ok new)) (checked_package q)
 given p q new (Ok _) is h = rw (← is) h
 given p q new (Err e) is h = rw (← is) h

@@ -6,28 +6,28 @@ use Rattle.std.proofs.lemmas.Bool.{or_parts}
 use Rattle.cargo_toml_parts.specs.declared.inheritable.Inheritable.{Inheritable}
 use Rattle.cargo_toml_parts.specs.declared.inheritable.Inheritable.TheVariants.{Set, Inherited}
 use Rattle.cargo_toml_settings.specs.Settings.{File}
-use Rattle.cargo_toml_package.specs.Inheriting.{any_field_left, based, filled, filled_if_there, inherited_package, is_left, is_left_there, with_template, with_template_if_there}
+use Rattle.cargo_toml_package.specs.Inheriting.{any_field_left, based, filled_field, filled_if_there, inherited_package, field_is_left, is_left_there, with_template, with_template_if_there}
 use Rattle.cargo_toml_package.specs.Packages.{PackageMeaning}
 use Rattle.cargo_toml_package.specs.Templates.{TemplateMeaning}
 
 -- each field of the package is its own
 record IsOwn {M : Type 0} (p : PackageMeaning M) : Type 0 where
-  version : is_left p.version ≡ false
-  edition : is_left p.edition ≡ false
+  version : field_is_left p.version ≡ false
+  edition : field_is_left p.edition ≡ false
   rust_version : is_left_there p.rust_version ≡ false
-  authors : is_left p.authors ≡ false
+  authors : field_is_left p.authors ≡ false
   description : is_left_there p.description ≡ false
   homepage : is_left_there p.homepage ≡ false
   documentation : is_left_there p.documentation ≡ false
-  readme : is_left p.readme ≡ false
-  keywords : is_left p.keywords ≡ false
-  categories : is_left p.categories ≡ false
-  exclude : is_left p.exclude ≡ false
-  include : is_left p.include ≡ false
+  readme : field_is_left p.readme ≡ false
+  keywords : field_is_left p.keywords ≡ false
+  categories : field_is_left p.categories ≡ false
+  exclude : field_is_left p.exclude ≡ false
+  include : field_is_left p.include ≡ false
   license : is_left_there p.license ≡ false
   license_file : is_left_there p.license_file ≡ false
   repository : is_left_there p.repository ≡ false
-  publish : is_left p.publish ≡ false
+  publish : field_is_left p.publish ≡ false
 
 own : {M : Type 0} (p : PackageMeaning M) → any_field_left p ≡ false → IsOwn p
 own p none =
@@ -65,7 +65,7 @@ own p none =
       publish = publish.1;
     }
 
-kept : {A : Type 0} (field : Inheritable A) (value : Option A) → is_left field ≡ false → filled field value ≡ field
+kept : {A : Type 0} (field : Inheritable A) (value : Option A) → field_is_left field ≡ false → filled_field field value ≡ field
 kept (Set x) value none = refl
 kept Inherited value none = cc
 

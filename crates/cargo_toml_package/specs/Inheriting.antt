@@ -12,13 +12,13 @@ use Rattle.cargo_toml_package.specs.Packages.{PackageMeaning}
 use Rattle.cargo_toml_package.specs.Templates.{TemplateMeaning}
 
 -- an inherited field takes the workspace's value, where there is one
-abbrev pub filled : {A : Type 0} → Inheritable A → Option A → Inheritable A
-filled Inherited (Some x) = Set x
-filled field value = field
+abbrev pub filled_field : {A : Type 0} → Inheritable A → Option A → Inheritable A
+filled_field Inherited (Some x) = Set x
+filled_field field value = field
 
 abbrev pub filled_if_there : {A : Type 0} → Option (Inheritable A) → Option A
     → Option (Inheritable A)
-filled_if_there field value = option_map (λ f. filled f value) field
+filled_if_there field value = option_map (λ f. filled_field f value) field
 
 -- a file of the workspace, whose folder is `base`
 abbrev pub based : List ℕ → File → File
@@ -29,53 +29,53 @@ based base (path p) = path (path_join base p)
 abbrev pub with_template : {M : Type 0} → List ℕ → TemplateMeaning → PackageMeaning M
     → PackageMeaning M
 with_template base t p = record p {
-  version = filled p.version t.version;
-  edition = filled p.edition t.edition;
+  version = filled_field p.version t.version;
+  edition = filled_field p.edition t.edition;
   rust_version = filled_if_there p.rust_version t.rust_version;
-  authors = filled p.authors t.authors;
+  authors = filled_field p.authors t.authors;
   description = filled_if_there p.description t.description;
   homepage = filled_if_there p.homepage t.homepage;
   documentation = filled_if_there p.documentation t.documentation;
-  readme = filled p.readme (Some (based base t.readme));
-  keywords = filled p.keywords t.keywords;
-  categories = filled p.categories t.categories;
-  exclude = filled p.exclude t.exclude;
-  include = filled p.include t.include;
+  readme = filled_field p.readme (Some (based base t.readme));
+  keywords = filled_field p.keywords t.keywords;
+  categories = filled_field p.categories t.categories;
+  exclude = filled_field p.exclude t.exclude;
+  include = filled_field p.include t.include;
   license = filled_if_there p.license t.license;
   license_file = filled_if_there p.license_file (option_map (path_join base) t.license_file);
   repository = filled_if_there p.repository t.repository;
-  publish = filled p.publish (Some t.publish);
+  publish = filled_field p.publish (Some t.publish);
 }
 
 abbrev pub with_template_if_there : {M : Type 0} → List ℕ → Option TemplateMeaning
     → PackageMeaning M → PackageMeaning M
 with_template_if_there base template p = option_map_or (λ t. with_template base t p) template p
 
-abbrev pub is_left : {A : Type 0} → Inheritable A → Bool
-is_left field = not (is_set field)
+abbrev pub field_is_left : {A : Type 0} → Inheritable A → Bool
+field_is_left field = not (is_set field)
 
 abbrev pub is_left_there : {A : Type 0} → Option (Inheritable A) → Bool
-is_left_there field = option_map_or is_left field false
+is_left_there field = option_map_or field_is_left field false
 
 -- whether some field is inherited
 abbrev pub any_field_left : {M : Type 0} → PackageMeaning M → Bool
 any_field_left p =
-    is_left p.version
-    || is_left p.edition
+    field_is_left p.version
+    || field_is_left p.edition
     || is_left_there p.rust_version
-    || is_left p.authors
+    || field_is_left p.authors
     || is_left_there p.description
     || is_left_there p.homepage
     || is_left_there p.documentation
-    || is_left p.readme
-    || is_left p.keywords
-    || is_left p.categories
-    || is_left p.exclude
-    || is_left p.include
+    || field_is_left p.readme
+    || field_is_left p.keywords
+    || field_is_left p.categories
+    || field_is_left p.exclude
+    || field_is_left p.include
     || is_left_there p.license
     || is_left_there p.license_file
     || is_left_there p.repository
-    || is_left p.publish
+    || field_is_left p.publish
 
 abbrev pub missing_fields : List ℕ → Fault
 missing_fields name =

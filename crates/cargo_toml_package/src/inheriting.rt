@@ -6,10 +6,12 @@ ghost use Rattle.cargo_toml_parts.specs.Answers.{Gives};
 ghost use Rattle.cargo_toml_parts.specs.Inherits.{inheritable_map};
 ghost use Rattle.cargo_toml_package.specs.Filled.{IsFilled};
 ghost use Rattle.cargo_toml_package.specs.Inheriting.{any_field_left, checked_package};
-ghost use Rattle.cargo_toml_package.specs.Inheriting.{inherited_package, is_left, is_left_there};
+ghost use Rattle.cargo_toml_package.specs.Inheriting.{inherited_package, field_is_left};
+ghost use Rattle.cargo_toml_package.specs.Inheriting.{is_left_there};
 ghost use Rattle.cargo_toml_package.specs.Inheriting.{with_template, with_template_if_there};
-ghost use Rattle.cargo_toml_package.specs.Installing.{installed, put, put_if_there, no_fields};
-ghost use Rattle.cargo_toml_package.specs.Packages.{package_meaning};
+ghost use Rattle.cargo_toml_package.specs.Installing.{installed_package, put_field};
+ghost use Rattle.cargo_toml_package.specs.Installing.{put_if_there, no_fields};
+ghost use Rattle.cargo_toml_package.specs.Packages.{held_package};
 ghost use Rattle.cargo_toml_package.specs.Templates.{template_meaning};
 
 mod filling;
@@ -107,9 +109,9 @@ fn fields_from<M>(
     template: &PackageTemplate,
     base: &str,
 ) -> Result<NewFields, AllocError>
-    ensures { IfOk result (λ n. installed (package_meaning (λ m. m) «package».now) n
+    ensures { IfOk result (λ n. installed_package (held_package «package».now) n
         ≡ with_template base.now (template_meaning template.now)
-        (package_meaning (λ m. m) «package».now)) }
+        (held_package «package».now)) }
 {
     let mut filling = Filling::new(alloc);
     let version = filling.optional(&package.version, &template.version);
@@ -151,7 +153,7 @@ fn fields_from<M>(
 // Puts in a new value, if there is one.
 fn put<T: Read>(field: &mut Inheritable<T>, value: Option<T>)
     ensures { inheritable_map T.meaning field.new
-        ≡ put (inheritable_map T.meaning field.old) (option_map T.meaning value) }
+        ≡ put_field (inheritable_map T.meaning field.old) (option_map T.meaning value) }
 {
     if let Some(value) = value {
         *field = Inheritable::Set(value);
@@ -172,8 +174,8 @@ fn put_if_there<T: Read>(field: &mut Option<Inheritable<T>>, value: Option<T>)
 /// Puts these values in place of the package's own. Its other fields stay, and its metadata are not
 /// touched. It takes no memory.
 pub fn install<M: Drop>(package: &mut Package<M>, new: NewFields)
-    ensures { package_meaning (λ m. m) «package».new
-        ≡ installed (package_meaning (λ m. m) «package».old) new }
+    ensures { held_package «package».new
+        ≡ installed_package (held_package «package».old) new }
 {
     put(&mut package.version, new.version);
     put(&mut package.edition, new.edition);
@@ -195,8 +197,8 @@ pub fn install<M: Drop>(package: &mut Package<M>, new: NewFields)
 
 // Whether a field is left to the workspace once this value is put in.
 fn stays<T: Read>(field: &Inheritable<T>, value: &Option<T>) -> bool
-    ensures { result
-        ≡ is_left (put (inheritable_map T.meaning field.now) (option_map T.meaning value.now)) }
+    ensures { result ≡ field_is_left (put_field (inheritable_map T.meaning field.now)
+        (option_map T.meaning value.now)) }
 {
     !field.is_set() && value.is_none()
 }
@@ -215,7 +217,7 @@ fn stays_there<T: Read>(field: &Option<Inheritable<T>>, value: &Option<T>) -> bo
 
 // Whether some field is left to the workspace once these values are put in.
 fn any_stays<M>(package: &Package<M>, new: &NewFields) -> bool
-    ensures { result ≡ any_field_left (installed (package_meaning (λ m. m) «package».now) new.now) }
+    ensures { result ≡ any_field_left (installed_package (held_package «package».now) new.now) }
 {
     stays(&package.version, &new.version)
         || stays(&package.edition, &new.edition)
@@ -238,7 +240,7 @@ fn any_stays<M>(package: &Package<M>, new: &NewFields) -> bool
 /// Whether some field is left to the workspace. Where none is, each getter of the
 /// package may be called.
 pub fn any_field_inherited<M>(package: &Package<M>) -> bool
-    ensures exact { result ≡ any_field_left (package_meaning (λ m. m) «package».now) }
+    ensures exact { result ≡ any_field_left (held_package «package».now) }
     ensures else_filled { result ≡ false → IsFilled «package».now }
 {
     any_stays(package, &no_fields())
@@ -251,9 +253,9 @@ fn fields_for<M>(
     template: Option<&PackageTemplate>,
     base: &str,
 ) -> Result<NewFields, AllocError>
-    ensures { IfOk result (λ n. installed (package_meaning (λ m. m) «package».now) n
+    ensures { IfOk result (λ n. installed_package (held_package «package».now) n
         ≡ with_template_if_there base.now (option_map template_meaning
-        (option_copied template.entry)) (package_meaning (λ m. m) «package».now)) }
+        (option_copied template.entry)) (held_package «package».now)) }
 {
     match template {
         Some(template) => fields_from(alloc, package, template, base),
@@ -263,8 +265,8 @@ fn fields_for<M>(
 
 // Refuses where some field would still be left to the workspace.
 fn check_none_stays<M>(alloc: Global, package: &Package<M>, new: &NewFields) -> Result<(), Error>
-    ensures { Gives (λ _. installed (package_meaning (λ m. m) «package».now) new.now) result
-        (checked_package (installed (package_meaning (λ m. m) «package».now) new.now)) }
+    ensures { Gives (λ _. installed_package (held_package «package».now) new.now) result
+        (checked_package (installed_package (held_package «package».now) new.now)) }
 {
     if any_stays(package, new) {
         let name = package.name.as_str();
@@ -287,9 +289,9 @@ pub fn new_fields<M>(
     template: Option<&PackageTemplate>,
     base: &str,
 ) -> Result<NewFields, Error>
-    ensures { Gives (λ n. installed (package_meaning (λ m. m) «package».now) n) result
+    ensures { Gives (λ n. installed_package (held_package «package».now) n) result
         (inherited_package (option_map template_meaning (option_copied template.entry)) base.now
-        (package_meaning (λ m. m) «package».now)) }
+        (held_package «package».now)) }
 {
     let new = fields_for(alloc, package, template, base)?;
     check_none_stays(alloc, package, &new).and(Ok(new))

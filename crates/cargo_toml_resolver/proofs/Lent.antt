@@ -11,7 +11,7 @@ use denote.Follow.{follows_by, such_by}
 use denote.RattleType.{RattleType}
 use denote.Ref.{Bor}
 use Rattle.cargo_toml_parts.specs.declared.error.Error.{Error, Memory}
-use Rattle.cargo_toml_discovery.specs.Names.{Text}
+use Rattle.cargo_toml_discovery.specs.Names.{Name}
 use Rattle.cargo_toml_discovery.specs.Told.{Told}
 use Rattle.cargo_toml_manifest.specs.declared.manifest.Manifest.{Manifest}
 use Rattle.cargo_toml_manifest.specs.Choosing.{Handed, RootsTold}
@@ -67,7 +67,7 @@ unfolding such_by
 rests_so {𝓤 = 𝓤} 𝓛 R γ P Q weaker = ex_e 𝓤 _ (λ s. ex_i 𝓤 (λ (y : (p : (R.Denot → R.Denot) × R.Denot) × ((w : R.Denot) → ⊤) × Q p.1). sem 𝓛 (follows_by R.Denot R.Denot R.coded.code R.coded.code γ none y.0.0 y.0.1)) (s.0, s.1, weaker s.0.1 s.2))
 
 -- what completing says, with the answer `d`, of a manifest that it leaves as `new`, where a refusal is such a one
-pub record Completing {M : Type 0} (old new : Manifest M) (handed : Option Handed) (roots : RootsTold) (told : Text → Told) (why : Error → Type 0) (d : Result (Unit {0}) Error) : Type 0 where
+pub record Completing {M : Type 0} (old new : Manifest M) (handed : Option Handed) (roots : RootsTold) (told : Name → Told) (why : Error → Type 0) (d : Result (Unit {0}) Error) : Type 0 where
   pub outcome : Meets (λ _. held new) (complete (held old) handed roots told) d
   pub unchanged : OnErr d (new ≡ old)
   pub completed : OnOk d (IsCompleted old handed roots told new)
@@ -87,7 +87,7 @@ lent_after P new (Ok u) p (Ok q) holds a = subst P (sym (ap (λ r. r.now) a.lent
 lent_after P new (Err fault) p (Ok q) holds a = absurd (subst T (ap is_ok a.refused) tt)
 lent_after P new d p (Err e) holds a = tt
 
-module _ {M Y : Type 0} {why : Error → Type 0} (old new : Manifest M) (handed : Option Handed) (roots : RootsTold) (told : Text → Told) where
+module _ {M Y : Type 0} {why : Error → Type 0} (old new : Manifest M) (handed : Option Handed) (roots : RootsTold) (told : Name → Told) where
   pub left_after : (d : Result (Unit {0}) Error) (p : Bor (Manifest M)) (y : Result (Bor (Manifest M) × Y) Error) → Completing old new handed roots told why d → Answering new d p y
       → (left : Manifest M) → left ≡ p.now → IsLeftAfter old handed roots told y left
   left_after d p (Ok q) c a left is = is ∙ ap (λ r. r.now) (sym a.lent)

@@ -5,7 +5,7 @@ use mathlib.Core.Option.{none}
 use denote.RattleType.{RattleType}
 use denote.Ref.{Bor}
 use Rattle.cargo_toml_parts.specs.declared.error.Error.{Error, Memory}
-use Rattle.cargo_toml_discovery.specs.Names.{Text}
+use Rattle.cargo_toml_discovery.specs.Names.{Name}
 use Rattle.cargo_toml_discovery.specs.Told.{Told}
 use Rattle.cargo_toml_manifest.specs.contracts.manifest.Manifest.{the_row}
 use Rattle.cargo_toml_manifest.specs.declared.manifest.Manifest.{Manifest}
@@ -39,7 +39,7 @@ IsLentAs M manifest lent =
 
 -- completed by a workspace that is handed in, if any, by what is stated of roots and of folders
 module _ {M : Type 0} (old : Manifest M) (handed : Option Handed) (roots : RootsTold)
-    (told : Text → Told) where
+    (told : Name → Told) where
   -- after a success the manifest is as it is lent; after a refusal it is as it was or, for want of
   -- memory alone, completed
   abbrev pub IsLeftAfter : {Y : Type 0} → Result (Bor (Manifest M) × Y) Error → Manifest M → Type 0
@@ -48,7 +48,7 @@ module _ {M : Type 0} (old : Manifest M) (handed : Option Handed) (roots : Roots
 
 -- so the manifest is left, once what was lent is let go
 abbrev pub IsLentAfter : (M : RattleType) {Y : Type 0} → MutBor (Manifest M.Denot) → Option Handed
-    → RootsTold → (Text → Told) → Result (Bor (Manifest M.Denot) × Y) Error → Fml
+    → RootsTold → (Name → Told) → Result (Bor (Manifest M.Denot) × Y) Error → Fml
 IsLentAfter M manifest handed roots told answer =
     follows_so (the_row M) (the_row M) manifest.ghost_name none (λ _ _. ⊤)
     (IsLeftAfter manifest.now handed roots told answer)

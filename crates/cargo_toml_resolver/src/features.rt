@@ -5,7 +5,7 @@ ghost use Rattle.cargo_toml_parts.specs.declared.error.Error.{Memory};
 ghost use Rattle.cargo_toml_parts.specs.Reads.{map_meaning};
 ghost use Rattle.cargo_toml_dependencies.specs.Targets.{target_meaning};
 ghost use Rattle.cargo_toml_manifest.specs.Inheriting.{own_tables};
-ghost use Rattle.cargo_toml_manifest.specs.Manifests.{manifest_meaning};
+ghost use Rattle.cargo_toml_manifest.specs.Manifests.{held};
 ghost use Rattle.cargo_toml_graph.specs.Admitted.{Listed, admitted};
 ghost use Rattle.cargo_toml_graph.specs.Kept.{NoneIsLeft};
 ghost use Rattle.cargo_toml_resolve.specs.Filter.{HasNameFilter, IsNameFilter};
@@ -165,14 +165,14 @@ impl<'config, F: Fn(&str) -> bool, S: BuildHasher + Clone> Resolver<'config, F, 
     ) -> Result<Features<'m, 'm, S>, Error>
         requires { HasNameFilter F.Fn (filter_of self.now) }
         ensures resolved { IfOk result (λ a. IsParsedBy (limit_of self.now)
-            (manifest_meaning (λ m. m) manifest.now) F.Fn (filter_of self.now) (answer_of a)) }
+            (held manifest.now) F.Fn (filter_of self.now) (answer_of a)) }
         ensures no_removed_name { IfOk result (λ a.
             NoneIsLeft (λ r. IsSome ((answer_of a).redirects r)) (answer_of a).resolution) }
         ensures hiding { IfOk result (λ a. IsHiding
-            (IsParsed (limit_of self.now) (manifest_meaning (λ m. m) manifest.now) (λ _. true))
+            (IsParsed (limit_of self.now) (held manifest.now) (λ _. true))
             (answer_of a)) }
         ensures complete_bins { IfOk result (λ a. AreBinsComplete (limit_of self.now)
-            (manifest_meaning (λ m. m) manifest.now) (λ r. is_some ((answer_of a).redirects r))
+            (held manifest.now) (λ r. is_some ((answer_of a).redirects r))
             (answer_of a)) }
         ensures keyed { IfOk result (λ a. IsKeyed a.features) }
         ensures targets { IfOk result (λ a. HaveTargets a.dependencies) }
@@ -234,9 +234,9 @@ impl<'config, F: Fn(&str) -> bool, S: BuildHasher + Clone> Resolver<'config, F, 
 
 // The tables of a manifest's dependencies.
 fn tables_of<M>(manifest: &Manifest<M>) -> Tables<'_>
-    ensures own { tables_meaning result ≡ own_tables (manifest_meaning (λ m. m) manifest.now) }
+    ensures own { tables_meaning result ≡ own_tables (held manifest.now) }
     ensures targets { map_meaning target_meaning result.target.now
-        ≡ (manifest_meaning (λ m. m) manifest.now).target }
+        ≡ (held manifest.now).target }
 {
     Tables {
         dependencies: &manifest.dependencies,

@@ -1,7 +1,7 @@
 //! Which features the binaries of a manifest require.
 ghost use Rattle.std.specs.Prelude.{◌≡◌, ◌++◌, IfOk, OnOk, map};
 ghost use Rattle.std.specs.List.{flat_map};
-ghost use Rattle.cargo_toml_manifest.specs.Manifests.{manifest_meaning};
+ghost use Rattle.cargo_toml_manifest.specs.Manifests.{held};
 ghost use Rattle.cargo_toml_full.specs.OwnBins.{requirement_of};
 ghost use Rattle.cargo_toml_tables.specs.Products.{product_meaning};
 ghost use Rattle.cargo_toml_resolver.specs.Parsed.{requirements, requirements_by};
@@ -54,7 +54,7 @@ pub fn requirements<'m, M>(
     manifest: &'m Manifest<M>,
 ) -> Result<Vec<Requirement<'m>>, AllocError>
     ensures { IfOk result
-        (λ v. map requirement_of v.items ≡ requirements (manifest_meaning (λ m. m) manifest.now)) }
+        (λ v. map requirement_of v.items ≡ requirements (held manifest.now)) }
 {
     match &manifest.package {
         Some(package) => requirements_of(alloc, manifest.bin.as_slice(), package.name.as_str()),

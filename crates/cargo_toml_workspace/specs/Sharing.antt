@@ -10,20 +10,21 @@ use Rattle.cargo_toml_workspace.specs.Workspaces.{WorkspaceMeaning, workspace_me
 use Rattle.cargo_toml_workspace.specs.declared.workspace.Workspace.{Workspace}
 
 -- lints by tool, and then by name
-abbrev pub Lints : Type 0
-Lints = List (List ℕ × List (List ℕ × LintMeaning))
+abbrev pub LintsByTool : Type 0
+LintsByTool = List (List ℕ × List (List ℕ × LintMeaning))
 
 -- what a workspace gives to its members
 pub record Shared : Type 0 where
   pub template : Option TemplateMeaning
   pub dependencies : Entries
-  pub lints : Lints
+  pub lints : LintsByTool
 
 abbrev pub shared : {N : Type 0} → WorkspaceMeaning N → Shared
 shared w = record { template = w.«package»; dependencies = w.dependencies; lints = w.lints }
 
 -- what inherited lints become, by those of the workspace where it has a table
-abbrev pub inherited_lints : Option Lints → Inheritable Lints → Result (Inheritable Lints) Fault
+abbrev pub inherited_lints : Option LintsByTool → Inheritable LintsByTool
+    → Result (Inheritable LintsByTool) Fault
 inherited_lints table (Set lints) = Ok (Set lints)
 inherited_lints (Some lints) Inherited = Ok (Set lints)
 inherited_lints None Inherited =

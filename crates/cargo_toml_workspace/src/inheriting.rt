@@ -5,7 +5,7 @@ ghost use Rattle.std.specs.Option.{option_copied};
 ghost use Rattle.cargo_toml_parts.specs.Answers.{Gives};
 ghost use Rattle.cargo_toml_parts.specs.Inherits.{inheritable_map};
 ghost use Rattle.cargo_toml_parts.specs.Reads.{map_meaning};
-ghost use Rattle.cargo_toml_package.specs.Installing.{put};
+ghost use Rattle.cargo_toml_package.specs.Installing.{put_field};
 ghost use Rattle.cargo_toml_tables.specs.Lints.{lint_meaning};
 ghost use Rattle.cargo_toml_workspace.specs.Sharing.{inherited_lints};
 
@@ -64,7 +64,7 @@ pub fn new_lints(
     groups: Option<&LintGroups>,
 ) -> Result<Option<LintGroups>, Error>
     ensures { Gives
-        (λ new. put (inheritable_map (map_meaning (map_meaning lint_meaning)) lints.now)
+        (λ new. put_field (inheritable_map (map_meaning (map_meaning lint_meaning)) lints.now)
         (option_map (map_meaning (map_meaning lint_meaning)) new))
         result
         (inherited_lints
@@ -84,7 +84,7 @@ pub fn new_lints(
 /// Puts in new lints, if there are some. It takes no memory.
 pub fn put_lints(lints: &mut Inheritable<LintGroups>, new: Option<LintGroups>)
     ensures { inheritable_map (map_meaning (map_meaning lint_meaning)) lints.new
-        ≡ put (inheritable_map (map_meaning (map_meaning lint_meaning)) lints.old)
+        ≡ put_field (inheritable_map (map_meaning (map_meaning lint_meaning)) lints.old)
         (option_map (map_meaning (map_meaning lint_meaning)) new) }
 {
     if let Some(new) = new {

@@ -8,13 +8,13 @@ use Rattle.cargo_toml_parts.specs.declared.error.Error.{Error, Memory}
 use Rattle.cargo_toml_parts.specs.Floats.{has_no_float}
 use Rattle.cargo_toml_write.specs.Pairs.{put_all, AreGathered}
 use Rattle.cargo_toml_write.specs.Ways.{entry_rows, map_way}
-use Rattle.cargo_toml_write.specs.Writes.{Way, IsHeld, IsWriting, AreRefused, AreWritten, required_row, put, Goes}
+use Rattle.cargo_toml_write.specs.Writes.{Way, IsHeld, IsWriting, AreRefused, AreWritten, required_row, put_member, WritesFrom}
 use Rattle.cargo_toml_write.proofs.Entries.{RestWrites, meant}
 use Rattle.cargo_toml_write.proofs.Rows.{then, is_put, ends}
 
-put_last : (ps : List Entry) (p : Entry) (ms : Members) → put_all (ps ++ p ∷ []) ms ≡ put (string_bytes p.0) (view p.1) (put_all ps ms)
+put_last : (ps : List Entry) (p : Entry) (ms : Members) → put_all (ps ++ p ∷ []) ms ≡ put_member (string_bytes p.0) (view p.1) (put_all ps ms)
 put_last [] p ms = refl
-put_last (q ∷ ps) p ms = put_last ps p (put (string_bytes q.0) (view q.1) ms)
+put_last (q ∷ ps) p ms = put_last ps p (put_member (string_bytes q.0) (view q.1) ms)
 
 module _ {X M : Type 0} (way : Way M) (meaning : X → M) where
   -- with the rest of a map, what was gathered so far makes the table of the whole
@@ -28,15 +28,15 @@ module _ {X M : Type 0} (way : Way M) (meaning : X → M) where
       → Gathers es (e ∷ rest) ps → way.trees (meaning e.1) (view v) → IsTrue (has_no_float (view v)) → string_bytes k ≡ string_bytes e.0 → ns ≡ ps ++ (k, v) ∷ [] → Gathers es rest ns
   gather_step es rest ps ns e k v so_far tree free same more =
       let mid : Members = put_all ps no_members in
-      let next : put_all ns no_members ≡ put (string_bytes e.0) (view v) mid =
-      ap (λ xs. put_all xs no_members) more ∙ put_last ps (k, v) no_members ∙ ap (λ bs. put bs (view v) mid) same in
+      let next : put_all ns no_members ≡ put_member (string_bytes e.0) (view v) mid =
+      ap (λ xs. put_all xs no_members) more ∙ put_last ps (k, v) no_members ∙ ap (λ bs. put_member bs (view v) mid) same in
       λ c new h.
       so_far c new (then (required_row (string_bytes e.0) way (meaning e.1)) (entry_rows way (meant meaning rest)) None None c mid (put_all ns no_members) new
       (is_put (string_bytes e.0) way (meaning e.1) (view v) None mid (put_all ns no_members) refl tree free next) h)
 
   pub gather_end : (es rest : List (String Global × X)) (ps : List Entry) → Gathers es rest ps → rest ≡ []
       → AreWritten (entry_rows way (meant meaning es)) no_members (put_all ps no_members)
-  unfolding Goes
+  unfolding WritesFrom
   gather_end es rest ps so_far nothing = so_far None (put_all ps no_members) (rw nothing refl)
 
   not_held : (x : M) → ((d : Data) → ¬ (way.trees x d)) → (o : Option Data) → ¬ (IsHeld way (Some x) o)
@@ -50,11 +50,11 @@ module _ {X M : Type 0} (way : Way M) (meaning : X → M) where
 
   pub gather_err : (es rest : List (String Global × X)) (ps : List Entry) (e : String Global × X) (fault : Error)
       → Gathers es (e ∷ rest) ps → IsWriting way (meaning e.1) (Err fault) → AreGathered (entry_rows way (meant meaning es)) (Err fault)
-  unfolding Goes
+  unfolding WritesFrom
   gather_err es rest ps e fault so_far refused = so_far (Some fault) no_members (stops es rest e fault refused)
 
 -- a map of which an entry is refused has no tree
 pub map_err : {M : Type 0} (way : Way M) (es : List (List ℕ × M)) (fault : Error)
     → AreGathered (entry_rows way es) (Err fault) → IsWriting (map_way way) es (Err fault)
-unfolding Goes
+unfolding WritesFrom
 map_err way es fault refused = ends (entry_rows way) es None (Some fault) no_members no_members (Err fault) refl refl refused refl

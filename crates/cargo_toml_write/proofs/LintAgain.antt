@@ -21,7 +21,7 @@ use Rattle.cargo_toml_tables.specs.Lints.{LintMeaning, lint_meaning, lint_keys, 
 use Rattle.cargo_toml_write.specs.Ways.{is_nil}
 use Rattle.cargo_toml_write.specs.WrittenLints.{is_level_alone, members_of, lint_table, IsApart}
 use Rattle.cargo_toml_write.specs.WrittenSettings.{level_text, level_way}
-use Rattle.cargo_toml_write.specs.Writes.{put}
+use Rattle.cargo_toml_write.specs.Writes.{put_member}
 use Rattle.cargo_toml_write.proofs.Others.{others_put, others_all}
 use Rattle.cargo_toml_write.proofs.Tables.{get_put-same, get_put-other}
 
@@ -75,12 +75,12 @@ of_parts ms x p c hx hp hc = then _ _ x _ hx (then _ _ p _ hp (then _ _ c _ hc r
 table_again : (l : LintMeaning) → IsApart l → i8_of (integer l.priority) ≡ Some l.priority → lint_of (lint_table l) ≡ Some l
 table_again l apart fits =
     let base : Members = members_of l.config in
-    let levelled : Members = put (codes "level") (string (level_text l.level)) base in
-    let at_level : get_member (codes "level") (put (codes "priority") (integer l.priority) levelled) ≡ Some (string (level_text l.level))
+    let levelled : Members = put_member (codes "level") (string (level_text l.level)) base in
+    let at_level : get_member (codes "level") (put_member (codes "priority") (integer l.priority) levelled) ≡ Some (string (level_text l.level))
     = get_put-other (codes "level") (codes "priority") (integer l.priority) levelled refl ∙ get_put-same (codes "level") (string (level_text l.level)) base in
-    let at_priority : get_member (codes "priority") (put (codes "priority") (integer l.priority) levelled) ≡ Some (integer l.priority)
+    let at_priority : get_member (codes "priority") (put_member (codes "priority") (integer l.priority) levelled) ≡ Some (integer l.priority)
     = get_put-same (codes "priority") (integer l.priority) levelled in
-    of_parts (put (codes "priority") (integer l.priority) levelled) l.level l.priority l.config
+    of_parts (put_member (codes "priority") (integer l.priority) levelled) l.level l.priority l.config
     (rw at_level (level_again l.level))
     (rw at_priority fits)
     (others_put lint_keys (codes "priority") (integer l.priority) levelled refl ∙ others_put lint_keys (codes "level") (string (level_text l.level)) base refl ∙ others_all lint_keys l.config (recursion_from_All (λ (m : List ℕ × Data). is_among lint_keys m.0 ≡ false) l.config apart))
@@ -99,13 +99,13 @@ in_range p fits =
     rw test refl
 
 -- a copy of what else is said of the lint, over which a level and a number were put
-put_over : (l : LintMeaning) (base mid ms : Members) (level number : Data) → base ≡ members_of l.config → mid ≡ put (codes "level") level base → ms ≡ put (codes "priority") number mid
+put_over : (l : LintMeaning) (base mid ms : Members) (level number : Data) → base ≡ members_of l.config → mid ≡ put_member (codes "level") level base → ms ≡ put_member (codes "priority") number mid
     → level ≡ string (level_text l.level) → number ≡ integer l.priority → table ms ≡ lint_table l
 put_over l base mid ms level number first second third is_level is_number = rw (third, second, first, is_level, is_number) refl
 
 pub is_table : (l : Lint) (m copy between : BTreeMap (String Global) Value) (level number : Data)
     → AllZip (λ p q. (string_bytes q.0 ≡ string_bytes p.0) × (view q.1 ≡ view p.1)) l.config.entries copy.entries
-    → table_view between ≡ put (codes "level") level (table_view copy) → table_view m ≡ put (codes "priority") number (table_view between)
+    → table_view between ≡ put_member (codes "level") level (table_view copy) → table_view m ≡ put_member (codes "priority") number (table_view between)
     → level ≡ string (level_text l.level) → number ≡ integer l.priority → view (Table m) ≡ lint_table (lint_meaning l)
 is_table l m copy between level number same second third is_level is_number =
     view-Table m ∙ put_over (lint_meaning l) (table_view copy) (table_view between) (table_view m) level number (same_members l.config.entries copy.entries same) second third is_level is_number

@@ -8,7 +8,7 @@ use Rattle.std.proofs.lemmas.Slice.Eq.{bytes_eq-Decides}
 use Rattle.toml.specs.Data.{Data, Members, no_members, member}
 use Rattle.cargo_toml_parts.specs.Reads.{is_among, others_read}
 use Rattle.cargo_toml_write.specs.WrittenLints.{members_of}
-use Rattle.cargo_toml_write.specs.Writes.{put}
+use Rattle.cargo_toml_write.specs.Writes.{put_member}
 
 abbrev others : List (List ℕ) → Members → Option (List (List ℕ × Data))
 others names ms = others_read names (λ d. Some d) ms
@@ -17,15 +17,15 @@ pub same_key : (k l : List ℕ) → slice_cmp nat_cmp k l ≡ Equal → k ≡ l
 same_key k l h = (bytes_eq-Decides k l).0 (sym (is_eq-slice_cmp k l) ∙ ap is_eq h)
 
 put_at : (o : Ordering) (names : List (List ℕ)) (k l : List ℕ) (d e : Data) (ms : Members) → o ≡ slice_cmp nat_cmp k l → is_among names k ≡ true
-    → others names (put k d ms) ≡ others names ms
-    → others names (match_ordering o (member k d (member l e ms)) (member l d ms) (member l e (put k d ms))) ≡ others names (member l e ms)
+    → others names (put_member k d ms) ≡ others names ms
+    → others names (match_ordering o (member k d (member l e ms)) (member l d ms) (member l e (put_member k d ms))) ≡ others names (member l e ms)
 put_at Less names k l d e ms same among rest = rw among refl
 put_at Equal names k l d e ms same among rest =
     let named : is_among names l ≡ true = subst (λ (x : List ℕ). is_among names x ≡ true) (same_key k l (sym same)) among in
     rw named refl
 put_at Greater names k l d e ms same among rest = rw rest refl
 
-pub others_put : (names : List (List ℕ)) (k : List ℕ) (d : Data) (ms : Members) → is_among names k ≡ true → others_read names (λ x. Some x) (put k d ms) ≡ others_read names (λ x. Some x) ms
+pub others_put : (names : List (List ℕ)) (k : List ℕ) (d : Data) (ms : Members) → is_among names k ≡ true → others_read names (λ x. Some x) (put_member k d ms) ≡ others_read names (λ x. Some x) ms
 others_put names k d no_members among = rw among refl
 others_put names k d (member l e ms) among = put_at (slice_cmp nat_cmp k l) names k l d e ms refl among (others_put names k d ms among)
 

@@ -17,7 +17,7 @@ use Rattle.cargo_toml_parts.specs.Reads.{items_reads, list_of, required_of, opti
 use Rattle.cargo_toml_parts.specs.Versions.{Parts, version_of}
 use Rattle.cargo_toml_write.specs.Ways.{text_way, texts_way, truth_way, version_way, inheritable_way, inherited_tree, AreItems, is_nil, is_set_and, unless_missing}
 use Rattle.cargo_toml_write.specs.WrittenPackages.{VersionAgain}
-use Rattle.cargo_toml_write.specs.Writes.{Way, IsWriting, Row, IsHeld, AreWritten, put, put_some, unless}
+use Rattle.cargo_toml_write.specs.Writes.{Way, IsWriting, Row, IsHeld, AreWritten, put_member, put_some, unless}
 use Rattle.cargo_toml_write.proofs.Tables.{get_put-same, get_put-other}
 
 -- what holds of each tree of a value holds of the one that was written
@@ -30,7 +30,7 @@ abbrev pub or_else : Option Data → Option Data → Option Data
 or_else None o = o
 or_else (Some d) o = Some d
 
-put_at : (b : Bool) (k l : List ℕ) (d : Data) (ms : Members) → b ≡ is_eq (slice_cmp nat_cmp k l) → get_member k (put l d ms) ≡ cond b (Some d) (get_member k ms)
+put_at : (b : Bool) (k l : List ℕ) (d : Data) (ms : Members) → b ≡ is_eq (slice_cmp nat_cmp k l) → get_member k (put_member l d ms) ≡ cond b (Some d) (get_member k ms)
 put_at true k l d ms h =
     let same : k ≡ l = (bytes_eq-Decides k l).0 (sym (h ∙ is_eq-slice_cmp k l)) in
     rw same (get_put-same l d ms)

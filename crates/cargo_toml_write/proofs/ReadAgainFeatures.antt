@@ -18,7 +18,7 @@ use Rattle.cargo_toml_dependencies.proofs.Apart.{Ascend}
 use Rattle.cargo_toml_parts.proofs.Steps.{then}
 use Rattle.cargo_toml_parts.specs.Reads.{is_among, list_of, map_of, members_reads}
 use Rattle.cargo_toml_write.specs.Ways.{entry_rows, is_nil, map_way, text_way, texts_way}
-use Rattle.cargo_toml_write.specs.Writes.{AreWritten, IsHeld, Way, put}
+use Rattle.cargo_toml_write.specs.Writes.{AreWritten, IsHeld, Way, put_member}
 use Rattle.cargo_toml_write.specs.WrittenFeatures.{AreTold, FeatureTree, detail_at, feature_way, features_in, features_way, told_features, told_rows, told_way}
 use Rattle.cargo_toml_write.specs.WrittenManifests.{all_features, manifest_rows, manifest_way}
 use Rattle.cargo_toml_manifest.specs.Manifests.{ManifestMeaning}
@@ -58,10 +58,10 @@ abbrev behind : Members → List ℕ → Data → Members
 behind no_members k d = member k d no_members
 behind (member l e ms) k d = member l e (behind ms k d)
 
-put_behind : (k : List ℕ) (d : Data) (ms : Members) → MembersBelow ms k → put k d ms ≡ behind ms k d
+put_behind : (k : List ℕ) (d : Data) (ms : Members) → MembersBelow ms k → put_member k d ms ≡ behind ms k d
 put_behind k d no_members h = refl
 put_behind k d (member l e ms) h =
-    ap (λ (o : Ordering). match_ordering o (member k d (member l e ms)) (member l d ms) (member l e (put k d ms))) h.0 ∙ ap (member l e) (put_behind k d ms h.1)
+    ap (λ (o : Ordering). match_ordering o (member k d (member l e ms)) (member l d ms) (member l e (put_member k d ms))) h.0 ∙ ap (member l e) (put_behind k d ms h.1)
 
 below_behind : (k name : List ℕ) (d : Data) (ms : Members) → slice_cmp nat_cmp k name ≡ Less → MembersBelow ms name → MembersBelow (behind ms k d) name
 below_behind k name d no_members less h = (nat_list_cmp_total.antisymm name k ∙ ap ordering_reverse less, tt)

@@ -3,7 +3,7 @@ use Rattle.std.proofs.Common.{◌≡◌, ◌∙◌, refl, ap, ℕ, List, [], cod
 use Rattle.semver.specs.Identifiers.{parts_of}
 use Rattle.toml.specs.Data.{Data, Members, no_members, get_member, as_str, as_table}
 use Rattle.cargo_toml_package.specs.declared.package.Package.{Package}
-use Rattle.cargo_toml_package.specs.Packages.{PackageMeaning, package_meaning, package_of, package_reads}
+use Rattle.cargo_toml_package.specs.Packages.{PackageMeaning, package_meaning, package_of_table, package_reads}
 use Rattle.cargo_toml_settings.specs.Settings.{edition_reads, resolver_reads}
 use Rattle.cargo_toml_parts.proofs.Steps.{then}
 use Rattle.cargo_toml_parts.specs.declared.inheritable.Inheritable.{Inheritable}
@@ -15,7 +15,7 @@ use Rattle.cargo_toml_settings.specs.Settings.{File, flag, file_of, Registries, 
 use Rattle.cargo_toml_parts.specs.Versions.{version_of}
 use Rattle.cargo_toml_write.specs.Ways.{text_way, texts_way, version_way, inheritable_way, is_nil}
 use Rattle.cargo_toml_write.specs.WrittenPackages.{package_way, package_rows, VersionAgain, MetadataAgain}
-use Rattle.cargo_toml_write.specs.WrittenSettings.{edition_way, resolver_way, file_way, is_usual, publish_way, is_everywhere}
+use Rattle.cargo_toml_write.specs.WrittenSettings.{edition_way, resolver_way, file_way, is_usual, publish_way, is_unrestricted}
 use Rattle.cargo_toml_write.specs.Writes.{Way, IsHeld, AreWritten, unless}
 use Rattle.cargo_toml_write.proofs.ReadAgain.{ReadsAs, Holds, holds, got, required_again, optional_again, given_read, flag_again, text_again, texts_again, no_texts, inheritable_again, set_again, version_again}
 use Rattle.cargo_toml_write.proofs.ReadAgainSettings.{edition_again, resolver_again, file_again, usual_file, publish_again, published_everywhere}
@@ -45,7 +45,7 @@ known_publish : (x : Inheritable Registries) (o : Option Data) → Holds (inheri
     → given_of (inheritable_of publish_of) (Set (everywhere true)) o ≡ Some x
 known_publish x o h =
     given_read _ (inheritable_way publish_way) (inheritable_of publish_of) (Set (everywhere true)) x o (inheritable_again publish_way publish_of x publish_again refl)
-    (set_again is_everywhere (everywhere true) x published_everywhere) (holds (inheritable_way publish_way) _ _ h)
+    (set_again is_unrestricted (everywhere true) x published_everywhere) (holds (inheritable_way publish_way) _ _ h)
 
 -- the metadata
 metadata_read : {X W M : Type 0} (way : Way W) (held : X → W) (meaning : X → M) (reads : Data → Option M) (x : Option X) (o : Option Data)
@@ -56,7 +56,7 @@ metadata_read way held meaning reads (Some x) (Some d) again is = ap (λ m. opti
 
 module _ {X W M : Type 0} (way : Way W) (held : X → W) (meaning : X → M) (reads : Data → Option M) (p : Package X) where
   members_again : (ms : Members) → VersionAgain (inheritable_map parts_of p.version) → MetadataAgain way held meaning reads p.metadata
-      → AreWritten (package_rows way (package_meaning held p)) no_members ms → package_of reads ms ≡ Some (package_meaning meaning p)
+      → AreWritten (package_rows way (package_meaning held p)) no_members ms → package_of_table reads ms ≡ Some (package_meaning meaning p)
   members_again ms version metadata written =
       let q : PackageMeaning W = package_meaning held p in
       let at = λ (k : List ℕ). got k (package_rows way q) no_members ms written in
@@ -93,4 +93,4 @@ module _ {X W M : Type 0} (way : Way W) (held : X → W) (meaning : X → M) (re
       → (d : Data) → (package_way way).trees (package_meaning held p) d → package_reads reads d ≡ Some (package_meaning meaning p)
   unfolding package_reads
   package_again version metadata d (ms, is, written) =
-      ap (λ t. option_and_then (package_of reads) (as_table t)) is ∙ members_again ms version metadata written
+      ap (λ t. option_and_then (package_of_table reads) (as_table t)) is ∙ members_again ms version metadata written

@@ -6,7 +6,7 @@ use Rattle.cargo_toml_settings.specs.declared.settings.Edition.TheVariants.{E201
 use Rattle.cargo_toml_settings.specs.declared.settings.Resolver.{Resolver}
 use Rattle.cargo_toml_settings.specs.declared.settings.Resolver.TheVariants.{V1, V2, V3}
 use Rattle.cargo_toml_settings.specs.Settings.{edition_of, resolver_of, File, flag, path, file_of, Registries, everywhere, among, publish_of}
-use Rattle.cargo_toml_write.specs.WrittenSettings.{edition_way, resolver_way, file_way, is_usual, publish_way, is_everywhere}
+use Rattle.cargo_toml_write.specs.WrittenSettings.{edition_way, resolver_way, file_way, is_usual, publish_way, is_unrestricted}
 use Rattle.cargo_toml_write.proofs.ReadAgain.{ReadsAs, texts_again}
 
 pub edition_again : (x : Edition) → ReadsAs edition_way (λ d. option_and_then edition_of (as_str d)) x x
@@ -32,6 +32,6 @@ pub publish_again : (x : Registries) → ReadsAs publish_way publish_of x x
 publish_again (everywhere b) d is = ap publish_of is
 publish_again (among names) d (ds, is, items) = ap publish_of is ∙ ap (option_map among) (texts_again names _ (ds, refl, items))
 
-pub published_everywhere : (x : Registries) → is_everywhere x ≡ true → x ≡ everywhere true
+pub published_everywhere : (x : Registries) → is_unrestricted x ≡ true → x ≡ everywhere true
 published_everywhere (everywhere b) h = ap everywhere h
 published_everywhere (among names) h = absurd cc

@@ -9,7 +9,7 @@ use Rattle.cargo_toml_dependencies.specs.Targets.{target_of}
 use Rattle.cargo_toml_manifest.specs.Manifests.{ManifestMeaning, by_zero_rule, zero_rule_applies, target_reads, product_reads, badges_reads, no_badges, profiles_reads, no_profiles, manifest_of, manifest_reads}
 use Rattle.cargo_toml_manifest.specs.Texts.{any_tree, document_reads}
 use Rattle.cargo_toml_workspace.specs.Workspaces.{WorkspaceMeaning, workspace_of, workspace_reads}
-use Rattle.cargo_toml_package.specs.Packages.{PackageMeaning, package_of, package_reads}
+use Rattle.cargo_toml_package.specs.Packages.{PackageMeaning, package_of_table, package_reads}
 use Rattle.cargo_toml_parts.specs.declared.inheritable.Inheritable.TheVariants.{Set}
 use Rattle.cargo_toml_parts.specs.Floats.{has_no_float, without_floats}
 use Rattle.cargo_toml_parts.specs.Inherits.{inheritable_of}
@@ -113,14 +113,14 @@ module _ {M : Type 0} (Metadata : M → Type 0) (metadata_of : Data → Option M
   package_holds : (p : PackageMeaning M) → IfSome p.metadata Metadata → Gives (PackageHoldsNoFloat Metadata) (Some p)
   package_holds p metadata = gives_some {P = PackageHoldsNoFloat Metadata} p (record { metadata = metadata })
 
-  package_members : (ms : Members) → MembersFloatless ms → Gives (PackageHoldsNoFloat Metadata) (package_of metadata_of ms)
+  package_members : (ms : Members) → MembersFloatless ms → Gives (PackageHoldsNoFloat Metadata) (package_of_table metadata_of ms)
   package_members ms h =
       let metadata : Gives (λ x. IfSome x Metadata) (optional_at "metadata" metadata_of ms) = optional_reads {P = Metadata} "metadata" metadata_of metadata_read ms h in
       search (bind, skip, package_holds) depth 80 fits 4000
 
   package_read : Reads (PackageHoldsNoFloat Metadata) (package_reads metadata_of)
   unfolding package_reads
-  package_read d h = table_reads (package_of metadata_of) package_members d h
+  package_read d h = table_reads (package_of_table metadata_of) package_members d h
 
   workspace_holds : (w : WorkspaceMeaning M) → IfSome w.metadata Metadata → EachValue DependencyHoldsNoFloat w.dependencies → LintsHoldNoFloat w.lints → Gives (WorkspaceHoldsNoFloat Metadata) (Some w)
   workspace_holds w metadata dependencies lints =

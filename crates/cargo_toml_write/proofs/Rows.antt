@@ -4,7 +4,7 @@ use Rattle.toml.specs.Data.{Data, Members, no_members}
 use Rattle.toml.specs.declared.value.Value.{Value}
 use Rattle.cargo_toml_parts.specs.declared.error.Error.{Error, Memory}
 use Rattle.cargo_toml_parts.specs.Floats.{has_no_float}
-use Rattle.cargo_toml_write.specs.Writes.{Way, IsWriting, Row, required_row, optional_row, given_row, AreWritten, AreRefused, Goes, Ends, put, table_way}
+use Rattle.cargo_toml_write.specs.Writes.{Way, IsWriting, Row, required_row, optional_row, given_row, AreWritten, AreRefused, WritesFrom, WritingEnds, put_member, table_way}
 
 -- some rows and then others
 are_both : (rs qs : List Row) (old mid new : Members) → AreWritten rs old mid → AreWritten qs mid new → AreWritten (rs ++ qs) old new
@@ -28,30 +28,30 @@ then_stops : (rs qs : List Row) (e : Error) → (e ≡ Memory) ⊎ AreRefused qs
 then_stops rs qs e (inl memory) = inl memory
 then_stops rs qs e (inr h) = inr (refused_then rs qs e h)
 
-pub both : (rs qs : List Row) (a b c : Option Error) (old mid new : Members) → Goes rs a old b mid → Goes qs b mid c new → Goes (rs ++ qs) a old c new
-unfolding Goes
+pub both : (rs qs : List Row) (a b c : Option Error) (old mid new : Members) → WritesFrom rs a old b mid → WritesFrom qs b mid c new → WritesFrom (rs ++ qs) a old c new
+unfolding WritesFrom
 both rs qs (Some d) None c old mid new first rest = absurd cc
 both rs qs (Some d) (Some e) c old mid new first rest = rest ∙ first
 both rs qs None None None old mid new first rest = are_both rs qs old mid new first rest
 both rs qs None None (Some e) old mid new first rest = then_stops rs qs e rest
 both rs qs None (Some d) None old mid new first rest = absurd cc
 both rs qs None (Some d) (Some e) old mid new first rest =
-    first_stops rs qs e (subst (λ (x : Option Error). Goes rs None old x mid) (sym rest) first)
+    first_stops rs qs e (subst (λ (x : Option Error). WritesFrom rs None old x mid) (sym rest) first)
 
 -- a row, and then others; and no more rows
 pub then : (row : Row) (rows : List Row) (a b c : Option Error) (old mid new : Members)
-    → Goes (row ∷ []) a old b mid → Goes rows b mid c new → Goes (row ∷ rows) a old c new
+    → WritesFrom (row ∷ []) a old b mid → WritesFrom rows b mid c new → WritesFrom (row ∷ rows) a old c new
 then row rows a b c old mid new first rest = both (row ∷ []) rows a b c old mid new first rest
 
-pub done : (a : Option Error) (ms : Members) → Goes [] a ms a ms
-unfolding Goes
+pub done : (a : Option Error) (ms : Members) → WritesFrom [] a ms a ms
+unfolding WritesFrom
 done None ms = refl
 done (Some e) ms = refl
 
 -- a tree that was put at a key
 pub is_put : {X : Type 0} (key : List ℕ) (way : Way X) (x : X) (d : Data) (fault : Option Error) (old new : Members)
-    → is_some fault ≡ false → way.trees x d → IsTrue (has_no_float d) → new ≡ put key d old → Goes (required_row key way x ∷ []) fault old fault new
-unfolding Goes
+    → is_some fault ≡ false → way.trees x d → IsTrue (has_no_float d) → new ≡ put_member key d old → WritesFrom (required_row key way x ∷ []) fault old fault new
+unfolding WritesFrom
 is_put key way x d None old new no_fault tree free is = (new, (Some d, tree, free, is), refl)
 is_put key way x d (Some e) old new no_fault tree free is = absurd cc
 
@@ -68,15 +68,15 @@ refuses rows x e (inl memory) = inl memory
 refuses rows x e (inr h) = inr (λ d (ms, is, written). no_rows (rows x) no_members ms e h written, h)
 
 from_start : {X : Type 0} (rows : X → List Row) (x : X) (fault : Option Error) (ms : Members) (answer : Result Value Error)
-    → Goes (rows x) None no_members fault ms → Ends fault ms answer → IsWriting (table_way rows) x answer
-unfolding Goes
+    → WritesFrom (rows x) None no_members fault ms → WritingEnds fault ms answer → IsWriting (table_way rows) x answer
+unfolding WritesFrom
 from_start rows x None ms (Ok v) goes (no_fault, is) = (ms, is, goes)
 from_start rows x (Some d) ms (Ok v) goes (no_fault, is) = absurd cc
 from_start rows x fault ms (Err e) goes end =
-    refuses rows x e (subst (λ (f : Option Error). Goes (rows x) None no_members f ms) end goes)
+    refuses rows x e (subst (λ (f : Option Error). WritesFrom (rows x) None no_members f ms) end goes)
 
 pub ends : {X : Type 0} (rows : X → List Row) (x : X) (a b : Option Error) (old new : Members) (answer : Result Value Error)
-    → a ≡ None → old ≡ no_members → Goes (rows x) a old b new → Ends b new answer → IsWriting (table_way rows) x answer
+    → a ≡ None → old ≡ no_members → WritesFrom (rows x) a old b new → WritingEnds b new answer → IsWriting (table_way rows) x answer
 ends rows x a b old new answer no_fault no_key goes end = from_start rows x b new answer (rw (no_fault, no_key) at goes) end
 
 -- a row of a value that means itself
@@ -85,11 +85,11 @@ plain-map None = refl
 plain-map (Some x) = refl
 
 pub then_same : {X : Type 0} (way : Way X) (key : List ℕ) (x : Option X) (rows : List Row) (a b c : Option Error) (old mid new : Members)
-    → Goes (optional_row key way (option_map (λ (y : X). y) x) ∷ []) a old b mid → Goes rows b mid c new → Goes (optional_row key way x ∷ rows) a old c new
+    → WritesFrom (optional_row key way (option_map (λ (y : X). y) x) ∷ []) a old b mid → WritesFrom rows b mid c new → WritesFrom (optional_row key way x ∷ rows) a old c new
 then_same {X = X} way key x rows a b c old mid new first rest =
-    then (optional_row key way x) rows a b c old mid new (subst (λ (y : Option X). Goes (optional_row key way y ∷ []) a old b mid) (plain-map x) first) rest
+    then (optional_row key way x) rows a b c old mid new (subst (λ (y : Option X). WritesFrom (optional_row key way y ∷ []) a old b mid) (plain-map x) first) rest
 
 -- a row of a value that is told in another way
 pub given_as : {X : Type 0} (key : List ℕ) (way : Way X) (x y : X) (a b : Option Error) (old new : Members)
-    → x ≡ y → Goes (given_row key way x ∷ []) a old b new → Goes (given_row key way y ∷ []) a old b new
-given_as {X = X} key way x y a b old new same goes = subst (λ (z : X). Goes (given_row key way z ∷ []) a old b new) same goes
+    → x ≡ y → WritesFrom (given_row key way x ∷ []) a old b new → WritesFrom (given_row key way y ∷ []) a old b new
+given_as {X = X} key way x y a b old new same goes = subst (λ (z : X). WritesFrom (given_row key way z ∷ []) a old b new) same goes

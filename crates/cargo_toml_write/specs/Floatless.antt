@@ -25,7 +25,7 @@ use Rattle.cargo_toml_write.specs.WrittenLints.{lint_way}
 use Rattle.cargo_toml_write.specs.WrittenSettings.{level_text, level_way, file_tree, file_way}
 use Rattle.cargo_toml_write.specs.WrittenSettings.{debug_tree, debug_way, strip_tree, strip_way}
 use Rattle.cargo_toml_write.specs.WrittenSettings.{lto_tree, lto_way, publish_way}
-use Rattle.cargo_toml_write.specs.Writes.{Way, IsFloatless, Row, put, put_some, AreWritten}
+use Rattle.cargo_toml_write.specs.Writes.{Way, IsFloatless, Row, put_member, put_some, AreWritten}
 use Rattle.cargo_toml_write.specs.Writes.{table_way}
 
 abbrev Floatless : Data → Type 0
@@ -72,14 +72,14 @@ both_parts true b h = (refl, h)
 both_parts false b h = absurd cc
 
 put_at : (o : Ordering) (k l : List ℕ) (d e : Data) (ms : Members) → Floatless d → Floatless e
-    → AllFloatless ms → AllFloatless (put k d ms) → AllFloatless
-    (match_ordering o (member k d (member l e ms)) (member l d ms) (member l e (put k d ms)))
+    → AllFloatless ms → AllFloatless (put_member k d ms) → AllFloatless
+    (match_ordering o (member k d (member l e ms)) (member l d ms) (member l e (put_member k d ms)))
 put_at Less k l d e ms new old rest more = and_from _ _ new (and_from _ _ old rest)
 put_at Equal k l d e ms new old rest more = and_from _ _ new rest
 put_at Greater k l d e ms new old rest more = and_from _ _ old more
 
 put_floatless : (k : List ℕ) (d : Data) (ms : Members) → Floatless d → AllFloatless ms
-    → AllFloatless (put k d ms)
+    → AllFloatless (put_member k d ms)
 put_floatless k d no_members new old = and_from _ _ new refl
 put_floatless k d (member l e ms) new old =
     let parts : Floatless e × AllFloatless ms = both_parts _ _ old in
@@ -130,7 +130,7 @@ table_lint_floatless l d (none, is) =
     let level : Data = string (level_text l.level) in
     let before = put_floatless (codes "level") level (members_of l.config) refl none in
     subst Floatless (sym is) (put_floatless (codes "priority") (integer l.priority)
-    (put (codes "level") level (members_of l.config)) refl before)
+    (put_member (codes "level") level (members_of l.config)) refl before)
 
 lint_either : (b : Bool) (l : LintMeaning) (d : Data)
     → MatchBool b (level_way.trees l.level d) (table_lint_way.trees l d) → Floatless d

@@ -11,14 +11,15 @@ use Rattle.cargo_toml_parts.specs.declared.inheritable.Inheritable.TheVariants.{
 use Rattle.cargo_toml_parts.specs.Faults.{IsOther, floats_unsupported}
 use Rattle.cargo_toml_parts.specs.Floats.{has_no_float}
 use Rattle.cargo_toml_parts.specs.Versions.{Parts}
-use Rattle.cargo_toml_write.specs.Writes.{Way, Row, required_row, optional_row, table_way, never}
+use Rattle.cargo_toml_write.specs.Writes.{Way, Row, required_row, optional_row, table_way}
+use Rattle.cargo_toml_write.specs.Writes.{never_left_out}
 
 -- what always has one tree
 abbrev pub exactly : {X : Type 0} → (X → Data) → Way X
 exactly tree = record {
   trees = λ x d. d ≡ tree x;
   refuses = λ x e. ⊥;
-  left_out = never;
+  left_out = never_left_out;
 }
 
 abbrev pub text_way : Way (List ℕ)
@@ -38,7 +39,7 @@ abbrev pub requirement_way : Way (List Held)
 requirement_way = record {
   trees = λ held d. (bytes : List ℕ) × (d ≡ string bytes);
   refuses = λ held e. ⊥;
-  left_out = never;
+  left_out = never_left_out;
 }
 
 -- a tree itself, unless it holds a float
@@ -46,7 +47,7 @@ abbrev pub free_way : Way Data
 free_way = record {
   trees = λ tree d. IsTrue (has_no_float tree) × (d ≡ tree);
   refuses = λ tree e. IsOther floats_unsupported e;
-  left_out = never;
+  left_out = never_left_out;
 }
 
 -- a list: a tree for each element; an empty one is left out

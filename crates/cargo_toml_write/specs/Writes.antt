@@ -25,8 +25,8 @@ HasTree way x = (d : Data) × way.trees x d
 abbrev pub IsFloatless : {X : Type 0} → Way X → Type 0
 IsFloatless {X = X} way = (x : X) (d : Data) → way.trees x d → IsTrue (has_no_float d)
 
-abbrev pub never : {X : Type 0} → X → Bool
-never x = false
+abbrev pub never_left_out : {X : Type 0} → X → Bool
+never_left_out x = false
 
 -- the answer is a tree of what is held; where there is none, it is a fault that says why; or
 -- there was no memory
@@ -39,16 +39,16 @@ abbrev pub IsReadAgain : {M : Type 0} → (Data → Option M) → M → Result V
 IsReadAgain reads m answer = IfOk answer (λ v. without_floats reads (view v) ≡ Some m)
 
 -- the members, with d at the key k
-abbrev pub put : List ℕ → Data → Members → Members
-put k d no_members = member k d no_members
-put k d (member l e ms) =
+abbrev pub put_member : List ℕ → Data → Members → Members
+put_member k d no_members = member k d no_members
+put_member k d (member l e ms) =
     match_ordering (slice_cmp nat_cmp k l) (member k d (member l e ms)) (member l d ms)
-    (member l e (put k d ms))
+    (member l e (put_member k d ms))
 
 -- the same, where there may be nothing to put
 abbrev pub put_some : List ℕ → Option Data → Members → Members
 put_some k None ms = ms
-put_some k (Some d) ms = put k d ms
+put_some k (Some d) ms = put_member k d ms
 
 -- a row of a table: a key, and what stands at it, if anything, with the way in which that is
 -- written
@@ -104,23 +104,24 @@ AreRefused (row ∷ rows) e = RowRefused row e ⊎ AreRefused rows e
 
 -- from the fault and the members before some rows to those after them: a fault stands, and nothing
 -- else is said once there is one
-unfoldable pub Goes : List Row → Option Error → Members → Option Error → Members → Type 0
-Goes rows (Some e) old after new = after ≡ Some e
-Goes rows None old None new = AreWritten rows old new
-Goes rows None old (Some e) new = (e ≡ Memory) ⊎ AreRefused rows e
+unfoldable pub WritesFrom : List Row → Option Error → Members → Option Error → Members → Type 0
+WritesFrom rows (Some e) old after new = after ≡ Some e
+WritesFrom rows None old None new = AreWritten rows old new
+WritesFrom rows None old (Some e) new = (e ≡ Memory) ⊎ AreRefused rows e
 
-abbrev pub Writes : List Row → Writing → Writing → Type 0
-Writes rows old new = Goes rows old.fault (table_view old.table) new.fault (table_view new.table)
+abbrev pub WritesRows : List Row → Writing → Writing → Type 0
+WritesRows rows old new =
+    WritesFrom rows old.fault (table_view old.table) new.fault (table_view new.table)
 
 -- the end of a writing: its table, or its fault
-abbrev pub Ends : Option Error → Members → Result Value Error → Type 0
-Ends fault ms (Ok v) = (fault ≡ None) × (view v ≡ table ms)
-Ends fault ms (Err e) = fault ≡ Some e
+abbrev pub WritingEnds : Option Error → Members → Result Value Error → Type 0
+WritingEnds fault ms (Ok v) = (fault ≡ None) × (view v ≡ table ms)
+WritingEnds fault ms (Err e) = fault ≡ Some e
 
 -- a table of rows
 abbrev pub table_way : {X : Type 0} → (X → List Row) → Way X
 table_way rows = record {
   trees = λ x d. (ms : Members) × (d ≡ table ms) × AreWritten (rows x) no_members ms;
   refuses = λ x e. AreRefused (rows x) e;
-  left_out = never;
+  left_out = never_left_out;
 }

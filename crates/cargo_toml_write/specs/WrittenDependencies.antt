@@ -9,7 +9,7 @@ use Rattle.cargo_toml_parts.specs.declared.error.Error.{Error}
 use Rattle.cargo_toml_write.specs.Ways.{text_way, texts_way, requirement_way}
 use Rattle.cargo_toml_write.specs.Ways.{free_way, map_way, entry_rows, flag_row}
 use Rattle.cargo_toml_write.specs.Writes.{Way, Row, required_row, optional_row}
-use Rattle.cargo_toml_write.specs.Writes.{given_row, table_way, never}
+use Rattle.cargo_toml_write.specs.Writes.{given_row, table_way, never_left_out}
 
 abbrev pub inherited_rows : InheritedMeaning → List Row
 inherited_rows i =
@@ -60,7 +60,7 @@ abbrev pub dependency_way : Way DependencyMeaning
 dependency_way = record {
   trees = DependencyTree;
   refuses = DependencyRefused;
-  left_out = never;
+  left_out = never_left_out;
 }
 
 -- the dependencies by key, and those of some targets: all three tables are written, empty ones too

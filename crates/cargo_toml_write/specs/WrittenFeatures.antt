@@ -10,7 +10,8 @@ use Rattle.cargo_toml_dependencies.specs.Features.{FeaturesMeaning, features_of,
 use Rattle.cargo_toml_parts.specs.declared.error.Error.{Error}
 use Rattle.cargo_toml_parts.specs.Reads.{given_at, is_among}
 use Rattle.cargo_toml_write.specs.Ways.{text_way, texts_way, flag_row, is_nil, map_way}
-use Rattle.cargo_toml_write.specs.Writes.{Way, Row, given_row, optional_row, table_way, never}
+use Rattle.cargo_toml_write.specs.Writes.{Way, Row, given_row, optional_row, table_way}
+use Rattle.cargo_toml_write.specs.Writes.{never_left_out}
 
 -- the table of a feature that has a detail
 abbrev pub told_rows : List (List ℕ) × Detail → List Row
@@ -36,7 +37,7 @@ abbrev pub feature_way : Way (List (List ℕ) × Option Detail)
 feature_way = record {
   trees = λ f d. FeatureTree f.0 f.1 d;
   refuses = λ f e. FeatureRefused f.0 f.1 e;
-  left_out = never;
+  left_out = never_left_out;
 }
 
 -- the detail of a name

@@ -8,7 +8,7 @@ use Rattle.cargo_toml_parts.specs.Floats.{members_have_no_float}
 use Rattle.cargo_toml_parts.specs.Reads.{is_among}
 use Rattle.cargo_toml_tables.specs.Lints.{LintMeaning, lint_keys}
 use Rattle.cargo_toml_write.specs.Ways.{map_way, is_nil}
-use Rattle.cargo_toml_write.specs.Writes.{Way, put, never}
+use Rattle.cargo_toml_write.specs.Writes.{Way, put_member, never_left_out}
 use Rattle.cargo_toml_write.specs.WrittenSettings.{level_way, level_text}
 
 -- the level says all of the lint
@@ -23,14 +23,14 @@ members_of (e ∷ es) = member e.0 e.1 (members_of es)
 abbrev pub lint_table : LintMeaning → Data
 lint_table l =
     let levelled : Members =
-    put (codes "level") (string (level_text l.level)) (members_of l.config) in
-    table (put (codes "priority") (integer l.priority) levelled)
+    put_member (codes "level") (string (level_text l.level)) (members_of l.config) in
+    table (put_member (codes "priority") (integer l.priority) levelled)
 
 abbrev pub table_lint_way : Way LintMeaning
 table_lint_way = record {
   trees = λ l d. IsTrue (members_have_no_float (members_of l.config)) × (d ≡ lint_table l);
   refuses = λ l e. IsOther floats_unsupported e;
-  left_out = never;
+  left_out = never_left_out;
 }
 
 -- a level, or a table that holds no float
@@ -41,7 +41,7 @@ abbrev pub lint_way : Way LintMeaning
 lint_way = record {
   trees = LintTree;
   refuses = λ l e. IsOther floats_unsupported e;
-  left_out = never;
+  left_out = never_left_out;
 }
 
 -- the lints by tool

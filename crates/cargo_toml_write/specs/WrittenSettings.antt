@@ -73,15 +73,15 @@ abbrev pub PublishRefused : Registries → Error → Type 0
 PublishRefused (everywhere b) e = ⊥
 PublishRefused (among names) e = texts_way.refuses names e
 
-abbrev pub is_everywhere : Registries → Bool
-is_everywhere (everywhere b) = b
-is_everywhere _ = false
+abbrev pub is_unrestricted : Registries → Bool
+is_unrestricted (everywhere b) = b
+is_unrestricted _ = false
 
 abbrev pub publish_way : Way Registries
 publish_way = record {
   trees = PublishTree;
   refuses = PublishRefused;
-  left_out = is_everywhere;
+  left_out = is_unrestricted;
 }
 
 abbrev pub debug_tree : DebugSetting → Data

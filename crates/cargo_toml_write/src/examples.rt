@@ -3,7 +3,7 @@ ghost use Rattle.std.specs.Prelude.{◌≡◌, ◌↔◌, [], codes, true, false
 ghost use Rattle.toml.specs.Data.{Data, string, boolean, table, no_members, member};
 ghost use Rattle.cargo_toml_manifest.specs.Manifests.{by_zero_rule};
 ghost use Rattle.cargo_toml_manifest.specs.Texts.{any_tree};
-ghost use Rattle.cargo_toml_package.specs.Packages.{package_of, new_package};
+ghost use Rattle.cargo_toml_package.specs.Packages.{package_of_table, new_package};
 ghost use Rattle.cargo_toml_parts.specs.declared.inheritable.Inheritable.TheVariants.{Set};
 ghost use Rattle.cargo_toml_parts.specs.declared.inheritable.Inheritable.TheVariants.{Inherited};
 ghost use Rattle.cargo_toml_settings.specs.Settings.{everywhere};
@@ -37,7 +37,7 @@ pub fn an_inheritable_text_is_written()
 /// A package that says no version has version 0.0.0, and is then published nowhere; one of version
 /// 0.1.0 still everywhere.
 pub fn version_zero_is_published_nowhere()
-    ensures zero { option_map (λ p. (by_zero_rule p).publish) (package_of any_tree only_name)
+    ensures zero { option_map (λ p. (by_zero_rule p).publish) (package_of_table any_tree only_name)
         ≡ Some (Set (everywhere false)) }
     ensures other { (by_zero_rule {M = Data} (new_package (codes "tool") (0, 1, 0, [], []))).publish
         ≡ Set (everywhere true) }

@@ -2,7 +2,7 @@
 ghost use Rattle.std.specs.Prelude.{◌≡◌, OnOk, IfErr};
 ghost use Rattle.toml.specs.View.{view, table_view};
 ghost use Rattle.cargo_toml_parts.specs.declared.error.Error.{Error};
-ghost use Rattle.cargo_toml_write.specs.Writes.{Way, IsWriting, IsFloatless, put};
+ghost use Rattle.cargo_toml_write.specs.Writes.{Way, IsWriting, IsFloatless, put_member};
 
 pub mod badge;
 pub mod collections;
@@ -57,7 +57,7 @@ pub trait LeftOut: ToValue {
 /// Puts a value at a key.
 pub fn put(table: &mut Table, alloc: Global, key: &str, value: Value) -> Result<(), Error>
     ensures ok { OnOk result (table_view table.new
-        ≡ put key.now (view value) (table_view table.old)) }
+        ≡ put_member key.now (view value) (table_view table.old)) }
     ensures memory { IfErr result (λ e. e ≡ Error.Memory) }
 {
     let name = String::from_str(alloc, key)?;

@@ -4,8 +4,8 @@ ghost use Rattle.std.specs.Path.{path_join};
 ghost use Rattle.cargo_toml_parts.specs.Copies.{Finishes};
 ghost use Rattle.cargo_toml_parts.specs.Inherits.{inheritable_map};
 ghost use Rattle.cargo_toml_settings.specs.Settings.{file_meaning};
-ghost use Rattle.cargo_toml_package.specs.Inheriting.{based, filled, filled_if_there};
-ghost use Rattle.cargo_toml_package.specs.Installing.{put, put_if_there, Fills};
+ghost use Rattle.cargo_toml_package.specs.Inheriting.{based, filled_field, filled_if_there};
+ghost use Rattle.cargo_toml_package.specs.Installing.{put_field, put_if_there, Fills};
 
 use cargo_toml_parts::Inheritable;
 use cargo_toml_parts::duplicate::Duplicate;
@@ -60,8 +60,8 @@ impl Filling {
     /// A copy of the workspace's value for a field that is inherited.
     pub fn given<T: Duplicate>(&mut self, field: &Inheritable<T>, value: &T) -> Option<T>
         ensures { Fills self.old.refused self.new.refused
-            (put (inheritable_map T.meaning field.now) (option_map T.meaning result)
-            ≡ filled (inheritable_map T.meaning field.now) (Some (T.meaning value.now))) }
+            (put_field (inheritable_map T.meaning field.now) (option_map T.meaning result)
+            ≡ filled_field (inheritable_map T.meaning field.now) (Some (T.meaning value.now))) }
     {
         match field {
             Inheritable::Set(_) => None,
@@ -72,8 +72,8 @@ impl Filling {
     /// The same of a value that the workspace may lack.
     pub fn optional<T: Duplicate>(&mut self, field: &Inheritable<T>, value: &Option<T>) -> Option<T>
         ensures { Fills self.old.refused self.new.refused
-            (put (inheritable_map T.meaning field.now) (option_map T.meaning result)
-            ≡ filled (inheritable_map T.meaning field.now) (option_map T.meaning value.now)) }
+            (put_field (inheritable_map T.meaning field.now) (option_map T.meaning result)
+            ≡ filled_field (inheritable_map T.meaning field.now) (option_map T.meaning value.now)) }
     {
         match value {
             Some(value) => self.given(field, value),
@@ -107,8 +107,8 @@ impl Filling {
         file: &OptionalFile,
     ) -> Option<OptionalFile>
         ensures { Fills self.old.refused self.new.refused
-            (put (inheritable_map file_meaning field.now) (option_map file_meaning result)
-            ≡ filled (inheritable_map file_meaning field.now)
+            (put_field (inheritable_map file_meaning field.now) (option_map file_meaning result)
+            ≡ filled_field (inheritable_map file_meaning field.now)
             (Some (based base.now (file_meaning file.now)))) }
     {
         match field {

@@ -8,7 +8,7 @@ ghost use Rattle.cargo_toml.specs.Inheritable.TheVariants.{Set};
 ghost use Rattle.cargo_toml.specs.InheritableValues.{value_of};
 ghost use Rattle.cargo_toml.specs.Inherits.{inheritable_map};
 ghost use Rattle.cargo_toml.specs.Manifests.{is_zero};
-ghost use Rattle.cargo_toml.specs.Packages.{package_meaning};
+ghost use Rattle.cargo_toml.specs.Packages.{held_package};
 ghost use Rattle.cargo_toml_tools.specs.declared.index.IndexError.TheVariants.{Incomplete, Memory};
 ghost use Rattle.cargo_toml_tools.specs.Checked.{AreChecked, IsRefusal, all_tables};
 ghost use Rattle.cargo_toml_tools.specs.IndexRows.{rows_of_package, stated_rows};
@@ -40,11 +40,11 @@ pub(super) fn check_crate<'a, M>(
     text: &str,
 ) -> Result<Stated<'a>, IndexError>
     ensures taken { OnOk result (AreChecked text.now
-        (package_meaning (λ m. m) «package».now) (all_tables dependencies.entry)) }
+        (held_package «package».now) (all_tables dependencies.entry)) }
     ensures refused { IfErr result (IsRefusal text.now
-        (package_meaning (λ m. m) «package».now) (all_tables dependencies.entry)) }
+        (held_package «package».now) (all_tables dependencies.entry)) }
     ensures told { IfOk result
-        (λ s. stated_rows s ≡ rows_of_package (package_meaning (λ m. m) «package».now)) }
+        (λ s. stated_rows s ≡ rows_of_package (held_package «package».now)) }
 {
     let version = stated_version(alloc, &package.version, text)?;
     check_dependencies(alloc, dependencies)?;

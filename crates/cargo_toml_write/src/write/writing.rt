@@ -7,7 +7,7 @@ ghost use Rattle.toml.specs.Data.{no_members};
 ghost use Rattle.toml.specs.View.{table_view};
 ghost use Rattle.cargo_toml_parts.specs.Reads.{map_meaning};
 ghost use Rattle.cargo_toml_write.specs.Ways.{entry_rows, flag_row};
-ghost use Rattle.cargo_toml_write.specs.Writes.{Writes, Ends, optional_row};
+ghost use Rattle.cargo_toml_write.specs.Writes.{WritesRows, WritingEnds, optional_row};
 ghost use Rattle.cargo_toml_write.specs.Writes.{required_row, given_row};
 
 use crate::write::{LeftOut, ToValue, put};
@@ -28,7 +28,7 @@ pub struct Writing {
     pub fault: Option<Error>,
 }
 
-#[tactic(auto, unfolding(crate::specs::Writes::Goes))]
+#[tactic(auto, unfolding(crate::specs::Writes::WritesFrom))]
 impl Writing {
     /// A writing that wrote nothing and met no fault yet.
     pub fn new(alloc: Global) -> Writing
@@ -44,7 +44,7 @@ impl Writing {
 
     /// Writes a value at a key.
     pub fn required<T: ToValue>(&mut self, key: &str, x: &T)
-        ensures { Writes (required_row key.now T.way (T.meaning x.now) ∷ []) self.old self.new }
+        ensures { WritesRows (required_row key.now T.way (T.meaning x.now) ∷ []) self.old self.new }
     {
         if self.fault.is_some() {
             return;
@@ -61,7 +61,7 @@ impl Writing {
 
     /// Writes a value at a key, where it is there.
     pub fn optional<T: ToValue>(&mut self, key: &str, x: &Option<T>)
-        ensures { Writes (optional_row key.now T.way (option_map T.meaning x.now) ∷ [])
+        ensures { WritesRows (optional_row key.now T.way (option_map T.meaning x.now) ∷ [])
             self.old self.new }
     {
         if let Some(x) = x {
@@ -71,7 +71,7 @@ impl Writing {
 
     /// Writes a value at a key, unless it is what a missing key stands for.
     pub fn given<T: LeftOut>(&mut self, key: &str, x: &T)
-        ensures { Writes (given_row key.now T.way (T.meaning x.now) ∷ []) self.old self.new }
+        ensures { WritesRows (given_row key.now T.way (T.meaning x.now) ∷ []) self.old self.new }
     {
         if !x.is_left_out() {
             self.required(key, x);
@@ -80,7 +80,7 @@ impl Writing {
 
     /// Writes a truth value at a key, unless it is the one that a missing key stands for.
     pub fn flag(&mut self, key: &str, missing: bool, flag: bool)
-        ensures { Writes (flag_row key.now missing flag ∷ []) self.old self.new }
+        ensures { WritesRows (flag_row key.now missing flag ∷ []) self.old self.new }
     {
         if flag != missing {
             self.required(key, &flag);
@@ -89,7 +89,7 @@ impl Writing {
 
     /// Writes each value of a map at its key.
     pub fn entries<T: ToValue>(&mut self, map: &BTreeMap<String, T>)
-        ensures { Writes (entry_rows T.way (map_meaning T.meaning map.now)) self.old self.new }
+        ensures { WritesRows (entry_rows T.way (map_meaning T.meaning map.now)) self.old self.new }
     {
         for (key, x) in map.iter() {
             self.required(key.as_str(), x);
@@ -98,7 +98,7 @@ impl Writing {
 
     /// The table, unless a fault was met.
     pub fn finish(self) -> Result<Value, Error>
-        ensures { Ends self.fault (table_view self.table) result }
+        ensures { WritingEnds self.fault (table_view self.table) result }
     {
         let Writing {
             alloc: _,

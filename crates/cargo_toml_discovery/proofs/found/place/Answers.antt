@@ -6,7 +6,7 @@ use Rattle.std.proofs.lemmas.Map.Text.{btree_map_updates_str}
 use denote.Ref.{Bor}
 use Rattle.cargo_toml_tables.specs.declared.product.Product as code
 use Rattle.cargo_toml_discovery.proofs.Walks.{walk-step, seen_twice, removed}
-use Rattle.cargo_toml_discovery.specs.Names.{Text}
+use Rattle.cargo_toml_discovery.specs.Names.{Name}
 use Rattle.cargo_toml_discovery.specs.Walk.{waiting_in}
 use Rattle.cargo_toml_tables.specs.Products.{product_meaning, ProductMeaning}
 use Rattle.cargo_toml_discovery.proofs.found.place.Goals as goal
@@ -14,17 +14,17 @@ use Rattle.cargo_toml_discovery.proofs.found.place.Goals as goal
 pub returns : goal.returns
 returns c = record {
   ok = λ o os is.
-      let w : Text → Option ProductMeaning = waiting_in c.args.still.now in
-      let w' : Text → Option ProductMeaning = waiting_in c.remove-waiting.new.self in
+      let w : Name → Option ProductMeaning = waiting_in c.args.still.now in
+      let w' : Name → Option ProductMeaning = waiting_in c.remove-waiting.new.self in
       let found : Option ProductMeaning = option_map product_meaning (option_copied c.remove-waiting.result) in
       let p : ProductMeaning = product_meaning c.in_ok-product_for.field-0 in
-      let bs : Text = string_bytes c.args.offer.name in
+      let bs : Name = string_bytes c.args.offer.name in
       let key = c.as_str.ensures.value in
       let finds : found ≡ w bs = seen_twice c.remove-waiting.result ∙ ap (λ (r : Option (Bor code.Product)). option_map (λ (q : Bor code.Product). product_meaning q.now) r) c.remove-waiting.ensures.value ∙ ap w key in
-      let after : (n : Text) → w' n ≡ cond (bytes_eq bs n) None (w n) = λ n.
+      let after : (n : Name) → w' n ≡ cond (bytes_eq bs n) None (w n) = λ n.
       ap (λ (r : Option (Bor code.Product)). option_map (λ (q : Bor code.Product). product_meaning q.now) r) (btree_map_updates_str c.as_str.result.now c.args.still.now c.remove-waiting.new.self None c.remove-waiting.ensures.updates n)
-      ∙ removed (bytes_eq c.as_str.result.now n) _ ∙ ap (λ (t : Text). cond (bytes_eq t n) None (w n)) key in
-      let step = walk-step c.args.edition w w' o os bs found p (ap (λ (q : Text × Text). q.0) is) finds (c.in_ok-product_for.ensures o is) after in
+      ∙ removed (bytes_eq c.as_str.result.now n) _ ∙ ap (λ (t : Name). cond (bytes_eq t n) None (w n)) key in
+      let step = walk-step c.args.edition w w' o os bs found p (ap (λ (q : Name × Name). q.0) is) finds (c.in_ok-product_for.ensures o is) after in
       rw (c.in_ok-push.ensures.items, map_push product_meaning c.args.list.now.items c.in_ok-product_for.field-0, append_assoc)
       (ap (λ (qs : List ProductMeaning). map product_meaning c.args.list.now.items ++ qs) (sym step));
 }

@@ -1,9 +1,9 @@
 use Rattle.std.proofs.Common.{◌≡◌, map, take}
 use Rattle.cargo_toml_discovery.specs.Found.{last_waiting}
-use Rattle.cargo_toml_discovery.specs.Names.{Text}
+use Rattle.cargo_toml_discovery.specs.Names.{Name}
 use Rattle.cargo_toml_discovery.specs.Walk.{waiting_in}
 use Rattle.cargo_toml_tables.specs.Products.{product_meaning}
 use Rattle.cargo_toml_discovery.proofs.found.waiting.Given as goal
 
 abbrev pub invariant-loop-product : goal.invariant-loop-product
-invariant-loop-product l = (n : Text) → waiting_in l.map n ≡ last_waiting (map product_meaning (take l.product-index l.products)) n
+invariant-loop-product l = (n : Name) → waiting_in l.map n ≡ last_waiting (map product_meaning (take l.product-index l.products)) n

@@ -2,7 +2,7 @@ use Rattle.std.proofs.Common.{◌≡◌, List, subst, true, rules}
 use Rattle.std.proofs.lemmas.Result.{err_from_is_err_and}
 use Rattle.cargo_toml_discovery.specs.Answers.{answers_of, names_in, below}
 use Rattle.cargo_toml_discovery.specs.Gathering.{HasEach}
-use Rattle.cargo_toml_discovery.specs.Names.{Text}
+use Rattle.cargo_toml_discovery.specs.Names.{Name}
 use Rattle.cargo_toml_discovery.proofs.Heard.{grows-on, has-grows, names_in-grows}
 use Rattle.cargo_toml_discovery.proofs.Whole.{has_products-here, is_answer-here, products-tells}
 use Rattle.cargo_toml_discovery.proofs.gather.ask_products.Goals as goal
@@ -24,7 +24,7 @@ returns-clause-has g c =
     let each = rw (c.as_slice.ensures.value, c.in_ok-paths.ensures) at c.in_ok-ask_each.ensures.has in
     let same = names_in-grows told b d dir grows c.in_ok-ask.ensures.has in
     has_products-here d c.args.is_wanted dir wanted (has-grows told b d dir grows c.in_ok-ask.ensures.has)
-    (subst (λ (ns : List Text). HasEach d (below dir ns)) same each)
+    (subst (λ (ns : List Name). HasEach d (below dir ns)) same each)
 
 pub returns-in_err-ask_each-clause-faults : goal.returns-in_err-ask_each-clause-faults
 returns-in_err-ask_each-clause-faults g c = λ fits.

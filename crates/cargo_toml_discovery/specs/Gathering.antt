@@ -1,11 +1,14 @@
 -- How names are gathered that discovery needs: what is kept is what was answered, and all that is
 -- needed is kept.
 use Rattle.std.specs.Prelude.{◌≡◌, Bool, true, false, List, [], ◌∷◌, Some}
-use Rattle.std.specs.Prelude.{is_some, codes, String, Result, MatchResult, ◌⊎◌}
-use Rattle.std.specs.BTreeSet.{BTreeSet}
+use Rattle.std.specs.Prelude.{is_some, codes, String, Result, Ok, Err, MatchResult, ◌⊎◌}
+use Rattle.std.specs.BTreeSet.{BTreeSet, IsOrdered, contains_text}
+use Rattle.std.specs.HashSet.{HashSet, contains_text as has_in}
+use Rattle.std.specs.String.{string_cmp}
 use Rattle.std.specs.declared.alloc.Global.{Global}
-use Rattle.cargo_toml_parts.specs.declared.error.Error.{Error}
-use Rattle.cargo_toml_parts.specs.FaultValues.{Fault}
+use Rattle.std.specs.declared.io.ErrorKind.TheVariants.{NotFound}
+use Rattle.cargo_toml_parts.specs.declared.error.Error.{Error, Memory}
+use Rattle.cargo_toml_parts.specs.FaultValues.{Fault, fault_of, io}
 use Rattle.cargo_toml_discovery.specs.Answers.{Answers, answer_at, names_in}
 use Rattle.cargo_toml_discovery.specs.Answers.{below, filled, filled_by, texts_in}
 use Rattle.cargo_toml_discovery.specs.Names.{Name}
@@ -56,6 +59,19 @@ HasAll wanted ans =
 abbrev pub MayTellOneOf : (Name → Told) → List Name → Fault → Type 0
 MayTellOneOf told [] f = ⊥
 MayTellOneOf told (p ∷ ps) f = MayTell (names_at (told p)) f ⊎ MayTellOneOf told ps f
+
+-- the set has the names that were answered, in order
+abbrev pub Sorts : {S : Type 0} → HashSet (String Global) S → BTreeSet (String Global) → Type 0
+Sorts set s = IsOrdered string_cmp s × ((x : Name) → contains_text s x ≡ has_in set x)
+
+-- the names of what was answered for a folder: none where its fault says that the folder isn't
+-- there; any other fault stays
+abbrev pub IsHeard : {S : Type 0} → Result (HashSet (String Global) S) Error
+    → Result (BTreeSet (String Global)) Error → Type 0
+IsHeard (Ok set) (Ok s) = Sorts set s
+IsHeard (Ok set) (Err e) = e ≡ Memory
+IsHeard (Err fault) (Ok s) = (fault_of fault ≡ io NotFound) × (texts_in s ≡ [])
+IsHeard (Err fault) (Err e) = (e ≡ fault) × ¬ (fault_of fault ≡ io NotFound)
 
 -- the answer to the question for the names in a folder, in order; an absent one counts as empty
 abbrev pub Listed : Told → Result (BTreeSet (String Global)) Error → Type 0

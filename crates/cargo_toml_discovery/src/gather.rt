@@ -6,28 +6,39 @@ ghost use Rattle.cargo_toml_discovery.specs.Answers.{answers_of, around_in, fill
 ghost use Rattle.cargo_toml_discovery.specs.Around.{around, entries_at};
 ghost use Rattle.cargo_toml_discovery.specs.Folders.{IsListed, RefusesBy};
 ghost use Rattle.cargo_toml_discovery.specs.Gathering.{Fits, Grows, Has, HasEach, HasProducts};
-ghost use Rattle.cargo_toml_discovery.specs.Gathering.{Listed, MayTellOneOf, RootListed};
+ghost use Rattle.cargo_toml_discovery.specs.Gathering.{IsHeard, Listed, MayTellOneOf, RootListed};
 ghost use Rattle.cargo_toml_discovery.specs.Seen.{Tells, names_at, seen};
 
 use crate::folders::Folders;
 use crate::listings::{Listings, Wanted, sorted_names};
 use cargo_toml_parts::Error;
 use std::alloc::Global;
-use std::collections::BTreeSet;
+use std::collections::{BTreeSet, HashSet};
 use std::io;
 
-// The names in a folder, in order; an absent one counts as empty.
-fn listing<Fs: Folders>(alloc: Global, fs: &Fs, path: &str) -> Result<BTreeSet<String>, Error>
-    ensures listed { Listed (Fs.names_at fs.now path.now) result }
-    ensures refused { RefusesBy (Fs.may_refuse fs.now path.now) result }
+// The names in a folder, in order, of what was answered for it. A fault that it isn't there counts
+// as no names; any other stays as it is.
+fn names_of(
+    alloc: Global,
+    answer: Result<HashSet<String>, Error>,
+) -> Result<BTreeSet<String>, Error>
+    ensures { IsHeard answer result }
 {
-    match fs.file_names_in(alloc, path) {
+    match answer {
         Ok(names) => Ok(sorted_names(alloc, names)?),
         Err(fault) => match &fault {
             Error::Io(found) if found.kind() == io::ErrorKind::NotFound => Ok(BTreeSet::new(alloc)),
             _ => Err(fault),
         },
     }
+}
+
+// The names in a folder, in order; an absent one counts as empty.
+fn listing<Fs: Folders>(alloc: Global, fs: &Fs, path: &str) -> Result<BTreeSet<String>, Error>
+    ensures listed { Listed (Fs.names_at fs.now path.now) result }
+    ensures refused { RefusesBy (Fs.may_refuse fs.now path.now) result }
+{
+    names_of(alloc, fs.file_names_in(alloc, path))
 }
 
 // The names in the folder of the package, in order.

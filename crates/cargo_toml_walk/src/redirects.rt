@@ -8,7 +8,7 @@ ghost use Rattle.cargo_toml_walk.specs.Numbers.{IsWanted, Leads, OldStamps, Repl
 
 use crate::labels::kept_labels;
 use crate::node::Node;
-use crate::walk::passing;
+use crate::walk::{has_flagged, passing};
 use std::alloc::{AllocError, Global};
 
 // Whether at most one flag stands.
@@ -28,18 +28,6 @@ fn is_sole(flags: &[bool]) -> bool
     true
 }
 
-fn has_finished(row: &[Node], finished: &[bool]) -> bool
-    requires { (x : ℕ) → Among row.now x → x < length finished.now }
-    ensures { result ≡ false → (x : ℕ) → Among row.now x → IsWanted finished.now false x }
-{
-    for x in row {
-        if finished[x.place()] {
-            return true;
-        }
-    }
-    false
-}
-
 // Whether r passes nothing and its row has nothing finished: the row then stays as it is.
 fn stays(r: Node, rows: &[Vec<Node>], passed: &[Node], finished: &[bool]) -> bool
     requires own { r < length rows.now }
@@ -47,7 +35,7 @@ fn stays(r: Node, rows: &[Vec<Node>], passed: &[Node], finished: &[bool]) -> boo
     ensures { result ≡ true
         → Replaces r (HasLabel (Among passed.now) rows.now finished.now r) rows.now rows.now }
 {
-    passed.is_empty() && !has_finished(rows[r.place()].as_slice(), finished)
+    passed.is_empty() && !has_flagged(rows[r.place()].as_slice(), finished)
 }
 
 // The row of r becomes what it and the passed rows have, without the finished ones.

@@ -7,6 +7,19 @@ ghost use Rattle.cargo_toml_walk.specs.Numbers.{Leads, Marks, OldStamps, Visits}
 use crate::node::Node;
 use std::alloc::{AllocError, Global};
 
+/// Whether the flag of one of the row stands.
+pub fn has_flagged(row: &[Node], flags: &[bool]) -> bool
+    requires { (x : ℕ) → Among row.now x → x < length flags.now }
+    ensures { result ≡ false → (x : ℕ) → Among row.now x → IsWanted flags.now false x }
+{
+    for x in row {
+        if flags[x.place()] {
+            return true;
+        }
+    }
+    false
+}
+
 // x is met, and put at the end where it was not met before.
 fn meet(
     found: &mut Vec<Node>,

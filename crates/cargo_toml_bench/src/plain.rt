@@ -24,8 +24,8 @@ use cargo_toml_full::required::Requirement;
 use cargo_toml_full::resolve_all;
 use cargo_toml_full::unremoved::Unremoved;
 use cargo_toml_resolve::enabling::set_enablers;
-use cargo_toml_resolve::left::{Left, keep_all};
-use cargo_toml_resolve::publishing::hashed_dependencies;
+use cargo_toml_resolve::kept::{Kept, keep_all};
+use cargo_toml_resolve::hashing::hashed_dependencies;
 use std::alloc::{AllocError, Global};
 use std::hash::BuildHasher;
 
@@ -34,7 +34,7 @@ fn all_by_name<'m, S: BuildHasher + Clone>(
     alloc: Global,
     state: &S,
     features: Vec<Feature<'m>>,
-) -> Result<Left<'m, S>, AllocError>
+) -> Result<Kept<'m, S>, AllocError>
     requires { AreInOrder features.items }
     ensures same { IfOk result
         (λ l. (f : Text) → value_at l.features f ≡ feature_at features.entry.items f) }
@@ -71,7 +71,7 @@ pub fn resolve<'m: 'd, 'd, F: Fn(&str) -> bool, S: BuildHasher + Clone>(
         dependencies,
     } = resolve_all(alloc, listings, entries, requirements)?;
     set_enablers(alloc, &mut features)?;
-    let Left {
+    let Kept {
         features: mut by_name,
         mut hidden,
     } = all_by_name(alloc, state, features)?;

@@ -18,7 +18,7 @@ use Rattle.cargo_toml_features.specs.declared.features.Feature.{Feature}
 use Rattle.cargo_toml_features.specs.InOrder.{AreInOrder, AreTable, feature_at, names_of}
 use Rattle.cargo_toml_features.specs.Views.{action_at, has_text, resolution_of, value_at}
 use Rattle.cargo_toml_resolve.specs.KeptFeatures.{IsKeptFeature}
-use Rattle.cargo_toml_resolve.specs.Leaving.{Holds, action_by}
+use Rattle.cargo_toml_resolve.specs.Holding.{Holds, action_by}
 use Rattle.cargo_toml_resolve.proofs.InPlace.{name_in, stands_found, stands_in}
 
 no_some : {X : Type 0} {x : X} → None ≡ Some x → ⊥

@@ -1,4 +1,4 @@
--- Where no feature is removed, all are left.
+-- Where no feature is removed, all are kept.
 use Rattle.std.proofs.Common.{◌≡◌, ◌↔◌, ℕ, Bool, false, List, [], Option, Some, None, Bor, IfOk, IfSome, IsSome, IsTrue, Result, Ok, Err, is_some, map, slice_get, refl, sym, ap, subst, ◌∙◌}
 use Rattle.std.proofs.lemmas.Bool.{false≢true, false_from_ne_true}
 use Rattle.std.specs.BTreeSet.{BTreeSet}
@@ -13,7 +13,7 @@ use Rattle.cargo_toml_features.specs.declared.features.Feature.{Feature}
 use Rattle.cargo_toml_features.specs.InOrder.{AreInOrder, feature_at, resolution_among}
 use Rattle.cargo_toml_features.specs.Views.{action_at, has_text, resolution_of, value_at}
 use Rattle.cargo_toml_resolve.specs.KeptFeatures.{IsNamedAlike}
-use Rattle.cargo_toml_resolve.specs.Left.{AreLeft}
+use Rattle.cargo_toml_resolve.specs.KeptByName.{AreKept}
 use Rattle.cargo_toml_resolve.proofs.InPlace.{found_stands, stands_found}
 
 -- a map that has under each name the feature of that name holds what they hold
@@ -44,9 +44,9 @@ module _ {S : Type 0} (vs : List Feature) (up : AreInOrder vs) (m : HashMap (Bor
           let o = only f (ap is_some e) in
           sym e ∙ subst (λ k. value_at m k ≡ Some o.1) o.3 (held o.0 o.1 o.2) ∙ sym (subst (λ k. feature_at vs k ≡ Some o.1) o.3 (stands_found vs up o.0 o.1 o.2)) ∙ e'
 
-  pub all_left : (t : Table) (removed : Text → Bool) (hidden : HashMap (Bor Text) (BTreeSet (Bor Text)) S) → ((r : Text) → value_at hidden r ≡ None) →
-      ((r : Text) → ¬ IsTrue (removed r)) → IsUnremoved t (resolution_among vs) → AreLeft t removed vs m hidden
-  all_left t removed hidden empty none h = record {
+  pub all_kept : (t : Table) (removed : Text → Bool) (hidden : HashMap (Bor Text) (BTreeSet (Bor Text)) S) → ((r : Text) → value_at hidden r ≡ None) →
+      ((r : Text) → ¬ IsTrue (removed r)) → IsUnremoved t (resolution_among vs) → AreKept t removed vs m hidden
+  all_kept t removed hidden empty none h = record {
     resolved = resolved_unremoved t (resolution_of m) (λ f. IsTrue (removed f)) none (unremoved_by vs m same_at t h);
     own = λ f. own_at f (value_at m f) (same_at f);
     bins = record {

@@ -26,7 +26,7 @@ use Rattle.cargo_toml_features.specs.Views.{action_at, action_of, has_text, valu
 use Rattle.cargo_toml_features.proofs.TextKeys.{none_in}
 use Rattle.cargo_toml_resolve.specs.Enabling.{AreSameButEnablers, Enables, IsSameButEnablers, LeadsTo, LearnEach, Learns}
 use Rattle.cargo_toml_resolve.specs.KeptFeatures.{IsNamedAlike, StandFor, own_bins}
-use Rattle.cargo_toml_resolve.specs.Left.{AreLeft}
+use Rattle.cargo_toml_resolve.specs.KeptByName.{AreKept}
 use Rattle.cargo_toml_resolve.specs.TakingOver.{ChangesIn}
 use Rattle.cargo_toml_resolve.specs.Texts.{texts_of}
 use Rattle.cargo_toml_resolve.proofs.InPlace.{found_stands, name_in, one_place, stands_found, stands_in}
@@ -297,9 +297,9 @@ module _ (vs ws : List Feature) (same : AreSameButEnablers vs ws) where
       go (Some v) None a = absurd a
       go (Some v) (Some w) a = ap (λ bs. map (λ (b : Bor Text). b.now) bs.items) (same.each a.0 v w a.1 a.2).bins
 
-  pub left_still : {S : Type 0} (t : Table) (removed : Text → Bool) (features : HashMap (Bor Text) Feature S) (hidden : HashMap (Bor Text) (BTreeSet (Bor Text)) S)
-      → AreLeft t removed ws features hidden → AreLeft t removed vs features hidden
-  left_still t removed features hidden l = record {
+  pub kept_still : {S : Type 0} (t : Table) (removed : Text → Bool) (features : HashMap (Bor Text) Feature S) (hidden : HashMap (Bor Text) (BTreeSet (Bor Text)) S)
+      → AreKept t removed ws features hidden → AreKept t removed vs features hidden
+  kept_still t removed features hidden l = record {
     resolved = l.resolved;
     own = λ f. own_at f (value_at features f) (l.own f);
     bins = subst (λ own. ArePassedOn t (λ r. IsTrue (removed r)) own (λ f. option_map_or (λ v. map (λ b. b.now) v.required_by_bins.items) (value_at features f) [])) (λ i f. own_still f i) l.bins;

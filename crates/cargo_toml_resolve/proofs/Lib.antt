@@ -11,18 +11,18 @@ mod Renumbered
 mod InPlace
 pub mod NumberingGraph
 mod Answered
-mod LeavingAll
+mod TakingOverAll
 mod PassedPlaces
 mod Placing
 mod TextSets
 mod Passers
 mod TakingOver
-mod HashedRows
+mod HashedRedirects
 mod HashedKept
-mod LeftOver
+mod FromPlaces
 mod KeptAll
 mod HashedSlots
-mod AnsweringLeft
+mod AnsweringKept
 pub mod ByFilter
 mod PutAlong
 mod BinTurns

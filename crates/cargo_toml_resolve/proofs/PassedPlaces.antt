@@ -61,7 +61,7 @@ named_below texts flags zero v = (λ i. absurd i, λ s. let lt = s.1 in absurd (
 named_below texts flags (suc n) v = one_more texts flags n v (named_below texts flags n v)
 
 module _ (t : Table) (removed : Text → Bool) (old : List Feature) (texts : List Text) (edges names rows : List (Vec ℕ Global)) (flags : List Bool) (stand : StandFor t removed old texts edges names flags)
-    (rows_are : (r : ℕ) (x : Text) → r < length edges → IsWanted flags true r → HasNumber texts (length texts) (Leads rows r) x ↔ RedirectsTo t (λ v. IsTrue (removed v)) (λ a b. IsTrue (is_below a b)) (text_at texts r) x) where
+    (redirects_are : (r : ℕ) (x : Text) → r < length edges → IsWanted flags true r → HasNumber texts (length texts) (Leads rows r) x ↔ RedirectsTo t (λ v. IsTrue (removed v)) (λ a b. IsTrue (is_below a b)) (text_at texts r) x) where
   abbrev R : Text → Type 0
   R v = IsTrue (removed v)
 
@@ -119,9 +119,9 @@ module _ (t : Table) (removed : Text → Bool) (old : List Feature) (texts : Lis
   names_at : (n i : ℕ) → n < length edges → i < length edges → IsWanted flags true n →
       list_any (nat_eq i) (list_at rows n) ≡ (without_all (names_below texts flags n) (unremoved t)).table.names (text_at texts n) (text_at texts i)
   names_at n i lt below gone = by_true _ _ (
-    λ y. (at_its_turn n lt (text_at texts i)).1 (to_earlier n lt (text_at texts i) ((rows_are n (text_at texts i) lt gone).0 (i, fits i below, refl, true_stands (list_at rows n) i y))),
+    λ y. (at_its_turn n lt (text_at texts i)).1 (to_earlier n lt (text_at texts i) ((redirects_are n (text_at texts i) lt gone).0 (i, fits i below, refl, true_stands (list_at rows n) i y))),
     λ y.
-        let j = (rows_are n (text_at texts i) lt gone).1 (to_lower n lt (text_at texts i) ((at_its_turn n lt (text_at texts i)).0 y)) in
+        let j = (redirects_are n (text_at texts i) lt gone).1 (to_lower n lt (text_at texts i) ((at_its_turn n lt (text_at texts i)).0 y)) in
         stands_true (list_at rows n) i (subst (Among (list_at rows n)) (stand.numbered.one j.0 i j.1 (fits i below) j.2) j.3),
   )
 

@@ -8,7 +8,7 @@ use Rattle.cargo_toml_graph.proofs.Joins.{join_alike, join_halves, join_one}
 use Rattle.cargo_toml_features.specs.declared.features.Feature.{Feature}
 use Rattle.cargo_toml_features.specs.Views.{action_at}
 use Rattle.cargo_toml_walk.proofs.Steps.{among_all, among_more, among_taken}
-use Rattle.cargo_toml_resolve.specs.Leaving.{DoesAt, action_by}
+use Rattle.cargo_toml_resolve.specs.Holding.{DoesAt, action_by}
 
 module _ (vs : List Feature) (passed : List ℕ) (k : Text) (first : Option Action) where
   abbrev Does : List ℕ → Action → Type 0

@@ -18,9 +18,9 @@ use Rattle.cargo_toml_features.specs.InOrder.{feature_at}
 use Rattle.cargo_toml_features.specs.Views.{has_text}
 use Rattle.cargo_toml_resolve.specs.Enabling.{EnablesThrough}
 use Rattle.cargo_toml_resolve.specs.KeptFeatures.{ArePassedAt, IsKeptFeature, IsNamedAlike, StandFor, own_bins}
-use Rattle.cargo_toml_resolve.specs.Leaving.{HasActions, HasTexts, Holds, LeavesAll}
+use Rattle.cargo_toml_resolve.specs.Holding.{HasActions, HasTexts, Holds, AllTakeOver}
 use Rattle.cargo_toml_resolve.specs.Passing.{AreSameButBins, IsSameButBins, bins_of, passed_below}
-use Rattle.cargo_toml_resolve.specs.Walking.{AreNamed, ArePassed, AreRows}
+use Rattle.cargo_toml_resolve.specs.Walking.{AreNamed, ArePassed, AreRedirects}
 use Rattle.cargo_toml_resolve.proofs.Answered.{is_kept_feature}
 use Rattle.cargo_toml_resolve.proofs.InPlace.{name_in, stands_found, stands_in}
 use Rattle.cargo_toml_resolve.proofs.PassedPlaces.{passed_at}
@@ -45,7 +45,7 @@ still_holds {vs} {texts} {i} {passed} {named} {v} {w} {u} h same = record {
 
 -- a feature that is left keeps its name and its marks
 pub named_alike_there : {Z : Type 0} (flags : List Bool) (passed named : List (Vec ℕ Z)) (texts : List Text) (old left new : List Feature) →
-    LeavesAll flags passed named texts old left → AreSameButBins left new → (i : ℕ) (v w : Feature) → slice_get old i ≡ Some v → slice_get new i ≡ Some w → IsNamedAlike v w
+    AllTakeOver flags passed named texts old left → AreSameButBins left new → (i : ℕ) (v w : Feature) → slice_get old i ≡ Some v → slice_get new i ≡ Some w → IsNamedAlike v w
 named_alike_there flags passed named texts old left new l s i v w at at' =
     let u = stood left new s.len i w at' in
     let own = l.own i v u.0 at u.1 in
@@ -65,7 +65,7 @@ module _ (t : Table) (removed : Text → Bool) (old left new : List Feature) (te
 
   pub kept_there : (passed named : List (Vec ℕ Global)) → ArePassed edges names flags passed → AreNamed edges names flags passed named →
       ((i : ℕ) (v : Feature) → IsWanted flags false i → slice_get old i ≡ Some v → (e : Text) → IsTrue (has_text v.enabled_by e) ↔ HasNumber texts (length edges) (EnablesThrough edges flags i) e) →
-      LeavesAll flags passed named texts old left → AreSameButBins left new → (i : ℕ) (w : Feature) → IsWanted flags false i → slice_get new i ≡ Some w → IsKeptFeature t R (text_at texts i) w
+      AllTakeOver flags passed named texts old left → AreSameButBins left new → (i : ℕ) (w : Feature) → IsWanted flags false i → slice_get new i ≡ Some w → IsKeptFeature t R (text_at texts i) w
   kept_there passed named are_passed are_named learnt l s i w kept at =
       let u = stood left new s.len i w at in
       let v = stood old left l.len i u.0 u.1 in
@@ -74,12 +74,12 @@ module _ (t : Table) (removed : Text → Bool) (old left new : List Feature) (te
       are_passed are_named i lt kept v.0 w v.1 (still_holds (l.holds i v.0 u.0 kept v.1 u.1) (s.each i u.0 w u.1 at))
       (λ e. subst (λ b. IsTrue (has_text b e) ↔ HasNumber texts (length edges) (EnablesThrough edges flags i) e) (sym ((s.each i u.0 w u.1 at).enabled_by ∙ (l.own i v.0 u.0 v.1 u.1).enabled_by)) (learnt i v.0 kept v.1 e))
 
-  pub rows_there : (rows : List (Vec ℕ Global)) → AreRows edges names flags rows → (r : ℕ) (x : Text) → r < length edges → IsWanted flags true r →
+  pub redirects_there : (rows : List (Vec ℕ Global)) → AreRedirects edges names flags rows → (r : ℕ) (x : Text) → r < length edges → IsWanted flags true r →
       HasNumber texts (length texts) (Leads rows r) x ↔ RedirectsTo t R (λ a b. IsTrue (is_below a b)) (text_at texts r) x
-  rows_there rows are_rows r x lt gone =
+  redirects_there rows are_redirects r x lt gone =
       let to = numbered.redirects_to t R texts edges names flags stand.numbered r x lt gone in (
-        λ n. to.1 (n.0, n.1, n.2, (are_rows r n.0 lt gone).0 n.3),
-        λ d. let n = to.0 d in (n.0, n.1, n.2, (are_rows r n.0 lt gone).1 n.3),
+        λ n. to.1 (n.0, n.1, n.2, (are_redirects r n.0 lt gone).0 n.3),
+        λ d. let n = to.0 d in (n.0, n.1, n.2, (are_redirects r n.0 lt gone).1 n.3),
       )
 
   -- the binaries in a place are those of the feature of its text
@@ -89,7 +89,7 @@ module _ (t : Table) (removed : Text → Bool) (old left new : List Feature) (te
       let there : feature_at old (text_at texts i) ≡ Some v.0 = subst (λ f. feature_at old f ≡ Some v.0) (sym (stand.vertices i (vertex_place i lt) ∙ name_in old i v.0 v.1)) (stands_found old stand.in_order i v.0 v.1) in
       ap (λ (o : Option Feature). option_map_or (λ u. map (λ b. b.now) u.required_by_bins.items) o []) (there ∙ sym v.1)
 
-  same_bins : (passed named : List (Vec ℕ Global)) → LeavesAll flags passed named texts old left → (i : ℕ) → i < length old → bins_of left i ≡ bins_of old i
+  same_bins : (passed named : List (Vec ℕ Global)) → AllTakeOver flags passed named texts old left → (i : ℕ) → i < length old → bins_of left i ≡ bins_of old i
   same_bins passed named l i lt =
       let v = stands_in old i lt in
       let u = stands_in left i (subst (λ n. i < n) (sym l.len) lt) in
@@ -97,9 +97,9 @@ module _ (t : Table) (removed : Text → Bool) (old left new : List Feature) (te
       ∙ ap (λ bs. map (λ b. b.now) bs.items) (l.own i v.0 u.0 v.1 u.1).bins
       ∙ sym (ap (λ (o : Option Feature). option_map_or (λ w. map (λ b. b.now) w.required_by_bins.items) o []) v.1)
 
-  pub bins_there : (passed named rows : List (Vec ℕ Global)) → AreRows edges names flags rows → LeavesAll flags passed named texts old left → AreSameButBins left new →
+  pub bins_there : (passed named rows : List (Vec ℕ Global)) → AreRedirects edges names flags rows → AllTakeOver flags passed named texts old left → AreSameButBins left new →
       ((y : ℕ) → y < length left → bins_of new y ≡ passed_below rows flags (length left) (bins_of left) y) → ArePassedAt t removed (own_bins old) texts flags new
-  bins_there passed named rows are_rows l s has = passed_at t removed old texts edges names rows flags stand (rows_there rows are_rows) (own_bins old) (bins_of left)
+  bins_there passed named rows are_redirects l s has = passed_at t removed old texts edges names rows flags stand (redirects_there rows are_redirects) (own_bins old) (bins_of left)
       (λ i lt. same_bins passed named l i (vertex_place i lt) ∙ sym (own_there i lt)) new
       (λ i w at.
       let u = stood left new s.len i w at in

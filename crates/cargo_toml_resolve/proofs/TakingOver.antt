@@ -11,7 +11,7 @@ use Rattle.cargo_toml_graph.proofs.Joins.{join_alike, join_one}
 use Rattle.cargo_toml_features.specs.declared.features.DepAction.{DepAction}
 use Rattle.cargo_toml_features.specs.declared.features.Feature.{Feature}
 use Rattle.cargo_toml_features.specs.Views.{action_at}
-use Rattle.cargo_toml_resolve.specs.Leaving.{DoesAt, HasActions, HasTexts, KeepsOwn, action_by}
+use Rattle.cargo_toml_resolve.specs.Holding.{DoesAt, HasActions, HasTexts, KeepsOwn, action_by}
 use Rattle.cargo_toml_resolve.specs.TakingOver.{ChangesIn, TakesActions, TakesOver}
 
 set_here : (vs : List Feature) (i : ℕ) (w : Feature) → i < length vs → slice_get (set vs i w) i ≡ Some w

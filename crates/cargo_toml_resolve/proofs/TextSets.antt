@@ -15,7 +15,7 @@ use Rattle.cargo_toml_graph.proofs.BinLists.{is_among-true, among-true}
 use Rattle.cargo_toml_features.specs.Views.{has_text}
 use Rattle.cargo_toml_full.proofs.Gathering.{is_text_in}
 use Rattle.cargo_toml_features.specs.Places.{text_at}
-use Rattle.cargo_toml_resolve.specs.Leaving.{HasTexts}
+use Rattle.cargo_toml_resolve.specs.Holding.{HasTexts}
 use Rattle.cargo_toml_resolve.specs.Texts.{texts_of}
 use Rattle.cargo_toml_resolve.proofs.Gathered.{among_push}
 

@@ -1,4 +1,4 @@
--- What is left of features once some are removed, feature by feature.
+-- What is kept of features once some are removed, feature by feature.
 use Rattle.std.specs.Prelude.{◌≡◌, ◌↔◌, ◌<◌, ℕ, Bool, false, List, length}
 use Rattle.std.specs.Prelude.{IsTrue, Vec, [], map, slice_get, Some}
 use Rattle.std.specs.Option.{option_map_or}

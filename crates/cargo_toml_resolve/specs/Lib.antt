@@ -2,7 +2,7 @@
 pub mod Filter
 pub mod Removed
 -- the code's own steps, in contracts of inner functions alone: nothing here has to be believed
-pub mod Leaving
+pub mod Holding
 pub mod TakingOver
 pub mod KeptFeatures
 pub mod Texts
@@ -10,7 +10,7 @@ pub mod Numbering
 pub mod Passing
 pub mod Walking
 pub mod Placed
-pub mod Left
+pub mod KeptByName
 pub mod Puts
 pub mod KnownBins
 pub mod Enabling

@@ -15,16 +15,18 @@ bins_of vs i = option_map_or (λ v. map (λ b. b.now) v.required_by_bins.items) 
 
 -- the place r passes the first ten of its list on to each place in its row
 abbrev pub passed_from : {Z : Type 0} → List (Vec ℕ Z) → ℕ → (ℕ → List Text) → ℕ → List Text
-passed_from rows r lists y =
-    if list_any (nat_eq y) (list_at rows r) then put_all (lists y) (take 10 (lists r)) else lists y
+passed_from redirects r lists y =
+    if list_any (nat_eq y) (list_at redirects r) then put_all (lists y) (take 10 (lists r))
+    else lists y
 
 -- the lists once the flagged places below n have passed theirs on, from the first to the last
 abbrev pub passed_below : {Z : Type 0} → List (Vec ℕ Z) → List Bool → ℕ → (ℕ → List Text)
     → ℕ → List Text
-passed_below rows flags zero lists = lists
-passed_below rows flags (suc n) lists =
-    if slice_index_or flags n false then passed_from rows n (passed_below rows flags n lists)
-    else passed_below rows flags n lists
+passed_below redirects flags zero lists = lists
+passed_below redirects flags (suc n) lists =
+    if slice_index_or flags n false
+    then passed_from redirects n (passed_below redirects flags n lists)
+    else passed_below redirects flags n lists
 
 -- what a feature holds beside its binaries stays
 pub record IsSameButBins (old new : Feature) : Type 0 where

@@ -1,4 +1,4 @@
--- Features in their places once removed ones are taken out, and what is published of them.
+-- Features in their places once removed ones are taken out, and what is hashed of them.
 use Rattle.std.specs.Prelude.{◌≡◌, ◌↔◌, ◌<◌, ℕ, Bool, true, false, List, length}
 use Rattle.std.specs.Prelude.{IsSome, IsTrue, Some, slice_get}
 use Rattle.std.specs.Borrow.{Bor}
@@ -18,7 +18,7 @@ use Rattle.cargo_toml_resolve.specs.declared.graph.Graph.{Graph}
 use Rattle.cargo_toml_resolve.specs.declared.graph.Walked.{Walked}
 use Rattle.cargo_toml_resolve.specs.KeptFeatures.{ArePassedAt, IsKeptFeature, IsNamedAlike}
 use Rattle.cargo_toml_resolve.specs.KeptFeatures.{StandFor, own_bins}
-use Rattle.cargo_toml_resolve.specs.Leaving.{HasTexts}
+use Rattle.cargo_toml_resolve.specs.Holding.{HasTexts}
 use Rattle.cargo_toml_resolve.specs.Texts.{texts_of}
 
 -- the features vs make the table t, and the graph stands for it
@@ -28,10 +28,10 @@ Shows g t removed vs =
 
 -- the features of the graph g in their places, and what the walks over it found
 pub record ArePlaced (g : Graph) (old new : List Feature) (w : Walked) : Type 0 where
-  -- the texts and the flags are the graph's, and each feature has a row
+  -- the texts and the flags are the graph's, and each feature has a redirect
   pub texts : w.texts ≡ g.texts
   pub flags : w.flags ≡ g.flags
-  pub count : length w.rows.items ≡ length old
+  pub count : length w.redirects.items ≡ length old
   -- each feature stays in its place, with its name and its marks
   pub len : length new ≡ length old
   pub own : (i : ℕ) (v u : Feature) → slice_get old i ≡ Some v → slice_get new i ≡ Some u
@@ -42,16 +42,16 @@ pub record ArePlaced (g : Graph) (old new : List Feature) (w : Walked) : Type 0 
       → IsKeptFeature t (λ f. IsTrue (removed f)) (text_at (texts_of g.texts.items) i) u
   pub bins : (t : Table) (removed : Text → Bool) → Shows g t removed old
       → ArePassedAt t removed (own_bins old) (texts_of g.texts.items) g.flags.items new
-  -- the row of a removed one has what stands for it
-  pub rows : (t : Table) (removed : Text → Bool) → Shows g t removed old
+  -- the redirect of a removed one has what stands for it
+  pub redirects : (t : Table) (removed : Text → Bool) → Shows g t removed old
       → (r : ℕ) (x : Text) → r < length g.edges.items → IsWanted g.flags.items true r
       → HasNumber (texts_of g.texts.items) (length (texts_of g.texts.items))
-      (Leads w.rows.items r) x
+      (Leads w.redirects.items r) x
       ↔ RedirectsTo t (λ f. IsTrue (removed f)) (λ a b. IsTrue (is_below a b))
       (text_at (texts_of g.texts.items) r) x
 
 -- what of features in their places, and of what the walks found, stands under names
-pub record ArePublished {S : Type 0} (vs : List Feature) (w : Walked)
+pub record AreHashed {S : Type 0} (vs : List Feature) (w : Walked)
     (features : HashMap (Bor Text) Feature S)
     (hidden : HashMap (Bor Text) (BTreeSet (Bor Text)) S) : Type 0 where
   -- the kept features, and no others
@@ -60,10 +60,10 @@ pub record ArePublished {S : Type 0} (vs : List Feature) (w : Walked)
   pub only : (f : Text) → IsSome (value_at features f)
       → (i : ℕ) × (v : Feature) × (slice_get vs i ≡ Some v)
       × IsWanted w.flags.items false i × (v.key.now ≡ f)
-  -- the texts of the rows of the removed ones, and no others
-  pub row_there : (i : ℕ) → i < length w.rows.items → IsWanted w.flags.items true i
+  -- the texts of what stands for the removed ones, and no others
+  pub redirect_there : (i : ℕ) → i < length w.redirects.items → IsWanted w.flags.items true i
       → IsSomeAnd (value_at hidden (text_at (texts_of w.texts.items) i))
-      (HasTexts (texts_of w.texts.items) (list_at w.rows.items i))
-  pub row_only : (r : Text) → IsSome (value_at hidden r)
-      → (i : ℕ) × (i < length w.rows.items) × (text_at (texts_of w.texts.items) i ≡ r)
+      (HasTexts (texts_of w.texts.items) (list_at w.redirects.items i))
+  pub redirect_only : (r : Text) → IsSome (value_at hidden r)
+      → (i : ℕ) × (i < length w.redirects.items) × (text_at (texts_of w.texts.items) i ≡ r)
       × IsWanted w.flags.items true i

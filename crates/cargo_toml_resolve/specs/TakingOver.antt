@@ -3,7 +3,7 @@ use Rattle.std.specs.Prelude.{◌≡◌, ◌≢◌, ◌⊎◌, ℕ, List, [], le
 use Rattle.cargo_toml_graph.specs.Action.{Text}
 use Rattle.cargo_toml_graph.specs.Reach.{Among}
 use Rattle.cargo_toml_features.specs.declared.features.Feature.{Feature}
-use Rattle.cargo_toml_resolve.specs.Leaving.{HasActions, HasTexts, KeepsOwn}
+use Rattle.cargo_toml_resolve.specs.Holding.{HasActions, HasTexts, KeepsOwn}
 
 -- the feature in place i changes so, and no other does
 pub record ChangesIn (Changes : Feature → Feature → Type 0) (i : ℕ)

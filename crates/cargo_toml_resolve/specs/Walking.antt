@@ -19,19 +19,19 @@ module _ {Z : Type 0} (edges names : List (Vec ℕ Z)) (flags : List Bool) where
       → Leads named a x ↔ HasLabel (Leads passed a) names flags a x
 
   -- what stands for each removed vertex
-  abbrev pub AreRows : List (Vec ℕ Z) → Type 0
-  AreRows rows =
+  abbrev pub AreRedirects : List (Vec ℕ Z) → Type 0
+  AreRedirects redirects =
       (r x : ℕ) → r < length edges → IsWanted flags true r
-      → Leads rows r x ↔ IsRedirect edges flags names r x
+      → Leads redirects r x ↔ IsRedirect edges flags names r x
 
 -- what walks over the graph g find
 pub record IsWalked (g : Graph) (w : Walked) : Type 0 where
-  -- the texts and the flags are the graph's, and each feature has a row
+  -- the texts and the flags are the graph's, and each feature has a redirect
   pub texts : w.texts ≡ g.texts
   pub flags : w.flags ≡ g.flags
-  pub count : length w.rows.items ≡ length g.edges.items
+  pub count : length w.redirects.items ≡ length g.edges.items
   -- the removed features that each kept one passes, and what each that passes any then names
   pub passed : ArePassed g.edges.items g.names.items g.flags.items w.passed.items
   pub named : AreNamed g.edges.items g.names.items g.flags.items w.passed.items w.named.items
   -- what stands for each removed feature
-  pub rows : AreRows g.edges.items g.names.items g.flags.items w.rows.items
+  pub redirects : AreRedirects g.edges.items g.names.items g.flags.items w.redirects.items

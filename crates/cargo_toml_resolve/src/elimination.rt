@@ -1,26 +1,26 @@
-//! Removed features are taken out by walks over their graph, and leave to others what they said.
+//! Removed features are taken out by walks over their graph, and others take over what they said.
 ghost use Rattle.std.specs.Prelude.{◌≡◌, IfOk, OnOk, length};
 ghost use Rattle.cargo_toml_features.specs.InOrder.{HaveNoEnablers};
-ghost use Rattle.cargo_toml_resolve.specs.Leaving.{LeavesAll};
+ghost use Rattle.cargo_toml_resolve.specs.Holding.{AllTakeOver};
 ghost use Rattle.cargo_toml_resolve.specs.Placed.{ArePlaced};
 ghost use Rattle.cargo_toml_resolve.specs.Texts.{texts_of};
 
 use crate::graph::{Graph, Walked};
-use crate::leaving::take_over;
 use crate::passing::pass_bins;
+use crate::taking_over::take_over;
 use crate::walking::walk;
 use cargo_toml_features::features::Feature;
 use cargo_toml_walk::node::Node;
 use std::alloc::{AllocError, Global};
 
-// Each kept feature is left, by what was found of it.
-fn leave_all<'m>(
+// Each kept feature takes over what was found for it.
+fn take_over_all<'m>(
     alloc: Global,
     features: &mut Vec<Feature<'m>>,
     walked: &Walked<'m>,
 ) -> Result<(), AllocError>
-    requires { length walked.now.rows.items ≡ length features.old.items }
-    ensures { OnOk result (LeavesAll walked.now.flags.items walked.now.passed.items
+    requires { length walked.now.redirects.items ≡ length features.old.items }
+    ensures { OnOk result (AllTakeOver walked.now.flags.items walked.now.passed.items
         walked.now.named.items (texts_of walked.now.texts.items)
         features.old.items features.new.items) }
 {
@@ -48,11 +48,11 @@ pub(crate) fn place<'m>(
     ensures { IfOk result (ArePlaced graph.entry features.old.items features.new.items) }
 {
     let walked = walk(alloc, features, graph)?;
-    leave_all(alloc, features, &walked)?;
+    take_over_all(alloc, features, &walked)?;
     pass_bins(
         alloc,
         features,
-        walked.rows.as_slice(),
+        walked.redirects.as_slice(),
         walked.flags.as_slice(),
     )?;
     Ok(walked)

@@ -43,6 +43,7 @@ fn push_names(
 }
 
 // Whether the feature names nothing and acts on nothing.
+#[inline(always)]
 fn leads_nowhere(feature: &Feature<'_>) -> bool
     ensures { IsTrue result → (x : Text) → ¬ LeadsTo feature.now x }
 {
@@ -52,8 +53,29 @@ fn leads_nowhere(feature: &Feature<'_>) -> bool
     feature.enables_deps.is_empty()
 }
 
-// The features that the one in place `own` enables: those that it names, and those that it acts on
-// plainly. The first name is looked for at `near` first; the answer is as of `push_target`.
+// Those that a feature enables which leads somewhere.
+fn push_each_target(
+    row: &mut Vec<Node>,
+    feature: &Feature<'_>,
+    keys: &[&str],
+    own: Node,
+    near: usize,
+) -> Result<usize, AllocError>
+    requires { IsAscending (λ a b. IsTrue (is_below a b)) (texts_of keys.now) }
+    ensures { OnOk result ((x : ℕ) → Among row.new.items x ↔ (Among row.old.items x
+        ⊎ ((x < length keys.now) × (x ≢ own)
+        × LeadsTo feature.now (text_at (texts_of keys.now) x)))) }
+{
+    let near = push_names(row, &feature.enables_features, keys, own, near)?;
+    push_actions(row, &feature.enables_deps, keys, own)?;
+    Ok(near)
+}
+
+/// The features that the one in place `own` enables: those that it names, and those that it acts on
+/// plainly. The first name is looked for at `near` first; the answer is as of `push_target`.
+//
+// In long lists most features lead nowhere: for them no function is called.
+#[inline(always)]
 pub(crate) fn push_targets(
     row: &mut Vec<Node>,
     feature: &Feature<'_>,
@@ -66,13 +88,10 @@ pub(crate) fn push_targets(
         ⊎ ((x < length keys.now) × (x ≢ own)
         × LeadsTo feature.now (text_at (texts_of keys.now) x)))) }
 {
-    // In long lists most features lead nowhere.
     if leads_nowhere(feature) {
         return Ok(near);
     }
-    let near = push_names(row, &feature.enables_features, keys, own, near)?;
-    push_actions(row, &feature.enables_deps, keys, own)?;
-    Ok(near)
+    push_each_target(row, feature, keys, own, near)
 }
 
 // The source is put among what enables the feature in this place.

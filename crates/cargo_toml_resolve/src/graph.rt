@@ -44,16 +44,16 @@ pub struct Walked<'m> {
     /// What each that passes any then names.
     pub named: Vec<Vec<Node>>,
     /// What stands for each removed feature.
-    pub rows: Vec<Vec<Node>>,
+    pub redirects: Vec<Vec<Node>>,
     ghost once: { (i j : ℕ) → i < length texts.items → j < length texts.items
         → text_at (texts_of texts.items) i ≡ text_at (texts_of texts.items) j → i ≡ j },
-    ghost features_count: { length rows.items ≤ length texts.items },
+    ghost features_count: { length redirects.items ≤ length texts.items },
     ghost flags_count: { length flags.items ≡ length texts.items },
-    ghost passed_count: { length passed.items ≡ length rows.items },
-    ghost named_count: { length named.items ≡ length rows.items },
-    ghost passed_inside: { (a b : ℕ) → Leads passed.items a b → b < length rows.items },
-    ghost passed_removed: { (a b : ℕ) → a < length rows.items → IsWanted flags.items false a
+    ghost passed_count: { length passed.items ≡ length redirects.items },
+    ghost named_count: { length named.items ≡ length redirects.items },
+    ghost passed_inside: { (a b : ℕ) → Leads passed.items a b → b < length redirects.items },
+    ghost passed_removed: { (a b : ℕ) → a < length redirects.items → IsWanted flags.items false a
         → Leads passed.items a b → IsWanted flags.items true b },
     ghost named_inside: { (a x : ℕ) → Leads named.items a x → x < length texts.items },
-    ghost rows_inside: { (r x : ℕ) → Leads rows.items r x → x < length texts.items },
+    ghost redirects_inside: { (r x : ℕ) → Leads redirects.items r x → x < length texts.items },
 }

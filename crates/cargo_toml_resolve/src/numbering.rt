@@ -21,6 +21,7 @@ use cargo_toml_features::features::{DepAction, Feature};
 use cargo_toml_features::texts::in_order;
 use cargo_toml_full::places::place_near;
 use cargo_toml_walk::node::Node;
+use cargo_toml_walk::walk::has_flagged;
 use std::alloc::{AllocError, Global};
 use std::collections::{BTreeMap, BTreeSet};
 
@@ -267,19 +268,6 @@ fn edge_rows(
         rows.push(row)?;
     }
     Ok(rows)
-}
-
-// Whether the flag of one of the row stands.
-fn has_flagged(row: &[Node], flags: &[bool]) -> bool
-    requires { (x : ℕ) → Among row.now x → x < length flags.now }
-    ensures { result ≡ false → (x : ℕ) → Among row.now x → IsWanted flags.now false x }
-{
-    for x in row {
-        if flags[x.place()] {
-            return true;
-        }
-    }
-    false
 }
 
 // For each feature whether its names are asked for: it is removed, or has an edge to a removed one.

@@ -12,7 +12,7 @@ ghost use Rattle.cargo_toml_resolve.specs.Passing.{bins_of, passed_below, AreSam
 ghost use Rattle.cargo_toml_resolve.specs.Puts.{Puts};
 ghost use Rattle.cargo_toml_resolve.specs.Texts.{texts_of};
 
-use crate::leaving::into_set;
+use crate::taking_over::into_set;
 use cargo_toml_features::features::Feature;
 use cargo_toml_walk::node::Node;
 use std::alloc::{AllocError, Global};
@@ -189,22 +189,22 @@ fn have_bins(features: &[Feature<'_>], flags: &[bool]) -> bool
     false
 }
 
-/// Removed features pass their binaries on to those that their rows name, in the order of their
-/// places: at its turn each its first ten.
+/// Removed features pass their binaries on to those that their redirects name, in the order of
+/// their places: at its turn each its first ten.
 ///
 /// A kept feature passes nothing on. It fails only where memory runs out.
 pub(crate) fn pass_bins<'m>(
     alloc: Global,
     features: &mut Vec<Feature<'m>>,
-    rows: &[Vec<Node>],
+    redirects: &[Vec<Node>],
     flags: &[bool],
 ) -> Result<(), AllocError>
-    requires rows { length rows.now ≡ length features.old.items }
+    requires redirects { length redirects.now ≡ length features.old.items }
     requires flags { length features.old.items ≤ length flags.now }
     ensures others { OnOk result (AreSameButBins features.old.items features.new.items) }
     ensures bins { OnOk result ((y : ℕ) → y < length features.old.items
-        → bins_of features.new.items y ≡ passed_below rows.now flags.now (length features.old.items)
-        (bins_of features.old.items) y) }
+        → bins_of features.new.items y ≡ passed_below redirects.now flags.now
+        (length features.old.items) (bins_of features.old.items) y) }
 {
     // Mostly none has a binary: then no set is made.
     if !have_bins(features.as_slice(), flags) {
@@ -214,7 +214,7 @@ pub(crate) fn pass_bins<'m>(
     let size = features.len();
     for r in 0..size {
         if flags[r] {
-            pass_from(features, &mut known, Node::at(r), rows[r].as_slice())?;
+            pass_from(features, &mut known, Node::at(r), redirects[r].as_slice())?;
         }
     }
     Ok(())

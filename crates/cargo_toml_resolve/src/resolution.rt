@@ -10,8 +10,8 @@ ghost use Rattle.cargo_toml_resolve.specs.Filter.{HasNameFilter};
 ghost use Rattle.cargo_toml_resolve.specs.Removed.{IsAnswerBy};
 
 use crate::flags::hidden_flags;
-use crate::left::{Left, left_of};
-use crate::publishing::hashed_dependencies;
+use crate::hashing::hashed_dependencies;
+use crate::kept::{Kept, kept_of};
 use cargo_toml_features::admit::Listing;
 use cargo_toml_features::features::{Features, ParseDependency};
 use cargo_toml_full::required::Requirement;
@@ -47,10 +47,10 @@ pub fn resolve<'m: 'd, 'd, F: Fn(&str) -> bool, S: BuildHasher + Clone>(
         dependencies,
     } = resolve_all(alloc, listings, entries, requirements)?;
     let flags = hidden_flags(alloc, features.as_slice(), filter)?;
-    let Left {
+    let Kept {
         features: kept,
         hidden: hidden_features,
-    } = left_of(alloc, state, features, flags.as_slice())?;
+    } = kept_of(alloc, state, features, flags.as_slice())?;
     let dependencies = hashed_dependencies(state.clone()?, alloc, dependencies)?;
     Ok(Features {
         features: kept,

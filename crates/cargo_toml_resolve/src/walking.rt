@@ -1,4 +1,4 @@
-//! Walks over a graph find what removed features leave to others.
+//! Walks over a graph find what removed features pass on to others.
 ghost use Rattle.std.specs.Prelude.{◌≡◌, IfOk, OnOk, length};
 ghost use Rattle.cargo_toml_resolve.specs.Enabling.{LearnThrough};
 ghost use Rattle.cargo_toml_resolve.specs.Texts.{texts_of};
@@ -35,12 +35,12 @@ pub(crate) fn walk<'m>(
     } = graph;
     let is_removed = flags.as_slice();
     let named = all_labels(alloc, passed.as_slice(), names.as_slice(), is_removed)?;
-    let rows = redirects(alloc, edges, names, is_removed)?;
+    let redirects = redirects(alloc, edges, names, is_removed)?;
     Ok(Walked {
         texts,
         flags,
         passed,
         named,
-        rows,
+        redirects,
     })
 }

@@ -4,14 +4,14 @@ use Rattle.cargo_toml_graph.specs.Reach.{Among, GathersLabel}
 use Rattle.cargo_toml_walk.specs.Numbers.{HasLabel, IsPassed, IsWanted, Leads, Marks, Visits}
 use Rattle.cargo_toml_walk.proofs.Steps.{among_more, among_all, among_taken, then_visit, alike, no_visit}
 
-module _ {Z : Type 0} (labels : List (Vec ℕ Z)) (flags : List Bool) where
+module _ {Z : Type 0} (labels : List (Vec ℕ Z)) (flags : List Bool) (wanted : Bool) where
   abbrev pub Labelled : (ℕ → Type 0) → ℕ → Type 0
-  Labelled From x = ((b : ℕ) × From b × Leads labels b x) × IsWanted flags false x
+  Labelled From x = ((b : ℕ) × From b × Leads labels b x) × IsWanted flags wanted x
 
   module _ (passed : List ℕ) (epoch i : ℕ) where
     pub one_more_list : i < length passed → (f0 f1 f2 m0 m1 m2 : List ℕ) → Visits epoch (Labelled (Among (take i passed))) f0 f1 m0 m1
-        → Visits epoch (λ y. Leads labels (get_or passed i 0) y × IsWanted flags false y) f1 f2 m1 m2 → Visits epoch (Labelled (Among (take (i + 1) passed))) f0 f2 m0 m2
-    one_more_list lt f0 f1 f2 m0 m1 m2 v w = then_visit epoch (Labelled (Among (take i passed))) (λ y. Leads labels (get_or passed i 0) y × IsWanted flags false y) (Labelled (Among (take (i + 1) passed))) f0 f1 f2 m0 m1 m2
+        → Visits epoch (λ y. Leads labels (get_or passed i 0) y × IsWanted flags wanted y) f1 f2 m1 m2 → Visits epoch (Labelled (Among (take (i + 1) passed))) f0 f2 m0 m2
+    one_more_list lt f0 f1 f2 m0 m1 m2 v w = then_visit epoch (Labelled (Among (take i passed))) (λ y. Leads labels (get_or passed i 0) y × IsWanted flags wanted y) (Labelled (Among (take (i + 1) passed))) f0 f1 f2 m0 m1 m2
         (λ y. (
           λ n. elim ((among_more passed i n.0.0 lt).0 n.0.1) [ inl a ↦ inl ((n.0.0, a, n.0.2), n.1) | inr e ↦ inr (subst (λ b. Leads labels b y) e n.0.2, n.1) ],
           elim [ inl n ↦ ((n.0.0, (among_more passed i n.0.0 lt).1 (inl n.0.1), n.0.2), n.1) | inr n ↦ ((get_or passed i 0, (among_more passed i (get_or passed i 0) lt).1 (inr refl), n.0), n.1) ],

@@ -62,11 +62,6 @@ pub record Visits (epoch : ℕ) (Named : ℕ → Type 0) (found found' met met' 
   pub len : length met' ≡ length met
   pub stamps : OldStamps epoch met met'
 
--- e is put into the lists of the named
-pub record Links {Z : Type 0} (Named : ℕ → Type 0) (e : ℕ) (old new : List (Vec ℕ Z)) : Type 0 where
-  pub len : length new ≡ length old
-  pub each : (f x : ℕ) → Leads new f x ↔ (Leads old f x ⊎ ((x ≡ e) × Named f))
-
 -- each stamp is below e, or n
 abbrev pub Past : ℕ → ℕ → List ℕ → Type 0
 Past e n met =
@@ -82,12 +77,6 @@ module _ {Z : Type 0} (edges : List (Vec ℕ Z)) (removed : List Bool) where
   KeepsLabel labels a x =
       GathersLabel (Leads edges) (IsWanted removed true) (Leads labels) a x
       × IsWanted removed false x
-
-  -- e isn't removed and reaches a through removed vertices
-  abbrev pub IsEnabledBy : ℕ → ℕ → Type 0
-  IsEnabledBy a e =
-      (e < length edges) × IsWanted removed false e
-      × Reaches (Leads edges) (IsWanted removed true) e a
 
   -- a removed vertex below n
   abbrev pub IsUnder : ℕ → ℕ → Type 0

@@ -5,78 +5,89 @@ ghost use Rattle.cargo_toml_walk.specs.Numbers.{AreWithin, CanMeet, HasLabel, Is
 ghost use Rattle.cargo_toml_walk.specs.Numbers.{Leads, Marks, OldStamps, PassesAny, Visits};
 
 use crate::node::Node;
-use crate::walk::visit_row;
+use crate::walk::{Sought, visit_row};
 use std::alloc::{AllocError, Global};
 
-// The labels of the passed vertices whose flag is false are met.
+// A vertex, and the removed ones that it passes.
+#[derive(Clone, Copy)]
+pub(crate) struct Passer<'p> {
+    pub(crate) own: Node,
+    pub(crate) passed: &'p [Node],
+}
+
+// The labels of the passed vertices that are sought are met.
 fn visit_rows(
     found: &mut Vec<Node>,
     met: &mut Vec<usize>,
-    epoch: usize,
     labels: &[Vec<Node>],
     passed: &[Node],
-    flags: &[bool],
+    sought: &Sought<'_>,
 ) -> Result<(), AllocError>
     requires passed { (b : ℕ) → Among passed.now b → b < length labels.now }
-    requires fits { length met.old.items ≤ length flags.now }
+    requires fits { length met.old.items ≤ length sought.now.flags.now }
     requires inside { (a x : ℕ) → Leads labels.now a x → x < length met.old.items }
-    requires marks { Marks epoch found.old.items met.old.items }
-    ensures { OnOk result (Visits epoch (λ x. ((b : ℕ) × Among passed.now b × Leads labels.now b x)
-        × IsWanted flags.now false x) found.old.items found.new.items met.old.items met.new.items) }
+    requires marks { Marks sought.now.epoch found.old.items met.old.items }
+    ensures { OnOk result (Visits sought.now.epoch
+        (λ x. ((b : ℕ) × Among passed.now b × Leads labels.now b x)
+        × IsWanted sought.now.flags.now sought.now.wanted x)
+        found.old.items found.new.items met.old.items met.new.items) }
 {
     for b in passed {
-        visit_row(found, met, epoch, labels, *b, flags, false)?;
+        visit_row(found, met, labels, *b, sought)?;
     }
     Ok(())
 }
 
-// The labels of `own` and of the passed vertices whose flag is false, each once. `own` is the stamp
-// of those that are met.
+// The labels of the passer and of the passed vertices whose flag is false, each once. Its place is
+// the stamp of those that are met.
 pub(crate) fn kept_labels(
     alloc: Global,
-    own: Node,
-    passed: &[Node],
+    passer: &Passer<'_>,
     labels: &[Vec<Node>],
     flags: &[bool],
     met: &mut Vec<usize>,
 ) -> Result<Vec<Node>, AllocError>
-    requires own { own < length labels.now }
-    requires passed { (b : ℕ) → Among passed.now b → b < length labels.now }
-    requires ready { CanMeet own labels.now flags.now met.old.items }
+    requires own { passer.now.own < length labels.now }
+    requires passed { (b : ℕ) → Among passer.now.passed.now b → b < length labels.now }
+    requires ready { CanMeet passer.now.own labels.now flags.now met.old.items }
     ensures labels { IfOk result (λ found. (x : ℕ) → Among found.items x
-        ↔ HasLabel (Among passed.now) labels.now flags.now own x) }
+        ↔ HasLabel (Among passer.now.passed.now) labels.now flags.now passer.now.own x) }
     ensures len { OnOk result (length met.new.items ≡ length met.old.items) }
-    ensures stamps { OnOk result (OldStamps own met.old.items met.new.items) }
+    ensures stamps { OnOk result (OldStamps passer.now.own met.old.items met.new.items) }
 {
-    let epoch = own.place();
+    let own = passer.own;
+    let sought = Sought {
+        flags,
+        wanted: false,
+        epoch: own.place(),
+    };
     let mut found = Vec::with_capacity(alloc, labels[own.place()].len())?;
-    visit_row(&mut found, met, epoch, labels, own, flags, false)?;
-    visit_rows(&mut found, met, epoch, labels, passed, flags)?;
+    visit_row(&mut found, met, labels, own, &sought)?;
+    visit_rows(&mut found, met, labels, passer.passed, &sought)?;
     Ok(found)
 }
 
 // The labels that a vertex then has, if it passes any; else nothing, which takes no memory.
 fn labels_of(
     alloc: Global,
-    own: Node,
-    passed: &[Node],
+    passer: &Passer<'_>,
     labels: &[Vec<Node>],
     is_removed: &[bool],
     met: &mut Vec<usize>,
 ) -> Result<Vec<Node>, AllocError>
-    requires own { own < length labels.now }
-    requires passed { (b : ℕ) → Among passed.now b → b < length labels.now }
-    requires ready { CanMeet own labels.now is_removed.now met.old.items }
+    requires own { passer.now.own < length labels.now }
+    requires passed { (b : ℕ) → Among passer.now.passed.now b → b < length labels.now }
+    requires ready { CanMeet passer.now.own labels.now is_removed.now met.old.items }
     ensures labels { IfOk result (λ found. (x : ℕ) → Among found.items x
-        ↔ (((c : ℕ) × Among passed.now c)
-        × HasLabel (Among passed.now) labels.now is_removed.now own x)) }
+        ↔ (((c : ℕ) × Among passer.now.passed.now c)
+        × HasLabel (Among passer.now.passed.now) labels.now is_removed.now passer.now.own x)) }
     ensures len { OnOk result (length met.new.items ≡ length met.old.items) }
-    ensures stamps { OnOk result (OldStamps own met.old.items met.new.items) }
+    ensures stamps { OnOk result (OldStamps passer.now.own met.old.items met.new.items) }
 {
-    if passed.is_empty() {
+    if passer.passed.is_empty() {
         return Ok(Vec::new(alloc));
     }
-    kept_labels(alloc, own, passed, labels, is_removed, met)
+    kept_labels(alloc, passer, labels, is_removed, met)
 }
 
 /// For each vertex that passes removed ones, the labels that it then has: those of its own and of
@@ -99,14 +110,11 @@ pub fn all_labels(
     let mut met = Vec::from_elem(alloc, total, total)?;
     let mut rows = Vec::with_capacity(alloc, size)?;
     for own in 0..size {
-        let row = labels_of(
-            alloc,
-            Node::at(own),
-            passed[own].as_slice(),
-            labels,
-            is_removed,
-            &mut met,
-        )?;
+        let passer = Passer {
+            own: Node::at(own),
+            passed: passed[own].as_slice(),
+        };
+        let row = labels_of(alloc, &passer, labels, is_removed, &mut met)?;
         rows.push(row)?;
     }
     Ok(rows)

@@ -1,7 +1,6 @@
 //! Walks over a graph of numbered vertices, some of which are removed.
 #![tactic(auto)]
 
-pub mod enablers;
 pub mod labels;
 pub mod node;
 pub mod redirects;

@@ -6,9 +6,9 @@ ghost use Rattle.cargo_toml_graph.specs.Reach.{Among};
 ghost use Rattle.cargo_toml_walk.specs.Numbers.{AreWithin, CanMeet, HasLabel, IsRedirect};
 ghost use Rattle.cargo_toml_walk.specs.Numbers.{IsWanted, Leads, OldStamps, Replaces};
 
-use crate::labels::kept_labels;
+use crate::labels::{Passer, kept_labels};
 use crate::node::Node;
-use crate::walk::passing;
+use crate::walk::{has_flagged, passing};
 use std::alloc::{AllocError, Global};
 
 // Whether at most one flag stands.
@@ -28,50 +28,39 @@ fn is_sole(flags: &[bool]) -> bool
     true
 }
 
-fn has_finished(row: &[Node], finished: &[bool]) -> bool
-    requires { (x : ℕ) → Among row.now x → x < length finished.now }
-    ensures { result ≡ false → (x : ℕ) → Among row.now x → IsWanted finished.now false x }
-{
-    for x in row {
-        if finished[x.place()] {
-            return true;
-        }
-    }
-    false
-}
-
-// Whether r passes nothing and its row has nothing finished: the row then stays as it is.
-fn stays(r: Node, rows: &[Vec<Node>], passed: &[Node], finished: &[bool]) -> bool
-    requires own { r < length rows.now }
+// Whether the passer passes nothing and its row has nothing finished: the row stays as it is.
+fn stays(passer: &Passer<'_>, rows: &[Vec<Node>], finished: &[bool]) -> bool
+    requires own { passer.now.own < length rows.now }
     requires inside { (a x : ℕ) → Leads rows.now a x → x < length finished.now }
-    ensures { result ≡ true
-        → Replaces r (HasLabel (Among passed.now) rows.now finished.now r) rows.now rows.now }
+    ensures { result ≡ true → Replaces passer.now.own
+        (HasLabel (Among passer.now.passed.now) rows.now finished.now passer.now.own)
+        rows.now rows.now }
 {
-    passed.is_empty() && !has_finished(rows[r.place()].as_slice(), finished)
+    passer.passed.is_empty() && !has_flagged(rows[passer.own.place()].as_slice(), finished)
 }
 
-// The row of r becomes what it and the passed rows have, without the finished ones.
+// The row of the passer becomes what it and the passed rows have, without the finished ones.
 fn finish(
     alloc: Global,
-    r: Node,
+    passer: &Passer<'_>,
     rows: &mut Vec<Vec<Node>>,
-    passed: &[Node],
     finished: &[bool],
     met: &mut Vec<usize>,
 ) -> Result<(), AllocError>
-    requires own { r < length rows.old.items }
-    requires passed { (b : ℕ) → Among passed.now b → b < length rows.old.items }
-    requires ready { CanMeet r rows.old.items finished.now met.old.items }
-    ensures row { OnOk result (Replaces r
-        (HasLabel (Among passed.now) rows.old.items finished.now r) rows.old.items rows.new.items) }
+    requires own { passer.now.own < length rows.old.items }
+    requires passed { (b : ℕ) → Among passer.now.passed.now b → b < length rows.old.items }
+    requires ready { CanMeet passer.now.own rows.old.items finished.now met.old.items }
+    ensures row { OnOk result (Replaces passer.now.own
+        (HasLabel (Among passer.now.passed.now) rows.old.items finished.now passer.now.own)
+        rows.old.items rows.new.items) }
     ensures len { OnOk result (length met.new.items ≡ length met.old.items) }
-    ensures stamps { OnOk result (OldStamps r met.old.items met.new.items) }
+    ensures stamps { OnOk result (OldStamps passer.now.own met.old.items met.new.items) }
 {
-    if stays(r, rows.as_slice(), passed, finished) {
+    if stays(passer, rows.as_slice(), finished) {
         return Ok(());
     }
-    let row = kept_labels(alloc, r, passed, rows.as_slice(), finished, met)?;
-    rows[r.place()] = row;
+    let row = kept_labels(alloc, passer, rows.as_slice(), finished, met)?;
+    rows[passer.own.place()] = row;
     Ok(())
 }
 
@@ -108,9 +97,12 @@ pub fn redirects(
             let own = Node::at(r);
             let flags = finished.as_slice();
             let passed = passing(alloc, own, edges.as_slice(), flags, &mut met)?;
-            let below = passed.as_slice();
-            finish(alloc, own, &mut labels, below, flags, &mut met_labels)?;
-            finish(alloc, own, &mut edges, below, flags, &mut met_targets)?;
+            let passer = Passer {
+                own,
+                passed: passed.as_slice(),
+            };
+            finish(alloc, &passer, &mut labels, flags, &mut met_labels)?;
+            finish(alloc, &passer, &mut edges, flags, &mut met_targets)?;
             finished[r] = true;
         }
     }

@@ -7,6 +7,27 @@ ghost use Rattle.cargo_toml_walk.specs.Numbers.{Leads, Marks, OldStamps, Visits}
 use crate::node::Node;
 use std::alloc::{AllocError, Global};
 
+// What a walk looks for: the nodes whose flag is `wanted`. Those that it met get the stamp `epoch`.
+#[derive(Clone, Copy)]
+pub(crate) struct Sought<'f> {
+    pub(crate) flags: &'f [bool],
+    pub(crate) wanted: bool,
+    pub(crate) epoch: usize,
+}
+
+/// Whether the flag of one of the row stands.
+pub fn has_flagged(row: &[Node], flags: &[bool]) -> bool
+    requires { (x : ℕ) → Among row.now x → x < length flags.now }
+    ensures { result ≡ false → (x : ℕ) → Among row.now x → IsWanted flags.now false x }
+{
+    for x in row {
+        if flags[x.place()] {
+            return true;
+        }
+    }
+    false
+}
+
 // x is met, and put at the end where it was not met before.
 fn meet(
     found: &mut Vec<Node>,
@@ -27,54 +48,45 @@ fn meet(
     Ok(())
 }
 
-// The targets whose flag is `wanted` are met.
+// The targets that are sought are met.
 fn visit(
     found: &mut Vec<Node>,
     met: &mut Vec<usize>,
-    epoch: usize,
     targets: &[Node],
-    flags: &[bool],
-    wanted: bool,
+    sought: &Sought<'_>,
 ) -> Result<(), AllocError>
-    requires fits { length met.old.items ≤ length flags.now }
+    requires fits { length met.old.items ≤ length sought.now.flags.now }
     requires inside { (y : ℕ) → Among targets.now y → y < length met.old.items }
-    requires marks { Marks epoch found.old.items met.old.items }
-    ensures { OnOk result (Visits epoch (λ y. Among targets.now y × IsWanted flags.now wanted y)
+    requires marks { Marks sought.now.epoch found.old.items met.old.items }
+    ensures { OnOk result (Visits sought.now.epoch
+        (λ y. Among targets.now y × IsWanted sought.now.flags.now sought.now.wanted y)
         found.old.items found.new.items met.old.items met.new.items) }
 {
     for x in targets {
-        if flags[x.place()] == wanted {
-            meet(found, met, epoch, *x)?;
+        if sought.flags[x.place()] == sought.wanted {
+            meet(found, met, sought.epoch, *x)?;
         }
     }
     Ok(())
 }
 
-// The targets in the row `at` whose flag is `wanted` are met.
+// The targets in the row `at` that are sought are met.
 pub(crate) fn visit_row(
     found: &mut Vec<Node>,
     met: &mut Vec<usize>,
-    epoch: usize,
     rows: &[Vec<Node>],
     at: Node,
-    flags: &[bool],
-    wanted: bool,
+    sought: &Sought<'_>,
 ) -> Result<(), AllocError>
     requires at { at < length rows.now }
-    requires fits { length met.old.items ≤ length flags.now }
+    requires fits { length met.old.items ≤ length sought.now.flags.now }
     requires inside { (y : ℕ) → Leads rows.now at y → y < length met.old.items }
-    requires marks { Marks epoch found.old.items met.old.items }
-    ensures { OnOk result (Visits epoch (λ y. Leads rows.now at y × IsWanted flags.now wanted y)
+    requires marks { Marks sought.now.epoch found.old.items met.old.items }
+    ensures { OnOk result (Visits sought.now.epoch
+        (λ y. Leads rows.now at y × IsWanted sought.now.flags.now sought.now.wanted y)
         found.old.items found.new.items met.old.items met.new.items) }
 {
-    visit(
-        found,
-        met,
-        epoch,
-        rows[at.place()].as_slice(),
-        flags,
-        wanted,
-    )
+    visit(found, met, rows[at.place()].as_slice(), sought)
 }
 
 // The removed vertices that `start` reaches through removed ones. `start` is the stamp of
@@ -96,20 +108,17 @@ pub(crate) fn passing(
     ensures inside { IfOk result
         (λ found. (b : ℕ) → Among found.items b → b < length met.old.items) }
 {
+    let sought = Sought {
+        flags: is_removed,
+        wanted: true,
+        epoch: start.place(),
+    };
     let mut found = Vec::new(alloc);
-    visit_row(
-        &mut found,
-        met,
-        start.place(),
-        edges,
-        start,
-        is_removed,
-        true,
-    )?;
+    visit_row(&mut found, met, edges, start, &sought)?;
     let mut next = 0;
     while next < found.len() {
         let at = found[next];
-        visit_row(&mut found, met, start.place(), edges, at, is_removed, true)?;
+        visit_row(&mut found, met, edges, at, &sought)?;
         next += 1;
     }
     Ok(found)

@@ -1,11 +1,11 @@
 use Rattle.std.proofs.Common.{◌≡◌, ◌<◌, ℕ, length, subst, sym, ◌∙◌}
 use Rattle.cargo_toml_resolve.specs.KeptFeatures.{ArePassedAt}
-use Rattle.cargo_toml_resolve.specs.Leaving.{LeavesAll}
+use Rattle.cargo_toml_resolve.specs.Holding.{AllTakeOver}
 use Rattle.cargo_toml_resolve.specs.Passing.{bins_of, passed_below}
 use Rattle.cargo_toml_resolve.specs.Texts.{texts_of}
 use Rattle.cargo_toml_resolve.proofs.KeptEnablers.{learnt_through}
 use Rattle.cargo_toml_resolve.proofs.Learning.{own_still, stand_still, there_too}
-use Rattle.cargo_toml_resolve.proofs.Placing.{bins_there, kept_there, named_alike_there, rows_there}
+use Rattle.cargo_toml_resolve.proofs.Placing.{bins_there, kept_there, named_alike_there, redirects_there}
 use Rattle.cargo_toml_resolve.proofs.elimination.place.Goals as goal
 
 pub returns : goal.returns
@@ -16,7 +16,7 @@ returns c =
     let learnt = c.in_ok-walked.ensures.learnt in
     let old = c.args.features.now.items in
     let mid = c.walk.new.features.items in
-    let left = c.leave_all.new.features.items in
+    let left = c.take_over_all.new.features.items in
     let new = c.pass_bins.new.features.items in
     let ts = texts_of g.texts.items in
     let es = g.edges.items in
@@ -25,12 +25,12 @@ returns c =
     let ps = w.passed.items in
     let ms = w.named.items in
     let others = c.in_ok-pass_bins.ensures.others in
-    let leaves : LeavesAll fs ps ms ts mid left =
-    subst (λ f. LeavesAll f.items ps ms ts mid left) found.flags
-    (subst (λ t. LeavesAll w.flags.items ps ms (texts_of t.items) mid left) found.texts c.in_ok-leave_all.ensures) in
-    let passed : (y : ℕ) → y < length left → bins_of new y ≡ passed_below w.rows.items fs (length left) (bins_of left) y =
-    subst (λ f. (y : ℕ) → y < length left → bins_of new y ≡ passed_below w.rows.items f.items (length left) (bins_of left) y) found.flags
-    (subst (λ f. (y : ℕ) → y < length left → bins_of new y ≡ passed_below w.rows.items f (length left) (bins_of left) y) c.as_slice-2.ensures.value
+    let leaves : AllTakeOver fs ps ms ts mid left =
+    subst (λ f. AllTakeOver f.items ps ms ts mid left) found.flags
+    (subst (λ t. AllTakeOver w.flags.items ps ms (texts_of t.items) mid left) found.texts c.in_ok-take_over_all.ensures) in
+    let passed : (y : ℕ) → y < length left → bins_of new y ≡ passed_below w.redirects.items fs (length left) (bins_of left) y =
+    subst (λ f. (y : ℕ) → y < length left → bins_of new y ≡ passed_below w.redirects.items f.items (length left) (bins_of left) y) found.flags
+    (subst (λ f. (y : ℕ) → y < length left → bins_of new y ≡ passed_below w.redirects.items f (length left) (bins_of left) y) c.as_slice-2.ensures.value
     (subst (λ r. (y : ℕ) → y < length left → bins_of new y ≡ passed_below r c.as_slice-2.result.now (length left) (bins_of left) y) c.as_slice.ensures.value c.in_ok-pass_bins.ensures.bins)) in
     record {
       texts = found.texts;
@@ -48,6 +48,6 @@ returns c =
           learnt_through es fs ts (length es) old mid stand.in_order c.requires.no_enablers learnt i v.0 m v.1 at kept e)
           leaves others;
       bins = λ t removed stand. subst (λ own. ArePassedAt t removed own ts fs new) (λ i f. own_still old mid learnt.same f i)
-          (bins_there t removed mid left new ts es ns fs (stand_still t removed old mid ts es ns fs learnt.same stand) ps ms w.rows.items found.rows leaves others passed);
-      rows = λ t removed stand. rows_there t removed mid left new ts es ns fs (stand_still t removed old mid ts es ns fs learnt.same stand) w.rows.items found.rows;
+          (bins_there t removed mid left new ts es ns fs (stand_still t removed old mid ts es ns fs learnt.same stand) ps ms w.redirects.items found.redirects leaves others passed);
+      redirects = λ t removed stand. redirects_there t removed mid left new ts es ns fs (stand_still t removed old mid ts es ns fs learnt.same stand) w.redirects.items found.redirects;
     }

@@ -1,19 +1,9 @@
-use Rattle.std.proofs.Common.{IsTrue}
-use Rattle.cargo_toml_graph.specs.Graph.{IsPlain}
 use Rattle.cargo_toml_features.specs.Places.{text_at}
-use Rattle.cargo_toml_features.specs.Views.{action_at, has_text}
 use Rattle.cargo_toml_resolve.specs.Enabling.{LeadsTo}
 use Rattle.cargo_toml_resolve.specs.Texts.{texts_of}
-use Rattle.cargo_toml_resolve.proofs.NumberRows.{both_gained, none_gained}
+use Rattle.cargo_toml_resolve.proofs.NumberRows.{none_gained}
 use Rattle.cargo_toml_resolve.proofs.enabling.push_targets.Goals as goal
 
 pub returns-then-leads_nowhere : goal.returns-then-leads_nowhere
 returns-then-leads_nowhere c = none_gained c.args.keys.now c.args.own (λ x. LeadsTo c.args.feature.now (text_at (texts_of c.args.keys.now) x)) c.args.row.now.items
     (λ x. c.leads_nowhere.ensures c.if-leads_nowhere.true (text_at (texts_of c.args.keys.now) x))
-
-pub returns : goal.returns
-returns c =
-    let keys = c.args.keys.now in
-    let v = c.args.feature.now in
-    both_gained keys c.args.own (λ x. IsTrue (has_text v.enables_features (text_at (texts_of keys) x))) (λ x. IsPlain (action_at v.enables_deps (text_at (texts_of keys) x)))
-    c.args.row.now.items c.push_names.new.row.items c.push_actions.new.row.items c.in_ok-near.ensures c.in_ok-push_actions.ensures

@@ -17,7 +17,7 @@ pub returns-then-not-have_bins-clause-bins : goal.returns-then-not-have_bins-cla
 returns-then-not-have_bins-clause-bins c = λ y below.
     let old = c.args.features.now.items in
     let none = (rw c.as_slice.ensures.value at c.have_bins.ensures) c.if-not-have_bins.true in
-    sym (none_passed c.args.rows.now c.args.flags.now (bins_of old) (length old) none y)
+    sym (none_passed c.args.redirects.now c.args.flags.now (bins_of old) (length old) none y)
 
 pub loop-r-init : goal.loop-r-init
 loop-r-init c = record {
@@ -31,23 +31,23 @@ pub loop-r-preserved : goal.loop-r-preserved
 loop-r-preserved c =
     let old = c.args.features.now.items in
     let mid = c.loop-r.features.items in
-    let rows = c.args.rows.now in
+    let redirects = c.args.redirects.now in
     let flags = c.args.flags.now in
     let r = c.loop-r.r in
     let inside : r < length old = search rules in
     elim c.if-flags-r.branch [
       | then-flags-r+in_ok-pass_from w ↦
-          let there : r < length rows = search rules in
+          let there : r < length redirects = search rules in
           let gone : IsWanted flags true r = search rules in
           let new = w.pass_from.new.features.items in
-          let read = w.as_slice-then-flags-r.ensures.value ∙ sym (list_read rows r w.index-rows-r.result there w.index-rows-r.is) in
-          let puts : Puts (Leads rows r) (take 10 (bins_of mid r)) mid new = subst (λ row. Puts (Among row) (take 10 (bins_of mid r)) mid new) read (rw w.at.ensures at w.in_ok-pass_from.ensures.put) in
+          let read = w.as_slice-then-flags-r.ensures.value ∙ sym (list_read redirects r w.index-redirects-r.result there w.index-redirects-r.is) in
+          let puts : Puts (Leads redirects r) (take 10 (bins_of mid r)) mid new = subst (λ row. Puts (Among row) (take 10 (bins_of mid r)) mid new) read (rw w.at.ensures at w.in_ok-pass_from.ensures.put) in
           let same = c.loop-r.invariant.same.len in
           rw (w.features-is) (rw (w.known-is) (record {
             known = w.in_ok-pass_from.ensures.known;
             same = then_same old mid new c.loop-r.invariant.same puts.same;
             inside = omega (arith, inside);
-            turned = one_turn rows flags (bins_of old) (length old) r inside gone (bins_of mid) (bins_of new) c.loop-r.invariant.turned (λ y below. puts.lists y (subst (λ n. y < n) (sym same) below));
+            turned = one_turn redirects flags (bins_of old) (length old) r inside gone (bins_of mid) (bins_of new) c.loop-r.invariant.turned (λ y below. puts.lists y (subst (λ n. y < n) (sym same) below));
           }))
       | else-flags-r w ↦
           let kept : IsWanted flags false r = search rules in
@@ -55,7 +55,7 @@ loop-r-preserved c =
             known = c.loop-r.invariant.known;
             same = c.loop-r.invariant.same;
             inside = omega (arith, inside);
-            turned = kept_turn rows flags (bins_of old) (length old) r (bins_of mid) kept c.loop-r.invariant.turned;
+            turned = kept_turn redirects flags (bins_of old) (length old) r (bins_of mid) kept c.loop-r.invariant.turned;
           }))
     ]
 
@@ -66,4 +66,4 @@ returns-clause-bins c = λ y below.
     let end = c.loop-r-test.false in
     let most = c.loop-r.invariant.inside in
     let all : c.loop-r.r ≡ length old = omega (arith, size, end, most) in
-    subst (λ n. bins_of c.loop-r.features.items y ≡ passed_below c.args.rows.now c.args.flags.now n (bins_of old) y) all (c.loop-r.invariant.turned y below)
+    subst (λ n. bins_of c.loop-r.features.items y ≡ passed_below c.args.redirects.now c.args.flags.now n (bins_of old) y) all (c.loop-r.invariant.turned y below)

@@ -9,5 +9,5 @@ invariant-loop-r l = record {
   known : AreKnown l.known.items l.features.items;
   same : AreSameButBins l.initial.features.items l.features.items;
   inside : l.r ≤ length l.initial.features.items;
-  turned : Turned l.rows l.flags (bins_of l.initial.features.items) (length l.initial.features.items) l.r (bins_of l.features.items);
+  turned : Turned l.redirects l.flags (bins_of l.initial.features.items) (length l.initial.features.items) l.r (bins_of l.features.items);
 }

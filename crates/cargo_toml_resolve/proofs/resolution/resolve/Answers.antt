@@ -13,7 +13,7 @@ use Rattle.cargo_toml_features.specs.Places.{text_at}
 use Rattle.cargo_toml_resolve.specs.Filter.{IsFlagOf}
 use Rattle.cargo_toml_resolve.specs.Numbering.{IsFlagged}
 use Rattle.cargo_toml_resolve.specs.Removed.{IsRemovedBy}
-use Rattle.cargo_toml_resolve.proofs.AnsweringLeft.{answers, some_flagged}
+use Rattle.cargo_toml_resolve.proofs.AnsweringKept.{answers, some_flagged}
 use Rattle.cargo_toml_resolve.proofs.ByFilter.{answer_alike, answer_by, flag_at, flag_is, kept_by, removed_by}
 use Rattle.cargo_toml_resolve.proofs.resolution.resolve.Goals as goal
 

@@ -16,8 +16,8 @@ returns-clause-walked c =
     record {
       texts = refl;
       flags = refl;
-      count = c.in_ok-rows.ensures.len ∙ g.names_count;
+      count = c.in_ok-redirects.ensures.len ∙ g.names_count;
       passed = rw (c.as_slice.ensures.value, c.as_slice-2.ensures.value) at c.in_ok-passed.ensures.passed;
       named = λ a x lt any. (rw (c.as_slice-4.ensures.value, c.as_slice-5.ensures.value, c.as_slice-is_removed.ensures.value) at c.in_ok-named.ensures.labels) a x (subst (λ n. a < n) (sym g.names_count) lt) any;
-      rows = λ r x lt gone. (rw c.as_slice-is_removed.ensures.value at c.in_ok-rows.ensures.redirects) r x (subst (λ n. r < n) (sym g.names_count) lt) gone;
+      redirects = λ r x lt gone. (rw c.as_slice-is_removed.ensures.value at c.in_ok-redirects.ensures.redirects) r x (subst (λ n. r < n) (sym g.names_count) lt) gone;
     }

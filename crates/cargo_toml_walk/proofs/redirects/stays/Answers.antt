@@ -7,14 +7,14 @@ use Rattle.cargo_toml_walk.proofs.Steps.{row_read}
 use Rattle.cargo_toml_walk.proofs.Rows.{row_stays}
 use Rattle.cargo_toml_walk.proofs.redirects.stays.Goals as goal
 
-pub has_finished-requires : goal.has_finished-requires
-has_finished-requires c = λ x i.
-    let read = c.as_slice.ensures.value ∙ sym (row_read c.args.rows.now c.args.r _ c.index-rows-place.result c.requires.own c.place.ensures c.index-rows-place.is) in
+pub has_flagged-requires : goal.has_flagged-requires
+has_flagged-requires c = λ x i.
+    let read = c.as_slice.ensures.value ∙ sym (row_read c.args.rows.now c.args.passer.now.own _ c.index-rows-place.result c.requires.own c.place.ensures c.index-rows-place.is) in
     c.requires.inside _ x (subst (λ t. Among t x) read i)
 
 pub returns-then-is_empty : goal.returns-then-is_empty
 returns-then-is_empty c = λ e.
-    let none : length c.args.passed.now ≡ 0 = grind (arith, nat_tests) in
-    let read = c.as_slice.ensures.value ∙ sym (row_read c.args.rows.now c.args.r _ c.index-rows-place.result c.requires.own c.place.ensures c.index-rows-place.is) in
-    row_stays c.args.rows.now c.args.finished.now c.args.passed.now c.args.r none
-    (subst (λ t. (x : ℕ) → Among t x → IsWanted c.args.finished.now false x) read (c.has_finished.ensures (not-true _ e)))
+    let none : length c.args.passer.now.passed.now ≡ 0 = grind (arith, nat_tests) in
+    let read = c.as_slice.ensures.value ∙ sym (row_read c.args.rows.now c.args.passer.now.own _ c.index-rows-place.result c.requires.own c.place.ensures c.index-rows-place.is) in
+    row_stays c.args.rows.now c.args.finished.now c.args.passer.now.passed.now c.args.passer.now.own none
+    (subst (λ t. (x : ℕ) → Among t x → IsWanted c.args.finished.now false x) read (c.has_flagged.ensures (not-true _ e)))

@@ -22,7 +22,7 @@ visit_row-requires-in-loop-next-clause-at c =
 pub loop-next-preserved : goal.loop-next-preserved
 loop-next-preserved c =
     let below : c.loop-next.next < length c.loop-next.found.items = search rules in
-    let v = rw c.place-in-loop-next.ensures at c.in_ok-visit_row-2.ensures in
+    let v = rw c.place.ensures at c.in_ok-visit_row-2.ensures in
     let longer = v.longer in
     record {
       walks = goes_on c.args.edges.now c.args.is_removed.now c.args.start c.args.start c.loop-next.next c.loop-next.found.items _ c.loop-next.met.items _ below c.loop-next.invariant.walks c.index-at.result.now c.index-at.ensures v;

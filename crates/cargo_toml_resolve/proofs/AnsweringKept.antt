@@ -1,0 +1,130 @@
+-- From all that is resolved, and what is kept of it once hidden features are taken out, to the whole answer.
+use mathlib.Core.Bool.{beq}
+use Rattle.std.proofs.Common.{arith, ◌≡◌, ◌↔◌, ◌<◌, Bool, length, true, false, List, [], Bor, map, Option, Some, None, IsTrue, IfSome, is_some, option_map, refl, sym, ap, subst, ◌∙◌}
+use Rattle.std.proofs.lemmas.Bool.{false≢true}
+use Rattle.std.specs.BTreeSet.{BTreeSet}
+use Rattle.std.specs.List.{IsAnyAnswer, slice_index_or}
+use Rattle.std.specs.Option.{option_map_or}
+use Rattle.cargo_toml_graph.specs.Action.{Text}
+use Rattle.cargo_toml_graph.specs.Admitted.{Listed, is_below}
+use Rattle.cargo_toml_graph.specs.Bins.{ArePassedOn}
+use Rattle.cargo_toml_graph.specs.Graph.{Table}
+use Rattle.cargo_toml_graph.specs.Redirects.{RedirectsTo}
+use Rattle.cargo_toml_graph.specs.Removal.{unremoved}
+use Rattle.cargo_toml_graph.proofs.InByteOrder.{alike_itself, passed_all_alike, passed_has}
+use Rattle.cargo_toml_features.specs.Places.{text_at}
+use Rattle.cargo_toml_dependencies.specs.Details.{plain_detail}
+use Rattle.cargo_toml_features.specs.declared.features.Feature.{Feature}
+use Rattle.cargo_toml_features.specs.declared.features.Features.{Features}
+use Rattle.cargo_toml_features.specs.InOrder.{AreTable, feature_at, names_of}
+use Rattle.cargo_toml_features.specs.Reached.{IsKeyed}
+use Rattle.cargo_toml_features.specs.Marks.{Details, marked, marks_in, marks_of}
+use Rattle.cargo_toml_features.specs.Recorded.{Entry, entries_at, recorded_of}
+use Rattle.cargo_toml_features.specs.Resolved.{SameRecorded, table_of}
+use Rattle.cargo_toml_features.specs.Views.{answer_of, has_text, value_at}
+use Rattle.cargo_toml_resolve.specs.KeptFeatures.{IsNamedAlike, own_bins}
+use Rattle.cargo_toml_resolve.specs.KeptByName.{AreKept}
+use Rattle.cargo_toml_resolve.specs.Numbering.{IsFlagged}
+use Rattle.cargo_toml_resolve.specs.Removed.{IsAnswerWithout}
+use Rattle.cargo_toml_resolve.proofs.InPlace.{found_stands}
+
+module _ {S H : Type 0} (listed : Listed) (entries : List Entry) (details : Details) (own : Text → List Text) (removed : Text → Bool) (vs : List Feature) (a : Features S H)
+    (start : AreTable (table_of listed entries) vs) (there : (f : Text) → IsTrue (removed f) → IsTrue ((table_of listed entries).has f))
+    (marks : (f : Text) → IfSome (feature_at vs f) (λ v. marks_of v ≡ marks_in listed details f))
+    (bins : (f : Text) → IfSome (feature_at vs f) (λ v. map (λ b. b.now) v.required_by_bins.items ≡ own f))
+    (dependencies : (k : Text) → SameRecorded ((answer_of a).dependencies k) (recorded_of (entries_at listed entries k)))
+    (kept : AreKept (table_of listed entries) removed vs a.features a.hidden_features)
+    (some : IsTrue a.removed_hidden_features ↔ ((r : Text) × IsTrue (removed r))) where
+  abbrev t : Table
+  t = table_of listed entries
+
+  abbrev R : Text → Type 0
+  R f = IsTrue (removed f)
+
+  abbrev Stays : Text → Feature → Type 0
+  Stays f w = (v : Feature) × (feature_at vs f ≡ Some v) × IsNamedAlike v w
+
+  pub keyed : IsKeyed a.features
+  keyed f = go (value_at a.features f) (kept.own f)
+    where
+      go : (o : Option Feature) → IfSome o (Stays f) → IfSome o (λ v. v.key.now ≡ f)
+      go None s = tt
+      go (Some w) s = ap (λ x. x.now) s.2.key ∙ (found_stands vs f s.0 s.1).3
+
+  key_at : (f : Text) → IfSome (option_map (λ (v : Feature). v.key.now) (value_at a.features f)) (λ k. k ≡ f)
+  key_at f = go (value_at a.features f) (keyed f)
+    where
+      go : (o : Option Feature) → IfSome o (λ v. v.key.now ≡ f) → IfSome (option_map (λ (v : Feature). v.key.now) o) (λ k. k ≡ f)
+      go None k = tt
+      go (Some v) k = k
+
+  marks_at : (f : Text) → IsTrue (is_some (value_at a.features f)) → option_map_or marks_of (value_at a.features f) (marked false plain_detail) ≡ marks_in listed details f
+  marks_at f = go (value_at a.features f) (kept.own f)
+    where
+      go : (o : Option Feature) → IfSome o (Stays f) → IsTrue (is_some o) → option_map_or marks_of o (marked false plain_detail) ≡ marks_in listed details f
+      go None s y = absurd (false≢true y)
+      go (Some w) s y = s.2.marks ∙ subst (λ o. IfSome o (λ v. marks_of v ≡ marks_in listed details f)) s.1 (marks f)
+
+  own_at : (f : Text) → IsTrue (t.has f) → own_bins vs f ≡ own f
+  own_at f has = go (feature_at vs f) (start.has f ∙ has) (bins f)
+    where
+      go : (o : Option Feature) → IsTrue (is_some o) → IfSome o (λ v. map (λ b. b.now) v.required_by_bins.items ≡ own f) → option_map_or (λ v. map (λ (b : Bor Text). b.now) v.required_by_bins.items) o [] ≡ own f
+      go None y e = absurd (false≢true y)
+      go (Some v) y e = e
+
+  passed_on : ArePassedOn t R own (answer_of a).bins
+  passed_on = record {
+    order = kept.bins.order;
+    in_order = kept.bins.in_order;
+    lists = λ f k. kept.bins.lists f k
+        ∙ passed_all_alike (λ v. IsTrue (t.has v)) kept.bins.order (unremoved t) (unremoved t) (own_bins vs) own (alike_itself (unremoved t)) (λ v i. there v ((kept.bins.in_order.members v).0 i)) own_at f k.0;
+  }
+
+  redirected : (r : Text) → is_some (option_map has_text (value_at a.hidden_features r)) ≡ removed r
+  redirected r = go (value_at a.hidden_features r) ∙ kept.redirected r
+    where
+      go : (o : Option (BTreeSet (Bor Text))) → is_some (option_map has_text o) ≡ is_some o
+      go None = refl
+      go (Some v) = refl
+
+  redirects : (r : Text) → IfSome (option_map has_text (value_at a.hidden_features r)) (λ names. (x : Text) → IsTrue (names x) ↔ RedirectsTo t R (λ s b. IsTrue (is_below s b)) r x)
+  redirects r = go (value_at a.hidden_features r) (kept.redirects r)
+    where
+      go : (o : Option (BTreeSet (Bor Text))) → IfSome o (λ names. (x : Text) → IsTrue (has_text names x) ↔ RedirectsTo t R (λ s b. IsTrue (is_below s b)) r x)
+          → IfSome (option_map has_text o) (λ names. (x : Text) → IsTrue (names x) ↔ RedirectsTo t R (λ s b. IsTrue (is_below s b)) r x)
+      go None h = tt
+      go (Some names) h = h
+
+  pub answers : IsAnswerWithout listed entries details own R (answer_of a)
+  answers = record {
+    resolved = kept.resolved;
+    keyed = key_at;
+    marks = marks_at;
+    dependencies = dependencies;
+    some = some;
+    bins = λ f y. passed_has t R own there (answer_of a).bins passed_on f ((kept.resolved.kept f).0 y);
+    passed_on = passed_on;
+    redirected = λ r. (λ y. sym (redirected r) ∙ y, λ y. redirected r ∙ y);
+    redirects = redirects;
+  }
+
+-- some flag stands exactly if some feature is removed
+pub some_flagged : (b : Bool) (vs : List Feature) (flags : List Bool) (R : Text → Type 0) → length flags ≡ length vs → IsAnyAnswer (λ y c. beq y true ≡ c) flags b →
+    ((f : Text) → R f ↔ IsFlagged vs flags f) → IsTrue b ↔ ((r : Text) × R r)
+some_flagged true vs flags R len h is = (
+  λ y.
+      let name = text_at (names_of vs) h.0 in
+      (name, (is name).1 (h.0, (let below = h.1 in omega (arith, below, len)), refl, stands (slice_index_or flags h.0 false) (h.2 false))),
+  λ r. refl,
+)
+  where
+    stands : (c : Bool) → beq c true ≡ true → c ≡ true
+    stands true e = refl
+    stands false e = absurd (false≢true e)
+some_flagged false vs flags R len h is = (
+  λ y. absurd (false≢true y),
+  λ r.
+      let w = (is r.0).0 r.1 in
+      let below : w.0 < length flags = (let lt = w.1 in omega (arith, lt, len)) in
+      absurd (false≢true (sym (h w.0 false (omega arith) below) ∙ ap (λ c. beq c true) w.3)),
+)

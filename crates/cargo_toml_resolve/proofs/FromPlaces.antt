@@ -1,0 +1,211 @@
+-- From what stands in places to what is kept by name.
+use Rattle.std.proofs.Common.{◌≡◌, ◌↔◌, ◌<◌, ℕ, Bool, true, false, List, [], length, map, Option, Some, None, Bor, Vec, IsTrue, IsSome, IfSome, is_some, slice_get, refl, sym, ap, subst, ◌∙◌, arith}
+use Rattle.std.proofs.lemmas.Bool.{false≢true}
+use Rattle.std.specs.BTreeSet.{BTreeSet}
+use Rattle.std.specs.HashMap.{HashMap}
+use Rattle.std.specs.Option.{IsSomeAnd, option_map_or}
+use Rattle.std.specs.declared.alloc.Global.{Global}
+use Rattle.cargo_toml_graph.specs.Action.{Text}
+use Rattle.cargo_toml_graph.specs.Admitted.{is_below}
+use Rattle.cargo_toml_graph.specs.Graph.{Table, IsKept}
+use Rattle.cargo_toml_graph.specs.Redirects.{RedirectsTo}
+use Rattle.cargo_toml_graph.specs.Removal.{pass_all, unremoved}
+use Rattle.cargo_toml_walk.specs.Numbers.{IsWanted, Leads, list_at}
+use Rattle.cargo_toml_features.specs.Places.{text_at}
+use Rattle.cargo_toml_resolve.specs.NumberedTables.{HasNumber, IsNumbered}
+use Rattle.cargo_toml_resolve.proofs.NumberedTables as numbered
+use Rattle.cargo_toml_features.specs.declared.features.Feature.{Feature}
+use Rattle.cargo_toml_features.specs.InOrder.{AreInOrder, AreTable, feature_at, names_of, table_among}
+use Rattle.cargo_toml_features.specs.Views.{has_text, value_at}
+use Rattle.cargo_toml_resolve.specs.declared.graph.Graph.{Graph}
+use Rattle.cargo_toml_resolve.specs.declared.graph.Walked.{Walked}
+use Rattle.cargo_toml_resolve.specs.KeptFeatures.{ArePassedAt, IsKeptFeature, IsNamedAlike, StandFor, own_bins}
+use Rattle.cargo_toml_resolve.specs.Holding.{HasTexts}
+use Rattle.cargo_toml_resolve.specs.KeptByName.{AreKept}
+use Rattle.cargo_toml_resolve.specs.Numbering.{IsFlagged}
+use Rattle.cargo_toml_resolve.specs.Placed.{ArePlaced, AreHashed}
+use Rattle.cargo_toml_resolve.specs.Texts.{texts_of}
+use Rattle.cargo_toml_resolve.proofs.Answered.{resolved_is}
+use Rattle.cargo_toml_resolve.proofs.InPlace.{name_in, stands_found, stands_in}
+use Rattle.cargo_toml_resolve.proofs.NumberingGraph.{same_removed}
+use Rattle.cargo_toml_resolve.proofs.Placing.{place_inside, stood}
+use Rattle.cargo_toml_resolve.proofs.Renumbered.{renumbered}
+
+none_unless : {X : Type 0} (o : Option X) → ¬ IsSome o → o ≡ None
+none_unless None h = refl
+none_unless (Some x) h = absurd (h refl)
+
+by_true : (a b : Bool) → IsTrue a ↔ IsTrue b → a ≡ b
+by_true false false e = refl
+by_true false true e = absurd (false≢true (e.1 refl))
+by_true true false e = absurd (false≢true (e.0 refl))
+by_true true true e = refl
+
+some_there : {X : Type 0} (o : Option X) (P : X → Type 0) → IsSomeAnd o P → IsSome o
+some_there None P h = absurd h
+some_there (Some x) P h = refl
+
+if_there : {X : Type 0} (o : Option X) (P : X → Type 0) → (IsSome o → IsSomeAnd o P) → IfSome o P
+if_there None P h = tt
+if_there (Some x) P h = h refl
+
+module _ (t : Table) (removed : Text → Bool) (old new : List Feature) (texts : List Text) (edges names rows : List (Vec ℕ Global)) (flags : List Bool)
+    (stand : StandFor t removed old texts edges names flags) (len : length new ≡ length old)
+    (own : (i : ℕ) (v w : Feature) → slice_get old i ≡ Some v → slice_get new i ≡ Some w → IsNamedAlike v w) where
+  abbrev pub R : Text → Type 0
+  R v = IsTrue (removed v)
+
+  fits : (i : ℕ) → i < length edges → i < length texts
+  fits i lt = let c = stand.numbered.count in omega (arith, c, lt)
+
+  vertex_place : (i : ℕ) → i < length edges → i < length old
+  vertex_place i lt = subst (λ n. i < n) stand.count lt
+
+  -- the number of what stands in a place
+  number_of : (i : ℕ) (w : Feature) → slice_get new i ≡ Some w → i < length edges
+  number_of i w at = subst (λ n. i < n) (len ∙ sym stand.count) (place_inside new i w at)
+
+  -- what stands in a place has the text of its number as its name
+  pub name_there : (i : ℕ) (w : Feature) → slice_get new i ≡ Some w → w.key.now ≡ text_at texts i
+  name_there i w at =
+      let v = stood old new len i w at in
+      ap (λ k. k.now) (own i v.0 w v.1 at).key ∙ sym (stand.vertices i (vertex_place i (number_of i w at)) ∙ name_in old i v.0 v.1)
+
+  module _ {S : Type 0} (m : HashMap (Bor Text) Feature S) (hidden : HashMap (Bor Text) (BTreeSet (Bor Text)) S) (redirects_len : length rows ≡ length old)
+      (kept : (i : ℕ) (w : Feature) → IsWanted flags false i → slice_get new i ≡ Some w → IsKeptFeature t R (text_at texts i) w)
+      (bins : ArePassedAt t removed (own_bins old) texts flags new)
+      (redirects_are : (r : ℕ) (x : Text) → r < length edges → IsWanted flags true r → HasNumber texts (length texts) (Leads rows r) x ↔ RedirectsTo t R (λ a b. IsTrue (is_below a b)) (text_at texts r) x)
+      (held : (i : ℕ) (v : Feature) → slice_get new i ≡ Some v → IsWanted flags false i → value_at m v.key.now ≡ Some v)
+      (only : (f : Text) → IsSome (value_at m f) → (i : ℕ) × (v : Feature) × (slice_get new i ≡ Some v) × IsWanted flags false i × (v.key.now ≡ f))
+      (redirect_there : (i : ℕ) → i < length rows → IsWanted flags true i → IsSomeAnd (value_at hidden (text_at texts i)) (HasTexts texts (list_at rows i)))
+      (redirect_only : (r : Text) → IsSome (value_at hidden r) → (i : ℕ) × (i < length rows) × (text_at texts i ≡ r) × IsWanted flags true i) where
+    kept_by_name : (f : Text) → IsKept t R f → IsSomeAnd (value_at m f) (IsKeptFeature t R f)
+    kept_by_name f k =
+        let i = (stand.numbered.vertex f).0 k.0 in
+        let off : IsWanted flags false i.0 = (numbered.unflagged t R texts edges names flags stand.numbered i.0 (fits i.0 i.1)).1 (λ r. k.1 (subst R i.2 r)) in
+        let w = stands_in new i.0 (subst (λ n. i.0 < n) (sym (len ∙ sym stand.count)) i.1) in
+        let there : value_at m f ≡ Some w.0 = subst (λ x. value_at m x ≡ Some w.0) (name_there i.0 w.0 w.1 ∙ i.2) (held i.0 w.0 w.1 off) in
+        subst (λ o. IsSomeAnd o (IsKeptFeature t R f)) (sym there) (subst (λ x. IsKeptFeature t R x w.0) i.2 (kept i.0 w.0 off w.1))
+
+    gone : (f : Text) → R f → value_at m f ≡ None
+    gone f r = none_unless (value_at m f) (λ y.
+        let o = only f y in
+        let lt = number_of o.0 o.1 o.2 in
+        let named : text_at texts o.0 ≡ f = sym (name_there o.0 o.1 o.2) ∙ o.4 in
+        (numbered.unflagged t R texts edges names flags stand.numbered o.0 (fits o.0 lt)).0 o.3 (subst R (sym named) r))
+
+    missing : (f : Text) → ¬ IsTrue (t.has f) → value_at m f ≡ None
+    missing f lacks = none_unless (value_at m f) (λ y.
+        let o = only f y in
+        lacks ((stand.numbered.vertex f).1 (o.0, number_of o.0 o.1 o.2, sym (name_there o.0 o.1 o.2) ∙ o.4)))
+
+    -- what stands under a name stands in a place
+    with_place : (f : Text) (P : Feature → Type 0) → ((i : ℕ) (w : Feature) → slice_get new i ≡ Some w → IsWanted flags false i → text_at texts i ≡ f → P w) → IfSome (value_at m f) P
+    with_place f P h = if_there (value_at m f) P (λ y.
+        let o = only f y in
+        let there : value_at m f ≡ Some o.1 = subst (λ x. value_at m x ≡ Some o.1) o.4 (held o.0 o.1 o.2 o.3) in
+        subst (λ p. IsSomeAnd p P) (sym there) (h o.0 o.1 o.2 o.3 (sym (name_there o.0 o.1 o.2) ∙ o.4)))
+
+    own_by_name : (f : Text) → IfSome (value_at m f) (λ w. (v : Feature) × (feature_at old f ≡ Some v) × IsNamedAlike v w)
+    own_by_name f = with_place f (λ w. (v : Feature) × (feature_at old f ≡ Some v) × IsNamedAlike v w) (λ i w at off named.
+        let v = stood old new len i w at in
+        let key : v.0.key.now ≡ f = sym (name_in old i v.0 v.1) ∙ sym (stand.vertices i (vertex_place i (number_of i w at))) ∙ named in
+        (v.0, subst (λ x. feature_at old x ≡ Some v.0) key (stands_found old stand.in_order i v.0 v.1), own i v.0 w v.1 at))
+
+    row_flag : (r : Text) → R r → (i : ℕ) × (i < length edges) × (text_at texts i ≡ r) × IsWanted flags true i
+    row_flag r gone_now =
+        let i = (stand.numbered.vertex r).0 (stand.numbered.removed r gone_now) in
+        (i.0, i.1, i.2, (stand.numbered.flagged i.0 (fits i.0 i.1)).1 (subst R (sym i.2) gone_now))
+
+    redirected : (r : Text) → is_some (value_at hidden r) ≡ removed r
+    redirected r = by_true (is_some (value_at hidden r)) (removed r) (
+      λ y.
+          let o = redirect_only r y in
+          let below : o.0 < length edges = subst (λ n. o.0 < n) (redirects_len ∙ sym stand.count) o.1 in
+          subst R o.2 ((stand.numbered.flagged o.0 (fits o.0 below)).0 o.3),
+      λ y.
+          let i = row_flag r y in
+          subst (λ x. IsSome (value_at hidden x)) i.2
+          (some_there (value_at hidden (text_at texts i.0)) (HasTexts texts (list_at rows i.0)) (redirect_there i.0 (subst (λ n. i.0 < n) (sym (redirects_len ∙ sym stand.count)) i.1) i.3)),
+    )
+
+    redirects : (r : Text) → IfSome (value_at hidden r) (λ s. (x : Text) → IsTrue (has_text s x) ↔ RedirectsTo t R (λ a b. IsTrue (is_below a b)) r x)
+    redirects r = if_there (value_at hidden r) (λ s. (x : Text) → IsTrue (has_text s x) ↔ RedirectsTo t R (λ a b. IsTrue (is_below a b)) r x) (λ y.
+        let o = redirect_only r y in
+        let below : o.0 < length edges = subst (λ n. o.0 < n) (redirects_len ∙ sym stand.count) o.1 in
+        subst (λ x. IsSomeAnd (value_at hidden x) (λ s. (z : Text) → IsTrue (has_text s z) ↔ RedirectsTo t R (λ a b. IsTrue (is_below a b)) x z)) o.2
+        (told (value_at hidden (text_at texts o.0)) o.0 below o.3 (redirect_there o.0 o.1 o.3)))
+      where
+        told : (p : Option (BTreeSet (Bor Text))) (i : ℕ) → i < length edges → IsWanted flags true i → IsSomeAnd p (HasTexts texts (list_at rows i)) →
+            IsSomeAnd p (λ s. (z : Text) → IsTrue (has_text s z) ↔ RedirectsTo t R (λ a b. IsTrue (is_below a b)) (text_at texts i) z)
+        told None i lt on h = absurd h
+        told (Some s) i lt on h = λ z. (
+          λ y. (redirects_are i z lt on).0 ((h z).0 y),
+          λ d. (h z).1 ((redirects_are i z lt on).1 d),
+        )
+
+    list_there : (f : Text) (o : Option Feature) → IsSomeAnd o (IsKeptFeature t R f) → IfSome o (λ w. map (λ b. b.now) w.required_by_bins.items ≡ pass_all bins.order (unremoved t) (own_bins old) f) →
+        option_map_or (λ v. map (λ (b : Bor Text). b.now) v.required_by_bins.items) o [] ≡ pass_all bins.order (unremoved t) (own_bins old) f
+    list_there f None k h = absurd k
+    list_there f (Some w) k h = h
+
+    pub are_kept : AreKept t removed old m hidden
+    are_kept = record {
+      resolved = resolved_is t removed m kept_by_name gone missing;
+      own = own_by_name;
+      bins = record {
+        order = bins.order;
+        in_order = bins.in_order;
+        lists = λ f k. list_there f (value_at m f) (kept_by_name f k) (with_place f (λ w. map (λ b. b.now) w.required_by_bins.items ≡ pass_all bins.order (unremoved t) (own_bins old) f)
+            (λ i w at off named. subst (λ x. map (λ b. b.now) w.required_by_bins.items ≡ pass_all bins.order (unremoved t) (own_bins old) x) named (bins.lists i w off at)));
+      };
+      redirected = redirected;
+      redirects = redirects;
+    }
+
+-- what numbering tells of the features
+pub record NumberedBy (vs : List Feature) (flagged : List Bool) (texts : List (Bor Text)) (edges names : List (Vec ℕ Global)) (flags : List Bool) : Type 0 where
+  pub numbered : IsNumbered (table_among vs) (IsFlagged vs flagged) (texts_of texts) edges names flags
+  pub count : length edges ≡ length vs
+  pub vertices : (i : ℕ) → i < length vs → text_at (texts_of texts) i ≡ text_at (names_of vs) i
+
+pub stands_for : (t : Table) (removed : Text → Bool) (vs : List Feature) (flagged : List Bool) (texts : List (Bor Text)) (edges names : List (Vec ℕ Global)) (flags : List Bool) →
+    AreInOrder vs → NumberedBy vs flagged texts edges names flags → AreTable t vs → ((f : Text) → IsTrue (removed f) ↔ IsFlagged vs flagged f) → StandFor t removed vs (texts_of texts) edges names flags
+stands_for t removed vs flagged texts edges names flags up n same removed_is = record {
+  table = same;
+  in_order = up;
+  numbered = renumbered t vs (λ v. IsTrue (removed v)) (texts_of texts) edges names flags same (same_removed (table_among vs) vs flagged (λ v. IsTrue (removed v)) (texts_of texts) edges names flags n.numbered removed_is);
+  count = n.count;
+  vertices = n.vertices;
+}
+
+pub all_hashed : {S : Type 0} (t : Table) (removed : Text → Bool) (old new : List Feature) (flagged : List Bool) (g : Graph) (w : Walked)
+    (m : HashMap (Bor Text) Feature S) (hidden : HashMap (Bor Text) (BTreeSet (Bor Text)) S) → AreInOrder old → NumberedBy old flagged g.texts.items g.edges.items g.names.items g.flags.items →
+    ArePlaced g old new w → AreHashed new w m hidden → AreTable t old → ((f : Text) → IsTrue (removed f) ↔ IsFlagged old flagged f) → AreKept t removed old m hidden
+all_hashed t removed old new flagged g w m hidden up n p h same removed_is =
+    let stand = stands_for t removed old flagged g.texts.items g.edges.items g.names.items g.flags.items up n same removed_is in
+    are_kept t removed old new (texts_of g.texts.items) g.edges.items g.names.items w.redirects.items g.flags.items stand p.len p.own m hidden p.count (p.kept t removed stand) (p.bins t removed stand) (p.redirects t removed stand)
+    (λ i v at off. h.held i v at (to_walked false i off))
+    (λ f there. let o = h.only f there in (o.0, o.1, o.2, from_walked false o.0 o.3, o.4))
+    (λ i lt on. subst (λ ts. IsSomeAnd (value_at hidden (text_at (texts_of ts.items) i)) (HasTexts (texts_of ts.items) (list_at w.redirects.items i))) p.texts (h.redirect_there i lt (to_walked true i on)))
+    (λ r there. let o = h.redirect_only r there in (o.0, o.1, subst (λ ts. text_at (texts_of ts.items) o.0 ≡ r) p.texts o.2, from_walked true o.0 o.3))
+  where
+    to_walked : (wanted : Bool) (i : ℕ) → IsWanted g.flags.items wanted i → IsWanted w.flags.items wanted i
+    to_walked wanted i = subst (λ fs. IsWanted fs.items wanted i) (sym p.flags)
+
+    from_walked : (wanted : Bool) (i : ℕ) → IsWanted w.flags.items wanted i → IsWanted g.flags.items wanted i
+    from_walked wanted i = subst (λ fs. IsWanted fs.items wanted i) p.flags
+
+-- no two features have one name, before and after they are left
+pub one_name : (old new : List Feature) (flagged : List Bool) (texts : List (Bor Text)) (edges names : List (Vec ℕ Global)) (flags : List Bool) → NumberedBy old flagged texts edges names flags →
+    length new ≡ length old → ((i : ℕ) (v w : Feature) → slice_get old i ≡ Some v → slice_get new i ≡ Some w → IsNamedAlike v w) →
+    (i j : ℕ) (v w : Feature) → slice_get new i ≡ Some v → slice_get new j ≡ Some w → v.key.now ≡ w.key.now → i ≡ j
+one_name old new flagged texts edges names flags n len own i j v w at at' same =
+    let name : (k : ℕ) (u : Feature) → slice_get new k ≡ Some u → (k < length edges) × (u.key.now ≡ text_at (texts_of texts) k) = λ k u here.
+    let o = stood old new len k u here in
+    let below = place_inside old k o.0 o.1 in
+    (subst (λ c. k < c) (sym n.count) below, ap (λ x. x.now) (own k o.0 u o.1 here).key ∙ sym (n.vertices k below ∙ name_in old k o.0 o.1)) in
+    let a = name i v at in
+    let b = name j w at' in
+    let c = n.numbered.count in
+    n.numbered.one i j (let lt = a.0 in omega (arith, c, lt)) (let lt = b.0 in omega (arith, c, lt)) (sym a.1 ∙ same ∙ b.1)

@@ -1,6 +1,0 @@
-use Rattle.cargo_toml_resolve.specs.Texts.{texts_of}
-use Rattle.cargo_toml_resolve.proofs.LeavingAll.{LeavesUpTo}
-use Rattle.cargo_toml_resolve.proofs.elimination.leave_all.Given as goal
-
-abbrev pub invariant-loop-at : goal.invariant-loop-at
-invariant-loop-at l = LeavesUpTo l.walked.flags.items l.walked.passed.items l.walked.named.items (texts_of l.walked.texts.items) l.initial.features.items l.at l.features.items

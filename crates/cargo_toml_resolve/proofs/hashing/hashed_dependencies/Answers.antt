@@ -1,0 +1,15 @@
+use Rattle.std.proofs.Common.{Bor, IfSome, map, sym, ap, subst, ◌∙◌}
+use Rattle.std.proofs.lemmas.Map.Views.{All-values_from_lookup}
+use Rattle.std.specs.Cmp.Lexicographic.{on_texts_equal}
+use Rattle.cargo_toml_graph.specs.Action.{Text}
+use Rattle.cargo_toml_features.specs.FirstTarget.{HasTarget}
+use Rattle.cargo_toml_full.specs.Slots.{held_among}
+use Rattle.cargo_toml_resolve.proofs.hashing.hashed_dependencies.Goals as goal
+
+pub returns-clause-same : goal.returns-clause-same
+returns-clause-same g c = λ k. c.in_ok-by_key.ensures k ∙ ap (λ ns. held_among (map (λ (n : Bor Text). n.now) ns) c.args.dependencies.values.items k) c.as_slice.ensures.value
+
+pub returns-clause-have_targets : goal.returns-clause-have_targets
+returns-clause-have_targets g c =
+    All-values_from_lookup (on_texts_equal (λ (k : Bor Text). k.now)) HasTarget c.in_ok-by_key.by_key.entries c.len-count.ensures.unique
+    (λ q. subst (λ o. IfSome o HasTarget) (sym (returns-clause-same g c q.now)) (c.requires.targets q.now))

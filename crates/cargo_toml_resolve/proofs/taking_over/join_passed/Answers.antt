@@ -1,0 +1,28 @@
+use Rattle.std.proofs.Common.{rules, ◌<◌, get_or, length}
+use Rattle.std.proofs.lemmas.Option.{slice_get-get_or}
+use Rattle.cargo_toml_features.specs.Views.{action_at}
+use Rattle.cargo_toml_walk.proofs.Steps.{among_at, item_at}
+use Rattle.cargo_toml_resolve.proofs.Passers.{begin_join, next_join, end_join}
+use Rattle.cargo_toml_resolve.proofs.taking_over.join_passed.Goals as goal
+
+pub loop-b-init : goal.loop-b-init
+loop-b-init c = λ k. begin_join c.args.features.now c.args.passed.now k (action_at c.args.own.now k)
+
+pub offset_bounds-features-place : goal.offset_bounds-features-place
+offset_bounds-features-place c =
+    let lt : c.place.result < length c.args.features.now = rw (item_at c.args.passed.now c.loop-b.b-index _ _ c.loop-b-test.true c.b-item.is c.place.ensures) (c.requires _ (among_at c.args.passed.now c.loop-b.b-index c.loop-b-test.true)) in
+    search rules
+
+pub bounds-features-place : goal.bounds-features-place
+bounds-features-place c = rw (item_at c.args.passed.now c.loop-b.b-index _ _ c.loop-b-test.true c.b-item.is c.place.ensures) (c.requires _ (among_at c.args.passed.now c.loop-b.b-index c.loop-b-test.true))
+
+pub loop-b-preserved : goal.loop-b-preserved
+loop-b-preserved c = λ k.
+    let vs = c.args.features.now in
+    let b = get_or c.args.passed.now c.loop-b.b-index 0 in
+    let lt = c.requires b (among_at c.args.passed.now c.loop-b.b-index c.loop-b-test.true) in
+    next_join vs c.args.passed.now k (action_at c.args.own.now k) c.loop-b.b-index (get_or vs b c.index-features-place.result) (action_at c.loop-b.own k) (action_at c.add_actions.new.own k) c.loop-b-test.true
+    (slice_get-get_or vs b c.index-features-place.result lt) (c.loop-b.invariant k) ((rw (item_at c.args.passed.now c.loop-b.b-index _ _ c.loop-b-test.true c.b-item.is c.place.ensures) at c.in_ok-add_actions.ensures) k)
+
+pub returns : goal.returns
+returns c = λ k. end_join c.args.features.now c.args.passed.now k (action_at c.args.own.now k) c.loop-b.b-index (action_at c.loop-b.own k) c.loop-b-test.false (c.loop-b.invariant k)

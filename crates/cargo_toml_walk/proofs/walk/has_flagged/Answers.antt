@@ -1,0 +1,14 @@
+use Rattle.std.proofs.Common.{inl, inr, false, subst, sym, ◌∙◌}
+use Rattle.cargo_toml_walk.specs.Numbers.{IsWanted}
+use Rattle.cargo_toml_walk.proofs.Steps.{among_at, among_more, item_at}
+use Rattle.cargo_toml_walk.proofs.walk.has_flagged.Goals as goal
+
+pub bounds-flags-place : goal.bounds-flags-place
+bounds-flags-place c =
+    rw (item_at c.args.row.now c.loop-x.x-index _ _ c.loop-x-test.true c.x-item.is c.place.ensures) (c.requires _ (among_at c.args.row.now c.loop-x.x-index c.loop-x-test.true))
+
+pub loop-x-preserved : goal.loop-x-preserved
+loop-x-preserved c = λ x i. elim ((among_more c.args.row.now c.loop-x.x-index x c.loop-x-test.true).0 i) [
+  | inl a ↦ c.loop-x.invariant x a
+  | inr same ↦ subst (IsWanted c.args.flags.now false) (item_at c.args.row.now c.loop-x.x-index _ _ c.loop-x-test.true c.x-item.is c.place.ensures ∙ sym same) c.if-flags-place.false
+]

@@ -17,7 +17,8 @@ use std::collections::{BTreeSet, HashSet};
 use std::io;
 
 // The names in a folder, in order, of what was answered for it. A fault that it isn't there counts
-// as no names; any other stays as it is.
+// as no names; any other stays as it is. It takes the answer whole, since a clause can name it
+// only so.
 fn names_of(
     alloc: Global,
     answer: Result<HashSet<String>, Error>,

@@ -1,6 +1,6 @@
 -- Which faults reading real files and searching among them give.
 use Rattle.std.proofs.Common.{◌≡◌, ◌⊎◌, inl, inr, refl, sym, ap, ◌∙◌, ℕ, List, false, Option, Some, Result, Ok, Err, String, string_bytes}
-use Rattle.std.specs.Prelude.{is_some, IfErr}
+use Rattle.std.specs.Prelude.{is_some, IfErr, Vec}
 use Rattle.std.specs.IoError.{error_kind}
 use Rattle.std.specs.declared.alloc.Global.{Global}
 use Rattle.std.specs.declared.io.Error.{Error as IoError}
@@ -11,12 +11,15 @@ use Rattle.cargo_toml_parts.specs.declared.error.Error.TheVariants.{rolls-Worksp
 use Rattle.cargo_toml_parts.specs.Faults.{IsFromIo}
 use Rattle.cargo_toml_parts.specs.FaultValues.{Fault, fault_of, fault_step, io, workspace_integrity}
 use Rattle.cargo_toml_parts.specs.Wrapping.{wrap}
-use Rattle.cargo_toml_manifest.specs.RealFiles.{IsHintFault, IsNoWorkspace, IsRootFault, IsSearchFault, expected_workspace, real_losses}
+use Rattle.cargo_toml_manifest.specs.RealFiles.{IsCandidate, IsCandidateOf, IsHintFault, IsNoWorkspace, IsRootFault, IsSearchFault, expected_workspace, real_losses}
+use Rattle.cargo_toml_manifest.specs.declared.lookup.Candidate.{Candidate}
+use Rattle.cargo_toml_manifest.specs.declared.lookup.Candidate.TheVariants.{Root, Other, Absent}
 use Rattle.cargo_toml_discovery.specs.Folders.{RefusesBy}
 use Rattle.cargo_toml_manifest.specs.Refusing.{MayLose}
 use Rattle.cargo_toml_manifest.specs.Roots.{IsFromSlice}
 use Rattle.cargo_toml_manifest.specs.declared.manifest.Manifest.{Manifest}
-use Rattle.cargo_toml_discovery.proofs.Faults.{fault_of-io}
+use Rattle.cargo_toml_discovery.proofs.Faults.{fault_of-io, from_input}
+use Rattle.cargo_toml_discovery.specs.Disk.{IsInput}
 use Rattle.cargo_toml_manifest.proofs.Rooted.{memory_wrapped}
 
 integrity_fault : (text : String Global) → fault_of (WorkspaceIntegrity text) ≡ workspace_integrity (string_bytes text)
@@ -36,6 +39,11 @@ pub no_table : (bytes path : List ℕ) (m : Manifest Value) (text : String Globa
 no_table bytes path m text read none same =
     inr (m, read, none, integrity_fault text ∙ ap workspace_integrity same)
 
+-- a fault of reading alone
+read_alone : (e : Error) → (e ≡ Memory) ⊎ IsInput e → IsSearchFault e
+read_alone e (inl memory) = inl memory
+read_alone e (inr input) = inr (inl input)
+
 -- a file that is no workspace's manifest, to each of the two searches
 pub hint_fault : (bytes file : List ℕ) (e : Error) → (e ≡ Memory) ⊎ IsNoWorkspace bytes file e → IsHintFault file e
 hint_fault bytes file e (inl memory) = inl memory
@@ -44,6 +52,18 @@ hint_fault bytes file e (inr fault) = inr (inr (bytes, fault))
 pub search_fault : (bytes file : List ℕ) (e : Error) → (e ≡ Memory) ⊎ IsNoWorkspace bytes file e → IsSearchFault e
 search_fault bytes file e (inl memory) = inl memory
 search_fault bytes file e (inr fault) = inr (inr (bytes, file, fault))
+
+-- what reading a file gave, and what the file is by that
+pub candidate : (read : Result (Vec ℕ Global) IoError) (file : List ℕ) (result : Result Candidate Error) → IsCandidateOf read file result →
+    IsCandidate result
+candidate (Ok bytes) file (Ok (Root m)) h = (h.0, (bytes.items, h.1))
+candidate (Ok bytes) file (Ok (Other e)) h = search_fault bytes.items file e h
+candidate (Ok bytes) file (Ok Absent) h = tt
+candidate (Ok bytes) file (Err e) h = inl h
+candidate (Err fault) file (Ok (Root m)) h = absurd h
+candidate (Err fault) file (Ok (Other e)) h = absurd h
+candidate (Err fault) file (Ok Absent) h = tt
+candidate (Err fault) file (Err e) h = read_alone e (from_input fault e h.1)
 
 -- why no root is found may stand in place of the root
 pub loses : {T : Type 0} (folder : List ℕ) (hint : Option (List ℕ)) (r : Result T Error) → IfErr r (IsRootFault folder hint) →

@@ -3,15 +3,18 @@
 use Rattle.std.specs.Prelude.{◌≡◌, ◌⊎◌, ℕ, suc, zero, List, ◌++◌, codes}
 use Rattle.std.specs.Prelude.{Bool, true, false, Option, Some, None}
 use Rattle.std.specs.Prelude.{option_and_then, is_some, Result, Ok, Err, IsUtf8}
-use Rattle.std.specs.Prelude.{Box}
+use Rattle.std.specs.Prelude.{Box, Vec}
+use Rattle.std.specs.IoError.{error_kind}
 use Rattle.std.specs.Path.{path_join, path_parent}
 use Rattle.std.specs.declared.alloc.Global.{Global}
+use Rattle.std.specs.declared.io.Error.{Error as IoError}
 use Rattle.std.specs.declared.io.ErrorKind.{ErrorKind}
 use Rattle.std.specs.declared.io.ErrorKind.TheVariants.{NotFound, NotADirectory}
 use Rattle.toml.specs.Data.{Data}
 use Rattle.toml.specs.Parse.{parse_document}
 use Rattle.toml.specs.declared.value.Value.{Value}
 use Rattle.cargo_toml_parts.specs.declared.error.Error.{Error, Memory}
+use Rattle.cargo_toml_parts.specs.Faults.{IsFromIo}
 use Rattle.cargo_toml_parts.specs.FaultValues.{Fault, fault_of, io, other}
 use Rattle.cargo_toml_parts.specs.FaultValues.{workspace, workspace_integrity}
 use Rattle.cargo_toml_discovery.specs.Disk.{IsInput, IsInputFault, or_here}
@@ -83,6 +86,19 @@ IsCandidate (Ok (Root m)) = IsRootManifest m.value
 IsCandidate (Ok (Other e)) = IsSearchFault e
 IsCandidate (Ok Absent) = Unit {0}
 IsCandidate (Err e) = IsSearchFault e
+
+-- what a file at this path is to that search by what reading it gave: nothing where that says so,
+-- and another fault as it is; else the manifest of a workspace, or why the bytes are none
+abbrev pub IsCandidateOf : Result (Vec ℕ Global) IoError → List ℕ → Result Candidate Error → Type 0
+IsCandidateOf (Ok bytes) path (Ok (Root m)) = IsWorkspaceOf bytes.items path (Ok m)
+IsCandidateOf (Ok bytes) path (Ok (Other e)) = IsWorkspaceOf bytes.items path (Err e)
+IsCandidateOf (Ok bytes) path (Ok Absent) = ⊥
+IsCandidateOf (Ok bytes) path (Err e) = e ≡ Memory
+IsCandidateOf (Err fault) path (Ok (Root m)) = ⊥
+IsCandidateOf (Err fault) path (Ok (Other e)) = ⊥
+IsCandidateOf (Err fault) path (Ok Absent) = is_absent (error_kind fault) ≡ true
+IsCandidateOf (Err fault) path (Err e) =
+    (is_absent (error_kind fault) ≡ false) × IsFromIo fault e
 
 -- why the one file that a hint leads to is no root: a fault of reading is reported with its path
 abbrev pub IsHintFault : List ℕ → Error → Type 0

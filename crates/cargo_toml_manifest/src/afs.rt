@@ -1,6 +1,6 @@
 //! The files around a manifest, as an implementor of a trait answers for them.
 ghost use Rattle.std.specs.Prelude.{◌≡◌, ◌⊎◌, ℕ, List, Bool, true, false, Option, IfOk};
-ghost use Rattle.std.specs.Prelude.{Ok, Err, IfErr, string_bytes};
+ghost use Rattle.std.specs.Prelude.{Ok, Err, IfErr, MatchResult, string_bytes};
 ghost use Rattle.std.specs.Option.{option_copied};
 ghost use Rattle.cargo_toml_parts.specs.declared.error.Error.{Memory};
 ghost use Rattle.cargo_toml_parts.specs.Answers.{Gives};
@@ -207,10 +207,17 @@ pub fn wrapped(alloc: Global, fault: Error, path: Option<&str>) -> Error
 {
     match fault {
         Error::Workspace(_) | Error::Memory => fault,
-        _ => match in_workspace(alloc, fault, path) {
-            Ok(fault) => fault,
-            Err(_) => Error::Memory,
-        },
+        _ => told_or_memory(in_workspace(alloc, fault, path)),
+    }
+}
+
+// What was made of a fault, or that there was no memory for it.
+fn told_or_memory(made: Result<Error, Error>) -> Error
+    ensures { MatchResult made (λ e. result ≡ e) (λ _. result ≡ Memory) }
+{
+    match made {
+        Ok(fault) => fault,
+        Err(_) => Error::Memory,
     }
 }
 

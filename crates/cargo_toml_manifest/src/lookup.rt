@@ -1,8 +1,8 @@
 //! The search for the root of a workspace among real files.
 ghost use Rattle.std.specs.Prelude.{◌≡◌, ℕ, List, codes, IfErr, IfOk, string_bytes};
 ghost use Rattle.std.specs.Path.{path_join};
-ghost use Rattle.cargo_toml_manifest.specs.RealFiles.{IsAbove, IsCandidate, IsHintFault};
-ghost use Rattle.cargo_toml_manifest.specs.RealFiles.{IsRootManifest, IsSearchFault};
+ghost use Rattle.cargo_toml_manifest.specs.RealFiles.{IsAbove, IsCandidate, IsCandidateOf};
+ghost use Rattle.cargo_toml_manifest.specs.RealFiles.{IsHintFault, IsRootManifest, IsSearchFault};
 ghost use Rattle.cargo_toml_manifest.specs.RealFiles.{IsWorkspaceOf, is_absent};
 
 use crate::afs::{boxed, wrapped};
@@ -74,11 +74,11 @@ enum Candidate {
     Absent,
 }
 
-// What the file at a path is to the search.
-fn look_at<R: Files + AllocGlobal>(rt: &R, alloc: Global, file: &str) -> Result<Candidate, Error>
-    ensures { IsCandidate result }
+// What a file is to the search, by what reading it gave.
+fn candidate_of(alloc: Global, read: io::Result<Vec<u8>>, file: &str) -> Result<Candidate, Error>
+    ensures { IsCandidateOf read file.now result }
 {
-    let bytes = match fs::read(rt, file) {
+    let bytes = match read {
         Ok(bytes) => bytes,
         Err(fault) if is_absent(fault.kind()) => return Ok(Candidate::Absent),
         Err(fault) => return Err(Error::from(fault)),
@@ -88,6 +88,13 @@ fn look_at<R: Files + AllocGlobal>(rt: &R, alloc: Global, file: &str) -> Result<
         Err(Error::Memory) => Err(Error::Memory),
         Err(fault) => Ok(Candidate::Other(fault)),
     }
+}
+
+// What the file at a path is to the search.
+fn look_at<R: Files + AllocGlobal>(rt: &R, alloc: Global, file: &str) -> Result<Candidate, Error>
+    ensures { IsCandidate result }
+{
+    candidate_of(alloc, fs::read(rt, file), file)
 }
 
 /// The root of the workspace above a folder: the manifest, and the path of its `Cargo.toml`.

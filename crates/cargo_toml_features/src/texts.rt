@@ -1,5 +1,5 @@
 //! Texts in byte order, and where one stands among them.
-ghost use Rattle.std.specs.Prelude.{◌≡◌, ◌↔◌, ◌<◌, IfSome, IsTrue, None, length, map};
+ghost use Rattle.std.specs.Prelude.{◌≡◌, ◌↔◌, ◌<◌, IfSome, IsTrue, None, bytes_eq, length, map};
 ghost use Rattle.cargo_toml_graph.specs.Action.{Text};
 ghost use Rattle.cargo_toml_graph.specs.Admitted.{is_below};
 ghost use Rattle.cargo_toml_graph.specs.Reach.{Among};
@@ -20,6 +20,13 @@ pub fn in_order<'m>(mut texts: Vec<&'m str>) -> Vec<&'m str>
     texts
 }
 
+/// Whether two texts are the same. Most differ in length, which is seen without a call.
+pub fn is_same(a: &str, b: &str) -> bool
+    ensures { result ≡ bytes_eq a.now b.now }
+{
+    a.len() == b.len() && a == b
+}
+
 // Where a text stands first among texts, if it does.
 fn first_of(texts: &[&str], text: &str) -> Option<usize>
     ensures found { IfSome result (λ i.
@@ -27,7 +34,7 @@ fn first_of(texts: &[&str], text: &str) -> Option<usize>
     ensures missing { result ≡ None → ¬ Among (map (λ t. t.now) texts.now) text.now }
 {
     for (i, other) in texts.iter().enumerate() {
-        if *other == text {
+        if is_same(*other, text) {
             return Some(i);
         }
     }

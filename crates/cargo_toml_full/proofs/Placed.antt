@@ -1,5 +1,5 @@
 -- Features in the order of their names, and one more that is put among them.
-use Rattle.std.proofs.Common.{◌≡◌, ◌⊎◌, ◌+◌, ◌<◌, ◌≤◌, ℕ, zero, suc, Bool, true, false, cond, List, [], ◌∷◌, ◌++◌, length, set, get_or, Option, Some, None, is_some, bytes_eq, refl, sym, ap, subst, inl, inr, arith, ◌∙◌}
+use Rattle.std.proofs.Common.{◌≡◌, ◌⊎◌, ◌||◌, ◌+◌, ◌<◌, ◌≤◌, ℕ, zero, suc, Bool, true, false, cond, List, [], ◌∷◌, ◌++◌, length, set, get_or, Option, Some, None, is_some, bytes_eq, refl, sym, ap, ap₂, subst, inl, inr, arith, ◌∙◌}
 use Rattle.std.proofs.lemmas.Bool.{false≢true, cases_order}
 use Rattle.std.proofs.lemmas.Cmp.{nat_list_cmp_total}
 use Rattle.std.proofs.lemmas.List.{length-map}
@@ -7,7 +7,7 @@ use Rattle.std.proofs.lemmas.List.Edits.{insert_end}
 use Rattle.std.proofs.lemmas.Map.Lookups.{exact_bytes}
 use Rattle.std.proofs.lemmas.Slice.Eq.{bytes_eq-Decides}
 use Rattle.std.specs.Cmp.Lexicographic.{slice_cmp}
-use Rattle.std.specs.List.{insert}
+use Rattle.std.specs.List.{insert, list_any}
 use Rattle.std.specs.Option.{option_or}
 use Rattle.std.specs.Ordering.{nat_cmp, is_lt, ordering_reverse}
 use Rattle.std.specs.declared.cmp.Ordering.{Ordering}
@@ -22,6 +22,15 @@ use Rattle.cargo_toml_full.specs.Placing.{IsBoundOf, IsPlaceOf}
 use Rattle.cargo_toml_full.proofs.Ascending.{Below, below_then, lower}
 use Rattle.cargo_toml_features.specs.Places.{text_at}
 use Rattle.cargo_toml_features.proofs.Places.{among_at, at_among, rises}
+
+-- a name is that of one of them, or of none
+pub found_any : (vs : List Feature) (f : Text) → list_any (λ v. bytes_eq f v.key.now) vs ≡ is_some (feature_at vs f)
+found_any [] f = refl
+found_any (v ∷ vs) f = go (bytes_eq f v.key.now) (found_any vs f)
+  where
+    go : (t : Bool) → list_any (λ v. bytes_eq f v.key.now) vs ≡ is_some (feature_at vs f) → (t || list_any (λ v. bytes_eq f v.key.now) vs) ≡ is_some (cond t (Some v) (feature_at vs f))
+    go true later = refl
+    go false later = later
 
 -- a name that isn't there has no feature
 pub feature_missing : (vs : List Feature) (f : Text) → (¬ Among (names_of vs) f) → feature_at vs f ≡ None
@@ -105,6 +114,11 @@ pushed_last vs i w new place past put = put ∙ sym (ap (λ k. insert vs k w) la
   where
     last : i ≡ length vs
     last = let within = place.bound.within in omega (arith, past, within)
+
+-- what was pushed last becomes another
+pub set_last : (vs : List Feature) (v w : Feature) → set (vs ++ v ∷ []) (length vs) w ≡ vs ++ w ∷ []
+set_last [] v w = refl
+set_last (u ∷ vs) v w = ap (λ us. u ∷ us) (set_last vs v w)
 
 -- halving: where the text at a place is below, so are those before it
 pub below_through : (vs : List Feature) (f : Text) (i : ℕ) → AreInOrder vs → i < length vs → Below (text_at (names_of vs) i) f → (k : ℕ) → k < i + 1 → Below (text_at (names_of vs) k) f
@@ -203,3 +217,28 @@ feature_here (v ∷ vs) (suc i) d up below = go (bytes_eq (text_at (names_of vs)
 pub told_there : (vs : List Feature) (i : ℕ) (f : Text) → AreInOrder vs → IsBoundOf vs i f → (b : Bool) → (b ≡ true → (i < length vs) × (text_at (names_of vs) i ≡ f)) → (b ≡ false → i < length vs → text_at (names_of vs) i ≡ f → ⊥) → b ≡ is_some (feature_at vs f)
 told_there vs i f up bound true stands free = let here = stands refl in sym (feature_there vs i f here.0 here.1)
 told_there vs i f up bound false stands free = sym (ap is_some (feature_missing vs f (place_free vs i f up (record { bound = bound; free = free refl }))))
+
+get_last : (vs : List Feature) (v d : Feature) → get_or (vs ++ v ∷ []) (length vs) d ≡ v
+get_last [] v d = refl
+get_last (u ∷ vs) v d = get_last vs v d
+
+-- behind all others one is pushed, which then becomes another
+module _ (vs : List Feature) (i : ℕ) (v : Feature) (pushed : List Feature) (f : Text) (up : AreInOrder vs) (bound : IsBoundOf vs i f) (past : length vs ≤ i) (put : pushed ≡ vs ++ v ∷ []) where
+  last : i ≡ length vs
+  last = let within = bound.within in omega (arith, past, within)
+
+  pub pushed_there : (d : Feature) → get_or pushed i d ≡ v
+  pushed_there d = ap₂ (λ us k. get_or us k d) put last ∙ get_last vs v d
+
+  module _ (w : Feature) (key : w.key.now ≡ f) where
+    place : IsPlaceOf vs i w.key.now
+    place = subst (IsPlaceOf vs i) (sym key) (record { bound = bound; free = λ inside. absurd (omega (arith, inside, past)) })
+
+    became : set pushed i w ≡ insert vs i w
+    became = pushed_last vs i w (set pushed i w) place past (ap₂ (λ us k. set us k w) put last ∙ set_last vs v w)
+
+    pub filled_in_order : AreInOrder (set pushed i w)
+    filled_in_order = placed_in_order vs i w up place (set pushed i w) became
+
+    pub filled_held : (g : Text) → feature_at (set pushed i w) g ≡ option_or (feature_at vs g) (cond (bytes_eq g w.key.now) (Some w) None)
+    filled_held g = put_new vs w (feature_at (set pushed i w) g) g (feature_missing vs w.key.now (place_free vs i w.key.now up place)) (placed_held vs i w up place (set pushed i w) became g)

@@ -9,7 +9,7 @@ ghost use Rattle.cargo_toml_full.specs.Searching.{IsSearchable, has_key};
 use crate::acted::Acted;
 use crate::names::ascending;
 use cargo_toml_features::action::ActionText;
-use cargo_toml_features::texts::place_of;
+use cargo_toml_features::texts::{is_same, place_of};
 use std::alloc::{AllocError, Global};
 
 // So many texts are gone through as they come. It is the bound of `place_of` too: up to there no
@@ -45,7 +45,7 @@ fn holds(texts: &[&str], text: &str) -> bool
     if texts.len() > FEW {
         place_of(texts, text).is_some()
     } else {
-        texts.iter().any(|other| text == *other)
+        texts.iter().any(|other| is_same(text, *other))
     }
 }
 

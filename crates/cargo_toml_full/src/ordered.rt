@@ -9,8 +9,12 @@ ghost use Rattle.cargo_toml_full.specs.Placing.{IsBoundOf, IsPlaceOf};
 ghost use Rattle.cargo_toml_features.specs.Places.{text_at};
 
 use cargo_toml_features::features::Feature;
+use cargo_toml_features::texts::is_same;
 use cargo_toml_walk::node::Node;
 use std::alloc::AllocError;
+
+// So many features are gone through sooner than halved: most names differ in length.
+const FEW: usize = 24;
 
 // Whether the name of the feature at this place is below another.
 fn is_below(features: &[Feature<'_>], place: usize, name: &str) -> bool
@@ -49,7 +53,7 @@ pub fn stands_at(features: &[Feature<'_>], place: usize, name: &str) -> bool
     ensures no { result ≡ false → place < length features.now
         → text_at (names_of features.now) place ≡ name.now → ⊥ }
 {
-    place < features.len() && features[place].key == name
+    place < features.len() && is_same(features[place].key, name)
 }
 
 /// Whether there is a feature of the name.
@@ -57,7 +61,11 @@ pub fn is_there(features: &[Feature<'_>], name: &str) -> bool
     requires { AreInOrder features.now }
     ensures { result ≡ is_some (feature_at features.now name.now) }
 {
-    stands_at(features, lower_bound(features, name), name)
+    if features.len() > FEW {
+        stands_at(features, lower_bound(features, name), name)
+    } else {
+        features.iter().any(|feature| is_same(name, feature.key))
+    }
 }
 
 /// The feature of a name, if there is one. It is looked for at `near` first.

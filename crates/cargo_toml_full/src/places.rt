@@ -10,7 +10,7 @@ ghost use Rattle.cargo_toml_features.specs.Places.{text_at};
 
 use crate::key::Key;
 use crate::slots::Slots;
-use cargo_toml_features::texts::place_of;
+use cargo_toml_features::texts::{is_same, place_of};
 use std::alloc::{AllocError, Global};
 
 /// The names, none of which has a value. It fails only where memory runs out.
@@ -34,7 +34,7 @@ fn stands_at(names: &[&str], place: usize, name: &str) -> bool
     ensures { IsTrue result
         → (place < length names.now) × (text_at (map (λ n. n.now) names.now) place ≡ name.now) }
 {
-    place < names.len() && names[place] == name
+    place < names.len() && is_same(names[place], name)
 }
 
 /// Where a name stands, if it does. It is looked for at `near` and the place before it first: where

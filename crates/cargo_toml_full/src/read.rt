@@ -1,13 +1,14 @@
 //! What the lists of features say.
 ghost use Rattle.std.specs.Prelude.{◌≡◌, ◌∷◌, ◌++◌, [], List};
-ghost use Rattle.std.specs.Prelude.{bytes_eq, string_bytes, codes, map, false};
-ghost use Rattle.std.specs.Prelude.{IfOk, OnOk, Some, MatchOption};
+ghost use Rattle.std.specs.Prelude.{bytes_eq, string_bytes, codes, map, false, if◌then◌else◌};
+ghost use Rattle.std.specs.Prelude.{IfOk, OnOk, None, Some, MatchOption};
 ghost use Rattle.std.specs.List.{list_any};
-ghost use Rattle.std.specs.Option.{IsSomeAnd};
+ghost use Rattle.std.specs.Option.{IsSomeAnd, option_or};
 ghost use Rattle.cargo_toml_graph.specs.Action.{Text, Item, item_of};
 ghost use Rattle.cargo_toml_graph.specs.Admitted.{action_on};
 ghost use Rattle.cargo_toml_graph.specs.Reach.{IsOnce};
 ghost use Rattle.cargo_toml_dependencies.specs.Details.{Detail, plain_detail};
+ghost use Rattle.cargo_toml_features.specs.declared.features.Feature.{Feature};
 ghost use Rattle.cargo_toml_features.specs.InOrder.{AreInOrder, feature_at, table_among};
 ghost use Rattle.cargo_toml_features.specs.Marks.{detail_in, details_of};
 ghost use Rattle.cargo_toml_features.specs.Views.{has_text, listed_of};
@@ -18,7 +19,7 @@ ghost use Rattle.cargo_toml_full.specs.Searching.{has_key};
 
 use crate::acted::Acted;
 use crate::acting::Acting;
-use crate::ordered::put_feature;
+use crate::ordered::{lower_bound, put_feature};
 use cargo_toml_dependencies::FeatureDetail;
 use cargo_toml_features::action::{add_text, join_action, read_action};
 use cargo_toml_features::admit::Listing;
@@ -112,26 +113,60 @@ fn set_of<'m>(alloc: Global, texts: &[&'m str]) -> Result<BTreeSet<&'m str>, All
     }
 }
 
-// Reads the list of one feature. The names that it has are gathered in `named`, whatever was there.
+// Reads the list of one feature, of which nothing was read. The names that it has are gathered in
+// `named`, whatever was there.
 fn read_list<'m>(
     alloc: Global,
+    feature: &mut Feature<'m>,
     named: &mut Vec<&'m str>,
     acting: &mut Acting<'m>,
     listing: Listing<'m>,
-) -> Result<Feature<'m>, AllocError>
-    ensures listed { IfOk result (IsListed listing.entry.name.now (detail_in listing.entry.detail)
-        (map item_of (map string_bytes listing.entry.actions.now))) }
+) -> Result<(), AllocError>
+    requires { IsListed listing.name.now (detail_in listing.detail) [] feature.old }
+    ensures listed { OnOk result (IsListed listing.entry.name.now (detail_in listing.entry.detail)
+        (map item_of (map string_bytes listing.entry.actions.now)) feature.new) }
     ensures noted { OnOk result
         (Notes (joined_in (map item_of (map string_bytes listing.entry.actions.now))) acting.old
         acting.new) }
 {
     named.clear();
-    let mut feature = empty_feature(alloc, listing.name, listing.detail);
     for text in listing.actions {
-        add_item(alloc, &mut feature, named, acting, text.as_str())?;
+        add_item(alloc, feature, named, acting, text.as_str())?;
     }
     feature.enables_features = set_of(alloc, named.as_slice())?;
-    Ok(feature)
+    Ok(())
+}
+
+// Reads a feature's list and adds the feature, where none of its name is there.
+fn read_listing<'m>(
+    alloc: Global,
+    features: &mut Vec<Feature<'m>>,
+    named: &mut Vec<&'m str>,
+    acting: &mut Acting<'m>,
+    listing: Listing<'m>,
+) -> Result<(), AllocError>
+    requires { AreInOrder features.old.items }
+    ensures in_order { OnOk result (AreInOrder features.new.items) }
+    ensures added { OnOk result ((v : Feature) × IsListed listing.entry.name.now
+        (detail_in listing.entry.detail) (map item_of (map string_bytes listing.entry.actions.now))
+        v × ((f : Text) → feature_at features.new.items f ≡ option_or
+        (feature_at features.old.items f) (if bytes_eq f v.key.now then Some v else None))) }
+    ensures noted { OnOk result
+        (Notes (joined_in (map item_of (map string_bytes listing.entry.actions.now))) acting.old
+        acting.new) }
+{
+    let mut feature = empty_feature(alloc, listing.name, listing.detail);
+    let place = lower_bound(features.as_slice(), listing.name);
+    if place < features.len() {
+        read_list(alloc, &mut feature, named, acting, listing)?;
+        put_feature(features, feature)?;
+        return Ok(());
+    }
+    // Listings come in the order of their names, so each feature goes to the end. It is a wide
+    // value, which is moved there before its list is read.
+    features.push(feature)?;
+    read_list(alloc, &mut features[place], named, acting, listing)?;
+    Ok(())
 }
 
 // Adds the feature `default` where it isn't listed; nothing is said of it then.
@@ -170,10 +205,8 @@ pub fn read_features<'m>(
     let mut features = Vec::with_capacity(alloc, room)?;
     let mut acting = Acting::new(alloc);
     let mut named = Vec::new(alloc);
-    // Listings come in the order of their names, so each feature goes to the end.
     for listing in listings {
-        let feature = read_list(alloc, &mut named, &mut acting, *listing)?;
-        put_feature(&mut features, feature)?;
+        read_listing(alloc, &mut features, &mut named, &mut acting, *listing)?;
     }
     add_default(alloc, &mut features)?;
     Ok(Mentions {

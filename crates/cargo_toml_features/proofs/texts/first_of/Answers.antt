@@ -11,18 +11,18 @@ use Rattle.cargo_toml_features.proofs.texts.first_of.Goals as goal
 read : (ts : List (Bor Text)) (i : ℕ) → i < length ts → text_at (map (λ t. t.now) ts) i ≡ (get_or ts i (record { ref_ptr = (0, 0); now = [] })).now
 read ts i below = get_or-map (λ (t : Bor Text). t.now) ts i (record { ref_ptr = (0, 0); now = [] }) [] below
 
-pub returns-then-eq-clause-found : goal.returns-then-eq-clause-found
-returns-then-eq-clause-found c =
+pub returns-then-is_same-clause-found : goal.returns-then-is_same-clause-found
+returns-then-is_same-clause-found c =
     let ts = c.args.texts.now in
     let below : c.loop-i.i < length ts = search rules in
-    (below, read ts c.loop-i.i below ∙ (bytes_eq-Decides _ _).0 (sym c.eq.ensures ∙ c.if-eq.true))
+    (below, read ts c.loop-i.i below ∙ (bytes_eq-Decides _ _).0 (sym c.is_same.ensures ∙ c.if-is_same.true))
 
 pub loop-i-preserved : goal.loop-i-preserved
 loop-i-preserved c =
     let ts = c.args.texts.now in
     let below : c.loop-i.i < length ts = search rules in
     below_more (λ k. text_at (map (λ t. t.now) ts) k ≡ c.args.text.now → ⊥) c.loop-i.i c.loop-i.invariant
-    (λ same. false≢true (sym c.if-eq.false ∙ c.eq.ensures ∙ (bytes_eq-Decides _ _).1 (sym (read ts c.loop-i.i below) ∙ same)))
+    (λ same. false≢true (sym c.if-is_same.false ∙ c.is_same.ensures ∙ (bytes_eq-Decides _ _).1 (sym (read ts c.loop-i.i below) ∙ same)))
 
 pub returns-clause-missing : goal.returns-clause-missing
 returns-clause-missing c = λ _ there.

@@ -11,11 +11,11 @@ returns-then-place-features-clause-yes c = λ same.
     let v : Feature = get_or vs c.args.place c.index-features-place.result in (
       c.if-place-features.true,
       get_or-map (λ (w : Feature). w.key.now) vs c.args.place c.index-features-place.result [] c.if-place-features.true
-          ∙ (bytes_eq-Decides v.key.now c.args.name.now).0 (sym c.eq.ensures ∙ same),
+          ∙ (bytes_eq-Decides v.key.now c.args.name.now).0 (sym c.is_same.ensures ∙ same),
     )
 
 pub returns-then-place-features-clause-no : goal.returns-then-place-features-clause-no
 returns-then-place-features-clause-no c = λ off inside here.
     let vs = c.args.features.now in
     let v : Feature = get_or vs c.args.place c.index-features-place.result in
-    false≢true (sym off ∙ c.eq.ensures ∙ (bytes_eq-Decides v.key.now c.args.name.now).1 (sym (get_or-map (λ (w : Feature). w.key.now) vs c.args.place c.index-features-place.result [] inside) ∙ here))
+    false≢true (sym off ∙ c.is_same.ensures ∙ (bytes_eq-Decides v.key.now c.args.name.now).1 (sym (get_or-map (λ (w : Feature). w.key.now) vs c.args.place c.index-features-place.result [] inside) ∙ here))

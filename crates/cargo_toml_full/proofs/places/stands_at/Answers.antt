@@ -8,4 +8,4 @@ pub returns-then-place-names : goal.returns-then-place-names
 returns-then-place-names c = λ same.
     let below : c.args.place < length c.args.names.now = search rules in
     let d : Bor Text = record { ref_ptr = (0, 0); now = [] } in
-    (below, get_or-map (λ (t : Bor Text). t.now) c.args.names.now c.args.place d [] below ∙ (bytes_eq-Decides (get_or c.args.names.now c.args.place d).now c.args.name.now).0 (sym c.eq.ensures ∙ same))
+    (below, get_or-map (λ (t : Bor Text). t.now) c.args.names.now c.args.place d [] below ∙ (bytes_eq-Decides (get_or c.args.names.now c.args.place d).now c.args.name.now).0 (sym c.is_same.ensures ∙ same))

@@ -23,10 +23,10 @@ loop-listing-preserved c =
     let i = c.loop-listing.listing-index in
     let l = c.listing-item.result in
     record {
-      in_order = c.in_ok-put_feature.ensures.in_order;
-      features = read_more ls i l c.loop-listing-test.true c.listing-item.is c.requires c.loop-listing.features.items c.put_feature.new.features.items c.in_ok-feature.feature c.loop-listing.invariant.features c.in_ok-feature.ensures.listed c.in_ok-put_feature.ensures.held;
-      keys = λ k. told_next ls i l c.loop-listing-test.true c.listing-item.is c.requires is_some k (has_key c.loop-listing.acting.keys k) (has_key c.read_list.new.acting.keys k) (c.loop-listing.invariant.keys k) (c.in_ok-feature.ensures.noted.keys k);
-      reserved = λ k. told_next ls i l c.loop-listing-test.true c.listing-item.is c.requires is_dep_only k (has_key c.loop-listing.acting.reserved k) (has_key c.read_list.new.acting.reserved k) (c.loop-listing.invariant.reserved k) (c.in_ok-feature.ensures.noted.reserved k);
+      in_order = c.in_ok-read_listing.ensures.in_order;
+      features = read_more ls i l c.loop-listing-test.true c.listing-item.is c.requires c.loop-listing.features.items c.read_listing.new.features.items c.in_ok-read_listing.ensures.added.0 c.loop-listing.invariant.features c.in_ok-read_listing.ensures.added.1.0 c.in_ok-read_listing.ensures.added.1.1;
+      keys = λ k. told_next ls i l c.loop-listing-test.true c.listing-item.is c.requires is_some k (has_key c.loop-listing.acting.keys k) (has_key c.read_listing.new.acting.keys k) (c.loop-listing.invariant.keys k) (c.in_ok-read_listing.ensures.noted.keys k);
+      reserved = λ k. told_next ls i l c.loop-listing-test.true c.listing-item.is c.requires is_dep_only k (has_key c.loop-listing.acting.reserved k) (has_key c.read_listing.new.acting.reserved k) (c.loop-listing.invariant.reserved k) (c.in_ok-read_listing.ensures.noted.reserved k);
     }
 
 pub returns-clause-read : goal.returns-clause-read

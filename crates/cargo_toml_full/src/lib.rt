@@ -16,6 +16,7 @@ mod read;
 pub mod record;
 mod redundant;
 pub mod required;
+pub mod sets;
 pub mod slots;
 pub mod unremoved;
 

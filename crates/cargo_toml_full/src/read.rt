@@ -2,7 +2,6 @@
 ghost use Rattle.std.specs.Prelude.{◌≡◌, ◌∷◌, ◌++◌, [], List};
 ghost use Rattle.std.specs.Prelude.{bytes_eq, string_bytes, codes, map, false, if◌then◌else◌};
 ghost use Rattle.std.specs.Prelude.{IfOk, OnOk, None, Some, MatchOption};
-ghost use Rattle.std.specs.List.{list_any};
 ghost use Rattle.std.specs.Option.{IsSomeAnd, option_or};
 ghost use Rattle.cargo_toml_graph.specs.Action.{Text, Item, item_of};
 ghost use Rattle.cargo_toml_graph.specs.Admitted.{action_on};
@@ -11,7 +10,7 @@ ghost use Rattle.cargo_toml_dependencies.specs.Details.{Detail, plain_detail};
 ghost use Rattle.cargo_toml_features.specs.declared.features.Feature.{Feature};
 ghost use Rattle.cargo_toml_features.specs.InOrder.{AreInOrder, feature_at, table_among};
 ghost use Rattle.cargo_toml_features.specs.Marks.{detail_in, details_of};
-ghost use Rattle.cargo_toml_features.specs.Views.{has_text, listed_of};
+ghost use Rattle.cargo_toml_features.specs.Views.{listed_of};
 ghost use Rattle.cargo_toml_full.specs.Acting.{Notes};
 ghost use Rattle.cargo_toml_full.specs.Reading.{IsRead, AreFresh};
 ghost use Rattle.cargo_toml_full.specs.ReadFeature.{joined_in, IsGathered, IsListed};
@@ -20,8 +19,9 @@ ghost use Rattle.cargo_toml_full.specs.Searching.{has_key};
 use crate::acted::Acted;
 use crate::acting::Acting;
 use crate::ordered::{lower_bound, put_feature};
+use crate::sets::set_of;
 use cargo_toml_dependencies::FeatureDetail;
-use cargo_toml_features::action::{add_text, join_action, read_action};
+use cargo_toml_features::action::{join_action, read_action};
 use cargo_toml_features::admit::Listing;
 use cargo_toml_features::features::Feature;
 use std::alloc::{AllocError, Global};
@@ -79,38 +79,6 @@ fn add_item<'m>(
         named.push(action.target)?;
     }
     Ok(())
-}
-
-// The texts one after another, as a set.
-fn inserted<'m>(alloc: Global, texts: &[&'m str]) -> Result<BTreeSet<&'m str>, AllocError>
-    ensures { IfOk result
-        (λ s. (x : Text) → has_text s x ≡ list_any (bytes_eq x) (map (λ t. t.now) texts.now)) }
-{
-    let mut set = BTreeSet::new(alloc);
-    for text in texts {
-        add_text(&mut set, *text)?;
-    }
-    Ok(set)
-}
-
-// The texts as a set, which is made in one go.
-fn collected<'m>(alloc: Global, texts: &[&'m str]) -> Result<BTreeSet<&'m str>, AllocError>
-    ensures { IfOk result
-        (λ s. (x : Text) → has_text s x ≡ list_any (bytes_eq x) (map (λ t. t.now) texts.now)) }
-{
-    texts.iter().copied().collect(alloc)
-}
-
-// The texts as a set. Few are inserted, which takes less memory than to sort them.
-fn set_of<'m>(alloc: Global, texts: &[&'m str]) -> Result<BTreeSet<&'m str>, AllocError>
-    ensures { IfOk result
-        (λ s. (x : Text) → has_text s x ≡ list_any (bytes_eq x) (map (λ t. t.now) texts.now)) }
-{
-    if texts.len() > 16 {
-        collected(alloc, texts)
-    } else {
-        inserted(alloc, texts)
-    }
 }
 
 // Reads the list of one feature, of which nothing was read. The names that it has are gathered in

@@ -8,14 +8,11 @@ use Rattle.std.specs.Option.{option_or}
 use Rattle.cargo_toml_graph.specs.Action.{Text}
 use Rattle.cargo_toml_graph.specs.Admitted.{is_below}
 use Rattle.cargo_toml_graph.specs.Reach.{Among}
-use Rattle.cargo_toml_graph.specs.Removal.{IsAscending}
 use Rattle.cargo_toml_graph.proofs.RedirectsInOrder.{below_one_way}
 use Rattle.cargo_toml_features.specs.Views.{value_at}
+use Rattle.cargo_toml_full.specs.Ascending.{Ascend}
 use Rattle.cargo_toml_full.specs.Slots.{held_among}
 use Rattle.cargo_toml_resolve.specs.Texts.{texts_of}
-
-abbrev Ascend : List Text → Type 0
-Ascend ns = IsAscending (λ a b. IsTrue (is_below a b)) ns
 
 -- what does not stand among names has no value there
 none_held : {V : Type 0} (ns : List Text) (vs : List (Option V)) (k : Text) → ¬ Among ns k → held_among ns vs k ≡ None

@@ -14,7 +14,7 @@ use Rattle.std.specs.declared.cmp.Ordering.TheVariants.{Less}
 use Rattle.cargo_toml_graph.specs.Action.{Text}
 use Rattle.cargo_toml_graph.specs.Admitted.{is_below}
 use Rattle.cargo_toml_graph.specs.Reach.{Among}
-use Rattle.cargo_toml_graph.specs.Removal.{IsAscending}
+use Rattle.cargo_toml_full.specs.Ascending.{Ascend}
 use Rattle.cargo_toml_features.specs.Views.{has_text}
 
 abbrev texts : List (Bor Text) → List Text
@@ -41,7 +41,7 @@ below_each k [] all y i = absurd i
 below_each k (x ∷ xs) all y (inl e) = subst (λ z. IsTrue (is_below k.now z)) (sym e) (ap is_lt all.0)
 below_each k (x ∷ xs) all y (inr i) = below_each k xs all.1 y i
 
-ascending : (ks : List (Bor Text)) → IsStrictlySortedBy (λ (x : Bor Text) (y : Bor Text). slice_cmp nat_cmp x.now y.now) ks → IsAscending (λ a b. IsTrue (is_below a b)) (texts ks)
+ascending : (ks : List (Bor Text)) → IsStrictlySortedBy (λ (x : Bor Text) (y : Bor Text). slice_cmp nat_cmp x.now y.now) ks → Ascend (texts ks)
 ascending [] h = tt
 ascending (k ∷ ks) h = (
   below_each k ks (sorted_head (λ (x : Bor Text) (y : Bor Text). slice_cmp nat_cmp x.now y.now) k ks h),
@@ -49,6 +49,6 @@ ascending (k ∷ ks) h = (
 )
 
 pub taken_in_order : {E : Type 0} (r : Result (Vec (Bor Text) Global) E) (ks : List (Bor Text)) → IsStrictlySortedBy (λ (x : Bor Text) (y : Bor Text). slice_cmp nat_cmp x.now y.now) ks → IfOk r (λ v. v.items ≡ ks)
-    → IfOk r (λ v. IsAscending (λ a b. IsTrue (is_below a b)) (texts v.items))
-taken_in_order (Ok v) ks ordered e = subst (λ xs. IsAscending (λ a b. IsTrue (is_below a b)) (texts xs)) (sym e) (ascending ks ordered)
+    → IfOk r (λ v. Ascend (texts v.items))
+taken_in_order (Ok v) ks ordered e = subst (λ xs. Ascend (texts xs)) (sym e) (ascending ks ordered)
 taken_in_order (Err _) ks ordered e = tt

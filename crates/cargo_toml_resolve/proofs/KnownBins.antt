@@ -1,12 +1,10 @@
 -- Sets that say which binaries stand in the lists of features.
 use Rattle.std.proofs.Common.{◌≡◌, ◌||◌, ℕ, Bool, true, false, cond, not, List, [], ◌∷◌, ◌++◌, length, slice_get, Some, Bor, bytes_eq, IsTrue, refl, sym, ap, subst, inl, inr, ◌↔◌, ◌∙◌}
-use Rattle.std.proofs.lemmas.Bool.{false≢true, false_from_ne_true}
+use Rattle.std.proofs.lemmas.Bool.{false≢true}
 use Rattle.std.proofs.lemmas.Slice.Eq.{bytes_eq-Decides}
 use Rattle.std.specs.BTreeSet.{BTreeSet, btree_set_len}
 use Rattle.cargo_toml_graph.specs.Action.{Text}
-use Rattle.cargo_toml_graph.specs.Reach.{Among}
 use Rattle.cargo_toml_graph.specs.Removal.{is_among, put_all}
-use Rattle.cargo_toml_graph.proofs.BinLists.{is_among-true, among-true}
 use Rattle.cargo_toml_features.specs.Views.{has_text}
 use Rattle.cargo_toml_resolve.specs.KnownBins.{Knows, MayKnow}
 
@@ -48,14 +46,6 @@ knows_more s n own k known added x = added x ∙ ap (λ t. t || bytes_eq x k) (k
     go : (b : Bool) → is_among own k ≡ b → (is_among own x || bytes_eq x k) ≡ is_among (cond b own (own ++ k ∷ [])) x
     go true e = among_again own k x e
     go false e = sym (among_last own k x)
-
--- a set that is made of the list
-pub knows_all : (s : BTreeSet (Bor Text)) (xs : List Text) → ((x : Text) → IsTrue (has_text s x) ↔ Among xs x) → Knows s xs
-knows_all s xs all x = go (is_among xs x) refl
-  where
-    go : (b : Bool) → is_among xs x ≡ b → has_text s x ≡ is_among xs x
-    go true e = (all x).1 (is_among-true xs x e) ∙ sym e
-    go false e = false_from_ne_true (has_text s x) (λ t. false≢true (sym e ∙ among-true xs x ((all x).0 t))) ∙ sym e
 
 -- a set that isn't empty is filled
 pub filled : (s : BTreeSet (Bor Text)) (xs : List Text) (is_empty : Bool) → IsTrue is_empty ↔ (btree_set_len s ≡ 0) → is_empty ≡ false → MayKnow s xs → Knows s xs

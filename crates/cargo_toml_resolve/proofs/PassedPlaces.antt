@@ -8,7 +8,7 @@ use Rattle.cargo_toml_graph.specs.Admitted.{is_below}
 use Rattle.cargo_toml_graph.specs.Graph.{KeepsName, Table}
 use Rattle.cargo_toml_graph.specs.Reach.{Among}
 use Rattle.cargo_toml_graph.specs.Redirects.{RedirectsTo}
-use Rattle.cargo_toml_graph.specs.Removal.{IsAscending, pass_all, put_all, unremoved, without_all}
+use Rattle.cargo_toml_graph.specs.Removal.{pass_all, put_all, unremoved, without_all}
 use Rattle.cargo_toml_graph.proofs.BinLists.{among-either, among-first, among-second}
 use Rattle.cargo_toml_graph.proofs.Edges.{unremoved_is}
 use Rattle.cargo_toml_graph.proofs.Elimination.{all_taken_out}
@@ -16,6 +16,7 @@ use Rattle.cargo_toml_graph.proofs.InByteOrder.{ascending_last, ascending_once, 
 use Rattle.cargo_toml_graph.proofs.Members.{label_within}
 use Rattle.cargo_toml_graph.proofs.RedirectsInOrder.{below_one_way}
 use Rattle.cargo_toml_features.specs.Places.{text_at}
+use Rattle.cargo_toml_full.specs.Ascending.{Ascend}
 use Rattle.cargo_toml_resolve.specs.NumberedTables.{HasNumber}
 use Rattle.cargo_toml_walk.specs.Numbers.{IsWanted, Leads, list_at}
 use Rattle.cargo_toml_resolve.proofs.NumberedTables as numbered
@@ -84,11 +85,11 @@ module _ (t : Table) (removed : Text → Bool) (old : List Feature) (texts : Lis
       let u = (numbered.vertex_under t R texts edges names flags stand.numbered n lt k.0 k.1).1 (subst R (sym k.2) l.0, subst (λ w. Below w (text_at texts n)) (sym k.2) l.1) in
       (named_below texts flags n v).1 (k.0, u.1, k.2, u.0)
 
-  ascends_below : (n : ℕ) → n ≤ length edges → IsAscending (λ a b. IsTrue (is_below a b)) (names_below texts flags n)
+  ascends_below : (n : ℕ) → n ≤ length edges → Ascend (names_below texts flags n)
   ascends_below zero le = tt
   ascends_below (suc n) le = go (slice_index_or flags n false) (ascends_below n (omega (arith, le)))
     where
-      go : (b : Bool) → IsAscending (λ a b. IsTrue (is_below a b)) (names_below texts flags n) → IsAscending (λ a b. IsTrue (is_below a b)) (cond b (names_below texts flags n ++ text_at texts n ∷ []) (names_below texts flags n))
+      go : (b : Bool) → Ascend (names_below texts flags n) → Ascend (cond b (names_below texts flags n ++ text_at texts n ∷ []) (names_below texts flags n))
       go true up = ascending_last (names_below texts flags n) (text_at texts n) up (λ v i. (lower_there n (omega (arith, le)) v i).1)
       go false up = up
 

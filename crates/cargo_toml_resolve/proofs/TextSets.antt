@@ -1,36 +1,24 @@
 -- Sets of the texts of numbers.
-use Rattle.std.proofs.Common.{◌≡◌, ◌↔◌, ◌<◌, ◌+◌, ◌||◌, ℕ, List, [], ◌∷◌, ◌++◌, length, map, take, get_or, bytes_eq, Result, Ok, Err, IfOk, Bor, IsTrue, refl, sym, ap, ap₂, subst, inl, inr, ◌∙◌}
+use Rattle.std.proofs.Common.{◌≡◌, ◌↔◌, ◌<◌, ◌+◌, ◌||◌, ℕ, List, [], ◌∷◌, ◌++◌, length, map, take, get_or, bytes_eq, Result, Ok, Err, IfOk, Bor, IsTrue, refl, sym, ap, subst, inl, inr, ◌∙◌}
 use Rattle.std.proofs.lemmas.Bool.{or_left, or_right, or_cases}
 use Rattle.std.proofs.lemmas.List.{length-map, map_push, take_more}
-use Rattle.std.proofs.lemmas.Map.Text.{is_eq-slice_cmp}
 use Rattle.std.proofs.lemmas.Slice.Eq.{bytes_eq-Decides}
-use Rattle.std.specs.BTreeSet as sorted
 use Rattle.std.specs.BTreeSet.{BTreeSet}
-use Rattle.std.specs.Cmp.Lexicographic.{slice_cmp}
-use Rattle.std.specs.Ordering.{nat_cmp}
+use Rattle.std.specs.List.{list_any}
 use Rattle.cargo_toml_graph.specs.Action.{Text}
 use Rattle.cargo_toml_graph.specs.Reach.{Among}
-use Rattle.cargo_toml_graph.specs.Removal.{is_among}
 use Rattle.cargo_toml_graph.proofs.BinLists.{is_among-true, among-true}
 use Rattle.cargo_toml_features.specs.Views.{has_text}
-use Rattle.cargo_toml_full.proofs.Gathering.{is_text_in}
 use Rattle.cargo_toml_features.specs.Places.{text_at}
 use Rattle.cargo_toml_resolve.specs.Holding.{HasTexts}
 use Rattle.cargo_toml_resolve.specs.Texts.{texts_of}
 use Rattle.cargo_toml_resolve.proofs.Gathered.{among_push}
 
-text_in : (ks : List (Bor Text)) (x : Text) → is_text_in ks x ≡ is_among (texts_of ks) x
-text_in [] x = refl
-text_in (k ∷ ks) x = ap₂ (λ a b. a || b) (is_eq-slice_cmp x k.now) (text_in ks x)
-
--- a set that is made of a list has its texts
-pub set_made : {E : Type 0} (ks : List (Bor Text)) (r : Result (BTreeSet (Bor Text)) E) →
-    IfOk r (λ s. sorted.IsFromIterResult (λ x y. slice_cmp nat_cmp x.now y.now) ks s) →
-    IfOk r (λ s. (x : Text) → IsTrue (has_text s x) ↔ Among (texts_of ks) x)
-set_made ks (Err e) h = tt
-set_made ks (Ok s) h = λ x.
-    let same : has_text s x ≡ is_among (texts_of ks) x = h.0 (record { ref_ptr = (0, 0); now = x }) ∙ text_in ks x in
-    (λ y. is_among-true (texts_of ks) x (sym same ∙ y), λ i. same ∙ among-true (texts_of ks) x i)
+-- a set that tells of each text whether it is one of a list has those of the list
+pub set_made : {E : Type 0} (xs : List Text) (r : Result (BTreeSet (Bor Text)) E) → IfOk r (λ s. (x : Text) → has_text s x ≡ list_any (bytes_eq x) xs)
+    → IfOk r (λ s. (x : Text) → IsTrue (has_text s x) ↔ Among xs x)
+set_made xs (Err e) h = tt
+set_made xs (Ok s) h = λ x. (λ y. is_among-true xs x (sym (h x) ∙ y), λ i. h x ∙ among-true xs x i)
 
 module _ (texts : List Text) where
   from_number : (numbers : List ℕ) (x : Text) → Among (map (text_at texts) numbers) x → (j : ℕ) × (text_at texts j ≡ x) × Among numbers j

@@ -3,9 +3,8 @@ use Rattle.std.specs.Prelude.{◌≡◌, ◌≢◌, ◌<◌, ◌≤◌, ℕ, Boo
 use Rattle.std.specs.Prelude.{List, length, take, drop, slice_get, IsTrue}
 use Rattle.std.specs.Option.{IsSomeAnd, option_map_or}
 use Rattle.cargo_toml_graph.specs.Action.{Text}
-use Rattle.cargo_toml_graph.specs.Admitted.{is_below}
 use Rattle.cargo_toml_graph.specs.Reach.{Among}
-use Rattle.cargo_toml_graph.specs.Removal.{IsAscending}
+use Rattle.cargo_toml_full.specs.Ascending.{Ascend}
 use Rattle.cargo_toml_walk.specs.Numbers.{IsWanted}
 use Rattle.cargo_toml_features.specs.Places.{text_at}
 use Rattle.cargo_toml_features.specs.declared.features.Feature.{Feature}
@@ -37,8 +36,8 @@ IsTarget vs keys i x = (x ≢ i) × IsSomeAnd (slice_get vs i) (λ v. LeadsTo v 
 -- the first n texts and those after them stand in byte order, and no text stands twice
 pub record AreParted (n : ℕ) (texts : List Text) : Type 0 where
   pub fits : n ≤ length texts
-  pub front : IsAscending (λ a b. IsTrue (is_below a b)) (take n texts)
-  pub rest : IsAscending (λ a b. IsTrue (is_below a b)) (drop n texts)
+  pub front : Ascend (take n texts)
+  pub rest : Ascend (drop n texts)
   pub one : (i j : ℕ) → i < length texts → j < length texts
       → text_at texts i ≡ text_at texts j → i ≡ j
 

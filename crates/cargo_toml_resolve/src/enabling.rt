@@ -1,10 +1,9 @@
 //! Where no feature is removed: each learns which others enable it.
 ghost use Rattle.std.specs.Prelude.{◌≡◌, ◌≢◌, ◌↔◌, ◌⊎◌, ◌<◌, ℕ, IsTrue, OnOk, length};
 ghost use Rattle.cargo_toml_graph.specs.Action.{Text};
-ghost use Rattle.cargo_toml_graph.specs.Admitted.{is_below};
 ghost use Rattle.cargo_toml_graph.specs.Graph.{IsUnremoved, Table};
 ghost use Rattle.cargo_toml_graph.specs.Reach.{Among};
-ghost use Rattle.cargo_toml_graph.specs.Removal.{IsAscending};
+ghost use Rattle.cargo_toml_full.specs.Ascending.{Ascend};
 ghost use Rattle.cargo_toml_features.specs.InOrder.{AreInOrder, AreTable, HaveNoEnablers};
 ghost use Rattle.cargo_toml_features.specs.InOrder.{resolution_among};
 ghost use Rattle.cargo_toml_features.specs.Views.{has_text};
@@ -28,7 +27,7 @@ fn push_names(
     own: Node,
     mut near: usize,
 ) -> Result<usize, AllocError>
-    requires { IsAscending (λ a b. IsTrue (is_below a b)) (texts_of keys.now) }
+    requires { Ascend (texts_of keys.now) }
     ensures { OnOk result ((x : ℕ) → Among row.new.items x ↔ (Among row.old.items x
         ⊎ ((x < length keys.now) × (x ≢ own)
         × IsTrue (has_text named.now (text_at (texts_of keys.now) x))))) }
@@ -61,7 +60,7 @@ fn push_each_target(
     own: Node,
     near: usize,
 ) -> Result<usize, AllocError>
-    requires { IsAscending (λ a b. IsTrue (is_below a b)) (texts_of keys.now) }
+    requires { Ascend (texts_of keys.now) }
     ensures { OnOk result ((x : ℕ) → Among row.new.items x ↔ (Among row.old.items x
         ⊎ ((x < length keys.now) × (x ≢ own)
         × LeadsTo feature.now (text_at (texts_of keys.now) x)))) }
@@ -83,7 +82,7 @@ pub(crate) fn push_targets(
     own: Node,
     near: usize,
 ) -> Result<usize, AllocError>
-    requires { IsAscending (λ a b. IsTrue (is_below a b)) (texts_of keys.now) }
+    requires { Ascend (texts_of keys.now) }
     ensures { OnOk result ((x : ℕ) → Among row.new.items x ↔ (Among row.old.items x
         ⊎ ((x < length keys.now) × (x ≢ own)
         × LeadsTo feature.now (text_at (texts_of keys.now) x)))) }

@@ -1,10 +1,9 @@
 //! What is kept of features, in a hashed map.
 ghost use Rattle.std.specs.Prelude.{◌≡◌, ◌≤◌, ℕ, None, Some, bytes_eq, false, if◌then◌else◌};
-ghost use Rattle.std.specs.Prelude.{length, map, slice_get, IfOk, IsSome, IsTrue, OnOk};
+ghost use Rattle.std.specs.Prelude.{length, map, slice_get, IfOk, IsSome, OnOk};
 ghost use Rattle.std.specs.Option.{option_or};
 ghost use Rattle.cargo_toml_graph.specs.Action.{Text};
-ghost use Rattle.cargo_toml_graph.specs.Admitted.{is_below};
-ghost use Rattle.cargo_toml_graph.specs.Removal.{IsAscending};
+ghost use Rattle.cargo_toml_full.specs.Ascending.{Ascend};
 ghost use Rattle.cargo_toml_walk.specs.Numbers.{IsWanted};
 ghost use Rattle.cargo_toml_features.specs.declared.features.Feature.{Feature};
 ghost use Rattle.cargo_toml_features.specs.Reached.{IsKeyed};
@@ -100,7 +99,7 @@ pub fn hashed<'n, V: Drop, S: BuildHasher + Drop>(
     names: &[&'n str],
     values: Vec<Option<V>>,
 ) -> Result<HashMap<&'n str, V, S>, AllocError>
-    requires ascend { IsAscending (λ a b. IsTrue (is_below a b)) (map (λ n. n.now) names.now) }
+    requires ascend { Ascend (map (λ n. n.now) names.now) }
     requires count { length values.items ≡ length names.now }
     ensures { IfOk result
         (λ m. (k : Text) → value_at m k ≡ held_among (map (λ n. n.now) names.now) values.items k) }

@@ -11,7 +11,7 @@ ghost use Rattle.cargo_toml_resolve.specs.Holding.{HasTexts};
 ghost use Rattle.cargo_toml_resolve.specs.Texts.{texts_of};
 
 use crate::graph::Walked;
-use crate::taking_over::set_of;
+use crate::taking_over::set_of_nodes;
 use cargo_toml_walk::node::Node;
 use std::alloc::{AllocError, Global};
 use std::collections::{BTreeSet, HashMap};
@@ -31,7 +31,7 @@ fn put_redirect<'m, S: BuildHasher>(
     ensures others { OnOk result ((q : Text) → IsFalse (bytes_eq name.now q)
         → value_at hidden.new q ≡ value_at hidden.old q) }
 {
-    let redirect = set_of(alloc, redirect, texts)?;
+    let redirect = set_of_nodes(alloc, redirect, texts)?;
     hidden.insert(name, redirect)?;
     Ok(())
 }

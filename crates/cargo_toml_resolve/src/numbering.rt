@@ -2,10 +2,9 @@
 ghost use Rattle.std.specs.Prelude.{◌≡◌, ◌≢◌, ◌↔◌, ◌⊎◌, ◌<◌, ◌≤◌, ℕ, IfOk, IfSome};
 ghost use Rattle.std.specs.Prelude.{IsTrue, None, OnOk, Some, false, length, map, true};
 ghost use Rattle.cargo_toml_graph.specs.Action.{Text};
-ghost use Rattle.cargo_toml_graph.specs.Admitted.{is_below};
 ghost use Rattle.cargo_toml_graph.specs.Graph.{IsPlain};
 ghost use Rattle.cargo_toml_graph.specs.Reach.{Among};
-ghost use Rattle.cargo_toml_graph.specs.Removal.{IsAscending};
+ghost use Rattle.cargo_toml_full.specs.Ascending.{Ascend};
 ghost use Rattle.cargo_toml_features.specs.InOrder.{AreInOrder, names_of, table_among};
 ghost use Rattle.cargo_toml_features.specs.Views.{action_at, action_of, has_text};
 ghost use Rattle.cargo_toml_walk.specs.Numbers.{IsWanted, Leads};
@@ -47,7 +46,7 @@ fn push_others<'m>(
     keys: &[&'m str],
     mut near: usize,
 ) -> Result<usize, AllocError>
-    requires { IsAscending (λ a b. IsTrue (is_below a b)) (texts_of keys.now) }
+    requires { Ascend (texts_of keys.now) }
     ensures { OnOk result ((x : Text) → Among (texts_of others.new.items) x
         ↔ (Among (texts_of others.old.items) x
         ⊎ (IsTrue (has_text named.now x) × (¬ Among (texts_of keys.now) x)))) }
@@ -70,12 +69,12 @@ fn others_of<'m>(
     keys: &[&'m str],
 ) -> Result<Vec<&'m str>, AllocError>
     requires naming { length naming.now ≡ length features.now }
-    requires keys { IsAscending (λ a b. IsTrue (is_below a b)) (texts_of keys.now) }
+    requires keys { Ascend (texts_of keys.now) }
     ensures all { IfOk result (λ v. (x : Text) → Among (texts_of v.items) x
         ↔ (IsNamedBy naming.now features.now (length features.now) x
         × (¬ Among (texts_of keys.now) x))) }
     ensures ascending { IfOk result
-        (λ v. IsAscending (λ a b. IsTrue (is_below a b)) (texts_of v.items)) }
+        (λ v. Ascend (texts_of v.items)) }
 {
     let mut others = Vec::new(alloc);
     let mut near = 0;
@@ -187,7 +186,7 @@ pub(crate) fn push_target(
     own: Node,
     near: usize,
 ) -> Result<usize, AllocError>
-    requires { IsAscending (λ a b. IsTrue (is_below a b)) (texts_of keys.now) }
+    requires { Ascend (texts_of keys.now) }
     ensures { OnOk result ((x : ℕ) → Among row.new.items x ↔ (Among row.old.items x
         ⊎ ((x < length keys.now) × (x ≢ own) × (text_at (texts_of keys.now) x ≡ key.now)))) }
 {
@@ -216,7 +215,7 @@ fn push_each_action(
     keys: &[&str],
     own: Node,
 ) -> Result<(), AllocError>
-    requires { IsAscending (λ a b. IsTrue (is_below a b)) (texts_of keys.now) }
+    requires { Ascend (texts_of keys.now) }
     ensures { OnOk result ((x : ℕ) → Among row.new.items x ↔ (Among row.old.items x
         ⊎ ((x < length keys.now) × (x ≢ own)
         × IsPlain (action_at actions.now (text_at (texts_of keys.now) x))))) }
@@ -237,7 +236,7 @@ pub(crate) fn push_actions(
     keys: &[&str],
     own: Node,
 ) -> Result<(), AllocError>
-    requires { IsAscending (λ a b. IsTrue (is_below a b)) (texts_of keys.now) }
+    requires { Ascend (texts_of keys.now) }
     ensures { OnOk result ((x : ℕ) → Among row.new.items x
         ↔ (Among row.old.items x ⊎ ((x < length keys.now) × (x ≢ own)
         × IsPlain (action_at actions.now (text_at (texts_of keys.now) x))))) }
@@ -255,7 +254,7 @@ fn edge_rows(
     features: &[Feature<'_>],
     keys: &[&str],
 ) -> Result<Vec<Vec<Node>>, AllocError>
-    requires { IsAscending (λ a b. IsTrue (is_below a b)) (texts_of keys.now) }
+    requires { Ascend (texts_of keys.now) }
     ensures len { IfOk result (λ rows. length rows.items ≡ length features.now) }
     ensures rows { IfOk result (λ rows. (i x : ℕ) → i < length features.now → Leads rows.items i x
         ↔ ((x < length keys.now) × IsTarget features.now (texts_of keys.now) i x)) }

@@ -12,8 +12,8 @@ ghost use Rattle.cargo_toml_resolve.specs.Passing.{bins_of, passed_below, AreSam
 ghost use Rattle.cargo_toml_resolve.specs.Puts.{Puts};
 ghost use Rattle.cargo_toml_resolve.specs.Texts.{texts_of};
 
-use crate::taking_over::into_set;
 use cargo_toml_features::features::Feature;
+use cargo_toml_full::sets::set_of;
 use cargo_toml_walk::node::Node;
 use std::alloc::{AllocError, Global};
 use std::collections::BTreeSet;
@@ -34,8 +34,7 @@ pub fn first_ten<'m>(bins: &Vec<&'m str>) -> Result<Vec<&'m str>, AllocError>
 fn known_in<'m>(bins: &Vec<&'m str>) -> Result<BTreeSet<&'m str>, AllocError>
     ensures { IfOk result (λ s. Knows s (texts_of bins.now.items)) }
 {
-    let alloc = *bins.allocator();
-    into_set(alloc, bins.to_vec(alloc)?)
+    set_of(*bins.allocator(), bins.as_slice())
 }
 
 // A set for each feature, by places. Most features never come to have another binary, so

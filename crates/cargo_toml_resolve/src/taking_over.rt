@@ -1,9 +1,9 @@
 //! What a kept feature holds once the removed ones that it passes are taken out.
-ghost use Rattle.std.specs.Prelude.{◌≡◌, ◌<◌, ◌⊎◌, ◌↔◌, ℕ, Some, IfOk, IsTrue, OnOk, false, length};
+ghost use Rattle.std.specs.Prelude.{◌≡◌, ◌<◌, ◌⊎◌, ℕ, Some, IfOk, OnOk, false, length};
 ghost use Rattle.std.specs.Prelude.{map};
 ghost use Rattle.cargo_toml_graph.specs.Action.{Text, IsJoin};
 ghost use Rattle.cargo_toml_graph.specs.Reach.{Among};
-ghost use Rattle.cargo_toml_features.specs.Views.{action_at, has_text};
+ghost use Rattle.cargo_toml_features.specs.Views.{action_at};
 ghost use Rattle.cargo_toml_features.specs.Places.{text_at};
 ghost use Rattle.cargo_toml_walk.specs.Numbers.{IsWanted, list_at};
 ghost use Rattle.cargo_toml_resolve.specs.Holding.{DoesAt, HasTexts};
@@ -14,13 +14,11 @@ use crate::graph::Walked;
 use crate::joining::add_actions;
 use cargo_toml_features::action::add_text;
 use cargo_toml_features::features::{DepAction, Feature};
+use cargo_toml_full::sets::{FEW, set_of};
 use cargo_toml_walk::node::Node;
 use std::alloc::{AllocError, Global};
 use std::collections::{BTreeMap, BTreeSet};
 use std::mem;
-
-// Up to so many texts are put into a set sooner one by one than by a sort.
-const FEW: usize = 16;
 
 // The texts of nodes, in their order.
 fn list_of<'m>(alloc: Global, nodes: &[Node], texts: &[&'m str]) -> Result<Vec<&'m str>, AllocError>
@@ -34,18 +32,7 @@ fn list_of<'m>(alloc: Global, nodes: &[Node], texts: &[&'m str]) -> Result<Vec<&
     Ok(list)
 }
 
-// The texts of a list, as a set.
-pub(crate) fn into_set<'m>(
-    alloc: Global,
-    texts: Vec<&'m str>,
-) -> Result<BTreeSet<&'m str>, AllocError>
-    ensures { IfOk result
-        (λ s. (x : Text) → IsTrue (has_text s x) ↔ Among (texts_of texts.entry.items) x) }
-{
-    texts.into_iter().collect(alloc)
-}
-
-// The texts of few nodes, put into a set one after another.
+// The texts of few nodes, put into a set one after another, with no list of them.
 fn few_of<'m>(
     alloc: Global,
     nodes: &[Node],
@@ -71,11 +58,11 @@ fn many_of<'m>(
     ensures { IfOk result (HasTexts (texts_of texts.now) nodes.now) }
 {
     let list = list_of(alloc, nodes, texts)?;
-    into_set(alloc, list)
+    set_of(alloc, list.as_slice())
 }
 
 // The texts of nodes, as a set.
-pub(crate) fn set_of<'m>(
+pub(crate) fn set_of_nodes<'m>(
     alloc: Global,
     nodes: &[Node],
     texts: &[&'m str],
@@ -152,7 +139,7 @@ pub(crate) fn take_over<'m>(
     if passed.is_empty() {
         return Ok(());
     }
-    let names = set_of(alloc, named, walked.texts.as_slice())?;
+    let names = set_of_nodes(alloc, named, walked.texts.as_slice())?;
     take_actions(alloc, features, at, passed)?;
     features[at.place()].enables_features = names;
     Ok(())

@@ -10,8 +10,8 @@ use Rattle.cargo_toml_resolve.specs.Texts.{texts_of}
 use Rattle.cargo_toml_resolve.proofs.TakingOver.{is_nothing, names_taken, takes_nothing}
 use Rattle.cargo_toml_resolve.proofs.taking_over.take_over.Goals as goal
 
-pub set_of-requires : goal.set_of-requires
-set_of-requires c = λ x i.
+pub set_of_nodes-requires : goal.set_of_nodes-requires
+set_of_nodes-requires c = λ x i.
     let w = c.args.walked.now in
     let at = c.args.at in
     let lt : at < length w.named.items = subst (λ n. at < n) (sym (w.named_count ∙ c.requires.count)) c.requires.at in

@@ -1,6 +1,6 @@
 use Rattle.cargo_toml_features.specs.Views.{has_text}
 use Rattle.cargo_toml_full.proofs.Gathering.{more_texts}
-use Rattle.cargo_toml_full.proofs.read.inserted.Goals as goal
+use Rattle.cargo_toml_full.proofs.sets.inserted.Goals as goal
 
 pub loop-text-preserved : goal.loop-text-preserved
 loop-text-preserved c =

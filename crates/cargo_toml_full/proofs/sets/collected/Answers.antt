@@ -7,7 +7,7 @@ use Rattle.std.specs.Cmp.Lexicographic.{slice_cmp}
 use Rattle.std.specs.Ordering.{nat_cmp}
 use Rattle.cargo_toml_graph.specs.Action.{Text}
 use Rattle.cargo_toml_full.proofs.Gathering.{texts_made}
-use Rattle.cargo_toml_full.proofs.read.collected.Goals as goal
+use Rattle.cargo_toml_full.proofs.sets.collected.Goals as goal
 
 pub returns : goal.returns
 returns c =

@@ -1,8 +1,7 @@
 -- Features as a list in the byte order of their names, and maps in that order.
-use Rattle.std.specs.Prelude.{◌≡◌, false, List, [], Option, None, IfSome, IsTrue, bytes_eq}
+use Rattle.std.specs.Prelude.{◌≡◌, List, [], Option, IfSome, IsTrue, bytes_eq}
 use Rattle.std.specs.Prelude.{is_some, map}
 use Rattle.std.specs.List.{find}
-use Rattle.std.specs.Option.{option_map_or}
 use Rattle.std.specs.Borrow.{Bor}
 use Rattle.std.specs.BTreeMap as tree
 use Rattle.std.specs.BTreeMap.{BTreeMap}
@@ -13,7 +12,7 @@ use Rattle.cargo_toml_graph.specs.Action.{Text}
 use Rattle.cargo_toml_graph.specs.Admitted.{is_below}
 use Rattle.cargo_toml_graph.specs.Graph.{Table, Resolution}
 use Rattle.cargo_toml_graph.specs.Removal.{IsAscending}
-use Rattle.cargo_toml_features.specs.Views.{action_at, has_text}
+use Rattle.cargo_toml_features.specs.Views.{resolution_by, table_by}
 
 -- what a map in order holds under a text
 abbrev pub sorted_at : {X : Type 0} → BTreeMap (Bor Text) X → Text → Option X
@@ -34,20 +33,12 @@ feature_at vs f = find (λ v. bytes_eq f v.key.now) vs
 abbrev pub HaveNoEnablers : List Feature → Type 0
 HaveNoEnablers vs = (f : Text) → IfSome (feature_at vs f) (λ v. v.enabled_by.keys ≡ [])
 
--- the features of a list, as a table
+-- the features of a list
 abbrev pub table_among : List Feature → Table
-table_among vs = record {
-  has = λ f. is_some (feature_at vs f);
-  names = λ f x. option_map_or (λ v. has_text v.enables_features x) (feature_at vs f) false;
-  action = λ f k. option_map_or (λ v. action_at v.enables_deps k) (feature_at vs f) None;
-}
+table_among vs = table_by (feature_at vs)
 
--- the same with their enablers
 abbrev pub resolution_among : List Feature → Resolution
-resolution_among vs = record {
-  table = table_among vs;
-  enabled_by = λ f e. option_map_or (λ v. has_text v.enabled_by e) (feature_at vs f) false;
-}
+resolution_among vs = resolution_by (feature_at vs)
 
 -- they make the table
 pub record AreTable (t : Table) (vs : List Feature) : Type 0 where

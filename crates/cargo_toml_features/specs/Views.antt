@@ -46,19 +46,27 @@ action_of a = record {
 abbrev pub action_at : BTreeMap (Bor Text) DepAction → Text → Option Action
 action_at m k = option_map action_of (tree.get_by (λ q. slice_cmp nat_cmp k q.now) m)
 
--- a map of features, as a table and its enablers
-abbrev pub table_in : {S : Type 0} → HashMap (Bor Text) Feature S → Table
-table_in m = record {
-  has = λ f. is_some (value_at m f);
-  names = λ f x. option_map_or (λ v. has_text v.enables_features x) (value_at m f) false;
-  action = λ f k. option_map_or (λ v. action_at v.enables_deps k) (value_at m f) None;
+-- features by their names, as a table
+abbrev pub table_by : (Text → Option Feature) → Table
+table_by found = record {
+  has = λ f. is_some (found f);
+  names = λ f x. option_map_or (λ v. has_text v.enables_features x) (found f) false;
+  action = λ f k. option_map_or (λ v. action_at v.enables_deps k) (found f) None;
 }
 
-abbrev pub resolution_of : {S : Type 0} → HashMap (Bor Text) Feature S → Resolution
-resolution_of m = record {
-  table = table_in m;
-  enabled_by = λ f e. option_map_or (λ v. has_text v.enabled_by e) (value_at m f) false;
+-- the same with their enablers
+abbrev pub resolution_by : (Text → Option Feature) → Resolution
+resolution_by found = record {
+  table = table_by found;
+  enabled_by = λ f e. option_map_or (λ v. has_text v.enabled_by e) (found f) false;
 }
+
+-- the features of a hashed map
+abbrev pub table_in : {S : Type 0} → HashMap (Bor Text) Feature S → Table
+table_in m = table_by (value_at m)
+
+abbrev pub resolution_of : {S : Type 0} → HashMap (Bor Text) Feature S → Resolution
+resolution_of m = resolution_by (value_at m)
 
 abbrev pub target_of : TargetKey → Target
 target_of k = (k.kind, option_copied k.target)

@@ -23,8 +23,8 @@ entry_at key [] = None
 entry_at key (e ∷ es) = if bytes_eq key e.0 then Some e.1 else entry_at key es
 
 -- a detail that has only a requirement
-abbrev pub plain_detail : List Held → DetailMeaning
-plain_detail requirement = record no_detail { version = Some requirement }
+abbrev pub detail_of_requirement : List Held → DetailMeaning
+detail_of_requirement requirement = record no_detail { version = Some requirement }
 
 -- a detail of the workspace, whose folder is `base`, with what a member's entry adds
 abbrev pub with_entry : List ℕ → InheritedMeaning → DetailMeaning → DetailMeaning
@@ -67,7 +67,7 @@ from_template base key entry None = Err (missing_template key)
 from_template base key entry (Some (inherited other)) = Err inherited_unknown_value
 from_template base key entry (Some (simple requirement)) =
     if adds_nothing entry then Ok (simple requirement)
-    else Ok (detailed (with_entry base entry (plain_detail requirement)))
+    else Ok (detailed (with_entry base entry (detail_of_requirement requirement)))
 from_template base key entry (Some (detailed d)) = Ok (detailed (with_entry base entry d))
 
 -- a dependency after inheritance: only what is inherited changes

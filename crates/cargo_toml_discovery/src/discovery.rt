@@ -48,6 +48,17 @@ pub struct Stated<'a> {
     pub readme: &'a OptionalFile,
 }
 
+/// A list of products that a manifest states.
+#[derive(Clone, Copy, Debug)]
+pub struct StatedList<'a> {
+    /// The folder of such products.
+    pub dir: &'a str,
+    /// Whether more are found there.
+    pub is_wanted: bool,
+    /// The products.
+    pub products: &'a [Product],
+}
+
 /// What discovery puts into a manifest.
 #[derive(Debug, Drop)]
 pub struct Discovered {
@@ -131,25 +142,23 @@ fn filled_library(
     Ok(library)
 }
 
-/// The library of a package of this name and edition: the one that is stated, with the path
-/// `src/lib.rs` where it has none and that file is there, or one that is made there where
-/// `autolib` says so. It has the name of the package with each `-` as `_`, its edition and the
-/// crate type `lib` where it states none, and no required features. It is refused only where
-/// there was no memory.
+/// The library of a package: the one that is stated, with the path `src/lib.rs` where it has none
+/// and that file is there, or one that is made there where `autolib` says so. It has the name of
+/// the package with each `-` as `_`, its edition and the crate type `lib` where it states none, and
+/// no required features. It is refused only where there was no memory.
 pub fn library(
     alloc: Global,
-    name: &str,
-    edition: Edition,
-    autolib: bool,
-    stated: Option<&Product>,
+    stated: &Stated<'_>,
     listings: &Listings,
 ) -> Result<Option<Product>, AllocError>
     ensures { IfOk result (λ l. option_map product_meaning l
-        ≡ library name.now edition (has_text (names_kept listings.now (codes "src"))
-        (codes "lib.rs")) autolib (product_lent stated.entry)) }
+        ≡ library stated.now.name.now stated.now.edition (has_text
+        (names_kept listings.now (codes "src")) (codes "lib.rs")) stated.now.autolib
+        (product_lent stated.now.lib)) }
 {
-    match found_library(alloc, listings.has("src", "lib.rs"), autolib, stated)? {
-        Some(library) => Ok(Some(filled_library(alloc, name, edition, library)?)),
+    let is_there = listings.has("src", "lib.rs");
+    match found_library(alloc, is_there, stated.autolib, stated.lib)? {
+        Some(library) => Ok(Some(filled_library(alloc, stated.name, stated.edition, library)?)),
         None => Ok(None),
     }
 }
@@ -172,27 +181,27 @@ fn main_offer(
     Ok(None)
 }
 
-/// A list of products in order of name and path: where `is_wanted`, as it is found in the folder
-/// `dir` and by the offer `extra`, and otherwise just those that are stated. It is refused only
-/// where there was no memory.
+/// A list of products in order of name and path: where that is wanted, as it is found in its folder
+/// and by the offer `extra`, and otherwise just those that are stated. It is refused only where
+/// there was no memory.
 pub fn list_of(
     alloc: Global,
     edition: Edition,
-    is_wanted: bool,
-    dir: &str,
-    products: &[Product],
+    list: &StatedList<'_>,
     listings: &Listings,
     extra: Option<Offer>,
 ) -> Result<Vec<Product>, AllocError>
     ensures { IfOk result (λ v. (x : Option Offered) → IsOffer x extra → meanings v.items
-        ≡ listed_products edition is_wanted dir.now (meanings products.now)
-        (entries_if is_wanted (answers_of listings.now) dir.now) x) }
+        ≡ listed_products edition list.now.is_wanted list.now.dir.now
+        (meanings list.now.products.now) (entries_if list.now.is_wanted (answers_of listings.now)
+        list.now.dir.now) x) }
 {
-    if is_wanted {
-        let entries = listings.entries(alloc, dir)?;
-        return found(alloc, edition, dir, products, entries.as_slice(), extra);
+    if list.is_wanted {
+        let entries = listings.entries(alloc, list.dir)?;
+        let entries = entries.as_slice();
+        return found(alloc, edition, list.dir, list.products, entries, extra);
     }
-    let mut list = copies(alloc, products)?;
+    let mut list = copies(alloc, list.products)?;
     sort_products(&mut list)?;
     Ok(list)
 }
@@ -266,41 +275,40 @@ pub fn discover(
         ≡ discovered (stated_meaning stated.now)
         (around_in (answers_of listings.now) stated.now.wanted)) }
 {
-    let name = stated.name;
     let edition = stated.edition;
     let wanted = stated.wanted;
-    let bin = stated.bin;
-    let main = main_offer(alloc, name, listings.has("src", "main.rs"), bin)?;
+    let main = main_offer(
+        alloc,
+        stated.name,
+        listings.has("src", "main.rs"),
+        stated.bin,
+    )?;
+    let bin = StatedList {
+        dir: "src/bin",
+        is_wanted: wanted.bins,
+        products: stated.bin,
+    };
+    let example = StatedList {
+        dir: "examples",
+        is_wanted: wanted.examples,
+        products: stated.example,
+    };
+    let test = StatedList {
+        dir: "tests",
+        is_wanted: wanted.tests,
+        products: stated.test,
+    };
+    let bench = StatedList {
+        dir: "benches",
+        is_wanted: wanted.benches,
+        products: stated.bench,
+    };
     Ok(Discovered {
-        lib: library(alloc, name, edition, stated.autolib, stated.lib, listings)?,
-        bin: list_of(alloc, edition, wanted.bins, "src/bin", bin, listings, main)?,
-        example: list_of(
-            alloc,
-            edition,
-            wanted.examples,
-            "examples",
-            stated.example,
-            listings,
-            None,
-        )?,
-        test: list_of(
-            alloc,
-            edition,
-            wanted.tests,
-            "tests",
-            stated.test,
-            listings,
-            None,
-        )?,
-        bench: list_of(
-            alloc,
-            edition,
-            wanted.benches,
-            "benches",
-            stated.bench,
-            listings,
-            None,
-        )?,
+        lib: library(alloc, stated, listings)?,
+        bin: list_of(alloc, edition, &bin, listings, main)?,
+        example: list_of(alloc, edition, &example, listings, None)?,
+        test: list_of(alloc, edition, &test, listings, None)?,
+        bench: list_of(alloc, edition, &bench, listings, None)?,
         build: build(alloc, stated.build, listings)?,
         readme: readme(alloc, stated.readme, listings)?,
     })

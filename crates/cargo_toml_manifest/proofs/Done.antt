@@ -13,7 +13,7 @@ use Rattle.cargo_toml_discovery.specs.Names.{Name}
 use Rattle.cargo_toml_discovery.specs.Seen.{Seen, seen, faulty, unclear}
 use Rattle.cargo_toml_discovery.specs.Told.{Told}
 use Rattle.cargo_toml_dependencies.specs.Dependencies.{DependencyMeaning, InheritedMeaning, simple, inherited, detailed}
-use Rattle.cargo_toml_dependencies.specs.Inheriting.{Entries, adds_nothing, any_left, any_target_left, entry_at, from_template, inherited_entries, inherited_entry, inherited_target, inherited_targets, is_left, plain_detail, target_left, with_entry}
+use Rattle.cargo_toml_dependencies.specs.Inheriting.{Entries, adds_nothing, any_left, any_target_left, entry_at, from_template, inherited_entries, inherited_entry, inherited_target, inherited_targets, is_left, detail_of_requirement, target_left, with_entry}
 use Rattle.cargo_toml_dependencies.specs.Targets.{TargetMeaning}
 use Rattle.cargo_toml_package.specs.Inheriting.{any_field_left, inherited_package, with_template_if_there}
 use Rattle.cargo_toml_package.specs.Packages.{PackageMeaning}
@@ -61,7 +61,7 @@ template-done : (base key : List ℕ) (entry : InheritedMeaning) (t : Option Dep
 template-done base key entry None d h = cc
 template-done base key entry (Some (inherited other)) d h = cc
 template-done base key entry (Some (simple r)) d h =
-    chosen-done (adds_nothing entry) (simple r) (detailed (with_entry base entry (plain_detail r))) d refl refl h
+    chosen-done (adds_nothing entry) (simple r) (detailed (with_entry base entry (detail_of_requirement r))) d refl refl h
 template-done base key entry (Some (detailed t)) d h = ap is_left (sym (same (detailed (with_entry base entry t)) d h))
 
 entry-done : (templates : Option Entries) (base key : List ℕ) (d x : DependencyMeaning) → inherited_entry templates base key d ≡ Ok x → is_left x ≡ false

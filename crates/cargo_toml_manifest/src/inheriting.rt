@@ -70,26 +70,33 @@ fn new_package<Metadata>(
     }
 }
 
+// The tables of a workspace from which a manifest takes parts: dependencies, lints and package.
+#[derive(Clone, Copy)]
+struct SharedTables<'a> {
+    templates: Option<&'a DepsSet>,
+    groups: Option<&'a LintGroups>,
+    template: Option<&'a PackageTemplate>,
+}
+
 // What a manifest takes from these tables of a workspace.
 fn parts_from<Metadata>(
     alloc: Global,
     manifest: &Manifest<Metadata>,
-    templates: Option<&DepsSet>,
-    groups: Option<&LintGroups>,
-    template: Option<&PackageTemplate>,
+    shared: SharedTables<'_>,
     base: &str,
 ) -> Result<NewParts, Error>
     ensures { Gives (installed (held manifest.now)) result
         (inherited_from
-        (option_map (map_meaning dependency_meaning) (option_copied templates.entry))
-        (option_map (map_meaning (map_meaning lint_meaning)) (option_copied groups.entry))
-        (option_map template_meaning (option_copied template.entry)) base.now
+        (option_map (map_meaning dependency_meaning) (option_copied shared.entry.templates))
+        (option_map (map_meaning (map_meaning lint_meaning)) (option_copied shared.entry.groups))
+        (option_map template_meaning (option_copied shared.entry.template)) base.now
         (held manifest.now)) }
 {
+    let templates = shared.templates;
     let tables = new_tables(alloc, manifest, templates, base)?;
     let targets = target_replacements(alloc, templates, base, &manifest.target)?;
-    let lints = new_lints(alloc, &manifest.lints, groups)?;
-    let package = new_package(alloc, manifest.package.as_ref(), template, base)?;
+    let lints = new_lints(alloc, &manifest.lints, shared.groups)?;
+    let package = new_package(alloc, manifest.package.as_ref(), shared.template, base)?;
     Ok(NewParts {
         tables,
         targets,
@@ -116,15 +123,22 @@ pub fn new_parts<Metadata, N>(
         (held manifest.now)) }
 {
     match workspace {
-        Some(workspace) => parts_from(
-            alloc,
-            manifest,
-            Some(&workspace.dependencies),
-            Some(&workspace.lints),
-            workspace.package.as_ref(),
-            base,
-        ),
-        None => parts_from(alloc, manifest, None, None, None, base),
+        Some(workspace) => {
+            let shared = SharedTables {
+                templates: Some(&workspace.dependencies),
+                groups: Some(&workspace.lints),
+                template: workspace.package.as_ref(),
+            };
+            parts_from(alloc, manifest, shared, base)
+        }
+        None => {
+            let shared = SharedTables {
+                templates: None,
+                groups: None,
+                template: None,
+            };
+            parts_from(alloc, manifest, shared, base)
+        }
     }
 }
 

@@ -3,7 +3,7 @@ use Rattle.std.proofs.Common.{◌≡◌, refl, sym, pos, ℕ, List, [], Bool, tr
 use Rattle.std.specs.Result.{result_ok}
 use Rattle.semver.specs.Parse.{req_of}
 use Rattle.toml.specs.Data.{Data, string, table, Members, as_str, as_bool}
-use Rattle.cargo_toml_dependencies.specs.Dependencies.{InheritedMeaning, DetailMeaning, DependencyMeaning, detail_keys, detail_of, strict_of, inherited_or, dependency_of}
+use Rattle.cargo_toml_dependencies.specs.Dependencies.{InheritedMeaning, DetailMeaning, DependencyMeaning, detail_keys, detail_of_table, strict_of, inherited_or, dependency_of}
 use Rattle.cargo_toml_dependencies.specs.Dependencies as kind
 use Rattle.cargo_toml_dependencies.specs.Targets.{target_of}
 use Rattle.cargo_toml_manifest.specs.Manifests.{ManifestMeaning, by_zero_rule, zero_rule_applies, target_reads, product_reads, badges_reads, no_badges, profiles_reads, no_profiles, manifest_of, manifest_reads}
@@ -36,7 +36,7 @@ use Rattle.cargo_toml_write.proofs.Gives.{Gives, gives_none, gives_some, bind, s
 detail_holds : (d : DetailMeaning) → EachValue Floatless d.unstable → Gives DetailHoldsNoFloat (Some d)
 detail_holds d unstable = gives_some {P = DetailHoldsNoFloat} d (record { unstable = unstable })
 
-detail_members : (ms : Members) → MembersFloatless ms → Gives DetailHoldsNoFloat (detail_of ms)
+detail_members : (ms : Members) → MembersFloatless ms → Gives DetailHoldsNoFloat (detail_of_table ms)
 detail_members ms h =
     let unstable : Gives (EachValue Floatless) (others_read detail_keys (λ d. Some d) ms) = others_reads {P = Floatless} detail_keys (λ d. Some d) tree_reads ms h in
     search (bind, skip, detail_holds) depth 60 fits 4000
@@ -48,7 +48,7 @@ inherited_gives None d h = mapped {Q = DetailHoldsNoFloat} {P = DependencyHoldsN
 dependency_read : Reads DependencyHoldsNoFloat dependency_of
 unfolding dependency_of
 dependency_read (string s) h = mapped {P = DependencyHoldsNoFloat} (result_ok (req_of s)) kind.simple (anything _) (λ x p. tt)
-dependency_read (table ms) h = inherited_gives (strict_of ms) (detail_of ms) (detail_members ms h)
+dependency_read (table ms) h = inherited_gives (strict_of ms) (detail_of_table ms) (detail_members ms h)
 dependency_read _ h = gives_none
 
 target_members : (ms : Members) → MembersFloatless ms → Gives TargetHoldsNoFloat (target_of ms)

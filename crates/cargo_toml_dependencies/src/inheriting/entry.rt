@@ -8,7 +8,7 @@ ghost use Rattle.cargo_toml_parts.specs.Versions.{requirement_meaning};
 ghost use Rattle.cargo_toml_dependencies.specs.Dependencies.{dependency_meaning};
 ghost use Rattle.cargo_toml_dependencies.specs.Dependencies.{detail_meaning, inherited_meaning};
 ghost use Rattle.cargo_toml_dependencies.specs.Inheriting.{IsShort, adds_nothing, from_template};
-ghost use Rattle.cargo_toml_dependencies.specs.Inheriting.{missing_template, plain_detail};
+ghost use Rattle.cargo_toml_dependencies.specs.Inheriting.{missing_template, detail_of_requirement};
 ghost use Rattle.cargo_toml_dependencies.specs.Inheriting.{short_detail, with_entry};
 
 use crate::dependency::{Dependency, DependencyDetail, InheritedDependencyDetail};
@@ -201,7 +201,7 @@ fn requirement_with_entry(
 ) -> Result<Box<DependencyDetail>, AllocError>
     ensures { IfOk result (λ d. detail_meaning d.value
         ≡ with_entry [] (inherited_meaning entry.now)
-        (plain_detail (requirement_meaning requirement.now))) }
+        (detail_of_requirement (requirement_meaning requirement.now))) }
 {
     let version = requirement.duplicate(alloc)?;
     let features = entry.features.duplicate(alloc)?;

@@ -24,7 +24,7 @@ loop-listing-preserved c =
     let l = c.listing-item.result in
     record {
       in_order = c.in_ok-read_listing.ensures.in_order;
-      features = read_more ls i l c.loop-listing-test.true c.listing-item.is c.requires c.loop-listing.features.items c.read_listing.new.features.items c.in_ok-read_listing.ensures.added.0 c.loop-listing.invariant.features c.in_ok-read_listing.ensures.added.1.0 c.in_ok-read_listing.ensures.added.1.1;
+      features = read_more ls i l c.loop-listing-test.true c.listing-item.is c.requires c.loop-listing.features.items c.read_listing.new.features.items c.in_ok-read_listing.ensures.added.0 c.loop-listing.invariant.features c.in_ok-read_listing.ensures.added.1 c.in_ok-read_listing.ensures.added.2;
       keys = λ k. told_next ls i l c.loop-listing-test.true c.listing-item.is c.requires is_some k (has_key c.loop-listing.acting.keys k) (has_key c.read_listing.new.acting.keys k) (c.loop-listing.invariant.keys k) (c.in_ok-read_listing.ensures.noted.keys k);
       reserved = λ k. told_next ls i l c.loop-listing-test.true c.listing-item.is c.requires is_dep_only k (has_key c.loop-listing.acting.reserved k) (has_key c.read_listing.new.acting.reserved k) (c.loop-listing.invariant.reserved k) (c.in_ok-read_listing.ensures.noted.reserved k);
     }

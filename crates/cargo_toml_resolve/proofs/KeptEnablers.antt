@@ -45,27 +45,13 @@ module _ (targets : List ℕ) (flags : List Bool) (i : ℕ) (lt : i < length tar
   pub without_enabled : get_or flags (get_or targets i 0) false ≢ false → Enables (Looked targets flags false i lt (i + 1)) source vs ws
   without_enabled gone = alike_enabled (Looked targets flags false i lt i) (Looked targets flags false i lt (i + 1)) source vs ws (without_target targets flags false i lt gone) a
 
--- one more passed vertex
-module _ {Z : Type 0} (edges : List (Vec ℕ Z)) (flags : List Bool) (passed : List ℕ) (own : ℕ) (source : Text) (vs ws us : List Feature) where
+-- where it passes none
+module _ {Z : Type 0} (edges : List (Vec ℕ Z)) (flags : List Bool) (passed : List ℕ) (own : ℕ) (source : Text) (vs ws : List Feature) where
   pub own_through : Enables (λ y. Leads edges own y × IsWanted flags false y) source vs ws → Enables (HasLabel (Among (take 0 passed)) edges flags own) source vs ws
   own_through a = alike_enabled (λ y. Leads edges own y × IsWanted flags false y) (HasLabel (Among (take 0 passed)) edges flags own) source vs ws (λ y. (
     λ n. ((own, inl refl, n.0), n.1),
     λ n. elim (n.0.1) [ inl is ↦ (subst (λ b. Leads edges b y) is n.0.2, n.1) | inr none ↦ absurd none ],
   )) a
-
-  pub one_more_through : (i : ℕ) → i < length passed → Enables (HasLabel (Among (take i passed)) edges flags own) source vs ws
-      → Enables (λ y. Leads edges (get_or passed i 0) y × IsWanted flags false y) source ws us → Enables (HasLabel (Among (take (i + 1) passed)) edges flags own) source vs us
-  one_more_through i lt a b = then_enabled (HasLabel (Among (take i passed)) edges flags own) (λ y. Leads edges (get_or passed i 0) y × IsWanted flags false y) (HasLabel (Among (take (i + 1) passed)) edges flags own) source vs ws us
-      (λ y. (
-        λ n. elim (n.0.1) [
-          | inl is ↦ inl ((n.0.0, inl is, n.0.2), n.1)
-          | inr p ↦ elim ((among_more passed i n.0.0 lt).0 p) [ inl p ↦ inl ((n.0.0, inr p, n.0.2), n.1) | inr is ↦ inr (subst (λ b. Leads edges b y) is n.0.2, n.1) ]
-        ],
-        elim [
-          | inl n ↦ ((n.0.0, elim (n.0.1) [ inl is ↦ inl is | inr p ↦ inr ((among_more passed i n.0.0 lt).1 (inl p)) ], n.0.2), n.1)
-          | inr n ↦ ((get_or passed i 0, inr ((among_more passed i (get_or passed i 0) lt).1 (inr refl)), n.0), n.1)
-        ],
-      )) a b
 
 module _ {Z : Type 0} (edges : List (Vec ℕ Z)) (flags : List Bool) (texts : List Text) where
   -- of those below n, which enable the feature in place y

@@ -109,7 +109,7 @@ pub(crate) fn enable_at<'m>(
 }
 
 // The source is put among what enables each feature in the places of the row.
-fn enable_along<'m>(
+pub(crate) fn enable_along<'m>(
     features: &mut Vec<Feature<'m>>,
     row: &[Node],
     source: &'m str,

@@ -1,6 +1,6 @@
 //! Where features are removed: each kept one learns which kept ones enable it, themselves or
 //! through removed ones.
-ghost use Rattle.std.specs.Prelude.{◌≡◌, ◌<◌, ◌≤◌, ℕ, OnOk, false, length};
+ghost use Rattle.std.specs.Prelude.{◌≡◌, ◌<◌, ◌≤◌, ◌↔◌, ℕ, OnOk, false, length};
 ghost use Rattle.cargo_toml_graph.specs.Reach.{Among};
 ghost use Rattle.cargo_toml_features.specs.Places.{text_at};
 ghost use Rattle.cargo_toml_walk.specs.Numbers.{HasLabel, IsWanted, Leads};
@@ -8,11 +8,12 @@ ghost use Rattle.cargo_toml_resolve.specs.Enabling.{Enables, LearnThrough};
 ghost use Rattle.cargo_toml_resolve.specs.Texts.{texts_of};
 ghost use Rattle.cargo_toml_resolve.specs.Walking.{ArePassed};
 
-use crate::enabling::enable_at;
+use crate::enabling::{enable_along, enable_at};
 use crate::graph::Graph;
 use cargo_toml_features::features::Feature;
+use cargo_toml_walk::labels::all_labels;
 use cargo_toml_walk::node::Node;
-use std::alloc::AllocError;
+use std::alloc::{AllocError, Global};
 
 // The source is put among what enables each kept feature in the places of the row.
 fn enable_kept<'m>(
@@ -53,31 +54,33 @@ fn enable_from<'m>(
 }
 
 // The name of the kept feature in place `own` is put among what enables each kept one to which it,
-// or one that it passes, has an edge.
+// or one that it passes, has an edge. Where it passes any, these are its targets.
 fn enable_through<'m>(
     features: &mut Vec<Feature<'m>>,
     graph: &Graph<'m>,
     own: Node,
     passed: &[Node],
+    targets: &[Node],
 ) -> Result<(), AllocError>
     requires count { length graph.now.edges.items ≡ length features.old.items }
     requires own { own < length graph.now.edges.items }
-    requires passed { (b : ℕ) → Among passed.now b → b < length graph.now.edges.items }
+    requires targets { ((b : ℕ) × Among passed.now b) → (x : ℕ) → Among targets.now x
+        ↔ HasLabel (Among passed.now) graph.now.edges.items graph.now.flags.items own x }
     ensures { OnOk result (Enables (HasLabel (Among passed.now) graph.now.edges.items
         graph.now.flags.items own) (text_at (texts_of graph.now.texts.items) own)
         features.old.items features.new.items) }
 {
     let source = graph.texts[own.place()];
-    enable_from(features, graph, own, source)?;
-    for b in passed {
-        enable_from(features, graph, *b, source)?;
+    if passed.is_empty() {
+        return enable_from(features, graph, own, source);
     }
-    Ok(())
+    enable_along(features, targets, source)
 }
 
 /// Each kept feature learns which kept ones enable it, themselves or through removed ones: through
 /// those that they pass. It fails only where memory runs out.
 pub(crate) fn set_kept_enablers<'m>(
+    alloc: Global,
     features: &mut Vec<Feature<'m>>,
     graph: &Graph<'m>,
     passed: &[Vec<Node>],
@@ -91,9 +94,22 @@ pub(crate) fn set_kept_enablers<'m>(
         (texts_of graph.now.texts.items) (length graph.now.edges.items)
         features.old.items features.new.items) }
 {
+    // Each target once: to look for a source among its enablers costs more than to walk.
+    let targets = all_labels(
+        alloc,
+        passed,
+        graph.edges.as_slice(),
+        graph.flags.as_slice(),
+    )?;
     for own in 0..passed.len() {
         if !graph.flags[own] {
-            enable_through(features, graph, Node::at(own), passed[own].as_slice())?;
+            enable_through(
+                features,
+                graph,
+                Node::at(own),
+                passed[own].as_slice(),
+                targets[own].as_slice(),
+            )?;
         }
     }
     Ok(())

@@ -26,7 +26,7 @@ pub(crate) fn walk<'m>(
         features.old.items features.new.items) }
 {
     let passed = all_passed(alloc, graph.edges.as_slice(), graph.flags.as_slice())?;
-    set_kept_enablers(features, &graph, passed.as_slice())?;
+    set_kept_enablers(alloc, features, &graph, passed.as_slice())?;
     let Graph {
         texts,
         edges,

@@ -1,12 +1,20 @@
-use Rattle.std.proofs.Common.{◌≡◌, ◌<◌, false, get_or, length, take, take_all, sym, subst, ◌∙◌, arith}
+use Rattle.std.proofs.Common.{rules, ◌≡◌, ◌<◌, ℕ, List, [], ◌∷◌, Result, Ok, Err, OnOk, get_or, length, refl, sym, subst, arith}
 use Rattle.cargo_toml_graph.specs.Reach.{Among}
 use Rattle.cargo_toml_features.specs.Places.{text_at}
-use Rattle.cargo_toml_walk.specs.Numbers.{HasLabel, IsWanted, Leads}
-use Rattle.cargo_toml_walk.proofs.Steps.{among_at, item_is}
+use Rattle.cargo_toml_walk.specs.Numbers.{HasLabel}
+use Rattle.cargo_toml_walk.proofs.Steps.{among_at}
 use Rattle.cargo_toml_resolve.specs.Enabling.{Enables}
 use Rattle.cargo_toml_resolve.specs.Texts.{texts_of}
-use Rattle.cargo_toml_resolve.proofs.KeptEnablers.{one_more_through, own_through, source_is}
+use Rattle.cargo_toml_resolve.proofs.KeptEnablers.{alike_enabled, own_through, source_is}
 use Rattle.cargo_toml_resolve.proofs.reaching.enable_through.Goals as goal
+
+none_among : (xs : List ℕ) → length xs ≡ 0 → xs ≡ []
+none_among [] is = refl
+none_among (x ∷ xs) is = absurd (omega (arith, is))
+
+on_ok : {X E A B : Type 0} (r : Result X E) → (A → B) → OnOk r A → OnOk r B
+on_ok (Ok x) f a = f a
+on_ok (Err e) f a = a
 
 pub index-source-requires : goal.index-source-requires
 index-source-requires c =
@@ -14,35 +22,40 @@ index-source-requires c =
     let own = c.requires.own in
     rw c.place.ensures (omega (arith, fits, own))
 
-pub enable_from-requires-in-loop-b-clause-count : goal.enable_from-requires-in-loop-b-clause-count
-enable_from-requires-in-loop-b-clause-count c = c.requires.count ∙ sym c.loop-b.invariant.same.len
-
-pub enable_from-requires-in-loop-b-clause-from : goal.enable_from-requires-in-loop-b-clause-from
-enable_from-requires-in-loop-b-clause-from c = rw (item_is c.args.passed.now c.loop-b.b-index _ c.loop-b-test.true c.b-item.is) (c.requires.passed _ (among_at c.args.passed.now c.loop-b.b-index c.loop-b-test.true))
-
-pub loop-b-init : goal.loop-b-init
-loop-b-init c =
+pub returns-then-is_empty : goal.returns-then-is_empty
+returns-then-is_empty c =
     let g = c.args.graph.now in
     let fits = g.features_count in
     let own = c.requires.own in
     let inside : c.args.own < length g.texts.items = omega (arith, fits, own) in
-    subst (λ s. Enables (HasLabel (Among (take 0 c.args.passed.now)) g.edges.items g.flags.items c.args.own) s c.args.features.now.items c.enable_from.new.features.items)
-    (source_is g.texts.items c.args.own c.index-source.result.now inside (rw c.place.ensures at c.index-source.ensures))
-    (own_through g.edges.items g.flags.items c.args.passed.now c.args.own c.index-source.result.now.now c.args.features.now.items c.enable_from.new.features.items c.enable_from.new.features.items c.in_ok-enable_from.ensures)
+    let zero : length c.args.passed.now ≡ 0 = search rules in
+    let none = none_among c.args.passed.now zero in
+    let source = source_is g.texts.items c.args.own c.index-source.result.now inside (rw c.place.ensures at c.index-source.ensures) in
+    on_ok c.enable_from.result (λ a.
+        subst (λ ps. Enables (HasLabel (Among ps) g.edges.items g.flags.items c.args.own) (text_at (texts_of g.texts.items) c.args.own) c.args.features.now.items c.enable_from.new.features.items) (sym none)
+        (subst (λ s. Enables (HasLabel (Among []) g.edges.items g.flags.items c.args.own) s c.args.features.now.items c.enable_from.new.features.items) source
+        (own_through g.edges.items g.flags.items c.args.passed.now c.args.own c.index-source.result.now.now c.args.features.now.items c.enable_from.new.features.items a)))
+    c.enable_from.ensures
 
-pub loop-b-preserved : goal.loop-b-preserved
-loop-b-preserved c =
+pub enable_along-requires : goal.enable_along-requires
+enable_along-requires c = λ y i.
     let g = c.args.graph.now in
-    let fits = g.features_count in
-    let own = c.requires.own in
-    let inside : c.args.own < length g.texts.items = omega (arith, fits, own) in
-    one_more_through g.edges.items g.flags.items c.args.passed.now c.args.own (text_at (texts_of g.texts.items) c.args.own) c.args.features.now.items c.loop-b.features.items c.enable_from-in-loop-b.new.features.items
-    c.loop-b.b-index c.loop-b-test.true c.loop-b.invariant
-    (subst (λ s. Enables (λ y. Leads g.edges.items (get_or c.args.passed.now c.loop-b.b-index 0) y × IsWanted g.flags.items false y) s c.loop-b.features.items c.enable_from-in-loop-b.new.features.items) (source_is g.texts.items c.args.own c.index-source.result.now inside (rw c.place.ensures at c.index-source.ensures))
-    (rw (item_is c.args.passed.now c.loop-b.b-index _ c.loop-b-test.true c.b-item.is) at c.in_ok-enable_from-2.ensures))
+    let passed = c.args.passed.now in
+    let some : 0 < length passed = search rules in
+    let has = (c.requires.targets (get_or passed 0 0, among_at passed 0 some) y).0 i in
+    subst (λ n. y < n) c.requires.count (g.edges_inside has.0.0 y has.0.2)
 
 pub returns : goal.returns
 returns c =
     let g = c.args.graph.now in
-    let all : take c.loop-b.b-index c.args.passed.now ≡ c.args.passed.now = take_all c.loop-b.b-index c.args.passed.now c.loop-b-test.false in
-    subst (λ ps. Enables (HasLabel (Among ps) g.edges.items g.flags.items c.args.own) (text_at (texts_of g.texts.items) c.args.own) c.args.features.now.items c.loop-b.features.items) all c.loop-b.invariant
+    let fits = g.features_count in
+    let own = c.requires.own in
+    let inside : c.args.own < length g.texts.items = omega (arith, fits, own) in
+    let passed = c.args.passed.now in
+    let some : 0 < length passed = search rules in
+    let source = source_is g.texts.items c.args.own c.index-source.result.now inside (rw c.place.ensures at c.index-source.ensures) in
+    on_ok c.enable_along.result (λ a.
+        subst (λ s. Enables (HasLabel (Among passed) g.edges.items g.flags.items c.args.own) s c.args.features.now.items c.enable_along.new.features.items) source
+        (alike_enabled (Among c.args.targets.now) (HasLabel (Among passed) g.edges.items g.flags.items c.args.own) c.index-source.result.now.now c.args.features.now.items c.enable_along.new.features.items
+        (c.requires.targets (get_or passed 0 0, among_at passed 0 some)) a))
+    c.enable_along.ensures

@@ -24,8 +24,8 @@ use cargo_toml_full::required::Requirement;
 use cargo_toml_full::resolve_all;
 use cargo_toml_full::unremoved::Unremoved;
 use cargo_toml_resolve::enabling::set_enablers;
-use cargo_toml_resolve::kept::{Kept, keep_all};
 use cargo_toml_resolve::hashing::hashed_dependencies;
+use cargo_toml_resolve::kept::{Kept, keep_all};
 use std::alloc::{AllocError, Global};
 use std::hash::BuildHasher;
 

@@ -10,27 +10,27 @@ use Rattle.cargo_toml_graph.specs.Action.{Text}
 use Rattle.cargo_toml_graph.specs.Reach.{Among, IsOnce}
 use Rattle.cargo_toml_features.specs.declared.features.Feature.{Feature}
 use Rattle.cargo_toml_features.specs.Views.{value_at}
-use Rattle.cargo_toml_resolve.specs.Texts.{texts_of}
+use Rattle.cargo_toml_resolve.specs.Texts.{texts_now}
 
 keys_shown : (xs : List (Bor (Bor Text) × Bor Feature)) → map (λ e. e.0.now) xs ≡ map (λ (e : Bor Text × Feature). e.0) (map deref_pair xs)
 keys_shown [] = refl
 keys_shown (x ∷ xs) = ap (λ ys. x.0.now ∷ ys) (keys_shown xs)
 
-among_keys : (es : List (Bor Text × Feature)) (f : Text) → IsSome (lookup (λ k. bytes_eq f k.now) es) → Among (texts_of (map (λ e. e.0) es)) f
+among_keys : (es : List (Bor Text × Feature)) (f : Text) → IsSome (lookup (λ k. bytes_eq f k.now) es) → Among (texts_now (map (λ e. e.0) es)) f
 among_keys [] f i = absurd (false≢true i)
 among_keys (e ∷ es) f i = go (among_keys es f) (bytes_eq f e.0.now) refl i
   where
-    go : (IsSome (lookup (λ k. bytes_eq f k.now) es) → Among (texts_of (map (λ e. e.0) es)) f) → (t : Bool) → bytes_eq f e.0.now ≡ t
-        → IsSome (cond t (Some e.1) (lookup (λ k. bytes_eq f k.now) es)) → Among (texts_of (map (λ e. e.0) (e ∷ es))) f
+    go : (IsSome (lookup (λ k. bytes_eq f k.now) es) → Among (texts_now (map (λ e. e.0) es)) f) → (t : Bool) → bytes_eq f e.0.now ≡ t
+        → IsSome (cond t (Some e.1) (lookup (λ k. bytes_eq f k.now) es)) → Among (texts_now (map (λ e. e.0) (e ∷ es))) f
     go later true s i = inl ((bytes_eq-Decides f e.0.now).0 s)
     go later false s i = inr (later i)
 
-apart_all : (k : Bor Text) (ks : List (Bor Text)) → AllByRecursion (λ y. bytes_eq k.now y.now ≡ false) ks → ¬ Among (texts_of ks) k.now
+apart_all : (k : Bor Text) (ks : List (Bor Text)) → AllByRecursion (λ y. bytes_eq k.now y.now ≡ false) ks → ¬ Among (texts_now ks) k.now
 apart_all k [] a i = i
 apart_all k (y ∷ ks) a (inl s) = false≢true (sym a.0 ∙ (bytes_eq-Decides k.now y.now).1 s)
 apart_all k (y ∷ ks) a (inr i) = apart_all k ks a.1 i
 
-once_keys : (ks : List (Bor Text)) → IsDistinct (λ x y. bytes_eq x.now y.now) ks → IsOnce (texts_of ks)
+once_keys : (ks : List (Bor Text)) → IsDistinct (λ x y. bytes_eq x.now y.now) ks → IsOnce (texts_now ks)
 unfolding IsDistinct
 once_keys [] d = tt
 once_keys (k ∷ ks) d = (apart_all k ks d.0, once_keys ks d.1)
@@ -39,8 +39,8 @@ module _ {S : Type 0} (m : HashMap (Bor Text) Feature S) (names : List (Bor Text
   names_are : names ≡ map (λ e. e.0) m.entries
   names_are = walked ∙ keys_shown yielded ∙ ap (map (λ (e : Bor Text × Feature). e.0)) all
 
-  pub all_named : (f : Text) → IsSome (value_at m f) → Among (texts_of names) f
-  all_named f i = subst (λ ks. Among (texts_of ks) f) (sym names_are) (among_keys m.entries f i)
+  pub all_named : (f : Text) → IsSome (value_at m f) → Among (texts_now names) f
+  all_named f i = subst (λ ks. Among (texts_now ks) f) (sym names_are) (among_keys m.entries f i)
 
-  pub named_once : IsUnique (λ x y. bytes_eq x.now y.now) m → IsOnce (texts_of names)
-  named_once u = subst (λ ks. IsOnce (texts_of ks)) (sym names_are) (once_keys (map (λ e. e.0) m.entries) u)
+  pub named_once : IsUnique (λ x y. bytes_eq x.now y.now) m → IsOnce (texts_now names)
+  named_once u = subst (λ ks. IsOnce (texts_now ks)) (sym names_are) (once_keys (map (λ e. e.0) m.entries) u)

@@ -14,7 +14,7 @@ use Rattle.std.specs.Map.{keys_of, lookup}
 use Rattle.std.specs.Option.{option_map_or}
 use Rattle.cargo_toml.specs.Feature.{Feature}
 use Rattle.cargo_toml.specs.Action.{Text}
-use Rattle.cargo_toml.specs.Views.{has_text}
+use Rattle.cargo_toml.specs.Views.{set_has}
 use Rattle.cargo_toml_bench.specs.Alone.{is_alone}
 
 -- one of the entries is a feature f that stands alone
@@ -31,11 +31,11 @@ alone_from r k v e h other = and_from _ _ ((Decides-eqb _ 0).1 (no_enablers r _ 
 
 -- one more name is put into the set
 pub gathered : (f : Text) (names more : BTreeSet (Bor Text)) (k : Bor Text) (v : Feature) (left rest : List (Bor Text × Feature)) (all : Bool) → left ≡ (k, v) ∷ rest → is_alone k.now v ≡ true
-    → ((x : Text) → has_text more x ≡ (has_text names x || bytes_eq x k.now)) → (has_text names f || is_alone_among left f) ≡ all → (has_text more f || is_alone_among rest f) ≡ all
+    → ((x : Text) → set_has more x ≡ (set_has names x || bytes_eq x k.now)) → (set_has names f || is_alone_among left f) ≡ all → (set_has more f || is_alone_among rest f) ≡ all
 gathered f names more k v left rest all is alone put before =
-    ap (λ t. t || is_alone_among rest f) (put f) ∙ or_assoc (has_text names f) (bytes_eq f k.now) (is_alone_among rest f)
-    ∙ ap (λ t. has_text names f || (t || is_alone_among rest f)) (sym (ap (λ t. bytes_eq f k.now && t) alone ∙ and-true (bytes_eq f k.now)))
-    ∙ ap (λ es. has_text names f || is_alone_among es f) (sym is) ∙ before
+    ap (λ t. t || is_alone_among rest f) (put f) ∙ or_assoc (set_has names f) (bytes_eq f k.now) (is_alone_among rest f)
+    ∙ ap (λ t. set_has names f || (t || is_alone_among rest f)) (sym (ap (λ t. bytes_eq f k.now && t) alone ∙ and-true (bytes_eq f k.now)))
+    ∙ ap (λ es. set_has names f || is_alone_among es f) (sym is) ∙ before
 
 none_among : (f : Text) (es : List (Bor Text × Feature)) → NonePasses (λ k. bytes_eq f k.now) es → is_alone_among es f ≡ false
 none_among f [] none = refl
@@ -58,6 +58,6 @@ among_is f (e ∷ es) distinct = go (among_is f es (IsDistinct-tail _ e.0 (keys_
 
 -- once no entry is left
 pub all_gathered : (f : Text) (names : BTreeSet (Bor Text)) (left es : List (Bor Text × Feature)) → left ≡ [] → IsDistinct (λ x y. bytes_eq x.now y.now) (keys_of es)
-    → (has_text names f || is_alone_among left f) ≡ is_alone_among es f → has_text names f ≡ option_map_or (is_alone f) (lookup (λ k. bytes_eq f k.now) es) false
+    → (set_has names f || is_alone_among left f) ≡ is_alone_among es f → set_has names f ≡ option_map_or (is_alone f) (lookup (λ k. bytes_eq f k.now) es) false
 all_gathered f names left es none distinct before =
-    sym (or-false (has_text names f)) ∙ ap (λ xs. has_text names f || is_alone_among xs f) (sym none) ∙ before ∙ among_is f es distinct
+    sym (or-false (set_has names f)) ∙ ap (λ xs. set_has names f || is_alone_among xs f) (sym none) ∙ before ∙ among_is f es distinct

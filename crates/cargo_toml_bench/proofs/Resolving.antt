@@ -15,7 +15,7 @@ use Rattle.cargo_toml_graph.specs.Bins.{ArePassedOn}
 use Rattle.cargo_toml_graph.specs.Graph.{IsKept, IsResolved, IsUnremoved, Resolution, Table}
 use Rattle.cargo_toml_graph.specs.Reach.{Among, IsOnce}
 use Rattle.cargo_toml_graph.specs.Redirects.{RedirectsTo}
-use Rattle.cargo_toml_graph.specs.Removal.{IsAscending, SameKept, is_among, is_removed, pass_all, unremoved, without_all}
+use Rattle.cargo_toml_graph.specs.Removal.{IsAscending, SameKept, lists_text, is_removed, pass_all, unremoved, without_all}
 use Rattle.cargo_toml_graph.proofs.BinLists.{among-true, is_among-true}
 use Rattle.cargo_toml_graph.proofs.Elimination.{all_taken_out}
 use Rattle.cargo_toml_graph.proofs.InByteOrder.{ascending_once, by_true, passed_all_alike, passed_has, removed_there, unremoved_alike}
@@ -23,11 +23,11 @@ use Rattle.cargo_toml_graph.proofs.Members.{label_within, resolved_alike}
 use Rattle.cargo_toml_graph.proofs.RedirectsInOrder.{redirect_by_bytes}
 use Rattle.cargo_toml_features.specs.InOrder.{feature_at, resolution_among}
 use Rattle.cargo_toml_features.specs.Reached.{IsKeyed}
-use Rattle.cargo_toml_features.specs.Marks.{Details, marked, marks_in, marks_of}
+use Rattle.cargo_toml_features.specs.Marks.{NamedDetails, marked, marks_in, marks_of}
 use Rattle.cargo_toml_features.specs.Recorded.{Entry, entries_at, recorded_of}
 use Rattle.cargo_toml_features.specs.Resolved.{IsAnswer, SameRecorded, table_of}
-use Rattle.cargo_toml_features.specs.Views.{action_at, answer_of, has_text, resolution_of, table_in, value_at}
-use Rattle.cargo_toml_resolve.specs.Texts.{texts_of}
+use Rattle.cargo_toml_features.specs.Views.{action_at, answer_of, set_has, resolution_of, table_in, value_at}
+use Rattle.cargo_toml_resolve.specs.Texts.{texts_now}
 use Rattle.cargo_toml_bench.specs.Removing.{bins_at, key_at, marks_at}
 use Rattle.cargo_toml_resolve.proofs.SameKept.{resolved_same}
 
@@ -41,7 +41,7 @@ none_stands (suc n) zero y = absurd (false≢true y)
 none_stands (suc n) (suc i) y = none_stands n i y
 
 -- some text stands in a list that is not empty
-pub some_is : (b : Bool) (xs : List (Bor Text)) → b ≡ (length xs == 0) → IsTrue (not b) ↔ ((r : Text) × Among (texts_of xs) r)
+pub some_is : (b : Bool) (xs : List (Bor Text)) → b ≡ (length xs == 0) → IsTrue (not b) ↔ ((r : Text) × Among (texts_now xs) r)
 some_is b [] e = (λ y. absurd (false≢true (sym (ap not e) ∙ y)), λ s. absurd s.1)
 some_is b (x ∷ xs) e = (λ y. (x.now, inl refl), λ s. not_from_false b (false_from_ne_true b (λ t. long (eqb-true _ _ (sym e ∙ t)))))
   where
@@ -70,10 +70,10 @@ pub unremoved_by_name : {S : Type 0} (vs : List Feature) (m : HashMap (Bor Text)
     (t : Table) → IsUnremoved t (resolution_among vs) → IsUnremoved t (resolution_of m)
 unremoved_by_name vs m same t h = record {
   has = λ f. ap is_some (same f) ∙ h.has f;
-  names = λ f x. ap (λ o. option_map_or (λ (v : Feature). has_text v.enables_features x) o false) (same f) ∙ h.names f x;
+  names = λ f x. ap (λ o. option_map_or (λ (v : Feature). set_has v.enables_features x) o false) (same f) ∙ h.names f x;
   action = λ f k. ap (λ o. option_map_or (λ (v : Feature). action_at v.enables_deps k) o None) (same f) ∙ h.action f k;
   enabled_by = λ f e.
-      let alike = ap (λ o. option_map_or (λ (v : Feature). has_text v.enabled_by e) o false) (same f) in
+      let alike = ap (λ o. option_map_or (λ (v : Feature). set_has v.enabled_by e) o false) (same f) in
       (λ y. (h.enabled_by f e).0 (sym alike ∙ y), λ d. alike ∙ (h.enabled_by f e).1 d);
 }
 
@@ -88,7 +88,7 @@ stands [] x i = absurd i
 stands (y ∷ ys) x (inl e) = record { before = []; after = ys; whole = ap (λ z. z ∷ ys) (sym e) }
 stands (y ∷ ys) x (inr i) = let s = stands ys x i in record { before = y ∷ s.before; after = s.after; whole = ap (λ zs. y ∷ zs) s.whole }
 
-module _ {S H : Type 0} (listed : Listed) (entries : List Entry) (details : Details) (own : Text → List Text) (keep : Text → Bool) (old : HashMap (Bor Text) Feature S) (a : Features S H) (rs : List Text)
+module _ {S H : Type 0} (listed : Listed) (entries : List Entry) (details : NamedDetails) (own : Text → List Text) (keep : Text → Bool) (old : HashMap (Bor Text) Feature S) (a : Features S H) (rs : List Text)
     (start : IsUnremoved (table_of listed entries) (resolution_of old)) (keyed : IsKeyed old)
     (marks : (f : Text) → IfSome (value_at old f) (λ v. marks_of v ≡ marks_in listed details f))
     (bins : (f : Text) → IfSome (value_at old f) (λ v. map (λ b. b.now) v.required_by_bins.items ≡ own f))
@@ -98,8 +98,8 @@ module _ {S H : Type 0} (listed : Listed) (entries : List Entry) (details : Deta
     (keys : (f : Text) → IsSome (value_at a.features f) → key_at a.features f ≡ key_at old f)
     (marks_stay : (f : Text) → IsSome (value_at a.features f) → marks_at a.features f ≡ marks_at old f)
     (passed : (f : Text) → IsSome (value_at a.features f) → bins_at a.features f ≡ pass_all rs (resolution_of old) (bins_at old) f)
-    (told : (r : Text) → is_some (value_at a.hidden_features r) ≡ is_among rs r)
-    (redirects : (before after : List Text) (r : Text) → rs ≡ before ++ r ∷ after → IfSome (value_at a.hidden_features r) (λ names. (x : Text) → has_text names x ≡ (without_all before (resolution_of old)).table.names r x))
+    (told : (r : Text) → is_some (value_at a.hidden_features r) ≡ lists_text rs r)
+    (redirects : (before after : List Text) (r : Text) → rs ≡ before ++ r ∷ after → IfSome (value_at a.hidden_features r) (λ names. (x : Text) → set_has names x ≡ (without_all before (resolution_of old)).table.names r x))
     (some : IsTrue a.removed_hidden_features ↔ ((r : Text) × Among rs r)) where
   abbrev t : Table
   t = table_of listed entries
@@ -166,28 +166,28 @@ module _ {S H : Type 0} (listed : Listed) (entries : List Entry) (details : Deta
         ∙ passed_all_alike (λ v. IsTrue (t.has v)) rs m (unremoved t) (bins_at old) own (unremoved_alike t m start) there own_is f k.0;
   }
 
-  redirected : (r : Text) → is_some (option_map has_text (value_at a.hidden_features r)) ≡ is_removed t keep r
-  redirected r = mapped (value_at a.hidden_features r) ∙ told r ∙ by_true (is_among rs r) (is_removed t keep r) (λ e. into r (is_among-true rs r e), λ e. among-true rs r (back r e))
+  redirected : (r : Text) → is_some (option_map set_has (value_at a.hidden_features r)) ≡ is_removed t keep r
+  redirected r = mapped (value_at a.hidden_features r) ∙ told r ∙ by_true (lists_text rs r) (is_removed t keep r) (λ e. into r (is_among-true rs r e), λ e. among-true rs r (back r e))
     where
-      mapped : (o : Option (BTreeSet (Bor Text))) → is_some (option_map has_text o) ≡ is_some o
+      mapped : (o : Option (BTreeSet (Bor Text))) → is_some (option_map set_has o) ≡ is_some o
       mapped None = refl
       mapped (Some v) = refl
 
   abbrev Told : Text → Option (BTreeSet (Bor Text)) → Type 0
-  Told r o = (before after : List Text) → rs ≡ before ++ r ∷ after → IfSome o (λ names. (x : Text) → has_text names x ≡ (without_all before m).table.names r x)
+  Told r o = (before after : List Text) → rs ≡ before ++ r ∷ after → IfSome o (λ names. (x : Text) → set_has names x ≡ (without_all before m).table.names r x)
 
   abbrev Earlier : Text → List Text → Text → Type 0
   Earlier r xs v = Among xs v × Below v r
 
-  redirect_is : (r : Text) → IfSome (option_map has_text (value_at a.hidden_features r)) (λ names. (x : Text) → IsTrue (names x) ↔ RedirectsTo t R Below r x)
+  redirect_is : (r : Text) → IfSome (option_map set_has (value_at a.hidden_features r)) (λ names. (x : Text) → IsTrue (names x) ↔ RedirectsTo t R Below r x)
   redirect_is r = go (value_at a.hidden_features r) (told r) (λ before after whole. redirects before after r whole)
     where
-      go : (o : Option (BTreeSet (Bor Text))) → is_some o ≡ is_among rs r → Told r o → IfSome (option_map has_text o) (λ names. (x : Text) → IsTrue (names x) ↔ RedirectsTo t R Below r x)
+      go : (o : Option (BTreeSet (Bor Text))) → is_some o ≡ lists_text rs r → Told r o → IfSome (option_map set_has o) (λ names. (x : Text) → IsTrue (names x) ↔ RedirectsTo t R Below r x)
       go None e h = tt
       go (Some names) e h = λ x.
           let s = stands rs r (is_among-true rs r (sym e)) in
           let exact = redirect_by_bytes t s.before r s.after m start (λ v i. there v (subst (λ xs. Among xs v) (sym s.whole) i)) (subst (IsAscending Below) s.whole ascending) x in
-          let named : has_text names x ≡ (without_all s.before m).table.names r x = h s.before s.after s.whole x in (
+          let named : set_has names x ≡ (without_all s.before m).table.names r x = h s.before s.after s.whole x in (
             λ y. let n = exact.0 (sym named ∙ y) in (label_within (λ b z. IsTrue (t.names b z)) (Earlier r (s.before ++ r ∷ s.after)) (λ v. R v × Below v r) (λ v p. (into v (subst (λ xs. Among xs v) (sym s.whole) p.0), p.1)) r x n.0, λ p. n.1 (subst (λ xs. Among xs x) s.whole (back x p.0), p.1)),
             λ n. named ∙ exact.1 (label_within (λ b z. IsTrue (t.names b z)) (λ v. R v × Below v r) (Earlier r (s.before ++ r ∷ s.after)) (λ v p. (subst (λ xs. Among xs v) s.whole (back v p.0), p.1)) r x n.0, λ p. n.1 (into x (subst (λ xs. Among xs x) (sym s.whole) p.0), p.1)),
           )

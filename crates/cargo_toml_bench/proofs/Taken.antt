@@ -7,14 +7,14 @@ use Rattle.std.specs.Option.{option_map_or}
 use Rattle.std.specs.HashMap as hash
 use Rattle.std.specs.HashMap.{HashMap}
 use Rattle.cargo_toml_graph.specs.Action.{Text, join_option}
-use Rattle.cargo_toml_graph.specs.Removal.{SameKept, put_all, without}
+use Rattle.cargo_toml_graph.specs.Removal.{SameKept, put_each, without_one}
 use Rattle.cargo_toml_graph.proofs.Texts.{bytes_eq_sym}
 use Rattle.cargo_toml_features.specs.declared.features.Feature.{Feature}
 use Rattle.cargo_toml_full.specs.Slots.{Relates}
 use Rattle.cargo_toml_dependencies.specs.Details.{plain_detail}
 use Rattle.cargo_toml_features.specs.Marks.{marked, marks_of}
-use Rattle.cargo_toml_features.specs.Views.{has_text, action_at, resolution_of, value_at}
-use Rattle.cargo_toml_resolve.specs.Texts.{texts_of}
+use Rattle.cargo_toml_features.specs.Views.{set_has, action_at, resolution_of, value_at}
+use Rattle.cargo_toml_resolve.specs.Texts.{texts_now}
 use Rattle.cargo_toml_bench.specs.Removing.{bins_at, Loses, LosesAll, TakesOut, Redirects}
 use Rattle.cargo_toml_bench.proofs.Turns.{at_key, elsewhere}
 
@@ -70,18 +70,18 @@ module _ {S : Type 0} (key : Text) (old mid new : HashMap (Bor Text) Feature S) 
   each_now : (f : Text) → IsSome (value_at new f) → (P : Option Feature → Option Feature → Type 0) → ((a b : Feature) → Loses gone key f a b → P (Some a) (Some b)) → P (value_at old f) (value_at new f)
   each_now f there = each f (has_now f ∙ there)
 
-  left_now : SameKept (without key (resolution_of old)) (resolution_of new)
+  left_now : SameKept (without_one key (resolution_of old)) (resolution_of new)
   left_now = record {
     has = has_now;
     names = λ f x stays.
-        ap₂ (λ t n. cond t (((resolution_of old).table.names f x || n) && not (bytes_eq x key)) ((resolution_of old).table.names f x)) (of_gone (λ v. has_text v.enabled_by f) false) (of_gone (λ v. has_text v.enables_features x) false)
-        ∙ sym (each f stays (λ o o'. option_map_or (λ v. has_text v.enables_features x) o' false ≡ cond (has_text gone.enabled_by f) ((option_map_or (λ v. has_text v.enables_features x) o false || has_text gone.enables_features x) && not (bytes_eq x key)) (option_map_or (λ v. has_text v.enables_features x) o false)) (λ a b l. l.names x));
+        ap₂ (λ t n. cond t (((resolution_of old).table.names f x || n) && not (bytes_eq x key)) ((resolution_of old).table.names f x)) (of_gone (λ v. set_has v.enabled_by f) false) (of_gone (λ v. set_has v.enables_features x) false)
+        ∙ sym (each f stays (λ o o'. option_map_or (λ v. set_has v.enables_features x) o' false ≡ cond (set_has gone.enabled_by f) ((option_map_or (λ v. set_has v.enables_features x) o false || set_has gone.enables_features x) && not (bytes_eq x key)) (option_map_or (λ v. set_has v.enables_features x) o false)) (λ a b l. l.names x));
     action = λ f k stays.
-        ap₂ (λ t n. cond t (join_option ((resolution_of old).table.action f k) n) ((resolution_of old).table.action f k)) (of_gone (λ v. has_text v.enabled_by f) false) (of_gone (λ v. action_at v.enables_deps k) None)
-        ∙ sym (each f stays (λ o o'. option_map_or (λ v. action_at v.enables_deps k) o' None ≡ cond (has_text gone.enabled_by f) (join_option (option_map_or (λ v. action_at v.enables_deps k) o None) (action_at gone.enables_deps k)) (option_map_or (λ v. action_at v.enables_deps k) o None)) (λ a b l. l.actions k));
+        ap₂ (λ t n. cond t (join_option ((resolution_of old).table.action f k) n) ((resolution_of old).table.action f k)) (of_gone (λ v. set_has v.enabled_by f) false) (of_gone (λ v. action_at v.enables_deps k) None)
+        ∙ sym (each f stays (λ o o'. option_map_or (λ v. action_at v.enables_deps k) o' None ≡ cond (set_has gone.enabled_by f) (join_option (option_map_or (λ v. action_at v.enables_deps k) o None) (action_at gone.enables_deps k)) (option_map_or (λ v. action_at v.enables_deps k) o None)) (λ a b l. l.actions k));
     enabled_by = λ f e stays.
-        ap (λ n. cond ((resolution_of old).enabled_by f key) (((resolution_of old).enabled_by f e || n) && not (bytes_eq e key)) ((resolution_of old).enabled_by f e)) (of_gone (λ v. has_text v.enabled_by e) false)
-        ∙ sym (each f stays (λ o o'. option_map_or (λ v. has_text v.enabled_by e) o' false ≡ cond (option_map_or (λ v. has_text v.enabled_by key) o false) ((option_map_or (λ v. has_text v.enabled_by e) o false || has_text gone.enabled_by e) && not (bytes_eq e key)) (option_map_or (λ v. has_text v.enabled_by e) o false)) (λ a b l. l.enabled_by e));
+        ap (λ n. cond ((resolution_of old).enabled_by f key) (((resolution_of old).enabled_by f e || n) && not (bytes_eq e key)) ((resolution_of old).enabled_by f e)) (of_gone (λ v. set_has v.enabled_by e) false)
+        ∙ sym (each f stays (λ o o'. option_map_or (λ v. set_has v.enabled_by e) o' false ≡ cond (option_map_or (λ v. set_has v.enabled_by key) o false) ((option_map_or (λ v. set_has v.enabled_by e) o false || set_has gone.enabled_by e) && not (bytes_eq e key)) (option_map_or (λ v. set_has v.enabled_by e) o false)) (λ a b l. l.enabled_by e));
   }
 
   pub taken_out : TakesOut key old new
@@ -90,8 +90,8 @@ module _ {S : Type 0} (key : Text) (old mid new : HashMap (Bor Text) Feature S) 
     keys = λ f there. each_now f there (λ o o'. option_map (λ v. v.key.now) o' ≡ option_map (λ v. v.key.now) o) (λ a b l. ap (λ k. Some k.now) l.own_key);
     marks = λ f there. each_now f there (λ o o'. option_map_or marks_of o' (marked false plain_detail) ≡ option_map_or marks_of o (marked false plain_detail)) (λ a b l. l.marks);
     bins = λ f there.
-        each_now f there (λ o o'. option_map_or (λ v. texts_of v.required_by_bins.items) o' [] ≡ cond (has_text gone.enables_features f) (put_all (option_map_or (λ v. texts_of v.required_by_bins.items) o []) (take 10 (texts_of gone.required_by_bins.items))) (option_map_or (λ v. texts_of v.required_by_bins.items) o [])) (λ a b l. l.bins)
-        ∙ sym (ap₂ (λ t bins. cond t (put_all (bins_at old f) (take 10 bins)) (bins_at old f)) (of_gone (λ v. has_text v.enables_features f) false) (of_gone (λ v. texts_of v.required_by_bins.items) []));
+        each_now f there (λ o o'. option_map_or (λ v. texts_now v.required_by_bins.items) o' [] ≡ cond (set_has gone.enables_features f) (put_each (option_map_or (λ v. texts_now v.required_by_bins.items) o []) (take 10 (texts_now gone.required_by_bins.items))) (option_map_or (λ v. texts_now v.required_by_bins.items) o [])) (λ a b l. l.bins)
+        ∙ sym (ap₂ (λ t bins. cond t (put_each (bins_at old f) (take 10 bins)) (bins_at old f)) (of_gone (λ v. set_has v.enables_features f) false) (of_gone (λ v. texts_now v.required_by_bins.items) []));
   }
 
   pub redirected : (names : BTreeSet (Bor Text)) → names ≡ gone.enables_features → (hidden hidden' : HashMap (Bor Text) (BTreeSet (Bor Text)) S)
@@ -100,6 +100,6 @@ module _ {S : Type 0} (key : Text) (old mid new : HashMap (Bor Text) Feature S) 
       let here : value_at hidden' key ≡ Some names = at_key key hidden hidden' (Some names) w in
       record {
         there = ap is_some here;
-        own = subst (λ o. IfSome o (λ names. (x : Text) → has_text names x ≡ (resolution_of old).table.names key x)) (sym here) (λ x. ap (λ s. has_text s x) same ∙ sym (of_gone (λ v. has_text v.enables_features x) false));
+        own = subst (λ o. IfSome o (λ names. (x : Text) → set_has names x ≡ (resolution_of old).table.names key x)) (sym here) (λ x. ap (λ s. set_has s x) same ∙ sym (of_gone (λ v. set_has v.enables_features x) false));
         others = elsewhere key hidden hidden' (Some names) w;
       }

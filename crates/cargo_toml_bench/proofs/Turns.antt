@@ -10,11 +10,11 @@ use Rattle.cargo_toml_graph.specs.Action.{Text}
 use Rattle.cargo_toml_graph.specs.Reach.{Among, IsOnce}
 use Rattle.cargo_toml_graph.proofs.Texts.{bytes_eq_refl}
 use Rattle.cargo_toml_graph.proofs.BinLists.{among-either, among-first, among-second, among-true, is_among-true}
-use Rattle.cargo_toml_graph.specs.Removal.{is_among}
+use Rattle.cargo_toml_graph.specs.Removal.{lists_text}
 use Rattle.cargo_toml_features.specs.declared.features.Feature.{Feature}
 use Rattle.cargo_toml_full.specs.Slots.{Relates}
 use Rattle.cargo_toml_features.specs.Views.{value_at}
-use Rattle.cargo_toml_resolve.specs.Texts.{texts_of}
+use Rattle.cargo_toml_resolve.specs.Texts.{texts_now}
 use Rattle.cargo_toml_bench.specs.Removing.{ChangesAt}
 
 module _ {X S : Type 0} (k : Text) (m n : HashMap (Bor Text) X S) (w : Option X) (h : hash.UpdatesBy (λ x y. bytes_eq x.now y.now) (λ q. bytes_eq k q.now) m n w) where
@@ -57,7 +57,7 @@ module _ {S : Type 0} (Changes : Text → Feature → Feature → Type 0) where
 
   -- each has had its turn
   pub all_turned : (named : List Text) (old now : HashMap (Bor Text) Feature S) → ((f : Text) → IsSome (value_at old f) → Among named f) → ChangesAll named old now → (q : Text) → Relates (Changes q) (value_at old q) (value_at now q)
-  all_turned named old now all h q = elim (cases_Bool (is_among named q)) [
+  all_turned named old now all h q = elim (cases_Bool (lists_text named q)) [
     | inl i ↦ h.here q (is_among-true named q i)
     | inr i ↦ subst (λ o. Relates (Changes q) (value_at old q) o) (sym (h.others q (λ j. false≢true (sym i ∙ among-true named q j)))) (none (value_at old q) (λ s. false≢true (sym i ∙ among-true named q (all q s))))
   ]
@@ -70,16 +70,16 @@ module _ {S : Type 0} (Changes : Text → Feature → Feature → Type 0) where
 abbrev pub blank : Bor Text
 blank = record { ref_ptr = (0, 0); now = [] }
 
-pub among_at : (ks : List (Bor Text)) (i : ℕ) → i < length ks → Among (texts_of ks) (get_or ks i blank).now
+pub among_at : (ks : List (Bor Text)) (i : ℕ) → i < length ks → Among (texts_now ks) (get_or ks i blank).now
 among_at [] i lt = absurd (omega arith)
 among_at (x ∷ xs) zero lt = inl refl
 among_at (x ∷ xs) (suc i) lt = inr (among_at xs i (omega arith))
 
-pub fresh_at : (ks : List (Bor Text)) (i : ℕ) → IsOnce (texts_of ks) → i < length ks → ¬ Among (texts_of (take i ks)) (get_or ks i blank).now
+pub fresh_at : (ks : List (Bor Text)) (i : ℕ) → IsOnce (texts_now ks) → i < length ks → ¬ Among (texts_now (take i ks)) (get_or ks i blank).now
 fresh_at [] i o lt a = absurd (omega arith)
 fresh_at (x ∷ xs) zero o lt a = a
-fresh_at (x ∷ xs) (suc i) o lt (inl s) = o.0 (subst (Among (texts_of xs)) s (among_at xs i (omega arith)))
+fresh_at (x ∷ xs) (suc i) o lt (inl s) = o.0 (subst (Among (texts_now xs)) s (among_at xs i (omega arith)))
 fresh_at (x ∷ xs) (suc i) o lt (inr a) = fresh_at xs i o.1 (omega arith) a
 
-pub texts_more : (ks : List (Bor Text)) (i : ℕ) → i < length ks → texts_of (take (i + 1) ks) ≡ texts_of (take i ks) ++ (get_or ks i blank).now ∷ []
+pub texts_more : (ks : List (Bor Text)) (i : ℕ) → i < length ks → texts_now (take (i + 1) ks) ≡ texts_now (take i ks) ++ (get_or ks i blank).now ∷ []
 texts_more ks i lt = map_more (λ (k : Bor Text). k.now) ks i blank lt

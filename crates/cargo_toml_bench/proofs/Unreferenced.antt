@@ -19,11 +19,11 @@ use Rattle.cargo_toml.specs.Graph.{Table, Edge, IsKept, IsResolved}
 use Rattle.cargo_toml.specs.Reach.{Among, Reaches}
 use Rattle.cargo_toml.specs.Reach.Reaches.{edge, through}
 use Rattle.cargo_toml.specs.Removal.{is_removed}
-use Rattle.cargo_toml.specs.Views.{has_text, resolution_of, value_at}
+use Rattle.cargo_toml.specs.Views.{set_has, resolution_of, value_at}
 use Rattle.cargo_toml_graph.proofs.Texts.{bytes_eq_refl}
 use Rattle.cargo_toml_features.proofs.TextKeys.{none_in}
 use Rattle.cargo_toml_bench.specs.Alone.{is_alone, is_alone_at}
-use Rattle.cargo_toml_resolve.specs.Texts.{texts_of}
+use Rattle.cargo_toml_resolve.specs.Texts.{texts_now}
 use Rattle.cargo_toml_bench.specs.Reports.{texts, IsUnreferenced}
 
 -- a filter that keeps each feature removes none
@@ -38,15 +38,15 @@ no_keys s e = go s.keys (eqb-true _ _ e)
     go [] none = refl
     go (k ∷ ks) none = absurd (omega arith)
 
-pub no_texts : (s : BTreeSet (Bor Text)) → ((e : Text) → ¬ IsTrue (has_text s e)) → IsTrue (btree_set_len s == 0)
+pub no_texts : (s : BTreeSet (Bor Text)) → ((e : Text) → ¬ IsTrue (set_has s e)) → IsTrue (btree_set_len s == 0)
 no_texts s none = (Decides-eqb (btree_set_len s) 0).1 (go s.keys refl)
   where
     go : (ks : List (Bor Text)) → s.keys ≡ ks → length s.keys ≡ 0
     go [] is = ap length is
-    go (k ∷ ks) is = absurd (none k.now (ap (λ (xs : List (Bor Text)). has_text (record s { keys = xs }) k.now) is ∙ or_left _ _ (is_eq-slice_cmp k.now k.now ∙ bytes_eq_refl k.now)))
+    go (k ∷ ks) is = absurd (none k.now (ap (λ (xs : List (Bor Text)). set_has (record s { keys = xs }) k.now) is ∙ or_left _ _ (is_eq-slice_cmp k.now k.now ∙ bytes_eq_refl k.now)))
 
 -- the texts of a set
-pub texts_in : (s : BTreeSet (Bor Text)) (f : Text) → Among (map (λ t. t.now) s.keys) f ↔ IsTrue (has_text s f)
+pub texts_in : (s : BTreeSet (Bor Text)) (f : Text) → Among (map (λ t. t.now) s.keys) f ↔ IsTrue (set_has s f)
 texts_in s f = (into s.keys, out s.keys)
   where
     into : (ks : List (Bor Text)) → Among (map (λ t. t.now) ks) f → IsTrue (list_any (is_at (λ k. slice_cmp nat_cmp f k.now)) ks)
@@ -59,23 +59,23 @@ texts_in s f = (into s.keys, out s.keys)
     out (k ∷ ks) e = elim (or_cases _ _ e) [ inl h ↦ inl ((bytes_eq-Decides f k.now).0 (sym (is_eq-slice_cmp f k.now) ∙ h)) | inr i ↦ inr (out ks i) ]
 
 -- a list of the keys of a set
-pub all_taken : {E : Type 0} (r : Result (Vec (Bor Text) Global) E) (s : BTreeSet (Bor Text)) → IfOk r (λ v. v.items ≡ s.keys) → IfOk r (λ v. (f : Text) → Among (texts v) f ↔ IsTrue (has_text s f))
-all_taken (Ok v) s e = λ f. subst (λ (ks : List (Bor Text)). Among (map (λ t. t.now) ks) f ↔ IsTrue (has_text s f)) (sym e) (texts_in s f)
+pub all_taken : {E : Type 0} (r : Result (Vec (Bor Text) Global) E) (s : BTreeSet (Bor Text)) → IfOk r (λ v. v.items ≡ s.keys) → IfOk r (λ v. (f : Text) → Among (texts v) f ↔ IsTrue (set_has s f))
+all_taken (Ok v) s e = λ f. subst (λ (ks : List (Bor Text)). Among (map (λ t. t.now) ks) f ↔ IsTrue (set_has s f)) (sym e) (texts_in s f)
 all_taken (Err _) s e = tt
 
 -- texts by their bytes
-below_each : (k : Bor Text) (ks : List (Bor Text)) → AllByRecursion (λ x. slice_cmp nat_cmp k.now x.now ≡ Less) ks → AllByRecursion (λ x. slice_cmp nat_cmp k.now x ≡ Less) (texts_of ks)
+below_each : (k : Bor Text) (ks : List (Bor Text)) → AllByRecursion (λ x. slice_cmp nat_cmp k.now x.now ≡ Less) ks → AllByRecursion (λ x. slice_cmp nat_cmp k.now x ≡ Less) (texts_now ks)
 below_each k [] all = tt
 below_each k (x ∷ xs) all = (all.0, below_each k xs all.1)
 
-texts_in_order : (ks : List (Bor Text)) → IsStrictlySortedBy (λ (x : Bor Text) (y : Bor Text). slice_cmp nat_cmp x.now y.now) ks → IsStrictlySortedBy (slice_cmp nat_cmp) (texts_of ks)
+texts_in_order : (ks : List (Bor Text)) → IsStrictlySortedBy (λ (x : Bor Text) (y : Bor Text). slice_cmp nat_cmp x.now y.now) ks → IsStrictlySortedBy (slice_cmp nat_cmp) (texts_now ks)
 unfolding IsStrictlySortedBy
 texts_in_order [] ordered = tt
 texts_in_order (k ∷ ks) ordered = (below_each k ks ordered.0, texts_in_order ks ordered.1)
 
 pub taken_in_order : {E : Type 0} (r : Result (Vec (Bor Text) Global) E) (ks : List (Bor Text)) → IsStrictlySortedBy (λ (x : Bor Text) (y : Bor Text). slice_cmp nat_cmp x.now y.now) ks → IfOk r (λ v. v.items ≡ ks)
     → IfOk r (λ v. IsStrictlySortedBy (slice_cmp nat_cmp) (texts v))
-taken_in_order (Ok v) ks ordered e = subst (λ xs. IsStrictlySortedBy (slice_cmp nat_cmp) (texts_of xs)) (sym e) (texts_in_order ks ordered)
+taken_in_order (Ok v) ks ordered e = subst (λ xs. IsStrictlySortedBy (slice_cmp nat_cmp) (texts_now xs)) (sym e) (texts_in_order ks ordered)
 taken_in_order (Err _) ks ordered e = tt
 
 module _ {S : Type 0} (m : HashMap (Bor Text) Feature S) (t : Table) (Removed : Text → Type 0) (none : (f : Text) → ¬ Removed f) (resolved : IsResolved t Removed (resolution_of m)) where
@@ -100,7 +100,7 @@ module _ {S : Type 0} (m : HashMap (Bor Text) Feature S) (t : Table) (Removed : 
       go None is = (λ y. absurd (false≢true y), λ u. absurd (false≢true (sym (ap is_some is) ∙ (resolved.kept f).1 (kept f u.known))))
       go (Some v) is =
           let known : IsTrue (t.has f) = ((resolved.kept f).0 (ap is_some is)).0 in
-          let told : (e : Text) → option_map_or (λ v. has_text v.enabled_by e) (value_at m f) false ≡ has_text v.enabled_by e = λ e. ap (λ o. option_map_or (λ v. has_text v.enabled_by e) o false) is in (
+          let told : (e : Text) → option_map_or (λ v. set_has v.enabled_by e) (value_at m f) false ≡ set_has v.enabled_by e = λ e. ap (λ o. option_map_or (λ v. set_has v.enabled_by e) o false) is in (
             λ y. record {
               known = known;
               named = λ e. false≢true (sym (not-true _ (and_parts _ _ y).1) ∙ (bytes_eq-Decides f (codes "default")).1 e);

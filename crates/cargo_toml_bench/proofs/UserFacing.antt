@@ -24,10 +24,10 @@ use Rattle.cargo_toml.specs.Details.{plain_detail}
 use Rattle.cargo_toml.specs.Graph.{IsResolved}
 use Rattle.cargo_toml.specs.Limits.{MAX_ITEMS}
 use Rattle.cargo_toml.specs.Manifests.{ManifestMeaning}
-use Rattle.cargo_toml.specs.Marks.{Marks, marked, marks_of}
+use Rattle.cargo_toml.specs.Marks.{FeatureMarks, marked, marks_of}
 use Rattle.cargo_toml.specs.Parsed.{parsed_table}
 use Rattle.cargo_toml.specs.Reached.{IsKeyed}
-use Rattle.cargo_toml.specs.Views.{has_text, resolution_of, value_at}
+use Rattle.cargo_toml.specs.Views.{set_has, resolution_of, value_at}
 use Rattle.cargo_toml_graph.proofs.Texts.{bytes_eq_sym}
 use Rattle.cargo_toml_features.proofs.TextKeys.{none_in}
 use Rattle.cargo_toml_bench.specs.Documented.{AreDocumented, IsDocumented, IsHidden, marks_stated, said_at, documented_text, documented_at}
@@ -154,25 +154,25 @@ module _ {M S : Type 0} (m : ManifestMeaning M) (fs : HashMap (Bor Text) Feature
           let key : v.key.now ≡ f = subst (λ o. IfSome o (λ w. w.key.now ≡ f)) here (keyed f) in
           let same : marks_of v ≡ marks_stated m f = subst (λ o. option_map_or marks_of o (marked false plain_detail) ≡ marks_stated m f) here (marks f has) in
           let told : said_at s f ≡ documented_text v = is f ∙ ap (option_and_then documented_text) here in
-          let by : (e : Text) → option_map_or (λ w. has_text w.enabled_by e) (value_at fs f) false ≡ has_text v.enabled_by e = λ e. ap (λ o. option_map_or (λ w. has_text w.enabled_by e) o false) here in (
+          let by : (e : Text) → option_map_or (λ w. set_has w.enabled_by e) (value_at fs f) false ≡ set_has v.enabled_by e = λ e. ap (λ o. option_map_or (λ w. set_has w.enabled_by e) o false) here in (
             λ y.
                 let p = parts_of (is_shown v) (option_copied v.doc) said (sym told ∙ y) in
                 let q = (asked v).0 p.0 in
                 record {
                   kept = kept;
-                  public = sym (ap (λ (k : Marks). k.public) same) ∙ q.2;
+                  public = sym (ap (λ (k : FeatureMarks). k.public) same) ∙ q.2;
                   wanted = elim (q.0) [
-                    | inl e ↦ inl (sym (ap (λ (k : Marks). k.explicit) same) ∙ e)
+                    | inl e ↦ inl (sym (ap (λ (k : FeatureMarks). k.explicit) same) ∙ e)
                     | inr z ↦ inr (λ e en. false≢true (sym (none_in v.enabled_by (no_keys v.enabled_by ((Decides-eqb _ 0).1 z)) e) ∙ sym (by e) ∙ (resolved.enabled_by f e kept).1 en))
                   ];
-                  text = sym p.1 ∙ ap (λ (k : Marks). k.doc) same;
+                  text = sym p.1 ∙ ap (λ (k : FeatureMarks). k.doc) same;
                 },
             λ d.
                 let wanted : IsTrue v.explicit ⊎ (btree_set_len v.enabled_by ≡ 0) = elim (d.wanted) [
-                  | inl e ↦ inl (ap (λ (k : Marks). k.explicit) same ∙ e)
+                  | inl e ↦ inl (ap (λ (k : FeatureMarks). k.explicit) same ∙ e)
                   | inr none ↦ inr (eqb-true _ _ (no_texts v.enabled_by (λ e h. none e ((resolved.enabled_by f e kept).0 (by e ∙ h)))))
                 ] in
                 let seen : IsFalse (starts_with nat_eq v.key.now (codes "_")) = false_from_ne_true _ (λ h. kept.1 (and_from _ _ (and_from _ _ kept.0 (ap (λ n. starts_with nat_eq n (codes "_")) (sym key) ∙ h)) refl)) in
-                told ∙ ap (λ b. cond b (Some (option_copied v.doc)) None) ((asked v).1 (wanted, seen, ap (λ (k : Marks). k.public) same ∙ d.public))
-                ∙ ap Some (ap (λ (k : Marks). k.doc) same ∙ sym d.text),
+                told ∙ ap (λ b. cond b (Some (option_copied v.doc)) None) ((asked v).1 (wanted, seen, ap (λ (k : FeatureMarks). k.public) same ∙ d.public))
+                ∙ ap Some (ap (λ (k : FeatureMarks). k.doc) same ∙ sym d.text),
           )

@@ -17,7 +17,7 @@ use Rattle.cargo_toml.specs.Feature.{Feature}
 use Rattle.cargo_toml.specs.Graph.{IsEnabledBy, IsKept}
 use Rattle.cargo_toml.specs.Limits.{MAX_ITEMS}
 use Rattle.cargo_toml.specs.Manifests.{ManifestMeaning}
-use Rattle.cargo_toml.specs.Marks.{Marks, marks_in}
+use Rattle.cargo_toml.specs.Marks.{FeatureMarks, marks_in}
 use Rattle.cargo_toml.specs.Parsed.{parsed_table}
 use Rattle.cargo_toml.specs.Removal.{is_removed}
 use Rattle.cargo_toml.specs.Views.{value_at}
@@ -26,7 +26,7 @@ module _ {M : Type 0} (m : ManifestMeaning M) where
   abbrev pub IsHidden : Text → Type 0
   IsHidden f = IsTrue (is_removed (parsed_table MAX_ITEMS m) (λ _. false) f)
 
-  abbrev pub marks_stated : Text → Marks
+  abbrev pub marks_stated : Text → FeatureMarks
   marks_stated = marks_in (admitted MAX_ITEMS m.features) m.feature_details
 
   -- f is a feature that isn't hidden and that is public, and either it is listed or no other

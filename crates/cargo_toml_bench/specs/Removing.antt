@@ -9,27 +9,27 @@ use Rattle.cargo_toml_dependencies.specs.Details.{plain_detail}
 use Rattle.cargo_toml_features.specs.declared.features.Feature.{Feature}
 use Rattle.cargo_toml_graph.specs.Action.{Text, join_option}
 use Rattle.cargo_toml_graph.specs.Graph.{Resolution}
-use Rattle.cargo_toml_graph.specs.Removal.{SameKept, pass_bins, put_all, without}
+use Rattle.cargo_toml_graph.specs.Removal.{SameKept, pass_bins, put_each, without_one}
 use Rattle.cargo_toml_full.specs.Slots.{Relates}
-use Rattle.cargo_toml_features.specs.Marks.{Marks, marked, marks_of}
-use Rattle.cargo_toml_features.specs.Views.{has_text, action_at, resolution_of, value_at}
-use Rattle.cargo_toml_resolve.specs.Texts.{texts_of}
+use Rattle.cargo_toml_features.specs.Marks.{FeatureMarks, marked, marks_of}
+use Rattle.cargo_toml_features.specs.Views.{set_has, action_at, resolution_of, value_at}
+use Rattle.cargo_toml_resolve.specs.Texts.{texts_now}
 
 -- what the feature of a name says of itself
 module _ {S : Type 0} (m : HashMap (Bor Text) Feature S) (f : Text) where
   abbrev pub key_at : Option Text
   key_at = option_map (λ v. v.key.now) (value_at m f)
 
-  abbrev pub marks_at : Marks
+  abbrev pub marks_at : FeatureMarks
   marks_at = option_map_or marks_of (value_at m f) (marked false plain_detail)
 
   -- the binaries that require it
   abbrev pub bins_at : List Text
-  bins_at = option_map_or (λ v. texts_of v.required_by_bins.items) (value_at m f) []
+  bins_at = option_map_or (λ v. texts_now v.required_by_bins.items) (value_at m f) []
 
 -- what a set has once it has gained what the feature that is gone had, and lost its key
 abbrev pub passed_on : BTreeSet (Bor Text) → BTreeSet (Bor Text) → Text → Text → Bool
-passed_on own gone key x = (has_text own x || has_text gone x) && not (bytes_eq x key)
+passed_on own gone key x = (set_has own x || set_has gone x) && not (bytes_eq x key)
 
 -- what the feature `name` names once `gone`, whose name is `key`, is taken out, and how it acts: a
 -- parent takes over both
@@ -38,12 +38,12 @@ pub record TakesNames (gone : Feature) (key name : Text) (old new : Feature) : T
   pub marks : marks_of new ≡ marks_of old
   pub enabled_by : new.enabled_by ≡ old.enabled_by
   pub bins : new.required_by_bins ≡ old.required_by_bins
-  pub names : (x : Text) → has_text new.enables_features x
-      ≡ (if has_text gone.enabled_by name
+  pub names : (x : Text) → set_has new.enables_features x
+      ≡ (if set_has gone.enabled_by name
       then passed_on old.enables_features gone.enables_features key x
-      else has_text old.enables_features x)
+      else set_has old.enables_features x)
   pub actions : (k : Text) → action_at new.enables_deps k
-      ≡ (if has_text gone.enabled_by name
+      ≡ (if set_has gone.enabled_by name
       then join_option (action_at old.enables_deps k) (action_at gone.enables_deps k)
       else action_at old.enables_deps k)
 
@@ -52,24 +52,24 @@ pub record Loses (gone : Feature) (key name : Text) (old new : Feature) : Type 0
   pub own_key : new.key ≡ old.key
   pub marks : marks_of new ≡ marks_of old
   -- a parent names what it named, and acts as it did
-  pub names : (x : Text) → has_text new.enables_features x
-      ≡ (if has_text gone.enabled_by name
+  pub names : (x : Text) → set_has new.enables_features x
+      ≡ (if set_has gone.enabled_by name
       then passed_on old.enables_features gone.enables_features key x
-      else has_text old.enables_features x)
+      else set_has old.enables_features x)
   pub actions : (k : Text) → action_at new.enables_deps k
-      ≡ (if has_text gone.enabled_by name
+      ≡ (if set_has gone.enabled_by name
       then join_option (action_at old.enables_deps k) (action_at gone.enables_deps k)
       else action_at old.enables_deps k)
   -- what it enabled is enabled by its parents
-  pub enabled_by : (e : Text) → has_text new.enabled_by e
-      ≡ (if has_text old.enabled_by key then passed_on old.enabled_by gone.enabled_by key e
-      else has_text old.enabled_by e)
+  pub enabled_by : (e : Text) → set_has new.enabled_by e
+      ≡ (if set_has old.enabled_by key then passed_on old.enabled_by gone.enabled_by key e
+      else set_has old.enabled_by e)
   -- what it named is required by its first ten binaries
-  pub bins : texts_of new.required_by_bins.items
-      ≡ (if has_text gone.enables_features name
-      then put_all (texts_of old.required_by_bins.items)
-      (take 10 (texts_of gone.required_by_bins.items))
-      else texts_of old.required_by_bins.items)
+  pub bins : texts_now new.required_by_bins.items
+      ≡ (if set_has gone.enables_features name
+      then put_each (texts_now old.required_by_bins.items)
+      (take 10 (texts_now gone.required_by_bins.items))
+      else texts_now old.required_by_bins.items)
 
 -- at k the feature, where there is one, changes so, and no other does
 pub record ChangesAt {S : Type 0} (Changes : Feature → Feature → Type 0) (k : Text)
@@ -85,7 +85,7 @@ pub record LosesAll {S : Type 0} (gone : Feature) (key : Text)
 -- the feature `key` is taken out
 pub record TakesOut {S : Type 0} (key : Text)
     (old new : HashMap (Bor Text) Feature S) : Type 0 where
-  pub left : SameKept (without key (resolution_of old)) (resolution_of new)
+  pub left : SameKept (without_one key (resolution_of old)) (resolution_of new)
   pub keys : (f : Text) → IsSome (value_at new f) → key_at new f ≡ key_at old f
   pub marks : (f : Text) → IsSome (value_at new f) → marks_at new f ≡ marks_at old f
   pub bins : (f : Text) → IsSome (value_at new f)
@@ -95,5 +95,5 @@ pub record TakesOut {S : Type 0} (key : Text)
 pub record Redirects {S : Type 0} (r : Text) (m : Resolution)
     (old new : HashMap (Bor Text) (BTreeSet (Bor Text)) S) : Type 0 where
   pub there : IsSome (value_at new r)
-  pub own : IfSome (value_at new r) (λ names. (x : Text) → has_text names x ≡ m.table.names r x)
+  pub own : IfSome (value_at new r) (λ names. (x : Text) → set_has names x ≡ m.table.names r x)
   pub others : (q : Text) → IsFalse (bytes_eq r q) → value_at new q ≡ value_at old q

@@ -9,11 +9,11 @@ use Rattle.cargo_toml.specs.Dependencies.{DependencyMeaning, is_optional}
 use Rattle.cargo_toml.specs.Action.{Text}
 use Rattle.cargo_toml.specs.Graph.{Table, Edge}
 use Rattle.cargo_toml.specs.Reach.{Among}
-use Rattle.cargo_toml_resolve.specs.Texts.{texts_of}
+use Rattle.cargo_toml_resolve.specs.Texts.{texts_now}
 
 -- borrowed texts, read
 abbrev pub texts : Vec (Bor Text) Global → List Text
-texts v = texts_of v.items
+texts v = texts_now v.items
 
 -- the keys of the optional dependencies, in their order
 abbrev pub optional_keys : List (Text × DependencyMeaning) → List Text

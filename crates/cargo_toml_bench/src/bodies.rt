@@ -4,10 +4,10 @@ ghost use Rattle.std.specs.List.{flat_map};
 ghost use Rattle.cargo_toml.specs.Action.{Text};
 ghost use Rattle.cargo_toml.specs.Agreement.{Agree};
 ghost use Rattle.cargo_toml.specs.Error.{Memory};
-ghost use Rattle.cargo_toml.specs.Filter.{HasNameFilter, Tells};
+ghost use Rattle.cargo_toml.specs.Filter.{HasNameFilter, FilterTells};
 ghost use Rattle.cargo_toml.specs.Limits.{MAX_ITEMS};
 ghost use Rattle.cargo_toml.specs.Manifests.{held};
-ghost use Rattle.cargo_toml.specs.OwnBins.{requirement_of};
+ghost use Rattle.cargo_toml.specs.OwnBins.{bin_requirement};
 ghost use Rattle.cargo_toml.specs.Parsed.{IsParsed, requirements, requirements_by};
 ghost use Rattle.cargo_toml.specs.Products.{product_meaning};
 ghost use Rattle.cargo_toml.specs.Views.{answer_of};
@@ -64,7 +64,7 @@ fn resolve_plainly<'m, M, F: Fn(&str) -> bool>(
     manifest: &'m Manifest<M>,
 ) -> Result<Answer<'m>, Error>
     requires { HasNameFilter F.Fn filter }
-    ensures resolved { IfOk result (λ a. (keep : Text → Bool) → Tells F.Fn filter.entry keep
+    ensures resolved { IfOk result (λ a. (keep : Text → Bool) → FilterTells F.Fn filter.entry keep
         → IsParsed MAX_ITEMS (held manifest.now) keep (answer_of a)) }
     ensures refused { IfErr result (λ e. e ≡ Memory) }
 {
@@ -94,7 +94,7 @@ fn requirements<'m, M>(
     manifest: &'m Manifest<M>,
 ) -> Result<Vec<Requirement<'m>>, AllocError>
     ensures { IfOk result
-        (λ v. map requirement_of v.items ≡ requirements (held manifest.now)) }
+        (λ v. map bin_requirement v.items ≡ requirements (held manifest.now)) }
 {
     match &manifest.package {
         Some(package) => requirements_of(alloc, manifest.bin.as_slice(), package.name.as_str()),
@@ -108,7 +108,7 @@ fn requirements_of<'m>(
     bins: &'m [Product],
     package_name: &'m str,
 ) -> Result<Vec<Requirement<'m>>, AllocError>
-    ensures { IfOk result (λ v. map requirement_of v.items
+    ensures { IfOk result (λ v. map bin_requirement v.items
         ≡ flat_map (requirements_by package_name.now) (map product_meaning bins.now)) }
 {
     let mut requirements = Vec::new(alloc);
@@ -124,8 +124,8 @@ fn add_requirements<'m>(
     bin: &'m Product,
     package_name: &'m str,
 ) -> Result<(), AllocError>
-    ensures { OnOk result (map requirement_of requirements.new.items
-        ≡ map requirement_of requirements.old.items
+    ensures { OnOk result (map bin_requirement requirements.new.items
+        ≡ map bin_requirement requirements.old.items
         ++ requirements_by package_name.now (product_meaning bin.now)) }
 {
     let name = bin.name.as_deref().unwrap_or(package_name);

@@ -9,12 +9,12 @@ ghost use Rattle.cargo_toml_graph.specs.Action.{Text};
 ghost use Rattle.cargo_toml_graph.specs.Reach.{IsOnce};
 ghost use Rattle.cargo_toml_features.specs.FirstTarget.{HaveTargets};
 ghost use Rattle.cargo_toml_features.specs.InOrder.{AreInOrder, feature_at};
-ghost use Rattle.cargo_toml_full.specs.OwnBins.{own_of, requirement_of};
-ghost use Rattle.cargo_toml_features.specs.Marks.{details_of};
+ghost use Rattle.cargo_toml_full.specs.OwnBins.{own_of, bin_requirement};
+ghost use Rattle.cargo_toml_features.specs.Marks.{named_details};
 ghost use Rattle.cargo_toml_features.specs.Reached.{IsKeyed};
 ghost use Rattle.cargo_toml_features.specs.Resolved.{IsAnswer};
 ghost use Rattle.cargo_toml_features.specs.Views.{answer_of, entry_of, listed_of, value_at};
-ghost use Rattle.cargo_toml_resolve.specs.Filter.{HasNameFilter, Tells};
+ghost use Rattle.cargo_toml_resolve.specs.Filter.{HasNameFilter, FilterTells};
 
 use crate::plain::removal::remove_all;
 use crate::plain::removed_names::hidden_names;
@@ -60,9 +60,9 @@ pub fn resolve<'m: 'd, 'd, F: Fn(&str) -> bool, S: BuildHasher + Clone>(
 ) -> Result<Features<'m, 'd, S>, AllocError>
     requires once { IsOnce (map (λ l. l.name.now) listings.now) }
     requires filter { HasNameFilter F.Fn filter }
-    ensures resolved { IfOk result (λ a. (keep : Text → Bool) → Tells F.Fn filter.entry keep
-        → IsAnswer (listed_of listings.now) (map entry_of entries.now) (details_of listings.now)
-        (own_of (map requirement_of requirements.now)) keep (answer_of a)) }
+    ensures resolved { IfOk result (λ a. (keep : Text → Bool) → FilterTells F.Fn filter.entry keep
+        → IsAnswer (listed_of listings.now) (map entry_of entries.now) (named_details listings.now)
+        (own_of (map bin_requirement requirements.now)) keep (answer_of a)) }
     ensures keyed { IfOk result (λ a. IsKeyed a.features) }
     ensures targets { IfOk result (λ a. HaveTargets a.dependencies) }
 {

@@ -13,7 +13,7 @@ ghost use Rattle.cargo_toml.specs.Reach.{Among};
 ghost use Rattle.cargo_toml.specs.Limits.{MAX_ITEMS};
 ghost use Rattle.cargo_toml.specs.Manifests.{held};
 ghost use Rattle.cargo_toml.specs.Parsed.{parsed_table};
-ghost use Rattle.cargo_toml.specs.Views.{has_text};
+ghost use Rattle.cargo_toml.specs.Views.{set_has};
 ghost use Rattle.cargo_toml_bench.specs.Alone.{is_alone_at};
 ghost use Rattle.cargo_toml_bench.specs.Reports.{texts, optional_keys, AreUnreferenced};
 
@@ -88,7 +88,7 @@ fn unreferenced_names<'m, S: BuildHasher>(
     alloc: Global,
     features: &HashMap<&'m str, Feature<'m>, S>,
 ) -> Result<BTreeSet<&'m str>, AllocError>
-    ensures { IfOk result (λ s. (f : Text) → has_text s f ≡ is_alone_at features.now f) }
+    ensures { IfOk result (λ s. (f : Text) → set_has s f ≡ is_alone_at features.now f) }
 {
     let mut names = BTreeSet::new(alloc);
     for (name, feature) in features {
@@ -101,7 +101,7 @@ fn unreferenced_names<'m, S: BuildHasher>(
 
 fn in_order<'m>(alloc: Global, names: &BTreeSet<&'m str>) -> Result<Vec<&'m str>, AllocError>
     ensures all { IfOk result
-        (λ v. (f : Text) → Among (texts v) f ↔ IsTrue (has_text names.now f)) }
+        (λ v. (f : Text) → Among (texts v) f ↔ IsTrue (set_has names.now f)) }
     ensures in_order { IfOk result (λ v. IsStrictlySortedBy (slice_cmp nat_cmp) (texts v)) }
 {
     names.iter().copied().collect(alloc)

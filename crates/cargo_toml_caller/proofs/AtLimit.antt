@@ -3,7 +3,7 @@ use Rattle.std.proofs.Common.{◌≡◌, ℕ, Bool, List, Result, Ok, Err, IfOk,
 use Rattle.cargo_toml.specs.Action.{Text}
 use Rattle.cargo_toml.specs.Admitted.{Listed}
 use Rattle.cargo_toml.specs.Manifests.{ManifestMeaning}
-use Rattle.cargo_toml.specs.Marks.{Details}
+use Rattle.cargo_toml.specs.Marks.{NamedDetails}
 use Rattle.cargo_toml.specs.Parsed.{AreBinsComplete, IsAnswerFor, IsParsed, parsed_table}
 use Rattle.cargo_toml.specs.Recorded.{Entry}
 use Rattle.cargo_toml.specs.Removal.{is_removed}
@@ -21,7 +21,7 @@ module _ (keep : Text → Bool) (a : Answer) {n k : ℕ} (same : n ≡ k) where
       subst (λ n. AreBinsComplete n m (is_removed (parsed_table n m) keep) a) same
       (subst (λ removed. AreBinsComplete n m removed a) (λ i r. is.redirected r i) are)
 
-  pub answered_at : (listed : Listed) (entries : List Entry) (details : Details)
+  pub answered_at : (listed : Listed) (entries : List Entry) (details : NamedDetails)
       (own : Text → List Text) → IsAnswerFor n listed entries details own keep a →
       IsAnswerFor k listed entries details own keep a
   answered_at listed entries details own is =

@@ -2,7 +2,7 @@
 ghost use Rattle.std.specs.Prelude.{◌≡◌, ◌↔◌, IsTrue};
 ghost use Rattle.std.specs.Ordering.{nat_cmp};
 ghost use Rattle.cargo_toml.specs.Recorded.{rank, target_cmp};
-ghost use Rattle.cargo_toml.specs.Views.{target_of};
+ghost use Rattle.cargo_toml.specs.Views.{target_in};
 
 use cargo_toml::features::{Kind, TargetKey, laws};
 use std::cmp::Ordering;
@@ -17,7 +17,7 @@ pub fn order_of_kinds(one: &Kind, other: &Kind) -> Ordering
 
 /// How two targets stand: by kind, and of one kind no target before a named one.
 pub fn order_of_targets(one: &TargetKey<'_>, other: &TargetKey<'_>) -> Ordering
-    ensures { result ≡ target_cmp (target_of one.now) (target_of other.now) }
+    ensures { result ≡ target_cmp (target_in one.now) (target_in other.now) }
 {
     laws::targets();
     one.cmp(other)
@@ -25,7 +25,7 @@ pub fn order_of_targets(one: &TargetKey<'_>, other: &TargetKey<'_>) -> Ordering
 
 /// Whether two targets are one: of the same kind, and of the same name or none.
 pub fn is_same_target(one: &TargetKey<'_>, other: &TargetKey<'_>) -> bool
-    ensures { IsTrue result ↔ (target_of one.now ≡ target_of other.now) }
+    ensures { IsTrue result ↔ (target_in one.now ≡ target_in other.now) }
 {
     laws::targets();
     one == other

@@ -11,7 +11,7 @@ use Rattle.std.proofs.Math.Seq.{take-length}
 use Rattle.cargo_toml_graph.specs.Action.{Text, Action, join, join_option, without_start, without_end, is_slash, item_of}
 use Rattle.cargo_toml_graph.specs.Action.Item.{Name, On}
 use Rattle.cargo_toml_features.specs.ActionText.{action_in, item_in}
-use Rattle.cargo_toml_features.specs.Views.{has_text, action_of, action_at}
+use Rattle.cargo_toml_features.specs.Views.{set_has, action_of, action_at}
 use Rattle.cargo_toml_features.specs.declared.action.ActionText.{ActionText}
 use Rattle.cargo_toml_features.specs.declared.features.DepAction.{DepAction}
 use Rattle.std.proofs.lemmas.Slice.Eq.{bytes_eq-Decides}
@@ -66,7 +66,7 @@ apart text front marked t front_is has after marked_is dep_only target condition
     key = target ∙ ap (without_end (codes "?")) whole
 
 -- what stands in place of no action changes nothing
-pub joined_first : (s : BTreeSet (Bor Text)) (t : ActionText) → s.keys ≡ [] → join (record { is_conditional = true; is_dep_only = false; features = has_text s }) (action_in t) ≡ action_in t
+pub joined_first : (s : BTreeSet (Bor Text)) (t : ActionText) → s.keys ≡ [] → join (record { is_conditional = true; is_dep_only = false; features = set_has s }) (action_in t) ≡ action_in t
 joined_first s t none = λ i. record { is_conditional = t.is_conditional; is_dep_only = t.is_dep_only; features = λ x. ap (λ b. b || (action_in t).features x) (none_in s none x) i }
 
 pub join_none : (o : Option Action) → join_option o None ≡ o

@@ -6,8 +6,8 @@ use Rattle.cargo_toml_graph.specs.Admitted.{Listed}
 use Rattle.cargo_toml_graph.specs.Removal.{is_removed}
 use Rattle.cargo_toml_graph.proofs.Settled.{resolution_settled}
 use Rattle.cargo_toml_features.specs.Agreement.{Agree, SameTests}
-use Rattle.cargo_toml_features.specs.Marks.{Details, Marks}
-use Rattle.cargo_toml_features.specs.Recorded.{Entry, Recorded}
+use Rattle.cargo_toml_features.specs.Marks.{NamedDetails, FeatureMarks}
+use Rattle.cargo_toml_features.specs.Recorded.{Entry, RecordedKey}
 use Rattle.cargo_toml_features.specs.Resolved.{Answer, IsAnswer, SameRecorded, table_of}
 
 by_true : (a b : Bool) → IsTrue a ↔ IsTrue b → a ≡ b
@@ -17,7 +17,7 @@ by_true true false e = sym (e.0 refl)
 by_true true true e = refl
 
 -- two that record what a third does
-alike : (a b c : Option Recorded) → SameRecorded a c → SameRecorded b c → SameRecorded a b
+alike : (a b c : Option RecordedKey) → SameRecorded a c → SameRecorded b c → SameRecorded a b
 alike None None c h k = tt
 alike None (Some y) None h k = absurd k
 alike None (Some y) (Some z) h k = absurd h
@@ -34,14 +34,14 @@ tests_alike P None (Some q) s h k = absurd (false≢true s)
 tests_alike P (Some p) None s h k = absurd (false≢true (sym s))
 tests_alike P (Some p) (Some q) s h k = λ x. by_true (p x) (q x) (λ e. (k x).1 ((h x).0 e), λ e. (h x).1 ((k x).0 e))
 
-pub settled : (listed : Listed) (entries : List Entry) (details told : Details) (own others : Text → List Text) (keep : Text → Bool) (a b : Answer)
+pub settled : (listed : Listed) (entries : List Entry) (details told : NamedDetails) (own others : Text → List Text) (keep : Text → Bool) (a b : Answer)
     → IsAnswer listed entries details own keep a → IsAnswer listed entries told others keep b → Agree a b
 settled listed entries details told own others keep a b h k = record {
   features = resolution_settled (table_of listed entries) (λ v. IsTrue (is_removed (table_of listed entries) keep v)) a.resolution b.resolution h.kept.resolved k.kept.resolved;
   keys = λ f x y at bt. subst (λ o. IfSome o (λ z. z ≡ f)) at (h.kept.keyed f) ∙ sym (subst (λ o. IfSome o (λ z. z ≡ f)) bt (k.kept.keyed f));
   explicit = λ f has.
-      ap (λ (m : Marks). m.explicit) (h.kept.marks f has)
-      ∙ sym (ap (λ (m : Marks). m.explicit) (k.kept.marks f ((k.kept.resolved.kept f).1 ((h.kept.resolved.kept f).0 has))));
+      ap (λ (m : FeatureMarks). m.explicit) (h.kept.marks f has)
+      ∙ sym (ap (λ (m : FeatureMarks). m.explicit) (k.kept.marks f ((k.kept.resolved.kept f).1 ((h.kept.resolved.kept f).0 has))));
   dependencies = λ d. alike (a.dependencies d) (b.dependencies d) _ (h.kept.dependencies d) (k.kept.dependencies d);
   redirects = λ r. tests_alike _ (a.redirects r) (b.redirects r) (h.redirected r ∙ sym (k.redirected r)) (h.redirects r) (k.redirects r);
   removed_some = by_true a.removed_some b.removed_some (λ e. k.kept.some.1 (h.kept.some.0 e), λ e. h.kept.some.1 (k.kept.some.0 e));

@@ -22,7 +22,7 @@ use Rattle.cargo_toml_graph.specs.Action.{Text}
 use Rattle.cargo_toml_graph.specs.Admitted.{is_below}
 use Rattle.cargo_toml_graph.specs.Reach.{Among}
 use Rattle.cargo_toml_graph.proofs.RedirectsInOrder.{below_one_way}
-use Rattle.cargo_toml_features.specs.Places.{text_at}
+use Rattle.cargo_toml_features.specs.Places.{nth_text}
 use Rattle.cargo_toml_features.proofs.Places.{Ascends, at_among, rises}
 
 abbrev texts : List (Bor Text) → List Text
@@ -79,11 +79,11 @@ module _ (old sorted new : List (Bor Text)) (moved : IsPermutation old sorted) (
       ascending (t ∷ ts) h = (below_each t ts (sorted_head cmp t ts h), ascending ts (sorted_tail cmp t ts h))
 
 module _ (ts : List (Bor Text)) (x : Text) where
-  text_now : (k : ℕ) (d : Bor Text) → k < length ts → text_at (texts ts) k ≡ (get_or ts k d).now
+  text_now : (k : ℕ) (d : Bor Text) → k < length ts → nth_text (texts ts) k ≡ (get_or ts k d).now
   text_now k d below = get_or-map (λ t. t.now) ts k d [] below
 
   pub found_there : (r : Result ℕ ℕ) → IsSearchInRange r (length ts) → IsBinarySearchResult (λ t. slice_cmp nat_cmp t.now x) ts r
-      → IfSome (result_ok r) (λ i. (i < length ts) × (text_at (texts ts) i ≡ x))
+      → IfSome (result_ok r) (λ i. (i < length ts) × (nth_text (texts ts) i ≡ x))
   found_there (Ok i) below equal = let d : Bor Text = record { ref_ptr = (0, 0); now = [] } in (below, text_now i d below ∙ exact_bytes _ _ (equal d))
   found_there (Err i) below parted = tt
 
@@ -92,7 +92,7 @@ module _ (ts : List (Bor Text)) (x : Text) where
       let here : k < length ts = omega arith in
       let long = length-map ts (λ (t : Bor Text). t.now) in
       false_from_ne_true _ (λ later. below_one_way (get_or ts k d).now (get_or ts (k + 1) d).now
-      (subst (λ v. IsTrue (is_below v (get_or ts (k + 1) d).now)) (text_now k d here) (subst (λ v. IsTrue (is_below (text_at (texts ts) k) v)) (text_now (k + 1) d high) (rises (texts ts) up k (k + 1) (omega arith) (omega arith)))) later)
+      (subst (λ v. IsTrue (is_below v (get_or ts (k + 1) d).now)) (text_now k d here) (subst (λ v. IsTrue (is_below (nth_text (texts ts) k) v)) (text_now (k + 1) d high) (rises (texts ts) up k (k + 1) (omega arith) (omega arith)))) later)
 
   pub missing_there : (r : Result ℕ ℕ) → IsBinarySearchResult (λ t. slice_cmp nat_cmp t.now x) ts r → Ascends (texts ts) → result_ok r ≡ None → ¬ Among (texts ts) x
   missing_there (Ok i) equal up none there = cc

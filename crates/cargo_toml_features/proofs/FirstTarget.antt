@@ -17,7 +17,7 @@ use Rattle.cargo_toml_features.specs.declared.features.TargetKey.{TargetKey}
 use Rattle.cargo_toml_features.specs.FirstTarget.{HasTarget, IsFirst}
 use Rattle.cargo_toml_features.specs.Recorded.{Entry, Target, target_cmp, recorded_of, first_target}
 use Rattle.cargo_toml_features.specs.Resolved.{SameRecorded}
-use Rattle.cargo_toml_features.specs.Views.{recorded_in, target_of}
+use Rattle.cargo_toml_features.specs.Views.{recorded_in, target_in}
 use Rattle.cargo_toml_features.proofs.Targets.{at, by_key, cmp_is, key_of, target_of-key_of, target_same}
 
 -- ---- the least of a list, of equal ones the first
@@ -133,21 +133,21 @@ module _ (m : BTreeMap TargetKey (Bor Dependency)) where
       present : is_some (tree.get (key_order.cmp-value).it m (key_of target_of_least)) ≡ true
       present = ap is_some (sym (by_key m target_of_least)) ∙ same_some _ _ told
 
-      lower_key : is_gt (target_cmp (target_of key) target_of_least) ≡ false
-      lower_key = ap is_gt (sym (cmp_is key (key_of target_of_least) ∙ ap (target_cmp (target_of key)) (target_of-key_of target_of_least))) ∙ bound (key_of target_of_least) present
+      lower_key : is_gt (target_cmp (target_in key) target_of_least) ≡ false
+      lower_key = ap is_gt (sym (cmp_is key (key_of target_of_least) ∙ ap (target_cmp (target_in key)) (target_of-key_of target_of_least))) ∙ bound (key_of target_of_least) present
 
       -- the entries have the map's first key
-      own : is_eq (target_cmp (target_of key) (target_of key)) ≡ true
-      own = ap is_eq (tied_itself target_total (target_of key))
+      own : is_eq (target_cmp (target_in key) (target_in key)) ≡ true
+      own = ap is_eq (tied_itself target_total (target_in key))
 
-      among_entries : is_some (find (λ x. is_eq (target_cmp (target_of key) x.target)) (e ∷ es)) ≡ true
+      among_entries : is_some (find (λ x. is_eq (target_cmp (target_in key) x.target)) (e ∷ es)) ≡ true
       among_entries =
-          sym (some_of (λ (x : Entry). x.dependency) (find (λ x. is_eq (target_cmp (target_of key) x.target)) (e ∷ es))) ∙ ap is_some (sym (recorded (target_of key)))
-          ∙ ap (λ o. is_some (option_map (λ (x : Bor Dependency). dependency_meaning x.now) o)) (target_same key m (target_of key) own ∙ here)
+          sym (some_of (λ (x : Entry). x.dependency) (find (λ x. is_eq (target_cmp (target_in key) x.target)) (e ∷ es))) ∙ ap is_some (sym (recorded (target_in key)))
+          ∙ ap (λ o. is_some (option_map (λ (x : Bor Dependency). dependency_meaning x.now) o)) (target_same key m (target_in key) own ∙ here)
 
-      tied : is_eq (target_cmp target_of_least (target_of key)) ≡ true
-      tied = level target_total (λ (x : Entry). x.target) target_of_least (target_of key)
-          (below_hit target_total (λ (x : Entry). x.target) target_of_least (target_of key) (e ∷ es) (lower target_total (λ (x : Entry). x.target) e es) among_entries)
+      tied : is_eq (target_cmp target_of_least (target_in key)) ≡ true
+      tied = level target_total (λ (x : Entry). x.target) target_of_least (target_in key)
+          (below_hit target_total (λ (x : Entry). x.target) target_of_least (target_in key) (e ∷ es) (lower target_total (λ (x : Entry). x.target) e es) among_entries)
           lower_key
 
 -- ---- what is recorded of a key
@@ -174,7 +174,7 @@ some_recorded d empty [] r = refl
 some_recorded d empty (e ∷ es) r = absurd (some_none (sym (sym nothing ∙ ap (λ x. x.targets e.target) (some_same r) ∙ ap (λ b. option_map (λ (x : Entry). x.dependency) (cond b (Some e) (find (λ x. is_eq (target_cmp e.target x.target)) es))) (ap is_eq (tied_itself target_total e.target)))))
   where
     nothing : at d.targets e.target ≡ None
-    nothing = ap (λ l. option_map (λ (x : Bor Dependency). dependency_meaning x.now) (lookup (tree.is_at (λ k. target_cmp e.target (target_of k))) l)) empty
+    nothing = ap (λ l. option_map (λ (x : Bor Dependency). dependency_meaning x.now) (lookup (tree.is_at (λ k. target_cmp e.target (target_in k))) l)) empty
 
 -- ---- what a record tells of its first target
 some_mapped : {X Y : Type 0} (f : X → Y) (o : Option X) → IsSome (option_map f o) → is_some o ≡ true
@@ -183,13 +183,13 @@ some_mapped f (Some x) s = refl
 
 -- the least key holds the record's first dependency
 pub is_first : (d : FeatureDependency) (key : TargetKey) (w : Bor Dependency) → tree.get (key_order.cmp-value).it d.targets key ≡ Some w → tree.IsLowerBound (key_order.cmp-value).it d.targets key
-    → IsFirst (recorded_in d) (target_of key) (dependency_meaning w.now)
+    → IsFirst (recorded_in d) (target_in key) (dependency_meaning w.now)
 is_first d key w here bound = record {
-  here = ap (option_map (λ x. dependency_meaning x.now)) (target_same key d.targets (target_of key) (ap is_eq (tied_itself target_total (target_of key))) ∙ here);
+  here = ap (option_map (λ x. dependency_meaning x.now)) (target_same key d.targets (target_in key) (ap is_eq (tied_itself target_total (target_in key))) ∙ here);
   least = λ q some.
       let there : is_some (tree.get (key_order.cmp-value).it d.targets (key_of q)) ≡ true = ap is_some (sym (by_key d.targets q)) ∙ some_mapped (λ (x : Bor Dependency). dependency_meaning x.now) _ some in
-      sym (turned target_total (λ (t : Target). t) (target_of key) q)
-      ∙ ap is_gt (sym (cmp_is key (key_of q) ∙ ap (target_cmp (target_of key)) (target_of-key_of q))) ∙ bound (key_of q) there;
+      sym (turned target_total (λ (t : Target). t) (target_in key) q)
+      ∙ ap is_gt (sym (cmp_is key (key_of q) ∙ ap (target_cmp (target_in key)) (target_of-key_of q))) ∙ bound (key_of q) there;
 }
 
 -- what says the same as some entries has a target
@@ -201,5 +201,5 @@ has_target d (e ∷ es) r = go d.targets.entries refl
     there = r.1 e.target ∙ ap (λ b. option_map (λ (x : Entry). x.dependency) (cond b (Some e) (find (λ x. is_eq (target_cmp e.target x.target)) es))) (ap is_eq (tied_itself target_total e.target))
 
     go : (xs : List (TargetKey × Bor Dependency)) → d.targets.entries ≡ xs → 0 < length d.targets.entries
-    go [] s = absurd (some_none (sym there ∙ ap (λ l. option_map (λ (x : Bor Dependency). dependency_meaning x.now) (lookup (tree.is_at (λ k. target_cmp e.target (target_of k))) l)) s))
+    go [] s = absurd (some_none (sym there ∙ ap (λ l. option_map (λ (x : Bor Dependency). dependency_meaning x.now) (lookup (tree.is_at (λ k. target_cmp e.target (target_in k))) l)) s))
     go (x ∷ xs) s = subst (λ l. 0 < length l) (sym s) (omega arith)

@@ -20,7 +20,7 @@ use Rattle.cargo_toml_graph.proofs.Cut.{Ascends}
 use Rattle.cargo_toml_dependencies.specs.Details.{Detail, detail_of, plain_detail}
 use Rattle.cargo_toml_dependencies.specs.declared.target.FeatureDetail.{FeatureDetail}
 use Rattle.cargo_toml_parts.specs.Reads.{map_meaning}
-use Rattle.cargo_toml_features.specs.Marks.{detail_at, detail_in}
+use Rattle.cargo_toml_features.specs.Marks.{detail_named, detail_in}
 use Rattle.cargo_toml_features.specs.Views.{listed_of}
 use Rattle.cargo_toml_features.specs.declared.admit.Listing.{Listing}
 
@@ -55,13 +55,13 @@ names_listed (l ∷ ls) = ap (λ xs. l.name.now ∷ xs) (names_listed ls)
 
 -- the detail that a map has of a name
 detail_among : (f : Text) (es : List (String Global × FeatureDetail))
-    → detail_at (map (λ e. (string_bytes e.0, detail_of e.1)) es) f ≡ unwrap_or (option_map detail_of (lookup (is_at (λ k. slice_cmp nat_cmp f (string_bytes k))) es)) plain_detail
+    → detail_named (map (λ e. (string_bytes e.0, detail_of e.1)) es) f ≡ unwrap_or (option_map detail_of (lookup (is_at (λ k. slice_cmp nat_cmp f (string_bytes k))) es)) plain_detail
 detail_among f [] = refl
 detail_among f (e ∷ es) =
     ap (λ t. unwrap_or (cond t (Some (detail_of e.1)) (lookup (bytes_eq f) (map (λ (d : String Global × FeatureDetail). (string_bytes d.0, detail_of d.1)) es))) plain_detail) (sym (is_eq-slice_cmp f (string_bytes e.0)))
     ∙ go (is_at (λ (k : String Global). slice_cmp nat_cmp f (string_bytes k)) e.0) (detail_among f es)
   where
-    go : (t : Bool) → detail_at (map (λ (d : String Global × FeatureDetail). (string_bytes d.0, detail_of d.1)) es) f ≡ unwrap_or (option_map detail_of (lookup (is_at (λ (k : String Global). slice_cmp nat_cmp f (string_bytes k))) es)) plain_detail
+    go : (t : Bool) → detail_named (map (λ (d : String Global × FeatureDetail). (string_bytes d.0, detail_of d.1)) es) f ≡ unwrap_or (option_map detail_of (lookup (is_at (λ (k : String Global). slice_cmp nat_cmp f (string_bytes k))) es)) plain_detail
         → unwrap_or (cond t (Some (detail_of e.1)) (lookup (bytes_eq f) (map (λ (d : String Global × FeatureDetail). (string_bytes d.0, detail_of d.1)) es))) plain_detail
         ≡ unwrap_or (option_map detail_of (cond t (Some e.1) (lookup (is_at (λ (k : String Global). slice_cmp nat_cmp f (string_bytes k))) es))) plain_detail
     go true h = refl
@@ -73,5 +73,5 @@ detail_copied (Some d) = refl
 
 -- and so the look-up in the map gives it
 pub detail_found : (f : Text) (m : BTreeMap (String Global) FeatureDetail) (o : Option (Bor FeatureDetail)) → option_copied o ≡ get_by (λ k. slice_cmp nat_cmp f (string_bytes k)) m
-    → detail_in o ≡ detail_at (map_meaning detail_of m) f
+    → detail_in o ≡ detail_named (map_meaning detail_of m) f
 detail_found f m o is = detail_copied o ∙ ap (λ d. unwrap_or (option_map detail_of d) plain_detail) is ∙ sym (detail_among f m.entries)

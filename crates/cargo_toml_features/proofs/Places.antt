@@ -6,7 +6,7 @@ use Rattle.cargo_toml_graph.specs.Admitted.{is_below}
 use Rattle.cargo_toml_graph.specs.Reach.{Among}
 use Rattle.cargo_toml_graph.specs.Removal.{IsAscending}
 use Rattle.cargo_toml_graph.proofs.RedirectsInOrder.{below_one_way}
-use Rattle.cargo_toml_features.specs.Places.{text_at}
+use Rattle.cargo_toml_features.specs.Places.{nth_text}
 
 pub among_at : {K : Type 0} (xs : List K) (k : ℕ) (d : K) → k < length xs → Among xs (get_or xs k d)
 among_at [] k d below = absurd (omega arith)
@@ -23,34 +23,34 @@ abbrev pub Ascends : List Text → Type 0
 Ascends texts = IsAscending (λ a b. IsTrue (is_below a b)) texts
 
 -- a text at a later place is above
-pub rises : (texts : List Text) → Ascends texts → (i j : ℕ) → i < j → j < length texts → IsTrue (is_below (text_at texts i) (text_at texts j))
+pub rises : (texts : List Text) → Ascends texts → (i j : ℕ) → i < j → j < length texts → IsTrue (is_below (nth_text texts i) (nth_text texts j))
 rises [] up i j earlier below = absurd (omega arith)
 rises (x ∷ xs) up i zero earlier below = absurd (omega arith)
-rises (x ∷ xs) up zero (suc j) earlier below = up.0 (text_at xs j) (among_at xs j [] (omega arith))
+rises (x ∷ xs) up zero (suc j) earlier below = up.0 (nth_text xs j) (among_at xs j [] (omega arith))
 rises (x ∷ xs) up (suc i) (suc j) earlier below = rises xs up.1 i j (omega arith) (omega arith)
 
 not_itself : (a : Text) → IsTrue (is_below a a) → ⊥
 not_itself a below = below_one_way a a below below
 
 -- each text stands there once
-pub once : (texts : List Text) → Ascends texts → (i j : ℕ) → i < length texts → j < length texts → text_at texts i ≡ text_at texts j → i ≡ j
+pub once : (texts : List Text) → Ascends texts → (i j : ℕ) → i < length texts → j < length texts → nth_text texts i ≡ nth_text texts j → i ≡ j
 once texts up i j below below' same =
     elim (cases_order i j) [
       | inl is ↦ is
       | inr other ↦ elim other [
-        | inl less ↦ absurd (not_itself (text_at texts i) (subst (λ v. IsTrue (is_below (text_at texts i) v)) (sym same) (rises texts up i j less below')))
-        | inr more ↦ absurd (not_itself (text_at texts j) (subst (λ v. IsTrue (is_below (text_at texts j) v)) same (rises texts up j i more below)))
+        | inl less ↦ absurd (not_itself (nth_text texts i) (subst (λ v. IsTrue (is_below (nth_text texts i) v)) (sym same) (rises texts up i j less below')))
+        | inr more ↦ absurd (not_itself (nth_text texts j) (subst (λ v. IsTrue (is_below (nth_text texts j) v)) same (rises texts up j i more below)))
       ]
     ]
 
 -- where a lower place has a lower text, a lower text has a lower place
-pub lower_place : (texts : List Text) (i j : ℕ) → (j < i → IsTrue (is_below (text_at texts j) (text_at texts i))) → IsTrue (is_below (text_at texts i) (text_at texts j)) → i < j
+pub lower_place : (texts : List Text) (i j : ℕ) → (j < i → IsTrue (is_below (nth_text texts j) (nth_text texts i))) → IsTrue (is_below (nth_text texts i) (nth_text texts j)) → i < j
 lower_place texts i j ordered lower =
     elim (cases_order i j) [
-      | inl is ↦ absurd (not_itself (text_at texts j) (subst (λ k. IsTrue (is_below (text_at texts k) (text_at texts j))) is lower))
-      | inr other ↦ elim other [ inl less ↦ less | inr more ↦ absurd (below_one_way (text_at texts i) (text_at texts j) lower (ordered more)) ]
+      | inl is ↦ absurd (not_itself (nth_text texts j) (subst (λ k. IsTrue (is_below (nth_text texts k) (nth_text texts j))) is lower))
+      | inr other ↦ elim other [ inl less ↦ less | inr more ↦ absurd (below_one_way (nth_text texts i) (nth_text texts j) lower (ordered more)) ]
     ]
 
 -- the order of places is the order of texts
-pub by_place : (texts : List Text) → Ascends texts → (i j : ℕ) → i < length texts → j < length texts → (i < j) ↔ IsTrue (is_below (text_at texts i) (text_at texts j))
+pub by_place : (texts : List Text) → Ascends texts → (i j : ℕ) → i < length texts → j < length texts → (i < j) ↔ IsTrue (is_below (nth_text texts i) (nth_text texts j))
 by_place texts up i j below below' = (λ earlier. rises texts up i j earlier below', lower_place texts i j (λ later. rises texts up j i later below))

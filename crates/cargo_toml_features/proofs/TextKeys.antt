@@ -7,10 +7,10 @@ use Rattle.std.specs.BTreeSet as sorted
 use Rattle.std.specs.BTreeSet.{BTreeSet}
 use Rattle.cargo_toml_graph.specs.Action.{Text}
 use Rattle.cargo_toml_graph.proofs.Texts.{bytes_eq_sym}
-use Rattle.cargo_toml_features.specs.Views.{has_text}
+use Rattle.cargo_toml_features.specs.Views.{set_has}
 
-pub inserted : (bs : Text) (s n : BTreeSet (Bor Text)) → sorted.UpdatesBy (λ x y. slice_cmp nat_cmp x.now y.now) (λ k. slice_cmp nat_cmp bs k.now) s n true → (x : Text) → has_text n x ≡ (has_text s x || bytes_eq x bs)
-inserted bs s n h x = h.0 (record { ref_ptr = (0, 0); now = x }) ∙ ap (λ t. cond t true (has_text s x)) (is_eq-slice_cmp bs x) ∙ go (bytes_eq bs x) (has_text s x) ∙ ap (λ t. has_text s x || t) (bytes_eq_sym bs x)
+pub inserted : (bs : Text) (s n : BTreeSet (Bor Text)) → sorted.UpdatesBy (λ x y. slice_cmp nat_cmp x.now y.now) (λ k. slice_cmp nat_cmp bs k.now) s n true → (x : Text) → set_has n x ≡ (set_has s x || bytes_eq x bs)
+inserted bs s n h x = h.0 (record { ref_ptr = (0, 0); now = x }) ∙ ap (λ t. cond t true (set_has s x)) (is_eq-slice_cmp bs x) ∙ go (bytes_eq bs x) (set_has s x) ∙ ap (λ t. set_has s x || t) (bytes_eq_sym bs x)
   where
     go : (a b : Bool) → cond a true b ≡ (b || a)
     go true true = refl
@@ -19,5 +19,5 @@ inserted bs s n h x = h.0 (record { ref_ptr = (0, 0); now = x }) ∙ ap (λ t. c
     go false false = refl
 
 -- no text is in an empty set
-pub none_in : (s : BTreeSet (Bor Text)) → s.keys ≡ [] → (x : Text) → has_text s x ≡ false
+pub none_in : (s : BTreeSet (Bor Text)) → s.keys ≡ [] → (x : Text) → set_has s x ≡ false
 none_in s e x = rw e

@@ -13,7 +13,7 @@ use Rattle.cargo_toml_graph.specs.Graph.{Table}
 use Rattle.cargo_toml_graph.specs.Recursive.{Enables, ArePairs}
 use Rattle.cargo_toml_graph.specs.Recursive.Enables.{itself, further}
 use Rattle.cargo_toml_features.specs.Reached.{Found, Lists, AreEnabled, ComeFrom, HaveNoEmpty, pairs_at}
-use Rattle.cargo_toml_features.specs.Views.{value_at, has_text, action_of, action_at, table_in}
+use Rattle.cargo_toml_features.specs.Views.{value_at, set_has, action_of, action_at, table_in}
 use Rattle.cargo_toml_features.specs.Visits.{unconditional, is_pending, AreHeld, PushesNamed, PutsFound, AddsActions}
 use Rattle.cargo_toml_features.proofs.Pending.{is_pending-push}
 use Rattle.cargo_toml_features.proofs.Work.{work, work_drops, work_less}
@@ -193,8 +193,8 @@ module _ {S : Type 0} (m : HashMap (Bor Text) Feature S) (s : Text) where
     here : value_at m v.now.key.now ≡ Some v.now
     here = (held_parts L v w.held).1
 
-    named : (y : Text) → (table_in m).names v.now.key.now y ≡ has_text v.now.enables_features y
-    named y = ap (λ o. option_map_or (λ f. has_text f.enables_features y) o false) here
+    named : (y : Text) → (table_in m).names v.now.key.now y ≡ set_has v.now.enables_features y
+    named y = ap (λ o. option_map_or (λ f. set_has f.enables_features y) o false) here
 
     acts : (k : Text) → (table_in m).action v.now.key.now k ≡ action_at v.now.enables_deps k
     acts k = ap (λ o. option_map_or (λ f. action_at f.enables_deps k) o None) here
@@ -216,7 +216,7 @@ module _ {S : Type 0} (m : HashMap (Bor Text) Feature S) (s : Text) where
     visited = record {
       begun = elim w.begun [ inl f ↦ inl (grows F F' v u s f) | inr l ↦ found_or_pending s l ];
       found = λ x e. elim (only F F' v u x e) [ inl i ↦ subst (Enables (table_in m) s) (sym i) enabled | inr f ↦ w.found x f ];
-      pending = λ x e. elim (or_cases (is_pending L x) (has_text v.now.enables_features x && is_some (value_at m x)) (sym (pushed.pending x) ∙ e)) [
+      pending = λ x e. elim (or_cases (is_pending L x) (set_has v.now.enables_features x && is_some (value_at m x)) (sym (pushed.pending x) ∙ e)) [
         | inl a ↦ w.pending x (was_pending L v x a)
         | inr b ↦ let p = by_name x _ _ b in further enabled (named x ∙ p.0) p.1
       ];

@@ -7,7 +7,7 @@ use Rattle.std.specs.List.{All}
 use Rattle.std.specs.Ordering.{is_lt}
 use Rattle.cargo_toml_dependencies.specs.Dependencies.{DependencyMeaning}
 use Rattle.cargo_toml_features.specs.declared.features.FeatureDependency.{FeatureDependency}
-use Rattle.cargo_toml_features.specs.Recorded.{Recorded, Target, target_cmp}
+use Rattle.cargo_toml_features.specs.Recorded.{RecordedKey, Target, target_cmp}
 use Rattle.cargo_toml_graph.specs.Action.{Text}
 
 -- the dependency has a target
@@ -19,6 +19,6 @@ abbrev pub HaveTargets : {S : Type 0} → HashMap (Bor Text) FeatureDependency S
 HaveTargets m = All HasTarget (values m)
 
 -- what is recorded has d at t, and nothing at a target below
-pub record IsFirst (r : Recorded) (t : Target) (d : DependencyMeaning) : Type 0 where
+pub record IsFirst (r : RecordedKey) (t : Target) (d : DependencyMeaning) : Type 0 where
   pub here : r.targets t ≡ Some d
   pub least : (q : Target) → IsSome (r.targets q) → IsFalse (is_lt (target_cmp q t))

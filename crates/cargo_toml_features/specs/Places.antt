@@ -4,5 +4,5 @@ use Rattle.std.specs.List.{slice_index_or}
 use Rattle.cargo_toml_graph.specs.Action.{Text}
 
 -- the text of the place i, empty past the end
-abbrev pub text_at : List Text → ℕ → Text
-text_at texts i = slice_index_or texts i []
+abbrev pub nth_text : List Text → ℕ → Text
+nth_text texts i = slice_index_or texts i []

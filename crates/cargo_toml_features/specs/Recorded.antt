@@ -35,7 +35,7 @@ pub record Entry : Type 0 where
   pub dependency : DependencyMeaning
 
 -- what is recorded of a key: the name of its crate, and its first dependency for each target
-pub record Recorded : Type 0 where
+pub record RecordedKey : Type 0 where
   pub crate_name : Text
   pub targets : Target → Option DependencyMeaning
 
@@ -70,7 +70,7 @@ module _ (listed : Listed) where
       && not (is_explicit listed k)
 
 -- the first entry gives the crate's name, and the first for each target stays
-abbrev pub recorded_of : List Entry → Option Recorded
+abbrev pub recorded_of : List Entry → Option RecordedKey
 recorded_of [] = None
 recorded_of (e ∷ es) = Some (record {
   crate_name = unwrap_or (package_of e.dependency) e.key;

@@ -5,15 +5,15 @@ use Rattle.cargo_toml_graph.specs.Action.{Text, Action}
 use Rattle.cargo_toml_graph.specs.Admitted.{Listed, is_explicit, is_below, names, joined_action}
 use Rattle.cargo_toml_graph.specs.Bins.{ArePassedOn, HasBins}
 use Rattle.cargo_toml_graph.specs.Graph.{Table, Resolution, IsResolved}
-use Rattle.cargo_toml_features.specs.Marks.{Details, Marks, marks_in}
-use Rattle.cargo_toml_features.specs.Recorded.{Entry, Recorded, Target, is_implied, entries_at}
+use Rattle.cargo_toml_features.specs.Marks.{NamedDetails, FeatureMarks, marks_in}
+use Rattle.cargo_toml_features.specs.Recorded.{Entry, RecordedKey, Target, is_implied, entries_at}
 use Rattle.cargo_toml_features.specs.Recorded.{recorded_of, first_target, without_redundant}
 use Rattle.cargo_toml_graph.specs.Redirects.{RedirectsTo}
 use Rattle.cargo_toml_graph.specs.Removal.{is_removed}
 
--- one plain action
-abbrev pub plain : Action
-plain = record { is_conditional = false; is_dep_only = false; features = λ x. false }
+-- one plain_action action
+abbrev pub plain_action : Action
+plain_action = record { is_conditional = false; is_dep_only = false; features = λ x. false }
 
 module _ (listed : Listed) (entries : List Entry) where
   -- what the explicit and the implied features say, each redundant dependency feature included
@@ -23,7 +23,7 @@ module _ (listed : Listed) (entries : List Entry) where
     names = λ f x. names listed f x;
     action =
         λ f k. if is_explicit listed f then joined_action listed f k
-        else if is_implied listed entries f && bytes_eq k f then Some plain else None;
+        else if is_implied listed entries f && bytes_eq k f then Some plain_action else None;
   }
 
   -- the table that the removal starts from
@@ -39,14 +39,14 @@ module _ (listed : Listed) (entries : List Entry) where
 pub record Answer : Type 0 where
   pub resolution : Resolution
   pub key : Text → Option Text
-  pub marks : Text → Marks
+  pub marks : Text → FeatureMarks
   pub bins : Text → List Text
-  pub dependencies : Text → Option Recorded
+  pub dependencies : Text → Option RecordedKey
   pub redirects : Text → Option (Text → Bool)
   pub removed_some : Bool
 
 -- both or neither are recorded, with one crate's name and the same dependency for each target
-abbrev pub SameRecorded : Option Recorded → Option Recorded → Type 0
+abbrev pub SameRecorded : Option RecordedKey → Option RecordedKey → Type 0
 SameRecorded None None = Unit {0}
 SameRecorded (Some a) (Some b) =
     (a.crate_name ≡ b.crate_name) × ((t : Target) → a.targets t ≡ b.targets t)
@@ -55,7 +55,7 @@ SameRecorded _ _ = ⊥
 -- the listed features and the entries are resolved, with the features taken out that the filter
 -- doesn't keep: which features are left, under their own keys and with their marks, and the
 -- recorded dependencies
-pub record IsKeptAnswer (listed : Listed) (entries : List Entry) (details : Details)
+pub record IsKeptAnswer (listed : Listed) (entries : List Entry) (details : NamedDetails)
     (keep : Text → Bool) (a : Answer) : Type 0 where
   pub resolved : IsResolved (table_of listed entries)
       (λ f. IsTrue (is_removed (table_of listed entries) keep f)) a.resolution
@@ -69,7 +69,7 @@ pub record IsKeptAnswer (listed : Listed) (entries : List Entry) (details : Deta
 -- and so are the binaries that require features, of which own are the binaries' own
 -- mentions: by paths, and as they are passed on in byte order; and what stands for each
 -- feature that is taken out
-pub record IsAnswer (listed : Listed) (entries : List Entry) (details : Details)
+pub record IsAnswer (listed : Listed) (entries : List Entry) (details : NamedDetails)
     (own : Text → List Text) (keep : Text → Bool) (a : Answer) : Type 0 where
   pub kept : IsKeptAnswer listed entries details keep a
   pub bins : (f : Text) → IsTrue (a.resolution.table.has f)

@@ -5,7 +5,7 @@ use Rattle.std.specs.declared.cmp.Ordering.{Ordering}
 use Rattle.cargo_toml_features.specs.declared.features.Kind.{Kind}
 use Rattle.cargo_toml_features.specs.declared.features.TargetKey.{TargetKey}
 use Rattle.cargo_toml_features.specs.Recorded.{rank, target_cmp}
-use Rattle.cargo_toml_features.specs.Views.{target_of}
+use Rattle.cargo_toml_features.specs.Views.{target_in}
 
 -- kinds compare as their ranks do
 abbrev pub IsKindOrder : (Kind → Kind → Ordering) → Type 0
@@ -16,12 +16,12 @@ IsKindEquality eq = (a b : Kind) → IsTrue (eq a b) ↔ (a ≡ b)
 
 -- keys compare by kind, then no target before a named one
 abbrev pub IsTargetOrder : (TargetKey → TargetKey → Ordering) → Type 0
-IsTargetOrder cmp = (a b : TargetKey) → cmp a b ≡ target_cmp (target_of a) (target_of b)
+IsTargetOrder cmp = (a b : TargetKey) → cmp a b ≡ target_cmp (target_in a) (target_in b)
 
 -- keys are equal where they hold the same kind and the same text, or none
 abbrev pub IsTargetEquality : (TargetKey → TargetKey → Bool) → Type 0
-IsTargetEquality eq = (a b : TargetKey) → IsTrue (eq a b) ↔ (target_of a ≡ target_of b)
+IsTargetEquality eq = (a b : TargetKey) → IsTrue (eq a b) ↔ (target_in a ≡ target_in b)
 
 -- the order says that two are equal exactly where equality does
-abbrev pub Agree : {X : Type 0} → (X → X → Ordering) → (X → X → Bool) → Type 0
-Agree {X} cmp eq = (a b : X) → eq a b ≡ is_eq (cmp a b)
+abbrev pub EqualAlike : {X : Type 0} → (X → X → Ordering) → (X → X → Bool) → Type 0
+EqualAlike {X} cmp eq = (a b : X) → eq a b ≡ is_eq (cmp a b)

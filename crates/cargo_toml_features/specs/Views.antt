@@ -25,12 +25,12 @@ use Rattle.cargo_toml_graph.specs.Action.{Text, Action}
 use Rattle.cargo_toml_graph.specs.Admitted.{Listed}
 use Rattle.cargo_toml_graph.specs.Graph.{Resolution, Table}
 use Rattle.cargo_toml_features.specs.Marks.{marked, marks_of}
-use Rattle.cargo_toml_features.specs.Recorded.{Entry, Recorded, Target, target_cmp}
+use Rattle.cargo_toml_features.specs.Recorded.{Entry, RecordedKey, Target, target_cmp}
 use Rattle.cargo_toml_features.specs.Resolved.{Answer}
 
 -- a set of texts, as a test
-abbrev pub has_text : BTreeSet (Bor Text) → Text → Bool
-has_text s x = sorted.contains_by (λ k. slice_cmp nat_cmp x k.now) s
+abbrev pub set_has : BTreeSet (Bor Text) → Text → Bool
+set_has s x = sorted.contains_by (λ k. slice_cmp nat_cmp x k.now) s
 
 -- what a hashed map holds under a text
 abbrev pub value_at : {X S : Type 0} → HashMap (Bor Text) X S → Text → Option X
@@ -40,7 +40,7 @@ abbrev pub action_of : DepAction → Action
 action_of a = record {
   is_conditional = a.is_conditional;
   is_dep_only = a.is_dep_only;
-  features = has_text a.dep_features;
+  features = set_has a.dep_features;
 }
 
 abbrev pub action_at : BTreeMap (Bor Text) DepAction → Text → Option Action
@@ -50,7 +50,7 @@ action_at m k = option_map action_of (tree.get_by (λ q. slice_cmp nat_cmp k q.n
 abbrev pub table_by : (Text → Option Feature) → Table
 table_by found = record {
   has = λ f. is_some (found f);
-  names = λ f x. option_map_or (λ v. has_text v.enables_features x) (found f) false;
+  names = λ f x. option_map_or (λ v. set_has v.enables_features x) (found f) false;
   action = λ f k. option_map_or (λ v. action_at v.enables_deps k) (found f) None;
 }
 
@@ -58,7 +58,7 @@ table_by found = record {
 abbrev pub resolution_by : (Text → Option Feature) → Resolution
 resolution_by found = record {
   table = table_by found;
-  enabled_by = λ f e. option_map_or (λ v. has_text v.enabled_by e) (found f) false;
+  enabled_by = λ f e. option_map_or (λ v. set_has v.enabled_by e) (found f) false;
 }
 
 -- the features of a hashed map
@@ -68,15 +68,15 @@ table_in m = table_by (value_at m)
 abbrev pub resolution_of : {S : Type 0} → HashMap (Bor Text) Feature S → Resolution
 resolution_of m = resolution_by (value_at m)
 
-abbrev pub target_of : TargetKey → Target
-target_of k = (k.kind, option_copied k.target)
+abbrev pub target_in : TargetKey → Target
+target_in k = (k.kind, option_copied k.target)
 
-abbrev pub recorded_in : FeatureDependency → Recorded
+abbrev pub recorded_in : FeatureDependency → RecordedKey
 recorded_in d = record {
   crate_name = d.crate_name.now;
   targets =
       λ t. option_map (λ x. dependency_meaning x.now)
-      (tree.get_by (λ k. target_cmp t (target_of k)) d.targets);
+      (tree.get_by (λ k. target_cmp t (target_in k)) d.targets);
 }
 
 -- the whole answer
@@ -89,7 +89,7 @@ answer_of a = record {
       λ f. option_map_or (λ v. map (λ t. t.now) v.required_by_bins.items)
       (value_at a.features f) [];
   dependencies = λ k. option_map recorded_in (value_at a.dependencies k);
-  redirects = λ r. option_map has_text (value_at a.hidden_features r);
+  redirects = λ r. option_map set_has (value_at a.hidden_features r);
   removed_some = a.removed_hidden_features;
 }
 

@@ -10,7 +10,7 @@ use Rattle.cargo_toml_features.specs.declared.features.DepAction.{DepAction}
 use Rattle.cargo_toml_features.specs.declared.features.Feature.{Feature}
 use Rattle.cargo_toml_graph.specs.Action.{Text, Action}
 use Rattle.cargo_toml_features.specs.Reached.{Found, Lists, pairs_at}
-use Rattle.cargo_toml_features.specs.Views.{action_at, has_text, value_at}
+use Rattle.cargo_toml_features.specs.Views.{action_at, set_has, value_at}
 
 -- the list under a key; empty where the key isn't there
 abbrev pub items_at : {S : Type 0} → Lists S → Text → List (Bor Text × Bor DepAction)
@@ -56,6 +56,6 @@ AreHeld m vs = AllByRecursion (λ v. value_at m v.now.key.now ≡ Some v.now) vs
 pub record PushesNamed {S : Type 0} (m : HashMap (Bor Text) Feature S) (v : Feature)
     (old new : List (Bor Feature)) : Type 0 where
   pub pending : (x : Text) → is_pending new x
-      ≡ (is_pending old x || (has_text v.enables_features x && is_some (value_at m x)))
+      ≡ (is_pending old x || (set_has v.enables_features x && is_some (value_at m x)))
   pub held : AreHeld m old → AreHeld m new
   pub count : length new ≤ length old + length v.enables_features.keys

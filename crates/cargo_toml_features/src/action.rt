@@ -5,7 +5,7 @@ ghost use Rattle.std.specs.List.{starts_with, ends_with, before_first, after_fir
 ghost use Rattle.cargo_toml_graph.specs.Action.{Text, join, join_option, without_start};
 ghost use Rattle.cargo_toml_graph.specs.Action.{without_end, is_slash, item_of};
 ghost use Rattle.cargo_toml_features.specs.ActionText.{action_in, item_in};
-ghost use Rattle.cargo_toml_features.specs.Views.{has_text, action_of, action_at};
+ghost use Rattle.cargo_toml_features.specs.Views.{set_has, action_of, action_at};
 
 use crate::features::DepAction;
 use std::alloc::{AllocError, Global};
@@ -88,8 +88,8 @@ pub fn read_action(text: &str) -> ActionText<'_>
 
 /// Puts a text into a set. It fails only where memory runs out.
 pub fn add_text<'a>(set: &mut BTreeSet<&'a str>, text: &'a str) -> Result<(), AllocError>
-    ensures { OnOk result ((x : Text) → has_text set.new x
-        ≡ (has_text set.old x || bytes_eq x text.now)) }
+    ensures { OnOk result ((x : Text) → set_has set.new x
+        ≡ (set_has set.old x || bytes_eq x text.now)) }
 {
     set.insert(text)?;
     Ok(())

@@ -6,7 +6,8 @@ ghost use Rattle.cargo_toml_graph.specs.Admitted.{Listed, admitted};
 ghost use Rattle.cargo_toml_graph.specs.Reach.{IsOnce};
 ghost use Rattle.cargo_toml_parts.specs.Reads.{map_meaning};
 ghost use Rattle.cargo_toml_dependencies.specs.Details.{detail_of};
-ghost use Rattle.cargo_toml_features.specs.Marks.{detail_at, detail_in, details_listed, details_of};
+ghost use Rattle.cargo_toml_features.specs.Marks.{detail_named, detail_in, details_listed};
+ghost use Rattle.cargo_toml_features.specs.Marks.{named_details};
 ghost use Rattle.cargo_toml_features.specs.Views.{listed_of, listed_in};
 ghost use Rattle.cargo_toml_features.specs.Hashed.{IsListingOf, actions_at, sorted_actions_at};
 
@@ -49,12 +50,12 @@ fn add_listing<'m>(
         then listed_of listings.old.items
         ++ (listing.entry.name.now, take limit (map string_bytes listing.entry.actions.now)) ∷ []
         else listed_of listings.old.items)) }
-    ensures details { OnOk result (details_of listings.new.items
+    ensures details { OnOk result (named_details listings.new.items
         ≡ (if nat_lt (length listings.old.items) limit
         || bytes_eq listing.entry.name.now (codes "default")
-        then details_of listings.old.items
+        then named_details listings.old.items
         ++ (listing.entry.name.now, detail_in listing.entry.detail) ∷ []
-        else details_of listings.old.items)) }
+        else named_details listings.old.items)) }
 {
     if listings.len() < limit || listing.name == "default" {
         let actions = first_actions(listing.actions, limit);
@@ -68,7 +69,7 @@ fn listing_of<'m>(name: &'m str, actions: &'m [String], details: &'m FeatureDeta
     ensures name { result.name.now ≡ name.now }
     ensures actions { result.actions.now ≡ actions.now }
     ensures detail { detail_in result.detail
-        ≡ detail_at (map_meaning detail_of details.now) name.now }
+        ≡ detail_named (map_meaning detail_of details.now) name.now }
 {
     Listing {
         name,
@@ -87,7 +88,7 @@ pub fn listings<'m>(
     limit: usize,
 ) -> Result<Vec<Listing<'m>>, AllocError>
     ensures all { IfOk result (λ v. listed_of v.items ≡ admitted limit (listed_in table.now)) }
-    ensures details { IfOk result (λ v. details_of v.items
+    ensures details { IfOk result (λ v. named_details v.items
         ≡ details_listed (listed_of v.items) (map_meaning detail_of details.now)) }
     ensures once { IfOk result (λ v. IsOnce (map (λ l. l.name.now) v.items)) }
 {
@@ -123,7 +124,7 @@ pub fn hashed_listings<'m, S: BuildHasher>(
     ensures all { IfOk result (λ v. (listed : Listed) → IsListingOf table.now listed
         → listed_of v.items ≡ admitted limit listed) }
     ensures details { IfOk result
-        (λ v. details_of v.items ≡ details_listed (listed_of v.items) []) }
+        (λ v. named_details v.items ≡ details_listed (listed_of v.items) []) }
     ensures once { IfOk result (λ v. IsOnce (map (λ l. l.name.now) v.items)) }
     ensures listed { IfOk result (λ _. (listed : Listed) × IsListingOf table.now listed) }
 {

@@ -19,7 +19,7 @@ ghost use Rattle.cargo_toml_features.specs.Examples.{redundancy, small, small_en
 ghost use Rattle.cargo_toml_features.specs.Examples.{small_listed, three_kinds, twice};
 ghost use Rattle.cargo_toml_features.specs.Recorded.{entries_at, first_target, is_implied};
 ghost use Rattle.cargo_toml_features.specs.Recorded.{is_reserved, recorded_of};
-ghost use Rattle.cargo_toml_features.specs.Resolved.{joined_table, plain};
+ghost use Rattle.cargo_toml_features.specs.Resolved.{joined_table, plain_action};
 
 /// Without dependencies a table is what its listed features say.
 pub fn features_alone_are_a_table()
@@ -51,7 +51,7 @@ pub fn a_small_table()
     // `log` acts on itself plainly, with no feature
     ensures acts_on_itself { (joined_table small_listed small_entries).action (codes "log")
         (codes "log")
-        ≡ Some plain }
+        ≡ Some plain_action }
     // the same where redundant features go
     ensures effective { IsSomeAnd (small.action (codes "fast") (codes "log"))
         (λ a. IsFalse a.is_conditional × IsFalse a.is_dep_only

@@ -4,10 +4,10 @@ ghost use Rattle.std.specs.Prelude.{Bool, List};
 ghost use Rattle.cargo_toml_graph.specs.Action.{Text};
 ghost use Rattle.cargo_toml_graph.specs.Admitted.{Listed};
 ghost use Rattle.cargo_toml_features.specs.Agreement as agreement;
-ghost use Rattle.cargo_toml_features.specs.Marks.{Details};
+ghost use Rattle.cargo_toml_features.specs.Marks.{NamedDetails};
 ghost use Rattle.cargo_toml_features.specs.Recorded.{Entry};
 ghost use Rattle.cargo_toml_features.specs.Resolved.{Answer, IsAnswer};
-ghost use Rattle.cargo_toml_features.specs.TargetLaws.{Agree, IsKindEquality, IsKindOrder};
+ghost use Rattle.cargo_toml_features.specs.TargetLaws.{EqualAlike, IsKindEquality, IsKindOrder};
 ghost use Rattle.cargo_toml_features.specs.TargetLaws.{IsTargetEquality, IsTargetOrder};
 
 use crate::features::{Kind, TargetKey};
@@ -17,7 +17,7 @@ use crate::features::{Kind, TargetKey};
 pub fn kinds()
     ensures order { IsKindOrder ⟦<Kind as Ord>⟧.cmp }
     ensures equality { IsKindEquality ⟦<Kind as PartialEq>⟧.eq }
-    ensures agree { Agree ⟦<Kind as Ord>⟧.cmp ⟦<Kind as PartialEq>⟧.eq }
+    ensures agree { EqualAlike ⟦<Kind as Ord>⟧.cmp ⟦<Kind as PartialEq>⟧.eq }
 {}
 
 /// Keys of targets compare by kind, then no target before a named one, in agreement with their
@@ -25,13 +25,13 @@ pub fn kinds()
 pub fn targets<'a>()
     ensures order { IsTargetOrder ⟦<TargetKey<'a> as Ord>⟧.cmp }
     ensures equality { IsTargetEquality ⟦<TargetKey<'a> as PartialEq>⟧.eq }
-    ensures agree { Agree ⟦<TargetKey<'a> as Ord>⟧.cmp ⟦<TargetKey<'a> as PartialEq>⟧.eq }
+    ensures agree { EqualAlike ⟦<TargetKey<'a> as Ord>⟧.cmp ⟦<TargetKey<'a> as PartialEq>⟧.eq }
 {}
 
 // What is listed, the entries and what is kept settle an answer, except the binaries that require
 // features, what is public, and texts.
 fn answers()
-    ensures { (listed : Listed) (entries : List Entry) (details told : Details)
+    ensures { (listed : Listed) (entries : List Entry) (details told : NamedDetails)
         (own others : Text → List Text) (keep : Text → Bool) (a b : Answer)
         → IsAnswer listed entries details own keep a → IsAnswer listed entries told others keep b
         → agreement.Agree a b }

@@ -4,7 +4,7 @@ ghost use Rattle.cargo_toml_graph.specs.Action.{Text};
 ghost use Rattle.cargo_toml_graph.specs.Admitted.{is_below};
 ghost use Rattle.cargo_toml_graph.specs.Reach.{Among};
 ghost use Rattle.cargo_toml_graph.specs.Removal.{IsAscending};
-ghost use Rattle.cargo_toml_features.specs.Places.{text_at};
+ghost use Rattle.cargo_toml_features.specs.Places.{nth_text};
 
 // So many texts are gone through sooner than halved: most differ from another by their length.
 const FEW: usize = 24;
@@ -30,7 +30,7 @@ pub fn is_same(a: &str, b: &str) -> bool
 // Where a text stands first among texts, if it does.
 fn first_of(texts: &[&str], text: &str) -> Option<usize>
     ensures found { IfSome result (λ i.
-        (i < length texts.now) × (text_at (map (λ t. t.now) texts.now) i ≡ text.now)) }
+        (i < length texts.now) × (nth_text (map (λ t. t.now) texts.now) i ≡ text.now)) }
     ensures missing { result ≡ None → ¬ Among (map (λ t. t.now) texts.now) text.now }
 {
     for (i, other) in texts.iter().enumerate() {
@@ -45,7 +45,7 @@ fn first_of(texts: &[&str], text: &str) -> Option<usize>
 fn searched(texts: &[&str], text: &str) -> Option<usize>
     requires { IsAscending (λ a b. IsTrue (is_below a b)) (map (λ t. t.now) texts.now) }
     ensures found { IfSome result (λ i.
-        (i < length texts.now) × (text_at (map (λ t. t.now) texts.now) i ≡ text.now)) }
+        (i < length texts.now) × (nth_text (map (λ t. t.now) texts.now) i ≡ text.now)) }
     ensures missing { result ≡ None → ¬ Among (map (λ t. t.now) texts.now) text.now }
 {
     texts.binary_search(&text).ok()
@@ -55,7 +55,7 @@ fn searched(texts: &[&str], text: &str) -> Option<usize>
 pub fn place_of(texts: &[&str], text: &str) -> Option<usize>
     requires { IsAscending (λ a b. IsTrue (is_below a b)) (map (λ t. t.now) texts.now) }
     ensures found { IfSome result
-        (λ i. (i < length texts.now) × (text_at (map (λ t. t.now) texts.now) i ≡ text.now)) }
+        (λ i. (i < length texts.now) × (nth_text (map (λ t. t.now) texts.now) i ≡ text.now)) }
     ensures missing { result ≡ None → ¬ Among (map (λ t. t.now) texts.now) text.now }
 {
     if texts.len() > FEW {

@@ -16,13 +16,13 @@ use Rattle.cargo_toml_graph.specs.Graph.{Table}
 use Rattle.cargo_toml_full.specs.Implying.{Becomes, ImpliesAll, is_optional_at, is_offered}
 use Rattle.cargo_toml_full.specs.Reading.{IsRead, IsFresh, AreFresh}
 use Rattle.cargo_toml_full.specs.Requiring.{Required, RequiredAll}
-use Rattle.cargo_toml_features.specs.Recorded.{Entry, Recorded, is_mentioned, is_reserved, entries_at, recorded_of, first_target, without_redundant}
+use Rattle.cargo_toml_features.specs.Recorded.{Entry, RecordedKey, is_mentioned, is_reserved, entries_at, recorded_of, first_target, without_redundant}
 use Rattle.cargo_toml_full.specs.Recording.{recorded_at, is_mentioned_in}
 use Rattle.cargo_toml_full.specs.Redundant.{IsRecordOf, Thinned, ThinnedAll}
-use Rattle.cargo_toml_features.specs.Resolved.{table_of, plain, SameRecorded}
+use Rattle.cargo_toml_features.specs.Resolved.{table_of, plain_action, SameRecorded}
 use Rattle.cargo_toml_dependencies.specs.Details.{plain_detail}
-use Rattle.cargo_toml_features.specs.Marks.{Details, Marks, detail_at, detail_listed, marked, marks_in, marks_of}
-use Rattle.cargo_toml_features.specs.Views.{has_text, action_at}
+use Rattle.cargo_toml_features.specs.Marks.{NamedDetails, FeatureMarks, detail_named, detail_listed, marked, marks_in, marks_of}
+use Rattle.cargo_toml_features.specs.Views.{set_has, action_at}
 use Rattle.cargo_toml_full.specs.declared.slots.Slots.{Slots}
 
 -- tables that say the same
@@ -50,7 +50,7 @@ module _ (entries : Text → List Entry) (old new : List Feature) (h : ThinnedAl
   names_thinned : (f x : Text) → (table_among new).names f x ≡ (table_among old).names f x
   names_thinned f x = go (feature_at old f) (feature_at new f) (h.at f)
     where
-      go : (o o' : Option Feature) → Relates (Thinned entries) o o' → option_map_or (λ v. has_text v.enables_features x) o' false ≡ option_map_or (λ v. has_text v.enables_features x) o false
+      go : (o o' : Option Feature) → Relates (Thinned entries) o o' → option_map_or (λ v. set_has v.enables_features x) o' false ≡ option_map_or (λ v. set_has v.enables_features x) o false
       go None None r = refl
       go None (Some b) r = absurd r
       go (Some a) None r = absurd r
@@ -65,7 +65,7 @@ module _ (entries : Text → List Entry) (old new : List Feature) (h : ThinnedAl
       go (Some a) None r = absurd r
       go (Some a) (Some b) r = r.actions k
 
-  fresh_thinned : (listed : Listed) (details : Details) → AreFresh listed details old → AreFresh listed details new
+  fresh_thinned : (listed : Listed) (details : NamedDetails) → AreFresh listed details old → AreFresh listed details new
   fresh_thinned listed details fresh f v s = subst (λ o. IfSome o (IsFresh f (detail_listed listed details f))) s (go (feature_at old f) (feature_at new f) refl (h.at f))
     where
       go : (o o' : Option Feature) → feature_at old f ≡ o → Relates (Thinned entries) o o' → IfSome o' (IsFresh f (detail_listed listed details f))
@@ -91,17 +91,17 @@ module _ (implied : Text → Bool) (old new : List Feature) (h : ImpliesAll impl
   names_after : (f x : Text) → (table_among new).names f x ≡ (table_among old).names f x
   names_after f x = go (implied f) (feature_at old f) (feature_at new f) (h.at f)
     where
-      go : (t : Bool) (o o' : Option Feature) → Becomes t f o o' → option_map_or (λ v. has_text v.enables_features x) o' false ≡ option_map_or (λ v. has_text v.enables_features x) o false
+      go : (t : Bool) (o o' : Option Feature) → Becomes t f o o' → option_map_or (λ v. set_has v.enables_features x) o' false ≡ option_map_or (λ v. set_has v.enables_features x) o false
       go true None None b = absurd b
       go true None (Some v) b = b.names x
       go false None o' b = rw b
       go true (Some v) o' b = rw b
       go false (Some v) o' b = rw b
 
-  action_after : (f k : Text) → (table_among new).action f k ≡ cond (is_some (feature_at old f)) ((table_among old).action f k) (cond (implied f && bytes_eq k f) (Some plain) None)
+  action_after : (f k : Text) → (table_among new).action f k ≡ cond (is_some (feature_at old f)) ((table_among old).action f k) (cond (implied f && bytes_eq k f) (Some plain_action) None)
   action_after f k = go (implied f) (feature_at old f) (feature_at new f) (h.at f)
     where
-      go : (t : Bool) (o o' : Option Feature) → Becomes t f o o' → option_map_or (λ v. action_at v.enables_deps k) o' None ≡ cond (is_some o) (option_map_or (λ v. action_at v.enables_deps k) o None) (cond (t && bytes_eq k f) (Some plain) None)
+      go : (t : Bool) (o o' : Option Feature) → Becomes t f o o' → option_map_or (λ v. action_at v.enables_deps k) o' None ≡ cond (is_some o) (option_map_or (λ v. action_at v.enables_deps k) o None) (cond (t && bytes_eq k f) (Some plain_action) None)
       go true None None b = absurd b
       go true None (Some v) b = b.action k
       go false None o' b = rw b
@@ -109,14 +109,14 @@ module _ (implied : Text → Bool) (old new : List Feature) (h : ImpliesAll impl
       go false (Some v) o' b = rw b
 
 -- a feature that sits under its key, with these marks, and with neither enablers nor binaries
-record IsMarked (f : Text) (these : Marks) (v : Feature) : Type 0 where
+record IsMarked (f : Text) (these : FeatureMarks) (v : Feature) : Type 0 where
   key : v.key.now ≡ f
   enabled_by : v.enabled_by.keys ≡ []
   bins : v.required_by_bins.items ≡ []
   marks : marks_of v ≡ these
 
 -- the same with the binaries that require it
-record IsTold (f : Text) (these : Marks) (own : List Text) (v : Feature) : Type 0 where
+record IsTold (f : Text) (these : FeatureMarks) (own : List Text) (v : Feature) : Type 0 where
   key : v.key.now ≡ f
   enabled_by : v.enabled_by.keys ≡ []
   bins : map (λ b. b.now) v.required_by_bins.items ≡ own
@@ -136,7 +136,7 @@ module _ (own : Text → List Text) (old new : List Feature) (h : RequiredAll ow
   names_required : (f x : Text) → (table_among new).names f x ≡ (table_among old).names f x
   names_required f x = go (feature_at old f) (feature_at new f) (h.at f)
     where
-      go : (o o' : Option Feature) → Relates (Required (own f)) o o' → option_map_or (λ v. has_text v.enables_features x) o' false ≡ option_map_or (λ v. has_text v.enables_features x) o false
+      go : (o o' : Option Feature) → Relates (Required (own f)) o o' → option_map_or (λ v. set_has v.enables_features x) o' false ≡ option_map_or (λ v. set_has v.enables_features x) o false
       go None None r = refl
       go None (Some b) r = absurd r
       go (Some a) None r = absurd r
@@ -151,7 +151,7 @@ module _ (own : Text → List Text) (old new : List Feature) (h : RequiredAll ow
       go (Some a) None r = absurd r
       go (Some a) (Some b) r = rw r.actions
 
-  told_required : (f : Text) (these : Marks) → IfSome (feature_at old f) (IsMarked f these) → IfSome (feature_at new f) (IsTold f these (own f))
+  told_required : (f : Text) (these : FeatureMarks) → IfSome (feature_at old f) (IsMarked f these) → IfSome (feature_at new f) (IsTold f these (own f))
   told_required f these = go (feature_at old f) (feature_at new f) (h.at f)
     where
       go : (o o' : Option Feature) → Relates (Required (own f)) o o' → IfSome o (IsMarked f these) → IfSome o' (IsTold f these (own f))
@@ -165,14 +165,14 @@ module _ (own : Text → List Text) (old new : List Feature) (h : RequiredAll ow
         marks = r.marks ∙ m.marks;
       }
 
-same_recorded : (a b : Option Recorded) → a ≡ b → SameRecorded a b
+same_recorded : (a b : Option RecordedKey) → a ≡ b → SameRecorded a b
 same_recorded a b e = subst (SameRecorded a) e (own a)
   where
-    own : (o : Option Recorded) → SameRecorded o o
+    own : (o : Option RecordedKey) → SameRecorded o o
     own None = tt
     own (Some r) = (refl, λ t. refl)
 
-module _ (listed : Listed) (entries : List Entry) (details : Details) (own : Text → List Text) (mentions : Mentions) (thinned implied last : List Feature) (deps : Slots FeatureDependency)
+module _ (listed : Listed) (entries : List Entry) (details : NamedDetails) (own : Text → List Text) (mentions : Mentions) (thinned implied last : List Feature) (deps : Slots FeatureDependency)
     (r : IsRead listed (table_among mentions.features.items) (has_key mentions.acted.keys) (has_key mentions.acted.reserved)) (fresh : AreFresh listed details mentions.features.items)
     (thins : (entries : Text → List Entry) → IsRecordOf deps entries → ThinnedAll entries mentions.features.items thinned) (i : ImpliesAll (is_offered (has_key mentions.acted.reserved) entries) thinned implied)
     (b : RequiredAll own implied last)
@@ -207,13 +207,13 @@ module _ (listed : Listed) (entries : List Entry) (details : Details) (own : Tex
     has = λ f. has_after (is_offered (has_key mentions.acted.reserved) entries) thinned implied i f ∙ ap (λ b. b || is_offered (has_key mentions.acted.reserved) entries f) (has_still f) ∙ ap (λ b. is_explicit listed f || b) (offered_is f) ∙ or_not (is_explicit listed f) _;
     names = λ f x. names_after (is_offered (has_key mentions.acted.reserved) entries) thinned implied i f x ∙ names_thinned (entries_at listed entries) mentions.features.items thinned less f x ∙ r.names f x;
     action = λ f k.
-        action_after (is_offered (has_key mentions.acted.reserved) entries) thinned implied i f k ∙ ap (λ b. cond b ((table_among thinned).action f k) (cond (is_offered (has_key mentions.acted.reserved) entries f && bytes_eq k f) (Some plain) None)) (has_still f)
-        ∙ ap (λ o. cond (is_explicit listed f) o (cond (is_offered (has_key mentions.acted.reserved) entries f && bytes_eq k f) (Some plain) None)) (action_still f k)
-        ∙ ap (λ b. cond (is_explicit listed f) (option_map (left k) (joined_action listed f k)) (cond (b && bytes_eq k f) (Some plain) None)) (offered_is f)
+        action_after (is_offered (has_key mentions.acted.reserved) entries) thinned implied i f k ∙ ap (λ b. cond b ((table_among thinned).action f k) (cond (is_offered (has_key mentions.acted.reserved) entries f && bytes_eq k f) (Some plain_action) None)) (has_still f)
+        ∙ ap (λ o. cond (is_explicit listed f) o (cond (is_offered (has_key mentions.acted.reserved) entries f && bytes_eq k f) (Some plain_action) None)) (action_still f k)
+        ∙ ap (λ b. cond (is_explicit listed f) (option_map (left k) (joined_action listed f k)) (cond (b && bytes_eq k f) (Some plain_action) None)) (offered_is f)
         ∙ go (left k) refl (is_explicit listed f) (joined_action listed f k) (list_any (is_optional_at f) entries && not (is_reserved listed f)) (bytes_eq k f);
   }
     where
-      go : (w : Action → Action) → w plain ≡ plain → (a : Bool) (o : Option Action) (i b : Bool) → cond a (option_map w o) (cond (i && b) (Some plain) None) ≡ option_map w (cond a o (cond ((i && not a) && b) (Some plain) None))
+      go : (w : Action → Action) → w plain_action ≡ plain_action → (a : Bool) (o : Option Action) (i b : Bool) → cond a (option_map w o) (cond (i && b) (Some plain_action) None) ≡ option_map w (cond a o (cond ((i && not a) && b) (Some plain_action) None))
       go w p true o i b = refl
       go w p false o true true = ap Some (sym p)
       go w p false o true false = refl
@@ -233,7 +233,7 @@ module _ (listed : Listed) (entries : List Entry) (details : Details) (own : Tex
   implied_marks : (f : Text) → is_explicit listed f ≡ false → marked false plain_detail ≡ marks_in listed details f
   implied_marks f off = ap₂ marked (sym off) (sym (go (bytes_eq f (codes "default")) (is_some (lookup (bytes_eq f) listed)) off))
     where
-      go : (d l : Bool) → (d || l) ≡ false → cond l (detail_at details f) plain_detail ≡ plain_detail
+      go : (d l : Bool) → (d || l) ≡ false → cond l (detail_named details f) plain_detail ≡ plain_detail
       go true l e = absurd (false≢true (sym e))
       go false true e = absurd (false≢true (sym e))
       go false false e = refl

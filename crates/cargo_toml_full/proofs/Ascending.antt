@@ -11,7 +11,7 @@ use Rattle.cargo_toml_graph.specs.Action.{Text}
 use Rattle.cargo_toml_graph.specs.Admitted.{is_below}
 use Rattle.cargo_toml_graph.specs.Reach.{Among}
 use Rattle.cargo_toml_full.specs.Ascending.{Ascend}
-use Rattle.cargo_toml_features.specs.Places.{text_at}
+use Rattle.cargo_toml_features.specs.Places.{nth_text}
 
 abbrev pub Below : Text → Text → Type 0
 Below a b = IsTrue (is_below a b)
@@ -33,7 +33,7 @@ one_ascends : (x : Text) → Ascend (x ∷ [])
 one_ascends x = (λ y there. absurd there, tt)
 
 -- each text is above the one before it
-pub ascend_by_one : (xs : List Text) → ((k : ℕ) → suc k < length xs → Below (text_at xs k) (text_at xs (suc k))) → Ascend xs
+pub ascend_by_one : (xs : List Text) → ((k : ℕ) → suc k < length xs → Below (nth_text xs k) (nth_text xs (suc k))) → Ascend xs
 ascend_by_one [] steps = tt
 ascend_by_one (x ∷ []) steps = one_ascends x
 ascend_by_one (x ∷ y ∷ ys) steps = go (ascend_by_one (y ∷ ys) (λ k below. steps (suc k) (omega arith)))
@@ -46,11 +46,11 @@ texts ts = map (λ t. t.now) ts
 
 -- one more text of a list, which is above the one before it
 pub step_up : (ts : List (Bor Text)) (i : ℕ) (d e : Bor Text) → 1 ≤ i → i < length ts → false ≡ is_ge (slice_cmp nat_cmp (get_or ts (i - 1) d).now (get_or ts i e).now)
-    → ((k : ℕ) → suc k < i → Below (text_at (texts ts) k) (text_at (texts ts) (suc k))) → (k : ℕ) → suc k < i + 1 → Below (text_at (texts ts) k) (text_at (texts ts) (suc k))
+    → ((k : ℕ) → suc k < i → Below (nth_text (texts ts) k) (nth_text (texts ts) (suc k))) → (k : ℕ) → suc k < i + 1 → Below (nth_text (texts ts) k) (nth_text (texts ts) (suc k))
 step_up ts zero d e positive inside off so_far k below = absurd (omega arith)
 step_up ts (suc j) d e positive inside off so_far k below = elim (cases_lt (suc k) (suc j)) [
   | inl before ↦ so_far k before
-  | inr after ↦ subst (λ n. Below (text_at (texts ts) n) (text_at (texts ts) (suc n))) (let same : j ≡ k = omega arith in same) here
+  | inr after ↦ subst (λ n. Below (nth_text (texts ts) n) (nth_text (texts ts) (suc n))) (let same : j ≡ k = omega arith in same) here
 ]
   where
     less : (o : Ordering) → false ≡ is_ge o → IsTrue (is_lt o)
@@ -61,7 +61,7 @@ step_up ts (suc j) d e positive inside off so_far k below = elim (cases_lt (suc 
     before_it : suc j - 1 ≡ j
     before_it = omega arith
 
-    here : Below (text_at (texts ts) j) (text_at (texts ts) (suc j))
-    here = subst (λ x. Below x (text_at (texts ts) (suc j))) (sym (get_or-map (λ (t : Bor Text). t.now) ts j d [] (omega arith)))
+    here : Below (nth_text (texts ts) j) (nth_text (texts ts) (suc j))
+    here = subst (λ x. Below x (nth_text (texts ts) (suc j))) (sym (get_or-map (λ (t : Bor Text). t.now) ts j d [] (omega arith)))
         (subst (Below (get_or ts j d).now) (sym (get_or-map (λ (t : Bor Text). t.now) ts (suc j) e [] inside))
         (less _ (subst (λ n. false ≡ is_ge (slice_cmp nat_cmp (get_or ts n d).now (get_or ts (suc j) e).now)) before_it off)))

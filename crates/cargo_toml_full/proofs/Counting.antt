@@ -11,7 +11,7 @@ use Rattle.std.specs.Ordering.{is_eq}
 use Rattle.cargo_toml_dependencies.specs.Dependencies.{is_optional, package_of}
 use Rattle.cargo_toml_graph.specs.Action.{Text}
 use Rattle.cargo_toml_graph.specs.Admitted.{Listed}
-use Rattle.cargo_toml_features.specs.Recorded.{Entry, Recorded, target_cmp, is_mentioned, counting, entries_at, recorded_of}
+use Rattle.cargo_toml_features.specs.Recorded.{Entry, RecordedKey, target_cmp, is_mentioned, counting, entries_at, recorded_of}
 use Rattle.cargo_toml_full.specs.Recording.{recorded_with, recorded_after}
 
 abbrev at_key : Text → Entry → Bool
@@ -138,7 +138,7 @@ module _ (listed : Listed) where
           skipped false = append-nil (entries_at listed es k)
 
   -- the same of a map, where `mentioned` says which keys are
-  pub recorded_then : (mentioned : Text → Bool) → ((k : Text) → mentioned k ≡ is_mentioned listed k) → (es : List Entry) (e : Entry) (k : Text) (before after : Option Recorded)
+  pub recorded_then : (mentioned : Text → Bool) → ((k : Text) → mentioned k ≡ is_mentioned listed k) → (es : List Entry) (e : Entry) (k : Text) (before after : Option RecordedKey)
       → before ≡ recorded_of (entries_at listed es k) → after ≡ recorded_after mentioned e k before → after ≡ recorded_of (entries_at listed (es ++ e ∷ []) k)
   recorded_then mentioned same es e k before after was is =
       is ∙ ap (λ t. cond (bytes_eq e.key k && (is_some before || (is_optional e.dependency || t))) (Some (recorded_with before e)) before) (same k)

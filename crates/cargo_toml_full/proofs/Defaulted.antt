@@ -5,7 +5,7 @@ use Rattle.std.specs.Option.{IsSomeAnd, option_or}
 use Rattle.cargo_toml_dependencies.specs.Details.{plain_detail}
 use Rattle.cargo_toml_features.specs.declared.features.Feature.{Feature}
 use Rattle.cargo_toml_graph.specs.Action.{Text}
-use Rattle.cargo_toml_full.specs.ReadFeature.{IsListed}
+use Rattle.cargo_toml_full.specs.ReadFeature.{IsReadFeature}
 
 none_or : (o : Option Feature) → option_or o None ≡ o
 none_or None = refl
@@ -16,10 +16,10 @@ pub others_stay : (f key : Text) (v : Feature) (old new : Option Feature) → by
 others_stay f key v old new off put = put ∙ ap (λ t. option_or old (cond t (Some v) None)) off ∙ none_or old
 
 -- and under its own it stands where nothing stood
-pub default_put : (v : Feature) (old new : Option Feature) → IsListed (codes "default") plain_detail [] v → new ≡ option_or old (cond (bytes_eq (codes "default") v.key.now) (Some v) None)
-    → MatchOption old (IsSomeAnd new (IsListed (codes "default") plain_detail [])) (λ w. new ≡ Some w)
+pub default_put : (v : Feature) (old new : Option Feature) → IsReadFeature (codes "default") plain_detail [] v → new ≡ option_or old (cond (bytes_eq (codes "default") v.key.now) (Some v) None)
+    → MatchOption old (IsSomeAnd new (IsReadFeature (codes "default") plain_detail [])) (λ w. new ≡ Some w)
 default_put v old new listed put = go old new (put ∙ ap (λ t. option_or old (cond t (Some v) None)) ((bytes_eq-Decides (codes "default") v.key.now).1 (sym listed.fresh.key)))
   where
-    go : (old new : Option Feature) → new ≡ option_or old (Some v) → MatchOption old (IsSomeAnd new (IsListed (codes "default") plain_detail [])) (λ w. new ≡ Some w)
-    go None new is = subst (λ o. IsSomeAnd o (IsListed (codes "default") plain_detail [])) (sym is) listed
+    go : (old new : Option Feature) → new ≡ option_or old (Some v) → MatchOption old (IsSomeAnd new (IsReadFeature (codes "default") plain_detail [])) (λ w. new ≡ Some w)
+    go None new is = subst (λ o. IsSomeAnd o (IsReadFeature (codes "default") plain_detail [])) (sym is) listed
     go (Some w) new is = is

@@ -19,8 +19,8 @@ use Rattle.cargo_toml_graph.specs.Action.{Text, Action, Item, join_option}
 use Rattle.cargo_toml_graph.specs.Action.Item.{Name, On}
 use Rattle.cargo_toml_graph.specs.Admitted.{action_on, item_names}
 use Rattle.cargo_toml_features.specs.ActionText.{action_in, item_in}
-use Rattle.cargo_toml_features.specs.Views.{action_at, has_text}
-use Rattle.cargo_toml_full.specs.ReadFeature.{IsGathered, IsListed, joined_in}
+use Rattle.cargo_toml_features.specs.Views.{action_at, set_has}
+use Rattle.cargo_toml_full.specs.ReadFeature.{IsGathered, IsReadFeature, joined_in}
 
 pub acting : (t : ActionText) → true ≡ (t.is_dep_only || is_some t.dep_feature) → item_in t ≡ On t.target.now (action_in t)
 acting t e = ap (λ b. cond b (On t.target.now (action_in t)) (Name t.target.now)) (sym e)
@@ -66,7 +66,7 @@ text_in (k ∷ ks) x = ap₂ (λ a b. a || b) (is_eq-slice_cmp x k.now) (text_in
 
 -- a set that is made of texts has them
 pub texts_made : {E : Type 0} (ks : List (Bor Text)) (r : Result (BTreeSet (Bor Text)) E) → IfOk r (λ s. sorted.IsFromIterResult (λ x y. slice_cmp nat_cmp x.now y.now) ks s)
-    → IfOk r (λ s. (x : Text) → has_text s x ≡ list_any (bytes_eq x) (map (λ k. k.now) ks))
+    → IfOk r (λ s. (x : Text) → set_has s x ≡ list_any (bytes_eq x) (map (λ k. k.now) ks))
 texts_made ks (Err e) h = tt
 texts_made ks (Ok s) h = λ x. h.0 (record { ref_ptr = (0, 0); now = x }) ∙ text_in ks x
 
@@ -85,7 +85,7 @@ more_texts ks i s n lt h more x =
 
 -- a feature whose names were gathered, once it has them
 pub has_gathered : (f : Text) (d : Detail) (items : List Item) (named : List Text) (v : Feature) (s : BTreeSet (Bor Text)) → IsGathered f d items named v
-    → ((x : Text) → has_text s x ≡ list_any (bytes_eq x) named) → IsListed f d items (record v { enables_features = s })
+    → ((x : Text) → set_has s x ≡ list_any (bytes_eq x) named) → IsReadFeature f d items (record v { enables_features = s })
 has_gathered f d items named v s h has = record {
   fresh = record { key = h.fresh.key; marks = h.fresh.marks; enabled_by = h.fresh.enabled_by; bins = h.fresh.bins };
   names = λ x. has x ∙ h.names x;

@@ -9,7 +9,7 @@ use Rattle.cargo_toml_graph.proofs.RedirectsInOrder.{below_one_way}
 use Rattle.cargo_toml_full.specs.Ascending.{Ascend}
 use Rattle.cargo_toml_full.specs.Slots.{HaveSameNames, held_among, held_in, names_in}
 use Rattle.cargo_toml_full.specs.declared.slots.Slots.{Slots}
-use Rattle.cargo_toml_features.specs.Places.{text_at}
+use Rattle.cargo_toml_features.specs.Places.{nth_text}
 use Rattle.cargo_toml_features.proofs.Places.{among_at}
 
 module _ {V : Type 0} where
@@ -24,25 +24,25 @@ module _ {V : Type 0} where
       go false off later = later
 
   -- under the name of a place stands its value
-  pub held_at : (ns : List Text) (vs : List (Option V)) (i : ℕ) (d : Option V) → Ascend ns → length vs ≡ length ns → i < length ns → held_among ns vs (text_at ns i) ≡ get_or vs i d
+  pub held_at : (ns : List Text) (vs : List (Option V)) (i : ℕ) (d : Option V) → Ascend ns → length vs ≡ length ns → i < length ns → held_among ns vs (nth_text ns i) ≡ get_or vs i d
   held_at [] vs i d up same below = absurd (omega arith)
   held_at (n ∷ ns) [] i d up same below = absurd (omega arith)
   held_at (n ∷ ns) (v ∷ vs) zero d up same below = ap (λ t. cond t v (held_among ns vs n)) ((bytes_eq-Decides n n).1 refl)
-  held_at (n ∷ ns) (v ∷ vs) (suc i) d up same below = go (bytes_eq (text_at ns i) n) refl (held_at ns vs i d up.1 (omega arith) (omega arith))
+  held_at (n ∷ ns) (v ∷ vs) (suc i) d up same below = go (bytes_eq (nth_text ns i) n) refl (held_at ns vs i d up.1 (omega arith) (omega arith))
     where
       inside : i < length ns
       inside = omega arith
 
-      go : (t : Bool) → bytes_eq (text_at ns i) n ≡ t → held_among ns vs (text_at ns i) ≡ get_or vs i d → cond t v (held_among ns vs (text_at ns i)) ≡ get_or vs i d
+      go : (t : Bool) → bytes_eq (nth_text ns i) n ≡ t → held_among ns vs (nth_text ns i) ≡ get_or vs i d → cond t v (held_among ns vs (nth_text ns i)) ≡ get_or vs i d
       go true on later = absurd (below_one_way n n (apart on) (apart on))
         where
-          apart : bytes_eq (text_at ns i) n ≡ true → IsTrue (is_below n n)
-          apart on = subst (λ x. IsTrue (is_below n x)) ((bytes_eq-Decides (text_at ns i) n).0 on) (up.0 (text_at ns i) (among_at ns i [] inside))
+          apart : bytes_eq (nth_text ns i) n ≡ true → IsTrue (is_below n n)
+          apart on = subst (λ x. IsTrue (is_below n x)) ((bytes_eq-Decides (nth_text ns i) n).0 on) (up.0 (nth_text ns i) (among_at ns i [] inside))
       go false off later = later
 
   -- a value is put in a place
   pub held_set : (ns : List Text) (vs : List (Option V)) (i : ℕ) (o : Option V) → Ascend ns → length vs ≡ length ns → i < length ns
-      → (f : Text) → held_among ns (set vs i o) f ≡ cond (bytes_eq f (text_at ns i)) o (held_among ns vs f)
+      → (f : Text) → held_among ns (set vs i o) f ≡ cond (bytes_eq f (nth_text ns i)) o (held_among ns vs f)
   held_set [] vs i o up same below f = absurd (omega arith)
   held_set (n ∷ ns) [] i o up same below f = absurd (omega arith)
   held_set (n ∷ ns) (v ∷ vs) zero o up same below f = go (bytes_eq f n)
@@ -50,16 +50,16 @@ module _ {V : Type 0} where
       go : (t : Bool) → cond t o (held_among ns vs f) ≡ cond t o (cond t v (held_among ns vs f))
       go true = refl
       go false = refl
-  held_set (n ∷ ns) (v ∷ vs) (suc i) o up same below f = ap (cond (bytes_eq f n) v) (held_set ns vs i o up.1 (omega arith) (omega arith) f) ∙ go (bytes_eq f n) refl (bytes_eq f (text_at ns i)) refl
+  held_set (n ∷ ns) (v ∷ vs) (suc i) o up same below f = ap (cond (bytes_eq f n) v) (held_set ns vs i o up.1 (omega arith) (omega arith) f) ∙ go (bytes_eq f n) refl (bytes_eq f (nth_text ns i)) refl
     where
       inside : i < length ns
       inside = omega arith
 
-      go : (s : Bool) → bytes_eq f n ≡ s → (t : Bool) → bytes_eq f (text_at ns i) ≡ t → cond s v (cond t o (held_among ns vs f)) ≡ cond t o (cond s v (held_among ns vs f))
+      go : (s : Bool) → bytes_eq f n ≡ s → (t : Bool) → bytes_eq f (nth_text ns i) ≡ t → cond s v (cond t o (held_among ns vs f)) ≡ cond t o (cond s v (held_among ns vs f))
       go true on true there = absurd (below_one_way n n itself itself)
         where
           itself : IsTrue (is_below n n)
-          itself = subst (λ x. IsTrue (is_below n x)) (sym ((bytes_eq-Decides f (text_at ns i)).0 there) ∙ (bytes_eq-Decides f n).0 on) (up.0 (text_at ns i) (among_at ns i [] inside))
+          itself = subst (λ x. IsTrue (is_below n x)) (sym ((bytes_eq-Decides f (nth_text ns i)).0 there) ∙ (bytes_eq-Decides f n).0 on) (up.0 (nth_text ns i) (among_at ns i [] inside))
       go true on false there = refl
       go false off true there = refl
       go false off false there = refl
@@ -79,10 +79,10 @@ module _ {V : Type 0} where
     as_many : length s.values.items ≡ length (names_in s)
     as_many = s.count ∙ sym (length-map s.names.items (λ (n : Bor Text). n.now))
 
-    pub value_there : (o : Option V) → o ≡ get_or s.values.items i o → held_in s (text_at (names_in s) i) ≡ o
+    pub value_there : (o : Option V) → o ≡ get_or s.values.items i o → held_in s (nth_text (names_in s) i) ≡ o
     value_there o is = held_at (names_in s) s.values.items i o s.ascend as_many inside ∙ sym is
 
-    pub value_put : (o : Option V) (f : Text) → held_among (names_in s) (set s.values.items i o) f ≡ cond (bytes_eq f (text_at (names_in s) i)) o (held_in s f)
+    pub value_put : (o : Option V) (f : Text) → held_among (names_in s) (set s.values.items i o) f ≡ cond (bytes_eq f (nth_text (names_in s) i)) o (held_in s f)
     value_put o f = held_set (names_in s) s.values.items i o s.ascend as_many inside f
 
     -- the value that stood there is put back
@@ -91,9 +91,9 @@ module _ {V : Type 0} where
 
   -- what stands where a name is found
   pub value_found : (s : Slots V) → (ts : List (Bor Text)) (i : ℕ) (f : Text) (o : Option V) → ts ≡ s.names.items
-      → ((i < length ts) × (text_at (map (λ n. n.now) ts) i ≡ f)) → o ≡ get_or s.values.items i o → held_in s f ≡ o
+      → ((i < length ts) × (nth_text (map (λ n. n.now) ts) i ≡ f)) → o ≡ get_or s.values.items i o → held_in s f ≡ o
   value_found s ts i f o same found is =
-      let here = subst (λ (us : List (Bor Text)). (i < length us) × (text_at (map (λ n. n.now) us) i ≡ f)) same found in
+      let here = subst (λ (us : List (Bor Text)). (i < length us) × (nth_text (map (λ n. n.now) us) i ≡ f)) same found in
       ap (held_in s) (sym here.1) ∙ value_there s i here.0 o is
 
   -- of two values put under one name the later stays

@@ -21,7 +21,7 @@ use Rattle.cargo_toml_features.specs.declared.features.Feature.{Feature}
 use Rattle.cargo_toml_graph.specs.Action.{Text}
 use Rattle.cargo_toml_full.specs.Implying.{AreFree, IsImplied, Becomes, ImpliesAll, is_optional_at, is_offered, is_offered_alone, is_one_of}
 use Rattle.cargo_toml_features.specs.Recorded.{Entry}
-use Rattle.cargo_toml_features.specs.Resolved.{plain}
+use Rattle.cargo_toml_features.specs.Resolved.{plain_action}
 use Rattle.cargo_toml_features.specs.Views.{action_of, action_at}
 use Rattle.cargo_toml_features.specs.InOrder.{feature_at}
 use Rattle.cargo_toml_graph.proofs.Texts.{bytes_eq_sym}
@@ -94,16 +94,16 @@ module _ where
   pub offers_none : (e : Entry) (reserved : Text → Bool) (m : List Feature) → ((q : Text) → is_offered reserved (e ∷ []) q ≡ false) → ImpliesAll (is_offered reserved (e ∷ [])) m m
   offers_none e reserved m off = record { at = λ q. stays (is_offered reserved (e ∷ []) q) q (feature_at m q) (λ y. absurd (false≢true (sym (off q) ∙ y))) }
 
--- the one plain action
+-- the one plain_action action
 pub plain_made : (key : Text) (m n : BTreeMap (Bor Text) DepAction) (s : BTreeSet (Bor Text)) → m.entries ≡ [] → s.keys ≡ []
     → tree.UpdatesBy (λ x y. slice_cmp nat_cmp x.now y.now) (λ q. slice_cmp nat_cmp key q.now) m n (Some (record { is_conditional = false; is_dep_only = false; dep_features = s }))
-    → (k : Text) → action_at n k ≡ cond (bytes_eq k key) (Some plain) None
+    → (k : Text) → action_at n k ≡ cond (bytes_eq k key) (Some plain_action) None
 plain_made key m n s none empty u k =
     ap (option_map action_of) (btree_map_updates_str key m n _ u k)
     ∙ ap (λ es. option_map action_of (cond (bytes_eq key k) (Some (record { is_conditional = false; is_dep_only = false; dep_features = s })) (lookup (tree.is_at (λ (q : Bor Text). slice_cmp nat_cmp k q.now)) es))) none
-    ∙ go (bytes_eq key k) ∙ ap (λ t. cond t (Some plain) None) (bytes_eq_sym key k)
+    ∙ go (bytes_eq key k) ∙ ap (λ t. cond t (Some plain_action) None) (bytes_eq_sym key k)
   where
-    go : (t : Bool) → option_map action_of (cond t (Some (record { is_conditional = false; is_dep_only = false; dep_features = s })) None) ≡ cond t (Some plain) None
+    go : (t : Bool) → option_map action_of (cond t (Some (record { is_conditional = false; is_dep_only = false; dep_features = s })) None) ≡ cond t (Some plain_action) None
     go true = λ i. Some (record { is_conditional = false; is_dep_only = false; features = λ x. none_in s empty x i })
     go false = refl
 

@@ -20,7 +20,7 @@ use Rattle.cargo_toml_graph.specs.Reach.{Among}
 use Rattle.cargo_toml_graph.proofs.RedirectsInOrder.{below_one_way}
 use Rattle.cargo_toml_full.specs.Placing.{IsBoundOf, IsPlaceOf}
 use Rattle.cargo_toml_full.proofs.Ascending.{Below, below_then, lower}
-use Rattle.cargo_toml_features.specs.Places.{text_at}
+use Rattle.cargo_toml_features.specs.Places.{nth_text}
 use Rattle.cargo_toml_features.proofs.Places.{among_at, at_among, rises}
 
 -- a name is that of one of them, or of none
@@ -60,12 +60,12 @@ place_free vs i f up h there = go (at_among (names_of vs) f [] there)
     itself : Below f f → ⊥
     itself b = below_one_way f f b b
 
-    go : (k : ℕ) × (k < length (names_of vs)) × (text_at (names_of vs) k ≡ f) → ⊥
+    go : (k : ℕ) × (k < length (names_of vs)) × (nth_text (names_of vs) k ≡ f) → ⊥
     go k = elim (cases_order k.0 i) [
-      | inl same ↦ h.free (let below = k.1 in omega (arith, below, long, same)) (subst (λ j. text_at (names_of vs) j ≡ f) same k.2)
+      | inl same ↦ h.free (let below = k.1 in omega (arith, below, long, same)) (subst (λ j. nth_text (names_of vs) j ≡ f) same k.2)
       | inr other ↦ elim other [
         | inl less ↦ itself (subst (λ x. Below x f) k.2 (h.bound.below k.0 less))
-        | inr more ↦ false≢true (sym (h.bound.above (let below = k.1 in omega (arith, below, long, more))) ∙ subst (Below (text_at (names_of vs) i)) k.2 (rises (names_of vs) up i k.0 more k.1))
+        | inr more ↦ false≢true (sym (h.bound.above (let below = k.1 in omega (arith, below, long, more))) ∙ subst (Below (nth_text (names_of vs) i)) k.2 (rises (names_of vs) up i k.0 more k.1))
       ]
     ]
 
@@ -76,8 +76,8 @@ among_put [] (suc i) w y within there = absurd (omega (arith, within))
 among_put (v ∷ vs) (suc i) w y within (inl is) = inr (inl is)
 among_put (v ∷ vs) (suc i) w y within (inr there) = elim (among_put vs i w y (omega (arith, within)) there) [ inl is ↦ inl is | inr more ↦ inr (inr more) ]
 
-put_ascends : (vs : List Feature) (i : ℕ) (w : Feature) → AreInOrder vs → i ≤ length vs → ((k : ℕ) → k < i → Below (text_at (names_of vs) k) w.key.now)
-    → (i < length vs → Below w.key.now (text_at (names_of vs) i)) → AreInOrder (insert vs i w)
+put_ascends : (vs : List Feature) (i : ℕ) (w : Feature) → AreInOrder vs → i ≤ length vs → ((k : ℕ) → k < i → Below (nth_text (names_of vs) k) w.key.now)
+    → (i < length vs → Below w.key.now (nth_text (names_of vs) i)) → AreInOrder (insert vs i w)
 put_ascends [] zero w up within below above = (λ y there. absurd there, tt)
 put_ascends (v ∷ vs) zero w up within below above = (lower w.key.now v.key.now (names_of vs) up (above (omega arith)), up)
 put_ascends [] (suc i) w up within below above = absurd (omega (arith, within))
@@ -103,7 +103,7 @@ put_held (v ∷ vs) (suc i) w within gone f = ap (cond (bytes_eq f v.key.now) (S
 module _ (vs : List Feature) (i : ℕ) (w : Feature) (up : AreInOrder vs) (place : IsPlaceOf vs i w.key.now) (new : List Feature) (put : new ≡ insert vs i w) where
   pub placed_in_order : AreInOrder new
   placed_in_order = subst AreInOrder (sym put) (put_ascends vs i w up place.bound.within place.bound.below
-      (λ inside. strictly_above (text_at (names_of vs) i) w.key.now (place.bound.above inside) (place.free inside)))
+      (λ inside. strictly_above (nth_text (names_of vs) i) w.key.now (place.bound.above inside) (place.free inside)))
 
   pub placed_held : (f : Text) → feature_at new f ≡ cond (bytes_eq f w.key.now) (Some w) (feature_at vs f)
   placed_held f = ap (λ us. feature_at us f) put ∙ put_held vs i w place.bound.within (place_free vs i w.key.now up place) f
@@ -121,17 +121,17 @@ set_last [] v w = refl
 set_last (u ∷ vs) v w = ap (λ us. u ∷ us) (set_last vs v w)
 
 -- halving: where the text at a place is below, so are those before it
-pub below_through : (vs : List Feature) (f : Text) (i : ℕ) → AreInOrder vs → i < length vs → Below (text_at (names_of vs) i) f → (k : ℕ) → k < i + 1 → Below (text_at (names_of vs) k) f
+pub below_through : (vs : List Feature) (f : Text) (i : ℕ) → AreInOrder vs → i < length vs → Below (nth_text (names_of vs) i) f → (k : ℕ) → k < i + 1 → Below (nth_text (names_of vs) k) f
 below_through vs f i up inside here k under = elim (cases_order k i) [
-  | inl same ↦ subst (λ j. Below (text_at (names_of vs) j) f) (sym same) here
+  | inl same ↦ subst (λ j. Below (nth_text (names_of vs) j) f) (sym same) here
   | inr other ↦ elim other [
-    | inl less ↦ below_then (text_at (names_of vs) k) (text_at (names_of vs) i) f (rises (names_of vs) up k i less (let long = length-map vs (λ (v : Feature). v.key.now) in omega (arith, inside, long))) here
+    | inl less ↦ below_then (nth_text (names_of vs) k) (nth_text (names_of vs) i) f (rises (names_of vs) up k i less (let long = length-map vs (λ (v : Feature). v.key.now) in omega (arith, inside, long))) here
     | inr more ↦ absurd (omega (arith, under, more))
   ]
 ]
 
 -- a feature that stands somewhere is found
-pub feature_there : (vs : List Feature) (i : ℕ) (f : Text) → i < length vs → text_at (names_of vs) i ≡ f → is_some (feature_at vs f) ≡ true
+pub feature_there : (vs : List Feature) (i : ℕ) (f : Text) → i < length vs → nth_text (names_of vs) i ≡ f → is_some (feature_at vs f) ≡ true
 feature_there [] i f below same = absurd (omega (arith, below))
 feature_there (v ∷ vs) zero f below same = ap (λ t. is_some (cond t (Some v) (feature_at vs f))) ((bytes_eq-Decides f v.key.now).1 (sym same))
 feature_there (v ∷ vs) (suc i) f below same = go (bytes_eq f v.key.now) (feature_there vs i f (omega (arith, below)) same)
@@ -167,54 +167,54 @@ put_old vs v f there = go (bytes_eq f v.key.now) refl (feature_at vs f) refl
 
 -- a place that was found by a search of the same features
 module _ (vs us ws : List Feature) (place : ℕ) (f : Text) (same : us ≡ vs) (same' : ws ≡ vs) where
-  pub free_place : IsBoundOf us place f → (place < length ws → text_at (names_of ws) place ≡ f → ⊥) → IsPlaceOf vs place f
-  free_place bound free = record { bound = subst (λ xs. IsBoundOf xs place f) same bound; free = subst (λ xs. place < length xs → text_at (names_of xs) place ≡ f → ⊥) same' free }
+  pub free_place : IsBoundOf us place f → (place < length ws → nth_text (names_of ws) place ≡ f → ⊥) → IsPlaceOf vs place f
+  free_place bound free = record { bound = subst (λ xs. IsBoundOf xs place f) same bound; free = subst (λ xs. place < length xs → nth_text (names_of xs) place ≡ f → ⊥) same' free }
 
-  pub taken_place : (place < length ws) × (text_at (names_of ws) place ≡ f) → is_some (feature_at vs f) ≡ true
-  taken_place here = let there = subst (λ xs. (place < length xs) × (text_at (names_of xs) place ≡ f)) same' here in feature_there vs place f there.0 there.1
+  pub taken_place : (place < length ws) × (nth_text (names_of ws) place ≡ f) → is_some (feature_at vs f) ≡ true
+  taken_place here = let there = subst (λ xs. (place < length xs) × (nth_text (names_of xs) place ≡ f)) same' here in feature_there vs place f there.0 there.1
 
 -- in the place of a feature stands another of its name
-pub feature_set : (vs : List Feature) (i : ℕ) (w : Feature) → AreInOrder vs → i < length vs → w.key.now ≡ text_at (names_of vs) i
-    → (f : Text) → feature_at (set vs i w) f ≡ cond (bytes_eq f (text_at (names_of vs) i)) (Some w) (feature_at vs f)
+pub feature_set : (vs : List Feature) (i : ℕ) (w : Feature) → AreInOrder vs → i < length vs → w.key.now ≡ nth_text (names_of vs) i
+    → (f : Text) → feature_at (set vs i w) f ≡ cond (bytes_eq f (nth_text (names_of vs) i)) (Some w) (feature_at vs f)
 feature_set [] i w up below same f = absurd (omega (arith, below))
 feature_set (v ∷ vs) zero w up below same f = ap (λ n. cond (bytes_eq f n) (Some w) (feature_at vs f)) same ∙ go (bytes_eq f v.key.now)
   where
     go : (t : Bool) → cond t (Some w) (feature_at vs f) ≡ cond t (Some w) (cond t (Some v) (feature_at vs f))
     go true = refl
     go false = refl
-feature_set (v ∷ vs) (suc i) w up below same f = ap (cond (bytes_eq f v.key.now) (Some v)) (feature_set vs i w up.1 (omega (arith, below)) same f) ∙ go (bytes_eq f v.key.now) refl (bytes_eq f (text_at (names_of vs) i)) refl
+feature_set (v ∷ vs) (suc i) w up below same f = ap (cond (bytes_eq f v.key.now) (Some v)) (feature_set vs i w up.1 (omega (arith, below)) same f) ∙ go (bytes_eq f v.key.now) refl (bytes_eq f (nth_text (names_of vs) i)) refl
   where
     inside : i < length (names_of vs)
     inside = let long = length-map vs (λ (x : Feature). x.key.now) in omega (arith, below, long)
 
-    go : (s : Bool) → bytes_eq f v.key.now ≡ s → (t : Bool) → bytes_eq f (text_at (names_of vs) i) ≡ t
+    go : (s : Bool) → bytes_eq f v.key.now ≡ s → (t : Bool) → bytes_eq f (nth_text (names_of vs) i) ≡ t
         → cond s (Some v) (cond t (Some w) (feature_at vs f)) ≡ cond t (Some w) (cond s (Some v) (feature_at vs f))
     go true on true there = absurd (below_one_way v.key.now v.key.now itself itself)
       where
         itself : Below v.key.now v.key.now
-        itself = subst (Below v.key.now) (sym ((bytes_eq-Decides f (text_at (names_of vs) i)).0 there) ∙ (bytes_eq-Decides f v.key.now).0 on) (up.0 (text_at (names_of vs) i) (among_at (names_of vs) i [] inside))
+        itself = subst (Below v.key.now) (sym ((bytes_eq-Decides f (nth_text (names_of vs) i)).0 there) ∙ (bytes_eq-Decides f v.key.now).0 on) (up.0 (nth_text (names_of vs) i) (among_at (names_of vs) i [] inside))
     go true on false there = refl
     go false off true there = refl
     go false off false there = refl
 
 -- the feature under the name of a place
-pub feature_here : (vs : List Feature) (i : ℕ) (d : Feature) → AreInOrder vs → i < length vs → feature_at vs (text_at (names_of vs) i) ≡ Some (get_or vs i d)
+pub feature_here : (vs : List Feature) (i : ℕ) (d : Feature) → AreInOrder vs → i < length vs → feature_at vs (nth_text (names_of vs) i) ≡ Some (get_or vs i d)
 feature_here [] i d up below = absurd (omega (arith, below))
 feature_here (v ∷ vs) zero d up below = ap (λ t. cond t (Some v) (feature_at vs v.key.now)) ((bytes_eq-Decides v.key.now v.key.now).1 refl)
-feature_here (v ∷ vs) (suc i) d up below = go (bytes_eq (text_at (names_of vs) i) v.key.now) refl (feature_here vs i d up.1 (omega (arith, below)))
+feature_here (v ∷ vs) (suc i) d up below = go (bytes_eq (nth_text (names_of vs) i) v.key.now) refl (feature_here vs i d up.1 (omega (arith, below)))
   where
     inside : i < length (names_of vs)
     inside = let long = length-map vs (λ (x : Feature). x.key.now) in omega (arith, below, long)
 
-    go : (s : Bool) → bytes_eq (text_at (names_of vs) i) v.key.now ≡ s → feature_at vs (text_at (names_of vs) i) ≡ Some (get_or vs i d) → cond s (Some v) (feature_at vs (text_at (names_of vs) i)) ≡ Some (get_or vs i d)
+    go : (s : Bool) → bytes_eq (nth_text (names_of vs) i) v.key.now ≡ s → feature_at vs (nth_text (names_of vs) i) ≡ Some (get_or vs i d) → cond s (Some v) (feature_at vs (nth_text (names_of vs) i)) ≡ Some (get_or vs i d)
     go true on later = absurd (below_one_way v.key.now v.key.now itself itself)
       where
         itself : Below v.key.now v.key.now
-        itself = subst (Below v.key.now) ((bytes_eq-Decides (text_at (names_of vs) i) v.key.now).0 on) (up.0 (text_at (names_of vs) i) (among_at (names_of vs) i [] inside))
+        itself = subst (Below v.key.now) ((bytes_eq-Decides (nth_text (names_of vs) i) v.key.now).0 on) (up.0 (nth_text (names_of vs) i) (among_at (names_of vs) i [] inside))
     go false off later = later
 
 -- a look at the place where a name would stand tells whether it has a feature
-pub told_there : (vs : List Feature) (i : ℕ) (f : Text) → AreInOrder vs → IsBoundOf vs i f → (b : Bool) → (b ≡ true → (i < length vs) × (text_at (names_of vs) i ≡ f)) → (b ≡ false → i < length vs → text_at (names_of vs) i ≡ f → ⊥) → b ≡ is_some (feature_at vs f)
+pub told_there : (vs : List Feature) (i : ℕ) (f : Text) → AreInOrder vs → IsBoundOf vs i f → (b : Bool) → (b ≡ true → (i < length vs) × (nth_text (names_of vs) i ≡ f)) → (b ≡ false → i < length vs → nth_text (names_of vs) i ≡ f → ⊥) → b ≡ is_some (feature_at vs f)
 told_there vs i f up bound true stands free = let here = stands refl in sym (feature_there vs i f here.0 here.1)
 told_there vs i f up bound false stands free = sym (ap is_some (feature_missing vs f (place_free vs i f up (record { bound = bound; free = free refl }))))
 

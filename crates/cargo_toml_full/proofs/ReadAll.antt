@@ -13,10 +13,10 @@ use Rattle.cargo_toml_features.specs.declared.admit.Listing.{Listing}
 use Rattle.cargo_toml_graph.specs.Action.{Text, Action, item_of}
 use Rattle.cargo_toml_graph.specs.Admitted.{Listed, items, item_names, joined_action}
 use Rattle.cargo_toml_graph.specs.Reach.{Among, IsOnce}
-use Rattle.cargo_toml_full.specs.ReadFeature.{joined_in, IsListed}
+use Rattle.cargo_toml_full.specs.ReadFeature.{joined_in, IsReadFeature}
 use Rattle.cargo_toml_dependencies.specs.Details.{Detail, plain_detail}
-use Rattle.cargo_toml_features.specs.Marks.{Details, detail_at, detail_in, detail_listed, details_of}
-use Rattle.cargo_toml_features.specs.Views.{listed_of, has_text, action_at}
+use Rattle.cargo_toml_features.specs.Marks.{NamedDetails, detail_named, detail_in, detail_listed, named_details}
+use Rattle.cargo_toml_features.specs.Views.{listed_of, set_has, action_at}
 use Rattle.cargo_toml_full.specs.Reading.{AreFresh, IsFresh, IsRead}
 use Rattle.cargo_toml_features.specs.InOrder.{feature_at, table_among}
 use Rattle.cargo_toml_features.proofs.Listings.{listed_one, names_listed}
@@ -27,10 +27,10 @@ abbrev Holds : Text → Detail → Option (List Text) → Option Feature → Typ
 Holds f d None None = Unit {0}
 Holds f d None (Some v) = ⊥
 Holds f d (Some actions) None = ⊥
-Holds f d (Some actions) (Some v) = IsListed f d (map item_of actions) v
+Holds f d (Some actions) (Some v) = IsReadFeature f d (map item_of actions) v
 
-pub record HasRead (listed : Listed) (details : Details) (m : List Feature) : Type 0 where
-  pub at : (f : Text) → Holds f (detail_at details f) (lookup (bytes_eq f) listed) (feature_at m f)
+pub record HasRead (listed : Listed) (details : NamedDetails) (m : List Feature) : Type 0 where
+  pub at : (f : Text) → Holds f (detail_named details f) (lookup (bytes_eq f) listed) (feature_at m f)
 
 -- what a list says of k
 abbrev pub said : Text → Text × List Text → Option Action
@@ -48,8 +48,8 @@ or-false true = refl
 or-false false = refl
 
 -- nothing is read of no lists
-pub none_read : (details : Details) (m : List Feature) → m ≡ [] → HasRead [] details m
-none_read details m none = record { at = λ f. subst (λ vs. Holds f (detail_at details f) None (feature_at vs f)) (sym none) tt }
+pub none_read : (details : NamedDetails) (m : List Feature) → m ≡ [] → HasRead [] details m
+none_read details m none = record { at = λ f. subst (λ vs. Holds f (detail_named details f) None (feature_at vs f)) (sym none) tt }
 
 lookup_push : (f : Text) (es : Listed) (e : Text × List Text) → lookup (bytes_eq f) (es ++ e ∷ []) ≡ option_or (lookup (bytes_eq f) es) (cond (bytes_eq f e.0) (Some e.1) None)
 lookup_push f [] e = refl
@@ -86,33 +86,33 @@ module _ (ls : List Listing) (i : ℕ) (l : Listing) (below : i < length ls) (is
       (subst IsOnce (ap (map (λ l. l.name.now)) split ∙ map-append (λ l. l.name.now) (take i ls) (l ∷ drop (i + 1) ls) ∙ ap (λ ns. ns ++ l.name.now ∷ map (λ l. l.name.now) (drop (i + 1) ls)) (sym (names_listed (take i ls)))) once)
 
   -- what the listings say of the name is what this one says
-  said_here : detail_at (details_of ls) l.name.now ≡ detail_in l.detail
-  said_here = ap (λ xs. detail_at (details_of xs) l.name.now) split ∙ ap (λ o. unwrap_or o plain_detail) (found_behind (take i ls) not_before)
+  said_here : detail_named (named_details ls) l.name.now ≡ detail_in l.detail
+  said_here = ap (λ xs. detail_named (named_details xs) l.name.now) split ∙ ap (λ o. unwrap_or o plain_detail) (found_behind (take i ls) not_before)
     where
-      found_behind : (before : List Listing) → lookup (bytes_eq l.name.now) (listed_of before) ≡ None → lookup (bytes_eq l.name.now) (details_of (before ++ l ∷ drop (i + 1) ls)) ≡ Some (detail_in l.detail)
-      found_behind [] none = ap (λ b. cond b (Some (detail_in l.detail)) (lookup (bytes_eq l.name.now) (details_of (drop (i + 1) ls)))) (bytes_eq_refl l.name.now)
+      found_behind : (before : List Listing) → lookup (bytes_eq l.name.now) (listed_of before) ≡ None → lookup (bytes_eq l.name.now) (named_details (before ++ l ∷ drop (i + 1) ls)) ≡ Some (detail_in l.detail)
+      found_behind [] none = ap (λ b. cond b (Some (detail_in l.detail)) (lookup (bytes_eq l.name.now) (named_details (drop (i + 1) ls)))) (bytes_eq_refl l.name.now)
       found_behind (x ∷ xs) none = go (bytes_eq l.name.now x.name.now) (found_behind xs) none
         where
-          go : (b : Bool) → (lookup (bytes_eq l.name.now) (listed_of xs) ≡ None → lookup (bytes_eq l.name.now) (details_of (xs ++ l ∷ drop (i + 1) ls)) ≡ Some (detail_in l.detail))
+          go : (b : Bool) → (lookup (bytes_eq l.name.now) (listed_of xs) ≡ None → lookup (bytes_eq l.name.now) (named_details (xs ++ l ∷ drop (i + 1) ls)) ≡ Some (detail_in l.detail))
               → cond b (Some (map string_bytes x.actions.now)) (lookup (bytes_eq l.name.now) (listed_of xs)) ≡ None
-              → cond b (Some (detail_in x.detail)) (lookup (bytes_eq l.name.now) (details_of (xs ++ l ∷ drop (i + 1) ls))) ≡ Some (detail_in l.detail)
+              → cond b (Some (detail_in x.detail)) (lookup (bytes_eq l.name.now) (named_details (xs ++ l ∷ drop (i + 1) ls))) ≡ Some (detail_in l.detail)
           go true later some = absurd (false≢true (sym (ap is_some some)))
           go false later none = later none
 
   -- one more feature is read
-  pub read_more : (m m' : List Feature) (v : Feature) → HasRead (listed_of (take i ls)) (details_of ls) m
-      → IsListed l.name.now (detail_in l.detail) (map item_of (map string_bytes l.actions.now)) v
-      → ((f : Text) → feature_at m' f ≡ option_or (feature_at m f) (cond (bytes_eq f v.key.now) (Some v) None)) → HasRead (listed_of (take (i + 1) ls)) (details_of ls) m'
+  pub read_more : (m m' : List Feature) (v : Feature) → HasRead (listed_of (take i ls)) (named_details ls) m
+      → IsReadFeature l.name.now (detail_in l.detail) (map item_of (map string_bytes l.actions.now)) v
+      → ((f : Text) → feature_at m' f ≡ option_or (feature_at m f) (cond (bytes_eq f v.key.now) (Some v) None)) → HasRead (listed_of (take (i + 1) ls)) (named_details ls) m'
   read_more m m' v before listed put = record {
-    at = λ f. subst (λ es. Holds f (detail_at (details_of ls) f) (lookup (bytes_eq f) es) (feature_at m' f)) (sym one_more) (subst (λ o. Holds f (detail_at (details_of ls) f) o (feature_at m' f)) (sym (lookup_push f (listed_of (take i ls)) (listed_one l)))
-        (subst (Holds f (detail_at (details_of ls) f) _) (sym (put f ∙ ap (λ n. option_or (feature_at m f) (cond (bytes_eq f n) (Some v) None)) listed.fresh.key)) (go f (bytes_eq f l.name.now) refl)));
+    at = λ f. subst (λ es. Holds f (detail_named (named_details ls) f) (lookup (bytes_eq f) es) (feature_at m' f)) (sym one_more) (subst (λ o. Holds f (detail_named (named_details ls) f) o (feature_at m' f)) (sym (lookup_push f (listed_of (take i ls)) (listed_one l)))
+        (subst (Holds f (detail_named (named_details ls) f) _) (sym (put f ∙ ap (λ n. option_or (feature_at m f) (cond (bytes_eq f n) (Some v) None)) listed.fresh.key)) (go f (bytes_eq f l.name.now) refl)));
   }
     where
       or_none : {X : Type 0} (o : Option X) → option_or o None ≡ o
       or_none None = refl
       or_none (Some ts) = refl
 
-      gone : (o : Option (List Text)) (w : Option Feature) → o ≡ None → Holds l.name.now (detail_at (details_of ls) l.name.now) o w → w ≡ None
+      gone : (o : Option (List Text)) (w : Option Feature) → o ≡ None → Holds l.name.now (detail_named (named_details ls) l.name.now) o w → w ≡ None
       gone None None e h = refl
       gone None (Some w) e h = absurd h
       gone (Some ts) w e h = absurd (false≢true (sym (ap is_some e)))
@@ -121,13 +121,13 @@ module _ (ls : List Listing) (i : ℕ) (l : Listing) (below : i < length ls) (is
       none_before = gone (lookup (bytes_eq l.name.now) (listed_of (take i ls))) (feature_at m l.name.now) not_before (before.at l.name.now)
 
       go : (f : Text) (b : Bool) → bytes_eq f l.name.now ≡ b
-          → Holds f (detail_at (details_of ls) f) (option_or (lookup (bytes_eq f) (listed_of (take i ls))) (cond b (Some (map string_bytes l.actions.now)) None)) (option_or (feature_at m f) (cond b (Some v) None))
-      go f true e = subst (λ n. Holds n (detail_at (details_of ls) n) (option_or (lookup (bytes_eq n) (listed_of (take i ls))) (Some (map string_bytes l.actions.now))) (option_or (feature_at m n) (Some v))) (sym ((bytes_eq-Decides f l.name.now).0 e))
-          (subst (λ o. Holds l.name.now (detail_at (details_of ls) l.name.now) (option_or o (Some (map string_bytes l.actions.now))) (option_or (feature_at m l.name.now) (Some v))) (sym not_before)
-          (subst (λ o. Holds l.name.now (detail_at (details_of ls) l.name.now) (Some (map string_bytes l.actions.now)) (option_or o (Some v))) (sym none_before)
-          (subst (λ d. IsListed l.name.now d (map item_of (map string_bytes l.actions.now)) v) (sym said_here) listed)))
-      go f false e = subst (λ o. Holds f (detail_at (details_of ls) f) o (option_or (feature_at m f) None)) (sym (or_none (lookup (bytes_eq f) (listed_of (take i ls)))))
-          (subst (Holds f (detail_at (details_of ls) f) (lookup (bytes_eq f) (listed_of (take i ls)))) (sym (or_none (feature_at m f))) (before.at f))
+          → Holds f (detail_named (named_details ls) f) (option_or (lookup (bytes_eq f) (listed_of (take i ls))) (cond b (Some (map string_bytes l.actions.now)) None)) (option_or (feature_at m f) (cond b (Some v) None))
+      go f true e = subst (λ n. Holds n (detail_named (named_details ls) n) (option_or (lookup (bytes_eq n) (listed_of (take i ls))) (Some (map string_bytes l.actions.now))) (option_or (feature_at m n) (Some v))) (sym ((bytes_eq-Decides f l.name.now).0 e))
+          (subst (λ o. Holds l.name.now (detail_named (named_details ls) l.name.now) (option_or o (Some (map string_bytes l.actions.now))) (option_or (feature_at m l.name.now) (Some v))) (sym not_before)
+          (subst (λ o. Holds l.name.now (detail_named (named_details ls) l.name.now) (Some (map string_bytes l.actions.now)) (option_or o (Some v))) (sym none_before)
+          (subst (λ d. IsReadFeature l.name.now d (map item_of (map string_bytes l.actions.now)) v) (sym said_here) listed)))
+      go f false e = subst (λ o. Holds f (detail_named (named_details ls) f) o (option_or (feature_at m f) None)) (sym (or_none (lookup (bytes_eq f) (listed_of (take i ls)))))
+          (subst (Holds f (detail_named (named_details ls) f) (lookup (bytes_eq f) (listed_of (take i ls)))) (sym (or_none (feature_at m f))) (before.at f))
 
   pub told_next : (passes : Option Action → Bool) (k : Text) (before now : Bool) → before ≡ told_in passes (listed_of (take i ls)) k → now ≡ (before || passes (joined_in (map item_of (map string_bytes l.actions.now)) k)) → now ≡ told_in passes (listed_of (take (i + 1) ls)) k
   told_next passes k before now before_is now_is =
@@ -142,7 +142,7 @@ holds_some f d None (Some v) h = absurd h
 holds_some f d (Some ts) None h = absurd h
 holds_some f d (Some ts) (Some v) h = refl
 
-holds_names : (f x : Text) (d : Detail) (o : Option (List Text)) (v : Option Feature) → Holds f d o v → option_map_or (λ w. has_text w.enables_features x) v false ≡ list_any (item_names x) (map item_of (unwrap_or o []))
+holds_names : (f x : Text) (d : Detail) (o : Option (List Text)) (v : Option Feature) → Holds f d o v → option_map_or (λ w. set_has w.enables_features x) v false ≡ list_any (item_names x) (map item_of (unwrap_or o []))
 holds_names f x d None None h = refl
 holds_names f x d None (Some v) h = absurd h
 holds_names f x d (Some ts) None h = absurd h
@@ -206,13 +206,13 @@ module _ (listed : Listed) (once : IsOnce (map (λ e. e.0) listed)) (k : Text) w
   told_all : (passes : Option Action → Bool) → told_in passes listed k ≡ list_any (λ e. passes (joined_action listed e.0 k)) listed
   told_all passes = sym (list_any_same _ _ listed (weaken _ _ (λ e same. ap passes same) listed joined_each))
 
-module _ (listed : Listed) (details : Details) (m m' : List Feature) (read : HasRead listed details m)
+module _ (listed : Listed) (details : NamedDetails) (m m' : List Feature) (read : HasRead listed details m)
     (others : (f : Text) → bytes_eq f (codes "default") ≡ false → feature_at m' f ≡ feature_at m f)
-    (default : MatchOption (feature_at m (codes "default")) (IsSomeAnd (feature_at m' (codes "default")) (IsListed (codes "default") plain_detail [])) (λ v. feature_at m' (codes "default") ≡ Some v)) where
+    (default : MatchOption (feature_at m (codes "default")) (IsSomeAnd (feature_at m' (codes "default")) (IsReadFeature (codes "default") plain_detail [])) (λ v. feature_at m' (codes "default") ≡ Some v)) where
   holds_all : (f : Text) → Holds f (detail_listed listed details f) (with_default listed f) (feature_at m' f)
   holds_all f = go (bytes_eq f (codes "default")) refl
     where
-      here : (d : Detail) (o : Option (List Text)) (v v' : Option Feature) → Holds (codes "default") d o v → MatchOption v (IsSomeAnd v' (IsListed (codes "default") plain_detail [])) (λ w. v' ≡ Some w) → Holds (codes "default") (cond (is_some o) d plain_detail) (option_or o (Some [])) v'
+      here : (d : Detail) (o : Option (List Text)) (v v' : Option Feature) → Holds (codes "default") d o v → MatchOption v (IsSomeAnd v' (IsReadFeature (codes "default") plain_detail [])) (λ w. v' ≡ Some w) → Holds (codes "default") (cond (is_some o) d plain_detail) (option_or o (Some [])) v'
       here d None None None h a = absurd a
       here d None None (Some v) h a = a
       here d None (Some v) v' h a = absurd h
@@ -227,8 +227,8 @@ module _ (listed : Listed) (details : Details) (m m' : List Feature) (read : Has
 
       go : (b : Bool) → bytes_eq f (codes "default") ≡ b → Holds f (detail_listed listed details f) (option_or (lookup (bytes_eq f) listed) (cond b (Some []) None)) (feature_at m' f)
       go true e = subst (λ q. Holds q (detail_listed listed details q) (option_or (lookup (bytes_eq q) listed) (Some [])) (feature_at m' q)) (sym ((bytes_eq-Decides f (codes "default")).0 e))
-          (here (detail_at details (codes "default")) (lookup (bytes_eq (codes "default")) listed) (feature_at m (codes "default")) (feature_at m' (codes "default")) (read.at (codes "default")) default)
-      go false e = there (detail_at details f) (lookup (bytes_eq f) listed) (feature_at m' f) (subst (Holds f (detail_at details f) (lookup (bytes_eq f) listed)) (sym (others f e)) (read.at f))
+          (here (detail_named details (codes "default")) (lookup (bytes_eq (codes "default")) listed) (feature_at m (codes "default")) (feature_at m' (codes "default")) (read.at (codes "default")) default)
+      go false e = there (detail_named details f) (lookup (bytes_eq f) listed) (feature_at m' f) (subst (Holds f (detail_named details f) (lookup (bytes_eq f) listed)) (sym (others f e)) (read.at f))
 
   -- each feature that is held is as its list and its details say
   pub all_fresh : AreFresh listed details m'

@@ -10,7 +10,7 @@ use Rattle.cargo_toml_graph.specs.Action.{Text}
 use Rattle.cargo_toml_graph.proofs.Texts.{bytes_eq_sym}
 use Rattle.cargo_toml_features.specs.InOrder.{feature_at}
 use Rattle.cargo_toml_full.specs.Slots.{Relates}
-use Rattle.cargo_toml_full.specs.OwnBins.{own_of, requirement_of}
+use Rattle.cargo_toml_full.specs.OwnBins.{own_of, bin_requirement}
 use Rattle.cargo_toml_full.specs.Requiring.{Required, RequiredAll}
 
 nothing : (own : List Text) → own ≡ [] → (o : Option Feature) → Relates (Required own) o o
@@ -80,6 +80,6 @@ own_more r s q = ap (map (λ (x : Text × Text). x.1)) (filter-append (λ (x : T
 abbrev pub blank : Requirement
 blank = record { feature = record { ref_ptr = (0, 0); now = [] }; bin = record { ref_ptr = (0, 0); now = [] } }
 
-pub own_next : (rs : List Requirement) (i : ℕ) → i < length rs → (q : Text) → own_of (map requirement_of (take (i + 1) rs)) q
-    ≡ own_of (map requirement_of (take i rs)) q ++ own_of (requirement_of (get_or rs i blank) ∷ []) q
-own_next rs i lt q = ap (λ xs. own_of (map requirement_of xs) q) (take_more rs i blank lt) ∙ ap (λ xs. own_of xs q) (map-append requirement_of (take i rs) (get_or rs i blank ∷ [])) ∙ own_more (map requirement_of (take i rs)) (requirement_of (get_or rs i blank) ∷ []) q
+pub own_next : (rs : List Requirement) (i : ℕ) → i < length rs → (q : Text) → own_of (map bin_requirement (take (i + 1) rs)) q
+    ≡ own_of (map bin_requirement (take i rs)) q ++ own_of (bin_requirement (get_or rs i blank) ∷ []) q
+own_next rs i lt q = ap (λ xs. own_of (map bin_requirement xs) q) (take_more rs i blank lt) ∙ ap (λ xs. own_of xs q) (map-append bin_requirement (take i rs) (get_or rs i blank ∷ [])) ∙ own_more (map bin_requirement (take i rs)) (bin_requirement (get_or rs i blank) ∷ []) q

@@ -6,7 +6,7 @@ use Rattle.std.proofs.lemmas.Slice.Eq.{bytes_eq-Decides}
 use Rattle.std.specs.List.{list_any}
 use Rattle.cargo_toml_graph.specs.Action.{Text}
 use Rattle.cargo_toml_graph.specs.Reach.{Among}
-use Rattle.cargo_toml_features.specs.Places.{text_at}
+use Rattle.cargo_toml_features.specs.Places.{nth_text}
 use Rattle.cargo_toml_features.proofs.Places.{among_at}
 
 or_first : (a b : Bool) → a ≡ true → (a || b) ≡ true
@@ -40,7 +40,7 @@ pub same_among : (ts us : List Text) → ((x : Text) → Among us x → Among ts
 same_among ts us there back k = same_test _ _ (λ h. found_among ts k (there k (among_found us k h))) (λ h. found_among us k (back k (among_found ts k h)))
 
 -- what a search by place tells
-pub placed : (ts : List (Bor Text)) (k : Text) (o : Option ℕ) → IfSome o (λ i. (i < length ts) × (text_at (map (λ t. t.now) ts) i ≡ k)) → (o ≡ None → ¬ Among (map (λ t. t.now) ts) k)
+pub placed : (ts : List (Bor Text)) (k : Text) (o : Option ℕ) → IfSome o (λ i. (i < length ts) × (nth_text (map (λ t. t.now) ts) i ≡ k)) → (o ≡ None → ¬ Among (map (λ t. t.now) ts) k)
     → is_some o ≡ list_any (bytes_eq k) (map (λ t. t.now) ts)
 placed ts k None found missing = same_test _ _ (λ h. absurd (false≢true h)) (λ h. absurd (missing refl (among_found (map (λ (t : Bor Text). t.now) ts) k h)))
 placed ts k (Some i) found missing =

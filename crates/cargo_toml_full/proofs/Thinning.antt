@@ -10,10 +10,10 @@ use Rattle.std.specs.Map.{lookup}
 use Rattle.std.specs.Map.Calls.{RetainsPairs}
 use Rattle.std.specs.Ordering.{nat_cmp}
 use Rattle.cargo_toml_graph.specs.Action.{Text}
-use Rattle.cargo_toml_features.specs.Views.{has_text}
+use Rattle.cargo_toml_features.specs.Views.{set_has}
 
 -- a set of texts of which those are left that pass a test
-pub has_filtered : (test : Text → Bool) (s n : BTreeSet (Bor Text)) → n.keys ≡ filter (λ k. test k.now) s.keys → (x : Text) → has_text n x ≡ (has_text s x && test x)
+pub has_filtered : (test : Text → Bool) (s n : BTreeSet (Bor Text)) → n.keys ≡ filter (λ k. test k.now) s.keys → (x : Text) → set_has n x ≡ (set_has s x && test x)
 has_filtered test s n e x = ap (list_any here) e ∙ all s.keys
   where
     here : Bor Text → Bool

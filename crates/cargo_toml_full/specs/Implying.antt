@@ -12,17 +12,18 @@ use Rattle.cargo_toml_features.specs.declared.features.Feature.{Feature}
 use Rattle.cargo_toml_graph.specs.Action.{Text}
 use Rattle.cargo_toml_features.specs.Marks.{marked, marks_of}
 use Rattle.cargo_toml_features.specs.Recorded.{Entry}
-use Rattle.cargo_toml_features.specs.Resolved.{plain}
-use Rattle.cargo_toml_features.specs.Views.{has_text, action_at}
+use Rattle.cargo_toml_features.specs.Resolved.{plain_action}
+use Rattle.cargo_toml_features.specs.Views.{set_has, action_at}
 use Rattle.cargo_toml_features.specs.InOrder.{feature_at}
 use Rattle.cargo_toml_full.specs.Searching.{has_key}
 
--- the implied feature of the key q: it names nothing, has one plain action on itself, and
+-- the implied feature of the key q: it names nothing, has one plain_action action on itself, and
 -- nothing is said of it
 pub record IsImplied (q : Text) (v : Feature) : Type 0 where
   pub key : v.key.now ≡ q
-  pub names : (x : Text) → has_text v.enables_features x ≡ false
-  pub action : (k : Text) → action_at v.enables_deps k ≡ (if bytes_eq k q then Some plain else None)
+  pub names : (x : Text) → set_has v.enables_features x ≡ false
+  pub action : (k : Text) → action_at v.enables_deps k
+      ≡ (if bytes_eq k q then Some plain_action else None)
   pub enabled_by : v.enabled_by.keys ≡ []
   pub bins : v.required_by_bins.items ≡ []
   pub marks : marks_of v ≡ marked false plain_detail

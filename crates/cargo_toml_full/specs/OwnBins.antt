@@ -4,8 +4,8 @@ use Rattle.cargo_toml_full.specs.declared.required.Requirement.{Requirement}
 use Rattle.cargo_toml_graph.specs.Action.{Text}
 
 -- a binary's requirement: the feature, and the binary's name
-abbrev pub requirement_of : Requirement → Text × Text
-requirement_of r = (r.feature.now, r.bin.now)
+abbrev pub bin_requirement : Requirement → Text × Text
+bin_requirement r = (r.feature.now, r.bin.now)
 
 -- the binaries that require f, in the order of the requirements
 abbrev pub own_of : List (Text × Text) → Text → List Text

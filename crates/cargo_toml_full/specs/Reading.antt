@@ -7,7 +7,7 @@ use Rattle.cargo_toml_graph.specs.Action.{Text}
 use Rattle.cargo_toml_graph.specs.Admitted as listing
 use Rattle.cargo_toml_graph.specs.Admitted.{Listed, is_explicit, joined_action}
 use Rattle.cargo_toml_graph.specs.Graph.{Table}
-use Rattle.cargo_toml_features.specs.Marks.{Details, detail_listed, marked, marks_of}
+use Rattle.cargo_toml_features.specs.Marks.{NamedDetails, detail_listed, marked, marks_of}
 use Rattle.cargo_toml_features.specs.Recorded.{is_reserved}
 use Rattle.cargo_toml_features.specs.InOrder.{feature_at}
 
@@ -29,7 +29,7 @@ pub record IsFresh (f : Text) (d : Detail) (v : Feature) : Type 0 where
   pub enabled_by : v.enabled_by.keys ≡ []
   pub bins : v.required_by_bins.items ≡ []
 
-abbrev pub AreFresh : Listed → Details → List Feature → Type 0
+abbrev pub AreFresh : Listed → NamedDetails → List Feature → Type 0
 AreFresh listed details vs =
     (f : Text) (v : Feature) → feature_at vs f ≡ Some v
     → IsFresh f (detail_listed listed details f) v

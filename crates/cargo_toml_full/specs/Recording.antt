@@ -8,7 +8,7 @@ use Rattle.cargo_toml_dependencies.specs.Dependencies.{is_optional, package_of}
 use Rattle.cargo_toml_features.specs.declared.features.FeatureDependency.{FeatureDependency}
 use Rattle.cargo_toml_full.specs.declared.read.Mentions.{Mentions}
 use Rattle.cargo_toml_graph.specs.Action.{Text}
-use Rattle.cargo_toml_features.specs.Recorded.{Entry, Recorded, target_cmp}
+use Rattle.cargo_toml_features.specs.Recorded.{Entry, RecordedKey, target_cmp}
 use Rattle.cargo_toml_features.specs.Views.{recorded_in}
 use Rattle.cargo_toml_full.specs.Slots.{held_in}
 use Rattle.cargo_toml_full.specs.declared.slots.Slots.{Slots}
@@ -16,23 +16,23 @@ use Rattle.cargo_toml_features.specs.InOrder.{feature_at}
 use Rattle.cargo_toml_full.specs.Searching.{has_key}
 
 -- what a map of dependencies records of a key
-abbrev pub recorded_at : Slots FeatureDependency → Text → Option Recorded
+abbrev pub recorded_at : Slots FeatureDependency → Text → Option RecordedKey
 recorded_at m k = option_map recorded_in (held_in m k)
 
 -- what e records of its key before its target
-abbrev pub recorded_nowhere : Entry → Recorded
+abbrev pub recorded_nowhere : Entry → RecordedKey
 recorded_nowhere e =
     record { crate_name = unwrap_or (package_of e.dependency) e.key; targets = λ _. None }
 
 -- what e alone records
-abbrev pub recorded_first : Entry → Recorded
+abbrev pub recorded_first : Entry → RecordedKey
 recorded_first e = record {
   crate_name = unwrap_or (package_of e.dependency) e.key;
   targets = λ t. if is_eq (target_cmp t e.target) then Some e.dependency else None;
 }
 
 -- e comes after what is recorded: only a target of its own counts
-abbrev pub recorded_next : Recorded → Entry → Recorded
+abbrev pub recorded_next : RecordedKey → Entry → RecordedKey
 recorded_next r e = record {
   crate_name = r.crate_name;
   targets =
@@ -40,7 +40,7 @@ recorded_next r e = record {
       (if is_eq (target_cmp t e.target) then Some e.dependency else None);
 }
 
-abbrev pub recorded_with : Option Recorded → Entry → Recorded
+abbrev pub recorded_with : Option RecordedKey → Entry → RecordedKey
 recorded_with None e = recorded_first e
 recorded_with (Some r) e = recorded_next r e
 
@@ -50,7 +50,7 @@ is_mentioned_in m k = is_some (feature_at m.features.items k) || has_key m.acted
 
 -- what is recorded of q after e, where o was recorded of q before: e counts if its key is recorded
 -- already or mentioned, or e is optional
-abbrev pub recorded_after : (Text → Bool) → Entry → Text → Option Recorded → Option Recorded
+abbrev pub recorded_after : (Text → Bool) → Entry → Text → Option RecordedKey → Option RecordedKey
 recorded_after mentioned e q o =
     if bytes_eq e.key q && (is_some o || (is_optional e.dependency || mentioned q))
     then Some (recorded_with o e) else o

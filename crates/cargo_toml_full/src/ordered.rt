@@ -6,7 +6,7 @@ ghost use Rattle.cargo_toml_graph.specs.Action.{Text};
 ghost use Rattle.cargo_toml_graph.specs.Admitted.{is_below};
 ghost use Rattle.cargo_toml_features.specs.InOrder.{AreInOrder, feature_at, names_of};
 ghost use Rattle.cargo_toml_full.specs.Placing.{IsBoundOf, IsPlaceOf};
-ghost use Rattle.cargo_toml_features.specs.Places.{text_at};
+ghost use Rattle.cargo_toml_features.specs.Places.{nth_text};
 
 use cargo_toml_features::features::Feature;
 use cargo_toml_features::texts::is_same;
@@ -19,7 +19,7 @@ const FEW: usize = 24;
 // Whether the name of the feature at this place is below another.
 fn is_below(features: &[Feature<'_>], place: usize, name: &str) -> bool
     requires { place < length features.now }
-    ensures { result ≡ is_below (text_at (names_of features.now) place) name.now }
+    ensures { result ≡ is_below (nth_text (names_of features.now) place) name.now }
 {
     features[place].key < name
 }
@@ -49,9 +49,9 @@ pub fn lower_bound(features: &[Feature<'_>], name: &str) -> usize
 /// Whether the feature at this place has the name.
 pub fn stands_at(features: &[Feature<'_>], place: usize, name: &str) -> bool
     ensures yes { IsTrue result → (place < length features.now)
-        × (text_at (names_of features.now) place ≡ name.now) }
+        × (nth_text (names_of features.now) place ≡ name.now) }
     ensures no { result ≡ false → place < length features.now
-        → text_at (names_of features.now) place ≡ name.now → ⊥ }
+        → nth_text (names_of features.now) place ≡ name.now → ⊥ }
 {
     place < features.len() && is_same(features[place].key, name)
 }
@@ -72,7 +72,7 @@ pub fn is_there(features: &[Feature<'_>], name: &str) -> bool
 pub fn node_among(features: &[Feature<'_>], name: &str, near: usize) -> Option<Node>
     requires { AreInOrder features.now }
     ensures found { IfSome result (λ i. (i < length features.now)
-        × (text_at (names_of features.now) i ≡ name.now)) }
+        × (nth_text (names_of features.now) i ≡ name.now)) }
     ensures there { is_some result ≡ is_some (feature_at features.now name.now) }
 {
     if stands_at(features, near, name) {

@@ -6,7 +6,7 @@ ghost use Rattle.cargo_toml_graph.specs.Action.{Text};
 ghost use Rattle.cargo_toml_graph.specs.Reach.{Among};
 ghost use Rattle.cargo_toml_full.specs.Ascending.{Ascend};
 ghost use Rattle.cargo_toml_full.specs.Slots.{HaveSameNames, held_in, names_in};
-ghost use Rattle.cargo_toml_features.specs.Places.{text_at};
+ghost use Rattle.cargo_toml_features.specs.Places.{nth_text};
 
 use crate::key::Key;
 use crate::slots::Slots;
@@ -32,7 +32,7 @@ pub fn empty_slots<'n, V: Drop>(
 // Whether the name stands at this place.
 fn stands_at(names: &[&str], place: usize, name: &str) -> bool
     ensures { IsTrue result
-        → (place < length names.now) × (text_at (map (λ n. n.now) names.now) place ≡ name.now) }
+        → (place < length names.now) × (nth_text (map (λ n. n.now) names.now) place ≡ name.now) }
 {
     place < names.len() && is_same(names[place], name)
 }
@@ -42,7 +42,7 @@ fn stands_at(names: &[&str], place: usize, name: &str) -> bool
 pub fn place_near(names: &[&str], name: &str, near: usize) -> Option<usize>
     requires { Ascend (map (λ n. n.now) names.now) }
     ensures found { IfSome result
-        (λ i. (i < length names.now) × (text_at (map (λ n. n.now) names.now) i ≡ name.now)) }
+        (λ i. (i < length names.now) × (nth_text (map (λ n. n.now) names.now) i ≡ name.now)) }
     ensures missing { result ≡ None → ¬ Among (map (λ n. n.now) names.now) name.now }
 {
     if stands_at(names, near, name) {
@@ -67,7 +67,7 @@ impl<'n, V: Drop> Slots<'n, V> {
     /// The key of a name, if it is there. It is looked for as by [`place_near`].
     pub fn key_near(&self, name: &str, near: usize) -> Option<Key>
         ensures found { IfSome result (λ k. (k < length self.now.names.items)
-            × (text_at (names_in self.now) k ≡ name.now)) }
+            × (nth_text (names_in self.now) k ≡ name.now)) }
         ensures missing { result ≡ None → ¬ Among (names_in self.now) name.now }
     {
         let place = place_near(self.names.as_slice(), name, near)?;
@@ -79,7 +79,7 @@ impl<'n, V: Drop> Slots<'n, V> {
         requires key { key < length self.old.names.items }
         ensures same_names { HaveSameNames self.old self.new }
         ensures held { (f : Text) → held_in self.new f
-            ≡ (if bytes_eq f (text_at (names_in self.old) key) then Some value
+            ≡ (if bytes_eq f (nth_text (names_in self.old) key) then Some value
             else held_in self.old f) }
     {
         self.values[key.place()] = Some(value);

@@ -9,11 +9,11 @@ ghost use Rattle.cargo_toml_graph.specs.Reach.{IsOnce};
 ghost use Rattle.cargo_toml_dependencies.specs.Details.{Detail, plain_detail};
 ghost use Rattle.cargo_toml_features.specs.declared.features.Feature.{Feature};
 ghost use Rattle.cargo_toml_features.specs.InOrder.{AreInOrder, feature_at, table_among};
-ghost use Rattle.cargo_toml_features.specs.Marks.{detail_in, details_of};
+ghost use Rattle.cargo_toml_features.specs.Marks.{detail_in, named_details};
 ghost use Rattle.cargo_toml_features.specs.Views.{listed_of};
 ghost use Rattle.cargo_toml_full.specs.Acting.{Notes};
 ghost use Rattle.cargo_toml_full.specs.Reading.{IsRead, AreFresh};
-ghost use Rattle.cargo_toml_full.specs.ReadFeature.{joined_in, IsGathered, IsListed};
+ghost use Rattle.cargo_toml_full.specs.ReadFeature.{joined_in, IsGathered, IsReadFeature};
 ghost use Rattle.cargo_toml_full.specs.Searching.{has_key};
 
 use crate::acted::Acted;
@@ -38,7 +38,7 @@ pub struct Mentions<'m> {
 
 // A feature with this detail whose list is empty.
 fn empty_feature<'m>(alloc: Global, key: &'m str, detail: Option<&'m FeatureDetail>) -> Feature<'m>
-    ensures { IsListed key.now (detail_in detail.entry) [] result }
+    ensures { IsReadFeature key.now (detail_in detail.entry) [] result }
 {
     let (public, doc) = match detail {
         Some(detail) => (detail.public, detail.doc.as_deref()),
@@ -90,8 +90,9 @@ fn read_list<'m>(
     acting: &mut Acting<'m>,
     listing: Listing<'m>,
 ) -> Result<(), AllocError>
-    requires { IsListed listing.name.now (detail_in listing.detail) [] feature.old }
-    ensures listed { OnOk result (IsListed listing.entry.name.now (detail_in listing.entry.detail)
+    requires { IsReadFeature listing.name.now (detail_in listing.detail) [] feature.old }
+    ensures listed { OnOk result
+        (IsReadFeature listing.entry.name.now (detail_in listing.entry.detail)
         (map item_of (map string_bytes listing.entry.actions.now)) feature.new) }
     ensures noted { OnOk result
         (Notes (joined_in (map item_of (map string_bytes listing.entry.actions.now))) acting.old
@@ -115,7 +116,7 @@ fn read_listing<'m>(
 ) -> Result<(), AllocError>
     requires { AreInOrder features.old.items }
     ensures in_order { OnOk result (AreInOrder features.new.items) }
-    ensures added { OnOk result ((v : Feature) × IsListed listing.entry.name.now
+    ensures added { OnOk result ((v : Feature) × IsReadFeature listing.entry.name.now
         (detail_in listing.entry.detail) (map item_of (map string_bytes listing.entry.actions.now))
         v × ((f : Text) → feature_at features.new.items f ≡ option_or
         (feature_at features.old.items f) (if bytes_eq f v.key.now then Some v else None))) }
@@ -145,7 +146,7 @@ fn add_default<'m>(alloc: Global, features: &mut Vec<Feature<'m>>) -> Result<(),
         → feature_at features.new.items f ≡ feature_at features.old.items f) }
     ensures default { OnOk result (MatchOption (feature_at features.old.items (codes "default"))
         (IsSomeAnd (feature_at features.new.items (codes "default"))
-        (IsListed (codes "default") plain_detail []))
+        (IsReadFeature (codes "default") plain_detail []))
         (λ v. feature_at features.new.items (codes "default") ≡ Some v)) }
 {
     let feature = empty_feature(alloc, "default", None);
@@ -167,7 +168,7 @@ pub fn read_features<'m>(
     ensures read { IfOk result (λ r. IsRead (listed_of listings.now)
         (table_among r.features.items) (has_key r.acted.keys) (has_key r.acted.reserved)) }
     ensures fresh { IfOk result (λ r.
-        AreFresh (listed_of listings.now) (details_of listings.now) r.features.items) }
+        AreFresh (listed_of listings.now) (named_details listings.now) r.features.items) }
 {
     let room = listings.len().saturating_add(1).saturating_add(more);
     let mut features = Vec::with_capacity(alloc, room)?;

@@ -11,8 +11,8 @@ ghost use Rattle.cargo_toml_full.specs.Recording.{counts_alone, counts_at, is_me
 ghost use Rattle.cargo_toml_full.specs.Recording.{recorded_after, recorded_at, recorded_next};
 ghost use Rattle.cargo_toml_full.specs.Recording.{recorded_nowhere, recorded_with};
 ghost use Rattle.cargo_toml_full.specs.Slots.{HaveSameNames, names_in};
-ghost use Rattle.cargo_toml_features.specs.Views.{entry_of, recorded_in, target_of};
-ghost use Rattle.cargo_toml_features.specs.Places.{text_at};
+ghost use Rattle.cargo_toml_features.specs.Views.{entry_of, recorded_in, target_in};
+ghost use Rattle.cargo_toml_features.specs.Places.{nth_text};
 
 use crate::key::Key;
 use crate::names::ascending;
@@ -25,7 +25,7 @@ use std::alloc::{AllocError, Global};
 use std::collections::BTreeMap;
 
 fn target_key<'m>(entry: &ParseDependency<'m, '_>) -> TargetKey<'m>
-    ensures { target_of result ≡ (entry_of entry.now).target }
+    ensures { target_in result ≡ (entry_of entry.now).target }
 {
     TargetKey {
         kind: entry.kind,
@@ -112,7 +112,7 @@ fn record_at<'m: 'd, 'd>(
     entry: &ParseDependency<'m, 'd>,
 ) -> Result<(), AllocError>
     requires key { key < length dependencies.old.names.items }
-    requires named { text_at (names_in dependencies.old) key ≡ entry.now.key.now }
+    requires named { nth_text (names_in dependencies.old) key ≡ entry.now.key.now }
     ensures recorded { OnOk result ((q : Text) → recorded_at dependencies.new q
         ≡ (if bytes_eq entry.now.key.now q
         then Some (recorded_with (recorded_at dependencies.old q) (entry_of entry.now))

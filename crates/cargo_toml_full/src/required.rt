@@ -1,9 +1,9 @@
 //! Which binaries require which features.
 ghost use Rattle.std.specs.Prelude.{◌≡◌, ◌<◌, ◌∷◌, [], length, map, IfOk, OnOk};
-ghost use Rattle.cargo_toml_full.specs.OwnBins.{own_of, requirement_of};
+ghost use Rattle.cargo_toml_full.specs.OwnBins.{own_of, bin_requirement};
 ghost use Rattle.cargo_toml_full.specs.Requiring.{RequiredAll};
 ghost use Rattle.cargo_toml_features.specs.InOrder.{AreInOrder, names_of};
-ghost use Rattle.cargo_toml_features.specs.Places.{text_at};
+ghost use Rattle.cargo_toml_features.specs.Places.{nth_text};
 
 use crate::ordered::node_among;
 use cargo_toml_features::features::Feature;
@@ -24,7 +24,7 @@ fn require_at<'m>(features: &mut [Feature<'m>], at: Node, bin: &'m str) -> Resul
     requires at { at < length features.old }
     requires in_order { AreInOrder features.old }
     ensures required { OnOk result
-        (RequiredAll (own_of ((text_at (names_of features.old) at, bin.now) ∷ [])) features.old
+        (RequiredAll (own_of ((nth_text (names_of features.old) at, bin.now) ∷ [])) features.old
         features.new) }
     ensures same_names { names_of features.new ≡ names_of features.old }
 {
@@ -41,7 +41,7 @@ fn require<'m>(
 ) -> Result<usize, AllocError>
     requires { AreInOrder features.old }
     ensures required { OnOk result
-        (RequiredAll (own_of (requirement_of requirement.now ∷ [])) features.old features.new) }
+        (RequiredAll (own_of (bin_requirement requirement.now ∷ [])) features.old features.new) }
     ensures same_names { names_of features.new ≡ names_of features.old }
 {
     let Some(at) = node_among(features, requirement.feature, near) else {
@@ -58,7 +58,7 @@ fn require_all<'m>(
 ) -> Result<(), AllocError>
     requires { AreInOrder features.old }
     ensures required { OnOk result
-        (RequiredAll (own_of (map requirement_of requirements.now)) features.old features.new) }
+        (RequiredAll (own_of (map bin_requirement requirements.now)) features.old features.new) }
     ensures same_names { names_of features.new ≡ names_of features.old }
 {
     let mut near = 0;
@@ -77,7 +77,7 @@ pub fn with_bins<'m>(
     requires { AreInOrder features.items }
     ensures in_order { IfOk result (λ vs. AreInOrder vs.items) }
     ensures required { IfOk result (λ vs.
-        RequiredAll (own_of (map requirement_of requirements.now)) features.entry.items vs.items) }
+        RequiredAll (own_of (map bin_requirement requirements.now)) features.entry.items vs.items) }
 {
     require_all(features.as_mut_slice(), requirements)?;
     Ok(features)

@@ -2,7 +2,7 @@
 ghost use Rattle.std.specs.Prelude.{◌≡◌, IfOk, bytes_eq, map};
 ghost use Rattle.std.specs.List.{list_any};
 ghost use Rattle.cargo_toml_graph.specs.Action.{Text};
-ghost use Rattle.cargo_toml_features.specs.Views.{has_text};
+ghost use Rattle.cargo_toml_features.specs.Views.{set_has};
 
 use cargo_toml_features::action::add_text;
 use std::alloc::{AllocError, Global};
@@ -14,7 +14,7 @@ pub const FEW: usize = 16;
 // The texts one after another, as a set.
 fn inserted<'m>(alloc: Global, texts: &[&'m str]) -> Result<BTreeSet<&'m str>, AllocError>
     ensures { IfOk result
-        (λ s. (x : Text) → has_text s x ≡ list_any (bytes_eq x) (map (λ t. t.now) texts.now)) }
+        (λ s. (x : Text) → set_has s x ≡ list_any (bytes_eq x) (map (λ t. t.now) texts.now)) }
 {
     let mut set = BTreeSet::new(alloc);
     for text in texts {
@@ -26,7 +26,7 @@ fn inserted<'m>(alloc: Global, texts: &[&'m str]) -> Result<BTreeSet<&'m str>, A
 // The texts as a set, which is made in one go.
 fn collected<'m>(alloc: Global, texts: &[&'m str]) -> Result<BTreeSet<&'m str>, AllocError>
     ensures { IfOk result
-        (λ s. (x : Text) → has_text s x ≡ list_any (bytes_eq x) (map (λ t. t.now) texts.now)) }
+        (λ s. (x : Text) → set_has s x ≡ list_any (bytes_eq x) (map (λ t. t.now) texts.now)) }
 {
     texts.iter().copied().collect(alloc)
 }
@@ -35,7 +35,7 @@ fn collected<'m>(alloc: Global, texts: &[&'m str]) -> Result<BTreeSet<&'m str>, 
 /// where memory runs out.
 pub fn set_of<'m>(alloc: Global, texts: &[&'m str]) -> Result<BTreeSet<&'m str>, AllocError>
     ensures { IfOk result
-        (λ s. (x : Text) → has_text s x ≡ list_any (bytes_eq x) (map (λ t. t.now) texts.now)) }
+        (λ s. (x : Text) → set_has s x ≡ list_any (bytes_eq x) (map (λ t. t.now) texts.now)) }
 {
     if texts.len() > FEW {
         collected(alloc, texts)

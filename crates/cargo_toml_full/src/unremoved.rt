@@ -6,8 +6,8 @@ ghost use Rattle.cargo_toml_graph.specs.Reach.{IsOnce};
 ghost use Rattle.cargo_toml_full.specs.Slots.{HeldHaveTargets, held_in};
 ghost use Rattle.cargo_toml_features.specs.InOrder.{AreInOrder, AreTable, HaveNoEnablers};
 ghost use Rattle.cargo_toml_features.specs.InOrder.{feature_at};
-ghost use Rattle.cargo_toml_full.specs.OwnBins.{own_of, requirement_of};
-ghost use Rattle.cargo_toml_features.specs.Marks.{details_of, marks_in, marks_of};
+ghost use Rattle.cargo_toml_full.specs.OwnBins.{own_of, bin_requirement};
+ghost use Rattle.cargo_toml_features.specs.Marks.{named_details, marks_in, marks_of};
 ghost use Rattle.cargo_toml_features.specs.Views.{listed_of, entry_of, recorded_in};
 ghost use Rattle.cargo_toml_features.specs.Recorded.{entries_at, recorded_of};
 ghost use Rattle.cargo_toml_features.specs.Resolved.{SameRecorded, table_of};
@@ -49,10 +49,10 @@ pub fn resolve_all<'m: 'd, 'd>(
         (table_of (listed_of listings.now) (map entry_of entries.now)) a.features.items) }
     ensures no_enablers { IfOk result (λ a. HaveNoEnablers a.features.items) }
     ensures marks { IfOk result (λ a. (f : Text) → IfSome (feature_at a.features.items f) (λ v.
-        marks_of v ≡ marks_in (listed_of listings.now) (details_of listings.now) f)) }
+        marks_of v ≡ marks_in (listed_of listings.now) (named_details listings.now) f)) }
     ensures bins { IfOk result (λ a. (f : Text) → IfSome (feature_at a.features.items f)
         (λ v. map (λ b. b.now) v.required_by_bins.items
-        ≡ own_of (map requirement_of requirements.now) f)) }
+        ≡ own_of (map bin_requirement requirements.now) f)) }
     ensures dependencies { IfOk result (λ a. (k : Text) →
         SameRecorded (option_map recorded_in (held_in a.dependencies k))
         (recorded_of (entries_at (listed_of listings.now) (map entry_of entries.now) k))) }

@@ -4,14 +4,14 @@ use Rattle.std.proofs.lemmas.Bool.{false≢true, or_cases, or_left, or_right}
 use Rattle.std.proofs.lemmas.Slice.Eq.{bytes_eq-Decides}
 use Rattle.cargo_toml_graph.specs.Action.{Text}
 use Rattle.cargo_toml_graph.specs.Reach.{Among, IsOnce}
-use Rattle.cargo_toml_graph.specs.Removal.{is_among, put_all}
+use Rattle.cargo_toml_graph.specs.Removal.{lists_text, put_each}
 use Rattle.cargo_toml_graph.specs.Bins.{mentions, Grown}
 
-pub is_among-true : (xs : List Text) (x : Text) → is_among xs x ≡ true → Among xs x
+pub is_among-true : (xs : List Text) (x : Text) → lists_text xs x ≡ true → Among xs x
 is_among-true [] x e = absurd (false≢true e)
-is_among-true (y ∷ ys) x e = elim (or_cases (bytes_eq x y) (is_among ys x) e) [ inl i ↦ inl ((bytes_eq-Decides x y).0 i) | inr i ↦ inr (is_among-true ys x i) ]
+is_among-true (y ∷ ys) x e = elim (or_cases (bytes_eq x y) (lists_text ys x) e) [ inl i ↦ inl ((bytes_eq-Decides x y).0 i) | inr i ↦ inr (is_among-true ys x i) ]
 
-pub among-true : (xs : List Text) (x : Text) → Among xs x → is_among xs x ≡ true
+pub among-true : (xs : List Text) (x : Text) → Among xs x → lists_text xs x ≡ true
 among-true [] x e = absurd e
 among-true (y ∷ ys) x (inl i) = or_left (bytes_eq x y) _ ((bytes_eq-Decides x y).1 i)
 among-true (y ∷ ys) x (inr i) = or_right (bytes_eq x y) _ (among-true ys x i)
@@ -50,28 +50,28 @@ once-push (x ∷ xs) y o n = (
 )
 
 -- what is put is there, and what was there stays
-pub put_keeps : (xs ys : List Text) (x : Text) → Among xs x → Among (put_all xs ys) x
+pub put_keeps : (xs ys : List Text) (x : Text) → Among xs x → Among (put_each xs ys) x
 put_keeps xs [] x i = i
-put_keeps xs (y ∷ ys) x i = put_keeps (cond (is_among xs y) xs (xs ++ y ∷ [])) ys x (go (is_among xs y))
+put_keeps xs (y ∷ ys) x i = put_keeps (cond (lists_text xs y) xs (xs ++ y ∷ [])) ys x (go (lists_text xs y))
   where
     go : (b : Bool) → Among (cond b xs (xs ++ y ∷ [])) x
     go true = i
     go false = among-first xs (y ∷ []) x i
 
-pub put_puts : (xs ys : List Text) (x : Text) → Among ys x → Among (put_all xs ys) x
+pub put_puts : (xs ys : List Text) (x : Text) → Among ys x → Among (put_each xs ys) x
 put_puts xs [] x i = absurd i
-put_puts xs (y ∷ ys) x (inr i) = put_puts (cond (is_among xs y) xs (xs ++ y ∷ [])) ys x i
-put_puts xs (y ∷ ys) x (inl e) = put_keeps (cond (is_among xs y) xs (xs ++ y ∷ [])) ys x (go (is_among xs y) refl)
+put_puts xs (y ∷ ys) x (inr i) = put_puts (cond (lists_text xs y) xs (xs ++ y ∷ [])) ys x i
+put_puts xs (y ∷ ys) x (inl e) = put_keeps (cond (lists_text xs y) xs (xs ++ y ∷ [])) ys x (go (lists_text xs y) refl)
   where
-    go : (b : Bool) → is_among xs y ≡ b → Among (cond b xs (xs ++ y ∷ [])) x
+    go : (b : Bool) → lists_text xs y ≡ b → Among (cond b xs (xs ++ y ∷ [])) x
     go true t = subst (Among xs) (sym e) (is_among-true xs y t)
     go false t = among-second xs (y ∷ []) x (inl e)
 
-pub put_grows : (own : List Text) (P : Text → Type 0) (xs ys : List Text) → Grown own P xs → ((y : Text) → Among ys y → P y) → Grown own P (put_all xs ys)
+pub put_grows : (own : List Text) (P : Text → Type 0) (xs ys : List Text) → Grown own P xs → ((y : Text) → Among ys y → P y) → Grown own P (put_each xs ys)
 put_grows own P xs [] g p = g
-put_grows own P xs (y ∷ ys) g p = put_grows own P (cond (is_among xs y) xs (xs ++ y ∷ [])) ys (go (is_among xs y) refl) (λ z i. p z (inr i))
+put_grows own P xs (y ∷ ys) g p = put_grows own P (cond (lists_text xs y) xs (xs ++ y ∷ [])) ys (go (lists_text xs y) refl) (λ z i. p z (inr i))
   where
-    go : (b : Bool) → is_among xs y ≡ b → Grown own P (cond b xs (xs ++ y ∷ []))
+    go : (b : Bool) → lists_text xs y ≡ b → Grown own P (cond b xs (xs ++ y ∷ []))
     go true t = g
     go false t =
         let absent : (i : Among (own ++ g.passed) y) → ⊥ = λ i. false≢true (sym t ∙ among-true xs y (subst (λ zs. Among zs y) (sym g.whole) i)) in

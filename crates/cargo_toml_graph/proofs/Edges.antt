@@ -3,10 +3,10 @@ use Rattle.std.proofs.Common.{◌↔◌, not, ◌&&◌, bytes_eq, IsTrue, Option
 use Rattle.std.proofs.lemmas.Bool.{false≢true, or_cases, or_left, or_right, and_parts, and_from, not-true, not_from_false}
 use Rattle.cargo_toml_graph.specs.Action.{Text, Action}
 use Rattle.cargo_toml_graph.specs.Graph.{Table, Edge, IsPlain, IsUnremoved}
-use Rattle.cargo_toml_graph.specs.Removal.{is_plain, is_edge, unremoved}
+use Rattle.cargo_toml_graph.specs.Removal.{acts_plainly, is_edge, unremoved}
 use Rattle.cargo_toml_graph.proofs.Texts.{apart_false, apart_from}
 
-plain_true : (o : Option Action) → IsTrue (is_plain o) ↔ IsPlain o
+plain_true : (o : Option Action) → IsTrue (acts_plainly o) ↔ IsPlain o
 plain_true None = (λ e. absurd (false≢true e), λ p. absurd p)
 plain_true (Some a) = (
   λ e. let p = and_parts (not a.is_conditional) _ e in (not-true _ p.0, not-true _ p.1),

@@ -3,7 +3,7 @@ use Rattle.std.proofs.Common.{◌⊎◌, ◌↔◌, IsTrue, List, [], ◌∷◌,
 use Rattle.cargo_toml_graph.specs.Action.{Text}
 use Rattle.cargo_toml_graph.specs.Reach.{With, Among, IsOnce}
 use Rattle.cargo_toml_graph.specs.Graph.{Table, Resolution, IsResolved, IsUnremoved}
-use Rattle.cargo_toml_graph.specs.Removal.{without, without_all}
+use Rattle.cargo_toml_graph.specs.Removal.{without_one, without_all}
 use Rattle.cargo_toml_graph.proofs.Unremoved.{resolved_unremoved}
 use Rattle.cargo_toml_graph.proofs.Members.{resolved_alike}
 use Rattle.cargo_toml_graph.proofs.OneRemoval.{step}
@@ -16,7 +16,7 @@ After S (r ∷ rs) v = After (With S r) rs v
 pub steps : (t : Table) (rs : List Text) (S : Text → Type 0) (m : Resolution) → ((v : Text) → Among rs v → IsTrue (t.has v) × ¬ S v) → IsOnce rs → IsResolved t S m → IsResolved t (After S rs) (without_all rs m)
 steps t [] S m there once h = h
 steps t (r ∷ rs) S m there once h =
-    steps t rs (With S r) (without r m)
+    steps t rs (With S r) (without_one r m)
     (λ v i. ((there v (inr i)).0, elim [ inl s ↦ (there v (inr i)).1 s | inr e ↦ once.0 (subst (Among rs) e i) ]))
     once.1
     (step t S m h r (there r (inl refl)).0 (there r (inl refl)).1)

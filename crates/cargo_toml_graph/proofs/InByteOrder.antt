@@ -6,7 +6,7 @@ use Rattle.cargo_toml_graph.specs.Action.{Text}
 use Rattle.cargo_toml_graph.specs.Admitted.{is_below}
 use Rattle.cargo_toml_graph.specs.Reach.{Among, IsOnce}
 use Rattle.cargo_toml_graph.specs.Graph.{Table, Resolution, IsKept, IsUnremoved}
-use Rattle.cargo_toml_graph.specs.Removal.{IsAscending, is_removed, put_all, pass_bins, pass_all, unremoved, without, without_all}
+use Rattle.cargo_toml_graph.specs.Removal.{IsAscending, is_removed, put_each, pass_bins, pass_all, unremoved, without_one, without_all}
 use Rattle.cargo_toml_graph.specs.Bins.{ArePassedOn, HasBins, IsComplete, mentions}
 use Rattle.cargo_toml_graph.proofs.Edges.{unremoved_is}
 use Rattle.cargo_toml_graph.proofs.Members.{reaches_within}
@@ -59,7 +59,7 @@ pub record Alike (m n : Resolution) : Type 0 where
   pub names : (f x : Text) → m.table.names f x ≡ n.table.names f x
   pub enabled_by : (f e : Text) → m.enabled_by f e ≡ n.enabled_by f e
 
-alike_without : (r : Text) (m n : Resolution) → Alike m n → Alike (without r m) (without r n)
+alike_without : (r : Text) (m n : Resolution) → Alike m n → Alike (without_one r m) (without_one r n)
 alike_without r m n h = record {
   names = λ f x. ap₂ (λ b c. cond b c (m.table.names f x)) (h.enabled_by r f) (ap₂ (λ b c. (b || c) && not (bytes_eq x r)) (h.names f x) (h.names r x))
       ∙ ap (λ c. cond (n.enabled_by r f) ((n.table.names f x || n.table.names r x) && not (bytes_eq x r)) c) (h.names f x);
@@ -73,12 +73,12 @@ module _ (T : Text → Type 0) where
       (f : Text) → T f → pass_all rs m own f ≡ pass_all rs n own' f
   passed_all_alike [] m n own own' h inside same f k = same f k
   passed_all_alike (r ∷ rs) m n own own' h inside same f k =
-      passed_all_alike rs (without r m) (without r n) (pass_bins m r own) (pass_bins n r own') (alike_without r m n h) (λ v i. inside v (inr i)) step f k
+      passed_all_alike rs (without_one r m) (without_one r n) (pass_bins m r own) (pass_bins n r own') (alike_without r m n h) (λ v i. inside v (inr i)) step f k
     where
       step : (v : Text) → T v → pass_bins m r own v ≡ pass_bins n r own' v
       step v k =
-          ap (λ b. cond b (put_all (own v) (take 10 (own r))) (own v)) (h.names r v)
-          ∙ ap₂ (λ xs ys. cond (n.table.names r v) (put_all xs (take 10 ys)) xs) (same v k) (same r (inside r (inl refl)))
+          ap (λ b. cond b (put_each (own v) (take 10 (own r))) (own v)) (h.names r v)
+          ∙ ap₂ (λ xs ys. cond (n.table.names r v) (put_each xs (take 10 ys)) xs) (same v k) (same r (inside r (inl refl)))
 
 pub by_true : (a b : Bool) → IsTrue a ↔ IsTrue b → a ≡ b
 by_true false false e = refl
@@ -109,7 +109,7 @@ removed_there t keep f = go (t.has f) (starts_with nat_eq f (codes "_")) (not (k
 -- the last of a list passes on what the others have left it
 pub last_passes : (xs : List Text) (r : Text) (m : Resolution) (bins : Text → List Text) (f : Text) → pass_all (xs ++ r ∷ []) m bins f ≡ pass_bins (without_all xs m) r (pass_all xs m bins) f
 last_passes [] r m bins f = refl
-last_passes (x ∷ xs) r m bins f = last_passes xs r (without x m) (pass_bins m x bins) f
+last_passes (x ∷ xs) r m bins f = last_passes xs r (without_one x m) (pass_bins m x bins) f
 
 module _ (t : Table) (R : Text → Type 0) (own : Text → List Text) where
   -- what is passed on is one function of the table, what is removed and what binaries mention

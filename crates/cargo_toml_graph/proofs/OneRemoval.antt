@@ -5,7 +5,7 @@ use Rattle.cargo_toml_graph.specs.Action.{Text, join_option, IsJoin}
 use Rattle.cargo_toml_graph.specs.Reach.{With, Reaches, Gathers, GathersLabel}
 use Rattle.cargo_toml_graph.specs.Reach.Reaches.{edge, through}
 use Rattle.cargo_toml_graph.specs.Graph.{Table, Edge, Resolution, IsKept, KeepsName, IsEnabledBy, Says, IsResolved}
-use Rattle.cargo_toml_graph.specs.Removal.{without}
+use Rattle.cargo_toml_graph.specs.Removal.{without_one}
 use Rattle.cargo_toml_graph.proofs.Texts.{apart_false, apart_from}
 use Rattle.cargo_toml_graph.proofs.Split.{widen, joined, split, label_split}
 use Rattle.cargo_toml_graph.proofs.Joins.{join_alike, join_halves}
@@ -47,13 +47,13 @@ module _ (t : Table) (S : Text → Type 0) (m : Resolution) (h : IsResolved t S 
   newer : (f : Text) → IsKept t S f → f ≢ r → IsKept t (With S r) f
   newer f k ne = (k.0, elim [ inl s ↦ k.1 s | inr i ↦ ne i ])
 
-  has_step : (f : Text) → IsTrue ((without r m).table.has f) ↔ IsKept t (With S r) f
+  has_step : (f : Text) → IsTrue ((without_one r m).table.has f) ↔ IsKept t (With S r) f
   has_step f = (
     λ e. let p = and_parts (m.table.has f) _ e in newer f ((h.kept f).0 p.0) (apart_from f r p.1),
     λ k. let o = older f k in and_from _ _ ((h.kept f).1 o.0) (apart_false f r o.1),
   )
 
-  names_step : (f x : Text) → IsKept t (With S r) f → IsTrue ((without r m).table.names f x) ↔ KeepsName t (With S r) f x
+  names_step : (f x : Text) → IsKept t (With S r) f → IsTrue ((without_one r m).table.names f x) ↔ KeepsName t (With S r) f x
   names_step f x k' = go (m.enabled_by r f) refl
     where
       k : IsKept t S f
@@ -89,7 +89,7 @@ module _ (t : Table) (S : Text → Type 0) (m : Resolution) (h : IsResolved t S 
         ],
       )
 
-  action_step : (f d : Text) → IsKept t (With S r) f → IsJoin (Says t (With S r) f d) ((without r m).table.action f d)
+  action_step : (f d : Text) → IsKept t (With S r) f → IsJoin (Says t (With S r) f d) ((without_one r m).table.action f d)
   action_step f d k' = go (m.enabled_by r f) refl
     where
       k : IsKept t S f
@@ -109,7 +109,7 @@ module _ (t : Table) (S : Text → Type 0) (m : Resolution) (h : IsResolved t S 
           ))
           _ (h.action f d k)
 
-  enabled_step : (f e : Text) → IsKept t (With S r) f → IsTrue ((without r m).enabled_by f e) ↔ IsEnabledBy t (With S r) f e
+  enabled_step : (f e : Text) → IsKept t (With S r) f → IsTrue ((without_one r m).enabled_by f e) ↔ IsEnabledBy t (With S r) f e
   enabled_step f e k' = go (m.enabled_by f r) refl
     where
       k : IsKept t S f
@@ -139,5 +139,5 @@ module _ (t : Table) (S : Text → Type 0) (m : Resolution) (h : IsResolved t S 
         ],
       )
 
-  pub step : IsResolved t (With S r) (without r m)
+  pub step : IsResolved t (With S r) (without_one r m)
   step = record { kept = has_step; names = names_step; enabled_by = enabled_step; action = action_step }

@@ -5,7 +5,7 @@ use Rattle.cargo_toml_graph.specs.Action.{Text}
 use Rattle.cargo_toml_graph.specs.Reach.{With, Among, IsOnce, Reaches, Gathers, GathersLabel}
 use Rattle.cargo_toml_graph.specs.Reach.Reaches.{edge, through}
 use Rattle.cargo_toml_graph.specs.Graph.{Table, Edge, Resolution, IsKept, IsResolved, IsUnremoved}
-use Rattle.cargo_toml_graph.specs.Removal.{without, put_all, pass_bins, pass_all}
+use Rattle.cargo_toml_graph.specs.Removal.{without_one, put_each, pass_bins, pass_all}
 use Rattle.cargo_toml_graph.specs.Bins.{mentions, Grown, IsPassed, HasBins, IsComplete}
 use Rattle.cargo_toml_graph.proofs.Split.{split, label_split}
 use Rattle.cargo_toml_graph.proofs.OneRemoval as removal
@@ -73,7 +73,7 @@ module _ (t : Table) (own : Text → List Text) (S : Text → Type 0) (inside : 
         grown : Grown (own f) (IsPassed t (With S r) own f) (bins f)
         grown = grown_weaker (λ x p. wider f x p) (hb f k).lists
 
-        go : (b : Bool) → m.table.names r f ≡ b → HasBins t (With S r) own f (cond b (put_all (bins f) (take 10 (bins r))) (bins f))
+        go : (b : Bool) → m.table.names r f ≡ b → HasBins t (With S r) own f (cond b (put_each (bins f) (take 10 (bins r))) (bins f))
         go true e =
             let l = ((h.names r f (there, new)).0 e).0 in
             record {
@@ -103,12 +103,12 @@ module _ (t : Table) (own : Text → List Text) (S : Text → Type 0) (inside : 
         old : Among (bins f) x → Among (pass_bins m r bins f) x
         old a = pick (m.table.names r f)
           where
-            pick : (b : Bool) → Among (cond b (put_all (bins f) (take 10 (bins r))) (bins f)) x
+            pick : (b : Bool) → Among (cond b (put_each (bins f) (take 10 (bins r))) (bins f)) x
             pick true = put_keeps (bins f) (take 10 (bins r)) x a
             pick false = a
 
         given : Reaches (Names t) S r f → Among (bins r) x → Among (pass_bins m r bins f) x
-        given q a = subst (λ b. Among (cond b (put_all (bins f) (take 10 (bins r))) (bins f)) x)
+        given q a = subst (λ b. Among (cond b (put_each (bins f) (take 10 (bins r))) (bins f)) x)
             (sym ((h.names r f (there, new)).1 (naming_gathers t S inside there q, k.1)))
             (put_puts (bins f) (take 10 (bins r)) x (subst (λ xs. Among xs x) (sym (take_all 10 (bins r) small)) a))
 
@@ -132,7 +132,7 @@ module _ (t : Table) (own : Text → List Text) (all : List Text) where
       bins_all rs (With S r)
       (λ v. elim [ inl s ↦ inside v s | inr e ↦ subst (λ w. IsTrue (t.has w)) (sym e) at.0 ])
       (λ v i. ((there v (inr i)).0, elim [ inl s ↦ (there v (inr i)).1 s | inr e ↦ once.0 (subst (Among rs) e i) ]))
-      once.1 (without r m) (removal.step t S m h r at.0 at.1) (pass_bins m r bins)
+      once.1 (without_one r m) (removal.step t S m h r at.0 at.1) (pass_bins m r bins)
       (bins_step t own S inside m h r at.0 at.1 bins hb) f k
 
   pub complete_all : mentions own all ≤ 10 → (rs : List Text) (S : Text → Type 0) → ((v : Text) → S v → Among all v) → ((v : Text) → Among rs v → Among all v) → ((v : Text) → S v → IsTrue (t.has v)) → ((v : Text) → Among rs v → IsTrue (t.has v) × ¬ S v) → IsOnce rs
@@ -147,7 +147,7 @@ module _ (t : Table) (own : Text → List Text) (all : List Text) where
       (λ v i. known' v (inr i))
       (λ v. elim [ inl s ↦ inside v s | inr e ↦ subst (λ w. IsTrue (t.has w)) (sym e) at.0 ])
       (λ v i. ((there v (inr i)).0, elim [ inl s ↦ (there v (inr i)).1 s | inr e ↦ once.0 (subst (Among rs) e i) ]))
-      once.1 (without r m) (removal.step t S m h r at.0 at.1) (pass_bins m r bins)
+      once.1 (without_one r m) (removal.step t S m h r at.0 at.1) (pass_bins m r bins)
       (bins_step t own S inside m h r at.0 at.1 bins hb)
       (complete_step t own S inside m h r at.0 at.1 bins hb small hc) f k
 

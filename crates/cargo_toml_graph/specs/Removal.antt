@@ -12,11 +12,12 @@ use Rattle.cargo_toml_graph.specs.Graph.{Table, Resolution}
 abbrev pub is_removed : Table → (Text → Bool) → Text → Bool
 is_removed t keep f = t.has f && starts_with nat_eq f (codes "_") && not (keep f)
 
-abbrev pub is_plain : Option Action → Bool
-is_plain o = option_map_or (λ a. not a.is_conditional && not a.is_dep_only) o false
+abbrev pub acts_plainly : Option Action → Bool
+acts_plainly o = option_map_or (λ a. not a.is_conditional && not a.is_dep_only) o false
 
 abbrev pub is_edge : Table → Text → Text → Bool
-is_edge t f g = t.has f && t.has g && not (bytes_eq f g) && (t.names f g || is_plain (t.action f g))
+is_edge t f g =
+    t.has f && t.has g && not (bytes_eq f g) && (t.names f g || acts_plainly (t.action f g))
 
 -- what the removal starts with: the table, and the sources of its edges
 abbrev pub unremoved : Table → Resolution
@@ -24,8 +25,8 @@ unremoved t = record { table = t; enabled_by = λ f e. is_edge t e f }
 
 -- r is taken out: its parents name what it named and act as it did, and what it enabled is
 -- enabled by its parents
-abbrev pub without : Text → Resolution → Resolution
-without r m = record {
+abbrev pub without_one : Text → Resolution → Resolution
+without_one r m = record {
   table = record {
     has = λ f. m.table.has f && not (bytes_eq f r);
     names =
@@ -43,23 +44,23 @@ without r m = record {
 
 abbrev pub without_all : List Text → Resolution → Resolution
 without_all [] m = m
-without_all (r ∷ rs) m = without_all rs (without r m)
+without_all (r ∷ rs) m = without_all rs (without_one r m)
 
-abbrev pub is_among : List Text → Text → Bool
-is_among xs x = list_any (bytes_eq x) xs
+abbrev pub lists_text : List Text → Text → Bool
+lists_text xs x = list_any (bytes_eq x) xs
 
 -- each of ys is put at the end, unless it is there
-abbrev pub put_all : List Text → List Text → List Text
-put_all xs [] = xs
-put_all xs (y ∷ ys) = put_all (if is_among xs y then xs else (xs ++ y ∷ [])) ys
+abbrev pub put_each : List Text → List Text → List Text
+put_each xs [] = xs
+put_each xs (y ∷ ys) = put_each (if lists_text xs y then xs else (xs ++ y ∷ [])) ys
 
 -- r's first ten binaries are passed on to each feature that it names
 abbrev pub pass_bins : Resolution → Text → (Text → List Text) → Text → List Text
-pass_bins m r bins f = if m.table.names r f then put_all (bins f) (take 10 (bins r)) else bins f
+pass_bins m r bins f = if m.table.names r f then put_each (bins f) (take 10 (bins r)) else bins f
 
 abbrev pub pass_all : List Text → Resolution → (Text → List Text) → Text → List Text
 pass_all [] m bins = bins
-pass_all (r ∷ rs) m bins = pass_all rs (without r m) (pass_bins m r bins)
+pass_all (r ∷ rs) m bins = pass_all rs (without_one r m) (pass_bins m r bins)
 
 -- each element is below those after it
 abbrev pub IsAscending : (Text → Text → Type 0) → List Text → Type 0

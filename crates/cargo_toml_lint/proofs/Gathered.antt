@@ -12,7 +12,7 @@ use Rattle.std.specs.Cmp.Lexicographic.{slice_cmp}
 use Rattle.std.specs.List.{flat_map, list_any}
 use Rattle.std.specs.Ordering.{nat_cmp}
 use Rattle.cargo_toml.specs.Action.{Text}
-use Rattle.cargo_toml.specs.Views.{has_text}
+use Rattle.cargo_toml.specs.Views.{set_has}
 
 module _ {A : Type 0} (hits : A → Bool) where
   -- none is taken up yet
@@ -62,8 +62,8 @@ at_head k ks f e = elim (or_cases _ _ e) [
 -- of the keys that were passed, the set has those of which P holds
 pub record Gathers (P : Text → Type 0) (left : List (Bor Text))
     (s : BTreeSet (Bor Text)) : Type 0 where
-  pub sound : (f : Text) → IsTrue (has_text s f) → P f
-  pub complete : (f : Text) → P f → IsTrue (has_text s f) ⊎ IsTrue (has_in left f)
+  pub sound : (f : Text) → IsTrue (set_has s f) → P f
+  pub complete : (f : Text) → P f → IsTrue (set_has s f) ⊎ IsTrue (has_in left f)
 
 module _ (P : Text → Type 0) where
   pub begun : (ks all : List (Bor Text)) (s : BTreeSet (Bor Text)) → ks ≡ all → s.keys ≡ []
@@ -88,17 +88,17 @@ module _ (P : Text → Type 0) where
 
   pub taken : (k : Bor Text) (left rest : List (Bor Text)) (s n : BTreeSet (Bor Text)) → left
       ≡ k ∷ rest → P k.now →
-      ((x : Text) → has_text n x ≡ (has_text s x || bytes_eq x k.now)) → Gathers P left s
+      ((x : Text) → set_has n x ≡ (set_has s x || bytes_eq x k.now)) → Gathers P left s
       → Gathers P rest n
   taken k left rest s n is hit put g = record {
-    sound = λ f h. elim (or_cases (has_text s f) (bytes_eq f k.now) (sym (put f) ∙ h)) [
+    sound = λ f h. elim (or_cases (set_has s f) (bytes_eq f k.now) (sym (put f) ∙ h)) [
       | inl old ↦ g.sound f old
       | inr e ↦ subst P (sym ((bytes_eq-Decides f k.now).0 e)) hit
     ];
     complete = λ f p. elim (g.complete f p) [
-      | inl h ↦ inl (put f ∙ or_left (has_text s f) (bytes_eq f k.now) h)
+      | inl h ↦ inl (put f ∙ or_left (set_has s f) (bytes_eq f k.now) h)
       | inr i ↦ elim (at_head k rest f (ap (λ xs. has_in xs f) (sym is) ∙ i)) [
-        | inl e ↦ inl (put f ∙ or_right (has_text s f) (bytes_eq f k.now)
+        | inl e ↦ inl (put f ∙ or_right (set_has s f) (bytes_eq f k.now)
             ((bytes_eq-Decides f k.now).1 e))
         | inr j ↦ inr j
       ]
@@ -106,7 +106,7 @@ module _ (P : Text → Type 0) where
   }
 
   pub gathered : (left : List (Bor Text)) (s : BTreeSet (Bor Text)) → left ≡ [] → Gathers P left s
-      → (f : Text) → IsTrue (has_text s f) ↔ P f
+      → (f : Text) → IsTrue (set_has s f) ↔ P f
   gathered left s none g f = (
     g.sound f,
     λ p. elim (g.complete f p) [

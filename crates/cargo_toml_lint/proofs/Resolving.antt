@@ -2,15 +2,15 @@
 use Rattle.std.proofs.Common.{◌≡◌, ℕ, Bool, Option, Some, Bor, subst, sym}
 use Rattle.std.specs.Fn.{FnReturnsAt}
 use Rattle.cargo_toml.specs.Action.{Text}
-use Rattle.cargo_toml.specs.Filter.{Asked, Tells}
+use Rattle.cargo_toml.specs.Filter.{Asked, FilterTells}
 use Rattle.cargo_toml.specs.Manifests.{ManifestMeaning}
 use Rattle.cargo_toml.specs.Parsed.{IsParsed}
 use Rattle.cargo_toml.specs.Resolved.{Answer}
 
 -- what a filter that was handed in keeps
 pub tells_of : {F : Type 0} (g : Asked F) (o : Option (Bor F)) (f : Bor F) (keep : Text → Bool) →
-    o ≡ Some f → ((n : Text) (r : Bool) → FnReturnsAt g f.now n r → r ≡ keep n) → Tells g o keep
-tells_of g o f keep is told = subst (λ x. Tells g x keep) (sym is) told
+    o ≡ Some f → ((n : Text) (r : Bool) → FnReturnsAt g f.now n r → r ≡ keep n) → FilterTells g o keep
+tells_of g o f keep is told = subst (λ x. FilterTells g x keep) (sym is) told
 
 -- an answer at the limit that was set
 pub parsed_at : {M : Type 0} (keep : Text → Bool) (a : Answer) {n k : ℕ} → n ≡ k

@@ -7,7 +7,7 @@ use Rattle.std.specs.Cmp.Lexicographic.{slice_cmp}
 use Rattle.std.specs.List.{list_any}
 use Rattle.std.specs.Ordering.{nat_cmp}
 use Rattle.cargo_toml.specs.Action.{Text}
-use Rattle.cargo_toml.specs.Views.{has_text}
+use Rattle.cargo_toml.specs.Views.{set_has}
 use Rattle.cargo_toml_features.proofs.TextKeys.{inserted}
 use Rattle.cargo_toml_lint.proofs.Gathered.{goes_on, passes, put_if}
 
@@ -15,8 +15,8 @@ use Rattle.cargo_toml_lint.proofs.Gathered.{goes_on, passes, put_if}
 pub put_key : (bs key : Text) (s n : BTreeSet (Bor Text)) → bs ≡ key
     → sorted.UpdatesBy (λ x y. slice_cmp nat_cmp x.now y.now)
     (λ k. slice_cmp nat_cmp bs k.now) s n true
-    → (x : Text) → has_text n x ≡ (has_text s x || bytes_eq x key)
-put_key bs key s n same h x = inserted bs s n h x ∙ ap (λ k. has_text s x || bytes_eq x k) same
+    → (x : Text) → set_has n x ≡ (set_has s x || bytes_eq x key)
+put_key bs key s n same h x = inserted bs s n h x ∙ ap (λ k. set_has s x || bytes_eq x k) same
 
 -- an entry, by the bytes of its key
 abbrev pub told : {X Y : Type 0} → (X → Y) → String Global × X → Text × Y

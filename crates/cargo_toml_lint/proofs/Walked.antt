@@ -13,7 +13,7 @@ use Rattle.cargo_toml.specs.Graph.{Table}
 use Rattle.cargo_toml.specs.Reach.{Among}
 use Rattle.cargo_toml.specs.Reached.{AreEnabled, ComeFrom, Found}
 use Rattle.cargo_toml.specs.Recursive.{Enables}
-use Rattle.cargo_toml.specs.Views.{has_text, resolution_of, table_in, value_at}
+use Rattle.cargo_toml.specs.Views.{set_has, resolution_of, table_in, value_at}
 use Rattle.cargo_toml_lint.specs.Findings.{IsUnreachable, is_hidden}
 use Rattle.cargo_toml_lint.specs.Steps.{IsReached, IsRing}
 use Rattle.cargo_toml_lint.proofs.Gathered.{at_head, has_in}
@@ -56,28 +56,28 @@ module _ {S : Type 0} (m : HashMap (Bor Text) Feature S) where
   module _ (name : Text) (v : Feature) (here : value_at m name ≡ Some v) (key : v.key.now ≡ name)
       (found : Found S) (enabled : AreEnabled m v.key.now found) (from : ComeFrom m found) where
     abbrev names_at : Text → Bool
-    names_at h = option_map_or (λ w. has_text w.now.enables_features v.key.now)
+    names_at h = option_map_or (λ w. set_has w.now.enables_features v.key.now)
         (value_at found h) false
 
     at : (h : Text) (w : Bor Feature) → value_at found h ≡ Some w → value_at m h ≡ Some w.now
     at h w is = subst (λ o. IfSome o (λ w. value_at m h ≡ Some w.now)) is (from h)
 
     told : (h : Text) (w : Bor Feature) → value_at found h ≡ Some w → (table_in m).names h name
-        ≡ has_text w.now.enables_features name
+        ≡ set_has w.now.enables_features name
     told h w is = ap (λ o. option_map_or
-        (λ (u : Feature). has_text u.enables_features name) o false) (at h w is)
+        (λ (u : Feature). set_has u.enables_features name) o false) (at h w is)
 
     back : (h : Text) → IsTrue (names_at h) → Enables (table_in m) name h
         × IsTrue ((table_in m).names h name)
     back h e = go (value_at found h) refl e
       where
         go : (o : Option (Bor Feature)) → value_at found h ≡ o
-            → IsTrue (option_map_or (λ w. has_text w.now.enables_features v.key.now) o false)
+            → IsTrue (option_map_or (λ w. set_has w.now.enables_features v.key.now) o false)
             → Enables (table_in m) name h × IsTrue ((table_in m).names h name)
         go None is e = absurd (false≢true e)
         go (Some w) is e = (
           subst (λ f. Enables (table_in m) f h) key ((enabled h).0 (ap is_some is)),
-          told h w is ∙ ap (has_text w.now.enables_features) (sym key) ∙ e,
+          told h w is ∙ ap (set_has w.now.enables_features) (sym key) ∙ e,
         )
 
     forth : (h : Text) → Enables (table_in m) name h → IsTrue ((table_in m).names h name)
@@ -85,14 +85,14 @@ module _ {S : Type 0} (m : HashMap (Bor Text) Feature S) where
     forth h e n = go (value_at found h) refl
       where
         go : (o : Option (Bor Feature)) → value_at found h ≡ o
-            → IsTrue (option_map_or (λ w. has_text w.now.enables_features v.key.now) o false)
+            → IsTrue (option_map_or (λ w. set_has w.now.enables_features v.key.now) o false)
         go None is = absurd (false≢true
             (sym (ap is_some is) ∙ (enabled h).1
             (subst (λ f. Enables (table_in m) f h) (sym key) e)))
-        go (Some w) is = ap (has_text w.now.enables_features) key ∙ sym (told h w is) ∙ n
+        go (Some w) is = ap (set_has w.now.enables_features) key ∙ sym (told h w is) ∙ n
 
-    enabler : (h : Text) → (resolution_of m).enabled_by name h ≡ has_text v.enabled_by h
-    enabler h = ap (λ o. option_map_or (λ (u : Feature). has_text u.enabled_by h) o false) here
+    enabler : (h : Text) → (resolution_of m).enabled_by name h ≡ set_has v.enabled_by h
+    enabler h = ap (λ o. option_map_or (λ (u : Feature). set_has u.enabled_by h) o false) here
 
     -- some enabler that is found names the feature
     pub ring_told : (answer : Bool) → answer ≡ list_any (λ k. names_at k.now) v.enabled_by.keys
@@ -128,7 +128,7 @@ module _ {S : Type 0} (m : HashMap (Bor Text) Feature S) where
   no_ring name missing = (
     λ y. absurd (false≢true y),
     λ r. absurd (false≢true (sym (ap
-        (λ o. option_map_or (λ (u : Feature). has_text u.enabled_by r.0) o false) missing) ∙ r.1)),
+        (λ o. option_map_or (λ (u : Feature). set_has u.enabled_by r.0) o false) missing) ∙ r.1)),
   )
 
   pub none_added : (name : Text) → value_at m name ≡ None → (old : Bool) (x : Text) → IsTrue old
@@ -143,9 +143,9 @@ module _ {S : Type 0} (m : HashMap (Bor Text) Feature S) where
 
 -- of the kept features that were passed, what they enable is reached
 pub record Reaching (t : Table) (left : List (Bor Text)) (s : BTreeSet (Bor Text)) : Type 0 where
-  pub sound : (x : Text) → IsTrue (has_text s x) → IsReached t x
+  pub sound : (x : Text) → IsTrue (set_has s x) → IsReached t x
   pub complete : (x k : Text) → IsTrue (t.has k) → IsFalse (is_hidden k) → Enables t k x
-      → IsTrue (has_text s x) ⊎ IsTrue (has_in left k)
+      → IsTrue (set_has s x) ⊎ IsTrue (has_in left k)
 
 module _ (t : Table) where
   pub reach_begun : (ks all : List (Bor Text)) (s : BTreeSet (Bor Text)) → ks ≡ all → s.keys ≡ []
@@ -170,8 +170,8 @@ module _ (t : Table) where
 
   pub reach_more : (k : Bor Text) (left rest : List (Bor Text)) (s n : BTreeSet (Bor Text)) → left
       ≡ k ∷ rest → IsFalse (is_hidden k.now) →
-      ((x : Text) → IsTrue (has_text n x)
-      ↔ (IsTrue (has_text s x) ⊎ (IsTrue (t.has k.now) × Enables t k.now x)))
+      ((x : Text) → IsTrue (set_has n x)
+      ↔ (IsTrue (set_has s x) ⊎ (IsTrue (t.has k.now) × Enables t k.now x)))
       → Reaching t left s → Reaching t rest n
   reach_more k left rest s n is kept put g = record {
     sound = λ x h. elim ((put x).0 h) [ inl o ↦ g.sound x o | inr e ↦ (k.now, e.0, kept, e.1) ];
@@ -186,7 +186,7 @@ module _ (t : Table) where
   }
 
   pub all_reached : (left : List (Bor Text)) (s : BTreeSet (Bor Text)) → left ≡ []
-      → Reaching t left s → (x : Text) → IsTrue (has_text s x) ↔ IsReached t x
+      → Reaching t left s → (x : Text) → IsTrue (set_has s x) ↔ IsReached t x
   all_reached left s none g x = (
     g.sound x,
     λ r. elim (g.complete x r.0 r.1 r.2 r.3) [
@@ -197,21 +197,21 @@ module _ (t : Table) where
 
   -- a feature that is hidden and not reached
   pub left_alone : (f : Text) (s : BTreeSet (Bor Text))
-      → ((x : Text) → IsTrue (has_text s x) ↔ IsReached t x) → (answer : Bool) →
-      answer ≡ (t.has f && (is_hidden f && not (has_text s f))) → IsTrue answer ↔ IsUnreachable t f
+      → ((x : Text) → IsTrue (set_has s x) ↔ IsReached t x) → (answer : Bool) →
+      answer ≡ (t.has f && (is_hidden f && not (set_has s f))) → IsTrue answer ↔ IsUnreachable t f
   left_alone f s reached answer is = (
     λ y.
-        let p = and_parts (t.has f) (is_hidden f && not (has_text s f)) (sym is ∙ y) in
-        let q = and_parts (is_hidden f) (not (has_text s f)) p.1 in
+        let p = and_parts (t.has f) (is_hidden f && not (set_has s f)) (sym is ∙ y) in
+        let q = and_parts (is_hidden f) (not (set_has s f)) p.1 in
         record {
           known = p.0;
           hidden = q.0;
           left_alone = λ k h kept e. false≢true
-              (sym (not-true (has_text s f) q.1) ∙ (reached f).1 (k, h, kept, e));
+              (sym (not-true (set_has s f) q.1) ∙ (reached f).1 (k, h, kept, e));
         },
-    λ u. is ∙ and_from (t.has f) (is_hidden f && not (has_text s f)) u.known
-        (and_from (is_hidden f) (not (has_text s f)) u.hidden
-        (not_from_false (has_text s f)
-        (false_from_ne_true (has_text s f)
+    λ u. is ∙ and_from (t.has f) (is_hidden f && not (set_has s f)) u.known
+        (and_from (is_hidden f) (not (set_has s f)) u.hidden
+        (not_from_false (set_has s f)
+        (false_from_ne_true (set_has s f)
         (λ e. let r = (reached f).0 e in u.left_alone r.0 r.1 r.2 r.3)))),
   )

@@ -12,7 +12,7 @@ use Rattle.cargo_toml.specs.Admitted.{Listed, is_explicit}
 use Rattle.cargo_toml.specs.Details.{plain_detail}
 use Rattle.cargo_toml.specs.Feature.{Feature}
 use Rattle.cargo_toml.specs.Graph.{Table, Edge, IsResolved}
-use Rattle.cargo_toml.specs.Marks.{Details, Marks, marked, marks_in, marks_of}
+use Rattle.cargo_toml.specs.Marks.{NamedDetails, FeatureMarks, marked, marks_in, marks_of}
 use Rattle.cargo_toml.specs.NonDefault.{without_default}
 use Rattle.cargo_toml.specs.Products.{ProductMeaning}
 use Rattle.cargo_toml.specs.Reach.{Gathers, Reaches}
@@ -22,7 +22,7 @@ use Rattle.cargo_toml.specs.Recursive.{Enables}
 use Rattle.cargo_toml.specs.Recursive.Enables.{itself, further}
 use Rattle.cargo_toml.specs.Removal.{is_removed}
 use Rattle.cargo_toml.specs.Resolved.{table_of}
-use Rattle.cargo_toml.specs.Views.{has_text, resolution_of, table_in, value_at}
+use Rattle.cargo_toml.specs.Views.{set_has, resolution_of, table_in, value_at}
 use Rattle.cargo_toml_graph.proofs.Texts.{decided_text}
 use Rattle.cargo_toml_lint.specs.Findings.{IsCyclic, IsOnlyDefault, IsUnreachable, is_hidden, is_private, is_required}
 use Rattle.cargo_toml_lint.specs.Known.{Names}
@@ -142,7 +142,7 @@ module _ {S : Type 0} (m : HashMap (Bor Text) Feature S) (t : Table) (Removed : 
   told_has : (f e : Text) → IsTrue ((resolution_of m).enabled_by f e) → IsTrue (t.has f)
   told_has f e y = there f (go (value_at m f) y)
     where
-      go : (o : Option Feature) → IsTrue (option_map_or (λ v. has_text v.enabled_by e) o false)
+      go : (o : Option Feature) → IsTrue (option_map_or (λ v. set_has v.enabled_by e) o false)
           → IsTrue (is_some o)
       go None y = y
       go (Some v) y = refl
@@ -185,17 +185,17 @@ module _ {S : Type 0} (m : HashMap (Bor Text) Feature S) (t : Table) (Removed : 
       ↔ IsOnlyDefault t f
   only_default_is f v is =
       let known : IsTrue (t.has f) = there f (ap is_some is) in
-      let told : (e : Text) → (resolution_of m).enabled_by f e ≡ has_text v.enabled_by e =
-      λ e. ap (λ o. option_map_or (λ (u : Feature). has_text u.enabled_by e) o false) is in (
+      let told : (e : Text) → (resolution_of m).enabled_by f e ≡ set_has v.enabled_by e =
+      λ e. ap (λ o. option_map_or (λ (u : Feature). set_has u.enabled_by e) o false) is in (
         λ y.
-            let p = and_parts (has_text v.enabled_by (codes "default"))
+            let p = and_parts (set_has v.enabled_by (codes "default"))
             (length (without_default v.enabled_by.keys) == 0) y in
             record {
               default_does = (enablers f (codes "default") known).0 (told (codes "default") ∙ p.0);
               no_other = λ e d. only_keys v.enabled_by.keys (eqb-true _ _ p.1) e
                   (sym (told e) ∙ (enablers f e known).1 d);
             },
-        λ u. and_from (has_text v.enabled_by (codes "default"))
+        λ u. and_from (set_has v.enabled_by (codes "default"))
             (length (without_default v.enabled_by.keys) == 0)
             (sym (told (codes "default")) ∙ (enablers f (codes "default") known).1 u.default_does)
             ((Decides-eqb _ 0).1 (no_keys v.enabled_by.keys
@@ -207,7 +207,7 @@ module _ {S : Type 0} (m : HashMap (Bor Text) Feature S) (t : Table) (Removed : 
   required_is n bins f = λ i. is_required n (λ x. has_same x i) bins f
 
 module _ {S : Type 0} (m : HashMap (Bor Text) Feature S) (listed : Listed) (entries : List Entry)
-    (details : Details) (Removed : Text → Type 0) (none : (f : Text) → ¬ Removed f)
+    (details : NamedDetails) (Removed : Text → Type 0) (none : (f : Text) → ¬ Removed f)
     (resolved : IsResolved (table_of listed entries) Removed (resolution_of m))
     (marks : (f : Text) → IsTrue ((table_in m).has f)
     → option_map_or marks_of (value_at m f) (marked false plain_detail)
@@ -228,7 +228,7 @@ module _ {S : Type 0} (m : HashMap (Bor Text) Feature S) (listed : Listed) (entr
           ∙ sym (false_from_ne_true (is_explicit listed f)
           (λ e. false≢true (sym (ap is_some is) ∙ known_as f ∙ or_left _ _ e)))
       go (Some v) is = ap (λ o. option_map_or (λ (v : Feature). v.explicit) o false) is
-          ∙ ap (λ (k : Marks). k.explicit) (mark f v is)
+          ∙ ap (λ (k : FeatureMarks). k.explicit) (mark f v is)
 
   pub private_is : (f : Text) → IsTrue (private_default_at m f)
       ↔ (IsTrue (is_hidden f || is_private listed details f)
@@ -246,7 +246,7 @@ module _ {S : Type 0} (m : HashMap (Bor Text) Feature S) (listed : Listed) (entr
       )
       go (Some v) is =
           let shut : (is_hidden f || not v.public) ≡ (is_hidden f || is_private listed details f) =
-          ap (λ (k : Marks). is_hidden f || not k.public) (mark f v is) in
+          ap (λ (k : FeatureMarks). is_hidden f || not k.public) (mark f v is) in
           let only = only_default_is m (table_of listed entries) Removed none resolved f v is in (
             λ y. let p = and_parts (is_hidden f || not v.public)
                 (only_default v) y in (sym shut ∙ p.0, only.0 p.1),
@@ -298,4 +298,4 @@ module _ {S : Type 0} (m : HashMap (Bor Text) Feature S) where
   private_has f h = there_is f (λ v. (is_hidden f || not v.public) && only_default v) h
 
   pub ring_has : (f : Text) → IsRing (resolution_of m) f → IsTrue ((table_in m).has f)
-  ring_has f r = there_is f (λ v. has_text v.enabled_by r.0) r.1
+  ring_has f r = there_is f (λ v. set_has v.enabled_by r.0) r.1

@@ -11,7 +11,7 @@ use Rattle.cargo_toml.specs.Action.Item.{Name, On}
 use Rattle.cargo_toml.specs.Admitted.{Listed, admitted, is_explicit}
 use Rattle.cargo_toml.specs.Graph.{Table, Edge}
 use Rattle.cargo_toml.specs.Manifests.{ManifestMeaning}
-use Rattle.cargo_toml.specs.Marks.{Details, marks_in}
+use Rattle.cargo_toml.specs.Marks.{NamedDetails, marks_in}
 use Rattle.cargo_toml.specs.Parsed.{parsed_entries, parsed_table}
 use Rattle.cargo_toml.specs.Products.{ProductMeaning}
 use Rattle.cargo_toml.specs.Reach.{Among}
@@ -32,7 +32,7 @@ is_hidden f = starts_with nat_eq f (codes "_")
 
 -- what the manifest marks as private: of a feature that isn't listed, an added `default` or an
 -- implied one, nothing is said
-abbrev pub is_private : Listed → Details → Text → Bool
+abbrev pub is_private : Listed → NamedDetails → Text → Bool
 is_private listed details f = not (marks_in listed details f).public
 
 -- a name that is neither a feature nor an optional dependency, or an action on no dependency

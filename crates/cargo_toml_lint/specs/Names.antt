@@ -3,7 +3,7 @@ use Rattle.std.specs.Prelude.{Bool, ◌||◌, map, string_bytes}
 use Rattle.cargo_toml.specs.Admitted.{Listed}
 use Rattle.cargo_toml.specs.Dependencies.{DependencyMeaning, is_optional}
 use Rattle.cargo_toml.specs.Reads.{map_meaning}
-use Rattle.cargo_toml.specs.Views.{has_text}
+use Rattle.cargo_toml.specs.Views.{set_has}
 use Rattle.cargo_toml_lint.specs.Known.{Names, is_name}
 use Rattle.cargo_toml_lint.specs.declared.known.Known.{Known}
 
@@ -19,7 +19,7 @@ listed_by known = map_meaning (λ v. map string_bytes v.items) known.features.no
 abbrev pub held_names : Known → Names
 held_names known = record {
   listed = is_name (listed_by known);
-  dependency = has_text known.dependencies;
-  optional = has_text known.optional;
-  reserved = has_text known.reserved;
+  dependency = set_has known.dependencies;
+  optional = set_has known.optional;
+  reserved = set_has known.reserved;
 }

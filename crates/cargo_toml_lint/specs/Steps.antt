@@ -14,7 +14,7 @@ use Rattle.cargo_toml.specs.NonDefault.{without_default}
 use Rattle.cargo_toml.specs.Products.{ProductMeaning}
 use Rattle.cargo_toml.specs.Reach.{Among}
 use Rattle.cargo_toml.specs.Recursive.{Enables}
-use Rattle.cargo_toml.specs.Views.{has_text, resolution_of, table_in, value_at}
+use Rattle.cargo_toml.specs.Views.{set_has, resolution_of, table_in, value_at}
 use Rattle.cargo_toml_lint.specs.Findings.{IsTold, IsUnreachable, about_cmp}
 use Rattle.cargo_toml_lint.specs.Findings.{has_same_name, is_hidden, is_not_optional}
 use Rattle.cargo_toml_lint.specs.Findings.{is_required, is_unknown, code_rank}
@@ -30,7 +30,7 @@ use Rattle.cargo_toml_lint.specs.declared.known.Known.{Known}
 -- `default` enables the feature, and no other does
 abbrev pub only_default : Feature → Bool
 only_default v =
-    has_text v.enabled_by (codes "default") && (length (without_default v.enabled_by.keys) == 0)
+    set_has v.enabled_by (codes "default") && (length (without_default v.enabled_by.keys) == 0)
 
 -- f names what enables it, through others: one that f enables, and that enables it directly and
 -- by its name

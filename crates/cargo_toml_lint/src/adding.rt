@@ -1,7 +1,7 @@
 //! Findings of one code, added to those of others.
 ghost use Rattle.std.specs.Prelude.{◌≡◌, IsTrue, OnOk, map};
 ghost use Rattle.cargo_toml.specs.Action.{Text};
-ghost use Rattle.cargo_toml.specs.Views.{has_text};
+ghost use Rattle.cargo_toml.specs.Views.{set_has};
 ghost use Rattle.cargo_toml_lint.specs.Findings.{IsTold, about};
 ghost use Rattle.cargo_toml_lint.specs.Steps.{AddsOne, AreAllTold};
 
@@ -29,7 +29,7 @@ pub(crate) fn add_findings<'m>(
     code: Code,
     names: &BTreeSet<&'m str>,
 ) -> Result<(), AllocError>
-    ensures added { OnOk result (AddsOne code (λ f. IsTrue (has_text names.now f))
+    ensures added { OnOk result (AddsOne code (λ f. IsTrue (set_has names.now f))
         (map about findings.old.items) (map about findings.new.items)) }
     ensures told { OnOk result (AreAllTold findings.old.items → AreAllTold findings.new.items) }
 {

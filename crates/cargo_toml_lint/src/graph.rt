@@ -4,7 +4,7 @@ ghost use Rattle.std.specs.Option.{option_map_or};
 ghost use Rattle.cargo_toml.specs.Action.{Text};
 ghost use Rattle.cargo_toml.specs.Reached.{IsKeyed};
 ghost use Rattle.cargo_toml.specs.Recursive.{Enables};
-ghost use Rattle.cargo_toml.specs.Views.{has_text, resolution_of, table_in, value_at};
+ghost use Rattle.cargo_toml.specs.Views.{set_has, resolution_of, table_in, value_at};
 ghost use Rattle.cargo_toml_lint.specs.Findings.{is_hidden};
 ghost use Rattle.cargo_toml_lint.specs.Steps.{IsReached, IsRing, implied_at};
 ghost use Rattle.cargo_toml_lint.specs.Steps.{only_default, private_default_at};
@@ -30,7 +30,7 @@ pub(crate) fn names<'m, S: BuildHasher>(
     alloc: Global,
     features: &FeatureMap<'m, S>,
 ) -> Result<BTreeSet<&'m str>, AllocError>
-    ensures { IfOk result (λ s. (f : Text) → has_text s f ≡ (table_in features.now).has f) }
+    ensures { IfOk result (λ s. (f : Text) → set_has s f ≡ (table_in features.now).has f) }
 {
     let mut names = BTreeSet::new(alloc);
     for name in features.keys() {
@@ -55,8 +55,8 @@ pub(crate) fn implied<'m, S: BuildHasher>(
     names: &BTreeSet<&'m str>,
     features: &FeatureMap<'m, S>,
 ) -> Result<BTreeSet<&'m str>, AllocError>
-    requires { (f : Text) → has_text names.now f ≡ (table_in features.now).has f }
-    ensures { IfOk result (λ s. (f : Text) → IsTrue (has_text s f)
+    requires { (f : Text) → set_has names.now f ≡ (table_in features.now).has f }
+    ensures { IfOk result (λ s. (f : Text) → IsTrue (set_has s f)
         ↔ IsTrue (implied_at features.now f)) }
 {
     let mut found = BTreeSet::new(alloc);
@@ -93,8 +93,8 @@ pub(crate) fn private_default<'m, S: BuildHasher>(
     names: &BTreeSet<&'m str>,
     features: &FeatureMap<'m, S>,
 ) -> Result<BTreeSet<&'m str>, AllocError>
-    requires { (f : Text) → has_text names.now f ≡ (table_in features.now).has f }
-    ensures { IfOk result (λ s. (f : Text) → IsTrue (has_text s f)
+    requires { (f : Text) → set_has names.now f ≡ (table_in features.now).has f }
+    ensures { IfOk result (λ s. (f : Text) → IsTrue (set_has s f)
         ↔ IsTrue (private_default_at features.now f)) }
 {
     let mut found = BTreeSet::new(alloc);

@@ -6,7 +6,7 @@ ghost use Rattle.cargo_toml.specs.Dependencies.{dependency_meaning};
 ghost use Rattle.cargo_toml.specs.Manifests.{held};
 ghost use Rattle.cargo_toml.specs.Reads.{map_meaning};
 ghost use Rattle.cargo_toml.specs.Targets.{target_meaning};
-ghost use Rattle.cargo_toml.specs.Views.{has_text};
+ghost use Rattle.cargo_toml.specs.Views.{set_has};
 ghost use Rattle.cargo_toml_lint.specs.Known.{has_entry, all_names, reserves};
 ghost use Rattle.cargo_toml_lint.specs.Known.{says, tables, tables_in};
 ghost use Rattle.cargo_toml_lint.specs.Names.{listed_by, held_names, tried};
@@ -42,7 +42,7 @@ fn add_table<'m>(
     table: &'m DepsSet,
     are_all: bool,
 ) -> Result<(), AllocError>
-    ensures { OnOk result ((k : Text) → has_text keys.new k ≡ (has_text keys.old k
+    ensures { OnOk result ((k : Text) → set_has keys.new k ≡ (set_has keys.old k
         || has_entry (tried are_all) k (map_meaning dependency_meaning table.now))) }
 {
     for (key, dependency) in table {
@@ -59,7 +59,7 @@ fn add_target<'m>(
     target: &'m Target,
     are_all: bool,
 ) -> Result<(), AllocError>
-    ensures { OnOk result ((k : Text) → has_text keys.new k ≡ (has_text keys.old k
+    ensures { OnOk result ((k : Text) → set_has keys.new k ≡ (set_has keys.old k
         || list_any (has_entry (tried are_all) k) (tables_in (target_meaning target.now)))) }
 {
     add_table(keys, &target.dependencies, are_all)?;
@@ -73,7 +73,7 @@ fn add_targets<'m>(
     targets: &'m TargetDepsSet,
     are_all: bool,
 ) -> Result<(), AllocError>
-    ensures { OnOk result ((k : Text) → has_text keys.new k ≡ (has_text keys.old k
+    ensures { OnOk result ((k : Text) → set_has keys.new k ≡ (set_has keys.old k
         || list_any (λ t. list_any (has_entry (tried are_all) k) (tables_in t.1))
         (map_meaning target_meaning targets.now))) }
 {
@@ -89,7 +89,7 @@ fn keys_of<'m, M>(
     manifest: &'m Manifest<M>,
     are_all: bool,
 ) -> Result<BTreeSet<&'m str>, AllocError>
-    ensures { IfOk result (λ s. (k : Text) → has_text s k
+    ensures { IfOk result (λ s. (k : Text) → set_has s k
         ≡ list_any (has_entry (tried are_all) k)
         (tables (held manifest.now))) }
 {
@@ -103,8 +103,8 @@ fn keys_of<'m, M>(
 
 // Adds the keys that the texts of a list name by `dep:`.
 fn add_reserved<'m>(reserved: &mut BTreeSet<&'m str>, texts: &'m [String]) -> Result<(), AllocError>
-    ensures { OnOk result ((k : Text) → has_text reserved.new k
-        ≡ (has_text reserved.old k || says (reserves k) (map string_bytes texts.now))) }
+    ensures { OnOk result ((k : Text) → set_has reserved.new k
+        ≡ (set_has reserved.old k || says (reserves k) (map string_bytes texts.now))) }
 {
     for text in texts {
         let action = read_action(text.as_str());
@@ -117,7 +117,7 @@ fn add_reserved<'m>(reserved: &mut BTreeSet<&'m str>, texts: &'m [String]) -> Re
 
 // The keys that actions name by `dep:`.
 fn reserved_keys(alloc: Global, features: &FeatureSet) -> Result<BTreeSet<&str>, AllocError>
-    ensures { IfOk result (λ s. (k : Text) → has_text s k ≡ list_any (λ e. says (reserves k) e.1)
+    ensures { IfOk result (λ s. (k : Text) → set_has s k ≡ list_any (λ e. says (reserves k) e.1)
         (map_meaning (λ v. map string_bytes v.items) features.now)) }
 {
     let mut reserved = BTreeSet::new(alloc);

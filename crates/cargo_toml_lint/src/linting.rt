@@ -7,7 +7,7 @@ ghost use Rattle.cargo_toml.specs.Manifests.{held};
 ghost use Rattle.cargo_toml.specs.Parsed.{IsParsed};
 ghost use Rattle.cargo_toml.specs.Products.{product_meaning};
 ghost use Rattle.cargo_toml.specs.Reached.{IsKeyed};
-ghost use Rattle.cargo_toml.specs.Views.{answer_of, has_text, table_in};
+ghost use Rattle.cargo_toml.specs.Views.{answer_of, set_has, table_in};
 ghost use Rattle.cargo_toml_lint.specs.declared.finding.Code.{Code};
 ghost use Rattle.cargo_toml_lint.specs.Findings.{AreSorted, HoldsOf, IsFound, IsTold, about};
 ghost use Rattle.cargo_toml_lint.specs.Steps.{AddsFindings, AreErrors, AreHints};
@@ -82,7 +82,7 @@ fn add_hints<'m, S: BuildHasher>(
     names: &BTreeSet<&'m str>,
     features: &FeatureMap<'m, S>,
 ) -> Result<(), AllocError>
-    requires { (f : Text) → has_text names.now f ≡ (table_in features.now).has f }
+    requires { (f : Text) → set_has names.now f ≡ (table_in features.now).has f }
     ensures added { OnOk result (AddsFindings 3 5 (AreHints features.now)
         (map about findings.old.items) (map about findings.new.items)) }
     ensures told { OnOk result (AreAllTold findings.old.items → AreAllTold findings.new.items) }
@@ -103,7 +103,7 @@ fn add_warnings<'m, S: BuildHasher + Clone>(
     limit: usize,
 ) -> Result<(), Error>
     requires keyed { IsKeyed features.now }
-    requires names { (f : Text) → has_text names.now f ≡ (table_in features.now).has f }
+    requires names { (f : Text) → set_has names.now f ≡ (table_in features.now).has f }
     ensures added { OnOk result (AddsFindings 5 8 (AreWarnings features.now known.now limit)
         (map about findings.old.items) (map about findings.new.items)) }
     ensures told { OnOk result (AreAllTold findings.old.items → AreAllTold findings.new.items) }

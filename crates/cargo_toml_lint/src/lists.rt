@@ -4,7 +4,7 @@ ghost use Rattle.std.specs.Prelude.{length, map, nat_lt, not, string_bytes};
 ghost use Rattle.std.specs.List.{list_any};
 ghost use Rattle.cargo_toml.specs.Action.{Text, item_of};
 ghost use Rattle.cargo_toml.specs.Products.{product_meaning};
-ghost use Rattle.cargo_toml.specs.Views.{has_text, table_in};
+ghost use Rattle.cargo_toml.specs.Views.{set_has, table_in};
 ghost use Rattle.cargo_toml_lint.specs.Findings.{asks_for, has_same_name, is_missing};
 ghost use Rattle.cargo_toml_lint.specs.Findings.{is_not_optional, is_required, is_unknown};
 ghost use Rattle.cargo_toml_lint.specs.Known.{lists, says};
@@ -84,7 +84,7 @@ pub(crate) fn not_optional<'m>(
     alloc: Global,
     known: &Known<'m>,
 ) -> Result<BTreeSet<&'m str>, AllocError>
-    ensures { IfOk result (λ s. (f : Text) → has_text s f
+    ensures { IfOk result (λ s. (f : Text) → set_has s f
         ≡ lists (listed_by known.now) (is_not_optional (held_names known.now)) f) }
 {
     let mut names = BTreeSet::new(alloc);
@@ -108,7 +108,7 @@ pub(crate) fn same_name<'m>(
     alloc: Global,
     known: &Known<'m>,
 ) -> Result<BTreeSet<&'m str>, AllocError>
-    ensures { IfOk result (λ s. (f : Text) → IsTrue (has_text s f)
+    ensures { IfOk result (λ s. (f : Text) → IsTrue (set_has s f)
         ↔ IsTrue (has_same_name (held_names known.now) f)) }
 {
     let mut names = BTreeSet::new(alloc);
@@ -122,7 +122,7 @@ pub(crate) fn same_name<'m>(
 
 // The features whose lists have what the manifest doesn't.
 fn naming_unknown<'m>(alloc: Global, known: &Known<'m>) -> Result<BTreeSet<&'m str>, AllocError>
-    ensures { IfOk result (λ s. (f : Text) → has_text s f
+    ensures { IfOk result (λ s. (f : Text) → set_has s f
         ≡ lists (listed_by known.now) (is_unknown (held_names known.now)) f) }
 {
     let mut names = BTreeSet::new(alloc);
@@ -141,7 +141,7 @@ fn add_missing<'m, S: BuildHasher>(
     features: &FeatureMap<'m, S>,
     required: &'m [String],
 ) -> Result<(), AllocError>
-    ensures { OnOk result ((f : Text) → has_text names.new f ≡ (has_text names.old f
+    ensures { OnOk result ((f : Text) → set_has names.new f ≡ (set_has names.old f
         || asks_for (held_names known.now) (table_in features.now).has
         (map string_bytes required.now) f)) }
 {
@@ -162,7 +162,7 @@ pub(crate) fn unknown<'m, S: BuildHasher>(
     features: &FeatureMap<'m, S>,
     bins: &'m [Product],
 ) -> Result<BTreeSet<&'m str>, AllocError>
-    ensures { IfOk result (λ s. (f : Text) → has_text s f
+    ensures { IfOk result (λ s. (f : Text) → set_has s f
         ≡ (lists (listed_by known.now) (is_unknown (held_names known.now)) f
         || is_required (held_names known.now) (table_in features.now).has
         (map product_meaning bins.now) f)) }
@@ -209,7 +209,7 @@ pub(crate) fn over_limit<'m, S: BuildHasher>(
     features: &FeatureMap<'m, S>,
     limit: usize,
 ) -> Result<BTreeSet<&'m str>, AllocError>
-    ensures { IfOk result (λ s. (f : Text) → has_text s f
+    ensures { IfOk result (λ s. (f : Text) → set_has s f
         ≡ over_at features.now limit (listed_by known.now) f) }
 {
     let mut names = BTreeSet::new(alloc);

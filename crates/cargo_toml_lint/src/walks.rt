@@ -7,7 +7,7 @@ ghost use Rattle.cargo_toml.specs.Action.{Text};
 ghost use Rattle.cargo_toml.specs.Error.{Memory};
 ghost use Rattle.cargo_toml.specs.Reached.{IsKeyed};
 ghost use Rattle.cargo_toml.specs.Recursive.{Enables};
-ghost use Rattle.cargo_toml.specs.Views.{has_text, resolution_of, table_in, value_at};
+ghost use Rattle.cargo_toml.specs.Views.{set_has, resolution_of, table_in, value_at};
 ghost use Rattle.cargo_toml_lint.specs.Findings.{IsUnreachable, is_hidden};
 ghost use Rattle.cargo_toml_lint.specs.Steps.{IsReached, IsRing};
 
@@ -24,7 +24,7 @@ fn names_back<S: BuildHasher>(
     other: &str,
     name: &str,
 ) -> bool
-    ensures { result ≡ option_map_or (λ v. has_text v.now.enables_features name.now)
+    ensures { result ≡ option_map_or (λ v. set_has v.now.enables_features name.now)
         (value_at enabled.now other.now) false }
 {
     match enabled.get(other) {
@@ -39,7 +39,7 @@ fn is_named_back<S: BuildHasher>(
     feature: &Feature<'_>,
 ) -> bool
     ensures { result ≡ list_any
-        (λ k. option_map_or (λ v. has_text v.now.enables_features feature.now.key.now)
+        (λ k. option_map_or (λ v. set_has v.now.enables_features feature.now.key.now)
         (value_at enabled.now k.now) false) feature.now.enabled_by.keys }
 {
     for other in &feature.enabled_by {
@@ -74,8 +74,8 @@ pub(crate) fn cyclic<'m, S: BuildHasher + Clone>(
     features: &FeatureMap<'m, S>,
 ) -> Result<BTreeSet<&'m str>, Error>
     requires keyed { IsKeyed features.now }
-    requires names { (f : Text) → has_text names.now f ≡ (table_in features.now).has f }
-    ensures cyclic { IfOk result (λ s. (f : Text) → IsTrue (has_text s f)
+    requires names { (f : Text) → set_has names.now f ≡ (table_in features.now).has f }
+    ensures cyclic { IfOk result (λ s. (f : Text) → IsTrue (set_has s f)
         ↔ IsRing (resolution_of features.now) f) }
     ensures refused { IfErr result (λ e. e ≡ Memory) }
 {
@@ -93,8 +93,8 @@ fn add_names<'m, S: BuildHasher>(
     reached: &mut BTreeSet<&'m str>,
     enabled: &HashMap<&'m str, &Feature<'m>, S>,
 ) -> Result<(), AllocError>
-    ensures { OnOk result ((x : Text) → has_text reached.new x
-        ≡ (has_text reached.old x || is_some (value_at enabled.now x))) }
+    ensures { OnOk result ((x : Text) → set_has reached.new x
+        ≡ (set_has reached.old x || is_some (value_at enabled.now x))) }
 {
     for name in enabled.keys() {
         reached.insert(*name)?;
@@ -110,8 +110,8 @@ fn add_enabled<'m, S: BuildHasher + Clone>(
     name: &str,
 ) -> Result<(), Error>
     requires { IsKeyed features.now }
-    ensures added { OnOk result ((x : Text) → IsTrue (has_text reached.new x)
-        ↔ (IsTrue (has_text reached.old x) ⊎ (IsTrue ((table_in features.now).has name.now)
+    ensures added { OnOk result ((x : Text) → IsTrue (set_has reached.new x)
+        ↔ (IsTrue (set_has reached.old x) ⊎ (IsTrue ((table_in features.now).has name.now)
         × Enables (table_in features.now) name.now x))) }
     ensures refused { IfErr result (λ e. e ≡ Memory) }
 {
@@ -130,8 +130,8 @@ fn reached_by_users<'m, S: BuildHasher + Clone>(
     features: &FeatureMap<'m, S>,
 ) -> Result<BTreeSet<&'m str>, Error>
     requires keyed { IsKeyed features.now }
-    requires names { (f : Text) → has_text names.now f ≡ (table_in features.now).has f }
-    ensures reached { IfOk result (λ s. (x : Text) → IsTrue (has_text s x)
+    requires names { (f : Text) → set_has names.now f ≡ (table_in features.now).has f }
+    ensures reached { IfOk result (λ s. (x : Text) → IsTrue (set_has s x)
         ↔ IsReached (table_in features.now) x) }
     ensures refused { IfErr result (λ e. e ≡ Memory) }
 {
@@ -151,7 +151,7 @@ fn is_left_alone<S: BuildHasher>(
     name: &str,
 ) -> bool
     ensures { result ≡ ((table_in features.now).has name.now
-        && (is_hidden name.now && not (has_text reached.now name.now))) }
+        && (is_hidden name.now && not (set_has reached.now name.now))) }
 {
     features.contains_key(name) && is_hidden(name) && !reached.contains(name)
 }
@@ -163,8 +163,8 @@ pub(crate) fn unreachable<'m, S: BuildHasher + Clone>(
     features: &FeatureMap<'m, S>,
 ) -> Result<BTreeSet<&'m str>, Error>
     requires keyed { IsKeyed features.now }
-    requires names { (f : Text) → has_text names.now f ≡ (table_in features.now).has f }
-    ensures unreachable { IfOk result (λ s. (f : Text) → IsTrue (has_text s f)
+    requires names { (f : Text) → set_has names.now f ≡ (table_in features.now).has f }
+    ensures unreachable { IfOk result (λ s. (f : Text) → IsTrue (set_has s f)
         ↔ IsUnreachable (table_in features.now) f) }
     ensures refused { IfErr result (λ e. e ≡ Memory) }
 {

@@ -1,2 +1,3 @@
--- which faults come before anything is printed: a user has to believe these, and there are no others
+-- which faults come before anything is printed: a user has to believe these, and there are no
+-- others
 pub mod Printing

@@ -13,7 +13,7 @@ use Rattle.cargo_toml_graph.specs.Action.{Text, Action, join, join_option}
 use Rattle.cargo_toml_graph.proofs.JoinLaws.{join_option_assoc, join_option_self, join_option_none}
 use Rattle.cargo_toml_graph.proofs.Texts.{bytes_eq_sym}
 use Rattle.cargo_toml_features.specs.declared.features.DepAction.{DepAction}
-use Rattle.cargo_toml_features.specs.Views.{action_of, action_at, has_text}
+use Rattle.cargo_toml_features.specs.Views.{action_of, action_at, set_has}
 use Rattle.cargo_toml_full.proofs.Gathering.{is_text_in}
 use Rattle.cargo_toml_features.proofs.TextKeys.{none_in}
 use Rattle.cargo_toml_resolve.proofs.Sets.{text_in_more}
@@ -31,7 +31,7 @@ pub joined_at : (old : BTreeMap (Bor Text) DepAction) (new : List (Bor Text × D
     → (k : Text) → option_map action_of (entry_at new k) ≡ join_option (action_at old k) (cond (bytes_eq k key) (Some a) None)
 joined_at old new key a s held made others there none held_is made_is k = go (bytes_eq k key) refl
   where
-    first : join (record { is_conditional = true; is_dep_only = false; features = has_text s }) a ≡ a
+    first : join (record { is_conditional = true; is_dep_only = false; features = set_has s }) a ≡ a
     first = λ i. record { is_conditional = a.is_conditional; is_dep_only = a.is_dep_only; features = λ x. ap (λ b. b || a.features x) (none_in s none x) i }
 
     here : (o : Option DepAction) → held ≡ unwrap_or o (record { is_conditional = true; is_dep_only = false; dep_features = s }) → Some (action_of made) ≡ join_option (option_map action_of o) (Some a)

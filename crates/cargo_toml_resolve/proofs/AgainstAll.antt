@@ -10,7 +10,7 @@ use Rattle.cargo_toml_graph.specs.Removal.{is_removed}
 use Rattle.cargo_toml_graph.proofs.AgainstAll as graph
 use Rattle.cargo_toml_graph.proofs.Closure as closure
 use Rattle.cargo_toml_graph.proofs.Members.{resolved_alike}
-use Rattle.cargo_toml_features.specs.Marks.{Details}
+use Rattle.cargo_toml_features.specs.Marks.{NamedDetails}
 use Rattle.cargo_toml_features.specs.Recorded.{Entry}
 use Rattle.cargo_toml_features.specs.Resolved.{Answer, IsAnswer, table_of}
 use Rattle.cargo_toml_features.proofs.Agreement.{settled}
@@ -31,7 +31,7 @@ module _ (listed : Listed) (entries : List Entry) where
   abbrev t : Table
   t = table_of listed entries
 
-  module _ (details : Details) (own : Text → List Text) (R : Text → Type 0) (a : Answer) (h : IsAnswerWithout listed entries details own R a) where
+  module _ (details : NamedDetails) (own : Text → List Text) (R : Text → Type 0) (a : Answer) (h : IsAnswerWithout listed entries details own R a) where
     -- something stands for exactly the removed ones
     resolved : IsResolved t (λ r. IsTrue (is_some (a.redirects r))) a.resolution
     resolved = resolved_alike t R (λ r. IsTrue (is_some (a.redirects r))) (λ r. (h.redirected r).1) (λ r. (h.redirected r).0) a.resolution h.resolved
@@ -39,14 +39,14 @@ module _ (listed : Listed) (entries : List Entry) where
     pub none_left : NoneIsLeft (λ r. IsSome (a.redirects r)) a.resolution
     none_left = closure.none_left t (λ r. is_some (a.redirects r)) a.resolution resolved
 
-    module _ (others : Details) (mentioned : Text → List Text) (full : Answer) (all : IsAnswer listed entries others mentioned (λ _. true) full) where
+    module _ (others : NamedDetails) (mentioned : Text → List Text) (full : Answer) (all : IsAnswer listed entries others mentioned (λ _. true) full) where
       pub keeps_enabling : KeepsEnabling full.resolution a.resolution
       keeps_enabling = graph.keeps_enabling t (λ r. is_some (a.redirects r)) (is_removed t (λ _. true)) full.resolution a.resolution (none_removed t) all.kept.resolved resolved
 
       pub loses_nothing : LosesNothing full.resolution a.resolution
       loses_nothing = graph.loses_nothing t (λ r. is_some (a.redirects r)) (is_removed t (λ _. true)) full.resolution a.resolution (none_removed t) all.kept.resolved resolved
 
-  module _ {F : Type 0} (g : Asked F) (filter : Option (Bor F)) (b : Answer) (details : Details) (own : Text → List Text) (h : IsAnswerBy g filter listed entries details own b) where
+  module _ {F : Type 0} (g : Asked F) (filter : Option (Bor F)) (b : Answer) (details : NamedDetails) (own : Text → List Text) (h : IsAnswerBy g filter listed entries details own b) where
     -- the test that keeps what nothing stands for
     abbrev keep : Text → Bool
     keep r = not (is_some (b.redirects r))
@@ -69,7 +69,7 @@ module _ (listed : Listed) (entries : List Entry) where
     back : (r : Text) → IsTrue (is_removed t keep r) → IsRemovedBy g filter t r
     back r y = (h.answer.redirected r).0 (first (t.has r) (starts_with nat_eq r (codes "_")) (is_some (b.redirects r)) y)
 
-    tested : (others : Details) (mentioned : Text → List Text) (a : Answer) → IsAnswerBy g filter listed entries others mentioned a → IsAnswer listed entries others mentioned keep a
+    tested : (others : NamedDetails) (mentioned : Text → List Text) (a : Answer) → IsAnswerBy g filter listed entries others mentioned a → IsAnswer listed entries others mentioned keep a
     tested others mentioned a k = by_test listed entries others mentioned keep a
         (answer_alike listed entries others mentioned (IsRemovedBy g filter t) (λ r. IsTrue (is_removed t keep r)) a into back k.answer)
 

@@ -9,14 +9,14 @@ use Rattle.cargo_toml_graph.specs.Graph.{Table, IsKept, IsResolved, IsEnabledBy,
 use Rattle.cargo_toml_graph.specs.Reach.{Among, Reaches}
 use Rattle.cargo_toml_graph.specs.Reach.Reaches.{edge, through}
 use Rattle.cargo_toml_graph.proofs.Joins.{join_alike}
-use Rattle.cargo_toml_walk.specs.Numbers.{HasLabel, IsPassed, IsWanted, Leads, PassesAny, list_at}
+use Rattle.cargo_toml_walk.specs.Numbers.{HasLabel, IsPassed, IsWanted, Leads, PassesAny, row_items}
 use Rattle.cargo_toml_resolve.specs.Enabling.{EnablesThrough}
-use Rattle.cargo_toml_features.specs.Places.{text_at}
+use Rattle.cargo_toml_features.specs.Places.{nth_text}
 use Rattle.cargo_toml_resolve.specs.NumberedTables.{HasNumber, IsNaming, IsNumbered}
 use Rattle.cargo_toml_resolve.proofs.NumberedTables as numbered
 use Rattle.cargo_toml_features.specs.declared.features.Feature.{Feature}
 use Rattle.cargo_toml_features.specs.InOrder.{AreInOrder, AreTable, feature_at, names_of}
-use Rattle.cargo_toml_features.specs.Views.{action_at, has_text, resolution_of, value_at}
+use Rattle.cargo_toml_features.specs.Views.{action_at, set_has, resolution_of, value_at}
 use Rattle.cargo_toml_resolve.specs.KeptFeatures.{IsKeptFeature}
 use Rattle.cargo_toml_resolve.specs.Holding.{Holds, action_by}
 use Rattle.cargo_toml_resolve.proofs.InPlace.{name_in, stands_found, stands_in}
@@ -39,7 +39,7 @@ first_step (through {b} e s p) last = (b, e, s)
 
 module _ {Z : Type 0} (t : Table) (removed : Text → Bool) (vs : List Feature) (same : AreTable t vs) (up : AreInOrder vs)
     (texts : List Text) (edges names : List (Vec ℕ Z)) (flags : List Bool) (h : IsNumbered t (λ v. IsTrue (removed v)) texts edges names flags)
-    (count : length edges ≡ length vs) (vertices : (i : ℕ) → i < length vs → text_at texts i ≡ text_at (names_of vs) i)
+    (count : length edges ≡ length vs) (vertices : (i : ℕ) → i < length vs → nth_text texts i ≡ nth_text (names_of vs) i)
     (passed labels : List (Vec ℕ Z))
     (passed_is : (a b : ℕ) → a < length edges → IsWanted flags false a → Leads passed a b ↔ IsPassed edges flags a b)
     (labels_are : (a x : ℕ) → a < length edges → PassesAny passed a → Leads labels a x ↔ HasLabel (Leads passed a) names flags a x) where
@@ -53,37 +53,37 @@ module _ {Z : Type 0} (t : Table) (removed : Text → Bool) (vs : List Feature) 
   inside i lt = subst (λ n. i < n) count lt
 
   -- the table's own words of the feature in place i
-  in_table : (i : ℕ) (v : Feature) → i < length edges → slice_get vs i ≡ Some v → feature_at vs (text_at texts i) ≡ Some v
+  in_table : (i : ℕ) (v : Feature) → i < length edges → slice_get vs i ≡ Some v → feature_at vs (nth_text texts i) ≡ Some v
   in_table i v lt is = subst (λ f. feature_at vs f ≡ Some v) (sym (vertices i (inside i lt) ∙ name_in vs i v is)) (stands_found vs up i v is)
 
-  named_by : (i : ℕ) (v : Feature) → i < length edges → slice_get vs i ≡ Some v → (x : Text) → has_text v.enables_features x ≡ t.names (text_at texts i) x
-  named_by i v lt is x = sym (ap (λ o. option_map_or (λ (w : Feature). has_text w.enables_features x) o false) (in_table i v lt is)) ∙ same.names (text_at texts i) x
+  named_by : (i : ℕ) (v : Feature) → i < length edges → slice_get vs i ≡ Some v → (x : Text) → set_has v.enables_features x ≡ t.names (nth_text texts i) x
+  named_by i v lt is x = sym (ap (λ o. option_map_or (λ (w : Feature). set_has w.enables_features x) o false) (in_table i v lt is)) ∙ same.names (nth_text texts i) x
 
-  acts_by : (b : ℕ) (k : Text) → b < length edges → action_by vs b k ≡ t.action (text_at texts b) k
+  acts_by : (b : ℕ) (k : Text) → b < length edges → action_by vs b k ≡ t.action (nth_text texts b) k
   acts_by b k lt =
       let v = stands_in vs b (inside b lt) in
       ap (λ o. option_and_then (λ (w : Feature). action_at w.enables_deps k) o) v.1
-      ∙ sym (ap (λ o. option_map_or (λ (w : Feature). action_at w.enables_deps k) o None) (in_table b v.0 lt v.1)) ∙ same.action (text_at texts b) k
+      ∙ sym (ap (λ o. option_map_or (λ (w : Feature). action_at w.enables_deps k) o None) (in_table b v.0 lt v.1)) ∙ same.action (nth_text texts b) k
 
-  kept_text : (i : ℕ) → i < length edges → IsWanted flags false i → ¬ R (text_at texts i)
+  kept_text : (i : ℕ) → i < length edges → IsWanted flags false i → ¬ R (nth_text texts i)
   kept_text i lt kept = (numbered.unflagged t R texts edges names flags h i (fits i lt)).0 kept
 
   -- a kept vertex that passes none names nothing removed, and reaches nothing
   module _ (i : ℕ) (lt : i < length edges) (kept : IsWanted flags false i) where
-    no_step : list_at passed i ≡ [] → (b : Text) → R b → ReachesThrough t R (text_at texts i) b → ⊥
+    no_step : row_items passed i ≡ [] → (b : Text) → R b → ReachesThrough t R (nth_text texts i) b → ⊥
     no_step none b gone path =
         let k = (h.vertex b).0 (h.removed b gone) in
-        let r : R (text_at texts k.0) = subst R (sym k.2) gone in
-        let p = (numbered.reaches_text t R texts edges names flags h i k.0 lt k.1).1 (subst (λ v. ReachesThrough t R (text_at texts i) v) (sym k.2) path) in
+        let r : R (nth_text texts k.0) = subst R (sym k.2) gone in
+        let p = (numbered.reaches_text t R texts edges names flags h i k.0 lt k.1).1 (subst (λ v. ReachesThrough t R (nth_text texts i) v) (sym k.2) path) in
         let l : Leads passed i k.0 = (passed_is i k.0 lt kept).1 ((h.flagged k.0 (fits k.0 k.1)).1 r, p) in
         subst (λ xs. Among xs k.0) none l
 
-    plain_names : list_at passed i ≡ [] → (x : Text) → IsTrue (t.names (text_at texts i) x) ↔ KeepsName t R (text_at texts i) x
+    plain_names : row_items passed i ≡ [] → (x : Text) → IsTrue (t.names (nth_text texts i) x) ↔ KeepsName t R (nth_text texts i) x
     plain_names none x = (
       λ y. (
-        (text_at texts i, inl refl, y),
+        (nth_text texts i, inl refl, y),
         λ gone. no_step none x gone (edge (record {
-          source = (h.vertex (text_at texts i)).1 (i, lt, refl);
+          source = (h.vertex (nth_text texts i)).1 (i, lt, refl);
           target = h.removed x gone;
           apart = λ e. kept_text i lt kept (subst R (sym e) gone);
           leads = inl y;
@@ -99,7 +99,7 @@ module _ {Z : Type 0} (t : Table) (removed : Text → Bool) (vs : List Feature) 
     asked : (c : ℕ) → Leads passed i c → IsNaming edges flags i
     asked c some = let p = (passed_is i c lt kept).0 some in inr (first_step p.1 p.0)
 
-    passing_names : (c : ℕ) → Leads passed i c → (x : Text) → HasNumber texts (length texts) (Leads labels i) x ↔ KeepsName t R (text_at texts i) x
+    passing_names : (c : ℕ) → Leads passed i c → (x : Text) → HasNumber texts (length texts) (Leads labels i) x ↔ KeepsName t R (nth_text texts i) x
     passing_names c some x = (
       λ n.
           let l = (labels_are i n.0 lt (c, some)).0 n.3 in
@@ -110,7 +110,7 @@ module _ {Z : Type 0} (t : Table) (removed : Text → Bool) (vs : List Feature) 
           (n.0, n.1, n.2, (labels_are i n.0 lt (c, some)).1 ((g.0, elim (g.1) [ inl e ↦ inl e | inr p ↦ inr ((passed_is i g.0 lt kept).1 p) ], g.2), n.3.1)),
     )
 
-    saying : (k : Text) (a : Action) → ((b : ℕ) × ((b ≡ i) ⊎ Leads passed i b) × (action_by vs b k ≡ Some a)) ↔ Says t R (text_at texts i) k a
+    saying : (k : Text) (a : Action) → ((b : ℕ) × ((b ≡ i) ⊎ Leads passed i b) × (action_by vs b k ≡ Some a)) ↔ Says t R (nth_text texts i) k a
     saying k a = (
       λ d. (numbered.says t R texts edges names flags h i k a lt).1
           (d.0, elim (d.1) [ inl e ↦ inl e | inr p ↦ inr ((passed_is i d.0 lt kept).0 p) ], sym (acts_by d.0 k (of d.0 d.1)) ∙ d.2),
@@ -124,27 +124,27 @@ module _ {Z : Type 0} (t : Table) (removed : Text → Bool) (vs : List Feature) 
         of b (inl e) = subst (λ n. n < length edges) (sym e) lt
         of b (inr p) = numbered.reaches_inside t R texts edges names flags h (IsWanted flags true) R (numbered.vertex_flag t R texts edges names flags h) i b lt ((passed_is i b lt kept).0 p).1
 
-    module _ (v w : Feature) (is : slice_get vs i ≡ Some v) (holds : Holds vs texts i (list_at passed i) (list_at labels i) v w)
-        (learnt : (e : Text) → IsTrue (has_text w.enabled_by e) ↔ HasNumber texts (length edges) (EnablesThrough edges flags i) e) where
-      holds_names : (x : Text) → IsTrue (has_text w.enables_features x) ↔ KeepsName t R (text_at texts i) x
-      holds_names x = elim (empty_or (list_at passed i)) [
+    module _ (v w : Feature) (is : slice_get vs i ≡ Some v) (holds : Holds vs texts i (row_items passed i) (row_items labels i) v w)
+        (learnt : (e : Text) → IsTrue (set_has w.enabled_by e) ↔ HasNumber texts (length edges) (EnablesThrough edges flags i) e) where
+      holds_names : (x : Text) → IsTrue (set_has w.enables_features x) ↔ KeepsName t R (nth_text texts i) x
+      holds_names x = elim (empty_or (row_items passed i)) [
         | inl none ↦
-            let kept_set : has_text w.enables_features x ≡ t.names (text_at texts i) x = ap (λ s. has_text s x) (holds.same_names none) ∙ named_by i v lt is x in
+            let kept_set : set_has w.enables_features x ≡ t.names (nth_text texts i) x = ap (λ s. set_has s x) (holds.same_names none) ∙ named_by i v lt is x in
             (λ y. (plain_names none x).0 (sym kept_set ∙ y), λ n. kept_set ∙ (plain_names none x).1 n)
         | inr some ↦
             let p = passing_names some.1.0 some.1.1 x in
             (λ y. p.0 ((holds.names some.0 x).0 y), λ n. (holds.names some.0 x).1 (p.1 n))
       ]
 
-      holds_enablers : (e : Text) → IsTrue (has_text w.enabled_by e) ↔ IsEnabledBy t R (text_at texts i) e
+      holds_enablers : (e : Text) → IsTrue (set_has w.enabled_by e) ↔ IsEnabledBy t R (nth_text texts i) e
       holds_enablers e =
           let is = numbered.is_enabled_by t R texts edges names flags h i e lt in
           (λ y. is.1 ((learnt e).0 y), λ k. (learnt e).1 (is.0 k))
 
-      holds_actions : (k : Text) → IsJoin (Says t R (text_at texts i) k) (action_at w.enables_deps k)
+      holds_actions : (k : Text) → IsJoin (Says t R (nth_text texts i) k) (action_at w.enables_deps k)
       holds_actions k = join_alike (saying k) (action_at w.enables_deps k) (holds.actions k)
 
-      pub is_kept_feature : IsKeptFeature t R (text_at texts i) w
+      pub is_kept_feature : IsKeptFeature t R (nth_text texts i) w
       is_kept_feature = record { names = holds_names; enabled_by = holds_enablers; action = holds_actions }
 
 -- a map that has each kept feature under its name, and nothing else, is resolved
@@ -177,11 +177,11 @@ module _ {S : Type 0} (t : Table) (removed : Text → Bool) (m : HashMap (Bor Te
     kept = λ f. (is_kept f, λ k. ap is_some (here f k).1);
     names = λ f x k.
         let v = here f k in
-        let same : option_map_or (λ (w : Feature). has_text w.enables_features x) (value_at m f) false ≡ has_text v.0.enables_features x = ap (λ o. option_map_or (λ (w : Feature). has_text w.enables_features x) o false) v.1 in
+        let same : option_map_or (λ (w : Feature). set_has w.enables_features x) (value_at m f) false ≡ set_has v.0.enables_features x = ap (λ o. option_map_or (λ (w : Feature). set_has w.enables_features x) o false) v.1 in
         (λ y. (v.2.names x).0 (sym same ∙ y), λ n. same ∙ (v.2.names x).1 n);
     enabled_by = λ f e k.
         let v = here f k in
-        let same : option_map_or (λ (w : Feature). has_text w.enabled_by e) (value_at m f) false ≡ has_text v.0.enabled_by e = ap (λ o. option_map_or (λ (w : Feature). has_text w.enabled_by e) o false) v.1 in
+        let same : option_map_or (λ (w : Feature). set_has w.enabled_by e) (value_at m f) false ≡ set_has v.0.enabled_by e = ap (λ o. option_map_or (λ (w : Feature). set_has w.enabled_by e) o false) v.1 in
         (λ y. (v.2.enabled_by e).0 (sym same ∙ y), λ n. same ∙ (v.2.enabled_by e).1 n);
     action = λ f d k.
         let v = here f k in

@@ -12,23 +12,23 @@ use Rattle.cargo_toml_graph.specs.Graph.{Table}
 use Rattle.cargo_toml_graph.specs.Redirects.{RedirectsTo}
 use Rattle.cargo_toml_graph.specs.Removal.{unremoved}
 use Rattle.cargo_toml_graph.proofs.InByteOrder.{alike_itself, passed_all_alike, passed_has}
-use Rattle.cargo_toml_features.specs.Places.{text_at}
+use Rattle.cargo_toml_features.specs.Places.{nth_text}
 use Rattle.cargo_toml_dependencies.specs.Details.{plain_detail}
 use Rattle.cargo_toml_features.specs.declared.features.Feature.{Feature}
 use Rattle.cargo_toml_features.specs.declared.features.Features.{Features}
 use Rattle.cargo_toml_features.specs.InOrder.{AreTable, feature_at, names_of}
 use Rattle.cargo_toml_features.specs.Reached.{IsKeyed}
-use Rattle.cargo_toml_features.specs.Marks.{Details, marked, marks_in, marks_of}
+use Rattle.cargo_toml_features.specs.Marks.{NamedDetails, marked, marks_in, marks_of}
 use Rattle.cargo_toml_features.specs.Recorded.{Entry, entries_at, recorded_of}
 use Rattle.cargo_toml_features.specs.Resolved.{SameRecorded, table_of}
-use Rattle.cargo_toml_features.specs.Views.{answer_of, has_text, value_at}
+use Rattle.cargo_toml_features.specs.Views.{answer_of, set_has, value_at}
 use Rattle.cargo_toml_resolve.specs.KeptFeatures.{IsNamedAlike, own_bins}
 use Rattle.cargo_toml_resolve.specs.KeptByName.{AreKept}
 use Rattle.cargo_toml_resolve.specs.Numbering.{IsFlagged}
 use Rattle.cargo_toml_resolve.specs.Removed.{IsAnswerWithout}
 use Rattle.cargo_toml_resolve.proofs.InPlace.{found_stands}
 
-module _ {S H : Type 0} (listed : Listed) (entries : List Entry) (details : Details) (own : Text → List Text) (removed : Text → Bool) (vs : List Feature) (a : Features S H)
+module _ {S H : Type 0} (listed : Listed) (entries : List Entry) (details : NamedDetails) (own : Text → List Text) (removed : Text → Bool) (vs : List Feature) (a : Features S H)
     (start : AreTable (table_of listed entries) vs) (there : (f : Text) → IsTrue (removed f) → IsTrue ((table_of listed entries).has f))
     (marks : (f : Text) → IfSome (feature_at vs f) (λ v. marks_of v ≡ marks_in listed details f))
     (bins : (f : Text) → IfSome (feature_at vs f) (λ v. map (λ b. b.now) v.required_by_bins.items ≡ own f))
@@ -80,18 +80,18 @@ module _ {S H : Type 0} (listed : Listed) (entries : List Entry) (details : Deta
         ∙ passed_all_alike (λ v. IsTrue (t.has v)) kept.bins.order (unremoved t) (unremoved t) (own_bins vs) own (alike_itself (unremoved t)) (λ v i. there v ((kept.bins.in_order.members v).0 i)) own_at f k.0;
   }
 
-  redirected : (r : Text) → is_some (option_map has_text (value_at a.hidden_features r)) ≡ removed r
+  redirected : (r : Text) → is_some (option_map set_has (value_at a.hidden_features r)) ≡ removed r
   redirected r = go (value_at a.hidden_features r) ∙ kept.redirected r
     where
-      go : (o : Option (BTreeSet (Bor Text))) → is_some (option_map has_text o) ≡ is_some o
+      go : (o : Option (BTreeSet (Bor Text))) → is_some (option_map set_has o) ≡ is_some o
       go None = refl
       go (Some v) = refl
 
-  redirects : (r : Text) → IfSome (option_map has_text (value_at a.hidden_features r)) (λ names. (x : Text) → IsTrue (names x) ↔ RedirectsTo t R (λ s b. IsTrue (is_below s b)) r x)
+  redirects : (r : Text) → IfSome (option_map set_has (value_at a.hidden_features r)) (λ names. (x : Text) → IsTrue (names x) ↔ RedirectsTo t R (λ s b. IsTrue (is_below s b)) r x)
   redirects r = go (value_at a.hidden_features r) (kept.redirects r)
     where
-      go : (o : Option (BTreeSet (Bor Text))) → IfSome o (λ names. (x : Text) → IsTrue (has_text names x) ↔ RedirectsTo t R (λ s b. IsTrue (is_below s b)) r x)
-          → IfSome (option_map has_text o) (λ names. (x : Text) → IsTrue (names x) ↔ RedirectsTo t R (λ s b. IsTrue (is_below s b)) r x)
+      go : (o : Option (BTreeSet (Bor Text))) → IfSome o (λ names. (x : Text) → IsTrue (set_has names x) ↔ RedirectsTo t R (λ s b. IsTrue (is_below s b)) r x)
+          → IfSome (option_map set_has o) (λ names. (x : Text) → IsTrue (names x) ↔ RedirectsTo t R (λ s b. IsTrue (is_below s b)) r x)
       go None h = tt
       go (Some names) h = h
 
@@ -113,7 +113,7 @@ pub some_flagged : (b : Bool) (vs : List Feature) (flags : List Bool) (R : Text 
     ((f : Text) → R f ↔ IsFlagged vs flags f) → IsTrue b ↔ ((r : Text) × R r)
 some_flagged true vs flags R len h is = (
   λ y.
-      let name = text_at (names_of vs) h.0 in
+      let name = nth_text (names_of vs) h.0 in
       (name, (is name).1 (h.0, (let below = h.1 in omega (arith, below, len)), refl, stands (slice_index_or flags h.0 false) (h.2 false))),
   λ r. refl,
 )

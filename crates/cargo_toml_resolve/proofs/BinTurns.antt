@@ -5,8 +5,8 @@ use Rattle.std.proofs.lemmas.Bool.Decides.{nat_tests}
 use Rattle.std.specs.List.{list_any, slice_index_or}
 use Rattle.cargo_toml_graph.specs.Action.{Text}
 use Rattle.cargo_toml_graph.specs.Reach.{Among}
-use Rattle.cargo_toml_graph.specs.Removal.{put_all}
-use Rattle.cargo_toml_walk.specs.Numbers.{IsWanted, Leads, list_at}
+use Rattle.cargo_toml_graph.specs.Removal.{put_each}
+use Rattle.cargo_toml_walk.specs.Numbers.{IsWanted, Leads, row_items}
 use Rattle.cargo_toml_resolve.specs.Passing.{passed_below, passed_from}
 
 -- a test tells whether a number stands in a list
@@ -37,12 +37,12 @@ none_passed rows flags own (suc n) none y = go (none_passed rows flags own n (λ
     P : ℕ → List Text
     P = passed_below rows flags n own
 
-    put : ((x : ℕ) → P x ≡ own x) → P n ≡ [] → (b : Bool) → cond b (put_all (P y) (take 10 (P n))) (P y) ≡ own y
-    put below is true = ap (λ bs. put_all (P y) (take 10 bs)) is ∙ below y
+    put : ((x : ℕ) → P x ≡ own x) → P n ≡ [] → (b : Bool) → cond b (put_each (P y) (take 10 (P n))) (P y) ≡ own y
+    put below is true = ap (λ bs. put_each (P y) (take 10 bs)) is ∙ below y
     put below is false = below y
 
     go : ((x : ℕ) → P x ≡ own x) → (b : Bool) → slice_index_or flags n false ≡ b → (cond b (passed_from rows n P) P) y ≡ own y
-    go below true gone = put below (below n ∙ none n (omega arith) gone) (list_any (nat_eq y) (list_at rows n))
+    go below true gone = put below (below n ∙ none n (omega arith) gone) (list_any (nat_eq y) (row_items rows n))
     go below false kept = below y
 
 module _ {Z : Type 0} (rows : List (Vec ℕ Z)) (flags : List Bool) (own : ℕ → List Text) (size : ℕ) where
@@ -62,14 +62,14 @@ module _ {Z : Type 0} (rows : List (Vec ℕ Z)) (flags : List Bool) (own : ℕ �
 
   -- a removed place has its turn
   pub one_turn : (i : ℕ) → i < size → IsWanted flags true i → (lists lists' : ℕ → List Text) → Turned i lists →
-      ((y : ℕ) → y < size → (Leads rows i y × (lists' y ≡ put_all (lists y) (take 10 (lists i)))) ⊎ ((¬ Leads rows i y) × (lists' y ≡ lists y))) → Turned (i + 1) lists'
+      ((y : ℕ) → y < size → (Leads rows i y × (lists' y ≡ put_each (lists y) (take 10 (lists i)))) ⊎ ((¬ Leads rows i y) × (lists' y ≡ lists y))) → Turned (i + 1) lists'
   one_turn i inside gone lists lists' t puts = next i lists' (λ y below.
       turn y below (puts y below) ∙ sym (ap (λ b. (cond b (passed_from rows i (before i)) (before i)) y) gone))
     where
-      turn : (y : ℕ) → y < size → (Leads rows i y × (lists' y ≡ put_all (lists y) (take 10 (lists i)))) ⊎ ((¬ Leads rows i y) × (lists' y ≡ lists y)) → lists' y ≡ passed_from rows i (before i) y
+      turn : (y : ℕ) → y < size → (Leads rows i y × (lists' y ≡ put_each (lists y) (take 10 (lists i)))) ⊎ ((¬ Leads rows i y) × (lists' y ≡ lists y)) → lists' y ≡ passed_from rows i (before i) y
       turn y below (inl p) =
-          p.1 ∙ ap₂ (λ xs ys. put_all xs (take 10 ys)) (t y below) (t i inside)
-          ∙ sym (ap (λ b. cond b (put_all (before i y) (take 10 (before i i))) (before i y)) (stands_true (list_at rows i) y p.0))
+          p.1 ∙ ap₂ (λ xs ys. put_each xs (take 10 ys)) (t y below) (t i inside)
+          ∙ sym (ap (λ b. cond b (put_each (before i y) (take 10 (before i i))) (before i y)) (stands_true (row_items rows i) y p.0))
       turn y below (inr p) =
           p.1 ∙ t y below
-          ∙ sym (ap (λ b. cond b (put_all (before i y) (take 10 (before i i))) (before i y)) (stands_false (list_at rows i) y p.0))
+          ∙ sym (ap (λ b. cond b (put_each (before i y) (take 10 (before i i))) (before i y)) (stands_false (row_items rows i) y p.0))

@@ -13,12 +13,12 @@ use Rattle.cargo_toml_graph.proofs.Members.{label_within, resolved_alike}
 use Rattle.cargo_toml_graph.proofs.PassedBins.{grown_weaker, passed_alike}
 use Rattle.cargo_toml_features.specs.declared.features.Feature.{Feature}
 use Rattle.cargo_toml_features.specs.InOrder.{AreInOrder, AreTable, names_of}
-use Rattle.cargo_toml_features.specs.Marks.{Details}
+use Rattle.cargo_toml_features.specs.Marks.{NamedDetails}
 use Rattle.cargo_toml_features.specs.Recorded.{Entry}
 use Rattle.cargo_toml_features.specs.Resolved.{Answer, IsAnswer, table_of}
-use Rattle.cargo_toml_features.specs.Places.{text_at}
+use Rattle.cargo_toml_features.specs.Places.{nth_text}
 use Rattle.cargo_toml_walk.specs.Numbers.{IsWanted}
-use Rattle.cargo_toml_resolve.specs.Filter.{Answers, Asked, HasNameFilter, IsFlagOf, IsHiddenName, Tells}
+use Rattle.cargo_toml_resolve.specs.Filter.{Answers, Asked, HasNameFilter, IsFlagOf, IsHiddenName, FilterTells}
 use Rattle.cargo_toml_resolve.specs.Numbering.{IsFlagged}
 use Rattle.cargo_toml_resolve.specs.Removed.{IsAnswerBy, IsAnswerWithout, IsRemovedBy}
 use Rattle.cargo_toml_resolve.proofs.InPlace.{has_place}
@@ -40,7 +40,7 @@ flag_is (v ∷ vs) (b ∷ flags) f = (into (flag_is vs flags f), out (flag_is vs
       | inr h ↦ (let w = rest.0 h in (suc w.0, (let lt = w.1 in omega (arith, lt)), w.2, w.3))
     ]
 
-    at : IsTrue (flag_at vs flags f) ↔ IsFlagged vs flags f → (i : ℕ) → i < length (v ∷ vs) → text_at (names_of (v ∷ vs)) i ≡ f → IsWanted (b ∷ flags) true i
+    at : IsTrue (flag_at vs flags f) ↔ IsFlagged vs flags f → (i : ℕ) → i < length (v ∷ vs) → nth_text (names_of (v ∷ vs)) i ≡ f → IsWanted (b ∷ flags) true i
         → IsTrue (flag_at (v ∷ vs) (b ∷ flags) f)
     at rest zero lt same stands = or_left _ _ (and_from _ _ ((bytes_eq-Decides f v.key.now).1 (sym same)) stands)
     at rest (suc i) lt same stands = or_right _ _ (rest.1 (i, omega (arith, lt), same, stands))
@@ -58,17 +58,17 @@ module _ {F : Type 0} (g : Asked F) (filter : Option (Bor F)) where
       go (Some f) has keeps refuses = false≢true ((has f refl).one_answer n false true refuses keeps)
 
   -- a test that agrees with the filter is what it answers
-  told_as : (keep : Text → Bool) → Tells g filter keep → (n : Text) (b : Bool) → Answers g filter n b → b ≡ keep n
+  told_as : (keep : Text → Bool) → FilterTells g filter keep → (n : Text) (b : Bool) → Answers g filter n b → b ≡ keep n
   told_as keep tells n b = go filter tells
     where
-      go : (o : Option (Bor F)) → Tells g o keep → Answers g o n b → b ≡ keep n
+      go : (o : Option (Bor F)) → FilterTells g o keep → Answers g o n b → b ≡ keep n
       go None tells is = is ∙ sym (tells n)
       go (Some f) tells is = tells n b is
 
   -- the features whose flag stands are those that the filter refuses
   module _ (has : HasNameFilter g filter) (t : Table) (vs : List Feature) (same : AreTable t vs) (up : AreInOrder vs) (flags : List Bool)
-      (are : (i : ℕ) → i < length vs → IsFlagOf g filter (text_at (names_of vs) i) (slice_index_or flags i false)) where
-    flag_of : (f : Text) → IsTrue (t.has f) → (i : ℕ) × (i < length vs) × (text_at (names_of vs) i ≡ f) × IsFlagOf g filter f (slice_index_or flags i false)
+      (are : (i : ℕ) → i < length vs → IsFlagOf g filter (nth_text (names_of vs) i) (slice_index_or flags i false)) where
+    flag_of : (f : Text) → IsTrue (t.has f) → (i : ℕ) × (i < length vs) × (nth_text (names_of vs) i ≡ f) × IsFlagOf g filter f (slice_index_or flags i false)
     flag_of f known =
         let p = (has_place t vs same up f).0 known in
         (p.0, p.1, p.2, subst (λ x. IsFlagOf g filter x (slice_index_or flags p.0 false)) p.2 (are p.0 p.1))
@@ -76,7 +76,7 @@ module _ {F : Type 0} (g : Asked F) (filter : Option (Bor F)) where
     pub removed_by : (f : Text) → IsFlagged vs flags f ↔ IsRemovedBy g filter t f
     removed_by f = (
       λ w.
-          let r = subst (λ x. IsFlagOf g filter x true) w.2 (subst (IsFlagOf g filter (text_at (names_of vs) w.0)) w.3 (are w.0 w.1)) in
+          let r = subst (λ x. IsFlagOf g filter x true) w.2 (subst (IsFlagOf g filter (nth_text (names_of vs) w.0)) w.3 (are w.0 w.1)) in
           record { there = (has_place t vs same up f).1 (w.0, w.1, w.2); hidden = r.hidden; refused = r.refused },
       λ r. let p = flag_of f r.there in (p.0, p.1, p.2, stands (slice_index_or flags p.0 false) p.3 r),
     )
@@ -93,7 +93,7 @@ module _ {F : Type 0} (g : Asked F) (filter : Option (Bor F)) where
         go true r = absurd (stays (record { there = known; hidden = hidden; refused = r.refused }))
         go false keeps = keeps hidden
 
-module _ (listed : Listed) (entries : List Entry) (details : Details) (own : Text → List Text) where
+module _ (listed : Listed) (entries : List Entry) (details : NamedDetails) (own : Text → List Text) where
   abbrev t : Table
   t = table_of listed entries
 
@@ -164,7 +164,7 @@ module _ (listed : Listed) (entries : List Entry) (details : Details) (own : Tex
     -- each test that agrees with the filter tells the same as it
     pub tell_alike : (keep : Text → Bool) (a : Answer) → IsAnswerWithout listed entries details own R a
         → ((f : Text) → IsTrue (a.resolution.table.has f) → IsHiddenName f → Answers g filter f true)
-        → Tells g filter keep → IsAnswer listed entries details own keep a
+        → FilterTells g filter keep → IsAnswer listed entries details own keep a
     tell_alike keep a h kept tells = by_test keep a (answer_alike R (λ r. IsTrue (is_removed t keep r)) a into back h)
       where
         into : (r : Text) → R r → IsTrue (is_removed t keep r)

@@ -10,21 +10,21 @@ use Rattle.cargo_toml_graph.specs.Admitted.{is_below}
 use Rattle.cargo_toml_graph.specs.Graph.{Table, IsKept}
 use Rattle.cargo_toml_graph.specs.Redirects.{RedirectsTo}
 use Rattle.cargo_toml_graph.specs.Removal.{pass_all, unremoved}
-use Rattle.cargo_toml_walk.specs.Numbers.{IsWanted, Leads, list_at}
-use Rattle.cargo_toml_features.specs.Places.{text_at}
+use Rattle.cargo_toml_walk.specs.Numbers.{IsWanted, Leads, row_items}
+use Rattle.cargo_toml_features.specs.Places.{nth_text}
 use Rattle.cargo_toml_resolve.specs.NumberedTables.{HasNumber, IsNumbered}
 use Rattle.cargo_toml_resolve.proofs.NumberedTables as numbered
 use Rattle.cargo_toml_features.specs.declared.features.Feature.{Feature}
 use Rattle.cargo_toml_features.specs.InOrder.{AreInOrder, AreTable, feature_at, names_of, table_among}
-use Rattle.cargo_toml_features.specs.Views.{has_text, value_at}
+use Rattle.cargo_toml_features.specs.Views.{set_has, value_at}
 use Rattle.cargo_toml_resolve.specs.declared.graph.Graph.{Graph}
 use Rattle.cargo_toml_resolve.specs.declared.graph.Walked.{Walked}
 use Rattle.cargo_toml_resolve.specs.KeptFeatures.{ArePassedAt, IsKeptFeature, IsNamedAlike, StandFor, own_bins}
-use Rattle.cargo_toml_resolve.specs.Holding.{HasTexts}
+use Rattle.cargo_toml_resolve.specs.Holding.{HasTextsOf}
 use Rattle.cargo_toml_resolve.specs.KeptByName.{AreKept}
 use Rattle.cargo_toml_resolve.specs.Numbering.{IsFlagged}
 use Rattle.cargo_toml_resolve.specs.Placed.{ArePlaced, AreHashed}
-use Rattle.cargo_toml_resolve.specs.Texts.{texts_of}
+use Rattle.cargo_toml_resolve.specs.Texts.{texts_now}
 use Rattle.cargo_toml_resolve.proofs.Answered.{resolved_is}
 use Rattle.cargo_toml_resolve.proofs.InPlace.{name_in, stands_found, stands_in}
 use Rattle.cargo_toml_resolve.proofs.NumberingGraph.{same_removed}
@@ -66,19 +66,19 @@ module _ (t : Table) (removed : Text → Bool) (old new : List Feature) (texts :
   number_of i w at = subst (λ n. i < n) (len ∙ sym stand.count) (place_inside new i w at)
 
   -- what stands in a place has the text of its number as its name
-  pub name_there : (i : ℕ) (w : Feature) → slice_get new i ≡ Some w → w.key.now ≡ text_at texts i
+  pub name_there : (i : ℕ) (w : Feature) → slice_get new i ≡ Some w → w.key.now ≡ nth_text texts i
   name_there i w at =
       let v = stood old new len i w at in
       ap (λ k. k.now) (own i v.0 w v.1 at).key ∙ sym (stand.vertices i (vertex_place i (number_of i w at)) ∙ name_in old i v.0 v.1)
 
   module _ {S : Type 0} (m : HashMap (Bor Text) Feature S) (hidden : HashMap (Bor Text) (BTreeSet (Bor Text)) S) (redirects_len : length rows ≡ length old)
-      (kept : (i : ℕ) (w : Feature) → IsWanted flags false i → slice_get new i ≡ Some w → IsKeptFeature t R (text_at texts i) w)
+      (kept : (i : ℕ) (w : Feature) → IsWanted flags false i → slice_get new i ≡ Some w → IsKeptFeature t R (nth_text texts i) w)
       (bins : ArePassedAt t removed (own_bins old) texts flags new)
-      (redirects_are : (r : ℕ) (x : Text) → r < length edges → IsWanted flags true r → HasNumber texts (length texts) (Leads rows r) x ↔ RedirectsTo t R (λ a b. IsTrue (is_below a b)) (text_at texts r) x)
+      (redirects_are : (r : ℕ) (x : Text) → r < length edges → IsWanted flags true r → HasNumber texts (length texts) (Leads rows r) x ↔ RedirectsTo t R (λ a b. IsTrue (is_below a b)) (nth_text texts r) x)
       (held : (i : ℕ) (v : Feature) → slice_get new i ≡ Some v → IsWanted flags false i → value_at m v.key.now ≡ Some v)
       (only : (f : Text) → IsSome (value_at m f) → (i : ℕ) × (v : Feature) × (slice_get new i ≡ Some v) × IsWanted flags false i × (v.key.now ≡ f))
-      (redirect_there : (i : ℕ) → i < length rows → IsWanted flags true i → IsSomeAnd (value_at hidden (text_at texts i)) (HasTexts texts (list_at rows i)))
-      (redirect_only : (r : Text) → IsSome (value_at hidden r) → (i : ℕ) × (i < length rows) × (text_at texts i ≡ r) × IsWanted flags true i) where
+      (redirect_there : (i : ℕ) → i < length rows → IsWanted flags true i → IsSomeAnd (value_at hidden (nth_text texts i)) (HasTextsOf texts (row_items rows i)))
+      (redirect_only : (r : Text) → IsSome (value_at hidden r) → (i : ℕ) × (i < length rows) × (nth_text texts i ≡ r) × IsWanted flags true i) where
     kept_by_name : (f : Text) → IsKept t R f → IsSomeAnd (value_at m f) (IsKeptFeature t R f)
     kept_by_name f k =
         let i = (stand.numbered.vertex f).0 k.0 in
@@ -91,7 +91,7 @@ module _ (t : Table) (removed : Text → Bool) (old new : List Feature) (texts :
     gone f r = none_unless (value_at m f) (λ y.
         let o = only f y in
         let lt = number_of o.0 o.1 o.2 in
-        let named : text_at texts o.0 ≡ f = sym (name_there o.0 o.1 o.2) ∙ o.4 in
+        let named : nth_text texts o.0 ≡ f = sym (name_there o.0 o.1 o.2) ∙ o.4 in
         (numbered.unflagged t R texts edges names flags stand.numbered o.0 (fits o.0 lt)).0 o.3 (subst R (sym named) r))
 
     missing : (f : Text) → ¬ IsTrue (t.has f) → value_at m f ≡ None
@@ -100,7 +100,7 @@ module _ (t : Table) (removed : Text → Bool) (old new : List Feature) (texts :
         lacks ((stand.numbered.vertex f).1 (o.0, number_of o.0 o.1 o.2, sym (name_there o.0 o.1 o.2) ∙ o.4)))
 
     -- what stands under a name stands in a place
-    with_place : (f : Text) (P : Feature → Type 0) → ((i : ℕ) (w : Feature) → slice_get new i ≡ Some w → IsWanted flags false i → text_at texts i ≡ f → P w) → IfSome (value_at m f) P
+    with_place : (f : Text) (P : Feature → Type 0) → ((i : ℕ) (w : Feature) → slice_get new i ≡ Some w → IsWanted flags false i → nth_text texts i ≡ f → P w) → IfSome (value_at m f) P
     with_place f P h = if_there (value_at m f) P (λ y.
         let o = only f y in
         let there : value_at m f ≡ Some o.1 = subst (λ x. value_at m x ≡ Some o.1) o.4 (held o.0 o.1 o.2 o.3) in
@@ -112,7 +112,7 @@ module _ (t : Table) (removed : Text → Bool) (old new : List Feature) (texts :
         let key : v.0.key.now ≡ f = sym (name_in old i v.0 v.1) ∙ sym (stand.vertices i (vertex_place i (number_of i w at))) ∙ named in
         (v.0, subst (λ x. feature_at old x ≡ Some v.0) key (stands_found old stand.in_order i v.0 v.1), own i v.0 w v.1 at))
 
-    row_flag : (r : Text) → R r → (i : ℕ) × (i < length edges) × (text_at texts i ≡ r) × IsWanted flags true i
+    row_flag : (r : Text) → R r → (i : ℕ) × (i < length edges) × (nth_text texts i ≡ r) × IsWanted flags true i
     row_flag r gone_now =
         let i = (stand.numbered.vertex r).0 (stand.numbered.removed r gone_now) in
         (i.0, i.1, i.2, (stand.numbered.flagged i.0 (fits i.0 i.1)).1 (subst R (sym i.2) gone_now))
@@ -126,18 +126,18 @@ module _ (t : Table) (removed : Text → Bool) (old new : List Feature) (texts :
       λ y.
           let i = row_flag r y in
           subst (λ x. IsSome (value_at hidden x)) i.2
-          (some_there (value_at hidden (text_at texts i.0)) (HasTexts texts (list_at rows i.0)) (redirect_there i.0 (subst (λ n. i.0 < n) (sym (redirects_len ∙ sym stand.count)) i.1) i.3)),
+          (some_there (value_at hidden (nth_text texts i.0)) (HasTextsOf texts (row_items rows i.0)) (redirect_there i.0 (subst (λ n. i.0 < n) (sym (redirects_len ∙ sym stand.count)) i.1) i.3)),
     )
 
-    redirects : (r : Text) → IfSome (value_at hidden r) (λ s. (x : Text) → IsTrue (has_text s x) ↔ RedirectsTo t R (λ a b. IsTrue (is_below a b)) r x)
-    redirects r = if_there (value_at hidden r) (λ s. (x : Text) → IsTrue (has_text s x) ↔ RedirectsTo t R (λ a b. IsTrue (is_below a b)) r x) (λ y.
+    redirects : (r : Text) → IfSome (value_at hidden r) (λ s. (x : Text) → IsTrue (set_has s x) ↔ RedirectsTo t R (λ a b. IsTrue (is_below a b)) r x)
+    redirects r = if_there (value_at hidden r) (λ s. (x : Text) → IsTrue (set_has s x) ↔ RedirectsTo t R (λ a b. IsTrue (is_below a b)) r x) (λ y.
         let o = redirect_only r y in
         let below : o.0 < length edges = subst (λ n. o.0 < n) (redirects_len ∙ sym stand.count) o.1 in
-        subst (λ x. IsSomeAnd (value_at hidden x) (λ s. (z : Text) → IsTrue (has_text s z) ↔ RedirectsTo t R (λ a b. IsTrue (is_below a b)) x z)) o.2
-        (told (value_at hidden (text_at texts o.0)) o.0 below o.3 (redirect_there o.0 o.1 o.3)))
+        subst (λ x. IsSomeAnd (value_at hidden x) (λ s. (z : Text) → IsTrue (set_has s z) ↔ RedirectsTo t R (λ a b. IsTrue (is_below a b)) x z)) o.2
+        (told (value_at hidden (nth_text texts o.0)) o.0 below o.3 (redirect_there o.0 o.1 o.3)))
       where
-        told : (p : Option (BTreeSet (Bor Text))) (i : ℕ) → i < length edges → IsWanted flags true i → IsSomeAnd p (HasTexts texts (list_at rows i)) →
-            IsSomeAnd p (λ s. (z : Text) → IsTrue (has_text s z) ↔ RedirectsTo t R (λ a b. IsTrue (is_below a b)) (text_at texts i) z)
+        told : (p : Option (BTreeSet (Bor Text))) (i : ℕ) → i < length edges → IsWanted flags true i → IsSomeAnd p (HasTextsOf texts (row_items rows i)) →
+            IsSomeAnd p (λ s. (z : Text) → IsTrue (set_has s z) ↔ RedirectsTo t R (λ a b. IsTrue (is_below a b)) (nth_text texts i) z)
         told None i lt on h = absurd h
         told (Some s) i lt on h = λ z. (
           λ y. (redirects_are i z lt on).0 ((h z).0 y),
@@ -165,16 +165,16 @@ module _ (t : Table) (removed : Text → Bool) (old new : List Feature) (texts :
 
 -- what numbering tells of the features
 pub record NumberedBy (vs : List Feature) (flagged : List Bool) (texts : List (Bor Text)) (edges names : List (Vec ℕ Global)) (flags : List Bool) : Type 0 where
-  pub numbered : IsNumbered (table_among vs) (IsFlagged vs flagged) (texts_of texts) edges names flags
+  pub numbered : IsNumbered (table_among vs) (IsFlagged vs flagged) (texts_now texts) edges names flags
   pub count : length edges ≡ length vs
-  pub vertices : (i : ℕ) → i < length vs → text_at (texts_of texts) i ≡ text_at (names_of vs) i
+  pub vertices : (i : ℕ) → i < length vs → nth_text (texts_now texts) i ≡ nth_text (names_of vs) i
 
 pub stands_for : (t : Table) (removed : Text → Bool) (vs : List Feature) (flagged : List Bool) (texts : List (Bor Text)) (edges names : List (Vec ℕ Global)) (flags : List Bool) →
-    AreInOrder vs → NumberedBy vs flagged texts edges names flags → AreTable t vs → ((f : Text) → IsTrue (removed f) ↔ IsFlagged vs flagged f) → StandFor t removed vs (texts_of texts) edges names flags
+    AreInOrder vs → NumberedBy vs flagged texts edges names flags → AreTable t vs → ((f : Text) → IsTrue (removed f) ↔ IsFlagged vs flagged f) → StandFor t removed vs (texts_now texts) edges names flags
 stands_for t removed vs flagged texts edges names flags up n same removed_is = record {
   table = same;
   in_order = up;
-  numbered = renumbered t vs (λ v. IsTrue (removed v)) (texts_of texts) edges names flags same (same_removed (table_among vs) vs flagged (λ v. IsTrue (removed v)) (texts_of texts) edges names flags n.numbered removed_is);
+  numbered = renumbered t vs (λ v. IsTrue (removed v)) (texts_now texts) edges names flags same (same_removed (table_among vs) vs flagged (λ v. IsTrue (removed v)) (texts_now texts) edges names flags n.numbered removed_is);
   count = n.count;
   vertices = n.vertices;
 }
@@ -184,11 +184,11 @@ pub all_hashed : {S : Type 0} (t : Table) (removed : Text → Bool) (old new : L
     ArePlaced g old new w → AreHashed new w m hidden → AreTable t old → ((f : Text) → IsTrue (removed f) ↔ IsFlagged old flagged f) → AreKept t removed old m hidden
 all_hashed t removed old new flagged g w m hidden up n p h same removed_is =
     let stand = stands_for t removed old flagged g.texts.items g.edges.items g.names.items g.flags.items up n same removed_is in
-    are_kept t removed old new (texts_of g.texts.items) g.edges.items g.names.items w.redirects.items g.flags.items stand p.len p.own m hidden p.count (p.kept t removed stand) (p.bins t removed stand) (p.redirects t removed stand)
+    are_kept t removed old new (texts_now g.texts.items) g.edges.items g.names.items w.redirects.items g.flags.items stand p.len p.own m hidden p.count (p.kept t removed stand) (p.bins t removed stand) (p.redirects t removed stand)
     (λ i v at off. h.held i v at (to_walked false i off))
     (λ f there. let o = h.only f there in (o.0, o.1, o.2, from_walked false o.0 o.3, o.4))
-    (λ i lt on. subst (λ ts. IsSomeAnd (value_at hidden (text_at (texts_of ts.items) i)) (HasTexts (texts_of ts.items) (list_at w.redirects.items i))) p.texts (h.redirect_there i lt (to_walked true i on)))
-    (λ r there. let o = h.redirect_only r there in (o.0, o.1, subst (λ ts. text_at (texts_of ts.items) o.0 ≡ r) p.texts o.2, from_walked true o.0 o.3))
+    (λ i lt on. subst (λ ts. IsSomeAnd (value_at hidden (nth_text (texts_now ts.items) i)) (HasTextsOf (texts_now ts.items) (row_items w.redirects.items i))) p.texts (h.redirect_there i lt (to_walked true i on)))
+    (λ r there. let o = h.redirect_only r there in (o.0, o.1, subst (λ ts. nth_text (texts_now ts.items) o.0 ≡ r) p.texts o.2, from_walked true o.0 o.3))
   where
     to_walked : (wanted : Bool) (i : ℕ) → IsWanted g.flags.items wanted i → IsWanted w.flags.items wanted i
     to_walked wanted i = subst (λ fs. IsWanted fs.items wanted i) (sym p.flags)
@@ -201,7 +201,7 @@ pub one_name : (old new : List Feature) (flagged : List Bool) (texts : List (Bor
     length new ≡ length old → ((i : ℕ) (v w : Feature) → slice_get old i ≡ Some v → slice_get new i ≡ Some w → IsNamedAlike v w) →
     (i j : ℕ) (v w : Feature) → slice_get new i ≡ Some v → slice_get new j ≡ Some w → v.key.now ≡ w.key.now → i ≡ j
 one_name old new flagged texts edges names flags n len own i j v w at at' same =
-    let name : (k : ℕ) (u : Feature) → slice_get new k ≡ Some u → (k < length edges) × (u.key.now ≡ text_at (texts_of texts) k) = λ k u here.
+    let name : (k : ℕ) (u : Feature) → slice_get new k ≡ Some u → (k < length edges) × (u.key.now ≡ nth_text (texts_now texts) k) = λ k u here.
     let o = stood old new len k u here in
     let below = place_inside old k o.0 o.1 in
     (subst (λ c. k < c) (sym n.count) below, ap (λ x. x.now) (own k o.0 u o.1 here).key ∙ sym (n.vertices k below ∙ name_in old k o.0 o.1)) in

@@ -7,10 +7,10 @@ use Rattle.std.specs.Option.{option_map_or}
 use Rattle.cargo_toml_graph.specs.Action.{Text}
 use Rattle.cargo_toml_graph.specs.Reach.{Among}
 use Rattle.cargo_toml_features.specs.declared.features.Feature.{Feature}
-use Rattle.cargo_toml_features.specs.Views.{has_text}
+use Rattle.cargo_toml_features.specs.Views.{set_has}
 use Rattle.cargo_toml_walk.specs.Numbers.{IsWanted}
-use Rattle.cargo_toml_resolve.specs.Numbering.{IsNamedBy, names_at}
-use Rattle.cargo_toml_resolve.specs.Texts.{texts_of}
+use Rattle.cargo_toml_resolve.specs.Numbering.{IsNamedBy, place_names}
+use Rattle.cargo_toml_resolve.specs.Texts.{texts_now}
 use Rattle.cargo_toml_resolve.proofs.InOrder.{among_keys}
 
 pub among_push : {K : Type 0} (xs : List K) (y x : K) → Among (xs ++ y ∷ []) x ↔ (Among xs x ⊎ (x ≡ y))
@@ -28,23 +28,23 @@ among_push {K} xs y x = (into xs, out xs)
     out (z ∷ xs) (inl i) = elim (i) [ inl is ↦ inl is | inr j ↦ inr (out xs (inl j)) ]
     out (z ∷ xs) (inr is) = inr (out xs (inr is))
 
-pub text_push : (ts : List (Bor Text)) (t : Bor Text) (x : Text) → Among (texts_of (ts ++ t ∷ [])) x ↔ (Among (texts_of ts) x ⊎ (x ≡ t.now))
-text_push ts t x = subst (λ xs. Among xs x ↔ (Among (texts_of ts) x ⊎ (x ≡ t.now))) (sym (map_push (λ (t : Bor Text). t.now) ts t)) (among_push (texts_of ts) t.now x)
+pub text_push : (ts : List (Bor Text)) (t : Bor Text) (x : Text) → Among (texts_now (ts ++ t ∷ [])) x ↔ (Among (texts_now ts) x ⊎ (x ≡ t.now))
+text_push ts t x = subst (λ xs. Among xs x ↔ (Among (texts_now ts) x ⊎ (x ≡ t.now))) (sym (map_push (λ (t : Bor Text). t.now) ts t)) (among_push (texts_now ts) t.now x)
 
 -- the texts of a set that a loop has met
 abbrev pub seen : List (Bor (Bor Text)) → List Text
-seen ks = texts_of (map (λ k. k.now) ks)
+seen ks = texts_now (map (λ k. k.now) ks)
 
 pub seen_push : (ks : List (Bor (Bor Text))) (k : Bor (Bor Text)) (x : Text) → Among (seen (ks ++ k ∷ [])) x ↔ (Among (seen ks) x ⊎ (x ≡ k.now.now))
-seen_push ks k x = subst (λ ts. Among (texts_of ts) x ↔ (Among (seen ks) x ⊎ (x ≡ k.now.now))) (sym (map_push (λ (k : Bor (Bor Text)). k.now) ks k)) (text_push (map (λ k. k.now) ks) k.now x)
+seen_push ks k x = subst (λ ts. Among (texts_now ts) x ↔ (Among (seen ks) x ⊎ (x ≡ k.now.now))) (sym (map_push (λ (k : Bor (Bor Text)). k.now) ks k)) (text_push (map (λ k. k.now) ks) k.now x)
 
-pub all_seen : (s : BTreeSet (Bor Text)) (ks : List (Bor (Bor Text))) → map (λ k. k.now) ks ≡ s.keys → (x : Text) → Among (seen ks) x ↔ IsTrue (has_text s x)
-all_seen s ks all x = subst (λ (ts : List (Bor Text)). Among (texts_of ts) x ↔ IsTrue (has_text s x)) (sym all) (among_keys x s.keys)
+pub all_seen : (s : BTreeSet (Bor Text)) (ks : List (Bor (Bor Text))) → map (λ k. k.now) ks ≡ s.keys → (x : Text) → Among (seen ks) x ↔ IsTrue (set_has s x)
+all_seen s ks all x = subst (λ (ts : List (Bor Text)). Among (texts_now ts) x ↔ IsTrue (set_has s x)) (sym all) (among_keys x s.keys)
 
 -- the texts of a set that are no keys, put after others
 module _ (keys : List Text) where
   abbrev pub Puts : (Text → Type 0) → List (Bor Text) → List (Bor Text) → Type 0
-  Puts P old new = (x : Text) → Among (texts_of new) x ↔ (Among (texts_of old) x ⊎ (P x × (¬ Among keys x)))
+  Puts P old new = (x : Text) → Among (texts_now new) x ↔ (Among (texts_now old) x ⊎ (P x × (¬ Among keys x)))
 
   module _ (ks : List (Bor (Bor Text))) (k : Bor (Bor Text)) (old now : List (Bor Text)) (so_far : Puts (Among (seen ks)) old now) where
     pub one_put : (¬ Among keys k.now.now) → Puts (Among (seen (ks ++ k ∷ []))) old (now ++ k.now ∷ [])
@@ -69,7 +69,7 @@ module _ (keys : List Text) where
     )
 
   pub all_put : (s : BTreeSet (Bor Text)) (ks : List (Bor (Bor Text))) (old new : List (Bor Text)) → map (λ k. k.now) ks ≡ s.keys
-      → Puts (Among (seen ks)) old new → Puts (λ x. IsTrue (has_text s x)) old new
+      → Puts (Among (seen ks)) old new → Puts (λ x. IsTrue (set_has s x)) old new
   all_put s ks old new all h x = (
     λ i. elim ((h x).0 i) [ inl o ↦ inl o | inr p ↦ inr ((all_seen s ks all x).0 p.0, p.1) ],
     elim [ inl o ↦ (h x).1 (inl o) | inr p ↦ (h x).1 (inr ((all_seen s ks all x).1 p.0, p.1)) ],
@@ -78,24 +78,24 @@ module _ (keys : List Text) where
   -- what the first n features name whose flags stand
   module _ (naming : List Bool) (vs : List Feature) where
     abbrev pub PutsNamed : ℕ → List (Bor Text) → Type 0
-    PutsNamed n now = (x : Text) → Among (texts_of now) x ↔ (IsNamedBy naming vs n x × (¬ Among keys x))
+    PutsNamed n now = (x : Text) → Among (texts_now now) x ↔ (IsNamedBy naming vs n x × (¬ Among keys x))
 
     pub none_named : (now : List (Bor Text)) → now ≡ [] → PutsNamed 0 now
-    none_named now none x = (λ i. absurd (subst (λ (ts : List (Bor Text)). Among (texts_of ts) x) none i), λ n. absurd (let lt = n.0.1 in omega (arith, lt)))
+    none_named now none x = (λ i. absurd (subst (λ (ts : List (Bor Text)). Among (texts_now ts) x) none i), λ n. absurd (let lt = n.0.1 in omega (arith, lt)))
 
     later : (n : ℕ) (x : Text) → IsNamedBy naming vs n x → IsNamedBy naming vs (n + 1) x
     later n x w = (w.0, (let lt = w.1 in omega (arith, lt)), w.2)
 
     pub feature_put : (n : ℕ) (v : Feature) (now new : List (Bor Text)) → slice_get vs n ≡ Some v → IsWanted naming true n → PutsNamed n now
-        → Puts (λ x. IsTrue (has_text v.enables_features x)) now new → PutsNamed (n + 1) new
+        → Puts (λ x. IsTrue (set_has v.enables_features x)) now new → PutsNamed (n + 1) new
     feature_put n v now new is picked h p x =
-        let named : names_at vs n x ≡ has_text v.enables_features x = ap (λ (o : Option Feature). option_map_or (λ u. has_text u.enables_features x) o false) is in (
+        let named : place_names vs n x ≡ set_has v.enables_features x = ap (λ (o : Option Feature). option_map_or (λ u. set_has u.enables_features x) o false) is in (
           λ j. elim ((p x).0 j) [
             | inl o ↦ let w = (h x).0 o in (later n x w.0, w.1)
             | inr w ↦ ((n, omega arith, (picked, named ∙ w.0)), w.1)
           ],
           λ w. (p x).1 (elim (cases_eq w.0.0 n) [
-            | inl at ↦ inr (sym named ∙ subst (λ i. IsTrue (names_at vs i x)) at w.0.2.1, w.1)
+            | inl at ↦ inr (sym named ∙ subst (λ i. IsTrue (place_names vs i x)) at w.0.2.1, w.1)
             | inr ne ↦ inl ((h x).1 ((w.0.0, (let lt = w.0.1 in omega (arith, lt, ne)), w.0.2), w.1))
           ]),
         )

@@ -12,7 +12,7 @@ use Rattle.cargo_toml_graph.proofs.RedirectsInOrder.{below_one_way}
 use Rattle.cargo_toml_features.specs.Views.{value_at}
 use Rattle.cargo_toml_full.specs.Ascending.{Ascend}
 use Rattle.cargo_toml_full.specs.Slots.{held_among}
-use Rattle.cargo_toml_resolve.specs.Texts.{texts_of}
+use Rattle.cargo_toml_resolve.specs.Texts.{texts_now}
 
 -- what does not stand among names has no value there
 none_held : {V : Type 0} (ns : List Text) (vs : List (Option V)) (k : Text) → ¬ Among ns k → held_among ns vs k ≡ None
@@ -36,7 +36,7 @@ turn n ns v vs k o up = go (bytes_eq k n) refl
         sym (ap (λ h. option_or h (option_or v o)) gone)
     go false off = refl
 
-ascend_later : (ns : List (Bor Text)) (n : ℕ) → Ascend (texts_of ns) → Ascend (texts_of (drop n ns))
+ascend_later : (ns : List (Bor Text)) (n : ℕ) → Ascend (texts_now ns) → Ascend (texts_now (drop n ns))
 ascend_later [] zero up = up
 ascend_later [] (suc n) up = up
 ascend_later (x ∷ ns) zero up = up
@@ -57,25 +57,25 @@ comes_next xs n v ws e =
 module _ {V S : Type 0} (names : List (Bor Text)) (values : List (Option V)) where
   -- the map has the values of the places below n
   pub record HasPut (n : ℕ) (m : HashMap (Bor Text) V S) : Type 0 where
-    pub held : (k : Text) → held_among (texts_of names) values k ≡ option_or (held_among (texts_of (drop n names)) (drop n values) k) (value_at m k)
+    pub held : (k : Text) → held_among (texts_now names) values k ≡ option_or (held_among (texts_now (drop n names)) (drop n values) k) (value_at m k)
 
-  pub put_next : (n : ℕ) (m m' : HashMap (Bor Text) V S) (d : Bor Text) (v : Option V) (ws : List (Option V)) → Ascend (texts_of names) → n < length names →
+  pub put_next : (n : ℕ) (m m' : HashMap (Bor Text) V S) (d : Bor Text) (v : Option V) (ws : List (Option V)) → Ascend (texts_now names) → n < length names →
       v ∷ ws ≡ drop n values → ws ≡ drop (suc n) values → ((k : Text) → value_at m' k ≡ option_or (if bytes_eq k (get_or names n d).now then v else None) (value_at m k)) → HasPut n m → HasPut (suc n) m'
   put_next n m m' d v ws up lt here rest put h = record {
     held = λ k.
         let name : Bor Text = get_or names n d in
         let ns : drop n names ≡ name ∷ drop (suc n) names = drop-cons names n d lt in
         h.held k
-        ∙ ap (λ xs. option_or (held_among (texts_of xs) (drop n values) k) (value_at m k)) ns
-        ∙ ap (λ xs. option_or (held_among (name.now ∷ texts_of (drop (suc n) names)) xs k) (value_at m k)) (sym here)
-        ∙ turn name.now (texts_of (drop (suc n) names)) v ws k (value_at m k) (subst (λ xs. Ascend (texts_of xs)) ns (ascend_later names n up))
-        ∙ ap (λ xs. option_or (held_among (texts_of (drop (suc n) names)) xs k) (option_or (if bytes_eq k name.now then v else None) (value_at m k))) rest
-        ∙ ap (option_or (held_among (texts_of (drop (suc n) names)) (drop (suc n) values) k)) (sym (put k));
+        ∙ ap (λ xs. option_or (held_among (texts_now xs) (drop n values) k) (value_at m k)) ns
+        ∙ ap (λ xs. option_or (held_among (name.now ∷ texts_now (drop (suc n) names)) xs k) (value_at m k)) (sym here)
+        ∙ turn name.now (texts_now (drop (suc n) names)) v ws k (value_at m k) (subst (λ xs. Ascend (texts_now xs)) ns (ascend_later names n up))
+        ∙ ap (λ xs. option_or (held_among (texts_now (drop (suc n) names)) xs k) (option_or (if bytes_eq k name.now then v else None) (value_at m k))) rest
+        ∙ ap (option_or (held_among (texts_now (drop (suc n) names)) (drop (suc n) values) k)) (sym (put k));
   }
 
   -- once none comes any more
-  pub all_put : (n : ℕ) (m : HashMap (Bor Text) V S) → drop n values ≡ [] → HasPut n m → (k : Text) → value_at m k ≡ held_among (texts_of names) values k
-  all_put n m done h k = sym (h.held k ∙ ap (λ xs. option_or (held_among (texts_of (drop n names)) xs k) (value_at m k)) done ∙ ap (λ o. option_or o (value_at m k)) (nothing (texts_of (drop n names))))
+  pub all_put : (n : ℕ) (m : HashMap (Bor Text) V S) → drop n values ≡ [] → HasPut n m → (k : Text) → value_at m k ≡ held_among (texts_now names) values k
+  all_put n m done h k = sym (h.held k ∙ ap (λ xs. option_or (held_among (texts_now (drop n names)) xs k) (value_at m k)) done ∙ ap (λ o. option_or o (value_at m k)) (nothing (texts_now (drop n names))))
     where
       nothing : (ns : List Text) → held_among {V = V} ns [] k ≡ None
       nothing [] = refl

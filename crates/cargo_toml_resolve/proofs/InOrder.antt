@@ -15,7 +15,7 @@ use Rattle.cargo_toml_graph.specs.Action.{Text}
 use Rattle.cargo_toml_graph.specs.Admitted.{is_below}
 use Rattle.cargo_toml_graph.specs.Reach.{Among}
 use Rattle.cargo_toml_full.specs.Ascending.{Ascend}
-use Rattle.cargo_toml_features.specs.Views.{has_text}
+use Rattle.cargo_toml_features.specs.Views.{set_has}
 
 abbrev texts : List (Bor Text) → List Text
 texts xs = map (λ t. t.now) xs
@@ -32,8 +32,8 @@ among_keys f ks = (into ks, out ks)
     out [] e = absurd (false≢true e)
     out (k ∷ ks) e = elim (or_cases _ _ e) [ inl h ↦ inl ((bytes_eq-Decides f k.now).0 (sym (is_eq-slice_cmp f k.now) ∙ h)) | inr i ↦ inr (out ks i) ]
 
-pub all_taken : {E : Type 0} (r : Result (Vec (Bor Text) Global) E) (s : BTreeSet (Bor Text)) → IfOk r (λ v. v.items ≡ s.keys) → IfOk r (λ v. (f : Text) → Among (texts v.items) f ↔ IsTrue (has_text s f))
-all_taken (Ok v) s e = λ f. subst (λ (ks : List (Bor Text)). Among (texts ks) f ↔ IsTrue (has_text s f)) (sym e) (among_keys f s.keys)
+pub all_taken : {E : Type 0} (r : Result (Vec (Bor Text) Global) E) (s : BTreeSet (Bor Text)) → IfOk r (λ v. v.items ≡ s.keys) → IfOk r (λ v. (f : Text) → Among (texts v.items) f ↔ IsTrue (set_has s f))
+all_taken (Ok v) s e = λ f. subst (λ (ks : List (Bor Text)). Among (texts ks) f ↔ IsTrue (set_has s f)) (sym e) (among_keys f s.keys)
 all_taken (Err _) s e = tt
 
 below_each : (k : Bor Text) (ks : List (Bor Text)) → AllByRecursion (λ x. slice_cmp nat_cmp k.now x.now ≡ Less) ks → (y : Text) → Among (texts ks) y → IsTrue (is_below k.now y)

@@ -9,7 +9,7 @@ use Rattle.cargo_toml_graph.specs.Admitted.{is_below}
 use Rattle.cargo_toml_graph.specs.Graph.{Table}
 use Rattle.cargo_toml_graph.specs.Reach.{Among}
 use Rattle.cargo_toml_graph.proofs.RedirectsInOrder.{below_one_way}
-use Rattle.cargo_toml_features.specs.Places.{text_at}
+use Rattle.cargo_toml_features.specs.Places.{nth_text}
 use Rattle.cargo_toml_features.specs.declared.features.Feature.{Feature}
 use Rattle.cargo_toml_features.specs.InOrder.{AreInOrder, AreTable, feature_at, names_of}
 
@@ -30,7 +30,7 @@ found_stands (w ∷ vs) f v e = go (λ k. found_stands vs f v k) (bytes_eq f w.k
     go further false is e = let s = further e in (suc s.0, (let lt = s.1 in omega arith), s.2, s.3)
 
 -- the name in a place
-pub name_in : (vs : List Feature) (i : ℕ) (v : Feature) → slice_get vs i ≡ Some v → text_at (names_of vs) i ≡ v.key.now
+pub name_in : (vs : List Feature) (i : ℕ) (v : Feature) → slice_get vs i ≡ Some v → nth_text (names_of vs) i ≡ v.key.now
 name_in [] i v e = absurd (no_some e)
 name_in (w ∷ vs) zero v e = ap (λ (u : Feature). u.key.now) (some_same e)
 name_in (w ∷ vs) (suc i) v e = name_in vs i v e
@@ -76,14 +76,14 @@ stands_in vs i lt = elim ((slice_get_cases vs i).1) [ inl x ↦ (x.0, x.2) | inr
 
 -- the features that the table has are those in the places
 module _ (t : Table) (vs : List Feature) (same : AreTable t vs) (up : AreInOrder vs) where
-  pub has_place : (f : Text) → IsTrue (t.has f) ↔ ((i : ℕ) × (i < length vs) × (text_at (names_of vs) i ≡ f))
+  pub has_place : (f : Text) → IsTrue (t.has f) ↔ ((i : ℕ) × (i < length vs) × (nth_text (names_of vs) i ≡ f))
   has_place f = (λ y. go (feature_at vs f) refl (same.has f ∙ y), back)
     where
-      go : (o : Option Feature) → feature_at vs f ≡ o → is_some o ≡ true → (i : ℕ) × (i < length vs) × (text_at (names_of vs) i ≡ f)
+      go : (o : Option Feature) → feature_at vs f ≡ o → is_some o ≡ true → (i : ℕ) × (i < length vs) × (nth_text (names_of vs) i ≡ f)
       go None e y = absurd (false≢true y)
       go (Some v) e y = let s = found_stands vs f v e in (s.0, s.1, name_in vs s.0 v s.2 ∙ s.3)
 
-      back : (i : ℕ) × (i < length vs) × (text_at (names_of vs) i ≡ f) → IsTrue (t.has f)
+      back : (i : ℕ) × (i < length vs) × (nth_text (names_of vs) i ≡ f) → IsTrue (t.has f)
       back w =
           let v = stands_in vs w.0 w.1 in
           let name : v.0.key.now ≡ f = sym (name_in vs w.0 v.0 v.1) ∙ w.2 in

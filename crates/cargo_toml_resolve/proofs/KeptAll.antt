@@ -11,7 +11,7 @@ use Rattle.cargo_toml_graph.specs.Redirects.{RedirectsTo}
 use Rattle.cargo_toml_graph.proofs.Unremoved.{resolved_unremoved}
 use Rattle.cargo_toml_features.specs.declared.features.Feature.{Feature}
 use Rattle.cargo_toml_features.specs.InOrder.{AreInOrder, feature_at, resolution_among}
-use Rattle.cargo_toml_features.specs.Views.{action_at, has_text, resolution_of, value_at}
+use Rattle.cargo_toml_features.specs.Views.{action_at, set_has, resolution_of, value_at}
 use Rattle.cargo_toml_resolve.specs.KeptFeatures.{IsNamedAlike}
 use Rattle.cargo_toml_resolve.specs.KeptByName.{AreKept}
 use Rattle.cargo_toml_resolve.proofs.InPlace.{found_stands, stands_found}
@@ -21,10 +21,10 @@ pub unremoved_by : {S : Type 0} (vs : List Feature) (m : HashMap (Bor Text) Feat
     (t : Table) → IsUnremoved t (resolution_among vs) → IsUnremoved t (resolution_of m)
 unremoved_by vs m same t h = record {
   has = λ f. ap is_some (same f) ∙ h.has f;
-  names = λ f x. ap (λ o. option_map_or (λ (v : Feature). has_text v.enables_features x) o false) (same f) ∙ h.names f x;
+  names = λ f x. ap (λ o. option_map_or (λ (v : Feature). set_has v.enables_features x) o false) (same f) ∙ h.names f x;
   action = λ f k. ap (λ o. option_map_or (λ (v : Feature). action_at v.enables_deps k) o None) (same f) ∙ h.action f k;
   enabled_by = λ f e.
-      let alike = ap (λ o. option_map_or (λ (v : Feature). has_text v.enabled_by e) o false) (same f) in
+      let alike = ap (λ o. option_map_or (λ (v : Feature). set_has v.enabled_by e) o false) (same f) in
       (λ y. (h.enabled_by f e).0 (sym alike ∙ y), λ d. alike ∙ (h.enabled_by f e).1 d);
 }
 
@@ -55,7 +55,7 @@ module _ {S : Type 0} (vs : List Feature) (up : AreInOrder vs) (m : HashMap (Bor
       lists = λ f k. ap (λ (o : Option Feature). option_map_or (λ v. map (λ b. b.now) v.required_by_bins.items) o []) (same_at f);
     };
     redirected = λ r. ap is_some (empty r) ∙ sym (false_from_ne_true (removed r) (none r));
-    redirects = λ r. subst (λ o. IfSome o (λ names. (x : Text) → IsTrue (has_text names x) ↔ RedirectsTo t (λ s. IsTrue (removed s)) (λ a b. IsTrue (is_below a b)) r x)) (sym (empty r)) tt;
+    redirects = λ r. subst (λ o. IfSome o (λ names. (x : Text) → IsTrue (set_has names x) ↔ RedirectsTo t (λ s. IsTrue (removed s)) (λ a b. IsTrue (is_below a b)) r x)) (sym (empty r)) tt;
   }
     where
       own_at : (f : Text) (o : Option Feature) → o ≡ feature_at vs f → IfSome o (λ w. (v : Feature) × (feature_at vs f ≡ Some v) × IsNamedAlike v w)

@@ -4,26 +4,26 @@ use Rattle.std.proofs.lemmas.Bool.{cases_eq, false≢true}
 use Rattle.std.proofs.lemmas.List.{get_or-map}
 use Rattle.cargo_toml_graph.specs.Action.{Text}
 use Rattle.cargo_toml_graph.specs.Reach.{Among, Reaches}
-use Rattle.cargo_toml_features.specs.Places.{text_at}
+use Rattle.cargo_toml_features.specs.Places.{nth_text}
 use Rattle.cargo_toml_features.specs.declared.features.Feature.{Feature}
 use Rattle.cargo_toml_features.specs.InOrder.{AreInOrder, HaveNoEnablers}
-use Rattle.cargo_toml_features.specs.Views.{has_text}
+use Rattle.cargo_toml_features.specs.Views.{set_has}
 use Rattle.cargo_toml_features.proofs.TextKeys.{none_in}
 use Rattle.cargo_toml_walk.specs.Numbers.{HasLabel, IsPassed, IsWanted, Leads}
 use Rattle.cargo_toml_walk.proofs.Labelled.{gathered}
 use Rattle.cargo_toml_walk.proofs.Linking.{last_edge, with_last}
 use Rattle.cargo_toml_walk.proofs.Steps.{Looked, among_more, with_target, without_target}
-use Rattle.cargo_toml_resolve.specs.Enabling.{Enables, EnablesThrough, LearnThrough}
+use Rattle.cargo_toml_resolve.specs.Enabling.{GainEnabler, EnablesThrough, LearnThrough}
 use Rattle.cargo_toml_resolve.specs.NumberedTables.{HasNumber}
-use Rattle.cargo_toml_resolve.specs.Texts.{texts_of}
+use Rattle.cargo_toml_resolve.specs.Texts.{texts_now}
 use Rattle.cargo_toml_resolve.proofs.InPlace.{stands_found}
 use Rattle.cargo_toml_resolve.proofs.Learning.{nobody_learns, same_features, then_enabled, then_learn, then_same}
 
-pub none_enabled : (Named : ℕ → Type 0) (source : Text) (vs : List Feature) → ((y : ℕ) → ¬ Named y) → Enables Named source vs vs
+pub none_enabled : (Named : ℕ → Type 0) (source : Text) (vs : List Feature) → ((y : ℕ) → ¬ Named y) → GainEnabler Named source vs vs
 none_enabled Named source vs none = record { same = same_features vs; learn = nobody_learns (λ y e. (e ≡ source) × Named y) vs (λ y e p. none y p.1) }
 
 -- the same names
-pub alike_enabled : (A B : ℕ → Type 0) (source : Text) (vs ws : List Feature) → ((y : ℕ) → A y ↔ B y) → Enables A source vs ws → Enables B source vs ws
+pub alike_enabled : (A B : ℕ → Type 0) (source : Text) (vs ws : List Feature) → ((y : ℕ) → A y ↔ B y) → GainEnabler A source vs ws → GainEnabler B source vs ws
 alike_enabled A B source vs ws both a = record {
   same = a.same;
   learn = λ y v w old new e.
@@ -34,20 +34,20 @@ alike_enabled A B source vs ws both a = record {
 }
 
 -- the text in a place, as it is read there
-pub source_is : (texts : List (Bor Text)) (i : ℕ) (source : Bor Text) → i < length texts → source ≡ get_or texts i source → source.now ≡ text_at (texts_of texts) i
+pub source_is : (texts : List (Bor Text)) (i : ℕ) (source : Bor Text) → i < length texts → source ≡ get_or texts i source → source.now ≡ nth_text (texts_now texts) i
 source_is texts i source lt read = ap (λ (t : Bor Text). t.now) read ∙ sym (get_or-map (λ (t : Bor Text). t.now) texts i source [] lt)
 
 -- one more target
-module _ (targets : List ℕ) (flags : List Bool) (i : ℕ) (lt : i < length targets) (source : Text) (vs ws us : List Feature) (a : Enables (Looked targets flags false i lt i) source vs ws) where
-  pub with_enabled : get_or flags (get_or targets i 0) false ≡ false → Enables (λ y. y ≡ get_or targets i 0) source ws us → Enables (Looked targets flags false i lt (i + 1)) source vs us
+module _ (targets : List ℕ) (flags : List Bool) (i : ℕ) (lt : i < length targets) (source : Text) (vs ws us : List Feature) (a : GainEnabler (Looked targets flags false i lt i) source vs ws) where
+  pub with_enabled : get_or flags (get_or targets i 0) false ≡ false → GainEnabler (λ y. y ≡ get_or targets i 0) source ws us → GainEnabler (Looked targets flags false i lt (i + 1)) source vs us
   with_enabled kept b = then_enabled (Looked targets flags false i lt i) (λ y. y ≡ get_or targets i 0) (Looked targets flags false i lt (i + 1)) source vs ws us (with_target targets flags false i lt kept) a b
 
-  pub without_enabled : get_or flags (get_or targets i 0) false ≢ false → Enables (Looked targets flags false i lt (i + 1)) source vs ws
+  pub without_enabled : get_or flags (get_or targets i 0) false ≢ false → GainEnabler (Looked targets flags false i lt (i + 1)) source vs ws
   without_enabled gone = alike_enabled (Looked targets flags false i lt i) (Looked targets flags false i lt (i + 1)) source vs ws (without_target targets flags false i lt gone) a
 
 -- where it passes none
 module _ {Z : Type 0} (edges : List (Vec ℕ Z)) (flags : List Bool) (passed : List ℕ) (own : ℕ) (source : Text) (vs ws : List Feature) where
-  pub own_through : Enables (λ y. Leads edges own y × IsWanted flags false y) source vs ws → Enables (HasLabel (Among (take 0 passed)) edges flags own) source vs ws
+  pub own_through : GainEnabler (λ y. Leads edges own y × IsWanted flags false y) source vs ws → GainEnabler (HasLabel (Among (take 0 passed)) edges flags own) source vs ws
   own_through a = alike_enabled (λ y. Leads edges own y × IsWanted flags false y) (HasLabel (Among (take 0 passed)) edges flags own) source vs ws (λ y. (
     λ n. ((own, inl refl, n.0), n.1),
     λ n. elim (n.0.1) [ inl is ↦ (subst (λ b. Leads edges b y) is n.0.2, n.1) | inr none ↦ absurd none ],
@@ -69,14 +69,14 @@ module _ {Z : Type 0} (edges : List (Vec ℕ Z)) (flags : List Bool) (texts : Li
 
   -- then the next, which passes these
   pub next_through : (n : ℕ) (passed : List ℕ) (vs ws us : List Feature) → IsWanted flags false n → ((b : ℕ) → Among passed b ↔ IsPassed edges flags n b)
-      → LearnThrough edges flags texts n vs ws → Enables (HasLabel (Among passed) edges flags n) (text_at texts n) ws us → LearnThrough edges flags texts (n + 1) vs us
+      → LearnThrough edges flags texts n vs ws → GainEnabler (HasLabel (Among passed) edges flags n) (nth_text texts n) ws us → LearnThrough edges flags texts (n + 1) vs us
   next_through n passed vs ws us kept is h more = record {
     same = then_same vs ws us h.same more.same;
-    learn = then_learn (By n) (λ y e. (e ≡ text_at texts n) × HasLabel (Among passed) edges flags n y) (By (n + 1)) vs ws us h.same.len (λ y e below. (
+    learn = then_learn (By n) (λ y e. (e ≡ nth_text texts n) × HasLabel (Among passed) edges flags n y) (By (n + 1)) vs ws us h.same.len (λ y e below. (
       λ b. elim (cases_eq b.1.0 n) [
         | inl at ↦
             let path : Reaches (Leads edges) (IsWanted flags true) n y = subst (λ j. Reaches (Leads edges) (IsWanted flags true) j y) at b.1.3.1 in
-            inr (sym b.1.2 ∙ ap (text_at texts) at, (gathered edges flags edges (Among passed) n is y).1 (last_edge (Leads edges) (IsWanted flags true) path, b.0))
+            inr (sym b.1.2 ∙ ap (nth_text texts) at, (gathered edges flags edges (Among passed) n is y).1 (last_edge (Leads edges) (IsWanted flags true) path, b.0))
         | inr ne ↦ inl (earlier n y e b ne)
       ],
       λ s. elim s [
@@ -101,7 +101,7 @@ module _ {Z : Type 0} (edges : List (Vec ℕ Z)) (flags : List Bool) (texts : Li
 
   -- where nobody knew an enabler, these are all that a kept one knows
   pub learnt_through : (n : ℕ) (vs ws : List Feature) → AreInOrder vs → HaveNoEnablers vs → LearnThrough edges flags texts n vs ws → (i : ℕ) (v w : Feature) → slice_get vs i ≡ Some v → slice_get ws i ≡ Some w
-      → IsWanted flags false i → (e : Text) → IsTrue (has_text w.enabled_by e) ↔ HasNumber texts n (EnablesThrough edges flags i) e
+      → IsWanted flags false i → (e : Text) → IsTrue (set_has w.enabled_by e) ↔ HasNumber texts n (EnablesThrough edges flags i) e
   learnt_through n vs ws up none h i v w old new kept e =
       let l = h.learn i v w old new e in (
         λ t. elim (l.0 t) [

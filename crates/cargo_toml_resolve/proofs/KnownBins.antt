@@ -4,8 +4,8 @@ use Rattle.std.proofs.lemmas.Bool.{false≢true}
 use Rattle.std.proofs.lemmas.Slice.Eq.{bytes_eq-Decides}
 use Rattle.std.specs.BTreeSet.{BTreeSet, btree_set_len}
 use Rattle.cargo_toml_graph.specs.Action.{Text}
-use Rattle.cargo_toml_graph.specs.Removal.{is_among, put_all}
-use Rattle.cargo_toml_features.specs.Views.{has_text}
+use Rattle.cargo_toml_graph.specs.Removal.{lists_text, put_each}
+use Rattle.cargo_toml_features.specs.Views.{set_has}
 use Rattle.cargo_toml_resolve.specs.KnownBins.{Knows, MayKnow}
 
 or_none : (a : Bool) → (a || false) ≡ a
@@ -16,19 +16,19 @@ or_more : (a b c : Bool) → (a || (b || c)) ≡ ((a || b) || c)
 or_more true b c = refl
 or_more false b c = refl
 
-among_last : (xs : List Text) (k x : Text) → is_among (xs ++ k ∷ []) x ≡ (is_among xs x || bytes_eq x k)
+among_last : (xs : List Text) (k x : Text) → lists_text (xs ++ k ∷ []) x ≡ (lists_text xs x || bytes_eq x k)
 among_last [] k x = or_none (bytes_eq x k)
-among_last (y ∷ xs) k x = ap (λ t. bytes_eq x y || t) (among_last xs k x) ∙ or_more (bytes_eq x y) (is_among xs x) (bytes_eq x k)
+among_last (y ∷ xs) k x = ap (λ t. bytes_eq x y || t) (among_last xs k x) ∙ or_more (bytes_eq x y) (lists_text xs x) (bytes_eq x k)
 
 -- a text that is there already makes no difference
-among_again : (xs : List Text) (k x : Text) → is_among xs k ≡ true → (is_among xs x || bytes_eq x k) ≡ is_among xs x
+among_again : (xs : List Text) (k x : Text) → lists_text xs k ≡ true → (lists_text xs x || bytes_eq x k) ≡ lists_text xs x
 among_again xs k x there = go (bytes_eq x k) refl
   where
-    go : (b : Bool) → bytes_eq x k ≡ b → (is_among xs x || b) ≡ is_among xs x
+    go : (b : Bool) → bytes_eq x k ≡ b → (lists_text xs x || b) ≡ lists_text xs x
     go true e =
-        let t : is_among xs x ≡ true = subst (λ z. is_among xs z ≡ true) (sym ((bytes_eq-Decides x k).0 e)) there in
+        let t : lists_text xs x ≡ true = subst (λ z. lists_text xs z ≡ true) (sym ((bytes_eq-Decides x k).0 e)) there in
         ap (λ a. a || true) t ∙ sym t
-    go false e = or_none (is_among xs x)
+    go false e = or_none (lists_text xs x)
 
 -- what an answer that says whether a text is new tells of the set before
 pub was_false : (had is_new : Bool) → is_new ≡ not had → is_new ≡ true → had ≡ false
@@ -40,10 +40,10 @@ was_true true b e f = refl
 was_true false b e f = absurd (false≢true (sym f ∙ e))
 
 -- one more binary
-pub knows_more : (s n : BTreeSet (Bor Text)) (own : List Text) (k : Text) → Knows s own → ((x : Text) → has_text n x ≡ (has_text s x || bytes_eq x k)) → Knows n (put_all own (k ∷ []))
-knows_more s n own k known added x = added x ∙ ap (λ t. t || bytes_eq x k) (known x) ∙ go (is_among own k) refl
+pub knows_more : (s n : BTreeSet (Bor Text)) (own : List Text) (k : Text) → Knows s own → ((x : Text) → set_has n x ≡ (set_has s x || bytes_eq x k)) → Knows n (put_each own (k ∷ []))
+knows_more s n own k known added x = added x ∙ ap (λ t. t || bytes_eq x k) (known x) ∙ go (lists_text own k) refl
   where
-    go : (b : Bool) → is_among own k ≡ b → (is_among own x || bytes_eq x k) ≡ is_among (cond b own (own ++ k ∷ [])) x
+    go : (b : Bool) → lists_text own k ≡ b → (lists_text own x || bytes_eq x k) ≡ lists_text (cond b own (own ++ k ∷ [])) x
     go true e = among_again own k x e
     go false e = sym (among_last own k x)
 

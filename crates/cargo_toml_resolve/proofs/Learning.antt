@@ -17,18 +17,18 @@ use Rattle.cargo_toml_graph.specs.Bins.{ArePassedOn}
 use Rattle.cargo_toml_graph.specs.Action.{Text}
 use Rattle.cargo_toml_graph.specs.Graph.{Edge, IsPlain, IsUnremoved, Table}
 use Rattle.cargo_toml_graph.specs.Reach.{Among}
-use Rattle.cargo_toml_features.specs.Places.{text_at}
+use Rattle.cargo_toml_features.specs.Places.{nth_text}
 use Rattle.cargo_toml_features.specs.declared.features.DepAction.{DepAction}
 use Rattle.cargo_toml_features.specs.declared.features.Feature.{Feature}
 use Rattle.cargo_toml_features.specs.InOrder.{AreInOrder, AreTable, HaveNoEnablers, feature_at, names_of, resolution_among, table_among}
-use Rattle.cargo_toml_features.specs.Marks.{Marks, marks_of}
-use Rattle.cargo_toml_features.specs.Views.{action_at, action_of, has_text, value_at}
+use Rattle.cargo_toml_features.specs.Marks.{FeatureMarks, marks_of}
+use Rattle.cargo_toml_features.specs.Views.{action_at, action_of, set_has, value_at}
 use Rattle.cargo_toml_features.proofs.TextKeys.{none_in}
-use Rattle.cargo_toml_resolve.specs.Enabling.{AreSameButEnablers, Enables, IsSameButEnablers, LeadsTo, LearnEach, Learns}
+use Rattle.cargo_toml_resolve.specs.Enabling.{AreSameButEnablers, GainEnabler, IsSameButEnablers, LeadsTo, LearnEach, Learns}
 use Rattle.cargo_toml_resolve.specs.KeptFeatures.{IsNamedAlike, StandFor, own_bins}
 use Rattle.cargo_toml_resolve.specs.KeptByName.{AreKept}
 use Rattle.cargo_toml_resolve.specs.TakingOver.{ChangesIn}
-use Rattle.cargo_toml_resolve.specs.Texts.{texts_of}
+use Rattle.cargo_toml_resolve.specs.Texts.{texts_now}
 use Rattle.cargo_toml_resolve.proofs.InPlace.{found_stands, name_in, one_place, stands_found, stands_in}
 use Rattle.cargo_toml_resolve.proofs.TakingOver.{then_set, unchanged}
 
@@ -80,7 +80,7 @@ then_learn A B C vs ws us len both a b y v u old new e =
 
 -- the feature in one place learns of the source
 pub one_learns : (vs : List Feature) (i : ℕ) (source : Text) (v : Feature) (by : BTreeSet (Bor Text)) → i < length vs → v ≡ get_or vs i v
-    → ((x : Text) → IsTrue (has_text by x) ↔ (IsTrue (has_text v.enabled_by x) ⊎ (x ≡ source))) → Enables (λ y. y ≡ i) source vs (set vs i (record v { enabled_by = by }))
+    → ((x : Text) → IsTrue (set_has by x) ↔ (IsTrue (set_has v.enabled_by x) ⊎ (x ≡ source))) → GainEnabler (λ y. y ≡ i) source vs (set vs i (record v { enabled_by = by }))
 one_learns vs i source v by lt read gains = record {
   same = record {
     len = all.len;
@@ -91,7 +91,7 @@ one_learns vs i source v by lt read gains = record {
   };
   learn = λ j u w old new e. elim (cases_eq j i) [
     | inl is ↦ let h = here j is u w old new in (λ t. elim ((h.1 e).0 t) [ inl o ↦ inl o | inr x ↦ inr (x, is) ], λ s. (h.1 e).1 (elim s [ inl o ↦ inl o | inr x ↦ inr x.0 ]))
-    | inr ne ↦ subst (λ x. IsTrue (has_text x.enabled_by e) ↔ (IsTrue (has_text u.enabled_by e) ⊎ ((e ≡ source) × (j ≡ i)))) (other j ne u w old new)
+    | inr ne ↦ subst (λ x. IsTrue (set_has x.enabled_by e) ↔ (IsTrue (set_has u.enabled_by e) ⊎ ((e ≡ source) × (j ≡ i)))) (other j ne u w old new)
         (λ t. inl t, λ s. elim s [ inl o ↦ o | inr x ↦ absurd (ne x.1) ])
   ];
 }
@@ -110,11 +110,11 @@ one_learns vs i source v by lt read gains = record {
     other j ne u w old new = same_Some u w (sym old ∙ sym (all.others j ne) ∙ new)
 
 -- a set gained the source
-pub text_gained : (old new : BTreeSet (Bor Text)) (source : Text) → ((x : Text) → has_text new x ≡ (has_text old x || bytes_eq x source))
-    → (x : Text) → IsTrue (has_text new x) ↔ (IsTrue (has_text old x) ⊎ (x ≡ source))
+pub text_gained : (old new : BTreeSet (Bor Text)) (source : Text) → ((x : Text) → set_has new x ≡ (set_has old x || bytes_eq x source))
+    → (x : Text) → IsTrue (set_has new x) ↔ (IsTrue (set_has old x) ⊎ (x ≡ source))
 text_gained old new source h x = (
   λ y. elim (or_cases _ _ (sym (h x) ∙ y)) [ inl o ↦ inl o | inr b ↦ inr ((bytes_eq-Decides x source).0 b) ],
-  λ s. h x ∙ elim s [ inl o ↦ or_left _ _ o | inr is ↦ or_right (has_text old x) _ ((bytes_eq-Decides x source).1 is) ],
+  λ s. h x ∙ elim s [ inl o ↦ or_left _ _ o | inr is ↦ or_right (set_has old x) _ ((bytes_eq-Decides x source).1 is) ],
 )
 
 -- what names nothing and acts on nothing leads nowhere
@@ -132,10 +132,10 @@ led_nowhere v names actions x l = elim l [
     no_action [] none k p = p
     no_action (e ∷ es) none k p = absurd (omega arith)
 
-pub nobody_enabled : (source : Text) (vs : List Feature) → Enables (Among []) source vs vs
+pub nobody_enabled : (source : Text) (vs : List Feature) → GainEnabler (Among []) source vs vs
 nobody_enabled source vs = record { same = same_features vs; learn = nobody_learns (λ y e. (e ≡ source) × Among [] y) vs (λ y e p. p.1) }
 
-pub then_enabled : (A B C : ℕ → Type 0) (source : Text) (vs ws us : List Feature) → ((y : ℕ) → C y ↔ (A y ⊎ B y)) → Enables A source vs ws → Enables B source ws us → Enables C source vs us
+pub then_enabled : (A B C : ℕ → Type 0) (source : Text) (vs ws us : List Feature) → ((y : ℕ) → C y ↔ (A y ⊎ B y)) → GainEnabler A source vs ws → GainEnabler B source ws us → GainEnabler C source vs us
 then_enabled A B C source vs ws us both a b = record {
   same = then_same vs ws us a.same b.same;
   learn = then_learn (λ y e. (e ≡ source) × A y) (λ y e. (e ≡ source) × B y) (λ y e. (e ≡ source) × C y) vs ws us a.same.len (λ y e below. (
@@ -146,7 +146,7 @@ then_enabled A B C source vs ws us both a b = record {
 
 -- the feature in place j of vs, other than the one in place y, has the name e and leads to the name of that in place y
 abbrev pub Leader : List Feature → ℕ → ℕ → Text → Type 0
-Leader vs j y e = (y ≢ j) × (text_at (names_of vs) j ≡ e) × ((u : Feature) × (slice_get vs j ≡ Some u) × LeadsTo u (text_at (names_of vs) y))
+Leader vs j y e = (y ≢ j) × (nth_text (names_of vs) j ≡ e) × ((u : Feature) × (slice_get vs j ≡ Some u) × LeadsTo u (nth_text (names_of vs) y))
 
 abbrev pub LeaderBelow : List Feature → ℕ → ℕ → Text → Type 0
 LeaderBelow vs n y e = (j : ℕ) × (j < n) × Leader vs j y e
@@ -163,12 +163,12 @@ pub none_learnt : (vs : List Feature) → HaveLearnt 0 vs vs
 none_learnt vs = record { same = same_features vs; learn = nobody_learns (LeaderBelow vs 0) vs (no_leader vs) }
 
 -- then the next, of which the row tells where it leads
-pub next_learnt : (n : ℕ) (keys : List (Bor Text)) (vs ws us : List Feature) (row : List ℕ) (u : Feature) → n < length vs → texts_of keys ≡ names_of vs → slice_get ws n ≡ Some u
-    → ((x : ℕ) → Among row x ↔ (Among [] x ⊎ ((x < length keys) × (x ≢ n) × LeadsTo u (text_at (texts_of keys) x))))
-    → HaveLearnt n vs ws → Enables (Among row) (text_at (texts_of keys) n) ws us → HaveLearnt (n + 1) vs us
+pub next_learnt : (n : ℕ) (keys : List (Bor Text)) (vs ws us : List Feature) (row : List ℕ) (u : Feature) → n < length vs → texts_now keys ≡ names_of vs → slice_get ws n ≡ Some u
+    → ((x : ℕ) → Among row x ↔ (Among [] x ⊎ ((x < length keys) × (x ≢ n) × LeadsTo u (nth_text (texts_now keys) x))))
+    → HaveLearnt n vs ws → GainEnabler (Among row) (nth_text (texts_now keys) n) ws us → HaveLearnt (n + 1) vs us
 next_learnt n keys vs ws us row u lt are there rows h more = record {
   same = then_same vs ws us h.same more.same;
-  learn = then_learn (LeaderBelow vs n) (λ y e. (e ≡ text_at (texts_of keys) n) × Among row y) (LeaderBelow vs (n + 1)) vs ws us h.same.len both h.learn more.learn;
+  learn = then_learn (LeaderBelow vs n) (λ y e. (e ≡ nth_text (texts_now keys) n) × Among row y) (LeaderBelow vs (n + 1)) vs ws us h.same.len both h.learn more.learn;
 }
   where
     first : (v : Feature) × (slice_get vs n ≡ Some v)
@@ -179,17 +179,17 @@ next_learnt n keys vs ws us row u lt are there rows h more = record {
 
     led : (x : Text) → LeadsTo u x ↔ LeadsTo first.0 x
     led x = (
-      λ l. elim l [ inl i ↦ inl (subst (λ s. IsTrue (has_text s x)) same.names i) | inr p ↦ inr (subst (λ m. IsPlain (action_at m x)) same.actions p) ],
-      λ l. elim l [ inl i ↦ inl (subst (λ s. IsTrue (has_text s x)) (sym same.names) i) | inr p ↦ inr (subst (λ m. IsPlain (action_at m x)) (sym same.actions) p) ],
+      λ l. elim l [ inl i ↦ inl (subst (λ s. IsTrue (set_has s x)) same.names i) | inr p ↦ inr (subst (λ m. IsPlain (action_at m x)) same.actions p) ],
+      λ l. elim l [ inl i ↦ inl (subst (λ s. IsTrue (set_has s x)) (sym same.names) i) | inr p ↦ inr (subst (λ m. IsPlain (action_at m x)) (sym same.actions) p) ],
     )
 
     long : length keys ≡ length vs
     long = sym (length-map keys (λ (t : Bor Text). t.now)) ∙ ap length are ∙ length-map vs (λ (v : Feature). v.key.now)
 
-    key : (y : ℕ) → text_at (names_of vs) y ≡ text_at (texts_of keys) y
-    key y = ap (λ ks. text_at ks y) (sym are)
+    key : (y : ℕ) → nth_text (names_of vs) y ≡ nth_text (texts_now keys) y
+    key y = ap (λ ks. nth_text ks y) (sym are)
 
-    both : (y : ℕ) (e : Text) → y < length vs → LeaderBelow vs (n + 1) y e ↔ (LeaderBelow vs n y e ⊎ ((e ≡ text_at (texts_of keys) n) × Among row y))
+    both : (y : ℕ) (e : Text) → y < length vs → LeaderBelow vs (n + 1) y e ↔ (LeaderBelow vs n y e ⊎ ((e ≡ nth_text (texts_now keys) n) × Among row y))
     both y e below = (
       λ l. elim (cases_eq l.0 n) [
         | inl is ↦
@@ -200,7 +200,7 @@ next_learnt n keys vs ws us row u lt are there rows h more = record {
               (rows y).1 (inr (
                 subst (λ m. y < m) (sym long) below,
                 s.0,
-                (led (text_at (texts_of keys) y)).1 (subst (LeadsTo first.0) (key y) (subst (λ x. LeadsTo x (text_at (names_of vs) y)) (sym w) s.2.2)),
+                (led (nth_text (texts_now keys) y)).1 (subst (LeadsTo first.0) (key y) (subst (λ x. LeadsTo x (nth_text (names_of vs) y)) (sym w) s.2.2)),
               )),
             )
         | inr ne ↦ inl (l.0, (let less = l.1 in omega (arith, less, ne)), l.2)
@@ -209,25 +209,25 @@ next_learnt n keys vs ws us row u lt are there rows h more = record {
         | inl l ↦ (l.0, (let less = l.1 in omega (arith, less)), l.2)
         | inr r ↦ elim ((rows y).0 r.1) [
           | inl none ↦ absurd none
-          | inr t ↦ (n, omega arith, (t.1, key n ∙ sym r.0, (first.0, first.1, subst (LeadsTo first.0) (sym (key y)) ((led (text_at (texts_of keys) y)).0 t.2))))
+          | inr t ↦ (n, omega arith, (t.1, key n ∙ sym r.0, (first.0, first.1, subst (LeadsTo first.0) (sym (key y)) ((led (nth_text (texts_now keys) y)).0 t.2))))
         ]
       ],
     )
 
 -- the same by what a loop reads
-pub one_more_learnt : (n : ℕ) (keys seen : List (Bor Text)) (vs ws us : List Feature) (cleared row given : List ℕ) (u : Feature) (source : Bor Text) → n < length keys → texts_of keys ≡ names_of vs
+pub one_more_learnt : (n : ℕ) (keys seen : List (Bor Text)) (vs ws us : List Feature) (cleared row given : List ℕ) (u : Feature) (source : Bor Text) → n < length keys → texts_now keys ≡ names_of vs
     → seen ≡ keys → cleared ≡ [] → given ≡ row → u ≡ get_or ws n u → source ≡ get_or keys n source
-    → ((x : ℕ) → Among row x ↔ (Among cleared x ⊎ ((x < length seen) × (x ≢ n) × LeadsTo u (text_at (texts_of seen) x))))
-    → HaveLearnt n vs ws → Enables (Among given) source.now ws us → HaveLearnt (n + 1) vs us
+    → ((x : ℕ) → Among row x ↔ (Among cleared x ⊎ ((x < length seen) × (x ≢ n) × LeadsTo u (nth_text (texts_now seen) x))))
+    → HaveLearnt n vs ws → GainEnabler (Among given) source.now ws us → HaveLearnt (n + 1) vs us
 one_more_learnt n keys seen vs ws us cleared row given u source lt are saw clear gave read key rows h more =
     let long : length keys ≡ length vs = sym (length-map keys (λ (t : Bor Text). t.now)) ∙ ap length are ∙ length-map vs (λ (v : Feature). v.key.now) in
     let inside : n < length vs = subst (λ m. n < m) long lt in
     next_learnt n keys vs ws us row u inside are (slice_get_read ws (length ws) n u refl (subst (λ m. n < m) (sym h.same.len) inside) read)
-    (subst (λ ys. (x : ℕ) → Among row x ↔ (Among ys x ⊎ ((x < length keys) × (x ≢ n) × LeadsTo u (text_at (texts_of keys) x)))) clear
-    (subst (λ (ks : List (Bor Text)). (x : ℕ) → Among row x ↔ (Among cleared x ⊎ ((x < length ks) × (x ≢ n) × LeadsTo u (text_at (texts_of ks) x)))) saw rows))
+    (subst (λ ys. (x : ℕ) → Among row x ↔ (Among ys x ⊎ ((x < length keys) × (x ≢ n) × LeadsTo u (nth_text (texts_now keys) x)))) clear
+    (subst (λ (ks : List (Bor Text)). (x : ℕ) → Among row x ↔ (Among cleared x ⊎ ((x < length ks) × (x ≢ n) × LeadsTo u (nth_text (texts_now ks) x)))) saw rows))
     h
-    (subst (λ e. Enables (Among row) e ws us) (sym (get_or-map (λ (t : Bor Text). t.now) keys n source [] lt ∙ ap (λ (t : Bor Text). t.now) (sym key)))
-    (subst (λ xs. Enables (Among xs) source.now ws us) gave more))
+    (subst (λ e. GainEnabler (Among row) e ws us) (sym (get_or-map (λ (t : Bor Text). t.now) keys n source [] lt ∙ ap (λ (t : Bor Text). t.now) (sym key)))
+    (subst (λ xs. GainEnabler (Among xs) source.now ws us) gave more))
 
 -- under a name stands a feature in one list where one of the same place stands in the other
 abbrev Alike : List Feature → List Feature → Option Feature → Option Feature → Type 0
@@ -269,7 +269,7 @@ module _ (vs ws : List Feature) (same : AreSameButEnablers vs ws) where
   pub in_order_still : AreInOrder vs → AreInOrder ws
   in_order_still up = subst Ascends (sym (keys_still vs ws same)) up
 
-  pub marks_still : (m : Text → Marks) → ((f : Text) → IfSome (feature_at vs f) (λ v. marks_of v ≡ m f)) → (f : Text) → IfSome (feature_at ws f) (λ v. marks_of v ≡ m f)
+  pub marks_still : (m : Text → FeatureMarks) → ((f : Text) → IfSome (feature_at vs f) (λ v. marks_of v ≡ m f)) → (f : Text) → IfSome (feature_at ws f) (λ v. marks_of v ≡ m f)
   marks_still m h f = go (feature_at vs f) (feature_at ws f) (alike_at vs ws same f) (h f)
     where
       go : (o o' : Option Feature) → Alike vs ws o o' → IfSome o (λ v. marks_of v ≡ m f) → IfSome o' (λ v. marks_of v ≡ m f)
@@ -337,11 +337,11 @@ module _ (t : Table) (vs ws : List Feature) (made : AreTable t vs) (same : AreSa
   names_still : (f x : Text) → (table_among ws).names f x ≡ t.names f x
   names_still f x = go (feature_at vs f) (feature_at ws f) (alike_at vs ws same f) ∙ made.names f x
     where
-      go : (o o' : Option Feature) → Alike vs ws o o' → option_map_or (λ v. has_text v.enables_features x) o' false ≡ option_map_or (λ v. has_text v.enables_features x) o false
+      go : (o o' : Option Feature) → Alike vs ws o o' → option_map_or (λ v. set_has v.enables_features x) o' false ≡ option_map_or (λ v. set_has v.enables_features x) o false
       go None None a = refl
       go None (Some w) a = absurd a
       go (Some v) None a = absurd a
-      go (Some v) (Some w) a = ap (λ s. has_text s x) (same.each a.0 v w a.1 a.2).names
+      go (Some v) (Some w) a = ap (λ s. set_has s x) (same.each a.0 v w a.1 a.2).names
 
   action_still : (f k : Text) → (table_among ws).action f k ≡ t.action f k
   action_still f k = go (feature_at vs f) (feature_at ws f) (alike_at vs ws same f) ∙ made.action f k
@@ -363,7 +363,7 @@ stand_still t removed vs ws texts edges names flags same stand = record {
   in_order = in_order_still vs ws same stand.in_order;
   numbered = stand.numbered;
   count = stand.count ∙ sym same.len;
-  vertices = λ i lt. stand.vertices i (subst (λ n. i < n) same.len lt) ∙ ap (λ ks. text_at ks i) (sym (keys_still vs ws same));
+  vertices = λ i lt. stand.vertices i (subst (λ n. i < n) same.len lt) ∙ ap (λ ks. nth_text ks i) (sym (keys_still vs ws same));
 }
 
 -- once all have, what they have learnt are the sources of edges
@@ -371,20 +371,20 @@ module _ (t : Table) (vs ws : List Feature) (up : AreInOrder vs) (none : HaveNoE
   -- what a feature of vs leads to, by the table
   leads_is : (e f : Text) (u : Feature) → feature_at vs e ≡ Some u → LeadsTo u f → IsTrue (t.names e f) ⊎ IsPlain (t.action e f)
   leads_is e f u is l = elim l [
-    | inl n ↦ inl (sym (made.names e f) ∙ ap (λ o. option_map_or (λ v. has_text v.enables_features f) o false) is ∙ n)
+    | inl n ↦ inl (sym (made.names e f) ∙ ap (λ o. option_map_or (λ v. set_has v.enables_features f) o false) is ∙ n)
     | inr p ↦ inr (subst IsPlain (made.action e f) (subst (λ o. IsPlain (option_map_or (λ v. action_at v.enables_deps f) o None)) (sym is) p))
   ]
 
   is_leading : (e f : Text) (u : Feature) → feature_at vs e ≡ Some u → IsTrue (t.names e f) ⊎ IsPlain (t.action e f) → LeadsTo u f
   is_leading e f u is l = elim l [
-    | inl n ↦ inl (sym (ap (λ o. option_map_or (λ v. has_text v.enables_features f) o false) is) ∙ made.names e f ∙ n)
+    | inl n ↦ inl (sym (ap (λ o. option_map_or (λ v. set_has v.enables_features f) o false) is) ∙ made.names e f ∙ n)
     | inr p ↦ inr (subst (λ o. IsPlain (option_map_or (λ v. action_at v.enables_deps f) o None)) is (subst IsPlain (sym (made.action e f)) p))
   ]
 
   into_edge : (f e : Text) → IsTrue ((resolution_among ws).enabled_by f e) → Edge t e f
   into_edge f e = go (feature_at vs f) refl (feature_at ws f) (alike_at vs ws h.same f)
     where
-      go : (o : Option Feature) → feature_at vs f ≡ o → (o' : Option Feature) → Alike vs ws o o' → IsTrue (option_map_or (λ v. has_text v.enabled_by e) o' false) → Edge t e f
+      go : (o : Option Feature) → feature_at vs f ≡ o → (o' : Option Feature) → Alike vs ws o o' → IsTrue (option_map_or (λ v. set_has v.enabled_by e) o' false) → Edge t e f
       go None is None a y = absurd (false≢true y)
       go None is (Some w) a y = absurd a
       go (Some v) is None a y = absurd a
@@ -392,7 +392,7 @@ module _ (t : Table) (vs ws : List Feature) (up : AreInOrder vs) (none : HaveNoE
         | inl o ↦ absurd (false≢true (sym (none_in v.enabled_by (subst (λ p. IfSome p (λ x. x.enabled_by.keys ≡ [])) is (none f)) e) ∙ o))
         | inr l ↦
             let s = found_stands vs f v is in
-            let name : text_at (names_of vs) a.0 ≡ f = name_in vs a.0 v a.1 ∙ s.3 in
+            let name : nth_text (names_of vs) a.0 ≡ f = name_in vs a.0 v a.1 ∙ s.3 in
             let u = l.2.2.0 in
             let key : u.key.now ≡ e = sym (name_in vs l.0 u l.2.2.1) ∙ l.2.1 in
             let stands : feature_at vs e ≡ Some u = subst (λ k. feature_at vs k ≡ Some u) key (stands_found vs up l.0 u l.2.2.1) in
@@ -407,20 +407,20 @@ module _ (t : Table) (vs ws : List Feature) (up : AreInOrder vs) (none : HaveNoE
   from_edge : (f e : Text) → Edge t e f → IsTrue ((resolution_among ws).enabled_by f e)
   from_edge f e d = go (feature_at vs f) refl (feature_at ws f) (alike_at vs ws h.same f) (feature_at vs e) refl
     where
-      go : (o : Option Feature) → feature_at vs f ≡ o → (o' : Option Feature) → Alike vs ws o o' → (p : Option Feature) → feature_at vs e ≡ p → IsTrue (option_map_or (λ v. has_text v.enabled_by e) o' false)
+      go : (o : Option Feature) → feature_at vs f ≡ o → (o' : Option Feature) → Alike vs ws o o' → (p : Option Feature) → feature_at vs e ≡ p → IsTrue (option_map_or (λ v. set_has v.enabled_by e) o' false)
       go None is o' a p from = absurd (false≢true (sym (ap is_some is) ∙ made.has f ∙ d.target))
       go (Some v) is None a p from = absurd a
       go (Some v) is (Some w) a None from = absurd (false≢true (sym (ap is_some from) ∙ made.has e ∙ d.source))
       go (Some v) is (Some w) a (Some u) from =
           let s = found_stands vs f v is in
           let r = found_stands vs e u from in
-          let name : text_at (names_of vs) a.0 ≡ f = name_in vs a.0 v a.1 ∙ s.3 in
-          let source : text_at (names_of vs) r.0 ≡ e = name_in vs r.0 u r.2 ∙ r.3 in
+          let name : nth_text (names_of vs) a.0 ≡ f = name_in vs a.0 v a.1 ∙ s.3 in
+          let source : nth_text (names_of vs) r.0 ≡ e = name_in vs r.0 u r.2 ∙ r.3 in
           (h.learn a.0 v w a.1 a.2 e).1 (inr (
             r.0,
             r.1,
             (
-              λ same. d.apart (sym source ∙ ap (text_at (names_of vs)) (sym same) ∙ name),
+              λ same. d.apart (sym source ∙ ap (nth_text (names_of vs)) (sym same) ∙ name),
               source,
               (u, r.2, subst (LeadsTo u) (sym name) (is_leading e f u from d.leads)),
             ),

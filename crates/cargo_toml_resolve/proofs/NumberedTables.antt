@@ -11,7 +11,7 @@ use Rattle.cargo_toml_graph.specs.Reach.{Among, Reaches, Gathers, GathersLabel}
 use Rattle.cargo_toml_graph.specs.Reach.Reaches.{edge, through}
 use Rattle.cargo_toml_graph.specs.Redirects.{RedirectsTo}
 use Rattle.cargo_toml_walk.specs.Numbers.{Leads, IsWanted, IsPassed, IsUnder, IsRedirect, KeepsLabel}
-use Rattle.cargo_toml_features.specs.Places.{text_at}
+use Rattle.cargo_toml_features.specs.Places.{nth_text}
 use Rattle.cargo_toml_resolve.specs.NumberedTables.{HasNumber, IsNaming, IsNumbered}
 use Rattle.cargo_toml_features.proofs.Places.{lower_place}
 
@@ -35,24 +35,24 @@ reached_vertex (through e s p) = reached_vertex p
 module _ {Z : Type 0} (t : Table) (Removed : Text → Type 0) (texts : List Text) (edges names : List (Vec ℕ Z)) (flags : List Bool)
     (h : IsNumbered t Removed texts edges names flags) where
   -- S is the set of the numbers whose texts are in T
-  module _ (S : ℕ → Type 0) (T : Text → Type 0) (same : (i : ℕ) → i < length edges → S i ↔ T (text_at texts i)) where
-    to_texts : {i j : ℕ} → i < length edges → Reaches (Leads edges) S i j → (j < length edges) × Reaches (Edge t) T (text_at texts i) (text_at texts j)
+  module _ (S : ℕ → Type 0) (T : Text → Type 0) (same : (i : ℕ) → i < length edges → S i ↔ T (nth_text texts i)) where
+    to_texts : {i j : ℕ} → i < length edges → Reaches (Leads edges) S i j → (j < length edges) × Reaches (Edge t) T (nth_text texts i) (nth_text texts j)
     to_texts {i} {j} below (edge e) = let d = (h.leads i j below).0 e in (d.0, edge d.1)
     to_texts {i} {j} below (through {b} e s p) =
         let d = (h.leads i b below).0 e in
         let rest = to_texts d.0 p in
         (rest.0, through d.1 ((same b d.0).0 s) rest.1)
 
-    to_numbers : {v w : Text} → Reaches (Edge t) T v w → (i j : ℕ) → i < length edges → j < length edges → text_at texts i ≡ v → text_at texts j ≡ w → Reaches (Leads edges) S i j
+    to_numbers : {v w : Text} → Reaches (Edge t) T v w → (i j : ℕ) → i < length edges → j < length edges → nth_text texts i ≡ v → nth_text texts j ≡ w → Reaches (Leads edges) S i j
     to_numbers {v} {w} (edge e) i j below below' at at' =
-        edge ((h.leads i j below).1 (below', subst (λ x. Edge t (text_at texts i) x) (sym at') (subst (λ x. Edge t x w) (sym at) e)))
+        edge ((h.leads i j below).1 (below', subst (λ x. Edge t (nth_text texts i) x) (sym at') (subst (λ x. Edge t x w) (sym at) e)))
     to_numbers (through {b} e s p) i j below below' at at' =
         let k = (h.vertex b).0 e.target in
-        let first : Edge t (text_at texts i) (text_at texts k.0) = subst (λ x. Edge t (text_at texts i) x) (sym k.2) (subst (λ x. Edge t x b) (sym at) e) in
+        let first : Edge t (nth_text texts i) (nth_text texts k.0) = subst (λ x. Edge t (nth_text texts i) x) (sym k.2) (subst (λ x. Edge t x b) (sym at) e) in
         through ((h.leads i k.0 below).1 (k.1, first)) ((same k.0 k.1).1 (subst T (sym k.2) s)) (to_numbers p k.0 j k.1 below' k.2 at')
 
     -- a path of numbers is a path of texts
-    pub reaches_between : (i j : ℕ) → i < length edges → j < length edges → Reaches (Leads edges) S i j ↔ Reaches (Edge t) T (text_at texts i) (text_at texts j)
+    pub reaches_between : (i j : ℕ) → i < length edges → j < length edges → Reaches (Leads edges) S i j ↔ Reaches (Edge t) T (nth_text texts i) (nth_text texts j)
     reaches_between i j below below' = (λ p. (to_texts below p).1, λ p. to_numbers p i j below below' refl refl)
 
     -- a number's walk stays among vertices
@@ -63,11 +63,11 @@ module _ {Z : Type 0} (t : Table) (Removed : Text → Type 0) (texts : List Text
     gathers_inside i b below (inl is) = subst (λ k. k < length edges) (sym is) below
     gathers_inside i b below (inr g) = reaches_inside i b below g.1
 
-    gathers_to : (i b : ℕ) → i < length edges → Gathers (Leads edges) S i b → Gathers (Edge t) T (text_at texts i) (text_at texts b)
-    gathers_to i b below (inl is) = inl (subst (λ k. text_at texts k ≡ text_at texts i) (sym is) refl)
+    gathers_to : (i b : ℕ) → i < length edges → Gathers (Leads edges) S i b → Gathers (Edge t) T (nth_text texts i) (nth_text texts b)
+    gathers_to i b below (inl is) = inl (subst (λ k. nth_text texts k ≡ nth_text texts i) (sym is) refl)
     gathers_to i b below (inr g) = let p = to_texts below g.1 in inr ((same b p.0).0 g.0, p.1)
 
-    gathers_from : (i : ℕ) (v : Text) → i < length edges → Gathers (Edge t) T (text_at texts i) v → HasNumber texts (length edges) (Gathers (Leads edges) S i) v
+    gathers_from : (i : ℕ) (v : Text) → i < length edges → Gathers (Edge t) T (nth_text texts i) v → HasNumber texts (length edges) (Gathers (Leads edges) S i) v
     gathers_from i v below (inl is) = (i, below, sym is, inl refl)
     gathers_from i v below (inr g) =
         let k = (h.vertex v).0 (reached_vertex g.1) in
@@ -75,14 +75,14 @@ module _ {Z : Type 0} (t : Table) (Removed : Text → Type 0) (texts : List Text
 
     -- a vertex gathers the labels of what it gathers as a number
     pub gathers_each : {X : Type 0} (Has : Text → X → Type 0) (i : ℕ) (x : X) → i < length edges
-        → GathersLabel (Edge t) T Has (text_at texts i) x ↔ GathersLabel (Leads edges) S (λ b y. Has (text_at texts b) y) i x
+        → GathersLabel (Edge t) T Has (nth_text texts i) x ↔ GathersLabel (Leads edges) S (λ b y. Has (nth_text texts b) y) i x
     gathers_each Has i x below = (
       λ l. let k = gathers_from i l.0 below l.1 in (k.0, k.3, subst (λ v. Has v x) (sym k.2) l.2),
-      λ l. (text_at texts l.0, gathers_to i l.0 below l.1, l.2),
+      λ l. (nth_text texts l.0, gathers_to i l.0 below l.1, l.2),
     )
 
     pub gathers_label : (i : ℕ) (x : Text) → i < length edges → ((k : ℕ) → Gathers (Leads edges) S i k → IsNaming edges flags k)
-        → GathersLabel (Edge t) T (λ b y. IsTrue (t.names b y)) (text_at texts i) x ↔ HasNumber texts (length texts) (GathersLabel (Leads edges) S (Leads names) i) x
+        → GathersLabel (Edge t) T (λ b y. IsTrue (t.names b y)) (nth_text texts i) x ↔ HasNumber texts (length texts) (GathersLabel (Leads edges) S (Leads names) i) x
     gathers_label i x below asked = (
       λ l.
           let k = gathers_from i l.0 below l.1 in
@@ -90,18 +90,18 @@ module _ {Z : Type 0} (t : Table) (Removed : Text → Type 0) (texts : List Text
           (n.0, n.1, n.2, (k.0, k.3, n.3)),
       λ n.
           let b = n.3.0 in
-          (text_at texts b, gathers_to i b below n.3.1, (h.labels b x (gathers_inside i b below n.3.1) (asked b n.3.1)).1 (n.0, n.1, n.2, n.3.2)),
+          (nth_text texts b, gathers_to i b below n.3.1, (h.labels b x (gathers_inside i b below n.3.1) (asked b n.3.1)).1 (n.0, n.1, n.2, n.3.2)),
     )
 
-  pub vertex_flag : (i : ℕ) → i < length edges → IsWanted flags true i ↔ Removed (text_at texts i)
+  pub vertex_flag : (i : ℕ) → i < length edges → IsWanted flags true i ↔ Removed (nth_text texts i)
   vertex_flag i below = h.flagged i (let fits = h.count in omega arith)
 
   pub reaches_text : (i j : ℕ) → i < length edges → j < length edges
-      → Reaches (Leads edges) (IsWanted flags true) i j ↔ ReachesThrough t Removed (text_at texts i) (text_at texts j)
+      → Reaches (Leads edges) (IsWanted flags true) i j ↔ ReachesThrough t Removed (nth_text texts i) (nth_text texts j)
   reaches_text i j below below' = reaches_between (IsWanted flags true) Removed vertex_flag i j below below'
 
   -- a number whose flag doesn't stand is the text of nothing removed
-  pub unflagged : (j : ℕ) → j < length texts → IsWanted flags false j ↔ (¬ Removed (text_at texts j))
+  pub unflagged : (j : ℕ) → j < length texts → IsWanted flags false j ↔ (¬ Removed (nth_text texts j))
   unflagged j below = (
     λ f r. false≢true (sym f ∙ (h.flagged j below).1 r),
     λ kept. elim (cases_Bool (slice_index_or flags j false)) [ inl f ↦ absurd (kept ((h.flagged j below).0 f)) | inr f ↦ f ],
@@ -112,7 +112,7 @@ module _ {Z : Type 0} (t : Table) (Removed : Text → Type 0) (texts : List Text
   all_asked i asked k (inl is) = subst (IsNaming edges flags) (sym is) asked
   all_asked i asked k (inr g) = inl g.0
 
-  pub keeps_name : (i : ℕ) (x : Text) → i < length edges → IsNaming edges flags i → KeepsName t Removed (text_at texts i) x ↔ HasNumber texts (length texts) (KeepsLabel edges flags names i) x
+  pub keeps_name : (i : ℕ) (x : Text) → i < length edges → IsNaming edges flags i → KeepsName t Removed (nth_text texts i) x ↔ HasNumber texts (length texts) (KeepsLabel edges flags names i) x
   keeps_name i x below asked = (
     λ n.
         let l = (gathers_label (IsWanted flags true) Removed vertex_flag i x below (all_asked i asked)).0 n.0 in
@@ -124,7 +124,7 @@ module _ {Z : Type 0} (t : Table) (Removed : Text → Type 0) (texts : List Text
   )
 
   pub is_enabled_by : (f : ℕ) (e : Text) → f < length edges
-      → IsEnabledBy t Removed (text_at texts f) e ↔ HasNumber texts (length edges) (λ j. IsWanted flags false j × Reaches (Leads edges) (IsWanted flags true) j f) e
+      → IsEnabledBy t Removed (nth_text texts f) e ↔ HasNumber texts (length edges) (λ j. IsWanted flags false j × Reaches (Leads edges) (IsWanted flags true) j f) e
   is_enabled_by f e below = (
     λ n.
         let j = (h.vertex e).0 n.0.0 in
@@ -132,31 +132,31 @@ module _ {Z : Type 0} (t : Table) (Removed : Text → Type 0) (texts : List Text
         (j.0, j.1, j.2, (kept, to_numbers (IsWanted flags true) Removed vertex_flag n.1 j.0 f j.1 below j.2 refl)),
     λ j.
         let kept = (unflagged j.0 (let fits = h.count in omega arith)).0 j.3.0 in
-        (((h.vertex e).1 (j.0, j.1, j.2), λ r. kept (subst Removed (sym j.2) r)), subst (λ v. ReachesThrough t Removed v (text_at texts f)) j.2 ((reaches_text j.0 f j.1 below).0 j.3.1)),
+        (((h.vertex e).1 (j.0, j.1, j.2), λ r. kept (subst Removed (sym j.2) r)), subst (λ v. ReachesThrough t Removed v (nth_text texts f)) j.2 ((reaches_text j.0 f j.1 below).0 j.3.1)),
   )
 
   pub says : (i : ℕ) (k : Text) (a : Action) → i < length edges
-      → Says t Removed (text_at texts i) k a ↔ ((b : ℕ) × ((b ≡ i) ⊎ IsPassed edges flags i b) × (t.action (text_at texts b) k ≡ Some a))
+      → Says t Removed (nth_text texts i) k a ↔ ((b : ℕ) × ((b ≡ i) ⊎ IsPassed edges flags i b) × (t.action (nth_text texts b) k ≡ Some a))
   says i k a below = gathers_each (IsWanted flags true) Removed vertex_flag (λ b x. t.action b k ≡ Some x) i a below
 
   -- the removed texts below that of r
   abbrev pub Lower : ℕ → Text → Type 0
-  Lower r s = Removed s × IsTrue (is_below s (text_at texts r))
+  Lower r s = Removed s × IsTrue (is_below s (nth_text texts r))
 
-  pub under : (r : ℕ) → r < length edges → (j : ℕ) → j < length texts → IsUnder edges flags r j ↔ Lower r (text_at texts j)
+  pub under : (r : ℕ) → r < length edges → (j : ℕ) → j < length texts → IsUnder edges flags r j ↔ Lower r (nth_text texts j)
   under r below j inside = (
     λ u. ((h.flagged j inside).0 u.0, h.in_order j r u.1 below),
     λ b.
-        let k = (h.vertex (text_at texts j)).0 (h.removed (text_at texts j) b.0) in
+        let k = (h.vertex (nth_text texts j)).0 (h.removed (nth_text texts j) b.0) in
         let is : k.0 ≡ j = h.one k.0 j (let fits = h.count in omega arith) inside k.2 in
         ((h.flagged j inside).1 b.0, lower_place texts j r (λ later. h.in_order r j later (subst (λ n. n < length edges) is k.1)) b.1),
   )
 
-  pub vertex_under : (r : ℕ) → r < length edges → (i : ℕ) → i < length edges → IsUnder edges flags r i ↔ Lower r (text_at texts i)
+  pub vertex_under : (r : ℕ) → r < length edges → (i : ℕ) → i < length edges → IsUnder edges flags r i ↔ Lower r (nth_text texts i)
   vertex_under r below i vertex = under r below i (let fits = h.count in omega arith)
 
   pub reaches_under : (r : ℕ) → r < length edges → (i j : ℕ) → i < length edges → j < length edges
-      → Reaches (Leads edges) (IsUnder edges flags r) i j ↔ Reaches (Edge t) (Lower r) (text_at texts i) (text_at texts j)
+      → Reaches (Leads edges) (IsUnder edges flags r) i j ↔ Reaches (Edge t) (Lower r) (nth_text texts i) (nth_text texts j)
   reaches_under r below i j inside inside' = reaches_between (IsUnder edges flags r) (Lower r) (vertex_under r below) i j inside inside'
 
   under_asked : (r : ℕ) → IsWanted flags true r → (k : ℕ) → Gathers (Leads edges) (IsUnder edges flags r) r k → IsNaming edges flags k
@@ -164,7 +164,7 @@ module _ {Z : Type 0} (t : Table) (Removed : Text → Type 0) (texts : List Text
   under_asked r gone k (inr g) = inl g.0.0
 
   pub redirects_to : (r : ℕ) (x : Text) → r < length edges → IsWanted flags true r
-      → RedirectsTo t Removed (λ a b. IsTrue (is_below a b)) (text_at texts r) x ↔ HasNumber texts (length texts) (IsRedirect edges flags names r) x
+      → RedirectsTo t Removed (λ a b. IsTrue (is_below a b)) (nth_text texts r) x ↔ HasNumber texts (length texts) (IsRedirect edges flags names r) x
   redirects_to r x below gone = (
     λ n.
         let l = (gathers_label (IsUnder edges flags r) (Lower r) (vertex_under r below) r x below (under_asked r gone)).0 n.0 in

@@ -7,16 +7,16 @@ use Rattle.cargo_toml_graph.specs.Action.{Text}
 use Rattle.cargo_toml_graph.specs.Admitted.{is_below}
 use Rattle.cargo_toml_graph.specs.Graph.{Table, Edge, IsPlain}
 use Rattle.cargo_toml_walk.specs.Numbers.{IsWanted, Leads}
-use Rattle.cargo_toml_features.specs.Places.{text_at}
+use Rattle.cargo_toml_features.specs.Places.{nth_text}
 use Rattle.cargo_toml_resolve.specs.NumberedTables.{HasNumber, IsNaming, IsNumbered}
 use Rattle.cargo_toml_walk.proofs.Filling.{has_row}
 use Rattle.cargo_toml_features.proofs.Places.{at_among, rises}
 use Rattle.cargo_toml_features.specs.declared.features.Feature.{Feature}
 use Rattle.cargo_toml_features.specs.InOrder.{AreInOrder, feature_at, names_of, table_among}
-use Rattle.cargo_toml_features.specs.Views.{action_at, has_text}
+use Rattle.cargo_toml_features.specs.Views.{action_at, set_has}
 use Rattle.cargo_toml_resolve.specs.Enabling.{LeadsTo}
-use Rattle.cargo_toml_resolve.specs.Numbering.{AreTextsOf, IsFlagged, IsPicked, IsTarget, names_at}
-use Rattle.cargo_toml_resolve.specs.Texts.{texts_of}
+use Rattle.cargo_toml_resolve.specs.Numbering.{AreTextsOf, IsFlagged, IsPicked, IsTarget, place_names}
+use Rattle.cargo_toml_resolve.specs.Texts.{texts_now}
 use Rattle.cargo_toml_resolve.proofs.InPlace.{has_place, name_in, stands_found, stands_in}
 
 -- the same vertices are removed
@@ -31,7 +31,7 @@ same_removed t vs kept Removed texts edges names flags n same = record {
   labels = n.labels;
   labels_inside = n.labels_inside;
   flag_count = n.flag_count;
-  flagged = λ i lt. (λ w. (same (text_at texts i)).1 ((n.flagged i lt).0 w), λ r. (n.flagged i lt).1 ((same (text_at texts i)).0 r));
+  flagged = λ i lt. (λ w. (same (nth_text texts i)).1 ((n.flagged i lt).0 w), λ r. (n.flagged i lt).1 ((same (nth_text texts i)).0 r));
   removed = λ v r. n.removed v ((same v).0 r);
 }
 
@@ -40,24 +40,24 @@ wanted_inside : (flags : List Bool) (i : ℕ) → IsWanted flags true i → i < 
 wanted_inside flags i w = elim (cases_lt i (length flags)) [ inl lt ↦ lt | inr past ↦ absurd (false≢true (sym (get_or_past flags i false past) ∙ w)) ]
 
 leads_same : (o : Option Feature) (k : Text)
-    → IsSomeAnd o (λ v. LeadsTo v k) ↔ (IsTrue (option_map_or (λ v. has_text v.enables_features k) o false) ⊎ IsPlain (option_map_or (λ v. action_at v.enables_deps k) o None))
+    → IsSomeAnd o (λ v. LeadsTo v k) ↔ (IsTrue (option_map_or (λ v. set_has v.enables_features k) o false) ⊎ IsPlain (option_map_or (λ v. action_at v.enables_deps k) o None))
 leads_same None k = (λ p. absurd p, elim [ inl n ↦ absurd (false≢true n) | inr p ↦ p ])
 leads_same (Some v) k = (λ p. p, λ p. p)
 
 -- what is said of slices holds of the lists that they show
-pub keys_are : (naming : List Bool) (vs : List Feature) (us ts : List (Bor Text)) → us ≡ ts → AreTextsOf naming vs (texts_of ts) → texts_of (take (length vs) us) ≡ names_of vs
-keys_are naming vs us ts read h = sym (take-map (λ (t : Bor Text). t.now) (length vs) us) ∙ ap (λ (ws : List (Bor Text)). take (length vs) (texts_of ws)) read ∙ h.keys
+pub keys_are : (naming : List Bool) (vs : List Feature) (us ts : List (Bor Text)) → us ≡ ts → AreTextsOf naming vs (texts_now ts) → texts_now (take (length vs) us) ≡ names_of vs
+keys_are naming vs us ts read h = sym (take-map (λ (t : Bor Text). t.now) (length vs) us) ∙ ap (λ (ws : List (Bor Text)). take (length vs) (texts_now ws)) read ∙ h.keys
 
 pub named_by : (naming shown : List Bool) (vs : List Feature) (names : List (Vec ℕ Global)) (us ts : List (Bor Text)) → us ≡ ts → shown ≡ naming
-    → ((i x : ℕ) → i < length vs → Leads names i x ↔ ((x < length us) × IsPicked shown vs i (text_at (texts_of us) x)))
-    → (i x : ℕ) → i < length vs → Leads names i x ↔ ((x < length (texts_of ts)) × IsPicked naming vs i (text_at (texts_of ts) x))
+    → ((i x : ℕ) → i < length vs → Leads names i x ↔ ((x < length us) × IsPicked shown vs i (nth_text (texts_now us) x)))
+    → (i x : ℕ) → i < length vs → Leads names i x ↔ ((x < length (texts_now ts)) × IsPicked naming vs i (nth_text (texts_now ts) x))
 named_by naming shown vs names us ts read see h i x lt =
-    subst (λ n. Leads names i x ↔ ((x < n) × IsPicked naming vs i (text_at (texts_of ts) x))) (sym (length-map ts (λ (t : Bor Text). t.now)))
-    (subst (λ fs. Leads names i x ↔ ((x < length ts) × IsPicked fs vs i (text_at (texts_of ts) x))) see
-    (subst (λ (ws : List (Bor Text)). Leads names i x ↔ ((x < length ws) × IsPicked shown vs i (text_at (texts_of ws) x))) read (h i x lt)))
+    subst (λ n. Leads names i x ↔ ((x < n) × IsPicked naming vs i (nth_text (texts_now ts) x))) (sym (length-map ts (λ (t : Bor Text). t.now)))
+    (subst (λ fs. Leads names i x ↔ ((x < length ts) × IsPicked fs vs i (nth_text (texts_now ts) x))) see
+    (subst (λ (ws : List (Bor Text)). Leads names i x ↔ ((x < length ws) × IsPicked shown vs i (nth_text (texts_now ws) x))) read (h i x lt)))
 
-pub targets_by : (vs : List Feature) (edges : List (Vec ℕ Global)) (keys : List (Bor Text)) → texts_of keys ≡ names_of vs
-    → ((i x : ℕ) → i < length vs → Leads edges i x ↔ ((x < length keys) × IsTarget vs (texts_of keys) i x))
+pub targets_by : (vs : List Feature) (edges : List (Vec ℕ Global)) (keys : List (Bor Text)) → texts_now keys ≡ names_of vs
+    → ((i x : ℕ) → i < length vs → Leads edges i x ↔ ((x < length keys) × IsTarget vs (texts_now keys) i x))
     → (i x : ℕ) → i < length vs → Leads edges i x ↔ ((x < length vs) × IsTarget vs (names_of vs) i x)
 targets_by vs edges keys same h i x lt =
     let long : length keys ≡ length vs = sym (length-map keys (λ (t : Bor Text). t.now)) ∙ ap length same ∙ length-map vs (λ (v : Feature). v.key.now) in
@@ -67,7 +67,7 @@ targets_by vs edges keys same h i x lt =
 module _ (vs : List Feature) (marks naming : List Bool) (texts : List Text) (edges names : List (Vec ℕ Global)) (flags : List Bool)
     (up : AreInOrder vs) (marked : length marks ≡ length vs) (h : AreTextsOf naming vs texts)
     (picked : (i : ℕ) → i < length vs → IsNaming edges marks i → IsWanted naming true i)
-    (name_len : length names ≡ length vs) (named : (i x : ℕ) → i < length vs → Leads names i x ↔ ((x < length texts) × IsPicked naming vs i (text_at texts x)))
+    (name_len : length names ≡ length vs) (named : (i x : ℕ) → i < length vs → Leads names i x ↔ ((x < length texts) × IsPicked naming vs i (nth_text texts x)))
     (edge_len : length edges ≡ length vs) (targets : (i x : ℕ) → i < length vs → Leads edges i x ↔ ((x < length vs) × IsTarget vs (names_of vs) i x))
     (flag_len : length flags ≡ length texts) (flag : (i : ℕ) → IsWanted flags true i ↔ IsWanted marks true i) where
   vertex_in : (i : ℕ) → i < length edges → i < length vs
@@ -77,55 +77,55 @@ module _ (vs : List Feature) (marks naming : List Bool) (texts : List Text) (edg
   vertex_out i lt = subst (λ n. i < n) (sym edge_len) lt
 
   -- a feature's number is its place
-  key_text : (i : ℕ) → i < length vs → text_at texts i ≡ text_at (names_of vs) i
-  key_text i lt = sym (get_or-take (length vs) texts i [] lt) ∙ ap (λ ks. text_at ks i) h.keys
+  key_text : (i : ℕ) → i < length vs → nth_text texts i ≡ nth_text (names_of vs) i
+  key_text i lt = sym (get_or-take (length vs) texts i [] lt) ∙ ap (λ ks. nth_text ks i) h.keys
 
   inside : (i : ℕ) → i < length vs → i < length texts
   inside i lt = let fits = h.parted.fits in omega (arith, fits, lt)
 
-  feature_here : (i : ℕ) → i < length vs → feature_at vs (text_at texts i) ≡ slice_get vs i
+  feature_here : (i : ℕ) → i < length vs → feature_at vs (nth_text texts i) ≡ slice_get vs i
   feature_here i lt =
       let v = stands_in vs i lt in
       ap (feature_at vs) (key_text i lt ∙ name_in vs i v.0 v.1) ∙ stands_found vs up i v.0 v.1 ∙ sym v.1
 
-  names_here : (i : ℕ) (x : Text) → i < length vs → (table_among vs).names (text_at texts i) x ≡ names_at vs i x
-  names_here i x lt = ap (λ o. option_map_or (λ v. has_text v.enables_features x) o false) (feature_here i lt)
+  names_here : (i : ℕ) (x : Text) → i < length vs → (table_among vs).names (nth_text texts i) x ≡ place_names vs i x
+  names_here i x lt = ap (λ o. option_map_or (λ v. set_has v.enables_features x) o false) (feature_here i lt)
 
-  leads_here : (i : ℕ) (k : Text) → i < length vs → IsSomeAnd (slice_get vs i) (λ v. LeadsTo v k) ↔ (IsTrue ((table_among vs).names (text_at texts i) k) ⊎ IsPlain ((table_among vs).action (text_at texts i) k))
-  leads_here i k lt = subst (λ o. IsSomeAnd (slice_get vs i) (λ v. LeadsTo v k) ↔ (IsTrue (option_map_or (λ v. has_text v.enables_features k) o false) ⊎ IsPlain (option_map_or (λ v. action_at v.enables_deps k) o None)))
+  leads_here : (i : ℕ) (k : Text) → i < length vs → IsSomeAnd (slice_get vs i) (λ v. LeadsTo v k) ↔ (IsTrue ((table_among vs).names (nth_text texts i) k) ⊎ IsPlain ((table_among vs).action (nth_text texts i) k))
+  leads_here i k lt = subst (λ o. IsSomeAnd (slice_get vs i) (λ v. LeadsTo v k) ↔ (IsTrue (option_map_or (λ v. set_has v.enables_features k) o false) ⊎ IsPlain (option_map_or (λ v. action_at v.enables_deps k) o None)))
       (sym (feature_here i lt)) (leads_same (slice_get vs i) k)
 
-  has_key : (f : Text) → IsTrue ((table_among vs).has f) ↔ ((i : ℕ) × (i < length vs) × (text_at (names_of vs) i ≡ f))
+  has_key : (f : Text) → IsTrue ((table_among vs).has f) ↔ ((i : ℕ) × (i < length vs) × (nth_text (names_of vs) i ≡ f))
   has_key f = has_place (table_among vs) vs (record { has = λ f. refl; names = λ f x. refl; action = λ f k. refl }) up f
 
-  is_vertex : (f : Text) → IsTrue ((table_among vs).has f) ↔ ((i : ℕ) × (i < length edges) × (text_at texts i ≡ f))
+  is_vertex : (f : Text) → IsTrue ((table_among vs).has f) ↔ ((i : ℕ) × (i < length edges) × (nth_text texts i ≡ f))
   is_vertex f = (
     λ y. let w = (has_key f).0 y in (w.0, vertex_out w.0 w.1, key_text w.0 w.1 ∙ w.2),
     λ w. (has_key f).1 (w.0, vertex_in w.0 w.1, sym (key_text w.0 (vertex_in w.0 w.1)) ∙ w.2),
   )
 
-  is_edge : (i j : ℕ) → i < length edges → Leads edges i j → (j < length edges) × Edge (table_among vs) (text_at texts i) (text_at texts j)
+  is_edge : (i j : ℕ) → i < length edges → Leads edges i j → (j < length edges) × Edge (table_among vs) (nth_text texts i) (nth_text texts j)
   is_edge i j lt l =
       let i' = vertex_in i lt in
       let t = (targets i j i').0 l in (
         vertex_out j t.0,
         record {
-          source = (is_vertex (text_at texts i)).1 (i, lt, refl);
-          target = (is_vertex (text_at texts j)).1 (j, vertex_out j t.0, refl);
+          source = (is_vertex (nth_text texts i)).1 (i, lt, refl);
+          target = (is_vertex (nth_text texts j)).1 (j, vertex_out j t.0, refl);
           apart = λ same. t.1.0 (sym (h.parted.one i j (inside i i') (inside j t.0) same));
-          leads = (leads_here i (text_at texts j) i').0 (subst (λ k. IsSomeAnd (slice_get vs i) (λ v. LeadsTo v k)) (sym (key_text j t.0)) t.1.1);
+          leads = (leads_here i (nth_text texts j) i').0 (subst (λ k. IsSomeAnd (slice_get vs i) (λ v. LeadsTo v k)) (sym (key_text j t.0)) t.1.1);
         },
       )
 
-  from_edge : (i j : ℕ) → i < length edges → j < length edges → Edge (table_among vs) (text_at texts i) (text_at texts j) → Leads edges i j
+  from_edge : (i j : ℕ) → i < length edges → j < length edges → Edge (table_among vs) (nth_text texts i) (nth_text texts j) → Leads edges i j
   from_edge i j lt lt' e =
       let i' = vertex_in i lt in
       let j' = vertex_in j lt' in
       (targets i j i').1 (
         j',
         (
-          λ same. e.apart (ap (text_at texts) (sym same)),
-          subst (λ k. IsSomeAnd (slice_get vs i) (λ v. LeadsTo v k)) (key_text j j') ((leads_here i (text_at texts j) i').1 e.leads),
+          λ same. e.apart (ap (nth_text texts) (sym same)),
+          subst (λ k. IsSomeAnd (slice_get vs i) (λ v. LeadsTo v k)) (key_text j j') ((leads_here i (nth_text texts j) i').1 e.leads),
         ),
       )
 
@@ -134,21 +134,21 @@ module _ (vs : List Feature) (marks naming : List Bool) (texts : List Text) (edg
   is_asked i (inl w) = inl ((flag i).0 w)
   is_asked i (inr b) = inr (b.0, b.1, (flag b.0).0 b.2)
 
-  has_label : (i : ℕ) (x : Text) → i < length edges → IsNaming edges flags i → IsTrue ((table_among vs).names (text_at texts i) x) ↔ HasNumber texts (length texts) (Leads names i) x
+  has_label : (i : ℕ) (x : Text) → i < length edges → IsNaming edges flags i → IsTrue ((table_among vs).names (nth_text texts i) x) ↔ HasNumber texts (length texts) (Leads names i) x
   has_label i x lt asked =
       let i' = vertex_in i lt in
       let pick : IsWanted naming true i = picked i i' (is_asked i asked) in (
         λ y.
-            let here : IsTrue (names_at vs i x) = sym (names_here i x i') ∙ y in
+            let here : IsTrue (place_names vs i x) = sym (names_here i x i') ∙ y in
             let k = at_among texts x [] (h.named x (i, i', (pick, here))) in
-            (k.0, k.1, k.2, (named i k.0 i').1 (k.1, (pick, subst (λ z. IsTrue (names_at vs i z)) (sym k.2) here))),
-        λ w. names_here i x i' ∙ subst (λ z. IsTrue (names_at vs i z)) w.2 ((named i w.0 i').0 w.3).1.1,
+            (k.0, k.1, k.2, (named i k.0 i').1 (k.1, (pick, subst (λ z. IsTrue (place_names vs i z)) (sym k.2) here))),
+        λ w. names_here i x i' ∙ subst (λ z. IsTrue (place_names vs i z)) w.2 ((named i w.0 i').0 w.3).1.1,
       )
 
   labels_within : (i x : ℕ) → Leads names i x → x < length texts
   labels_within i x l = ((named i x (subst (λ n. i < n) name_len (has_row names i x l))).0 l).0
 
-  is_flagged : (i : ℕ) → i < length texts → IsWanted flags true i ↔ IsFlagged vs marks (text_at texts i)
+  is_flagged : (i : ℕ) → i < length texts → IsWanted flags true i ↔ IsFlagged vs marks (nth_text texts i)
   is_flagged i lt = (
     λ w.
         let m = (flag i).0 w in
@@ -168,7 +168,7 @@ module _ (vs : List Feature) (marks naming : List Bool) (texts : List Text) (edg
         let j' = vertex_in j lt in
         let i' : i < length vs = omega (arith, earlier, j') in
         let long = length-map vs (λ (v : Feature). v.key.now) in
-        subst (λ x. IsTrue (is_below x (text_at texts j))) (sym (key_text i i')) (subst (λ y. IsTrue (is_below (text_at (names_of vs) i) y)) (sym (key_text j j')) (rises (names_of vs) up i j earlier (omega (arith, long, j'))));
+        subst (λ x. IsTrue (is_below x (nth_text texts j))) (sym (key_text i i')) (subst (λ y. IsTrue (is_below (nth_text (names_of vs) i) y)) (sym (key_text j j')) (rises (names_of vs) up i j earlier (omega (arith, long, j'))));
     leads = λ i j lt. (is_edge i j lt, λ w. from_edge i j lt w.0 w.1);
     labels = has_label;
     labels_inside = labels_within;

@@ -8,17 +8,17 @@ use Rattle.cargo_toml_graph.specs.Admitted.{is_below}
 use Rattle.cargo_toml_graph.specs.Graph.{KeepsName, Table}
 use Rattle.cargo_toml_graph.specs.Reach.{Among}
 use Rattle.cargo_toml_graph.specs.Redirects.{RedirectsTo}
-use Rattle.cargo_toml_graph.specs.Removal.{pass_all, put_all, unremoved, without_all}
+use Rattle.cargo_toml_graph.specs.Removal.{pass_all, put_each, unremoved, without_all}
 use Rattle.cargo_toml_graph.proofs.BinLists.{among-either, among-first, among-second}
 use Rattle.cargo_toml_graph.proofs.Edges.{unremoved_is}
 use Rattle.cargo_toml_graph.proofs.Elimination.{all_taken_out}
 use Rattle.cargo_toml_graph.proofs.InByteOrder.{ascending_last, ascending_once, by_true, last_passes}
 use Rattle.cargo_toml_graph.proofs.Members.{label_within}
 use Rattle.cargo_toml_graph.proofs.RedirectsInOrder.{below_one_way}
-use Rattle.cargo_toml_features.specs.Places.{text_at}
+use Rattle.cargo_toml_features.specs.Places.{nth_text}
 use Rattle.cargo_toml_full.specs.Ascending.{Ascend}
 use Rattle.cargo_toml_resolve.specs.NumberedTables.{HasNumber}
-use Rattle.cargo_toml_walk.specs.Numbers.{IsWanted, Leads, list_at}
+use Rattle.cargo_toml_walk.specs.Numbers.{IsWanted, Leads, row_items}
 use Rattle.cargo_toml_resolve.proofs.NumberedTables as numbered
 use Rattle.cargo_toml_features.specs.declared.features.Feature.{Feature}
 use Rattle.cargo_toml_resolve.specs.KeptFeatures.{ArePassedAt, StandFor}
@@ -28,10 +28,10 @@ use Rattle.cargo_toml_resolve.proofs.BinTurns.{stands_true, true_stands}
 -- the texts of the flagged numbers below n
 abbrev names_below : List Text → List Bool → ℕ → List Text
 names_below texts flags zero = []
-names_below texts flags (suc n) = cond (slice_index_or flags n false) (names_below texts flags n ++ text_at texts n ∷ []) (names_below texts flags n)
+names_below texts flags (suc n) = cond (slice_index_or flags n false) (names_below texts flags n ++ nth_text texts n ∷ []) (names_below texts flags n)
 
 abbrev StandsBelow : List Text → List Bool → ℕ → Text → Type 0
-StandsBelow texts flags n v = (j : ℕ) × (j < n) × (text_at texts j ≡ v) × IsWanted flags true j
+StandsBelow texts flags n v = (j : ℕ) × (j < n) × (nth_text texts j ≡ v) × IsWanted flags true j
 
 one_more : (texts : List Text) (flags : List Bool) (n : ℕ) (v : Text) → Among (names_below texts flags n) v ↔ StandsBelow texts flags n v →
     Among (names_below texts flags (suc n)) v ↔ StandsBelow texts flags (suc n) v
@@ -40,17 +40,17 @@ one_more texts flags n v h = (λ i. there (slice_index_or flags n false) refl i,
     wider : StandsBelow texts flags n v → StandsBelow texts flags (suc n) v
     wider s = (s.0, (let lt = s.1 in omega (arith, lt)), s.2, s.3)
 
-    there : (b : Bool) → slice_index_or flags n false ≡ b → Among (cond b (names_below texts flags n ++ text_at texts n ∷ []) (names_below texts flags n)) v → StandsBelow texts flags (suc n) v
-    there true e i = elim (among-either (names_below texts flags n) (text_at texts n ∷ []) v i) [
+    there : (b : Bool) → slice_index_or flags n false ≡ b → Among (cond b (names_below texts flags n ++ nth_text texts n ∷ []) (names_below texts flags n)) v → StandsBelow texts flags (suc n) v
+    there true e i = elim (among-either (names_below texts flags n) (nth_text texts n ∷ []) v i) [
       | inl i ↦ wider (h.0 i)
       | inr j ↦ elim j [ inl is ↦ (n, omega arith, sym is, e) | inr k ↦ absurd k ]
     ]
     there false e i = wider (h.0 i)
 
-    back : (b : Bool) → slice_index_or flags n false ≡ b → StandsBelow texts flags (suc n) v → Among (cond b (names_below texts flags n ++ text_at texts n ∷ []) (names_below texts flags n)) v
+    back : (b : Bool) → slice_index_or flags n false ≡ b → StandsBelow texts flags (suc n) v → Among (cond b (names_below texts flags n ++ nth_text texts n ∷ []) (names_below texts flags n)) v
     back true e s = elim (cases_eq s.0 n) [
-      | inl same ↦ among-second (names_below texts flags n) (text_at texts n ∷ []) v (inl (sym s.2 ∙ ap (text_at texts) same))
-      | inr other ↦ among-first (names_below texts flags n) (text_at texts n ∷ []) v (h.1 (s.0, (let lt = s.1 in omega (arith, lt, other)), s.2, s.3))
+      | inl same ↦ among-second (names_below texts flags n) (nth_text texts n ∷ []) v (inl (sym s.2 ∙ ap (nth_text texts) same))
+      | inr other ↦ among-first (names_below texts flags n) (nth_text texts n ∷ []) v (h.1 (s.0, (let lt = s.1 in omega (arith, lt, other)), s.2, s.3))
     ]
     back false e s = elim (cases_eq s.0 n) [
       | inl same ↦ absurd (false≢true (sym e ∙ subst (IsWanted flags true) same s.3))
@@ -62,7 +62,7 @@ named_below texts flags zero v = (λ i. absurd i, λ s. let lt = s.1 in absurd (
 named_below texts flags (suc n) v = one_more texts flags n v (named_below texts flags n v)
 
 module _ (t : Table) (removed : Text → Bool) (old : List Feature) (texts : List Text) (edges names rows : List (Vec ℕ Global)) (flags : List Bool) (stand : StandFor t removed old texts edges names flags)
-    (redirects_are : (r : ℕ) (x : Text) → r < length edges → IsWanted flags true r → HasNumber texts (length texts) (Leads rows r) x ↔ RedirectsTo t (λ v. IsTrue (removed v)) (λ a b. IsTrue (is_below a b)) (text_at texts r) x) where
+    (redirects_are : (r : ℕ) (x : Text) → r < length edges → IsWanted flags true r → HasNumber texts (length texts) (Leads rows r) x ↔ RedirectsTo t (λ v. IsTrue (removed v)) (λ a b. IsTrue (is_below a b)) (nth_text texts r) x) where
   abbrev R : Text → Type 0
   R v = IsTrue (removed v)
 
@@ -73,24 +73,24 @@ module _ (t : Table) (removed : Text → Bool) (old : List Feature) (texts : Lis
   fits i lt = let c = stand.numbered.count in omega (arith, c, lt)
 
   -- these names are removed, and below those that follow
-  lower_there : (n : ℕ) → n < length edges → (v : Text) → Among (names_below texts flags n) v → R v × Below v (text_at texts n)
+  lower_there : (n : ℕ) → n < length edges → (v : Text) → Among (names_below texts flags n) v → R v × Below v (nth_text texts n)
   lower_there n lt v i =
       let s = (named_below texts flags n v).0 i in
       let u = (numbered.vertex_under t R texts edges names flags stand.numbered n lt s.0 (let less = s.1 in omega (arith, less, lt))).0 (s.3, s.1) in
-      (subst R s.2 u.0, subst (λ w. Below w (text_at texts n)) s.2 u.1)
+      (subst R s.2 u.0, subst (λ w. Below w (nth_text texts n)) s.2 u.1)
 
-  lower_back : (n : ℕ) → n < length edges → (v : Text) → R v × Below v (text_at texts n) → Among (names_below texts flags n) v
+  lower_back : (n : ℕ) → n < length edges → (v : Text) → R v × Below v (nth_text texts n) → Among (names_below texts flags n) v
   lower_back n lt v l =
       let k = (stand.numbered.vertex v).0 (stand.numbered.removed v l.0) in
-      let u = (numbered.vertex_under t R texts edges names flags stand.numbered n lt k.0 k.1).1 (subst R (sym k.2) l.0, subst (λ w. Below w (text_at texts n)) (sym k.2) l.1) in
+      let u = (numbered.vertex_under t R texts edges names flags stand.numbered n lt k.0 k.1).1 (subst R (sym k.2) l.0, subst (λ w. Below w (nth_text texts n)) (sym k.2) l.1) in
       (named_below texts flags n v).1 (k.0, u.1, k.2, u.0)
 
   ascends_below : (n : ℕ) → n ≤ length edges → Ascend (names_below texts flags n)
   ascends_below zero le = tt
   ascends_below (suc n) le = go (slice_index_or flags n false) (ascends_below n (omega (arith, le)))
     where
-      go : (b : Bool) → Ascend (names_below texts flags n) → Ascend (cond b (names_below texts flags n ++ text_at texts n ∷ []) (names_below texts flags n))
-      go true up = ascending_last (names_below texts flags n) (text_at texts n) up (λ v i. (lower_there n (omega (arith, le)) v i).1)
+      go : (b : Bool) → Ascend (names_below texts flags n) → Ascend (cond b (names_below texts flags n ++ nth_text texts n ∷ []) (names_below texts flags n))
+      go true up = ascending_last (names_below texts flags n) (nth_text texts n) up (λ v i. (lower_there n (omega (arith, le)) v i).1)
       go false up = up
 
   there_below : (n : ℕ) → n < length edges → (v : Text) → Among (names_below texts flags n) v → IsTrue (t.has v)
@@ -100,45 +100,45 @@ module _ (t : Table) (removed : Text → Bool) (old : List Feature) (texts : Lis
   Earlier n v = Among (names_below texts flags n) v
 
   abbrev Lower : ℕ → Text → Type 0
-  Lower n v = R v × Below v (text_at texts n)
+  Lower n v = R v × Below v (nth_text texts n)
 
-  at_its_turn : (n : ℕ) → n < length edges → (x : Text) → IsTrue ((without_all (names_below texts flags n) (unremoved t)).table.names (text_at texts n) x) ↔ KeepsName t (Earlier n) (text_at texts n) x
+  at_its_turn : (n : ℕ) → n < length edges → (x : Text) → IsTrue ((without_all (names_below texts flags n) (unremoved t)).table.names (nth_text texts n) x) ↔ KeepsName t (Earlier n) (nth_text texts n) x
   at_its_turn n lt x =
       let up = ascends_below n (omega (arith, lt)) in
-      (all_taken_out t (names_below texts flags n) (unremoved t) (unremoved_is t) (there_below n lt) (ascending_once (names_below texts flags n) up)).names (text_at texts n) x (
-        (stand.numbered.vertex (text_at texts n)).1 (n, lt, refl),
-        λ i. let b = (lower_there n lt (text_at texts n) i).1 in below_one_way (text_at texts n) (text_at texts n) b b,
+      (all_taken_out t (names_below texts flags n) (unremoved t) (unremoved_is t) (there_below n lt) (ascending_once (names_below texts flags n) up)).names (nth_text texts n) x (
+        (stand.numbered.vertex (nth_text texts n)).1 (n, lt, refl),
+        λ i. let b = (lower_there n lt (nth_text texts n) i).1 in below_one_way (nth_text texts n) (nth_text texts n) b b,
       )
 
-  to_earlier : (n : ℕ) → n < length edges → (x : Text) → KeepsName t (Lower n) (text_at texts n) x → KeepsName t (Earlier n) (text_at texts n) x
-  to_earlier n lt x k = (label_within (λ b z. IsTrue (t.names b z)) (Lower n) (Earlier n) (lower_back n lt) (text_at texts n) x k.0, λ s. k.1 (lower_there n lt x s))
+  to_earlier : (n : ℕ) → n < length edges → (x : Text) → KeepsName t (Lower n) (nth_text texts n) x → KeepsName t (Earlier n) (nth_text texts n) x
+  to_earlier n lt x k = (label_within (λ b z. IsTrue (t.names b z)) (Lower n) (Earlier n) (lower_back n lt) (nth_text texts n) x k.0, λ s. k.1 (lower_there n lt x s))
 
-  to_lower : (n : ℕ) → n < length edges → (x : Text) → KeepsName t (Earlier n) (text_at texts n) x → KeepsName t (Lower n) (text_at texts n) x
-  to_lower n lt x k = (label_within (λ b z. IsTrue (t.names b z)) (Earlier n) (Lower n) (lower_there n lt) (text_at texts n) x k.0, λ s. k.1 (lower_back n lt x s))
+  to_lower : (n : ℕ) → n < length edges → (x : Text) → KeepsName t (Earlier n) (nth_text texts n) x → KeepsName t (Lower n) (nth_text texts n) x
+  to_lower n lt x k = (label_within (λ b z. IsTrue (t.names b z)) (Earlier n) (Lower n) (lower_there n lt) (nth_text texts n) x k.0, λ s. k.1 (lower_back n lt x s))
 
   -- what a removed place's row has, its feature names at its turn
   names_at : (n i : ℕ) → n < length edges → i < length edges → IsWanted flags true n →
-      list_any (nat_eq i) (list_at rows n) ≡ (without_all (names_below texts flags n) (unremoved t)).table.names (text_at texts n) (text_at texts i)
+      list_any (nat_eq i) (row_items rows n) ≡ (without_all (names_below texts flags n) (unremoved t)).table.names (nth_text texts n) (nth_text texts i)
   names_at n i lt below gone = by_true _ _ (
-    λ y. (at_its_turn n lt (text_at texts i)).1 (to_earlier n lt (text_at texts i) ((redirects_are n (text_at texts i) lt gone).0 (i, fits i below, refl, true_stands (list_at rows n) i y))),
+    λ y. (at_its_turn n lt (nth_text texts i)).1 (to_earlier n lt (nth_text texts i) ((redirects_are n (nth_text texts i) lt gone).0 (i, fits i below, refl, true_stands (row_items rows n) i y))),
     λ y.
-        let j = (redirects_are n (text_at texts i) lt gone).1 (to_lower n lt (text_at texts i) ((at_its_turn n lt (text_at texts i)).0 y)) in
-        stands_true (list_at rows n) i (subst (Among (list_at rows n)) (stand.numbered.one j.0 i j.1 (fits i below) j.2) j.3),
+        let j = (redirects_are n (nth_text texts i) lt gone).1 (to_lower n lt (nth_text texts i) ((at_its_turn n lt (nth_text texts i)).0 y)) in
+        stands_true (row_items rows n) i (subst (Among (row_items rows n)) (stand.numbered.one j.0 i j.1 (fits i below) j.2) j.3),
   )
 
-  module _ (own : Text → List Text) (lists : ℕ → List Text) (start : (i : ℕ) → i < length edges → lists i ≡ own (text_at texts i)) where
+  module _ (own : Text → List Text) (lists : ℕ → List Text) (start : (i : ℕ) → i < length edges → lists i ≡ own (nth_text texts i)) where
     abbrev Agrees : ℕ → Type 0
-    Agrees n = (i : ℕ) → i < length edges → passed_below rows flags n lists i ≡ pass_all (names_below texts flags n) (unremoved t) own (text_at texts i)
+    Agrees n = (i : ℕ) → i < length edges → passed_below rows flags n lists i ≡ pass_all (names_below texts flags n) (unremoved t) own (nth_text texts i)
 
     one_turn : (n : ℕ) → n < length edges → Agrees n → Agrees (suc n)
     one_turn n lt agrees i below = go (slice_index_or flags n false) refl
       where
         go : (b : Bool) → slice_index_or flags n false ≡ b → (cond b (passed_from rows n (passed_below rows flags n lists)) (passed_below rows flags n lists)) i
-            ≡ pass_all (cond b (names_below texts flags n ++ text_at texts n ∷ []) (names_below texts flags n)) (unremoved t) own (text_at texts i)
+            ≡ pass_all (cond b (names_below texts flags n ++ nth_text texts n ∷ []) (names_below texts flags n)) (unremoved t) own (nth_text texts i)
         go true gone =
-            ap (λ b. cond b (put_all (passed_below rows flags n lists i) (take 10 (passed_below rows flags n lists n))) (passed_below rows flags n lists i)) (names_at n i lt below gone)
-            ∙ ap₂ (λ xs ys. cond ((without_all (names_below texts flags n) (unremoved t)).table.names (text_at texts n) (text_at texts i)) (put_all xs (take 10 ys)) xs) (agrees i below) (agrees n lt)
-            ∙ sym (last_passes (names_below texts flags n) (text_at texts n) (unremoved t) own (text_at texts i))
+            ap (λ b. cond b (put_each (passed_below rows flags n lists i) (take 10 (passed_below rows flags n lists n))) (passed_below rows flags n lists i)) (names_at n i lt below gone)
+            ∙ ap₂ (λ xs ys. cond ((without_all (names_below texts flags n) (unremoved t)).table.names (nth_text texts n) (nth_text texts i)) (put_each xs (take 10 ys)) xs) (agrees i below) (agrees n lt)
+            ∙ sym (last_passes (names_below texts flags n) (nth_text texts n) (unremoved t) own (nth_text texts i))
         go false kept = agrees i below
 
     all_turns : (n : ℕ) → n ≤ length edges → Agrees n

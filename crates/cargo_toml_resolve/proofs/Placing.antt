@@ -10,15 +10,15 @@ use Rattle.cargo_toml_graph.specs.Graph.{Table}
 use Rattle.cargo_toml_graph.specs.Reach.{Among}
 use Rattle.cargo_toml_graph.specs.Redirects.{RedirectsTo}
 use Rattle.cargo_toml_walk.specs.Numbers.{IsWanted, Leads}
-use Rattle.cargo_toml_features.specs.Places.{text_at}
+use Rattle.cargo_toml_features.specs.Places.{nth_text}
 use Rattle.cargo_toml_resolve.specs.NumberedTables.{HasNumber}
 use Rattle.cargo_toml_resolve.proofs.NumberedTables as numbered
 use Rattle.cargo_toml_features.specs.declared.features.Feature.{Feature}
 use Rattle.cargo_toml_features.specs.InOrder.{feature_at}
-use Rattle.cargo_toml_features.specs.Views.{has_text}
+use Rattle.cargo_toml_features.specs.Views.{set_has}
 use Rattle.cargo_toml_resolve.specs.Enabling.{EnablesThrough}
 use Rattle.cargo_toml_resolve.specs.KeptFeatures.{ArePassedAt, IsKeptFeature, IsNamedAlike, StandFor, own_bins}
-use Rattle.cargo_toml_resolve.specs.Holding.{HasActions, HasTexts, Holds, AllTakeOver}
+use Rattle.cargo_toml_resolve.specs.Holding.{HasActions, HasTextsOf, Holds, AllTakeOver}
 use Rattle.cargo_toml_resolve.specs.Passing.{AreSameButBins, IsSameButBins, bins_of, passed_below}
 use Rattle.cargo_toml_resolve.specs.Walking.{AreNamed, ArePassed, AreRedirects}
 use Rattle.cargo_toml_resolve.proofs.Answered.{is_kept_feature}
@@ -39,7 +39,7 @@ stood old new len i w at = stands_in old i (subst (λ n. i < n) len (place_insid
 still_holds : {vs : List Feature} {texts : List Text} {i : ℕ} {passed named : List ℕ} {v w u : Feature} → Holds vs texts i passed named v w → IsSameButBins w u → Holds vs texts i passed named v u
 still_holds {vs} {texts} {i} {passed} {named} {v} {w} {u} h same = record {
   same_names = λ none. same.names ∙ h.same_names none;
-  names = λ some. subst (λ s. HasTexts texts named s) (sym same.names) (h.names some);
+  names = λ some. subst (λ s. HasTextsOf texts named s) (sym same.names) (h.names some);
   actions = subst (λ m. HasActions vs (λ b. (b ≡ i) ⊎ Among passed b) m) (sym same.actions) h.actions;
 }
 
@@ -64,18 +64,18 @@ module _ (t : Table) (removed : Text → Bool) (old left new : List Feature) (te
   vertex_place i lt = subst (λ n. i < n) stand.count lt
 
   pub kept_there : (passed named : List (Vec ℕ Global)) → ArePassed edges names flags passed → AreNamed edges names flags passed named →
-      ((i : ℕ) (v : Feature) → IsWanted flags false i → slice_get old i ≡ Some v → (e : Text) → IsTrue (has_text v.enabled_by e) ↔ HasNumber texts (length edges) (EnablesThrough edges flags i) e) →
-      AllTakeOver flags passed named texts old left → AreSameButBins left new → (i : ℕ) (w : Feature) → IsWanted flags false i → slice_get new i ≡ Some w → IsKeptFeature t R (text_at texts i) w
+      ((i : ℕ) (v : Feature) → IsWanted flags false i → slice_get old i ≡ Some v → (e : Text) → IsTrue (set_has v.enabled_by e) ↔ HasNumber texts (length edges) (EnablesThrough edges flags i) e) →
+      AllTakeOver flags passed named texts old left → AreSameButBins left new → (i : ℕ) (w : Feature) → IsWanted flags false i → slice_get new i ≡ Some w → IsKeptFeature t R (nth_text texts i) w
   kept_there passed named are_passed are_named learnt l s i w kept at =
       let u = stood left new s.len i w at in
       let v = stood old left l.len i u.0 u.1 in
       let lt : i < length edges = subst (λ n. i < n) (sym stand.count) (place_inside old i v.0 v.1) in
       is_kept_feature t removed old stand.table stand.in_order texts edges names flags stand.numbered stand.count stand.vertices passed named
       are_passed are_named i lt kept v.0 w v.1 (still_holds (l.holds i v.0 u.0 kept v.1 u.1) (s.each i u.0 w u.1 at))
-      (λ e. subst (λ b. IsTrue (has_text b e) ↔ HasNumber texts (length edges) (EnablesThrough edges flags i) e) (sym ((s.each i u.0 w u.1 at).enabled_by ∙ (l.own i v.0 u.0 v.1 u.1).enabled_by)) (learnt i v.0 kept v.1 e))
+      (λ e. subst (λ b. IsTrue (set_has b e) ↔ HasNumber texts (length edges) (EnablesThrough edges flags i) e) (sym ((s.each i u.0 w u.1 at).enabled_by ∙ (l.own i v.0 u.0 v.1 u.1).enabled_by)) (learnt i v.0 kept v.1 e))
 
   pub redirects_there : (rows : List (Vec ℕ Global)) → AreRedirects edges names flags rows → (r : ℕ) (x : Text) → r < length edges → IsWanted flags true r →
-      HasNumber texts (length texts) (Leads rows r) x ↔ RedirectsTo t R (λ a b. IsTrue (is_below a b)) (text_at texts r) x
+      HasNumber texts (length texts) (Leads rows r) x ↔ RedirectsTo t R (λ a b. IsTrue (is_below a b)) (nth_text texts r) x
   redirects_there rows are_redirects r x lt gone =
       let to = numbered.redirects_to t R texts edges names flags stand.numbered r x lt gone in (
         λ n. to.1 (n.0, n.1, n.2, (are_redirects r n.0 lt gone).0 n.3),
@@ -83,10 +83,10 @@ module _ (t : Table) (removed : Text → Bool) (old left new : List Feature) (te
       )
 
   -- the binaries in a place are those of the feature of its text
-  own_there : (i : ℕ) → i < length edges → own_bins old (text_at texts i) ≡ bins_of old i
+  own_there : (i : ℕ) → i < length edges → own_bins old (nth_text texts i) ≡ bins_of old i
   own_there i lt =
       let v = stands_in old i (vertex_place i lt) in
-      let there : feature_at old (text_at texts i) ≡ Some v.0 = subst (λ f. feature_at old f ≡ Some v.0) (sym (stand.vertices i (vertex_place i lt) ∙ name_in old i v.0 v.1)) (stands_found old stand.in_order i v.0 v.1) in
+      let there : feature_at old (nth_text texts i) ≡ Some v.0 = subst (λ f. feature_at old f ≡ Some v.0) (sym (stand.vertices i (vertex_place i lt) ∙ name_in old i v.0 v.1)) (stands_found old stand.in_order i v.0 v.1) in
       ap (λ (o : Option Feature). option_map_or (λ u. map (λ b. b.now) u.required_by_bins.items) o []) (there ∙ sym v.1)
 
   same_bins : (passed named : List (Vec ℕ Global)) → AllTakeOver flags passed named texts old left → (i : ℕ) → i < length old → bins_of left i ≡ bins_of old i

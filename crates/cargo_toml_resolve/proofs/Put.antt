@@ -3,16 +3,16 @@ use Rattle.std.proofs.Common.{◌≡◌, ◌+◌, ◌<◌, ℕ, take, length, ge
 use Rattle.std.proofs.lemmas.List.{map_more}
 use Rattle.std.specs.Borrow.{Bor}
 use Rattle.cargo_toml_graph.specs.Action.{Text}
-use Rattle.cargo_toml_graph.specs.Removal.{is_among, put_all}
-use Rattle.cargo_toml_resolve.specs.Texts.{texts_of}
+use Rattle.cargo_toml_graph.specs.Removal.{lists_text, put_each}
+use Rattle.cargo_toml_resolve.specs.Texts.{texts_now}
 
-put_last : (xs ys : List Text) (y : Text) → put_all xs (ys ++ y ∷ []) ≡ put_all (put_all xs ys) (y ∷ [])
+put_last : (xs ys : List Text) (y : Text) → put_each xs (ys ++ y ∷ []) ≡ put_each (put_each xs ys) (y ∷ [])
 put_last xs [] y = refl
-put_last xs (z ∷ ys) y = put_last (if is_among xs z then xs else (xs ++ z ∷ [])) ys y
+put_last xs (z ∷ ys) y = put_last (if lists_text xs z then xs else (xs ++ z ∷ [])) ys y
 
 -- one more binary
-pub put_more : (own : List Text) (ks : List (Bor Text)) (i : ℕ) (d : Bor Text) → i < length ks → put_all own (texts_of (take (i + 1) ks)) ≡ put_all (put_all own (texts_of (take i ks))) ((get_or ks i d).now ∷ [])
-put_more own ks i d lt = ap (put_all own) (map_more (λ (k : Bor Text). k.now) ks i d lt) ∙ put_last own (texts_of (take i ks)) (get_or ks i d).now
+pub put_more : (own : List Text) (ks : List (Bor Text)) (i : ℕ) (d : Bor Text) → i < length ks → put_each own (texts_now (take (i + 1) ks)) ≡ put_each (put_each own (texts_now (take i ks))) ((get_or ks i d).now ∷ [])
+put_more own ks i d lt = ap (put_each own) (map_more (λ (k : Bor Text). k.now) ks i d lt) ∙ put_last own (texts_now (take i ks)) (get_or ks i d).now
 
 -- what an index past the end reads
 abbrev pub blank : Bor Text

@@ -5,20 +5,20 @@ use Rattle.std.proofs.lemmas.Option.{same_Some, slice_get-get_or, slice_get_read
 use Rattle.std.specs.Option.{option_map_or}
 use Rattle.cargo_toml_graph.specs.Action.{Text}
 use Rattle.cargo_toml_graph.specs.Reach.{Among}
-use Rattle.cargo_toml_graph.specs.Removal.{put_all}
+use Rattle.cargo_toml_graph.specs.Removal.{put_each}
 use Rattle.cargo_toml_graph.proofs.BinLists.{among-true, put_puts}
 use Rattle.cargo_toml_features.specs.declared.features.Feature.{Feature}
 use Rattle.cargo_toml_resolve.specs.Passing.{bins_of, IsSameButBins, AreSameButBins}
 use Rattle.cargo_toml_resolve.specs.Puts.{Puts}
-use Rattle.cargo_toml_resolve.specs.Texts.{texts_of}
+use Rattle.cargo_toml_resolve.specs.Texts.{texts_now}
 
 -- what is there already isn't put
-put_none : (xs ys : List Text) → ((x : Text) → Among ys x → Among xs x) → put_all xs ys ≡ xs
+put_none : (xs ys : List Text) → ((x : Text) → Among ys x → Among xs x) → put_each xs ys ≡ xs
 put_none xs [] there = refl
-put_none xs (y ∷ ys) there = ap (λ b. put_all (cond b xs (xs ++ y ∷ [])) ys) (among-true xs y (there y (inl refl))) ∙ put_none xs ys (λ x i. there x (inr i))
+put_none xs (y ∷ ys) there = ap (λ b. put_each (cond b xs (xs ++ y ∷ [])) ys) (among-true xs y (there y (inl refl))) ∙ put_none xs ys (λ x i. there x (inr i))
 
-put_again : (xs ys : List Text) → put_all (put_all xs ys) ys ≡ put_all xs ys
-put_again xs ys = put_none (put_all xs ys) ys (λ x i. put_puts xs ys x i)
+put_again : (xs ys : List Text) → put_each (put_each xs ys) ys ≡ put_each xs ys
+put_again xs ys = put_none (put_each xs ys) ys (λ x i. put_puts xs ys x i)
 
 itself : (v : Feature) → IsSameButBins v v
 itself v = record { key = refl; marks = refl; names = refl; actions = refl; enabled_by = refl }
@@ -39,9 +39,9 @@ then_same vs ws us a b = record {
 }
 
 abbrev list_in : Option Feature → List Text
-list_in o = option_map_or (λ v. texts_of v.required_by_bins.items) o []
+list_in o = option_map_or (λ v. texts_now v.required_by_bins.items) o []
 
-pub bins_read : (vs : List Feature) (i : ℕ) (v : Feature) → i < length vs → v ≡ get_or vs i v → bins_of vs i ≡ texts_of v.required_by_bins.items
+pub bins_read : (vs : List Feature) (i : ℕ) (v : Feature) → i < length vs → v ≡ get_or vs i v → bins_of vs i ≡ texts_now v.required_by_bins.items
 bins_read vs i v lt is = ap list_in (slice_get_read vs (length vs) i v refl lt is)
 
 -- no place is named
@@ -56,7 +56,7 @@ decided_among (x ∷ xs) y = elim (cases_eq y x) [
 ]
 
 -- no binary is put
-pub put_nothing : (row : List ℕ) (ks : List (Bor Text)) (bins : List Text) (vs : List Feature) → length ks ≡ 0 → texts_of ks ≡ bins → Puts (Among row) bins vs vs
+pub put_nothing : (row : List ℕ) (ks : List (Bor Text)) (bins : List Text) (vs : List Feature) → length ks ≡ 0 → texts_now ks ≡ bins → Puts (Among row) bins vs vs
 put_nothing row [] bins vs none are = subst (λ xs. Puts (Among row) xs vs vs) are (record { same = same_features vs; lists = λ y below. elim (decided_among row y) [ inl i ↦ inl (i, refl) | inr n ↦ inr (n, refl) ] })
 put_nothing row (k ∷ ks) bins vs none are = absurd (omega arith)
 
@@ -68,12 +68,12 @@ module _ (A B C : ℕ → Type 0) (bins : List Text) (vs ws : List Feature) (old
     lists = λ y below. after y (old.lists y below) (new.lists y (subst (λ n. y < n) (sym old.same.len) below));
   }
     where
-      put : {xs ys : List Text} → xs ≡ ys → put_all xs bins ≡ put_all ys bins
-      put e = ap (λ xs. put_all xs bins) e
+      put : {xs ys : List Text} → xs ≡ ys → put_each xs bins ≡ put_each ys bins
+      put e = ap (λ xs. put_each xs bins) e
 
-      after : (y : ℕ) → (A y × (bins_of ws y ≡ put_all (bins_of vs y) bins)) ⊎ ((¬ A y) × (bins_of ws y ≡ bins_of vs y))
-          → (B y × (bins_of us y ≡ put_all (bins_of ws y) bins)) ⊎ ((¬ B y) × (bins_of us y ≡ bins_of ws y))
-          → (C y × (bins_of us y ≡ put_all (bins_of vs y) bins)) ⊎ ((¬ C y) × (bins_of us y ≡ bins_of vs y))
+      after : (y : ℕ) → (A y × (bins_of ws y ≡ put_each (bins_of vs y) bins)) ⊎ ((¬ A y) × (bins_of ws y ≡ bins_of vs y))
+          → (B y × (bins_of us y ≡ put_each (bins_of ws y) bins)) ⊎ ((¬ B y) × (bins_of us y ≡ bins_of ws y))
+          → (C y × (bins_of us y ≡ put_each (bins_of vs y) bins)) ⊎ ((¬ C y) × (bins_of us y ≡ bins_of vs y))
       after y (inl a) (inl b) = inl ((both y).1 (inl a.0), b.1 ∙ put a.1 ∙ put_again (bins_of vs y) bins)
       after y (inl a) (inr b) = inl ((both y).1 (inl a.0), b.1 ∙ a.1)
       after y (inr a) (inl b) = inl ((both y).1 (inr b.0), b.1 ∙ put a.1)

@@ -2,7 +2,7 @@
 use Rattle.std.proofs.Common.{◌≡◌, ℕ, Bool, List, Vec, sym, subst, inl, inr, ◌∙◌}
 use Rattle.cargo_toml_graph.specs.Action.{Text}
 use Rattle.cargo_toml_graph.specs.Graph.{Table, Edge, IsPlain}
-use Rattle.cargo_toml_features.specs.Places.{text_at}
+use Rattle.cargo_toml_features.specs.Places.{nth_text}
 use Rattle.cargo_toml_resolve.specs.NumberedTables.{IsNumbered}
 use Rattle.cargo_toml_features.specs.declared.features.Feature.{Feature}
 use Rattle.cargo_toml_features.specs.InOrder.{AreTable, table_among}
@@ -25,10 +25,10 @@ renumbered t vs Removed texts edges names flags h n = record {
   vertex = λ v. (λ y. (n.vertex v).0 (h.has v ∙ y), λ w. sym (h.has v) ∙ (n.vertex v).1 w);
   in_order = n.in_order;
   leads = λ i j lt. (
-    λ l. let e = (n.leads i j lt).0 l in (e.0, same_edge (table_among vs) t h.has h.names h.action (text_at texts i) (text_at texts j) e.1),
-    λ e. (n.leads i j lt).1 (e.0, same_edge t (table_among vs) (λ f. sym (h.has f)) (λ f x. sym (h.names f x)) (λ f k. sym (h.action f k)) (text_at texts i) (text_at texts j) e.1),
+    λ l. let e = (n.leads i j lt).0 l in (e.0, same_edge (table_among vs) t h.has h.names h.action (nth_text texts i) (nth_text texts j) e.1),
+    λ e. (n.leads i j lt).1 (e.0, same_edge t (table_among vs) (λ f. sym (h.has f)) (λ f x. sym (h.names f x)) (λ f k. sym (h.action f k)) (nth_text texts i) (nth_text texts j) e.1),
   );
-  labels = λ i x lt asked. (λ y. (n.labels i x lt asked).0 (h.names (text_at texts i) x ∙ y), λ w. sym (h.names (text_at texts i) x) ∙ (n.labels i x lt asked).1 w);
+  labels = λ i x lt asked. (λ y. (n.labels i x lt asked).0 (h.names (nth_text texts i) x ∙ y), λ w. sym (h.names (nth_text texts i) x) ∙ (n.labels i x lt asked).1 w);
   labels_inside = n.labels_inside;
   flag_count = n.flag_count;
   flagged = n.flagged;

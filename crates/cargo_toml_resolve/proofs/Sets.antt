@@ -10,13 +10,13 @@ use Rattle.std.specs.BTreeSet as sorted
 use Rattle.std.specs.BTreeSet.{BTreeSet}
 use Rattle.cargo_toml_graph.specs.Action.{Text}
 use Rattle.cargo_toml_graph.proofs.Texts.{bytes_eq_sym}
-use Rattle.cargo_toml_features.specs.Views.{has_text}
+use Rattle.cargo_toml_features.specs.Views.{set_has}
 use Rattle.cargo_toml_full.proofs.Gathering.{is_text_in}
 
-pub removed_text : (bs : Text) (s n : BTreeSet (Bor Text)) → sorted.UpdatesBy (λ x y. slice_cmp nat_cmp x.now y.now) (λ k. slice_cmp nat_cmp bs k.now) s n false → (x : Text) → has_text n x ≡ (has_text s x && not (bytes_eq x bs))
+pub removed_text : (bs : Text) (s n : BTreeSet (Bor Text)) → sorted.UpdatesBy (λ x y. slice_cmp nat_cmp x.now y.now) (λ k. slice_cmp nat_cmp bs k.now) s n false → (x : Text) → set_has n x ≡ (set_has s x && not (bytes_eq x bs))
 removed_text bs s n h x =
-    h.0 (record { ref_ptr = (0, 0); now = x }) ∙ ap (λ t. cond t false (has_text s x)) (is_eq-slice_cmp bs x)
-    ∙ go (bytes_eq bs x) (has_text s x) ∙ ap (λ t. has_text s x && not t) (bytes_eq_sym bs x)
+    h.0 (record { ref_ptr = (0, 0); now = x }) ∙ ap (λ t. cond t false (set_has s x)) (is_eq-slice_cmp bs x)
+    ∙ go (bytes_eq bs x) (set_has s x) ∙ ap (λ t. set_has s x && not t) (bytes_eq_sym bs x)
   where
     go : (a b : Bool) → cond a false b ≡ (b && not a)
     go true true = refl
@@ -29,9 +29,9 @@ text_in_more ks k x = list_any-append _ ks (k ∷ []) ∙ ap (λ t. is_text_in k
 
 -- one more text of those that a loop adds
 pub one_more : (s n n' : BTreeSet (Bor Text)) (xs : List (Bor (Bor Text))) (k : Bor (Bor Text)) (x : Text)
-    → has_text n x ≡ (has_text s x || is_text_in (map (λ k. k.now) xs) x)
-    → has_text n' x ≡ (has_text n x || bytes_eq x k.now.now)
-    → has_text n' x ≡ (has_text s x || is_text_in (map (λ k. k.now) (xs ++ k ∷ [])) x)
+    → set_has n x ≡ (set_has s x || is_text_in (map (λ k. k.now) xs) x)
+    → set_has n' x ≡ (set_has n x || bytes_eq x k.now.now)
+    → set_has n' x ≡ (set_has s x || is_text_in (map (λ k. k.now) (xs ++ k ∷ [])) x)
 one_more s n n' xs k x before now =
-    now ∙ ap (λ t. t || bytes_eq x k.now.now) before ∙ or_assoc (has_text s x) _ _
-    ∙ ap (λ t. has_text s x || t) (sym (ap (λ ys. is_text_in ys x) (map_push (λ (k : Bor (Bor Text)). k.now) xs k) ∙ text_in_more _ k.now x))
+    now ∙ ap (λ t. t || bytes_eq x k.now.now) before ∙ or_assoc (set_has s x) _ _
+    ∙ ap (λ t. set_has s x || t) (sym (ap (λ ys. is_text_in ys x) (map_push (λ (k : Bor (Bor Text)). k.now) xs k) ∙ text_in_more _ k.now x))

@@ -11,7 +11,7 @@ use Rattle.cargo_toml_graph.proofs.Joins.{join_alike, join_one}
 use Rattle.cargo_toml_features.specs.declared.features.DepAction.{DepAction}
 use Rattle.cargo_toml_features.specs.declared.features.Feature.{Feature}
 use Rattle.cargo_toml_features.specs.Views.{action_at}
-use Rattle.cargo_toml_resolve.specs.Holding.{DoesAt, HasActions, HasTexts, KeepsOwn, action_by}
+use Rattle.cargo_toml_resolve.specs.Holding.{DoesAt, HasActions, HasTextsOf, KeepsOwn, action_by}
 use Rattle.cargo_toml_resolve.specs.TakingOver.{ChangesIn, TakesActions, TakesOver}
 
 set_here : (vs : List Feature) (i : ℕ) (w : Feature) → i < length vs → slice_get (set vs i w) i ≡ Some w
@@ -110,7 +110,7 @@ module _ (vs : List Feature) (i : ℕ) (passed : List ℕ) where
 
 -- then its names are another set
 pub names_taken : (vs : List Feature) (i : ℕ) (passed named : List ℕ) (texts : List Text) (mid : List Feature) (names : BTreeSet (Bor Text)) (w : Feature) → i < length vs → passed ≢ [] →
-    w ≡ get_or mid i w → ChangesIn (TakesActions vs i passed) i vs mid → HasTexts texts named names → ChangesIn (TakesOver vs texts i passed named) i vs (set mid i (record w { enables_features = names }))
+    w ≡ get_or mid i w → ChangesIn (TakesActions vs i passed) i vs mid → HasTextsOf texts named names → ChangesIn (TakesOver vs texts i passed named) i vs (set mid i (record w { enables_features = names }))
 names_taken vs i passed named texts mid names w lt some read h has = then_set (TakesActions vs i passed) (TakesOver vs texts i passed named) i vs mid w (record w { enables_features = names }) lt read h (λ u t. record {
   own = record { key = t.own.key; marks = t.own.marks; bins = t.own.bins; enabled_by = t.own.enabled_by };
   same_names = λ none. absurd (some none);

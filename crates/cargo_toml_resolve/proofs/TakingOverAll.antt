@@ -6,7 +6,7 @@ use Rattle.std.specs.Option.{option_and_then}
 use Rattle.cargo_toml_graph.specs.Action.{Text}
 use Rattle.cargo_toml_graph.specs.Reach.{Among}
 use Rattle.cargo_toml_graph.proofs.Joins.{join_alike}
-use Rattle.cargo_toml_walk.specs.Numbers.{IsWanted, Leads, list_at}
+use Rattle.cargo_toml_walk.specs.Numbers.{IsWanted, Leads, row_items}
 use Rattle.cargo_toml_features.specs.declared.features.Feature.{Feature}
 use Rattle.cargo_toml_features.specs.Marks.{marks_of}
 use Rattle.cargo_toml_features.specs.Views.{action_at}
@@ -39,7 +39,7 @@ module _ {Z : Type 0} (flags : List Bool) (passed named : List (Vec ℕ Z)) (tex
     pub len : length now ≡ length old
     pub own : (i : ℕ) (v w : Feature) → slice_get old i ≡ Some v → slice_get now i ≡ Some w → KeepsOwn v w
     pub holds : (i : ℕ) (v w : Feature) → i < n → IsWanted flags false i → slice_get old i ≡ Some v → slice_get now i ≡ Some w →
-        Holds old texts i (list_at passed i) (list_at named i) v w
+        Holds old texts i (row_items passed i) (row_items named i) v w
     pub rest : (j : ℕ) → (n ≤ j) ⊎ IsWanted flags true j → slice_get now j ≡ slice_get old j
 
   pub none_left : TakeOverUpTo 0 old
@@ -62,19 +62,19 @@ module _ {Z : Type 0} (flags : List Bool) (passed named : List (Vec ℕ Z)) (tex
   }
 
   module _ (n : ℕ) (now next : List Feature) (kept : IsWanted flags false n) (removed : (b : ℕ) → Leads passed n b → IsWanted flags true b)
-      (h : TakeOverUpTo n now) (l : ChangesIn (TakesOver now texts n (list_at passed n) (list_at named n)) n now next) where
+      (h : TakeOverUpTo n now) (l : ChangesIn (TakesOver now texts n (row_items passed n) (row_items named n)) n now next) where
     -- its own place, and those that it passes, are still as they were
-    unchanged : (b : ℕ) → (b ≡ n) ⊎ Among (list_at passed n) b → slice_get now b ≡ slice_get old b
+    unchanged : (b : ℕ) → (b ≡ n) ⊎ Among (row_items passed n) b → slice_get now b ≡ slice_get old b
     unchanged b (inl same) = h.rest b (inl (omega (arith, same)))
     unchanged b (inr p) = h.rest b (inr (removed b p))
 
-    here : (v w : Feature) → slice_get old n ≡ Some v → slice_get next n ≡ Some w → Holds old texts n (list_at passed n) (list_at named n) v w
+    here : (v w : Feature) → slice_get old n ≡ Some v → slice_get next n ≡ Some w → Holds old texts n (row_items passed n) (row_items named n) v w
     here v w at at' =
         let g = l.here v w (unchanged n (inl refl) ∙ at) at' in
         record {
           same_names = g.same_names;
           names = g.names;
-          actions = actions_alike now old (λ b. (b ≡ n) ⊎ Among (list_at passed n) b) unchanged w g.actions;
+          actions = actions_alike now old (λ b. (b ≡ n) ⊎ Among (row_items passed n) b) unchanged w g.actions;
         }
 
     pub one_more_taken_over : TakeOverUpTo (n + 1) next
@@ -85,7 +85,7 @@ module _ {Z : Type 0} (flags : List Bool) (passed named : List (Vec ℕ Z)) (tex
         | inr apart ↦ h.own i v w at (sym (l.others i apart) ∙ at')
       ];
       holds = λ i v w lt k at at'. elim (cases_eq i n) [
-        | inl same ↦ subst (λ m. Holds old texts m (list_at passed m) (list_at named m) v w) (sym same)
+        | inl same ↦ subst (λ m. Holds old texts m (row_items passed m) (row_items named m) v w) (sym same)
             (here v w (subst (λ m. slice_get old m ≡ Some v) same at) (subst (λ m. slice_get next m ≡ Some w) same at'))
         | inr apart ↦ h.holds i v w (omega (arith, lt, apart)) k at (sym (l.others i apart) ∙ at')
       ];

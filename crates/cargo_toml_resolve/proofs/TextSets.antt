@@ -8,55 +8,55 @@ use Rattle.std.specs.List.{list_any}
 use Rattle.cargo_toml_graph.specs.Action.{Text}
 use Rattle.cargo_toml_graph.specs.Reach.{Among}
 use Rattle.cargo_toml_graph.proofs.BinLists.{is_among-true, among-true}
-use Rattle.cargo_toml_features.specs.Views.{has_text}
-use Rattle.cargo_toml_features.specs.Places.{text_at}
-use Rattle.cargo_toml_resolve.specs.Holding.{HasTexts}
-use Rattle.cargo_toml_resolve.specs.Texts.{texts_of}
+use Rattle.cargo_toml_features.specs.Views.{set_has}
+use Rattle.cargo_toml_features.specs.Places.{nth_text}
+use Rattle.cargo_toml_resolve.specs.Holding.{HasTextsOf}
+use Rattle.cargo_toml_resolve.specs.Texts.{texts_now}
 use Rattle.cargo_toml_resolve.proofs.Gathered.{among_push}
 
 -- a set that tells of each text whether it is one of a list has those of the list
-pub set_made : {E : Type 0} (xs : List Text) (r : Result (BTreeSet (Bor Text)) E) → IfOk r (λ s. (x : Text) → has_text s x ≡ list_any (bytes_eq x) xs)
-    → IfOk r (λ s. (x : Text) → IsTrue (has_text s x) ↔ Among xs x)
+pub set_made : {E : Type 0} (xs : List Text) (r : Result (BTreeSet (Bor Text)) E) → IfOk r (λ s. (x : Text) → set_has s x ≡ list_any (bytes_eq x) xs)
+    → IfOk r (λ s. (x : Text) → IsTrue (set_has s x) ↔ Among xs x)
 set_made xs (Err e) h = tt
 set_made xs (Ok s) h = λ x. (λ y. is_among-true xs x (sym (h x) ∙ y), λ i. h x ∙ among-true xs x i)
 
 module _ (texts : List Text) where
-  from_number : (numbers : List ℕ) (x : Text) → Among (map (text_at texts) numbers) x → (j : ℕ) × (text_at texts j ≡ x) × Among numbers j
+  from_number : (numbers : List ℕ) (x : Text) → Among (map (nth_text texts) numbers) x → (j : ℕ) × (nth_text texts j ≡ x) × Among numbers j
   from_number [] x i = absurd i
   from_number (n ∷ ns) x (inl e) = (n, sym e, inl refl)
   from_number (n ∷ ns) x (inr i) = let f = from_number ns x i in (f.0, f.1, inr f.2)
 
-  to_text : (numbers : List ℕ) (j : ℕ) → Among numbers j → Among (map (text_at texts) numbers) (text_at texts j)
+  to_text : (numbers : List ℕ) (j : ℕ) → Among numbers j → Among (map (nth_text texts) numbers) (nth_text texts j)
   to_text [] j i = absurd i
-  to_text (n ∷ ns) j (inl e) = inl (ap (text_at texts) e)
+  to_text (n ∷ ns) j (inl e) = inl (ap (nth_text texts) e)
   to_text (n ∷ ns) j (inr i) = inr (to_text ns j i)
 
   -- the text of one more number
-  pub text_put : (numbers : List ℕ) (i : ℕ) (k : Text) (s n : BTreeSet (Bor Text)) → i < length numbers → k ≡ text_at texts (get_or numbers i 0)
-      → ((x : Text) → IsTrue (has_text s x) ↔ Among (map (text_at texts) (take i numbers)) x)
-      → ((x : Text) → has_text n x ≡ (has_text s x || bytes_eq x k))
-      → (x : Text) → IsTrue (has_text n x) ↔ Among (map (text_at texts) (take (i + 1) numbers)) x
+  pub text_put : (numbers : List ℕ) (i : ℕ) (k : Text) (s n : BTreeSet (Bor Text)) → i < length numbers → k ≡ nth_text texts (get_or numbers i 0)
+      → ((x : Text) → IsTrue (set_has s x) ↔ Among (map (nth_text texts) (take i numbers)) x)
+      → ((x : Text) → set_has n x ≡ (set_has s x || bytes_eq x k))
+      → (x : Text) → IsTrue (set_has n x) ↔ Among (map (nth_text texts) (take (i + 1) numbers)) x
   text_put numbers i k s n lt same so_far put x =
-      let more : map (text_at texts) (take (i + 1) numbers) ≡ map (text_at texts) (take i numbers) ++ text_at texts (get_or numbers i 0) ∷ [] =
-      ap (map (text_at texts)) (take_more numbers i 0 lt) ∙ map_push (text_at texts) (take i numbers) (get_or numbers i 0) in
-      let push = among_push (map (text_at texts) (take i numbers)) (text_at texts (get_or numbers i 0)) x in (
-        λ y. subst (λ l. Among l x) (sym more) (push.1 (elim (or_cases (has_text s x) (bytes_eq x k) (sym (put x) ∙ y)) [ inl a ↦ inl ((so_far x).0 a) | inr b ↦ inr ((bytes_eq-Decides x k).0 b ∙ same) ])),
-        λ a. put x ∙ elim (push.0 (subst (λ l. Among l x) more a)) [ inl i ↦ or_left _ _ ((so_far x).1 i) | inr is ↦ or_right (has_text s x) _ ((bytes_eq-Decides x k).1 (is ∙ sym same)) ],
+      let more : map (nth_text texts) (take (i + 1) numbers) ≡ map (nth_text texts) (take i numbers) ++ nth_text texts (get_or numbers i 0) ∷ [] =
+      ap (map (nth_text texts)) (take_more numbers i 0 lt) ∙ map_push (nth_text texts) (take i numbers) (get_or numbers i 0) in
+      let push = among_push (map (nth_text texts) (take i numbers)) (nth_text texts (get_or numbers i 0)) x in (
+        λ y. subst (λ l. Among l x) (sym more) (push.1 (elim (or_cases (set_has s x) (bytes_eq x k) (sym (put x) ∙ y)) [ inl a ↦ inl ((so_far x).0 a) | inr b ↦ inr ((bytes_eq-Decides x k).0 b ∙ same) ])),
+        λ a. put x ∙ elim (push.0 (subst (λ l. Among l x) more a)) [ inl i ↦ or_left _ _ ((so_far x).1 i) | inr is ↦ or_right (set_has s x) _ ((bytes_eq-Decides x k).1 (is ∙ sym same)) ],
       )
 
 -- a set that has the texts of all numbers
 pub has_all : (texts : List (Bor Text)) (numbers ns : List ℕ) (s : BTreeSet (Bor Text)) → ((x : ℕ) → Among numbers x → x < length texts) → ns ≡ numbers
-    → ((x : Text) → IsTrue (has_text s x) ↔ Among (map (text_at (texts_of texts)) ns) x) → HasTexts (texts_of texts) numbers s
+    → ((x : Text) → IsTrue (set_has s x) ↔ Among (map (nth_text (texts_now texts)) ns) x) → HasTextsOf (texts_now texts) numbers s
 has_all texts numbers ns s inside all h x = (
   λ y.
-      let f = from_number (texts_of texts) numbers x (subst (λ l. Among (map (text_at (texts_of texts)) l) x) all ((h x).0 y)) in
+      let f = from_number (texts_now texts) numbers x (subst (λ l. Among (map (nth_text (texts_now texts)) l) x) all ((h x).0 y)) in
       (f.0, subst (λ n. f.0 < n) (sym (length-map texts (λ k. k.now))) (inside f.0 f.2), f.1, f.2),
-  λ n. (h x).1 (subst (λ l. Among (map (text_at (texts_of texts)) l) x) (sym all) (subst (Among (map (text_at (texts_of texts)) numbers)) n.2 (to_text (texts_of texts) numbers n.0 n.3))),
+  λ n. (h x).1 (subst (λ l. Among (map (nth_text (texts_now texts)) l) x) (sym all) (subst (Among (map (nth_text (texts_now texts)) numbers)) n.2 (to_text (texts_now texts) numbers n.0 n.3))),
 )
 
 -- the set of their texts is what the numbers stand for
 pub set_of_numbers : {E : Type 0} (texts : List (Bor Text)) (numbers : List ℕ) (ks : List (Bor Text)) (r : Result (BTreeSet (Bor Text)) E) →
-    ((x : ℕ) → Among numbers x → x < length texts) → texts_of ks ≡ map (text_at (texts_of texts)) numbers →
-    IfOk r (λ s. (x : Text) → IsTrue (has_text s x) ↔ Among (texts_of ks) x) → IfOk r (HasTexts (texts_of texts) numbers)
+    ((x : ℕ) → Among numbers x → x < length texts) → texts_now ks ≡ map (nth_text (texts_now texts)) numbers →
+    IfOk r (λ s. (x : Text) → IsTrue (set_has s x) ↔ Among (texts_now ks) x) → IfOk r (HasTextsOf (texts_now texts) numbers)
 set_of_numbers texts numbers ks (Err e) inside are h = tt
-set_of_numbers texts numbers ks (Ok s) inside are h = has_all texts numbers numbers s inside refl (λ x. subst (λ l. IsTrue (has_text s x) ↔ Among l x) are (h x))
+set_of_numbers texts numbers ks (Ok s) inside are h = has_all texts numbers numbers s inside refl (λ x. subst (λ l. IsTrue (set_has s x) ↔ Among l x) are (h x))

@@ -5,7 +5,7 @@ use Rattle.cargo_toml_graph.specs.Action.{Text}
 use Rattle.cargo_toml_graph.specs.Graph.{IsPlain}
 use Rattle.cargo_toml_features.specs.declared.features.Feature.{Feature}
 use Rattle.cargo_toml_features.specs.Marks.{marks_of}
-use Rattle.cargo_toml_features.specs.Views.{action_at, has_text}
+use Rattle.cargo_toml_features.specs.Views.{action_at, set_has}
 use Rattle.cargo_toml_graph.specs.Reach.{Reaches}
 use Rattle.cargo_toml_walk.specs.Numbers.{IsWanted, Leads}
 use Rattle.cargo_toml_resolve.specs.NumberedTables.{HasNumber}
@@ -26,12 +26,12 @@ pub record AreSameButEnablers (old new : List Feature) : Type 0 where
 
 -- the feature names x, or acts on it plainly
 abbrev pub LeadsTo : Feature → Text → Type 0
-LeadsTo v x = IsTrue (has_text v.enables_features x) ⊎ IsPlain (action_at v.enables_deps x)
+LeadsTo v x = IsTrue (set_has v.enables_features x) ⊎ IsPlain (action_at v.enables_deps x)
 
 -- the enablers of the new feature are those of the old one, and the texts of which By holds
 abbrev pub Learns : (Text → Type 0) → Feature → Feature → Type 0
 Learns By old new = (e : Text) →
-    IsTrue (has_text new.enabled_by e) ↔ (IsTrue (has_text old.enabled_by e) ⊎ By e)
+    IsTrue (set_has new.enabled_by e) ↔ (IsTrue (set_has old.enabled_by e) ⊎ By e)
 
 -- so in each place, by what holds of it
 abbrev pub LearnEach : (ℕ → Text → Type 0) → List Feature → List Feature → Type 0
@@ -40,7 +40,7 @@ LearnEach By old new =
     → Learns (By y) v w
 
 -- the source is put among the enablers of the features in the named places; nothing else changes
-pub record Enables (Named : ℕ → Type 0) (source : Text) (old new : List Feature) : Type 0 where
+pub record GainEnabler (Named : ℕ → Type 0) (source : Text) (old new : List Feature) : Type 0 where
   pub same : AreSameButEnablers old new
   pub learn : LearnEach (λ y e. (e ≡ source) × Named y) old new
 

@@ -28,16 +28,17 @@ abbrev pub IsHiddenName : Text → Type 0
 IsHiddenName n = IsTrue (starts_with nat_eq n (codes "_"))
 
 -- the name begins with `_`, and the filter refuses it
-pub record IsRefused {F : Type 0} (g : Asked F) (filter : Option (Bor F)) (n : Text) : Type 0 where
+pub record IsRefusedName {F : Type 0} (g : Asked F) (filter : Option (Bor F))
+    (n : Text) : Type 0 where
   pub hidden : IsHiddenName n
   pub refused : Answers g filter n false
 
 -- the flag of a name: whether it is refused
 abbrev pub IsFlagOf : {F : Type 0} → Asked F → Option (Bor F) → Text → Bool → Type 0
-IsFlagOf g filter n true = IsRefused g filter n
+IsFlagOf g filter n true = IsRefusedName g filter n
 IsFlagOf g filter n false = IsHiddenName n → Answers g filter n true
 
 -- `keep` is what the filter answers; without a filter it keeps no name
-abbrev pub Tells : {F : Type 0} → Asked F → Option (Bor F) → (Text → Bool) → Type 0
-Tells g None keep = (n : Text) → keep n ≡ false
-Tells g (Some f) keep = (n : Text) (r : Bool) → FnReturnsAt g f.now n r → r ≡ keep n
+abbrev pub FilterTells : {F : Type 0} → Asked F → Option (Bor F) → (Text → Bool) → Type 0
+FilterTells g None keep = (n : Text) → keep n ≡ false
+FilterTells g (Some f) keep = (n : Text) (r : Bool) → FnReturnsAt g f.now n r → r ≡ keep n

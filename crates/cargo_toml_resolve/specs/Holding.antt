@@ -9,8 +9,8 @@ use Rattle.cargo_toml_graph.specs.Reach.{Among}
 use Rattle.cargo_toml_features.specs.declared.features.DepAction.{DepAction}
 use Rattle.cargo_toml_features.specs.declared.features.Feature.{Feature}
 use Rattle.cargo_toml_features.specs.Marks.{marks_of}
-use Rattle.cargo_toml_features.specs.Views.{has_text, action_at}
-use Rattle.cargo_toml_walk.specs.Numbers.{IsWanted, list_at}
+use Rattle.cargo_toml_features.specs.Views.{set_has, action_at}
+use Rattle.cargo_toml_walk.specs.Numbers.{IsWanted, row_items}
 use Rattle.cargo_toml_resolve.specs.NumberedTables.{HasNumber}
 
 -- what the feature in place b does to k, None past the end
@@ -22,9 +22,9 @@ abbrev pub DoesAt : List Feature → (ℕ → Type 0) → Text → Action → Ty
 DoesAt vs P k a = (b : ℕ) × P b × (action_by vs b k ≡ Some a)
 
 -- the set has exactly the texts of these numbers
-abbrev pub HasTexts : List Text → List ℕ → BTreeSet (Bor Text) → Type 0
-HasTexts texts numbers s =
-    (x : Text) → IsTrue (has_text s x) ↔ HasNumber texts (length texts) (Among numbers) x
+abbrev pub HasTextsOf : List Text → List ℕ → BTreeSet (Bor Text) → Type 0
+HasTextsOf texts numbers s =
+    (x : Text) → IsTrue (set_has s x) ↔ HasNumber texts (length texts) (Among numbers) x
 
 -- the map has for each key the join of what the features in the places of which P holds do to it
 abbrev pub HasActions : List Feature → (ℕ → Type 0) → BTreeMap (Bor Text) DepAction → Type 0
@@ -35,7 +35,7 @@ HasActions vs P m = (k : Text) → IsJoin (DoesAt vs P k) (action_at m k)
 pub record Holds (vs : List Feature) (texts : List Text) (i : ℕ) (passed named : List ℕ)
     (old new : Feature) : Type 0 where
   pub same_names : passed ≡ [] → new.enables_features ≡ old.enables_features
-  pub names : passed ≢ [] → HasTexts texts named new.enables_features
+  pub names : passed ≢ [] → HasTextsOf texts named new.enables_features
   pub actions : HasActions vs (λ b. (b ≡ i) ⊎ Among passed b) new.enables_deps
 
 -- what a feature says of itself stays, and what enables it
@@ -53,4 +53,4 @@ pub record AllTakeOver {Z : Type 0} (flags : List Bool) (passed named : List (Ve
       → KeepsOwn v w
   pub holds : (i : ℕ) (v w : Feature) → IsWanted flags false i → slice_get old i ≡ Some v
       → slice_get new i ≡ Some w
-      → Holds old texts i (list_at passed i) (list_at named i) v w
+      → Holds old texts i (row_items passed i) (row_items named i) v w

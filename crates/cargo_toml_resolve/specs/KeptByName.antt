@@ -11,7 +11,7 @@ use Rattle.cargo_toml_graph.specs.Graph.{Table, IsResolved}
 use Rattle.cargo_toml_graph.specs.Redirects.{RedirectsTo}
 use Rattle.cargo_toml_features.specs.declared.features.Feature.{Feature}
 use Rattle.cargo_toml_features.specs.InOrder.{feature_at}
-use Rattle.cargo_toml_features.specs.Views.{has_text, resolution_of, value_at}
+use Rattle.cargo_toml_features.specs.Views.{set_has, resolution_of, value_at}
 use Rattle.cargo_toml_resolve.specs.KeptFeatures.{IsNamedAlike, own_bins}
 
 -- what is kept of the features vs, and what stands for those that are removed
@@ -25,5 +25,5 @@ pub record AreKept {S : Type 0} (t : Table) (removed : Text → Bool) (vs : List
       (λ f. option_map_or (λ v. map (λ b. b.now) v.required_by_bins.items) (value_at features f) [])
   pub redirected : (r : Text) → is_some (value_at hidden r) ≡ removed r
   pub redirects : (r : Text) → IfSome (value_at hidden r)
-      (λ names. (x : Text) → IsTrue (has_text names x)
+      (λ names. (x : Text) → IsTrue (set_has names x)
       ↔ RedirectsTo t (λ s. IsTrue (removed s)) (λ a b. IsTrue (is_below a b)) r x)

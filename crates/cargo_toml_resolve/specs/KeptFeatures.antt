@@ -7,19 +7,19 @@ use Rattle.cargo_toml_graph.specs.Action.{Text, IsJoin}
 use Rattle.cargo_toml_graph.specs.Bins.{AreInByteOrder}
 use Rattle.cargo_toml_graph.specs.Graph.{Table, IsEnabledBy, KeepsName, Says}
 use Rattle.cargo_toml_graph.specs.Removal.{pass_all, unremoved}
-use Rattle.cargo_toml_features.specs.Places.{text_at}
+use Rattle.cargo_toml_features.specs.Places.{nth_text}
 use Rattle.cargo_toml_resolve.specs.NumberedTables.{IsNumbered}
 use Rattle.cargo_toml_walk.specs.Numbers.{IsWanted}
 use Rattle.cargo_toml_features.specs.declared.features.Feature.{Feature}
 use Rattle.cargo_toml_features.specs.InOrder.{AreInOrder, AreTable, feature_at, names_of}
 use Rattle.cargo_toml_features.specs.Marks.{marks_of}
-use Rattle.cargo_toml_features.specs.Views.{action_at, has_text}
+use Rattle.cargo_toml_features.specs.Views.{action_at, set_has}
 
 -- v holds what the kept feature f does
 pub record IsKeptFeature (t : Table) (Removed : Text → Type 0) (f : Text)
     (v : Feature) : Type 0 where
-  pub names : (x : Text) → IsTrue (has_text v.enables_features x) ↔ KeepsName t Removed f x
-  pub enabled_by : (e : Text) → IsTrue (has_text v.enabled_by e) ↔ IsEnabledBy t Removed f e
+  pub names : (x : Text) → IsTrue (set_has v.enables_features x) ↔ KeepsName t Removed f x
+  pub enabled_by : (e : Text) → IsTrue (set_has v.enabled_by e) ↔ IsEnabledBy t Removed f e
   pub action : (k : Text) → IsJoin (Says t Removed f k) (action_at v.enables_deps k)
 
 -- the features vs make the table t, and the graph of numbers stands for it
@@ -29,7 +29,7 @@ pub record StandFor (t : Table) (removed : Text → Bool) (vs : List Feature) (t
   pub in_order : AreInOrder vs
   pub numbered : IsNumbered t (λ v. IsTrue (removed v)) texts edges names flags
   pub count : length edges ≡ length vs
-  pub vertices : (i : ℕ) → i < length vs → text_at texts i ≡ text_at (names_of vs) i
+  pub vertices : (i : ℕ) → i < length vs → nth_text texts i ≡ nth_text (names_of vs) i
 
 -- it has the name of the other, and its marks
 pub record IsNamedAlike (old new : Feature) : Type 0 where
@@ -47,4 +47,4 @@ pub record ArePassedAt (t : Table) (removed : Text → Bool) (own : Text → Lis
   pub in_order : AreInByteOrder (λ v. IsTrue (removed v)) order
   pub lists : (i : ℕ) (v : Feature) → IsWanted flags false i → slice_get vs i ≡ Some v
       → map (λ b. b.now) v.required_by_bins.items
-      ≡ pass_all order (unremoved t) own (text_at texts i)
+      ≡ pass_all order (unremoved t) own (nth_text texts i)

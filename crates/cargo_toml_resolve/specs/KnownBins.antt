@@ -3,14 +3,14 @@ use Rattle.std.specs.Prelude.{◌≡◌, ◌⊎◌, ℕ, List, length, slice_get
 use Rattle.std.specs.Borrow.{Bor}
 use Rattle.std.specs.BTreeSet.{BTreeSet, btree_set_len}
 use Rattle.cargo_toml_graph.specs.Action.{Text}
-use Rattle.cargo_toml_graph.specs.Removal.{is_among}
+use Rattle.cargo_toml_graph.specs.Removal.{lists_text}
 use Rattle.cargo_toml_features.specs.declared.features.Feature.{Feature}
-use Rattle.cargo_toml_features.specs.Views.{has_text}
+use Rattle.cargo_toml_features.specs.Views.{set_has}
 use Rattle.cargo_toml_resolve.specs.Passing.{bins_of}
 
 -- the set has the binaries of the list, and no other
 abbrev pub Knows : BTreeSet (Bor Text) → List Text → Type 0
-Knows known bins = (x : Text) → has_text known x ≡ is_among bins x
+Knows known bins = (x : Text) → set_has known x ≡ lists_text bins x
 
 -- or it has nothing yet
 abbrev pub MayKnow : BTreeSet (Bor Text) → List Text → Type 0

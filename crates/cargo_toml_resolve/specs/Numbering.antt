@@ -6,24 +6,24 @@ use Rattle.cargo_toml_graph.specs.Action.{Text}
 use Rattle.cargo_toml_graph.specs.Reach.{Among}
 use Rattle.cargo_toml_full.specs.Ascending.{Ascend}
 use Rattle.cargo_toml_walk.specs.Numbers.{IsWanted}
-use Rattle.cargo_toml_features.specs.Places.{text_at}
+use Rattle.cargo_toml_features.specs.Places.{nth_text}
 use Rattle.cargo_toml_features.specs.declared.features.Feature.{Feature}
 use Rattle.cargo_toml_features.specs.InOrder.{names_of}
-use Rattle.cargo_toml_features.specs.Views.{has_text}
+use Rattle.cargo_toml_features.specs.Views.{set_has}
 use Rattle.cargo_toml_resolve.specs.Enabling.{LeadsTo}
 
 -- the flag of the feature of this name stands
 abbrev pub IsFlagged : List Feature → List Bool → Text → Type 0
 IsFlagged vs flags f =
-    (i : ℕ) × (i < length vs) × (text_at (names_of vs) i ≡ f) × IsWanted flags true i
+    (i : ℕ) × (i < length vs) × (nth_text (names_of vs) i ≡ f) × IsWanted flags true i
 
 -- the feature in place i names x, false past the end
-abbrev pub names_at : List Feature → ℕ → Text → Bool
-names_at vs i x = option_map_or (λ v. has_text v.enables_features x) (slice_get vs i) false
+abbrev pub place_names : List Feature → ℕ → Text → Bool
+place_names vs i x = option_map_or (λ v. set_has v.enables_features x) (slice_get vs i) false
 
 -- the feature in place i has its flag in `naming`, and names x
 abbrev pub IsPicked : List Bool → List Feature → ℕ → Text → Type 0
-IsPicked naming vs i x = IsWanted naming true i × IsTrue (names_at vs i x)
+IsPicked naming vs i x = IsWanted naming true i × IsTrue (place_names vs i x)
 
 -- so one of the first n does
 abbrev pub IsNamedBy : List Bool → List Feature → ℕ → Text → Type 0
@@ -31,7 +31,7 @@ IsNamedBy naming vs n x = (i : ℕ) × (i < n) × IsPicked naming vs i x
 
 -- the feature in place i leads to another one, in place x
 abbrev pub IsTarget : List Feature → List Text → ℕ → ℕ → Type 0
-IsTarget vs keys i x = (x ≢ i) × IsSomeAnd (slice_get vs i) (λ v. LeadsTo v (text_at keys x))
+IsTarget vs keys i x = (x ≢ i) × IsSomeAnd (slice_get vs i) (λ v. LeadsTo v (nth_text keys x))
 
 -- the first n texts and those after them stand in byte order, and no text stands twice
 pub record AreParted (n : ℕ) (texts : List Text) : Type 0 where
@@ -39,7 +39,7 @@ pub record AreParted (n : ℕ) (texts : List Text) : Type 0 where
   pub front : Ascend (take n texts)
   pub rest : Ascend (drop n texts)
   pub one : (i j : ℕ) → i < length texts → j < length texts
-      → text_at texts i ≡ text_at texts j → i ≡ j
+      → nth_text texts i ≡ nth_text texts j → i ≡ j
 
 -- the names of the features stand first, and what those name that have a flag stands there too
 pub record AreTextsOf (naming : List Bool) (vs : List Feature) (texts : List Text) : Type 0 where

@@ -4,8 +4,8 @@ use Rattle.std.specs.Prelude.{length, map, nat_eq, take, slice_get, Some, Vec}
 use Rattle.std.specs.List.{list_any, slice_index_or}
 use Rattle.std.specs.Option.{option_map_or}
 use Rattle.cargo_toml_graph.specs.Action.{Text}
-use Rattle.cargo_toml_graph.specs.Removal.{put_all}
-use Rattle.cargo_toml_walk.specs.Numbers.{list_at}
+use Rattle.cargo_toml_graph.specs.Removal.{put_each}
+use Rattle.cargo_toml_walk.specs.Numbers.{row_items}
 use Rattle.cargo_toml_features.specs.declared.features.Feature.{Feature}
 use Rattle.cargo_toml_features.specs.Marks.{marks_of}
 
@@ -16,7 +16,7 @@ bins_of vs i = option_map_or (λ v. map (λ b. b.now) v.required_by_bins.items) 
 -- the place r passes the first ten of its list on to each place in its row
 abbrev pub passed_from : {Z : Type 0} → List (Vec ℕ Z) → ℕ → (ℕ → List Text) → ℕ → List Text
 passed_from redirects r lists y =
-    if list_any (nat_eq y) (list_at redirects r) then put_all (lists y) (take 10 (lists r))
+    if list_any (nat_eq y) (row_items redirects r) then put_each (lists y) (take 10 (lists r))
     else lists y
 
 -- the lists once the flagged places below n have passed theirs on, from the first to the last

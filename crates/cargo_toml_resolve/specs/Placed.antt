@@ -9,22 +9,22 @@ use Rattle.cargo_toml_graph.specs.Action.{Text}
 use Rattle.cargo_toml_graph.specs.Admitted.{is_below}
 use Rattle.cargo_toml_graph.specs.Graph.{Table}
 use Rattle.cargo_toml_graph.specs.Redirects.{RedirectsTo}
-use Rattle.cargo_toml_features.specs.Places.{text_at}
+use Rattle.cargo_toml_features.specs.Places.{nth_text}
 use Rattle.cargo_toml_resolve.specs.NumberedTables.{HasNumber}
-use Rattle.cargo_toml_walk.specs.Numbers.{IsWanted, Leads, list_at}
+use Rattle.cargo_toml_walk.specs.Numbers.{IsWanted, Leads, row_items}
 use Rattle.cargo_toml_features.specs.declared.features.Feature.{Feature}
 use Rattle.cargo_toml_features.specs.Views.{value_at}
 use Rattle.cargo_toml_resolve.specs.declared.graph.Graph.{Graph}
 use Rattle.cargo_toml_resolve.specs.declared.graph.Walked.{Walked}
 use Rattle.cargo_toml_resolve.specs.KeptFeatures.{ArePassedAt, IsKeptFeature, IsNamedAlike}
 use Rattle.cargo_toml_resolve.specs.KeptFeatures.{StandFor, own_bins}
-use Rattle.cargo_toml_resolve.specs.Holding.{HasTexts}
-use Rattle.cargo_toml_resolve.specs.Texts.{texts_of}
+use Rattle.cargo_toml_resolve.specs.Holding.{HasTextsOf}
+use Rattle.cargo_toml_resolve.specs.Texts.{texts_now}
 
 -- the features vs make the table t, and the graph stands for it
 abbrev pub Shows : Graph → Table → (Text → Bool) → List Feature → Type 0
 Shows g t removed vs =
-    StandFor t removed vs (texts_of g.texts.items) g.edges.items g.names.items g.flags.items
+    StandFor t removed vs (texts_now g.texts.items) g.edges.items g.names.items g.flags.items
 
 -- the features of the graph g in their places, and what the walks over it found
 pub record ArePlaced (g : Graph) (old new : List Feature) (w : Walked) : Type 0 where
@@ -39,16 +39,16 @@ pub record ArePlaced (g : Graph) (old new : List Feature) (w : Walked) : Type 0 
   -- a kept one holds what is kept of it, and the binaries that are passed on to it
   pub kept : (t : Table) (removed : Text → Bool) → Shows g t removed old
       → (i : ℕ) (u : Feature) → IsWanted g.flags.items false i → slice_get new i ≡ Some u
-      → IsKeptFeature t (λ f. IsTrue (removed f)) (text_at (texts_of g.texts.items) i) u
+      → IsKeptFeature t (λ f. IsTrue (removed f)) (nth_text (texts_now g.texts.items) i) u
   pub bins : (t : Table) (removed : Text → Bool) → Shows g t removed old
-      → ArePassedAt t removed (own_bins old) (texts_of g.texts.items) g.flags.items new
+      → ArePassedAt t removed (own_bins old) (texts_now g.texts.items) g.flags.items new
   -- the redirect of a removed one has what stands for it
   pub redirects : (t : Table) (removed : Text → Bool) → Shows g t removed old
       → (r : ℕ) (x : Text) → r < length g.edges.items → IsWanted g.flags.items true r
-      → HasNumber (texts_of g.texts.items) (length (texts_of g.texts.items))
+      → HasNumber (texts_now g.texts.items) (length (texts_now g.texts.items))
       (Leads w.redirects.items r) x
       ↔ RedirectsTo t (λ f. IsTrue (removed f)) (λ a b. IsTrue (is_below a b))
-      (text_at (texts_of g.texts.items) r) x
+      (nth_text (texts_now g.texts.items) r) x
 
 -- what of features in their places, and of what the walks found, stands under names
 pub record AreHashed {S : Type 0} (vs : List Feature) (w : Walked)
@@ -62,8 +62,8 @@ pub record AreHashed {S : Type 0} (vs : List Feature) (w : Walked)
       × IsWanted w.flags.items false i × (v.key.now ≡ f)
   -- the texts of what stands for the removed ones, and no others
   pub redirect_there : (i : ℕ) → i < length w.redirects.items → IsWanted w.flags.items true i
-      → IsSomeAnd (value_at hidden (text_at (texts_of w.texts.items) i))
-      (HasTexts (texts_of w.texts.items) (list_at w.redirects.items i))
+      → IsSomeAnd (value_at hidden (nth_text (texts_now w.texts.items) i))
+      (HasTextsOf (texts_now w.texts.items) (row_items w.redirects.items i))
   pub redirect_only : (r : Text) → IsSome (value_at hidden r)
-      → (i : ℕ) × (i < length w.redirects.items) × (text_at (texts_of w.texts.items) i ≡ r)
+      → (i : ℕ) × (i < length w.redirects.items) × (nth_text (texts_now w.texts.items) i ≡ r)
       × IsWanted w.flags.items true i

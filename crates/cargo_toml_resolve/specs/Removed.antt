@@ -7,14 +7,14 @@ use Rattle.cargo_toml_graph.specs.Bins.{ArePassedOn, HasBins}
 use Rattle.cargo_toml_graph.specs.Graph.{Table, IsResolved}
 use Rattle.cargo_toml_graph.specs.Redirects.{RedirectsTo}
 use Rattle.cargo_toml_features.specs.Agreement.{Agree}
-use Rattle.cargo_toml_features.specs.Marks.{Details, marks_in}
+use Rattle.cargo_toml_features.specs.Marks.{NamedDetails, marks_in}
 use Rattle.cargo_toml_features.specs.Recorded.{Entry, entries_at, recorded_of}
 use Rattle.cargo_toml_features.specs.Resolved.{Answer, IsAnswer, SameRecorded, table_of}
-use Rattle.cargo_toml_resolve.specs.Filter.{Asked, Answers, IsHiddenName, Tells}
+use Rattle.cargo_toml_resolve.specs.Filter.{Asked, Answers, IsHiddenName, FilterTells}
 
 -- the listed features and the entries are resolved, with the features taken out of which Removed
 -- holds: what `IsAnswer` says of those that a test doesn't keep
-pub record IsAnswerWithout (listed : Listed) (entries : List Entry) (details : Details)
+pub record IsAnswerWithout (listed : Listed) (entries : List Entry) (details : NamedDetails)
     (own : Text → List Text) (Removed : Text → Type 0) (a : Answer) : Type 0 where
   pub resolved : IsResolved (table_of listed entries) Removed a.resolution
   pub keyed : (f : Text) → IfSome (a.key f) (λ k. k ≡ f)
@@ -39,17 +39,19 @@ module _ {F : Type 0} (g : Asked F) (filter : Option (Bor F)) where
   module _ (listed : Listed) (entries : List Entry) where
     -- the answer by the filter: its removed features are taken out, it keeps each that is left and
     -- begins with `_`, and each test that agrees with it tells the same
-    pub record IsAnswerBy (details : Details) (own : Text → List Text) (a : Answer) : Type 0 where
+    pub record IsAnswerBy (details : NamedDetails) (own : Text → List Text)
+        (a : Answer) : Type 0 where
       pub answer : IsAnswerWithout listed entries details own
           (IsRemovedBy (table_of listed entries)) a
       pub kept : (f : Text) → IsTrue (a.resolution.table.has f) → IsHiddenName f
           → Answers g filter f true
-      pub told : (keep : Text → Bool) → Tells g filter keep
+      pub told : (keep : Text → Bool) → FilterTells g filter keep
           → IsAnswer listed entries details own keep a
 
     -- b agrees with each answer by the filter, and with each by a test that agrees with the filter
     pub record AgreesWithAll (b : Answer) : Type 0 where
-      pub by_filter : (details : Details) (own : Text → List Text) (a : Answer)
+      pub by_filter : (details : NamedDetails) (own : Text → List Text) (a : Answer)
           → IsAnswerBy details own a → Agree a b
-      pub by_test : (keep : Text → Bool) (details : Details) (own : Text → List Text) (a : Answer)
-          → Tells g filter keep → IsAnswer listed entries details own keep a → Agree a b
+      pub by_test : (keep : Text → Bool) (details : NamedDetails) (own : Text → List Text)
+          (a : Answer) → FilterTells g filter keep
+          → IsAnswer listed entries details own keep a → Agree a b

@@ -3,7 +3,7 @@ use Rattle.std.specs.Prelude.{◌≡◌, ◌≢◌, ◌⊎◌, ℕ, List, [], le
 use Rattle.cargo_toml_graph.specs.Action.{Text}
 use Rattle.cargo_toml_graph.specs.Reach.{Among}
 use Rattle.cargo_toml_features.specs.declared.features.Feature.{Feature}
-use Rattle.cargo_toml_resolve.specs.Holding.{HasActions, HasTexts, KeepsOwn}
+use Rattle.cargo_toml_resolve.specs.Holding.{HasActions, HasTextsOf, KeepsOwn}
 
 -- the feature in place i changes so, and no other does
 pub record ChangesIn (Changes : Feature → Feature → Type 0) (i : ℕ)
@@ -24,5 +24,5 @@ pub record TakesOver (vs : List Feature) (texts : List Text) (i : ℕ) (passed n
     (old new : Feature) : Type 0 where
   pub own : KeepsOwn old new
   pub same_names : passed ≡ [] → new.enables_features ≡ old.enables_features
-  pub names : passed ≢ [] → HasTexts texts named new.enables_features
+  pub names : passed ≢ [] → HasTextsOf texts named new.enables_features
   pub actions : HasActions vs (λ b. (b ≡ i) ⊎ Among passed b) new.enables_deps

@@ -3,5 +3,5 @@ use Rattle.std.specs.Prelude.{List, map}
 use Rattle.std.specs.Borrow.{Bor}
 use Rattle.cargo_toml_graph.specs.Action.{Text}
 
-abbrev pub texts_of : List (Bor Text) → List Text
-texts_of ks = map (λ k. k.now) ks
+abbrev pub texts_now : List (Bor Text) → List Text
+texts_now ks = map (λ k. k.now) ks

@@ -3,7 +3,7 @@ ghost use Rattle.std.specs.Prelude.{◌≡◌, IfOk, OnOk, length};
 ghost use Rattle.cargo_toml_features.specs.InOrder.{HaveNoEnablers};
 ghost use Rattle.cargo_toml_resolve.specs.Holding.{AllTakeOver};
 ghost use Rattle.cargo_toml_resolve.specs.Placed.{ArePlaced};
-ghost use Rattle.cargo_toml_resolve.specs.Texts.{texts_of};
+ghost use Rattle.cargo_toml_resolve.specs.Texts.{texts_now};
 
 use crate::graph::{Graph, Walked};
 use crate::passing::pass_bins;
@@ -21,7 +21,7 @@ fn take_over_all<'m>(
 ) -> Result<(), AllocError>
     requires { length walked.now.redirects.items ≡ length features.old.items }
     ensures { OnOk result (AllTakeOver walked.now.flags.items walked.now.passed.items
-        walked.now.named.items (texts_of walked.now.texts.items)
+        walked.now.named.items (texts_now walked.now.texts.items)
         features.old.items features.new.items) }
 {
     let count = features.len();

@@ -6,10 +6,10 @@ ghost use Rattle.cargo_toml_graph.specs.Reach.{Among};
 ghost use Rattle.cargo_toml_full.specs.Ascending.{Ascend};
 ghost use Rattle.cargo_toml_features.specs.InOrder.{AreInOrder, AreTable, HaveNoEnablers};
 ghost use Rattle.cargo_toml_features.specs.InOrder.{resolution_among};
-ghost use Rattle.cargo_toml_features.specs.Views.{has_text};
-ghost use Rattle.cargo_toml_features.specs.Places.{text_at};
-ghost use Rattle.cargo_toml_resolve.specs.Enabling.{AreSameButEnablers, Enables, LeadsTo};
-ghost use Rattle.cargo_toml_resolve.specs.Texts.{texts_of};
+ghost use Rattle.cargo_toml_features.specs.Views.{set_has};
+ghost use Rattle.cargo_toml_features.specs.Places.{nth_text};
+ghost use Rattle.cargo_toml_resolve.specs.Enabling.{AreSameButEnablers, GainEnabler, LeadsTo};
+ghost use Rattle.cargo_toml_resolve.specs.Texts.{texts_now};
 
 use crate::numbering::{keys_of, push_actions, push_target};
 use cargo_toml_features::action::add_text;
@@ -27,10 +27,10 @@ fn push_names(
     own: Node,
     mut near: usize,
 ) -> Result<usize, AllocError>
-    requires { Ascend (texts_of keys.now) }
+    requires { Ascend (texts_now keys.now) }
     ensures { OnOk result ((x : ℕ) → Among row.new.items x ↔ (Among row.old.items x
         ⊎ ((x < length keys.now) × (x ≢ own)
-        × IsTrue (has_text named.now (text_at (texts_of keys.now) x))))) }
+        × IsTrue (set_has named.now (nth_text (texts_now keys.now) x))))) }
 {
     if named.is_empty() {
         return Ok(near);
@@ -60,10 +60,10 @@ fn push_each_target(
     own: Node,
     near: usize,
 ) -> Result<usize, AllocError>
-    requires { Ascend (texts_of keys.now) }
+    requires { Ascend (texts_now keys.now) }
     ensures { OnOk result ((x : ℕ) → Among row.new.items x ↔ (Among row.old.items x
         ⊎ ((x < length keys.now) × (x ≢ own)
-        × LeadsTo feature.now (text_at (texts_of keys.now) x)))) }
+        × LeadsTo feature.now (nth_text (texts_now keys.now) x)))) }
 {
     let near = push_names(row, &feature.enables_features, keys, own, near)?;
     push_actions(row, &feature.enables_deps, keys, own)?;
@@ -82,10 +82,10 @@ pub(crate) fn push_targets(
     own: Node,
     near: usize,
 ) -> Result<usize, AllocError>
-    requires { Ascend (texts_of keys.now) }
+    requires { Ascend (texts_now keys.now) }
     ensures { OnOk result ((x : ℕ) → Among row.new.items x ↔ (Among row.old.items x
         ⊎ ((x < length keys.now) × (x ≢ own)
-        × LeadsTo feature.now (text_at (texts_of keys.now) x)))) }
+        × LeadsTo feature.now (nth_text (texts_now keys.now) x)))) }
 {
     if leads_nowhere(feature) {
         return Ok(near);
@@ -101,7 +101,7 @@ pub(crate) fn enable_at<'m>(
 ) -> Result<(), AllocError>
     requires { at < length features.old.items }
     ensures { OnOk result
-        (Enables (λ y. y ≡ at) source.now features.old.items features.new.items) }
+        (GainEnabler (λ y. y ≡ at) source.now features.old.items features.new.items) }
 {
     let feature = &mut features[at.place()];
     add_text(&mut feature.enabled_by, source)?;
@@ -116,7 +116,7 @@ pub(crate) fn enable_along<'m>(
 ) -> Result<(), AllocError>
     requires { (y : ℕ) → Among row.now y → y < length features.old.items }
     ensures { OnOk result
-        (Enables (Among row.now) source.now features.old.items features.new.items) }
+        (GainEnabler (Among row.now) source.now features.old.items features.new.items) }
 {
     for at in row {
         enable_at(features, *at, source)?;

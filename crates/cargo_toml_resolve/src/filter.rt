@@ -4,7 +4,7 @@ ghost use Rattle.std.specs.Fn.{FnReturnsAt};
 ghost use Rattle.std.specs.List.{starts_with};
 ghost use Rattle.cargo_toml_graph.specs.Action.{Text};
 ghost use Rattle.cargo_toml_resolve.specs.Filter.{Answers, HasNameFilter, IsFlagOf, IsNameFilter};
-ghost use Rattle.cargo_toml_resolve.specs.Filter.{Tells};
+ghost use Rattle.cargo_toml_resolve.specs.Filter.{FilterTells};
 
 fn answer<F: Fn(&str) -> bool>(filter: &F, name: &str) -> bool
     requires { IsNameFilter F.Fn filter.now }
@@ -17,7 +17,8 @@ fn answer<F: Fn(&str) -> bool>(filter: &F, name: &str) -> bool
 fn is_kept<F: Fn(&str) -> bool>(filter: Option<&F>, name: &str) -> bool
     requires { HasNameFilter F.Fn filter }
     ensures answered { Answers F.Fn filter.entry name.now result }
-    ensures told { (keep : Text → Bool) → Tells F.Fn filter.entry keep → result ≡ keep name.now }
+    ensures told { (keep : Text → Bool) → FilterTells F.Fn filter.entry keep
+        → result ≡ keep name.now }
 {
     match filter {
         Some(filter) => answer(filter, name),
@@ -30,7 +31,7 @@ fn is_kept<F: Fn(&str) -> bool>(filter: Option<&F>, name: &str) -> bool
 pub fn is_hidden<F: Fn(&str) -> bool>(filter: Option<&F>, name: &str) -> bool
     requires { HasNameFilter F.Fn filter }
     ensures flag { IsFlagOf F.Fn filter.entry name.now result }
-    ensures told { (keep : Text → Bool) → Tells F.Fn filter.entry keep
+    ensures told { (keep : Text → Bool) → FilterTells F.Fn filter.entry keep
         → result ≡ (starts_with nat_eq name.now (codes "_") && not (keep name.now)) }
 {
     name.starts_with('_') && !is_kept(filter, name)

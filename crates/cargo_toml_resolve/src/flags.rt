@@ -2,7 +2,7 @@
 ghost use Rattle.std.specs.Prelude.{◌≡◌, ◌<◌, ℕ, IfOk, false, length};
 ghost use Rattle.std.specs.List.{slice_index_or};
 ghost use Rattle.cargo_toml_features.specs.InOrder.{names_of};
-ghost use Rattle.cargo_toml_features.specs.Places.{text_at};
+ghost use Rattle.cargo_toml_features.specs.Places.{nth_text};
 ghost use Rattle.cargo_toml_resolve.specs.Filter.{HasNameFilter, IsFlagOf};
 
 use crate::filter::is_hidden;
@@ -20,7 +20,7 @@ pub fn hidden_flags<F: Fn(&str) -> bool>(
     requires { HasNameFilter F.Fn filter }
     ensures len { IfOk result (λ v. length v.items ≡ length features.now) }
     ensures flags { IfOk result (λ v. (i : ℕ) → i < length features.now
-        → IsFlagOf F.Fn filter.entry (text_at (names_of features.now) i)
+        → IsFlagOf F.Fn filter.entry (nth_text (names_of features.now) i)
         (slice_index_or v.items i false)) }
 {
     let mut flags = Vec::with_capacity(alloc, features.len())?;

@@ -1,9 +1,9 @@
 //! Features as a graph of nodes, and what walks over it find.
 ghost use Rattle.std.specs.Prelude.{◌≡◌, ◌<◌, ◌≤◌, ℕ, IsTrue, length, true, false};
 ghost use Rattle.cargo_toml_graph.specs.Admitted.{is_below};
-ghost use Rattle.cargo_toml_features.specs.Places.{text_at};
+ghost use Rattle.cargo_toml_features.specs.Places.{nth_text};
 ghost use Rattle.cargo_toml_walk.specs.Numbers.{IsWanted, Leads};
-ghost use Rattle.cargo_toml_resolve.specs.Texts.{texts_of};
+ghost use Rattle.cargo_toml_resolve.specs.Texts.{texts_now};
 
 use cargo_toml_walk::node::Node;
 
@@ -22,9 +22,9 @@ pub struct Graph<'m> {
     /// For each node whether it is removed.
     pub flags: Vec<bool>,
     ghost once: { (i j : ℕ) → i < length texts.items → j < length texts.items
-        → text_at (texts_of texts.items) i ≡ text_at (texts_of texts.items) j → i ≡ j },
+        → nth_text (texts_now texts.items) i ≡ nth_text (texts_now texts.items) j → i ≡ j },
     ghost in_order: { (i j : ℕ) → i < j → j < length edges.items → IsTrue
-        (is_below (text_at (texts_of texts.items) i) (text_at (texts_of texts.items) j)) },
+        (is_below (nth_text (texts_now texts.items) i) (nth_text (texts_now texts.items) j)) },
     ghost features_count: { length edges.items ≤ length texts.items },
     ghost names_count: { length names.items ≡ length edges.items },
     ghost flags_count: { length flags.items ≡ length texts.items },
@@ -46,7 +46,7 @@ pub struct Walked<'m> {
     /// What stands for each removed feature.
     pub redirects: Vec<Vec<Node>>,
     ghost once: { (i j : ℕ) → i < length texts.items → j < length texts.items
-        → text_at (texts_of texts.items) i ≡ text_at (texts_of texts.items) j → i ≡ j },
+        → nth_text (texts_now texts.items) i ≡ nth_text (texts_now texts.items) j → i ≡ j },
     ghost features_count: { length redirects.items ≤ length texts.items },
     ghost flags_count: { length flags.items ≡ length texts.items },
     ghost passed_count: { length passed.items ≡ length redirects.items },

@@ -5,10 +5,10 @@ ghost use Rattle.std.specs.Option.{IsSomeAnd};
 ghost use Rattle.cargo_toml_graph.specs.Action.{Text};
 ghost use Rattle.cargo_toml_graph.specs.Reach.{Among};
 ghost use Rattle.cargo_toml_features.specs.Views.{value_at};
-ghost use Rattle.cargo_toml_features.specs.Places.{text_at};
-ghost use Rattle.cargo_toml_walk.specs.Numbers.{IsWanted, list_at};
-ghost use Rattle.cargo_toml_resolve.specs.Holding.{HasTexts};
-ghost use Rattle.cargo_toml_resolve.specs.Texts.{texts_of};
+ghost use Rattle.cargo_toml_features.specs.Places.{nth_text};
+ghost use Rattle.cargo_toml_walk.specs.Numbers.{IsWanted, row_items};
+ghost use Rattle.cargo_toml_resolve.specs.Holding.{HasTextsOf};
+ghost use Rattle.cargo_toml_resolve.specs.Texts.{texts_now};
 
 use crate::graph::Walked;
 use crate::taking_over::set_of_nodes;
@@ -27,7 +27,7 @@ fn put_redirect<'m, S: BuildHasher>(
 ) -> Result<(), AllocError>
     requires { (x : ℕ) → Among redirect.now x → x < length texts.now }
     ensures here { OnOk result
-        (IsSomeAnd (value_at hidden.new name.now) (HasTexts (texts_of texts.now) redirect.now)) }
+        (IsSomeAnd (value_at hidden.new name.now) (HasTextsOf (texts_now texts.now) redirect.now)) }
     ensures others { OnOk result ((q : Text) → IsFalse (bytes_eq name.now q)
         → value_at hidden.new q ≡ value_at hidden.old q) }
 {
@@ -46,11 +46,11 @@ pub fn hashed_redirects<'m, S: BuildHasher + Drop>(
     ensures there { IfOk result
         (λ m. (i : ℕ) → i < length walked.now.redirects.items
         → IsWanted walked.now.flags.items true i → IsSomeAnd
-        (value_at m (text_at (texts_of walked.now.texts.items) i))
-        (HasTexts (texts_of walked.now.texts.items) (list_at walked.now.redirects.items i))) }
+        (value_at m (nth_text (texts_now walked.now.texts.items) i))
+        (HasTextsOf (texts_now walked.now.texts.items) (row_items walked.now.redirects.items i))) }
     ensures only { IfOk result (λ m. (r : Text) → IsSome (value_at m r)
         → (i : ℕ) × (i < length walked.now.redirects.items)
-        × (text_at (texts_of walked.now.texts.items) i ≡ r)
+        × (nth_text (texts_now walked.now.texts.items) i ≡ r)
         × IsWanted walked.now.flags.items true i) }
 {
     let count = walked.flags.iter().filter(|flag| **flag).count();

@@ -1,7 +1,7 @@
 //! What several features do to dependencies, joined.
 ghost use Rattle.std.specs.Prelude.{◌≡◌, ◌||◌, if◌then◌else◌, None, Some, bytes_eq, OnOk};
 ghost use Rattle.cargo_toml_graph.specs.Action.{Text, join, join_option};
-ghost use Rattle.cargo_toml_features.specs.Views.{has_text, action_of, action_at};
+ghost use Rattle.cargo_toml_features.specs.Views.{set_has, action_of, action_at};
 
 use cargo_toml_features::features::DepAction;
 use std::alloc::{AllocError, Global};
@@ -12,8 +12,8 @@ pub fn add_all<'a>(
     texts: &mut BTreeSet<&'a str>,
     other: &BTreeSet<&'a str>,
 ) -> Result<(), AllocError>
-    ensures { OnOk result ((x : Text) → has_text texts.new x
-        ≡ (has_text texts.old x || has_text other.now x)) }
+    ensures { OnOk result ((x : Text) → set_has texts.new x
+        ≡ (set_has texts.old x || set_has other.now x)) }
 {
     for text in other.iter() {
         texts.insert(*text)?;

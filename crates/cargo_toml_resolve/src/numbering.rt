@@ -6,13 +6,13 @@ ghost use Rattle.cargo_toml_graph.specs.Graph.{IsPlain};
 ghost use Rattle.cargo_toml_graph.specs.Reach.{Among};
 ghost use Rattle.cargo_toml_full.specs.Ascending.{Ascend};
 ghost use Rattle.cargo_toml_features.specs.InOrder.{AreInOrder, names_of, table_among};
-ghost use Rattle.cargo_toml_features.specs.Views.{action_at, action_of, has_text};
+ghost use Rattle.cargo_toml_features.specs.Views.{action_at, action_of, set_has};
 ghost use Rattle.cargo_toml_walk.specs.Numbers.{IsWanted, Leads};
-ghost use Rattle.cargo_toml_features.specs.Places.{text_at};
+ghost use Rattle.cargo_toml_features.specs.Places.{nth_text};
 ghost use Rattle.cargo_toml_resolve.specs.NumberedTables.{IsNaming, IsNumbered};
 ghost use Rattle.cargo_toml_resolve.specs.Numbering.{AreParted, AreTextsOf, IsFlagged};
 ghost use Rattle.cargo_toml_resolve.specs.Numbering.{IsNamedBy, IsPicked, IsTarget};
-ghost use Rattle.cargo_toml_resolve.specs.Texts.{texts_of};
+ghost use Rattle.cargo_toml_resolve.specs.Texts.{texts_now};
 
 use crate::enabling::push_targets;
 use crate::graph::Graph;
@@ -29,7 +29,7 @@ pub(crate) fn keys_of<'m>(
     alloc: Global,
     features: &[Feature<'m>],
 ) -> Result<Vec<&'m str>, AllocError>
-    ensures { IfOk result (λ v. texts_of v.items ≡ names_of features.now) }
+    ensures { IfOk result (λ v. texts_now v.items ≡ names_of features.now) }
 {
     let mut keys = Vec::with_capacity(alloc, features.len())?;
     for feature in features {
@@ -46,10 +46,10 @@ fn push_others<'m>(
     keys: &[&'m str],
     mut near: usize,
 ) -> Result<usize, AllocError>
-    requires { Ascend (texts_of keys.now) }
-    ensures { OnOk result ((x : Text) → Among (texts_of others.new.items) x
-        ↔ (Among (texts_of others.old.items) x
-        ⊎ (IsTrue (has_text named.now x) × (¬ Among (texts_of keys.now) x)))) }
+    requires { Ascend (texts_now keys.now) }
+    ensures { OnOk result ((x : Text) → Among (texts_now others.new.items) x
+        ↔ (Among (texts_now others.old.items) x
+        ⊎ (IsTrue (set_has named.now x) × (¬ Among (texts_now keys.now) x)))) }
 {
     for name in named.iter() {
         if let Some(place) = place_near(keys, *name, near) {
@@ -69,12 +69,12 @@ fn others_of<'m>(
     keys: &[&'m str],
 ) -> Result<Vec<&'m str>, AllocError>
     requires naming { length naming.now ≡ length features.now }
-    requires keys { Ascend (texts_of keys.now) }
-    ensures all { IfOk result (λ v. (x : Text) → Among (texts_of v.items) x
+    requires keys { Ascend (texts_now keys.now) }
+    ensures all { IfOk result (λ v. (x : Text) → Among (texts_now v.items) x
         ↔ (IsNamedBy naming.now features.now (length features.now) x
-        × (¬ Among (texts_of keys.now) x))) }
+        × (¬ Among (texts_now keys.now) x))) }
     ensures ascending { IfOk result
-        (λ v. Ascend (texts_of v.items)) }
+        (λ v. Ascend (texts_now v.items)) }
 {
     let mut others = Vec::new(alloc);
     let mut near = 0;
@@ -95,8 +95,8 @@ fn all_texts<'m>(
 ) -> Result<Vec<&'m str>, AllocError>
     requires in_order { AreInOrder features.now }
     requires naming { length naming.now ≡ length features.now }
-    requires keys { texts_of keys.items ≡ names_of features.now }
-    ensures { IfOk result (λ v. AreTextsOf naming.now features.now (texts_of v.items)) }
+    requires keys { texts_now keys.items ≡ names_of features.now }
+    ensures { IfOk result (λ v. AreTextsOf naming.now features.now (texts_now v.items)) }
 {
     let others = others_of(alloc, features, naming, keys.as_slice())?;
     keys.extend_from_slice(others.as_slice())?;
@@ -106,10 +106,10 @@ fn all_texts<'m>(
 // The node of a text: its place among the first `count` texts, or else among those after them. It
 // is looked for at `near` first.
 fn node_of(texts: &[&str], count: usize, text: &str, near: usize) -> Option<Node>
-    requires { AreParted count (texts_of texts.now) }
+    requires { AreParted count (texts_now texts.now) }
     ensures found { IfSome result
-        (λ i. (i < length texts.now) × (text_at (texts_of texts.now) i ≡ text.now)) }
-    ensures missing { result ≡ None → ¬ Among (texts_of texts.now) text.now }
+        (λ i. (i < length texts.now) × (nth_text (texts_now texts.now) i ≡ text.now)) }
+    ensures missing { result ≡ None → ¬ Among (texts_now texts.now) text.now }
 {
     if let Some(place) = place_near(&texts[..count], text, near) {
         return Some(Node::at(place));
@@ -126,9 +126,10 @@ fn name_row(
     count: usize,
     mut near: usize,
 ) -> Result<Vec<Node>, AllocError>
-    requires { AreParted count (texts_of texts.now) }
+    requires { AreParted count (texts_now texts.now) }
     ensures { IfOk result (λ row. (x : ℕ) → Among row.items x
-        ↔ ((x < length texts.now) × IsTrue (has_text named.now (text_at (texts_of texts.now) x)))) }
+        ↔ ((x < length texts.now)
+        × IsTrue (set_has named.now (nth_text (texts_now texts.now) x)))) }
 {
     let mut row = Vec::with_capacity(alloc, named.len())?;
     for name in named.iter() {
@@ -156,11 +157,11 @@ fn name_rows(
     texts: &[&str],
 ) -> Result<Vec<Vec<Node>>, AllocError>
     requires naming { length naming.now ≡ length features.now }
-    requires texts { AreParted (length features.now) (texts_of texts.now) }
+    requires texts { AreParted (length features.now) (texts_now texts.now) }
     ensures len { IfOk result (λ rows. length rows.items ≡ length features.now) }
     ensures rows { IfOk result (λ rows. (i x : ℕ) → i < length features.now
         → Leads rows.items i x ↔ ((x < length texts.now)
-        × IsPicked naming.now features.now i (text_at (texts_of texts.now) x))) }
+        × IsPicked naming.now features.now i (nth_text (texts_now texts.now) x))) }
 {
     let mut rows = Vec::with_capacity(alloc, features.len())?;
     let mut near = 0;
@@ -186,9 +187,9 @@ pub(crate) fn push_target(
     own: Node,
     near: usize,
 ) -> Result<usize, AllocError>
-    requires { Ascend (texts_of keys.now) }
+    requires { Ascend (texts_now keys.now) }
     ensures { OnOk result ((x : ℕ) → Among row.new.items x ↔ (Among row.old.items x
-        ⊎ ((x < length keys.now) × (x ≢ own) × (text_at (texts_of keys.now) x ≡ key.now)))) }
+        ⊎ ((x < length keys.now) × (x ≢ own) × (nth_text (texts_now keys.now) x ≡ key.now)))) }
 {
     let Some(place) = place_near(keys, key, near) else {
         return Ok(near);
@@ -215,10 +216,10 @@ fn push_each_action(
     keys: &[&str],
     own: Node,
 ) -> Result<(), AllocError>
-    requires { Ascend (texts_of keys.now) }
+    requires { Ascend (texts_now keys.now) }
     ensures { OnOk result ((x : ℕ) → Among row.new.items x ↔ (Among row.old.items x
         ⊎ ((x < length keys.now) × (x ≢ own)
-        × IsPlain (action_at actions.now (text_at (texts_of keys.now) x))))) }
+        × IsPlain (action_at actions.now (nth_text (texts_now keys.now) x))))) }
 {
     let mut near = own.place();
     for (key, action) in actions.iter() {
@@ -236,10 +237,10 @@ pub(crate) fn push_actions(
     keys: &[&str],
     own: Node,
 ) -> Result<(), AllocError>
-    requires { Ascend (texts_of keys.now) }
+    requires { Ascend (texts_now keys.now) }
     ensures { OnOk result ((x : ℕ) → Among row.new.items x
         ↔ (Among row.old.items x ⊎ ((x < length keys.now) × (x ≢ own)
-        × IsPlain (action_at actions.now (text_at (texts_of keys.now) x))))) }
+        × IsPlain (action_at actions.now (nth_text (texts_now keys.now) x))))) }
 {
     // Most features act on nothing, and to begin a walk over an empty map costs more than this.
     if actions.is_empty() {
@@ -254,10 +255,10 @@ fn edge_rows(
     features: &[Feature<'_>],
     keys: &[&str],
 ) -> Result<Vec<Vec<Node>>, AllocError>
-    requires { Ascend (texts_of keys.now) }
+    requires { Ascend (texts_now keys.now) }
     ensures len { IfOk result (λ rows. length rows.items ≡ length features.now) }
     ensures rows { IfOk result (λ rows. (i x : ℕ) → i < length features.now → Leads rows.items i x
-        ↔ ((x < length keys.now) × IsTarget features.now (texts_of keys.now) i x)) }
+        ↔ ((x < length keys.now) × IsTarget features.now (texts_now keys.now) i x)) }
 {
     let mut rows = Vec::with_capacity(alloc, features.len())?;
     let mut near = 0;
@@ -308,10 +309,10 @@ pub fn number<'m>(
     requires len { length flags.now ≡ length features.now }
     ensures numbered { IfOk result
         (λ g. IsNumbered (table_among features.now) (IsFlagged features.now flags.now)
-        (texts_of g.texts.items) g.edges.items g.names.items g.flags.items) }
+        (texts_now g.texts.items) g.edges.items g.names.items g.flags.items) }
     ensures count { IfOk result (λ g. length g.edges.items ≡ length features.now) }
     ensures vertices { IfOk result (λ g. (i : ℕ) → i < length features.now →
-        text_at (texts_of g.texts.items) i ≡ text_at (names_of features.now) i) }
+        nth_text (texts_now g.texts.items) i ≡ nth_text (names_of features.now) i) }
 {
     let keys = keys_of(alloc, features)?;
     let edges = edge_rows(alloc, features, keys.as_slice())?;

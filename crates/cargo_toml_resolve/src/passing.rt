@@ -4,13 +4,13 @@ ghost use Rattle.std.specs.Prelude.{bytes_eq, false, length, nat_eq, not, take, 
 ghost use Rattle.std.specs.Prelude.{OnOk};
 ghost use Rattle.cargo_toml_graph.specs.Action.{Text};
 ghost use Rattle.cargo_toml_graph.specs.Reach.{Among};
-ghost use Rattle.cargo_toml_graph.specs.Removal.{put_all};
-ghost use Rattle.cargo_toml_features.specs.Views.{has_text};
+ghost use Rattle.cargo_toml_graph.specs.Removal.{put_each};
+ghost use Rattle.cargo_toml_features.specs.Views.{set_has};
 ghost use Rattle.cargo_toml_walk.specs.Numbers.{IsWanted};
 ghost use Rattle.cargo_toml_resolve.specs.KnownBins.{AreKnown, Knows, MayKnow};
 ghost use Rattle.cargo_toml_resolve.specs.Passing.{bins_of, passed_below, AreSameButBins};
 ghost use Rattle.cargo_toml_resolve.specs.Puts.{Puts};
-ghost use Rattle.cargo_toml_resolve.specs.Texts.{texts_of};
+ghost use Rattle.cargo_toml_resolve.specs.Texts.{texts_now};
 
 use cargo_toml_features::features::Feature;
 use cargo_toml_full::sets::set_of;
@@ -24,7 +24,7 @@ const MAX_PASSED_BINS: usize = 10;
 /// A copy of the first ten, since the lists may change while it is read. It fails only where memory
 /// runs out.
 pub fn first_ten<'m>(bins: &Vec<&'m str>) -> Result<Vec<&'m str>, AllocError>
-    ensures { IfOk result (λ v. texts_of v.items ≡ take 10 (texts_of bins.now.items)) }
+    ensures { IfOk result (λ v. texts_now v.items ≡ take 10 (texts_now bins.now.items)) }
 {
     let count = bins.len().min(MAX_PASSED_BINS);
     bins[..count].to_vec(*bins.allocator())
@@ -32,7 +32,7 @@ pub fn first_ten<'m>(bins: &Vec<&'m str>) -> Result<Vec<&'m str>, AllocError>
 
 // The binaries of a list, as a set.
 fn known_in<'m>(bins: &Vec<&'m str>) -> Result<BTreeSet<&'m str>, AllocError>
-    ensures { IfOk result (λ s. Knows s (texts_of bins.now.items)) }
+    ensures { IfOk result (λ s. Knows s (texts_now bins.now.items)) }
 {
     set_of(*bins.allocator(), bins.as_slice())
 }
@@ -54,8 +54,8 @@ fn known_bins<'m>(
 
 // The set is filled, unless it is already.
 fn know<'m>(known: &mut BTreeSet<&'m str>, bins: &Vec<&'m str>) -> Result<(), AllocError>
-    requires { MayKnow known.old (texts_of bins.now.items) }
-    ensures { OnOk result (Knows known.new (texts_of bins.now.items)) }
+    requires { MayKnow known.old (texts_now bins.now.items) }
+    ensures { OnOk result (Knows known.new (texts_now bins.now.items)) }
 {
     if known.is_empty() {
         *known = known_in(bins)?;
@@ -65,9 +65,9 @@ fn know<'m>(known: &mut BTreeSet<&'m str>, bins: &Vec<&'m str>) -> Result<(), Al
 
 // The binary is put into the set; the answer says whether it wasn't there.
 fn add_known<'m>(known: &mut BTreeSet<&'m str>, bin: &'m str) -> Result<bool, AllocError>
-    ensures is_new { IfOk result (λ is_new. is_new ≡ not (has_text known.old bin.now)) }
-    ensures added { OnOk result ((x : Text) → has_text known.new x
-        ≡ (has_text known.old x || bytes_eq x bin.now)) }
+    ensures is_new { IfOk result (λ is_new. is_new ≡ not (set_has known.old bin.now)) }
+    ensures added { OnOk result ((x : Text) → set_has known.new x
+        ≡ (set_has known.old x || bytes_eq x bin.now)) }
 {
     Ok(known.insert(bin)?)
 }
@@ -79,10 +79,10 @@ fn put_bin<'m>(
     known: &mut BTreeSet<&'m str>,
     bin: &'m str,
 ) -> Result<(), AllocError>
-    requires { Knows known.old (texts_of own.old.items) }
-    ensures put { OnOk result (texts_of own.new.items
-        ≡ put_all (texts_of own.old.items) (bin.now ∷ [])) }
-    ensures known { OnOk result (Knows known.new (texts_of own.new.items)) }
+    requires { Knows known.old (texts_now own.old.items) }
+    ensures put { OnOk result (texts_now own.new.items
+        ≡ put_each (texts_now own.old.items) (bin.now ∷ [])) }
+    ensures known { OnOk result (Knows known.new (texts_now own.new.items)) }
 {
     if add_known(known, bin)? {
         own.push(bin)?;
@@ -96,10 +96,10 @@ fn put_bins<'m>(
     known: &mut BTreeSet<&'m str>,
     bins: &[&'m str],
 ) -> Result<(), AllocError>
-    requires { Knows known.old (texts_of own.old.items) }
-    ensures put { OnOk result (texts_of own.new.items
-        ≡ put_all (texts_of own.old.items) (texts_of bins.now)) }
-    ensures known { OnOk result (Knows known.new (texts_of own.new.items)) }
+    requires { Knows known.old (texts_now own.old.items) }
+    ensures put { OnOk result (texts_now own.new.items
+        ≡ put_each (texts_now own.old.items) (texts_now bins.now)) }
+    ensures known { OnOk result (Knows known.new (texts_now own.new.items)) }
 {
     for bin in bins {
         put_bin(own, known, *bin)?;
@@ -116,7 +116,7 @@ fn put_at<'m>(
     requires at { at < length features.old.items }
     requires known { AreKnown known.old.items features.old.items }
     ensures put { OnOk result
-        (Puts (λ y. y ≡ at) (texts_of bins.now) features.old.items features.new.items) }
+        (Puts (λ y. y ≡ at) (texts_now bins.now) features.old.items features.new.items) }
     ensures known { OnOk result (AreKnown known.new.items features.new.items) }
 {
     let feature = &mut features[at.place()];
@@ -135,7 +135,7 @@ fn put_along<'m>(
 ) -> Result<(), AllocError>
     requires { AreKnown known.old.items features.old.items }
     ensures put { OnOk result
-        (Puts (Among row.now) (texts_of bins.now) features.old.items features.new.items) }
+        (Puts (Among row.now) (texts_now bins.now) features.old.items features.new.items) }
     ensures known { OnOk result (AreKnown known.new.items features.new.items) }
 {
     for at in row {

@@ -2,10 +2,10 @@
 //! through removed ones.
 ghost use Rattle.std.specs.Prelude.{◌≡◌, ◌<◌, ◌≤◌, ◌↔◌, ℕ, OnOk, false, length};
 ghost use Rattle.cargo_toml_graph.specs.Reach.{Among};
-ghost use Rattle.cargo_toml_features.specs.Places.{text_at};
+ghost use Rattle.cargo_toml_features.specs.Places.{nth_text};
 ghost use Rattle.cargo_toml_walk.specs.Numbers.{HasLabel, IsWanted, Leads};
-ghost use Rattle.cargo_toml_resolve.specs.Enabling.{Enables, LearnThrough};
-ghost use Rattle.cargo_toml_resolve.specs.Texts.{texts_of};
+ghost use Rattle.cargo_toml_resolve.specs.Enabling.{GainEnabler, LearnThrough};
+ghost use Rattle.cargo_toml_resolve.specs.Texts.{texts_now};
 ghost use Rattle.cargo_toml_resolve.specs.Walking.{ArePassed};
 
 use crate::enabling::{enable_along, enable_at};
@@ -24,7 +24,7 @@ fn enable_kept<'m>(
 ) -> Result<(), AllocError>
     requires fits { length features.old.items ≤ length is_removed.now }
     requires inside { (y : ℕ) → Among row.now y → y < length features.old.items }
-    ensures { OnOk result (Enables (λ y. Among row.now y × IsWanted is_removed.now false y)
+    ensures { OnOk result (GainEnabler (λ y. Among row.now y × IsWanted is_removed.now false y)
         source.now features.old.items features.new.items) }
 {
     for at in row {
@@ -45,7 +45,7 @@ fn enable_from<'m>(
 ) -> Result<(), AllocError>
     requires count { length graph.now.edges.items ≡ length features.old.items }
     requires from { from < length graph.now.edges.items }
-    ensures { OnOk result (Enables (λ y. Leads graph.now.edges.items from y
+    ensures { OnOk result (GainEnabler (λ y. Leads graph.now.edges.items from y
         × IsWanted graph.now.flags.items false y)
         source.now features.old.items features.new.items) }
 {
@@ -66,8 +66,8 @@ fn enable_through<'m>(
     requires own { own < length graph.now.edges.items }
     requires targets { ((b : ℕ) × Among passed.now b) → (x : ℕ) → Among targets.now x
         ↔ HasLabel (Among passed.now) graph.now.edges.items graph.now.flags.items own x }
-    ensures { OnOk result (Enables (HasLabel (Among passed.now) graph.now.edges.items
-        graph.now.flags.items own) (text_at (texts_of graph.now.texts.items) own)
+    ensures { OnOk result (GainEnabler (HasLabel (Among passed.now) graph.now.edges.items
+        graph.now.flags.items own) (nth_text (texts_now graph.now.texts.items) own)
         features.old.items features.new.items) }
 {
     let source = graph.texts[own.place()];
@@ -91,7 +91,7 @@ pub(crate) fn set_kept_enablers<'m>(
     requires passed { ArePassed graph.now.edges.items graph.now.names.items graph.now.flags.items
         passed.now }
     ensures { OnOk result (LearnThrough graph.now.edges.items graph.now.flags.items
-        (texts_of graph.now.texts.items) (length graph.now.edges.items)
+        (texts_now graph.now.texts.items) (length graph.now.edges.items)
         features.old.items features.new.items) }
 {
     // Each target once: to look for a source among its enablers costs more than to walk.

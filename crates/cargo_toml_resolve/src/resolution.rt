@@ -2,8 +2,8 @@
 ghost use Rattle.std.specs.Prelude.{map, IfOk};
 ghost use Rattle.cargo_toml_graph.specs.Reach.{IsOnce};
 ghost use Rattle.cargo_toml_features.specs.FirstTarget.{HaveTargets};
-ghost use Rattle.cargo_toml_full.specs.OwnBins.{own_of, requirement_of};
-ghost use Rattle.cargo_toml_features.specs.Marks.{details_of};
+ghost use Rattle.cargo_toml_full.specs.OwnBins.{own_of, bin_requirement};
+ghost use Rattle.cargo_toml_features.specs.Marks.{named_details};
 ghost use Rattle.cargo_toml_features.specs.Reached.{IsKeyed};
 ghost use Rattle.cargo_toml_features.specs.Views.{listed_of, answer_of, entry_of};
 ghost use Rattle.cargo_toml_resolve.specs.Filter.{HasNameFilter};
@@ -37,8 +37,8 @@ pub fn resolve<'m: 'd, 'd, F: Fn(&str) -> bool, S: BuildHasher + Clone>(
     requires once { IsOnce (map (λ l. l.name.now) listings.now) }
     requires filter { HasNameFilter F.Fn filter }
     ensures resolved { IfOk result (λ a. IsAnswerBy F.Fn filter.entry
-        (listed_of listings.now) (map entry_of entries.now) (details_of listings.now)
-        (own_of (map requirement_of requirements.now)) (answer_of a)) }
+        (listed_of listings.now) (map entry_of entries.now) (named_details listings.now)
+        (own_of (map bin_requirement requirements.now)) (answer_of a)) }
     ensures keyed { IfOk result (λ a. IsKeyed a.features) }
     ensures targets { IfOk result (λ a. HaveTargets a.dependencies) }
 {

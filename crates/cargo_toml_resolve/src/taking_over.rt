@@ -4,11 +4,11 @@ ghost use Rattle.std.specs.Prelude.{map};
 ghost use Rattle.cargo_toml_graph.specs.Action.{Text, IsJoin};
 ghost use Rattle.cargo_toml_graph.specs.Reach.{Among};
 ghost use Rattle.cargo_toml_features.specs.Views.{action_at};
-ghost use Rattle.cargo_toml_features.specs.Places.{text_at};
-ghost use Rattle.cargo_toml_walk.specs.Numbers.{IsWanted, list_at};
-ghost use Rattle.cargo_toml_resolve.specs.Holding.{DoesAt, HasTexts};
+ghost use Rattle.cargo_toml_features.specs.Places.{nth_text};
+ghost use Rattle.cargo_toml_walk.specs.Numbers.{IsWanted, row_items};
+ghost use Rattle.cargo_toml_resolve.specs.Holding.{DoesAt, HasTextsOf};
 ghost use Rattle.cargo_toml_resolve.specs.TakingOver.{ChangesIn, TakesActions, TakesOver};
-ghost use Rattle.cargo_toml_resolve.specs.Texts.{texts_of};
+ghost use Rattle.cargo_toml_resolve.specs.Texts.{texts_now};
 
 use crate::graph::Walked;
 use crate::joining::add_actions;
@@ -23,7 +23,8 @@ use std::mem;
 // The texts of nodes, in their order.
 fn list_of<'m>(alloc: Global, nodes: &[Node], texts: &[&'m str]) -> Result<Vec<&'m str>, AllocError>
     requires { (x : ℕ) → Among nodes.now x → x < length texts.now }
-    ensures { IfOk result (λ v. texts_of v.items ≡ map (text_at (texts_of texts.now)) nodes.now) }
+    ensures { IfOk result
+        (λ v. texts_now v.items ≡ map (nth_text (texts_now texts.now)) nodes.now) }
 {
     let mut list = Vec::with_capacity(alloc, nodes.len())?;
     for x in nodes {
@@ -39,7 +40,7 @@ fn few_of<'m>(
     texts: &[&'m str],
 ) -> Result<BTreeSet<&'m str>, AllocError>
     requires { (x : ℕ) → Among nodes.now x → x < length texts.now }
-    ensures { IfOk result (HasTexts (texts_of texts.now) nodes.now) }
+    ensures { IfOk result (HasTextsOf (texts_now texts.now) nodes.now) }
 {
     let mut set = BTreeSet::new(alloc);
     for x in nodes {
@@ -55,7 +56,7 @@ fn many_of<'m>(
     texts: &[&'m str],
 ) -> Result<BTreeSet<&'m str>, AllocError>
     requires { (x : ℕ) → Among nodes.now x → x < length texts.now }
-    ensures { IfOk result (HasTexts (texts_of texts.now) nodes.now) }
+    ensures { IfOk result (HasTextsOf (texts_now texts.now) nodes.now) }
 {
     let list = list_of(alloc, nodes, texts)?;
     set_of(alloc, list.as_slice())
@@ -68,7 +69,7 @@ pub(crate) fn set_of_nodes<'m>(
     texts: &[&'m str],
 ) -> Result<BTreeSet<&'m str>, AllocError>
     requires { (x : ℕ) → Among nodes.now x → x < length texts.now }
-    ensures { IfOk result (HasTexts (texts_of texts.now) nodes.now) }
+    ensures { IfOk result (HasTextsOf (texts_now texts.now) nodes.now) }
 {
     if nodes.len() <= FEW {
         few_of(alloc, nodes, texts)
@@ -130,8 +131,8 @@ pub(crate) fn take_over<'m>(
     requires at { at < length features.old.items }
     requires kept { IsWanted walked.now.flags.items false at }
     ensures { OnOk result (ChangesIn
-        (TakesOver features.old.items (texts_of walked.now.texts.items) at
-        (list_at walked.now.passed.items at) (list_at walked.now.named.items at)) at
+        (TakesOver features.old.items (texts_now walked.now.texts.items) at
+        (row_items walked.now.passed.items at) (row_items walked.now.named.items at)) at
         features.old.items features.new.items) }
 {
     let passed = walked.passed[at.place()].as_slice();

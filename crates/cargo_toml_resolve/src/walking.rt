@@ -1,7 +1,7 @@
 //! Walks over a graph find what removed features pass on to others.
 ghost use Rattle.std.specs.Prelude.{◌≡◌, IfOk, OnOk, length};
 ghost use Rattle.cargo_toml_resolve.specs.Enabling.{LearnThrough};
-ghost use Rattle.cargo_toml_resolve.specs.Texts.{texts_of};
+ghost use Rattle.cargo_toml_resolve.specs.Texts.{texts_now};
 ghost use Rattle.cargo_toml_resolve.specs.Walking.{IsWalked};
 
 use crate::graph::{Graph, Walked};
@@ -22,7 +22,7 @@ pub(crate) fn walk<'m>(
     requires { length graph.edges.items ≡ length features.old.items }
     ensures walked { IfOk result (IsWalked graph.entry) }
     ensures learnt { OnOk result (LearnThrough graph.entry.edges.items graph.entry.flags.items
-        (texts_of graph.entry.texts.items) (length graph.entry.edges.items)
+        (texts_now graph.entry.texts.items) (length graph.entry.edges.items)
         features.old.items features.new.items) }
 {
     let passed = all_passed(alloc, graph.edges.as_slice(), graph.flags.as_slice())?;

@@ -4,7 +4,7 @@ use Rattle.cargo_toml_graph.specs.Action.{Text}
 use Rattle.cargo_toml_graph.specs.Admitted.{Listed}
 use Rattle.cargo_toml_graph.specs.Bins.{IsComplete}
 use Rattle.cargo_toml_graph.proofs.InByteOrder.{ascending_once, passed_complete}
-use Rattle.cargo_toml_features.specs.Marks.{Details}
+use Rattle.cargo_toml_features.specs.Marks.{NamedDetails}
 use Rattle.cargo_toml_features.specs.Recorded.{Entry}
 use Rattle.cargo_toml_features.specs.Resolved.{Answer, table_of}
 use Rattle.cargo_toml_resolve.specs.Removed.{IsAnswerWithout}
@@ -12,7 +12,7 @@ use Rattle.cargo_toml_resolve.proofs.ByFilter.{answer_alike}
 use Rattle.cargo_toml_full.specs.OwnBins.{own_of}
 use Rattle.cargo_toml_resolver.proofs.Mentions.{mentions_counted}
 
-module _ (listed : Listed) (entries : List Entry) (details : Details) (required : List (Text × Text)) (R : Text → Type 0) (a : Answer)
+module _ (listed : Listed) (entries : List Entry) (details : NamedDetails) (required : List (Text × Text)) (R : Text → Type 0) (a : Answer)
     (there : (r : Text) → R r → IsTrue ((table_of listed entries).has r)) (h : IsAnswerWithout listed entries details (own_of required) R a) where
   -- what something stands for
   abbrev removed : Text → Bool

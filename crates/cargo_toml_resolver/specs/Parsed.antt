@@ -13,7 +13,7 @@ use Rattle.cargo_toml_manifest.specs.Inheriting.{own_tables}
 use Rattle.cargo_toml_manifest.specs.Manifests.{ManifestMeaning}
 use Rattle.cargo_toml_features.specs.Entries.{entries_of}
 use Rattle.cargo_toml_full.specs.OwnBins.{own_of}
-use Rattle.cargo_toml_features.specs.Marks.{Details}
+use Rattle.cargo_toml_features.specs.Marks.{NamedDetails}
 use Rattle.cargo_toml_features.specs.Recorded.{Entry}
 use Rattle.cargo_toml_features.specs.Resolved.{Answer, IsAnswer, table_of}
 use Rattle.cargo_toml_resolve.specs.Filter.{Asked}
@@ -39,7 +39,7 @@ pub record IsHiding (IsFull : Answer → Type 0) (a : Answer) : Type 0 where
 module _ (limit : ℕ) where
   -- the answer for features in byte order of their names, these entries, what is said of features
   -- beside and what binaries require, where the names are kept that `keep` is true of
-  abbrev pub IsAnswerFor : Listed → List Entry → Details → (Text → List Text) → (Text → Bool)
+  abbrev pub IsAnswerFor : Listed → List Entry → NamedDetails → (Text → List Text) → (Text → Bool)
       → Answer → Type 0
   IsAnswerFor listed entries details own keep a =
       IsAnswer (admitted limit listed) entries details own keep a

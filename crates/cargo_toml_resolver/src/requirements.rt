@@ -2,7 +2,7 @@
 ghost use Rattle.std.specs.Prelude.{◌≡◌, ◌++◌, IfOk, OnOk, map};
 ghost use Rattle.std.specs.List.{flat_map};
 ghost use Rattle.cargo_toml_manifest.specs.Manifests.{held};
-ghost use Rattle.cargo_toml_full.specs.OwnBins.{requirement_of};
+ghost use Rattle.cargo_toml_full.specs.OwnBins.{bin_requirement};
 ghost use Rattle.cargo_toml_tables.specs.Products.{product_meaning};
 ghost use Rattle.cargo_toml_resolver.specs.Parsed.{requirements, requirements_by};
 
@@ -17,8 +17,8 @@ fn add_requirements<'m>(
     bin: &'m Product,
     package_name: &'m str,
 ) -> Result<(), AllocError>
-    ensures { OnOk result (map requirement_of requirements.new.items
-        ≡ map requirement_of requirements.old.items
+    ensures { OnOk result (map bin_requirement requirements.new.items
+        ≡ map bin_requirement requirements.old.items
         ++ requirements_by package_name.now (product_meaning bin.now)) }
 {
     let name = bin.name.as_deref().unwrap_or(package_name);
@@ -37,7 +37,7 @@ fn requirements_of<'m>(
     bins: &'m [Product],
     package_name: &'m str,
 ) -> Result<Vec<Requirement<'m>>, AllocError>
-    ensures { IfOk result (λ v. map requirement_of v.items
+    ensures { IfOk result (λ v. map bin_requirement v.items
         ≡ flat_map (requirements_by package_name.now) (map product_meaning bins.now)) }
 {
     let mut requirements = Vec::new(alloc);
@@ -54,7 +54,7 @@ pub fn requirements<'m, M>(
     manifest: &'m Manifest<M>,
 ) -> Result<Vec<Requirement<'m>>, AllocError>
     ensures { IfOk result
-        (λ v. map requirement_of v.items ≡ requirements (held manifest.now)) }
+        (λ v. map bin_requirement v.items ≡ requirements (held manifest.now)) }
 {
     match &manifest.package {
         Some(package) => requirements_of(alloc, manifest.bin.as_slice(), package.name.as_str()),

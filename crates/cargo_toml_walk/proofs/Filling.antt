@@ -2,7 +2,7 @@
 use Rattle.std.proofs.Common.{◌≡◌, ◌⊎◌, ◌↔◌, ◌<◌, ◌+◌, ℕ, zero, suc, List, [], ◌∷◌, ◌++◌, length, get_or, Vec, refl, sym, ap, subst, inl, inr, ◌∙◌, arith, length-append}
 use Rattle.std.proofs.lemmas.Bool.{cases_eq}
 use Rattle.cargo_toml_graph.specs.Reach.{Among}
-use Rattle.cargo_toml_walk.specs.Numbers.{IsFresh, Leads, OldStamps, Past}
+use Rattle.cargo_toml_walk.specs.Numbers.{IsUnused, Leads, OldStamps, Past}
 
 -- what stands in a row once one more is put at the end
 pub list_push : {Z : Type 0} (rows : List (Vec ℕ Z)) (v : Vec ℕ Z) (a b : ℕ) → Leads (rows ++ v ∷ []) a b ↔ (((a < length rows) × Leads rows a b) ⊎ ((a ≡ length rows) × Among v.items b))
@@ -71,7 +71,7 @@ past_later e n m past x lt = elim (past x lt) [ inl b ↦ inl (below (get_or m x
     below : (y : ℕ) → y < e → y < e + 1
     below y lt = omega arith
 
-pub fresh_past : (e n : ℕ) (m : List ℕ) → Past e n m → e < n → IsFresh e m
+pub fresh_past : (e n : ℕ) (m : List ℕ) → Past e n m → e < n → IsUnused e m
 fresh_past e n m past lt x s = elim (past x s.0) [ inl b ↦ apart (get_or m x 0) s.1 b | inr is ↦ at (get_or m x 0) s.1 is ]
   where
     apart : (y : ℕ) → y ≡ e → y < e → ⊥

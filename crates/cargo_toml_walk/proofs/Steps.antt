@@ -5,7 +5,7 @@ use Rattle.std.proofs.lemmas.List.{get_or-set_same, get_or-set_other, take-appen
 use Rattle.std.proofs.lemmas.List.Sums.{sum_by-set}
 use Rattle.std.proofs.lemmas.Bool.Decides.{nat_tests}
 use Rattle.cargo_toml_graph.specs.Reach.{Among}
-use Rattle.cargo_toml_walk.specs.Numbers.{IsWanted, list_at, IsStamped, Marks, OldStamps, Visits, unmet}
+use Rattle.cargo_toml_walk.specs.Numbers.{IsWanted, row_items, IsStamped, AreStamped, OldStamps, FindsNamed, unmet}
 
 pub among_first : (xs ys : List ℕ) (x : ℕ) → Among xs x → Among (xs ++ ys) x
 among_first [] ys x i = absurd i
@@ -22,9 +22,9 @@ among_either [] y x (inr i) = absurd i
 among_either (z ∷ xs) y x (inl i) = inl (inl i)
 among_either (z ∷ xs) y x (inr i) = elim (among_either xs y x i) [ inl j ↦ inl (inr j) | inr j ↦ inr j ]
 
-module _ (epoch x : ℕ) (found met : List ℕ) (marks : Marks epoch found met) (inside : x < length met) where
+module _ (epoch x : ℕ) (found met : List ℕ) (marks : AreStamped epoch found met) (inside : x < length met) where
   -- x was not met
-  pub is_new : get_or met x 0 ≢ epoch → Visits epoch (λ y. y ≡ x) found (found ++ x ∷ []) met (set met x epoch)
+  pub is_new : get_or met x 0 ≢ epoch → FindsNamed epoch (λ y. y ≡ x) found (found ++ x ∷ []) met (set met x epoch)
   is_new ne = record {
     marks = λ y. (λ s. into y s (cases_eq y x), λ i. elim (among_either found x y i) [ inl a ↦ old y ((marks y).1 a) | inr same ↦ subst (IsStamped epoch (set met x epoch)) (sym same) here ]);
     grows = λ y i. among_first found (x ∷ []) y i;
@@ -59,7 +59,7 @@ module _ (epoch x : ℕ) (found met : List ℕ) (marks : Marks epoch found met) 
           let s = sum_by-set weight met x epoch 0 inside in
           omega (arith, l, one, two, s)
 
-pub no_visit : (epoch : ℕ) (found met : List ℕ) → Marks epoch found met → Visits epoch (λ y. ⊥) found found met met
+pub no_visit : (epoch : ℕ) (found met : List ℕ) → AreStamped epoch found met → FindsNamed epoch (λ y. ⊥) found found met met
 no_visit epoch found met marks = record {
   marks = marks;
   grows = λ y i. i;
@@ -73,7 +73,7 @@ no_visit epoch found met marks = record {
 }
 
 -- one visit after another
-pub then_visit : (epoch : ℕ) (A B C : ℕ → Type 0) (f0 f1 f2 m0 m1 m2 : List ℕ) → ((y : ℕ) → C y ↔ (A y ⊎ B y)) → Visits epoch A f0 f1 m0 m1 → Visits epoch B f1 f2 m1 m2 → Visits epoch C f0 f2 m0 m2
+pub then_visit : (epoch : ℕ) (A B C : ℕ → Type 0) (f0 f1 f2 m0 m1 m2 : List ℕ) → ((y : ℕ) → C y ↔ (A y ⊎ B y)) → FindsNamed epoch A f0 f1 m0 m1 → FindsNamed epoch B f1 f2 m1 m2 → FindsNamed epoch C f0 f2 m0 m2
 then_visit epoch A B C f0 f1 f2 m0 m1 m2 both v w =
     let c1 = v.count in
     let c2 = w.count in
@@ -92,7 +92,7 @@ then_visit epoch A B C f0 f1 f2 m0 m1 m2 both v w =
     }
 
 -- the same names
-pub alike : (epoch : ℕ) (A B : ℕ → Type 0) (f f' m m' : List ℕ) → ((y : ℕ) → A y ↔ B y) → Visits epoch A f f' m m' → Visits epoch B f f' m m'
+pub alike : (epoch : ℕ) (A B : ℕ → Type 0) (f f' m m' : List ℕ) → ((y : ℕ) → A y ↔ B y) → FindsNamed epoch A f f' m m' → FindsNamed epoch B f f' m m'
 alike epoch A B f f' m m' same v = record {
   marks = v.marks;
   grows = v.grows;
@@ -152,11 +152,11 @@ module _ (targets : List ℕ) (flags : List Bool) (wanted : Bool) (i : ℕ) (lt 
     λ n. elim ((among_more targets i y lt).0 n.0) [ inl a ↦ (a, n.1) | inr same ↦ absurd (ne (subst (IsWanted flags wanted) same n.1)) ],
   )
 
-  module _ (epoch : ℕ) (f0 f1 f2 m0 m1 m2 : List ℕ) (v : Visits epoch (Looked i) f0 f1 m0 m1) where
-    pub one_more : get_or flags (get_or targets i 0) false ≡ wanted → Visits epoch (λ y. y ≡ get_or targets i 0) f1 f2 m1 m2 → Visits epoch (Looked (i + 1)) f0 f2 m0 m2
+  module _ (epoch : ℕ) (f0 f1 f2 m0 m1 m2 : List ℕ) (v : FindsNamed epoch (Looked i) f0 f1 m0 m1) where
+    pub one_more : get_or flags (get_or targets i 0) false ≡ wanted → FindsNamed epoch (λ y. y ≡ get_or targets i 0) f1 f2 m1 m2 → FindsNamed epoch (Looked (i + 1)) f0 f2 m0 m2
     one_more e w = then_visit epoch (Looked i) (λ y. y ≡ get_or targets i 0) (Looked (i + 1)) f0 f1 f2 m0 m1 m2 (with_target e) v w
 
-    pub passed_by : get_or flags (get_or targets i 0) false ≢ wanted → Visits epoch (Looked (i + 1)) f0 f1 m0 m1
+    pub passed_by : get_or flags (get_or targets i 0) false ≢ wanted → FindsNamed epoch (Looked (i + 1)) f0 f1 m0 m1
     passed_by ne = alike epoch (Looked i) (Looked (i + 1)) f0 f1 m0 m1 (without_target ne) v
 
 -- what is read within a list is what stands there, whatever the default
@@ -165,7 +165,7 @@ read_at [] i d x lt e = absurd (omega arith)
 read_at (y ∷ ys) zero d x lt e = sym e
 read_at (y ∷ ys) (suc i) d x lt e = read_at ys i d x (omega arith) e
 
-pub list_read : {Z : Type 0} (edges : List (Vec ℕ Z)) (i : ℕ) (v : Vec ℕ Z) → i < length edges → v ≡ get_or edges i v → list_at edges i ≡ v.items
+pub list_read : {Z : Type 0} (edges : List (Vec ℕ Z)) (i : ℕ) (v : Vec ℕ Z) → i < length edges → v ≡ get_or edges i v → row_items edges i ≡ v.items
 list_read [] i v lt e = absurd (omega arith)
 list_read (y ∷ ys) zero v lt e = ap (λ w. w.items) (sym e)
 list_read (y ∷ ys) (suc i) v lt e = list_read ys i v (omega arith) e
@@ -178,7 +178,7 @@ pub item_at : (xs : List ℕ) (i x p : ℕ) → i < length xs → x ≡ get_or x
 item_at xs i x p lt is at = at ∙ item_is xs i x lt is
 
 -- a row that is read at the place of a node
-pub row_read : {Z : Type 0} (rows : List (Vec ℕ Z)) (i p : ℕ) (v : Vec ℕ Z) → i < length rows → p ≡ i → v ≡ get_or rows p v → list_at rows i ≡ v.items
+pub row_read : {Z : Type 0} (rows : List (Vec ℕ Z)) (i p : ℕ) (v : Vec ℕ Z) → i < length rows → p ≡ i → v ≡ get_or rows p v → row_items rows i ≡ v.items
 row_read rows i p v lt at is = list_read rows i v lt (subst (λ n. v ≡ get_or rows n v) at is)
 
 pub older_stamps : (epoch : ℕ) (m0 m1 m2 : List ℕ) → OldStamps epoch m0 m1 → OldStamps epoch m1 m2 → OldStamps epoch m0 m2

@@ -3,17 +3,17 @@ use Rattle.std.proofs.Common.{◌≡◌, ◌↔◌, ◌<◌, ◌≤◌, ◌+◌,
 use Rattle.cargo_toml_graph.specs.Reach.{Among, Reaches}
 use Rattle.cargo_toml_graph.specs.Reach.Reaches.{edge, through}
 use Rattle.cargo_toml_graph.proofs.Closure.{chained}
-use Rattle.cargo_toml_walk.specs.Numbers.{IsPassed, IsWanted, Leads, Marks, Visits}
+use Rattle.cargo_toml_walk.specs.Numbers.{IsPassed, IsWanted, Leads, AreStamped, FindsNamed}
 use Rattle.cargo_toml_walk.proofs.Steps.{among_more, among_at, among_all, read_at}
 
 module _ {Z : Type 0} (edges : List (Vec ℕ Z)) (flags : List Bool) (start epoch : ℕ) where
   pub record Walks (next : ℕ) (found met : List ℕ) : Type 0 where
-    pub marks : Marks epoch found met
+    pub marks : AreStamped epoch found met
     pub begun : (y : ℕ) → Leads edges start y → IsWanted flags true y → Among found y
     pub sound : (x : ℕ) → Among found x → IsPassed edges flags start x
     pub closed : (x y : ℕ) → Among (take next found) x → Leads edges x y → IsWanted flags true y → Among found y
 
-  pub begins : (found met met' : List ℕ) → Visits epoch (λ y. Leads edges start y × IsWanted flags true y) [] found met met' → Walks 0 found met'
+  pub begins : (found met met' : List ℕ) → FindsNamed epoch (λ y. Leads edges start y × IsWanted flags true y) [] found met met' → Walks 0 found met'
   begins found met met' v = record {
     marks = v.marks;
     begun = λ y l r. v.reaches y (l, r);
@@ -22,7 +22,7 @@ module _ {Z : Type 0} (edges : List (Vec ℕ Z)) (flags : List Bool) (start epoc
   }
 
   pub goes_on : (next : ℕ) (found found' met met' : List ℕ) → next < length found → Walks next found met
-      → (at : ℕ) → at ≡ get_or found next at → Visits epoch (λ y. Leads edges at y × IsWanted flags true y) found found' met met' → Walks (next + 1) found' met'
+      → (at : ℕ) → at ≡ get_or found next at → FindsNamed epoch (λ y. Leads edges at y × IsWanted flags true y) found found' met met' → Walks (next + 1) found' met'
   goes_on next found found' met met' lt w at is v = record {
     marks = v.marks;
     begun = λ y l r. v.grows y (w.begun y l r);

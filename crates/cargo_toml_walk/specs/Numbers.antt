@@ -6,11 +6,11 @@ use Rattle.std.specs.Option.{option_map_or}
 use Rattle.cargo_toml_graph.specs.Reach.{Among, GathersLabel, Reaches}
 
 -- the list of the vertex a, empty past the end
-abbrev pub list_at : {Z : Type 0} → List (Vec ℕ Z) → ℕ → List ℕ
-list_at lists a = option_map_or (λ v. v.items) (slice_get lists a) []
+abbrev pub row_items : {Z : Type 0} → List (Vec ℕ Z) → ℕ → List ℕ
+row_items lists a = option_map_or (λ v. v.items) (slice_get lists a) []
 
 abbrev pub Leads : {Z : Type 0} → List (Vec ℕ Z) → ℕ → ℕ → Type 0
-Leads lists a b = Among (list_at lists a) b
+Leads lists a b = Among (row_items lists a) b
 
 -- the flag of x stands there, and is `wanted`
 abbrev pub IsWanted : List Bool → Bool → ℕ → Type 0
@@ -19,12 +19,12 @@ IsWanted flags wanted x = slice_index_or flags x false ≡ wanted
 abbrev pub IsStamped : ℕ → List ℕ → ℕ → Type 0
 IsStamped epoch met x = (x < length met) × (slice_index_or met x 0 ≡ epoch)
 
-abbrev pub IsFresh : ℕ → List ℕ → Type 0
-IsFresh epoch met = (x : ℕ) → ¬ IsStamped epoch met x
+abbrev pub IsUnused : ℕ → List ℕ → Type 0
+IsUnused epoch met = (x : ℕ) → ¬ IsStamped epoch met x
 
 -- the stamped numbers are those found
-abbrev pub Marks : ℕ → List ℕ → List ℕ → Type 0
-Marks epoch found met = (x : ℕ) → IsStamped epoch met x ↔ Among found x
+abbrev pub AreStamped : ℕ → List ℕ → List ℕ → Type 0
+AreStamped epoch found met = (x : ℕ) → IsStamped epoch met x ↔ Among found x
 
 -- each stamp is an old one, or the epoch
 abbrev pub OldStamps : ℕ → List ℕ → List ℕ → Type 0
@@ -41,7 +41,7 @@ pub record CanMeet {Z : Type 0} (epoch : ℕ) (rows : List (Vec ℕ Z)) (flags :
   pub inside : (a x : ℕ) → Leads rows a x → x < length met
   pub fits : length met ≤ length flags
   -- none has this stamp yet
-  pub fresh : IsFresh epoch met
+  pub fresh : IsUnused epoch met
 
 -- edges lead to vertices, and each vertex and each label has a flag
 pub record AreWithin {Z : Type 0} (edges labels : List (Vec ℕ Z)) (flags : List Bool) : Type 0 where
@@ -51,8 +51,9 @@ pub record AreWithin {Z : Type 0} (edges labels : List (Vec ℕ Z)) (flags : Lis
   pub labels_inside : (a x : ℕ) → Leads labels a x → x < length flags
 
 -- the named numbers are found too, each that was not there put at the end, and nothing else changes
-pub record Visits (epoch : ℕ) (Named : ℕ → Type 0) (found found' met met' : List ℕ) : Type 0 where
-  pub marks : Marks epoch found' met'
+pub record FindsNamed (epoch : ℕ) (Named : ℕ → Type 0)
+    (found found' met met' : List ℕ) : Type 0 where
+  pub marks : AreStamped epoch found' met'
   pub grows : (x : ℕ) → Among found x → Among found' x
   pub reaches : (x : ℕ) → Named x → Among found' x
   pub only : (x : ℕ) → Among found' x → Among found x ⊎ Named x

@@ -1,8 +1,8 @@
 //! The labels that vertices have once removed ones are taken out.
 ghost use Rattle.std.specs.Prelude.{◌≡◌, ◌<◌, ◌≤◌, ◌↔◌, IfOk, OnOk, ℕ, length, false};
 ghost use Rattle.cargo_toml_graph.specs.Reach.{Among};
-ghost use Rattle.cargo_toml_walk.specs.Numbers.{AreWithin, CanMeet, HasLabel, IsWanted};
-ghost use Rattle.cargo_toml_walk.specs.Numbers.{Leads, Marks, OldStamps, PassesAny, Visits};
+ghost use Rattle.cargo_toml_walk.specs.Numbers.{AreStamped, AreWithin, CanMeet, FindsNamed};
+ghost use Rattle.cargo_toml_walk.specs.Numbers.{HasLabel, IsWanted, Leads, OldStamps, PassesAny};
 
 use crate::node::Node;
 use crate::walk::{Sought, visit_row};
@@ -26,8 +26,8 @@ fn visit_rows(
     requires passed { (b : ℕ) → Among passed.now b → b < length labels.now }
     requires fits { length met.old.items ≤ length sought.now.flags.now }
     requires inside { (a x : ℕ) → Leads labels.now a x → x < length met.old.items }
-    requires marks { Marks sought.now.epoch found.old.items met.old.items }
-    ensures { OnOk result (Visits sought.now.epoch
+    requires marks { AreStamped sought.now.epoch found.old.items met.old.items }
+    ensures { OnOk result (FindsNamed sought.now.epoch
         (λ x. ((b : ℕ) × Among passed.now b × Leads labels.now b x)
         × IsWanted sought.now.flags.now sought.now.wanted x)
         found.old.items found.new.items met.old.items met.new.items) }

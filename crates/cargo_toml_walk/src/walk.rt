@@ -2,7 +2,7 @@
 ghost use Rattle.std.specs.Prelude.{◌≡◌, ◌<◌, ◌≤◌, ◌↔◌, IfOk, OnOk, ℕ, length, true, false};
 ghost use Rattle.cargo_toml_graph.specs.Reach.{Among};
 ghost use Rattle.cargo_toml_walk.specs.Numbers.{CanMeet, IsPassed, IsWanted};
-ghost use Rattle.cargo_toml_walk.specs.Numbers.{Leads, Marks, OldStamps, Visits};
+ghost use Rattle.cargo_toml_walk.specs.Numbers.{Leads, AreStamped, OldStamps, FindsNamed};
 
 use crate::node::Node;
 use std::alloc::{AllocError, Global};
@@ -36,9 +36,9 @@ fn meet(
     x: Node,
 ) -> Result<(), AllocError>
     requires inside { x < length met.old.items }
-    requires marks { Marks epoch found.old.items met.old.items }
-    ensures { OnOk result
-        (Visits epoch (λ y. y ≡ x) found.old.items found.new.items met.old.items met.new.items) }
+    requires marks { AreStamped epoch found.old.items met.old.items }
+    ensures { OnOk result (FindsNamed epoch (λ y. y ≡ x)
+        found.old.items found.new.items met.old.items met.new.items) }
 {
     let stamp = &mut met[x.place()];
     if *stamp != epoch {
@@ -57,8 +57,8 @@ fn visit(
 ) -> Result<(), AllocError>
     requires fits { length met.old.items ≤ length sought.now.flags.now }
     requires inside { (y : ℕ) → Among targets.now y → y < length met.old.items }
-    requires marks { Marks sought.now.epoch found.old.items met.old.items }
-    ensures { OnOk result (Visits sought.now.epoch
+    requires marks { AreStamped sought.now.epoch found.old.items met.old.items }
+    ensures { OnOk result (FindsNamed sought.now.epoch
         (λ y. Among targets.now y × IsWanted sought.now.flags.now sought.now.wanted y)
         found.old.items found.new.items met.old.items met.new.items) }
 {
@@ -81,8 +81,8 @@ pub(crate) fn visit_row(
     requires at { at < length rows.now }
     requires fits { length met.old.items ≤ length sought.now.flags.now }
     requires inside { (y : ℕ) → Leads rows.now at y → y < length met.old.items }
-    requires marks { Marks sought.now.epoch found.old.items met.old.items }
-    ensures { OnOk result (Visits sought.now.epoch
+    requires marks { AreStamped sought.now.epoch found.old.items met.old.items }
+    ensures { OnOk result (FindsNamed sought.now.epoch
         (λ y. Leads rows.now at y × IsWanted sought.now.flags.now sought.now.wanted y)
         found.old.items found.new.items met.old.items met.new.items) }
 {

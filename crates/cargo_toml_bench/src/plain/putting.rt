@@ -1,14 +1,14 @@
 //! Binaries are put at the end of a list that is gone through for each of them.
 ghost use Rattle.std.specs.Prelude.{◌≡◌, ◌∷◌, [], OnOk};
-ghost use Rattle.cargo_toml_graph.specs.Removal.{put_all};
-ghost use Rattle.cargo_toml_resolve.specs.Texts.{texts_of};
+ghost use Rattle.cargo_toml_graph.specs.Removal.{put_each};
+ghost use Rattle.cargo_toml_resolve.specs.Texts.{texts_now};
 
 use std::alloc::AllocError;
 
 // The binary is put at the end, unless it is there.
 fn put_bin<'m>(own: &mut Vec<&'m str>, bin: &'m str) -> Result<(), AllocError>
-    ensures { OnOk result (texts_of own.new.items
-        ≡ put_all (texts_of own.old.items) (bin.now ∷ [])) }
+    ensures { OnOk result (texts_now own.new.items
+        ≡ put_each (texts_now own.old.items) (bin.now ∷ [])) }
 {
     if !own.contains(&bin) {
         own.push(bin)?;
@@ -18,8 +18,8 @@ fn put_bin<'m>(own: &mut Vec<&'m str>, bin: &'m str) -> Result<(), AllocError>
 
 /// Each binary is put at the end, unless it is there. It fails only where memory runs out.
 pub fn put_bins<'m>(own: &mut Vec<&'m str>, bins: &[&'m str]) -> Result<(), AllocError>
-    ensures { OnOk result (texts_of own.new.items
-        ≡ put_all (texts_of own.old.items) (texts_of bins.now)) }
+    ensures { OnOk result (texts_now own.new.items
+        ≡ put_each (texts_now own.old.items) (texts_now bins.now)) }
 {
     for bin in bins {
         put_bin(own, *bin)?;

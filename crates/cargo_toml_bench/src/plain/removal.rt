@@ -3,13 +3,13 @@ ghost use Rattle.std.specs.Prelude.{◌≡◌, ◌∷◌, ◌++◌, ◌||◌, if
 ghost use Rattle.std.specs.Prelude.{bytes_eq, is_some, take, IfOk, IfSome, IsSome, OnOk};
 ghost use Rattle.cargo_toml_graph.specs.Action.{Text, join, join_option};
 ghost use Rattle.cargo_toml_graph.specs.Reach.{Among, IsOnce};
-ghost use Rattle.cargo_toml_graph.specs.Removal.{SameKept, is_among, pass_all};
-ghost use Rattle.cargo_toml_graph.specs.Removal.{put_all, without_all};
-ghost use Rattle.cargo_toml_resolve.specs.Texts.{texts_of};
+ghost use Rattle.cargo_toml_graph.specs.Removal.{SameKept, lists_text, pass_all};
+ghost use Rattle.cargo_toml_graph.specs.Removal.{put_each, without_all};
+ghost use Rattle.cargo_toml_resolve.specs.Texts.{texts_now};
 ghost use Rattle.cargo_toml_bench.specs.Removing.{passed_on, key_at, marks_at};
 ghost use Rattle.cargo_toml_bench.specs.Removing.{bins_at, TakesNames, Loses, ChangesAt};
 ghost use Rattle.cargo_toml_bench.specs.Removing.{LosesAll, TakesOut, Redirects};
-ghost use Rattle.cargo_toml_features.specs.Views.{has_text, action_of, action_at};
+ghost use Rattle.cargo_toml_features.specs.Views.{set_has, action_of, action_at};
 ghost use Rattle.cargo_toml_features.specs.Views.{resolution_of, value_at};
 
 use crate::plain::putting::put_bins;
@@ -26,7 +26,7 @@ fn pass_on<'a>(
     gone: &BTreeSet<&'a str>,
     key: &'a str,
 ) -> Result<(), AllocError>
-    ensures { OnOk result ((x : Text) → has_text texts.new x
+    ensures { OnOk result ((x : Text) → set_has texts.new x
         ≡ passed_on texts.old gone.now key.now x) }
 {
     add_all(texts, gone)?;
@@ -56,10 +56,10 @@ fn lose_enabler<'a>(
     gone: &Feature<'a>,
     key: &'a str,
 ) -> Result<(), AllocError>
-    ensures { OnOk result ((e : Text) → has_text enabled_by.new e
-        ≡ (if has_text enabled_by.old key.now
+    ensures { OnOk result ((e : Text) → set_has enabled_by.new e
+        ≡ (if set_has enabled_by.old key.now
         then passed_on enabled_by.old gone.now.enabled_by key.now e
-        else has_text enabled_by.old e)) }
+        else set_has enabled_by.old e)) }
 {
     if enabled_by.contains(key) {
         pass_on(enabled_by, &gone.enabled_by, key)?;
@@ -72,10 +72,11 @@ fn pass_bins<'a>(
     name: &'a str,
     gone: &Feature<'a>,
 ) -> Result<(), AllocError>
-    ensures { OnOk result (texts_of bins.new.items
-        ≡ (if has_text gone.now.enables_features name.now
-        then put_all (texts_of bins.old.items) (take 10 (texts_of gone.now.required_by_bins.items))
-        else texts_of bins.old.items)) }
+    ensures { OnOk result (texts_now bins.new.items
+        ≡ (if set_has gone.now.enables_features name.now
+        then put_each (texts_now bins.old.items)
+        (take 10 (texts_now gone.now.required_by_bins.items))
+        else texts_now bins.old.items)) }
 {
     if gone.enables_features.contains(name) {
         let first = first_ten(&gone.required_by_bins)?;
@@ -123,8 +124,8 @@ fn lose_all<'a, S: BuildHasher>(
     gone: &Feature<'a>,
     key: &'a str,
 ) -> Result<(), AllocError>
-    requires all { (f : Text) → IsSome (value_at features.old f) → Among (texts_of names.now) f }
-    requires once { IsOnce (texts_of names.now) }
+    requires all { (f : Text) → IsSome (value_at features.old f) → Among (texts_now names.now) f }
+    requires once { IsOnce (texts_now names.now) }
     ensures { OnOk result (LosesAll gone.now key.now features.old features.new) }
 {
     for name in names {
@@ -149,8 +150,8 @@ fn remove_one<'a, S: BuildHasher>(
     key: &'a str,
 ) -> Result<(), AllocError>
     requires there { IsSome (value_at features.old key.now) }
-    requires all { (f : Text) → IsSome (value_at features.old f) → Among (texts_of names.now) f }
-    requires once { IsOnce (texts_of names.now) }
+    requires all { (f : Text) → IsSome (value_at features.old f) → Among (texts_now names.now) f }
+    requires once { IsOnce (texts_now names.now) }
     ensures left { OnOk result (TakesOut key.now features.old features.new) }
     ensures redirect { OnOk result
         (Redirects key.now (resolution_of features.old) hidden.old hidden.new) }
@@ -168,8 +169,8 @@ fn names_of<'a, S: BuildHasher>(
     features: &HashMap<&'a str, Feature<'a>, S>,
 ) -> Result<Vec<&'a str>, AllocError>
     ensures all { IfOk result (λ v. (f : Text) → IsSome (value_at features.now f)
-        → Among (texts_of v.items) f) }
-    ensures once { IfOk result (λ v. IsOnce (texts_of v.items)) }
+        → Among (texts_now v.items) f) }
+    ensures once { IfOk result (λ v. IsOnce (texts_now v.items)) }
 {
     let mut names = Vec::with_capacity(alloc, features.len())?;
     for (name, _) in features {
@@ -190,12 +191,12 @@ pub fn remove_all<'m, S: BuildHasher>(
     hidden: &mut HashMap<&'m str, BTreeSet<&'m str>, S>,
     removed: &[&'m str],
 ) -> Result<(), AllocError>
-    requires there { (v : Text) → Among (texts_of removed.now) v
+    requires there { (v : Text) → Among (texts_now removed.now) v
         → IsSome (value_at features.old v) }
-    requires once { IsOnce (texts_of removed.now) }
+    requires once { IsOnce (texts_now removed.now) }
     requires none { hidden.old.entries ≡ [] }
     ensures left { OnOk result
-        (SameKept (without_all (texts_of removed.now) (resolution_of features.old))
+        (SameKept (without_all (texts_now removed.now) (resolution_of features.old))
         (resolution_of features.new)) }
     ensures keys { OnOk result ((f : Text) → IsSome (value_at features.new f)
         → key_at features.new f ≡ key_at features.old f) }
@@ -203,12 +204,12 @@ pub fn remove_all<'m, S: BuildHasher>(
         → marks_at features.new f ≡ marks_at features.old f) }
     ensures bins { OnOk result ((f : Text) → IsSome (value_at features.new f)
         → bins_at features.new f
-        ≡ pass_all (texts_of removed.now) (resolution_of features.old) (bins_at features.old) f) }
+        ≡ pass_all (texts_now removed.now) (resolution_of features.old) (bins_at features.old) f) }
     ensures redirected { OnOk result ((r : Text) → is_some (value_at hidden.new r)
-        ≡ is_among (texts_of removed.now) r) }
+        ≡ lists_text (texts_now removed.now) r) }
     ensures redirects { OnOk result ((before after : List Text) (r : Text)
-        → texts_of removed.now ≡ before ++ r ∷ after
-        → IfSome (value_at hidden.new r) (λ names. (x : Text) → has_text names x
+        → texts_now removed.now ≡ before ++ r ∷ after
+        → IfSome (value_at hidden.new r) (λ names. (x : Text) → set_has names x
         ≡ (without_all before (resolution_of features.old)).table.names r x)) }
 {
     let names = names_of(alloc, features)?;

@@ -4,8 +4,8 @@ ghost use Rattle.cargo_toml_graph.specs.Action.{Text};
 ghost use Rattle.cargo_toml_graph.specs.Admitted.{is_below};
 ghost use Rattle.cargo_toml_graph.specs.Reach.{Among};
 ghost use Rattle.cargo_toml_graph.specs.Removal.{IsAscending, is_removed};
-ghost use Rattle.cargo_toml_features.specs.Views.{has_text, table_in, value_at};
-ghost use Rattle.cargo_toml_resolve.specs.Filter.{HasNameFilter, Tells};
+ghost use Rattle.cargo_toml_features.specs.Views.{set_has, table_in, value_at};
+ghost use Rattle.cargo_toml_resolve.specs.Filter.{HasNameFilter, FilterTells};
 
 use cargo_toml_features::features::Feature;
 use cargo_toml_resolve::filter::is_hidden;
@@ -20,10 +20,10 @@ fn hidden_set<'m, F: Fn(&str) -> bool, S: BuildHasher>(
     filter: Option<&F>,
 ) -> Result<BTreeSet<&'m str>, AllocError>
     requires { HasNameFilter F.Fn filter }
-    ensures removed { IfOk result (λ s. (keep : Text → Bool) → Tells F.Fn filter.entry keep
-        → (f : Text) → has_text s f ≡ is_removed (table_in features.now) keep f) }
+    ensures removed { IfOk result (λ s. (keep : Text → Bool) → FilterTells F.Fn filter.entry keep
+        → (f : Text) → set_has s f ≡ is_removed (table_in features.now) keep f) }
     ensures known { IfOk result
-        (λ s. (f : Text) → IsTrue (has_text s f) → IsSome (value_at features.now f)) }
+        (λ s. (f : Text) → IsTrue (set_has s f) → IsSome (value_at features.now f)) }
 {
     let mut names = BTreeSet::new(alloc);
     for (name, _feature) in features {
@@ -43,7 +43,7 @@ pub fn hidden_names<'m, F: Fn(&str) -> bool, S: BuildHasher>(
     filter: Option<&F>,
 ) -> Result<Vec<&'m str>, AllocError>
     requires { HasNameFilter F.Fn filter }
-    ensures removed { IfOk result (λ v. (keep : Text → Bool) → Tells F.Fn filter.entry keep
+    ensures removed { IfOk result (λ v. (keep : Text → Bool) → FilterTells F.Fn filter.entry keep
         → (f : Text)
         → Among (map (λ t. t.now) v.items) f ↔ IsTrue (is_removed (table_in features.now) keep f)) }
     ensures known { IfOk result
@@ -57,7 +57,7 @@ pub fn hidden_names<'m, F: Fn(&str) -> bool, S: BuildHasher>(
 
 fn in_order<'m>(alloc: Global, names: &BTreeSet<&'m str>) -> Result<Vec<&'m str>, AllocError>
     ensures all { IfOk result
-        (λ v. (f : Text) → Among (map (λ t. t.now) v.items) f ↔ IsTrue (has_text names.now f)) }
+        (λ v. (f : Text) → Among (map (λ t. t.now) v.items) f ↔ IsTrue (set_has names.now f)) }
     ensures ascending { IfOk result
         (λ v. IsAscending (λ a b. IsTrue (is_below a b)) (map (λ t. t.now) v.items)) }
 {

@@ -7,7 +7,7 @@ ghost use Rattle.cargo_toml.specs.Manifests.{manifest_meaning};
 ghost use Rattle.cargo_toml_bench.specs.Printing.{Spells, IsManifest, IsReport, RefusesBytes};
 ghost use Rattle.cargo_toml_bench.specs.Printing.{RefusesToPrint, line_with, lines_with};
 ghost use Rattle.cargo_toml_bench.specs.Printing.{report_text};
-ghost use Rattle.cargo_toml_resolve.specs.Texts.{texts_of};
+ghost use Rattle.cargo_toml_resolve.specs.Texts.{texts_now};
 ghost use Rattle.cargo_toml_bench.specs.Reports.{texts};
 
 use crate::report::{Report, make_report};
@@ -65,7 +65,7 @@ fn report_text(alloc: Global, report: &Report<'_>) -> Result<String, AllocError>
 // A line for each name.
 fn push_lines(text: &mut String, word: &str, names: &[&str]) -> Result<(), AllocError>
     ensures { OnOk result (string_bytes text.new
-        ≡ string_bytes text.old ++ lines_with word.now (texts_of names.now)) }
+        ≡ string_bytes text.old ++ lines_with word.now (texts_now names.now)) }
 {
     for name in names {
         push_line(text, word, *name)?;

@@ -12,7 +12,7 @@ use Rattle.cargo_toml.specs.Limits.{MAX_ITEMS}
 use Rattle.cargo_toml.specs.Parsed.{IsAnswerFor}
 use Rattle.cargo_toml.specs.Removal.{is_removed}
 use Rattle.cargo_toml.specs.Resolved.{table_of}
-use Rattle.cargo_toml.specs.Views.{answer_of, entry_of, has_text, resolution_of, value_at}
+use Rattle.cargo_toml.specs.Views.{answer_of, entry_of, set_has, resolution_of, value_at}
 use Rattle.cargo_toml_caller.specs.CustomFeatures.{LeavesName}
 use Rattle.cargo_toml_caller.proofs.AtLimit.{answered_at}
 use Rattle.cargo_toml_caller.proofs.Unfiltered.{keeps_none}
@@ -22,10 +22,10 @@ module _ {S : Type 0} (t : Table) (Removed : Text → Type 0) (m : HashMap (Bor 
   no_feature : value_at m f ≡ None → IsTrue false ↔ LeavesName t Removed f x
   no_feature missing = (λ e. absurd (false≢true e), λ l. absurd (false≢true (sym (ap is_some missing) ∙ (h.kept f).1 l.0)))
 
-  names_it : (v : Feature) → value_at m f ≡ Some v → IsTrue (has_text v.enables_features x) ↔ LeavesName t Removed f x
+  names_it : (v : Feature) → value_at m f ≡ Some v → IsTrue (set_has v.enables_features x) ↔ LeavesName t Removed f x
   names_it v here =
       let kept = (h.kept f).0 (ap is_some here) in
-      let told : option_map_or (λ w. has_text w.enables_features x) (value_at m f) false ≡ has_text v.enables_features x = ap (λ o. option_map_or (λ (w : Feature). has_text w.enables_features x) o false) here in
+      let told : option_map_or (λ w. set_has w.enables_features x) (value_at m f) false ≡ set_has v.enables_features x = ap (λ o. option_map_or (λ (w : Feature). set_has w.enables_features x) o false) here in
       (λ e. (kept, (h.names f x kept).0 (told ∙ e)), λ l. sym told ∙ (h.names f x kept).1 l.1)
 
 pub returns-in_default-clause-answer : goal.returns-in_default-clause-answer

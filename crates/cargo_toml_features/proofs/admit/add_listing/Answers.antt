@@ -1,6 +1,6 @@
 use Rattle.std.proofs.Common.{◌≡◌, ◌||◌, true, [], ◌∷◌, ◌++◌, cond, nat_lt, length, bytes_eq, codes, map, take, string_bytes, sym, ap, rules, ◌∙◌}
 use Rattle.std.proofs.lemmas.List.{map_push, take-map}
-use Rattle.cargo_toml_features.specs.Marks.{detail_in, details_of}
+use Rattle.cargo_toml_features.specs.Marks.{detail_in, named_details}
 use Rattle.cargo_toml_features.specs.Views.{listed_of}
 use Rattle.cargo_toml_features.proofs.Listings.{detail_of_one, listed_one}
 use Rattle.cargo_toml_features.proofs.admit.add_listing.Goals as goal
@@ -23,6 +23,6 @@ returns-in_ok-push-clause-details c =
       | then-len-limit-via-then-len-limit w ↦ search rules
       | then-len-limit-via-else-len-limit+then-eq w ↦ search rules
     ] in
-    let old = details_of c.args.listings.now.items in
-    ap details_of c.in_ok-push.ensures.items ∙ map_push detail_of_one c.args.listings.now.items _
+    let old = named_details c.args.listings.now.items in
+    ap named_details c.in_ok-push.ensures.items ∙ map_push detail_of_one c.args.listings.now.items _
     ∙ sym (ap (λ b. cond b (old ++ (c.args.listing.name.now, detail_in c.args.listing.detail) ∷ []) old) counts)

@@ -1,6 +1,6 @@
 use Rattle.std.proofs.Common.{◌≡◌, [], map}
 use Rattle.cargo_toml_graph.proofs.Cut.{cut}
-use Rattle.cargo_toml_features.specs.Marks.{details_listed, details_of}
+use Rattle.cargo_toml_features.specs.Marks.{details_listed, named_details}
 use Rattle.cargo_toml_features.specs.Views.{listed_of}
 use Rattle.cargo_toml_features.proofs.Hashed.{sorted_entry}
 use Rattle.cargo_toml_features.proofs.admit.hashed_listings.Given as goal
@@ -8,5 +8,5 @@ use Rattle.cargo_toml_features.proofs.admit.hashed_listings.Given as goal
 abbrev pub invariant-loop-name : goal.invariant-loop-name
 invariant-loop-name g l = record {
   listed : cut l.limit (listed_of l.listings.items) (map sorted_entry l.name-iterator) ≡ cut l.limit [] (map sorted_entry l.initial.name-iterator);
-  details : details_of l.listings.items ≡ details_listed (listed_of l.listings.items) [];
+  details : named_details l.listings.items ≡ details_listed (listed_of l.listings.items) [];
 }

@@ -1,7 +1,7 @@
 use Rattle.std.proofs.Common.{◌≡◌, [], map}
 use Rattle.cargo_toml_dependencies.specs.Details.{detail_of}
 use Rattle.cargo_toml_parts.specs.Reads.{map_meaning}
-use Rattle.cargo_toml_features.specs.Marks.{details_listed, details_of}
+use Rattle.cargo_toml_features.specs.Marks.{details_listed, named_details}
 use Rattle.cargo_toml_features.specs.Views.{listed_of, listed_in}
 use Rattle.cargo_toml_graph.proofs.Cut.{cut}
 use Rattle.cargo_toml_features.proofs.Listings.{listed_entry}
@@ -10,5 +10,5 @@ use Rattle.cargo_toml_features.proofs.admit.listings.Given as goal
 abbrev pub invariant-loop-name : goal.invariant-loop-name
 invariant-loop-name l = record {
   listed : cut l.limit (listed_of l.listings.items) (map listed_entry l.name-iterator) ≡ cut l.limit [] (listed_in l.table);
-  details : details_of l.listings.items ≡ details_listed (listed_of l.listings.items) (map_meaning detail_of l.details);
+  details : named_details l.listings.items ≡ details_listed (listed_of l.listings.items) (map_meaning detail_of l.details);
 }

@@ -3,12 +3,12 @@ use Rattle.std.proofs.lemmas.Bool.{false≢true}
 use Rattle.std.proofs.lemmas.List.{get_or-map, length-map}
 use Rattle.std.proofs.lemmas.Slice.Eq.{bytes_eq-Decides}
 use Rattle.cargo_toml_graph.specs.Action.{Text}
-use Rattle.cargo_toml_features.specs.Places.{text_at}
+use Rattle.cargo_toml_features.specs.Places.{nth_text}
 use Rattle.cargo_toml_features.proofs.Places.{at_among}
 use Rattle.cargo_toml_features.proofs.texts.first_of.Goals as goal
 
 -- the text at a place, as the loop reads it
-read : (ts : List (Bor Text)) (i : ℕ) → i < length ts → text_at (map (λ t. t.now) ts) i ≡ (get_or ts i (record { ref_ptr = (0, 0); now = [] })).now
+read : (ts : List (Bor Text)) (i : ℕ) → i < length ts → nth_text (map (λ t. t.now) ts) i ≡ (get_or ts i (record { ref_ptr = (0, 0); now = [] })).now
 read ts i below = get_or-map (λ (t : Bor Text). t.now) ts i (record { ref_ptr = (0, 0); now = [] }) [] below
 
 pub returns-then-is_same-clause-found : goal.returns-then-is_same-clause-found
@@ -21,7 +21,7 @@ pub loop-i-preserved : goal.loop-i-preserved
 loop-i-preserved c =
     let ts = c.args.texts.now in
     let below : c.loop-i.i < length ts = search rules in
-    below_more (λ k. text_at (map (λ t. t.now) ts) k ≡ c.args.text.now → ⊥) c.loop-i.i c.loop-i.invariant
+    below_more (λ k. nth_text (map (λ t. t.now) ts) k ≡ c.args.text.now → ⊥) c.loop-i.i c.loop-i.invariant
     (λ same. false≢true (sym c.if-is_same.false ∙ c.is_same.ensures ∙ (bytes_eq-Decides _ _).1 (sym (read ts c.loop-i.i below) ∙ same)))
 
 pub returns-clause-missing : goal.returns-clause-missing

@@ -2,7 +2,7 @@ use Rattle.std.proofs.Common.{◌≡◌, take, is_some, sym, subst, ap, ◌∙�
 use Rattle.std.proofs.lemmas.List.{take_all}
 use Rattle.cargo_toml_graph.specs.Reach.{IsOnce}
 use Rattle.cargo_toml_features.specs.InOrder.{AreInOrder}
-use Rattle.cargo_toml_features.specs.Marks.{details_of}
+use Rattle.cargo_toml_features.specs.Marks.{named_details}
 use Rattle.cargo_toml_features.specs.Views.{listed_of}
 use Rattle.cargo_toml_features.proofs.Listings.{names_listed}
 use Rattle.cargo_toml_full.specs.Searching.{has_key}
@@ -12,7 +12,7 @@ use Rattle.cargo_toml_full.proofs.read.read_features.Goals as goal
 pub loop-listing-init : goal.loop-listing-init
 loop-listing-init c = record {
   in_order = subst AreInOrder (sym c.in_ok-features.ensures.items) tt;
-  features = none_read (details_of c.args.listings.now) c.in_ok-features.features.items c.in_ok-features.ensures.items;
+  features = none_read (named_details c.args.listings.now) c.in_ok-features.features.items c.in_ok-features.ensures.items;
   keys = c.new-acting.ensures.keys;
   reserved = c.new-acting.ensures.reserved;
 }
@@ -33,8 +33,8 @@ pub returns-clause-read : goal.returns-clause-read
 returns-clause-read c =
     let ls = c.args.listings.now in
     let all : take c.loop-listing.listing-index ls ≡ ls = take_all _ ls (omega arith) in
-    all_read (listed_of ls) (details_of ls) c.loop-listing.features.items c.add_default.new.features.items
-    (subst (λ xs. HasRead (listed_of xs) (details_of ls) c.loop-listing.features.items) all c.loop-listing.invariant.features)
+    all_read (listed_of ls) (named_details ls) c.loop-listing.features.items c.add_default.new.features.items
+    (subst (λ xs. HasRead (listed_of xs) (named_details ls) c.loop-listing.features.items) all c.loop-listing.invariant.features)
     c.in_ok-add_default.ensures.others c.in_ok-add_default.ensures.default (has_key c.into_acted.result.keys) (has_key c.into_acted.result.reserved)
     (λ k. c.into_acted.ensures.keys k ∙ c.loop-listing.invariant.keys k ∙ ap (λ xs. told_in is_some (listed_of xs) k) all)
     (λ k. c.into_acted.ensures.reserved k ∙ c.loop-listing.invariant.reserved k ∙ ap (λ xs. told_in is_dep_only (listed_of xs) k) all)
@@ -44,6 +44,6 @@ pub returns-clause-fresh : goal.returns-clause-fresh
 returns-clause-fresh c =
     let ls = c.args.listings.now in
     let all : take c.loop-listing.listing-index ls ≡ ls = take_all _ ls (omega arith) in
-    all_fresh (listed_of ls) (details_of ls) c.loop-listing.features.items c.add_default.new.features.items
-    (subst (λ xs. HasRead (listed_of xs) (details_of ls) c.loop-listing.features.items) all c.loop-listing.invariant.features)
+    all_fresh (listed_of ls) (named_details ls) c.loop-listing.features.items c.add_default.new.features.items
+    (subst (λ xs. HasRead (listed_of xs) (named_details ls) c.loop-listing.features.items) all c.loop-listing.invariant.features)
     c.in_ok-add_default.ensures.others c.in_ok-add_default.ensures.default

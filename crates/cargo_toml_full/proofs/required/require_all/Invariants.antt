@@ -1,11 +1,11 @@
 use Rattle.std.proofs.Common.{◌≡◌, map, take}
 use Rattle.cargo_toml_features.specs.InOrder.{names_of}
-use Rattle.cargo_toml_full.specs.OwnBins.{own_of, requirement_of}
+use Rattle.cargo_toml_full.specs.OwnBins.{own_of, bin_requirement}
 use Rattle.cargo_toml_full.specs.Requiring.{RequiredAll}
 use Rattle.cargo_toml_full.proofs.required.require_all.Given as goal
 
 abbrev pub invariant-loop-requirement : goal.invariant-loop-requirement
 invariant-loop-requirement l = record {
-  required : RequiredAll (own_of (map requirement_of (take l.requirement-index l.requirements))) l.initial.features l.features;
+  required : RequiredAll (own_of (map bin_requirement (take l.requirement-index l.requirements))) l.initial.features l.features;
   same_names : names_of l.features ≡ names_of l.initial.features;
 }

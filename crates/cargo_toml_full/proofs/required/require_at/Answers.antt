@@ -8,7 +8,7 @@ use Rattle.cargo_toml_full.proofs.Requiring.{required_at}
 use Rattle.cargo_toml_graph.specs.Action.{Text}
 use Rattle.cargo_toml_graph.proofs.Texts.{bytes_eq_sym}
 use Rattle.std.proofs.Common.{cond, Some}
-use Rattle.cargo_toml_features.specs.Places.{text_at}
+use Rattle.cargo_toml_features.specs.Places.{nth_text}
 use Rattle.cargo_toml_full.proofs.required.require_at.Goals as goal
 
 pub returns-in_err-push-clause-same_names : goal.returns-in_err-push-clause-same_names
@@ -23,7 +23,7 @@ returns-clause-required c =
     let i = c.args.at in
     let v : Feature = get_or vs i c.index-features-place.result in
     let w : Feature = record v { required_by_bins = c.push.new.self } in
-    let key = text_at (names_of vs) i in
+    let key = nth_text (names_of vs) i in
     rw c.place.ensures (required_at key c.args.bin.now vs _ v w (feature_here vs i c.index-features-place.result c.requires.in_order c.requires.at)
     (λ q. feature_set vs i w c.requires.in_order c.requires.at (sym (get_or-map (λ (x : Feature). x.key.now) vs i c.index-features-place.result [] c.requires.at)) q
     ∙ ap (λ t. cond t (Some w) (feature_at vs q)) (bytes_eq_sym q key))

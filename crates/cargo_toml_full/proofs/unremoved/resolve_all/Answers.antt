@@ -1,6 +1,6 @@
 use Rattle.std.proofs.Common.{map}
-use Rattle.cargo_toml_full.specs.OwnBins.{own_of, requirement_of}
-use Rattle.cargo_toml_features.specs.Marks.{details_of}
+use Rattle.cargo_toml_full.specs.OwnBins.{own_of, bin_requirement}
+use Rattle.cargo_toml_features.specs.Marks.{named_details}
 use Rattle.cargo_toml_features.specs.Views.{listed_of, entry_of}
 use Rattle.cargo_toml_features.specs.Recorded.{entries_at}
 use Rattle.cargo_toml_features.specs.Resolved.{table_of}
@@ -12,8 +12,8 @@ pub returns-clause-table : goal.returns-clause-table
 returns-clause-table c =
     let listed = listed_of c.args.listings.now in
     let entries = map entry_of c.args.entries.now in
-    let details = details_of c.args.listings.now in
-    let own = own_of (map requirement_of c.args.requirements.now) in
+    let details = named_details c.args.listings.now in
+    let own = own_of (map bin_requirement c.args.requirements.now) in
     let mentions = c.in_ok-mentions.mentions in
     let thinned = c.without_redundant-thinned.result.items in
     let implied = c.in_ok-implied.implied.items in
@@ -26,8 +26,8 @@ pub returns-clause-no_enablers : goal.returns-clause-no_enablers
 returns-clause-no_enablers c = λ f.
     let listed = listed_of c.args.listings.now in
     let entries = map entry_of c.args.entries.now in
-    let details = details_of c.args.listings.now in
-    let own = own_of (map requirement_of c.args.requirements.now) in
+    let details = named_details c.args.listings.now in
+    let own = own_of (map bin_requirement c.args.requirements.now) in
     let mentions = c.in_ok-mentions.mentions in
     let thinned = c.without_redundant-thinned.result.items in
     let implied = c.in_ok-implied.implied.items in
@@ -39,8 +39,8 @@ pub returns-clause-marks : goal.returns-clause-marks
 returns-clause-marks c = λ f.
     let listed = listed_of c.args.listings.now in
     let entries = map entry_of c.args.entries.now in
-    let details = details_of c.args.listings.now in
-    let own = own_of (map requirement_of c.args.requirements.now) in
+    let details = named_details c.args.listings.now in
+    let own = own_of (map bin_requirement c.args.requirements.now) in
     let mentions = c.in_ok-mentions.mentions in
     let thinned = c.without_redundant-thinned.result.items in
     let implied = c.in_ok-implied.implied.items in
@@ -52,8 +52,8 @@ pub returns-clause-bins : goal.returns-clause-bins
 returns-clause-bins c = λ f.
     let listed = listed_of c.args.listings.now in
     let entries = map entry_of c.args.entries.now in
-    let details = details_of c.args.listings.now in
-    let own = own_of (map requirement_of c.args.requirements.now) in
+    let details = named_details c.args.listings.now in
+    let own = own_of (map bin_requirement c.args.requirements.now) in
     let mentions = c.in_ok-mentions.mentions in
     let thinned = c.without_redundant-thinned.result.items in
     let implied = c.in_ok-implied.implied.items in
@@ -65,8 +65,8 @@ pub returns-clause-dependencies : goal.returns-clause-dependencies
 returns-clause-dependencies c =
     let listed = listed_of c.args.listings.now in
     let entries = map entry_of c.args.entries.now in
-    let details = details_of c.args.listings.now in
-    let own = own_of (map requirement_of c.args.requirements.now) in
+    let details = named_details c.args.listings.now in
+    let own = own_of (map bin_requirement c.args.requirements.now) in
     let mentions = c.in_ok-mentions.mentions in
     let thinned = c.without_redundant-thinned.result.items in
     let implied = c.in_ok-implied.implied.items in

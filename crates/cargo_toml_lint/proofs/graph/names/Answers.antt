@@ -4,7 +4,7 @@ use Rattle.std.proofs.lemmas.Map.Made.{is_some-lookup}
 use Rattle.std.specs.Borrow.{Bor}
 use Rattle.std.specs.Map.Iter.{deref}
 use Rattle.cargo_toml.specs.Action.{Text}
-use Rattle.cargo_toml.specs.Views.{has_text}
+use Rattle.cargo_toml.specs.Views.{set_has}
 use Rattle.cargo_toml_features.proofs.TextKeys.{inserted, none_in}
 use Rattle.cargo_toml_lint.proofs.Gathered.{ends, goes_on, starts}
 use Rattle.cargo_toml_lint.proofs.graph.names.Goals as goal
@@ -17,14 +17,14 @@ loop-name-init g c = λ f.
 
 pub loop-name-preserved : goal.loop-name-preserved
 loop-name-preserved g c = λ f.
-    goes_on (λ (k : Bor Text). bytes_eq f k.now) (has_text c.loop-name.names f)
-    (has_text c.insert.new.self f) c.in-Some.name.now _ _ _
+    goes_on (λ (k : Bor Text). bytes_eq f k.now) (set_has c.loop-name.names f)
+    (set_has c.insert.new.self f) c.in-Some.name.now _ _ _
     (rest_more deref _ _ _ c.in-Some.name c.in-Some.is c.next.ensures.steps)
     (inserted c.in-Some.name.now.now c.loop-name.names c.insert.new.self
     c.in_ok-insert.ensures.updates f) (c.loop-name.invariant f)
 
 pub returns : goal.returns
 returns g c = λ f.
-    ends (λ (k : Bor Text). bytes_eq f k.now) (has_text c.loop-name.names f) _ _
+    ends (λ (k : Bor Text). bytes_eq f k.now) (set_has c.loop-name.names f) _ _
     (rest_all deref _ _ _ c.in-None.is c.next.ensures.steps) (c.loop-name.invariant f)
     ∙ sym (is_some-lookup (λ (k : Bor Text). bytes_eq f k.now) c.args.features.now.entries)

@@ -2,10 +2,10 @@ use Rattle.std.proofs.Common.{◌≡◌, ◌||◌, bytes_eq}
 use Rattle.std.specs.List.{list_any}
 use Rattle.std.specs.Map.{keys_of}
 use Rattle.cargo_toml.specs.Action.{Text}
-use Rattle.cargo_toml.specs.Views.{has_text}
+use Rattle.cargo_toml.specs.Views.{set_has}
 use Rattle.cargo_toml_lint.proofs.graph.names.Given as goal
 
 abbrev pub invariant-loop-name : goal.invariant-loop-name
 invariant-loop-name g l = (f : Text)
-    → (has_text l.names f || list_any (λ k. bytes_eq f k.now) l.name-iterator)
+    → (set_has l.names f || list_any (λ k. bytes_eq f k.now) l.name-iterator)
     ≡ list_any (λ k. bytes_eq f k.now) (keys_of l.features.entries)

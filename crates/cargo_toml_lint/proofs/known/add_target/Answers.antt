@@ -1,7 +1,7 @@
 use Rattle.std.proofs.lemmas.Result.{on_ok_weaker}
 use Rattle.cargo_toml.specs.Dependencies.{dependency_meaning}
 use Rattle.cargo_toml.specs.Reads.{map_meaning}
-use Rattle.cargo_toml.specs.Views.{has_text}
+use Rattle.cargo_toml.specs.Views.{set_has}
 use Rattle.cargo_toml_lint.specs.Known.{has_entry}
 use Rattle.cargo_toml_lint.specs.Names.{tried}
 use Rattle.cargo_toml_lint.proofs.Names.{three_tables}
@@ -15,6 +15,6 @@ returns c =
     (map_meaning dependency_meaning t.dependencies)
     (map_meaning dependency_meaning t.build_dependencies)
     (map_meaning dependency_meaning t.dev_dependencies)
-    (has_text c.args.keys.now k) _ _ _ (c.in_ok-add_table.ensures k) (c.in_ok-add_table-2.ensures k)
+    (set_has c.args.keys.now k) _ _ _ (c.in_ok-add_table.ensures k) (c.in_ok-add_table-2.ensures k)
     (added k))
     c.add_table-3.ensures

@@ -2,7 +2,7 @@ use Rattle.std.proofs.Common.{◌||◌, Global, List, String, Vec, map, string_b
 use Rattle.std.proofs.lemmas.Map.Iter.{rest_more, rest_all}
 use Rattle.std.specs.Map.Iter.{deref}
 use Rattle.cargo_toml.specs.Action.{Text}
-use Rattle.cargo_toml.specs.Views.{has_text}
+use Rattle.cargo_toml.specs.Views.{set_has}
 use Rattle.cargo_toml_features.proofs.TextKeys.{none_in}
 use Rattle.cargo_toml_lint.specs.Known.{reserves, says}
 use Rattle.cargo_toml_lint.proofs.Gathered.{ends, goes_on, starts}
@@ -18,18 +18,18 @@ loop-texts-init c = λ k.
 pub loop-texts-preserved : goal.loop-texts-preserved
 loop-texts-preserved c = λ k.
     goes_on (λ (v : Vec (String Global) Global). says (reserves k) (map string_bytes v.items))
-    (has_text c.loop-texts.reserved k)
-    (has_text c.add_reserved.new.reserved k) c.in-Some.texts.now _ _ _
+    (set_has c.loop-texts.reserved k)
+    (set_has c.add_reserved.new.reserved k) c.in-Some.texts.now _ _ _
     (rest_more deref _ _ _ c.in-Some.texts c.in-Some.is c.next.ensures.steps)
     (c.in_ok-add_reserved.ensures k
-    ∙ ap (λ xs. has_text c.loop-texts.reserved k
+    ∙ ap (λ xs. set_has c.loop-texts.reserved k
     || says (reserves k) (map string_bytes xs)) c.as_slice.ensures.value)
     (c.loop-texts.invariant k)
 
 pub returns : goal.returns
 returns c = λ k.
     ends (λ (v : Vec (String Global) Global). says (reserves k) (map string_bytes v.items))
-    (has_text c.loop-texts.reserved k) _ _
+    (set_has c.loop-texts.reserved k) _ _
     (rest_all deref _ _ _ c.in-None.is c.next.ensures.steps) (c.loop-texts.invariant k)
     ∙ any_values (λ (ts : List Text). says (reserves k) ts) string_bytes
     (λ (v : Vec (String Global) Global). map string_bytes v.items) c.args.features.now.entries

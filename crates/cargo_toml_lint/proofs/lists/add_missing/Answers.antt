@@ -1,7 +1,7 @@
 use Rattle.std.proofs.Common.{◌&&◌, Bool, arith, bytes_eq, string_bytes, sym, ap, ◌∙◌}
 use Rattle.std.proofs.lemmas.Bool.{and_right}
 use Rattle.cargo_toml.specs.Action.{Text, item_of}
-use Rattle.cargo_toml.specs.Views.{has_text, table_in}
+use Rattle.cargo_toml.specs.Views.{set_has, table_in}
 use Rattle.cargo_toml_lint.specs.Findings.{is_missing}
 use Rattle.cargo_toml_lint.specs.Names.{held_names}
 use Rattle.cargo_toml_lint.proofs.Gathered.{any_more, more_hits, no_hit, put_if}
@@ -19,19 +19,19 @@ loop-text-preserved g c = λ f.
     && test text) string_bytes c.args.required.now c.loop-text.text-index c.text-item.result
     (omega arith) c.text-item.is in
     elim c.if-is_missing.branch [
-      | then-is_missing+in_ok-insert w ↦ more_hits (has_text c.args.names.now f) _
-          (has_text c.loop-text.names f) (has_text c.if-is_missing.names f) _ _
+      | then-is_missing+in_ok-insert w ↦ more_hits (set_has c.args.names.now f) _
+          (set_has c.loop-text.names f) (set_has c.if-is_missing.names f) _ _
           (c.loop-text.invariant f)
-          (put_if (has_text c.loop-text.names f) (has_text c.if-is_missing.names f)
+          (put_if (set_has c.loop-text.names f) (set_has c.if-is_missing.names f)
           (bytes_eq f (string_bytes c.text-item.result))
           (test (string_bytes c.text-item.result)) (sym told ∙ w.if-is_missing.true)
-          (ap (λ s. has_text s f) w.names-is
+          (ap (λ s. set_has s f) w.names-is
           ∙ put_key c.as_str-text.result.now
           (string_bytes c.text-item.result) c.loop-text.names w.insert.new.self
           c.as_str-text.ensures.value w.in_ok-insert.ensures.updates f))
           more
-      | else-is_missing w ↦ ap (λ s. has_text s f) w.names-is
-          ∙ no_hit (has_text c.args.names.now f) _ (has_text c.loop-text.names f) _ _
+      | else-is_missing w ↦ ap (λ s. set_has s f) w.names-is
+          ∙ no_hit (set_has c.args.names.now f) _ (set_has c.loop-text.names f) _ _
           (c.loop-text.invariant f)
           (and_right (bytes_eq f (string_bytes c.text-item.result))
           (test (string_bytes c.text-item.result)) (sym told ∙ w.if-is_missing.false)) more

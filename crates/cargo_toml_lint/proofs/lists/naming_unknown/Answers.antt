@@ -2,7 +2,7 @@ use Rattle.std.proofs.Common.{Bool, List, map, string_bytes, ap, ◌∙◌}
 use Rattle.std.proofs.lemmas.Map.Iter.{rest_more, rest_all}
 use Rattle.std.specs.Map.Iter.{deref_pair}
 use Rattle.cargo_toml.specs.Action.{Text}
-use Rattle.cargo_toml.specs.Views.{has_text}
+use Rattle.cargo_toml.specs.Views.{set_has}
 use Rattle.cargo_toml_lint.specs.Findings.{is_unknown}
 use Rattle.cargo_toml_lint.specs.Known.{says}
 use Rattle.cargo_toml_lint.specs.Names.{held_names}
@@ -18,7 +18,7 @@ loop-name-preserved-in_ok-insert c = λ f.
     (c.in-Some.name, c.in-Some.texts) c.in-Some.is c.next.ensures.steps) c.has_unknown.result
     (c.has_unknown.ensures ∙ ap (λ xs. says (is_unknown (held_names c.args.known.now))
     (map string_bytes xs)) c.as_slice.ensures.value) _ c.if-has_unknown.true
-    (has_text c.loop-name.names f) (has_text c.insert.new.self f)
+    (set_has c.loop-name.names f) (set_has c.insert.new.self f)
     (put_key c.as_str.result.now
     (string_bytes c.in-Some.name.now) c.loop-name.names c.insert.new.self c.as_str.ensures.value
     c.in_ok-insert.ensures.updates f)
@@ -32,10 +32,10 @@ loop-name-preserved c = λ f.
     (c.in-Some.name, c.in-Some.texts) c.in-Some.is c.next.ensures.steps) c.has_unknown.result
     (c.has_unknown.ensures ∙ ap (λ xs. says (is_unknown (held_names c.args.known.now))
     (map string_bytes xs)) c.as_slice.ensures.value) _ c.if-has_unknown.false
-    (has_text c.loop-name.names f) (c.loop-name.invariant f)
+    (set_has c.loop-name.names f) (c.loop-name.invariant f)
 
 pub returns : goal.returns
 returns c = λ f.
-    ends _ (has_text c.loop-name.names f) _ _
+    ends _ (set_has c.loop-name.names f) _ _
     (ap (map (λ e. (string_bytes e.0, map string_bytes e.1.items)))
     (rest_all deref_pair _ _ _ c.in-None.is c.next.ensures.steps)) (c.loop-name.invariant f)

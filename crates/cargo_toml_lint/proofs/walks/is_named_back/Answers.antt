@@ -4,7 +4,7 @@ use Rattle.std.specs.List.{list_any}
 use Rattle.std.specs.Map.Iter.{deref}
 use Rattle.std.specs.Option.{option_map_or}
 use Rattle.cargo_toml.specs.Feature.{Feature}
-use Rattle.cargo_toml.specs.Views.{has_text, value_at}
+use Rattle.cargo_toml.specs.Views.{set_has, value_at}
 use Rattle.cargo_toml_lint.proofs.Gathered.{hit_settles, miss_passes}
 use Rattle.cargo_toml_lint.proofs.walks.is_named_back.Goals as goal
 
@@ -12,7 +12,7 @@ pub returns-then-names_back : goal.returns-then-names_back
 returns-then-names_back g c =
     let test : Bor (List ℕ) → Bool =
     λ k. option_map_or
-    (λ (v : Bor Feature). has_text v.now.enables_features c.args.feature.now.key.now)
+    (λ (v : Bor Feature). set_has v.now.enables_features c.args.feature.now.key.now)
     (value_at c.args.enabled.now k.now) false in
     sym (hit_settles test c.in-Some.other.now _ _ _
     (rest_more deref _ _ _ c.in-Some.other c.in-Some.is c.next.ensures.steps)
@@ -22,7 +22,7 @@ pub loop-other-preserved : goal.loop-other-preserved
 loop-other-preserved g c =
     let test : Bor (List ℕ) → Bool =
     λ k. option_map_or
-    (λ (v : Bor Feature). has_text v.now.enables_features c.args.feature.now.key.now)
+    (λ (v : Bor Feature). set_has v.now.enables_features c.args.feature.now.key.now)
     (value_at c.args.enabled.now k.now) false in
     miss_passes test c.in-Some.other.now _ _ _
     (rest_more deref _ _ _ c.in-Some.other c.in-Some.is c.next.ensures.steps)
@@ -32,7 +32,7 @@ pub returns : goal.returns
 returns g c =
     let test : Bor (List ℕ) → Bool =
     λ k. option_map_or
-    (λ (v : Bor Feature). has_text v.now.enables_features c.args.feature.now.key.now)
+    (λ (v : Bor Feature). set_has v.now.enables_features c.args.feature.now.key.now)
     (value_at c.args.enabled.now k.now) false in
     sym (ap (list_any test) (rest_all deref _ _ _ c.in-None.is c.next.ensures.steps))
     ∙ c.loop-other.invariant

@@ -2,7 +2,7 @@ use Rattle.std.proofs.Common.{◌≡◌, ◌<◌, ℕ, length, subst, sym, ◌�
 use Rattle.cargo_toml_resolve.specs.KeptFeatures.{ArePassedAt}
 use Rattle.cargo_toml_resolve.specs.Holding.{AllTakeOver}
 use Rattle.cargo_toml_resolve.specs.Passing.{bins_of, passed_below}
-use Rattle.cargo_toml_resolve.specs.Texts.{texts_of}
+use Rattle.cargo_toml_resolve.specs.Texts.{texts_now}
 use Rattle.cargo_toml_resolve.proofs.KeptEnablers.{learnt_through}
 use Rattle.cargo_toml_resolve.proofs.Learning.{own_still, stand_still, there_too}
 use Rattle.cargo_toml_resolve.proofs.Placing.{bins_there, kept_there, named_alike_there, redirects_there}
@@ -18,7 +18,7 @@ returns c =
     let mid = c.walk.new.features.items in
     let left = c.take_over_all.new.features.items in
     let new = c.pass_bins.new.features.items in
-    let ts = texts_of g.texts.items in
+    let ts = texts_now g.texts.items in
     let es = g.edges.items in
     let ns = g.names.items in
     let fs = g.flags.items in
@@ -27,7 +27,7 @@ returns c =
     let others = c.in_ok-pass_bins.ensures.others in
     let leaves : AllTakeOver fs ps ms ts mid left =
     subst (λ f. AllTakeOver f.items ps ms ts mid left) found.flags
-    (subst (λ t. AllTakeOver w.flags.items ps ms (texts_of t.items) mid left) found.texts c.in_ok-take_over_all.ensures) in
+    (subst (λ t. AllTakeOver w.flags.items ps ms (texts_now t.items) mid left) found.texts c.in_ok-take_over_all.ensures) in
     let passed : (y : ℕ) → y < length left → bins_of new y ≡ passed_below w.redirects.items fs (length left) (bins_of left) y =
     subst (λ f. (y : ℕ) → y < length left → bins_of new y ≡ passed_below w.redirects.items f.items (length left) (bins_of left) y) found.flags
     (subst (λ f. (y : ℕ) → y < length left → bins_of new y ≡ passed_below w.redirects.items f (length left) (bins_of left) y) c.as_slice-2.ensures.value

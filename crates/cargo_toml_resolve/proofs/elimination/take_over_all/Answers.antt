@@ -1,7 +1,7 @@
 use Rattle.std.proofs.Common.{rules, ◌≡◌, ◌<◌, true, false, length, subst, ◌∙◌}
 use Rattle.cargo_toml_walk.specs.Numbers.{IsWanted}
 use Rattle.cargo_toml_walk.proofs.Steps.{read_at}
-use Rattle.cargo_toml_resolve.specs.Texts.{texts_of}
+use Rattle.cargo_toml_resolve.specs.Texts.{texts_now}
 use Rattle.cargo_toml_resolve.proofs.TakingOverAll.{TakeOverUpTo, all_taken_over, one_more_taken_over, skips}
 use Rattle.cargo_toml_resolve.proofs.elimination.take_over_all.Goals as goal
 use Rattle.cargo_toml_resolve.proofs.elimination.take_over_all.Goals.{then-not-index+in_ok-take_over, else-not-index}
@@ -10,7 +10,7 @@ pub loop-at-preserved : goal.loop-at-preserved
 loop-at-preserved c =
     let w = c.args.walked.now in
     let f = w.flags.items in
-    let ts = texts_of w.texts.items in
+    let ts = texts_now w.texts.items in
     let old = c.args.features.now.items in
     let n = c.loop-at.at in
     let inside : n < length w.redirects.items = search rules in
@@ -30,7 +30,7 @@ pub returns : goal.returns
 returns c =
     let w = c.args.walked.now in
     let f = w.flags.items in
-    let ts = texts_of w.texts.items in
+    let ts = texts_now w.texts.items in
     let old = c.args.features.now.items in
     let end : c.loop-at.at ≡ length old = search rules in
     all_taken_over f w.passed.items w.named.items ts old c.loop-at.features.items

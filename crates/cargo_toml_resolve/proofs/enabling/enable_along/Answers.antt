@@ -2,7 +2,7 @@ use Rattle.std.proofs.Common.{◌≡◌, ◌<◌, ◌+◌, get_or, take, take_al
 use Rattle.cargo_toml_graph.specs.Reach.{Among}
 use Rattle.cargo_toml_features.proofs.Places.{among_at}
 use Rattle.cargo_toml_walk.proofs.Steps.{among_more, item_is}
-use Rattle.cargo_toml_resolve.specs.Enabling.{Enables}
+use Rattle.cargo_toml_resolve.specs.Enabling.{GainEnabler}
 use Rattle.cargo_toml_resolve.proofs.Learning.{nobody_enabled, then_enabled}
 use Rattle.cargo_toml_resolve.proofs.enabling.enable_along.Goals as goal
 
@@ -25,4 +25,4 @@ loop-at-preserved c =
 pub returns : goal.returns
 returns c =
     let all : take c.loop-at.at-index c.args.row.now ≡ c.args.row.now = take_all c.loop-at.at-index c.args.row.now c.loop-at-test.false in
-    subst (λ row. Enables (Among row) c.args.source.now c.args.features.now.items c.loop-at.features.items) all c.loop-at.invariant
+    subst (λ row. GainEnabler (Among row) c.args.source.now c.args.features.now.items c.loop-at.features.items) all c.loop-at.invariant

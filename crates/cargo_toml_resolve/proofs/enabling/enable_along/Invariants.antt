@@ -1,7 +1,7 @@
 use Rattle.std.proofs.Common.{take}
 use Rattle.cargo_toml_graph.specs.Reach.{Among}
-use Rattle.cargo_toml_resolve.specs.Enabling.{Enables}
+use Rattle.cargo_toml_resolve.specs.Enabling.{GainEnabler}
 use Rattle.cargo_toml_resolve.proofs.enabling.enable_along.Given as goal
 
 abbrev pub invariant-loop-at : goal.invariant-loop-at
-invariant-loop-at l = Enables (Among (take l.at-index l.row)) l.source l.initial.features.items l.features.items
+invariant-loop-at l = GainEnabler (Among (take l.at-index l.row)) l.source l.initial.features.items l.features.items

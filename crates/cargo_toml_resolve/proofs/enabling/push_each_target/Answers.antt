@@ -1,8 +1,8 @@
 use Rattle.std.proofs.Common.{IsTrue}
 use Rattle.cargo_toml_graph.specs.Graph.{IsPlain}
-use Rattle.cargo_toml_features.specs.Places.{text_at}
-use Rattle.cargo_toml_features.specs.Views.{action_at, has_text}
-use Rattle.cargo_toml_resolve.specs.Texts.{texts_of}
+use Rattle.cargo_toml_features.specs.Places.{nth_text}
+use Rattle.cargo_toml_features.specs.Views.{action_at, set_has}
+use Rattle.cargo_toml_resolve.specs.Texts.{texts_now}
 use Rattle.cargo_toml_resolve.proofs.NumberRows.{both_gained}
 use Rattle.cargo_toml_resolve.proofs.enabling.push_each_target.Goals as goal
 
@@ -10,5 +10,5 @@ pub returns : goal.returns
 returns c =
     let keys = c.args.keys.now in
     let v = c.args.feature.now in
-    both_gained keys c.args.own (λ x. IsTrue (has_text v.enables_features (text_at (texts_of keys) x))) (λ x. IsPlain (action_at v.enables_deps (text_at (texts_of keys) x)))
+    both_gained keys c.args.own (λ x. IsTrue (set_has v.enables_features (nth_text (texts_now keys) x))) (λ x. IsPlain (action_at v.enables_deps (nth_text (texts_now keys) x)))
     c.args.row.now.items c.push_names.new.row.items c.push_actions.new.row.items c.in_ok-near.ensures c.in_ok-push_actions.ensures

@@ -3,7 +3,7 @@ use Rattle.std.proofs.lemmas.List.{length-map}
 use Rattle.cargo_toml_graph.specs.Action.{Text}
 use Rattle.cargo_toml_features.specs.declared.features.Feature.{Feature}
 use Rattle.cargo_toml_features.specs.InOrder.{names_of}
-use Rattle.cargo_toml_resolve.specs.Texts.{texts_of}
+use Rattle.cargo_toml_resolve.specs.Texts.{texts_now}
 use Rattle.cargo_toml_resolve.proofs.Learning.{HaveLearnt, none_learnt, one_more_learnt, unremoved}
 use Rattle.cargo_toml_resolve.proofs.enabling.set_enablers.Goals as goal
 
@@ -25,7 +25,7 @@ pub returns-clause-unremoved : goal.returns-clause-unremoved
 returns-clause-unremoved c = λ t made.
     let vs = c.args.features.now.items in
     let keys = c.in_ok-keys.keys.items in
-    let are : texts_of keys ≡ names_of vs = c.in_ok-keys.ensures ∙ ap names_of c.as_slice.ensures.value in
+    let are : texts_now keys ≡ names_of vs = c.in_ok-keys.ensures ∙ ap names_of c.as_slice.ensures.value in
     let long : length keys ≡ length vs = sym (length-map keys (λ (t : Bor Text). t.now)) ∙ ap length are ∙ length-map vs (λ (v : Feature). v.key.now) in
     let end = c.len-own-end.ensures in
     let test = c.loop-own-test.false in

@@ -1,12 +1,12 @@
 use Rattle.std.proofs.Common.{◌≡◌, ◌<◌, ℕ, false, length}
 use Rattle.std.specs.List.{slice_index_or}
 use Rattle.cargo_toml_features.specs.InOrder.{names_of}
-use Rattle.cargo_toml_features.specs.Places.{text_at}
+use Rattle.cargo_toml_features.specs.Places.{nth_text}
 use Rattle.cargo_toml_resolve.specs.Filter.{IsFlagOf}
 use Rattle.cargo_toml_resolve.proofs.flags.hidden_flags.Given as goal
 
 abbrev pub invariant-loop-feature : goal.invariant-loop-feature
 invariant-loop-feature g l = record {
   len : length l.flags.items ≡ l.feature-index;
-  flags : (i : ℕ) → i < l.feature-index → IsFlagOf g.F.Fn l.filter (text_at (names_of l.features) i) (slice_index_or l.flags.items i false);
+  flags : (i : ℕ) → i < l.feature-index → IsFlagOf g.F.Fn l.filter (nth_text (names_of l.features) i) (slice_index_or l.flags.items i false);
 }

@@ -1,6 +1,6 @@
 use Rattle.std.proofs.Common.{rules, ◌≡◌, ◌||◌, ap, ◌∙◌, map}
 use Rattle.std.proofs.lemmas.Map.Iter.{iter_end}
-use Rattle.cargo_toml_features.specs.Views.{has_text}
+use Rattle.cargo_toml_features.specs.Views.{set_has}
 use Rattle.cargo_toml_full.proofs.Gathering.{is_text_in}
 use Rattle.cargo_toml_features.proofs.TextKeys.{inserted}
 use Rattle.cargo_toml_resolve.proofs.Sets.{one_more}
@@ -12,4 +12,4 @@ loop-text-preserved c = λ x. one_more c.args.texts.now c.loop-text.texts c.inse
 pub returns : goal.returns
 returns c = λ x.
     let all : map (λ k. k.now) c.loop-text.yielded ≡ c.args.other.now.keys = search (rules, iter_end) in
-    c.loop-text.invariant x ∙ ap (λ ks. has_text c.args.texts.now x || is_text_in ks x) all
+    c.loop-text.invariant x ∙ ap (λ ks. set_has c.args.texts.now x || is_text_in ks x) all

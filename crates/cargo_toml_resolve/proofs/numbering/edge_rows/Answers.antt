@@ -1,11 +1,11 @@
 use Rattle.std.proofs.Common.{rules, ◌≢◌, ◌↔◌, ◌⊎◌, ◌<◌, ◌+◌, ℕ, length, refl, sym, subst}
 use Rattle.std.proofs.lemmas.Option.{slice_get_read}
 use Rattle.cargo_toml_graph.specs.Reach.{Among}
-use Rattle.cargo_toml_features.specs.Places.{text_at}
+use Rattle.cargo_toml_features.specs.Places.{nth_text}
 use Rattle.cargo_toml_walk.proofs.Filling.{IsFilled, one_more_filled}
 use Rattle.cargo_toml_resolve.specs.Enabling.{LeadsTo}
 use Rattle.cargo_toml_resolve.specs.Numbering.{IsTarget}
-use Rattle.cargo_toml_resolve.specs.Texts.{texts_of}
+use Rattle.cargo_toml_resolve.specs.Texts.{texts_now}
 use Rattle.cargo_toml_resolve.proofs.NumberRows.{target_is}
 use Rattle.cargo_toml_resolve.proofs.numbering.edge_rows.Goals as goal
 
@@ -18,8 +18,8 @@ loop-own-preserved c =
     let v = c.index-features-own-in-loop-own.result in
     let there = slice_get_read vs (length vs) own v refl below c.index-features-own-in-loop-own.is in
     let row = c.push_targets.new.row in
-    let P : ℕ → ℕ → Type 0 = λ i x. (x < length keys) × IsTarget vs (texts_of keys) i x in
+    let P : ℕ → ℕ → Type 0 = λ i x. (x < length keys) × IsTarget vs (texts_now keys) i x in
     subst (IsFilled P (own + 1)) (sym c.in_ok-push.ensures.items)
     (one_more_filled P own c.loop-own.rows.items row c.loop-own.invariant
     (target_is vs keys own v row.items there
-    (subst (λ xs. (x : ℕ) → Among row.items x ↔ (Among xs x ⊎ ((x < length keys) × (x ≢ own) × LeadsTo v (text_at (texts_of keys) x)))) c.in_ok-row.ensures.items (rw c.at.ensures at c.in_ok-near.ensures))))
+    (subst (λ xs. (x : ℕ) → Among row.items x ↔ (Among xs x ⊎ ((x < length keys) × (x ≢ own) × LeadsTo v (nth_text (texts_now keys) x)))) c.in_ok-row.ensures.items (rw c.at.ensures at c.in_ok-near.ensures))))

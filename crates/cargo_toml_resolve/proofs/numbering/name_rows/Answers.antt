@@ -2,12 +2,12 @@ use Rattle.std.proofs.Common.{rules, ◌↔◌, ◌<◌, ◌+◌, ℕ, true, fal
 use Rattle.std.proofs.lemmas.Option.{slice_get_read}
 use Rattle.cargo_toml_graph.specs.Reach.{Among}
 use Rattle.cargo_toml_features.specs.declared.features.Feature.{Feature}
-use Rattle.cargo_toml_features.specs.Places.{text_at}
-use Rattle.cargo_toml_features.specs.Views.{has_text}
+use Rattle.cargo_toml_features.specs.Places.{nth_text}
+use Rattle.cargo_toml_features.specs.Views.{set_has}
 use Rattle.cargo_toml_walk.proofs.Filling.{IsFilled, one_more_filled}
 use Rattle.cargo_toml_walk.specs.Numbers.{IsWanted}
 use Rattle.cargo_toml_resolve.specs.Numbering.{IsPicked}
-use Rattle.cargo_toml_resolve.specs.Texts.{texts_of}
+use Rattle.cargo_toml_resolve.specs.Texts.{texts_now}
 use Rattle.cargo_toml_resolve.proofs.NumberRows.{picked_is, unpicked_is}
 use Rattle.cargo_toml_resolve.proofs.numbering.name_rows.Goals as goal
 use Rattle.cargo_toml_resolve.proofs.numbering.name_rows.Goals.{then-naming-i+in_ok-row+in_ok-push, else-naming-i+in_ok-push-2}
@@ -19,14 +19,14 @@ loop-i-preserved c =
     let fs = c.args.naming.now in
     let i = c.loop-i.i in
     let inside : i < length vs = search rules in
-    let P : ℕ → ℕ → Type 0 = λ j x. (x < length ts) × IsPicked fs vs j (text_at (texts_of ts) x) in
+    let P : ℕ → ℕ → Type 0 = λ j x. (x < length ts) × IsPicked fs vs j (nth_text (texts_now ts) x) in
     elim c.if-naming-i.branch [
       | then-naming-i+in_ok-row+in_ok-push w ↦
           let on : IsWanted fs true i = search rules in
           let there = slice_get_read vs (length vs) i w.index-features-i.result refl inside w.index-features-i.is in
           rw (w.rows-is) (subst (IsFilled P (i + 1)) (sym w.in_ok-push.ensures.items)
           (one_more_filled P i c.loop-i.rows.items w.in_ok-row.row c.loop-i.invariant (picked_is fs vs ts i w.index-features-i.result w.in_ok-row.row.items there on
-          (subst (λ (v : Feature). (x : ℕ) → Among w.in_ok-row.row.items x ↔ ((x < length ts) × IsTrue (has_text v.enables_features (text_at (texts_of ts) x)))) (sym w.index-features-i.is) w.in_ok-row.ensures))))
+          (subst (λ (v : Feature). (x : ℕ) → Among w.in_ok-row.row.items x ↔ ((x < length ts) × IsTrue (set_has v.enables_features (nth_text (texts_now ts) x)))) (sym w.index-features-i.is) w.in_ok-row.ensures))))
       | else-naming-i+in_ok-push-2 w ↦
           let off : IsWanted fs false i = search rules in
           rw (w.rows-is) (subst (IsFilled P (i + 1)) (sym w.in_ok-push-2.ensures.items)

@@ -7,7 +7,7 @@ use Rattle.cargo_toml_features.proofs.Places.{Ascends}
 use Rattle.cargo_toml_features.specs.InOrder.{names_of}
 use Rattle.cargo_toml_resolve.specs.NumberedTables.{IsNaming}
 use Rattle.cargo_toml_resolve.specs.Numbering.{AreTextsOf}
-use Rattle.cargo_toml_resolve.specs.Texts.{texts_of}
+use Rattle.cargo_toml_resolve.specs.Texts.{texts_now}
 use Rattle.cargo_toml_resolve.proofs.NumberingGraph.{graph_stands, named_by, targets_by}
 use Rattle.cargo_toml_resolve.proofs.numbering.number.Goals as goal
 
@@ -21,7 +21,7 @@ pub naming_flags-requires-clause-inside : goal.naming_flags-requires-clause-insi
 naming_flags-requires-clause-inside c =
     let vs = c.args.features.now in
     let es = c.in_ok-edges.edges.items in
-    let same : texts_of c.as_slice.result.now ≡ names_of vs = ap texts_of c.as_slice.ensures.value ∙ c.in_ok-keys.ensures in
+    let same : texts_now c.as_slice.result.now ≡ names_of vs = ap texts_now c.as_slice.ensures.value ∙ c.in_ok-keys.ensures in
     rw c.as_slice-2.ensures.value (λ a b l.
     let below : a < length vs = subst (λ n. a < n) c.in_ok-edges.ensures.len (has_row es a b l) in
     subst (λ n. b < n) (sym c.requires.len) ((targets_by vs es c.as_slice.result.now same c.in_ok-edges.ensures.rows a b below).0 l).0)
@@ -34,11 +34,11 @@ returns-clause-numbered c =
     let ns = c.in_ok-names.names.items in
     let asked = c.in_ok-naming.naming.items in
     let size : length c.in_ok-flags.flags.items ≡ length ts = search rules in
-    let same : texts_of c.as_slice.result.now ≡ names_of vs = ap texts_of c.as_slice.ensures.value ∙ c.in_ok-keys.ensures in
-    let are : AreTextsOf asked vs (texts_of ts) = rw c.as_slice-3.ensures.value at c.in_ok-texts.ensures in
+    let same : texts_now c.as_slice.result.now ≡ names_of vs = ap texts_now c.as_slice.ensures.value ∙ c.in_ok-keys.ensures in
+    let are : AreTextsOf asked vs (texts_now ts) = rw c.as_slice-3.ensures.value at c.in_ok-texts.ensures in
     let picked : (i : ℕ) → i < length vs → IsNaming es c.args.flags.now i → IsWanted asked true i = λ i lt is.
     (rw c.as_slice-2.ensures.value at c.in_ok-naming.ensures.naming) i (subst (λ n. i < n) (sym c.in_ok-edges.ensures.len) lt) is in
-    graph_stands vs c.args.flags.now asked (texts_of ts) es ns c.in_ok-flags.flags.items c.requires.in_order c.requires.len are picked
+    graph_stands vs c.args.flags.now asked (texts_now ts) es ns c.in_ok-flags.flags.items c.requires.in_order c.requires.len are picked
     c.in_ok-names.ensures.len (named_by asked c.as_slice-4.result.now vs ns c.as_slice-5.result.now ts c.as_slice-5.ensures.value c.as_slice-4.ensures.value c.in_ok-names.ensures.rows)
     c.in_ok-edges.ensures.len (targets_by vs es c.as_slice.result.now same c.in_ok-edges.ensures.rows)
     (size ∙ sym (length-map ts (λ (t : Bor Text). t.now))) c.in_ok-flags.ensures.flags
@@ -51,12 +51,12 @@ invariant_of-result c =
     let ns = c.in_ok-names.names.items in
     let asked = c.in_ok-naming.naming.items in
     let size : length c.in_ok-flags.flags.items ≡ length ts = search rules in
-    let long : length (texts_of ts) ≡ length ts = length-map ts (λ (t : Bor Text). t.now) in
-    let same : texts_of c.as_slice.result.now ≡ names_of vs = ap texts_of c.as_slice.ensures.value ∙ c.in_ok-keys.ensures in
-    let are : AreTextsOf asked vs (texts_of ts) = rw c.as_slice-3.ensures.value at c.in_ok-texts.ensures in
+    let long : length (texts_now ts) ≡ length ts = length-map ts (λ (t : Bor Text). t.now) in
+    let same : texts_now c.as_slice.result.now ≡ names_of vs = ap texts_now c.as_slice.ensures.value ∙ c.in_ok-keys.ensures in
+    let are : AreTextsOf asked vs (texts_now ts) = rw c.as_slice-3.ensures.value at c.in_ok-texts.ensures in
     let picked : (i : ℕ) → i < length vs → IsNaming es c.args.flags.now i → IsWanted asked true i = λ i lt is.
     (rw c.as_slice-2.ensures.value at c.in_ok-naming.ensures.naming) i (subst (λ n. i < n) (sym c.in_ok-edges.ensures.len) lt) is in
-    let n = graph_stands vs c.args.flags.now asked (texts_of ts) es ns c.in_ok-flags.flags.items c.requires.in_order c.requires.len are picked
+    let n = graph_stands vs c.args.flags.now asked (texts_now ts) es ns c.in_ok-flags.flags.items c.requires.in_order c.requires.len are picked
     c.in_ok-names.ensures.len (named_by asked c.as_slice-4.result.now vs ns c.as_slice-5.result.now ts c.as_slice-5.ensures.value c.as_slice-4.ensures.value c.in_ok-names.ensures.rows)
     c.in_ok-edges.ensures.len (targets_by vs es c.as_slice.result.now same c.in_ok-edges.ensures.rows)
     (size ∙ sym long) c.in_ok-flags.ensures.flags in

@@ -2,13 +2,13 @@ use Rattle.std.proofs.Common.{◌≡◌, ◌≤◌, ◌+◌, take, length, get_o
 use Rattle.cargo_toml_graph.specs.Reach.{Among}
 use Rattle.cargo_toml_walk.proofs.Steps.{among_more, item_at, item_is}
 use Rattle.cargo_toml_resolve.specs.Puts.{Puts}
-use Rattle.cargo_toml_resolve.specs.Texts.{texts_of}
+use Rattle.cargo_toml_resolve.specs.Texts.{texts_now}
 use Rattle.cargo_toml_resolve.proofs.PutAlong.{put_nowhere, put_past, then_put}
 use Rattle.cargo_toml_resolve.proofs.passing.put_along.Goals as goal
 use Rattle.cargo_toml_resolve.proofs.passing.put_along.Goals.{then-place-len+in_ok-put_at, else-place-len}
 
 pub loop-at-init : goal.loop-at-init
-loop-at-init c = record { put = put_nowhere (texts_of c.args.bins.now) c.args.features.now.items; known = c.requires }
+loop-at-init c = record { put = put_nowhere (texts_now c.args.bins.now) c.args.features.now.items; known = c.requires }
 
 pub put_at-requires-clause-known : goal.put_at-requires-clause-known
 put_at-requires-clause-known c = c.loop-at.invariant.known
@@ -17,7 +17,7 @@ pub loop-at-preserved : goal.loop-at-preserved
 loop-at-preserved c =
     let row = c.args.row.now in
     let i = c.loop-at.at-index in
-    let bins = texts_of c.args.bins.now in
+    let bins = texts_now c.args.bins.now in
     elim c.if-place-len.branch [
       | then-place-len+in_ok-put_at w ↦ rw (w.features-is) (rw (w.known-is) (record {
         put = then_put (Among (take i row)) (λ y. y ≡ get_or row i 0) (Among (take (i + 1) row)) bins c.args.features.now.items c.loop-at.features.items c.loop-at.invariant.put
@@ -36,4 +36,4 @@ loop-at-preserved c =
 pub returns-clause-put : goal.returns-clause-put
 returns-clause-put c =
     let all : take c.loop-at.at-index c.args.row.now ≡ c.args.row.now = take_all c.loop-at.at-index c.args.row.now c.loop-at-test.false in
-    subst (λ row. Puts (Among row) (texts_of c.args.bins.now) c.args.features.now.items c.loop-at.features.items) all c.loop-at.invariant.put
+    subst (λ row. Puts (Among row) (texts_now c.args.bins.now) c.args.features.now.items c.loop-at.features.items) all c.loop-at.invariant.put

@@ -1,11 +1,11 @@
 use Rattle.std.proofs.Common.{◌≡◌, take}
-use Rattle.cargo_toml_graph.specs.Removal.{put_all}
+use Rattle.cargo_toml_graph.specs.Removal.{put_each}
 use Rattle.cargo_toml_resolve.specs.KnownBins.{Knows}
-use Rattle.cargo_toml_resolve.specs.Texts.{texts_of}
+use Rattle.cargo_toml_resolve.specs.Texts.{texts_now}
 use Rattle.cargo_toml_resolve.proofs.passing.put_bins.Given as goal
 
 abbrev pub invariant-loop-bin : goal.invariant-loop-bin
 invariant-loop-bin l = record {
-  put : texts_of l.own.items ≡ put_all (texts_of l.initial.own.items) (texts_of (take l.bin-index l.bins));
-  known : Knows l.known (texts_of l.own.items);
+  put : texts_now l.own.items ≡ put_each (texts_now l.initial.own.items) (texts_now (take l.bin-index l.bins));
+  known : Knows l.known (texts_now l.own.items);
 }

@@ -2,7 +2,7 @@ use Rattle.std.proofs.Common.{rules, ◌≡◌, ◌≢◌, false, get_or, subst,
 use Rattle.cargo_toml_graph.specs.Reach.{Among}
 use Rattle.cargo_toml_walk.specs.Numbers.{IsWanted}
 use Rattle.cargo_toml_walk.proofs.Steps.{among_at, item_at, item_is}
-use Rattle.cargo_toml_resolve.specs.Enabling.{Enables}
+use Rattle.cargo_toml_resolve.specs.Enabling.{GainEnabler}
 use Rattle.cargo_toml_resolve.proofs.KeptEnablers.{none_enabled, with_enabled, without_enabled}
 use Rattle.cargo_toml_resolve.proofs.reaching.enable_kept.Goals as goal
 use Rattle.cargo_toml_resolve.proofs.reaching.enable_kept.Goals.{then-not-is_removed-place+in_ok-enable_at, else-not-is_removed-place}
@@ -38,4 +38,4 @@ loop-at-preserved c =
 pub returns : goal.returns
 returns c =
     let all : take c.loop-at.at-index c.args.row.now ≡ c.args.row.now = take_all c.loop-at.at-index c.args.row.now c.loop-at-test.false in
-    subst (λ row. Enables (λ y. Among row y × IsWanted c.args.is_removed.now false y) c.args.source.now c.args.features.now.items c.loop-at.features.items) all c.loop-at.invariant
+    subst (λ row. GainEnabler (λ y. Among row y × IsWanted c.args.is_removed.now false y) c.args.source.now c.args.features.now.items c.loop-at.features.items) all c.loop-at.invariant

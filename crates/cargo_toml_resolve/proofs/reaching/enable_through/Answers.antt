@@ -1,10 +1,10 @@
 use Rattle.std.proofs.Common.{rules, ◌≡◌, ◌<◌, ℕ, List, [], ◌∷◌, Result, Ok, Err, OnOk, get_or, length, refl, sym, subst, arith}
 use Rattle.cargo_toml_graph.specs.Reach.{Among}
-use Rattle.cargo_toml_features.specs.Places.{text_at}
+use Rattle.cargo_toml_features.specs.Places.{nth_text}
 use Rattle.cargo_toml_walk.specs.Numbers.{HasLabel}
 use Rattle.cargo_toml_walk.proofs.Steps.{among_at}
-use Rattle.cargo_toml_resolve.specs.Enabling.{Enables}
-use Rattle.cargo_toml_resolve.specs.Texts.{texts_of}
+use Rattle.cargo_toml_resolve.specs.Enabling.{GainEnabler}
+use Rattle.cargo_toml_resolve.specs.Texts.{texts_now}
 use Rattle.cargo_toml_resolve.proofs.KeptEnablers.{alike_enabled, own_through, source_is}
 use Rattle.cargo_toml_resolve.proofs.reaching.enable_through.Goals as goal
 
@@ -32,9 +32,9 @@ returns-then-is_empty c =
     let none = none_among c.args.passed.now zero in
     let source = source_is g.texts.items c.args.own c.index-source.result.now inside (rw c.place.ensures at c.index-source.ensures) in
     on_ok c.enable_from.result (λ a.
-        subst (λ ps. Enables (HasLabel (Among ps) g.edges.items g.flags.items c.args.own) (text_at (texts_of g.texts.items) c.args.own) c.args.features.now.items c.enable_from.new.features.items) (sym none)
-        (subst (λ s. Enables (HasLabel (Among []) g.edges.items g.flags.items c.args.own) s c.args.features.now.items c.enable_from.new.features.items) source
-        (own_through g.edges.items g.flags.items c.args.passed.now c.args.own c.index-source.result.now.now c.args.features.now.items c.enable_from.new.features.items a)))
+    subst (λ ps. GainEnabler (HasLabel (Among ps) g.edges.items g.flags.items c.args.own) (nth_text (texts_now g.texts.items) c.args.own) c.args.features.now.items c.enable_from.new.features.items) (sym none)
+    (subst (λ s. GainEnabler (HasLabel (Among []) g.edges.items g.flags.items c.args.own) s c.args.features.now.items c.enable_from.new.features.items) source
+    (own_through g.edges.items g.flags.items c.args.passed.now c.args.own c.index-source.result.now.now c.args.features.now.items c.enable_from.new.features.items a)))
     c.enable_from.ensures
 
 pub enable_along-requires : goal.enable_along-requires
@@ -55,7 +55,7 @@ returns c =
     let some : 0 < length passed = search rules in
     let source = source_is g.texts.items c.args.own c.index-source.result.now inside (rw c.place.ensures at c.index-source.ensures) in
     on_ok c.enable_along.result (λ a.
-        subst (λ s. Enables (HasLabel (Among passed) g.edges.items g.flags.items c.args.own) s c.args.features.now.items c.enable_along.new.features.items) source
-        (alike_enabled (Among c.args.targets.now) (HasLabel (Among passed) g.edges.items g.flags.items c.args.own) c.index-source.result.now.now c.args.features.now.items c.enable_along.new.features.items
-        (c.requires.targets (get_or passed 0 0, among_at passed 0 some)) a))
+    subst (λ s. GainEnabler (HasLabel (Among passed) g.edges.items g.flags.items c.args.own) s c.args.features.now.items c.enable_along.new.features.items) source
+    (alike_enabled (Among c.args.targets.now) (HasLabel (Among passed) g.edges.items g.flags.items c.args.own) c.index-source.result.now.now c.args.features.now.items c.enable_along.new.features.items
+    (c.requires.targets (get_or passed 0 0, among_at passed 0 some)) a))
     c.enable_along.ensures

@@ -1,10 +1,10 @@
 use Rattle.std.proofs.Common.{rules, ◌≡◌, ◌↔◌, ◌<◌, ℕ, true, false, length, sym, subst, ◌∙◌, arith}
 use Rattle.cargo_toml_graph.specs.Reach.{Among}
-use Rattle.cargo_toml_features.specs.Places.{text_at}
+use Rattle.cargo_toml_features.specs.Places.{nth_text}
 use Rattle.cargo_toml_walk.specs.Numbers.{HasLabel, IsWanted, Leads}
 use Rattle.cargo_toml_walk.proofs.Steps.{list_read, read_at}
-use Rattle.cargo_toml_resolve.specs.Enabling.{Enables, LearnThrough}
-use Rattle.cargo_toml_resolve.specs.Texts.{texts_of}
+use Rattle.cargo_toml_resolve.specs.Enabling.{GainEnabler, LearnThrough}
+use Rattle.cargo_toml_resolve.specs.Texts.{texts_now}
 use Rattle.cargo_toml_resolve.proofs.KeptEnablers.{next_through, none_through, skip_through}
 use Rattle.cargo_toml_resolve.proofs.reaching.set_kept_enablers.Goals as goal
 use Rattle.cargo_toml_resolve.proofs.reaching.set_kept_enablers.Goals.{then-not-index+in_ok-enable_through, else-not-index}
@@ -21,19 +21,19 @@ enable_through-requires-clause-targets c =
     let read = c.as_slice-then-not-index.ensures.value ∙ sym (list_read passed own c.index-passed-own.result below c.index-passed-own.is) in
     let got = c.as_slice-then-not-index-2.ensures.value ∙ sym (list_read ts own c.index-then-not-index.result.now there c.index-then-not-index.ensures) in
     rw c.at.ensures (λ any x.
-        subst (λ xs. Among c.as_slice-then-not-index-2.result.now x ↔ HasLabel (Among xs) g.edges.items g.flags.items own x) (sym read)
-        (subst (λ ys. Among ys x ↔ HasLabel (Leads passed own) g.edges.items g.flags.items own x) (sym got)
-        (subst (λ fs. Leads ts own x ↔ HasLabel (Leads passed own) g.edges.items fs own x) c.as_slice-2.ensures.value
-        (subst (λ es. Leads ts own x ↔ HasLabel (Leads passed own) es c.as_slice-2.result.now own x) c.as_slice.ensures.value
-        (c.in_ok-targets.ensures.labels own x vertex (subst (λ xs. (b : ℕ) × Among xs b) read any))))))
+    subst (λ xs. Among c.as_slice-then-not-index-2.result.now x ↔ HasLabel (Among xs) g.edges.items g.flags.items own x) (sym read)
+    (subst (λ ys. Among ys x ↔ HasLabel (Leads passed own) g.edges.items g.flags.items own x) (sym got)
+    (subst (λ fs. Leads ts own x ↔ HasLabel (Leads passed own) g.edges.items fs own x) c.as_slice-2.ensures.value
+    (subst (λ es. Leads ts own x ↔ HasLabel (Leads passed own) es c.as_slice-2.result.now own x) c.as_slice.ensures.value
+    (c.in_ok-targets.ensures.labels own x vertex (subst (λ xs. (b : ℕ) × Among xs b) read any))))))
 
 pub loop-own-init : goal.loop-own-init
-loop-own-init c = none_through c.args.graph.now.edges.items c.args.graph.now.flags.items (texts_of c.args.graph.now.texts.items) c.args.features.now.items
+loop-own-init c = none_through c.args.graph.now.edges.items c.args.graph.now.flags.items (texts_now c.args.graph.now.texts.items) c.args.features.now.items
 
 pub loop-own-preserved : goal.loop-own-preserved
 loop-own-preserved c =
     let g = c.args.graph.now in
-    let ts = texts_of g.texts.items in
+    let ts = texts_now g.texts.items in
     let own = c.loop-own.own in
     let vs = c.args.features.now.items in
     let below : own < length c.args.passed.now = search rules in
@@ -42,8 +42,8 @@ loop-own-preserved c =
       | then-not-index+in_ok-enable_through w ↦
           let kept : IsWanted g.flags.items false own = search rules in
           let read = w.as_slice-then-not-index.ensures.value ∙ sym (list_read c.args.passed.now own w.index-passed-own.result below w.index-passed-own.is) in
-          let more : Enables (HasLabel (Leads c.args.passed.now own) g.edges.items g.flags.items own) (text_at ts own) c.loop-own.features.items w.enable_through.new.features.items =
-          subst (λ xs. Enables (HasLabel (Among xs) g.edges.items g.flags.items own) (text_at ts own) c.loop-own.features.items w.enable_through.new.features.items) read (rw w.at.ensures at w.in_ok-enable_through.ensures) in
+          let more : GainEnabler (HasLabel (Leads c.args.passed.now own) g.edges.items g.flags.items own) (nth_text ts own) c.loop-own.features.items w.enable_through.new.features.items =
+          subst (λ xs. GainEnabler (HasLabel (Among xs) g.edges.items g.flags.items own) (nth_text ts own) c.loop-own.features.items w.enable_through.new.features.items) read (rw w.at.ensures at w.in_ok-enable_through.ensures) in
           rw (w.features-is) (next_through g.edges.items g.flags.items ts own _ vs c.loop-own.features.items w.enable_through.new.features.items kept (λ b. c.requires.passed own b vertex kept) c.loop-own.invariant more)
       | else-not-index w ↦
           let fits = g.features_count in
@@ -61,4 +61,4 @@ returns c =
     let most = c.loop-own.auto.own-end in
     let len = c.requires.len in
     let all : c.loop-own.own ≡ length g.edges.items = omega (arith, end, most, len) in
-    subst (λ n. LearnThrough g.edges.items g.flags.items (texts_of g.texts.items) n c.args.features.now.items c.loop-own.features.items) all c.loop-own.invariant
+    subst (λ n. LearnThrough g.edges.items g.flags.items (texts_now g.texts.items) n c.args.features.now.items c.loop-own.features.items) all c.loop-own.invariant

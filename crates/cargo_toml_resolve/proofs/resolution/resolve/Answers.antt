@@ -4,12 +4,12 @@ use Rattle.cargo_toml_graph.specs.Action.{Text}
 use Rattle.cargo_toml_graph.specs.Graph.{Table}
 use Rattle.cargo_toml_features.specs.declared.features.Features.{Features}
 use Rattle.cargo_toml_features.specs.InOrder.{names_of}
-use Rattle.cargo_toml_full.specs.OwnBins.{own_of, requirement_of}
-use Rattle.cargo_toml_features.specs.Marks.{details_of}
+use Rattle.cargo_toml_full.specs.OwnBins.{own_of, bin_requirement}
+use Rattle.cargo_toml_features.specs.Marks.{named_details}
 use Rattle.cargo_toml_features.specs.Views.{answer_of, listed_of, entry_of, recorded_in}
 use Rattle.cargo_toml_features.specs.Recorded.{entries_at, recorded_of}
 use Rattle.cargo_toml_features.specs.Resolved.{SameRecorded, table_of}
-use Rattle.cargo_toml_features.specs.Places.{text_at}
+use Rattle.cargo_toml_features.specs.Places.{nth_text}
 use Rattle.cargo_toml_resolve.specs.Filter.{IsFlagOf}
 use Rattle.cargo_toml_resolve.specs.Numbering.{IsFlagged}
 use Rattle.cargo_toml_resolve.specs.Removed.{IsRemovedBy}
@@ -21,15 +21,15 @@ pub returns-clause-resolved : goal.returns-clause-resolved
 returns-clause-resolved g c =
     let listed = listed_of c.args.listings.now in
     let entries = map entry_of c.args.entries.now in
-    let details = details_of c.args.listings.now in
-    let own = own_of (map requirement_of c.args.requirements.now) in
+    let details = named_details c.args.listings.now in
+    let own = own_of (map bin_requirement c.args.requirements.now) in
     let t : Table = table_of listed entries in
     let all = c.in_ok-features.ensures in
     let vs = c.in_ok-features.field-0.features.items in
     let flags = c.in_ok-flags.flags.items in
     let len : length flags ≡ length vs = c.in_ok-flags.ensures.len ∙ ap length c.as_slice.ensures.value in
-    let are : (i : ℕ) → i < length vs → IsFlagOf g.F.Fn c.args.filter (text_at (names_of vs) i) (slice_index_or flags i false) =
-    subst (λ xs. (i : ℕ) → i < length xs → IsFlagOf g.F.Fn c.args.filter (text_at (names_of xs) i) (slice_index_or flags i false)) c.as_slice.ensures.value c.in_ok-flags.ensures.flags in
+    let are : (i : ℕ) → i < length vs → IsFlagOf g.F.Fn c.args.filter (nth_text (names_of vs) i) (slice_index_or flags i false) =
+    subst (λ xs. (i : ℕ) → i < length xs → IsFlagOf g.F.Fn c.args.filter (nth_text (names_of xs) i) (slice_index_or flags i false)) c.as_slice.ensures.value c.in_ok-flags.ensures.flags in
     let removed = flag_at vs flags in
     let is : (f : Text) → IsTrue (removed f) ↔ IsFlagged vs flags f = flag_is vs flags in
     let by = removed_by g.F.Fn c.args.filter c.requires.filter t vs all.table all.in_order flags are in

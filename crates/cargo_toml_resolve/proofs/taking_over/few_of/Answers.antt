@@ -2,7 +2,7 @@ use Rattle.std.proofs.Common.{rules, ◌≡◌, ◌<◌, [], Bor, get_or, length
 use Rattle.std.proofs.Math.ListN.{get_or-map}
 use Rattle.std.proofs.lemmas.List.{take_all}
 use Rattle.cargo_toml_graph.specs.Action.{Text}
-use Rattle.cargo_toml_resolve.specs.Texts.{texts_of}
+use Rattle.cargo_toml_resolve.specs.Texts.{texts_now}
 use Rattle.cargo_toml_resolve.proofs.TextSets.{has_all, text_put}
 use Rattle.cargo_toml_walk.proofs.Steps.{among_at, item_at}
 use Rattle.cargo_toml_resolve.proofs.taking_over.few_of.Goals as goal
@@ -18,7 +18,7 @@ bounds-texts-place c = rw (item_at c.args.nodes.now c.loop-x.x-index _ _ c.loop-
 pub loop-x-preserved : goal.loop-x-preserved
 loop-x-preserved c =
     let blank : Bor Text = record { ref_ptr = (0, 0); now = [] } in
-    text_put (texts_of c.args.texts.now) c.args.nodes.now c.loop-x.x-index _ c.loop-x.set c.add_text.new.set c.loop-x-test.true
+    text_put (texts_now c.args.texts.now) c.args.nodes.now c.loop-x.x-index _ c.loop-x.set c.add_text.new.set c.loop-x-test.true
     (sym (get_or-map (λ (k : Bor Text). k.now) c.args.texts.now (get_or c.args.nodes.now c.loop-x.x-index 0) blank)) c.loop-x.invariant (rw (item_at c.args.nodes.now c.loop-x.x-index _ _ c.loop-x-test.true c.x-item.is c.place.ensures) at c.in_ok-add_text.ensures)
 
 pub returns : goal.returns

@@ -2,7 +2,7 @@ use Rattle.std.proofs.Common.{arith, ◌≡◌, ◌++◌, List, [], ◌∷◌, m
 use Rattle.std.specs.Prelude.{unwrap_or}
 use Rattle.std.proofs.Math.Seq.{take-length}
 use Rattle.cargo_toml_graph.specs.Action.{Text}
-use Rattle.cargo_toml_full.specs.OwnBins.{requirement_of}
+use Rattle.cargo_toml_full.specs.OwnBins.{bin_requirement}
 use Rattle.cargo_toml_tables.specs.Products.{product_meaning}
 use Rattle.cargo_toml_resolver.proofs.requirements.add_requirements.Goals as goal
 
@@ -23,6 +23,6 @@ returns c =
     let all : take c.loop-feature.feature-index c.args.bin.now.required_features.items ≡ c.args.bin.now.required_features.items =
     ap (λ n. take n c.args.bin.now.required_features.items) (sym end ∙ ap length c.deref-feature-items.ensures.value) ∙ take-length c.args.bin.now.required_features.items in
     c.loop-feature.invariant
-    ∙ ap (λ fs. map requirement_of c.args.requirements.now.items ++ map {B = Text × Text} (λ f. (string_bytes f, c.unwrap_or-name.result.now)) fs) all
-    ∙ ap (λ xs. map requirement_of c.args.requirements.now.items ++ xs) (each_with c.unwrap_or-name.result.now c.args.bin.now.required_features.items)
-    ∙ ap (λ (n : Text). map requirement_of c.args.requirements.now.items ++ map {B = Text × Text} (λ (f : Text). (f, n)) (map string_bytes c.args.bin.now.required_features.items)) named
+    ∙ ap (λ fs. map bin_requirement c.args.requirements.now.items ++ map {B = Text × Text} (λ f. (string_bytes f, c.unwrap_or-name.result.now)) fs) all
+    ∙ ap (λ xs. map bin_requirement c.args.requirements.now.items ++ xs) (each_with c.unwrap_or-name.result.now c.args.bin.now.required_features.items)
+    ∙ ap (λ (n : Text). map bin_requirement c.args.requirements.now.items ++ map {B = Text × Text} (λ (f : Text). (f, n)) (map string_bytes c.args.bin.now.required_features.items)) named

@@ -1,13 +1,13 @@
 use Rattle.std.proofs.Common.{rules, ◌<◌, length, true, [], sym, subst, ◌∙◌, arith}
-use Rattle.cargo_toml_walk.specs.Numbers.{IsWanted, Leads, Visits}
+use Rattle.cargo_toml_walk.specs.Numbers.{IsWanted, Leads, FindsNamed}
 use Rattle.cargo_toml_walk.proofs.Steps.{older_stamps}
 use Rattle.cargo_toml_walk.proofs.Walking.{at_below, begins, goes_on, ends}
 use Rattle.cargo_toml_walk.proofs.walk.passing.Goals as goal
 
 pub loop-next-init : goal.loop-next-init
 loop-next-init c =
-    let v : Visits c.args.start (λ y. Leads c.args.edges.now c.args.start y × IsWanted c.args.is_removed.now true y) [] c.visit_row.new.found.items c.args.met.now.items c.visit_row.new.met.items =
-    subst (λ f. Visits c.args.start (λ y. Leads c.args.edges.now c.args.start y × IsWanted c.args.is_removed.now true y) f c.visit_row.new.found.items c.args.met.now.items c.visit_row.new.met.items) c.new-found.ensures.items (rw c.place.ensures at c.in_ok-visit_row.ensures) in
+    let v : FindsNamed c.args.start (λ y. Leads c.args.edges.now c.args.start y × IsWanted c.args.is_removed.now true y) [] c.visit_row.new.found.items c.args.met.now.items c.visit_row.new.met.items =
+    subst (λ f. FindsNamed c.args.start (λ y. Leads c.args.edges.now c.args.start y × IsWanted c.args.is_removed.now true y) f c.visit_row.new.found.items c.args.met.now.items c.visit_row.new.met.items) c.new-found.ensures.items (rw c.place.ensures at c.in_ok-visit_row.ensures) in
     record {
       walks = begins c.args.edges.now c.args.is_removed.now c.args.start c.args.start c.visit_row.new.found.items c.args.met.now.items c.visit_row.new.met.items v;
       len = v.len;

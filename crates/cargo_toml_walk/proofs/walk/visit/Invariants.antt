@@ -1,7 +1,7 @@
 use Rattle.std.proofs.Common.{take}
 use Rattle.cargo_toml_graph.specs.Reach.{Among}
-use Rattle.cargo_toml_walk.specs.Numbers.{IsWanted, Visits}
+use Rattle.cargo_toml_walk.specs.Numbers.{IsWanted, FindsNamed}
 use Rattle.cargo_toml_walk.proofs.walk.visit.Given as goal
 
 abbrev pub invariant-loop-x : goal.invariant-loop-x
-invariant-loop-x l = Visits l.sought.epoch (λ y. Among (take l.x-index l.targets) y × IsWanted l.sought.flags.now l.sought.wanted y) l.initial.found.items l.found.items l.initial.met.items l.met.items
+invariant-loop-x l = FindsNamed l.sought.epoch (λ y. Among (take l.x-index l.targets) y × IsWanted l.sought.flags.now l.sought.wanted y) l.initial.found.items l.found.items l.initial.met.items l.met.items

@@ -3,19 +3,19 @@ use Rattle.std.proofs.lemmas.Bool.{cond-true, cond-false}
 use Rattle.std.proofs.lemmas.List.{map_push}
 use Rattle.std.specs.List.{list_any}
 use Rattle.cargo_toml_graph.specs.Action.{Text}
-use Rattle.cargo_toml_graph.specs.Removal.{is_among}
-use Rattle.cargo_toml_resolve.specs.Texts.{texts_of}
+use Rattle.cargo_toml_graph.specs.Removal.{lists_text}
+use Rattle.cargo_toml_resolve.specs.Texts.{texts_now}
 use Rattle.cargo_toml_bench.proofs.Put.{among_texts}
 use Rattle.cargo_toml_bench.proofs.plain.putting.put_bin.Goals as goal
 
 pub returns-in_ok-push : goal.returns-in_ok-push
 returns-in_ok-push c =
     let value : c.contains.result ≡ list_any (λ k. bytes_eq k.now c.args.bin.now) c.args.own.now.items = search rules in
-    let absent : is_among (texts_of c.args.own.now.items) c.args.bin.now ≡ false = sym (among_texts c.args.own.now.items c.args.bin.now) ∙ sym value ∙ c.if-not-contains.true in
-    ap texts_of c.in_ok-push.ensures.items ∙ map_push (λ (k : Bor Text). k.now) c.args.own.now.items c.args.bin ∙ sym (cond-false _ _ _ absent)
+    let absent : lists_text (texts_now c.args.own.now.items) c.args.bin.now ≡ false = sym (among_texts c.args.own.now.items c.args.bin.now) ∙ sym value ∙ c.if-not-contains.true in
+    ap texts_now c.in_ok-push.ensures.items ∙ map_push (λ (k : Bor Text). k.now) c.args.own.now.items c.args.bin ∙ sym (cond-false _ _ _ absent)
 
 pub returns-else-not-contains : goal.returns-else-not-contains
 returns-else-not-contains c =
     let value : c.contains.result ≡ list_any (λ k. bytes_eq k.now c.args.bin.now) c.args.own.now.items = search rules in
-    let there : is_among (texts_of c.args.own.now.items) c.args.bin.now ≡ true = sym (among_texts c.args.own.now.items c.args.bin.now) ∙ sym value ∙ c.if-not-contains.false in
+    let there : lists_text (texts_now c.args.own.now.items) c.args.bin.now ≡ true = sym (among_texts c.args.own.now.items c.args.bin.now) ∙ sym value ∙ c.if-not-contains.false in
     sym (cond-true _ _ _ there)

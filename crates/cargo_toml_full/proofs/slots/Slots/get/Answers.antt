@@ -5,7 +5,7 @@ use Rattle.cargo_toml_graph.specs.Action.{Text}
 use Rattle.cargo_toml_graph.specs.Reach.{Among}
 use Rattle.cargo_toml_full.specs.Slots.{held_in, names_in}
 use Rattle.cargo_toml_full.proofs.HeldValues.{held_at, held_missing}
-use Rattle.cargo_toml_features.specs.Places.{text_at}
+use Rattle.cargo_toml_features.specs.Places.{nth_text}
 use Rattle.cargo_toml_full.proofs.slots.Slots.get.Goals as goal
 
 pub returns-in_err-place : goal.returns-in_err-place
@@ -17,7 +17,7 @@ returns-in_err-place g c =
 pub returns : goal.returns
 returns g c =
     let s = c.args.self.now in
-    let found = subst (λ ts. (c.in_ok-place.place < length ts) × (text_at (map (λ (n : Bor Text). n.now) ts) c.in_ok-place.place ≡ c.args.name.now)) c.as_slice.ensures.value c.in_ok-place.ensures.found in
+    let found = subst (λ ts. (c.in_ok-place.place < length ts) × (nth_text (map (λ (n : Bor Text). n.now) ts) c.in_ok-place.place ≡ c.args.name.now)) c.as_slice.ensures.value c.in_ok-place.ensures.found in
     let below : c.in_ok-place.place < length (names_in s) = subst (λ k. c.in_ok-place.place < k) (sym (length-map s.names.items (λ (n : Bor Text). n.now))) found.0 in
     let count : length s.values.items ≡ length (names_in s) = s.count ∙ sym (length-map s.names.items (λ (n : Bor Text). n.now)) in
     c.as_ref.ensures.value ∙ c.index.ensures

@@ -3,9 +3,9 @@ use Rattle.cargo_toml_graph.specs.Action.{Text}
 use Rattle.cargo_toml_graph.specs.Admitted.{Listed, admitted}
 use Rattle.cargo_toml_manifest.specs.Manifests.{ManifestMeaning, manifest_meaning}
 use Rattle.cargo_toml_features.specs.Entries.{entries_of}
-use Rattle.cargo_toml_full.specs.OwnBins.{own_of, requirement_of}
+use Rattle.cargo_toml_full.specs.OwnBins.{own_of, bin_requirement}
 use Rattle.cargo_toml_features.specs.Views.{listed_of, answer_of, entry_of}
-use Rattle.cargo_toml_features.specs.Marks.{Details, details_listed, details_of}
+use Rattle.cargo_toml_features.specs.Marks.{NamedDetails, details_listed, named_details}
 use Rattle.cargo_toml_features.specs.Recorded.{Entry}
 use Rattle.cargo_toml_features.specs.Resolved.{Answer}
 use Rattle.cargo_toml_resolver.specs.Filtered.{filter_of, limit_of}
@@ -19,7 +19,7 @@ use Rattle.cargo_toml_resolver.proofs.features.Resolver.parse.Goals as goal
 
 -- the answer for what stands in a manifest is the answer for the manifest
 module _ {M F : Type 0} (limit : ℕ) (m : ManifestMeaning M) (g : Asked F) (filter : Option (Bor F)) (a : Answer) where
-  parsed_from : (fs : Listed) (es : List Entry) (ds : Details) (rs : List (Text × Text)) →
+  parsed_from : (fs : Listed) (es : List Entry) (ds : NamedDetails) (rs : List (Text × Text)) →
       fs ≡ admitted limit m.features → es ≡ parsed_entries limit m →
       ds ≡ details_listed fs m.feature_details → rs ≡ requirements m →
       IsAnswerBy g filter fs es ds (own_of rs) a → IsParsedBy limit m g filter a
@@ -39,12 +39,12 @@ returns-clause-resolved g c =
     let entries : map entry_of c.as_slice-2.result.now ≡ parsed_entries limit m =
     ap (map entry_of) c.as_slice-2.ensures.value ∙ c.in_ok-entries.ensures
     ∙ ap₂ (entries_of limit) c.tables_of.ensures.own c.tables_of.ensures.targets in
-    let told : details_of c.as_slice.result.now ≡ details_listed (listed_of c.as_slice.result.now) m.feature_details =
-    subst (λ ls. details_of ls ≡ details_listed (listed_of ls) m.feature_details) (sym c.as_slice.ensures.value) c.in_ok-listings.ensures.details in
-    let required : map requirement_of c.as_slice-3.result.now ≡ requirements m =
-    ap (map requirement_of) c.as_slice-3.ensures.value ∙ c.in_ok-requirements.ensures in
+    let told : named_details c.as_slice.result.now ≡ details_listed (listed_of c.as_slice.result.now) m.feature_details =
+    subst (λ ls. named_details ls ≡ details_listed (listed_of ls) m.feature_details) (sym c.as_slice.ensures.value) c.in_ok-listings.ensures.details in
+    let required : map bin_requirement c.as_slice-3.result.now ≡ requirements m =
+    ap (map bin_requirement) c.as_slice-3.ensures.value ∙ c.in_ok-requirements.ensures in
     parsed_from limit m g.F.Fn (filter_of c.args.self.now) (answer_of c.in_ok-resolve.field-0) (listed_of c.as_slice.result.now)
-    (map entry_of c.as_slice-2.result.now) (details_of c.as_slice.result.now) (map requirement_of c.as_slice-3.result.now)
+    (map entry_of c.as_slice-2.result.now) (named_details c.as_slice.result.now) (map bin_requirement c.as_slice-3.result.now)
     listed entries told required c.in_ok-resolve.ensures.resolved
 
 pub returns-clause-no_removed_name : goal.returns-clause-no_removed_name

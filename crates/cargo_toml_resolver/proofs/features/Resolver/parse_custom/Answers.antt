@@ -1,6 +1,6 @@
 use Rattle.std.proofs.Common.{◌≡◌, [], map, sym, ap, subst, ◌∙◌}
 use Rattle.cargo_toml_graph.specs.Admitted.{Listed, admitted}
-use Rattle.cargo_toml_features.specs.Marks.{details_listed, details_of}
+use Rattle.cargo_toml_features.specs.Marks.{details_listed, named_details}
 use Rattle.cargo_toml_features.specs.Views.{listed_of, answer_of, entry_of}
 use Rattle.cargo_toml_features.specs.Resolved.{table_of}
 use Rattle.cargo_toml_resolve.specs.Removed.{IsAnswerBy, IsRemovedBy}
@@ -15,8 +15,8 @@ returns-clause-resolved g c = λ listed is.
     let filter = filter_of c.args.self.now in
     let es = map entry_of c.args.dependencies.now in
     let ls = c.as_slice-listings.result.now in
-    let told : details_of ls ≡ details_listed (listed_of ls) [] =
-    subst (λ xs. details_of xs ≡ details_listed (listed_of xs) []) (sym c.as_slice-listings.ensures.value) c.in_ok-listings.ensures.details in
+    let told : named_details ls ≡ details_listed (listed_of ls) [] =
+    subst (λ xs. named_details xs ≡ details_listed (listed_of xs) []) (sym c.as_slice-listings.ensures.value) c.in_ok-listings.ensures.details in
     subst (λ (fs : Listed). IsAnswerBy g.F.Fn filter fs es [] (λ _. []) a)
     (ap listed_of c.as_slice-listings.ensures.value ∙ c.in_ok-listings.ensures.all listed is)
     (answer_by_listed g.F.Fn filter (listed_of ls) es [] (λ _. []) a

@@ -12,7 +12,7 @@ use Rattle.cargo_toml_features.proofs.TextKeys.{none_in}
 use Rattle.cargo_toml_walk.specs.Numbers.{HasLabel, IsPassed, IsWanted, Leads}
 use Rattle.cargo_toml_walk.proofs.Labelled.{gathered}
 use Rattle.cargo_toml_walk.proofs.Linking.{last_edge, with_last}
-use Rattle.cargo_toml_walk.proofs.Steps.{Looked, among_more, with_target, without_target}
+use Rattle.cargo_toml_walk.proofs.Steps.{Looked, with_target, without_target}
 use Rattle.cargo_toml_resolve.specs.Enabling.{GainEnabler, EnablesThrough, LearnThrough}
 use Rattle.cargo_toml_resolve.specs.NumberedTables.{HasNumber}
 use Rattle.cargo_toml_resolve.specs.Texts.{texts_now}

@@ -1,24 +1,21 @@
 //! A manifest's features, resolved by the body that callers get and by the plain one beside it.
-ghost use Rattle.std.specs.Prelude.{◌≡◌, ◌++◌, Bool, IfErr, IfOk, IsTrue, OnOk, map};
-ghost use Rattle.std.specs.List.{flat_map};
+ghost use Rattle.std.specs.Prelude.{◌≡◌, Bool, IfErr, IfOk, IsTrue};
 ghost use Rattle.cargo_toml.specs.Action.{Text};
 ghost use Rattle.cargo_toml.specs.Agreement.{Agree};
 ghost use Rattle.cargo_toml.specs.Error.{Memory};
 ghost use Rattle.cargo_toml.specs.Filter.{HasNameFilter, FilterTells};
 ghost use Rattle.cargo_toml.specs.Limits.{MAX_ITEMS};
 ghost use Rattle.cargo_toml.specs.Manifests.{held};
-ghost use Rattle.cargo_toml.specs.OwnBins.{bin_requirement};
-ghost use Rattle.cargo_toml.specs.Parsed.{IsParsed, requirements, requirements_by};
-ghost use Rattle.cargo_toml.specs.Products.{product_meaning};
+ghost use Rattle.cargo_toml.specs.Parsed.{IsParsed};
 ghost use Rattle.cargo_toml.specs.Views.{answer_of};
 
 use crate::whole::{Answer, keep_a, resolve_keeping_a};
 use cargo_toml::features::Resolver;
-use cargo_toml::{Error, Manifest, Product};
+use cargo_toml::{Error, Manifest};
 use cargo_toml_features::admit::{MAX_ITEMS, listings};
 use cargo_toml_features::entries::{Tables, entries_of};
-use cargo_toml_full::required::Requirement;
-use std::alloc::{AllocError, Global};
+use cargo_toml_resolver::requirements::requirements;
+use std::alloc::Global;
 use std::hash::BuildHasherDefault;
 
 /// Resolves the features of a manifest by both bodies, without the hidden ones: first as callers
@@ -86,54 +83,4 @@ fn resolve_plainly<'m, M, F: Fn(&str) -> bool>(
         entries.as_slice(),
         requirements.as_slice(),
     )?)
-}
-
-// What the binaries of a manifest require, in their order; nothing where it has no package.
-fn requirements<'m, M>(
-    alloc: Global,
-    manifest: &'m Manifest<M>,
-) -> Result<Vec<Requirement<'m>>, AllocError>
-    ensures { IfOk result
-        (λ v. map bin_requirement v.items ≡ requirements (held manifest.now)) }
-{
-    match &manifest.package {
-        Some(package) => requirements_of(alloc, manifest.bin.as_slice(), package.name.as_str()),
-        None => Ok(Vec::new(alloc)),
-    }
-}
-
-// What the binaries of a package of this name require.
-fn requirements_of<'m>(
-    alloc: Global,
-    bins: &'m [Product],
-    package_name: &'m str,
-) -> Result<Vec<Requirement<'m>>, AllocError>
-    ensures { IfOk result (λ v. map bin_requirement v.items
-        ≡ flat_map (requirements_by package_name.now) (map product_meaning bins.now)) }
-{
-    let mut requirements = Vec::new(alloc);
-    for bin in bins {
-        add_requirements(&mut requirements, bin, package_name)?;
-    }
-    Ok(requirements)
-}
-
-// Adds what a binary requires, by its own name or else that of its package.
-fn add_requirements<'m>(
-    requirements: &mut Vec<Requirement<'m>>,
-    bin: &'m Product,
-    package_name: &'m str,
-) -> Result<(), AllocError>
-    ensures { OnOk result (map bin_requirement requirements.new.items
-        ≡ map bin_requirement requirements.old.items
-        ++ requirements_by package_name.now (product_meaning bin.now)) }
-{
-    let name = bin.name.as_deref().unwrap_or(package_name);
-    for feature in &bin.required_features {
-        requirements.push(Requirement {
-            feature: feature.as_str(),
-            bin: name,
-        })?;
-    }
-    Ok(())
 }

@@ -41,6 +41,7 @@ module _ (f : Text) (d : Detail) (items : List Item) (named : List Text) (v : Fe
       → ((q : Text) → action_at deps q ≡ join_option (action_at v.enables_deps q) (cond (bytes_eq q key) (Some a) None)) → IsGathered f d (items ++ i ∷ []) named (record v { enables_deps = deps })
   gathered_on i key a is deps more = record {
     fresh = record { key = h.fresh.key; marks = h.fresh.marks; enabled_by = h.fresh.enabled_by; bins = h.fresh.bins };
+    unnamed = h.unnamed;
     names = λ x. h.names x ∙ sym (list_any-append (item_names x) items (i ∷ []) ∙ ap (λ j. list_any (item_names x) items || (item_names x j || false)) is ∙ or-false _);
     action = λ k. more k ∙ ap (λ o. join_option o (cond (bytes_eq k key) (Some a) None)) (h.action k) ∙ sym (joined i k ∙ ap (λ j. join_option (joined_in items k) (action_on k j)) is);
   }
@@ -49,6 +50,7 @@ module _ (f : Text) (d : Detail) (items : List Item) (named : List Text) (v : Fe
   pub gathered_name : (i : Item) (y : Text) → i ≡ Name y → (more : List Text) → more ≡ named ++ y ∷ [] → IsGathered f d (items ++ i ∷ []) more v
   gathered_name i y is more more_is = record {
     fresh = h.fresh;
+    unnamed = h.unnamed;
     names = λ x.
         ap (list_any (bytes_eq x)) more_is ∙ list_any-append (bytes_eq x) named (y ∷ [])
         ∙ ap₂ (λ b j. b || (item_names x j || false)) (h.names x) (sym is) ∙ sym (list_any-append (item_names x) items (i ∷ []));
@@ -89,5 +91,13 @@ pub has_gathered : (f : Text) (d : Detail) (items : List Item) (named : List Tex
 has_gathered f d items named v s h has = record {
   fresh = record { key = h.fresh.key; marks = h.fresh.marks; enabled_by = h.fresh.enabled_by; bins = h.fresh.bins };
   names = λ x. has x ∙ h.names x;
+  action = h.action;
+}
+
+-- a feature whose names were gathered, where there are none
+pub is_gathered : (f : Text) (d : Detail) (items : List Item) (named : List Text) (v : Feature) → IsGathered f d items named v → named ≡ [] → IsReadFeature f d items v
+is_gathered f d items named v h none = record {
+  fresh = h.fresh;
+  names = λ x. h.unnamed x ∙ sym (ap (list_any (bytes_eq x)) none) ∙ h.names x;
   action = h.action;
 }

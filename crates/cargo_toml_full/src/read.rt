@@ -19,7 +19,7 @@ ghost use Rattle.cargo_toml_full.specs.Searching.{has_key};
 use crate::acted::Acted;
 use crate::acting::Acting;
 use crate::ordered::{lower_bound, put_feature};
-use crate::sets::set_of;
+use crate::sets::{FEW, set_of};
 use cargo_toml_dependencies::FeatureDetail;
 use cargo_toml_features::action::{join_action, read_action};
 use cargo_toml_features::admit::Listing;
@@ -102,7 +102,12 @@ fn read_list<'m>(
     for text in listing.actions {
         add_item(alloc, feature, named, acting, text.as_str())?;
     }
-    feature.enables_features = set_of(alloc, named.as_slice())?;
+    // Where nothing is named, the feature keeps the empty set that it has.
+    let names = named.as_slice();
+    if names.is_empty() {
+        return Ok(());
+    }
+    feature.enables_features = set_of(alloc, names)?;
     Ok(())
 }
 
@@ -124,16 +129,16 @@ fn read_listing<'m>(
         (Notes (joined_in (map item_of (map string_bytes listing.entry.actions.now))) acting.old
         acting.new) }
 {
-    let mut feature = empty_feature(alloc, listing.name, listing.detail);
     let place = lower_bound(features.as_slice(), listing.name);
     if place < features.len() {
+        let mut feature = empty_feature(alloc, listing.name, listing.detail);
         read_list(alloc, &mut feature, named, acting, listing)?;
         put_feature(features, feature)?;
         return Ok(());
     }
     // Listings come in the order of their names, so each feature goes to the end. It is a wide
-    // value, which is moved there before its list is read.
-    features.push(feature)?;
+    // value, which is made there before its list is read.
+    features.push(empty_feature(alloc, listing.name, listing.detail))?;
     read_list(alloc, &mut features[place], named, acting, listing)?;
     Ok(())
 }
@@ -173,7 +178,8 @@ pub fn read_features<'m>(
     let room = listings.len().saturating_add(1).saturating_add(more);
     let mut features = Vec::with_capacity(alloc, room)?;
     let mut acting = Acting::new(alloc);
-    let mut named = Vec::new(alloc);
+    // Most lists name few: the names of all are gathered in one block, which doesn't grow.
+    let mut named = Vec::with_capacity(alloc, FEW)?;
     for listing in listings {
         read_listing(alloc, &mut features, &mut named, &mut acting, *listing)?;
     }

@@ -21,7 +21,7 @@ use Rattle.cargo_toml_parts.specs.Reads.{pairs_meaning, map_meaning}
 same_key : (k l : List ℕ) → slice_cmp nat_cmp k l ≡ Equal → k ≡ l
 same_key k l h = (bytes_eq-Decides k l).0 (sym (is_eq-slice_cmp k l) ∙ ap is_eq h)
 
-texts_total : IsTotalOrder (string_cmp {Z = Global})
+pub texts_total : IsTotalOrder (string_cmp {Z = Global})
 texts_total = record {
   antisymm = λ x y. nat_list_cmp_total.antisymm (string_bytes x) (string_bytes y);
   trans = λ x y z. nat_list_cmp_total.trans (string_bytes x) (string_bytes y) (string_bytes z);
@@ -33,10 +33,10 @@ is_eq-reverse Less = refl
 is_eq-reverse Equal = refl
 is_eq-reverse Greater = refl
 
-tied_both_ways : (q k : String Global) → is_eq (string_cmp q k) ≡ is_eq (string_cmp k q)
+pub tied_both_ways : (q k : String Global) → is_eq (string_cmp q k) ≡ is_eq (string_cmp k q)
 tied_both_ways q k = ap is_eq (texts_total.antisymm q k) ∙ is_eq-reverse (string_cmp k q)
 
-tied_alike : (q k l : String Global) → string_cmp k l ≡ Equal → is_eq (string_cmp q k) ≡ is_eq (string_cmp q l)
+pub tied_alike : (q k l : String Global) → string_cmp k l ≡ Equal → is_eq (string_cmp q k) ≡ is_eq (string_cmp q l)
 tied_alike q k l same = tied_both_ways q k ∙ ap is_eq (texts_total.congr k l q same) ∙ tied_both_ways l q
 
 module _ {X : Type 0} where

@@ -6,4 +6,4 @@
 mod complete_and_parse;
 pub mod features;
 mod heap;
-mod requirements;
+pub mod requirements;

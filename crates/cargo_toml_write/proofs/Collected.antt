@@ -2,14 +2,13 @@
 use Rattle.std.proofs.Common.{◌≡◌, true, false, Bool, cond, Option, Some, None, Result, Ok, Err, IfOk, is_eq, is_some, sym, ap, List, [], ◌∷◌, String, Global, BTreeMap, Ordering, Less, Equal, Greater, string_bytes, refl, ◌∙◌}
 use Rattle.std.specs.BTreeMap as tree
 use Rattle.std.specs.BTreeMap.{insert_entry, is_at}
-use Rattle.std.specs.Cmp.{IsTotalOrder, eq_by_cmp_equiv, tied_itself}
+use Rattle.std.specs.Cmp.{eq_by_cmp_equiv, tied_itself}
 use Rattle.std.specs.List.{AllByRecursion}
 use Rattle.std.specs.List.Sorted.{IsStrictlySortedBy}
 use Rattle.std.specs.Map.{keys_of, lookup, update, update_all}
 use Rattle.std.specs.Ordering.{eq_by_cmp, match_ordering, ordering_reverse}
 use Rattle.std.specs.String.{string_cmp}
 use Rattle.std.proofs.lemmas.Bool.{false≢true}
-use Rattle.std.proofs.lemmas.Cmp.{nat_list_cmp_total}
 use Rattle.std.proofs.lemmas.Map.{lookup-none}
 use Rattle.std.proofs.lemmas.Map.Entries.{none_below_head, none_past_head}
 use Rattle.std.proofs.lemmas.Map.Keys.{IsDistinct-from_sorted}
@@ -18,24 +17,10 @@ use Rattle.toml.specs.Data.{no_members, member}
 use Rattle.toml.specs.View.{view, members_view, table_view}
 use Rattle.toml.specs.declared.value.Value.{Value}
 use Rattle.toml.proofs.Views.{Entry}
+use Rattle.cargo_toml_parts.proofs.Collected.{texts_total, tied_alike, tied_both_ways}
 use Rattle.cargo_toml_write.specs.Pairs.{put_all}
 use Rattle.cargo_toml_write.proofs.Others.{same_key}
 use Rattle.cargo_toml_write.proofs.Tables.{members_view-insert}
-
-texts_total : IsTotalOrder (string_cmp {Z = Global})
-texts_total = record {
-  antisymm = λ x y. nat_list_cmp_total.antisymm (string_bytes x) (string_bytes y);
-  trans = λ x y z. nat_list_cmp_total.trans (string_bytes x) (string_bytes y) (string_bytes z);
-  congr = λ x y z. nat_list_cmp_total.congr (string_bytes x) (string_bytes y) (string_bytes z);
-}
-
-is_eq-reverse : (o : Ordering) → is_eq (ordering_reverse o) ≡ is_eq o
-is_eq-reverse Less = refl
-is_eq-reverse Equal = refl
-is_eq-reverse Greater = refl
-
-tied_both_ways : (q k : String Global) → is_eq (string_cmp q k) ≡ is_eq (string_cmp k q)
-tied_both_ways q k = ap is_eq (texts_total.antisymm q k) ∙ is_eq-reverse (string_cmp k q)
 
 -- what a key has among some entries
 abbrev at : List Entry → String Global → Option Value
@@ -156,9 +141,6 @@ ascend_none = tt
 
 abbrev Alike : List Entry → List Entry → Type 0
 Alike es fs = (q : String Global) → at es q ≡ at fs q
-
-tied_alike : (q k l : String Global) → string_cmp k l ≡ Equal → is_eq (string_cmp q k) ≡ is_eq (string_cmp q l)
-tied_alike q k l same = tied_both_ways q k ∙ ap is_eq (texts_total.congr k l q same) ∙ tied_both_ways l q
 
 tail_at : (b : Bool) (e f : Entry) (es fs : List Entry) (q : String Global) → is_eq (string_cmp q e.0) ≡ b → is_eq (string_cmp q f.0) ≡ b → Ascend (e ∷ es) → Ascend (f ∷ fs)
     → at (e ∷ es) q ≡ at (f ∷ fs) q → at es q ≡ at fs q

@@ -1,11 +1,11 @@
-use Rattle.std.proofs.Common.{◌≡◌, Bor, arith, bytes_eq, map, take, string_bytes, sym, subst, ap, ◌∙◌}
-use Rattle.std.proofs.lemmas.List.{take_all}
+use Rattle.std.proofs.Common.{rules, ◌≡◌, Bor, arith, bytes_eq, map, take, string_bytes, length, sym, subst, ap, ◌∙◌}
+use Rattle.std.proofs.lemmas.List.{nil_from_length, take_all}
 use Rattle.std.specs.List.{list_any}
 use Rattle.cargo_toml_graph.specs.Action.{Text, item_of}
 use Rattle.cargo_toml_full.specs.ReadFeature.{joined_in, IsGathered, IsReadFeature}
 use Rattle.cargo_toml_full.specs.Acting.{Notes}
 use Rattle.cargo_toml_features.specs.Marks.{detail_in}
-use Rattle.cargo_toml_full.proofs.Gathering.{has_gathered}
+use Rattle.cargo_toml_full.proofs.Gathering.{has_gathered, is_gathered}
 use Rattle.cargo_toml_full.proofs.ReadOne.{items_more, noted_more}
 use Rattle.cargo_toml_full.proofs.read.read_list.Goals as goal
 
@@ -28,4 +28,14 @@ returns-clause-listed c =
     let set = c.in_ok-feature.field-0 in
     subst (λ ts. IsReadFeature c.args.listing.name.now (detail_in c.args.listing.detail) (map item_of (map string_bytes ts)) (record c.loop-text.feature { enables_features = set })) all
     (has_gathered c.args.listing.name.now (detail_in c.args.listing.detail) (map item_of (map string_bytes (take c.loop-text.text-index texts))) (map (λ t. t.now) c.loop-text.named.items) c.loop-text.feature set c.loop-text.invariant.gathered
-    (λ x. c.in_ok-feature.ensures x ∙ ap (λ ks. list_any (bytes_eq x) (map (λ (k : Bor Text). k.now) ks)) c.as_slice.ensures.value))
+    (λ x. c.in_ok-feature.ensures x ∙ ap (λ ks. list_any (bytes_eq x) (map (λ (k : Bor Text). k.now) ks)) c.as_slice-names.ensures.value))
+
+-- nothing is named
+pub returns-then-is_empty-clause-listed : goal.returns-then-is_empty-clause-listed
+returns-then-is_empty-clause-listed c =
+    let texts = c.args.listing.actions.now in
+    let all : take c.loop-text.text-index texts ≡ texts = take_all _ texts (omega arith) in
+    let empty : length c.as_slice-names.result.now ≡ 0 = search rules in
+    let none = ap (map (λ t. t.now)) (sym c.as_slice-names.ensures.value ∙ nil_from_length _ empty) in
+    subst (λ ts. IsReadFeature c.args.listing.name.now (detail_in c.args.listing.detail) (map item_of (map string_bytes ts)) c.loop-text.feature) all
+    (is_gathered c.args.listing.name.now (detail_in c.args.listing.detail) (map item_of (map string_bytes (take c.loop-text.text-index texts))) (map (λ t. t.now) c.loop-text.named.items) c.loop-text.feature c.loop-text.invariant.gathered none)

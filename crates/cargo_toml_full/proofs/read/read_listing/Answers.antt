@@ -12,7 +12,7 @@ returns-clause-in_order c =
     let test = c.if-place-len.false in
     let len = c.len.ensures in
     let past : length vs ≤ place = omega (arith, test, len) in
-    filled_in_order vs place c.empty_feature-feature.result c.push.new.self.items name c.requires bound past c.in_ok-push.ensures.items c.read_list-2.new.feature c.in_ok-read_list-2.ensures.listed.fresh.key
+    filled_in_order vs place c.empty_feature.result c.push.new.self.items name c.requires bound past c.in_ok-push.ensures.items c.read_list-2.new.feature c.in_ok-read_list-2.ensures.listed.fresh.key
 
 pub returns-clause-added : goal.returns-clause-added
 returns-clause-added c =
@@ -24,4 +24,4 @@ returns-clause-added c =
     let len = c.len.ensures in
     let past : length vs ≤ place = omega (arith, test, len) in
     let listed = c.in_ok-read_list-2.ensures.listed in
-    (c.read_list-2.new.feature, listed, filled_held vs place c.empty_feature-feature.result c.push.new.self.items name c.requires bound past c.in_ok-push.ensures.items c.read_list-2.new.feature listed.fresh.key)
+    (c.read_list-2.new.feature, listed, filled_held vs place c.empty_feature.result c.push.new.self.items name c.requires bound past c.in_ok-push.ensures.items c.read_list-2.new.feature listed.fresh.key)

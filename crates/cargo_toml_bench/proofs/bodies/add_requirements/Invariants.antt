@@ -1,8 +1,0 @@
-use Rattle.std.proofs.Common.{◌≡◌, ◌++◌, map, string_bytes, take}
-use Rattle.cargo_toml.specs.OwnBins.{bin_requirement}
-use Rattle.cargo_toml_bench.proofs.bodies.add_requirements.Given as goal
-
-abbrev pub invariant-loop-feature : goal.invariant-loop-feature
-invariant-loop-feature l =
-    map bin_requirement l.requirements.items
-    ≡ map bin_requirement l.initial.requirements.items ++ map (λ f. (string_bytes f, l.name)) (take l.feature-index l.bin.required_features.items)

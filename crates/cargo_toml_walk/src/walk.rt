@@ -1,5 +1,6 @@
 //! What each vertex reaches through removed vertices.
-ghost use Rattle.std.specs.Prelude.{◌≡◌, ◌<◌, ◌≤◌, ◌↔◌, IfOk, OnOk, ℕ, length, true, false};
+ghost use Rattle.std.specs.Prelude.{◌≡◌, ◌<◌, ◌≤◌, ◌↔◌, ℕ, length, true, false};
+ghost use Rattle.std.specs.Prelude.{IfOk, IsTrue, OnOk};
 ghost use Rattle.cargo_toml_graph.specs.Reach.{Among};
 ghost use Rattle.cargo_toml_walk.specs.Numbers.{CanMeet, IsPassed, IsWanted};
 ghost use Rattle.cargo_toml_walk.specs.Numbers.{Leads, AreStamped, OldStamps, FindsNamed};
@@ -18,7 +19,7 @@ pub(crate) struct Sought<'f> {
 /// Whether the flag of one of the row stands.
 pub fn has_flagged(row: &[Node], flags: &[bool]) -> bool
     requires { (x : ℕ) → Among row.now x → x < length flags.now }
-    ensures { result ≡ false → (x : ℕ) → Among row.now x → IsWanted flags.now false x }
+    ensures { IsTrue result ↔ ((x : ℕ) × Among row.now x × IsWanted flags.now true x) }
 {
     for x in row {
         if flags[x.place()] {

@@ -6,3 +6,4 @@ pub mod Linking
 pub mod Rows
 pub mod Words
 pub mod Tabled
+pub mod Closing

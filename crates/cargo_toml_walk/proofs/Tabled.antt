@@ -127,3 +127,34 @@ all_gains named i Bits t0 t le g = record {
     λ h. (g.bits a x).1 (elim h [ inl o ↦ inl o | inr p ↦ inr (among_all named i a le p.0, p.1) ]),
   );
 }
+
+-- what some rows have together
+module _ {Z : Type 0} (table : List (Vec ℕ Z)) (own : ℕ) (named : List ℕ) where
+  -- the row `own` or one of the first i that are named has the bit
+  abbrev pub Together : ℕ → ℕ → Type 0
+  Together i x = Holds table own x ⊎ ((b : ℕ) × Among (take i named) b × Holds table b x)
+
+  pub together_more : (i : ℕ) → i < length named → (at : ℕ) → at ≡ get_or named i 0 → (old new : List ℕ) → ((x : ℕ) → HasBit old x ↔ Together i x)
+      → ((x : ℕ) → HasBit new x ↔ (HasBit old x ⊎ Holds table at x)) → (x : ℕ) → HasBit new x ↔ Together (i + 1) x
+  together_more i lt at is old new before now x = (
+    λ h. elim ((now x).0 h) [
+      | inl o ↦ elim ((before x).0 o) [ inl p ↦ inl p | inr p ↦ inr (p.0, (among_more named i p.0 lt).1 (inl p.1), p.2) ]
+      | inr b ↦ inr (at, (among_more named i at lt).1 (inr is), b)
+    ],
+    λ h. (now x).1 (elim h [
+      | inl p ↦ inl ((before x).1 (inl p))
+      | inr p ↦ elim ((among_more named i p.0 lt).0 p.1) [
+        | inl m ↦ inl ((before x).1 (inr (p.0, m, p.2)))
+        | inr e ↦ inr (subst (λ k. Holds table k x) (e ∙ sym is) p.2)
+      ]
+    ]),
+  )
+
+  pub together_none : (x : ℕ) → Holds table own x ↔ Together 0 x
+  together_none x = (λ h. inl h, elim [ inl h ↦ h | inr p ↦ absurd p.1 ])
+
+  pub together_all : (i : ℕ) → length named ≤ i → (x : ℕ) → Together i x ↔ (Holds table own x ⊎ ((b : ℕ) × Among named b × Holds table b x))
+  together_all i le x = (
+    elim [ inl h ↦ inl h | inr p ↦ inr (p.0, among_taken named i p.0 p.1, p.2) ],
+    elim [ inl h ↦ inl h | inr p ↦ inr (p.0, among_all named i p.0 le p.1, p.2) ],
+  )

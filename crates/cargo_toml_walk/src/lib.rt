@@ -2,6 +2,7 @@
 #![tactic(auto)]
 
 pub(crate) mod bits;
+pub(crate) mod dense;
 pub mod labels;
 pub mod node;
 pub mod redirects;

@@ -1,6 +1,7 @@
 -- Removed vertices are taken out one after another: a table holds the paths through those that are.
-use Rattle.std.proofs.Common.{◌≡◌, ◌⊎◌, ◌↔◌, ◌<◌, ◌≤◌, ◌+◌, ◌*◌, ℕ, Bool, true, false, List, Vec, length, get_or, refl, sym, ap, subst, inl, inr, ◌∙◌, arith}
-use Rattle.std.proofs.lemmas.Bool.{cases_eq, cases_Bool, false≢true}
+use Rattle.std.proofs.Common.{◌≡◌, ◌⊎◌, ◌↔◌, ◌<◌, ◌≤◌, ◌+◌, ◌*◌, ℕ, Bool, true, false, List, Vec, length, get_or, replicate, refl, sym, ap, subst, inl, inr, ◌∙◌, arith}
+use Rattle.std.proofs.lemmas.Bool.{cases_eq, cases_lt, cases_Bool, false≢true}
+use Rattle.std.proofs.lemmas.List.{get_or_past, get_or-replicate, length-replicate}
 use Rattle.cargo_toml_graph.specs.Reach.{Among, Reaches, Gathers, GathersLabel, With}
 use Rattle.cargo_toml_graph.specs.Reach.Reaches.{edge, through}
 use Rattle.cargo_toml_graph.proofs.Members.{reaches_within, label_within}
@@ -27,6 +28,15 @@ module _ (removed : List Bool) where
   below_same r kept v = (
     λ u. elim (below_more r v u) [ inl w ↦ w | inr e ↦ absurd (false≢true (sym kept ∙ subst (IsWanted removed true) e u.0)) ],
     λ u. (u.0, let lt = u.1 in omega (arith, lt)),
+  )
+
+  pub none_finished : (n : ℕ) (finished : List Bool) → finished ≡ replicate n false → IsFinished removed 0 finished
+  none_finished n finished e v = (
+    λ i. absurd (false≢true (sym (elim (cases_lt v n) [
+      | inl lt ↦ get_or-replicate n v false false lt
+      | inr le ↦ get_or_past (replicate n false) v false (let l = length-replicate n false in omega (arith, l, le))
+    ]) ∙ ap (λ f. get_or f v false) (sym e) ∙ i)),
+    λ u. absurd (below_none v u),
   )
 
   module _ {Z Y : Type 0} (edges : List (Vec ℕ Z)) (bound width : ℕ) where

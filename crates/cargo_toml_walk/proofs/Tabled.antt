@@ -1,9 +1,9 @@
 -- Tables of bits, row after row.
-use Rattle.std.proofs.Common.{◌≡◌, ◌≢◌, ◌↔◌, ◌⊎◌, ◌<◌, ◌≤◌, ◌+◌, ◌*◌, ℕ, zero, suc, List, [], ◌∷◌, ◌++◌, take, length, get_or, set, Vec, refl, sym, ap, subst, inl, inr, ◌∙◌, arith, length-append, length-set}
+use Rattle.std.proofs.Common.{◌≡◌, ◌≢◌, ◌↔◌, ◌⊎◌, ◌<◌, ◌≤◌, ◌+◌, ◌*◌, ℕ, zero, suc, Bool, false, List, [], ◌∷◌, ◌++◌, take, length, get_or, set, Vec, refl, sym, ap, subst, inl, inr, ◌∙◌, arith, length-append, length-set}
 use Rattle.std.proofs.lemmas.Bool.{cases_eq}
 use Rattle.cargo_toml_graph.specs.Reach.{Among}
 use Rattle.cargo_toml_walk.specs.Bits.{AreWide, Gains, HasBit, Holds}
-use Rattle.cargo_toml_walk.specs.Numbers.{Leads, row_items}
+use Rattle.cargo_toml_walk.specs.Numbers.{HasLabel, IsWanted, Leads, row_items}
 use Rattle.cargo_toml_walk.proofs.Filling.{has_row}
 use Rattle.cargo_toml_walk.proofs.Steps.{among_all, among_more, among_taken}
 use Rattle.cargo_toml_walk.proofs.Words.{no_bit_past}
@@ -158,3 +158,17 @@ module _ {Z : Type 0} (table : List (Vec ℕ Z)) (own : ℕ) (named : List ℕ) 
     elim [ inl h ↦ inl h | inr p ↦ inr (p.0, among_taken named i p.0 p.1, p.2) ],
     elim [ inl h ↦ inl h | inr p ↦ inr (p.0, among_all named i p.0 le p.1, p.2) ],
   )
+
+-- the labels that are kept, from a table of labels
+pub label_row : {Z Y : Type 0} (labels : List (Vec ℕ Z)) (table : List (Vec ℕ Y)) (flags : List Bool) (own : ℕ) (passed bits row : List ℕ) → ((a x : ℕ) → Holds table a x ↔ Leads labels a x)
+    → ((x : ℕ) → HasBit bits x ↔ (Holds table own x ⊎ ((b : ℕ) × Among passed b × Holds table b x))) → ((x : ℕ) → Among row x ↔ ((x < length flags) × (HasBit bits x × IsWanted flags false x)))
+    → ((a x : ℕ) → Leads labels a x → x < length flags) → (x : ℕ) → Among row x ↔ HasLabel (Among passed) labels flags own x
+label_row labels table flags own passed bits row t has is inside x = (
+  λ i.
+      let n = (is x).0 i in
+      (elim ((has x).0 n.1.0) [ inl o ↦ (own, inl refl, (t own x).0 o) | inr p ↦ (p.0, inr p.1, (t p.0 x).0 p.2) ], n.1.1),
+  λ l.
+      let b = l.0.0 in
+      let held : Holds table b x = (t b x).1 l.0.2 in
+      (is x).1 (inside b x l.0.2, ((has x).1 (elim (l.0.1) [ inl same ↦ inl (subst (λ k. Holds table k x) same held) | inr p ↦ inr (b, p, held) ]), l.1)),
+)

@@ -5,6 +5,7 @@ ghost use Rattle.cargo_toml_graph.specs.Reach.{Among};
 ghost use Rattle.cargo_toml_walk.specs.Numbers.{CanMeet, IsPassed, IsWanted};
 ghost use Rattle.cargo_toml_walk.specs.Numbers.{Leads, AreStamped, OldStamps, FindsNamed};
 
+use crate::dense::{dense_passed, is_dense};
 use crate::node::Node;
 use std::alloc::{AllocError, Global};
 
@@ -164,6 +165,9 @@ pub fn all_passed(
         (λ p. (a b : ℕ) → IsWanted is_removed.now true a → ¬ Leads p.items a b) }
     ensures inside { IfOk result (λ p. (a b : ℕ) → Leads p.items a b → b < length edges.now) }
 {
+    if is_dense(edges, is_removed.len()) {
+        return dense_passed(alloc, edges, is_removed);
+    }
     let size = edges.len();
     let mut met = Vec::from_elem(alloc, size, size)?;
     let mut passed = Vec::with_capacity(alloc, size)?;

@@ -1,13 +1,13 @@
 -- Removed vertices are taken out one after another: a table holds the paths through those that are.
-use Rattle.std.proofs.Common.{◌≡◌, ◌⊎◌, ◌↔◌, ◌<◌, ◌≤◌, ◌+◌, ◌*◌, ℕ, Bool, true, false, List, Vec, length, get_or, replicate, refl, sym, ap, subst, inl, inr, ◌∙◌, arith}
+use Rattle.std.proofs.Common.{◌≡◌, ◌↔◌, ◌<◌, ◌≤◌, ◌+◌, ℕ, Bool, true, false, List, Vec, length, get_or, replicate, refl, sym, ap, subst, inl, inr, ◌∙◌, arith}
 use Rattle.std.proofs.lemmas.Bool.{cases_eq, cases_lt, cases_Bool, false≢true}
 use Rattle.std.proofs.lemmas.List.{get_or_past, get_or-replicate, length-replicate}
-use Rattle.cargo_toml_graph.specs.Reach.{Among, Reaches, Gathers, GathersLabel, With}
+use Rattle.cargo_toml_graph.specs.Reach.{Among, Reaches, GathersLabel, With}
 use Rattle.cargo_toml_graph.specs.Reach.Reaches.{edge, through}
 use Rattle.cargo_toml_graph.proofs.Members.{reaches_within, label_within}
 use Rattle.cargo_toml_graph.proofs.Split.{widen, joined, split, label_split}
-use Rattle.cargo_toml_walk.specs.Bits.{AreWide, Gains, HasBit, Holds}
-use Rattle.cargo_toml_walk.specs.Numbers.{IsPassed, IsRedirect, IsWanted, Leads, Replaces, row_items}
+use Rattle.cargo_toml_walk.specs.Bits.{AreWide, Gains, Holds}
+use Rattle.cargo_toml_walk.specs.Numbers.{IsRedirect, IsWanted, Leads}
 use Rattle.cargo_toml_walk.proofs.Filling.{has_row}
 use Rattle.cargo_toml_walk.proofs.Rows.{IsBelow, IsFinished}
 

@@ -1,4 +1,4 @@
-use Rattle.std.proofs.Common.{rules, arith}
+use Rattle.std.proofs.Common.{arith}
 use Rattle.cargo_toml_walk.proofs.Words.{put_at}
 use Rattle.cargo_toml_walk.proofs.bits.set_bit.Goals as goal
 

@@ -1,8 +1,7 @@
-use Rattle.std.proofs.Common.{rules, ◌≡◌, ◌<◌, ◌+◌, ◌↔◌, ◌⊎◌, ◌++◌, ◌∷◌, [], ℕ, false, length, sym, subst, ap, ◌∙◌, arith}
+use Rattle.std.proofs.Common.{rules, ◌≡◌, ◌<◌, ◌+◌, ◌↔◌, ℕ, length, sym, subst, ◌∙◌, arith}
 use Rattle.std.proofs.lemmas.Bool.Decides.{nat_tests}
 use Rattle.cargo_toml_graph.specs.Reach.{Among}
-use Rattle.cargo_toml_walk.specs.Bits.{HasBit, Holds}
-use Rattle.cargo_toml_walk.specs.Numbers.{HasLabel, IsWanted, Leads, PassesAny}
+use Rattle.cargo_toml_walk.specs.Numbers.{HasLabel, Leads, PassesAny}
 use Rattle.cargo_toml_walk.proofs.Filling.{IsFilled, one_more_filled, read_filled}
 use Rattle.cargo_toml_walk.proofs.Labelled.{some_among}
 use Rattle.cargo_toml_walk.proofs.Rows.{none_among}

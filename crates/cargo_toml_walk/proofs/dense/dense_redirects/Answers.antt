@@ -1,7 +1,7 @@
-use Rattle.std.proofs.Common.{rules, ◌≡◌, ◌<◌, ◌≤◌, ◌+◌, ◌*◌, ◌↔◌, ℕ, true, false, length, length-set, refl, ap, sym, subst, ◌∙◌, arith}
+use Rattle.std.proofs.Common.{rules, ◌<◌, ◌↔◌, ℕ, true, false, length, length-set, refl, ap, sym, subst, ◌∙◌, arith}
 use Rattle.cargo_toml_graph.specs.Reach.{Among}
-use Rattle.cargo_toml_walk.specs.Bits.{Gains, HasBit, Holds}
-use Rattle.cargo_toml_walk.specs.Numbers.{IsRedirect, IsWanted, Leads, row_items}
+use Rattle.cargo_toml_walk.specs.Bits.{Holds}
+use Rattle.cargo_toml_walk.specs.Numbers.{IsRedirect, IsWanted}
 use Rattle.cargo_toml_walk.proofs.Closing.{first_labels, first_paths, more_labels, more_paths, none_finished, redirect_row, same_labels, same_paths}
 use Rattle.cargo_toml_walk.proofs.Rows.{next_rows, one_more_finished, replaced, skipped_rows, still_finished}
 use Rattle.cargo_toml_walk.proofs.Steps.{list_read}

@@ -1,6 +1,5 @@
-use Rattle.std.proofs.Common.{rules, ◌≡◌, ◌<◌, ◌+◌, ◌↔◌, ℕ, true, false, length, sym, subst, ◌∙◌, arith}
+use Rattle.std.proofs.Common.{rules, true, false, length, subst}
 use Rattle.cargo_toml_graph.specs.Reach.{Among}
-use Rattle.cargo_toml_walk.specs.Bits.{Gains, Holds}
 use Rattle.cargo_toml_walk.specs.Numbers.{IsWanted}
 use Rattle.cargo_toml_walk.proofs.Closing.{all_paths, first_paths, more_paths, same_paths}
 use Rattle.cargo_toml_walk.proofs.Tabled.{holds_inside}

@@ -1,7 +1,6 @@
-use Rattle.std.proofs.Common.{rules, ◌<◌, ◌+◌, ◌↔◌, ◌⊎◌, ℕ, length, ap, sym, subst, ◌∙◌, arith}
+use Rattle.std.proofs.Common.{rules, ◌<◌, ◌+◌, ◌↔◌, ◌⊎◌, ℕ, length, ap, sym, subst, ◌∙◌}
 use Rattle.std.proofs.lemmas.List.{with_items_is}
 use Rattle.cargo_toml_walk.specs.Bits.{HasBit, Holds}
-use Rattle.cargo_toml_walk.specs.Numbers.{row_items}
 use Rattle.cargo_toml_walk.proofs.Steps.{among_at, item_at, list_read, row_read}
 use Rattle.cargo_toml_walk.proofs.Tabled.{Together, together_all, together_more, together_none}
 use Rattle.cargo_toml_walk.proofs.tables.gathered.Goals as goal

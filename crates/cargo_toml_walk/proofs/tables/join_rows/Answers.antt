@@ -1,10 +1,9 @@
-use Rattle.std.proofs.Common.{rules, ◌<◌, ◌≡◌, ◌↔◌, ◌⊎◌, ℕ, length, get_or, ap, sym, subst, ◌∙◌, arith}
+use Rattle.std.proofs.Common.{rules, ◌<◌, ◌↔◌, ◌⊎◌, ℕ, length, get_or, ap, sym, subst, ◌∙◌, arith}
 use Rattle.std.proofs.lemmas.List.{with_items_is}
 use Rattle.std.specs.Vec.{with_items}
 use Rattle.cargo_toml_walk.specs.Bits.{HasBit, Holds}
-use Rattle.cargo_toml_walk.specs.Numbers.{row_items}
 use Rattle.cargo_toml_walk.proofs.Steps.{among_at, item_at, list_read}
-use Rattle.cargo_toml_walk.proofs.Tabled.{all_gains, gains_more, no_gains}
+use Rattle.cargo_toml_walk.proofs.Tabled.{gains_more}
 use Rattle.cargo_toml_walk.proofs.tables.join_rows.Goals as goal
 
 pub index_mut-requires : goal.index_mut-requires

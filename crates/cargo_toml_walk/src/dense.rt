@@ -2,9 +2,9 @@
 //!
 //! A walk looks at each row of what it meets, which is cubic where each vertex leads to each. The
 //! tables take as many steps, but sixty-four nodes in one.
-ghost use Rattle.std.specs.Prelude.{◌≡◌, ◌<◌, ◌≤◌, ◌↔◌, ◌*◌, ℕ, IfOk, OnOk, length, true, false};
+ghost use Rattle.std.specs.Prelude.{◌≡◌, ◌<◌, ◌≤◌, ◌↔◌, ◌*◌, ℕ, IfOk, length, true, false};
 ghost use Rattle.cargo_toml_graph.specs.Reach.{Reaches};
-ghost use Rattle.cargo_toml_walk.specs.Bits.{AreWide, Holds};
+ghost use Rattle.cargo_toml_walk.specs.Bits.{Holds};
 ghost use Rattle.cargo_toml_walk.specs.Numbers.{AreWithin, HasLabel, IsPassed, IsRedirect};
 ghost use Rattle.cargo_toml_walk.specs.Numbers.{IsWanted, Leads, PassesAny, row_items};
 

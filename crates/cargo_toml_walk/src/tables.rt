@@ -1,5 +1,5 @@
 //! Tables of bits: for each vertex a set of nodes.
-ghost use Rattle.std.specs.Prelude.{◌≡◌, ◌*◌, ◌<◌, ◌≤◌, ◌↔◌, ◌⊎◌, ℕ, IfOk, OnOk, length};
+ghost use Rattle.std.specs.Prelude.{◌≡◌, ◌*◌, ◌<◌, ◌↔◌, ◌⊎◌, ℕ, IfOk, OnOk, length};
 ghost use Rattle.cargo_toml_graph.specs.Reach.{Among};
 ghost use Rattle.cargo_toml_walk.specs.Bits.{AreWide, Gains, HasBit, Holds};
 ghost use Rattle.cargo_toml_walk.specs.Numbers.{Leads, row_items};

@@ -4,3 +4,6 @@ pub mod Filling
 pub mod Labelled
 pub mod Linking
 pub mod Rows
+pub mod Words
+pub mod Tabled
+pub mod Closing

@@ -139,6 +139,28 @@ module _ {Z : Type 0} (edges : List (Vec ℕ Z)) (removed : List Bool) where
     left = λ a x n. h.left a x (λ u. n (under_later removed r a u));
   }
 
+  -- the row of r becomes its redirect
+  pub next_rows : (initial : List (Vec ℕ Z)) (bound r : ℕ) (rows : List (Vec ℕ Z)) → RowsState initial bound r rows → IsWanted removed true r → (new : List (Vec ℕ Z)) → Replaces r (IsRedirect edges removed initial r) rows new
+      → ((x : ℕ) → IsRedirect edges removed initial r x → x < bound) → RowsState initial bound (r + 1) new
+  next_rows initial bound r rows h gone new v below = record {
+    len = v.len ∙ h.len;
+    inside = λ a x i. elim (cases_eq a r) [
+      | inl same ↦ below x ((v.here x).0 (subst (λ z. Leads new z x) same i))
+      | inr other ↦ h.inside a x ((v.others a x other).0 i)
+    ];
+    done = λ a x u. elim (cases_eq a r) [
+      | inl same ↦ (
+        λ i. subst (λ z. IsRedirect edges removed initial z x) (sym same) ((v.here x).0 (subst (λ z. Leads new z x) same i)),
+        λ w. subst (λ z. Leads new z x) (sym same) ((v.here x).1 (subst (λ z. IsRedirect edges removed initial z x) same w)),
+      )
+      | inr other ↦ let d = h.done a x (under_split removed r a other u) in (λ i. d.0 ((v.others a x other).0 i), λ w. (v.others a x other).1 (d.1 w))
+    ];
+    left = λ a x n. elim (cases_eq a r) [
+      | inl same ↦ absurd (n (subst (IsWanted removed true) (sym same) gone, omega (arith, same)))
+      | inr other ↦ let d = h.left a x (λ u. n (under_later removed r a u)) in (λ i. d.0 ((v.others a x other).0 i), λ w. (v.others a x other).1 (d.1 w))
+    ];
+  }
+
   module _ (initial : List (Vec ℕ Z)) (bound within r : ℕ) (targets rows : List (Vec ℕ Z)) (t : RowsState edges within r targets) (h : RowsState initial bound r rows) where
     are_rows : AreRows (Leads edges) (IsWanted removed true) (Leads initial) r (Leads targets) (Leads rows)
     are_rows = record {
@@ -167,26 +189,15 @@ module _ {Z : Type 0} (edges : List (Vec ℕ Z)) (removed : List Bool) where
       )
 
       pub one_more_row : IsWanted removed true r → (new : List (Vec ℕ Z)) → Replaces r (HasLabel (Among passed) rows finished r) rows new → RowsState initial bound (r + 1) new
-      one_more_row gone new v = record {
-        len = v.len ∙ h.len;
-        inside = λ a x i. elim (cases_eq a r) [
-          | inl same ↦ h.inside _ x ((v.here x).0 (subst (λ z. Leads new z x) same i)).0.2
-          | inr other ↦ h.inside a x ((v.others a x other).0 i)
-        ];
-        done = λ a x u. elim (cases_eq a r) [
-          | inl same ↦ (
-            λ i. subst (λ z. IsRedirect edges removed initial z x) (sym same) ((row_is x).0 ((v.here x).0 (subst (λ z. Leads new z x) same i))),
-            λ w. subst (λ z. Leads new z x) (sym same) ((v.here x).1 ((row_is x).1 (subst (λ z. IsRedirect edges removed initial z x) same w))),
-          )
-          | inr other ↦ let d = h.done a x (under_split removed r a other u) in (λ i. d.0 ((v.others a x other).0 i), λ w. (v.others a x other).1 (d.1 w))
-        ];
-        left = λ a x n. elim (cases_eq a r) [
-          | inl same ↦ absurd (n (subst (IsWanted removed true) (sym same) gone, omega (arith, same)))
-          | inr other ↦ let d = h.left a x (λ u. n (under_later removed r a u)) in (λ i. d.0 ((v.others a x other).0 i), λ w. (v.others a x other).1 (d.1 w))
-        ];
-      }
+      one_more_row gone new v = next_rows initial bound r rows h gone new
+          (record {
+            len = v.len;
+            here = λ x. (λ i. (row_is x).0 ((v.here x).0 i), λ w. (v.here x).1 ((row_is x).1 w));
+            others = v.others;
+          })
+          (λ x w. let l = (row_is x).1 w in h.inside l.0.0 x l.0.2)
 
-none_among : (xs : List ℕ) → length xs ≡ 0 → (b : ℕ) → ¬ Among xs b
+pub none_among : (xs : List ℕ) → length xs ≡ 0 → (b : ℕ) → ¬ Among xs b
 none_among [] e b i = absurd i
 none_among (x ∷ xs) e b i = absurd (omega arith)
 

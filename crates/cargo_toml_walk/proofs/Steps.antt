@@ -1,6 +1,6 @@
 -- Steps of a walk over numbers.
-use Rattle.std.proofs.Common.{◌≡◌, ◌≢◌, ◌⊎◌, ◌↔◌, ◌<◌, ◌≤◌, ◌+◌, ℕ, zero, suc, Bool, false, if◌then◌else◌, List, [], ◌∷◌, ◌++◌, take, length, get_or, set, nat_eq, Vec, refl, sym, ap, subst, inl, inr, ◌∙◌, arith, add-one, length-append, length-set}
-use Rattle.std.proofs.lemmas.Bool.{cases_eq}
+use Rattle.std.proofs.Common.{◌≡◌, ◌≢◌, ◌⊎◌, ◌↔◌, ◌<◌, ◌≤◌, ◌+◌, ℕ, zero, suc, Bool, true, false, IsTrue, if◌then◌else◌, List, [], ◌∷◌, ◌++◌, take, length, get_or, set, nat_eq, Vec, refl, sym, ap, subst, inl, inr, ◌∙◌, arith, add-one, length-append, length-set}
+use Rattle.std.proofs.lemmas.Bool.{cases_Bool, cases_eq, false≢true}
 use Rattle.std.proofs.lemmas.List.{get_or-set_same, get_or-set_other, take-append-le}
 use Rattle.std.proofs.lemmas.List.Sums.{sum_by-set}
 use Rattle.std.proofs.lemmas.Bool.Decides.{nat_tests}
@@ -183,3 +183,10 @@ row_read rows i p v lt at is = list_read rows i v lt (subst (λ n. v ≡ get_or 
 
 pub older_stamps : (epoch : ℕ) (m0 m1 m2 : List ℕ) → OldStamps epoch m0 m1 → OldStamps epoch m1 m2 → OldStamps epoch m0 m2
 older_stamps epoch m0 m1 m2 v w = λ y. elim (w y) [ inr e ↦ inr e | inl e ↦ elim (v y) [ inl d ↦ inl (e ∙ d) | inr d ↦ inr (e ∙ d) ] ]
+
+-- a row of which no flag stands
+pub none_flagged : (row : List ℕ) (flags : List Bool) (found : Bool) → (IsTrue found ↔ ((x : ℕ) × Among row x × IsWanted flags true x)) → found ≡ false → (x : ℕ) → Among row x → IsWanted flags false x
+none_flagged row flags found is none x i = elim (cases_Bool (get_or flags x false)) [
+  | inl on ↦ absurd (false≢true (sym none ∙ is.1 (x, i, on)))
+  | inr off ↦ off
+]

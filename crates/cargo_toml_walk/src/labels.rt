@@ -4,6 +4,7 @@ ghost use Rattle.cargo_toml_graph.specs.Reach.{Among};
 ghost use Rattle.cargo_toml_walk.specs.Numbers.{AreStamped, AreWithin, CanMeet, FindsNamed};
 ghost use Rattle.cargo_toml_walk.specs.Numbers.{HasLabel, IsWanted, Leads, OldStamps, PassesAny};
 
+use crate::dense::{dense_labels, is_dense};
 use crate::node::Node;
 use crate::walk::{Sought, visit_row};
 use std::alloc::{AllocError, Global};
@@ -105,6 +106,9 @@ pub fn all_labels(
     ensures none { IfOk result (λ r. (a x : ℕ) → ¬ PassesAny passed.now a → ¬ Leads r.items a x) }
     ensures inside { IfOk result (λ r. (a x : ℕ) → Leads r.items a x → x < length is_removed.now) }
 {
+    if is_dense(labels, is_removed.len()) {
+        return dense_labels(alloc, passed, labels, is_removed);
+    }
     let size = labels.len();
     let total = is_removed.len();
     let mut met = Vec::from_elem(alloc, total, total)?;

@@ -6,6 +6,7 @@ ghost use Rattle.cargo_toml_graph.specs.Reach.{Among};
 ghost use Rattle.cargo_toml_walk.specs.Numbers.{AreWithin, CanMeet, HasLabel, IsRedirect};
 ghost use Rattle.cargo_toml_walk.specs.Numbers.{IsWanted, Leads, OldStamps, Replaces};
 
+use crate::dense::{dense_redirects, is_dense};
 use crate::labels::{Passer, kept_labels};
 use crate::node::Node;
 use crate::walk::{has_flagged, passing};
@@ -85,6 +86,9 @@ pub fn redirects(
     // There is none below a sole removed vertex: its redirect is its labels.
     if is_sole(is_removed) {
         return Ok(labels);
+    }
+    if is_dense(edges.as_slice(), is_removed.len()) {
+        return dense_redirects(alloc, edges.as_slice(), labels, is_removed);
     }
     let size = edges.len();
     let total = is_removed.len();

@@ -1,9 +1,11 @@
 //! What each vertex reaches through removed vertices.
-ghost use Rattle.std.specs.Prelude.{◌≡◌, ◌<◌, ◌≤◌, ◌↔◌, IfOk, OnOk, ℕ, length, true, false};
+ghost use Rattle.std.specs.Prelude.{◌≡◌, ◌<◌, ◌≤◌, ◌↔◌, ℕ, length, true, false};
+ghost use Rattle.std.specs.Prelude.{IfOk, IsTrue, OnOk};
 ghost use Rattle.cargo_toml_graph.specs.Reach.{Among};
 ghost use Rattle.cargo_toml_walk.specs.Numbers.{CanMeet, IsPassed, IsWanted};
 ghost use Rattle.cargo_toml_walk.specs.Numbers.{Leads, AreStamped, OldStamps, FindsNamed};
 
+use crate::dense::{dense_passed, is_dense};
 use crate::node::Node;
 use std::alloc::{AllocError, Global};
 
@@ -18,7 +20,7 @@ pub(crate) struct Sought<'f> {
 /// Whether the flag of one of the row stands.
 pub fn has_flagged(row: &[Node], flags: &[bool]) -> bool
     requires { (x : ℕ) → Among row.now x → x < length flags.now }
-    ensures { result ≡ false → (x : ℕ) → Among row.now x → IsWanted flags.now false x }
+    ensures { IsTrue result ↔ ((x : ℕ) × Among row.now x × IsWanted flags.now true x) }
 {
     for x in row {
         if flags[x.place()] {
@@ -163,6 +165,9 @@ pub fn all_passed(
         (λ p. (a b : ℕ) → IsWanted is_removed.now true a → ¬ Leads p.items a b) }
     ensures inside { IfOk result (λ p. (a b : ℕ) → Leads p.items a b → b < length edges.now) }
 {
+    if is_dense(edges, is_removed.len()) {
+        return dense_passed(alloc, edges, is_removed);
+    }
     let size = edges.len();
     let mut met = Vec::from_elem(alloc, size, size)?;
     let mut passed = Vec::with_capacity(alloc, size)?;

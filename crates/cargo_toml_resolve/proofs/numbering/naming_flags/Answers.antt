@@ -1,7 +1,7 @@
 use Rattle.std.proofs.Common.{rules, ◌≡◌, ◌<◌, [], ◌∷◌, true, false, length, length-append, ap, sym, subst, ◌∙◌, arith}
 use Rattle.cargo_toml_graph.specs.Reach.{Among}
 use Rattle.cargo_toml_walk.specs.Numbers.{IsWanted}
-use Rattle.cargo_toml_walk.proofs.Steps.{list_read}
+use Rattle.cargo_toml_walk.proofs.Steps.{list_read, none_flagged}
 use Rattle.cargo_toml_resolve.specs.NumberedTables.{IsNaming}
 use Rattle.cargo_toml_resolve.proofs.NumberRows.{flag_put, naming_is}
 use Rattle.cargo_toml_resolve.proofs.numbering.naming_flags.Goals as goal
@@ -25,7 +25,7 @@ loop-i-preserved c =
       | else-flags-i w ↦ (λ asked.
           let off : IsWanted fs false i = search rules in
           let read = list_read es i w.index-edges-i.result inside w.index-edges-i.is ∙ sym w.as_slice.ensures.value in
-          w.push-is ∙ naming_is es fs i w.as_slice.result.now w.has_flagged.result read off w.has_flagged.ensures asked)
+          w.push-is ∙ naming_is es fs i w.as_slice.result.now w.has_flagged.result read off (none_flagged _ fs _ w.has_flagged.ensures) asked)
     ] in
     let all = ap length c.in_ok-push.ensures.items in
     let more = length-append old (c.if-flags-i.push ∷ []) in

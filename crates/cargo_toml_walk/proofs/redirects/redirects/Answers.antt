@@ -14,13 +14,13 @@ loop-r-preserved c = elim c.if-is_removed-r.branch [
       let old = c.loop-r.invariant in
       let passed : (b : ℕ) → Among w.in_ok-passed.passed.items b ↔ IsPassed c.loop-r.edges.items c.loop-r.finished.items c.loop-r.r b =
       subst (λ t. (b : ℕ) → Among w.in_ok-passed.passed.items b ↔ IsPassed c.loop-r.edges.items t c.loop-r.r b) w.as_slice-flags.ensures.value
-      (subst (λ t. (b : ℕ) → Among w.in_ok-passed.passed.items b ↔ IsPassed t w.as_slice-flags.result.now c.loop-r.r b) w.as_slice.ensures.value (rw w.at-own.ensures at w.in_ok-passed.ensures.passed)) in
+      (subst (λ t. (b : ℕ) → Among w.in_ok-passed.passed.items b ↔ IsPassed t w.as_slice-flags.result.now c.loop-r.r b) w.as_slice-then-is_removed-r.ensures.value (rw w.at-own.ensures at w.in_ok-passed.ensures.passed)) in
       let targets : Replaces c.loop-r.r (HasLabel (Among w.in_ok-passed.passed.items) c.loop-r.edges.items c.loop-r.finished.items c.loop-r.r) c.loop-r.edges.items w.finish-then-is_removed-r.new.rows.items =
       subst (λ t. Replaces c.loop-r.r (HasLabel (Among w.in_ok-passed.passed.items) c.loop-r.edges.items t c.loop-r.r) c.loop-r.edges.items w.finish-then-is_removed-r.new.rows.items) w.as_slice-flags.ensures.value
-      (subst (λ t. Replaces c.loop-r.r (HasLabel (Among t) c.loop-r.edges.items w.as_slice-flags.result.now c.loop-r.r) c.loop-r.edges.items w.finish-then-is_removed-r.new.rows.items) w.as_slice-then-is_removed-r.ensures.value (rw w.at-own.ensures at w.in_ok-finish-2.ensures.row)) in
+      (subst (λ t. Replaces c.loop-r.r (HasLabel (Among t) c.loop-r.edges.items w.as_slice-flags.result.now c.loop-r.r) c.loop-r.edges.items w.finish-then-is_removed-r.new.rows.items) w.as_slice-then-is_removed-r-2.ensures.value (rw w.at-own.ensures at w.in_ok-finish-2.ensures.row)) in
       let row : Replaces c.loop-r.r (HasLabel (Among w.in_ok-passed.passed.items) c.loop-r.labels.items c.loop-r.finished.items c.loop-r.r) c.loop-r.labels.items w.finish.new.rows.items =
       subst (λ t. Replaces c.loop-r.r (HasLabel (Among w.in_ok-passed.passed.items) c.loop-r.labels.items t c.loop-r.r) c.loop-r.labels.items w.finish.new.rows.items) w.as_slice-flags.ensures.value
-      (subst (λ t. Replaces c.loop-r.r (HasLabel (Among t) c.loop-r.labels.items w.as_slice-flags.result.now c.loop-r.r) c.loop-r.labels.items w.finish.new.rows.items) w.as_slice-then-is_removed-r.ensures.value (rw w.at-own.ensures at w.in_ok-finish.ensures.row)) in
+      (subst (λ t. Replaces c.loop-r.r (HasLabel (Among t) c.loop-r.labels.items w.as_slice-flags.result.now c.loop-r.r) c.loop-r.labels.items w.finish.new.rows.items) w.as_slice-then-is_removed-r-2.ensures.value (rw w.at-own.ensures at w.in_ok-finish.ensures.row)) in
       rw (w.edges-is, w.labels-is, w.finished-is, w.met-is, w.met_targets-is, w.met_labels-is) (record {
         met = w.in_ok-passed.ensures.len ∙ old.met;
         met_past = stamps_past c.loop-r.r _ c.loop-r.met.items w.passing.new.met.items w.in_ok-passed.ensures.len old.met_past (rw w.at-own.ensures at w.in_ok-passed.ensures.stamps);

@@ -3,7 +3,7 @@ use Rattle.std.proofs.lemmas.Bool.Decides.{nat_tests}
 use Rattle.std.proofs.lemmas.Bool.{not-true}
 use Rattle.cargo_toml_graph.specs.Reach.{Among}
 use Rattle.cargo_toml_walk.specs.Numbers.{IsWanted}
-use Rattle.cargo_toml_walk.proofs.Steps.{row_read}
+use Rattle.cargo_toml_walk.proofs.Steps.{none_flagged, row_read}
 use Rattle.cargo_toml_walk.proofs.Rows.{row_stays}
 use Rattle.cargo_toml_walk.proofs.redirects.stays.Goals as goal
 
@@ -17,4 +17,4 @@ returns-then-is_empty c = λ e.
     let none : length c.args.passer.now.passed.now ≡ 0 = grind (arith, nat_tests) in
     let read = c.as_slice.ensures.value ∙ sym (row_read c.args.rows.now c.args.passer.now.own _ c.index-rows-place.result c.requires.own c.place.ensures c.index-rows-place.is) in
     row_stays c.args.rows.now c.args.finished.now c.args.passer.now.passed.now c.args.passer.now.own none
-    (subst (λ t. (x : ℕ) → Among t x → IsWanted c.args.finished.now false x) read (c.has_flagged.ensures (not-true _ e)))
+    (subst (λ t. (x : ℕ) → Among t x → IsWanted c.args.finished.now false x) read (none_flagged _ c.args.finished.now _ c.has_flagged.ensures (not-true _ e)))

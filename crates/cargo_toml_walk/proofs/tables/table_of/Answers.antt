@@ -1,0 +1,23 @@
+use Rattle.std.proofs.Common.{rules, ◌+◌, ◌<◌, ◌↔◌, ℕ, length, sym, subst, ◌∙◌}
+use Rattle.cargo_toml_graph.specs.Reach.{Among}
+use Rattle.cargo_toml_walk.specs.Bits.{HasBit}
+use Rattle.cargo_toml_walk.proofs.Steps.{list_read}
+use Rattle.cargo_toml_walk.proofs.Tabled.{IsTabled, tabled_all, tabled_more}
+use Rattle.cargo_toml_walk.proofs.tables.table_of.Goals as goal
+
+pub bits_of-requires : goal.bits_of-requires
+bits_of-requires c = λ x i.
+    let inside : c.loop-a.a < length c.args.rows.now = search rules in
+    let read = c.as_slice.ensures.value ∙ sym (list_read c.args.rows.now c.loop-a.a c.index-rows-a.result inside c.index-rows-a.is) in
+    c.requires _ x (subst (λ t. Among t x) read i)
+
+pub loop-a-preserved : goal.loop-a-preserved
+loop-a-preserved c =
+    let inside : c.loop-a.a < length c.args.rows.now = search rules in
+    let read = c.as_slice.ensures.value ∙ sym (list_read c.args.rows.now c.loop-a.a c.index-rows-a.result inside c.index-rows-a.is) in
+    subst (IsTabled c.args.rows.now c.args.width (c.loop-a.a + 1)) (sym c.in_ok-push.ensures.items)
+    (tabled_more c.args.rows.now c.args.width c.loop-a.a c.loop-a.table.items c.loop-a.invariant c.in_ok-bits_of.field-0 c.in_ok-bits_of.ensures.len
+    (subst (λ t. (x : ℕ) → HasBit c.in_ok-bits_of.field-0.items x ↔ Among t x) read c.in_ok-bits_of.ensures.bits))
+
+pub returns-clause-bits : goal.returns-clause-bits
+returns-clause-bits c = tabled_all c.args.rows.now c.args.width c.loop-a.a c.loop-a.table.items c.loop-a.invariant (search rules)

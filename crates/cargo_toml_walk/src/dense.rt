@@ -1,0 +1,144 @@
+//! Walks over dense graphs, by tables of bits.
+//!
+//! A walk looks at each row of what it meets, which is cubic where each vertex leads to each. The
+//! tables take as many steps, but sixty-four nodes in one.
+ghost use Rattle.std.specs.Prelude.{◌≡◌, ◌<◌, ◌≤◌, ◌↔◌, ◌*◌, ℕ, IfOk, length, true, false};
+ghost use Rattle.cargo_toml_graph.specs.Reach.{Reaches};
+ghost use Rattle.cargo_toml_walk.specs.Bits.{Holds};
+ghost use Rattle.cargo_toml_walk.specs.Numbers.{AreWithin, HasLabel, IsPassed, IsRedirect};
+ghost use Rattle.cargo_toml_walk.specs.Numbers.{IsWanted, Leads, PassesAny, row_items};
+
+use crate::bits::{nodes_of, words_for};
+use crate::node::Node;
+use crate::tables::{gathered, parents_of, pass_on, table_of};
+use std::alloc::{AllocError, Global};
+
+// Whether a table of bits takes no more memory than the rows do, so that it is worth its cost. Rows
+// of a few nodes are walked faster.
+pub(crate) fn is_dense(rows: &[Vec<Node>], count: usize) -> bool {
+    let least = (count / 64).max(16);
+    let mut total: usize = 0;
+    for row in rows {
+        total = total.saturating_add(row.len());
+    }
+    total >= rows.len().saturating_mul(least)
+}
+
+// The labels of all vertices, as `all_labels` says.
+pub(crate) fn dense_labels(
+    alloc: Global,
+    passed: &[Vec<Node>],
+    labels: &[Vec<Node>],
+    is_removed: &[bool],
+) -> Result<Vec<Vec<Node>>, AllocError>
+    requires { AreWithin passed.now labels.now is_removed.now }
+    ensures len { IfOk result (λ r. length r.items ≡ length labels.now) }
+    ensures labels { IfOk result (λ r. (a x : ℕ) → a < length labels.now → PassesAny passed.now a
+        → Leads r.items a x ↔ HasLabel (Leads passed.now a) labels.now is_removed.now a x) }
+    ensures none { IfOk result (λ r. (a x : ℕ) → ¬ PassesAny passed.now a → ¬ Leads r.items a x) }
+    ensures inside { IfOk result (λ r. (a x : ℕ) → Leads r.items a x → x < length is_removed.now) }
+{
+    let width = words_for(is_removed.len());
+    let table = table_of(alloc, labels, width)?;
+    let mut rows = Vec::with_capacity(alloc, labels.len())?;
+    for own in 0..labels.len() {
+        let through = passed[own].as_slice();
+        if through.is_empty() {
+            rows.push(Vec::new(alloc))?;
+        } else {
+            let bits = gathered(alloc, table.as_slice(), Node::at(own), through)?;
+            rows.push(nodes_of(alloc, bits.as_slice(), is_removed, false)?)?;
+        }
+    }
+    Ok(rows)
+}
+
+// What each vertex reaches through removed ones.
+fn reached(
+    alloc: Global,
+    edges: &[Vec<Node>],
+    is_removed: &[bool],
+) -> Result<Vec<Vec<u64>>, AllocError>
+    requires whole { length edges.now ≤ length is_removed.now }
+    requires inside { (a b : ℕ) → Leads edges.now a b → b < length edges.now }
+    ensures len { IfOk result (λ table. length table.items ≡ length edges.now) }
+    ensures wide { IfOk result (λ table. (a : ℕ) → a < length edges.now
+        → length is_removed.now ≤ 64 * length (row_items table.items a)) }
+    ensures paths { IfOk result (λ table. (a b : ℕ) → Holds table.items a b
+        ↔ Reaches (Leads edges.now) (IsWanted is_removed.now true) a b) }
+{
+    let width = words_for(is_removed.len());
+    let mut table = table_of(alloc, edges, width)?;
+    for r in 0..edges.len() {
+        if is_removed[r] {
+            let own = Node::at(r);
+            let parents = parents_of(alloc, table.as_slice(), own)?;
+            pass_on(alloc, &mut table, own, parents.as_slice())?;
+        }
+    }
+    Ok(table)
+}
+
+// What all vertices pass, as `all_passed` says.
+pub(crate) fn dense_passed(
+    alloc: Global,
+    edges: &[Vec<Node>],
+    is_removed: &[bool],
+) -> Result<Vec<Vec<Node>>, AllocError>
+    requires whole { length edges.now ≤ length is_removed.now }
+    requires inside { (a b : ℕ) → Leads edges.now a b → b < length edges.now }
+    ensures len { IfOk result (λ p. length p.items ≡ length edges.now) }
+    ensures passed { IfOk result
+        (λ p. (a b : ℕ) → a < length edges.now → IsWanted is_removed.now false a
+        → Leads p.items a b ↔ IsPassed edges.now is_removed.now a b) }
+    ensures removed { IfOk result
+        (λ p. (a b : ℕ) → IsWanted is_removed.now true a → ¬ Leads p.items a b) }
+    ensures inside { IfOk result (λ p. (a b : ℕ) → Leads p.items a b → b < length edges.now) }
+{
+    let table = reached(alloc, edges, is_removed)?;
+    let mut passed = Vec::with_capacity(alloc, edges.len())?;
+    for a in 0..edges.len() {
+        if is_removed[a] {
+            passed.push(Vec::new(alloc))?;
+        } else {
+            passed.push(nodes_of(alloc, table[a].as_slice(), is_removed, true)?)?;
+        }
+    }
+    Ok(passed)
+}
+
+// What stands for the removed vertices, as `redirects` says.
+pub(crate) fn dense_redirects(
+    alloc: Global,
+    edges: &[Vec<Node>],
+    mut labels: Vec<Vec<Node>>,
+    is_removed: &[bool],
+) -> Result<Vec<Vec<Node>>, AllocError>
+    requires { AreWithin edges.now labels.items is_removed.now }
+    ensures len { IfOk result (λ rows. length rows.items ≡ length labels.items) }
+    ensures redirects { IfOk result
+        (λ rows. (r x : ℕ) → r < length labels.items → IsWanted is_removed.now true r
+        → Leads rows.items r x ↔ IsRedirect edges.now is_removed.now labels.items r x) }
+    ensures others { IfOk result (λ rows. (a x : ℕ) → IsWanted is_removed.now false a
+        → Leads rows.items a x ↔ Leads labels.items a x) }
+    ensures inside { IfOk result
+        (λ rows. (r x : ℕ) → Leads rows.items r x → x < length is_removed.now) }
+{
+    let total = is_removed.len();
+    let mut finished = Vec::from_elem(alloc, false, total)?;
+    let width = words_for(total);
+    let mut edge_table = table_of(alloc, edges, width)?;
+    let mut label_table = table_of(alloc, labels.as_slice(), width)?;
+    for r in 0..edges.len() {
+        if is_removed[r] {
+            let own = Node::at(r);
+            let row = nodes_of(alloc, label_table[r].as_slice(), finished.as_slice(), false)?;
+            labels[r] = row;
+            let parents = parents_of(alloc, edge_table.as_slice(), own)?;
+            pass_on(alloc, &mut label_table, own, parents.as_slice())?;
+            pass_on(alloc, &mut edge_table, own, parents.as_slice())?;
+            finished[r] = true;
+        }
+    }
+    Ok(labels)
+}

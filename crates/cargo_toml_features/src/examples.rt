@@ -37,31 +37,28 @@ pub fn a_small_table()
     // the features are these three, and no `std`
     ensures features { (f : Text) → IsTrue (small.has f)
         ↔ Among (codes "default" ∷ codes "fast" ∷ codes "log" ∷ []) f }
-    // `log` is implied
-    ensures implied { is_implied small_listed small_entries (codes "log") ≡ true }
+    // `log` is implied, and recorded under its key
+    ensures implied { (is_implied small_listed small_entries (codes "log") ≡ true)
+        × (option_map (λ r. r.crate_name)
+        (recorded_of (entries_at small_listed small_entries (codes "log"))) ≡ Some (codes "log")) }
     // `default` names `fast` alone
     ensures names { (x : Text) → IsTrue (small.names (codes "default") x) ↔ (x ≡ codes "fast") }
-    // `fast` acts on `log` plainly, with the feature `std`
-    ensures acts { (joined_table small_listed small_entries).action (codes "fast") (codes "log")
+    // `fast` acts on `log` plainly, with the feature `std`; `log` on itself, with none
+    ensures acts { ((joined_table small_listed small_entries).action (codes "fast") (codes "log")
         ≡ Some (record {
           is_conditional = false;
           is_dep_only = false;
           features = λ x. bytes_eq x (codes "std");
-        }) }
-    // `log` acts on itself plainly, with no feature
-    ensures acts_on_itself { (joined_table small_listed small_entries).action (codes "log")
-        (codes "log")
-        ≡ Some plain_action }
+        }))
+        × ((joined_table small_listed small_entries).action (codes "log") (codes "log")
+        ≡ Some plain_action) }
     // the same where redundant features go
     ensures effective { IsSomeAnd (small.action (codes "fast") (codes "log"))
         (λ a. IsFalse a.is_conditional × IsFalse a.is_dep_only
         × ((x : Text) → IsTrue (a.features x) ↔ (x ≡ codes "std"))) }
-    // `log` is recorded under its key
-    ensures recorded { option_map (λ r. r.crate_name)
-        (recorded_of (entries_at small_listed small_entries (codes "log"))) ≡ Some (codes "log") }
     // `default` leads to `fast`, and `fast` to `log`
-    ensures first_edge { Edge small (codes "default") (codes "fast") }
-    ensures second_edge { Edge small (codes "fast") (codes "log") }
+    ensures edges { Edge small (codes "default") (codes "fast")
+        × Edge small (codes "fast") (codes "log") }
     // from `default` on `fast` is enabled, and `log` is not reached by names
     ensures recursive { (x : Text) → Enables small (codes "default") x
         ↔ ((x ≡ codes "default") ⊎ (x ≡ codes "fast")) }

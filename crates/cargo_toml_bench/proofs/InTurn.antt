@@ -15,7 +15,7 @@ use Rattle.cargo_toml_graph.proofs.BinLists.{among-second}
 use Rattle.cargo_toml_graph.proofs.Texts.{apart_false, bytes_eq_sym}
 use Rattle.cargo_toml_features.specs.declared.features.Feature.{Feature}
 use Rattle.cargo_toml_features.specs.Views.{set_has, resolution_of, value_at}
-use Rattle.cargo_toml_bench.specs.Removing.{key_at, marks_at, bins_at, TakesOut, Redirects}
+use Rattle.cargo_toml_bench.specs.Removing.{bins_at, AreTakenOut, TakesOut, Redirects}
 
 same_then : (l m n : Resolution) → SameKept l m → SameKept m n → SameKept l n
 same_then l m n h k = record {
@@ -91,17 +91,7 @@ abbrev Redirected : Type 0 → Type 0
 Redirected S = HashMap (Bor Text) (BTreeSet (Bor Text)) S
 
 module _ {S : Type 0} where
-  -- those in `done` have been taken out
-  pub record SoFar (done : List Text) (old now : HashMap (Bor Text) Feature S) (hidden : Redirected S) : Type 0 where
-    pub left : SameKept (without_all done (resolution_of old)) (resolution_of now)
-    pub keys : (f : Text) → IsSome (value_at now f) → key_at now f ≡ key_at old f
-    pub marks : (f : Text) → IsSome (value_at now f) → marks_at now f ≡ marks_at old f
-    pub bins : (f : Text) → IsSome (value_at now f) → bins_at now f ≡ pass_all done (resolution_of old) (bins_at old) f
-    pub redirected : (r : Text) → is_some (value_at hidden r) ≡ lists_text done r
-    pub redirects : (before after : List Text) (r : Text) → done ≡ before ++ r ∷ after
-        → IfSome (value_at hidden r) (λ names. (x : Text) → set_has names x ≡ (without_all before (resolution_of old)).table.names r x)
-
-  pub none_yet : (m : HashMap (Bor Text) Feature S) (hidden : Redirected S) → hidden.entries ≡ [] → SoFar [] m m hidden
+  pub none_yet : (m : HashMap (Bor Text) Feature S) (hidden : Redirected S) → hidden.entries ≡ [] → AreTakenOut [] m m hidden
   none_yet m hidden none = record {
     left = record { has = λ f. refl; names = λ f x t. refl; action = λ f k t. refl; enabled_by = λ f e t. refl };
     keys = λ f t. refl;
@@ -115,7 +105,7 @@ module _ {S : Type 0} where
       go [] q after e = cc
       go (b ∷ bs) q after e = cc
 
-  module _ (done : List Text) (old now : HashMap (Bor Text) Feature S) (hidden : Redirected S) (h : SoFar done old now hidden) where
+  module _ (done : List Text) (old now : HashMap (Bor Text) Feature S) (hidden : Redirected S) (h : AreTakenOut done old now hidden) where
     pub were_there : (f : Text) → IsSome (value_at now f) → IsSome (value_at old f)
     were_there f t = was_there done (resolution_of old) f (h.left.has f ∙ t)
 
@@ -154,7 +144,7 @@ module _ {S : Type 0} where
               subst (λ o. IfSome o (λ names. (x : Text) → set_has names x ≡ (without_all before (resolution_of old)).table.names q x)) (sym (d.others q off)) (h.redirects before p.0 q p.1)
         ]
 
-        pub next : SoFar (done ++ r ∷ []) old now' hidden'
+        pub next : AreTakenOut (done ++ r ∷ []) old now' hidden'
         next = record {
           left = subst (λ m. SameKept m (resolution_of now')) (sym (without_last done r (resolution_of old)))
               (same_then (without_one r (without_all done (resolution_of old))) (without_one r (resolution_of now)) (resolution_of now') (same_without r (without_all done (resolution_of old)) (resolution_of now) still h.left) t.left);

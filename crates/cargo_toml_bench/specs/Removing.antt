@@ -1,6 +1,7 @@
 -- What features hold while some are taken out, one after another.
-use Rattle.std.specs.Prelude.{◌≡◌, ◌&&◌, ◌||◌, not, if◌then◌else◌, Bool, false, List, []}
-use Rattle.std.specs.Prelude.{Option, IsFalse, IfSome, IsSome, bytes_eq, map, option_map, take}
+use Rattle.std.specs.Prelude.{◌≡◌, ◌&&◌, ◌||◌, ◌∷◌, ◌++◌, not, if◌then◌else◌, Bool, false, List, []}
+use Rattle.std.specs.Prelude.{Option, IsFalse, IfSome, IsSome, bytes_eq, is_some, option_map}
+use Rattle.std.specs.Prelude.{take}
 use Rattle.std.specs.Option.{option_map_or}
 use Rattle.std.specs.Borrow.{Bor}
 use Rattle.std.specs.BTreeSet.{BTreeSet}
@@ -9,7 +10,8 @@ use Rattle.cargo_toml_dependencies.specs.Details.{plain_detail}
 use Rattle.cargo_toml_features.specs.declared.features.Feature.{Feature}
 use Rattle.cargo_toml_graph.specs.Action.{Text, join_option}
 use Rattle.cargo_toml_graph.specs.Graph.{Resolution}
-use Rattle.cargo_toml_graph.specs.Removal.{SameKept, pass_bins, put_each, without_one}
+use Rattle.cargo_toml_graph.specs.Removal.{SameKept, lists_text, pass_all, pass_bins, put_each}
+use Rattle.cargo_toml_graph.specs.Removal.{without_all, without_one}
 use Rattle.cargo_toml_full.specs.Slots.{Relates}
 use Rattle.cargo_toml_features.specs.Marks.{FeatureMarks, marked, marks_of}
 use Rattle.cargo_toml_features.specs.Views.{set_has, action_at, resolution_of, value_at}
@@ -97,3 +99,18 @@ pub record Redirects {S : Type 0} (r : Text) (m : Resolution)
   pub there : IsSome (value_at new r)
   pub own : IfSome (value_at new r) (λ names. (x : Text) → set_has names x ≡ m.table.names r x)
   pub others : (q : Text) → IsFalse (bytes_eq r q) → value_at new q ≡ value_at old q
+
+-- the features of these names, each once, are taken out one after another, in their order
+pub record AreTakenOut {S : Type 0} (removed : List Text) (old new : HashMap (Bor Text) Feature S)
+    (hidden : HashMap (Bor Text) (BTreeSet (Bor Text)) S) : Type 0 where
+  pub left : SameKept (without_all removed (resolution_of old)) (resolution_of new)
+  pub keys : (f : Text) → IsSome (value_at new f) → key_at new f ≡ key_at old f
+  pub marks : (f : Text) → IsSome (value_at new f) → marks_at new f ≡ marks_at old f
+  pub bins : (f : Text) → IsSome (value_at new f)
+      → bins_at new f ≡ pass_all removed (resolution_of old) (bins_at old) f
+  -- something is hidden for each of them, and for no other
+  pub redirected : (r : Text) → is_some (value_at hidden r) ≡ lists_text removed r
+  -- it is what each names at its turn
+  pub redirects : (before after : List Text) (r : Text) → removed ≡ before ++ r ∷ after
+      → IfSome (value_at hidden r) (λ names. (x : Text) → set_has names x
+      ≡ (without_all before (resolution_of old)).table.names r x)

@@ -1,15 +1,14 @@
 //! Features are taken out one after another, and leave to others what they said.
-ghost use Rattle.std.specs.Prelude.{◌≡◌, ◌∷◌, ◌++◌, ◌||◌, if◌then◌else◌, [], List, None, Some};
-ghost use Rattle.std.specs.Prelude.{bytes_eq, is_some, take, IfOk, IfSome, IsSome, OnOk};
-ghost use Rattle.cargo_toml_graph.specs.Action.{Text, join, join_option};
+ghost use Rattle.std.specs.Prelude.{◌≡◌, if◌then◌else◌, [], Some};
+ghost use Rattle.std.specs.Prelude.{take, IfOk, IsSome, OnOk};
+ghost use Rattle.cargo_toml_graph.specs.Action.{Text};
 ghost use Rattle.cargo_toml_graph.specs.Reach.{Among, IsOnce};
-ghost use Rattle.cargo_toml_graph.specs.Removal.{SameKept, lists_text, pass_all};
-ghost use Rattle.cargo_toml_graph.specs.Removal.{put_each, without_all};
+ghost use Rattle.cargo_toml_graph.specs.Removal.{put_each};
 ghost use Rattle.cargo_toml_resolve.specs.Texts.{texts_now};
-ghost use Rattle.cargo_toml_bench.specs.Removing.{passed_on, key_at, marks_at};
-ghost use Rattle.cargo_toml_bench.specs.Removing.{bins_at, TakesNames, Loses, ChangesAt};
-ghost use Rattle.cargo_toml_bench.specs.Removing.{LosesAll, TakesOut, Redirects};
-ghost use Rattle.cargo_toml_features.specs.Views.{set_has, action_of, action_at};
+ghost use Rattle.cargo_toml_bench.specs.Removing.{passed_on};
+ghost use Rattle.cargo_toml_bench.specs.Removing.{TakesNames, Loses, ChangesAt};
+ghost use Rattle.cargo_toml_bench.specs.Removing.{AreTakenOut, LosesAll, TakesOut, Redirects};
+ghost use Rattle.cargo_toml_features.specs.Views.{set_has};
 ghost use Rattle.cargo_toml_features.specs.Views.{resolution_of, value_at};
 
 use crate::plain::putting::put_bins;
@@ -195,22 +194,8 @@ pub fn remove_all<'m, S: BuildHasher>(
         → IsSome (value_at features.old v) }
     requires once { IsOnce (texts_now removed.now) }
     requires none { hidden.old.entries ≡ [] }
-    ensures left { OnOk result
-        (SameKept (without_all (texts_now removed.now) (resolution_of features.old))
-        (resolution_of features.new)) }
-    ensures keys { OnOk result ((f : Text) → IsSome (value_at features.new f)
-        → key_at features.new f ≡ key_at features.old f) }
-    ensures marks { OnOk result ((f : Text) → IsSome (value_at features.new f)
-        → marks_at features.new f ≡ marks_at features.old f) }
-    ensures bins { OnOk result ((f : Text) → IsSome (value_at features.new f)
-        → bins_at features.new f
-        ≡ pass_all (texts_now removed.now) (resolution_of features.old) (bins_at features.old) f) }
-    ensures redirected { OnOk result ((r : Text) → is_some (value_at hidden.new r)
-        ≡ lists_text (texts_now removed.now) r) }
-    ensures redirects { OnOk result ((before after : List Text) (r : Text)
-        → texts_now removed.now ≡ before ++ r ∷ after
-        → IfSome (value_at hidden.new r) (λ names. (x : Text) → set_has names x
-        ≡ (without_all before (resolution_of features.old)).table.names r x)) }
+    ensures { OnOk result
+        (AreTakenOut (texts_now removed.now) features.old features.new hidden.new) }
 {
     let names = names_of(alloc, features)?;
     for key in removed {

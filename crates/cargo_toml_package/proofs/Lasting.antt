@@ -12,6 +12,7 @@ use Rattle.cargo_toml_package.specs.Packages.{PackageMeaning, held_package}
 use Rattle.cargo_toml_package.specs.Templates.{TemplateMeaning}
 use Rattle.cargo_toml_package.specs.declared.package.Package.{Package}
 
+-- what a test of several things says of each
 or_left : (a b : Bool) → a || b ≡ false → a ≡ false
 or_left true b h = h
 or_left false b h = refl
@@ -34,7 +35,7 @@ known f (Some (Set x)) h = refl
 known f (Some Inherited) h = absurd cc
 
 pub filled_package : {M : Type 0} (p : Package M) → any_field_left (held_package p) ≡ false → IsFilled p
-filled_package p none = search (set, known, or_left, or_right) depth 20 fits 4000
+filled_package p none = search (set, known, or_left, or_right) depth 40 fits 4000
 
 -- and stays as it is
 kept : {A : Type 0} (field : Inheritable A) (value : Option A) → field_is_left field ≡ false → filled_field field value ≡ field
@@ -63,4 +64,4 @@ package-kept t base p none = rw (template_if_there-kept base t p none, none) ref
 -- a package with a build script and a readme of its own
 pub files-own : {M : Type 0} (p : PackageMeaning M) (build : Option File) (readme : File) → any_field_left p ≡ false →
     any_field_left (record p { build = build; readme = Set readme }) ≡ false
-files-own p build readme none = search (neither, or_left, or_right) depth 20 fits 4000
+files-own p build readme none = search (neither, or_left, or_right) depth 40 fits 4000

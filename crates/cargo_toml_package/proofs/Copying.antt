@@ -1,6 +1,6 @@
--- Copies one after the other: what all of them tell at the end, by facts that name none.
+-- Fields that are copied or filled one after the other: what all of them tell at the end, in words that name none.
 use Rattle.std.proofs.Common.{◌≡◌, Bool, true, false, Result, Ok, Err, refl, inl, inr}
-use Rattle.std.specs.Prelude.{MatchResult}
+use Rattle.std.specs.Prelude.{MatchResult, IfOk}
 use Rattle.cargo_toml_parts.specs.Copies.{Copies, Finishes}
 
 -- where none was refused in the end, none was before, and each copy holds the same
@@ -27,3 +27,8 @@ ends a b P sure x (Err e) none refused holds steady = λ is. absurd (cc (steady 
 -- and where it is told of none
 pub ends_if_not : {X E : Type 0} (a b : Bool) (P : X → Type 0) (x : X) (r : Result X E) → a ≡ false → Finishes b x r → (b ≡ false → P x) → MatchResult r P (λ _. ¬ ⊥)
 ends_if_not a b P x r none end holds = ends a b P ⊥ x r none end holds (λ never. absurd never)
+
+-- the answer of a filling, which tells nothing of a refusal
+pub ends_ok : {X E : Type 0} (b : Bool) (P : X → Type 0) (x : X) (r : Result X E) → Finishes b x r → (b ≡ false → P x) → IfOk r P
+ends_ok b P x (Ok y) (after, is) holds = rw is (holds after)
+ends_ok b P x (Err e) end holds = tt

@@ -1,5 +1,5 @@
 -- Where no field of a package is left to the workspace: each has a value, inheritance changes nothing, and discovery leaves none to it.
-use Rattle.std.proofs.Common.{◌≡◌, ℕ, List, false, IsTrue, IsSome, Bool, true, ◌||◌, Option, Some, None, Ok, arith, refl}
+use Rattle.std.proofs.Common.{◌≡◌, ℕ, List, false, IsTrue, IsSome, Bool, true, ◌||◌, Option, Some, None, Ok, refl}
 use Rattle.std.specs.Prelude.{option_map}
 use Rattle.cargo_toml_parts.specs.declared.inheritable.Inheritable.{Inheritable}
 use Rattle.cargo_toml_parts.specs.declared.inheritable.Inheritable.TheVariants.{Set, Inherited}
@@ -50,7 +50,7 @@ kept_there (Some Inherited) value none = cc
 
 template-kept : {M : Type 0} (base : List ℕ) (t : TemplateMeaning) (p : PackageMeaning M) → any_field_left p ≡ false →
     with_template base t p ≡ p
-template-kept base t p none = grind (arith, kept, kept_there)
+template-kept base t p none = search (kept, kept_there, or_left, or_right) depth 40 fits 4000
 
 template_if_there-kept : {M : Type 0} (base : List ℕ) (t : Option TemplateMeaning) (p : PackageMeaning M) → any_field_left p ≡ false →
     with_template_if_there base t p ≡ p

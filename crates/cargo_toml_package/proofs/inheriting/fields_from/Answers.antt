@@ -1,0 +1,6 @@
+use Rattle.std.proofs.Common.{arith}
+use Rattle.cargo_toml_package.proofs.Copying.{ends_ok}
+use Rattle.cargo_toml_package.proofs.inheriting.fields_from.Goals as goal
+
+pub returns : goal.returns
+returns g c = ends_ok _ _ _ _ c.finish.ensures (λ after. grind arith)

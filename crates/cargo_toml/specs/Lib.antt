@@ -31,7 +31,6 @@ pub use Rattle.cargo_toml_dependencies.specs.Features
 pub use Rattle.cargo_toml_dependencies.specs.Inheriting as InheritedDependencies
 pub use Rattle.cargo_toml_dependencies.specs.Targets
 pub use Rattle.cargo_toml_parts.specs.Keys
-pub use Rattle.cargo_toml_package.specs.Filled
 pub use Rattle.cargo_toml_package.specs.Inheriting as InheritedPackages
 pub use Rattle.cargo_toml_package.specs.PackageAnswers
 pub use Rattle.cargo_toml_package.specs.PackageLending
@@ -71,7 +70,6 @@ pub use Rattle.cargo_toml_write.specs.WrittenPackages
 pub use Rattle.cargo_toml_write.specs.WrittenProducts
 pub use Rattle.cargo_toml_write.specs.WrittenProfiles
 pub use Rattle.cargo_toml_write.specs.WrittenSettings
-pub use Rattle.cargo_toml_write.specs.WrittenTemplates
 pub use Rattle.cargo_toml_write.specs.WrittenWorkspaces
 pub use Rattle.cargo_toml_write.specs.Writes
 pub use Rattle.cargo_toml_graph.specs.Action

@@ -2,7 +2,7 @@
 ghost use Rattle.std.specs.Prelude.{◌≡◌, false, IfErr, IfOk, IfSome, OnErr, OnOk, option_and_then};
 ghost use Rattle.toml.specs.View.{view};
 ghost use Rattle.toml.specs.declared.value.Value.{Value};
-ghost use Rattle.cargo_toml.specs.Filled.{IsFilled};
+ghost use Rattle.cargo_toml.specs.InheritedPackages.{IsFilled};
 ghost use Rattle.cargo_toml.specs.InheritableValues.{value_of};
 ghost use Rattle.cargo_toml.specs.InheritedManifests.{needs};
 ghost use Rattle.cargo_toml.specs.Manifest.{Manifest};

@@ -2,9 +2,8 @@
 use Rattle.std.proofs.Common.{◌≡◌, Bool, true, false, ◌||◌, Option, Some, None, refl}
 use Rattle.std.specs.Option.{option_map_or}
 use Rattle.std.specs.Prelude.{option_map, IfSome}
-use Rattle.cargo_toml_package.proofs.FilledPackages.{filled_package}
-use Rattle.cargo_toml_package.specs.Filled.{IsFilled}
-use Rattle.cargo_toml_package.specs.Inheriting.{any_field_left}
+use Rattle.cargo_toml_package.proofs.Lasting.{filled_package}
+use Rattle.cargo_toml_package.specs.Inheriting.{IsFilled, any_field_left}
 use Rattle.cargo_toml_package.specs.Packages.{package_meaning}
 use Rattle.cargo_toml_package.specs.declared.package.Package.{Package}
 use Rattle.cargo_toml_manifest.specs.Inheriting.{needs}

@@ -2,7 +2,7 @@
 use Rattle.std.specs.Prelude.{◌≡◌, false, IfSome, Option, Ok}
 use Rattle.cargo_toml_discovery.specs.Names.{Name}
 use Rattle.cargo_toml_discovery.specs.Told.{Told}
-use Rattle.cargo_toml_package.specs.Filled.{IsFilled}
+use Rattle.cargo_toml_package.specs.Inheriting.{IsFilled}
 use Rattle.cargo_toml_manifest.specs.Choosing.{Handed, RootsTold}
 use Rattle.cargo_toml_manifest.specs.Completing.{GivenBy, IsLasting, Meets, complete}
 use Rattle.cargo_toml_manifest.specs.Inheriting.{needs}

@@ -4,7 +4,7 @@ ghost use Rattle.std.specs.Prelude.{IfOk, IfSome, IsErrAnd, IsSome, OnErr, OnOk}
 ghost use Rattle.std.specs.Path.{path_parent};
 ghost use Rattle.toml.specs.View.{view};
 ghost use Rattle.cargo_toml_parts.specs.FaultValues.{fault_of};
-ghost use Rattle.cargo_toml_package.specs.Filled.{IsFilled};
+ghost use Rattle.cargo_toml_package.specs.Inheriting.{IsFilled};
 ghost use Rattle.cargo_toml_manifest.specs.Choosing.{handed_of};
 ghost use Rattle.cargo_toml_manifest.specs.Completed.{IsCompleted};
 ghost use Rattle.cargo_toml_manifest.specs.Completing.{Meets, complete};

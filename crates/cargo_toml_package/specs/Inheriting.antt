@@ -1,15 +1,17 @@
--- What a package becomes whose fields are left to the workspace.
-use Rattle.std.specs.Prelude.{ℕ, List, ◌++◌, codes, Bool, false, not, ◌||◌}
+-- What a package becomes whose fields are left to the workspace, and when none is left.
+use Rattle.std.specs.Prelude.{ℕ, List, ◌++◌, codes, Bool, false, not, ◌||◌, IsTrue, IsSome}
 use Rattle.std.specs.Prelude.{if◌then◌else◌, Option, Some, option_map, Result, Ok, Err}
 use Rattle.std.specs.Option.{option_map_or}
 use Rattle.std.specs.Path.{path_join}
 use Rattle.cargo_toml_parts.specs.FaultValues.{Fault, workspace_integrity}
 use Rattle.cargo_toml_parts.specs.declared.inheritable.Inheritable.{Inheritable}
 use Rattle.cargo_toml_parts.specs.declared.inheritable.Inheritable.TheVariants.{Set, Inherited}
-use Rattle.cargo_toml_parts.specs.InheritableValues.{is_set}
+use Rattle.cargo_toml_parts.specs.InheritableValues.{is_set, value_of}
 use Rattle.cargo_toml_settings.specs.Settings.{File, flag, path}
+use Rattle.cargo_toml_package.specs.PackageAnswers.{is_known}
 use Rattle.cargo_toml_package.specs.Packages.{PackageMeaning}
 use Rattle.cargo_toml_package.specs.Templates.{TemplateMeaning}
+use Rattle.cargo_toml_package.specs.declared.package.Package.{Package}
 
 -- an inherited field takes the workspace's value, where there is one
 abbrev pub filled_field : {A : Type 0} → Inheritable A → Option A → Inheritable A
@@ -76,6 +78,25 @@ any_field_left p =
     || is_left_there p.license_file
     || is_left_there p.repository
     || field_is_left p.publish
+
+-- every field is known that a workspace may give
+pub record IsFilled {M : Type 0} (p : Package M) : Type 0 where
+  pub version : IsSome (value_of p.version)
+  pub edition : IsSome (value_of p.edition)
+  pub rust_version : IsTrue (is_known p.rust_version)
+  pub authors : IsSome (value_of p.authors)
+  pub description : IsTrue (is_known p.description)
+  pub homepage : IsTrue (is_known p.homepage)
+  pub documentation : IsTrue (is_known p.documentation)
+  pub readme : IsSome (value_of p.readme)
+  pub keywords : IsSome (value_of p.keywords)
+  pub categories : IsSome (value_of p.categories)
+  pub exclude : IsSome (value_of p.exclude)
+  pub include : IsSome (value_of p.include)
+  pub license : IsTrue (is_known p.license)
+  pub license_file : IsTrue (is_known p.license_file)
+  pub repository : IsTrue (is_known p.repository)
+  pub publish : IsSome (value_of p.publish)
 
 abbrev pub missing_fields : List ℕ → Fault
 missing_fields name =

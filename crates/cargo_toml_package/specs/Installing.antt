@@ -37,27 +37,6 @@ installed_package p n = record p {
   publish = put_field p.publish (option_map publish_meaning n.publish);
 }
 
--- no value at all
-abbrev pub no_fields : NewFields
-no_fields = record {
-  version = None;
-  edition = None;
-  rust_version = None;
-  authors = None;
-  description = None;
-  homepage = None;
-  documentation = None;
-  readme = None;
-  keywords = None;
-  categories = None;
-  exclude = None;
-  include = None;
-  license = None;
-  license_file = None;
-  repository = None;
-  publish = None;
-}
-
 -- from whether memory was refused before to whether it was after: where it was not, this is a fact
 abbrev pub Fills : Bool → Bool → Type 0 → Type 0
 Fills before after fact = after ≡ false → (before ≡ false) × fact

@@ -4,13 +4,13 @@ ghost use Rattle.std.specs.Prelude.{◌≡◌, IfOk, false, option_map};
 ghost use Rattle.std.specs.Option.{option_copied};
 ghost use Rattle.cargo_toml_parts.specs.Answers.{Gives};
 ghost use Rattle.cargo_toml_parts.specs.Inherits.{inheritable_map};
-ghost use Rattle.cargo_toml_package.specs.Filled.{IsFilled};
+ghost use Rattle.cargo_toml_package.specs.Inheriting.{IsFilled};
 ghost use Rattle.cargo_toml_package.specs.Inheriting.{any_field_left, checked_package};
 ghost use Rattle.cargo_toml_package.specs.Inheriting.{inherited_package, field_is_left};
 ghost use Rattle.cargo_toml_package.specs.Inheriting.{is_left_there};
 ghost use Rattle.cargo_toml_package.specs.Inheriting.{with_template, with_template_if_there};
 ghost use Rattle.cargo_toml_package.specs.Installing.{installed_package, put_field};
-ghost use Rattle.cargo_toml_package.specs.Installing.{put_if_there, no_fields};
+ghost use Rattle.cargo_toml_package.specs.Installing.{put_if_there};
 ghost use Rattle.cargo_toml_package.specs.Packages.{held_package};
 ghost use Rattle.cargo_toml_package.specs.Templates.{template_meaning};
 
@@ -26,8 +26,8 @@ use semver::Version;
 use std::alloc::{AllocError, Global};
 
 /// The values that a package takes from its workspace: `None` where it keeps its own, or
-/// has no such field.
-#[derive(Drop)]
+/// has no such field. By default a package takes none.
+#[derive(Default, Drop)]
 pub struct NewFields {
     /// In place of the version.
     pub version: Option<Version>,
@@ -78,30 +78,6 @@ pub struct NewFields {
     pub publish: Option<Publish>,
 }
 
-// No new values. With these a package stays the same.
-fn no_fields() -> NewFields
-    ensures { result ≡ no_fields }
-{
-    NewFields {
-        version: None,
-        edition: None,
-        rust_version: None,
-        authors: None,
-        description: None,
-        homepage: None,
-        documentation: None,
-        readme: None,
-        keywords: None,
-        categories: None,
-        exclude: None,
-        include: None,
-        license: None,
-        license_file: None,
-        repository: None,
-        publish: None,
-    }
-}
-
 // What a package takes from a template, joined to the workspace's folder where it is a path.
 fn fields_from<M>(
     alloc: Global,
@@ -114,40 +90,25 @@ fn fields_from<M>(
         (held_package «package».now)) }
 {
     let mut filling = Filling::new(alloc);
-    let version = filling.optional(&package.version, &template.version);
-    let edition = filling.optional(&package.edition, &template.edition);
-    let rust_version = filling.if_there(&package.rust_version, &template.rust_version);
-    let authors = filling.optional(&package.authors, &template.authors);
-    let description = filling.if_there(&package.description, &template.description);
-    let homepage = filling.if_there(&package.homepage, &template.homepage);
-    let documentation = filling.if_there(&package.documentation, &template.documentation);
-    let readme = filling.file(&package.readme, base, &template.readme);
-    let keywords = filling.optional(&package.keywords, &template.keywords);
-    let categories = filling.optional(&package.categories, &template.categories);
-    let exclude = filling.optional(&package.exclude, &template.exclude);
-    let include = filling.optional(&package.include, &template.include);
-    let license = filling.if_there(&package.license, &template.license);
-    let license_file = filling.path_if_there(&package.license_file, base, &template.license_file);
-    let repository = filling.if_there(&package.repository, &template.repository);
-    let publish = filling.given(&package.publish, &template.publish);
-    filling.finish(NewFields {
-        version,
-        edition,
-        rust_version,
-        authors,
-        description,
-        homepage,
-        documentation,
-        readme,
-        keywords,
-        categories,
-        exclude,
-        include,
-        license,
-        license_file,
-        repository,
-        publish,
-    })
+    let new = NewFields {
+        version: filling.optional(&package.version, &template.version),
+        edition: filling.optional(&package.edition, &template.edition),
+        rust_version: filling.if_there(&package.rust_version, &template.rust_version),
+        authors: filling.optional(&package.authors, &template.authors),
+        description: filling.if_there(&package.description, &template.description),
+        homepage: filling.if_there(&package.homepage, &template.homepage),
+        documentation: filling.if_there(&package.documentation, &template.documentation),
+        readme: filling.file(&package.readme, base, &template.readme),
+        keywords: filling.optional(&package.keywords, &template.keywords),
+        categories: filling.optional(&package.categories, &template.categories),
+        exclude: filling.optional(&package.exclude, &template.exclude),
+        include: filling.optional(&package.include, &template.include),
+        license: filling.if_there(&package.license, &template.license),
+        license_file: filling.path_if_there(&package.license_file, base, &template.license_file),
+        repository: filling.if_there(&package.repository, &template.repository),
+        publish: filling.given(&package.publish, &template.publish),
+    };
+    filling.finish(new)
 }
 
 // Puts in a new value, if there is one.
@@ -243,7 +204,7 @@ pub fn any_field_inherited<M>(package: &Package<M>) -> bool
     ensures exact { result ≡ any_field_left (held_package «package».now) }
     ensures else_filled { result ≡ false → IsFilled «package».now }
 {
-    any_stays(package, &no_fields())
+    any_stays(package, &NewFields::default())
 }
 
 // What a package takes from a template, if there is one.
@@ -259,7 +220,7 @@ fn fields_for<M>(
 {
     match template {
         Some(template) => fields_from(alloc, package, template, base),
-        None => Ok(no_fields()),
+        None => Ok(NewFields::default()),
     }
 }
 

@@ -11,7 +11,7 @@ use Rattle.cargo_toml_write.specs.WrittenDependencies.{inherited_rows, inherited
 use Rattle.cargo_toml_write.specs.WrittenFeatures.{FeatureTree, feature_way, features_way, told_features, told_rows, told_way}
 use Rattle.cargo_toml_write.specs.WrittenProducts.{product_rows, product_way}
 use Rattle.cargo_toml_write.specs.WrittenSettings.{edition_way, resolver_way, level_text, level_way, status_text, status_way, file_tree, file_way, publish_way, debug_tree, debug_way, strip_tree, strip_way, lto_tree, lto_way}
-use Rattle.cargo_toml_write.specs.WrittenTemplates.{template_rows, template_way}
+use Rattle.cargo_toml_write.specs.WrittenPackages.{template_rows, template_way}
 use Rattle.cargo_toml_write.specs.Writes.{HasTree, table_way}
 use Rattle.cargo_toml_write.proofs.Trees.{Total, table_total, leaving_out, word_total, text_total, truth_total, version_total, texts_total, list_total, map_total, inheritable_total}
 

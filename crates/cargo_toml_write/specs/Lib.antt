@@ -11,7 +11,6 @@ pub mod WrittenPackages
 pub mod WrittenProducts
 pub mod WrittenProfiles
 pub mod WrittenSettings
-pub mod WrittenTemplates
 pub mod WrittenWorkspaces
 -- why no float is written, the code's own steps, and worked examples: nothing here has to be
 -- believed

@@ -1,9 +1,10 @@
--- How packages are written, and when a package is read again.
+-- How packages and their templates are written, and when a package is read again.
 use Rattle.std.specs.Prelude.{◌≡◌, List, [], ◌∷◌, codes, true, Ok, Option, Some, None}
 use Rattle.semver.specs.Identifiers.{parts_text}
 use Rattle.semver.specs.Parse.{version_parts}
 use Rattle.toml.specs.Data.{Data}
 use Rattle.cargo_toml_package.specs.Packages.{PackageMeaning}
+use Rattle.cargo_toml_package.specs.Templates.{TemplateMeaning}
 use Rattle.cargo_toml_parts.specs.declared.inheritable.Inheritable.{Inheritable}
 use Rattle.cargo_toml_parts.specs.declared.inheritable.Inheritable.TheVariants.{Set, Inherited}
 use Rattle.cargo_toml_parts.specs.Versions.{Parts}
@@ -59,3 +60,27 @@ abbrev pub MetadataAgain : {X W M : Type 0} → Way W → (X → W) → (X → M
 MetadataAgain way held meaning reads None = Unit {0}
 MetadataAgain way held meaning reads (Some x) =
     (d : Data) → way.trees (held x) d → reads d ≡ Some (meaning x)
+
+-- the rows of a template
+abbrev pub template_rows : TemplateMeaning → List Row
+template_rows t =
+    optional_row (codes "authors") texts_way t.authors
+    ∷ optional_row (codes "categories") texts_way t.categories
+    ∷ optional_row (codes "description") text_way t.description
+    ∷ optional_row (codes "documentation") text_way t.documentation
+    ∷ optional_row (codes "edition") edition_way t.edition
+    ∷ optional_row (codes "exclude") texts_way t.exclude
+    ∷ optional_row (codes "homepage") text_way t.homepage
+    ∷ optional_row (codes "include") texts_way t.include
+    ∷ optional_row (codes "keywords") texts_way t.keywords
+    ∷ optional_row (codes "license") text_way t.license
+    ∷ optional_row (codes "license-file") text_way t.license_file
+    ∷ given_row (codes "publish") publish_way t.publish
+    ∷ given_row (codes "readme") file_way t.readme
+    ∷ optional_row (codes "repository") text_way t.repository
+    ∷ optional_row (codes "rust-version") text_way t.rust_version
+    ∷ optional_row (codes "version") version_way t.version
+    ∷ []
+
+abbrev pub template_way : Way TemplateMeaning
+template_way = table_way template_rows

@@ -5,7 +5,7 @@ use Rattle.cargo_toml_write.specs.Ways.{texts_way}
 use Rattle.cargo_toml_write.specs.WrittenDependencies.{dependencies_way}
 use Rattle.cargo_toml_write.specs.WrittenLints.{lint_groups_way}
 use Rattle.cargo_toml_write.specs.WrittenSettings.{resolver_way}
-use Rattle.cargo_toml_write.specs.WrittenTemplates.{template_way}
+use Rattle.cargo_toml_write.specs.WrittenPackages.{template_way}
 use Rattle.cargo_toml_write.specs.Writes.{Way, Row, required_row}
 use Rattle.cargo_toml_write.specs.Writes.{optional_row, given_row, table_way}
 

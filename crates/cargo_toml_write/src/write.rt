@@ -15,7 +15,6 @@ pub mod plain;
 pub mod product;
 pub mod profile;
 pub mod settings;
-pub mod template;
 pub mod workspace;
 pub mod writing;
 

@@ -1,9 +1,10 @@
-//! The writer of packages.
+//! The writers of packages, and of the templates of their fields.
 ghost use Rattle.std.specs.Prelude.{◌≡◌, IfErr};
 ghost use Rattle.semver.specs.Identifiers.{parts_of};
 ghost use Rattle.toml.specs.View.{view};
 ghost use Rattle.cargo_toml_manifest.specs.Texts.{any_tree};
 ghost use Rattle.cargo_toml_package.specs.Packages.{PackageMeaning, package_meaning, package_reads};
+ghost use Rattle.cargo_toml_package.specs.Templates.{TemplateMeaning, template_meaning};
 ghost use Rattle.cargo_toml_parts.specs.declared.error.Error.{Error};
 ghost use Rattle.cargo_toml_parts.specs.Inherits.{inheritable_map};
 ghost use Rattle.cargo_toml_write.specs.Floatless.{table_floatless};
@@ -11,11 +12,12 @@ ghost use Rattle.cargo_toml_write.specs.NoFloats.{PackageHoldsNoFloat};
 ghost use Rattle.cargo_toml_write.specs.Ways.{free_way};
 ghost use Rattle.cargo_toml_write.specs.WrittenPackages.{package_rows};
 ghost use Rattle.cargo_toml_write.specs.WrittenPackages.{package_way, VersionAgain, MetadataAgain};
+ghost use Rattle.cargo_toml_write.specs.WrittenPackages.{template_rows, template_way};
 ghost use Rattle.cargo_toml_write.specs.Writes.{IsWriting, IsReadAgain, HasTree};
 
 use crate::write::ToValue;
 use crate::write::writing::Writing;
-use cargo_toml_package::Package;
+use cargo_toml_package::{Package, PackageTemplate};
 use cargo_toml_parts::{Error, FromValue};
 use std::alloc::Global;
 use toml::Value;
@@ -81,3 +83,38 @@ impl<Metadata: FromValue + ToValue> ToValue for Package<Metadata> {
 pub fn value_metadata(metadata: &Option<Value>)
     ensures { MetadataAgain free_way view view any_tree metadata.now }
 {}
+
+/// A list that is there is written, an empty one too.
+impl ToValue for PackageTemplate {
+    ghost Meaning = { TemplateMeaning };
+
+    ghost meaning = { template_meaning };
+
+    ghost way = { template_way };
+
+    ghost floatless = { table_floatless template_rows };
+
+    fn to_value(&self, alloc: Global) -> Result<Value, Error>
+        ensures written { IsWriting template_way (template_meaning self.now) result }
+        ensures memory { IfErr result (λ e. e ≡ Error.Memory) }
+    {
+        let mut writing = Writing::new(alloc);
+        writing.optional("authors", &self.authors);
+        writing.optional("categories", &self.categories);
+        writing.optional("description", &self.description);
+        writing.optional("documentation", &self.documentation);
+        writing.optional("edition", &self.edition);
+        writing.optional("exclude", &self.exclude);
+        writing.optional("homepage", &self.homepage);
+        writing.optional("include", &self.include);
+        writing.optional("keywords", &self.keywords);
+        writing.optional("license", &self.license);
+        writing.optional("license-file", &self.license_file);
+        writing.given("publish", &self.publish);
+        writing.given("readme", &self.readme);
+        writing.optional("repository", &self.repository);
+        writing.optional("rust-version", &self.rust_version);
+        writing.optional("version", &self.version);
+        writing.finish()
+    }
+}

@@ -1,7 +1,7 @@
 use Rattle.std.specs.Prelude.{◌≡◌, false, IfSome, None}
 use Rattle.std.proofs.lemmas.Result.{on_ok_weaker}
 use Rattle.std.specs.Path.{path_parent}
-use Rattle.cargo_toml_package.specs.Filled.{IsFilled}
+use Rattle.cargo_toml_package.specs.Inheriting.{IsFilled}
 use Rattle.cargo_toml_manifest.specs.Completed.{IsCompleted}
 use Rattle.cargo_toml_manifest.specs.Inheriting.{needs}
 use Rattle.cargo_toml_manifest.specs.Manifests.{held, manifest_meaning, manifest_reads, ManifestRefuses}

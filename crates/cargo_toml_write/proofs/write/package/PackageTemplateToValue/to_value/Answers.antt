@@ -1,10 +1,10 @@
 use Rattle.cargo_toml_package.specs.Templates.{template_meaning}
-use Rattle.cargo_toml_write.specs.WrittenTemplates.{template_rows, template_way}
+use Rattle.cargo_toml_write.specs.WrittenPackages.{template_rows, template_way}
 use Rattle.cargo_toml_write.specs.Writes.{IsWriting}
 use Rattle.cargo_toml_write.proofs.TotalTrees.{template_total}
 use Rattle.cargo_toml_write.proofs.Trees.{memory_alone}
 use Rattle.cargo_toml_write.proofs.Rows.{then, done, ends}
-use Rattle.cargo_toml_write.proofs.write.template.PackageTemplateToValue.to_value.Goals as goal
+use Rattle.cargo_toml_write.proofs.write.package.PackageTemplateToValue.to_value.Goals as goal
 
 pub returns : goal.returns
 returns c =

@@ -1,5 +1,5 @@
 //! Sets of nodes as bits, sixty-four in a word.
-ghost use Rattle.std.specs.Prelude.{◌≡◌, ◌*◌, ◌<◌, ◌≤◌, ◌↔◌, ◌⊎◌, ℕ, IfOk, IsTrue, length};
+ghost use Rattle.std.specs.Prelude.{◌≡◌, ◌+◌, ◌*◌, ◌<◌, ◌≤◌, ◌↔◌, ◌⊎◌, ℕ, IfOk, IsTrue, length};
 ghost use Rattle.cargo_toml_graph.specs.Reach.{Among};
 ghost use Rattle.cargo_toml_walk.specs.Bits.{HasBit};
 ghost use Rattle.cargo_toml_walk.specs.Numbers.{IsWanted};
@@ -9,7 +9,8 @@ use std::alloc::{AllocError, Global};
 
 // How many words have place for so many bits.
 pub(crate) fn words_for(count: usize) -> usize
-    ensures { count ≤ 64 * result }
+    ensures enough { count ≤ 64 * result }
+    ensures few { 64 * result ≤ count + 64 }
 {
     count / 64 + 1
 }

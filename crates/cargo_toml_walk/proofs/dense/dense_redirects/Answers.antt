@@ -25,7 +25,7 @@ nodes_of-requires c =
     let read = c.as_slice-then-is_removed-r.ensures.value ∙ sym (list_read c.loop-r.label_table.items c.loop-r.r c.index.result.now below c.index.ensures) in
     let wide = ap length read ∙ c.loop-r.invariant.gathered.wide c.loop-r.r below in
     let flags = ap length c.as_slice-then-is_removed-r-2.ensures.value ∙ c.loop-r.invariant.flags in
-    let fits = c.words_for-width.ensures in
+    let fits = c.words_for-width.ensures.enough in
     omega (arith, wide, flags, fits)
 
 pub pass_on-requires-clause-named : goal.pass_on-requires-clause-named

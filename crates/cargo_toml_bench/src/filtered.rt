@@ -5,12 +5,13 @@ ghost use Rattle.cargo_toml.specs.Action.{Text};
 ghost use Rattle.cargo_toml.specs.Error.{Memory};
 ghost use Rattle.cargo_toml.specs.Filter.{Answers, HasNameFilter, IsHiddenName, IsNameFilter};
 ghost use Rattle.cargo_toml.specs.Filtered.{filter_of, limit_of};
-ghost use Rattle.cargo_toml.specs.Kept.{KeepsEnabling, LosesNothing, NoneIsLeft};
+ghost use Rattle.cargo_toml.specs.Kept.{NoneIsLeft};
 ghost use Rattle.cargo_toml.specs.Limits.{MAX_ITEMS};
 ghost use Rattle.cargo_toml.specs.Manifests.{held};
 ghost use Rattle.cargo_toml.specs.Parsed.{IsParsed, parsed_table};
 ghost use Rattle.cargo_toml.specs.Removed.{IsRemovedBy};
 ghost use Rattle.cargo_toml.specs.Views.{answer_of};
+ghost use Rattle.cargo_toml_bench.specs.Filtered.{HidesAlone};
 
 use crate::whole::{Answer, resolve_whole};
 use cargo_toml::features::Resolver;
@@ -40,10 +41,8 @@ pub fn resolve_beside<'m, M, F: Fn(&str) -> bool>(
         → IsHiddenName f → Answers F.Fn (filter_of resolver.now) f true) }
     ensures no_removed_name { IfOk result (λ a.
         NoneIsLeft (λ r. IsSome ((answer_of a).redirects r)) (answer_of a).resolution) }
-    ensures closure { IfOk result (λ a.
-        KeepsEnabling (answer_of whole.now).resolution (answer_of a).resolution) }
-    ensures nothing_lost { IfOk result (λ a.
-        LosesNothing (answer_of whole.now).resolution (answer_of a).resolution) }
+    ensures hiding { IfOk result (λ a.
+        HidesAlone (answer_of whole.now).resolution (answer_of a).resolution) }
     ensures refused { IfErr result (λ e. e ≡ Memory) }
 {
     let resolved = resolver.parse(alloc, manifest)?;
@@ -65,10 +64,8 @@ pub fn resolve_by<'m, M, F: Fn(&str) -> bool>(
         (parsed_table MAX_ITEMS (held manifest.now)) r) }
     ensures no_removed_name { IfOk result (λ p.
         NoneIsLeft (λ r. IsSome ((answer_of p.1).redirects r)) (answer_of p.1).resolution) }
-    ensures closure { IfOk result
-        (λ p. KeepsEnabling (answer_of p.0).resolution (answer_of p.1).resolution) }
-    ensures nothing_lost { IfOk result
-        (λ p. LosesNothing (answer_of p.0).resolution (answer_of p.1).resolution) }
+    ensures hiding { IfOk result
+        (λ p. HidesAlone (answer_of p.0).resolution (answer_of p.1).resolution) }
     ensures refused { IfErr result (λ e. e ≡ Memory) }
 {
     let whole = resolve_whole(alloc, manifest)?;

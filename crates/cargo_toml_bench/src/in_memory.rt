@@ -1,5 +1,5 @@
 //! A file system that is held in memory, for tests of completion.
-ghost use Rattle.std.specs.Prelude.{◌≡◌, IfOk, IfErr, map, string_bytes};
+ghost use Rattle.std.specs.Prelude.{◌≡◌, [], IfOk, IfErr, map, string_bytes};
 ghost use Rattle.std.specs.Option.{option_copied};
 ghost use Rattle.cargo_toml.specs.Error.{Memory};
 ghost use Rattle.cargo_toml.specs.Folders.{AnswersNames, HasTexts};
@@ -47,7 +47,10 @@ pub struct InMemory {
 
 impl InMemory {
     /// No folder, and no root. It takes no memory.
-    pub fn new(alloc: Global) -> InMemory {
+    pub fn new(alloc: Global) -> InMemory
+        ensures folders { result.folders.items ≡ [] }
+        ensures roots { result.roots.items ≡ [] }
+    {
         InMemory {
             folders: Vec::new(alloc),
             roots: Vec::new(alloc),

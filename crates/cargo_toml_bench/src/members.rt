@@ -1,11 +1,10 @@
 //! Features of members of a workspace, once these are completed.
 ghost use Rattle.std.specs.Prelude.{◌≡◌, ◌⊎◌, false, IfErr, IfOk, OnOk, option_map};
-ghost use Rattle.cargo_toml.specs.Choosing.{handed_of};
+ghost use Rattle.cargo_toml.specs.Choosing.{handed_of, roots_of};
 ghost use Rattle.cargo_toml.specs.Error.{Memory};
 ghost use Rattle.cargo_toml.specs.InheritedManifests.{needs};
 ghost use Rattle.cargo_toml.specs.Manifests.{held};
 ghost use Rattle.cargo_toml.specs.Refusing.{IsRefusedBy, MayLose};
-ghost use Rattle.cargo_toml.specs.Told.{heard};
 ghost use Rattle.cargo_toml_bench.specs.Members.{IsToldOfMember};
 
 use cargo_toml::features::{Resolver, complete_and_parse_into};
@@ -26,11 +25,11 @@ pub fn enables_in_member<Fs: AbstractFilesystem + Drop>(
 ) -> Result<bool, Error>
     ensures answer { IfOk result (IsToldOfMember (held member.old)
         (option_map handed_of workspace.entry)
-        (λ hint. heard Fs.Roots.ARE_READ (Fs.root_for files hint))
+        (roots_of Fs.Roots.ARE_READ (Fs.root_for files))
         (Fs.names_at files) name.now other.now) }
     ensures refused { IfErr result
         (IsRefusedBy (held member.old) (option_map handed_of workspace.entry)
-        (λ hint. heard Fs.Roots.ARE_READ (Fs.root_for files hint))
+        (roots_of Fs.Roots.ARE_READ (Fs.root_for files))
         (MayLose Fs.Roots.ARE_READ (Fs.may_refuse_root files)) (Fs.may_refuse files)) }
 {
     let resolver = Resolver::new();

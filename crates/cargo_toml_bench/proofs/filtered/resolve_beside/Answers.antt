@@ -7,10 +7,10 @@ returns-clause-removed g c = c.in_ok-resolved.ensures.resolved.answer.redirected
 pub returns-clause-kept : goal.returns-clause-kept
 returns-clause-kept g c = c.in_ok-resolved.ensures.resolved.kept
 
-pub returns-clause-closure : goal.returns-clause-closure
-returns-clause-closure g c =
-    c.in_ok-resolved.ensures.hiding.closure (answer_of c.args.whole.now) c.requires.whole
-
-pub returns-clause-nothing_lost : goal.returns-clause-nothing_lost
-returns-clause-nothing_lost g c =
-    c.in_ok-resolved.ensures.hiding.nothing_lost (answer_of c.args.whole.now) c.requires.whole
+pub returns-clause-hiding : goal.returns-clause-hiding
+returns-clause-hiding g c =
+    let whole = answer_of c.args.whole.now in
+    let hiding = c.in_ok-resolved.ensures.hiding in record {
+      closure = hiding.closure whole c.requires.whole;
+      nothing_lost = hiding.nothing_lost whole c.requires.whole;
+    }

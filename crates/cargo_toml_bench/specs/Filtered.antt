@@ -1,0 +1,10 @@
+-- What hiding features leaves of an answer that hides none.
+use Rattle.cargo_toml.specs.Graph.{Resolution}
+use Rattle.cargo_toml.specs.Kept.{KeepsEnabling, LosesNothing}
+
+-- of the whole only what is hidden goes
+pub record HidesAlone (whole left : Resolution) : Type 0 where
+  -- between features that are left, what enables what transitively is the same
+  pub closure : KeepsEnabling whole left
+  -- what one of them enables recursively loses no feature that is left and no dependency
+  pub nothing_lost : LosesNothing whole left

@@ -56,7 +56,6 @@ fn resolve_whole<'m, M, S: BuildHasher + Clone + Drop>(
 
 // Adds what Cargo refuses.
 fn add_errors<'m, S: BuildHasher>(
-    alloc: Global,
     findings: &mut Vec<Finding<'m>>,
     known: &Known<'m>,
     features: &FeatureMap<'m, S>,
@@ -67,6 +66,7 @@ fn add_errors<'m, S: BuildHasher>(
         (map about findings.old.items) (map about findings.new.items)) }
     ensures told { OnOk result (AreAllTold findings.old.items → AreAllTold findings.new.items) }
 {
+    let alloc = *findings.allocator();
     let not_optional = not_optional(alloc, known)?;
     add_findings(findings, Code::NotOptional, &not_optional)?;
     let same_name = same_name(alloc, known)?;
@@ -77,7 +77,6 @@ fn add_errors<'m, S: BuildHasher>(
 
 // Adds what is shown to users.
 fn add_hints<'m, S: BuildHasher>(
-    alloc: Global,
     findings: &mut Vec<Finding<'m>>,
     names: &BTreeSet<&'m str>,
     features: &FeatureMap<'m, S>,
@@ -87,6 +86,7 @@ fn add_hints<'m, S: BuildHasher>(
         (map about findings.old.items) (map about findings.new.items)) }
     ensures told { OnOk result (AreAllTold findings.old.items → AreAllTold findings.new.items) }
 {
+    let alloc = *findings.allocator();
     let implied = implied(alloc, names, features)?;
     add_findings(findings, Code::Implied, &implied)?;
     let private_default = private_default(alloc, names, features)?;
@@ -95,7 +95,6 @@ fn add_hints<'m, S: BuildHasher>(
 
 // Adds what can't be meant.
 fn add_warnings<'m, S: BuildHasher + Clone>(
-    alloc: Global,
     findings: &mut Vec<Finding<'m>>,
     known: &Known<'m>,
     names: &BTreeSet<&'m str>,
@@ -109,6 +108,7 @@ fn add_warnings<'m, S: BuildHasher + Clone>(
     ensures told { OnOk result (AreAllTold findings.old.items → AreAllTold findings.new.items) }
     ensures refused { IfErr result (λ e. e ≡ Memory) }
 {
+    let alloc = *findings.allocator();
     let cyclic = cyclic(alloc, names, features)?;
     add_findings(findings, Code::Cycle, &cyclic)?;
     let over_limit = over_limit(alloc, known, features, limit)?;
@@ -135,9 +135,9 @@ fn found_in<'m, S: BuildHasher + Clone>(
 {
     let names = names(alloc, features)?;
     let mut findings = Vec::new(alloc);
-    add_errors(alloc, &mut findings, known, features, bins)?;
-    add_hints(alloc, &mut findings, &names, features)?;
-    add_warnings(alloc, &mut findings, known, &names, features, limit)?;
+    add_errors(&mut findings, known, features, bins)?;
+    add_hints(&mut findings, &names, features)?;
+    add_warnings(&mut findings, known, &names, features, limit)?;
     Ok(findings)
 }
 

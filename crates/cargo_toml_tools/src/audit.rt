@@ -132,9 +132,10 @@ impl Audit {
     }
 
     /// Adds what is odd of how members are listed.
-    pub fn add_listing(&mut self, alloc: Global, members: &Members) -> Result<(), AllocError>
+    pub fn add_listing(&mut self, members: &Members) -> Result<(), AllocError>
         ensures { self.new.members ≡ self.old.members }
     {
+        let alloc = *self.members.allocator();
         for folder in &members.twice {
             let words = String::from_str(alloc, "two entries of members lead to it")?;
             self.find(Code::ListedTwice, folder.as_str(), words)?;
@@ -150,14 +151,11 @@ impl Audit {
 
     /// Takes in a member's manifest as it is written, and answers the keys that it leaves to the
     /// workspace.
-    pub fn add_written<M>(
-        &mut self,
-        alloc: Global,
-        manifest: &Manifest<M>,
-    ) -> Result<Vec<String>, AllocError>
+    pub fn add_written<M>(&mut self, manifest: &Manifest<M>) -> Result<Vec<String>, AllocError>
         ensures members { self.new.members ≡ self.old.members }
         ensures findings { self.new.findings ≡ self.old.findings }
     {
+        let alloc = *self.members.allocator();
         let mut keys = inherited_keys(alloc, manifest)?;
         add_inherited_dependencies(alloc, manifest, &mut keys, &mut self.inherited)?;
         Ok(keys)
@@ -166,7 +164,6 @@ impl Audit {
     /// Adds a member whose manifest is completed.
     pub fn add_completed<M>(
         &mut self,
-        alloc: Global,
         folder: &str,
         manifest: &Manifest<M>,
         inherits: Vec<String>,
@@ -175,6 +172,7 @@ impl Audit {
         ensures { OnOk result
             (AddsMember folder.now inherits self.old.members.items self.new.members.items) }
     {
+        let alloc = *self.members.allocator();
         let member = summarize(alloc, folder, manifest, inherits)?;
         add_uses(alloc, folder, manifest, &mut self.uses)?;
         self.compare(alloc, &member, workspace)?;
@@ -183,14 +181,10 @@ impl Audit {
     }
 
     /// Adds a member that doesn't complete, by the words of its fault.
-    pub fn add_refused(
-        &mut self,
-        alloc: Global,
-        folder: &str,
-        words: &str,
-    ) -> Result<(), AllocError>
+    pub fn add_refused(&mut self, folder: &str, words: &str) -> Result<(), AllocError>
         ensures { self.new.members ≡ self.old.members }
     {
+        let alloc = *self.members.allocator();
         self.find(Code::Incomplete, folder, String::from_str(alloc, words)?)
     }
 }

@@ -40,7 +40,7 @@ fn audited<R: Files + Eprint + AllocGlobal>(
     };
     let found = list_members(rt, folder, root.0, workspace)?;
     let mut audit = Audit::new(alloc);
-    audit.add_listing(alloc, &found)?;
+    audit.add_listing(&found)?;
     for (i, member) in found.folders.iter().enumerate() {
         show_progress(rt, shows, i, found.folders.len())?;
         let path = manifest_path(alloc, folder, member.as_str())?;
@@ -50,7 +50,7 @@ fn audited<R: Files + Eprint + AllocGlobal>(
         };
         add_member(rt, place, root, workspace, &mut audit)?;
     }
-    audit.finish(alloc, workspace)?;
+    audit.finish(workspace)?;
     Ok(audit)
 }
 
@@ -74,7 +74,7 @@ fn add_member<R: Files + AllocGlobal>(
         Err(Error::Memory) => Err(Error::Memory),
         Err(fault) => {
             let words = words_of(rt.alloc(), &fault)?;
-            Ok(audit.add_refused(rt.alloc(), place.folder, words.as_str().trim_end())?)
+            Ok(audit.add_refused(place.folder, words.as_str().trim_end())?)
         }
     }
 }
@@ -97,9 +97,9 @@ fn completed<R: Files + AllocGlobal>(
 ) -> Result<(), Error> {
     let alloc = rt.alloc();
     let mut manifest = manifest_in(rt, place.path)?;
-    let inherits = audit.add_written(alloc, &*manifest)?;
+    let inherits = audit.add_written(&*manifest)?;
     manifest.complete_from_path_and_workspace(rt, alloc, place.path, Some(root))?;
-    audit.add_completed(alloc, place.folder, &*manifest, inherits, workspace)
+    audit.add_completed(place.folder, &*manifest, inherits, workspace)
 }
 
 /// Tells a terminal how far a long report is.

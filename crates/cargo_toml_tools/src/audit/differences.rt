@@ -38,9 +38,10 @@ impl Audit {
 
     /// Adds what shows once all members were added: dependencies of the workspace that none
     /// inherits, and crates that are asked for by several requirements.
-    pub fn finish<M>(&mut self, alloc: Global, workspace: &Workspace<M>) -> Result<(), AllocError>
+    pub fn finish<M>(&mut self, workspace: &Workspace<M>) -> Result<(), AllocError>
         ensures { self.new.members ≡ self.old.members }
     {
+        let alloc = *self.members.allocator();
         for key in workspace.dependencies.keys() {
             if !self.inherited.contains(key.as_str()) {
                 let words = String::from_str(alloc, "no member inherits it")?;

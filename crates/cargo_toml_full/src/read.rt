@@ -178,7 +178,7 @@ pub fn read_features<'m>(
     let room = listings.len().saturating_add(1).saturating_add(more);
     let mut features = Vec::with_capacity(alloc, room)?;
     let mut acting = Acting::new(alloc);
-    // Most lists name few: the names of all are gathered in one block, which doesn't grow.
+    // One block for the names of each list in turn. Most lists name few, so that it seldom grows.
     let mut named = Vec::with_capacity(alloc, FEW)?;
     for listing in listings {
         read_listing(alloc, &mut features, &mut named, &mut acting, *listing)?;

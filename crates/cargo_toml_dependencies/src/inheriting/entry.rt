@@ -70,27 +70,10 @@ fn add_texts(texts: &mut Vec<String>, more: &[String]) -> Result<(), AllocError>
     Ok(())
 }
 
-// A detail of the workspace with what a member's entry adds.
-fn with_entry(
-    alloc: Global,
-    base: &str,
-    entry: &InheritedDependencyDetail,
-    template: &DependencyDetail,
-) -> Result<DependencyDetail, AllocError>
-    ensures { IfOk result (λ d. detail_meaning d
-        ≡ with_entry base.now (inherited_meaning entry.now) (detail_meaning template.now)) }
-{
-    let mut detail = template.duplicate(alloc)?;
-    detail.path = joined_path(alloc, base, template.path.as_ref())?;
-    add_texts(&mut detail.features, entry.features.as_slice())?;
-    detail.optional = template.optional || entry.optional;
-    detail.inherited = true;
-    Ok(detail)
-}
-
-// The same in a box. It is kept out of line, so that a short detail isn't handled as widely.
+// A detail of the workspace with what a member's entry adds. It is kept out of line, so that a short
+// detail isn't handled as widely.
 #[inline(never)]
-fn boxed_with_entry(
+fn with_entry(
     alloc: Global,
     base: &str,
     entry: &InheritedDependencyDetail,
@@ -99,7 +82,12 @@ fn boxed_with_entry(
     ensures { IfOk result (λ d. detail_meaning d.value
         ≡ with_entry base.now (inherited_meaning entry.now) (detail_meaning template.now)) }
 {
-    Ok(Box::new(alloc, with_entry(alloc, base, entry, template)?)?)
+    let mut detail = Box::new(alloc, template.duplicate(alloc)?)?;
+    detail.path = joined_path(alloc, base, template.path.as_ref())?;
+    add_texts(&mut detail.features, entry.features.as_slice())?;
+    detail.optional = template.optional || entry.optional;
+    detail.inherited = true;
+    Ok(detail)
 }
 
 // Whether a detail of the workspace has no keys except a requirement, features and flags, as most
@@ -190,7 +178,7 @@ fn detail_with_entry(
     if is_short(template) {
         return short_with_entry(alloc, entry, template);
     }
-    boxed_with_entry(alloc, base, entry, template)
+    with_entry(alloc, base, entry, template)
 }
 
 // A detail that has only a requirement in the workspace, with what a member's entry adds.

@@ -76,24 +76,17 @@ impl<Metadata: Clone> Clone for Workspace<Metadata> {
     fn clone(&self) -> Result<Workspace<Metadata>, AllocError> {
         let alloc = *self.members.allocator();
         let mut copying = Copying::new();
-        let members = copying.of(&self.members, Vec::new(alloc));
-        let default_members = copying.of(&self.default_members, Vec::new(alloc));
-        let package = copying.of(&self.package, None);
-        let exclude = copying.of(&self.exclude, Vec::new(alloc));
-        let metadata = copying.of(&self.metadata, None);
-        let resolver = copying.of(&self.resolver, None);
-        let dependencies = copying.of(&self.dependencies, BTreeMap::new(alloc));
-        let lints = copying.of(&self.lints, BTreeMap::new(alloc));
-        copying.finish(Workspace {
-            members,
-            default_members,
-            package,
-            exclude,
-            metadata,
-            resolver,
-            dependencies,
-            lints,
-        })
+        let copy = Workspace {
+            members: copying.of(&self.members, Vec::new(alloc)),
+            default_members: copying.of(&self.default_members, Vec::new(alloc)),
+            package: copying.of(&self.package, None),
+            exclude: copying.of(&self.exclude, Vec::new(alloc)),
+            metadata: copying.of(&self.metadata, None),
+            resolver: copying.of(&self.resolver, None),
+            dependencies: copying.of(&self.dependencies, BTreeMap::new(alloc)),
+            lints: copying.of(&self.lints, BTreeMap::new(alloc)),
+        };
+        copying.finish(copy)
     }
 }
 

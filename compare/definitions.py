@@ -1,7 +1,7 @@
 """What `cargo-toml features` has to print, by the definitions of docs/DEFINITIONS.md.
 
-They are written once more and by other means. Nothing here follows the crate's code: enablers, names
-and actions are found as paths in the whole graph of features, none of which is taken out.
+They are written once more and by other means. Nothing here follows the crate's code: enablers,
+names and actions are found as paths in the whole graph of features, none of which is taken out.
 """
 
 import itertools
@@ -16,7 +16,8 @@ def in_order(texts):
 
 
 def mention(text):
-    """What one text of a feature's list says: a name; or a key, whether conditionally, whether dep-only, and a dependency feature."""
+    """What one text of a feature's list says: a name; or a key, whether conditionally, whether
+    dep-only, and a dependency feature."""
     front, slash, feature = text.partition("/")
     name = front.removeprefix("dep:")
     is_dep_only = name != front
@@ -44,7 +45,8 @@ def join(one, other):
 
 
 def dependency_tables(manifest):
-    """The tables of dependencies in the order in which they count, each with its kind and target."""
+    """The tables of dependencies in the order in which they count, each with its kind and
+    target."""
     targets = manifest.get("target", {})
     yield manifest.get("dependencies", {}), (0, None)
     yield manifest.get("build-dependencies", {}), (1, None)
@@ -69,7 +71,9 @@ def is_redundant(dependency, feature):
     """Whether a dependency that is written as a table has the feature anyway."""
     if not isinstance(dependency, dict):
         return False
-    return feature == "default" and dependency.get("default-features", True) or feature in dependency.get("features", [])
+    if feature == "default" and dependency.get("default-features", True):
+        return True
+    return feature in dependency.get("features", [])
 
 
 def first_targets(entries, mentioned):
@@ -89,7 +93,8 @@ class Graph:
         table = manifest.get("features", {})
         listed = in_order(table)[:limit]
         self.explicit = {*listed, "default"}
-        # Nothing is said of a feature that isn't listed: of an implied one, and of `default` where it is added.
+        # Nothing is said of a feature that isn't listed: of an implied one, and of `default` where
+        # it is added.
         self.said = {feature: said_of(table[feature]) for feature in self.explicit & table.keys()}
         self.names = {feature: set() for feature in self.explicit}
         self.actions = {feature: {} for feature in self.explicit}
@@ -111,11 +116,13 @@ class Graph:
     def add_dependencies(self, entries):
         """Implied features; and what a dependency has anyway is left out of actions."""
         acted = {key for actions in self.actions.values() for key in actions}
-        reserved = {key for actions in self.actions.values() for key, action in actions.items() if action[1]}
+        every = [entry for actions in self.actions.values() for entry in actions.items()]
+        reserved = {key for key, action in every if action[1]}
         recorded = first_targets(entries, self.explicit | acted)
         for actions in self.actions.values():
             for key, (is_conditional, is_dep_only, features) in actions.items():
-                left = {feature for feature in features if not is_redundant(recorded.get(key), feature)}
+                first = recorded.get(key)
+                left = {feature for feature in features if not is_redundant(first, feature)}
                 actions[key] = is_conditional, is_dep_only, frozenset(left)
         for key, _, dependency in entries:
             if is_optional(dependency) and key not in reserved and key not in self.names:
@@ -123,8 +130,9 @@ class Graph:
                 self.actions[key] = {key: (False, False, frozenset())}
 
     def targets(self, feature):
-        plain = {key for key, action in self.actions[feature].items() if not action[0] and not action[1]}
-        return {target for target in self.names[feature] | plain if target in self.names and target != feature}
+        actions = self.actions[feature].items()
+        plain = {key for key, action in actions if not action[0] and not action[1]}
+        return {key for key in self.names[feature] | plain if key in self.names and key != feature}
 
     def reached(self, feature, inner):
         """What a path of at least one edge leads to, whose inner features are all among these."""
@@ -151,7 +159,8 @@ class Expected:
 
     def __init__(self, manifest, limit=LIMIT, keeps=lambda name: False):
         self.graph = graph = Graph(manifest, limit)
-        self.removed = {feature for feature in graph.names if feature.startswith("_") and not keeps(feature)}
+        hidden = [feature for feature in graph.names if feature.startswith("_")]
+        self.removed = {feature for feature in hidden if not keeps(feature)}
         self.kept = in_order(graph.names.keys() - self.removed)
         self.reached = {feature: graph.reached(feature, self.removed) for feature in graph.names}
         self.bins = self.passed_on()
@@ -170,10 +179,12 @@ class Expected:
         enablers = [source for source in self.kept if feature in self.reached[source]]
         origin = "explicit" if feature in graph.explicit else "implied"
         deps = [written_action(key, actions[key]) for key in in_order(actions)]
-        line = f"feature {feature} | {origin} | names: {listed(in_order(names))} | deps: {listed(deps)}"
+        line = f"feature {feature} | {origin} | names: {listed(in_order(names))}"
+        line += f" | deps: {listed(deps)}"
         line = f"{line} | by: {listed(enablers)} | bins: {listed(self.bins[feature])}"
         is_public, text = graph.said.get(feature, (True, None))
-        return line + " | private" * (not is_public) + (f" | doc: {text}" if text is not None else "")
+        told = f" | doc: {text}" if text is not None else ""
+        return line + " | private" * (not is_public) + told
 
     def passed_on(self):
         """The binaries of each feature: in byte order each removed one passes the first ten of its

@@ -1,5 +1,6 @@
-/* Counts the live heap of a program, as malloc rounds its blocks, and prints the peak of it between two askings of the clock, less
- * what lives at the first of them: the largest over all such pairs. Preloaded by `speed/run`; for programs of one thread. */
+/* Counts the live heap of a program, as malloc rounds its blocks, and prints the peak of it between
+ * two askings of the clock, less what lives at the first of them: the largest over all such pairs.
+ * Preloaded by `speed/run`; for programs of one thread. */
 #define _GNU_SOURCE
 #include <malloc.h>
 #include <stdio.h>
@@ -34,7 +35,9 @@ void *realloc(void *block, size_t size) {
     return taken(moved);
 }
 
-void *aligned_alloc(size_t alignment, size_t size) { return taken(__libc_memalign(alignment, size)); }
+void *aligned_alloc(size_t alignment, size_t size) {
+    return taken(__libc_memalign(alignment, size));
+}
 
 int posix_memalign(void **place, size_t alignment, size_t size) {
     *place = taken(__libc_memalign(alignment, size));

@@ -1,4 +1,6 @@
--- what the words ask for, and what a run says of its end: a user has to believe these, and there
--- are no others
+-- what the words ask for, what is printed of a manifest, and what a run says of its end: a user has
+-- to believe these, and there are no others
 pub mod Words
+pub mod Completed
+pub mod Printed
 pub mod Outcomes

@@ -1,6 +1,8 @@
 //! What the program writes of a manifest in a file, completed from the files around it.
-ghost use Rattle.std.specs.Prelude.{IfErr};
-ghost use Rattle.std.specs.Io.KnownBytes.{Keeps};
+ghost use Rattle.std.specs.Prelude.{IfErr, IfOk, OnOk, string_bytes};
+ghost use Rattle.std.specs.Io.KnownBytes.{Appends, Keeps};
+ghost use Rattle.cargo_toml_command.specs.Printed.{IsOfCompleted};
+ghost use Rattle.cargo_toml_graph.specs.Action.{Text};
 ghost use Rattle.cargo_toml_print.specs.Printing.{IsOfManifest};
 
 use crate::completion::completion_lines;
@@ -21,15 +23,28 @@ pub fn print_completed<R: Files + AllocGlobal, W: Write>(
     file: &str,
     output: &mut W,
 ) -> Result<(), Error>
+    ensures printed { OnOk result ((text : Text) × IsOfCompleted text
+        × Appends (W.contents output.old) (W.contents output.new) text) }
     ensures unwritten { IfErr result (λ e. IsOfManifest e
         → Keeps (W.contents output.old) (W.contents output.new)) }
 {
     let mut manifest = manifest_in(rt, file)?;
-    manifest.complete_from_path(rt, rt.alloc(), file)?;
-    let lines = completion_lines(rt.alloc(), &*manifest)?;
+    let lines = completed_lines(rt, file, &mut *manifest)?;
     output.write_all(lines.as_bytes())?;
     output.flush()?;
     Ok(())
+}
+
+/// Completes the manifest of a file from the files around it. The lines are those that it then has.
+fn completed_lines<R: Files + AllocGlobal>(
+    rt: &R,
+    file: &str,
+    manifest: &mut Manifest,
+) -> Result<String, Error>
+    ensures { IfOk result (λ text. IsOfCompleted (string_bytes text)) }
+{
+    manifest.complete_from_path(rt, rt.alloc(), file)?;
+    Ok(completion_lines(rt.alloc(), manifest)?)
 }
 
 /// The manifest in a file, on the heap. It is wide, and so no call that does more than this

@@ -1,5 +1,7 @@
 -- Discovery of what was discovered.
 use Rattle.std.proofs.Common.{◌≡◌, Bool, true, false, cond, ◌&&◌, ◌||◌, List, [], ◌∷◌, ◌++◌, map, filter, refl, ap, ◌∙◌, sym, Option, Some, None, codes, is_some, append-nil}
+use Rattle.std.proofs.Math.Bool.{or_assoc}
+use Rattle.std.proofs.lemmas.Bool.{or_left, or_right}
 use Rattle.std.specs.List.{list_any, cons_option}
 use Rattle.std.specs.Str.{bytes_eq}
 use Rattle.cargo_toml_settings.specs.Settings.{File, flag, path}
@@ -7,7 +9,7 @@ use Rattle.cargo_toml_settings.specs.declared.settings.Edition.{Edition}
 use Rattle.cargo_toml_tables.specs.Products.{ProductMeaning}
 use Rattle.cargo_toml_discovery.proofs.Ranks.{products_rank}
 use Rattle.cargo_toml_discovery.proofs.Stable.{one_sort, sorted-sorted_by, filter-sorted_by}
-use Rattle.cargo_toml_discovery.proofs.Unique.{own}
+use Rattle.cargo_toml_discovery.proofs.Unique.{own, or-swap}
 use Rattle.cargo_toml_discovery.specs.Around.{Around}
 use Rattle.cargo_toml_discovery.specs.Discovering.{library, or_plain_library, filled_library, at_library, build_in, may_build, readme_in, first_in, readme_names, listed_products, main_of, main_offer, StatedMeaning, DiscoveredMeaning, discovered, restated}
 use Rattle.cargo_toml_discovery.specs.Found.{Named, Offered, offer_of, still_open, offers, is_text, is_path_of, has_path, product_for, product_among, taker, late_taker, last_product, all_found, found}
@@ -109,23 +111,9 @@ have-sorted [] h = tt
 have-sorted (x ∷ xs) h = have-insert x (sorted_by product_lt xs) h.0 (have-sorted xs h.1)
 
 -- which paths these are
-or-assoc : (a b c : Bool) → (a || (b || c)) ≡ ((a || b) || c)
-or-assoc true b c = refl
-or-assoc false b c = refl
-
-or-swap : (a b c : Bool) → (a || (b || c)) ≡ (b || (a || c))
-or-swap true true c = refl
-or-swap true false c = refl
-or-swap false true c = refl
-or-swap false false c = refl
-
-or-right : (a b : Bool) → b ≡ true → (a || b) ≡ true
-or-right true b h = refl
-or-right false b h = h
-
 path-append : (ps qs : List ProductMeaning) (t : Name) → is_path_of (ps ++ qs) t ≡ (is_path_of ps t || is_path_of qs t)
 path-append [] qs t = refl
-path-append (p ∷ ps) qs t = ap (λ (b : Bool). is_text t p.path || b) (path-append ps qs t) ∙ or-assoc (is_text t p.path) (is_path_of ps t) (is_path_of qs t)
+path-append (p ∷ ps) qs t = ap (λ (b : Bool). is_text t p.path || b) (path-append ps qs t) ∙ sym (or_assoc (is_text t p.path) (is_path_of ps t) (is_path_of qs t))
 
 path-insert : (x : ProductMeaning) (ys : List ProductMeaning) (t : Name) → is_path_of (insert_by product_lt x ys) t ≡ (is_text t x.path || is_path_of ys t)
 path-insert x [] t = refl
@@ -175,7 +163,7 @@ module _ (dir : Name) (f g : Name → Bool) (more : (t : Name) → f t ≡ true 
   none-step None os rest h next = next h
   none-step (Some o) os rest h next = elim (f o.path) as (λ b. f o.path ≡ b → ((t : Name) → offered (cons_option (cond b None (Some o)) os) t ≡ true → g t ≡ true) → cons_option (still_open g (Some o)) rest ≡ []) [
     | true ↦ λ e k. taken o rest (more o.path e) (next k)
-    | false ↦ λ e k. taken o rest (k o.path (ap (λ (b : Bool). b || offered os o.path) (own o.path))) (next (λ t i. k t (or-right (bytes_eq o.path t) (offered os t) i)))
+    | false ↦ λ e k. taken o rest (k o.path (ap (λ (b : Bool). b || offered os o.path) (own o.path))) (next (λ t i. k t (or_right (bytes_eq o.path t) (offered os t) i)))
   ] refl h
 
   none-open : (es : List Named) → ((t : Name) → offered (offers dir f es) t ≡ true → g t ≡ true) → offers dir g es ≡ []
@@ -189,16 +177,13 @@ module _ (edition : Edition) (dir : Name) (ps : List ProductMeaning) (es : List 
       have-sorted _ (have-append (filter has_path ps) (map (product_among edition ps os) os ++ last_product edition ps os x) (have-filter ps)
       (have-append (map (product_among edition ps os) os) (last_product edition ps os x) (have-among edition ps os os) (have-last edition ps os x)))
 
-  or-left : (a b : Bool) → a ≡ true → (a || b) ≡ true
-  or-left a b h = ap (λ (c : Bool). c || b) h
-
   none-left : (x : Option Offered) → offers dir (is_path_of (found edition dir ps es x)) es ≡ []
   none-left x =
       let os = offers dir (is_path_of ps) es in
       let last = last_product edition ps os x in
       none-open dir (is_path_of ps) (is_path_of (found edition dir ps es x))
-      (λ t h. path-found edition dir ps es x t ∙ or-left (is_path_of ps t) (offered os t || is_path_of last t) h) es
-      (λ t h. path-found edition dir ps es x t ∙ or-right (is_path_of ps t) (offered os t || is_path_of last t) (or-left (offered os t) (is_path_of last t) h))
+      (λ t h. path-found edition dir ps es x t ∙ or_left (is_path_of ps t) (offered os t || is_path_of last t) h) es
+      (λ t h. path-found edition dir ps es x t ∙ or_right (is_path_of ps t) (offered os t || is_path_of last t) (or_left (offered os t) (is_path_of last t) h))
 
   pub found-again : (x : Option Offered) → found edition dir (found edition dir ps es x) es None ≡ found edition dir ps es x
   found-again x =
@@ -214,10 +199,10 @@ module _ (edition : Edition) (dir : Name) (ps : List ProductMeaning) (es : List 
       let os = offers dir (is_path_of ps) es in
       let t = m.path in
       elim (is_path_of ps t) as (λ b. is_path_of ps t ≡ b → is_path_of (found edition dir ps es (cond b None (Some m))) t ≡ true) [
-        | true ↦ λ e. path-found edition dir ps es None t ∙ or-left (is_path_of ps t) (offered os t || false) e
+        | true ↦ λ e. path-found edition dir ps es None t ∙ or_left (is_path_of ps t) (offered os t || false) e
         | false ↦ λ e. path-found edition dir ps es (Some m) t
-            ∙ or-right (is_path_of ps t) (offered os t || is_path_of (last_product edition ps os (Some m)) t)
-            (or-right (offered os t) (is_path_of (last_product edition ps os (Some m)) t)
+            ∙ or_right (is_path_of ps t) (offered os t || is_path_of (last_product edition ps os (Some m)) t)
+            (or_right (offered os t) (is_path_of (last_product edition ps os (Some m)) t)
             (ap (λ (r : Option Name). is_text t r || false) (placed-path edition m (late_taker ps os m)) ∙ ap (λ (b : Bool). b || false) (own t)))
       ] refl
 

@@ -5,6 +5,7 @@ use Rattle.std.specs.BTreeSet.{BTreeSet}
 use Rattle.std.specs.Cmp.Lexicographic.{slice_cmp}
 use Rattle.std.specs.Ordering.{nat_cmp}
 use Rattle.std.specs.Str.{bytes_eq}
+use Rattle.std.proofs.Math.Bool.{or_comm, or-false, or_assoc}
 use Rattle.std.proofs.lemmas.List.{take_more, map_push}
 use Rattle.std.proofs.lemmas.Map.Text.{is_eq-slice_cmp}
 use denote.Ref.{Bor}
@@ -15,32 +16,22 @@ use Rattle.cargo_toml_tables.specs.Products.{ProductMeaning, product_meaning}
 use Rattle.cargo_toml_tables.specs.declared.product.Product as code
 
 -- a path more
-pub inserted : (bs : Name) (s n : BTreeSet (Bor Name)) → sorted.UpdatesBy (λ x y. slice_cmp nat_cmp x.now y.now) (λ k. slice_cmp nat_cmp bs k.now) s n true → (t : Name) → is_path_in n t ≡ (is_path_in s t || bytes_eq bs t)
-inserted bs s n h t = h.0 (record { ref_ptr = (0, 0); now = t }) ∙ ap (λ b. cond b true (is_path_in s t)) (is_eq-slice_cmp bs t) ∙ go (bytes_eq bs t) (is_path_in s t)
-  where
-    go : (a b : Bool) → cond a true b ≡ (b || a)
-    go true true = refl
-    go true false = refl
-    go false true = refl
-    go false false = refl
+cond_or : (a b : Bool) → cond a true b ≡ (a || b)
+cond_or true b = refl
+cond_or false b = refl
 
-or-false : (b : Bool) → b ≡ (b || false)
-or-false true = refl
-or-false false = refl
+pub inserted : (bs : Name) (s n : BTreeSet (Bor Name)) → sorted.UpdatesBy (λ x y. slice_cmp nat_cmp x.now y.now) (λ k. slice_cmp nat_cmp bs k.now) s n true → (t : Name) → is_path_in n t ≡ (is_path_in s t || bytes_eq bs t)
+inserted bs s n h t = h.0 (record { ref_ptr = (0, 0); now = t }) ∙ ap (λ b. cond b true (is_path_in s t)) (is_eq-slice_cmp bs t) ∙ cond_or (bytes_eq bs t) (is_path_in s t) ∙ or_comm (bytes_eq bs t) (is_path_in s t)
 
 pub none-more : (s : BTreeSet (Bor Name)) (t : Name) → is_path_in s t ≡ (is_path_in s t || false)
-none-more s t = or-false (is_path_in s t)
+none-more s t = sym (or-false (is_path_in s t))
 
 pub has_this : (path : Option (String Global)) (s : String Global) (bs t : Name) (b : Bool) → path ≡ Some s → bs ≡ string_bytes s → (b || bytes_eq bs t) ≡ (b || is_text t (option_map string_bytes path))
 has_this path s bs t b is same = rw (is, same)
 
-or-assoc : (a b c : Bool) → (a || (b || c)) ≡ ((a || b) || c)
-or-assoc true b c = refl
-or-assoc false b c = refl
-
 is_path_of-push : (ps : List ProductMeaning) (p : ProductMeaning) (t : Name) → is_path_of (ps ++ p ∷ []) t ≡ (is_path_of ps t || is_text t p.path)
-is_path_of-push [] p t = sym (or-false (is_text t p.path))
-is_path_of-push (q ∷ ps) p t = ap (λ (b : Bool). is_text t q.path || b) (is_path_of-push ps p t) ∙ or-assoc (is_text t q.path) (is_path_of ps t) (is_text t p.path)
+is_path_of-push [] p t = or-false (is_text t p.path)
+is_path_of-push (q ∷ ps) p t = ap (λ (b : Bool). is_text t q.path || b) (is_path_of-push ps p t) ∙ sym (or_assoc (is_text t q.path) (is_path_of ps t) (is_text t p.path))
 
 pub is_path_of-more : (ps : List code.Product) (i : ℕ) (p : code.Product) (t : Name) → i < length ps → p ≡ get_or ps i p →
     is_path_of (map product_meaning (take (i + 1) ps)) t ≡ (is_path_of (map product_meaning (take i ps)) t || is_text t (product_meaning p).path)

@@ -1,5 +1,6 @@
 -- The walk gives what each offer gives by itself.
 use Rattle.std.proofs.Common.{◌≡◌, Bool, true, false, cond, not, ◌&&◌, ◌||◌, List, [], ◌∷◌, ◌++◌, Option, Some, None, refl, ap, ◌∙◌, map, sym, append_assoc, append-nil, option_to_list}
+use Rattle.std.proofs.Math.Bool.{and-true, and-false}
 use Rattle.std.specs.List.{list_any}
 use Rattle.std.specs.Str.{bytes_eq}
 use Rattle.std.specs.Ordering.{nat_cmp, is_lt}
@@ -31,19 +32,11 @@ Ascending (o ∷ os) = AllAfter o.file os × Ascending os
 abbrev rival : Offered → Offered → Bool
 rival o q = bytes_eq q.name o.name && less q.file o.file
 
-and_true : (b : Bool) → b && true ≡ b
-and_true true = refl
-and_true false = refl
-
-and_false : (b : Bool) → b && false ≡ false
-and_false true = refl
-and_false false = refl
-
 rivals-before : (o : Offered) (qs rest : List Offered) → AllBefore qs o.file → list_any (rival o) rest ≡ false → list_any (rival o) (qs ++ rest) ≡ has_offer qs o.name
 rivals-before o [] rest h e = e
 rivals-before o (q ∷ qs) rest h e =
     ap (λ (b : Bool). (bytes_eq q.name o.name && b) || list_any (rival o) (qs ++ rest)) (ap is_lt h.0)
-    ∙ ap (λ (b : Bool). b || list_any (rival o) (qs ++ rest)) (and_true (bytes_eq q.name o.name))
+    ∙ ap (λ (b : Bool). b || list_any (rival o) (qs ++ rest)) (and-true (bytes_eq q.name o.name))
     ∙ ap (λ (b : Bool). bytes_eq q.name o.name || b) (rivals-before o qs rest h.1 e)
 
 not_less : (a b : Name) → slice_cmp nat_cmp a b ≡ Less → less b a ≡ false
@@ -53,7 +46,7 @@ rivals-after : (o : Offered) (qs : List Offered) → AllAfter o.file qs → list
 rivals-after o [] h = refl
 rivals-after o (q ∷ qs) h =
     ap (λ (b : Bool). (bytes_eq q.name o.name && b) || list_any (rival o) qs) (not_less o.file q.file h.0)
-    ∙ ap (λ (b : Bool). b || list_any (rival o) qs) (and_false (bytes_eq q.name o.name))
+    ∙ ap (λ (b : Bool). b || list_any (rival o) qs) (and-false (bytes_eq q.name o.name))
     ∙ rivals-after o qs h.1
 
 not_own : (a : Name) (r : Ordering) → slice_cmp nat_cmp a a ≡ r → less a a ≡ false
@@ -64,7 +57,7 @@ not_own a Greater e = ap is_lt e
 rivals : (o : Offered) (done os : List Offered) → AllBefore done o.file → AllAfter o.file os → list_any (rival o) (done ++ o ∷ os) ≡ has_offer done o.name
 rivals o done os h k = rivals-before o done (o ∷ os) h
     (ap (λ (b : Bool). (bytes_eq o.name o.name && b) || list_any (rival o) os) (not_own o.file (slice_cmp nat_cmp o.file o.file) refl)
-    ∙ ap (λ (b : Bool). b || list_any (rival o) os) (and_false (bytes_eq o.name o.name)) ∙ rivals-after o os k)
+    ∙ ap (λ (b : Bool). b || list_any (rival o) os) (and-false (bytes_eq o.name o.name)) ∙ rivals-after o os k)
 
 before-push : (done : List Offered) (o q : Offered) → AllBefore done q.file → slice_cmp nat_cmp o.file q.file ≡ Less → AllBefore (done ++ o ∷ []) q.file
 before-push [] o q h e = (e, tt)

@@ -50,7 +50,7 @@ ascend-ordered (t ∷ ts) = ascend-put_in t (ordered ts) (ascend-ordered ts)
 same_text : (a b : Name) → compare a b ≡ Equal → a ≡ b
 same_text a b h = (bytes_eq-Decides a b).0 (sym (is_eq-slice_cmp a b) ∙ ap is_eq h)
 
-or-swap : (a b r : Bool) → a || (b || r) ≡ b || (a || r)
+pub or-swap : (a b r : Bool) → a || (b || r) ≡ b || (a || r)
 or-swap true true r = refl
 or-swap true false r = refl
 or-swap false true r = refl

@@ -23,6 +23,7 @@ use Rattle.cargo_toml_features.specs.Resolved.{table_of, plain_action, SameRecor
 use Rattle.cargo_toml_dependencies.specs.Details.{plain_detail}
 use Rattle.cargo_toml_features.specs.Marks.{NamedDetails, FeatureMarks, detail_named, detail_listed, marked, marks_in, marks_of}
 use Rattle.cargo_toml_features.specs.Views.{set_has, action_at}
+use Rattle.cargo_toml_full.specs.Unremoved.{AreUnremoved}
 use Rattle.cargo_toml_full.specs.declared.slots.Slots.{Slots}
 
 -- tables that say the same
@@ -30,6 +31,10 @@ pub record Same (t u : Table) : Type 0 where
   pub has : (f : Text) → t.has f ≡ u.has f
   pub names : (f x : Text) → t.names f x ≡ u.names f x
   pub action : (f k : Text) → t.action f k ≡ u.action f k
+
+-- tables that say the same, of a list
+are_table : (vs : List Feature) (t : Table) → Same (table_among vs) t → AreTable t vs
+are_table vs t u = record { has = u.has; names = u.names; action = u.action }
 
 or_not : (a i : Bool) → (a || i) ≡ (a || (i && not a))
 or_not true i = refl
@@ -103,7 +108,7 @@ module _ (implied : Text → Bool) (old new : List Feature) (h : ImpliesAll impl
     where
       go : (t : Bool) (o o' : Option Feature) → Becomes t f o o' → option_map_or (λ v. action_at v.enables_deps k) o' None ≡ cond (is_some o) (option_map_or (λ v. action_at v.enables_deps k) o None) (cond (t && bytes_eq k f) (Some plain_action) None)
       go true None None b = absurd b
-      go true None (Some v) b = b.action k
+      go true None (Some v) b = b.actions k
       go false None o' b = rw b
       go true (Some v) o' b = rw b
       go false (Some v) o' b = rw b
@@ -219,7 +224,7 @@ module _ (listed : Listed) (entries : List Entry) (details : NamedDetails) (own 
       go w p false o true false = refl
       go w p false o false b = refl
 
-  pub same_last : Same (table_among last) t
+  same_last : Same (table_among last) t
   same_last = record {
     has = λ f. has_required own implied last b f ∙ same.has f;
     names = λ f x. names_required own implied last b f x ∙ same.names f x;
@@ -256,30 +261,23 @@ module _ (listed : Listed) (entries : List Entry) (details : NamedDetails) (own 
   told : (f : Text) → IfSome (feature_at last f) (IsTold f (marks_in listed details f) (own f))
   told f = told_required own implied last b f (marks_in listed details f) (marked_all f)
 
-  pub marks_told : (f : Text) → IfSome (feature_at last f) (λ v. marks_of v ≡ marks_in listed details f)
-  marks_told f = go (feature_at last f) (told f)
+  -- a part of what is told of the feature
+  told_of : (f : Text) (P : Feature → Type 0) → ((v : Feature) → IsTold f (marks_in listed details f) (own f) v → P v) → IfSome (feature_at last f) P
+  told_of f P part = go (feature_at last f) (told f)
     where
-      go : (o : Option Feature) → IfSome o (IsTold f (marks_in listed details f) (own f)) → IfSome o (λ v. marks_of v ≡ marks_in listed details f)
+      go : (o : Option Feature) → IfSome o (IsTold f (marks_in listed details f) (own f)) → IfSome o P
       go None k = tt
-      go (Some v) k = k.marks
+      go (Some v) k = part v k
 
-  pub bins_told : (f : Text) → IfSome (feature_at last f) (λ v. map (λ b. b.now) v.required_by_bins.items ≡ own f)
-  bins_told f = go (feature_at last f) (told f)
-    where
-      go : (o : Option Feature) → IfSome o (IsTold f (marks_in listed details f) (own f)) → IfSome o (λ v. map (λ b. b.now) v.required_by_bins.items ≡ own f)
-      go None k = tt
-      go (Some v) k = k.bins
+  pub unremoved_told : AreUnremoved listed entries details own last
+  unremoved_told = record {
+    table = are_table last t same_last;
+    marks = λ f. told_of f (λ v. marks_of v ≡ marks_in listed details f) (λ v k. k.marks);
+    bins = λ f. told_of f (λ v. map (λ b. b.now) v.required_by_bins.items ≡ own f) (λ v k. k.bins);
+  }
 
   pub no_enablers_told : (f : Text) → IfSome (feature_at last f) (λ v. v.enabled_by.keys ≡ [])
-  no_enablers_told f = go (feature_at last f) (told f)
-    where
-      go : (o : Option Feature) → IfSome o (IsTold f (marks_in listed details f) (own f)) → IfSome o (λ v. v.enabled_by.keys ≡ [])
-      go None k = tt
-      go (Some v) k = k.enabled_by
+  no_enablers_told f = told_of f (λ v. v.enabled_by.keys ≡ []) (λ v k. k.enabled_by)
 
   pub dependencies_told : (k : Text) → SameRecorded (recorded_at deps k) (recorded_of (entries_at listed entries k))
   dependencies_told k = same_recorded (recorded_at deps k) (recorded_of (entries_at listed entries k)) (recorded mentioned k)
-
--- tables that say the same, of a list
-pub are_table : (vs : List Feature) (t : Table) → Same (table_among vs) t → AreTable t vs
-are_table vs t u = record { has = u.has; names = u.names; action = u.action }

@@ -218,6 +218,30 @@ pub told_there : (vs : List Feature) (i : ℕ) (f : Text) → AreInOrder vs → 
 told_there vs i f up bound true stands free = let here = stands refl in sym (feature_there vs i f here.0 here.1)
 told_there vs i f up bound false stands free = sym (ap is_some (feature_missing vs f (place_free vs i f up (record { bound = bound; free = free refl }))))
 
+-- behind all others one is put
+module _ (vs : List Feature) (i : ℕ) (w : Feature) (new : List Feature) (f : Text) (up : AreInOrder vs) (bound : IsBoundOf vs i f) (past : length vs ≤ i) (key : w.key.now ≡ f) (put : new ≡ vs ++ w ∷ []) where
+  place : IsPlaceOf vs i w.key.now
+  place = subst (IsPlaceOf vs i) (sym key) (record { bound = bound; free = λ inside. absurd (omega (arith, inside, past)) })
+
+  became : new ≡ insert vs i w
+  became = pushed_last vs i w new place past put
+
+  missing : feature_at vs w.key.now ≡ None
+  missing = feature_missing vs w.key.now (place_free vs i w.key.now up place)
+
+  pub last_in_order : AreInOrder new
+  last_in_order = placed_in_order vs i w up place new became
+
+  pub last_held : (g : Text) → feature_at new g ≡ option_or (feature_at vs g) (cond (bytes_eq g w.key.now) (Some w) None)
+  last_held g = put_new vs w (feature_at new g) g missing (placed_held vs i w up place new became g)
+
+  pub last_only : (g : Text) → feature_at new g ≡ cond (bytes_eq g f) (Some w) (feature_at vs g)
+  last_only g = subst (λ k. feature_at new g ≡ cond (bytes_eq g k) (Some w) (feature_at vs g)) key (placed_held vs i w up place new became g)
+
+  -- none of its name was there
+  pub last_missing : feature_at vs f ≡ None
+  last_missing = subst (λ k. feature_at vs k ≡ None) key missing
+
 get_last : (vs : List Feature) (v d : Feature) → get_or (vs ++ v ∷ []) (length vs) d ≡ v
 get_last [] v d = refl
 get_last (u ∷ vs) v d = get_last vs v d
@@ -231,14 +255,11 @@ module _ (vs : List Feature) (i : ℕ) (v : Feature) (pushed : List Feature) (f 
   pushed_there d = ap₂ (λ us k. get_or us k d) put last ∙ get_last vs v d
 
   module _ (w : Feature) (key : w.key.now ≡ f) where
-    place : IsPlaceOf vs i w.key.now
-    place = subst (IsPlaceOf vs i) (sym key) (record { bound = bound; free = λ inside. absurd (omega (arith, inside, past)) })
-
-    became : set pushed i w ≡ insert vs i w
-    became = pushed_last vs i w (set pushed i w) place past (ap₂ (λ us k. set us k w) put last ∙ set_last vs v w)
+    filled : set pushed i w ≡ vs ++ w ∷ []
+    filled = ap₂ (λ us k. set us k w) put last ∙ set_last vs v w
 
     pub filled_in_order : AreInOrder (set pushed i w)
-    filled_in_order = placed_in_order vs i w up place (set pushed i w) became
+    filled_in_order = last_in_order vs i w (set pushed i w) f up bound past key filled
 
     pub filled_held : (g : Text) → feature_at (set pushed i w) g ≡ option_or (feature_at vs g) (cond (bytes_eq g w.key.now) (Some w) None)
-    filled_held g = put_new vs w (feature_at (set pushed i w) g) g (feature_missing vs w.key.now (place_free vs i w.key.now up place)) (placed_held vs i w up place (set pushed i w) became g)
+    filled_held g = last_held vs i w (set pushed i w) f up bound past key filled g

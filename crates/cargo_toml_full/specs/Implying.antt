@@ -4,10 +4,12 @@ use Rattle.std.specs.Prelude.{◌≡◌, ◌&&◌, not, Bool, true, false, List,
 use Rattle.std.specs.Prelude.{IsTrue, Vec, Some, None, bytes_eq, if◌then◌else◌}
 use Rattle.std.specs.Option.{IsSomeAnd}
 use Rattle.std.specs.List.{list_any}
+use Rattle.std.specs.BTreeMap.{BTreeMap}
 use Rattle.std.specs.Borrow.{Bor}
 use Rattle.std.specs.declared.alloc.Global.{Global}
 use Rattle.cargo_toml_dependencies.specs.Dependencies.{is_optional}
 use Rattle.cargo_toml_dependencies.specs.Details.{plain_detail}
+use Rattle.cargo_toml_features.specs.declared.features.DepAction.{DepAction}
 use Rattle.cargo_toml_features.specs.declared.features.Feature.{Feature}
 use Rattle.cargo_toml_graph.specs.Action.{Text}
 use Rattle.cargo_toml_features.specs.Marks.{marked, marks_of}
@@ -17,13 +19,16 @@ use Rattle.cargo_toml_features.specs.Views.{set_has, action_at}
 use Rattle.cargo_toml_features.specs.InOrder.{feature_at}
 use Rattle.cargo_toml_full.specs.Searching.{has_key}
 
--- the implied feature of the key q: it names nothing, has one plain_action action on itself, and
--- nothing is said of it
+-- one plain action, on q
+abbrev pub ActsOn : Text → BTreeMap (Bor Text) DepAction → Type 0
+ActsOn q m = (k : Text) → action_at m k ≡ (if bytes_eq k q then Some plain_action else None)
+
+-- the implied feature of the key q: it names nothing, has one plain action, on itself, and nothing
+-- is said of it
 pub record IsImplied (q : Text) (v : Feature) : Type 0 where
   pub key : v.key.now ≡ q
   pub names : (x : Text) → set_has v.enables_features x ≡ false
-  pub action : (k : Text) → action_at v.enables_deps k
-      ≡ (if bytes_eq k q then Some plain_action else None)
+  pub actions : ActsOn q v.enables_deps
   pub enabled_by : v.enabled_by.keys ≡ []
   pub bins : v.required_by_bins.items ≡ []
   pub marks : marks_of v ≡ marked false plain_detail

@@ -12,3 +12,4 @@ pub mod Ascending
 pub mod Searching
 pub mod Acting
 pub mod Placing
+pub mod Unremoved

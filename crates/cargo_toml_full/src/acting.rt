@@ -17,7 +17,7 @@ use std::alloc::{AllocError, Global};
 const FEW: usize = 24;
 
 /// The keys that features act on, as their lists say them: once for each action.
-#[derive(Debug, Drop)]
+#[derive(Drop)]
 pub struct Acting<'m> {
     /// All keys.
     pub keys: Vec<&'m str>,

@@ -4,7 +4,7 @@ ghost use Rattle.std.specs.Prelude.{IfOk, IsTrue, OnOk, None};
 ghost use Rattle.cargo_toml_graph.specs.Action.{Text};
 ghost use Rattle.cargo_toml_features.specs.InOrder.{AreInOrder, feature_at};
 ghost use Rattle.cargo_toml_features.specs.Views.{entry_of};
-ghost use Rattle.cargo_toml_full.specs.Implying.{AreFree, IsImplied, ImpliesAll};
+ghost use Rattle.cargo_toml_full.specs.Implying.{ActsOn, AreFree, IsImplied, ImpliesAll};
 ghost use Rattle.cargo_toml_full.specs.Implying.{is_offered, is_offered_alone, is_one_of};
 ghost use Rattle.cargo_toml_full.specs.Searching.{has_key};
 
@@ -19,19 +19,31 @@ use std::collections::{BTreeMap, BTreeSet};
 /// merged with them, so that not each moves those behind it.
 pub const FEW: usize = 16;
 
-// The feature that the optional dependency of a key implies. Nothing is said of it, whatever is
-// said of features of that name.
-fn implied_feature(alloc: Global, key: &str) -> Result<Feature<'_>, AllocError>
-    ensures { IfOk result (IsImplied key.now) }
+// The one action of the feature that a key implies.
+fn own_action(alloc: Global, key: &str) -> Result<BTreeMap<&str, DepAction<'_>>, AllocError>
+    ensures { IfOk result (λ m. ActsOn key.now m) }
 {
     let action = DepAction {
         is_conditional: false,
         is_dep_only: false,
         dep_features: BTreeSet::new(alloc),
     };
-    let mut enables_deps = BTreeMap::new(alloc);
-    enables_deps.insert(key, action)?;
-    Ok(Feature {
+    let mut actions = BTreeMap::new(alloc);
+    actions.insert(key, action)?;
+    Ok(actions)
+}
+
+// The feature that the optional dependency of a key implies. Nothing is said of it, whatever is
+// said of features of that name.
+fn implied_feature<'m>(
+    alloc: Global,
+    key: &'m str,
+    enables_deps: BTreeMap<&'m str, DepAction<'m>>,
+) -> Feature<'m>
+    requires { ActsOn key.now enables_deps }
+    ensures { IsImplied key.now result }
+{
+    Feature {
         key,
         enables_deps,
         enables_features: BTreeSet::new(alloc),
@@ -40,7 +52,7 @@ fn implied_feature(alloc: Global, key: &str) -> Result<Feature<'_>, AllocError>
         explicit: false,
         public: true,
         doc: None,
-    })
+    }
 }
 
 // The key implies a feature, where none of its name is there.
@@ -55,9 +67,13 @@ fn imply_key<'m>(
         (ImpliesAll (λ q. bytes_eq q key.now) features.old.items features.new.items) }
 {
     let place = lower_bound(features.as_slice(), key);
-    if !stands_at(features.as_slice(), place, key) {
-        let feature = implied_feature(alloc, key)?;
-        insert_at(features, place, feature)?;
+    if place >= features.len() {
+        // Most keys are above all others: then the feature is made at the end, where it stays.
+        let actions = own_action(alloc, key)?;
+        features.push(implied_feature(alloc, key, actions))?;
+    } else if !stands_at(features.as_slice(), place, key) {
+        let actions = own_action(alloc, key)?;
+        insert_at(features, place, implied_feature(alloc, key, actions))?;
     }
     Ok(())
 }

@@ -6,7 +6,7 @@ use std::marker::Model;
 /// A key of slots, by its place among their names.
 ///
 /// It stands for no count and for no place of a feature. A clause sees the place.
-#[derive(Clone, Copy, Debug, PartialEq, Eq, PartialOrd, Ord)]
+#[derive(Clone, Copy)]
 pub struct Key {
     place: usize,
 }

@@ -72,7 +72,7 @@ fn counts<'m>(mentions: &Mentions<'m>, entry: &ParseDependency<'m, '_>) -> bool
 }
 
 // Which entries count by themselves, and the keys of these.
-#[derive(Debug, Drop)]
+#[derive(Drop)]
 struct Counting<'d> {
     // of each entry whether it counts by itself
     flags: Vec<bool>,

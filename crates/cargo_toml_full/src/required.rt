@@ -11,7 +11,7 @@ use cargo_toml_walk::node::Node;
 use std::alloc::AllocError;
 
 /// A feature that a binary requires.
-#[derive(Debug, Clone, Copy)]
+#[derive(Clone, Copy)]
 pub struct Requirement<'m> {
     /// The feature's name.
     pub feature: &'m str,

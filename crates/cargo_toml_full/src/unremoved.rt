@@ -1,16 +1,16 @@
 //! From what a manifest lists to the full graph: all that is resolved before any feature is
 //! removed.
-ghost use Rattle.std.specs.Prelude.{◌≡◌, map, option_map, IfOk, IfSome};
+ghost use Rattle.std.specs.Prelude.{map, option_map, IfOk};
 ghost use Rattle.cargo_toml_graph.specs.Action.{Text};
 ghost use Rattle.cargo_toml_graph.specs.Reach.{IsOnce};
 ghost use Rattle.cargo_toml_full.specs.Slots.{HeldHaveTargets, held_in};
-ghost use Rattle.cargo_toml_features.specs.InOrder.{AreInOrder, AreTable, HaveNoEnablers};
-ghost use Rattle.cargo_toml_features.specs.InOrder.{feature_at};
+ghost use Rattle.cargo_toml_full.specs.Unremoved.{AreUnremoved};
+ghost use Rattle.cargo_toml_features.specs.InOrder.{AreInOrder, HaveNoEnablers};
 ghost use Rattle.cargo_toml_full.specs.OwnBins.{own_of, bin_requirement};
-ghost use Rattle.cargo_toml_features.specs.Marks.{named_details, marks_in, marks_of};
+ghost use Rattle.cargo_toml_features.specs.Marks.{named_details};
 ghost use Rattle.cargo_toml_features.specs.Views.{listed_of, entry_of, recorded_in};
 ghost use Rattle.cargo_toml_features.specs.Recorded.{entries_at, recorded_of};
-ghost use Rattle.cargo_toml_features.specs.Resolved.{SameRecorded, table_of};
+ghost use Rattle.cargo_toml_features.specs.Resolved.{SameRecorded};
 
 use crate::imply::{FEW, optional_count, with_implied};
 use crate::read::{Mentions, read_features};
@@ -45,14 +45,10 @@ pub fn resolve_all<'m: 'd, 'd>(
 ) -> Result<Unremoved<'m, 'd>, AllocError>
     requires { IsOnce (map (λ l. l.name.now) listings.now) }
     ensures in_order { IfOk result (λ a. AreInOrder a.features.items) }
-    ensures table { IfOk result (λ a. AreTable
-        (table_of (listed_of listings.now) (map entry_of entries.now)) a.features.items) }
+    ensures features { IfOk result (λ a. AreUnremoved (listed_of listings.now)
+        (map entry_of entries.now) (named_details listings.now)
+        (own_of (map bin_requirement requirements.now)) a.features.items) }
     ensures no_enablers { IfOk result (λ a. HaveNoEnablers a.features.items) }
-    ensures marks { IfOk result (λ a. (f : Text) → IfSome (feature_at a.features.items f) (λ v.
-        marks_of v ≡ marks_in (listed_of listings.now) (named_details listings.now) f)) }
-    ensures bins { IfOk result (λ a. (f : Text) → IfSome (feature_at a.features.items f)
-        (λ v. map (λ b. b.now) v.required_by_bins.items
-        ≡ own_of (map bin_requirement requirements.now) f)) }
     ensures dependencies { IfOk result (λ a. (k : Text) →
         SameRecorded (option_map recorded_in (held_in a.dependencies k))
         (recorded_of (entries_at (listed_of listings.now) (map entry_of entries.now) k))) }

@@ -386,10 +386,7 @@ fn read_table<Metadata: FromValue>(alloc: Global, table: Table) -> Result<Manife
 // The manifest, unless a fault was met, as `Reading::finish` has it. Its copies of a wide value
 // are kept out of what stands on the stack while the keys are read.
 #[inline(never)]
-fn ended<Metadata: Drop>(
-    reading: Reading,
-    whole: Manifest<Metadata>,
-) -> Result<Manifest<Metadata>, Error>
+fn ended<Whole: Drop>(reading: Reading, whole: Whole) -> Result<Whole, Error>
     ensures { Ends reading.fault whole result }
 {
     match reading.fault {

@@ -1,9 +1,16 @@
 //! The lines of resolved features.
+ghost use Rattle.std.specs.Prelude.{◌≡◌, ◌++◌, IfErr, IfOk, OnOk, is_some, string_bytes};
+ghost use Rattle.cargo_toml_parts.specs.declared.error.Error.{Memory};
+ghost use Rattle.cargo_toml_graph.specs.Action.{Text};
+ghost use Rattle.cargo_toml_features.specs.Views.{set_has, value_at};
+ghost use Rattle.cargo_toml_print.specs.Lines.{AddsLines, AreAllLines, between_commas};
+ghost use Rattle.cargo_toml_print.specs.Lines.{action_text, detail_text, feature_line, head_text};
+ghost use Rattle.cargo_toml_print.specs.Lines.{line_at, links_text, marks_text, origin_text};
+ghost use Rattle.cargo_toml_print.specs.Lines.{privacy_text, redirect_line};
 
-use crate::items::{separate, write_none};
 use cargo_toml_features::features::{DepAction, Feature, Features};
 use cargo_toml_parts::Error;
-use std::alloc::Global;
+use std::alloc::{AllocError, Global};
 use std::collections::{BTreeMap, BTreeSet, HashMap};
 use std::hash::BuildHasher;
 
@@ -13,126 +20,244 @@ use std::hash::BuildHasher;
 pub fn feature_lines<S: BuildHasher>(
     alloc: Global,
     features: &Features<'_, '_, S>,
-) -> Result<String, Error> {
+) -> Result<String, Error>
+    ensures lines { IfOk result (λ text. AreAllLines features.now (string_bytes text)) }
+    ensures refused { IfErr result (λ e. e ≡ Memory) }
+{
     let mut text = String::new(alloc);
     write_features(alloc, &mut text, &features.features)?;
     write_hidden(alloc, &mut text, &features.hidden_features)?;
     Ok(text)
 }
 
+// The keys of a hashed map, in byte order.
+fn names_of<'m, X, S: BuildHasher>(
+    alloc: Global,
+    found: &HashMap<&'m str, X, S>,
+) -> Result<BTreeSet<&'m str>, AllocError>
+    ensures { IfOk result (λ s. (f : Text) → set_has s f ≡ is_some (value_at found.now f)) }
+{
+    let mut names = BTreeSet::new(alloc);
+    for name in found.keys() {
+        names.insert(*name)?;
+    }
+    Ok(names)
+}
+
 fn write_features<S: BuildHasher>(
     alloc: Global,
     text: &mut String,
     features: &HashMap<&str, Feature<'_>, S>,
-) -> Result<(), Error> {
-    let in_order: BTreeMap<&str, &Feature<'_>> = features
-        .iter()
-        .map(|(name, feature)| (*name, feature))
-        .collect(alloc)?;
-    for (_, feature) in &in_order {
-        write_feature(text, *feature)?;
+) -> Result<(), AllocError>
+    ensures { OnOk result (AddsLines (λ _. feature_line) features.now
+        (string_bytes text.old) (string_bytes text.new)) }
+{
+    let names = names_of(alloc, features)?;
+    for name in &names {
+        write_feature_of(text, features, *name)?;
     }
     Ok(())
+}
+
+// The line of the feature of this name, if there is one.
+fn write_feature_of<S: BuildHasher>(
+    text: &mut String,
+    features: &HashMap<&str, Feature<'_>, S>,
+    name: &str,
+) -> Result<(), AllocError>
+    ensures { OnOk result (string_bytes text.new ≡ string_bytes text.old
+        ++ line_at (λ _. feature_line) features.now name.now) }
+{
+    match features.get(name) {
+        Some(feature) => write_feature(text, feature),
+        None => Ok(()),
+    }
 }
 
 fn write_hidden<S: BuildHasher>(
     alloc: Global,
     text: &mut String,
     hidden: &HashMap<&str, BTreeSet<&str>, S>,
-) -> Result<(), Error> {
-    let in_order: BTreeMap<&str, &BTreeSet<&str>> = hidden
-        .iter()
-        .map(|(name, stands_for)| (*name, stands_for))
-        .collect(alloc)?;
-    for (name, stands_for) in &in_order {
-        write_redirect(text, *name, *stands_for)?;
+) -> Result<(), AllocError>
+    ensures { OnOk result (AddsLines redirect_line hidden.now
+        (string_bytes text.old) (string_bytes text.new)) }
+{
+    let names = names_of(alloc, hidden)?;
+    for name in &names {
+        write_redirect_of(text, hidden, *name)?;
     }
     Ok(())
 }
 
-fn write_redirect(text: &mut String, name: &str, stands_for: &BTreeSet<&str>) -> Result<(), Error> {
-    text.push_str("hidden ")?;
-    text.push_str(name)?;
-    text.push_str(" | ")?;
-    write_set(text, stands_for)?;
-    text.push_str("\n")?;
-    Ok(())
+// The line of the removed feature of this name, if there is one.
+fn write_redirect_of<S: BuildHasher>(
+    text: &mut String,
+    hidden: &HashMap<&str, BTreeSet<&str>, S>,
+    name: &str,
+) -> Result<(), AllocError>
+    ensures { OnOk result (string_bytes text.new ≡ string_bytes text.old
+        ++ line_at redirect_line hidden.now name.now) }
+{
+    match hidden.get(name) {
+        Some(stands_for) => write_redirect(text, name, stands_for),
+        None => Ok(()),
+    }
 }
 
-fn write_feature(text: &mut String, feature: &Feature<'_>) -> Result<(), Error> {
+fn write_redirect(
+    text: &mut String,
+    name: &str,
+    stands_for: &BTreeSet<&str>,
+) -> Result<(), AllocError>
+    ensures { OnOk result (string_bytes text.new ≡ string_bytes text.old
+        ++ redirect_line name.now stands_for.now) }
+{
+    text.push_str("hidden ")?;
+    text.push_str(name)?;
+    write_names(text, " | ", stands_for)?;
+    text.push_str("\n")
+}
+
+fn write_feature(text: &mut String, feature: &Feature<'_>) -> Result<(), AllocError>
+    ensures { OnOk result (string_bytes text.new ≡ string_bytes text.old
+        ++ feature_line feature.now) }
+{
+    write_head(text, feature)?;
+    write_links(text, feature)?;
+    write_detail(text, feature)?;
+    text.push_str("\n")
+}
+
+// The name, and whether the manifest lists the feature.
+fn write_head(text: &mut String, feature: &Feature<'_>) -> Result<(), AllocError>
+    ensures { OnOk result (string_bytes text.new ≡ string_bytes text.old
+        ++ head_text feature.now) }
+{
     text.push_str("feature ")?;
     text.push_str(feature.key)?;
-    text.push_str(" | ")?;
-    text.push_str(if feature.explicit {
-        "explicit"
+    text.push_str(origin_of(feature))
+}
+
+fn origin_of(feature: &Feature<'_>) -> &'static str
+    ensures { result.now ≡ origin_text feature.now }
+{
+    if feature.explicit {
+        " | explicit"
     } else {
-        "implied"
-    })?;
-    text.push_str(" | names: ")?;
-    write_set(text, &feature.enables_features)?;
-    text.push_str(" | deps: ")?;
-    write_actions(text, &feature.enables_deps)?;
-    text.push_str(" | by: ")?;
-    write_set(text, &feature.enabled_by)?;
-    text.push_str(" | bins: ")?;
-    write_list(text, feature.required_by_bins.as_slice())?;
-    write_detail(text, feature)?;
-    text.push_str("\n")?;
-    Ok(())
+        " | implied"
+    }
+}
+
+// What the feature enables, and what enables or requires it.
+fn write_links(text: &mut String, feature: &Feature<'_>) -> Result<(), AllocError>
+    ensures { OnOk result (string_bytes text.new ≡ string_bytes text.old
+        ++ links_text feature.now) }
+{
+    write_names(text, " | names: ", &feature.enables_features)?;
+    write_actions(text, " | deps: ", &feature.enables_deps)?;
+    write_names(text, " | by: ", &feature.enabled_by)?;
+    write_list(text, " | bins: ", feature.required_by_bins.as_slice())
 }
 
 // That users aren't meant to name the feature, and its text as it is, line feeds and all.
-fn write_detail(text: &mut String, feature: &Feature<'_>) -> Result<(), Error> {
-    if !feature.public {
-        text.push_str(" | private")?;
+fn write_detail(text: &mut String, feature: &Feature<'_>) -> Result<(), AllocError>
+    ensures { OnOk result (string_bytes text.new ≡ string_bytes text.old
+        ++ detail_text feature.now) }
+{
+    text.push_str(privacy_of(feature))?;
+    match feature.doc {
+        Some(doc) => {
+            text.push_str(" | doc: ")?;
+            text.push_str(doc)
+        }
+        None => Ok(()),
     }
-    if let Some(doc) = feature.doc {
-        text.push_str(" | doc: ")?;
-        text.push_str(doc)?;
-    }
-    Ok(())
 }
 
-fn write_list(text: &mut String, items: &[&str]) -> Result<(), Error> {
-    write_none(text, items.is_empty())?;
-    for (i, item) in items.iter().enumerate() {
-        separate(text, i == 0)?;
+fn privacy_of(feature: &Feature<'_>) -> &'static str
+    ensures { result.now ≡ privacy_text feature.now }
+{
+    if feature.public { "" } else { " | private" }
+}
+
+// What follows writes a title and items with commas between them, or `-` where there are none.
+
+fn write_list(text: &mut String, title: &str, items: &[&str]) -> Result<(), AllocError>
+    ensures { OnOk result (string_bytes text.new ≡ string_bytes text.old
+        ++ (title.now ++ between_commas (λ t. t.now) items.now)) }
+{
+    text.push_str(title)?;
+    let Some((first, rest)) = items.split_first() else {
+        return text.push_str("-");
+    };
+    text.push_str(*first)?;
+    for item in rest {
+        text.push_str(", ")?;
         text.push_str(*item)?;
     }
     Ok(())
 }
 
-fn write_set(text: &mut String, items: &BTreeSet<&str>) -> Result<(), Error> {
-    write_none(text, items.is_empty())?;
-    for (i, item) in items.iter().enumerate() {
-        separate(text, i == 0)?;
-        text.push_str(*item)?;
+fn write_names(text: &mut String, title: &str, names: &BTreeSet<&str>) -> Result<(), AllocError>
+    ensures { OnOk result (string_bytes text.new ≡ string_bytes text.old
+        ++ (title.now ++ between_commas (λ t. t.now) names.now.keys)) }
+{
+    text.push_str(title)?;
+    let mut left = names.iter();
+    let Some(first) = left.next() else {
+        return text.push_str("-");
+    };
+    text.push_str(*first)?;
+    for name in left {
+        text.push_str(", ")?;
+        text.push_str(*name)?;
     }
     Ok(())
 }
 
-fn write_actions(text: &mut String, actions: &BTreeMap<&str, DepAction<'_>>) -> Result<(), Error> {
-    write_none(text, actions.is_empty())?;
-    for (i, (key, action)) in actions.iter().enumerate() {
-        separate(text, i == 0)?;
+fn write_actions(
+    text: &mut String,
+    title: &str,
+    actions: &BTreeMap<&str, DepAction<'_>>,
+) -> Result<(), AllocError>
+    ensures { OnOk result (string_bytes text.new ≡ string_bytes text.old
+        ++ (title.now ++ between_commas action_text actions.now.entries)) }
+{
+    text.push_str(title)?;
+    let mut left = actions.iter();
+    let Some((key, action)) = left.next() else {
+        return text.push_str("-");
+    };
+    write_action(text, *key, action)?;
+    for (key, action) in left {
+        text.push_str(", ")?;
         write_action(text, *key, action)?;
     }
     Ok(())
 }
 
-/// The dependency's key, `?` if the action is conditional, `!` if it is dep-only, then each of its
-/// features after a slash.
-fn write_action(text: &mut String, key: &str, action: &DepAction<'_>) -> Result<(), Error> {
+// The dependency's key, `?` if the action is conditional, `!` if it is dep-only, then each of its
+// features after a slash.
+fn write_action(text: &mut String, key: &str, action: &DepAction<'_>) -> Result<(), AllocError>
+    ensures { OnOk result (string_bytes text.new ≡ string_bytes text.old
+        ++ action_text (key.entry, action.now)) }
+{
     text.push_str(key)?;
-    if action.is_conditional {
-        text.push_str("?")?;
-    }
-    if action.is_dep_only {
-        text.push_str("!")?;
-    }
+    text.push_str(marks_of(action))?;
     for feature in &action.dep_features {
         text.push_str("/")?;
         text.push_str(*feature)?;
     }
     Ok(())
+}
+
+fn marks_of(action: &DepAction<'_>) -> &'static str
+    ensures { result.now ≡ marks_text action.now }
+{
+    match (action.is_conditional, action.is_dep_only) {
+        (true, true) => "?!",
+        (true, false) => "?",
+        (false, true) => "!",
+        (false, false) => "",
+    }
 }

@@ -1,8 +1,9 @@
 //! Times calls of the original crate.
 //!
-//! `original OPERATION FILE [ROOT] COUNT` makes ready what the call needs, makes it COUNT times, and prints the best time of one
-//! call in nanoseconds and how many things the answer holds. The answer's release is timed too, but for that of `complete`.
-//! Right before and right after each call the clock is asked, and at no other time: the counter of memory goes by that.
+//! `original OPERATION FILE [ROOT] COUNT` makes ready what the call needs, makes it COUNT times,
+//! and prints the best time of one call in nanoseconds and how many things the answer holds. The
+//! answer's release is timed too, but for that of `complete`. Right before and right after each
+//! call the clock is asked, and at no other time: the counter of memory goes by that.
 
 use cargo_toml::features::{Kind, ParseDependency, Resolver};
 use cargo_toml::{AbstractFilesystem, Error, Manifest, Value};
@@ -131,7 +132,8 @@ fn complete(member: &[u8], root: &Manifest, count: u64) -> Result<Measured, Erro
 
 fn run(words: &[&str]) -> Result<Measured, Error> {
     let manifest = |file: &str| Manifest::from_slice(&std::fs::read(file)?);
-    let count = words.last().and_then(|word| word.parse().ok()).ok_or(Error::Other("COUNT is a number"))?;
+    let count = words.last().and_then(|word| word.parse().ok());
+    let count = count.ok_or(Error::Other("COUNT is a number"))?;
     match words {
         ["read", file, _] => Ok(read(&std::fs::read(file)?, count)),
         ["answer", file, _] => Ok(answer(&std::fs::read(file)?, count)),

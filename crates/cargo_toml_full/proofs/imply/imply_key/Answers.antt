@@ -1,21 +1,47 @@
-use Rattle.std.proofs.Common.{◌≡◌, Some, bytes_eq, cond, subst}
+use Rattle.std.proofs.Common.{◌≡◌, ◌≤◌, Some, bytes_eq, cond, length, subst, arith}
 use Rattle.cargo_toml_features.specs.InOrder.{feature_at}
 use Rattle.cargo_toml_full.proofs.Implying.{implied_put, implied_there}
-use Rattle.cargo_toml_full.proofs.Placed.{feature_missing, free_place, place_free, taken_place}
+use Rattle.cargo_toml_full.specs.Placing.{IsBoundOf}
+use Rattle.cargo_toml_full.proofs.Placed.{feature_missing, free_place, last_in_order, last_missing, last_only, place_free, taken_place}
 use Rattle.cargo_toml_full.proofs.imply.imply_key.Goals as goal
+
+-- the key is above all others
+pub returns-in_ok-push-clause-in_order : goal.returns-in_ok-push-clause-in_order
+returns-in_ok-push-clause-in_order c =
+    let vs = c.args.features.now.items in
+    let key = c.args.key.now in
+    let place = c.lower_bound-place.result in
+    let bound : IsBoundOf vs place key = subst (λ us. IsBoundOf us place key) c.as_slice.ensures.value c.lower_bound-place.ensures in
+    let test = c.if-place-len.true in
+    let len = c.len.ensures in
+    let past : length vs ≤ place = omega (arith, test, len) in
+    last_in_order vs place c.implied_feature.result c.push.new.self.items key c.requires bound past c.implied_feature.ensures.key c.in_ok-push.ensures.items
+
+pub returns-in_ok-push-clause-implied : goal.returns-in_ok-push-clause-implied
+returns-in_ok-push-clause-implied c =
+    let vs = c.args.features.now.items in
+    let key = c.args.key.now in
+    let place = c.lower_bound-place.result in
+    let bound : IsBoundOf vs place key = subst (λ us. IsBoundOf us place key) c.as_slice.ensures.value c.lower_bound-place.ensures in
+    let test = c.if-place-len.true in
+    let len = c.len.ensures in
+    let past : length vs ≤ place = omega (arith, test, len) in
+    let w = c.implied_feature.result in
+    implied_put key vs c.push.new.self.items w (last_missing vs place w c.push.new.self.items key c.requires bound past c.implied_feature.ensures.key c.in_ok-push.ensures.items) c.implied_feature.ensures
+    (last_only vs place w c.push.new.self.items key c.requires bound past c.implied_feature.ensures.key c.in_ok-push.ensures.items)
 
 pub returns-in_ok-insert_at-clause-implied : goal.returns-in_ok-insert_at-clause-implied
 returns-in_ok-insert_at-clause-implied c =
     let vs = c.args.features.now.items in
     let new = c.insert_at.new.features.items in
     let key = c.args.key.now in
-    let w = c.in_ok-feature.feature in
+    let w = c.implied_feature-then-not-stands_at.result in
     let place = c.lower_bound-place.result in
-    let free = free_place vs c.as_slice.result.now c.as_slice-2.result.now place key c.as_slice.ensures.value c.as_slice-2.ensures.value c.lower_bound-place.ensures (c.stands_at.ensures.no c.if-not-stands_at.true) in
-    implied_put key vs new w (feature_missing vs key (place_free vs place key c.requires free)) c.in_ok-feature.ensures
-    (λ q. subst (λ k. feature_at new q ≡ cond (bytes_eq q k) (Some w) (feature_at vs q)) c.in_ok-feature.ensures.key (c.in_ok-insert_at.ensures.held q))
+    let free = free_place vs c.as_slice.result.now c.as_slice-else-place-len.result.now place key c.as_slice.ensures.value c.as_slice-else-place-len.ensures.value c.lower_bound-place.ensures (c.stands_at.ensures.no c.if-not-stands_at.true) in
+    implied_put key vs new w (feature_missing vs key (place_free vs place key c.requires free)) c.implied_feature-then-not-stands_at.ensures
+    (λ q. subst (λ k. feature_at new q ≡ cond (bytes_eq q k) (Some w) (feature_at vs q)) c.implied_feature-then-not-stands_at.ensures.key (c.in_ok-insert_at.ensures.held q))
 
 pub returns-else-not-stands_at-clause-implied : goal.returns-else-not-stands_at-clause-implied
 returns-else-not-stands_at-clause-implied c =
     let vs = c.args.features.now.items in
-    implied_there c.args.key.now vs (taken_place vs c.as_slice.result.now c.as_slice-2.result.now c.lower_bound-place.result c.args.key.now c.as_slice.ensures.value c.as_slice-2.ensures.value (c.stands_at.ensures.yes c.if-not-stands_at.false))
+    implied_there c.args.key.now vs (taken_place vs c.as_slice.result.now c.as_slice-else-place-len.result.now c.lower_bound-place.result c.args.key.now c.as_slice.ensures.value c.as_slice-else-place-len.ensures.value (c.stands_at.ensures.yes c.if-not-stands_at.false))

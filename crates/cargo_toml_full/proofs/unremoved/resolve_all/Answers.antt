@@ -3,13 +3,12 @@ use Rattle.cargo_toml_full.specs.OwnBins.{own_of, bin_requirement}
 use Rattle.cargo_toml_features.specs.Marks.{named_details}
 use Rattle.cargo_toml_features.specs.Views.{listed_of, entry_of}
 use Rattle.cargo_toml_features.specs.Recorded.{entries_at}
-use Rattle.cargo_toml_features.specs.Resolved.{table_of}
-use Rattle.cargo_toml_full.proofs.Answering.{no_enablers_told, marks_told, bins_told, dependencies_told, are_table, same_last}
+use Rattle.cargo_toml_full.proofs.Answering.{no_enablers_told, dependencies_told, unremoved_told}
 use Rattle.cargo_toml_full.proofs.HeldTargets.{have_targets}
 use Rattle.cargo_toml_full.proofs.unremoved.resolve_all.Goals as goal
 
-pub returns-clause-table : goal.returns-clause-table
-returns-clause-table c =
+pub returns-clause-features : goal.returns-clause-features
+returns-clause-features c =
     let listed = listed_of c.args.listings.now in
     let entries = map entry_of c.args.entries.now in
     let details = named_details c.args.listings.now in
@@ -19,8 +18,7 @@ returns-clause-table c =
     let implied = c.in_ok-implied.implied.items in
     let last = c.in_ok-features.features.items in
     let deps = c.in_ok-dependencies.dependencies in
-    are_table last (table_of listed entries)
-    (same_last listed entries details own mentions thinned implied last deps c.in_ok-mentions.ensures.read c.in_ok-mentions.ensures.fresh c.without_redundant-thinned.ensures.thinned c.in_ok-implied.ensures.implied c.in_ok-features.ensures.required (c.in_ok-dependencies.ensures.recorded listed))
+    unremoved_told listed entries details own mentions thinned implied last deps c.in_ok-mentions.ensures.read c.in_ok-mentions.ensures.fresh c.without_redundant-thinned.ensures.thinned c.in_ok-implied.ensures.implied c.in_ok-features.ensures.required (c.in_ok-dependencies.ensures.recorded listed)
 
 pub returns-clause-no_enablers : goal.returns-clause-no_enablers
 returns-clause-no_enablers c = λ f.
@@ -34,32 +32,6 @@ returns-clause-no_enablers c = λ f.
     let last = c.in_ok-features.features.items in
     let deps = c.in_ok-dependencies.dependencies in
     (no_enablers_told listed entries details own mentions thinned implied last deps c.in_ok-mentions.ensures.read c.in_ok-mentions.ensures.fresh c.without_redundant-thinned.ensures.thinned c.in_ok-implied.ensures.implied c.in_ok-features.ensures.required (c.in_ok-dependencies.ensures.recorded listed) f)
-
-pub returns-clause-marks : goal.returns-clause-marks
-returns-clause-marks c = λ f.
-    let listed = listed_of c.args.listings.now in
-    let entries = map entry_of c.args.entries.now in
-    let details = named_details c.args.listings.now in
-    let own = own_of (map bin_requirement c.args.requirements.now) in
-    let mentions = c.in_ok-mentions.mentions in
-    let thinned = c.without_redundant-thinned.result.items in
-    let implied = c.in_ok-implied.implied.items in
-    let last = c.in_ok-features.features.items in
-    let deps = c.in_ok-dependencies.dependencies in
-    (marks_told listed entries details own mentions thinned implied last deps c.in_ok-mentions.ensures.read c.in_ok-mentions.ensures.fresh c.without_redundant-thinned.ensures.thinned c.in_ok-implied.ensures.implied c.in_ok-features.ensures.required (c.in_ok-dependencies.ensures.recorded listed) f)
-
-pub returns-clause-bins : goal.returns-clause-bins
-returns-clause-bins c = λ f.
-    let listed = listed_of c.args.listings.now in
-    let entries = map entry_of c.args.entries.now in
-    let details = named_details c.args.listings.now in
-    let own = own_of (map bin_requirement c.args.requirements.now) in
-    let mentions = c.in_ok-mentions.mentions in
-    let thinned = c.without_redundant-thinned.result.items in
-    let implied = c.in_ok-implied.implied.items in
-    let last = c.in_ok-features.features.items in
-    let deps = c.in_ok-dependencies.dependencies in
-    (bins_told listed entries details own mentions thinned implied last deps c.in_ok-mentions.ensures.read c.in_ok-mentions.ensures.fresh c.without_redundant-thinned.ensures.thinned c.in_ok-implied.ensures.implied c.in_ok-features.ensures.required (c.in_ok-dependencies.ensures.recorded listed) f)
 
 pub returns-clause-dependencies : goal.returns-clause-dependencies
 returns-clause-dependencies c =

@@ -32,16 +32,16 @@ returns-clause-resolved g c =
     subst (λ xs. (i : ℕ) → i < length xs → IsFlagOf g.F.Fn c.args.filter (nth_text (names_of xs) i) (slice_index_or flags i false)) c.as_slice.ensures.value c.in_ok-flags.ensures.flags in
     let removed = flag_at vs flags in
     let is : (f : Text) → IsTrue (removed f) ↔ IsFlagged vs flags f = flag_is vs flags in
-    let by = removed_by g.F.Fn c.args.filter c.requires.filter t vs all.table all.in_order flags are in
+    let by = removed_by g.F.Fn c.args.filter c.requires.filter t vs all.features.table all.in_order flags are in
     let into : (f : Text) → IsTrue (removed f) → IsRemovedBy g.F.Fn c.args.filter t f = λ f y. (by f).0 ((is f).0 y) in
     let back : (f : Text) → IsRemovedBy g.F.Fn c.args.filter t f → IsTrue (removed f) = λ f r. (is f).1 ((by f).1 r) in
     let answer : Features g.row.S.Denot g.row.S-Hasher.Denot = record { features = c.in_ok-kept.field-0.features; dependencies = c.in_ok-dependencies.dependencies; removed_hidden_features = c.contains.result; hidden_features = c.in_ok-kept.field-0.hidden } in
     let without = answer_alike listed entries details own (λ f. IsTrue (removed f)) (IsRemovedBy g.F.Fn c.args.filter t) (answer_of answer) into back
     (answers {S = g.row.S.Denot} {H = g.row.S-Hasher.Denot} listed entries details own removed vs answer
-    all.table (λ f y. (into f y).there) all.marks all.bins
+    all.features.table (λ f y. (into f y).there) all.features.marks all.features.bins
     (λ k. subst (λ o. SameRecorded (option_map recorded_in o) (recorded_of (entries_at listed entries k))) (sym (c.in_ok-dependencies.ensures.same k)) (all.dependencies k))
-    (c.in_ok-kept.ensures.outcome t removed all.table (subst (λ fs. (f : Text) → IsTrue (removed f) ↔ IsFlagged vs fs f) (sym c.as_slice-2.ensures.value) is))
+    (c.in_ok-kept.ensures.outcome t removed all.features.table (subst (λ fs. (f : Text) → IsTrue (removed f) ↔ IsFlagged vs fs f) (sym c.as_slice-2.ensures.value) is))
     (some_flagged c.contains.result vs c.deref.result.now (λ f. IsTrue (removed f)) (ap length c.deref.ensures.value ∙ len) c.contains.ensures.cases
     (subst (λ fs. (f : Text) → IsTrue (removed f) ↔ IsFlagged vs fs f) (sym c.deref.ensures.value) is))) in
     answer_by listed entries details own g.F.Fn c.args.filter (answer_of answer) without
-    (λ f left hidden. kept_by g.F.Fn c.args.filter c.requires.filter t vs all.table all.in_order flags are f ((without.resolved.kept f).0 left).0 ((without.resolved.kept f).0 left).1 hidden)
+    (λ f left hidden. kept_by g.F.Fn c.args.filter c.requires.filter t vs all.features.table all.in_order flags are f ((without.resolved.kept f).0 left).0 ((without.resolved.kept f).0 left).1 hidden)

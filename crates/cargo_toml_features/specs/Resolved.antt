@@ -11,7 +11,7 @@ use Rattle.cargo_toml_features.specs.Recorded.{recorded_of, first_target, withou
 use Rattle.cargo_toml_graph.specs.Redirects.{RedirectsTo}
 use Rattle.cargo_toml_graph.specs.Removal.{is_removed}
 
--- one plain_action action
+-- one plain action
 abbrev pub plain_action : Action
 plain_action = record { is_conditional = false; is_dep_only = false; features = λ x. false }
 

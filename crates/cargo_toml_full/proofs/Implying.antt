@@ -94,7 +94,7 @@ module _ where
   pub offers_none : (e : Entry) (reserved : Text → Bool) (m : List Feature) → ((q : Text) → is_offered reserved (e ∷ []) q ≡ false) → ImpliesAll (is_offered reserved (e ∷ [])) m m
   offers_none e reserved m off = record { at = λ q. stays (is_offered reserved (e ∷ []) q) q (feature_at m q) (λ y. absurd (false≢true (sym (off q) ∙ y))) }
 
--- the one plain_action action
+-- the one plain action
 pub plain_made : (key : Text) (m n : BTreeMap (Bor Text) DepAction) (s : BTreeSet (Bor Text)) → m.entries ≡ [] → s.keys ≡ []
     → tree.UpdatesBy (λ x y. slice_cmp nat_cmp x.now y.now) (λ q. slice_cmp nat_cmp key q.now) m n (Some (record { is_conditional = false; is_dep_only = false; dep_features = s }))
     → (k : Text) → action_at n k ≡ cond (bytes_eq k key) (Some plain_action) None

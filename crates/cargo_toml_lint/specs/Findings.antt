@@ -69,7 +69,7 @@ is_over limit listed f =
     list_any (λ e. bytes_eq f e.0
     && (nat_lt limit (length e.1) || not (is_explicit (admitted limit listed) e.0))) listed
 
--- a hidden feature to which no kept one leads by names
+-- a hidden feature to which none leads by names that isn't hidden
 pub record IsUnreachable (t : Table) (f : Text) : Type 0 where
   pub known : IsTrue (t.has f)
   pub hidden : IsTrue (is_hidden f)

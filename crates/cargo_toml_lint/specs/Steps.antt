@@ -38,7 +38,7 @@ abbrev pub IsRing : Resolution → Text → Type 0
 IsRing m f =
     (h : Text) × IsTrue (m.enabled_by f h) × Enables m.table f h × IsTrue (m.table.names h f)
 
--- some kept feature of the table enables x
+-- some feature of the table that isn't hidden enables x
 abbrev pub IsReached : Table → Text → Type 0
 IsReached t x = (k : Text) × IsTrue (t.has k) × IsFalse (is_hidden k) × Enables t k x
 

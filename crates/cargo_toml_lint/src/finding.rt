@@ -7,7 +7,7 @@ ghost use Rattle.cargo_toml_lint.specs.Findings.{code_name, level_name, code_lev
 pub enum Level {
     /// Cargo refuses such a manifest.
     Error,
-    /// It works as it stands, but users see more than is meant.
+    /// It works as it stands, but may not be meant so.
     Hint,
     /// Cargo takes it, but it can't be meant so.
     Warning,
@@ -32,7 +32,7 @@ pub enum Code {
     Cycle,
     /// The name, or actions of the feature, are beyond the limit of what counts.
     OverLimit,
-    /// The feature is hidden, and no kept feature leads to it.
+    /// The feature is hidden, and no feature that isn't hidden leads to it.
     Unreachable,
 }
 

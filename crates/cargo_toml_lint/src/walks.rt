@@ -156,7 +156,7 @@ fn is_left_alone<S: BuildHasher>(
     features.contains_key(name) && is_hidden(name) && !reached.contains(name)
 }
 
-/// The hidden features to which no kept one leads, by names.
+/// The hidden features to which no other leads that isn't hidden, by names.
 pub(crate) fn unreachable<'m, S: BuildHasher + Clone>(
     alloc: Global,
     names: &BTreeSet<&'m str>,

@@ -9,7 +9,7 @@ use Rattle.cargo_toml_manifest.specs.Inheriting.{needs}
 use Rattle.cargo_toml_manifest.specs.Manifests.{held}
 use Rattle.cargo_toml_manifest.specs.declared.manifest.Manifest.{Manifest}
 
--- completed by a workspace that is handed in, if any, by what is told of roots and of folders
+-- completed by a workspace that is handed in, if any, by what is stated of roots and of folders
 module _ {M : Type 0} (old : Manifest M) (handed : Option Handed) (roots : RootsTold)
     (told : Name → Told) where
   pub record IsCompleted (new : Manifest M) : Type 0 where

@@ -25,6 +25,7 @@ pub trait Roots {
     /// Whether it does.
     const ARE_READ: bool;
 
+    // the same, for clauses
     ghost ARE_READ: { Bool };
 }
 

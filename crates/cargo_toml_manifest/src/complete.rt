@@ -199,8 +199,9 @@ impl<Metadata: Drop> Manifest<Metadata> {
     /// `WorkspaceIntegrity` for a dependency that the workspace lacks, for lints without a
     /// workspace table and for a field of the package that is still left; `InheritedUnknownValue`
     /// for a dependency that the workspace itself leaves to another; and after all these what `fs`
-    /// answers in place of names. Want of memory is `Error::Memory`. A refusal leaves the manifest
-    /// as it was. What `fs` answers is one of the faults that it may give.
+    /// answers in place of names. Out of memory is `Error::Memory`. A refusal leaves the manifest
+    /// as it was. A fault that `fs` answers is one that its `may_refuse_root` or `may_refuse`
+    /// allows.
     pub fn complete_from_abstract_filesystem<N, Fs: AbstractFilesystem + Drop>(
         &mut self,
         alloc: Global,

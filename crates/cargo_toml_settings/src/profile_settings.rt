@@ -169,7 +169,7 @@ impl Read for StripSetting {
 }
 
 /// The setting that a value says. Another value is refused as [`Error::Other`], with a text that
-/// says whether its number, its name or its type is wrong.
+/// says whether its name or its type is wrong.
 impl TryFrom<Value> for StripSetting {
     ghost use Rattle.cargo_toml_parts.specs.Faults.{IsSetting};
 
@@ -207,7 +207,7 @@ impl Read for LtoSetting {
 }
 
 /// The setting that a value says. Another value is refused as [`Error::Other`], with a text that
-/// says whether its number, its name or its type is wrong.
+/// says whether its name or its type is wrong.
 impl TryFrom<Value> for LtoSetting {
     ghost use Rattle.cargo_toml_parts.specs.Faults.{IsSetting};
 

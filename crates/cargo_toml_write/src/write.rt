@@ -27,12 +27,15 @@ use toml::{Table, Value};
 ///
 /// A type says what its values mean, and the way in which that is written: which trees it is
 /// written to, and which faults a value that has none may be refused with. By the law `floatless`
-/// no tree holds a float, so that each can be read again.
+/// no tree holds a float, so that no reader refuses one for that.
 pub trait ToValue {
+    // what its values mean: the type of meanings
     ghost Meaning: { Type 0 };
 
+    // what a value means
     ghost meaning: { Self → Meaning };
 
+    // how a meaning is written: its trees, and its faults where it has none
     ghost way: { Way Meaning };
 
     /// A tree of the value. A value that has none is refused with a fault of its own, and any value
@@ -43,6 +46,7 @@ pub trait ToValue {
     fn to_value(&self, alloc: Global) -> Result<Value, Error>
         ensures { IsWriting way (meaning self.now) result };
 
+    // no tree holds a float
     ghost floatless: { IsFloatless way };
 }
 

@@ -1,5 +1,5 @@
 -- Written features, with what is said of them, read as themselves.
-use Rattle.std.proofs.Common.{◌≡◌, ◌∙◌, ap, refl, sym, subst, ℕ, Bool, true, false, cond, not, ◌&&◌, List, [], ◌∷◌, ◌++◌, map, append_assoc, codes, Option, Some, None, is_none, is_eq, option_map, option_and_then, IsTrue, Ordering, Less, Equal, Greater, nat_cmp}
+use Rattle.std.proofs.Common.{◌≡◌, ◌∙◌, ap, refl, sym, subst, ℕ, Bool, true, false, cond, not, ◌&&◌, List, [], ◌∷◌, ◌++◌, map, append-nil, append_assoc, codes, Option, Some, None, is_none, is_eq, option_map, option_and_then, IsTrue, Ordering, Less, Equal, Greater, nat_cmp}
 use Rattle.std.specs.Cmp.Lexicographic.{slice_cmp}
 use Rattle.std.specs.List.{AllByRecursion}
 use Rattle.std.specs.List.Sorted.{IsStrictlySortedBy}
@@ -74,10 +74,6 @@ all_below_behind k d ms (n ∷ names) above below = (below_behind k n d ms above
 nothing_below : (names : List (List ℕ)) → AllByRecursion (MembersBelow no_members) names
 nothing_below [] = tt
 nothing_below (n ∷ names) = (tt, nothing_below names)
-
-append-nil : {X : Type 0} (xs : List X) → xs ++ [] ≡ xs
-append-nil [] = refl
-append-nil (x ∷ xs) = ap (λ ys. x ∷ ys) (append-nil xs)
 
 -- what is read of the members of a map, of which each value is read again
 module _ {X M : Type 0} (way : Way X) (reads : Data → Option M) (meaning : X → M) (again : (x : X) → ReadsAs way reads x (meaning x)) where

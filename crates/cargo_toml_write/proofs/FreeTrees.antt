@@ -1,6 +1,6 @@
 -- The values that may hold free ones have a tree where these hold no float, and only there. What is told of a type here is what
 -- may hold a float; each of its other rows always has a tree, so a new key without free values is no line here.
-use Rattle.std.proofs.Common.{◌≡◌, refl, sym, ℕ, List, [], ◌∷◌, codes, Bool, true, false, ◌&&◌, MatchBool, IsTrue, Option, Some, None, is_none, IfSome}
+use Rattle.std.proofs.Common.{◌≡◌, refl, sym, ℕ, List, [], ◌∷◌, codes, Bool, true, false, MatchBool, IsTrue, Option, Some, None, is_none, IfSome}
 use Rattle.std.specs.List.{AllByRecursion}
 use Rattle.std.proofs.lemmas.Bool.{and_from, and_parts}
 use Rattle.std.proofs.lemmas.List.Elements.{recursion_from_All, All-from_recursion}
@@ -24,7 +24,7 @@ use Rattle.cargo_toml_write.specs.WrittenPackages.{package_rows, package_way}
 use Rattle.cargo_toml_write.specs.WrittenProfiles.{profile_rows, profile_way, known_profiles, profiles_rows, profiles_way, has_no_profile}
 use Rattle.cargo_toml_write.specs.WrittenSettings.{level_way}
 use Rattle.cargo_toml_write.specs.WrittenWorkspaces.{workspace_rows, workspace_way}
-use Rattle.cargo_toml_write.specs.Writes.{Way, HasTree, Row, optional_row, given_row, required_row}
+use Rattle.cargo_toml_write.specs.Writes.{Way, HasTree, optional_row, given_row}
 use Rattle.cargo_toml_write.proofs.TotalTrees.{resolver_total, level_total, file_total, debug_total, strip_total, lto_total, badges_total, features_total, product_total, products_total, inherited_total, template_total, either_text, either_texts, either_version, either_edition, either_file, either_publish}
 use Rattle.cargo_toml_write.proofs.Trees.{RowHeld, AreHeld, AreTotal, Exact, all_held, total_row, has_table, table_has, text_total, truth_total, number_total, requirement_total, texts_total, optional_held, optional_only, required_held, required_only, given_held, given_only, entries_held, entries_only, free_exact, table_exact, map_exact, map_left, inheritable_exact, inheritable_left}
 

@@ -1,8 +1,8 @@
 -- The values that may hold free ones have a tree where these hold no float, and only there. What is told of a type here is what
 -- may hold a float; each of its other rows always has a tree, so a new key without free values is no line here.
-use Rattle.std.proofs.Common.{◌≡◌, refl, sym, ℕ, List, [], ◌∷◌, codes, Bool, true, false, ◌&&◌, MatchBool, IsTrue, Option, Some, None, is_none, IfSome}
+use Rattle.std.proofs.Common.{◌≡◌, refl, sym, ℕ, List, [], ◌∷◌, codes, Bool, true, false, MatchBool, IsTrue, Option, Some, None, is_none, IfSome}
 use Rattle.std.specs.List.{AllByRecursion}
-use Rattle.std.proofs.lemmas.Bool.{and_from}
+use Rattle.std.proofs.lemmas.Bool.{and_from, and_parts}
 use Rattle.std.proofs.lemmas.List.Elements.{recursion_from_All, All-from_recursion}
 use Rattle.toml.specs.Data.{Data}
 use Rattle.cargo_toml_dependencies.specs.Dependencies.{DetailMeaning, DependencyMeaning}
@@ -24,13 +24,9 @@ use Rattle.cargo_toml_write.specs.WrittenPackages.{package_rows, package_way}
 use Rattle.cargo_toml_write.specs.WrittenProfiles.{profile_rows, profile_way, known_profiles, profiles_rows, profiles_way, has_no_profile}
 use Rattle.cargo_toml_write.specs.WrittenSettings.{level_way}
 use Rattle.cargo_toml_write.specs.WrittenWorkspaces.{workspace_rows, workspace_way}
-use Rattle.cargo_toml_write.specs.Writes.{Way, HasTree, Row, optional_row, given_row, required_row}
+use Rattle.cargo_toml_write.specs.Writes.{Way, HasTree, optional_row, given_row}
 use Rattle.cargo_toml_write.proofs.TotalTrees.{resolver_total, level_total, file_total, debug_total, strip_total, lto_total, badges_total, features_total, product_total, products_total, inherited_total, template_total, either_text, either_texts, either_version, either_edition, either_file, either_publish}
-use Rattle.cargo_toml_write.proofs.Trees.{RowHeld, AreHeld, AreTotal, Exact, all_held, total_row, has_table, table_has, text_total, truth_total, number_total, requirement_total, texts_total, optional_held, optional_only, required_held, required_only, given_held, given_only, entries_held, entries_only, free_exact, map_exact, map_left, inheritable_exact, inheritable_left}
-
-both_parts : (a b : Bool) → IsTrue (a && b) → IsTrue a × IsTrue b
-both_parts true b h = (refl, h)
-both_parts false b h = absurd cc
+use Rattle.cargo_toml_write.proofs.Trees.{RowHeld, AreHeld, AreTotal, Exact, all_held, total_row, has_table, table_has, text_total, truth_total, number_total, requirement_total, texts_total, optional_held, optional_only, required_held, required_only, given_held, given_only, entries_held, entries_only, free_exact, table_exact, map_exact, map_left, inheritable_exact, inheritable_left}
 
 -- profiles
 free_map : Exact (map_way free_way) (EachValue HoldsNoFloat)
@@ -55,11 +51,7 @@ profile_only p h =
     }
 
 pub profile_exact : Exact profile_way ProfileHoldsNoFloat
-profile_exact = record {
-  has = λ p h. has_table profile_rows p (profile_held p h);
-  only = λ p h. profile_only p (table_has profile_rows p h);
-  floatless = table_floatless profile_rows;
-}
+profile_exact = table_exact profile_rows profile_held profile_only
 
 profiles_held : (p : ProfilesMeaning) → ProfilesHoldsNoFloat p → AreHeld (known_profiles p)
 profiles_held p h = (
@@ -107,11 +99,11 @@ none_held P (Some x) h = absurd cc
 
 profiles_left : (p : ProfilesMeaning) → IsTrue (has_no_profile p) → ProfilesHoldsNoFloat p
 profiles_left p h =
-    let custom = both_parts _ (is_nil p.custom) h in
-    let doc = both_parts _ (is_none p.doc) custom.0 in
-    let bench = both_parts _ (is_none p.bench) doc.0 in
-    let test = both_parts _ (is_none p.test) bench.0 in
-    let dev = both_parts (is_none p.release) (is_none p.dev) test.0 in
+    let custom = and_parts _ (is_nil p.custom) h in
+    let doc = and_parts _ (is_none p.doc) custom.0 in
+    let bench = and_parts _ (is_none p.bench) doc.0 in
+    let test = and_parts _ (is_none p.test) bench.0 in
+    let dev = and_parts (is_none p.release) (is_none p.dev) test.0 in
     record {
       release = none_held ProfileHoldsNoFloat p.release dev.0;
       dev = none_held ProfileHoldsNoFloat p.dev dev.1;
@@ -190,11 +182,7 @@ target_only t h = record {
 }
 
 pub target_exact : Exact target_way TargetHoldsNoFloat
-target_exact = record {
-  has = λ t h. has_table target_rows t (target_held t h);
-  only = λ t h. target_only t (table_has target_rows t h);
-  floatless = table_floatless target_rows;
-}
+target_exact = table_exact target_rows target_held target_only
 
 -- lints
 config_held : (es : List (List ℕ × Data)) → AllByRecursion (λ (e : List ℕ × Data). HoldsNoFloat e.1) es → IsTrue (members_have_no_float (members_of es))
@@ -203,7 +191,7 @@ config_held (e ∷ es) h = and_from _ _ h.0 (config_held es h.1)
 
 config_only : (es : List (List ℕ × Data)) → IsTrue (members_have_no_float (members_of es)) → AllByRecursion (λ (e : List ℕ × Data). HoldsNoFloat e.1) es
 config_only [] h = tt
-config_only (e ∷ es) h = let parts = both_parts (has_no_float e.1) _ h in (parts.0, config_only es parts.1)
+config_only (e ∷ es) h = let parts = and_parts (has_no_float e.1) _ h in (parts.0, config_only es parts.1)
 
 no_config : (es : List (List ℕ × Data)) → IsTrue (is_nil es) → AllByRecursion (λ (e : List ℕ × Data). HoldsNoFloat e.1) es
 no_config [] h = tt
@@ -218,7 +206,7 @@ lint_at false l h = table_lint_tree l h
 
 lint_config : (b : Bool) (l : LintMeaning) (d : Data) → b ≡ is_level_alone l → MatchBool b (level_way.trees l.level d) (table_lint_way.trees l d)
     → AllByRecursion (λ (e : List ℕ × Data). HoldsNoFloat e.1) l.config
-lint_config true l d is tree = no_config l.config (both_parts _ (is_nil l.config) (sym is)).1
+lint_config true l d is tree = no_config l.config (and_parts _ (is_nil l.config) (sym is)).1
 lint_config false l d is tree = config_only l.config tree.0
 
 pub lint_exact : Exact lint_way LintHoldsNoFloat
@@ -244,11 +232,7 @@ module _ {M : Type 0} {P : M → Type 0} (metadata : Way M) (e : Exact metadata 
       record { metadata = optional_only (codes "metadata") metadata e p.metadata its_metadata }
 
   pub package_exact : Exact (package_way metadata) (PackageHoldsNoFloat P)
-  package_exact = record {
-    has = λ p h. has_table (package_rows metadata) p (package_held p h);
-    only = λ p h. package_only p (table_has (package_rows metadata) p h);
-    floatless = table_floatless (package_rows metadata);
-  }
+  package_exact = table_exact (package_rows metadata) package_held package_only
 
   workspace_held : (w : WorkspaceMeaning M) → WorkspaceHoldsNoFloat P w → AreHeld (workspace_rows metadata w)
   workspace_held w h =
@@ -269,11 +253,7 @@ module _ {M : Type 0} {P : M → Type 0} (metadata : Way M) (e : Exact metadata 
       }
 
   pub workspace_exact : Exact (workspace_way metadata) (WorkspaceHoldsNoFloat P)
-  workspace_exact = record {
-    has = λ w h. has_table (workspace_rows metadata) w (workspace_held w h);
-    only = λ w h. workspace_only w (table_has (workspace_rows metadata) w h);
-    floatless = table_floatless (workspace_rows metadata);
-  }
+  workspace_exact = table_exact (workspace_rows metadata) workspace_held workspace_only
 
   manifest_held : (m : ManifestMeaning M) → ManifestHoldsNoFloat P m → AreHeld (manifest_rows metadata m)
   manifest_held m h =
@@ -315,8 +295,4 @@ module _ {M : Type 0} {P : M → Type 0} (metadata : Way M) (e : Exact metadata 
       }
 
   pub manifest_exact : Exact (manifest_way metadata) (ManifestHoldsNoFloat P)
-  manifest_exact = record {
-    has = λ m h. has_table (manifest_rows metadata) m (manifest_held m h);
-    only = λ m h. manifest_only m (table_has (manifest_rows metadata) m h);
-    floatless = table_floatless (manifest_rows metadata);
-  }
+  manifest_exact = table_exact (manifest_rows metadata) manifest_held manifest_only

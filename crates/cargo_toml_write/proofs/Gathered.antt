@@ -10,7 +10,7 @@ use Rattle.cargo_toml_write.specs.Pairs.{put_all, AreGathered}
 use Rattle.cargo_toml_write.specs.Ways.{entry_rows, map_way}
 use Rattle.cargo_toml_write.specs.Writes.{Way, IsHeld, IsWriting, AreRefused, AreWritten, required_row, put_member, WritesFrom}
 use Rattle.cargo_toml_write.proofs.Entries.{RestWrites, meant}
-use Rattle.cargo_toml_write.proofs.Rows.{then, is_put, ends}
+use Rattle.cargo_toml_write.proofs.Rows.{Steps, both, is_put, ends}
 
 put_last : (ps : List Entry) (p : Entry) (ms : Members) → put_all (ps ++ p ∷ []) ms ≡ put_member (string_bytes p.0) (view p.1) (put_all ps ms)
 put_last [] p ms = refl
@@ -31,7 +31,7 @@ module _ {X M : Type 0} (way : Way M) (meaning : X → M) where
       let next : put_all ns no_members ≡ put_member (string_bytes e.0) (view v) mid =
       ap (λ xs. put_all xs no_members) more ∙ put_last ps (k, v) no_members ∙ ap (λ bs. put_member bs (view v) mid) same in
       λ c new h.
-      so_far c new (then (required_row (string_bytes e.0) way (meaning e.1)) (entry_rows way (meant meaning rest)) None None c mid (put_all ns no_members) new
+      so_far c new (both (required_row (string_bytes e.0) way (meaning e.1) ∷ []) (entry_rows way (meant meaning rest)) None None c mid (put_all ns no_members) new
       (is_put (string_bytes e.0) way (meaning e.1) (view v) None mid (put_all ns no_members) refl tree free next) h)
 
   pub gather_end : (es rest : List (String Global × X)) (ps : List Entry) → Gathers es rest ps → rest ≡ []
@@ -57,4 +57,6 @@ module _ {X M : Type 0} (way : Way M) (meaning : X → M) where
 pub map_err : {M : Type 0} (way : Way M) (es : List (List ℕ × M)) (fault : Error)
     → AreGathered (entry_rows way es) (Err fault) → IsWriting (map_way way) es (Err fault)
 unfolding WritesFrom
-map_err way es fault refused = ends (entry_rows way) es None (Some fault) no_members no_members (Err fault) refl refl refused refl
+map_err way es fault refused =
+    let steps : Steps (entry_rows way es) None no_members (Some fault) no_members = record { goes = refused } in
+    ends (entry_rows way) es (Err fault) refl refl steps refl

@@ -1,9 +1,10 @@
 -- What was read of a tree that holds no float holds none.
 use Prim.Native.String.{String as Words}
-use Rattle.std.proofs.Common.{◌≡◌, refl, ap, subst, ℕ, List, [], ◌∷◌, codes, Bool, true, false, ◌&&◌, IsTrue, Option, Some, None, IfSome, option_map, option_and_then, Ordering, Less, Equal, Greater, nat_cmp, if◌then◌else◌}
+use Rattle.std.proofs.Common.{◌≡◌, refl, ap, subst, ℕ, List, [], ◌∷◌, codes, Bool, true, false, IsTrue, Option, Some, None, IfSome, option_map, option_and_then, Ordering, Less, Equal, Greater, nat_cmp, if◌then◌else◌}
 use Rattle.std.specs.Cmp.Lexicographic.{slice_cmp}
 use Rattle.std.specs.Ordering.{match_ordering}
 use Rattle.std.specs.List.{AllByRecursion}
+use Rattle.std.proofs.lemmas.Bool.{and_parts}
 use Rattle.std.proofs.lemmas.List.Elements.{All-from_recursion}
 use Rattle.toml.specs.Data.{Data, table, Members, no_members, member, get_member, as_table}
 use Rattle.cargo_toml_parts.specs.declared.inheritable.Inheritable.TheVariants.{Set, Inherited}
@@ -50,10 +51,6 @@ Floatless d = IsTrue (has_no_float d)
 abbrev pub MembersFloatless : Members → Type 0
 MembersFloatless ms = IsTrue (members_have_no_float ms)
 
-both_parts : (a b : Bool) → IsTrue (a && b) → IsTrue a × IsTrue b
-both_parts true b h = (refl, h)
-both_parts false b h = absurd cc
-
 chosen : (o : Ordering) (r s : Option Data) → Gives Floatless r → Gives Floatless s → Gives Floatless (match_ordering o r s r)
 chosen Less r s hr hs = hr
 chosen Equal r s hr hs = hs
@@ -62,7 +59,7 @@ chosen Greater r s hr hs = hr
 pub got_floatless : (k : List ℕ) (ms : Members) → MembersFloatless ms → Gives Floatless (get_member k ms)
 got_floatless k no_members h = gives_none
 got_floatless k (member l d ms) h =
-    let parts : Floatless d × MembersFloatless ms = both_parts _ _ h in
+    let parts : Floatless d × MembersFloatless ms = and_parts _ _ h in
     chosen (slice_cmp nat_cmp k l) (get_member k ms) (Some d) (got_floatless k ms parts.1) (gives_some {P = Floatless} d parts.0)
 
 optional_gives : {M : Type 0} {P : M → Type 0} (reads : Data → Option M) → Reads P reads → (o : Option Data) → Gives Floatless o → Gives (λ x. IfSome x P) (optional_of reads o)
@@ -91,7 +88,7 @@ one_entry {P = P} false k o rest one more = bind {Q = P} {P = Entries P} o _ one
 entries_read : {M : Type 0} {P : M → Type 0} (names : List (List ℕ)) (reads : Data → Option M) → Reads P reads → (ms : Members) → MembersFloatless ms → Gives (Entries P) (others_read names reads ms)
 entries_read {P = P} names reads r no_members h = gives_some {P = Entries P} [] tt
 entries_read {P = P} names reads r (member k d ms) h =
-    let parts : Floatless d × MembersFloatless ms = both_parts _ _ h in
+    let parts : Floatless d × MembersFloatless ms = and_parts _ _ h in
     one_entry {P = P} (is_among names k) k (reads d) (others_read names reads ms) (r d parts.0) (entries_read names reads r ms parts.1)
 
 pub others_reads : {M : Type 0} {P : M → Type 0} (names : List (List ℕ)) (reads : Data → Option M) → Reads P reads → (ms : Members) → MembersFloatless ms → Gives (EachValue P) (others_read names reads ms)

@@ -4,6 +4,7 @@ use Rattle.std.proofs.Common.{◌≡◌, ◌∙◌, refl, sym, ap, subst, Bool, 
 use Rattle.std.specs.Bool.{MatchBool}
 use Rattle.std.specs.Cmp.Lexicographic.{slice_cmp}
 use Rattle.std.specs.Result.{result_ok}
+use Rattle.std.proofs.lemmas.Iterator.Adapters.{option_map_id}
 use Rattle.std.proofs.lemmas.Map.Text.{is_eq-slice_cmp}
 use Rattle.std.proofs.lemmas.Slice.Eq.{bytes_eq-Decides}
 use Rattle.toml.specs.Data.{Data, Members, get_member, Items, no_items, item, as_str, as_bool}
@@ -89,14 +90,10 @@ optional_read way reads meaning None o again is = ap (optional_of reads) is
 optional_read way reads meaning (Some x) None again is = absurd is
 optional_read way reads meaning (Some x) (Some d) again is = ap (option_map Some) (again x refl d is)
 
-same : {X : Type 0} (x : Option X) → option_map (λ (y : X). y) x ≡ x
-same None = refl
-same (Some x) = refl
-
 pub optional_again : {X : Type 0} (key : Words) (way : Way X) (reads : Data → Option X) (x : Option X) (ms : Members) → ((y : X) → ReadsAs way reads y y) → Holds way x (get_member (codes key) ms)
     → optional_at key reads ms ≡ Some x
 optional_again {X = X} key way reads x ms again h =
-    optional_read way reads (λ (y : X). y) x _ (λ y is. again y) (holds way x _ h) ∙ ap Some (same x)
+    optional_read way reads (λ (y : X). y) x _ (λ y is. again y) (holds way x _ h) ∙ ap Some (option_map_id x)
 
 pub given_read : {X : Type 0} (b : Bool) (way : Way X) (reads : Data → Option X) (missing x : X) (o : Option Data) → ReadsAs way reads x x → (b ≡ true → x ≡ missing) → IsHeld way (unless b x) o
     → given_of reads missing o ≡ Some x

@@ -1,5 +1,5 @@
 -- Written features, with what is said of them, read as themselves.
-use Rattle.std.proofs.Common.{◌≡◌, ◌∙◌, ap, refl, sym, subst, ℕ, Bool, true, false, cond, not, ◌&&◌, List, [], ◌∷◌, ◌++◌, map, append_assoc, codes, Option, Some, None, is_none, is_eq, option_map, option_and_then, IsTrue, Ordering, Less, Equal, Greater, nat_cmp}
+use Rattle.std.proofs.Common.{◌≡◌, ◌∙◌, ap, refl, sym, subst, ℕ, Bool, true, false, cond, not, List, [], ◌∷◌, ◌++◌, map, append-nil, append_assoc, codes, Option, Some, None, is_eq, option_map, option_and_then, IsTrue, Ordering, Less, Greater, nat_cmp}
 use Rattle.std.specs.Cmp.Lexicographic.{slice_cmp}
 use Rattle.std.specs.List.{AllByRecursion}
 use Rattle.std.specs.List.Sorted.{IsStrictlySortedBy}
@@ -11,15 +11,15 @@ use Rattle.std.proofs.lemmas.Cmp.{nat_list_cmp_total}
 use Rattle.std.proofs.lemmas.List.Elements.{recursion_from_All}
 use Rattle.std.proofs.lemmas.Map.Text.{is_eq-slice_cmp}
 use Rattle.std.proofs.lemmas.Slice.Eq.{bytes_eq-Decides}
-use Rattle.toml.specs.Data.{Data, as_bool, as_str, as_table, array, table, Items, Members, no_members, member, get_member}
+use Rattle.toml.specs.Data.{Data, as_str, array, Items, Members, no_members, member}
 use Rattle.cargo_toml_dependencies.specs.Details.{Detail, is_plain, plain_detail}
-use Rattle.cargo_toml_dependencies.specs.Features.{FeaturesMeaning, apart, details_of, feature_of, features_of, list_feature, lists_of, no_features, table_feature}
+use Rattle.cargo_toml_dependencies.specs.Features.{FeaturesMeaning, apart, details_of, feature_of, features_of, lists_of, no_features, table_feature}
 use Rattle.cargo_toml_dependencies.proofs.Apart.{Ascend}
 use Rattle.cargo_toml_parts.proofs.Steps.{then}
 use Rattle.cargo_toml_parts.specs.Reads.{is_among, list_of, map_of, members_reads}
 use Rattle.cargo_toml_write.specs.Ways.{entry_rows, is_nil, map_way, text_way, texts_way}
-use Rattle.cargo_toml_write.specs.Writes.{AreWritten, IsHeld, Way, put_member}
-use Rattle.cargo_toml_write.specs.WrittenFeatures.{AreTold, FeatureTree, detail_at, feature_way, features_in, features_way, told_features, told_rows, told_way}
+use Rattle.cargo_toml_write.specs.Writes.{AreWritten, Way, put_member}
+use Rattle.cargo_toml_write.specs.WrittenFeatures.{AreTold, FeatureTree, detail_at, feature_way, features_in, features_way, told_features, told_rows}
 use Rattle.cargo_toml_write.specs.WrittenManifests.{all_features, manifest_rows, manifest_way}
 use Rattle.cargo_toml_manifest.specs.Manifests.{ManifestMeaning}
 use Rattle.cargo_toml_write.proofs.ReadAgain.{ReadsAs, flag_again, given_again, got, no_texts, optional_again, text_again, texts_again}
@@ -74,10 +74,6 @@ all_below_behind k d ms (n ∷ names) above below = (below_behind k n d ms above
 nothing_below : (names : List (List ℕ)) → AllByRecursion (MembersBelow no_members) names
 nothing_below [] = tt
 nothing_below (n ∷ names) = (tt, nothing_below names)
-
-append-nil : {X : Type 0} (xs : List X) → xs ++ [] ≡ xs
-append-nil [] = refl
-append-nil (x ∷ xs) = ap (λ ys. x ∷ ys) (append-nil xs)
 
 -- what is read of the members of a map, of which each value is read again
 module _ {X M : Type 0} (way : Way X) (reads : Data → Option M) (meaning : X → M) (again : (x : X) → ReadsAs way reads x (meaning x)) where

@@ -1,8 +1,8 @@
 -- What was read of a manifest, and of each part of it, of a tree that holds no float holds none.
-use Rattle.std.proofs.Common.{◌≡◌, refl, sym, pos, ℕ, List, [], Bool, true, false, Option, Some, None, IfSome, option_map, if◌then◌else◌}
+use Rattle.std.proofs.Common.{◌≡◌, refl, sym, [], Bool, true, false, Option, Some, None, IfSome, option_map, if◌then◌else◌}
 use Rattle.std.specs.Result.{result_ok}
 use Rattle.semver.specs.Parse.{req_of}
-use Rattle.toml.specs.Data.{Data, string, table, Members, as_str, as_bool}
+use Rattle.toml.specs.Data.{Data, string, table, Members}
 use Rattle.cargo_toml_dependencies.specs.Dependencies.{InheritedMeaning, DetailMeaning, DependencyMeaning, detail_keys, detail_of_table, strict_of, inherited_or, dependency_of}
 use Rattle.cargo_toml_dependencies.specs.Dependencies as kind
 use Rattle.cargo_toml_dependencies.specs.Targets.{target_of}
@@ -13,15 +13,10 @@ use Rattle.cargo_toml_package.specs.Packages.{PackageMeaning, package_of_table, 
 use Rattle.cargo_toml_parts.specs.declared.inheritable.Inheritable.TheVariants.{Set}
 use Rattle.cargo_toml_parts.specs.Floats.{has_no_float, without_floats}
 use Rattle.cargo_toml_parts.specs.Inherits.{inheritable_of}
-use Rattle.cargo_toml_parts.specs.Keys.{inherited_at, inherited_text_at, inherited_list_at}
-use Rattle.cargo_toml_parts.specs.Numbers.{u16_of, i8_of}
-use Rattle.cargo_toml_parts.specs.Reads.{array_of, map_of, required_at, optional_at, text_at, given_at, flag_at, list_at, map_at, others_read}
-use Rattle.cargo_toml_parts.specs.Versions.{requirement_of, version_of}
+use Rattle.cargo_toml_parts.specs.Keys.{inherited_at}
+use Rattle.cargo_toml_parts.specs.Reads.{array_of, map_of, optional_at, given_at, map_at, others_read}
 use Rattle.cargo_toml_dependencies.specs.Features.{features_of, no_features}
-use Rattle.cargo_toml_package.specs.Templates.{template_reads}
-use Rattle.cargo_toml_settings.specs.declared.settings.Edition.TheVariants.{E2015}
-use Rattle.cargo_toml_settings.specs.ProfileSettings.{debug_of, strip_of, lto_of}
-use Rattle.cargo_toml_settings.specs.Settings.{everywhere, flag, edition_reads, resolver_reads, file_of, publish_of}
+use Rattle.cargo_toml_settings.specs.Settings.{everywhere}
 use Rattle.cargo_toml_tables.specs.Lints.{LintMeaning, level_of, level_alone, lint_keys, table_lint, lint_of}
 use Rattle.cargo_toml_tables.specs.Profiles.{ProfileMeaning, profile_keys, profile_of, profile_reads, profiles_of}
 use Rattle.cargo_toml_write.specs.Floatless.{free_floatless}

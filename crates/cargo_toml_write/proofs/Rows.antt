@@ -1,5 +1,6 @@
 -- Rows that are written one after the other.
 use Rattle.std.proofs.Common.{◌≡◌, ◌⊎◌, inl, inr, sym, ◌∙◌, refl, subst, false, is_some, option_map, ℕ, IsTrue, List, [], ◌∷◌, ◌++◌, Result, Ok, Err, Option, Some, None}
+use Rattle.std.proofs.lemmas.Iterator.Adapters.{option_map_id}
 use Rattle.toml.specs.Data.{Data, Members, no_members}
 use Rattle.toml.specs.declared.value.Value.{Value}
 use Rattle.cargo_toml_parts.specs.declared.error.Error.{Error, Memory}
@@ -38,15 +39,27 @@ both rs qs None (Some d) None old mid new first rest = absurd cc
 both rs qs None (Some d) (Some e) old mid new first rest =
     first_stops rs qs e (subst (λ (x : Option Error). WritesFrom rs None old x mid) (sym rest) first)
 
--- a row, and then others; and no more rows
-pub then : (row : Row) (rows : List Row) (a b c : Option Error) (old mid new : Members)
-    → WritesFrom (row ∷ []) a old b mid → WritesFrom rows b mid c new → WritesFrom (row ∷ rows) a old c new
-then row rows a b c old mid new first rest = both (row ∷ []) rows a b c old mid new first rest
+-- the same as a record, of which a chain of rows is made without its arguments
+pub record Steps (rows : List Row) (a : Option Error) (old : Members) (b : Option Error) (new : Members) : Type 0 where
+  pub goes : WritesFrom rows a old b new
 
-pub done : (a : Option Error) (ms : Members) → WritesFrom [] a ms a ms
+infixr 20 ◌then◌
+infixr 20 ◌then_same◌
+-- a row, and then others; and no more rows
+pub ◌then◌ : {row : Row} {rows : List Row} {a b c : Option Error} {old mid new : Members} → WritesFrom (row ∷ []) a old b mid → Steps rows b mid c new → Steps (row ∷ rows) a old c new
+first then rest = record { goes = both _ _ _ _ _ _ _ _ first rest.goes }
+
+nothing_more : (a : Option Error) (ms : Members) → WritesFrom [] a ms a ms
 unfolding WritesFrom
-done None ms = refl
-done (Some e) ms = refl
+nothing_more None ms = refl
+nothing_more (Some e) ms = refl
+
+pub done : {a : Option Error} {ms : Members} → Steps [] a ms a ms
+done = record { goes = nothing_more _ _ }
+
+-- the rows of a map, and then others
+pub entries_then : (rs : List Row) {rows : List Row} {a b c : Option Error} {old mid new : Members} → WritesFrom rs a old b mid → Steps rows b mid c new → Steps (rs ++ rows) a old c new
+entries_then rs first rest = record { goes = both rs _ _ _ _ _ _ _ first rest.goes }
 
 -- a tree that was put at a key
 pub is_put : {X : Type 0} (key : List ℕ) (way : Way X) (x : X) (d : Data) (fault : Option Error) (old new : Members)
@@ -75,19 +88,15 @@ from_start rows x (Some d) ms (Ok v) goes (no_fault, is) = absurd cc
 from_start rows x fault ms (Err e) goes end =
     refuses rows x e (subst (λ (f : Option Error). WritesFrom (rows x) None no_members f ms) end goes)
 
-pub ends : {X : Type 0} (rows : X → List Row) (x : X) (a b : Option Error) (old new : Members) (answer : Result Value Error)
-    → a ≡ None → old ≡ no_members → WritesFrom (rows x) a old b new → WritingEnds b new answer → IsWriting (table_way rows) x answer
-ends rows x a b old new answer no_fault no_key goes end = from_start rows x b new answer (rw (no_fault, no_key) at goes) end
+pub ends : {X : Type 0} (rows : X → List Row) (x : X) (answer : Result Value Error) {a b : Option Error} {old new : Members}
+    → a ≡ None → old ≡ no_members → Steps (rows x) a old b new → WritingEnds b new answer → IsWriting (table_way rows) x answer
+ends rows x answer {b = b} {new = new} no_fault no_key steps end = from_start rows x b new answer (rw (no_fault, no_key) at steps.goes) end
 
 -- a row of a value that means itself
-plain-map : {X : Type 0} (x : Option X) → option_map (λ (y : X). y) x ≡ x
-plain-map None = refl
-plain-map (Some x) = refl
-
-pub then_same : {X : Type 0} (way : Way X) (key : List ℕ) (x : Option X) (rows : List Row) (a b c : Option Error) (old mid new : Members)
-    → WritesFrom (optional_row key way (option_map (λ (y : X). y) x) ∷ []) a old b mid → WritesFrom rows b mid c new → WritesFrom (optional_row key way x ∷ rows) a old c new
-then_same {X = X} way key x rows a b c old mid new first rest =
-    then (optional_row key way x) rows a b c old mid new (subst (λ (y : Option X). WritesFrom (optional_row key way y ∷ []) a old b mid) (plain-map x) first) rest
+pub ◌then_same◌ : {X : Type 0} {way : Way X} {key : List ℕ} {x : Option X} {rows : List Row} {a b c : Option Error} {old mid new : Members}
+    → WritesFrom (optional_row key way (option_map (λ (y : X). y) x) ∷ []) a old b mid → Steps rows b mid c new → Steps (optional_row key way x ∷ rows) a old c new
+◌then_same◌ {X = X} {way = way} {key = key} {x = x} {a = a} {b = b} {old = old} {mid = mid} first rest =
+    subst (λ (y : Option X). WritesFrom (optional_row key way y ∷ []) a old b mid) (option_map_id x) first then rest
 
 -- a row of a value that is told in another way
 pub given_as : {X : Type 0} (key : List ℕ) (way : Way X) (x y : X) (a b : Option Error) (old new : Members)

@@ -1,5 +1,5 @@
 -- The rows of a value that is told in full, one after the other: those at which nothing stands, and those of which the tree is known.
-use Rattle.std.proofs.Common.{refl, ℕ, List, [], ◌∷◌, IsTrue, Option, Some, None}
+use Rattle.std.proofs.Common.{refl, ℕ, List, [], ◌∷◌, IsTrue, Some, None}
 use Rattle.toml.specs.Data.{Data, string, array, Items, no_items, item, Members}
 use Rattle.cargo_toml_parts.specs.Floats.{has_no_float, items_have_no_float}
 use Rattle.std.proofs.lemmas.Bool.{and_from}

@@ -1,5 +1,5 @@
 -- Features that were read: each detail is of one of them, and says something.
-use Rattle.std.proofs.Common.{◌≡◌, refl, sym, ℕ, Bool, true, false, cond, not, List, [], ◌∷◌, codes, if◌then◌else◌, IsTrue, Option, Some, None}
+use Rattle.std.proofs.Common.{◌≡◌, refl, ℕ, Bool, true, false, cond, not, List, [], ◌∷◌, codes, if◌then◌else◌, IsTrue, Option, Some, None}
 use Rattle.std.specs.List.{AllByRecursion}
 use Rattle.std.specs.Map.{keys_of}
 use Rattle.std.specs.Str.{bytes_eq}
@@ -7,17 +7,12 @@ use Rattle.std.proofs.lemmas.Bool.{false≢true}
 use Rattle.std.proofs.lemmas.List.Elements.{All-from_recursion}
 use Rattle.std.proofs.lemmas.Slice.Eq.{bytes_eq-Decides}
 use Rattle.toml.specs.Data.{Data, Members, get_member, table}
-use Rattle.cargo_toml_dependencies.specs.Dependencies.{dependency_of}
 use Rattle.cargo_toml_dependencies.specs.Details.{Detail, is_plain}
-use Rattle.cargo_toml_dependencies.specs.Features.{FeaturesMeaning, apart, details_of, feature_of, features_of, lists_of, no_features}
-use Rattle.cargo_toml_manifest.specs.Manifests.{ManifestMeaning, badges_reads, manifest_of, manifest_reads, no_badges, no_profiles, product_reads, profiles_reads, target_reads}
+use Rattle.cargo_toml_dependencies.specs.Features.{apart, details_of, feature_of, features_of, lists_of, no_features}
+use Rattle.cargo_toml_manifest.specs.Manifests.{ManifestMeaning, manifest_of, manifest_reads}
 use Rattle.cargo_toml_manifest.specs.Texts.{any_tree, document_reads}
-use Rattle.cargo_toml_workspace.specs.Workspaces.{workspace_reads}
-use Rattle.cargo_toml_package.specs.Packages.{package_reads}
 use Rattle.cargo_toml_parts.specs.Floats.{has_no_float, without_floats}
-use Rattle.cargo_toml_parts.specs.Keys.{inherited_at}
-use Rattle.cargo_toml_parts.specs.Reads.{array_of, given_at, given_of, is_among, map_at, map_of, optional_at}
-use Rattle.cargo_toml_tables.specs.Lints.{lint_of}
+use Rattle.cargo_toml_parts.specs.Reads.{given_at, given_of, is_among, map_of}
 use Rattle.cargo_toml_write.specs.WrittenFeatures.{AreTold}
 use Rattle.cargo_toml_write.specs.WrittenManifests.{all_features}
 use Rattle.cargo_toml_write.proofs.Gives.{Gives, anything, bind, gives_none, gives_some, mapped, skip}

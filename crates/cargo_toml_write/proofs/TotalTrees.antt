@@ -2,10 +2,9 @@
 use Rattle.std.proofs.Common.{refl, ℕ, List, Option, Some, None}
 use Rattle.toml.specs.Data.{Data, boolean}
 use Rattle.cargo_toml_dependencies.specs.Details.{Detail}
-use Rattle.cargo_toml_settings.specs.declared.profile_settings.DebugSetting.TheVariants as debug
 use Rattle.cargo_toml_settings.specs.Settings.{Registries, edition_text, resolver_text, everywhere, among}
 use Rattle.cargo_toml_write.specs.Floatless.{file_floatless, publish_floatless, debug_floatless, strip_floatless, lto_floatless, feature_floatless, table_floatless}
-use Rattle.cargo_toml_write.specs.Ways.{text_way, version_way, texts_way, inheritable_way, list_way, map_way, entry_rows}
+use Rattle.cargo_toml_write.specs.Ways.{text_way, version_way, texts_way, inheritable_way, list_way, entry_rows}
 use Rattle.cargo_toml_write.specs.WrittenBadges.{badge_rows, badge_way, has_no_badge, maintenance_rows, maintenance_way, badges_rows, badges_way}
 use Rattle.cargo_toml_write.specs.WrittenDependencies.{inherited_rows, inherited_way}
 use Rattle.cargo_toml_write.specs.WrittenFeatures.{FeatureTree, feature_way, features_way, told_features, told_rows, told_way}

@@ -1,5 +1,5 @@
 -- Which values have a tree: the ways of which all ways are made.
-use Rattle.std.proofs.Common.{◌≡◌, inl, inr, refl, ℕ, pos, List, [], ◌∷◌, ◌++◌, Bool, true, false, IsTrue, Option, Some, None, IfSome, Result, Ok, Err, IfErr}
+use Rattle.std.proofs.Common.{◌≡◌, ◌↔◌, inl, inr, refl, ℕ, pos, List, [], ◌∷◌, ◌++◌, Bool, true, false, IsTrue, Option, Some, None, IfSome, Result, Ok, Err, IfErr}
 use Rattle.std.specs.List.{AllByRecursion}
 use Rattle.std.proofs.lemmas.List.Elements.{recursion_from_All, All-from_recursion}
 use Rattle.semver.specs.Identifiers.{parts_text}
@@ -140,6 +140,16 @@ free_exact = record {
   floatless = free_floatless;
 }
 
+pub iff : {X : Type 0} {way : Way X} {P : X → Type 0} → Exact way P → (x : X) → HasTree way x ↔ P x
+iff e x = (e.only x, e.has x)
+
+pub table_exact : {X : Type 0} {P : X → Type 0} (rows : X → List Row) → ((x : X) → P x → AreHeld (rows x)) → ((x : X) → AreHeld (rows x) → P x) → Exact (table_way rows) P
+table_exact rows held only = record {
+  has = λ x h. has_table rows x (held x h);
+  only = λ x h. only x (table_has rows x h);
+  floatless = table_floatless rows;
+}
+
 pub itself_exact : {X : Type 0} (way : Way X) → IsFloatless way → Exact way (HasTree way)
 itself_exact way floatless = record { has = λ x h. h; only = λ x h. h; floatless = floatless }
 
@@ -235,3 +245,9 @@ pub memory_alone : {X : Type 0} (way : Way X) (x : X) (r : Result Value Error) �
 memory_alone way x (Ok v) written tree = tt
 memory_alone way x (Err e) (inl memory) tree = memory
 memory_alone way x (Err e) (inr none) tree = absurd (none.0 tree.0 tree.1)
+
+pub total_alone : {X : Type 0} {way : Way X} → Total way → (x : X) (r : Result Value Error) → IsWriting way x r → IfErr r (λ e. e ≡ Memory)
+total_alone {way = way} t x r written = memory_alone way x r written (t.tree x)
+
+pub exact_alone : {X : Type 0} {way : Way X} {P : X → Type 0} → Exact way P → (x : X) (r : Result Value Error) → IsWriting way x r → P x → IfErr r (λ e. e ≡ Memory)
+exact_alone {way = way} e x r written h = memory_alone way x r written (e.has x h)

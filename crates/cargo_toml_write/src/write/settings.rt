@@ -47,13 +47,7 @@ impl ToValue for Edition {
         ensures read_again { IsReadAgain edition_reads self.now result }
         ensures memory { IfErr result (λ e. e ≡ Error.Memory) }
     {
-        let text = match self {
-            Edition::E2015 => "2015",
-            Edition::E2018 => "2018",
-            Edition::E2021 => "2021",
-            Edition::E2024 => "2024",
-        };
-        Ok(Value::string(alloc, text)?)
+        Ok(Value::String(self.to_string(alloc)?))
     }
 }
 
@@ -71,12 +65,7 @@ impl ToValue for Resolver {
         ensures read_again { IsReadAgain resolver_reads self.now result }
         ensures memory { IfErr result (λ e. e ≡ Error.Memory) }
     {
-        let text = match self {
-            Resolver::V1 => "1",
-            Resolver::V2 => "2",
-            Resolver::V3 => "3",
-        };
-        Ok(Value::string(alloc, text)?)
+        Ok(Value::String(self.to_string(alloc)?))
     }
 }
 

@@ -1,11 +1,12 @@
 use Rattle.cargo_toml_write.proofs.FreeTrees.{lint_exact, profile_exact, profiles_exact}
+use Rattle.cargo_toml_write.proofs.Trees.{iff}
 use Rattle.cargo_toml_write.proofs.laws.tables_without_floats.Goals as goal
 
 pub returns-clause-profile : goal.returns-clause-profile
-returns-clause-profile c x = (profile_exact.only x, profile_exact.has x)
+returns-clause-profile c = iff profile_exact
 
 pub returns-clause-profiles : goal.returns-clause-profiles
-returns-clause-profiles c x = (profiles_exact.only x, profiles_exact.has x)
+returns-clause-profiles c = iff profiles_exact
 
 pub returns-clause-lint : goal.returns-clause-lint
-returns-clause-lint c x = (lint_exact.only x, lint_exact.has x)
+returns-clause-lint c = iff lint_exact

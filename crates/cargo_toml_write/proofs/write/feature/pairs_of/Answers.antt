@@ -1,14 +1,11 @@
 use Rattle.std.proofs.Common.{◌≡◌, ◌∙◌, ap, sym, rules, subst, ℕ, List, map, Option, Err, option_copied, option_map, string_bytes}
 use Rattle.std.proofs.lemmas.Result.{err_from_is_err_and}
-use Rattle.toml.specs.Data.{no_members}
 use Rattle.toml.specs.View.{view}
 use Rattle.cargo_toml_dependencies.specs.Details.{Detail, detail_of}
 use Rattle.cargo_toml_parts.specs.Reads.{map_meaning}
 use Rattle.cargo_toml_write.specs.Floatless.{feature_floatless}
-use Rattle.cargo_toml_write.specs.Pairs.{AreGathered, put_all}
-use Rattle.cargo_toml_write.specs.Ways.{entry_rows}
 use Rattle.cargo_toml_write.specs.WrittenFeatures.{detail_at, feature_way}
-use Rattle.cargo_toml_write.specs.Writes.{AreWritten, IsWriting}
+use Rattle.cargo_toml_write.specs.Writes.{IsWriting}
 use Rattle.cargo_toml_write.proofs.Gathered.{Gathers, gather_start, gather_step, gather_end, gather_err}
 use Rattle.cargo_toml_write.proofs.GatheredFeatures.{by_name, detail_at-map, told-by_name, with_detail}
 use Rattle.cargo_toml_write.proofs.write.feature.pairs_of.Goals as goal

@@ -1,4 +1,4 @@
-use Rattle.std.proofs.Common.{◌≡◌, ◌≤◌, [], length, map, string_bytes, sym, subst, arith, rules}
+use Rattle.std.proofs.Common.{◌≡◌, ◌≤◌, length, map, string_bytes, sym, subst, arith, rules}
 use Rattle.std.proofs.lemmas.List.{nil_from_length}
 use Rattle.cargo_toml_graph.specs.Action.{item_of}
 use Rattle.cargo_toml_features.specs.Marks.{detail_in}
@@ -8,6 +8,19 @@ use Rattle.cargo_toml_full.specs.ReadFeature.{IsReadFeature, joined_in}
 use Rattle.cargo_toml_full.proofs.Placed.{filled_held, filled_in_order, last_held, last_in_order}
 use Rattle.cargo_toml_full.proofs.ReadOne.{noted_none}
 use Rattle.cargo_toml_full.proofs.read.read_listing.Goals as goal
+
+-- among others
+pub read_list-requires : goal.read_list-requires
+read_list-requires c = c.empty_feature-feature.ensures
+
+pub returns-then-place-len-clause-in_order : goal.returns-then-place-len-clause-in_order
+returns-then-place-len-clause-in_order c = c.in_ok-put_feature.ensures.in_order
+
+pub returns-then-place-len-clause-added : goal.returns-then-place-len-clause-added
+returns-then-place-len-clause-added c = (c.read_list.new.feature, c.in_ok-read_list.ensures.listed, c.in_ok-put_feature.ensures.held)
+
+pub returns-then-place-len-clause-noted : goal.returns-then-place-len-clause-noted
+returns-then-place-len-clause-noted c = c.in_ok-read_list.ensures.noted
 
 -- an empty list
 pub returns-then-is_empty-clause-in_order : goal.returns-then-is_empty-clause-in_order
@@ -32,8 +45,7 @@ returns-then-is_empty-clause-added c =
     let past : length vs ≤ place = omega (arith, test, len) in
     let v = c.empty_feature.result in
     let empty : length c.args.listing.actions.now ≡ 0 = search rules in
-    let none = nil_from_length _ empty in
-    (
+    let none = nil_from_length _ empty in (
       v,
       subst (λ ts. IsReadFeature name (detail_in c.args.listing.detail) (map item_of (map string_bytes ts)) v) (sym none) c.empty_feature.ensures,
       last_held vs place v c.push.new.self.items name c.requires bound past c.empty_feature.ensures.fresh.key c.in_ok-push.ensures.items,
@@ -67,3 +79,6 @@ returns-clause-added c =
     let past : length vs ≤ place = omega (arith, test, len) in
     let listed = c.in_ok-read_list-2.ensures.listed in
     (c.read_list-2.new.feature, listed, filled_held vs place c.empty_feature.result c.push.new.self.items name c.requires bound past c.in_ok-push.ensures.items c.read_list-2.new.feature listed.fresh.key)
+
+pub returns-clause-noted : goal.returns-clause-noted
+returns-clause-noted c = c.in_ok-read_list-2.ensures.noted

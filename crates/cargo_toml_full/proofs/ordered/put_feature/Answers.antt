@@ -1,23 +1,6 @@
-use Rattle.std.proofs.Common.{sym, subst}
-use Rattle.cargo_toml_features.specs.InOrder.{AreInOrder, feature_at}
+use Rattle.cargo_toml_features.specs.InOrder.{feature_at}
 use Rattle.cargo_toml_full.proofs.Placed.{feature_missing, free_place, place_free, put_new, put_old, taken_place}
 use Rattle.cargo_toml_full.proofs.ordered.put_feature.Goals as goal
-
-pub lower_bound-place-requires : goal.lower_bound-place-requires
-lower_bound-place-requires c = subst AreInOrder (sym c.as_slice.ensures.value) c.requires
-
-pub insert_at-requires-clause-in_order : goal.insert_at-requires-clause-in_order
-insert_at-requires-clause-in_order c = c.requires
-
-pub insert_at-requires-clause-place : goal.insert_at-requires-clause-place
-insert_at-requires-clause-place c =
-    free_place c.args.features.now.items c.as_slice.result.now c.as_slice-2.result.now c.lower_bound-place.result c.args.feature.key.now c.as_slice.ensures.value c.as_slice-2.ensures.value c.lower_bound-place.ensures (c.stands_at.ensures.no c.if-not-stands_at.true)
-
-pub returns-in_ok-insert_at-clause-in_order : goal.returns-in_ok-insert_at-clause-in_order
-returns-in_ok-insert_at-clause-in_order c = c.in_ok-insert_at.ensures.in_order
-
-pub returns-else-not-stands_at-clause-in_order : goal.returns-else-not-stands_at-clause-in_order
-returns-else-not-stands_at-clause-in_order c = c.requires
 
 pub returns-in_ok-insert_at-clause-held : goal.returns-in_ok-insert_at-clause-held
 returns-in_ok-insert_at-clause-held c = λ f.

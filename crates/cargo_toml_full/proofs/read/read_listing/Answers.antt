@@ -9,19 +9,6 @@ use Rattle.cargo_toml_full.proofs.Placed.{filled_held, filled_in_order, last_hel
 use Rattle.cargo_toml_full.proofs.ReadOne.{noted_none}
 use Rattle.cargo_toml_full.proofs.read.read_listing.Goals as goal
 
--- among others
-pub read_list-requires : goal.read_list-requires
-read_list-requires c = c.empty_feature-feature.ensures
-
-pub returns-then-place-len-clause-in_order : goal.returns-then-place-len-clause-in_order
-returns-then-place-len-clause-in_order c = c.in_ok-put_feature.ensures.in_order
-
-pub returns-then-place-len-clause-added : goal.returns-then-place-len-clause-added
-returns-then-place-len-clause-added c = (c.read_list.new.feature, c.in_ok-read_list.ensures.listed, c.in_ok-put_feature.ensures.held)
-
-pub returns-then-place-len-clause-noted : goal.returns-then-place-len-clause-noted
-returns-then-place-len-clause-noted c = c.in_ok-read_list.ensures.noted
-
 -- an empty list
 pub returns-then-is_empty-clause-in_order : goal.returns-then-is_empty-clause-in_order
 returns-then-is_empty-clause-in_order c =
@@ -79,6 +66,3 @@ returns-clause-added c =
     let past : length vs ≤ place = omega (arith, test, len) in
     let listed = c.in_ok-read_list-2.ensures.listed in
     (c.read_list-2.new.feature, listed, filled_held vs place c.empty_feature.result c.push.new.self.items name c.requires bound past c.in_ok-push.ensures.items c.read_list-2.new.feature listed.fresh.key)
-
-pub returns-clause-noted : goal.returns-clause-noted
-returns-clause-noted c = c.in_ok-read_list-2.ensures.noted

@@ -1,4 +1,4 @@
-use Rattle.std.proofs.Common.{Bor}
+use Rattle.std.proofs.Common.{rules, Bor}
 use Rattle.std.proofs.lemmas.Iterator.{YieldsList-from_slice}
 use Rattle.std.proofs.lemmas.Iterator.Adapters.{fact_from_collect}
 use Rattle.std.proofs.lemmas.Iterator.Consumers.{YieldsList-from_copied}
@@ -12,4 +12,4 @@ use Rattle.cargo_toml_full.proofs.sets.collected.Goals as goal
 pub returns : goal.returns
 returns c =
     texts_made c.args.texts.now c.collect.result
-    (fact_from_collect (sorted.IsFromIterResult (λ (x y : Bor Text). slice_cmp nat_cmp x.now y.now)) c.collect.result c.collect.ensures.ran (YieldsList-from_copied (YieldsList-from_slice c.args.texts.now cc)))
+    (fact_from_collect (sorted.IsFromIterResult (λ (x y : Bor Text). slice_cmp nat_cmp x.now y.now)) c.collect.result c.collect.ensures.ran (YieldsList-from_copied (YieldsList-from_slice c.args.texts.now (search rules))))

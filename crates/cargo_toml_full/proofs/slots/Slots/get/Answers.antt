@@ -3,17 +3,10 @@ use Rattle.std.proofs.lemmas.List.{length-map}
 use Rattle.std.specs.Option.{option_copied}
 use Rattle.cargo_toml_graph.specs.Action.{Text}
 use Rattle.cargo_toml_graph.specs.Reach.{Among}
-use Rattle.cargo_toml_full.specs.Ascending.{Ascend}
 use Rattle.cargo_toml_full.specs.Slots.{held_in, names_in}
 use Rattle.cargo_toml_full.proofs.HeldValues.{held_at, held_missing}
 use Rattle.cargo_toml_features.specs.Places.{nth_text}
 use Rattle.cargo_toml_full.proofs.slots.Slots.get.Goals as goal
-
-pub place_of-requires : goal.place_of-requires
-place_of-requires g c = subst (λ ts. Ascend (map (λ (n : Bor Text). n.now) ts)) (sym c.as_slice.ensures.value) c.args.self.now.ascend
-
-pub index-requires : goal.index-requires
-index-requires g c = subst (λ k. c.in_ok-place.place < k) (sym c.args.self.now.count ∙ sym c.args.self.now.values.ok.0) (subst (λ ts. c.in_ok-place.place < length ts) c.as_slice.ensures.value c.in_ok-place.ensures.found.0)
 
 pub returns-in_err-place : goal.returns-in_err-place
 returns-in_err-place g c =

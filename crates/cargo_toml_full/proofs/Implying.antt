@@ -139,10 +139,10 @@ pub implied_none : (vs : List Feature) → ImpliesAll (is_one_of []) vs vs
 implied_none vs = record { at = λ q. stays false q (feature_at vs q) (λ y. absurd (false≢true y)) }
 
 -- one more key of a list
-pub implied_one_more : (ks : List (Bor Text)) (i : ℕ) (k : Bor Text) (started a b : List Feature) → i < length ks → k ≡ get_or ks i k → ImpliesAll (is_one_of (map (λ t. t.now) (take i ks))) started a
+pub implied_one_more : (ks : List (Bor Text)) (i : ℕ) (k d : Bor Text) (started a b : List Feature) → i < length ks → k ≡ get_or ks i d → ImpliesAll (is_one_of (map (λ t. t.now) (take i ks))) started a
     → ImpliesAll (λ q. bytes_eq q k.now) a b → ImpliesAll (is_one_of (map (λ t. t.now) (take (i + 1) ks))) started b
-implied_one_more ks i k started a b below is h more = implied_more (is_one_of (map (λ t. t.now) (take i ks))) (λ q. bytes_eq q k.now) (is_one_of (map (λ t. t.now) (take (i + 1) ks))) started a b
-    (λ q. ap (λ ts. is_one_of (map (λ (t : Bor Text). t.now) ts) q) (take_more ks i k below ∙ ap (λ x. take i ks ++ x ∷ []) (sym is)) ∙ ap (λ ts. is_one_of ts q) (map_push (λ (t : Bor Text). t.now) (take i ks) k)
+implied_one_more ks i k d started a b below is h more = implied_more (is_one_of (map (λ t. t.now) (take i ks))) (λ q. bytes_eq q k.now) (is_one_of (map (λ t. t.now) (take (i + 1) ks))) started a b
+    (λ q. ap (λ ts. is_one_of (map (λ (t : Bor Text). t.now) ts) q) (take_more ks i d below ∙ ap (λ x. take i ks ++ x ∷ []) (sym is)) ∙ ap (λ ts. is_one_of ts q) (map_push (λ (t : Bor Text). t.now) (take i ks) k)
     ∙ list_any-append (bytes_eq q) (map (λ t. t.now) (take i ks)) (k.now ∷ []) ∙ ap (λ b. is_one_of (map (λ t. t.now) (take i ks)) q || b) (or-false _)) h more
 
 -- a feature that was there comes to those that have the implied ones

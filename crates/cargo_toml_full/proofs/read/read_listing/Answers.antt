@@ -1,4 +1,4 @@
-use Rattle.std.proofs.Common.{◌≡◌, ◌≤◌, [], length, map, string_bytes, sym, subst, arith, rules}
+use Rattle.std.proofs.Common.{◌≡◌, ◌≤◌, length, map, string_bytes, sym, subst, arith, rules}
 use Rattle.std.proofs.lemmas.List.{nil_from_length}
 use Rattle.cargo_toml_graph.specs.Action.{item_of}
 use Rattle.cargo_toml_features.specs.Marks.{detail_in}
@@ -32,8 +32,7 @@ returns-then-is_empty-clause-added c =
     let past : length vs ≤ place = omega (arith, test, len) in
     let v = c.empty_feature.result in
     let empty : length c.args.listing.actions.now ≡ 0 = search rules in
-    let none = nil_from_length _ empty in
-    (
+    let none = nil_from_length _ empty in (
       v,
       subst (λ ts. IsReadFeature name (detail_in c.args.listing.detail) (map item_of (map string_bytes ts)) v) (sym none) c.empty_feature.ensures,
       last_held vs place v c.push.new.self.items name c.requires bound past c.empty_feature.ensures.fresh.key c.in_ok-push.ensures.items,

@@ -1,4 +1,4 @@
-use Rattle.std.proofs.Common.{◌≡◌, ◌∙◌, List, ℕ, [], ap, length, rules, string_bytes, subst, sym, drop}
+use Rattle.std.proofs.Common.{◌≡◌, ◌∙◌, List, ℕ, ap, length, rules, string_bytes, subst, sym, drop}
 use Rattle.std.specs.Io.KnownBytes.{Consumes}
 use Rattle.cargo_toml_program.proofs.print_features.Goals as goal
 

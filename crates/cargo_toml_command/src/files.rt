@@ -1,6 +1,7 @@
 //! What the program writes of a manifest in a file, completed from the files around it.
-ghost use Rattle.std.specs.Prelude.{IfErr, IfOk, OnOk, string_bytes};
+ghost use Rattle.std.specs.Prelude.{IfErr, IfOk, IsSome, OnOk, string_bytes};
 ghost use Rattle.std.specs.Io.KnownBytes.{Appends, Keeps};
+ghost use Rattle.std.specs.Path.{path_parent};
 ghost use Rattle.cargo_toml_command.specs.Printed.{IsOfCompleted};
 ghost use Rattle.cargo_toml_graph.specs.Action.{Text};
 ghost use Rattle.cargo_toml_print.specs.Printing.{IsOfManifest};
@@ -25,6 +26,7 @@ pub fn print_completed<R: Files + AllocGlobal, W: Write>(
 ) -> Result<(), Error>
     ensures printed { OnOk result ((text : Text) × IsOfCompleted text
         × Appends (W.contents output.old) (W.contents output.new) text) }
+    ensures named { OnOk result (IsSome (path_parent file.now)) }
     ensures unwritten { IfErr result (λ e. IsOfManifest e
         → Keeps (W.contents output.old) (W.contents output.new)) }
 {
@@ -41,7 +43,8 @@ fn completed_lines<R: Files + AllocGlobal>(
     file: &str,
     manifest: &mut Manifest,
 ) -> Result<String, Error>
-    ensures { IfOk result (λ text. IsOfCompleted (string_bytes text)) }
+    ensures lines { IfOk result (λ text. IsOfCompleted (string_bytes text)) }
+    ensures named { OnOk result (IsSome (path_parent file.now)) }
 {
     manifest.complete_from_path(rt, rt.alloc(), file)?;
     Ok(completion_lines(rt.alloc(), manifest)?)

@@ -2,9 +2,10 @@
 //! what `features` prints. It hands on what the program needs beside.
 #![tactic(auto)]
 
-ghost use Rattle.std.specs.Prelude.{◌≤◌, IfErr};
+ghost use Rattle.std.specs.Prelude.{◌≤◌, IfErr, OnOk};
 ghost use Rattle.std.specs.Io.KnownBytes.{Keeps};
 ghost use Rattle.cargo_toml_print.specs.Printing.{IsOfManifest};
+ghost use Rattle.cargo_toml_program.specs.Printed.{ArePrinted};
 
 pub use cargo_toml_command::{Command, Outcome, command, print_complete, print_completed};
 use cargo_toml_command::{Printer, text_of};
@@ -29,6 +30,8 @@ pub fn print_features<R: Read, W: Write>(
     max_items: usize,
 ) -> Result<(), Error>
     requires { 1 ≤ max_items }
+    ensures printed { OnOk result (ArePrinted max_items (R.remaining input.old)
+        (R.remaining input.new) (W.contents output.old) (W.contents output.new)) }
     ensures unwritten { IfErr result
         (λ e. IsOfManifest e → Keeps (W.contents output.old) (W.contents output.new)) }
 {
@@ -48,6 +51,10 @@ struct FeaturePrinter {
 }
 
 impl Printer for FeaturePrinter {
+    ghost use Rattle.cargo_toml_program.specs.Printed.{IsFeatureText};
+
+    ghost may_print = { λ p. IsFeatureText p.max_items };
+
     fn text(&self, alloc: Global, manifest: &Manifest) -> Result<String, Error> {
         let resolver = Resolver::new().with_max_items(self.max_items);
         feature_lines(alloc, &resolver.parse(alloc, manifest)?)

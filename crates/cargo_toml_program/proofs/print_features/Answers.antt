@@ -1,0 +1,17 @@
+use Rattle.std.proofs.Common.{◌≡◌, ◌∙◌, List, ℕ, ap, length, rules, string_bytes, subst, sym, drop}
+use Rattle.std.specs.Io.KnownBytes.{Consumes}
+use Rattle.cargo_toml_program.proofs.print_features.Goals as goal
+
+pub returns-clause-printed : goal.returns-clause-printed
+returns-clause-printed g c = record {
+  bytes = c.as_slice.result.now;
+  text = string_bytes c.in_ok-lines.lines;
+  read =
+      let bytes = c.read_to_end.new.buf.items in
+      let whole : drop (length c.new-bytes.result.items) bytes ≡ c.as_slice.result.now =
+      ap (λ (xs : List ℕ). drop (length xs) bytes) c.new-bytes.ensures.items ∙ sym c.as_slice.ensures.value in
+      subst (Consumes _ _) whole c.in_ok-read_to_end.ensures.none_lost;
+  whole = c.in_ok-read_to_end.ensures.end;
+  lines = c.in_ok-lines.ensures;
+  written = search rules;
+}

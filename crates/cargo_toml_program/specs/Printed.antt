@@ -1,0 +1,31 @@
+-- Which texts are printed of the features of a manifest.
+use Rattle.std.specs.Prelude.{ℕ, List, Option, false}
+use Rattle.std.specs.Io.KnownBytes.{Appends, Consumes, IsAtEnd}
+use Rattle.std.specs.declared.hash.BuildHasherDefault.{BuildHasherDefault}
+use Rattle.std.specs.declared.hash.FoldHasher.{FoldHasher}
+use Rattle.cargo_toml_command.specs.Printed.{IsOfBytes}
+use Rattle.cargo_toml_features.specs.declared.features.Features.{Features}
+use Rattle.cargo_toml_features.specs.Views.{answer_of}
+use Rattle.cargo_toml_graph.specs.Action.{Text}
+use Rattle.cargo_toml_manifest.specs.declared.manifest.Manifest.{Manifest}
+use Rattle.cargo_toml_manifest.specs.Manifests.{held}
+use Rattle.cargo_toml_print.specs.Lines.{AreAllLines}
+use Rattle.cargo_toml_resolver.specs.Parsed.{IsParsed}
+use Rattle.toml.specs.declared.value.Value.{Value}
+
+-- the lines of what the features of a manifest resolve to at this limit, where each is removed
+-- whose name begins with `_`
+abbrev pub IsFeatureText : ℕ → Manifest Value → Text → Type 0
+IsFeatureText limit m text =
+    (a : Features (BuildHasherDefault FoldHasher) FoldHasher)
+    × IsParsed limit (held m) (λ _. false) (answer_of a) × AreAllLines a text
+
+-- what an input still has is read to its end, and the lines of the manifest that it spells stand
+-- behind what an output had
+pub record ArePrinted (limit : ℕ) (input rest output more : Option (List ℕ)) : Type 0 where
+  pub bytes : List ℕ
+  pub text : Text
+  pub read : Consumes input rest bytes
+  pub whole : IsAtEnd rest
+  pub lines : IsOfBytes (IsFeatureText limit) bytes text
+  pub written : Appends output more text

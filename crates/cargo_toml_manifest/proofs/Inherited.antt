@@ -1,6 +1,5 @@
 -- What is inherited, step by step, until a fault.
-use Rattle.std.proofs.Common.{◌≡◌, ℕ, List, Option, Result, Ok, refl}
-use Rattle.cargo_toml_parts.specs.FaultValues.{Fault}
+use Rattle.std.proofs.Common.{◌≡◌, ℕ, List, Option, Ok, refl}
 use Rattle.cargo_toml_parts.specs.declared.error.Error.{Error}
 use Rattle.cargo_toml_parts.specs.declared.inheritable.Inheritable.{Inheritable}
 use Rattle.cargo_toml_dependencies.specs.Inheriting.{Entries, inherited_entries, inherited_target, inherited_targets}

@@ -1,4 +1,4 @@
-use Rattle.std.proofs.Common.{Some, Ok}
+use Rattle.std.proofs.Common.{Some}
 use Rattle.std.specs.Option.{option_copied}
 use Rattle.std.proofs.lemmas.Result.{IfErr-weaker}
 use Rattle.cargo_toml_paths.specs.Paths.{workspace_folder}

@@ -50,7 +50,11 @@ fn completion<Metadata, Fs: AbstractFilesystem>(
 {
     match find(alloc, manifest, &parts, fs) {
         Ok(found) => Ok(Completion { parts, found }),
-        Err(fault) => Err(wrapped(alloc, fault, path)),
+        Err(fault) => {
+            // By a call, since what is dropped at a function's end is looked at field by field.
+            drop(parts);
+            Err(wrapped(alloc, fault, path))
+        }
     }
 }
 
@@ -90,6 +94,13 @@ fn hint_of<Metadata>(manifest: &Manifest<Metadata>) -> Option<&str>
     }
 }
 
+// The workspace table of a root. A function of its own, so that who owns the root lends it whole.
+fn table_of<N>(root: &Manifest<N>) -> Option<&Workspace<N>>
+    ensures { option_copied result ≡ root.now.workspace }
+{
+    root.workspace.as_ref()
+}
+
 // What completion puts into a manifest that inherits from the root that is looked up.
 fn completion_by_hint<Metadata, Fs: AbstractFilesystem>(
     alloc: Global,
@@ -109,13 +120,12 @@ fn completion_by_hint<Metadata, Fs: AbstractFilesystem>(
 {
     let hint = hint_of(manifest);
     match fs.parse_root_workspace(alloc, hint) {
-        Ok((found, path)) => completion_at(
-            alloc,
-            manifest,
-            found.workspace.as_ref(),
-            path.as_str(),
-            fs,
-        ),
+        Ok((root, path)) => {
+            let made = completion_at(alloc, manifest, table_of(&root), path.as_str(), fs);
+            // By a call, as in `completion`: a manifest is the widest of all.
+            drop(root);
+            made
+        }
         Err(fault) => Err(wrapped(alloc, fault, hint)),
     }
 }

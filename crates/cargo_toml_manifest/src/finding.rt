@@ -159,10 +159,12 @@ pub fn put_found<Metadata: Drop>(manifest: &mut Manifest<Metadata>, found: Optio
     ensures { held manifest.new
         ≡ with_found (held manifest.old) found }
 {
-    let Some(package) = &mut manifest.package else {
+    let Some(found) = found else {
         return;
     };
-    let Some(found) = found else {
+    let Some(package) = &mut manifest.package else {
+        // By a call, since what is dropped at a function's end is looked at field by field.
+        drop(found);
         return;
     };
     let Discovered {

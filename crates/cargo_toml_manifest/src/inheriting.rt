@@ -147,7 +147,12 @@ fn put_package<Metadata: Drop>(package: &mut Option<Package<Metadata>>, new: Opt
     ensures { option_map held_package «package».new
         ≡ installed_if_there (option_map held_package «package».old) new }
 {
-    if let (Some(package), Some(new)) = (package, new) {
+    let Some(package) = package else {
+        // By a call, since what is dropped at a function's end is looked at field by field.
+        drop(new);
+        return;
+    };
+    if let Some(new) = new {
         install(package, new);
     }
 }

@@ -383,8 +383,9 @@ fn read_table<Metadata: FromValue>(alloc: Global, table: Table) -> Result<Manife
     )
 }
 
-// The manifest, unless a fault was met, as `Reading::finish` has it. Its copies of a wide value
-// are kept out of what stands on the stack while the keys are read.
+// The whole, unless a fault was met, as `Reading::finish` has it. Its copies of a wide value are
+// kept out of what stands on the stack while the keys are read. It is generic, since what is
+// dropped at a function's end is looked at field by field.
 #[inline(never)]
 fn ended<Whole: Drop>(reading: Reading, whole: Whole) -> Result<Whole, Error>
     ensures { Ends reading.fault whole result }

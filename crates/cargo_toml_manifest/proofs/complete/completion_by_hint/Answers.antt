@@ -13,20 +13,20 @@ returns-in-Ok-clause-outcome g c =
     let m = held c.args.manifest.now in
     let told = heard g.Fs.Roots.Roots.ARE_READ (g.Fs.AbstractFilesystem.root_for c.args.fs.now (hint_of m)) in
     let a = rw c.hint_of-hint.ensures at c.in-Ok.ensures.answers in
-    let h = rw (c.as_ref.ensures.value, c.as_str.ensures.value) at c.completion_at.ensures.outcome in
-    root_found (with_completion m) m told (g.Fs.AbstractFilesystem.names_at c.args.fs.now) (c.in-Ok.found, c.in-Ok.path)
-    c.completion_at.result a h
+    let h = rw (c.table_of.ensures, c.as_str.ensures.value) at c.completion_at-made.ensures.outcome in
+    root_found (with_completion m) m told (g.Fs.AbstractFilesystem.names_at c.args.fs.now) (c.in-Ok.root, c.in-Ok.path)
+    c.completion_at-made.result a h
 
 pub returns-in-Ok-clause-given : goal.returns-in-Ok-clause-given
 returns-in-Ok-clause-given g c =
     let m = held c.args.manifest.now in
     let told = heard g.Fs.Roots.Roots.ARE_READ (g.Fs.AbstractFilesystem.root_for c.args.fs.now (hint_of m)) in
     let a = rw c.hint_of-hint.ensures at c.in-Ok.ensures.answers in
-    let h = rw (c.as_ref.ensures.value, c.as_str.ensures.value) at c.completion_at.ensures.given in
-    IfOk-weaker c.completion_at.result _ _
+    let h = rw (c.table_of.ensures, c.as_str.ensures.value) at c.completion_at-made.ensures.given in
+    IfOk-weaker c.completion_at-made.result _ _
     (λ new e.
     given_by_root m (with_completion m new) told (g.Fs.AbstractFilesystem.names_at c.args.fs.now)
-    (c.in-Ok.found, c.in-Ok.path) a e)
+    (c.in-Ok.root, c.in-Ok.path) a e)
     h
 
 pub returns-in-Err-clause-outcome : goal.returns-in-Err-clause-outcome
@@ -44,8 +44,8 @@ returns-in-Ok-clause-wrapped g c =
     let roots = MayLose g.Fs.Roots.Roots.ARE_READ (g.Fs.AbstractFilesystem.may_refuse_root c.args.fs.now) in
     let names = g.Fs.AbstractFilesystem.may_refuse c.args.fs.now in
     let a = rw c.hint_of-hint.ensures at c.in-Ok.ensures.answers in
-    let h = rw (c.as_ref.ensures.value, c.as_str.ensures.value) at c.completion_at.ensures.wrapped in
-    IfErr-weaker c.completion_at.result _ _ (λ e w. refused_by_root m roots names e told (c.in-Ok.found, c.in-Ok.path) a w) h
+    let h = rw (c.table_of.ensures, c.as_str.ensures.value) at c.completion_at-made.ensures.wrapped in
+    IfErr-weaker c.completion_at-made.result _ _ (λ e w. refused_by_root m roots names e told (c.in-Ok.root, c.in-Ok.path) a w) h
 
 pub returns-in-Err-clause-wrapped : goal.returns-in-Err-clause-wrapped
 returns-in-Err-clause-wrapped g c =

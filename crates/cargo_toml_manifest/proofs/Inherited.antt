@@ -1,0 +1,68 @@
+-- What is inherited, step by step, until a fault.
+use Rattle.std.proofs.Common.{◌≡◌, ℕ, List, Option, Ok, refl}
+use Rattle.cargo_toml_parts.specs.declared.error.Error.{Error}
+use Rattle.cargo_toml_parts.specs.declared.inheritable.Inheritable.{Inheritable}
+use Rattle.cargo_toml_dependencies.specs.Inheriting.{Entries, inherited_entries, inherited_target, inherited_targets}
+use Rattle.cargo_toml_dependencies.specs.Targets.{TargetMeaning}
+use Rattle.cargo_toml_package.specs.Packages.{PackageMeaning}
+use Rattle.cargo_toml_package.specs.Templates.{TemplateMeaning}
+use Rattle.cargo_toml_workspace.specs.Sharing.{LintsByTool, inherited_lints}
+use Rattle.cargo_toml_manifest.specs.Inheriting.{inherited_from, inherited_if_there, own_tables}
+use Rattle.cargo_toml_manifest.specs.Manifests.{ManifestMeaning}
+use Rattle.cargo_toml_manifest.proofs.Steps.{Refuses, later, stops, then}
+
+-- the tables
+module _ (templates : Option Entries) (base : List ℕ) (t : TargetMeaning) where
+  pub stops_at_dependencies : (e : Error) → Refuses (inherited_entries templates base t.dependencies) e →
+      Refuses (inherited_target templates base t) e
+  stops_at_dependencies e h = stops _ _ e h
+
+  pub stops_at_build : (ds : Entries) (e : Error) → inherited_entries templates base t.dependencies ≡ Ok ds →
+      Refuses (inherited_entries templates base t.build_dependencies) e → Refuses (inherited_target templates base t) e
+  stops_at_build ds e d h = later _ ds _ e d (stops _ _ e h)
+
+  pub stops_at_dev : (ds bs : Entries) (e : Error) → inherited_entries templates base t.dependencies ≡ Ok ds →
+      inherited_entries templates base t.build_dependencies ≡ Ok bs →
+      Refuses (inherited_entries templates base t.dev_dependencies) e → Refuses (inherited_target templates base t) e
+  stops_at_dev ds bs e d b h = later _ ds _ e d (later _ bs _ e b (stops _ _ e h))
+
+  pub tables_given : (ds bs vs : Entries) → inherited_entries templates base t.dependencies ≡ Ok ds →
+      inherited_entries templates base t.build_dependencies ≡ Ok bs → inherited_entries templates base t.dev_dependencies ≡ Ok vs →
+      inherited_target templates base t ≡ Ok (record { dependencies = ds; dev_dependencies = vs; build_dependencies = bs })
+  tables_given ds bs vs d b v = then _ ds _ _ d (then _ bs _ _ b (then _ vs _ _ v refl))
+
+-- the whole
+module _ {M : Type 0} (templates : Option Entries) (groups : Option LintsByTool) (template : Option TemplateMeaning)
+    (base : List ℕ) (m : ManifestMeaning M) where
+  pub stops_at_tables : (e : Error) → Refuses (inherited_target templates base (own_tables m)) e →
+      Refuses (inherited_from templates groups template base m) e
+  stops_at_tables e h = stops _ _ e h
+
+  pub stops_at_targets : (t : TargetMeaning) (e : Error) → inherited_target templates base (own_tables m) ≡ Ok t →
+      Refuses (inherited_targets templates base m.target) e → Refuses (inherited_from templates groups template base m) e
+  stops_at_targets t e a h = later _ t _ e a (stops _ _ e h)
+
+  pub stops_at_lints : (t : TargetMeaning) (ts : List (List ℕ × TargetMeaning)) (e : Error) →
+      inherited_target templates base (own_tables m) ≡ Ok t → inherited_targets templates base m.target ≡ Ok ts →
+      Refuses (inherited_lints groups m.lints) e → Refuses (inherited_from templates groups template base m) e
+  stops_at_lints t ts e a b h = later _ t _ e a (later _ ts _ e b (stops _ _ e h))
+
+  pub stops_at_package : (t : TargetMeaning) (ts : List (List ℕ × TargetMeaning)) (l : Inheritable LintsByTool) (e : Error) →
+      inherited_target templates base (own_tables m) ≡ Ok t → inherited_targets templates base m.target ≡ Ok ts →
+      inherited_lints groups m.lints ≡ Ok l → Refuses (inherited_if_there template base m.«package») e →
+      Refuses (inherited_from templates groups template base m) e
+  stops_at_package t ts l e a b c h = later _ t _ e a (later _ ts _ e b (later _ l _ e c (stops _ _ e h)))
+
+  pub all_given : (t : TargetMeaning) (ts : List (List ℕ × TargetMeaning)) (l : Inheritable LintsByTool) (p : Option (PackageMeaning M)) →
+      inherited_target templates base (own_tables m) ≡ Ok t → inherited_targets templates base m.target ≡ Ok ts →
+      inherited_lints groups m.lints ≡ Ok l → inherited_if_there template base m.«package» ≡ Ok p →
+      inherited_from templates groups template base m
+      ≡ Ok (record m {
+        «package» = p;
+        dependencies = t.dependencies;
+        dev_dependencies = t.dev_dependencies;
+        build_dependencies = t.build_dependencies;
+        target = ts;
+        lints = l;
+      })
+  all_given t ts l p a b c d = then _ t _ _ a (then _ ts _ _ b (then _ l _ _ c (then _ p _ _ d refl)))

@@ -3,8 +3,7 @@ use Rattle.std.proofs.Common.{◌≡◌, ◌≢◌, ◌↔◌, ◌⊎◌, ◌<�
 use Rattle.std.proofs.lemmas.Bool.{cases_eq}
 use Rattle.cargo_toml_graph.specs.Reach.{Among}
 use Rattle.cargo_toml_walk.specs.Bits.{AreWide, Gains, HasBit, Holds}
-use Rattle.cargo_toml_walk.specs.Numbers.{HasLabel, IsWanted, Leads, row_items}
-use Rattle.cargo_toml_walk.proofs.Filling.{has_row}
+use Rattle.cargo_toml_walk.specs.Numbers.{HasLabel, IsFrom, IsWanted, Leads, row_items}
 use Rattle.cargo_toml_walk.proofs.Steps.{among_all, among_more, among_taken}
 use Rattle.cargo_toml_walk.proofs.Words.{no_bit_past}
 
@@ -35,14 +34,14 @@ set_other (r ∷ rs) v zero (suc a) ne = refl
 set_other (r ∷ rs) v (suc i) zero ne = refl
 set_other (r ∷ rs) v (suc i) (suc a) ne = set_other rs v i a (λ e. ne (ap suc e))
 
--- the table of the first n rows
-pub record IsTabled {Z Y : Type 0} (rows : List (Vec ℕ Z)) (width n : ℕ) (table : List (Vec ℕ Y)) : Type 0 where
+-- a table of n rows, which have the bits of which P holds
+pub record IsTabled {Z : Type 0} (P : ℕ → ℕ → Type 0) (width n : ℕ) (table : List (Vec ℕ Z)) : Type 0 where
   pub len : length table ≡ n
   pub wide : AreWide width table
-  pub bits : (a x : ℕ) → a < n → Holds table a x ↔ Leads rows a x
+  pub bits : (a x : ℕ) → a < n → Holds table a x ↔ P a x
 
-module _ {Z Y : Type 0} (rows : List (Vec ℕ Z)) (width n : ℕ) (table : List (Vec ℕ Y)) (h : IsTabled rows width n table) where
-  pub tabled_more : (v : Vec ℕ Y) → length v.items ≡ width → ((x : ℕ) → HasBit v.items x ↔ Leads rows n x) → IsTabled rows width (n + 1) (table ++ v ∷ [])
+module _ {Z : Type 0} (P : ℕ → ℕ → Type 0) (width n : ℕ) (table : List (Vec ℕ Z)) (h : IsTabled P width n table) where
+  pub tabled_more : (v : Vec ℕ Z) → length v.items ≡ width → ((x : ℕ) → HasBit v.items x ↔ P n x) → IsTabled P width (n + 1) (table ++ v ∷ [])
   tabled_more v wide is = record {
     len = let l = length-append table (v ∷ []) in let e = h.len in omega (arith, l, e);
     wide = λ a lt. elim (cases_eq a n) [
@@ -51,8 +50,8 @@ module _ {Z Y : Type 0} (rows : List (Vec ℕ Z)) (width n : ℕ) (table : List 
     ];
     bits = λ a x lt. elim (cases_eq a n) [
       | inl same ↦ (
-        λ b. subst (λ k. Leads rows k x) (sym same) ((is x).0 (subst (λ w. HasBit w x) (last a same) b)),
-        λ l. subst (λ w. HasBit w x) (sym (last a same)) ((is x).1 (subst (λ k. Leads rows k x) same l)),
+        λ b. subst (λ k. P k x) (sym same) ((is x).0 (subst (λ w. HasBit w x) (last a same) b)),
+        λ l. subst (λ w. HasBit w x) (sym (last a same)) ((is x).1 (subst (λ k. P k x) same l)),
       )
       | inr other ↦
           let e = h.len in
@@ -68,10 +67,10 @@ module _ {Z Y : Type 0} (rows : List (Vec ℕ Z)) (width n : ℕ) (table : List 
       last a same = ap (row_items (table ++ v ∷ [])) (same ∙ sym h.len) ∙ push_new table v
 
   -- all rows
-  pub tabled_all : length rows ≤ n → (a x : ℕ) → Holds table a x ↔ Leads rows a x
-  tabled_all all a x = (
+  pub tabled_all : ((a x : ℕ) → P a x → a < n) → (a x : ℕ) → Holds table a x ↔ P a x
+  tabled_all inside a x = (
     λ b. (h.bits a x (let lt = holds_inside table a x b in let e = h.len in omega (arith, lt, e))).0 b,
-    λ l. (h.bits a x (let lt = has_row rows a x l in omega (arith, lt, all))).1 l,
+    λ l. (h.bits a x (inside a x l)).1 l,
   )
 
 -- one more row that is named
@@ -159,16 +158,23 @@ module _ {Z : Type 0} (table : List (Vec ℕ Z)) (own : ℕ) (named : List ℕ) 
     elim [ inl h ↦ inl h | inr p ↦ inr (p.0, among_all named i p.0 le p.1, p.2) ],
   )
 
--- the labels that are kept, from a table of labels
+-- what a row and those that are passed have together, from a table of labels
+pub from_bits : {Z Y : Type 0} (labels : List (Vec ℕ Z)) (table : List (Vec ℕ Y)) (own : ℕ) (passed bits : List ℕ) → ((a x : ℕ) → Holds table a x ↔ Leads labels a x)
+    → ((x : ℕ) → HasBit bits x ↔ (Holds table own x ⊎ ((b : ℕ) × Among passed b × Holds table b x))) → (x : ℕ) → HasBit bits x ↔ IsFrom (Among passed) labels own x
+from_bits labels table own passed bits t has x = (
+  λ h. elim ((has x).0 h) [ inl o ↦ (own, inl refl, (t own x).0 o) | inr p ↦ (p.0, inr p.1, (t p.0 x).0 p.2) ],
+  λ l.
+      let b = l.0 in
+      let held : Holds table b x = (t b x).1 l.2 in
+      (has x).1 (elim (l.1) [ inl same ↦ inl (subst (λ k. Holds table k x) same held) | inr p ↦ inr (b, p, held) ]),
+)
+
+-- the labels that are kept
 pub label_row : {Z Y : Type 0} (labels : List (Vec ℕ Z)) (table : List (Vec ℕ Y)) (flags : List Bool) (own : ℕ) (passed bits row : List ℕ) → ((a x : ℕ) → Holds table a x ↔ Leads labels a x)
     → ((x : ℕ) → HasBit bits x ↔ (Holds table own x ⊎ ((b : ℕ) × Among passed b × Holds table b x))) → ((x : ℕ) → Among row x ↔ ((x < length flags) × (HasBit bits x × IsWanted flags false x)))
     → ((a x : ℕ) → Leads labels a x → x < length flags) → (x : ℕ) → Among row x ↔ HasLabel (Among passed) labels flags own x
-label_row labels table flags own passed bits row t has is inside x = (
-  λ i.
-      let n = (is x).0 i in
-      (elim ((has x).0 n.1.0) [ inl o ↦ (own, inl refl, (t own x).0 o) | inr p ↦ (p.0, inr p.1, (t p.0 x).0 p.2) ], n.1.1),
-  λ l.
-      let b = l.0.0 in
-      let held : Holds table b x = (t b x).1 l.0.2 in
-      (is x).1 (inside b x l.0.2, ((has x).1 (elim (l.0.1) [ inl same ↦ inl (subst (λ k. Holds table k x) same held) | inr p ↦ inr (b, p, held) ]), l.1)),
-)
+label_row labels table flags own passed bits row t has is inside x =
+    let from = from_bits labels table own passed bits t has x in (
+      λ i. let n = (is x).0 i in (from.0 n.1.0, n.1.1),
+      λ l. (is x).1 (inside l.0.0 x l.0.2, (from.1 l.0, l.1)),
+    )

@@ -88,10 +88,14 @@ module _ {Z : Type 0} (edges : List (Vec ℕ Z)) (removed : List Bool) where
   abbrev pub IsRedirect : List (Vec ℕ Z) → ℕ → ℕ → Type 0
   IsRedirect labels r x = GathersLabel (Leads edges) (IsUnder r) (Leads labels) r x × ¬ IsUnder r x
 
--- a or one of the passed vertices has the label x, and the flag of x is false
+-- a or one of the passed vertices has the label x
+abbrev pub IsFrom : {Z : Type 0} → (ℕ → Type 0) → List (Vec ℕ Z) → ℕ → ℕ → Type 0
+IsFrom Passed labels a x = (b : ℕ) × ((b ≡ a) ⊎ Passed b) × Leads labels b x
+
+-- and the flag of x is false
 abbrev pub HasLabel : {Z : Type 0} → (ℕ → Type 0) → List (Vec ℕ Z) → List Bool → ℕ → ℕ → Type 0
 HasLabel Passed labels flags a x =
-    ((b : ℕ) × ((b ≡ a) ⊎ Passed b) × Leads labels b x) × IsWanted flags false x
+    IsFrom Passed labels a x × IsWanted flags false x
 
 abbrev pub PassesAny : {Z : Type 0} → List (Vec ℕ Z) → ℕ → Type 0
 PassesAny passed a = (c : ℕ) × Leads passed a c

@@ -7,8 +7,8 @@ ghost use Rattle.cargo_toml_walk.specs.Numbers.{IsWanted};
 use crate::node::Node;
 use std::alloc::{AllocError, Global};
 
-// How many words have place for so many bits.
-pub(crate) fn words_for(count: usize) -> usize
+/// How many words have place for so many bits.
+pub fn words_for(count: usize) -> usize
     ensures enough { count ≤ 64 * result }
     ensures few { 64 * result ≤ count + 64 }
 {

@@ -6,22 +6,60 @@ ghost use Rattle.std.specs.Prelude.{◌≡◌, ◌<◌, ◌≤◌, ◌↔◌, �
 ghost use Rattle.cargo_toml_graph.specs.Reach.{Reaches};
 ghost use Rattle.cargo_toml_walk.specs.Bits.{Holds};
 ghost use Rattle.cargo_toml_walk.specs.Numbers.{AreWithin, HasLabel, IsPassed, IsRedirect};
-ghost use Rattle.cargo_toml_walk.specs.Numbers.{IsWanted, Leads, PassesAny, row_items};
+ghost use Rattle.cargo_toml_walk.specs.Numbers.{IsFrom, IsWanted, Leads, PassesAny, row_items};
 
 use crate::bits::{nodes_of, words_for};
 use crate::node::Node;
 use crate::tables::{gathered, parents_of, pass_on, table_of};
 use std::alloc::{AllocError, Global};
 
-// Whether a table of bits takes no more memory than the rows do, so that it is worth its cost. Rows
-// of a few nodes are walked faster.
-pub(crate) fn is_dense(rows: &[Vec<Node>], count: usize) -> bool {
+/// Whether so many nodes are many in so many rows, over `count` nodes: whether a table of bits
+/// takes no more memory than the rows do, so that it is worth its cost. Rows of a few nodes are
+/// walked faster.
+pub fn are_many(total: usize, rows: usize, count: usize) -> bool {
     let least = (count / 64).max(16);
+    total >= rows.saturating_mul(least)
+}
+
+/// Whether the rows have many nodes, as `are_many` says.
+pub fn is_dense(rows: &[Vec<Node>], count: usize) -> bool {
     let mut total: usize = 0;
     for row in rows {
         total = total.saturating_add(row.len());
     }
-    total >= rows.len().saturating_mul(least)
+    are_many(total, rows.len(), count)
+}
+
+/// As a table of bits, what each vertex that isn't removed reaches at once or from one of those
+/// that it passes; nothing for a removed one.
+pub fn source_table(
+    alloc: Global,
+    passed: &[Vec<Node>],
+    edges: &[Vec<Node>],
+    is_removed: &[bool],
+) -> Result<Vec<Vec<u64>>, AllocError>
+    requires len { length passed.now ≡ length edges.now }
+    requires count { length edges.now ≤ length is_removed.now }
+    requires passed { (a b : ℕ) → Leads passed.now a b → b < length edges.now }
+    requires inside { (a b : ℕ) → Leads edges.now a b → b < length edges.now }
+    ensures len { IfOk result (λ table. length table.items ≡ length edges.now) }
+    ensures wide { IfOk result (λ table. (a : ℕ) → a < length edges.now
+        → length edges.now ≤ 64 * length (row_items table.items a)) }
+    ensures bits { IfOk result (λ table. (a x : ℕ) → Holds table.items a x
+        ↔ (IsWanted is_removed.now false a × IsFrom (Leads passed.now a) edges.now a x)) }
+{
+    let width = words_for(edges.len());
+    let edge_table = table_of(alloc, edges, width)?;
+    let mut table = Vec::with_capacity(alloc, edges.len())?;
+    for own in 0..edges.len() {
+        if is_removed[own] {
+            table.push(Vec::from_elem(alloc, 0, width)?)?;
+        } else {
+            let through = passed[own].as_slice();
+            table.push(gathered(alloc, edge_table.as_slice(), Node::at(own), through)?)?;
+        }
+    }
+    Ok(table)
 }
 
 // The labels of all vertices, as `all_labels` says.

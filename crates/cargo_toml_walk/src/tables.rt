@@ -8,8 +8,8 @@ use crate::bits::{bits_of, has_bit, join};
 use crate::node::Node;
 use std::alloc::{AllocError, Global};
 
-// The rows as bits in `width` words each.
-pub(crate) fn table_of(
+/// The rows as bits in `width` words each.
+pub fn table_of(
     alloc: Global,
     rows: &[Vec<Node>],
     width: usize,
@@ -27,12 +27,8 @@ pub(crate) fn table_of(
     Ok(table)
 }
 
-// Those whose row has the bit of a node.
-pub(crate) fn parents_of(
-    alloc: Global,
-    table: &[Vec<u64>],
-    of: Node,
-) -> Result<Vec<Node>, AllocError>
+/// Those whose row has the bit of a node, in ascending order.
+pub fn parents_of(alloc: Global, table: &[Vec<u64>], of: Node) -> Result<Vec<Node>, AllocError>
     requires { (a : ℕ) → a < length table.now → of < 64 * length (row_items table.now a) }
     ensures { IfOk result
         (λ parents. (a : ℕ) → Among parents.items a ↔ Holds table.now a of) }

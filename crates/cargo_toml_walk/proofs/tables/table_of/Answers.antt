@@ -1,6 +1,8 @@
-use Rattle.std.proofs.Common.{rules, ◌+◌, ◌<◌, ◌↔◌, ℕ, length, sym, subst, ◌∙◌}
+use Rattle.std.proofs.Common.{rules, ◌+◌, ◌<◌, ◌≤◌, ◌↔◌, ℕ, length, sym, subst, ◌∙◌, arith}
 use Rattle.cargo_toml_graph.specs.Reach.{Among}
 use Rattle.cargo_toml_walk.specs.Bits.{HasBit}
+use Rattle.cargo_toml_walk.specs.Numbers.{Leads}
+use Rattle.cargo_toml_walk.proofs.Filling.{has_row}
 use Rattle.cargo_toml_walk.proofs.Steps.{list_read}
 use Rattle.cargo_toml_walk.proofs.Tabled.{IsTabled, tabled_all, tabled_more}
 use Rattle.cargo_toml_walk.proofs.tables.table_of.Goals as goal
@@ -15,9 +17,10 @@ pub loop-a-preserved : goal.loop-a-preserved
 loop-a-preserved c =
     let inside : c.loop-a.a < length c.args.rows.now = search rules in
     let read = c.as_slice.ensures.value ∙ sym (list_read c.args.rows.now c.loop-a.a c.index-rows-a.result inside c.index-rows-a.is) in
-    subst (IsTabled c.args.rows.now c.args.width (c.loop-a.a + 1)) (sym c.in_ok-push.ensures.items)
-    (tabled_more c.args.rows.now c.args.width c.loop-a.a c.loop-a.table.items c.loop-a.invariant c.in_ok-bits_of.field-0 c.in_ok-bits_of.ensures.len
+    subst (IsTabled (Leads c.args.rows.now) c.args.width (c.loop-a.a + 1)) (sym c.in_ok-push.ensures.items)
+    (tabled_more (Leads c.args.rows.now) c.args.width c.loop-a.a c.loop-a.table.items c.loop-a.invariant c.in_ok-bits_of.field-0 c.in_ok-bits_of.ensures.len
     (subst (λ t. (x : ℕ) → HasBit c.in_ok-bits_of.field-0.items x ↔ Among t x) read c.in_ok-bits_of.ensures.bits))
 
 pub returns-clause-bits : goal.returns-clause-bits
-returns-clause-bits c = tabled_all c.args.rows.now c.args.width c.loop-a.a c.loop-a.table.items c.loop-a.invariant (search rules)
+returns-clause-bits c = tabled_all (Leads c.args.rows.now) c.args.width c.loop-a.a c.loop-a.table.items c.loop-a.invariant
+    (λ a x l. let lt = has_row c.args.rows.now a x l in let all : length c.args.rows.now ≤ c.loop-a.a = search rules in omega (arith, lt, all))

@@ -99,7 +99,7 @@ pub use Rattle.cargo_toml_features.specs.NonDefault
 pub use Rattle.cargo_toml_parts.specs.Copies
 pub use Rattle.cargo_toml_parts.specs.InheritableLaws
 pub use Rattle.cargo_toml_features.specs.InOrder
-pub use Rattle.cargo_toml_full.specs.Ascending
+pub use Rattle.cargo_toml_graph.specs.Ascending
 pub use Rattle.cargo_toml_full.specs.Reading
 pub use Rattle.cargo_toml_full.specs.Slots
 pub use Rattle.cargo_toml_settings.specs.SettingsLaws

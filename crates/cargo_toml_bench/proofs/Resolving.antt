@@ -9,13 +9,14 @@ use Rattle.cargo_toml_walk.specs.Numbers.{IsWanted}
 use Rattle.cargo_toml_dependencies.specs.Details.{plain_detail}
 use Rattle.cargo_toml_features.specs.declared.features.Feature.{Feature}
 use Rattle.cargo_toml_features.specs.declared.features.Features.{Features}
+use Rattle.cargo_toml_graph.specs.Ascending.{Ascend}
 use Rattle.cargo_toml_graph.specs.Action.{Text}
 use Rattle.cargo_toml_graph.specs.Admitted.{Listed, is_below}
 use Rattle.cargo_toml_graph.specs.Bins.{ArePassedOn}
 use Rattle.cargo_toml_graph.specs.Graph.{IsKept, IsResolved, IsUnremoved, Resolution, Table}
 use Rattle.cargo_toml_graph.specs.Reach.{Among, IsOnce}
 use Rattle.cargo_toml_graph.specs.Redirects.{RedirectsTo}
-use Rattle.cargo_toml_graph.specs.Removal.{IsAscending, SameKept, lists_text, is_removed, pass_all, unremoved, without_all}
+use Rattle.cargo_toml_graph.specs.Removal.{SameKept, lists_text, is_removed, pass_all, unremoved, without_all}
 use Rattle.cargo_toml_graph.proofs.BinLists.{among-true, is_among-true}
 use Rattle.cargo_toml_graph.proofs.Elimination.{all_taken_out}
 use Rattle.cargo_toml_graph.proofs.InByteOrder.{ascending_once, by_true, passed_all_alike, passed_has, removed_there, unremoved_alike}
@@ -93,7 +94,7 @@ module _ {S H : Type 0} (listed : Listed) (entries : List Entry) (details : Name
     (marks : (f : Text) → IfSome (value_at old f) (λ v. marks_of v ≡ marks_in listed details f))
     (bins : (f : Text) → IfSome (value_at old f) (λ v. map (λ b. b.now) v.required_by_bins.items ≡ own f))
     (dependencies : (k : Text) → SameRecorded ((answer_of a).dependencies k) (recorded_of (entries_at listed entries k)))
-    (removed : (f : Text) → Among rs f ↔ IsTrue (is_removed (table_in old) keep f)) (ascending : IsAscending (λ a b. IsTrue (is_below a b)) rs)
+    (removed : (f : Text) → Among rs f ↔ IsTrue (is_removed (table_in old) keep f)) (ascending : Ascend rs)
     (left : SameKept (without_all rs (resolution_of old)) (resolution_of a.features))
     (keys : (f : Text) → IsSome (value_at a.features f) → key_at a.features f ≡ key_at old f)
     (marks_stay : (f : Text) → IsSome (value_at a.features f) → marks_at a.features f ≡ marks_at old f)
@@ -186,7 +187,7 @@ module _ {S H : Type 0} (listed : Listed) (entries : List Entry) (details : Name
       go None e h = tt
       go (Some names) e h = λ x.
           let s = stands rs r (is_among-true rs r (sym e)) in
-          let exact = redirect_by_bytes t s.before r s.after m start (λ v i. there v (subst (λ xs. Among xs v) (sym s.whole) i)) (subst (IsAscending Below) s.whole ascending) x in
+          let exact = redirect_by_bytes t s.before r s.after m start (λ v i. there v (subst (λ xs. Among xs v) (sym s.whole) i)) (subst Ascend s.whole ascending) x in
           let named : set_has names x ≡ (without_all s.before m).table.names r x = h s.before s.after s.whole x in (
             λ y. let n = exact.0 (sym named ∙ y) in (label_within (λ b z. IsTrue (t.names b z)) (Earlier r (s.before ++ r ∷ s.after)) (λ v. R v × Below v r) (λ v p. (into v (subst (λ xs. Among xs v) (sym s.whole) p.0), p.1)) r x n.0, λ p. n.1 (subst (λ xs. Among xs x) s.whole (back x p.0), p.1)),
             λ n. named ∙ exact.1 (label_within (λ b z. IsTrue (t.names b z)) (λ v. R v × Below v r) (Earlier r (s.before ++ r ∷ s.after)) (λ v p. (subst (λ xs. Among xs v) s.whole (back v p.0), p.1)) r x n.0, λ p. n.1 (into x (subst (λ xs. Among xs x) (sym s.whole) p.0), p.1)),

@@ -18,12 +18,13 @@ use Rattle.std.specs.Ordering.{nat_cmp, is_lt}
 use Rattle.std.specs.Result.{result_ok}
 use Rattle.std.specs.declared.cmp.Ordering.{Ordering}
 use Rattle.std.specs.declared.cmp.Ordering.TheVariants.{Less, Equal}
+use Rattle.cargo_toml_graph.specs.Ascending.{Ascend}
 use Rattle.cargo_toml_graph.specs.Action.{Text}
 use Rattle.cargo_toml_graph.specs.Admitted.{is_below}
 use Rattle.cargo_toml_graph.specs.Reach.{Among}
 use Rattle.cargo_toml_graph.proofs.RedirectsInOrder.{below_one_way}
 use Rattle.cargo_toml_features.specs.Places.{nth_text}
-use Rattle.cargo_toml_features.proofs.Places.{Ascends, at_among, rises}
+use Rattle.cargo_toml_features.proofs.Places.{at_among, rises}
 
 abbrev texts : List (Bor Text) → List Text
 texts ts = map (λ t. t.now) ts
@@ -66,15 +67,15 @@ module _ (old sorted new : List (Bor Text)) (moved : IsPermutation old sorted) (
         (among_contained new x).1 (k.1, subst (λ ts. Contains ts k.1) (sym new_is) (k.0, k.2, k.3), sym same ∙ h.2),
   )
 
-  pub new_ascends : IsSorted cmp sorted → Ascends (texts new)
-  new_ascends up = subst (λ ts. Ascends (texts ts)) (sym new_is) (ascending (dedup eq sorted) (IsStrictlySortedBy-dedup (on_total (λ (t : Bor Text). t.now) nat_list_cmp_total) (λ a b. sym (is_eq-slice_cmp a.now b.now)) sorted up))
+  pub new_ascends : IsSorted cmp sorted → Ascend (texts new)
+  new_ascends up = subst (λ ts. Ascend (texts ts)) (sym new_is) (ascending (dedup eq sorted) (IsStrictlySortedBy-dedup (on_total (λ (t : Bor Text). t.now) nat_list_cmp_total) (λ a b. sym (is_eq-slice_cmp a.now b.now)) sorted up))
     where
       below_each : (t : Bor Text) (ts : List (Bor Text)) → AllByRecursion (λ u. cmp t u ≡ Less) ts → (y : Text) → Among (texts ts) y → IsTrue (is_below t.now y)
       below_each t [] all y there = absurd there
       below_each t (u ∷ ts) all y (inl is) = subst (λ z. IsTrue (is_below t.now z)) (sym is) (ap is_lt all.0)
       below_each t (u ∷ ts) all y (inr there) = below_each t ts all.1 y there
 
-      ascending : (ts : List (Bor Text)) → IsStrictlySortedBy cmp ts → Ascends (texts ts)
+      ascending : (ts : List (Bor Text)) → IsStrictlySortedBy cmp ts → Ascend (texts ts)
       ascending [] h = tt
       ascending (t ∷ ts) h = (below_each t ts (sorted_head cmp t ts h), ascending ts (sorted_tail cmp t ts h))
 
@@ -87,14 +88,14 @@ module _ (ts : List (Bor Text)) (x : Text) where
   found_there (Ok i) below equal = let d : Bor Text = record { ref_ptr = (0, 0); now = [] } in (below, text_now i d below ∙ exact_bytes _ _ (equal d))
   found_there (Err i) below parted = tt
 
-  sorted_now : Ascends (texts ts) → IsSorted cmp ts
+  sorted_now : Ascend (texts ts) → IsSorted cmp ts
   sorted_now up k d low high =
       let here : k < length ts = omega arith in
       let long = length-map ts (λ (t : Bor Text). t.now) in
       false_from_ne_true _ (λ later. below_one_way (get_or ts k d).now (get_or ts (k + 1) d).now
       (subst (λ v. IsTrue (is_below v (get_or ts (k + 1) d).now)) (text_now k d here) (subst (λ v. IsTrue (is_below (nth_text (texts ts) k) v)) (text_now (k + 1) d high) (rises (texts ts) up k (k + 1) (omega arith) (omega arith)))) later)
 
-  pub missing_there : (r : Result ℕ ℕ) → IsBinarySearchResult (λ t. slice_cmp nat_cmp t.now x) ts r → Ascends (texts ts) → result_ok r ≡ None → ¬ Among (texts ts) x
+  pub missing_there : (r : Result ℕ ℕ) → IsBinarySearchResult (λ t. slice_cmp nat_cmp t.now x) ts r → Ascend (texts ts) → result_ok r ≡ None → ¬ Among (texts ts) x
   missing_there (Ok i) equal up none there = cc
   missing_there (Err i) parted up none there =
       let d : Bor Text = record { ref_ptr = (0, 0); now = [] } in

@@ -1,10 +1,10 @@
 -- Where texts stand in a list, and in one that ascends in byte order.
 use Rattle.std.proofs.Common.{◌≡◌, ◌↔◌, ◌<◌, ℕ, zero, suc, List, [], ◌∷◌, length, IsTrue, get_or, refl, sym, subst, inl, inr, arith}
 use Rattle.std.proofs.lemmas.Bool.{cases_order}
+use Rattle.cargo_toml_graph.specs.Ascending.{Ascend}
 use Rattle.cargo_toml_graph.specs.Action.{Text}
 use Rattle.cargo_toml_graph.specs.Admitted.{is_below}
 use Rattle.cargo_toml_graph.specs.Reach.{Among}
-use Rattle.cargo_toml_graph.specs.Removal.{IsAscending}
 use Rattle.cargo_toml_graph.proofs.RedirectsInOrder.{below_one_way}
 use Rattle.cargo_toml_features.specs.Places.{nth_text}
 
@@ -18,12 +18,8 @@ at_among [] v d there = absurd there
 at_among (x ∷ xs) v d (inl is) = (0, omega arith, sym is)
 at_among (x ∷ xs) v d (inr there) = let k = at_among xs v d there in (suc k.0, (let below = k.1 in omega arith), k.2)
 
--- texts in byte order, each once
-abbrev pub Ascends : List Text → Type 0
-Ascends texts = IsAscending (λ a b. IsTrue (is_below a b)) texts
-
 -- a text at a later place is above
-pub rises : (texts : List Text) → Ascends texts → (i j : ℕ) → i < j → j < length texts → IsTrue (is_below (nth_text texts i) (nth_text texts j))
+pub rises : (texts : List Text) → Ascend texts → (i j : ℕ) → i < j → j < length texts → IsTrue (is_below (nth_text texts i) (nth_text texts j))
 rises [] up i j earlier below = absurd (omega arith)
 rises (x ∷ xs) up i zero earlier below = absurd (omega arith)
 rises (x ∷ xs) up zero (suc j) earlier below = up.0 (nth_text xs j) (among_at xs j [] (omega arith))
@@ -33,7 +29,7 @@ not_itself : (a : Text) → IsTrue (is_below a a) → ⊥
 not_itself a below = below_one_way a a below below
 
 -- each text stands there once
-pub once : (texts : List Text) → Ascends texts → (i j : ℕ) → i < length texts → j < length texts → nth_text texts i ≡ nth_text texts j → i ≡ j
+pub once : (texts : List Text) → Ascend texts → (i j : ℕ) → i < length texts → j < length texts → nth_text texts i ≡ nth_text texts j → i ≡ j
 once texts up i j below below' same =
     elim (cases_order i j) [
       | inl is ↦ is
@@ -52,5 +48,5 @@ lower_place texts i j ordered lower =
     ]
 
 -- the order of places is the order of texts
-pub by_place : (texts : List Text) → Ascends texts → (i j : ℕ) → i < length texts → j < length texts → (i < j) ↔ IsTrue (is_below (nth_text texts i) (nth_text texts j))
+pub by_place : (texts : List Text) → Ascend texts → (i j : ℕ) → i < length texts → j < length texts → (i < j) ↔ IsTrue (is_below (nth_text texts i) (nth_text texts j))
 by_place texts up i j below below' = (λ earlier. rises texts up i j earlier below', lower_place texts i j (λ later. rises texts up j i later below))

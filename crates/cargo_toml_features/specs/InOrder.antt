@@ -1,5 +1,5 @@
 -- Features as a list in the byte order of their names, and maps in that order.
-use Rattle.std.specs.Prelude.{◌≡◌, List, [], Option, IfSome, IsTrue, bytes_eq}
+use Rattle.std.specs.Prelude.{◌≡◌, List, [], Option, IfSome, bytes_eq}
 use Rattle.std.specs.Prelude.{is_some, map}
 use Rattle.std.specs.List.{find}
 use Rattle.std.specs.Borrow.{Bor}
@@ -8,10 +8,9 @@ use Rattle.std.specs.BTreeMap.{BTreeMap}
 use Rattle.std.specs.Cmp.Lexicographic.{slice_cmp}
 use Rattle.std.specs.Ordering.{nat_cmp}
 use Rattle.cargo_toml_features.specs.declared.features.Feature.{Feature}
+use Rattle.cargo_toml_graph.specs.Ascending.{Ascend}
 use Rattle.cargo_toml_graph.specs.Action.{Text}
-use Rattle.cargo_toml_graph.specs.Admitted.{is_below}
 use Rattle.cargo_toml_graph.specs.Graph.{Table, Resolution}
-use Rattle.cargo_toml_graph.specs.Removal.{IsAscending}
 use Rattle.cargo_toml_features.specs.Views.{resolution_by, table_by}
 
 -- what a map in order holds under a text
@@ -23,7 +22,7 @@ names_of vs = map (λ v. v.key.now) vs
 
 -- each name is below those after it
 abbrev pub AreInOrder : List Feature → Type 0
-AreInOrder vs = IsAscending (λ a b. IsTrue (is_below a b)) (names_of vs)
+AreInOrder vs = Ascend (names_of vs)
 
 -- the feature of a name
 abbrev pub feature_at : List Feature → Text → Option Feature

@@ -1,9 +1,8 @@
 //! Texts in byte order, and where one stands among them.
-ghost use Rattle.std.specs.Prelude.{◌≡◌, ◌↔◌, ◌<◌, IfSome, IsTrue, None, bytes_eq, length, map};
+ghost use Rattle.std.specs.Prelude.{◌≡◌, ◌↔◌, ◌<◌, IfSome, None, bytes_eq, length, map};
+ghost use Rattle.cargo_toml_graph.specs.Ascending.{Ascend};
 ghost use Rattle.cargo_toml_graph.specs.Action.{Text};
-ghost use Rattle.cargo_toml_graph.specs.Admitted.{is_below};
 ghost use Rattle.cargo_toml_graph.specs.Reach.{Among};
-ghost use Rattle.cargo_toml_graph.specs.Removal.{IsAscending};
 ghost use Rattle.cargo_toml_features.specs.Places.{nth_text};
 
 // So many texts are gone through sooner than halved: most differ from another by their length.
@@ -13,7 +12,7 @@ const FEW: usize = 24;
 pub fn in_order<'m>(mut texts: Vec<&'m str>) -> Vec<&'m str>
     ensures all { (x : Text) → Among (map (λ t. t.now) result.items) x
         ↔ Among (map (λ t. t.now) texts.entry.items) x }
-    ensures ascending { IsAscending (λ a b. IsTrue (is_below a b)) (map (λ t. t.now) result.items) }
+    ensures ascending { Ascend (map (λ t. t.now) result.items) }
 {
     texts.sort_unstable();
     texts.dedup();
@@ -43,7 +42,7 @@ fn first_of(texts: &[&str], text: &str) -> Option<usize>
 
 // The same, where the texts stand in byte order.
 fn searched(texts: &[&str], text: &str) -> Option<usize>
-    requires { IsAscending (λ a b. IsTrue (is_below a b)) (map (λ t. t.now) texts.now) }
+    requires { Ascend (map (λ t. t.now) texts.now) }
     ensures found { IfSome result (λ i.
         (i < length texts.now) × (nth_text (map (λ t. t.now) texts.now) i ≡ text.now)) }
     ensures missing { result ≡ None → ¬ Among (map (λ t. t.now) texts.now) text.now }
@@ -53,7 +52,7 @@ fn searched(texts: &[&str], text: &str) -> Option<usize>
 
 /// Where a text stands among texts in byte order, if it does.
 pub fn place_of(texts: &[&str], text: &str) -> Option<usize>
-    requires { IsAscending (λ a b. IsTrue (is_below a b)) (map (λ t. t.now) texts.now) }
+    requires { Ascend (map (λ t. t.now) texts.now) }
     ensures found { IfSome result
         (λ i. (i < length texts.now) × (nth_text (map (λ t. t.now) texts.now) i ≡ text.now)) }
     ensures missing { result ≡ None → ¬ Among (map (λ t. t.now) texts.now) text.now }

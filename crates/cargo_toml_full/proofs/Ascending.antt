@@ -10,7 +10,7 @@ use Rattle.std.specs.declared.cmp.Ordering.TheVariants.{Less, Equal, Greater}
 use Rattle.cargo_toml_graph.specs.Action.{Text}
 use Rattle.cargo_toml_graph.specs.Admitted.{is_below}
 use Rattle.cargo_toml_graph.specs.Reach.{Among}
-use Rattle.cargo_toml_full.specs.Ascending.{Ascend}
+use Rattle.cargo_toml_graph.specs.Ascending.{Ascend}
 use Rattle.cargo_toml_features.specs.Places.{nth_text}
 
 abbrev pub Below : Text → Text → Type 0

@@ -6,7 +6,7 @@ use Rattle.cargo_toml_graph.specs.Action.{Text}
 use Rattle.cargo_toml_graph.specs.Admitted.{is_below}
 use Rattle.cargo_toml_graph.specs.Reach.{Among}
 use Rattle.cargo_toml_graph.proofs.RedirectsInOrder.{below_one_way}
-use Rattle.cargo_toml_full.specs.Ascending.{Ascend}
+use Rattle.cargo_toml_graph.specs.Ascending.{Ascend}
 use Rattle.cargo_toml_full.specs.Slots.{HaveSameNames, held_among, held_in, names_in}
 use Rattle.cargo_toml_full.specs.declared.slots.Slots.{Slots}
 use Rattle.cargo_toml_features.specs.Places.{nth_text}

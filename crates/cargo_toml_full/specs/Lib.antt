@@ -8,7 +8,6 @@ pub mod Implying
 pub mod ReadFeature
 pub mod Requiring
 pub mod Slots
-pub mod Ascending
 pub mod Searching
 pub mod Acting
 pub mod Placing

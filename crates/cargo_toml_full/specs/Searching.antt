@@ -4,7 +4,7 @@ use Rattle.std.specs.Borrow.{Bor}
 use Rattle.std.specs.List.{list_any}
 use Rattle.std.specs.declared.alloc.Global.{Global}
 use Rattle.cargo_toml_graph.specs.Action.{Text}
-use Rattle.cargo_toml_full.specs.Ascending.{Ascend, Ascend-prop}
+use Rattle.cargo_toml_graph.specs.Ascending.{Ascend, Ascend-prop}
 
 -- the key is one of these
 abbrev pub has_key : Vec (Bor Text) Global → Text → Bool

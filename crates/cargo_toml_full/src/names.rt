@@ -2,7 +2,7 @@
 ghost use Rattle.std.specs.Prelude.{◌↔◌, IsTrue, map};
 ghost use Rattle.cargo_toml_graph.specs.Action.{Text};
 ghost use Rattle.cargo_toml_graph.specs.Reach.{Among};
-ghost use Rattle.cargo_toml_full.specs.Ascending.{Ascend};
+ghost use Rattle.cargo_toml_graph.specs.Ascending.{Ascend};
 
 use cargo_toml_features::texts::in_order;
 

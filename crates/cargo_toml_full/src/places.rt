@@ -4,7 +4,7 @@ ghost use Rattle.std.specs.Prelude.{bytes_eq, if◌then◌else◌, length, map};
 ghost use Rattle.std.specs.Option.{option_copied};
 ghost use Rattle.cargo_toml_graph.specs.Action.{Text};
 ghost use Rattle.cargo_toml_graph.specs.Reach.{Among};
-ghost use Rattle.cargo_toml_full.specs.Ascending.{Ascend};
+ghost use Rattle.cargo_toml_graph.specs.Ascending.{Ascend};
 ghost use Rattle.cargo_toml_full.specs.Slots.{HaveSameNames, held_in, names_in};
 ghost use Rattle.cargo_toml_features.specs.Places.{nth_text};
 

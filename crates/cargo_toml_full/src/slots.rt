@@ -1,6 +1,6 @@
 //! Values under names that stand in byte order.
 ghost use Rattle.std.specs.Prelude.{◌≡◌, length, map};
-ghost use Rattle.cargo_toml_full.specs.Ascending.{Ascend, Ascend-prop};
+ghost use Rattle.cargo_toml_graph.specs.Ascending.{Ascend, Ascend-prop};
 
 /// Values under names that stand in byte order, each name once. A name may be without a value.
 ///

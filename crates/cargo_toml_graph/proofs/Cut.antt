@@ -6,7 +6,7 @@ use Rattle.std.proofs.lemmas.List.Sums.{sum_by-cons}
 use Rattle.cargo_toml_graph.specs.Action.{Text}
 use Rattle.cargo_toml_graph.specs.Admitted.{Listed, is_below, is_admitted, admitted}
 use Rattle.cargo_toml_graph.specs.Reach.{Among, IsOnce}
-use Rattle.cargo_toml_graph.specs.Removal.{IsAscending}
+use Rattle.cargo_toml_graph.specs.Ascending.{Ascend}
 use Rattle.cargo_toml_graph.proofs.RedirectsInOrder.{below_one_way}
 
 -- a name counts while there is room, and `default` always
@@ -30,7 +30,7 @@ abbrev Below : Text → Text → Type 0
 Below a b = IsTrue (is_below a b)
 
 abbrev pub Ascends : Listed → Type 0
-Ascends listed = IsAscending Below (names_of listed)
+Ascends listed = Ascend (names_of listed)
 
 abbrev one : Bool → ℕ
 one b = cond b 1 0

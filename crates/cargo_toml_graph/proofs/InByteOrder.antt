@@ -2,11 +2,12 @@
 use Rattle.std.proofs.Common.{◌≡◌, ◌⊎◌, ◌↔◌, ◌≤◌, ◌&&◌, ◌||◌, not, Bool, true, false, IsTrue, cond, List, [], ◌∷◌, ◌++◌, take, bytes_eq, nat_eq, codes, refl, sym, ap, ap₂, subst, inl, inr, ◌∙◌}
 use Rattle.std.proofs.lemmas.Bool.{false≢true}
 use Rattle.std.specs.List.{starts_with}
+use Rattle.cargo_toml_graph.specs.Ascending.{Ascend}
 use Rattle.cargo_toml_graph.specs.Action.{Text}
 use Rattle.cargo_toml_graph.specs.Admitted.{is_below}
 use Rattle.cargo_toml_graph.specs.Reach.{Among, IsOnce}
 use Rattle.cargo_toml_graph.specs.Graph.{Table, Resolution, IsKept, IsUnremoved}
-use Rattle.cargo_toml_graph.specs.Removal.{IsAscending, is_removed, put_each, pass_bins, pass_all, unremoved, without_one, without_all}
+use Rattle.cargo_toml_graph.specs.Removal.{is_removed, put_each, pass_bins, pass_all, unremoved, without_one, without_all}
 use Rattle.cargo_toml_graph.specs.Bins.{ArePassedOn, HasBins, IsComplete, mentions}
 use Rattle.cargo_toml_graph.proofs.Edges.{unremoved_is}
 use Rattle.cargo_toml_graph.proofs.Members.{reaches_within}
@@ -17,12 +18,12 @@ abbrev Below : Text → Text → Type 0
 Below a b = IsTrue (is_below a b)
 
 -- a list in ascending order has each text once
-pub ascending_once : (xs : List Text) → IsAscending (λ a b. IsTrue (is_below a b)) xs → IsOnce xs
+pub ascending_once : (xs : List Text) → Ascend xs → IsOnce xs
 ascending_once [] a = tt
 ascending_once (x ∷ xs) a = ((λ i. let b = a.0 x i in below_one_way x x b b), ascending_once xs a.1)
 
 -- a text above all others goes to the end
-pub ascending_last : (xs : List Text) (r : Text) → IsAscending (λ a b. IsTrue (is_below a b)) xs → ((v : Text) → Among xs v → IsTrue (is_below v r)) → IsAscending (λ a b. IsTrue (is_below a b)) (xs ++ r ∷ [])
+pub ascending_last : (xs : List Text) (r : Text) → Ascend xs → ((v : Text) → Among xs v → IsTrue (is_below v r)) → Ascend (xs ++ r ∷ [])
 ascending_last [] r a above = ((λ y i. absurd i), tt)
 ascending_last (x ∷ xs) r a above = (
   λ y i. elim (last xs y i) [ inl j ↦ a.0 y j | inr e ↦ subst (Below x) (sym e) (above x (inl refl)) ],
@@ -36,7 +37,7 @@ ascending_last (x ∷ xs) r a above = (
     last (z ∷ ys) y (inr i) = elim (last ys y i) [ inl j ↦ inl (inr j) | inr e ↦ inr e ]
 
 -- there is one list in ascending order of the same texts
-pub one_order : (xs ys : List Text) → IsAscending (λ a b. IsTrue (is_below a b)) xs → IsAscending (λ a b. IsTrue (is_below a b)) ys → ((v : Text) → Among xs v ↔ Among ys v) → xs ≡ ys
+pub one_order : (xs ys : List Text) → Ascend xs → Ascend ys → ((v : Text) → Among xs v ↔ Among ys v) → xs ≡ ys
 one_order [] [] a b same = refl
 one_order [] (y ∷ ys) a b same = absurd ((same y).1 (inl refl))
 one_order (x ∷ xs) [] a b same = absurd ((same x).0 (inl refl))

@@ -6,6 +6,7 @@ use Rattle.std.specs.Cmp.Lexicographic.{slice_cmp}
 use Rattle.std.specs.Ordering.{nat_cmp, is_lt, ordering_reverse}
 use Rattle.std.specs.declared.cmp.Ordering.{Ordering}
 use Rattle.std.specs.declared.cmp.Ordering.TheVariants.{Less, Equal, Greater}
+use Rattle.cargo_toml_graph.specs.Ascending.{Ascend}
 use Rattle.cargo_toml_graph.specs.Action.{Text}
 use Rattle.cargo_toml_graph.specs.Admitted.{is_below}
 use Rattle.cargo_toml_graph.specs.Reach.{Among, IsOnce}
@@ -65,6 +66,6 @@ below_one_way a b = go (slice_cmp nat_cmp a b) (slice_cmp nat_cmp b a) (nat_list
     go o Greater e x y = false≢true y
 
 pub redirect_by_bytes : (t : Table) (before : List Text) (r : Text) (after : List Text) (m : Resolution) → IsUnremoved t m
-    → ((v : Text) → Among (before ++ r ∷ after) v → IsTrue (t.has v)) → IsAscending (λ a b. IsTrue (is_below a b)) (before ++ r ∷ after)
+    → ((v : Text) → Among (before ++ r ∷ after) v → IsTrue (t.has v)) → Ascend (before ++ r ∷ after)
     → (x : Text) → IsTrue ((without_all before m).table.names r x) ↔ RedirectsTo t (Among (before ++ r ∷ after)) (λ a b. IsTrue (is_below a b)) r x
 redirect_by_bytes t before r after m start there ascending x = redirect_is (λ a b. IsTrue (is_below a b)) below_one_way t before r after m start there ascending x

@@ -1,10 +1,10 @@
 -- The binaries that require a feature, where removed features pass theirs on.
 use Rattle.std.specs.Prelude.{◌≡◌, ◌↔◌, ◌+◌, ℕ, List, [], ◌∷◌, ◌++◌, take, length, IsTrue}
+use Rattle.cargo_toml_graph.specs.Ascending.{Ascend}
 use Rattle.cargo_toml_graph.specs.Action.{Text}
-use Rattle.cargo_toml_graph.specs.Admitted.{is_below}
 use Rattle.cargo_toml_graph.specs.Reach.{Among, IsOnce, Reaches, GathersLabel}
 use Rattle.cargo_toml_graph.specs.Graph.{Table, Edge, IsKept}
-use Rattle.cargo_toml_graph.specs.Removal.{IsAscending, pass_all, unremoved}
+use Rattle.cargo_toml_graph.specs.Removal.{pass_all, unremoved}
 
 -- bins are own, then texts without doubling that are not in own and that P holds of
 pub record Grown (own : List Text) (P : Text → Type 0) (bins : List Text) : Type 0 where
@@ -16,7 +16,7 @@ pub record Grown (own : List Text) (P : Text → Type 0) (bins : List Text) : Ty
 
 -- the removed features, in byte order
 pub record AreInByteOrder (Removed : Text → Type 0) (order : List Text) : Type 0 where
-  pub ascending : IsAscending (λ a b. IsTrue (is_below a b)) order
+  pub ascending : Ascend order
   pub members : (r : Text) → Among order r ↔ Removed r
 
 module _ (t : Table) (Removed : Text → Type 0) (own : Text → List Text) where

@@ -10,3 +10,4 @@ pub mod Kept
 pub mod Admitted
 -- worked examples, which compute: nothing here has to be believed
 pub mod Examples
+pub mod Ascending

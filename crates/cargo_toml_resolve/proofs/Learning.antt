@@ -12,8 +12,8 @@ use Rattle.std.specs.Map.{lookup}
 use Rattle.std.specs.Ordering.{nat_cmp}
 use Rattle.std.specs.HashMap.{HashMap}
 use Rattle.std.specs.Option.{option_map_or}
-use Rattle.cargo_toml_features.proofs.Places.{Ascends}
 use Rattle.cargo_toml_graph.specs.Bins.{ArePassedOn}
+use Rattle.cargo_toml_graph.specs.Ascending.{Ascend}
 use Rattle.cargo_toml_graph.specs.Action.{Text}
 use Rattle.cargo_toml_graph.specs.Graph.{Edge, IsPlain, IsUnremoved, Table}
 use Rattle.cargo_toml_graph.specs.Reach.{Among}
@@ -267,7 +267,7 @@ keys_still (v ∷ vs) (w ∷ ws) s =
 -- what doesn't speak of enablers still holds
 module _ (vs ws : List Feature) (same : AreSameButEnablers vs ws) where
   pub in_order_still : AreInOrder vs → AreInOrder ws
-  in_order_still up = subst Ascends (sym (keys_still vs ws same)) up
+  in_order_still up = subst Ascend (sym (keys_still vs ws same)) up
 
   pub marks_still : (m : Text → FeatureMarks) → ((f : Text) → IfSome (feature_at vs f) (λ v. marks_of v ≡ m f)) → (f : Text) → IfSome (feature_at ws f) (λ v. marks_of v ≡ m f)
   marks_still m h f = go (feature_at vs f) (feature_at ws f) (alike_at vs ws same f) (h f)

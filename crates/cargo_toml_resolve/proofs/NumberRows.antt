@@ -10,12 +10,13 @@ use Rattle.std.specs.Map.{lookup}
 use Rattle.std.specs.Map.Iter.{deref_pair}
 use Rattle.std.specs.Option.{IsSomeAnd, option_map_or}
 use Rattle.std.specs.Ordering.{nat_cmp}
+use Rattle.cargo_toml_graph.specs.Ascending.{Ascend}
 use Rattle.cargo_toml_graph.specs.Action.{Text}
 use Rattle.cargo_toml_graph.specs.Graph.{IsPlain}
 use Rattle.cargo_toml_graph.specs.Reach.{Among}
 use Rattle.cargo_toml_walk.specs.Numbers.{IsWanted, row_items}
 use Rattle.cargo_toml_features.specs.Places.{nth_text}
-use Rattle.cargo_toml_features.proofs.Places.{Ascends, among_at, once}
+use Rattle.cargo_toml_features.proofs.Places.{among_at, once}
 use Rattle.cargo_toml_features.specs.declared.features.DepAction.{DepAction}
 use Rattle.cargo_toml_features.specs.declared.features.Feature.{Feature}
 use Rattle.cargo_toml_features.specs.Views.{action_at, action_of, set_has}
@@ -62,7 +63,7 @@ module _ (keys : List (Bor Text)) (own : ℕ) where
   abbrev pub Gains : (ℕ → Type 0) → List ℕ → List ℕ → Type 0
   Gains P old new = (x : ℕ) → Among new x ↔ (Among old x ⊎ ((x < length keys) × (x ≢ own) × P x))
 
-  module _ (up : Ascends (texts_now keys)) (key : Text) (row : List ℕ) where
+  module _ (up : Ascend (texts_now keys)) (key : Text) (row : List ℕ) where
     one_key : (i j : ℕ) → i < length keys → j < length keys → nth_text (texts_now keys) i ≡ nth_text (texts_now keys) j → i ≡ j
     one_key i j lt lt' same = let long = length-map keys (λ (t : Bor Text). t.now) in once (texts_now keys) up i j (omega (arith, long, lt)) (omega (arith, long, lt')) same
 

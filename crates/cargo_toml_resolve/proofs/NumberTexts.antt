@@ -2,12 +2,13 @@
 use Rattle.std.proofs.Common.{◌≡◌, ◌↔◌, ◌<◌, ◌≤◌, ◌+◌, ◌-◌, ℕ, Bool, true, false, List, [], ◌++◌, length, map, take, drop, Bor, refl, sym, ap, subst, inl, inr, ◌∙◌, arith}
 use Rattle.std.proofs.lemmas.Bool.{false≢true, cases_lt}
 use Rattle.std.proofs.lemmas.List.{length-append, length-map, length-take-le, length-drop, take_at, drop_at, map-append, take-map, drop-map, take_rest, get_or-take, get_or-drop, get_or_append_left, get_or-append_right}
+use Rattle.cargo_toml_graph.specs.Ascending.{Ascend}
 use Rattle.cargo_toml_graph.specs.Action.{Text}
 use Rattle.cargo_toml_graph.specs.Reach.{Among}
 use Rattle.cargo_toml_graph.specs.Removal.{lists_text}
 use Rattle.cargo_toml_graph.proofs.BinLists.{among-first, among-second, among-true, is_among-true}
 use Rattle.cargo_toml_features.specs.Places.{nth_text}
-use Rattle.cargo_toml_features.proofs.Places.{Ascends, among_at, at_among, once}
+use Rattle.cargo_toml_features.proofs.Places.{among_at, at_among, once}
 use Rattle.cargo_toml_features.specs.declared.features.Feature.{Feature}
 use Rattle.cargo_toml_features.specs.InOrder.{AreInOrder, names_of}
 use Rattle.cargo_toml_resolve.specs.Numbering.{AreParted, AreTextsOf, IsNamedBy}
@@ -18,7 +19,7 @@ pub stands_among : (ts : List (Bor Text)) (x : Text) (i : ℕ) → (i < length t
 stands_among ts x i at = subst (Among (texts_now ts)) at.1 (among_at (texts_now ts) i [] (let long = length-map ts (λ (t : Bor Text). t.now) in let lt = at.0 in omega (arith, long, lt)))
 
 -- two lists, each in byte order, that have no text in common
-module _ (ks os : List Text) (up : Ascends ks) (rise : Ascends os) (apart : (x : Text) → Among os x → Among ks x → ⊥) where
+module _ (ks os : List Text) (up : Ascend ks) (rise : Ascend os) (apart : (x : Text) → Among os x → Among ks x → ⊥) where
   in_front : (i : ℕ) → i < length ks → Among ks (nth_text (ks ++ os) i)
   in_front i lt = subst (Among ks) (sym (get_or_append_left ks os [] i lt)) (among_at ks i [] lt)
 
@@ -45,15 +46,15 @@ module _ (ks os : List Text) (up : Ascends ks) (rise : Ascends os) (apart : (x :
       ]
 
 -- the names of features and what these name besides
-pub texts_made : (naming : List Bool) (vs : List Feature) (os : List Text) → AreInOrder vs → Ascends os → ((x : Text) → Among os x ↔ (IsNamedBy naming vs (length vs) x × (¬ Among (names_of vs) x))) → AreTextsOf naming vs (names_of vs ++ os)
+pub texts_made : (naming : List Bool) (vs : List Feature) (os : List Text) → AreInOrder vs → Ascend os → ((x : Text) → Among os x ↔ (IsNamedBy naming vs (length vs) x × (¬ Among (names_of vs) x))) → AreTextsOf naming vs (names_of vs ++ os)
 texts_made naming vs os up rise others =
     let long : length (names_of vs) ≡ length vs = length-map vs (λ (v : Feature). v.key.now) in
     let whole = length-append (names_of vs) os in
     record {
       parted = record {
         fits = omega (arith, long, whole);
-        front = subst Ascends (sym (take_at (names_of vs) os (length vs) long)) up;
-        rest = subst Ascends (sym (drop_at (names_of vs) os (length vs) long)) rise;
+        front = subst Ascend (sym (take_at (names_of vs) os (length vs) long)) up;
+        rest = subst Ascend (sym (drop_at (names_of vs) os (length vs) long)) rise;
         one = one_place (names_of vs) os up rise (λ x o k. ((others x).0 o).1 k);
       };
       keys = take_at (names_of vs) os (length vs) long;
@@ -64,7 +65,7 @@ texts_made naming vs os up rise others =
     go x y true is = among-first (names_of vs) os x (is_among-true (names_of vs) x is)
     go x y false is = among-second (names_of vs) os x ((others x).1 (y, λ i. false≢true (sym is ∙ among-true (names_of vs) x i)))
 
-pub texts_joined : (naming : List Bool) (vs : List Feature) (keys others front back new : List (Bor Text)) → AreInOrder vs → texts_now keys ≡ names_of vs → front ≡ keys → back ≡ others → Ascends (texts_now others)
+pub texts_joined : (naming : List Bool) (vs : List Feature) (keys others front back new : List (Bor Text)) → AreInOrder vs → texts_now keys ≡ names_of vs → front ≡ keys → back ≡ others → Ascend (texts_now others)
     → ((x : Text) → Among (texts_now others) x ↔ (IsNamedBy naming vs (length vs) x × (¬ Among (texts_now front) x))) → new ≡ keys ++ back → AreTextsOf naming vs (texts_now new)
 texts_joined naming vs keys others front back new up same read read' rise besides joined =
     subst (AreTextsOf naming vs) (sym (ap (map (λ (t : Bor Text). t.now)) (joined ∙ ap (λ ts. keys ++ ts) read') ∙ map-append (λ (t : Bor Text). t.now) keys others ∙ ap (λ ks. ks ++ texts_now others) same))
@@ -78,11 +79,11 @@ module _ (n : ℕ) (ts : List (Bor Text)) (h : AreParted n (texts_now ts)) where
   pub one_number : (i j : ℕ) → i < length ts → j < length ts → nth_text (texts_now ts) i ≡ nth_text (texts_now ts) j → i ≡ j
   one_number i j lt lt' same = let long = length-map ts (λ (t : Bor Text). t.now) in h.one i j (omega (arith, long, lt)) (omega (arith, long, lt')) same
 
-  pub front_up : Ascends (texts_now (take n ts))
-  front_up = subst Ascends (take-map (λ (t : Bor Text). t.now) n ts) h.front
+  pub front_up : Ascend (texts_now (take n ts))
+  front_up = subst Ascend (take-map (λ (t : Bor Text). t.now) n ts) h.front
 
-  pub rest_up : Ascends (texts_now (take (length ts - n) (drop n ts)))
-  rest_up = subst (λ (us : List (Bor Text)). Ascends (texts_now us)) (sym (take_rest ts n)) (subst Ascends (drop-map (λ (t : Bor Text). t.now) n ts) h.rest)
+  pub rest_up : Ascend (texts_now (take (length ts - n) (drop n ts)))
+  rest_up = subst (λ (us : List (Bor Text)). Ascend (texts_now us)) (sym (take_rest ts n)) (subst Ascend (drop-map (λ (t : Bor Text). t.now) n ts) h.rest)
 
   front_text : (i : ℕ) → i < n → nth_text (texts_now (take n ts)) i ≡ nth_text (texts_now ts) i
   front_text i lt = ap (λ xs. nth_text xs i) (sym (take-map (λ (t : Bor Text). t.now) n ts)) ∙ get_or-take n (texts_now ts) i [] lt

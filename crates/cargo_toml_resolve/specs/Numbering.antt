@@ -4,7 +4,7 @@ use Rattle.std.specs.Prelude.{List, length, take, drop, slice_get, IsTrue}
 use Rattle.std.specs.Option.{IsSomeAnd, option_map_or}
 use Rattle.cargo_toml_graph.specs.Action.{Text}
 use Rattle.cargo_toml_graph.specs.Reach.{Among}
-use Rattle.cargo_toml_full.specs.Ascending.{Ascend}
+use Rattle.cargo_toml_graph.specs.Ascending.{Ascend}
 use Rattle.cargo_toml_walk.specs.Numbers.{IsWanted}
 use Rattle.cargo_toml_features.specs.Places.{nth_text}
 use Rattle.cargo_toml_features.specs.declared.features.Feature.{Feature}

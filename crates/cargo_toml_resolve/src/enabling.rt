@@ -3,7 +3,7 @@ ghost use Rattle.std.specs.Prelude.{◌≡◌, ◌≢◌, ◌↔◌, ◌⊎◌, 
 ghost use Rattle.cargo_toml_graph.specs.Action.{Text};
 ghost use Rattle.cargo_toml_graph.specs.Graph.{IsUnremoved, Table};
 ghost use Rattle.cargo_toml_graph.specs.Reach.{Among};
-ghost use Rattle.cargo_toml_full.specs.Ascending.{Ascend};
+ghost use Rattle.cargo_toml_graph.specs.Ascending.{Ascend};
 ghost use Rattle.cargo_toml_features.specs.InOrder.{AreInOrder, AreTable, HaveNoEnablers};
 ghost use Rattle.cargo_toml_features.specs.InOrder.{resolution_among};
 ghost use Rattle.cargo_toml_features.specs.Views.{set_has};

@@ -4,7 +4,7 @@ ghost use Rattle.std.specs.Prelude.{IsTrue, None, OnOk, Some, false, length, map
 ghost use Rattle.cargo_toml_graph.specs.Action.{Text};
 ghost use Rattle.cargo_toml_graph.specs.Graph.{IsPlain};
 ghost use Rattle.cargo_toml_graph.specs.Reach.{Among};
-ghost use Rattle.cargo_toml_full.specs.Ascending.{Ascend};
+ghost use Rattle.cargo_toml_graph.specs.Ascending.{Ascend};
 ghost use Rattle.cargo_toml_features.specs.InOrder.{AreInOrder, names_of, table_among};
 ghost use Rattle.cargo_toml_features.specs.Views.{action_at, action_of, set_has};
 ghost use Rattle.cargo_toml_walk.specs.Numbers.{IsWanted, Leads};

@@ -1,9 +1,9 @@
 //! The names of the features that are removed.
 ghost use Rattle.std.specs.Prelude.{◌↔◌, ◌≡◌, Bool, IfOk, IsSome, IsTrue, map};
+ghost use Rattle.cargo_toml_graph.specs.Ascending.{Ascend};
 ghost use Rattle.cargo_toml_graph.specs.Action.{Text};
-ghost use Rattle.cargo_toml_graph.specs.Admitted.{is_below};
 ghost use Rattle.cargo_toml_graph.specs.Reach.{Among};
-ghost use Rattle.cargo_toml_graph.specs.Removal.{IsAscending, is_removed};
+ghost use Rattle.cargo_toml_graph.specs.Removal.{is_removed};
 ghost use Rattle.cargo_toml_features.specs.Views.{set_has, table_in, value_at};
 ghost use Rattle.cargo_toml_resolve.specs.Filter.{HasNameFilter, FilterTells};
 
@@ -49,7 +49,7 @@ pub fn hidden_names<'m, F: Fn(&str) -> bool, S: BuildHasher>(
     ensures known { IfOk result
         (λ v. (f : Text) → Among (map (λ t. t.now) v.items) f → IsSome (value_at features.now f)) }
     ensures ascending { IfOk result
-        (λ v. IsAscending (λ a b. IsTrue (is_below a b)) (map (λ t. t.now) v.items)) }
+        (λ v. Ascend (map (λ t. t.now) v.items)) }
 {
     let names = hidden_set(alloc, features, filter)?;
     in_order(alloc, &names)
@@ -59,7 +59,7 @@ fn in_order<'m>(alloc: Global, names: &BTreeSet<&'m str>) -> Result<Vec<&'m str>
     ensures all { IfOk result
         (λ v. (f : Text) → Among (map (λ t. t.now) v.items) f ↔ IsTrue (set_has names.now f)) }
     ensures ascending { IfOk result
-        (λ v. IsAscending (λ a b. IsTrue (is_below a b)) (map (λ t. t.now) v.items)) }
+        (λ v. Ascend (map (λ t. t.now) v.items)) }
 {
     names.iter().copied().collect(alloc)
 }

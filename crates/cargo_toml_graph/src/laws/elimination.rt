@@ -1,5 +1,6 @@
 //! What is left where features are taken out one after another.
 ghost use Rattle.std.specs.Prelude.{◌↔◌, ◌≡◌, ◌≤◌, ◌++◌, ◌∷◌, Bool, IsFalse, IsTrue, List};
+ghost use Rattle.cargo_toml_graph.specs.Ascending.{Ascend};
 ghost use Rattle.cargo_toml_graph.specs.Action.{Text};
 ghost use Rattle.cargo_toml_graph.specs.Admitted.{is_below};
 ghost use Rattle.cargo_toml_graph.specs.Bins.{ArePassedOn, HasBins, IsComplete, mentions};
@@ -7,7 +8,7 @@ ghost use Rattle.cargo_toml_graph.specs.Graph.{IsKept, IsResolved, IsUnremoved, 
 ghost use Rattle.cargo_toml_graph.specs.Kept.{KeepsEnabling, LosesNothing, NoneIsLeft};
 ghost use Rattle.cargo_toml_graph.specs.Reach.{Among, IsOnce};
 ghost use Rattle.cargo_toml_graph.specs.Redirects.{RedirectsTo};
-ghost use Rattle.cargo_toml_graph.specs.Removal.{IsAscending, SameKept, pass_all};
+ghost use Rattle.cargo_toml_graph.specs.Removal.{SameKept, pass_all};
 ghost use Rattle.cargo_toml_graph.specs.Removal.{unremoved, without_all};
 
 /// Every table has a resolution with nothing removed.
@@ -70,7 +71,7 @@ pub fn removal_loses_nothing()
 pub fn redirects_are_names_in_turn()
     ensures { (t : Table) (m : Resolution) (before : List Text) (r : Text) (after : List Text)
         → IsUnremoved t m → ((v : Text) → Among (before ++ r ∷ after) v → IsTrue (t.has v))
-        → IsAscending (λ a b. IsTrue (is_below a b)) (before ++ r ∷ after)
+        → Ascend (before ++ r ∷ after)
         → (x : Text) → IsTrue ((without_all before m).table.names r x)
         ↔ RedirectsTo t (Among (before ++ r ∷ after)) (λ a b. IsTrue (is_below a b)) r x }
 {}

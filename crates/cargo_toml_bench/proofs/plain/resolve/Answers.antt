@@ -1,7 +1,7 @@
 use Rattle.std.proofs.Common.{◌≡◌, ◌==◌, ◌↔◌, map, not, option_map, IsTrue, sym, ap, subst, ◌∙◌}
+use Rattle.cargo_toml_graph.specs.Ascending.{Ascend}
 use Rattle.cargo_toml_graph.specs.Action.{Text}
-use Rattle.cargo_toml_graph.specs.Admitted.{is_below}
-use Rattle.cargo_toml_graph.specs.Removal.{IsAscending, is_removed}
+use Rattle.cargo_toml_graph.specs.Removal.{is_removed}
 use Rattle.cargo_toml_graph.specs.Reach.{Among, IsOnce}
 use Rattle.cargo_toml_full.specs.OwnBins.{own_of, bin_requirement}
 use Rattle.cargo_toml_features.specs.Marks.{named_details, marks_in, marks_of}
@@ -47,6 +47,6 @@ returns-clause-resolved g c = λ keep tells.
     (held_by_name vs old by_name (λ f v. map (λ b. b.now) v.required_by_bins.items ≡ own f) (bins_still old_vs vs enabled.same own all.features.bins))
     (λ k. subst (λ o. SameRecorded (option_map recorded_in o) (recorded_of (entries_at listed entries k))) (sym (c.in_ok-dependencies.ensures.same k)) (all.dependencies k))
     (subst (λ xs. (f : Text) → Among (texts_now xs) f ↔ IsTrue (is_removed (table_in old) keep f)) (sym same) (names.removed keep tells))
-    (subst (λ xs. IsAscending (λ a b. IsTrue (is_below a b)) (texts_now xs)) (sym same) names.ascending)
+    (subst (λ xs. Ascend (texts_now xs)) (sym same) names.ascending)
     gone.left gone.keys gone.marks gone.bins gone.redirected gone.redirects
     (some_is c.is_empty.result c.as_slice.result.now (c.is_empty.ensures ∙ ap (λ n. n == 0) (sym c.as_slice.ensures.len)))

@@ -1,9 +1,9 @@
 use Rattle.std.proofs.Common.{rules, ◌≡◌, ◌<◌, ◌≤◌, ℕ, Bor, true, length, ap, sym, subst, ◌∙◌}
 use Rattle.std.proofs.lemmas.List.{length-map}
+use Rattle.cargo_toml_graph.specs.Ascending.{Ascend}
 use Rattle.cargo_toml_graph.specs.Action.{Text}
 use Rattle.cargo_toml_walk.specs.Numbers.{IsWanted}
 use Rattle.cargo_toml_walk.proofs.Filling.{has_row}
-use Rattle.cargo_toml_features.proofs.Places.{Ascends}
 use Rattle.cargo_toml_features.specs.InOrder.{names_of}
 use Rattle.cargo_toml_resolve.specs.NumberedTables.{IsNaming}
 use Rattle.cargo_toml_resolve.specs.Numbering.{AreTextsOf}
@@ -12,7 +12,7 @@ use Rattle.cargo_toml_resolve.proofs.NumberingGraph.{graph_stands, named_by, tar
 use Rattle.cargo_toml_resolve.proofs.numbering.number.Goals as goal
 
 pub edge_rows-requires : goal.edge_rows-requires
-edge_rows-requires c = rw c.as_slice.ensures.value (subst Ascends (sym c.in_ok-keys.ensures) c.requires.in_order)
+edge_rows-requires c = rw c.as_slice.ensures.value (subst Ascend (sym c.in_ok-keys.ensures) c.requires.in_order)
 
 pub naming_flags-requires-clause-len : goal.naming_flags-requires-clause-len
 naming_flags-requires-clause-len c = rw c.as_slice-2.ensures.value (c.in_ok-edges.ensures.len ∙ sym c.requires.len)

@@ -1,3 +1,4 @@
 mod Unfiltered
 mod AtLimit
 mod Kept
+mod Written

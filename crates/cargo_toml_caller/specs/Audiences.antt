@@ -11,6 +11,7 @@ use Rattle.cargo_toml.specs.Manifests.{ManifestMeaning, manifest_reads, Manifest
 use Rattle.cargo_toml.specs.Texts.{document_reads, DocumentRefuses}
 use Rattle.cargo_toml.specs.Floats.{has_no_float}
 use Rattle.cargo_toml.specs.Writes.{Way, IsFloatless, never_left_out}
+use Rattle.cargo_toml.specs.WrittenManifests.{manifest_way}
 use Rattle.cargo_toml_caller.specs.declared.audience.Audience.{Audience}
 use Rattle.cargo_toml_caller.specs.declared.audience.Audience.TheVariants.{Everyone, Team}
 use Rattle.cargo_toml_caller.specs.declared.audience.Audience.TheVariants.{Undecided}
@@ -57,6 +58,13 @@ pub record IsAudienceOf (bytes : List ℕ) (answer : Option Audience) : Type 0 w
   pub text : IsUtf8 bytes
   pub reads : document_reads (manifest_reads audience_reads) (parse_document bytes) ≡ Some manifest
   pub exact : answer ≡ audience_in manifest
+
+-- the tree is one of the manifest that the bytes spell
+pub record IsRewritten (bytes : List ℕ) (tree : Data) : Type 0 where
+  pub manifest : ManifestMeaning Audience
+  pub text : IsUtf8 bytes
+  pub reads : document_reads (manifest_reads audience_reads) (parse_document bytes) ≡ Some manifest
+  pub written : (manifest_way audience_way).trees manifest tree
 
 -- why there is no answer: there was no memory, the bytes are no text, or their document is refused
 -- with this fault

@@ -6,11 +6,10 @@ pub mod custom;
 pub mod dependencies;
 pub mod limited;
 pub mod targets;
-#[cfg(test)]
-mod tests;
 
 ghost use Rattle.std.specs.Prelude.{◌≡◌, IfErr, IfOk};
 ghost use Rattle.semver.specs.Identifiers.{parts_of};
+ghost use Rattle.toml.specs.View.{view};
 ghost use Rattle.cargo_toml.specs.Inherits.{inheritable_map};
 ghost use Rattle.cargo_toml.specs.Manifests.{held};
 ghost use Rattle.cargo_toml.specs.Packages.{held_package, package_reads};
@@ -18,7 +17,7 @@ ghost use Rattle.cargo_toml.specs.WrittenManifests.{manifest_way};
 ghost use Rattle.cargo_toml.specs.WrittenPackages.{package_way, VersionAgain};
 ghost use Rattle.cargo_toml.specs.Writes.{IsReadAgain, IsWriting};
 ghost use Rattle.cargo_toml_caller.specs.Audiences.{IsAudienceOf, Refuses, audience_way};
-ghost use Rattle.cargo_toml_caller.specs.Audiences.{audience_reads, audience_in};
+ghost use Rattle.cargo_toml_caller.specs.Audiences.{IsRewritten, audience_reads, audience_in};
 
 pub use audience::Audience;
 use cargo_toml::{Error, Manifest, Package, ToValue, Value};
@@ -53,6 +52,14 @@ pub fn write_manifest(alloc: Global, manifest: &Manifest<Audience>) -> Result<Va
         (held manifest.now) result }
 {
     manifest.to_value(alloc)
+}
+
+/// A tree of the manifest that these bytes spell: what was read is written again.
+pub fn rewrite(alloc: Global, bytes: &[u8]) -> Result<Value, Error>
+    ensures { IfOk result (λ v. IsRewritten bytes.now (view v)) }
+{
+    let manifest: Manifest<Audience> = Manifest::from_slice_with_metadata(alloc, bytes)?;
+    write_manifest(alloc, &manifest)
 }
 
 /// A tree of the package, from which it is read again, its metadata too.

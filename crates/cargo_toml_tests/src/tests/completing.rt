@@ -1,6 +1,6 @@
 //! Completion over implementors of a caller's own, which state nothing.
-use super::manifest;
 use cargo_toml::{AbstractFilesystem, Error, NoRoot, Value};
+use cargo_toml_held::HeldManifest;
 use std::alloc::Global;
 use std::collections::HashSet;
 use std::io;
@@ -32,10 +32,12 @@ const MEMBER: &str = "package = { name = \"m\", workspace = \"../\", version.wor
 #[test]
 fn root_for_hint_of_a_silent_implementor(rt: HostRuntime) -> Result<(), Fail> {
     let alloc = rt.alloc();
-    let mut member = manifest(alloc, MEMBER)?;
-    let before = format!(in alloc; "{member:?}")?;
-    let outcome = member.complete_from_abstract_filesystem::<Value, _>(alloc, &Silent, None);
+    let mut member = HeldManifest::from_str(alloc, MEMBER)?;
+    let before = format!(in alloc; "{:?}", member.manifest)?;
+    let outcome = member
+        .manifest
+        .complete_from_abstract_filesystem::<Value, _>(alloc, &Silent, None);
     assert!(rt; matches!(&outcome, Err(fault) if is_unsupported(fault, "../")));
-    assert_eq!(rt; format!(in alloc; "{member:?}")?, before);
+    assert_eq!(rt; format!(in alloc; "{:?}", member.manifest)?, before);
     Ok(())
 }

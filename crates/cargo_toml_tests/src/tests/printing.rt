@@ -1,25 +1,10 @@
-//! What a refusal of a printing call leaves.
-use super::manifest;
-use cargo_toml::{Error, ParseFault};
+//! Output and input that fail, and what is printed of a manifest that is not completed.
+use cargo_toml::Error;
+use cargo_toml_held::HeldManifest;
 use cargo_toml_program::{print_complete, print_features};
 use std::io;
 use std::io::{Read, Write};
 use std::test::Fail;
-
-#[test]
-fn nothing_is_printed_of_what_is_no_manifest(rt: HostRuntime) -> Result<(), Fail> {
-    let alloc = rt.alloc();
-    let mut output = Vec::new(alloc);
-    output.push(b'#')?;
-    let refused = print_features(alloc, &mut b"\xff".as_slice(), &mut output, 2048);
-    assert!(rt; matches!(refused, Err(Error::Other("utf8"))));
-    let refused = print_features(alloc, &mut b"[package".as_slice(), &mut output, 2048);
-    assert!(rt; matches!(refused, Err(Error::Parse(ParseFault::Toml(_)))));
-    let refused = print_features(alloc, &mut b"[package]\n".as_slice(), &mut output, 2048);
-    assert!(rt; matches!(refused, Err(Error::Parse(ParseFault::Shape(_)))));
-    assert_eq!(rt; output.as_slice(), b"#".as_slice());
-    Ok(())
-}
 
 /// Gives one byte, then fails.
 #[derive(Drop)]
@@ -62,22 +47,16 @@ fn is_broken(outcome: Result<(), Error>) -> bool {
 }
 
 #[test]
-fn input_and_output_that_fail(rt: HostRuntime) {
+fn input_and_output_that_fail(rt: HostRuntime) -> Result<(), Fail> {
     let alloc = rt.alloc();
     let mut output = Vec::new(alloc);
     assert!(rt; is_broken(print_features(alloc, &mut Broken { given: false }, &mut output, 2048)));
     assert!(rt; output.is_empty());
     assert!(rt; is_broken(print_features(alloc, &mut b"".as_slice(), &mut Full, 2048)));
-}
-
-#[test]
-fn lines_of_what_is_not_completed(rt: HostRuntime) -> Result<(), Fail> {
-    let alloc = rt.alloc();
     let text = "package = { name = \"p\", version = \"1.0.0\", readme = { workspace = true } }";
-    let manifest = manifest(alloc, text)?;
-    assert!(rt; is_broken(print_complete(alloc, &*manifest, &mut Full)));
-    let mut output = Vec::new(alloc);
-    print_complete(alloc, &*manifest, &mut output)?;
+    let held = HeldManifest::from_str(alloc, text)?;
+    assert!(rt; is_broken(print_complete(alloc, &*held.manifest, &mut Full)));
+    print_complete(alloc, &*held.manifest, &mut output)?;
     let lines = b"build | -\nreadme | -\n";
     assert_eq!(rt; output.as_slice(), lines.as_slice());
     Ok(())

@@ -1,16 +1,15 @@
-//! Code of a caller's own that answers out of memory: the state of hashed maps, metadata, and a
-//! value that is inherited.
+//! Code of a caller's own that answers out of memory: the state of hashed maps, and a value that is
+//! inherited.
 ghost use Rattle.std.specs.Prelude.{◌≡◌, false};
 
-use super::manifest;
-use super::manifests::with_metadata;
 use cargo_toml::features::Resolver;
-use cargo_toml::{Error, FromValue, Inheritable, Value};
-use std::alloc::{AllocError, Global};
+use cargo_toml::{Error, Inheritable};
+use cargo_toml_held::HeldManifest;
+use std::alloc::AllocError;
 use std::hash::{BuildHasher, FoldHasher};
 use std::test::Fail;
 
-// What can't be copied or read without memory.
+// What can't be copied without memory.
 #[derive(Debug, Drop)]
 struct Costly;
 
@@ -20,35 +19,11 @@ impl Clone for Costly {
     }
 }
 
-impl FromValue for Costly {
-    ghost use Rattle.std.specs.Prelude.{None};
-
-    ghost Meaning = { Unit {0} };
-
-    ghost meaning = { λ _. tt };
-
-    ghost from_tree = { λ _. None };
-
-    ghost from_refuses = { λ _ _. ⊥ };
-
-    fn from_value(_alloc: Global, _value: Value) -> Result<Costly, Error> {
-        Err(Error::Memory)
-    }
-}
-
 #[test]
 fn refused_memory_of_a_copy(rt: HostRuntime) {
     let mut own: Inheritable<Costly> = Inheritable::Inherited;
     assert!(rt; matches!(own.inherit(&Costly), Err(Error::Memory)));
     assert!(rt; !own.is_set());
-}
-
-#[test]
-fn refused_memory_of_metadata(rt: HostRuntime) {
-    let alloc = rt.alloc();
-    let text = "package = { name = \"p\", metadata = 1 }";
-    let read = with_metadata::<Costly>(alloc, text.as_bytes());
-    assert!(rt; matches!(read, Err(Error::Memory)));
 }
 
 // A state of hashed maps that can't be copied without memory.
@@ -87,7 +62,7 @@ fn refused_memory_of_a_state(rt: HostRuntime) -> Result<(), Fail> {
         hasher: FoldHasher::default(),
     };
     let resolver = Resolver::new_with_hasher_and_filter(state, &keep);
-    let manifest = manifest(alloc, "features = { a = [] }")?;
-    assert!(rt; matches!(resolver.parse(alloc, &*manifest), Err(Error::Memory)));
+    let held = HeldManifest::from_str(alloc, "features = { a = [] }")?;
+    assert!(rt; matches!(resolver.parse(alloc, &*held.manifest), Err(Error::Memory)));
     Ok(())
 }

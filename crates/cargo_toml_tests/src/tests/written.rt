@@ -1,143 +1,80 @@
 //! What is written of values that no text reads as.
-use super::boxed;
 use cargo_toml::{
-    DependencyDetail, Error, FeatureDetail, Lint, LintLevel, Manifest, Package, PackageTemplate,
-    Profile, Profiles, SemVer, ToValue, Value, Workspace,
+    Dependency, Error, FeatureDetail, FeatureDetails, Profile, Profiles, ToValue, Value,
 };
+use cargo_toml_held::HeldManifest;
 use std::alloc::{AllocError, Global};
-use std::collections::BTreeMap;
 use std::test::Fail;
 
-fn values(alloc: Global, key: &str, value: Value) -> Result<BTreeMap<String, Value>, AllocError> {
-    let mut all = BTreeMap::new(alloc);
-    drop(all.insert(String::from_str(alloc, key)?, value)?);
-    Ok(all)
-}
-
-// The text of the tree that a value is written as.
-fn tree<T: ToValue>(alloc: Global, value: &T) -> Result<String, Error> {
-    let tree = value.to_value(alloc)?;
-    Ok(format!(in alloc; "{tree}")?)
-}
-
-// Whether the value is refused for a float.
-fn refuses_float<T: ToValue>(alloc: Global, value: &T) -> bool {
-    matches!(
-        value.to_value(alloc),
-        Err(Error::Other("floats are not supported"))
-    )
-}
-
-#[test]
-fn default_manifest_written(rt: HostRuntime) -> Result<(), Fail> {
-    let alloc = rt.alloc();
-    let manifest: Box<Manifest> = boxed(alloc, Manifest::default(alloc))?;
-    assert_eq!(rt; tree(alloc, &*manifest)?.as_str(), "{}");
-    let workspace: Box<Workspace> = boxed(alloc, Workspace::default(alloc))?;
-    assert_eq!(rt; tree(alloc, &*workspace)?.as_str(), "{ members = [] }");
-    let template = boxed(alloc, PackageTemplate::default())?;
-    assert_eq!(rt; tree(alloc, &*template)?.as_str(), "{}");
+// Says of a feature what is said of each that has no table of its own.
+fn tell(alloc: Global, details: &mut FeatureDetails, name: &str) -> Result<(), AllocError> {
+    drop(details.insert(String::from_str(alloc, name)?, FeatureDetail::default())?);
     Ok(())
 }
 
-// What is said of a feature is written where the feature is there, and as a table even
-// where it says nothing.
-#[test]
-fn details_written(rt: HostRuntime) -> Result<(), Fail> {
-    let alloc = rt.alloc();
-    let mut manifest: Box<Manifest> = boxed(alloc, Manifest::default(alloc))?;
-    let name = String::from_str(alloc, "f")?;
-    let detail = FeatureDetail::default();
-    drop(manifest.feature_details.insert(name, detail)?);
-    assert_eq!(rt; tree(alloc, &*manifest)?.as_str(), "{}");
-    let name = String::from_str(alloc, "f")?;
-    drop(manifest.features.insert(name, Vec::new(alloc))?);
-    assert_eq!(rt;
-        tree(alloc, &*manifest)?.as_str(),
-        "{ features = { f = {} } }"
-    );
+// Puts a value under a key that has a field of its own.
+fn collect(
+    alloc: Global,
+    dependency: Option<&mut Dependency>,
+    key: &str,
+    value: Value,
+) -> Result<(), Error> {
+    if let Some(dependency) = dependency {
+        let unstable = &mut dependency.try_detail_mut(alloc)?.unstable;
+        drop(unstable.insert(String::from_str(alloc, key)?, value)?);
+    }
     Ok(())
 }
 
-#[test]
-fn new_package_written(rt: HostRuntime) -> Result<(), Fail> {
-    let alloc = rt.alloc();
-    let name = String::from_str(alloc, "p")?;
-    let package: Box<Package> = boxed(alloc, Package::new(alloc, name, SemVer::new(1, 2, 3)))?;
-    assert_eq!(rt;
-        tree(alloc, &*package)?.as_str(),
-        "{ edition = \"2021\", name = \"p\", version = \"1.2.3\" }"
-    );
-    let package: Box<Package> = boxed(alloc, Package::default(alloc))?;
-    assert_eq!(rt;
-        tree(alloc, &*package)?.as_str(),
-        "{ edition = \"2021\", name = \"\", version = \"0.0.0\" }"
-    );
-    Ok(())
-}
-
-#[test]
-fn collected_keys_give_way(rt: HostRuntime) -> Result<(), Fail> {
-    let alloc = rt.alloc();
-    let mut detail = boxed(alloc, DependencyDetail::default(alloc))?;
-    detail.inherited = true;
-    detail.unstable = values(alloc, "optional", Value::Integer(1))?;
-    assert_eq!(rt; tree(alloc, &*detail)?.as_str(), "{ optional = 1 }");
-    detail.optional = true;
-    assert_eq!(rt; tree(alloc, &*detail)?.as_str(), "{ optional = true }");
-    let lint = Lint {
-        level: LintLevel::Warn,
-        priority: 0,
-        config: values(alloc, "level", Value::Integer(3))?,
-    };
-    assert_eq!(rt;
-        tree(alloc, &lint)?.as_str(),
-        "{ level = \"warn\", priority = 0 }"
-    );
-    Ok(())
-}
-
-#[test]
-fn known_profiles_are_put_over_others(rt: HostRuntime) -> Result<(), Fail> {
-    let alloc = rt.alloc();
-    let mut profiles = boxed(alloc, Profiles::default(alloc))?;
+// Puts a profile under a name of Cargo's own beside those that have fields.
+fn hide(alloc: Global, profiles: &mut Profiles, name: &str) -> Result<(), AllocError> {
     let mut other = Profile::default(alloc);
     other.rpath = Some(false);
     drop(
         profiles
             .custom
-            .insert(String::from_str(alloc, "dev")?, other)?,
-    );
-    assert_eq!(rt;
-        tree(alloc, &*profiles)?.as_str(),
-        "{ dev = { rpath = false } }"
-    );
-    profiles.dev = Some(Profile::default(alloc));
-    profiles.release = Some(Profile::default(alloc));
-    assert_eq!(rt;
-        tree(alloc, &*profiles)?.as_str(),
-        "{ dev = {}, release = {} }"
+            .insert(String::from_str(alloc, name)?, other)?,
     );
     Ok(())
 }
 
+// What is said of a feature is written where the feature is there, and as a table even where it
+// says nothing. A key that was collected gives way to the field of its name, and so does a profile.
 #[test]
-fn floats_are_not_written(rt: HostRuntime) -> Result<(), Fail> {
+fn changed_manifest_written(rt: HostRuntime) -> Result<(), Fail> {
     let alloc = rt.alloc();
-    let mut detail = boxed(alloc, DependencyDetail::default(alloc))?;
-    detail.unstable = values(alloc, "x", Value::Float(0.5))?;
-    assert!(rt; refuses_float(alloc, &*detail));
-    let mut profile = boxed(alloc, Profile::default(alloc))?;
-    profile.package = values(alloc, "b", Value::Float(1.5))?;
-    assert!(rt; refuses_float(alloc, &*profile));
-    profile.package = BTreeMap::new(alloc);
-    profile.opt_level = Some(Value::Float(1.5));
-    assert!(rt; refuses_float(alloc, &*profile));
-    let lint = Lint {
-        level: LintLevel::Warn,
-        priority: 0,
-        config: values(alloc, "x", Value::Float(1.5))?,
-    };
-    assert!(rt; refuses_float(alloc, &lint));
+    let text = "features = { f = [] }\nprofile = { dev = {} }\n\
+        dependencies = { d = { optional = true }, e = { git = \"g\" } }\n";
+    let mut held = HeldManifest::from_str(alloc, text)?;
+    let manifest = &mut *held.manifest;
+    tell(alloc, &mut manifest.feature_details, "f")?;
+    tell(alloc, &mut manifest.feature_details, "g")?;
+    hide(alloc, &mut manifest.profile, "dev")?;
+    hide(alloc, &mut manifest.profile, "release")?;
+    collect(
+        alloc,
+        manifest.dependencies.get_mut("d"),
+        "optional",
+        Value::Integer(1),
+    )?;
+    collect(
+        alloc,
+        manifest.dependencies.get_mut("e"),
+        "optional",
+        Value::Integer(1),
+    )?;
+    assert_eq!(rt;
+        format!(in alloc; "{}", manifest.to_value(alloc)?)?.as_str(),
+        "{ dependencies = { d = { optional = true }, e = { git = \"g\", optional = 1 } }, \
+            features = { f = {} }, profile = { dev = {}, release = { rpath = false } } }"
+    );
+    collect(
+        alloc,
+        manifest.dependencies.get_mut("d"),
+        "x",
+        Value::Float(0.5),
+    )?;
+    let refused = manifest.to_value(alloc);
+    assert!(rt; matches!(refused, Err(Error::Other("floats are not supported"))));
     Ok(())
 }

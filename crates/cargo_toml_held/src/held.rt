@@ -1,0 +1,80 @@
+//! A manifest on the heap.
+ghost use Rattle.std.specs.Prelude.{◌≡◌, IfErr, IfOk, IfSome};
+ghost use Rattle.toml.specs.View.{view};
+ghost use Rattle.toml.specs.Parse.{parse_document};
+ghost use Rattle.cargo_toml.specs.Error.{Memory};
+ghost use Rattle.cargo_toml.specs.Manifests.{manifest_meaning, manifest_reads, ManifestRefuses};
+ghost use Rattle.cargo_toml.specs.InheritedPackages.{IsFilled};
+ghost use Rattle.cargo_toml.specs.RealFiles.{IsPathFault, IsReadAndCompleted};
+ghost use Rattle.cargo_toml.specs.Texts.{AnyRefuses, IsFromBytes, IsFromText, any_tree};
+
+use cargo_toml::{Error, Manifest};
+use std::alloc::Global;
+use std::rt::Files;
+
+/// A manifest on the heap. Who owns it doesn't look at what is in it when it is dropped.
+pub struct HeldManifest {
+    /// The manifest.
+    pub manifest: Box<Manifest>,
+}
+
+impl Drop for HeldManifest {
+    fn drop(self) {
+        let HeldManifest { manifest } = self;
+        drop(manifest);
+    }
+}
+
+fn boxed(alloc: Global, manifest: Manifest) -> Result<HeldManifest, Error>
+    ensures same { IfOk result (λ h. h.manifest.value ≡ manifest) }
+    ensures refused { IfErr result (λ e. e ≡ Memory) }
+{
+    let manifest = Box::new(alloc, manifest)?;
+    Ok(HeldManifest { manifest })
+}
+
+impl HeldManifest {
+    /// Holds the manifest that these bytes spell. Refuses as [`Manifest::from_slice`] does, with
+    /// [`Error::Memory`] where there was no room.
+    pub fn from_slice(alloc: Global, bytes: &[u8]) -> Result<HeldManifest, Error>
+        ensures { IsFromBytes (λ h. manifest_meaning view h.manifest.value)
+            (manifest_reads any_tree) (ManifestRefuses any_tree AnyRefuses) bytes.now result }
+    {
+        match Manifest::from_slice(alloc, bytes) {
+            Ok(manifest) => boxed(alloc, manifest),
+            Err(fault) => Err(fault),
+        }
+    }
+
+    /// Holds the manifest that this text spells. Refuses as [`Manifest::from_str`] does, with
+    /// [`Error::Memory`] where there was no room.
+    pub fn from_str(alloc: Global, text: &str) -> Result<HeldManifest, Error>
+        ensures { IsFromText (λ h. manifest_meaning view h.manifest.value)
+            (manifest_reads any_tree) (ManifestRefuses any_tree AnyRefuses)
+            (parse_document text.now) result }
+    {
+        match Manifest::from_str(alloc, text) {
+            Ok(manifest) => boxed(alloc, manifest),
+            Err(fault) => Err(fault),
+        }
+    }
+
+    /// Holds the manifest in the file at this path, completed from the real files around it.
+    /// Refuses as [`Manifest::from_path`] does, with [`Error::Memory`] where there was no room.
+    pub fn from_path<'a, R: Files + AllocGlobal>(
+        rt: &'a R,
+        alloc: Global,
+        path: &'a str,
+    ) -> Result<HeldManifest, Error>
+        ensures given { IfOk result
+            (λ h. IsReadAndCompleted view (manifest_reads any_tree) h.manifest.value) }
+        ensures filled { IfOk result (λ h. IfSome h.manifest.value.«package» IsFilled) }
+        ensures refused { IfErr result (IsPathFault path.now (manifest_meaning view)
+            (manifest_reads any_tree) (ManifestRefuses any_tree AnyRefuses)) }
+    {
+        match Manifest::from_path(rt, alloc, path) {
+            Ok(manifest) => boxed(alloc, manifest),
+            Err(fault) => Err(fault),
+        }
+    }
+}

@@ -1,0 +1,71 @@
+//! The proved caller with metadata of its own, `cargo_toml_caller`.
+use cargo_toml::Error;
+use cargo_toml::features::Kind;
+use cargo_toml_caller::custom::is_named;
+use cargo_toml_caller::dependencies::{is_optional_at, kind_from};
+use cargo_toml_caller::limited::resolve_limited;
+use cargo_toml_caller::{Audience, audience_of, rewrite};
+use cargo_toml_held::HeldManifest;
+use std::alloc::Global;
+use std::collections::HashMap;
+use std::hash::{BuildHasher, BuildHasherDefault, FoldHasher};
+use std::test::Fail;
+
+#[test]
+fn metadata_read_and_written(rt: HostRuntime) -> Result<(), Fail> {
+    let alloc = rt.alloc();
+    let text = b"[package]\nname = \"p\"\nmetadata = \"everyone\"\n";
+    assert_eq!(rt; audience_of(alloc, text)?, Some(Audience::Everyone));
+    assert_eq!(rt; audience_of(alloc, b"")?, None);
+    let refused = audience_of(alloc, b"[package]\nname = \"p\"\nmetadata = 3\n");
+    assert!(rt; matches!(refused, Err(Error::Other("unknown audience"))));
+    let tree = rewrite(alloc, b"[workspace]\nmetadata = \"team\"\n")?;
+    assert_eq!(rt;
+        format!(in alloc; "{tree}")?.as_str(),
+        "{ workspace = { members = [], metadata = \"team\" } }"
+    );
+    Ok(())
+}
+
+// The key `a` stands among the dependencies of tests, and before those in the build
+// dependencies of a platform. Of `_internal`, `_other` and `f` the first two count at the limit,
+// and the filter keeps the first.
+#[test]
+fn first_dependencies_and_limit(rt: HostRuntime) -> Result<(), Fail> {
+    let alloc = rt.alloc();
+    let text = b"[features]\n_internal = []\n_other = []\nf = [\"a/x\"]\n\
+        [dev-dependencies]\na = \"1\"\n\
+        [target.'cfg(unix)'.build-dependencies]\na = { version = \"2\", optional = true }\n";
+    assert_eq!(rt; kind_from(alloc, text, "a")?, Some(Kind::Build));
+    assert_eq!(rt; kind_from(alloc, text, "x")?, None);
+    let held = HeldManifest::from_slice(alloc, text)?;
+    assert_eq!(rt; is_optional_at(alloc, &*held.manifest, "a")?, Some(true));
+    assert_eq!(rt; is_optional_at(alloc, &*held.manifest, "f")?, None);
+    let resolved = resolve_limited(alloc, &*held.manifest, 2)?;
+    assert!(rt; resolved.features.contains_key("_internal"));
+    assert!(rt; !resolved.features.contains_key("f"));
+    Ok(())
+}
+
+// The same of a table beside which no dependency stands.
+fn is_named_alone<S: BuildHasher>(
+    alloc: Global,
+    features: &HashMap<String, Vec<String>, S>,
+    name: &str,
+    other: &str,
+) -> Result<bool, Error> {
+    is_named(alloc, features, &[], name, other)
+}
+
+#[test]
+fn names_of_a_table(rt: HostRuntime) -> Result<(), Fail> {
+    let alloc = rt.alloc();
+    let mut table: HashMap<String, Vec<String>, BuildHasherDefault<FoldHasher>> =
+        HashMap::with_hasher(alloc, BuildHasherDefault::new());
+    let mut actions = Vec::new(alloc);
+    actions.push(String::from_str(alloc, "g")?)?;
+    table.insert(String::from_str(alloc, "f")?, actions)?;
+    assert!(rt; is_named_alone(alloc, &table, "f", "g")?);
+    assert!(rt; !is_named_alone(alloc, &table, "g", "f")?);
+    Ok(())
+}

@@ -1,7 +1,7 @@
 -- Enablers that features learn, place by place.
 use Rattle.std.proofs.Common.{◌≡◌, ◌≢◌, ◌↔◌, ◌⊎◌, ◌<◌, ◌+◌, ◌||◌, ◌∷◌, ℕ, suc, Bool, true, false, cond, List, [], length, map, get_or, set, slice_get, Option, Some, None, Bor, Global, IsTrue, IfSome, Vec, is_some, option_map, bytes_eq, refl, sym, ap, subst, inl, inr, ◌∙◌, arith}
 use Rattle.std.proofs.lemmas.Bool.{cases_eq, false≢true, or_cases, or_left, or_right}
-use Rattle.std.proofs.lemmas.List.{get_or-map, length-map}
+use Rattle.std.proofs.lemmas.List.{length-map}
 use Rattle.std.proofs.lemmas.Option.{same_Some, slice_get-get_or, slice_get_read, slice_get_within}
 use Rattle.std.proofs.lemmas.Slice.Eq.{bytes_eq-Decides}
 use Rattle.std.specs.BTreeSet.{BTreeSet}
@@ -24,7 +24,7 @@ use Rattle.cargo_toml_features.specs.InOrder.{AreInOrder, AreTable, HaveNoEnable
 use Rattle.cargo_toml_features.specs.Marks.{FeatureMarks, marks_of}
 use Rattle.cargo_toml_features.specs.Views.{action_at, action_of, set_has, value_at}
 use Rattle.cargo_toml_features.proofs.TextKeys.{none_in}
-use Rattle.cargo_toml_resolve.specs.Enabling.{AreSameButEnablers, GainEnabler, IsSameButEnablers, LeadsTo, LearnEach, Learns}
+use Rattle.cargo_toml_resolve.specs.Enabling.{AreSameButEnablers, GainEnabler, IsSameButEnablers, Leader, LeaderBelow, LeadsTo, LearnBy, LearnEach, Learns}
 use Rattle.cargo_toml_resolve.specs.KeptFeatures.{IsNamedAlike, StandFor, own_bins}
 use Rattle.cargo_toml_resolve.specs.KeptByName.{AreKept}
 use Rattle.cargo_toml_resolve.specs.TakingOver.{ChangesIn}
@@ -78,10 +78,10 @@ then_learn A B C vs ws us len both a b y v u old new e =
       ],
     )
 
--- the feature in one place learns of the source
-pub one_learns : (vs : List Feature) (i : ℕ) (source : Text) (v : Feature) (by : BTreeSet (Bor Text)) → i < length vs → v ≡ get_or vs i v
-    → ((x : Text) → IsTrue (set_has by x) ↔ (IsTrue (set_has v.enabled_by x) ⊎ (x ≡ source))) → GainEnabler (λ y. y ≡ i) source vs (set vs i (record v { enabled_by = by }))
-one_learns vs i source v by lt read gains = record {
+-- the feature in one place learns of the texts of which By holds
+pub told_at : (By : Text → Type 0) (vs : List Feature) (i : ℕ) (v : Feature) (by : BTreeSet (Bor Text)) → i < length vs → v ≡ get_or vs i v
+    → ((x : Text) → IsTrue (set_has by x) ↔ (IsTrue (set_has v.enabled_by x) ⊎ By x)) → LearnBy (λ y e. (y ≡ i) × By e) vs (set vs i (record v { enabled_by = by }))
+told_at By vs i v by lt read gains = record {
   same = record {
     len = all.len;
     each = λ j u w old new. elim (cases_eq j i) [
@@ -90,14 +90,14 @@ one_learns vs i source v by lt read gains = record {
     ];
   };
   learn = λ j u w old new e. elim (cases_eq j i) [
-    | inl is ↦ let h = here j is u w old new in (λ t. elim ((h.1 e).0 t) [ inl o ↦ inl o | inr x ↦ inr (x, is) ], λ s. (h.1 e).1 (elim s [ inl o ↦ inl o | inr x ↦ inr x.0 ]))
-    | inr ne ↦ subst (λ x. IsTrue (set_has x.enabled_by e) ↔ (IsTrue (set_has u.enabled_by e) ⊎ ((e ≡ source) × (j ≡ i)))) (other j ne u w old new)
-        (λ t. inl t, λ s. elim s [ inl o ↦ o | inr x ↦ absurd (ne x.1) ])
+    | inl is ↦ let h = here j is u w old new in (λ t. elim ((h.1 e).0 t) [ inl o ↦ inl o | inr x ↦ inr (is, x) ], λ s. (h.1 e).1 (elim s [ inl o ↦ inl o | inr x ↦ inr x.1 ]))
+    | inr ne ↦ subst (λ x. IsTrue (set_has x.enabled_by e) ↔ (IsTrue (set_has u.enabled_by e) ⊎ ((j ≡ i) × By e))) (other j ne u w old new)
+        (λ t. inl t, λ s. elim s [ inl o ↦ o | inr x ↦ absurd (ne x.0) ])
   ];
 }
   where
     Changes : Feature → Feature → Type 0
-    Changes u w = IsSameButEnablers u w × Learns (λ e. e ≡ source) u w
+    Changes u w = IsSameButEnablers u w × Learns By u w
 
     all : ChangesIn Changes i vs (set vs i (record v { enabled_by = by }))
     all = then_set (λ u x. x ≡ u) Changes i vs vs v (record v { enabled_by = by }) lt read (unchanged (λ u x. x ≡ u) i vs (λ x e. refl))
@@ -109,6 +109,20 @@ one_learns vs i source v by lt read gains = record {
     other : (j : ℕ) → j ≢ i → (u w : Feature) → slice_get vs j ≡ Some u → slice_get (set vs i (record v { enabled_by = by })) j ≡ Some w → u ≡ w
     other j ne u w old new = same_Some u w (sym old ∙ sym (all.others j ne) ∙ new)
 
+-- of the source alone
+pub one_learns : (vs : List Feature) (i : ℕ) (source : Text) (v : Feature) (by : BTreeSet (Bor Text)) → i < length vs → v ≡ get_or vs i v
+    → ((x : Text) → IsTrue (set_has by x) ↔ (IsTrue (set_has v.enabled_by x) ⊎ (x ≡ source))) → GainEnabler (λ y. y ≡ i) source vs (set vs i (record v { enabled_by = by }))
+one_learns vs i source v by lt read gains =
+    let t = told_at (λ e. e ≡ source) vs i v by lt read gains in
+    record {
+      same = t.same;
+      learn = λ j u w old new e.
+          let l = t.learn j u w old new e in (
+            λ y. elim (l.0 y) [ inl o ↦ inl o | inr x ↦ inr (x.1, x.0) ],
+            λ s. l.1 (elim s [ inl o ↦ inl o | inr x ↦ inr (x.1, x.0) ]),
+          );
+    }
+
 -- a set gained the source
 pub text_gained : (old new : BTreeSet (Bor Text)) (source : Text) → ((x : Text) → set_has new x ≡ (set_has old x || bytes_eq x source))
     → (x : Text) → IsTrue (set_has new x) ↔ (IsTrue (set_has old x) ⊎ (x ≡ source))
@@ -118,16 +132,16 @@ text_gained old new source h x = (
 )
 
 -- what names nothing and acts on nothing leads nowhere
+pub no_keys : (ks : List (Bor Text)) → length ks ≡ 0 → ks ≡ []
+no_keys [] e = refl
+no_keys (k ∷ ks) e = absurd (omega arith)
+
 pub led_nowhere : (v : Feature) → btree_set_len v.enables_features ≡ 0 → btree_map_len v.enables_deps ≡ 0 → (x : Text) → ¬ LeadsTo v x
 led_nowhere v names actions x l = elim l [
-  | inl n ↦ absurd (false≢true (sym (none_in v.enables_features (nil v.enables_features.keys names) x) ∙ n))
+  | inl n ↦ absurd (false≢true (sym (none_in v.enables_features (no_keys v.enables_features.keys names) x) ∙ n))
   | inr p ↦ no_action v.enables_deps.entries actions x p
 ]
   where
-    nil : (ks : List (Bor Text)) → length ks ≡ 0 → ks ≡ []
-    nil [] e = refl
-    nil (k ∷ ks) e = absurd (omega arith)
-
     no_action : (es : List (Bor Text × DepAction)) → length es ≡ 0 → (k : Text) → IsPlain (option_map action_of (lookup (is_at (λ q. slice_cmp nat_cmp k q.now)) es)) → ⊥
     no_action [] none k p = p
     no_action (e ∷ es) none k p = absurd (omega arith)
@@ -144,20 +158,12 @@ then_enabled A B C source vs ws us both a b = record {
   )) a.learn b.learn;
 }
 
--- the feature in place j of vs, other than the one in place y, has the name e and leads to the name of that in place y
-abbrev pub Leader : List Feature → ℕ → ℕ → Text → Type 0
-Leader vs j y e = (y ≢ j) × (nth_text (names_of vs) j ≡ e) × ((u : Feature) × (slice_get vs j ≡ Some u) × LeadsTo u (nth_text (names_of vs) y))
-
-abbrev pub LeaderBelow : List Feature → ℕ → ℕ → Text → Type 0
-LeaderBelow vs n y e = (j : ℕ) × (j < n) × Leader vs j y e
-
 pub no_leader : (vs : List Feature) (y : ℕ) (e : Text) → ¬ LeaderBelow vs 0 y e
 no_leader vs y e l = let lt = l.1 in omega (arith, lt)
 
 -- the first n features have told what they lead to
-pub record HaveLearnt (n : ℕ) (old new : List Feature) : Type 0 where
-  pub same : AreSameButEnablers old new
-  pub learn : LearnEach (LeaderBelow old n) old new
+abbrev pub HaveLearnt : ℕ → List Feature → List Feature → Type 0
+HaveLearnt n old new = LearnBy (LeaderBelow old n) old new
 
 pub none_learnt : (vs : List Feature) → HaveLearnt 0 vs vs
 none_learnt vs = record { same = same_features vs; learn = nobody_learns (LeaderBelow vs 0) vs (no_leader vs) }
@@ -215,19 +221,16 @@ next_learnt n keys vs ws us row u lt are there rows h more = record {
     )
 
 -- the same by what a loop reads
-pub one_more_learnt : (n : ℕ) (keys seen : List (Bor Text)) (vs ws us : List Feature) (cleared row given : List ℕ) (u : Feature) (source : Bor Text) → n < length keys → texts_now keys ≡ names_of vs
-    → seen ≡ keys → cleared ≡ [] → given ≡ row → u ≡ get_or ws n u → source ≡ get_or keys n source
-    → ((x : ℕ) → Among row x ↔ (Among cleared x ⊎ ((x < length seen) × (x ≢ n) × LeadsTo u (nth_text (texts_now seen) x))))
-    → HaveLearnt n vs ws → GainEnabler (Among given) source.now ws us → HaveLearnt (n + 1) vs us
-one_more_learnt n keys seen vs ws us cleared row given u source lt are saw clear gave read key rows h more =
+pub one_more_learnt : (n : ℕ) (keys : List (Bor Text)) (vs ws us : List Feature) (cleared row given : List ℕ) (u : Feature) (source : Text) → n < length keys → texts_now keys ≡ names_of vs
+    → cleared ≡ [] → given ≡ row → u ≡ get_or ws n u → nth_text (texts_now keys) n ≡ source
+    → ((x : ℕ) → Among row x ↔ (Among cleared x ⊎ ((x < length keys) × (x ≢ n) × LeadsTo u (nth_text (texts_now keys) x))))
+    → HaveLearnt n vs ws → GainEnabler (Among given) source ws us → HaveLearnt (n + 1) vs us
+one_more_learnt n keys vs ws us cleared row given u source lt are clear gave read key rows h more =
     let long : length keys ≡ length vs = sym (length-map keys (λ (t : Bor Text). t.now)) ∙ ap length are ∙ length-map vs (λ (v : Feature). v.key.now) in
     let inside : n < length vs = subst (λ m. n < m) long lt in
     next_learnt n keys vs ws us row u inside are (slice_get_read ws (length ws) n u refl (subst (λ m. n < m) (sym h.same.len) inside) read)
-    (subst (λ ys. (x : ℕ) → Among row x ↔ (Among ys x ⊎ ((x < length keys) × (x ≢ n) × LeadsTo u (nth_text (texts_now keys) x)))) clear
-    (subst (λ (ks : List (Bor Text)). (x : ℕ) → Among row x ↔ (Among cleared x ⊎ ((x < length ks) × (x ≢ n) × LeadsTo u (nth_text (texts_now ks) x)))) saw rows))
-    h
-    (subst (λ e. GainEnabler (Among row) e ws us) (sym (get_or-map (λ (t : Bor Text). t.now) keys n source [] lt ∙ ap (λ (t : Bor Text). t.now) (sym key)))
-    (subst (λ xs. GainEnabler (Among xs) source.now ws us) gave more))
+    (subst (λ ys. (x : ℕ) → Among row x ↔ (Among ys x ⊎ ((x < length keys) × (x ≢ n) × LeadsTo u (nth_text (texts_now keys) x)))) clear rows) h
+    (subst (λ e. GainEnabler (Among row) e ws us) (sym key) (subst (λ xs. GainEnabler (Among xs) source ws us) gave more))
 
 -- under a name stands a feature in one list where one of the same place stands in the other
 abbrev Alike : List Feature → List Feature → Option Feature → Option Feature → Type 0

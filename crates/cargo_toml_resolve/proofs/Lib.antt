@@ -30,3 +30,4 @@ mod KnownBins
 pub mod Learning
 mod KeptEnablers
 pub mod NumberedTables
+mod Telling

@@ -1,10 +1,12 @@
 -- Features that learn what enables them, place by place.
-use Rattle.std.specs.Prelude.{◌≡◌, ◌↔◌, ◌⊎◌, ℕ, Bool, IsTrue, List, Vec, false, true}
+use Rattle.std.specs.Prelude.{◌≡◌, ◌≢◌, ◌<◌, ◌↔◌, ◌⊎◌, ℕ, Bool, IsTrue, List, Vec, false, true}
 use Rattle.std.specs.Prelude.{length, slice_get, Some}
 use Rattle.cargo_toml_graph.specs.Action.{Text}
 use Rattle.cargo_toml_graph.specs.Graph.{IsPlain}
 use Rattle.cargo_toml_features.specs.declared.features.Feature.{Feature}
+use Rattle.cargo_toml_features.specs.InOrder.{names_of}
 use Rattle.cargo_toml_features.specs.Marks.{marks_of}
+use Rattle.cargo_toml_features.specs.Places.{nth_text}
 use Rattle.cargo_toml_features.specs.Views.{action_at, set_has}
 use Rattle.cargo_toml_graph.specs.Reach.{Reaches}
 use Rattle.cargo_toml_walk.specs.Numbers.{IsWanted, Leads}
@@ -38,6 +40,22 @@ abbrev pub LearnEach : (ℕ → Text → Type 0) → List Feature → List Featu
 LearnEach By old new =
     (y : ℕ) (v w : Feature) → slice_get old y ≡ Some v → slice_get new y ≡ Some w
     → Learns (By y) v w
+
+-- the texts of which By holds are put among the enablers of each feature; nothing else changes
+pub record LearnBy (By : ℕ → Text → Type 0) (old new : List Feature) : Type 0 where
+  pub same : AreSameButEnablers old new
+  pub learn : LearnEach By old new
+
+-- the feature in place j, other than the one in place y, has the name e and leads to the name of
+-- the one in place y
+abbrev pub Leader : List Feature → ℕ → ℕ → Text → Type 0
+Leader vs j y e =
+    (y ≢ j) × (nth_text (names_of vs) j ≡ e)
+    × ((u : Feature) × (slice_get vs j ≡ Some u) × LeadsTo u (nth_text (names_of vs) y))
+
+-- so one of the first n does
+abbrev pub LeaderBelow : List Feature → ℕ → ℕ → Text → Type 0
+LeaderBelow vs n y e = (j : ℕ) × (j < n) × Leader vs j y e
 
 -- the source is put among the enablers of the features in the named places; nothing else changes
 pub record GainEnabler (Named : ℕ → Type 0) (source : Text) (old new : List Feature) : Type 0 where

@@ -21,10 +21,13 @@ action_by vs b k = option_and_then (λ v. action_at v.enables_deps k) (slice_get
 abbrev pub DoesAt : List Feature → (ℕ → Type 0) → Text → Action → Type 0
 DoesAt vs P k a = (b : ℕ) × P b × (action_by vs b k ≡ Some a)
 
+-- x is the text of one of these numbers
+abbrev pub IsTextOf : List Text → List ℕ → Text → Type 0
+IsTextOf texts numbers x = HasNumber texts (length texts) (Among numbers) x
+
 -- the set has exactly the texts of these numbers
 abbrev pub HasTextsOf : List Text → List ℕ → BTreeSet (Bor Text) → Type 0
-HasTextsOf texts numbers s =
-    (x : Text) → IsTrue (set_has s x) ↔ HasNumber texts (length texts) (Among numbers) x
+HasTextsOf texts numbers s = (x : Text) → IsTrue (set_has s x) ↔ IsTextOf texts numbers x
 
 -- the map has for each key the join of what the features in the places of which P holds do to it
 abbrev pub HasActions : List Feature → (ℕ → Type 0) → BTreeMap (Bor Text) DepAction → Type 0

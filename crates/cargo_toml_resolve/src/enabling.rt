@@ -5,16 +5,21 @@ ghost use Rattle.cargo_toml_graph.specs.Graph.{IsUnremoved, Table};
 ghost use Rattle.cargo_toml_graph.specs.Reach.{Among};
 ghost use Rattle.cargo_toml_full.specs.Ascending.{Ascend};
 ghost use Rattle.cargo_toml_features.specs.InOrder.{AreInOrder, AreTable, HaveNoEnablers};
-ghost use Rattle.cargo_toml_features.specs.InOrder.{resolution_among};
+ghost use Rattle.cargo_toml_features.specs.InOrder.{names_of, resolution_among};
 ghost use Rattle.cargo_toml_features.specs.Views.{set_has};
 ghost use Rattle.cargo_toml_features.specs.Places.{nth_text};
-ghost use Rattle.cargo_toml_resolve.specs.Enabling.{AreSameButEnablers, GainEnabler, LeadsTo};
+ghost use Rattle.cargo_toml_resolve.specs.Enabling.{AreSameButEnablers, GainEnabler, LeaderBelow};
+ghost use Rattle.cargo_toml_resolve.specs.Enabling.{LeadsTo, LearnBy};
 ghost use Rattle.cargo_toml_resolve.specs.Texts.{texts_now};
 
-use crate::numbering::{keys_of, push_actions, push_target};
+use crate::dense::learn_by_table;
+use crate::numbering::{edge_rows, keys_of, push_actions, push_target};
 use cargo_toml_features::action::add_text;
 use cargo_toml_features::features::Feature;
+use cargo_toml_walk::bits::words_for;
+use cargo_toml_walk::dense::are_many;
 use cargo_toml_walk::node::Node;
+use cargo_toml_walk::tables::table_of;
 use std::alloc::{AllocError, Global};
 use std::collections::BTreeSet;
 
@@ -124,6 +129,74 @@ pub(crate) fn enable_along<'m>(
     Ok(())
 }
 
+// Whether features name many others, as `is_dense` says of rows.
+fn name_many(features: &[Feature<'_>]) -> bool {
+    let mut total: usize = 0;
+    for feature in features {
+        total = total.saturating_add(feature.enables_features.len());
+    }
+    are_many(total, features.len(), features.len())
+}
+
+// The same as `learn_leaders`, target by target.
+fn set_dense_enablers<'m>(
+    alloc: Global,
+    features: &mut Vec<Feature<'m>>,
+    keys: &[&'m str],
+) -> Result<(), AllocError>
+    requires in_order { Ascend (texts_now keys.now) }
+    requires keys { texts_now keys.now ≡ names_of features.old.items }
+    ensures { OnOk result (LearnBy (LeaderBelow features.old.items (length features.old.items))
+        features.old.items features.new.items) }
+{
+    let count = keys.len();
+    let edges = edge_rows(alloc, features.as_slice(), keys)?;
+    let table = table_of(alloc, edges.as_slice(), words_for(count))?;
+    let none = Vec::from_elem(alloc, false, count)?;
+    learn_by_table(alloc, features, table.as_slice(), keys, none.as_slice())?;
+    Ok(())
+}
+
+// The same as `learn_leaders`, source by source.
+fn set_sparse_enablers<'m>(
+    alloc: Global,
+    features: &mut Vec<Feature<'m>>,
+    keys: &[&'m str],
+) -> Result<(), AllocError>
+    requires in_order { Ascend (texts_now keys.now) }
+    requires keys { texts_now keys.now ≡ names_of features.old.items }
+    ensures { OnOk result (LearnBy (LeaderBelow features.old.items (length features.old.items))
+        features.old.items features.new.items) }
+{
+    let mut row = Vec::new(alloc);
+    let mut near = 0;
+    for own in 0..keys.len() {
+        row.clear();
+        near = push_targets(&mut row, &features[own], keys, Node::at(own), near)?;
+        enable_along(features, row.as_slice(), keys[own])?;
+    }
+    Ok(())
+}
+
+// Each feature learns which others lead to it, in whichever way takes less.
+fn learn_leaders<'m>(
+    alloc: Global,
+    features: &mut Vec<Feature<'m>>,
+    keys: &[&'m str],
+) -> Result<(), AllocError>
+    requires in_order { Ascend (texts_now keys.now) }
+    requires keys { texts_now keys.now ≡ names_of features.old.items }
+    ensures { OnOk result (LearnBy (LeaderBelow features.old.items (length features.old.items))
+        features.old.items features.new.items) }
+{
+    // A set of many texts is made in one go.
+    if name_many(features.as_slice()) {
+        set_dense_enablers(alloc, features, keys)
+    } else {
+        set_sparse_enablers(alloc, features, keys)
+    }
+}
+
 /// Each feature learns which others enable it: those that name it, and those that act plainly on
 /// the dependency of its name.
 ///
@@ -137,18 +210,6 @@ pub fn set_enablers<'m>(alloc: Global, features: &mut Vec<Feature<'m>>) -> Resul
         IsUnremoved t (resolution_among features.new.items)) }
 {
     let keys = keys_of(alloc, features.as_slice())?;
-    let mut row = Vec::new(alloc);
-    let mut near = 0;
-    for own in 0..keys.len() {
-        row.clear();
-        near = push_targets(
-            &mut row,
-            &features[own],
-            keys.as_slice(),
-            Node::at(own),
-            near,
-        )?;
-        enable_along(features, row.as_slice(), keys[own])?;
-    }
+    learn_leaders(alloc, features, keys.as_slice())?;
     Ok(())
 }

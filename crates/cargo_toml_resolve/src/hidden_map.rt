@@ -11,7 +11,7 @@ ghost use Rattle.cargo_toml_resolve.specs.Holding.{HasTextsOf};
 ghost use Rattle.cargo_toml_resolve.specs.Texts.{texts_now};
 
 use crate::graph::Walked;
-use crate::taking_over::set_of_nodes;
+use crate::node_sets::set_of_nodes;
 use cargo_toml_walk::node::Node;
 use std::alloc::{AllocError, Global};
 use std::collections::{BTreeSet, HashMap};

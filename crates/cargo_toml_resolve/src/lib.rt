@@ -4,6 +4,7 @@
 //! [`resolve`] is the whole of it. Callers use it by `cargo_toml::features::Resolver`.
 #![tactic(auto)]
 
+pub mod dense;
 pub mod elimination;
 pub mod enabling;
 pub mod filter;
@@ -13,6 +14,7 @@ pub mod hashing;
 pub mod hidden_map;
 pub mod joining;
 pub mod kept;
+pub mod node_sets;
 pub mod numbering;
 pub mod passing;
 pub mod reaching;

@@ -249,8 +249,8 @@ pub(crate) fn push_actions(
     push_each_action(row, actions, keys, own)
 }
 
-// The features that each feature enables.
-fn edge_rows(
+/// The features that each feature enables.
+pub(crate) fn edge_rows(
     alloc: Global,
     features: &[Feature<'_>],
     keys: &[&str],

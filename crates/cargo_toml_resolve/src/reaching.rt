@@ -8,9 +8,11 @@ ghost use Rattle.cargo_toml_resolve.specs.Enabling.{GainEnabler, LearnThrough};
 ghost use Rattle.cargo_toml_resolve.specs.Texts.{texts_now};
 ghost use Rattle.cargo_toml_resolve.specs.Walking.{ArePassed};
 
+use crate::dense::learn_by_table;
 use crate::enabling::{enable_along, enable_at};
 use crate::graph::Graph;
 use cargo_toml_features::features::Feature;
+use cargo_toml_walk::dense::{is_dense, source_table};
 use cargo_toml_walk::labels::all_labels;
 use cargo_toml_walk::node::Node;
 use std::alloc::{AllocError, Global};
@@ -77,9 +79,32 @@ fn enable_through<'m>(
     enable_along(features, targets, source)
 }
 
-/// Each kept feature learns which kept ones enable it, themselves or through removed ones: through
-/// those that they pass. It fails only where memory runs out.
-pub(crate) fn set_kept_enablers<'m>(
+// The same as `set_kept_enablers`, target by target.
+fn set_dense_enablers<'m>(
+    alloc: Global,
+    features: &mut Vec<Feature<'m>>,
+    graph: &Graph<'m>,
+    passed: &[Vec<Node>],
+) -> Result<(), AllocError>
+    requires count { length graph.now.edges.items ≡ length features.old.items }
+    requires len { length passed.now ≡ length graph.now.edges.items }
+    requires inside { (a b : ℕ) → Leads passed.now a b → b < length graph.now.edges.items }
+    requires passed { ArePassed graph.now.edges.items graph.now.names.items graph.now.flags.items
+        passed.now }
+    ensures { OnOk result (LearnThrough graph.now.edges.items graph.now.flags.items
+        (texts_now graph.now.texts.items) (length graph.now.edges.items)
+        features.old.items features.new.items) }
+{
+    let edges = graph.edges.as_slice();
+    let is_removed = graph.flags.as_slice();
+    let texts = graph.texts.as_slice();
+    let table = source_table(alloc, passed, edges, is_removed)?;
+    learn_by_table(alloc, features, table.as_slice(), texts, is_removed)?;
+    Ok(())
+}
+
+// The same as `set_kept_enablers`, source by source.
+fn set_sparse_enablers<'m>(
     alloc: Global,
     features: &mut Vec<Feature<'m>>,
     graph: &Graph<'m>,
@@ -113,4 +138,29 @@ pub(crate) fn set_kept_enablers<'m>(
         }
     }
     Ok(())
+}
+
+/// Each kept feature learns which kept ones enable it, themselves or through removed ones: through
+/// those that they pass. It fails only where memory runs out.
+pub(crate) fn set_kept_enablers<'m>(
+    alloc: Global,
+    features: &mut Vec<Feature<'m>>,
+    graph: &Graph<'m>,
+    passed: &[Vec<Node>],
+) -> Result<(), AllocError>
+    requires count { length graph.now.edges.items ≡ length features.old.items }
+    requires len { length passed.now ≡ length graph.now.edges.items }
+    requires inside { (a b : ℕ) → Leads passed.now a b → b < length graph.now.edges.items }
+    requires passed { ArePassed graph.now.edges.items graph.now.names.items graph.now.flags.items
+        passed.now }
+    ensures { OnOk result (LearnThrough graph.now.edges.items graph.now.flags.items
+        (texts_now graph.now.texts.items) (length graph.now.edges.items)
+        features.old.items features.new.items) }
+{
+    // A set of many texts is made in one go.
+    if is_dense(graph.edges.as_slice(), graph.edges.len()) {
+        set_dense_enablers(alloc, features, graph, passed)
+    } else {
+        set_sparse_enablers(alloc, features, graph, passed)
+    }
 }

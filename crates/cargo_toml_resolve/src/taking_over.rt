@@ -12,71 +12,12 @@ ghost use Rattle.cargo_toml_resolve.specs.Texts.{texts_now};
 
 use crate::graph::Walked;
 use crate::joining::add_actions;
-use cargo_toml_features::action::add_text;
+use crate::node_sets::set_of_nodes;
 use cargo_toml_features::features::{DepAction, Feature};
-use cargo_toml_full::sets::{FEW, set_of};
 use cargo_toml_walk::node::Node;
 use std::alloc::{AllocError, Global};
-use std::collections::{BTreeMap, BTreeSet};
+use std::collections::BTreeMap;
 use std::mem;
-
-// The texts of nodes, in their order.
-fn list_of<'m>(alloc: Global, nodes: &[Node], texts: &[&'m str]) -> Result<Vec<&'m str>, AllocError>
-    requires { (x : ℕ) → Among nodes.now x → x < length texts.now }
-    ensures { IfOk result
-        (λ v. texts_now v.items ≡ map (nth_text (texts_now texts.now)) nodes.now) }
-{
-    let mut list = Vec::with_capacity(alloc, nodes.len())?;
-    for x in nodes {
-        list.push(texts[x.place()])?;
-    }
-    Ok(list)
-}
-
-// The texts of few nodes, put into a set one after another, with no list of them.
-fn few_of<'m>(
-    alloc: Global,
-    nodes: &[Node],
-    texts: &[&'m str],
-) -> Result<BTreeSet<&'m str>, AllocError>
-    requires { (x : ℕ) → Among nodes.now x → x < length texts.now }
-    ensures { IfOk result (HasTextsOf (texts_now texts.now) nodes.now) }
-{
-    let mut set = BTreeSet::new(alloc);
-    for x in nodes {
-        add_text(&mut set, texts[x.place()])?;
-    }
-    Ok(set)
-}
-
-// The texts of many nodes, which are sorted together.
-fn many_of<'m>(
-    alloc: Global,
-    nodes: &[Node],
-    texts: &[&'m str],
-) -> Result<BTreeSet<&'m str>, AllocError>
-    requires { (x : ℕ) → Among nodes.now x → x < length texts.now }
-    ensures { IfOk result (HasTextsOf (texts_now texts.now) nodes.now) }
-{
-    let list = list_of(alloc, nodes, texts)?;
-    set_of(alloc, list.as_slice())
-}
-
-// The texts of nodes, as a set.
-pub(crate) fn set_of_nodes<'m>(
-    alloc: Global,
-    nodes: &[Node],
-    texts: &[&'m str],
-) -> Result<BTreeSet<&'m str>, AllocError>
-    requires { (x : ℕ) → Among nodes.now x → x < length texts.now }
-    ensures { IfOk result (HasTextsOf (texts_now texts.now) nodes.now) }
-{
-    if nodes.len() <= FEW {
-        few_of(alloc, nodes, texts)
-    } else {
-        many_of(alloc, nodes, texts)
-    }
-}
 
 // The actions of the features in the passed places are joined to `own`.
 fn join_passed<'m>(

@@ -1,6 +1,6 @@
 use Rattle.std.proofs.Common.{rules, ◌<◌, length}
 use Rattle.cargo_toml_walk.proofs.Steps.{among_at, item_at}
-use Rattle.cargo_toml_resolve.proofs.taking_over.list_of.Goals as goal
+use Rattle.cargo_toml_resolve.proofs.node_sets.list_of.Goals as goal
 
 pub offset_bounds-texts-place : goal.offset_bounds-texts-place
 offset_bounds-texts-place c =

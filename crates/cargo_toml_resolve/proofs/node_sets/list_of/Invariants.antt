@@ -1,7 +1,7 @@
 use Rattle.std.proofs.Common.{◌≡◌, map, take}
 use Rattle.cargo_toml_features.specs.Places.{nth_text}
 use Rattle.cargo_toml_resolve.specs.Texts.{texts_now}
-use Rattle.cargo_toml_resolve.proofs.taking_over.list_of.Given as goal
+use Rattle.cargo_toml_resolve.proofs.node_sets.list_of.Given as goal
 
 abbrev pub invariant-loop-x : goal.invariant-loop-x
 invariant-loop-x l = texts_now l.list.items ≡ map (nth_text (texts_now l.texts)) (take l.x-index l.nodes)

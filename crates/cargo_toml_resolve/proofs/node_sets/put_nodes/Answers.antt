@@ -1,11 +1,12 @@
-use Rattle.std.proofs.Common.{rules, ◌≡◌, ◌<◌, [], Bor, get_or, length, sym, take}
+use Rattle.std.proofs.Common.{rules, ◌≡◌, ◌<◌, [], Bor, IsTrue, get_or, inl, inr, length, sym, take}
 use Rattle.std.proofs.Math.ListN.{get_or-map}
 use Rattle.std.proofs.lemmas.List.{take_all}
 use Rattle.cargo_toml_graph.specs.Action.{Text}
+use Rattle.cargo_toml_features.specs.Views.{set_has}
 use Rattle.cargo_toml_resolve.specs.Texts.{texts_now}
-use Rattle.cargo_toml_resolve.proofs.TextSets.{has_all, text_put}
+use Rattle.cargo_toml_resolve.proofs.TextSets.{all_texts_put, no_text_put, text_put}
 use Rattle.cargo_toml_walk.proofs.Steps.{among_at, item_at}
-use Rattle.cargo_toml_resolve.proofs.taking_over.few_of.Goals as goal
+use Rattle.cargo_toml_resolve.proofs.node_sets.put_nodes.Goals as goal
 
 pub offset_bounds-texts-place : goal.offset_bounds-texts-place
 offset_bounds-texts-place c =
@@ -18,10 +19,16 @@ bounds-texts-place c = rw (item_at c.args.nodes.now c.loop-x.x-index _ _ c.loop-
 pub loop-x-preserved : goal.loop-x-preserved
 loop-x-preserved c =
     let blank : Bor Text = record { ref_ptr = (0, 0); now = [] } in
-    text_put (texts_now c.args.texts.now) c.args.nodes.now c.loop-x.x-index _ c.loop-x.set c.add_text.new.set c.loop-x-test.true
+    text_put (texts_now c.args.texts.now) (λ x. IsTrue (set_has c.args.set.now x)) c.args.nodes.now c.loop-x.x-index _ c.loop-x.set c.add_text.new.set c.loop-x-test.true
     (sym (get_or-map (λ (k : Bor Text). k.now) c.args.texts.now (get_or c.args.nodes.now c.loop-x.x-index 0) blank)) c.loop-x.invariant (rw (item_at c.args.nodes.now c.loop-x.x-index _ _ c.loop-x-test.true c.x-item.is c.place.ensures) at c.in_ok-add_text.ensures)
 
+pub loop-x-init : goal.loop-x-init
+loop-x-init c = no_text_put (texts_now c.args.texts.now) c.args.nodes.now c.args.set.now
+
 pub returns : goal.returns
-returns c =
+returns c = λ x.
     let all : take c.loop-x.x-index c.args.nodes.now ≡ c.args.nodes.now = take_all c.loop-x.x-index c.args.nodes.now c.loop-x-test.false in
-    has_all c.args.texts.now c.args.nodes.now (take c.loop-x.x-index c.args.nodes.now) c.loop-x.set c.requires all c.loop-x.invariant
+    let put = all_texts_put c.args.texts.now c.args.nodes.now (take c.loop-x.x-index c.args.nodes.now) x c.requires all in (
+      λ y. elim ((c.loop-x.invariant x).0 y) [ inl o ↦ inl o | inr a ↦ inr (put.0 a) ],
+      λ s. (c.loop-x.invariant x).1 (elim s [ inl o ↦ inl o | inr n ↦ inr (put.1 n) ]),
+    )

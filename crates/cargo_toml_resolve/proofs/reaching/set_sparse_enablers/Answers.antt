@@ -6,8 +6,8 @@ use Rattle.cargo_toml_walk.proofs.Steps.{list_read, read_at}
 use Rattle.cargo_toml_resolve.specs.Enabling.{GainEnabler, LearnThrough}
 use Rattle.cargo_toml_resolve.specs.Texts.{texts_now}
 use Rattle.cargo_toml_resolve.proofs.KeptEnablers.{next_through, none_through, skip_through}
-use Rattle.cargo_toml_resolve.proofs.reaching.set_kept_enablers.Goals as goal
-use Rattle.cargo_toml_resolve.proofs.reaching.set_kept_enablers.Goals.{then-not-index+in_ok-enable_through, else-not-index}
+use Rattle.cargo_toml_resolve.proofs.reaching.set_sparse_enablers.Goals as goal
+use Rattle.cargo_toml_resolve.proofs.reaching.set_sparse_enablers.Goals.{then-not-index+in_ok-enable_through, else-not-index}
 
 pub enable_through-requires-clause-targets : goal.enable_through-requires-clause-targets
 enable_through-requires-clause-targets c =

@@ -1,0 +1,17 @@
+use Rattle.std.proofs.Common.{sym, ap, subst, ◌∙◌}
+use Rattle.cargo_toml_features.proofs.Places.{Ascends}
+use Rattle.cargo_toml_features.specs.InOrder.{names_of}
+use Rattle.cargo_toml_resolve.proofs.Learning.{unremoved}
+use Rattle.cargo_toml_resolve.proofs.enabling.set_enablers.Goals as goal
+
+pub learn_leaders-requires-clause-in_order : goal.learn_leaders-requires-clause-in_order
+learn_leaders-requires-clause-in_order c = rw c.as_slice-2.ensures.value (subst Ascends (sym (c.in_ok-keys.ensures ∙ ap names_of c.as_slice.ensures.value)) c.requires.in_order)
+
+pub learn_leaders-requires-clause-keys : goal.learn_leaders-requires-clause-keys
+learn_leaders-requires-clause-keys c = rw c.as_slice-2.ensures.value (c.in_ok-keys.ensures ∙ ap names_of c.as_slice.ensures.value)
+
+pub returns-clause-same : goal.returns-clause-same
+returns-clause-same c = c.in_ok-learn_leaders.ensures.same
+
+pub returns-clause-unremoved : goal.returns-clause-unremoved
+returns-clause-unremoved c = λ t made. unremoved t c.args.features.now.items c.learn_leaders.new.features.items c.requires.in_order c.requires.no_enablers made c.in_ok-learn_leaders.ensures

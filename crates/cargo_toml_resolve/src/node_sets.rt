@@ -1,0 +1,108 @@
+//! Sets of the texts of nodes.
+ghost use Rattle.std.specs.Prelude.{◌≡◌, ◌↔◌, ◌⊎◌, ◌<◌, ℕ, IfOk, IsTrue, OnOk, length, map};
+ghost use Rattle.cargo_toml_graph.specs.Action.{Text};
+ghost use Rattle.cargo_toml_graph.specs.Reach.{Among};
+ghost use Rattle.cargo_toml_features.specs.Places.{nth_text};
+ghost use Rattle.cargo_toml_features.specs.Views.{set_has};
+ghost use Rattle.cargo_toml_resolve.specs.Holding.{HasTextsOf, IsTextOf};
+ghost use Rattle.cargo_toml_resolve.specs.Texts.{texts_now};
+
+use cargo_toml_features::action::add_text;
+use cargo_toml_full::sets::{FEW, set_of};
+use cargo_toml_walk::node::Node;
+use std::alloc::{AllocError, Global};
+use std::collections::BTreeSet;
+
+// The texts of nodes, in their order.
+fn list_of<'m>(alloc: Global, nodes: &[Node], texts: &[&'m str]) -> Result<Vec<&'m str>, AllocError>
+    requires { (x : ℕ) → Among nodes.now x → x < length texts.now }
+    ensures { IfOk result
+        (λ v. texts_now v.items ≡ map (nth_text (texts_now texts.now)) nodes.now) }
+{
+    let mut list = Vec::with_capacity(alloc, nodes.len())?;
+    for x in nodes {
+        list.push(texts[x.place()])?;
+    }
+    Ok(list)
+}
+
+// The texts of nodes are put into a set one after another, with no list of them.
+fn put_nodes<'m>(
+    set: &mut BTreeSet<&'m str>,
+    nodes: &[Node],
+    texts: &[&'m str],
+) -> Result<(), AllocError>
+    requires { (x : ℕ) → Among nodes.now x → x < length texts.now }
+    ensures { OnOk result ((x : Text) → IsTrue (set_has set.new x) ↔ (IsTrue (set_has set.old x)
+        ⊎ IsTextOf (texts_now texts.now) nodes.now x)) }
+{
+    for x in nodes {
+        add_text(set, texts[x.place()])?;
+    }
+    Ok(())
+}
+
+// The texts of many nodes, of which a set is made in one go.
+fn many_of<'m>(
+    alloc: Global,
+    nodes: &[Node],
+    texts: &[&'m str],
+) -> Result<BTreeSet<&'m str>, AllocError>
+    requires { (x : ℕ) → Among nodes.now x → x < length texts.now }
+    ensures { IfOk result (HasTextsOf (texts_now texts.now) nodes.now) }
+{
+    let list = list_of(alloc, nodes, texts)?;
+    set_of(alloc, list.as_slice())
+}
+
+// The texts of many nodes are put into a set. One that has none yet is made in one go, so that no
+// text is looked for in it.
+fn add_many<'m>(
+    alloc: Global,
+    set: &mut BTreeSet<&'m str>,
+    nodes: &[Node],
+    texts: &[&'m str],
+) -> Result<(), AllocError>
+    requires { (x : ℕ) → Among nodes.now x → x < length texts.now }
+    ensures { OnOk result ((x : Text) → IsTrue (set_has set.new x) ↔ (IsTrue (set_has set.old x)
+        ⊎ IsTextOf (texts_now texts.now) nodes.now x)) }
+{
+    if !set.is_empty() {
+        return put_nodes(set, nodes, texts);
+    }
+    let made = many_of(alloc, nodes, texts)?;
+    *set = made;
+    Ok(())
+}
+
+/// The texts of nodes are put into a set.
+pub(crate) fn add_nodes<'m>(
+    alloc: Global,
+    set: &mut BTreeSet<&'m str>,
+    nodes: &[Node],
+    texts: &[&'m str],
+) -> Result<(), AllocError>
+    requires { (x : ℕ) → Among nodes.now x → x < length texts.now }
+    ensures { OnOk result ((x : Text) → IsTrue (set_has set.new x) ↔ (IsTrue (set_has set.old x)
+        ⊎ IsTextOf (texts_now texts.now) nodes.now x)) }
+{
+    if nodes.len() <= FEW {
+        put_nodes(set, nodes, texts)
+    } else {
+        add_many(alloc, set, nodes, texts)
+    }
+}
+
+/// The texts of nodes, as a set.
+pub(crate) fn set_of_nodes<'m>(
+    alloc: Global,
+    nodes: &[Node],
+    texts: &[&'m str],
+) -> Result<BTreeSet<&'m str>, AllocError>
+    requires { (x : ℕ) → Among nodes.now x → x < length texts.now }
+    ensures { IfOk result (HasTextsOf (texts_now texts.now) nodes.now) }
+{
+    let mut set = BTreeSet::new(alloc);
+    add_nodes(alloc, &mut set, nodes, texts)?;
+    Ok(set)
+}

@@ -14,6 +14,7 @@ use cargo_toml::features::Resolver;
 use cargo_toml::{Error, Manifest};
 use cargo_toml_features::admit::{MAX_ITEMS, listings};
 use cargo_toml_features::entries::{Tables, entries_of};
+use cargo_toml_resolve::Lists;
 use cargo_toml_resolver::requirements::requirements;
 use std::alloc::Global;
 use std::hash::BuildHasherDefault;
@@ -75,12 +76,11 @@ fn resolve_plainly<'m, M, F: Fn(&str) -> bool>(
     };
     let entries = entries_of(alloc, tables, MAX_ITEMS)?;
     let requirements = requirements(alloc, manifest)?;
-    Ok(crate::plain::resolve(
-        alloc,
-        &BuildHasherDefault::new(),
-        filter,
-        listings.as_slice(),
-        entries.as_slice(),
-        requirements.as_slice(),
-    )?)
+    let lists = Lists {
+        listings: listings.as_slice(),
+        entries: entries.as_slice(),
+        requirements: requirements.as_slice(),
+    };
+    let state = BuildHasherDefault::new();
+    Ok(crate::plain::resolve(alloc, &state, filter, &lists)?)
 }

@@ -18,11 +18,10 @@ ghost use Rattle.cargo_toml_resolve.specs.Filter.{HasNameFilter, FilterTells};
 
 use crate::plain::removal::remove_all;
 use crate::plain::removed_names::hidden_names;
-use cargo_toml_features::admit::Listing;
-use cargo_toml_features::features::{Feature, Features, ParseDependency};
-use cargo_toml_full::required::Requirement;
+use cargo_toml_features::features::{Feature, Features};
 use cargo_toml_full::resolve_all;
 use cargo_toml_full::unremoved::Unremoved;
+use cargo_toml_resolve::Lists;
 use cargo_toml_resolve::enabling::set_enablers;
 use cargo_toml_resolve::hashing::hashed_dependencies;
 use cargo_toml_resolve::kept::{Kept, keep_all};
@@ -48,28 +47,27 @@ fn all_by_name<'m, S: BuildHasher + Clone>(
 /// Answers as [`cargo_toml_resolve::resolve`] does, more slowly and in a way that is easy to
 /// follow: to compare with.
 ///
-/// Each name is listed once. Each map of the answer gets a clone of `state`. It fails only where
-/// memory runs out, or the clone does.
+/// Each map of the answer gets a clone of `state`. It fails only where memory runs out, or the
+/// clone does.
 pub fn resolve<'m: 'd, 'd, F: Fn(&str) -> bool, S: BuildHasher + Clone>(
     alloc: Global,
     state: &S,
     filter: Option<&F>,
-    listings: &[Listing<'m>],
-    entries: &[ParseDependency<'m, 'd>],
-    requirements: &[Requirement<'m>],
+    lists: &Lists<'_, 'm, 'd>,
 ) -> Result<Features<'m, 'd, S>, AllocError>
-    requires once { IsOnce (map (λ l. l.name.now) listings.now) }
+    requires once { IsOnce (map (λ l. l.name.now) lists.now.listings.now) }
     requires filter { HasNameFilter F.Fn filter }
     ensures resolved { IfOk result (λ a. (keep : Text → Bool) → FilterTells F.Fn filter.entry keep
-        → IsAnswer (listed_of listings.now) (map entry_of entries.now) (named_details listings.now)
-        (own_of (map bin_requirement requirements.now)) keep (answer_of a)) }
+        → IsAnswer (listed_of lists.now.listings.now) (map entry_of lists.now.entries.now)
+        (named_details lists.now.listings.now)
+        (own_of (map bin_requirement lists.now.requirements.now)) keep (answer_of a)) }
     ensures keyed { IfOk result (λ a. IsKeyed a.features) }
     ensures targets { IfOk result (λ a. HaveTargets a.dependencies) }
 {
     let Unremoved {
         mut features,
         dependencies,
-    } = resolve_all(alloc, listings, entries, requirements)?;
+    } = resolve_all(alloc, lists.listings, lists.entries, lists.requirements)?;
     set_enablers(alloc, &mut features)?;
     let Kept {
         features: mut by_name,

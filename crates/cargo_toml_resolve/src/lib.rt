@@ -22,4 +22,4 @@ pub mod resolution;
 pub mod taking_over;
 pub mod walking;
 
-pub use resolution::resolve;
+pub use resolution::{Lists, resolve};

@@ -20,32 +20,41 @@ use cargo_toml_full::unremoved::Unremoved;
 use std::alloc::{AllocError, Global};
 use std::hash::BuildHasher;
 
-/// Resolves features as they are listed, with entries of whatever dependency tables and what
-/// binaries require, and removes those whose names begin with `_`, except those that the filter
-/// keeps.
+/// What features are resolved of.
+#[derive(Clone, Copy)]
+pub struct Lists<'l, 'm, 'd> {
+    /// The features, each name once.
+    pub listings: &'l [Listing<'m>],
+    /// The entries of whatever dependency tables.
+    pub entries: &'l [ParseDependency<'m, 'd>],
+    /// What binaries require.
+    pub requirements: &'l [Requirement<'m>],
+}
+
+/// Resolves the listed features, and removes those whose names begin with `_`, except those that
+/// the filter keeps.
 ///
-/// Each name is listed once. Each map of the answer gets a clone of `state`; nothing is hashed
+/// Each map of the answer gets a clone of `state`; nothing is hashed
 /// before the answer stands. It fails only where memory runs out, or the clone does.
 pub fn resolve<'m: 'd, 'd, F: Fn(&str) -> bool, S: BuildHasher + Clone>(
     alloc: Global,
     state: &S,
     filter: Option<&F>,
-    listings: &[Listing<'m>],
-    entries: &[ParseDependency<'m, 'd>],
-    requirements: &[Requirement<'m>],
+    lists: &Lists<'_, 'm, 'd>,
 ) -> Result<Features<'m, 'd, S>, AllocError>
-    requires once { IsOnce (map (λ l. l.name.now) listings.now) }
+    requires once { IsOnce (map (λ l. l.name.now) lists.now.listings.now) }
     requires filter { HasNameFilter F.Fn filter }
     ensures resolved { IfOk result (λ a. IsAnswerBy F.Fn filter.entry
-        (listed_of listings.now) (map entry_of entries.now) (named_details listings.now)
-        (own_of (map bin_requirement requirements.now)) (answer_of a)) }
+        (listed_of lists.now.listings.now) (map entry_of lists.now.entries.now)
+        (named_details lists.now.listings.now)
+        (own_of (map bin_requirement lists.now.requirements.now)) (answer_of a)) }
     ensures keyed { IfOk result (λ a. IsKeyed a.features) }
     ensures targets { IfOk result (λ a. HaveTargets a.dependencies) }
 {
     let Unremoved {
         features,
         dependencies,
-    } = resolve_all(alloc, listings, entries, requirements)?;
+    } = resolve_all(alloc, lists.listings, lists.entries, lists.requirements)?;
     let flags = hidden_flags(alloc, features.as_slice(), filter)?;
     let Kept {
         features: kept,

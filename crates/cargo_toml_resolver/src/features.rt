@@ -32,7 +32,7 @@ pub use cargo_toml_features::questions::NonDefaultEnabledBy;
 pub use cargo_toml_features::recursive::DependenciesEnabledByFeatures;
 use cargo_toml_manifest::Manifest;
 use cargo_toml_parts::Error;
-use cargo_toml_resolve::resolve;
+use cargo_toml_resolve::{Lists, resolve};
 use std::alloc::Global;
 use std::collections::HashMap;
 use std::hash::{BuildHasher, BuildHasherDefault, FoldHasher};
@@ -183,14 +183,13 @@ impl<'config, F: Fn(&str) -> bool, S: BuildHasher + Clone> Resolver<'config, F, 
         let entries = entries_of(alloc, tables_of(manifest), self.max_items)?;
         keep_heap(alloc, listings.len(), entries.len());
         let requirements = requirements(alloc, manifest)?;
-        Ok(resolve(
-            alloc,
-            &self.state,
-            self.should_keep_hidden_feature,
-            listings.as_slice(),
-            entries.as_slice(),
-            requirements.as_slice(),
-        )?)
+        let lists = Lists {
+            listings: listings.as_slice(),
+            entries: entries.as_slice(),
+            requirements: requirements.as_slice(),
+        };
+        let filter = self.should_keep_hidden_feature;
+        Ok(resolve(alloc, &self.state, filter, &lists)?)
     }
 
     /// Resolves features and dependencies that stand in no manifest, as those of a registry's
@@ -226,9 +225,13 @@ impl<'config, F: Fn(&str) -> bool, S: BuildHasher + Clone> Resolver<'config, F, 
         ensures refused { IfErr result (λ e. e ≡ Memory) }
     {
         let listings = hashed_listings(alloc, features, self.max_items)?;
+        let lists = Lists {
+            listings: listings.as_slice(),
+            entries: dependencies,
+            requirements: &[],
+        };
         let filter = self.should_keep_hidden_feature;
-        let listings = listings.as_slice();
-        Ok(resolve(alloc, &self.state, filter, listings, dependencies, &[])?)
+        Ok(resolve(alloc, &self.state, filter, &lists)?)
     }
 }
 

@@ -28,9 +28,9 @@ returns-clause-keyed g c = keyed_still c.in_ok-by_name.field-0.features c.remove
 
 pub returns-clause-resolved : goal.returns-clause-resolved
 returns-clause-resolved g c = λ keep tells.
-    let listed = listed_of c.args.listings.now in
-    let entries = map entry_of c.args.entries.now in
-    let own = own_of (map bin_requirement c.args.requirements.now) in
+    let listed = listed_of c.args.lists.now.listings.now in
+    let entries = map entry_of c.args.lists.now.entries.now in
+    let own = own_of (map bin_requirement c.args.lists.now.requirements.now) in
     let all = c.in_ok-features.ensures in
     let old_vs = c.in_ok-features.field-0.features.items in
     let vs = c.set_enablers.new.features.items in
@@ -40,10 +40,10 @@ returns-clause-resolved g c = λ keep tells.
     let names = c.in_ok-names.ensures in
     let gone = c.in_ok-remove_all.ensures in
     let same = c.as_slice.ensures.value in
-    answers {S = g.row.S.Denot} {H = g.row.S-Hasher.Denot} listed entries (named_details c.args.listings.now) own keep old
+    answers {S = g.row.S.Denot} {H = g.row.S-Hasher.Denot} listed entries (named_details c.args.lists.now.listings.now) own keep old
     (record { features = c.remove_all.new.features; dependencies = c.in_ok-dependencies.dependencies; removed_hidden_features = not c.is_empty.result; hidden_features = c.remove_all.new.hidden })
     (texts_now c.as_slice.result.now) (unremoved_by_name vs old by_name (table_of listed entries) (enabled.unremoved (table_of listed entries) all.table)) c.in_ok-by_name.ensures.keyed
-    (held_by_name vs old by_name (λ f v. marks_of v ≡ marks_in listed (named_details c.args.listings.now) f) (marks_still old_vs vs enabled.same (marks_in listed (named_details c.args.listings.now)) all.marks))
+    (held_by_name vs old by_name (λ f v. marks_of v ≡ marks_in listed (named_details c.args.lists.now.listings.now) f) (marks_still old_vs vs enabled.same (marks_in listed (named_details c.args.lists.now.listings.now)) all.marks))
     (held_by_name vs old by_name (λ f v. map (λ b. b.now) v.required_by_bins.items ≡ own f) (bins_still old_vs vs enabled.same own all.bins))
     (λ k. subst (λ o. SameRecorded (option_map recorded_in o) (recorded_of (entries_at listed entries k))) (sym (c.in_ok-dependencies.ensures.same k)) (all.dependencies k))
     (subst (λ xs. (f : Text) → Among (texts_now xs) f ↔ IsTrue (is_removed (table_in old) keep f)) (sym same) (names.removed keep tells))

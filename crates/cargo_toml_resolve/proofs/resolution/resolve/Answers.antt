@@ -19,10 +19,10 @@ use Rattle.cargo_toml_resolve.proofs.resolution.resolve.Goals as goal
 
 pub returns-clause-resolved : goal.returns-clause-resolved
 returns-clause-resolved g c =
-    let listed = listed_of c.args.listings.now in
-    let entries = map entry_of c.args.entries.now in
-    let details = named_details c.args.listings.now in
-    let own = own_of (map bin_requirement c.args.requirements.now) in
+    let listed = listed_of c.args.lists.now.listings.now in
+    let entries = map entry_of c.args.lists.now.entries.now in
+    let details = named_details c.args.lists.now.listings.now in
+    let own = own_of (map bin_requirement c.args.lists.now.requirements.now) in
     let t : Table = table_of listed entries in
     let all = c.in_ok-features.ensures in
     let vs = c.in_ok-features.field-0.features.items in

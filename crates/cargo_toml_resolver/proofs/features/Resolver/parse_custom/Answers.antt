@@ -14,11 +14,11 @@ returns-clause-resolved g c = λ listed is.
     let a = answer_of c.in_ok-resolve.field-0 in
     let filter = filter_of c.args.self.now in
     let es = map entry_of c.args.dependencies.now in
-    let ls = c.as_slice-listings.result.now in
+    let ls = c.as_slice.result.now in
     let told : named_details ls ≡ details_listed (listed_of ls) [] =
-    subst (λ xs. named_details xs ≡ details_listed (listed_of xs) []) (sym c.as_slice-listings.ensures.value) c.in_ok-listings.ensures.details in
+    subst (λ xs. named_details xs ≡ details_listed (listed_of xs) []) (sym c.as_slice.ensures.value) c.in_ok-listings.ensures.details in
     subst (λ (fs : Listed). IsAnswerBy g.F.Fn filter fs es [] (λ _. []) a)
-    (ap listed_of c.as_slice-listings.ensures.value ∙ c.in_ok-listings.ensures.all listed is)
+    (ap listed_of c.as_slice.ensures.value ∙ c.in_ok-listings.ensures.all listed is)
     (answer_by_listed g.F.Fn filter (listed_of ls) es [] (λ _. []) a
     (subst (λ ds. IsAnswerBy g.F.Fn filter (listed_of ls) es ds (λ _. []) a) told c.in_ok-resolve.ensures.resolved))
 

@@ -1,20 +1,19 @@
 -- Features learn of all that enable them, place by place.
-use Rattle.std.proofs.Common.{◌≡◌, ◌≢◌, ◌↔◌, ◌⊎◌, ◌<◌, ◌≤◌, ◌+◌, ℕ, Bool, true, false, List, Bor, Vec, Option, None, Some, length, slice_get, refl, sym, ap, subst, inl, inr, ◌∙◌, arith}
+use Rattle.std.proofs.Common.{◌≡◌, ◌≢◌, ◌↔◌, ◌<◌, ◌≤◌, ◌+◌, ℕ, Bool, true, false, List, Bor, Vec, Option, None, Some, length, slice_get, refl, sym, ap, subst, inl, inr, ◌∙◌, arith}
 use Rattle.std.proofs.lemmas.Bool.{cases_eq}
 use Rattle.std.proofs.lemmas.List.{length-map}
 use Rattle.std.proofs.lemmas.Option.{slice_get_within}
 use Rattle.std.specs.Option.{IsSomeAnd}
 use Rattle.cargo_toml_graph.specs.Action.{Text}
-use Rattle.cargo_toml_graph.specs.Reach.{Among, Reaches}
+use Rattle.cargo_toml_graph.specs.Reach.{Among}
 use Rattle.cargo_toml_features.specs.declared.features.Feature.{Feature}
 use Rattle.cargo_toml_features.specs.InOrder.{names_of}
 use Rattle.cargo_toml_features.specs.Places.{nth_text}
 use Rattle.cargo_toml_walk.specs.Bits.{Holds}
-use Rattle.cargo_toml_walk.specs.Numbers.{HasLabel, IsFrom, IsPassed, IsWanted, Leads}
+use Rattle.cargo_toml_walk.specs.Numbers.{IsFrom, IsPassed, IsWanted, Leads}
 use Rattle.cargo_toml_walk.proofs.Filling.{has_row}
 use Rattle.cargo_toml_walk.proofs.Labelled.{gathered}
 use Rattle.cargo_toml_walk.proofs.Linking.{last_edge, with_last}
-use Rattle.cargo_toml_walk.proofs.Tabled.{holds_inside}
 use Rattle.cargo_toml_resolve.specs.Enabling.{EnablesThrough, LeaderBelow, LeadsTo, LearnBy, LearnThrough}
 use Rattle.cargo_toml_resolve.specs.Holding.{IsTextOf}
 use Rattle.cargo_toml_resolve.specs.NumberedTables.{HasNumber}

@@ -1,11 +1,10 @@
-use Rattle.std.proofs.Common.{rules, ◌≡◌, ◌≤◌, ◌<◌, ◌↔◌, ℕ, true, false, length, sym, subst, ◌∙◌, arith}
+use Rattle.std.proofs.Common.{rules, ◌≤◌, ◌<◌, ℕ, true, false, length, sym, subst, ◌∙◌, arith}
 use Rattle.std.proofs.lemmas.Bool.{false≢true}
 use Rattle.cargo_toml_graph.specs.Action.{Text}
 use Rattle.cargo_toml_graph.specs.Reach.{Among}
 use Rattle.cargo_toml_walk.specs.Bits.{Holds}
 use Rattle.cargo_toml_walk.specs.Numbers.{IsWanted}
 use Rattle.cargo_toml_walk.proofs.Tabled.{holds_inside}
-use Rattle.cargo_toml_resolve.specs.Enabling.{LearnBy}
 use Rattle.cargo_toml_resolve.specs.Holding.{IsTextOf}
 use Rattle.cargo_toml_resolve.specs.NumberedTables.{HasNumber}
 use Rattle.cargo_toml_resolve.specs.Texts.{texts_now}

@@ -1,5 +1,5 @@
-use Rattle.cargo_toml_graph.specs.Ascending.{Ascend}
 use Rattle.std.proofs.Common.{sym, ap, subst, ◌∙◌}
+use Rattle.cargo_toml_graph.specs.Ascending.{Ascend}
 use Rattle.cargo_toml_features.specs.InOrder.{names_of}
 use Rattle.cargo_toml_resolve.proofs.Learning.{unremoved}
 use Rattle.cargo_toml_resolve.proofs.enabling.set_enablers.Goals as goal

@@ -12,7 +12,7 @@ ghost use Rattle.cargo_toml_resolve.specs.Enabling.{AreSameButEnablers, GainEnab
 ghost use Rattle.cargo_toml_resolve.specs.Enabling.{LeadsTo, LearnBy};
 ghost use Rattle.cargo_toml_resolve.specs.Texts.{texts_now};
 
-use crate::dense::learn_by_table;
+use crate::dense_enablers::learn_by_table;
 use crate::numbering::{edge_rows, keys_of, push_actions, push_target};
 use cargo_toml_features::action::add_text;
 use cargo_toml_features::features::Feature;

@@ -4,7 +4,7 @@
 //! [`resolve`] is the whole of it. Callers use it by `cargo_toml::features::Resolver`.
 #![tactic(auto)]
 
-pub mod dense;
+pub mod dense_enablers;
 pub mod elimination;
 pub mod enabling;
 pub mod filter;

@@ -8,7 +8,7 @@ ghost use Rattle.cargo_toml_resolve.specs.Enabling.{GainEnabler, LearnThrough};
 ghost use Rattle.cargo_toml_resolve.specs.Texts.{texts_now};
 ghost use Rattle.cargo_toml_resolve.specs.Walking.{ArePassed};
 
-use crate::dense::learn_by_table;
+use crate::dense_enablers::learn_by_table;
 use crate::enabling::{enable_along, enable_at};
 use crate::graph::Graph;
 use cargo_toml_features::features::Feature;

@@ -9,8 +9,8 @@ use Rattle.cargo_toml_resolve.specs.Holding.{IsTextOf}
 use Rattle.cargo_toml_resolve.specs.NumberedTables.{HasNumber}
 use Rattle.cargo_toml_resolve.specs.Texts.{texts_now}
 use Rattle.cargo_toml_resolve.proofs.Telling.{all_told, next_told, next_untold, none_told, table_texts}
-use Rattle.cargo_toml_resolve.proofs.dense.learn_by_table.Goals as goal
-use Rattle.cargo_toml_resolve.proofs.dense.learn_by_table.Goals.{then-not-is_removed-place+in_ok-sources+in_ok-learn_at, else-not-is_removed-place}
+use Rattle.cargo_toml_resolve.proofs.dense_enablers.learn_by_table.Goals as goal
+use Rattle.cargo_toml_resolve.proofs.dense_enablers.learn_by_table.Goals.{then-not-is_removed-place+in_ok-sources+in_ok-learn_at, else-not-is_removed-place}
 
 pub loop-place-init : goal.loop-place-init
 loop-place-init c = none_told (λ y e. IsWanted c.args.is_removed.now false y × HasNumber (texts_now c.args.texts.now) (length (texts_now c.args.texts.now)) (λ a. Holds c.args.table.now a y) e) c.args.features.now.items

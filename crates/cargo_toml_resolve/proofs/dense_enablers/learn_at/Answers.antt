@@ -1,7 +1,7 @@
 use Rattle.cargo_toml_resolve.specs.Holding.{IsTextOf}
 use Rattle.cargo_toml_resolve.specs.Texts.{texts_now}
 use Rattle.cargo_toml_resolve.proofs.Learning.{told_at}
-use Rattle.cargo_toml_resolve.proofs.dense.learn_at.Goals as goal
+use Rattle.cargo_toml_resolve.proofs.dense_enablers.learn_at.Goals as goal
 
 pub returns : goal.returns
 returns c =

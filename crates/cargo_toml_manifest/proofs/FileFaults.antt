@@ -11,7 +11,7 @@ use Rattle.cargo_toml_parts.specs.declared.error.Error.TheVariants.{rolls-Worksp
 use Rattle.cargo_toml_parts.specs.Faults.{IsFromIo}
 use Rattle.cargo_toml_parts.specs.FaultValues.{Fault, fault_of, fault_step, io, workspace_integrity}
 use Rattle.cargo_toml_parts.specs.Wrapping.{wrap}
-use Rattle.cargo_toml_manifest.specs.RealFiles.{IsCandidate, IsCandidateOf, IsHintFault, IsNoWorkspace, IsRootFault, IsSearchFault, expected_workspace, real_losses}
+use Rattle.cargo_toml_manifest.specs.RealFiles.{IsCandidate, IsCandidateOf, IsHintFault, IsNoWorkspace, IsRootFault, IsSearchFault, expected_workspace, RealRootRefuses}
 use Rattle.cargo_toml_manifest.specs.declared.lookup.Candidate.{Candidate}
 use Rattle.cargo_toml_manifest.specs.declared.lookup.Candidate.TheVariants.{Root, Other, Absent}
 use Rattle.cargo_toml_discovery.specs.Folders.{RefusesBy}
@@ -67,6 +67,6 @@ candidate (Err fault) file (Err e) h = read_alone e (from_input fault e h.1)
 
 -- why no root is found may stand in place of the root
 pub loses : {T : Type 0} (folder : List ℕ) (hint : Option (List ℕ)) (r : Result T Error) → IfErr r (IsRootFault folder hint) →
-    RefusesBy (MayLose false (real_losses folder) hint) r
+    RefusesBy (MayLose false (RealRootRefuses folder) hint) r
 loses folder hint (Ok x) h = tt
 loses folder hint (Err e) h = inr (inl (e, (h, refl)))

@@ -11,7 +11,7 @@ use Rattle.cargo_toml_manifest.specs.Choosing.{Choice, Handed, RootsTold, alone,
 use Rattle.cargo_toml_manifest.specs.Completing.{GivenBy, Meets, complete}
 use Rattle.cargo_toml_manifest.specs.Manifests.{ManifestMeaning, held, manifest_meaning}
 use Rattle.cargo_toml_manifest.specs.Refusing.{IsRefusedAt, IsRefusedBy, MayLose}
-use Rattle.cargo_toml_manifest.specs.RealFiles.{IsCompletionFault, IsPathFault, IsReadAndCompleted, IsReadFromText, bad_path, real_folders, real_listings, real_losses, real_roots}
+use Rattle.cargo_toml_manifest.specs.RealFiles.{IsCompletionFault, IsPathFault, IsReadAndCompleted, IsReadFromText, bad_path, real_folders, RealListingRefuses, RealRootRefuses, real_roots}
 use Rattle.cargo_toml_manifest.specs.declared.manifest.Manifest.{Manifest}
 use Rattle.cargo_toml_discovery.specs.Disk.{or_here}
 use Rattle.cargo_toml_discovery.proofs.Faults.{fault_of-memory}
@@ -48,11 +48,11 @@ refused path meaning reads refuses f read new (Some folder) (Err e) text_of outc
 -- the refusal of completion in the folder of a path is one around that
 pub around_path : {T M : Type 0} (path folder there : List ℕ) (m : ManifestMeaning M) (handed : Option Handed) (r : Result T Error) →
     path_parent path ≡ Some folder → there ≡ or_here folder →
-    IfErr r (IsRefusedBy m handed real_roots (MayLose false (real_losses there)) real_listings) →
+    IfErr r (IsRefusedBy m handed real_roots (MayLose false (RealRootRefuses there)) RealListingRefuses) →
     IfErr r (IsCompletionFault path m handed)
 around_path path folder there m handed (Ok t) parent here h = tt
 around_path path folder there m handed (Err e) parent here h =
-    inr (folder, (parent, subst (λ (f : List ℕ). IsRefusedBy m handed real_roots (MayLose false (real_losses f)) real_listings e) here h))
+    inr (folder, (parent, subst (λ (f : List ℕ). IsRefusedBy m handed real_roots (MayLose false (RealRootRefuses f)) RealListingRefuses e) here h))
 
 -- a fault with the path of a workspace is no other
 no_other : (path : Option (List ℕ)) (fault : Fault) (text : List ℕ) → wrap path fault ≡ other text → ⊥

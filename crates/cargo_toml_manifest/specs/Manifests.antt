@@ -16,7 +16,7 @@ use Rattle.cargo_toml_tables.specs.Products.{ProductMeaning, product_meaning, pr
 use Rattle.cargo_toml_tables.specs.Profiles.{ProfilesMeaning, profiles_meaning}
 use Rattle.cargo_toml_tables.specs.Profiles.{profiles_of, ProfilesFaults}
 use Rattle.cargo_toml_parts.specs.Reads.{◌>>=◌, array_of, map_of, map_meaning, optional_at}
-use Rattle.cargo_toml_parts.specs.Reads.{given_at, map_at, FaultAt, TableRefuses, plain}
+use Rattle.cargo_toml_parts.specs.Reads.{given_at, map_at, FaultAt, TableRefuses, WrongShape}
 use Rattle.cargo_toml_settings.specs.Settings.{Registries, everywhere, among}
 use Rattle.cargo_toml_dependencies.specs.Targets.{TargetMeaning, target_meaning, target_of}
 use Rattle.cargo_toml_parts.specs.Versions.{Parts}
@@ -165,20 +165,20 @@ ManifestFaults metadata_of metadata_refuses ms e =
     FaultAt "package" (package_reads metadata_of) (PackageRefuses metadata_of metadata_refuses) ms e
     ⊎ FaultAt "workspace" (workspace_reads metadata_of)
     (WorkspaceRefuses metadata_of metadata_refuses) ms e
-    ⊎ FaultAt "dependencies" (map_of dependency_of) plain ms e
-    ⊎ FaultAt "dev-dependencies" (map_of dependency_of) plain ms e
-    ⊎ FaultAt "build-dependencies" (map_of dependency_of) plain ms e
-    ⊎ FaultAt "target" (map_of target_reads) plain ms e
-    ⊎ FaultAt "features" features_of plain ms e
-    ⊎ FaultAt "replace" (map_of dependency_of) plain ms e
-    ⊎ FaultAt "patch" (map_of (map_of dependency_of)) plain ms e
-    ⊎ FaultAt "lib" product_reads plain ms e
+    ⊎ FaultAt "dependencies" (map_of dependency_of) WrongShape ms e
+    ⊎ FaultAt "dev-dependencies" (map_of dependency_of) WrongShape ms e
+    ⊎ FaultAt "build-dependencies" (map_of dependency_of) WrongShape ms e
+    ⊎ FaultAt "target" (map_of target_reads) WrongShape ms e
+    ⊎ FaultAt "features" features_of WrongShape ms e
+    ⊎ FaultAt "replace" (map_of dependency_of) WrongShape ms e
+    ⊎ FaultAt "patch" (map_of (map_of dependency_of)) WrongShape ms e
+    ⊎ FaultAt "lib" product_reads WrongShape ms e
     ⊎ FaultAt "profile" profiles_reads ProfilesRefuse ms e
-    ⊎ FaultAt "badges" badges_reads plain ms e
-    ⊎ FaultAt "bin" (array_of product_reads) plain ms e
-    ⊎ FaultAt "bench" (array_of product_reads) plain ms e
-    ⊎ FaultAt "test" (array_of product_reads) plain ms e
-    ⊎ FaultAt "example" (array_of product_reads) plain ms e
+    ⊎ FaultAt "badges" badges_reads WrongShape ms e
+    ⊎ FaultAt "bin" (array_of product_reads) WrongShape ms e
+    ⊎ FaultAt "bench" (array_of product_reads) WrongShape ms e
+    ⊎ FaultAt "test" (array_of product_reads) WrongShape ms e
+    ⊎ FaultAt "example" (array_of product_reads) WrongShape ms e
     ⊎ FaultAt "lints" (inheritable_of (map_of (map_of lint_of))) InheritableRefuses ms e
 
 -- the manifest of a tree

@@ -49,8 +49,8 @@ is_absent NotADirectory = true
 is_absent kind = false
 
 -- the faults that stand in place of names among real files
-abbrev pub real_listings : List ℕ → Fault → Type 0
-real_listings path = IsInputFault
+abbrev pub RealListingRefuses : List ℕ → Fault → Type 0
+RealListingRefuses path = IsInputFault
 
 abbrev pub expected_workspace : List ℕ → List ℕ
 expected_workspace path = codes "Manifest at " ++ path ++ codes " was expected to be a workspace."
@@ -130,8 +130,8 @@ IsRootFault folder (Some hint) e =
 IsRootFault folder None e = IsSearchFault e
 
 -- the faults that stand in place of a root among real files, as seen from a folder
-abbrev pub real_losses : List ℕ → Option (List ℕ) → Fault → Type 0
-real_losses folder hint fault = (e : Error) × (IsRootFault folder hint e × (fault_of e ≡ fault))
+abbrev pub RealRootRefuses : List ℕ → Option (List ℕ) → Fault → Type 0
+RealRootRefuses folder hint fault = (e : Error) × (IsRootFault folder hint e × (fault_of e ≡ fault))
 
 abbrev pub bad_path : Fault
 bad_path = other (codes "bad path")
@@ -142,7 +142,7 @@ abbrev pub IsRefusedAround : {M : Type 0} → List ℕ → ManifestMeaning M →
 IsRefusedAround path m handed e =
     (folder : List ℕ) × ((path_parent path ≡ Some folder)
     × IsRefusedBy m handed real_roots
-    (MayLose false (real_losses (or_here folder))) real_listings e)
+    (MayLose false (RealRootRefuses (or_here folder))) RealListingRefuses e)
 
 -- why real files complete no manifest: the path of its file names none, or a fault of completion
 abbrev pub IsCompletionFault : {M : Type 0} → List ℕ → ManifestMeaning M → Option Handed

@@ -5,7 +5,7 @@ ghost use Rattle.cargo_toml_parts.specs.declared.error.Error.{Memory};
 ghost use Rattle.cargo_toml_discovery.specs.Disk.{IsInput, or_here};
 ghost use Rattle.cargo_toml_discovery.specs.Folders.{RefusesBy};
 ghost use Rattle.cargo_toml_manifest.specs.RealFiles.{IsRootFault, IsRootManifest, IsRootPath};
-ghost use Rattle.cargo_toml_manifest.specs.RealFiles.{folder_of, real_listings, real_losses};
+ghost use Rattle.cargo_toml_manifest.specs.RealFiles.{folder_of, RealListingRefuses, RealRootRefuses};
 ghost use Rattle.cargo_toml_manifest.specs.Refusing.{MayLose};
 
 use crate::afs::{AbstractFilesystem, NoRoot};
@@ -45,9 +45,9 @@ impl<'a, R: Files + AllocGlobal> Filesystem<'a, R> {
 impl<R: Files + AllocGlobal> AbstractFilesystem for Filesystem<'_, R> {
     type Roots = NoRoot;
 
-    ghost may_refuse = { λ _ path. real_listings path };
+    ghost may_refuse = { λ _ path. RealListingRefuses path };
 
-    ghost may_refuse_root = { λ files hint. real_losses (folder_of files) hint };
+    ghost may_refuse_root = { λ files hint. RealRootRefuses (folder_of files) hint };
 
     /// The names in the folder on the disk. A name that is absent or no folder is `Error::Io` of
     /// the kind `NotFound`; a folder or an entry that can't be read, or whose name is not UTF-8, is
@@ -72,7 +72,7 @@ impl<R: Files + AllocGlobal> AbstractFilesystem for Filesystem<'_, R> {
         ensures refused { IfErr result
             (IsRootFault (folder_of self.now) (option_copied hint.entry)) }
         ensures loses { RefusesBy
-            (MayLose false (real_losses (folder_of self.now)) (option_copied hint.entry)) result }
+            (MayLose false (RealRootRefuses (folder_of self.now)) (option_copied hint.entry)) result }
     {
         match hint {
             Some(hint) => root_by_hint(self.rt, alloc, self.path, hint),

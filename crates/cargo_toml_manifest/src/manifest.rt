@@ -11,7 +11,7 @@ ghost use Rattle.cargo_toml_parts.specs.Inherits.{InheritableRefuses};
 ghost use Rattle.cargo_toml_tables.specs.Lints.{lint_meaning, lint_of};
 ghost use Rattle.cargo_toml_tables.specs.Profiles.{profiles_meaning};
 ghost use Rattle.cargo_toml_parts.specs.Reads.{Faulty, IsReading, given_of};
-ghost use Rattle.cargo_toml_parts.specs.Reads.{map_of, map_meaning, plain};
+ghost use Rattle.cargo_toml_parts.specs.Reads.{map_of, map_meaning, WrongShape};
 ghost use Rattle.cargo_toml_parts.specs.Readings.{Ends, Goes};
 ghost use Rattle.cargo_toml_manifest.specs.Manifests.{ManifestMeaning, manifest_meaning, held};
 ghost use Rattle.cargo_toml_manifest.specs.Manifests.{manifest_of, ManifestFaults, manifest_reads};
@@ -415,7 +415,7 @@ fn badges(reading: &mut Reading, value: Option<Value>) -> Badges
     ensures { Goes reading.old.fault reading.new.fault
         (given_of badges_reads no_badges (option_map view value))
         (badges_meaning result)
-        (Faulty badges_reads plain (option_map view value)) }
+        (Faulty badges_reads WrongShape (option_map view value)) }
 {
     let none = Badges::default();
     reading.given_of(value, none)

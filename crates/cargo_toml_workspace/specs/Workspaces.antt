@@ -8,7 +8,7 @@ use Rattle.cargo_toml_dependencies.specs.Dependencies.{DependencyMeaning}
 use Rattle.cargo_toml_dependencies.specs.Dependencies.{dependency_meaning, dependency_of}
 use Rattle.cargo_toml_tables.specs.Lints.{LintMeaning, lint_meaning, lint_of}
 use Rattle.cargo_toml_parts.specs.Reads.{◌>>=◌, list_of, map_of, map_meaning, optional_at}
-use Rattle.cargo_toml_parts.specs.Reads.{list_at, map_at, FaultAt, TableRefuses, plain}
+use Rattle.cargo_toml_parts.specs.Reads.{list_at, map_at, FaultAt, TableRefuses, WrongShape}
 use Rattle.cargo_toml_workspace.specs.declared.workspace.Workspace.{Workspace}
 use Rattle.cargo_toml_settings.specs.Settings.{resolver_reads}
 use Rattle.cargo_toml_package.specs.Templates.{TemplateMeaning, template_meaning, template_reads}
@@ -62,14 +62,14 @@ workspace_of metadata_of ms = do
 abbrev pub WorkspaceFaults : {M : Type 0} → (Data → Option M) → (Data → Error → Type 0) → Members
     → Error → Type 0
 WorkspaceFaults metadata_of metadata_refuses ms e =
-    FaultAt "members" list_of plain ms e
-    ⊎ FaultAt "default-members" list_of plain ms e
-    ⊎ FaultAt "package" template_reads plain ms e
-    ⊎ FaultAt "exclude" list_of plain ms e
+    FaultAt "members" list_of WrongShape ms e
+    ⊎ FaultAt "default-members" list_of WrongShape ms e
+    ⊎ FaultAt "package" template_reads WrongShape ms e
+    ⊎ FaultAt "exclude" list_of WrongShape ms e
     ⊎ FaultAt "metadata" metadata_of metadata_refuses ms e
-    ⊎ FaultAt "resolver" resolver_reads plain ms e
-    ⊎ FaultAt "dependencies" (map_of dependency_of) plain ms e
-    ⊎ FaultAt "lints" (map_of (map_of lint_of)) plain ms e
+    ⊎ FaultAt "resolver" resolver_reads WrongShape ms e
+    ⊎ FaultAt "dependencies" (map_of dependency_of) WrongShape ms e
+    ⊎ FaultAt "lints" (map_of (map_of lint_of)) WrongShape ms e
 
 -- the workspace of a tree
 unfoldable pub workspace_reads : {M : Type 0} → (Data → Option M) → Data

@@ -1,6 +1,6 @@
 use Rattle.std.proofs.Common.{codes, refl}
 use Rattle.toml.specs.View.{table_view}
-use Rattle.cargo_toml_parts.specs.Reads.{plain}
+use Rattle.cargo_toml_parts.specs.Reads.{WrongShape}
 use Rattle.cargo_toml_parts.proofs.Chain.{then, then_plain, last, ends}
 use Rattle.cargo_toml_parts.proofs.Shapes.{itself, list_shape, map_shape}
 use Rattle.cargo_toml_parts.proofs.TakenKeys.{given_left, less, optional_left, whole}
@@ -46,13 +46,13 @@ returns g c =
     ends _ _ _ _ _ _ _ c.new-reading.ensures c.ended.ensures
     (then _ _ _ _ _ _ _ _ _ «package»
     (then _ _ _ _ _ _ _ _ _ workspace
-    (then_plain _ _ _ _ _ _ _ _ _ _ _ (map_shape plain itself) dependencies
-    (then_plain _ _ _ _ _ _ _ _ _ _ _ (map_shape plain itself) dev_dependencies
-    (then_plain _ _ _ _ _ _ _ _ _ _ _ (map_shape plain itself) build_dependencies
-    (then_plain _ _ _ _ _ _ _ _ _ _ _ (map_shape plain itself) target
+    (then_plain _ _ _ _ _ _ _ _ _ _ _ (map_shape WrongShape itself) dependencies
+    (then_plain _ _ _ _ _ _ _ _ _ _ _ (map_shape WrongShape itself) dev_dependencies
+    (then_plain _ _ _ _ _ _ _ _ _ _ _ (map_shape WrongShape itself) build_dependencies
+    (then_plain _ _ _ _ _ _ _ _ _ _ _ (map_shape WrongShape itself) target
     (then _ _ _ _ _ _ _ _ _ features
-    (then_plain _ _ _ _ _ _ _ _ _ _ _ (map_shape plain itself) replace
-    (then_plain _ _ _ _ _ _ _ _ _ _ _ (map_shape _ (map_shape plain itself)) patch
+    (then_plain _ _ _ _ _ _ _ _ _ _ _ (map_shape WrongShape itself) replace
+    (then_plain _ _ _ _ _ _ _ _ _ _ _ (map_shape _ (map_shape WrongShape itself)) patch
     (then _ _ _ _ _ _ _ _ _ lib
     (then _ _ _ _ _ _ _ _ _ profile
     (then _ _ _ _ _ _ _ _ _ badges

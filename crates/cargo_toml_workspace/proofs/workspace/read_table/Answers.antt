@@ -1,6 +1,6 @@
 use Rattle.std.proofs.Common.{codes, refl}
 use Rattle.toml.specs.View.{table_view}
-use Rattle.cargo_toml_parts.specs.Reads.{plain}
+use Rattle.cargo_toml_parts.specs.Reads.{WrongShape}
 use Rattle.cargo_toml_parts.proofs.Chain.{then, then_plain, last_plain, ends}
 use Rattle.cargo_toml_parts.proofs.Shapes.{itself, list_shape, map_shape}
 use Rattle.cargo_toml_parts.proofs.TakenKeys.{given_left, less, optional_left, whole}
@@ -32,5 +32,5 @@ returns g c =
     (then_plain _ _ _ _ _ _ _ _ _ _ _ list_shape exclude
     (then _ _ _ _ _ _ _ _ _ metadata
     (then _ _ _ _ _ _ _ _ _ resolver
-    (then_plain _ _ _ _ _ _ _ _ _ _ _ (map_shape plain itself) dependencies
-    (last_plain _ _ _ _ _ _ _ _ _ (map_shape _ (map_shape plain itself)) lints refl))))))))
+    (then_plain _ _ _ _ _ _ _ _ _ _ _ (map_shape WrongShape itself) dependencies
+    (last_plain _ _ _ _ _ _ _ _ _ (map_shape _ (map_shape WrongShape itself)) lints refl))))))))

@@ -3,7 +3,7 @@ use Rattle.std.specs.Prelude.{option_map}
 use Rattle.std.specs.Path.{path_parent}
 use Rattle.cargo_toml_manifest.specs.Choosing.{handed_of}
 use Rattle.cargo_toml_manifest.specs.Manifests.{held}
-use Rattle.cargo_toml_manifest.specs.RealFiles.{real_listings, real_losses, real_roots, folder_of}
+use Rattle.cargo_toml_manifest.specs.RealFiles.{RealListingRefuses, RealRootRefuses, real_roots, folder_of}
 use Rattle.cargo_toml_manifest.specs.Refusing.{MayLose}
 use Rattle.cargo_toml_manifest.proofs.PathFaults.{around_path, no_bad_path}
 use Rattle.cargo_toml_manifest.proofs.manifest.Manifest.complete_from_path_and_workspace.Goals as goal
@@ -11,7 +11,7 @@ use Rattle.cargo_toml_manifest.proofs.manifest.Manifest.complete_from_path_and_w
 pub returns-clause-bad_path : goal.returns-clause-bad_path
 returns-clause-bad_path g c =
     no_bad_path (held c.args.self.now) (option_map handed_of c.args.workspace) real_roots
-    (MayLose false (real_losses (folder_of c.new.result))) real_listings (path_parent c.args.path.now) c.in-Some.folder.now
+    (MayLose false (RealRootRefuses (folder_of c.new.result))) RealListingRefuses (path_parent c.args.path.now) c.in-Some.folder.now
     c.complete_from_abstract_filesystem.result (sym c.in-Some.ensures) c.complete_from_abstract_filesystem.ensures.wrapped
 
 pub returns-clause-refused : goal.returns-clause-refused

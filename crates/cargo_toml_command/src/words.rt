@@ -4,9 +4,7 @@ ghost use Rattle.cargo_toml_command.specs.Words.{AskFor, HasLimit, IsLimit};
 ghost use Rattle.cargo_toml_command.specs.declared.arguments.Command.{Command};
 
 use crate::arguments::Command;
-
-/// The limit of items where the words set none: that of a new resolver.
-const MAX_ITEMS: usize = 2048;
+use cargo_toml_features::admit::MAX_ITEMS;
 
 /// What the words, without the program's own name, ask for; `None` where they are no command.
 ///

@@ -4,6 +4,7 @@ pub mod WorkedExamples
 pub mod ActionTexts
 pub mod Listings
 pub mod TextKeys
+pub mod Naming
 pub mod Pairs
 pub mod Pending
 pub mod Held

@@ -1,9 +1,15 @@
 //! Texts in byte order, and where one stands among them.
-ghost use Rattle.std.specs.Prelude.{◌≡◌, ◌↔◌, ◌<◌, IfSome, None, bytes_eq, length, map};
+ghost use Rattle.std.specs.Prelude.{◌≡◌, ◌↔◌, ◌<◌, IfOk, IfSome, None, bytes_eq, is_some};
+ghost use Rattle.std.specs.Prelude.{length, map};
 ghost use Rattle.cargo_toml_graph.specs.Ascending.{Ascend};
 ghost use Rattle.cargo_toml_graph.specs.Action.{Text};
 ghost use Rattle.cargo_toml_graph.specs.Reach.{Among};
 ghost use Rattle.cargo_toml_features.specs.Places.{nth_text};
+ghost use Rattle.cargo_toml_features.specs.Views.{set_has, value_at};
+
+use std::alloc::{AllocError, Global};
+use std::collections::{BTreeSet, HashMap};
+use std::hash::BuildHasher;
 
 // So many texts are gone through sooner than halved: most differ from another by their length.
 const FEW: usize = 24;
@@ -17,6 +23,20 @@ pub fn in_order<'m>(mut texts: Vec<&'m str>) -> Vec<&'m str>
     texts.sort_unstable();
     texts.dedup();
     texts
+}
+
+/// The keys of a hashed map, in byte order.
+pub fn keys_in_order<'m, X, S: BuildHasher>(
+    alloc: Global,
+    found: &HashMap<&'m str, X, S>,
+) -> Result<BTreeSet<&'m str>, AllocError>
+    ensures { IfOk result (λ s. (f : Text) → set_has s f ≡ is_some (value_at found.now f)) }
+{
+    let mut keys = BTreeSet::new(alloc);
+    for key in found.keys() {
+        keys.insert(*key)?;
+    }
+    Ok(keys)
 }
 
 /// Whether two texts are the same. Most differ in length, which is seen without a call.

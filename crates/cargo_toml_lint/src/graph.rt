@@ -25,20 +25,6 @@ pub(crate) fn is_hidden(name: &str) -> bool
     name.starts_with('_')
 }
 
-/// The names of the features.
-pub(crate) fn names<'m, S: BuildHasher>(
-    alloc: Global,
-    features: &FeatureMap<'m, S>,
-) -> Result<BTreeSet<&'m str>, AllocError>
-    ensures { IfOk result (λ s. (f : Text) → set_has s f ≡ (table_in features.now).has f) }
-{
-    let mut names = BTreeSet::new(alloc);
-    for name in features.keys() {
-        names.insert(*name)?;
-    }
-    Ok(names)
-}
-
 // Whether an optional dependency implies the feature of this name.
 fn is_implied<S: BuildHasher>(features: &FeatureMap<'_, S>, name: &str) -> bool
     ensures { result ≡ implied_at features.now name.now }

@@ -10,4 +10,5 @@ mod lists;
 mod walks;
 
 pub use finding::{Code, Finding, Level};
-pub use linting::{MAX_ITEMS, lint, lint_limited};
+pub use cargo_toml_features::admit::MAX_ITEMS;
+pub use linting::{lint, lint_limited};

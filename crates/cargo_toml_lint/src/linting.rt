@@ -3,6 +3,7 @@ ghost use Rattle.std.specs.Prelude.{◌≡◌, ◌≤◌, ◌⊎◌, ◌↔◌, 
 ghost use Rattle.std.specs.List.{AllByRecursion};
 ghost use Rattle.cargo_toml.specs.Action.{Text};
 ghost use Rattle.cargo_toml.specs.Error.{Memory};
+ghost use Rattle.cargo_toml.specs.Limits.{MAX_ITEMS};
 ghost use Rattle.cargo_toml.specs.Manifests.{held};
 ghost use Rattle.cargo_toml.specs.Parsed.{IsParsed};
 ghost use Rattle.cargo_toml.specs.Products.{product_meaning};
@@ -15,19 +16,17 @@ ghost use Rattle.cargo_toml_lint.specs.Steps.{AreAllTold, AreWarnings, HoldsIn};
 
 use crate::adding::add_findings;
 use crate::finding::{Code, Finding};
-use crate::graph::{FeatureMap, implied, names, private_default};
+use crate::graph::{FeatureMap, implied, private_default};
 use crate::known::{Known, known_names};
 use crate::lists::{not_optional, over_limit, same_name, unknown};
 use crate::walks::{cyclic, unreachable};
 use cargo_toml::features::{Features, Resolver};
 use cargo_toml::{Error, Manifest, Product};
+use cargo_toml_features::admit::MAX_ITEMS;
+use cargo_toml_features::texts::keys_in_order;
 use std::alloc::{AllocError, Global};
 use std::collections::BTreeSet;
 use std::hash::BuildHasher;
-
-/// How many names of the table of features count, how many actions of a feature, and how many keys
-/// of a table of dependencies: as many as for a resolver whose limit nobody sets.
-pub const MAX_ITEMS: usize = 2048;
 
 fn keep_every(_name: &str) -> bool
     ensures { result ≡ true }
@@ -133,7 +132,7 @@ fn found_in<'m, S: BuildHasher + Clone>(
     ensures told { IfOk result (λ v. AllByRecursion IsTold v.items) }
     ensures refused { IfErr result (λ e. e ≡ Memory) }
 {
-    let names = names(alloc, features)?;
+    let names = keys_in_order(alloc, features)?;
     let mut findings = Vec::new(alloc);
     add_errors(&mut findings, known, features, bins)?;
     add_hints(&mut findings, &names, features)?;
@@ -178,7 +177,7 @@ pub fn lint<'m, M, S: BuildHasher + Clone + Drop>(
     manifest: &'m Manifest<M>,
 ) -> Result<Vec<Finding<'m>>, Error>
     ensures exact { IfOk result (λ v. (c : Code) (f : Text) → IsFound v.items c f
-        ↔ HoldsOf 2048 (held manifest.now) c f) }
+        ↔ HoldsOf MAX_ITEMS (held manifest.now) c f) }
     ensures in_order { IfOk result (λ v. AreSorted v.items) }
     ensures told { IfOk result (λ v. AllByRecursion IsTold v.items) }
     ensures refused { IfErr result (λ e. e ≡ Memory) }

@@ -1,5 +1,5 @@
 -- What becomes of the bytes that were read for a root.
-use Rattle.std.specs.Prelude.{◌≡◌, ◌⊎◌, ℕ, List, codes, true, false, Option, Some, is_some}
+use Rattle.std.specs.Prelude.{◌≡◌, ◌⊎◌, ◌++◌, ℕ, List, codes, true, false, Option, Some, is_some}
 use Rattle.std.specs.Prelude.{Result, Ok, Err, string_bytes, String}
 use Rattle.std.specs.declared.alloc.Global.{Global}
 use Rattle.toml.specs.View.{view}
@@ -12,7 +12,9 @@ use Rattle.cargo_toml_manifest.specs.Manifests.{manifest_meaning, manifest_reads
 use Rattle.cargo_toml_manifest.specs.Texts.{IsFromBytes, any_tree, AnyRefuses}
 
 abbrev pub not_a_workspace : List ℕ
-not_a_workspace = codes "Not a Workspace.\nUse package.workspace to select a differnt path, or implement cargo_toml::AbstractFilesystem::parse_root_workspace"
+not_a_workspace =
+    codes "Not a Workspace.\nUse package.workspace to select a differnt path, or implement "
+    ++ codes "cargo_toml::AbstractFilesystem::parse_root_workspace"
 
 -- the answer is what `from_slice` gives for these bytes
 abbrev pub IsFromSlice : List ℕ → Result (Manifest Value) Error → Type 0

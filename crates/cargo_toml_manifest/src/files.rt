@@ -5,7 +5,8 @@ ghost use Rattle.cargo_toml_parts.specs.declared.error.Error.{Memory};
 ghost use Rattle.cargo_toml_discovery.specs.Disk.{IsInput, or_here};
 ghost use Rattle.cargo_toml_discovery.specs.Folders.{RefusesBy};
 ghost use Rattle.cargo_toml_manifest.specs.RealFiles.{IsRootFault, IsRootManifest, IsRootPath};
-ghost use Rattle.cargo_toml_manifest.specs.RealFiles.{folder_of, RealListingRefuses, RealRootRefuses};
+ghost use Rattle.cargo_toml_manifest.specs.RealFiles.{RealListingRefuses, RealRootRefuses};
+ghost use Rattle.cargo_toml_manifest.specs.RealFiles.{folder_of};
 ghost use Rattle.cargo_toml_manifest.specs.Refusing.{MayLose};
 
 use crate::afs::{AbstractFilesystem, NoRoot};
@@ -71,8 +72,8 @@ impl<R: Files + AllocGlobal> AbstractFilesystem for Filesystem<'_, R> {
             IsRootPath (folder_of self.now) (option_copied hint.entry) (string_bytes root.1)) }
         ensures refused { IfErr result
             (IsRootFault (folder_of self.now) (option_copied hint.entry)) }
-        ensures loses { RefusesBy
-            (MayLose false (RealRootRefuses (folder_of self.now)) (option_copied hint.entry)) result }
+        ensures loses { RefusesBy (MayLose false
+            (RealRootRefuses (folder_of self.now)) (option_copied hint.entry)) result }
     {
         match hint {
             Some(hint) => root_by_hint(self.rt, alloc, self.path, hint),

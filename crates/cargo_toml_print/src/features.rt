@@ -1,14 +1,13 @@
 //! The lines of resolved features.
-ghost use Rattle.std.specs.Prelude.{◌≡◌, ◌++◌, IfErr, IfOk, OnOk, is_some, string_bytes};
+ghost use Rattle.std.specs.Prelude.{◌≡◌, ◌++◌, IfErr, IfOk, OnOk, string_bytes};
 ghost use Rattle.cargo_toml_parts.specs.declared.error.Error.{Memory};
-ghost use Rattle.cargo_toml_graph.specs.Action.{Text};
-ghost use Rattle.cargo_toml_features.specs.Views.{set_has, value_at};
 ghost use Rattle.cargo_toml_print.specs.Lines.{AddsLines, AreAllLines, between_commas};
 ghost use Rattle.cargo_toml_print.specs.Lines.{action_text, detail_text, feature_line, head_text};
 ghost use Rattle.cargo_toml_print.specs.Lines.{line_at, links_text, marks_text, origin_text};
 ghost use Rattle.cargo_toml_print.specs.Lines.{privacy_text, redirect_line};
 
 use cargo_toml_features::features::{DepAction, Feature, Features};
+use cargo_toml_features::texts::keys_in_order;
 use cargo_toml_parts::Error;
 use std::alloc::{AllocError, Global};
 use std::collections::{BTreeMap, BTreeSet, HashMap};
@@ -30,20 +29,6 @@ pub fn feature_lines<S: BuildHasher>(
     Ok(text)
 }
 
-// The keys of a hashed map, in byte order.
-fn names_of<'m, X, S: BuildHasher>(
-    alloc: Global,
-    found: &HashMap<&'m str, X, S>,
-) -> Result<BTreeSet<&'m str>, AllocError>
-    ensures { IfOk result (λ s. (f : Text) → set_has s f ≡ is_some (value_at found.now f)) }
-{
-    let mut names = BTreeSet::new(alloc);
-    for name in found.keys() {
-        names.insert(*name)?;
-    }
-    Ok(names)
-}
-
 fn write_features<S: BuildHasher>(
     alloc: Global,
     text: &mut String,
@@ -52,7 +37,7 @@ fn write_features<S: BuildHasher>(
     ensures { OnOk result (AddsLines (λ _. feature_line) features.now
         (string_bytes text.old) (string_bytes text.new)) }
 {
-    let names = names_of(alloc, features)?;
+    let names = keys_in_order(alloc, features)?;
     for name in &names {
         write_feature_of(text, features, *name)?;
     }
@@ -82,7 +67,7 @@ fn write_hidden<S: BuildHasher>(
     ensures { OnOk result (AddsLines redirect_line hidden.now
         (string_bytes text.old) (string_bytes text.new)) }
 {
-    let names = names_of(alloc, hidden)?;
+    let names = keys_in_order(alloc, hidden)?;
     for name in &names {
         write_redirect_of(text, hidden, *name)?;
     }

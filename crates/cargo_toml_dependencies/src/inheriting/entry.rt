@@ -44,21 +44,6 @@ fn joined_texts(alloc: Global, front: &[String], back: &[String]) -> Result<Vec<
     Ok(texts)
 }
 
-// The texts of a list, and behind them those of another, which mostly is empty.
-fn extended_texts(
-    alloc: Global,
-    texts: &Vec<String>,
-    more: &[String],
-) -> Result<Vec<String>, AllocError>
-    ensures { IfOk result (λ all. map string_bytes all.items
-        ≡ map string_bytes texts.now.items ++ map string_bytes more.now) }
-{
-    if more.is_empty() {
-        return Ok(texts.clone()?);
-    }
-    joined_texts(alloc, texts.as_slice(), more)
-}
-
 // Puts copies of the texts behind those of the list.
 fn add_texts(texts: &mut Vec<String>, more: &[String]) -> Result<(), AllocError>
     ensures { OnOk result (map string_bytes texts.new.items
@@ -70,8 +55,8 @@ fn add_texts(texts: &mut Vec<String>, more: &[String]) -> Result<(), AllocError>
     Ok(())
 }
 
-// A detail of the workspace with what a member's entry adds. It is kept out of line, so that a short
-// detail isn't handled as widely.
+// A detail of the workspace with what a member's entry adds. It is kept out of line, so that a
+// short detail isn't handled as widely.
 #[inline(never)]
 fn with_entry(
     alloc: Global,
@@ -154,7 +139,11 @@ fn short_with_entry(
         (template.now.optional || entry.now.optional) template.now.default_features) }
 {
     let version = copied_requirement(alloc, template.version.as_ref())?;
-    let features = extended_texts(alloc, &template.features, entry.features.as_slice())?;
+    let features = joined_texts(
+        alloc,
+        template.features.as_slice(),
+        entry.features.as_slice(),
+    )?;
     let optional = template.optional || entry.optional;
     short_detail(
         alloc,

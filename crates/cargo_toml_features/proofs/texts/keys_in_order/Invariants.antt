@@ -3,9 +3,9 @@ use Rattle.std.specs.List.{list_any}
 use Rattle.std.specs.Map.{keys_of}
 use Rattle.cargo_toml_features.specs.Views.{set_has}
 use Rattle.cargo_toml_graph.specs.Action.{Text}
-use Rattle.cargo_toml_print.proofs.features.names_of.Given as goal
+use Rattle.cargo_toml_features.proofs.texts.keys_in_order.Given as goal
 
-abbrev pub invariant-loop-name : goal.invariant-loop-name
-invariant-loop-name g l = (f : Text)
-    → (set_has l.names f || list_any (λ k. bytes_eq f k.now) l.name-iterator)
+abbrev pub invariant-loop-key : goal.invariant-loop-key
+invariant-loop-key g l = (f : Text)
+    → (set_has l.keys f || list_any (λ k. bytes_eq f k.now) l.key-iterator)
     ≡ list_any (λ k. bytes_eq f k.now) (keys_of l.found.entries)

@@ -9,6 +9,6 @@ mod linting;
 mod lists;
 mod walks;
 
-pub use finding::{Code, Finding, Level};
 pub use cargo_toml_features::admit::MAX_ITEMS;
+pub use finding::{Code, Finding, Level};
 pub use linting::{lint, lint_limited};

@@ -6,14 +6,15 @@ use Rattle.std.specs.Map.{lookup}
 use Rattle.std.specs.Option.{option_map_or}
 use Rattle.cargo_toml_features.specs.declared.features.Feature.{Feature}
 use Rattle.cargo_toml_features.specs.declared.features.FeatureDependency.{FeatureDependency}
-use Rattle.cargo_toml_features.specs.InOrder.{AreTable, feature_at, table_among}
+use Rattle.cargo_toml_features.specs.InOrder.{AreTable, HaveNoEnablers, feature_at, table_among}
 use Rattle.cargo_toml_full.specs.Searching.{has_key}
 use Rattle.cargo_toml_full.specs.declared.read.Mentions.{Mentions}
 use Rattle.cargo_toml_graph.specs.Action.{Text, Action}
 use Rattle.cargo_toml_graph.specs.Admitted.{Listed, is_explicit, joined_action}
-use Rattle.cargo_toml_full.specs.Slots.{Relates}
+use Rattle.cargo_toml_full.specs.Slots.{HeldHaveTargets, Relates}
+use Rattle.cargo_toml_full.proofs.HeldTargets.{have_targets}
 use Rattle.cargo_toml_graph.specs.Graph.{Table}
-use Rattle.cargo_toml_full.specs.Implying.{Becomes, ImpliesAll, is_optional_at, is_offered}
+use Rattle.cargo_toml_full.specs.Implying.{Becomes, ImpliesAll, IsImplied, is_optional_at, is_offered}
 use Rattle.cargo_toml_full.specs.Reading.{IsRead, IsFresh, AreFresh}
 use Rattle.cargo_toml_full.specs.Requiring.{Required, RequiredAll}
 use Rattle.cargo_toml_features.specs.Recorded.{Entry, RecordedKey, is_mentioned, is_reserved, entries_at, recorded_of, first_target, without_redundant}
@@ -41,77 +42,70 @@ or_not true i = refl
 or_not false true = refl
 or_not false false = refl
 
+-- features each of which changed into another, at its name
+module _ (Changes : Text → Feature → Feature → Type 0) (old new : List Feature) (each : (f : Text) → Relates (Changes f) (feature_at old f) (feature_at new f)) where
+  -- what holds of none, and of each that changed, holds at every name
+  along : (f : Text) (P : Option Feature → Option Feature → Type 0) → P None None → ((a b : Feature) → Changes f a b → P (Some a) (Some b)) → P (feature_at old f) (feature_at new f)
+  along f P none some = go (feature_at old f) (feature_at new f) (each f)
+    where
+      go : (o o' : Option Feature) → Relates (Changes f) o o' → P o o'
+      go None None r = none
+      go None (Some b) r = absurd r
+      go (Some a) None r = absurd r
+      go (Some a) (Some b) r = some a b r
+
+  has_along : (f : Text) → is_some (feature_at new f) ≡ is_some (feature_at old f)
+  has_along f = along f (λ o o'. is_some o' ≡ is_some o) refl (λ a b r. refl)
+
+  names_along : ((f : Text) (a b : Feature) → Changes f a b → b.enables_features ≡ a.enables_features) → (f x : Text) → (table_among new).names f x ≡ (table_among old).names f x
+  names_along kept f x = along f (λ o o'. option_map_or (λ v. set_has v.enables_features x) o' false ≡ option_map_or (λ v. set_has v.enables_features x) o false) refl
+      (λ a b r. ap (λ s. set_has s x) (kept f a b r))
+
 -- the features without what dependencies have anyway
 module _ (entries : Text → List Entry) (old new : List Feature) (h : ThinnedAll entries old new) where
   has_thinned : (f : Text) → is_some (feature_at new f) ≡ is_some (feature_at old f)
-  has_thinned f = go (feature_at old f) (feature_at new f) (h.at f)
-    where
-      go : (o o' : Option Feature) → Relates (Thinned entries) o o' → is_some o' ≡ is_some o
-      go None None r = refl
-      go None (Some b) r = absurd r
-      go (Some a) None r = absurd r
-      go (Some a) (Some b) r = refl
+  has_thinned = has_along (λ f. Thinned entries) old new h.at
 
   names_thinned : (f x : Text) → (table_among new).names f x ≡ (table_among old).names f x
-  names_thinned f x = go (feature_at old f) (feature_at new f) (h.at f)
-    where
-      go : (o o' : Option Feature) → Relates (Thinned entries) o o' → option_map_or (λ v. set_has v.enables_features x) o' false ≡ option_map_or (λ v. set_has v.enables_features x) o false
-      go None None r = refl
-      go None (Some b) r = absurd r
-      go (Some a) None r = absurd r
-      go (Some a) (Some b) r = rw r.names
+  names_thinned = names_along (λ f. Thinned entries) old new h.at (λ f a b r. r.names)
 
   action_thinned : (f k : Text) → (table_among new).action f k ≡ option_map (without_redundant (first_target (entries k))) ((table_among old).action f k)
-  action_thinned f k = go (feature_at old f) (feature_at new f) (h.at f)
-    where
-      go : (o o' : Option Feature) → Relates (Thinned entries) o o' → option_map_or (λ v. action_at v.enables_deps k) o' None ≡ option_map (without_redundant (first_target (entries k))) (option_map_or (λ v. action_at v.enables_deps k) o None)
-      go None None r = refl
-      go None (Some b) r = absurd r
-      go (Some a) None r = absurd r
-      go (Some a) (Some b) r = r.actions k
+  action_thinned f k = along (λ f. Thinned entries) old new h.at f
+      (λ o o'. option_map_or (λ v. action_at v.enables_deps k) o' None ≡ option_map (without_redundant (first_target (entries k))) (option_map_or (λ v. action_at v.enables_deps k) o None)) refl
+      (λ a b r. r.actions k)
 
   fresh_thinned : (listed : Listed) (details : NamedDetails) → AreFresh listed details old → AreFresh listed details new
-  fresh_thinned listed details fresh f v s = subst (λ o. IfSome o (IsFresh f (detail_listed listed details f))) s (go (feature_at old f) (feature_at new f) refl (h.at f))
-    where
-      go : (o o' : Option Feature) → feature_at old f ≡ o → Relates (Thinned entries) o o' → IfSome o' (IsFresh f (detail_listed listed details f))
-      go None None s r = tt
-      go None (Some b) s r = absurd r
-      go (Some a) None s r = absurd r
-      go (Some a) (Some b) s r =
-          let k = fresh f a s in
-          record { key = ap (λ q. q.now) r.key ∙ k.key; marks = r.marks ∙ k.marks; enabled_by = ap (λ q. q.keys) r.enabled_by ∙ k.enabled_by; bins = ap (λ q. q.items) r.bins ∙ k.bins }
+  fresh_thinned listed details fresh f v s = subst (λ o. IfSome o (IsFresh f (detail_listed listed details f))) s (along (λ f. Thinned entries) old new h.at f
+      (λ o o'. ((a : Feature) → o ≡ Some a → IsFresh f (detail_listed listed details f) a) → IfSome o' (IsFresh f (detail_listed listed details f))) (λ k. tt)
+      (λ a b r all.
+      let k = all a refl in
+      record { key = ap (λ q. q.now) r.key ∙ k.key; marks = r.marks ∙ k.marks; enabled_by = ap (λ q. q.keys) r.enabled_by ∙ k.enabled_by; bins = ap (λ q. q.items) r.bins ∙ k.bins })
+      (fresh f))
 
 -- the table with the implied features
 module _ (implied : Text → Bool) (old new : List Feature) (h : ImpliesAll implied old new) where
-  has_after : (f : Text) → is_some (feature_at new f) ≡ (is_some (feature_at old f) || implied f)
-  has_after f = go (implied f) (feature_at old f) (feature_at new f) (h.at f)
+  -- what holds of none, of one that is implied, and of one that stays, holds at every name
+  became : (f : Text) (P : Bool → Option Feature → Option Feature → Type 0) → P false None None → ((v : Feature) → feature_at old f ≡ None → IsImplied f v → P true None (Some v))
+      → ((t : Bool) (v : Feature) → feature_at old f ≡ Some v → P t (Some v) (Some v)) → P (implied f) (feature_at old f) (feature_at new f)
+  became f P none gained stays = go (implied f) (feature_at old f) (feature_at new f) refl (h.at f)
     where
-      go : (t : Bool) (o o' : Option Feature) → Becomes t f o o' → is_some o' ≡ (is_some o || t)
-      go true None None b = absurd b
-      go true None (Some v) b = refl
-      go false None o' b = ap is_some b
-      go true (Some v) o' b = ap is_some b
-      go false (Some v) o' b = ap is_some b
+      go : (t : Bool) (o o' : Option Feature) → feature_at old f ≡ o → Becomes t f o o' → P t o o'
+      go true None None s b = absurd b
+      go true None (Some v) s b = gained v s b
+      go false None o' s b = subst (P false None) (sym b) none
+      go true (Some v) o' s b = subst (P true (Some v)) (sym b) (stays true v s)
+      go false (Some v) o' s b = subst (P false (Some v)) (sym b) (stays false v s)
+
+  has_after : (f : Text) → is_some (feature_at new f) ≡ (is_some (feature_at old f) || implied f)
+  has_after f = became f (λ t o o'. is_some o' ≡ (is_some o || t)) refl (λ v s k. refl) (λ t v s. refl)
 
   names_after : (f x : Text) → (table_among new).names f x ≡ (table_among old).names f x
-  names_after f x = go (implied f) (feature_at old f) (feature_at new f) (h.at f)
-    where
-      go : (t : Bool) (o o' : Option Feature) → Becomes t f o o' → option_map_or (λ v. set_has v.enables_features x) o' false ≡ option_map_or (λ v. set_has v.enables_features x) o false
-      go true None None b = absurd b
-      go true None (Some v) b = b.names x
-      go false None o' b = rw b
-      go true (Some v) o' b = rw b
-      go false (Some v) o' b = rw b
+  names_after f x = became f (λ t o o'. option_map_or (λ v. set_has v.enables_features x) o' false ≡ option_map_or (λ v. set_has v.enables_features x) o false) refl
+      (λ v s k. k.names x) (λ t v s. refl)
 
   action_after : (f k : Text) → (table_among new).action f k ≡ cond (is_some (feature_at old f)) ((table_among old).action f k) (cond (implied f && bytes_eq k f) (Some plain_action) None)
-  action_after f k = go (implied f) (feature_at old f) (feature_at new f) (h.at f)
-    where
-      go : (t : Bool) (o o' : Option Feature) → Becomes t f o o' → option_map_or (λ v. action_at v.enables_deps k) o' None ≡ cond (is_some o) (option_map_or (λ v. action_at v.enables_deps k) o None) (cond (t && bytes_eq k f) (Some plain_action) None)
-      go true None None b = absurd b
-      go true None (Some v) b = b.actions k
-      go false None o' b = rw b
-      go true (Some v) o' b = rw b
-      go false (Some v) o' b = rw b
+  action_after f k = became f (λ t o o'. option_map_or (λ v. action_at v.enables_deps k) o' None ≡ cond (is_some o) (option_map_or (λ v. action_at v.enables_deps k) o None) (cond (t && bytes_eq k f) (Some plain_action) None)) refl
+      (λ v s i. i.actions k) (λ t v s. refl)
 
 -- a feature that sits under its key, with these marks, and with neither enablers nor binaries
 record IsMarked (f : Text) (these : FeatureMarks) (v : Feature) : Type 0 where
@@ -129,46 +123,26 @@ record IsTold (f : Text) (these : FeatureMarks) (own : List Text) (v : Feature) 
 
 -- binaries change neither what features say nor which enable them
 module _ (own : Text → List Text) (old new : List Feature) (h : RequiredAll own old new) where
-  has_required : (f : Text) → is_some (feature_at new f) ≡ is_some (feature_at old f)
-  has_required f = go (feature_at old f) (feature_at new f) (h.at f)
-    where
-      go : (o o' : Option Feature) → Relates (Required (own f)) o o' → is_some o' ≡ is_some o
-      go None None r = refl
-      go None (Some b) r = absurd r
-      go (Some a) None r = absurd r
-      go (Some a) (Some b) r = refl
-
-  names_required : (f x : Text) → (table_among new).names f x ≡ (table_among old).names f x
-  names_required f x = go (feature_at old f) (feature_at new f) (h.at f)
-    where
-      go : (o o' : Option Feature) → Relates (Required (own f)) o o' → option_map_or (λ v. set_has v.enables_features x) o' false ≡ option_map_or (λ v. set_has v.enables_features x) o false
-      go None None r = refl
-      go None (Some b) r = absurd r
-      go (Some a) None r = absurd r
-      go (Some a) (Some b) r = rw r.names
-
   action_required : (f k : Text) → (table_among new).action f k ≡ (table_among old).action f k
-  action_required f k = go (feature_at old f) (feature_at new f) (h.at f)
-    where
-      go : (o o' : Option Feature) → Relates (Required (own f)) o o' → option_map_or (λ v. action_at v.enables_deps k) o' None ≡ option_map_or (λ v. action_at v.enables_deps k) o None
-      go None None r = refl
-      go None (Some b) r = absurd r
-      go (Some a) None r = absurd r
-      go (Some a) (Some b) r = rw r.actions
+  action_required f k = along (λ f. Required (own f)) old new h.at f
+      (λ o o'. option_map_or (λ v. action_at v.enables_deps k) o' None ≡ option_map_or (λ v. action_at v.enables_deps k) o None) refl
+      (λ a b r. ap (λ m. action_at m k) r.actions)
 
   told_required : (f : Text) (these : FeatureMarks) → IfSome (feature_at old f) (IsMarked f these) → IfSome (feature_at new f) (IsTold f these (own f))
-  told_required f these = go (feature_at old f) (feature_at new f) (h.at f)
-    where
-      go : (o o' : Option Feature) → Relates (Required (own f)) o o' → IfSome o (IsMarked f these) → IfSome o' (IsTold f these (own f))
-      go None None r m = tt
-      go None (Some b) r m = absurd r
-      go (Some a) None r m = absurd r
-      go (Some a) (Some b) r m = record {
+  told_required f these = along (λ f. Required (own f)) old new h.at f (λ o o'. IfSome o (IsMarked f these) → IfSome o' (IsTold f these (own f))) (λ m. tt)
+      (λ a b r m. record {
         key = ap (λ q. q.now) r.key ∙ m.key;
         enabled_by = ap (λ q. q.keys) r.enabled_by ∙ m.enabled_by;
         bins = r.bins ∙ ap (λ xs. map (λ (b : Bor Text). b.now) xs ++ own f) m.bins;
         marks = r.marks ∙ m.marks;
-      }
+      })
+
+-- what the answer tells of them, and of dependencies
+pub record Told (listed : Listed) (entries : List Entry) (details : NamedDetails) (own : Text → List Text) (last : List Feature) (deps : Slots FeatureDependency) : Type 0 where
+  pub features : AreUnremoved listed entries details own last
+  pub no_enablers : HaveNoEnablers last
+  pub dependencies : (k : Text) → SameRecorded (recorded_at deps k) (recorded_of (entries_at listed entries k))
+  pub targets : HeldHaveTargets deps
 
 same_recorded : (a b : Option RecordedKey) → a ≡ b → SameRecorded a b
 same_recorded a b e = subst (SameRecorded a) e (own a)
@@ -226,8 +200,8 @@ module _ (listed : Listed) (entries : List Entry) (details : NamedDetails) (own 
 
   same_last : Same (table_among last) t
   same_last = record {
-    has = λ f. has_required own implied last b f ∙ same.has f;
-    names = λ f x. names_required own implied last b f x ∙ same.names f x;
+    has = λ f. has_along (λ q. Required (own q)) implied last b.at f ∙ same.has f;
+    names = λ f x. names_along (λ q. Required (own q)) implied last b.at (λ q v w r. r.names) f x ∙ same.names f x;
     action = λ f k. action_required own implied last b f k ∙ same.action f k;
   }
 
@@ -244,19 +218,11 @@ module _ (listed : Listed) (entries : List Entry) (details : NamedDetails) (own 
       go false false e = refl
 
   marked_all : (f : Text) → IfSome (feature_at implied f) (IsMarked f (marks_in listed details f))
-  marked_all f = middle (is_offered (has_key mentions.acted.reserved) entries f) (feature_at thinned f) (feature_at implied f) refl (i.at f)
-    where
-      listed_one : (v : Feature) → feature_at thinned f ≡ Some v → IsMarked f (marks_in listed details f) v
-      listed_one v s =
-          let k = fresh_still f v s in
-          record { key = k.key; enabled_by = k.enabled_by; bins = k.bins; marks = k.marks ∙ listed_marks f (sym (has_still f) ∙ ap is_some s) }
-
-      middle : (b : Bool) (o o' : Option Feature) → feature_at thinned f ≡ o → Becomes b f o o' → IfSome o' (IsMarked f (marks_in listed details f))
-      middle true None None s b = absurd b
-      middle true None (Some v) s b = record { key = b.key; enabled_by = b.enabled_by; bins = b.bins; marks = b.marks ∙ implied_marks f (sym (has_still f) ∙ ap is_some s) }
-      middle false None o' s b = subst (λ o. IfSome o (IsMarked f (marks_in listed details f))) (sym b) tt
-      middle true (Some v) o' s b = subst (λ o. IfSome o (IsMarked f (marks_in listed details f))) (sym b) (listed_one v s)
-      middle false (Some v) o' s b = subst (λ o. IfSome o (IsMarked f (marks_in listed details f))) (sym b) (listed_one v s)
+  marked_all f = became (is_offered (has_key mentions.acted.reserved) entries) thinned implied i f (λ t o o'. IfSome o' (IsMarked f (marks_in listed details f))) tt
+      (λ v s k. record { key = k.key; enabled_by = k.enabled_by; bins = k.bins; marks = k.marks ∙ implied_marks f (sym (has_still f) ∙ ap is_some s) })
+      (λ t v s.
+      let k = fresh_still f v s in
+      record { key = k.key; enabled_by = k.enabled_by; bins = k.bins; marks = k.marks ∙ listed_marks f (sym (has_still f) ∙ ap is_some s) })
 
   told : (f : Text) → IfSome (feature_at last f) (IsTold f (marks_in listed details f) (own f))
   told f = told_required own implied last b f (marks_in listed details f) (marked_all f)
@@ -269,15 +235,17 @@ module _ (listed : Listed) (entries : List Entry) (details : NamedDetails) (own 
       go None k = tt
       go (Some v) k = part v k
 
-  pub unremoved_told : AreUnremoved listed entries details own last
-  unremoved_told = record {
-    table = are_table last t same_last;
-    marks = λ f. told_of f (λ v. marks_of v ≡ marks_in listed details f) (λ v k. k.marks);
-    bins = λ f. told_of f (λ v. map (λ b. b.now) v.required_by_bins.items ≡ own f) (λ v k. k.bins);
+  pub all_told : Told listed entries details own last deps
+  all_told = record {
+    features = record {
+      table = are_table last t same_last;
+      marks = λ f. told_of f (λ v. marks_of v ≡ marks_in listed details f) (λ v k. k.marks);
+      bins = λ f. told_of f (λ v. map (λ b. b.now) v.required_by_bins.items ≡ own f) (λ v k. k.bins);
+    };
+    no_enablers = λ f. told_of f (λ v. v.enabled_by.keys ≡ []) (λ v k. k.enabled_by);
+    dependencies = dependencies;
+    targets = have_targets deps (entries_at listed entries) dependencies;
   }
-
-  pub no_enablers_told : (f : Text) → IfSome (feature_at last f) (λ v. v.enabled_by.keys ≡ [])
-  no_enablers_told f = told_of f (λ v. v.enabled_by.keys ≡ []) (λ v k. k.enabled_by)
-
-  pub dependencies_told : (k : Text) → SameRecorded (recorded_at deps k) (recorded_of (entries_at listed entries k))
-  dependencies_told k = same_recorded (recorded_at deps k) (recorded_of (entries_at listed entries k)) (recorded mentioned k)
+    where
+      dependencies : (k : Text) → SameRecorded (recorded_at deps k) (recorded_of (entries_at listed entries k))
+      dependencies k = same_recorded (recorded_at deps k) (recorded_of (entries_at listed entries k)) (recorded mentioned k)

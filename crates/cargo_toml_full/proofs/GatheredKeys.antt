@@ -1,7 +1,7 @@
 -- The keys of the entries that pass a test.
 use Rattle.std.proofs.Common.{◌≡◌, ◌↔◌, ◌⊎◌, ◌<◌, ◌+◌, ◌&&◌, ◌||◌, ℕ, Bool, true, false, List, [], ◌∷◌, ◌++◌, length, map, take, get_or, Bor, IsTrue, bytes_eq, refl, sym, ap, subst, inl, inr, ◌∙◌}
 use Rattle.std.proofs.lemmas.Bool.{false≢true}
-use Rattle.std.proofs.lemmas.List.{get_or-map, length-map, map-append, take_more}
+use Rattle.std.proofs.lemmas.List.{get_or-map, length-map, map-append}
 use Rattle.std.proofs.lemmas.List.Folds.{list_any-append}
 use Rattle.std.proofs.lemmas.Slice.Eq.{bytes_eq-Decides}
 use Rattle.std.specs.List.{list_any}
@@ -13,6 +13,7 @@ use Rattle.cargo_toml_features.specs.Recorded.{Entry}
 use Rattle.cargo_toml_features.specs.Views.{entry_of}
 use Rattle.cargo_toml_full.specs.Recording.{counts_alone}
 use Rattle.cargo_toml_full.proofs.Ascending.{texts}
+use Rattle.cargo_toml_full.proofs.TakenMore.{taken_more}
 
 either : (a b : Bool) → IsTrue (a || (b || false)) → IsTrue a ⊎ IsTrue b
 either true b h = inl refl
@@ -69,7 +70,7 @@ module _ (test : Text → Entry → Bool) where
   module _ (es : List ParseDependency) (keys : List (Bor Text)) (i : ℕ) (p : ParseDependency) (inside : i < length es) (is : p ≡ get_or es i p)
       (gathered : Gathers (texts keys) (map entry_of (take i es))) where
     more : map entry_of (take (i + 1) es) ≡ map entry_of (take i es) ++ entry_of p ∷ []
-    more = ap (map entry_of) (take_more es i p inside ∙ ap (λ x. take i es ++ x ∷ []) (sym is)) ∙ map-append entry_of (take i es) (p ∷ [])
+    more = taken_more entry_of es i p p inside is
 
     pub key_put : (new : List (Bor Text)) → new ≡ keys ++ p.key ∷ [] → test p.key.now (entry_of p) ≡ true → Gathers (texts new) (map entry_of (take (i + 1) es))
     key_put new put on = subst (λ ks. Gathers ks (map entry_of (take (i + 1) es))) (sym (ap texts put ∙ map-append (λ (t : Bor Text). t.now) keys (p.key ∷ [])))
@@ -84,7 +85,7 @@ pub flag_put : (mentioned : Text → Bool) (es : List ParseDependency) (i : ℕ)
     → flags ≡ map (counts_alone mentioned) (map entry_of (take i es)) → (new : List Bool) → new ≡ flags ++ b ∷ [] → new ≡ map (counts_alone mentioned) (map entry_of (take (i + 1) es))
 flag_put mentioned es i p inside is flags b counted so_far new put =
     put ∙ ap (λ fs. fs ++ b ∷ []) so_far ∙ ap (λ c. map (counts_alone mentioned) (map entry_of (take i es)) ++ c ∷ []) counted
-    ∙ sym (ap (map (counts_alone mentioned)) (ap (map entry_of) (take_more es i p inside ∙ ap (λ x. take i es ++ x ∷ []) (sym is)) ∙ map-append entry_of (take i es) (p ∷ []))
+    ∙ sym (ap (map (counts_alone mentioned)) (taken_more entry_of es i p p inside is)
     ∙ map-append (counts_alone mentioned) (map entry_of (take i es)) (entry_of p ∷ []))
 
 -- and the flag at the place of an entry

@@ -3,7 +3,6 @@ use Rattle.std.proofs.Common.{◌≡◌, Bool, true, false, cond, ◌||◌, List
 use Rattle.std.proofs.Math.Bool.{or-false}
 use Rattle.std.proofs.lemmas.List.Folds.{list_any-append}
 use Rattle.std.proofs.lemmas.List.Sums.{fold_push}
-use Rattle.std.proofs.lemmas.List.{map_push, take_more}
 use Rattle.std.proofs.lemmas.Map.Text.{is_eq-slice_cmp}
 use Rattle.std.specs.BTreeMap.{BTreeMap, is_at}
 use Rattle.std.specs.BTreeSet as sorted
@@ -21,6 +20,7 @@ use Rattle.cargo_toml_graph.specs.Admitted.{action_on, item_names}
 use Rattle.cargo_toml_features.specs.ActionText.{action_in, item_in}
 use Rattle.cargo_toml_features.specs.Views.{action_at, set_has}
 use Rattle.cargo_toml_full.specs.ReadFeature.{IsGathered, IsReadFeature, joined_in}
+use Rattle.cargo_toml_full.proofs.TakenMore.{taken_more}
 
 pub acting : (t : ActionText) → true ≡ (t.is_dep_only || is_some t.dep_feature) → item_in t ≡ On t.target.now (action_in t)
 acting t e = ap (λ b. cond b (On t.target.now (action_in t)) (Name t.target.now)) (sym e)
@@ -81,8 +81,7 @@ pub more_texts : (ks : List (Bor Text)) (i : ℕ) (s n : Text → Bool) → i < 
     → ((x : Text) → n x ≡ (s x || bytes_eq x (get_or ks i no_text).now)) → (x : Text) → n x ≡ list_any (bytes_eq x) (map (λ k. k.now) (take (i + 1) ks))
 more_texts ks i s n lt h more x =
     more x ∙ ap (λ b. b || bytes_eq x (get_or ks i no_text).now) (h x)
-    ∙ sym (ap (λ us. list_any (bytes_eq x) (map (λ (u : Bor Text). u.now) us)) (take_more ks i no_text lt)
-    ∙ ap (list_any (bytes_eq x)) (map_push (λ (u : Bor Text). u.now) (take i ks) (get_or ks i no_text))
+    ∙ sym (ap (list_any (bytes_eq x)) (taken_more (λ (u : Bor Text). u.now) ks i (get_or ks i no_text) no_text lt refl)
     ∙ list_any-append (bytes_eq x) (map (λ u. u.now) (take i ks)) ((get_or ks i no_text).now ∷ []) ∙ ap (λ b. list_any (bytes_eq x) (map (λ u. u.now) (take i ks)) || b) (or-false _))
 
 -- a feature whose names were gathered, once it has them

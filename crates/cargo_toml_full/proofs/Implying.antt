@@ -2,7 +2,6 @@
 use Rattle.std.proofs.Common.{◌≡◌, ◌<◌, ◌&&◌, ◌||◌, not, ℕ, zero, suc, Bool, true, false, cond, List, [], ◌∷◌, ◌++◌, length, map, get_or, take, ◌+◌, Vec, Option, Some, None, is_some, option_map, bytes_eq, Bor, refl, sym, ap, subst, ◌∙◌}
 use Rattle.std.proofs.Math.Bool.{and-or_distrib_right}
 use Rattle.std.proofs.lemmas.Bool.{false≢true}
-use Rattle.std.proofs.lemmas.List.{map_push, take_more}
 use Rattle.std.proofs.lemmas.List.Folds.{list_any-append}
 use Rattle.std.proofs.Math.Bool.{or-false}
 use Rattle.std.proofs.lemmas.Slice.Eq.{bytes_eq-Decides}
@@ -27,6 +26,7 @@ use Rattle.cargo_toml_features.specs.InOrder.{feature_at}
 use Rattle.cargo_toml_graph.proofs.Texts.{bytes_eq_sym}
 use Rattle.cargo_toml_features.proofs.TextKeys.{none_in}
 use Rattle.cargo_toml_full.specs.Searching.{has_key}
+use Rattle.cargo_toml_full.proofs.TakenMore.{taken_more}
 use Rattle.cargo_toml_full.proofs.Placed.{none_from}
 use Rattle.cargo_toml_full.proofs.ReadOne.{has_more}
 use Rattle.std.specs.declared.alloc.Global.{Global}
@@ -142,7 +142,7 @@ implied_none vs = record { at = λ q. stays false q (feature_at vs q) (λ y. abs
 pub implied_one_more : (ks : List (Bor Text)) (i : ℕ) (k d : Bor Text) (started a b : List Feature) → i < length ks → k ≡ get_or ks i d → ImpliesAll (is_one_of (map (λ t. t.now) (take i ks))) started a
     → ImpliesAll (λ q. bytes_eq q k.now) a b → ImpliesAll (is_one_of (map (λ t. t.now) (take (i + 1) ks))) started b
 implied_one_more ks i k d started a b below is h more = implied_more (is_one_of (map (λ t. t.now) (take i ks))) (λ q. bytes_eq q k.now) (is_one_of (map (λ t. t.now) (take (i + 1) ks))) started a b
-    (λ q. ap (λ ts. is_one_of (map (λ (t : Bor Text). t.now) ts) q) (take_more ks i d below ∙ ap (λ x. take i ks ++ x ∷ []) (sym is)) ∙ ap (λ ts. is_one_of ts q) (map_push (λ (t : Bor Text). t.now) (take i ks) k)
+    (λ q. ap (λ ts. is_one_of ts q) (taken_more (λ (t : Bor Text). t.now) ks i k d below is)
     ∙ list_any-append (bytes_eq q) (map (λ t. t.now) (take i ks)) (k.now ∷ []) ∙ ap (λ b. is_one_of (map (λ t. t.now) (take i ks)) q || b) (or-false _)) h more
 
 -- a feature that was there comes to those that have the implied ones

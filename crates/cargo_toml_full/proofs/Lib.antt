@@ -16,3 +16,4 @@ pub mod Ascending
 pub mod GatheredKeys
 mod HeldTargets
 pub mod Gathering
+pub mod TakenMore

@@ -218,13 +218,21 @@ pub told_there : (vs : List Feature) (i : ℕ) (f : Text) → AreInOrder vs → 
 told_there vs i f up bound true stands free = let here = stands refl in sym (feature_there vs i f here.0 here.1)
 told_there vs i f up bound false stands free = sym (ap is_some (feature_missing vs f (place_free vs i f up (record { bound = bound; free = free refl }))))
 
+-- the place of f is behind all others
+pub record IsBehind (vs : List Feature) (i : ℕ) (f : Text) : Type 0 where
+  pub bound : IsBoundOf vs i f
+  pub past : length vs ≤ i
+
+pub found_behind : (vs us : List Feature) (place : ℕ) (f : Text) → us ≡ vs → IsBoundOf us place f → length vs ≤ place → IsBehind vs place f
+found_behind vs us place f same bound past = record { bound = subst (λ xs. IsBoundOf xs place f) same bound; past = past }
+
 -- behind all others one is put
-module _ (vs : List Feature) (i : ℕ) (w : Feature) (new : List Feature) (f : Text) (up : AreInOrder vs) (bound : IsBoundOf vs i f) (past : length vs ≤ i) (key : w.key.now ≡ f) (put : new ≡ vs ++ w ∷ []) where
+module _ (vs : List Feature) (i : ℕ) (w : Feature) (new : List Feature) (f : Text) (up : AreInOrder vs) (behind : IsBehind vs i f) (key : w.key.now ≡ f) (put : new ≡ vs ++ w ∷ []) where
   place : IsPlaceOf vs i w.key.now
-  place = subst (IsPlaceOf vs i) (sym key) (record { bound = bound; free = λ inside. absurd (omega (arith, inside, past)) })
+  place = subst (IsPlaceOf vs i) (sym key) (record { bound = behind.bound; free = λ inside. let past = behind.past in absurd (omega (arith, inside, past)) })
 
   became : new ≡ insert vs i w
-  became = pushed_last vs i w new place past put
+  became = pushed_last vs i w new place behind.past put
 
   missing : feature_at vs w.key.now ≡ None
   missing = feature_missing vs w.key.now (place_free vs i w.key.now up place)
@@ -247,9 +255,12 @@ get_last [] v d = refl
 get_last (u ∷ vs) v d = get_last vs v d
 
 -- behind all others one is pushed, which then becomes another
-module _ (vs : List Feature) (i : ℕ) (v : Feature) (pushed : List Feature) (f : Text) (up : AreInOrder vs) (bound : IsBoundOf vs i f) (past : length vs ≤ i) (put : pushed ≡ vs ++ v ∷ []) where
+module _ (vs : List Feature) (i : ℕ) (v : Feature) (pushed : List Feature) (f : Text) (up : AreInOrder vs) (behind : IsBehind vs i f) (put : pushed ≡ vs ++ v ∷ []) where
   last : i ≡ length vs
-  last = let within = bound.within in omega (arith, past, within)
+  last =
+      let within = behind.bound.within in
+      let past = behind.past in
+      omega (arith, past, within)
 
   pub pushed_there : (d : Feature) → get_or pushed i d ≡ v
   pushed_there d = ap₂ (λ us k. get_or us k d) put last ∙ get_last vs v d
@@ -259,7 +270,7 @@ module _ (vs : List Feature) (i : ℕ) (v : Feature) (pushed : List Feature) (f 
     filled = ap₂ (λ us k. set us k w) put last ∙ set_last vs v w
 
     pub filled_in_order : AreInOrder (set pushed i w)
-    filled_in_order = last_in_order vs i w (set pushed i w) f up bound past key filled
+    filled_in_order = last_in_order vs i w (set pushed i w) f up behind key filled
 
     pub filled_held : (g : Text) → feature_at (set pushed i w) g ≡ option_or (feature_at vs g) (cond (bytes_eq g w.key.now) (Some w) None)
-    filled_held g = last_held vs i w (set pushed i w) f up bound past key filled g
+    filled_held g = last_held vs i w (set pushed i w) f up behind key filled g

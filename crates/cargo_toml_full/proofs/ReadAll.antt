@@ -4,7 +4,7 @@ use Rattle.std.specs.List.{list_any, AllByRecursion}
 use Rattle.std.specs.Map.{lookup}
 use Rattle.std.specs.Option.{option_map_or, option_or, IsSomeAnd}
 use Rattle.std.proofs.lemmas.Bool.{false≢true, false_from_ne_true}
-use Rattle.std.proofs.lemmas.List.{map_push, map-append, take_more, take-append-drop}
+use Rattle.std.proofs.lemmas.List.{map-append, take-append-drop}
 use Rattle.std.proofs.lemmas.List.Folds.{list_any-append}
 use Rattle.std.proofs.lemmas.Slice.Eq.{bytes_eq-Decides}
 use Rattle.std.proofs.Math.Seq.{drop-cons}
@@ -21,6 +21,7 @@ use Rattle.cargo_toml_full.specs.Reading.{AreFresh, IsFresh, IsRead}
 use Rattle.cargo_toml_features.specs.InOrder.{feature_at, table_among}
 use Rattle.cargo_toml_features.proofs.Listings.{listed_one, names_listed}
 use Rattle.cargo_toml_graph.proofs.Texts.{bytes_eq_refl}
+use Rattle.cargo_toml_full.proofs.TakenMore.{taken_more}
 
 -- what stands under f, where the table lists these actions for it, if any, and says d of it
 abbrev Holds : Text → Detail → Option (List Text) → Option Feature → Type 0
@@ -79,7 +80,7 @@ module _ (ls : List Listing) (i : ℕ) (l : Listing) (below : i < length ls) (is
   split = sym (take-append-drop i ls) ∙ ap (λ xs. take i ls ++ xs) (drop-cons ls i l below ∙ ap (λ x. x ∷ drop (suc i) ls) (sym is) ∙ ap (λ n. l ∷ drop n ls) (sym (add-one i)))
 
   pub one_more : listed_of (take (i + 1) ls) ≡ listed_of (take i ls) ++ listed_one l ∷ []
-  one_more = ap listed_of (take_more ls i l below ∙ ap (λ x. take i ls ++ x ∷ []) (sym is)) ∙ map_push listed_one (take i ls) l
+  one_more = taken_more listed_one ls i l l below is
 
   not_before : lookup (bytes_eq l.name.now) (listed_of (take i ls)) ≡ None
   not_before = new_name (listed_of (take i ls)) (map (λ l. l.name.now) (drop (i + 1) ls)) l.name.now

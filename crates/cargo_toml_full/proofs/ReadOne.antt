@@ -4,7 +4,7 @@ use Rattle.std.proofs.Math.Bool.{or-false}
 use Rattle.std.specs.declared.alloc.Global.{Global}
 use Rattle.std.specs.List.{list_any}
 use Rattle.std.specs.Option.{option_map_or}
-use Rattle.std.proofs.lemmas.List.{map_push, take_more}
+use Rattle.std.proofs.lemmas.List.{map_push}
 use Rattle.std.proofs.lemmas.List.Folds.{list_any-append}
 use Rattle.std.proofs.lemmas.List.Sums.{fold_push}
 use Rattle.cargo_toml_graph.specs.Action.{Text, Action, Item, join_option, item_of}
@@ -14,14 +14,14 @@ use Rattle.cargo_toml_features.specs.declared.action.ActionText.{ActionText}
 use Rattle.cargo_toml_full.specs.Acting.{Notes}
 use Rattle.cargo_toml_full.specs.ReadFeature.{joined_in}
 use Rattle.cargo_toml_full.specs.Searching.{has_key}
+use Rattle.cargo_toml_full.proofs.TakenMore.{taken_more}
 use Rattle.cargo_toml_full.specs.declared.acting.Acting.{Acting}
 
 -- the items of the first texts, and of one more
 pub items_more : (ts : List (String Global)) (i : ℕ) (t : String Global) (bs : Text) → i < length ts → t ≡ get_or ts i t → bs ≡ string_bytes t
     → map item_of (map string_bytes (take (i + 1) ts)) ≡ map item_of (map string_bytes (take i ts)) ++ item_of bs ∷ []
 items_more ts i t bs h t_is bs_is =
-    ap (λ us. map item_of (map string_bytes us)) (take_more ts i t h ∙ ap (λ u. take i ts ++ u ∷ []) (sym t_is))
-    ∙ ap (map item_of) (map_push string_bytes (take i ts) t)
+    ap (map item_of) (taken_more string_bytes ts i t t h t_is)
     ∙ map_push item_of (map string_bytes (take i ts)) (string_bytes t)
     ∙ ap (λ u. map item_of (map string_bytes (take i ts)) ++ item_of u ∷ []) (sym bs_is)
 

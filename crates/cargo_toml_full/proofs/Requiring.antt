@@ -1,6 +1,6 @@
 -- Binaries gained one after another.
 use Rattle.std.proofs.Common.{◌≡◌, ◌++◌, ◌+◌, ◌<◌, ℕ, length, take, get_or, Bool, true, false, cond, List, [], ◌∷◌, map, Option, Some, None, bytes_eq, Bor, refl, sym, ap, subst, ◌∙◌}
-use Rattle.std.proofs.lemmas.List.{append_assoc, append-nil, map-append, take_more}
+use Rattle.std.proofs.lemmas.List.{append_assoc, append-nil, map-append}
 use Rattle.std.proofs.lemmas.List.Elements.{filter-append}
 use Rattle.std.proofs.lemmas.Slice.Eq.{bytes_eq-Decides}
 use Rattle.std.specs.List.{filter}
@@ -12,6 +12,7 @@ use Rattle.cargo_toml_features.specs.InOrder.{feature_at}
 use Rattle.cargo_toml_full.specs.Slots.{Relates}
 use Rattle.cargo_toml_full.specs.OwnBins.{own_of, bin_requirement}
 use Rattle.cargo_toml_full.specs.Requiring.{Required, RequiredAll}
+use Rattle.cargo_toml_full.proofs.TakenMore.{taken_more}
 
 nothing : (own : List Text) → own ≡ [] → (o : Option Feature) → Relates (Required own) o o
 nothing own none None = tt
@@ -82,4 +83,4 @@ blank = record { feature = record { ref_ptr = (0, 0); now = [] }; bin = record {
 
 pub own_next : (rs : List Requirement) (i : ℕ) → i < length rs → (q : Text) → own_of (map bin_requirement (take (i + 1) rs)) q
     ≡ own_of (map bin_requirement (take i rs)) q ++ own_of (bin_requirement (get_or rs i blank) ∷ []) q
-own_next rs i lt q = ap (λ xs. own_of (map bin_requirement xs) q) (take_more rs i blank lt) ∙ ap (λ xs. own_of xs q) (map-append bin_requirement (take i rs) (get_or rs i blank ∷ [])) ∙ own_more (map bin_requirement (take i rs)) (bin_requirement (get_or rs i blank) ∷ []) q
+own_next rs i lt q = ap (λ xs. own_of xs q) (taken_more bin_requirement rs i (get_or rs i blank) blank lt refl) ∙ own_more (map bin_requirement (take i rs)) (bin_requirement (get_or rs i blank) ∷ []) q

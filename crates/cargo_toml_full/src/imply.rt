@@ -1,6 +1,6 @@
 //! Which features optional dependencies imply.
-ghost use Rattle.std.specs.Prelude.{◌≡◌, ◌||◌, ◌∷◌, [], List, bytes_eq, map, take};
-ghost use Rattle.std.specs.Prelude.{IfOk, IsTrue, OnOk, None};
+ghost use Rattle.std.specs.Prelude.{◌≡◌, ◌≤◌, ◌||◌, ◌∷◌, [], List, bytes_eq, length};
+ghost use Rattle.std.specs.Prelude.{IfOk, IsTrue, OnOk, None, map, take};
 ghost use Rattle.cargo_toml_graph.specs.Action.{Text};
 ghost use Rattle.cargo_toml_features.specs.InOrder.{AreInOrder, feature_at};
 ghost use Rattle.cargo_toml_features.specs.Views.{entry_of};
@@ -164,48 +164,39 @@ fn implied_keys<'m>(
     Ok(ascending(keys))
 }
 
-// Adds the features of the keys from a place on that are below the bound. The answer is the place
-// of the first key that isn't.
+// Whether the key is below the bound, if there is one.
+fn is_within(key: &str, bound: Option<&str>) -> bool
+    ensures { bound.entry ≡ None → IsTrue result }
+{
+    match bound {
+        Some(bound) => key < bound,
+        None => true,
+    }
+}
+
+// Adds the features of the keys from a place on that are below the bound, and of all of them where
+// there is none. The answer is the place of the first key that isn't.
+#[inline]
 fn imply_below<'m>(
     alloc: Global,
     all: &mut Vec<Feature<'m>>,
     keys: &[&'m str],
     from: usize,
-    bound: &str,
+    bound: Option<&str>,
 ) -> Result<usize, AllocError>
     requires { AreInOrder all.old.items }
     ensures in_order { OnOk result (AreInOrder all.new.items) }
     ensures implied { IfOk result (λ next. (started : List Feature)
         → ImpliesAll (is_one_of (map (λ k. k.now) (take from keys.now))) started all.old.items
         → ImpliesAll (is_one_of (map (λ k. k.now) (take next keys.now))) started all.new.items) }
+    ensures all { IfOk result (λ next. bound.entry ≡ None → length keys.now ≤ next) }
 {
     let mut next = from;
-    while next < keys.len() && keys[next] < bound {
+    while next < keys.len() && is_within(keys[next], bound) {
         imply_key(alloc, all, keys[next])?;
         next += 1;
     }
     Ok(next)
-}
-
-// Adds the features of the keys from a place on.
-fn imply_rest<'m>(
-    alloc: Global,
-    all: &mut Vec<Feature<'m>>,
-    keys: &[&'m str],
-    from: usize,
-) -> Result<(), AllocError>
-    requires { AreInOrder all.old.items }
-    ensures in_order { OnOk result (AreInOrder all.new.items) }
-    ensures implied { OnOk result ((started : List Feature)
-        → ImpliesAll (is_one_of (map (λ k. k.now) (take from keys.now))) started all.old.items
-        → ImpliesAll (is_one_of (map (λ k. k.now) keys.now)) started all.new.items) }
-{
-    let mut next = from;
-    while next < keys.len() {
-        imply_key(alloc, all, keys[next])?;
-        next += 1;
-    }
-    Ok(())
 }
 
 // The features and those of the keys, which aren't there: both in byte order, so that each is put
@@ -224,10 +215,10 @@ fn merged<'m>(
     let mut all = Vec::with_capacity(alloc, features.len().saturating_add(keys.len()))?;
     let mut next = 0;
     for feature in features {
-        next = imply_below(alloc, &mut all, keys, next, feature.key)?;
+        next = imply_below(alloc, &mut all, keys, next, Some(feature.key))?;
         put_feature(&mut all, feature)?;
     }
-    imply_rest(alloc, &mut all, keys, next)?;
+    imply_below(alloc, &mut all, keys, next, None)?;
     Ok(all)
 }
 

@@ -1,12 +1,11 @@
-use Rattle.std.proofs.Common.{◌≡◌, ◌+◌, ◌++◌, ◌∷◌, ◌||◌, [], List, take, take_all, map, bytes_eq, ap, sym, ◌∙◌}
+use Rattle.std.proofs.Common.{◌∷◌, ◌||◌, [], take, take_all, map, bytes_eq, ap, sym, ◌∙◌}
 use Rattle.std.proofs.lemmas.Bool.{false≢true}
-use Rattle.std.proofs.lemmas.List.{map-append, take_more}
 use Rattle.std.specs.List.{list_any}
-use Rattle.cargo_toml_features.specs.declared.features.ParseDependency.{ParseDependency}
 use Rattle.cargo_toml_features.specs.Views.{entry_of}
 use Rattle.cargo_toml_full.specs.Implying.{is_offered}
 use Rattle.cargo_toml_full.specs.Searching.{has_key}
 use Rattle.cargo_toml_full.proofs.Implying.{offered_more}
+use Rattle.cargo_toml_full.proofs.TakenMore.{taken_more}
 use Rattle.cargo_toml_full.proofs.Searched.{same_among}
 use Rattle.cargo_toml_full.proofs.imply.implied_keys.Goals as goal
 
@@ -19,13 +18,12 @@ loop-entry-init c = record {
 pub loop-entry-preserved : goal.loop-entry-preserved
 loop-entry-preserved c =
     let reserved = has_key c.args.acted.now.reserved in
-    let es : List ParseDependency = take c.loop-entry.entry-index c.args.entries.now in
-    let p : ParseDependency = c.entry-item.result in
-    let more : map entry_of (take (c.loop-entry.entry-index + 1) c.args.entries.now) ≡ map entry_of (take c.loop-entry.entry-index c.args.entries.now) ++ entry_of c.entry-item.result ∷ [] =
-    ap (map entry_of) (take_more c.args.entries.now c.loop-entry.entry-index p c.loop-entry-test.true ∙ ap (λ x. es ++ x ∷ []) (sym c.entry-item.is)) ∙ map-append entry_of es (p ∷ []) in
+    let es = c.args.entries.now in
+    let i = c.loop-entry.entry-index in
+    let p = c.entry-item.result in
     record {
       keys = λ q gone. c.in_ok-note_implied.ensures.noted q gone ∙ ap (λ b. b || is_offered reserved (entry_of p ∷ []) q) (c.loop-entry.invariant.keys q gone)
-          ∙ sym (ap (λ xs. is_offered reserved xs q) more ∙ offered_more reserved (map entry_of es) (entry_of p) q);
+          ∙ sym (ap (λ xs. is_offered reserved xs q) (taken_more entry_of es i p p c.loop-entry-test.true c.entry-item.is) ∙ offered_more reserved (map entry_of (take i es)) (entry_of p) q);
       free = c.in_ok-note_implied.ensures.free c.loop-entry.invariant.free;
     }
 

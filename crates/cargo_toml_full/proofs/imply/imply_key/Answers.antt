@@ -1,34 +1,23 @@
-use Rattle.std.proofs.Common.{◌≡◌, ◌≤◌, Some, bytes_eq, cond, length, subst, arith}
+use Rattle.std.proofs.Common.{◌≡◌, Some, bytes_eq, cond, subst, arith}
 use Rattle.cargo_toml_features.specs.InOrder.{feature_at}
 use Rattle.cargo_toml_full.proofs.Implying.{implied_put, implied_there}
-use Rattle.cargo_toml_full.specs.Placing.{IsBoundOf}
-use Rattle.cargo_toml_full.proofs.Placed.{feature_missing, free_place, last_in_order, last_missing, last_only, place_free, taken_place}
+use Rattle.cargo_toml_full.proofs.Placed.{feature_missing, found_behind, free_place, last_in_order, last_missing, last_only, place_free, taken_place}
 use Rattle.cargo_toml_full.proofs.imply.imply_key.Goals as goal
 
 -- the key is above all others
-pub returns-in_ok-push-clause-in_order : goal.returns-in_ok-push-clause-in_order
-returns-in_ok-push-clause-in_order c =
+pub returns-in_ok-push : goal.returns-in_ok-push
+returns-in_ok-push c =
     let vs = c.args.features.now.items in
     let key = c.args.key.now in
     let place = c.lower_bound-place.result in
-    let bound : IsBoundOf vs place key = subst (λ us. IsBoundOf us place key) c.as_slice.ensures.value c.lower_bound-place.ensures in
-    let test = c.if-place-len.true in
-    let len = c.len.ensures in
-    let past : length vs ≤ place = omega (arith, test, len) in
-    last_in_order vs place c.implied_feature.result c.push.new.self.items key c.requires bound past c.implied_feature.ensures.key c.in_ok-push.ensures.items
-
-pub returns-in_ok-push-clause-implied : goal.returns-in_ok-push-clause-implied
-returns-in_ok-push-clause-implied c =
-    let vs = c.args.features.now.items in
-    let key = c.args.key.now in
-    let place = c.lower_bound-place.result in
-    let bound : IsBoundOf vs place key = subst (λ us. IsBoundOf us place key) c.as_slice.ensures.value c.lower_bound-place.ensures in
-    let test = c.if-place-len.true in
-    let len = c.len.ensures in
-    let past : length vs ≤ place = omega (arith, test, len) in
+    let behind = found_behind vs c.as_slice.result.now place key c.as_slice.ensures.value c.lower_bound-place.ensures (let test = c.if-place-len.true in let len = c.len.ensures in omega (arith, test, len)) in
     let w = c.implied_feature.result in
-    implied_put key vs c.push.new.self.items w (last_missing vs place w c.push.new.self.items key c.requires bound past c.implied_feature.ensures.key c.in_ok-push.ensures.items) c.implied_feature.ensures
-    (last_only vs place w c.push.new.self.items key c.requires bound past c.implied_feature.ensures.key c.in_ok-push.ensures.items)
+    let new = c.push.new.self.items in
+    record {
+      in_order = last_in_order vs place w new key c.requires behind c.implied_feature.ensures.key c.in_ok-push.ensures.items;
+      implied = implied_put key vs new w (last_missing vs place w new key c.requires behind c.implied_feature.ensures.key c.in_ok-push.ensures.items) c.implied_feature.ensures
+          (last_only vs place w new key c.requires behind c.implied_feature.ensures.key c.in_ok-push.ensures.items);
+    }
 
 pub returns-in_ok-insert_at-clause-implied : goal.returns-in_ok-insert_at-clause-implied
 returns-in_ok-insert_at-clause-implied c =

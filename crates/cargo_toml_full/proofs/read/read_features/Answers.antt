@@ -29,21 +29,21 @@ loop-listing-preserved c =
       reserved = λ k. told_next ls i l c.loop-listing-test.true c.listing-item.is c.requires is_dep_only k (has_key c.loop-listing.acting.reserved k) (has_key c.read_listing.new.acting.reserved k) (c.loop-listing.invariant.reserved k) (c.in_ok-read_listing.ensures.noted.reserved k);
     }
 
-pub returns-clause-read : goal.returns-clause-read
-returns-clause-read c =
+pub returns : goal.returns
+returns c =
     let ls = c.args.listings.now in
+    let listed = listed_of ls in
+    let details = named_details ls in
+    let old = c.loop-listing.features.items in
+    let new = c.add_default.new.features.items in
+    let acted = c.into_acted.result in
     let all : take c.loop-listing.listing-index ls ≡ ls = take_all _ ls (omega arith) in
-    all_read (listed_of ls) (named_details ls) c.loop-listing.features.items c.add_default.new.features.items
-    (subst (λ xs. HasRead (listed_of xs) (named_details ls) c.loop-listing.features.items) all c.loop-listing.invariant.features)
-    c.in_ok-add_default.ensures.others c.in_ok-add_default.ensures.default (has_key c.into_acted.result.keys) (has_key c.into_acted.result.reserved)
-    (λ k. c.into_acted.ensures.keys k ∙ c.loop-listing.invariant.keys k ∙ ap (λ xs. told_in is_some (listed_of xs) k) all)
-    (λ k. c.into_acted.ensures.reserved k ∙ c.loop-listing.invariant.reserved k ∙ ap (λ xs. told_in is_dep_only (listed_of xs) k) all)
-    (subst IsOnce (sym (names_listed ls)) c.requires)
-
-pub returns-clause-fresh : goal.returns-clause-fresh
-returns-clause-fresh c =
-    let ls = c.args.listings.now in
-    let all : take c.loop-listing.listing-index ls ≡ ls = take_all _ ls (omega arith) in
-    all_fresh (listed_of ls) (named_details ls) c.loop-listing.features.items c.add_default.new.features.items
-    (subst (λ xs. HasRead (listed_of xs) (named_details ls) c.loop-listing.features.items) all c.loop-listing.invariant.features)
-    c.in_ok-add_default.ensures.others c.in_ok-add_default.ensures.default
+    let read = subst (λ xs. HasRead (listed_of xs) details old) all c.loop-listing.invariant.features in
+    record {
+      in_order = c.in_ok-add_default.ensures.in_order;
+      read = all_read listed details old new read c.in_ok-add_default.ensures.others c.in_ok-add_default.ensures.default (has_key acted.keys) (has_key acted.reserved)
+          (λ k. c.into_acted.ensures.keys k ∙ c.loop-listing.invariant.keys k ∙ ap (λ xs. told_in is_some (listed_of xs) k) all)
+          (λ k. c.into_acted.ensures.reserved k ∙ c.loop-listing.invariant.reserved k ∙ ap (λ xs. told_in is_dep_only (listed_of xs) k) all)
+          (subst IsOnce (sym (names_listed ls)) c.requires);
+      fresh = all_fresh listed details old new read c.in_ok-add_default.ensures.others c.in_ok-add_default.ensures.default;
+    }

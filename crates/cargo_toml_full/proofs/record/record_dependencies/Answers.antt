@@ -1,6 +1,6 @@
-use Rattle.std.proofs.Common.{◌≡◌, ◌<◌, ◌+◌, ◌++◌, ◌∷◌, ◌||◌, [], ℕ, Bool, Bor, IsTrue, List, get_or, length, take, take_all, map, refl, ap, sym, subst, ◌∙◌, arith}
+use Rattle.std.proofs.Common.{◌≡◌, ◌<◌, ◌||◌, ℕ, Bool, Bor, IsTrue, List, get_or, length, take, take_all, map, refl, ap, sym, subst, ◌∙◌, arith}
 use Rattle.std.proofs.lemmas.Bool.{and_from}
-use Rattle.std.proofs.lemmas.List.{get_or-map, length-map, map-append, take_more}
+use Rattle.std.proofs.lemmas.List.{get_or-map, length-map}
 use Rattle.std.proofs.lemmas.List.Folds.{list_any_at}
 use Rattle.std.proofs.lemmas.Slice.Eq.{bytes_eq-Decides}
 use Rattle.std.specs.List.{list_any}
@@ -14,6 +14,7 @@ use Rattle.cargo_toml_features.specs.Views.{entry_of}
 use Rattle.cargo_toml_full.proofs.Counting.{recorded_then}
 use Rattle.cargo_toml_full.proofs.GatheredKeys.{flag_there}
 use Rattle.cargo_toml_full.proofs.HeldValues.{same_then}
+use Rattle.cargo_toml_full.proofs.TakenMore.{taken_more}
 use Rattle.cargo_toml_full.proofs.record.record_dependencies.Goals as goal
 
 counted_there : (mentioned : Text → Bool) (es : List ParseDependency) (i : ℕ) (p : ParseDependency) → i < length es → p ≡ get_or es i p →
@@ -40,16 +41,15 @@ record_entry-requires c = record {
 
 pub loop-entry-preserved : goal.loop-entry-preserved
 loop-entry-preserved c =
-    let es : List ParseDependency = take c.loop-entry.entry-index c.args.entries.now in
+    let es = c.args.entries.now in
+    let i = c.loop-entry.entry-index in
     let p : ParseDependency = c.entry-item.result in
-    let more : map entry_of (take (c.loop-entry.entry-index + 1) c.args.entries.now) ≡ map entry_of (take c.loop-entry.entry-index c.args.entries.now) ++ entry_of c.entry-item.result ∷ [] =
-    ap (map entry_of) (take_more c.args.entries.now c.loop-entry.entry-index p c.loop-entry-test.true ∙ ap (λ x. es ++ x ∷ []) (sym c.entry-item.is)) ∙ map-append entry_of es (p ∷ []) in
     record {
       recorded = λ listed same k.
-          subst (λ xs. recorded_at c.record_entry.new.dependencies k ≡ recorded_of (entries_at listed xs k)) (sym more)
-          (recorded_then listed (is_mentioned_in c.args.mentions.now) same (map entry_of es) (entry_of p) k
+          subst (λ xs. recorded_at c.record_entry.new.dependencies k ≡ recorded_of (entries_at listed xs k)) (sym (taken_more entry_of es i p p c.loop-entry-test.true c.entry-item.is))
+          (recorded_then listed (is_mentioned_in c.args.mentions.now) same (map entry_of (take i es)) (entry_of p) k
           (recorded_at c.loop-entry.dependencies k) (recorded_at c.record_entry.new.dependencies k) (c.loop-entry.invariant.recorded listed same k) (c.in_ok-near.ensures.recorded (is_mentioned_in c.args.mentions.now)
-          (flag_is (is_mentioned_in c.args.mentions.now) c.args.entries.now c.loop-entry.entry-index c.loop-entry.place p c.in_ok-flags.field-0.flags.items c.index.result.now c.index.result.now
+          (flag_is (is_mentioned_in c.args.mentions.now) es i c.loop-entry.place p c.in_ok-flags.field-0.flags.items c.index.result.now c.index.result.now
           c.loop-entry.invariant.place c.loop-entry-test.true c.entry-item.is c.in_ok-flags.ensures.flags c.index.ensures) k));
       place = omega arith;
       same_names = same_then c.in_ok-dependencies.dependencies c.loop-entry.dependencies c.record_entry.new.dependencies c.loop-entry.invariant.same_names c.in_ok-near.ensures.same_names;

@@ -2,13 +2,11 @@ use Rattle.std.proofs.Common.{map}
 use Rattle.cargo_toml_full.specs.OwnBins.{own_of, bin_requirement}
 use Rattle.cargo_toml_features.specs.Marks.{named_details}
 use Rattle.cargo_toml_features.specs.Views.{listed_of, entry_of}
-use Rattle.cargo_toml_features.specs.Recorded.{entries_at}
-use Rattle.cargo_toml_full.proofs.Answering.{no_enablers_told, dependencies_told, unremoved_told}
-use Rattle.cargo_toml_full.proofs.HeldTargets.{have_targets}
+use Rattle.cargo_toml_full.proofs.Answering.{all_told}
 use Rattle.cargo_toml_full.proofs.unremoved.resolve_all.Goals as goal
 
-pub returns-clause-features : goal.returns-clause-features
-returns-clause-features c =
+pub returns : goal.returns
+returns c =
     let listed = listed_of c.args.listings.now in
     let entries = map entry_of c.args.entries.now in
     let details = named_details c.args.listings.now in
@@ -18,34 +16,5 @@ returns-clause-features c =
     let implied = c.in_ok-implied.implied.items in
     let last = c.in_ok-features.features.items in
     let deps = c.in_ok-dependencies.dependencies in
-    unremoved_told listed entries details own mentions thinned implied last deps c.in_ok-mentions.ensures.read c.in_ok-mentions.ensures.fresh c.without_redundant-thinned.ensures.thinned c.in_ok-implied.ensures.implied c.in_ok-features.ensures.required (c.in_ok-dependencies.ensures.recorded listed)
-
-pub returns-clause-no_enablers : goal.returns-clause-no_enablers
-returns-clause-no_enablers c = λ f.
-    let listed = listed_of c.args.listings.now in
-    let entries = map entry_of c.args.entries.now in
-    let details = named_details c.args.listings.now in
-    let own = own_of (map bin_requirement c.args.requirements.now) in
-    let mentions = c.in_ok-mentions.mentions in
-    let thinned = c.without_redundant-thinned.result.items in
-    let implied = c.in_ok-implied.implied.items in
-    let last = c.in_ok-features.features.items in
-    let deps = c.in_ok-dependencies.dependencies in
-    (no_enablers_told listed entries details own mentions thinned implied last deps c.in_ok-mentions.ensures.read c.in_ok-mentions.ensures.fresh c.without_redundant-thinned.ensures.thinned c.in_ok-implied.ensures.implied c.in_ok-features.ensures.required (c.in_ok-dependencies.ensures.recorded listed) f)
-
-pub returns-clause-dependencies : goal.returns-clause-dependencies
-returns-clause-dependencies c =
-    let listed = listed_of c.args.listings.now in
-    let entries = map entry_of c.args.entries.now in
-    let details = named_details c.args.listings.now in
-    let own = own_of (map bin_requirement c.args.requirements.now) in
-    let mentions = c.in_ok-mentions.mentions in
-    let thinned = c.without_redundant-thinned.result.items in
-    let implied = c.in_ok-implied.implied.items in
-    let last = c.in_ok-features.features.items in
-    let deps = c.in_ok-dependencies.dependencies in
-    dependencies_told listed entries details own mentions thinned implied last deps c.in_ok-mentions.ensures.read c.in_ok-mentions.ensures.fresh c.without_redundant-thinned.ensures.thinned c.in_ok-implied.ensures.implied c.in_ok-features.ensures.required (c.in_ok-dependencies.ensures.recorded listed)
-
-pub returns-clause-targets : goal.returns-clause-targets
-returns-clause-targets c =
-    have_targets c.in_ok-dependencies.dependencies (entries_at (listed_of c.args.listings.now) (map entry_of c.args.entries.now)) (returns-clause-dependencies c)
+    let told = all_told listed entries details own mentions thinned implied last deps c.in_ok-mentions.ensures.read c.in_ok-mentions.ensures.fresh c.without_redundant-thinned.ensures.thinned c.in_ok-implied.ensures.implied c.in_ok-features.ensures.required (c.in_ok-dependencies.ensures.recorded listed) in
+    record { in_order = c.in_ok-features.ensures.in_order; features = told.features; no_enablers = told.no_enablers; dependencies = told.dependencies; targets = told.targets }

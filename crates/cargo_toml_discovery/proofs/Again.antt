@@ -142,10 +142,10 @@ path-among edition ps all (o ∷ os) t =
     ap (λ (r : Option Name). is_text t r || is_path_of (map (product_among edition ps all) os) t) (placed-path edition o (taker ps all o))
     ∙ ap (λ (b : Bool). bytes_eq o.path t || b) (path-among edition ps all os t)
 
-path-found : (edition : Edition) (dir : Name) (ps : List ProductMeaning) (es : List Named) (x : Option Offered) (t : Name) →
-    is_path_of (found edition dir ps es x) t ≡ (is_path_of ps t || (offered (offers dir (is_path_of ps) es) t || is_path_of (last_product edition ps (offers dir (is_path_of ps) es) x) t))
-path-found edition dir ps es x t =
-    let os = offers dir (is_path_of ps) es in
+path-found : (edition : Edition) (folder : Name) (ps : List ProductMeaning) (es : List Named) (x : Option Offered) (t : Name) →
+    is_path_of (found edition folder ps es x) t ≡ (is_path_of ps t || (offered (offers folder (is_path_of ps) es) t || is_path_of (last_product edition ps (offers folder (is_path_of ps) es) x) t))
+path-found edition folder ps es x t =
+    let os = offers folder (is_path_of ps) es in
     let placed = map (product_among edition ps os) os in
     let last = last_product edition ps os x in
     path-sorted (filter has_path ps ++ (placed ++ last)) t
@@ -154,7 +154,7 @@ path-found edition dir ps es x t =
     ∙ ap (λ (b : Bool). is_path_of ps t || b) (path-append placed last t ∙ ap (λ (b : Bool). b || is_path_of last t) (path-among edition ps os os t))
 
 -- no offer is open any more
-module _ (dir : Name) (f g : Name → Bool) (more : (t : Name) → f t ≡ true → g t ≡ true) where
+module _ (folder : Name) (f g : Name → Bool) (more : (t : Name) → f t ≡ true → g t ≡ true) where
   taken : (o : Offered) (rest : List Offered) → g o.path ≡ true → rest ≡ [] → cons_option (still_open g (Some o)) rest ≡ []
   taken o rest e r = ap (λ (b : Bool). cons_option (cond b None (Some o)) rest) e ∙ r
 
@@ -166,60 +166,60 @@ module _ (dir : Name) (f g : Name → Bool) (more : (t : Name) → f t ≡ true 
     | false ↦ λ e k. taken o rest (k o.path (ap (λ (b : Bool). b || offered os o.path) (own o.path))) (next (λ t i. k t (or_right (bytes_eq o.path t) (offered os t) i)))
   ] refl h
 
-  none-open : (es : List Named) → ((t : Name) → offered (offers dir f es) t ≡ true → g t ≡ true) → offers dir g es ≡ []
+  none-open : (es : List Named) → ((t : Name) → offered (offers folder f es) t ≡ true → g t ≡ true) → offers folder g es ≡ []
   none-open [] h = refl
-  none-open (e ∷ es) h = none-step (offer_of dir e) (offers dir f es) (offers dir g es) h (none-open es)
+  none-open (e ∷ es) h = none-step (offer_of folder e) (offers folder f es) (offers folder g es) h (none-open es)
 
-module _ (edition : Edition) (dir : Name) (ps : List ProductMeaning) (es : List Named) where
-  have-found : (x : Option Offered) → HavePaths (found edition dir ps es x)
+module _ (edition : Edition) (folder : Name) (ps : List ProductMeaning) (es : List Named) where
+  have-found : (x : Option Offered) → HavePaths (found edition folder ps es x)
   have-found x =
-      let os = offers dir (is_path_of ps) es in
+      let os = offers folder (is_path_of ps) es in
       have-sorted _ (have-append (filter has_path ps) (map (product_among edition ps os) os ++ last_product edition ps os x) (have-filter ps)
       (have-append (map (product_among edition ps os) os) (last_product edition ps os x) (have-among edition ps os os) (have-last edition ps os x)))
 
-  none-left : (x : Option Offered) → offers dir (is_path_of (found edition dir ps es x)) es ≡ []
+  none-left : (x : Option Offered) → offers folder (is_path_of (found edition folder ps es x)) es ≡ []
   none-left x =
-      let os = offers dir (is_path_of ps) es in
+      let os = offers folder (is_path_of ps) es in
       let last = last_product edition ps os x in
-      none-open dir (is_path_of ps) (is_path_of (found edition dir ps es x))
-      (λ t h. path-found edition dir ps es x t ∙ or_left (is_path_of ps t) (offered os t || is_path_of last t) h) es
-      (λ t h. path-found edition dir ps es x t ∙ or_right (is_path_of ps t) (offered os t || is_path_of last t) (or_left (offered os t) (is_path_of last t) h))
+      none-open folder (is_path_of ps) (is_path_of (found edition folder ps es x))
+      (λ t h. path-found edition folder ps es x t ∙ or_left (is_path_of ps t) (offered os t || is_path_of last t) h) es
+      (λ t h. path-found edition folder ps es x t ∙ or_right (is_path_of ps t) (offered os t || is_path_of last t) (or_left (offered os t) (is_path_of last t) h))
 
-  pub found-again : (x : Option Offered) → found edition dir (found edition dir ps es x) es None ≡ found edition dir ps es x
+  pub found-again : (x : Option Offered) → found edition folder (found edition folder ps es x) es None ≡ found edition folder ps es x
   found-again x =
-      let q = found edition dir ps es x in
+      let q = found edition folder ps es x in
       ap (λ (os : List Offered). in_order (filter has_path q ++ (map (product_among edition q os) os ++ []))) (none-left x)
       ∙ ap (λ (rs : List ProductMeaning). in_order (rs ++ [])) (filter-all q (have-found x))
       ∙ ap in_order (append-nil q)
-      ∙ sorted-again (all_found edition ps (offers dir (is_path_of ps) es) x)
+      ∙ sorted-again (all_found edition ps (offers folder (is_path_of ps) es) x)
 
   -- `src/main.rs` is no offer any more
-  main-path : (m : Offered) → is_path_of (found edition dir ps es (still_open (is_path_of ps) (Some m))) m.path ≡ true
+  main-path : (m : Offered) → is_path_of (found edition folder ps es (still_open (is_path_of ps) (Some m))) m.path ≡ true
   main-path m =
-      let os = offers dir (is_path_of ps) es in
+      let os = offers folder (is_path_of ps) es in
       let t = m.path in
-      elim (is_path_of ps t) as (λ b. is_path_of ps t ≡ b → is_path_of (found edition dir ps es (cond b None (Some m))) t ≡ true) [
-        | true ↦ λ e. path-found edition dir ps es None t ∙ or_left (is_path_of ps t) (offered os t || false) e
-        | false ↦ λ e. path-found edition dir ps es (Some m) t
+      elim (is_path_of ps t) as (λ b. is_path_of ps t ≡ b → is_path_of (found edition folder ps es (cond b None (Some m))) t ≡ true) [
+        | true ↦ λ e. path-found edition folder ps es None t ∙ or_left (is_path_of ps t) (offered os t || false) e
+        | false ↦ λ e. path-found edition folder ps es (Some m) t
             ∙ or_right (is_path_of ps t) (offered os t || is_path_of (last_product edition ps os (Some m)) t)
             (or_right (offered os t) (is_path_of (last_product edition ps os (Some m)) t)
             (ap (λ (r : Option Name). is_text t r || false) (placed-path edition m (late_taker ps os m)) ∙ ap (λ (b : Bool). b || false) (own t)))
       ] refl
 
-  main-again : (name : Name) (there : Bool) → main_offer name there (found edition dir ps es (main_offer name there ps)) ≡ None
+  main-again : (name : Name) (there : Bool) → main_offer name there (found edition folder ps es (main_offer name there ps)) ≡ None
   main-again name false = refl
   main-again name true = ap (λ (b : Bool). cond b None (Some (main_of name))) (main-path (main_of name))
 
-  pub list-again : (wanted : Bool) → listed_products edition wanted dir (listed_products edition wanted dir ps es None) es None ≡ listed_products edition wanted dir ps es None
+  pub list-again : (wanted : Bool) → listed_products edition wanted folder (listed_products edition wanted folder ps es None) es None ≡ listed_products edition wanted folder ps es None
   list-again false = sorted-again ps
   list-again true = found-again None
 
   pub bins-again : (wanted : Bool) (name : Name) (there : Bool) →
-      listed_products edition wanted dir (listed_products edition wanted dir ps es (main_offer name there ps)) es (main_offer name there (listed_products edition wanted dir ps es (main_offer name there ps)))
-      ≡ listed_products edition wanted dir ps es (main_offer name there ps)
+      listed_products edition wanted folder (listed_products edition wanted folder ps es (main_offer name there ps)) es (main_offer name there (listed_products edition wanted folder ps es (main_offer name there ps)))
+      ≡ listed_products edition wanted folder ps es (main_offer name there ps)
   bins-again false name there = sorted-again ps
   bins-again true name there =
-      ap (λ (x : Option Offered). found edition dir (found edition dir ps es (main_offer name there ps)) es x) (main-again name there)
+      ap (λ (x : Option Offered). found edition folder (found edition folder ps es (main_offer name there ps)) es x) (main-again name there)
       ∙ found-again (main_offer name there ps)
 
 -- all parts
@@ -235,9 +235,9 @@ same-parts d e lib bin example test bench build readme =
 
 pub discovered-again : (s : StatedMeaning) (a : Around) → discovered (restated s (discovered s a)) a ≡ discovered s a
 discovered-again s a = same-parts (discovered (restated s (discovered s a)) a) (discovered s a)
-    (library-again s.name s.edition (has_text a.src (codes "lib.rs")) s.autolib s.lib)
-    (bins-again s.edition (codes "src/bin") s.bin a.bins s.wanted.bins s.name (has_text a.src (codes "main.rs")))
-    (list-again s.edition (codes "examples") s.example a.examples s.wanted.examples)
-    (list-again s.edition (codes "tests") s.test a.tests s.wanted.tests)
-    (list-again s.edition (codes "benches") s.bench a.benches s.wanted.benches)
-    (build-again a.root s.build) (readme-again a.root s.readme)
+    (library-again s.name s.edition (has_text a.src (codes "lib.rs")) s.autolib s.stated.lib)
+    (bins-again s.edition (codes "src/bin") s.stated.bin a.bins s.wanted.bins s.name (has_text a.src (codes "main.rs")))
+    (list-again s.edition (codes "examples") s.stated.example a.examples s.wanted.examples)
+    (list-again s.edition (codes "tests") s.stated.test a.tests s.wanted.tests)
+    (list-again s.edition (codes "benches") s.stated.bench a.benches s.wanted.benches)
+    (build-again a.root s.stated.build) (readme-again a.root s.stated.readme)

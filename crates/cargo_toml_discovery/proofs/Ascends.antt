@@ -1,13 +1,15 @@
-use Rattle.std.proofs.Common.{List, [], ◌∷◌, map}
-use Rattle.cargo_toml_discovery.proofs.Unique.{Ascend, AllAbove}
+use Rattle.std.proofs.Common.{◌≡◌, List, [], ◌∷◌, map, refl, ap, sym, subst}
 use Rattle.cargo_toml_discovery.specs.Answers.{Answers, named_in}
+use Rattle.cargo_toml_discovery.specs.Found.{Named}
 use Rattle.cargo_toml_discovery.specs.Names.{Name}
-use Rattle.cargo_toml_discovery.specs.Walk.{NamesAscend, NamesAfter}
+use Rattle.cargo_toml_discovery.specs.Walk.{Ascend, NamesAscend}
 
-after-named : (ans : Answers) (dir t : Name) (ns : List Name) → AllAbove t ns → NamesAfter t (map (named_in ans dir) ns)
-after-named ans dir t [] h = tt
-after-named ans dir t (n ∷ ns) h = (h.0, after-named ans dir t ns h.1)
+same-names : (ans : Answers) (folder : Name) (ns : List Name) →
+    map (λ (e : Named). e.name) (map (named_in ans folder) ns) ≡ ns
+same-names ans folder [] = refl
+same-names ans folder (n ∷ ns) = ap (λ (ts : List Name). n ∷ ts) (same-names ans folder ns)
 
-pub ascend-named : (ans : Answers) (dir : Name) (ns : List Name) → Ascend ns → NamesAscend (map (named_in ans dir) ns)
-ascend-named ans dir [] h = tt
-ascend-named ans dir (n ∷ ns) h = (after-named ans dir n ns h.0, ascend-named ans dir ns h.1)
+pub ascend-named : (ans : Answers) (folder : Name) (ns : List Name) → Ascend ns →
+    NamesAscend (map (named_in ans folder) ns)
+ascend-named ans folder ns h =
+    subst (λ (ts : List Name). Ascend ts) (sym (same-names ans folder ns)) h

@@ -4,7 +4,7 @@ use Rattle.cargo_toml_parts.specs.FaultValues.{Fault}
 use Rattle.cargo_toml_discovery.specs.Answers.{Answers, answer_at, filled_by, filled}
 use Rattle.cargo_toml_discovery.specs.Around.{named_by, named_at, each_named, entries_at, make_around, around}
 use Rattle.cargo_toml_discovery.specs.Found.{Named}
-use Rattle.cargo_toml_discovery.specs.Names.{Name, in_dir, is_source}
+use Rattle.cargo_toml_discovery.specs.Names.{Name, in_folder, is_source}
 use Rattle.cargo_toml_discovery.specs.Seen.{Seen, seen, faulty, unclear, seen_as, pair, and_then, names_at, root_names, IsOneOf, MayTell, at_path}
 use Rattle.cargo_toml_discovery.specs.Told.{Told, names, absent, denied, open_path}
 use Rattle.cargo_toml_discovery.specs.declared.listings.Wanted.{Wanted}
@@ -53,17 +53,17 @@ ext-root (denied k) a = inr refl
 ext-root open_path a = inl refl
 
 module _ (told : Name → Told) (ans : Answers) where
-  ext-named-step : (dir n : Name) (b : Bool) → Ext (cond b (seen (record { name = n; has_main = false })) (seen_as (named_by n) (names_at (told (in_dir dir n))))) (cond b (seen (record { name = n; has_main = false })) (seen_as (named_by n) (names_at (filled told ans (in_dir dir n)))))
-  ext-named-step dir n true = inr refl
-  ext-named-step dir n false = ext-as (named_by n) _ _ (ext-names (told (in_dir dir n)) (answer_at ans (in_dir dir n)))
+  ext-named-step : (folder n : Name) (b : Bool) → Ext (cond b (seen (record { name = n; has_main = false })) (seen_as (named_by n) (names_at (told (in_folder folder n))))) (cond b (seen (record { name = n; has_main = false })) (seen_as (named_by n) (names_at (filled told ans (in_folder folder n)))))
+  ext-named-step folder n true = inr refl
+  ext-named-step folder n false = ext-as (named_by n) _ _ (ext-names (told (in_folder folder n)) (answer_at ans (in_folder folder n)))
 
-  ext-each : (dir : Name) (ns : List Name) → Ext (each_named told dir ns) (each_named (filled told ans) dir ns)
-  ext-each dir [] = inr refl
-  ext-each dir (n ∷ ns) = ext-as (λ (e : Named × List Named). e.0 ∷ e.1) _ _ (ext-pair (named_at told dir n) (named_at (filled told ans) dir n) (each_named told dir ns) (each_named (filled told ans) dir ns) (ext-named-step dir n (is_source n)) (ext-each dir ns))
+  ext-each : (folder : Name) (ns : List Name) → Ext (each_named told folder ns) (each_named (filled told ans) folder ns)
+  ext-each folder [] = inr refl
+  ext-each folder (n ∷ ns) = ext-as (λ (e : Named × List Named). e.0 ∷ e.1) _ _ (ext-pair (named_at told folder n) (named_at (filled told ans) folder n) (each_named told folder ns) (each_named (filled told ans) folder ns) (ext-named-step folder n (is_source n)) (ext-each folder ns))
 
-  ext-entries : (wanted : Bool) (dir : Name) → Ext (entries_at told wanted dir) (entries_at (filled told ans) wanted dir)
-  ext-entries false dir = inr refl
-  ext-entries true dir = ext-then (names_at (told dir)) (names_at (filled told ans dir)) (each_named told dir) (each_named (filled told ans) dir) (ext-names (told dir) (answer_at ans dir)) (ext-each dir)
+  ext-entries : (wanted : Bool) (folder : Name) → Ext (entries_at told wanted folder) (entries_at (filled told ans) wanted folder)
+  ext-entries false folder = inr refl
+  ext-entries true folder = ext-then (names_at (told folder)) (names_at (filled told ans folder)) (each_named told folder) (each_named (filled told ans) folder) (ext-names (told folder) (answer_at ans folder)) (ext-each folder)
 
   pub ext-around : (wanted : Wanted) → Ext (around told wanted) (around (filled told ans) wanted)
   ext-around wanted = ext-as make_around _ _ (ext-pair _ _ _ _ (ext-pair _ _ _ _ (ext-root (told []) (answer_at ans [])) (ext-names (told (codes "src")) (answer_at ans (codes "src"))))

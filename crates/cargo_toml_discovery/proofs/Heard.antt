@@ -1,5 +1,6 @@
 -- What was told of folders, as it is kept.
-use Rattle.std.proofs.Common.{◌≡◌, ℕ, Bool, true, false, cond, List, [], ◌∷◌, ◌++◌, refl, ap, ◌∙◌, sym, map, String, string_bytes, subst, Option, Some, None, is_some, ◌⊎◌, inl, inr, unwrap_or, get_or, length, ◌<◌, take, ◌+◌, arith, zero, suc}
+use Rattle.std.proofs.Common.{◌≡◌, ℕ, Bool, true, false, cond, List, [], ◌∷◌, ◌++◌, refl, ap, ◌∙◌, sym, map, String, string_bytes, subst, Option, Some, None, is_some, ◌⊎◌, inl, inr, unwrap_or, get_or, length, ◌<◌, take, ◌+◌, arith, zero, suc, Result, Ok, Err, IfErr}
+use Rattle.std.specs.Result.{IsErrAnd}
 use Rattle.std.specs.Str.{bytes_eq}
 use Rattle.std.specs.declared.alloc.Global.{Global}
 use Rattle.std.proofs.lemmas.Slice.Eq.{bytes_eq-Decides}
@@ -39,9 +40,9 @@ pub names_in-grows : (told : Name → Told) (a b : Answers) (p : Name) → Grows
 names_in-grows told a b p g h = elim (answer_at a p) as (λ r. answer_at a p ≡ r → is_some r ≡ true → unwrap_or r [] ≡ names_in b p)
     [ None ↦ λ e k. cc | Some ns ↦ λ e k. sym (ap (λ (r : Option (List Name)). unwrap_or r []) (g.0 p ns e)) ] refl h
 
-pub has_products-grows : (told : Name → Told) (a b : Answers) (wanted : Bool) (dir : Name) → Grows told a b → HasProducts wanted dir a → HasProducts wanted dir b
-has_products-grows told a b false dir g h = tt
-has_products-grows told a b true dir g h = (has-grows told a b dir g h.0, subst (λ (ns : List Name). HasEach b (below dir ns)) (names_in-grows told a b dir g h.0) (has_each-grows told a b (below dir (names_in a dir)) g h.1))
+pub has_products-grows : (told : Name → Told) (a b : Answers) (wanted : Bool) (folder : Name) → Grows told a b → HasProducts wanted folder a → HasProducts wanted folder b
+has_products-grows told a b false folder g h = tt
+has_products-grows told a b true folder g h = (has-grows told a b folder g h.0, subst (λ (ns : List Name). HasEach b (below folder ns)) (names_in-grows told a b folder g h.0) (has_each-grows told a b (below folder (names_in a folder)) g h.1))
 
 -- one answer more
 none_then_some : (r : Option (List Name)) (ns : List Name) {A : Type 0} → is_some r ≡ false → r ≡ Some ns → A
@@ -92,9 +93,15 @@ tell-right (faulty fs) (faulty gs) f h = one_of-right f fs gs h
 tell-right (faulty fs) unclear f h = tt
 tell-right unclear t f h = tt
 
-pub tells-by : {A B : Type 0} (s : Seen A) (t : Seen B) (e : Error) → ((f : Fault) → MayTell s f → MayTell t f) → Tells s e → Tells t e
+tells-by : {A B : Type 0} (s : Seen A) (t : Seen B) (e : Error) → ((f : Fault) → MayTell s f → MayTell t f) → Tells s e → Tells t e
 tells-by s t e g (inl m) = inl m
 tells-by s t e g (inr h) = inr (g (fault_of e) h)
+
+-- a fault of a part is handed on as one of the whole
+pub tells-on : {A B T : Type 0} (s : Seen A) (t : Seen B) (r : Result T Error) (e : Error) →
+    IsErrAnd r (λ y. y ≡ e) → ((f : Fault) → MayTell s f → MayTell t f) → Tells s e → IfErr r (Tells t)
+tells-on s t (Ok x) e is g h = tt
+tells-on s t (Err y) e is g h = subst (λ (x : Error). Tells t x) (sym is) (tells-by s t e g h)
 
 pub tell_one : (told : Name → Told) (xs : List (String Global)) (i : ℕ) (x d : String Global) (f : Fault) → i < length xs → x ≡ get_or xs i d → MayTell (names_at (told (string_bytes x))) f → MayTellOneOf told (map string_bytes xs) f
 tell_one told [] i x d f below read h = absurd (omega arith)

@@ -8,11 +8,11 @@ use Rattle.cargo_toml_tables.specs.Products.{product_meaning}
 
 pub joined : (s : StatedMeaning) (a : Around) (d : code.Discovered) →
     option_map product_meaning d.lib ≡ library_around s a →
-    map product_meaning d.bin.items ≡ listed_products s.edition s.wanted.bins (codes "src/bin") s.bin a.bins (main_around s a) →
-    map product_meaning d.example.items ≡ listed_products s.edition s.wanted.examples (codes "examples") s.example a.examples None →
-    map product_meaning d.test.items ≡ listed_products s.edition s.wanted.tests (codes "tests") s.test a.tests None →
-    map product_meaning d.bench.items ≡ listed_products s.edition s.wanted.benches (codes "benches") s.bench a.benches None →
-    option_map file_meaning d.build ≡ build_in a.root s.build →
-    file_meaning d.readme ≡ readme_in a.root s.readme →
+    map product_meaning d.bin.items ≡ listed_products s.edition s.wanted.bins (codes "src/bin") s.stated.bin a.bins (main_around s a) →
+    map product_meaning d.example.items ≡ listed_products s.edition s.wanted.examples (codes "examples") s.stated.example a.examples None →
+    map product_meaning d.test.items ≡ listed_products s.edition s.wanted.tests (codes "tests") s.stated.test a.tests None →
+    map product_meaning d.bench.items ≡ listed_products s.edition s.wanted.benches (codes "benches") s.stated.bench a.benches None →
+    option_map file_meaning d.build ≡ build_in a.root s.stated.build →
+    file_meaning d.readme ≡ readme_in a.root s.stated.readme →
     discovered_meaning d ≡ discovered s a
 joined s a d lib bin example test bench build readme = rw (lib, bin, example, test, bench, build, readme) refl

@@ -10,24 +10,19 @@ use Rattle.std.specs.Cmp.Lexicographic.{slice_cmp, nat_list_cmp_total}
 use Rattle.cargo_toml_settings.specs.declared.settings.Edition.{Edition}
 use Rattle.cargo_toml_discovery.specs.Found.{Offered, product_for, product_among, last_waiting, last_product, has_offer}
 use Rattle.cargo_toml_discovery.specs.Names.{Name}
-use Rattle.cargo_toml_discovery.specs.Walk.{walk, with_extra, without}
+use Rattle.cargo_toml_discovery.specs.Walk.{walk, with_extra, without, AllAbove, Ascend}
 use Rattle.cargo_toml_tables.specs.Products.{ProductMeaning}
 
 abbrev less : Name → Name → Bool
 less a b = is_lt (slice_cmp nat_cmp a b)
 
--- the file of each stands before this one, or after it
+-- the file of each stands before this one
 abbrev pub AllBefore : List Offered → Name → Type 0
 AllBefore [] f = Unit {0}
 AllBefore (q ∷ qs) f = (slice_cmp nat_cmp q.file f ≡ Less) × AllBefore qs f
 
-abbrev pub AllAfter : Name → List Offered → Type 0
-AllAfter f [] = Unit {0}
-AllAfter f (q ∷ qs) = (slice_cmp nat_cmp f q.file ≡ Less) × AllAfter f qs
-
-abbrev pub Ascending : List Offered → Type 0
-Ascending [] = Unit {0}
-Ascending (o ∷ os) = AllAfter o.file os × Ascending os
+abbrev pub files : List Offered → List Name
+files os = map (λ o. o.file) os
 
 abbrev rival : Offered → Offered → Bool
 rival o q = bytes_eq q.name o.name && less q.file o.file
@@ -42,7 +37,7 @@ rivals-before o (q ∷ qs) rest h e =
 not_less : (a b : Name) → slice_cmp nat_cmp a b ≡ Less → less b a ≡ false
 not_less a b h = let e = nat_list_cmp_total.antisymm b a in rw (e, h) refl
 
-rivals-after : (o : Offered) (qs : List Offered) → AllAfter o.file qs → list_any (rival o) qs ≡ false
+rivals-after : (o : Offered) (qs : List Offered) → AllAbove o.file (files qs) → list_any (rival o) qs ≡ false
 rivals-after o [] h = refl
 rivals-after o (q ∷ qs) h =
     ap (λ (b : Bool). (bytes_eq q.name o.name && b) || list_any (rival o) qs) (not_less o.file q.file h.0)
@@ -54,7 +49,7 @@ not_own a Less e = not_less a a e
 not_own a Equal e = ap is_lt e
 not_own a Greater e = ap is_lt e
 
-rivals : (o : Offered) (done os : List Offered) → AllBefore done o.file → AllAfter o.file os → list_any (rival o) (done ++ o ∷ os) ≡ has_offer done o.name
+rivals : (o : Offered) (done os : List Offered) → AllBefore done o.file → AllAbove o.file (files os) → list_any (rival o) (done ++ o ∷ os) ≡ has_offer done o.name
 rivals o done os h k = rivals-before o done (o ∷ os) h
     (ap (λ (b : Bool). (bytes_eq o.name o.name && b) || list_any (rival o) os) (not_own o.file (slice_cmp nat_cmp o.file o.file) refl)
     ∙ ap (λ (b : Bool). b || list_any (rival o) os) (and-false (bytes_eq o.name o.name)) ∙ rivals-after o os k)
@@ -68,7 +63,7 @@ abbrev Apart : List Offered → List Offered → Type 0
 Apart done [] = Unit {0}
 Apart done (o ∷ os) = AllBefore done o.file × Apart done os
 
-apart-push : (done : List Offered) (o : Offered) (os : List Offered) → Apart done os → AllAfter o.file os → Apart (done ++ o ∷ []) os
+apart-push : (done : List Offered) (o : Offered) (os : List Offered) → Apart done os → AllAbove o.file (files os) → Apart (done ++ o ∷ []) os
 apart-push done o [] h k = tt
 apart-push done o (q ∷ os) h k = (before-push done o q h.0 k.0, apart-push done o os h.1 k.1)
 
@@ -97,7 +92,7 @@ module _ (edition : Edition) (ps : List ProductMeaning) where
   last-product done w None h = refl
   last-product done w (Some o) h = ap (λ (p : Option ProductMeaning). product_for edition o p ∷ []) (h o.name)
 
-  walk-each : (done os : List Offered) (w : Name → Option ProductMeaning) (x : Option Offered) → Apart done os → Ascending os → ((n : Name) → w n ≡ cond (has_offer done n) None (last_waiting ps n)) →
+  walk-each : (done os : List Offered) (w : Name → Option ProductMeaning) (x : Option Offered) → Apart done os → Ascend (files os) → ((n : Name) → w n ≡ cond (has_offer done n) None (last_waiting ps n)) →
       walk edition w (with_extra os x) ≡ map (λ o. product_among edition ps (done ++ os) o) os ++ last_product edition ps (done ++ os) x
   walk-each done [] w x a up h = last-product done w x h ∙ ap (λ (os : List Offered). last_product edition ps os x) (simp append-nil)
   walk-each done (o ∷ os) w x a up h =
@@ -110,5 +105,5 @@ module _ (edition : Edition) (ps : List ProductMeaning) where
       ap (λ (p : ProductMeaning). p ∷ walk edition (without w o.name) (with_extra os x)) first
       ∙ ap (λ (qs : List ProductMeaning). product_among edition ps (done ++ o ∷ os) o ∷ qs) (rest ∙ ap (λ (all : List Offered). map (λ o. product_among edition ps all o) os ++ last_product edition ps all x) joined)
 
-  pub walk-set : (os : List Offered) (x : Option Offered) → Ascending os → walk edition (last_waiting ps) (with_extra os x) ≡ map (λ o. product_among edition ps os o) os ++ last_product edition ps os x
+  pub walk-set : (os : List Offered) (x : Option Offered) → Ascend (files os) → walk edition (last_waiting ps) (with_extra os x) ≡ map (λ o. product_among edition ps os o) os ++ last_product edition ps os x
   walk-set os x up = walk-each [] os (last_waiting ps) x (apart-none os) up (λ n. refl)

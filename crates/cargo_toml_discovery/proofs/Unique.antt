@@ -14,17 +14,10 @@ use Rattle.std.proofs.lemmas.Slice.Eq.{bytes_eq-Decides}
 use Rattle.std.proofs.lemmas.Map.Text.{is_eq-slice_cmp}
 use Rattle.cargo_toml_discovery.specs.Answers.{texts_in}
 use Rattle.cargo_toml_discovery.specs.Names.{Name, has_text, put_in, ordered}
+use Rattle.cargo_toml_discovery.specs.Walk.{AllAbove, Ascend}
 
 abbrev pub compare : Name → Name → Ordering
 compare a b = slice_cmp nat_cmp a b
-
-abbrev pub AllAbove : Name → List Name → Type 0
-AllAbove t [] = Unit {0}
-AllAbove t (u ∷ us) = (compare t u ≡ Less) × AllAbove t us
-
-abbrev pub Ascend : List Name → Type 0
-Ascend [] = Unit {0}
-Ascend (t ∷ ts) = AllAbove t ts × Ascend ts
 
 above-less : (t u : Name) (us : List Name) → compare t u ≡ Less → AllAbove u us → AllAbove t us
 above-less t u [] h k = tt

@@ -7,7 +7,7 @@ use Rattle.cargo_toml_discovery.specs.Answers.{Answers, answer_at, names_in, bel
 use Rattle.cargo_toml_discovery.specs.Around.{named_by, each_named, entries_at, make_around, around}
 use Rattle.cargo_toml_discovery.specs.Found.{Named}
 use Rattle.cargo_toml_discovery.specs.Gathering.{AnswerFits, Fits, Has, HasEach, MayTellOneOf, HasProducts, HasRoot, HasAll}
-use Rattle.cargo_toml_discovery.specs.Names.{Name, has_text, in_dir, is_source, may_be_folder}
+use Rattle.cargo_toml_discovery.specs.Names.{Name, has_text, in_folder, is_source, may_be_folder}
 use Rattle.cargo_toml_discovery.specs.Seen.{Seen, seen, unclear, seen_as, pair, and_then, names_at, root_names, MayTell, Tells}
 use Rattle.cargo_toml_discovery.specs.Told.{Told, names, absent, denied, open_path}
 use Rattle.cargo_toml_discovery.specs.declared.listings.Wanted.{Wanted}
@@ -17,16 +17,16 @@ abbrev source_named : Name → Seen Named
 source_named n = seen (record { name = n; has_main = false })
 
 -- a fault below a directory
-each-step : (told : Name → Told) (dir n : Name) (ns : List Name) (f : Fault) (b : Bool) → (MayTellOneOf told (below dir ns) f → MayTell (each_named told dir ns) f) →
-    MayTellOneOf told (map (in_dir dir) (cond (not b) (n ∷ filter may_be_folder ns) (filter may_be_folder ns))) f →
-    MayTell (seen_as (λ (e : Named × List Named). e.0 ∷ e.1) (pair (cond b (seen (record { name = n; has_main = false })) (seen_as (named_by n) (names_at (told (in_dir dir n))))) (each_named told dir ns))) f
-each-step told dir n ns f true next h = tell-as (λ (e : Named × List Named). e.0 ∷ e.1) _ f (tell-right ((source_named n)) (each_named told dir ns) f (next h))
-each-step told dir n ns f false next (inl h) = tell-as (λ (e : Named × List Named). e.0 ∷ e.1) _ f (tell-left (seen_as (named_by n) (names_at (told (in_dir dir n)))) (each_named told dir ns) f (tell-as (named_by n) (names_at (told (in_dir dir n))) f h))
-each-step told dir n ns f false next (inr h) = tell-as (λ (e : Named × List Named). e.0 ∷ e.1) _ f (tell-right (seen_as (named_by n) (names_at (told (in_dir dir n)))) (each_named told dir ns) f (next h))
+each-step : (told : Name → Told) (folder n : Name) (ns : List Name) (f : Fault) (b : Bool) → (MayTellOneOf told (below folder ns) f → MayTell (each_named told folder ns) f) →
+    MayTellOneOf told (map (in_folder folder) (cond (not b) (n ∷ filter may_be_folder ns) (filter may_be_folder ns))) f →
+    MayTell (seen_as (λ (e : Named × List Named). e.0 ∷ e.1) (pair (cond b (seen (record { name = n; has_main = false })) (seen_as (named_by n) (names_at (told (in_folder folder n))))) (each_named told folder ns))) f
+each-step told folder n ns f true next h = tell-as (λ (e : Named × List Named). e.0 ∷ e.1) _ f (tell-right ((source_named n)) (each_named told folder ns) f (next h))
+each-step told folder n ns f false next (inl h) = tell-as (λ (e : Named × List Named). e.0 ∷ e.1) _ f (tell-left (seen_as (named_by n) (names_at (told (in_folder folder n)))) (each_named told folder ns) f (tell-as (named_by n) (names_at (told (in_folder folder n))) f h))
+each-step told folder n ns f false next (inr h) = tell-as (λ (e : Named × List Named). e.0 ∷ e.1) _ f (tell-right (seen_as (named_by n) (names_at (told (in_folder folder n)))) (each_named told folder ns) f (next h))
 
-pub each-told : (told : Name → Told) (dir : Name) (ns : List Name) (f : Fault) → MayTellOneOf told (below dir ns) f → MayTell (each_named told dir ns) f
-each-told told dir [] f h = h
-each-told told dir (n ∷ ns) f h = each-step told dir n ns f (is_source n) (each-told told dir ns f) h
+pub each-told : (told : Name → Told) (folder : Name) (ns : List Name) (f : Fault) → MayTellOneOf told (below folder ns) f → MayTell (each_named told folder ns) f
+each-told told folder [] f h = h
+each-told told folder (n ∷ ns) f h = each-step told folder n ns f (is_source n) (each-told told folder ns f) h
 
 pub told_or_open : (t : Told) (ns : List Name) → AnswerFits t ns → (names_at t ≡ unclear) ⊎ (names_at t ≡ seen ns)
 told_or_open (names ts) ns h = inr h
@@ -34,9 +34,9 @@ told_or_open absent ns h = inr h
 told_or_open (denied k) ns h = inr h
 told_or_open open_path ns h = inl refl
 
-pub products-told : (told : Name → Told) (dir : Name) (ns : List Name) (f : Fault) → AnswerFits (told dir) ns → MayTellOneOf told (below dir ns) f → MayTell (entries_at told true dir) f
-products-told told dir ns f one h = elim (told_or_open (told dir) ns one)
-    [ inl e ↦ rw e tt | inr e ↦ rw e (each-told told dir ns f h) ]
+pub products-told : (told : Name → Told) (folder : Name) (ns : List Name) (f : Fault) → AnswerFits (told folder) ns → MayTellOneOf told (below folder ns) f → MayTell (entries_at told true folder) f
+products-told told folder ns f one h = elim (told_or_open (told folder) ns one)
+    [ inl e ↦ rw e tt | inr e ↦ rw e (each-told told folder ns f h) ]
 
 -- what was heard
 heard_at : (told : Name → Told) (ans : Answers) (p : Name) (r : Option (List Name)) → Fits told ans → answer_at ans p ≡ r → is_some r ≡ true → names_at (filled_by (told p) r) ≡ seen (unwrap_or r [])
@@ -46,23 +46,23 @@ heard_at told ans p (Some ns) f e h = f p ns e
 pub heard : (told : Name → Told) (ans : Answers) (p : Name) → Fits told ans → Has ans p → names_at (filled told ans p) ≡ seen (names_in ans p)
 heard told ans p f h = heard_at told ans p (answer_at ans p) f refl h
 
-each-heard-step : (told : Name → Told) (ans : Answers) (dir n : Name) (ns : List Name) (b : Bool) → Fits told ans →
-    (HasEach ans (below dir ns) → each_named (filled told ans) dir ns ≡ seen (map (named_in ans dir) ns)) →
-    HasEach ans (map (in_dir dir) (cond (not b) (n ∷ filter may_be_folder ns) (filter may_be_folder ns))) →
-    seen_as (λ (e : Named × List Named). e.0 ∷ e.1) (pair (cond b (seen (record { name = n; has_main = false })) (seen_as (named_by n) (names_at (filled told ans (in_dir dir n))))) (each_named (filled told ans) dir ns))
-    ≡ seen ((record { name = n; has_main = not b && has_text (names_in ans (in_dir dir n)) (codes "main.rs") }) ∷ map (named_in ans dir) ns)
-each-heard-step told ans dir n ns true f next h = ap (λ (s : Seen (List Named)). seen_as (λ (e : Named × List Named). e.0 ∷ e.1) (pair ((source_named n)) s)) (next h)
-each-heard-step told ans dir n ns false f next h =
-    ap (λ (t : Seen (List Name)). seen_as (λ (e : Named × List Named). e.0 ∷ e.1) (pair (seen_as (named_by n) t) (each_named (filled told ans) dir ns))) (heard told ans (in_dir dir n) f h.0)
-    ∙ ap (λ (s : Seen (List Named)). seen_as (λ (e : Named × List Named). e.0 ∷ e.1) (pair (seen (named_by n (names_in ans (in_dir dir n)))) s)) (next h.1)
+each-heard-step : (told : Name → Told) (ans : Answers) (folder n : Name) (ns : List Name) (b : Bool) → Fits told ans →
+    (HasEach ans (below folder ns) → each_named (filled told ans) folder ns ≡ seen (map (named_in ans folder) ns)) →
+    HasEach ans (map (in_folder folder) (cond (not b) (n ∷ filter may_be_folder ns) (filter may_be_folder ns))) →
+    seen_as (λ (e : Named × List Named). e.0 ∷ e.1) (pair (cond b (seen (record { name = n; has_main = false })) (seen_as (named_by n) (names_at (filled told ans (in_folder folder n))))) (each_named (filled told ans) folder ns))
+    ≡ seen ((record { name = n; has_main = not b && has_text (names_in ans (in_folder folder n)) (codes "main.rs") }) ∷ map (named_in ans folder) ns)
+each-heard-step told ans folder n ns true f next h = ap (λ (s : Seen (List Named)). seen_as (λ (e : Named × List Named). e.0 ∷ e.1) (pair ((source_named n)) s)) (next h)
+each-heard-step told ans folder n ns false f next h =
+    ap (λ (t : Seen (List Name)). seen_as (λ (e : Named × List Named). e.0 ∷ e.1) (pair (seen_as (named_by n) t) (each_named (filled told ans) folder ns))) (heard told ans (in_folder folder n) f h.0)
+    ∙ ap (λ (s : Seen (List Named)). seen_as (λ (e : Named × List Named). e.0 ∷ e.1) (pair (seen (named_by n (names_in ans (in_folder folder n)))) s)) (next h.1)
 
-each-heard : (told : Name → Told) (ans : Answers) (dir : Name) (ns : List Name) → Fits told ans → HasEach ans (below dir ns) → each_named (filled told ans) dir ns ≡ seen (map (named_in ans dir) ns)
-each-heard told ans dir [] f h = refl
-each-heard told ans dir (n ∷ ns) f h = each-heard-step told ans dir n ns (is_source n) f (each-heard told ans dir ns f) h
+each-heard : (told : Name → Told) (ans : Answers) (folder : Name) (ns : List Name) → Fits told ans → HasEach ans (below folder ns) → each_named (filled told ans) folder ns ≡ seen (map (named_in ans folder) ns)
+each-heard told ans folder [] f h = refl
+each-heard told ans folder (n ∷ ns) f h = each-heard-step told ans folder n ns (is_source n) f (each-heard told ans folder ns f) h
 
-pub products-heard : (told : Name → Told) (ans : Answers) (wanted : Bool) (dir : Name) → Fits told ans → HasProducts wanted dir ans → entries_at (filled told ans) wanted dir ≡ seen (entries_if wanted ans dir)
-products-heard told ans false dir f h = refl
-products-heard told ans true dir f h = ap (λ (s : Seen (List Name)). and_then s (each_named (filled told ans) dir)) (heard told ans dir f h.0) ∙ each-heard told ans dir (names_in ans dir) f h.1
+pub products-heard : (told : Name → Told) (ans : Answers) (wanted : Bool) (folder : Name) → Fits told ans → HasProducts wanted folder ans → entries_at (filled told ans) wanted folder ≡ seen (entries_if wanted ans folder)
+products-heard told ans false folder f h = refl
+products-heard told ans true folder f h = ap (λ (s : Seen (List Name)). and_then s (each_named (filled told ans) folder)) (heard told ans folder f h.0) ∙ each-heard told ans folder (names_in ans folder) f h.1
 
 root-heard : (t : Told) (r : Option (List Name)) (ns : List Name) → r ≡ Some ns → root_names (filled_by t (Some ns)) ≡ seen ns → root_names (filled_by t r) ≡ seen (unwrap_or r [])
 root-heard t r ns e h = rw e h
@@ -94,12 +94,12 @@ answer_is told ans p (Some ns) f e h = f p ns e
 pub is_answer-here : (told : Name → Told) (ans : Answers) (p : Name) → Fits told ans → Has ans p → AnswerFits (told p) (names_in ans p)
 is_answer-here told ans p f h = answer_is told ans p (answer_at ans p) f refl h
 
-pub products-tells : (told : Name → Told) (wanted : Bool) (dir : Name) (ns : List Name) (e : Error) → wanted ≡ true → AnswerFits (told dir) ns → (e ≡ Memory) ⊎ MayTellOneOf told (below dir ns) (fault_of e) → Tells (entries_at told wanted dir) e
-products-tells told wanted dir ns e is one (inl m) = inl m
-products-tells told wanted dir ns e is one (inr h) = inr (rw is (products-told told dir ns (fault_of e) one h))
+pub products-tells : (told : Name → Told) (wanted : Bool) (folder : Name) (ns : List Name) (e : Error) → wanted ≡ true → AnswerFits (told folder) ns → (e ≡ Memory) ⊎ MayTellOneOf told (below folder ns) (fault_of e) → Tells (entries_at told wanted folder) e
+products-tells told wanted folder ns e is one (inl m) = inl m
+products-tells told wanted folder ns e is one (inr h) = inr (rw is (products-told told folder ns (fault_of e) one h))
 
-pub has_products-here : (ans : Answers) (wanted : Bool) (dir : Name) → wanted ≡ true → Has ans dir → HasEach ans (below dir (names_in ans dir)) → HasProducts wanted dir ans
-has_products-here ans wanted dir is h k = rw is (h, k)
+pub has_products-here : (ans : Answers) (wanted : Bool) (folder : Name) → wanted ≡ true → Has ans folder → HasEach ans (below folder (names_in ans folder)) → HasProducts wanted folder ans
+has_products-here ans wanted folder is h k = rw is (h, k)
 
 none_at : (ans : Answers) (p : Name) → ans ≡ [] → answer_at ans p ≡ None
 none_at ans p e = ap (λ (given : Answers). answer_at given p) e

@@ -6,7 +6,7 @@ use Rattle.std.specs.Str.{bytes_eq}
 use Rattle.std.specs.declared.alloc.Global.{Global}
 use Rattle.cargo_toml_discovery.specs.Around.{Around}
 use Rattle.cargo_toml_discovery.specs.Found.{Named}
-use Rattle.cargo_toml_discovery.specs.Names.{Name, has_text, in_dir, may_be_folder}
+use Rattle.cargo_toml_discovery.specs.Names.{Name, has_text, in_folder, may_be_folder}
 use Rattle.cargo_toml_discovery.specs.Told.{Told, names, absent, denied, open_path}
 use Rattle.cargo_toml_discovery.specs.declared.listings.Listings as code
 use Rattle.cargo_toml_discovery.specs.declared.listings.Wanted.{Wanted}
@@ -46,20 +46,20 @@ names_kept l p = names_in (answers_of l) p
 
 -- the folders in a folder that may hold `main.rs`
 abbrev pub below : Name → List Name → List Name
-below dir ns = map (in_dir dir) (filter may_be_folder ns)
+below folder ns = map (in_folder folder) (filter may_be_folder ns)
 
 abbrev pub named_in : Answers → Name → Name → Named
-named_in ans dir n = record {
+named_in ans folder n = record {
   name = n;
-  has_main = may_be_folder n && has_text (names_in ans (in_dir dir n)) (codes "main.rs");
+  has_main = may_be_folder n && has_text (names_in ans (in_folder folder n)) (codes "main.rs");
 }
 
 -- what a folder of products holds by these answers
 abbrev pub entries_in : Answers → Name → List Named
-entries_in ans dir = map (named_in ans dir) (names_in ans dir)
+entries_in ans folder = map (named_in ans folder) (names_in ans folder)
 
 abbrev pub entries_if : Bool → Answers → Name → List Named
-entries_if b ans dir = if b then entries_in ans dir else []
+entries_if b ans folder = if b then entries_in ans folder else []
 
 -- what stands around a package by these answers
 abbrev pub around_in : Answers → Wanted → Around

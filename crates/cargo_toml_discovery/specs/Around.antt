@@ -2,7 +2,7 @@
 use Rattle.std.specs.Prelude.{Bool, true, false, List, [], ◌∷◌, codes, if◌then◌else◌}
 use Rattle.cargo_toml_discovery.specs.declared.listings.Wanted.{Wanted}
 use Rattle.cargo_toml_discovery.specs.Found.{Named}
-use Rattle.cargo_toml_discovery.specs.Names.{Name, has_text, in_dir, is_source}
+use Rattle.cargo_toml_discovery.specs.Names.{Name, has_text, in_folder, is_source}
 use Rattle.cargo_toml_discovery.specs.Seen.{Seen, seen, seen_as, pair}
 use Rattle.cargo_toml_discovery.specs.Seen.{and_then, names_at, root_names}
 use Rattle.cargo_toml_discovery.specs.Told.{Told}
@@ -13,19 +13,19 @@ named_by n ts = record { name = n; has_main = has_text ts (codes "main.rs") }
 
 -- a source is not asked for
 abbrev pub named_at : (Name → Told) → Name → Name → Seen Named
-named_at told dir n =
+named_at told folder n =
     if is_source n then seen (record { name = n; has_main = false })
-    else seen_as (named_by n) (names_at (told (in_dir dir n)))
+    else seen_as (named_by n) (names_at (told (in_folder folder n)))
 
 abbrev pub each_named : (Name → Told) → Name → List Name → Seen (List Named)
-each_named told dir [] = seen []
-each_named told dir (n ∷ ns) =
-    seen_as (λ e. e.0 ∷ e.1) (pair (named_at told dir n) (each_named told dir ns))
+each_named told folder [] = seen []
+each_named told folder (n ∷ ns) =
+    seen_as (λ e. e.0 ∷ e.1) (pair (named_at told folder n) (each_named told folder ns))
 
 -- what a folder of products holds, if it is wanted
 abbrev pub entries_at : (Name → Told) → Bool → Name → Seen (List Named)
-entries_at told false dir = seen []
-entries_at told true dir = and_then (names_at (told dir)) (each_named told dir)
+entries_at told false folder = seen []
+entries_at told true folder = and_then (names_at (told folder)) (each_named told folder)
 
 -- what stands around a package
 pub record Around : Type 0 where

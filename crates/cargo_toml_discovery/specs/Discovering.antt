@@ -56,8 +56,8 @@ main_offer name true ps = still_open (is_path_of ps) (Some (main_of name))
 -- a list of products: as it is found in its folder where that is wanted, and else only put in order
 abbrev pub listed_products : Edition → Bool → Name → List ProductMeaning → List Named
     → Option Offered → List ProductMeaning
-listed_products edition false dir ps es extra = in_order ps
-listed_products edition true dir ps es extra = found edition dir ps es extra
+listed_products edition false folder ps es extra = in_order ps
+listed_products edition true folder ps es extra = found edition folder ps es extra
 
 -- nothing is stated, or just that there is a build script
 abbrev pub may_build : Option File → Bool
@@ -85,20 +85,6 @@ readme_in root (flag true) = first_in root readme_names (flag true)
 readme_in root (flag false) = flag false
 readme_in root (path p) = path p
 
--- what a manifest states of its package and of its products
-pub record StatedMeaning : Type 0 where
-  pub name : Name
-  pub edition : Edition
-  pub autolib : Bool
-  pub wanted : Wanted
-  pub lib : Option ProductMeaning
-  pub bin : List ProductMeaning
-  pub example : List ProductMeaning
-  pub test : List ProductMeaning
-  pub bench : List ProductMeaning
-  pub build : Option File
-  pub readme : File
-
 -- what discovery changes of a manifest
 pub record DiscoveredMeaning : Type 0 where
   pub lib : Option ProductMeaning
@@ -108,6 +94,14 @@ pub record DiscoveredMeaning : Type 0 where
   pub bench : List ProductMeaning
   pub build : Option File
   pub readme : File
+
+-- what a manifest states of its package, and of what discovery changes
+pub record StatedMeaning : Type 0 where
+  pub name : Name
+  pub edition : Edition
+  pub autolib : Bool
+  pub wanted : Wanted
+  pub stated : DiscoveredMeaning
 
 -- what is lent of a product, of products and of a file
 abbrev pub product_lent : Option (Bor Product) → Option ProductMeaning
@@ -125,13 +119,15 @@ stated_meaning s = record {
   edition = s.edition;
   autolib = s.autolib;
   wanted = s.wanted;
-  lib = product_lent s.lib;
-  bin = meanings s.bin.now;
-  example = meanings s.example.now;
-  test = meanings s.test.now;
-  bench = meanings s.bench.now;
-  build = file_lent s.build;
-  readme = file_meaning s.readme.now;
+  stated = record {
+    lib = product_lent s.lib;
+    bin = meanings s.bin.now;
+    example = meanings s.example.now;
+    test = meanings s.test.now;
+    bench = meanings s.bench.now;
+    build = file_lent s.build;
+    readme = file_meaning s.readme.now;
+  };
 }
 
 abbrev pub discovered_meaning : discovered_type.Discovered → DiscoveredMeaning
@@ -146,32 +142,27 @@ discovered_meaning d = record {
 }
 
 abbrev pub library_around : StatedMeaning → Around → Option ProductMeaning
-library_around s a = library s.name s.edition (has_text a.src (codes "lib.rs")) s.autolib s.lib
+library_around s a =
+    library s.name s.edition (has_text a.src (codes "lib.rs")) s.autolib s.stated.lib
 
 abbrev pub main_around : StatedMeaning → Around → Option Offered
-main_around s a = main_offer s.name (has_text a.src (codes "main.rs")) s.bin
+main_around s a = main_offer s.name (has_text a.src (codes "main.rs")) s.stated.bin
 
 -- what discovery makes of it, where this stands around the package
 abbrev pub discovered : StatedMeaning → Around → DiscoveredMeaning
 discovered s a = record {
   lib = library_around s a;
-  bin = listed_products s.edition s.wanted.bins (codes "src/bin") s.bin a.bins (main_around s a);
-  example =
-      listed_products s.edition s.wanted.examples (codes "examples") s.example a.examples None;
-  test = listed_products s.edition s.wanted.tests (codes "tests") s.test a.tests None;
-  bench = listed_products s.edition s.wanted.benches (codes "benches") s.bench a.benches None;
-  build = build_in a.root s.build;
-  readme = readme_in a.root s.readme;
+  bin = listed_products s.edition s.wanted.bins (codes "src/bin") s.stated.bin a.bins
+      (main_around s a);
+  example = listed_products s.edition s.wanted.examples (codes "examples") s.stated.example
+      a.examples None;
+  test = listed_products s.edition s.wanted.tests (codes "tests") s.stated.test a.tests None;
+  bench = listed_products s.edition s.wanted.benches (codes "benches") s.stated.bench a.benches
+      None;
+  build = build_in a.root s.stated.build;
+  readme = readme_in a.root s.stated.readme;
 }
 
 -- what a manifest states with what was discovered in it
 abbrev pub restated : StatedMeaning → DiscoveredMeaning → StatedMeaning
-restated s d = record s {
-  lib = d.lib;
-  bin = d.bin;
-  example = d.example;
-  test = d.test;
-  bench = d.bench;
-  build = d.build;
-  readme = d.readme;
-}
+restated s d = record s { stated = d }

@@ -8,7 +8,7 @@ use Rattle.std.specs.Cmp.Lexicographic.{slice_cmp}
 use Rattle.std.specs.Str.{bytes_eq}
 use Rattle.cargo_toml_settings.specs.declared.settings.Edition.{Edition}
 use Rattle.cargo_toml_tables.specs.Products.{ProductMeaning, no_product}
-use Rattle.cargo_toml_discovery.specs.Names.{Name, in_dir, is_source, stem}
+use Rattle.cargo_toml_discovery.specs.Names.{Name, in_folder, is_source, stem}
 use Rattle.cargo_toml_discovery.specs.Sorting.{in_order}
 
 -- a name in a folder, and whether the folder of that name holds `main.rs`
@@ -24,11 +24,15 @@ pub record Offered : Type 0 where
 
 -- a source offers itself, under its name without `.rs`; another name its `main.rs`, if it holds one
 abbrev pub offer_of : Name → Named → Option Offered
-offer_of dir e =
+offer_of folder e =
     if is_source e.name then
-    Some (record { file = e.name; name = stem e.name; path = in_dir dir e.name })
+    Some (record { file = e.name; name = stem e.name; path = in_folder folder e.name })
     else if e.has_main then
-    Some (record { file = e.name; name = e.name; path = in_dir dir e.name ++ codes "/main.rs" })
+    Some (record {
+      file = e.name;
+      name = e.name;
+      path = in_folder folder e.name ++ codes "/main.rs";
+    })
     else None
 
 -- there is a text, and it is this one
@@ -49,11 +53,11 @@ still_open is_taken None = None
 still_open is_taken (Some o) = if is_taken o.path then None else Some o
 
 abbrev pub open_offer : Name → (Name → Bool) → Named → Option Offered
-open_offer dir is_taken e = still_open is_taken (offer_of dir e)
+open_offer folder is_taken e = still_open is_taken (offer_of folder e)
 
 -- what the names of the folder offer, except the paths that are taken
 abbrev pub offers : Name → (Name → Bool) → List Named → List Offered
-offers dir is_taken es = filter_map (open_offer dir is_taken) es
+offers folder is_taken es = filter_map (open_offer folder is_taken) es
 
 -- a product without a path waits for an offer of its name
 abbrev pub waits_for : Name → ProductMeaning → Bool
@@ -115,5 +119,5 @@ all_found edition ps os extra =
 -- and of one beside it
 abbrev pub found : Edition → Name → List ProductMeaning → List Named → Option Offered
     → List ProductMeaning
-found edition dir ps es extra =
-    in_order (all_found edition ps (offers dir (is_path_of ps) es) extra)
+found edition folder ps es extra =
+    in_order (all_found edition ps (offers folder (is_path_of ps) es) extra)

@@ -38,8 +38,8 @@ HasEach ans (p ∷ ps) = Has ans p × HasEach ans ps
 
 -- a folder of products, if it is wanted, and each folder in it
 abbrev pub HasProducts : Bool → Name → Answers → Type 0
-HasProducts false dir ans = Unit {0}
-HasProducts true dir ans = Has ans dir × HasEach ans (below dir (names_in ans dir))
+HasProducts false folder ans = Unit {0}
+HasProducts true folder ans = Has ans folder × HasEach ans (below folder (names_in ans folder))
 
 -- the folder of the package is there and its names are kept
 abbrev pub HasRoot : (Name → Told) → Answers → Type 0

@@ -14,8 +14,8 @@ abbrev pub has_text : List Name → Name → Bool
 has_text texts text = list_any (bytes_eq text) texts
 
 -- the path of a name in a folder
-abbrev pub in_dir : Name → Name → Name
-in_dir dir name = dir ++ (codes "/" ++ name)
+abbrev pub in_folder : Name → Name → Name
+in_folder folder name = folder ++ (codes "/" ++ name)
 
 abbrev pub is_source : Name → Bool
 is_source name = ends_with nat_eq name (codes ".rs")

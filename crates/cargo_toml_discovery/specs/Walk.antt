@@ -1,19 +1,19 @@
 -- How the code finds products: a walk over the offers. It gives what `Found` says, so nothing here
 -- has to be believed.
 use Rattle.std.specs.Prelude.{◌≡◌, Bool, List, [], ◌∷◌, ◌++◌, option_to_list, Option, None}
-use Rattle.std.specs.Prelude.{option_map, if◌then◌else◌, string_bytes, map, filter, Vec}
+use Rattle.std.specs.Prelude.{option_map, if◌then◌else◌, string_bytes, map, filter}
 use Rattle.std.specs.BTreeMap.{BTreeMap, get_by}
 use Rattle.std.specs.BTreeSet.{BTreeSet, contains_by}
 use Rattle.std.specs.Cmp.Lexicographic.{slice_cmp}
 use Rattle.std.specs.Ordering.{nat_cmp}
 use Rattle.std.specs.Str.{bytes_eq}
 use Rattle.std.specs.declared.cmp.Ordering.TheVariants.{Less}
-use Rattle.std.specs.declared.alloc.Global.{Global}
 use denote.Ref.{Bor}
 use Rattle.cargo_toml_settings.specs.declared.settings.Edition.{Edition}
 use Rattle.cargo_toml_tables.specs.Products.{ProductMeaning, product_meaning}
 use Rattle.cargo_toml_tables.specs.declared.product.Product.{Product}
 use Rattle.cargo_toml_discovery.specs.declared.found.Offer as code_offer
+use Rattle.cargo_toml_discovery.specs.declared.found.Placing as code_placing
 use Rattle.cargo_toml_discovery.specs.declared.listings.Entry as code_entry
 use Rattle.cargo_toml_discovery.specs.Found.{Named, Offered, product_for, has_path}
 use Rattle.cargo_toml_discovery.specs.Found.{is_path_of, last_waiting, offers}
@@ -57,8 +57,8 @@ walk edition w (o ∷ os) = product_for edition o (w o.name) ∷ walk edition (w
 
 -- the products that are placed, and those of the offers that are left, where these
 -- products still wait
-abbrev pub walked : Edition → Vec Product Global → Waiting → List Offered → List ProductMeaning
-walked edition list still os = map product_meaning list.items ++ walk edition (waiting_in still) os
+abbrev pub walked : code_placing.Placing → List Offered → List ProductMeaning
+walked p os = map product_meaning p.list.items ++ walk p.edition (waiting_in p.still) os
 
 abbrev pub with_extra : List Offered → Option Offered → List Offered
 with_extra os extra = os ++ option_to_list extra
@@ -66,15 +66,18 @@ with_extra os extra = os ++ option_to_list extra
 -- the products that stay, and those of the walk over all offers
 abbrev pub all_walked : Edition → Name → List ProductMeaning → List Named → Option Offered
     → List ProductMeaning
-all_walked edition dir ps es extra =
+all_walked edition folder ps es extra =
     filter has_path ps
-    ++ walk edition (last_waiting ps) (with_extra (offers dir (is_path_of ps) es) extra)
+    ++ walk edition (last_waiting ps) (with_extra (offers folder (is_path_of ps) es) extra)
 
--- each name stands after this one in byte order, and names ascend
-abbrev pub NamesAfter : Name → List Named → Type 0
-NamesAfter n [] = Unit {0}
-NamesAfter n (e ∷ es) = (slice_cmp nat_cmp n e.name ≡ Less) × NamesAfter n es
+-- each text stands after this one in byte order, and texts ascend
+abbrev pub AllAbove : Name → List Name → Type 0
+AllAbove t [] = Unit {0}
+AllAbove t (u ∷ us) = (slice_cmp nat_cmp t u ≡ Less) × AllAbove t us
+
+abbrev pub Ascend : List Name → Type 0
+Ascend [] = Unit {0}
+Ascend (t ∷ ts) = AllAbove t ts × Ascend ts
 
 abbrev pub NamesAscend : List Named → Type 0
-NamesAscend [] = Unit {0}
-NamesAscend (e ∷ es) = NamesAfter e.name es × NamesAscend es
+NamesAscend es = Ascend (map (λ e. e.name) es)

@@ -13,7 +13,7 @@ ghost use Rattle.cargo_toml_discovery.specs.Walk.{IsOffer};
 ghost use Rattle.cargo_toml_settings.specs.Settings.{file_meaning};
 ghost use Rattle.cargo_toml_tables.specs.Products.{product_meaning};
 
-use crate::found::{Offer, found};
+use crate::found::{Offer, StatedList, found};
 use crate::listings::{Listings, Wanted};
 use crate::names::underscored;
 use crate::products::{copied, copies, is_path_of, plain, sort_products};
@@ -46,17 +46,6 @@ pub struct Stated<'a> {
     pub build: Option<&'a OptionalFile>,
     /// The readme.
     pub readme: &'a OptionalFile,
-}
-
-/// A list of products that a manifest states.
-#[derive(Clone, Copy, Debug)]
-pub struct StatedList<'a> {
-    /// The folder of such products.
-    pub dir: &'a str,
-    /// Whether more are found there.
-    pub is_wanted: bool,
-    /// The products.
-    pub products: &'a [Product],
 }
 
 /// What discovery puts into a manifest.
@@ -192,14 +181,13 @@ pub fn list_of(
     extra: Option<Offer>,
 ) -> Result<Vec<Product>, AllocError>
     ensures { IfOk result (λ v. (x : Option Offered) → IsOffer x extra → meanings v.items
-        ≡ listed_products edition list.now.is_wanted list.now.dir.now
+        ≡ listed_products edition list.now.is_wanted list.now.folder.now
         (meanings list.now.products.now) (entries_if list.now.is_wanted (answers_of listings.now)
-        list.now.dir.now) x) }
+        list.now.folder.now) x) }
 {
     if list.is_wanted {
-        let entries = listings.entries(alloc, list.dir)?;
-        let entries = entries.as_slice();
-        return found(alloc, edition, list.dir, list.products, entries, extra);
+        let entries = listings.entries(alloc, list.folder)?;
+        return found(alloc, edition, list, entries.as_slice(), extra);
     }
     let mut list = copies(alloc, list.products)?;
     sort_products(&mut list)?;
@@ -264,6 +252,25 @@ pub fn readme(
     Ok(OptionalFile::Path(String::from_str(alloc, name)?))
 }
 
+// The binaries, `src/main.rs` among them where it is there and binaries are found.
+fn binaries(
+    alloc: Global,
+    stated: &Stated<'_>,
+    listings: &Listings,
+) -> Result<Vec<Product>, AllocError>
+    ensures { IfOk result (λ v. meanings v.items ≡ (discovered (stated_meaning stated.now)
+        (around_in (answers_of listings.now) stated.now.wanted)).bin) }
+{
+    let has_main = listings.has("src", "main.rs");
+    let main = main_offer(alloc, stated.name, has_main, stated.bin)?;
+    let list = StatedList {
+        folder: "src/bin",
+        is_wanted: stated.wanted.bins,
+        products: stated.bin,
+    };
+    Ok(list_of(alloc, stated.edition, &list, listings, main)?)
+}
+
 /// What discovery makes of what a manifest states, by the names in the folders around it that were
 /// answered. It is refused only where there was no memory.
 pub fn discover(
@@ -277,35 +284,24 @@ pub fn discover(
 {
     let edition = stated.edition;
     let wanted = stated.wanted;
-    let main = main_offer(
-        alloc,
-        stated.name,
-        listings.has("src", "main.rs"),
-        stated.bin,
-    )?;
-    let bin = StatedList {
-        dir: "src/bin",
-        is_wanted: wanted.bins,
-        products: stated.bin,
-    };
     let example = StatedList {
-        dir: "examples",
+        folder: "examples",
         is_wanted: wanted.examples,
         products: stated.example,
     };
     let test = StatedList {
-        dir: "tests",
+        folder: "tests",
         is_wanted: wanted.tests,
         products: stated.test,
     };
     let bench = StatedList {
-        dir: "benches",
+        folder: "benches",
         is_wanted: wanted.benches,
         products: stated.bench,
     };
     Ok(Discovered {
         lib: library(alloc, stated, listings)?,
-        bin: list_of(alloc, edition, &bin, listings, main)?,
+        bin: binaries(alloc, stated, listings)?,
         example: list_of(alloc, edition, &example, listings, None)?,
         test: list_of(alloc, edition, &test, listings, None)?,
         bench: list_of(alloc, edition, &bench, listings, None)?,

@@ -15,12 +15,23 @@ ghost use Rattle.cargo_toml_discovery.specs.Walk.{walked, all_walked, IsOffer, N
 ghost use Rattle.cargo_toml_tables.specs.Products.{ProductMeaning, product_meaning};
 
 use crate::listings::Entry;
-use crate::names::{in_dir, is_source, stem};
+use crate::names::{in_folder, is_source, stem};
 use crate::products::{copied, plain, sort_products};
 use cargo_toml_settings::Edition;
 use cargo_toml_tables::Product;
 use std::alloc::{AllocError, Global};
 use std::collections::{BTreeMap, BTreeSet};
+
+/// A list of products that a manifest states.
+#[derive(Clone, Copy, Debug)]
+pub struct StatedList<'a> {
+    /// The folder of such products.
+    pub folder: &'a str,
+    /// Whether more are found there.
+    pub is_wanted: bool,
+    /// The products.
+    pub products: &'a [Product],
+}
 
 /// A main file that is there, and the name of its product.
 #[derive(Debug, Drop)]
@@ -32,18 +43,18 @@ pub struct Offer {
 }
 
 // What a name in a folder offers.
-fn offer_for(alloc: Global, dir: &str, entry: &Entry<'_>) -> Result<Option<Offer>, AllocError>
-    ensures { IfOk result (IsOffer (offer_of dir.now (named_of entry.now))) }
+fn offer_for(alloc: Global, folder: &str, entry: &Entry<'_>) -> Result<Option<Offer>, AllocError>
+    ensures { IfOk result (IsOffer (offer_of folder.now (named_of entry.now))) }
 {
     let name = entry.name;
     if is_source(name) {
         return Ok(Some(Offer {
             name: String::from_str(alloc, stem(name))?,
-            path: in_dir(alloc, dir, name)?,
+            path: in_folder(alloc, folder, name)?,
         }));
     }
     if entry.has_main {
-        let mut path = in_dir(alloc, dir, name)?;
+        let mut path = in_folder(alloc, folder, name)?;
         path.push_str("/main.rs")?;
         return Ok(Some(Offer {
             name: String::from_str(alloc, name)?,
@@ -149,14 +160,14 @@ fn product_for(
 // What a name offers, unless its path is taken.
 fn open_offer(
     alloc: Global,
-    dir: &str,
+    folder: &str,
     paths: &BTreeSet<&str>,
     entry: &Entry<'_>,
 ) -> Result<Option<Offer>, AllocError>
     ensures { IfOk result
-        (IsOffer (open_offer dir.now (is_path_in paths.now) (named_of entry.now))) }
+        (IsOffer (open_offer folder.now (is_path_in paths.now) (named_of entry.now))) }
 {
-    match offer_for(alloc, dir, entry)? {
+    match offer_for(alloc, folder, entry)? {
         Some(offer) => {
             if paths.contains(offer.path.as_str()) {
                 Ok(None)
@@ -168,76 +179,73 @@ fn open_offer(
     }
 }
 
-// Puts the product of an offer into the list.
-fn place<'a>(
-    alloc: Global,
+// The products that have their place, and those that still wait for a file.
+#[derive(Debug, Drop)]
+struct Placing<'a> {
+    // The edition of a new product.
     edition: Edition,
-    offer: Offer,
-    list: &mut Vec<Product>,
-    still: &mut BTreeMap<&'a str, &'a Product>,
-) -> Result<(), AllocError>
+    // Those that have their place.
+    list: Vec<Product>,
+    // Those that wait, by their names.
+    still: BTreeMap<&'a str, &'a Product>,
+}
+
+// Places the product of an offer.
+fn place(alloc: Global, offer: Offer, placing: &mut Placing<'_>) -> Result<(), AllocError>
     ensures ok { OnOk result
         ((o : Offered) (os : List Offered) → offer_parts o ≡ parts_of_code offer
-        → walked edition list.new still.new os ≡ walked edition list.old still.old (o ∷ os)) }
+        → walked placing.new os ≡ walked placing.old (o ∷ os)) }
 {
-    let waiting = still.remove(offer.name.as_str());
-    list.push(product_for(alloc, edition, offer, waiting)?)?;
+    let waiting = placing.still.remove(offer.name.as_str());
+    let product = product_for(alloc, placing.edition, offer, waiting)?;
+    placing.list.push(product)?;
     Ok(())
 }
 
-// Puts the product of an offer into the list, if there is one.
-fn place_if_there<'a>(
+// Places the product of an offer, if there is one.
+fn place_if_there(
     alloc: Global,
-    edition: Edition,
     offer: Option<Offer>,
-    list: &mut Vec<Product>,
-    still: &mut BTreeMap<&'a str, &'a Product>,
+    placing: &mut Placing<'_>,
 ) -> Result<(), AllocError>
     ensures ok { OnOk result ((o : Option Offered) (os : List Offered) → IsOffer o offer
-        → walked edition list.new still.new os
-        ≡ walked edition list.old still.old (cons_option o os)) }
+        → walked placing.new os ≡ walked placing.old (cons_option o os)) }
 {
     if let Some(offer) = offer {
-        place(alloc, edition, offer, list, still)?;
+        place(alloc, offer, placing)?;
     }
     Ok(())
 }
 
-// Puts the product of a name into the list, if the name offers one.
-fn place_one<'a>(
+// Places the product of a name, if the name offers one.
+fn place_one(
     alloc: Global,
-    edition: Edition,
-    dir: &str,
+    folder: &str,
     paths: &BTreeSet<&str>,
     entry: &Entry<'_>,
-    list: &mut Vec<Product>,
-    still: &mut BTreeMap<&'a str, &'a Product>,
+    placing: &mut Placing<'_>,
 ) -> Result<(), AllocError>
-    ensures ok { OnOk result ((os : List Offered) → walked edition list.new still.new os
-        ≡ walked edition list.old still.old
-        (cons_option (open_offer dir.now (is_path_in paths.now) (named_of entry.now)) os)) }
+    ensures ok { OnOk result ((os : List Offered) → walked placing.new os ≡ walked placing.old
+        (cons_option (open_offer folder.now (is_path_in paths.now) (named_of entry.now)) os)) }
 {
-    let offer = open_offer(alloc, dir, paths, entry)?;
-    place_if_there(alloc, edition, offer, list, still)?;
+    let offer = open_offer(alloc, folder, paths, entry)?;
+    place_if_there(alloc, offer, placing)?;
     Ok(())
 }
 
-// Puts the products of the names into the list.
-fn place_all<'a>(
+// Places the products of the names.
+fn place_all(
     alloc: Global,
-    edition: Edition,
-    dir: &str,
+    folder: &str,
     paths: &BTreeSet<&str>,
     entries: &[Entry<'_>],
-    list: &mut Vec<Product>,
-    still: &mut BTreeMap<&'a str, &'a Product>,
+    placing: &mut Placing<'_>,
 ) -> Result<(), AllocError>
-    ensures ok { OnOk result ((os : List Offered) → walked edition list.new still.new os
-        ≡ walked edition list.old still.old
-        (offers dir.now (is_path_in paths.now) (all_named entries.now) ++ os)) }
+    ensures ok { OnOk result ((os : List Offered) → walked placing.new os ≡ walked placing.old
+        (offers folder.now (is_path_in paths.now) (all_named entries.now) ++ os)) }
 {
     for entry in entries {
-        place_one(alloc, edition, dir, paths, entry, list, still)?;
+        place_one(alloc, folder, paths, entry, placing)?;
     }
     Ok(())
 }
@@ -246,40 +254,43 @@ fn place_all<'a>(
 fn placed(
     alloc: Global,
     edition: Edition,
-    dir: &str,
-    products: &[Product],
+    stated: &StatedList<'_>,
     entries: &[Entry<'_>],
     extra: Option<Offer>,
 ) -> Result<Vec<Product>, AllocError>
     ensures { IfOk result (λ v. (x : Option Offered) → IsOffer x extra → meanings v.items
-        ≡ all_walked edition dir.now (meanings products.now) (all_named entries.now) x) }
+        ≡ all_walked edition stated.now.folder.now (meanings stated.now.products.now)
+        (all_named entries.now) x) }
 {
-    let paths = paths_of(alloc, products)?;
-    let mut list = staying(alloc, products)?;
-    let mut still = waiting(alloc, products)?;
-    place_all(alloc, edition, dir, &paths, entries, &mut list, &mut still)?;
-    place_if_there(alloc, edition, extra, &mut list, &mut still)?;
-    Ok(list)
+    let paths = paths_of(alloc, stated.products)?;
+    let mut placing = Placing {
+        edition,
+        list: staying(alloc, stated.products)?,
+        still: waiting(alloc, stated.products)?,
+    };
+    place_all(alloc, stated.folder, &paths, entries, &mut placing)?;
+    place_if_there(alloc, extra, &mut placing)?;
+    Ok(placing.list)
 }
 
-/// The products of a folder whose names are these, each once and in byte order: those of `products`
-/// that have a path, one for each offer of the folder whose path none of them has, and one for
+/// The products of a folder whose names are these, each once and in byte order: those that are
+/// stated with a path, one for each offer of the folder whose path none of them has, and one for
 /// `extra`, which counts as the last offer. An offer goes to the last product that has its name and
 /// no path, unless an offer before it has that name too, and else to a new product of this edition.
 /// All are in order of name and path. It is refused only where there was no memory.
 pub fn found(
     alloc: Global,
     edition: Edition,
-    dir: &str,
-    products: &[Product],
+    stated: &StatedList<'_>,
     entries: &[Entry<'_>],
     extra: Option<Offer>,
 ) -> Result<Vec<Product>, AllocError>
     requires { NamesAscend (all_named entries.now) }
     ensures { IfOk result (λ v. (x : Option Offered) → IsOffer x extra → meanings v.items
-        ≡ found edition dir.now (meanings products.now) (all_named entries.now) x) }
+        ≡ found edition stated.now.folder.now (meanings stated.now.products.now)
+        (all_named entries.now) x) }
 {
-    let mut list = placed(alloc, edition, dir, products, entries, extra)?;
+    let mut list = placed(alloc, edition, stated, entries, extra)?;
     sort_products(&mut list)?;
     Ok(list)
 }

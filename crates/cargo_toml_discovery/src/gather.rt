@@ -97,21 +97,21 @@ fn ask_products<Fs: Folders>(
     alloc: Global,
     fs: &Fs,
     is_wanted: bool,
-    dir: &str,
+    folder: &str,
     listings: &mut Listings,
 ) -> Result<(), Error>
     ensures grows { OnOk result
         (Grows (Fs.names_at fs.now) (answers_of listings.old) (answers_of listings.new)) }
-    ensures has { OnOk result (HasProducts is_wanted dir.now (answers_of listings.new)) }
+    ensures has { OnOk result (HasProducts is_wanted folder.now (answers_of listings.new)) }
     ensures faults { Fits (Fs.names_at fs.now) (answers_of listings.old)
-        → IfErr result (Tells (entries_at (Fs.names_at fs.now) is_wanted dir.now)) }
+        → IfErr result (Tells (entries_at (Fs.names_at fs.now) is_wanted folder.now)) }
     ensures refused { RefusesBy (IsListed (Fs.may_refuse fs.now)) result }
 {
     if !is_wanted {
         return Ok(());
     }
-    ask(alloc, fs, dir, listings)?;
-    let paths = listings.folders_in(alloc, dir)?;
+    ask(alloc, fs, folder, listings)?;
+    let paths = listings.folders_in(alloc, folder)?;
     ask_each(alloc, fs, paths.as_slice(), listings)?;
     Ok(())
 }

@@ -10,7 +10,7 @@ ghost use Rattle.cargo_toml_discovery.specs.Answers.{names_kept, below, entries_
 ghost use Rattle.cargo_toml_discovery.specs.Names.{Name, has_text};
 ghost use Rattle.cargo_toml_discovery.specs.Walk.{all_named, NamesAscend};
 
-use crate::names::{in_dir, is_source};
+use crate::names::{in_folder, is_source};
 use std::alloc::{AllocError, Global};
 use std::collections::{BTreeMap, BTreeSet, HashSet};
 
@@ -99,15 +99,15 @@ impl Listings {
 
     /// The paths of the folders in a folder that may hold `main.rs`: those of the names
     /// that are no sources.
-    pub fn folders_in(&self, alloc: Global, dir: &str) -> Result<Vec<String>, AllocError>
+    pub fn folders_in(&self, alloc: Global, folder: &str) -> Result<Vec<String>, AllocError>
         ensures { IfOk result
-            (λ v. map string_bytes v.items ≡ below dir.now (names_kept self.now dir.now)) }
+            (λ v. map string_bytes v.items ≡ below folder.now (names_kept self.now folder.now)) }
     {
         let mut paths = Vec::new(alloc);
-        if let Some(names) = self.names_at(dir) {
+        if let Some(names) = self.names_at(folder) {
             for name in names {
                 if !is_source(name.as_str()) {
-                    paths.push(in_dir(alloc, dir, name.as_str())?)?;
+                    paths.push(in_folder(alloc, folder, name.as_str())?)?;
                 }
             }
         }
@@ -115,19 +115,19 @@ impl Listings {
     }
 
     /// What a folder of products holds, by name in byte order; nothing where it was not asked for.
-    pub fn entries<'a>(&'a self, alloc: Global, dir: &str) -> Result<Vec<Entry<'a>>, AllocError>
+    pub fn entries<'a>(&'a self, alloc: Global, folder: &str) -> Result<Vec<Entry<'a>>, AllocError>
         ensures names { IfOk result
-            (λ v. all_named v.items ≡ entries_in (answers_of self.now) dir.now) }
+            (λ v. all_named v.items ≡ entries_in (answers_of self.now) folder.now) }
         ensures ascend { IfOk result (λ v. NamesAscend (all_named v.items)) }
     {
-        let Some(names) = self.names_at(dir) else {
+        let Some(names) = self.names_at(folder) else {
             return Ok(Vec::new(alloc));
         };
         let count = names.len();
         let mut entries = Vec::with_capacity(alloc, count)?;
         for name in names {
             let has_main = !is_source(name.as_str())
-                && self.has(in_dir(alloc, dir, name.as_str())?.as_str(), "main.rs");
+                && self.has(in_folder(alloc, folder, name.as_str())?.as_str(), "main.rs");
             entries.push(Entry {
                 name: name.as_str(),
                 has_main,

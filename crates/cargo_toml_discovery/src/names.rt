@@ -1,17 +1,17 @@
 //! Names of files and folders.
 ghost use Rattle.std.specs.Prelude.{◌≡◌, IfOk, IsTrue, string_bytes};
-ghost use Rattle.cargo_toml_discovery.specs.Names.{in_dir, is_source, stem};
+ghost use Rattle.cargo_toml_discovery.specs.Names.{in_folder, is_source, stem};
 ghost use Rattle.cargo_toml_discovery.specs.Names.{underscored, without_ending};
 
 use std::alloc::{AllocError, Global};
 
 /// The path of a name in a folder.
-pub fn in_dir(alloc: Global, dir: &str, name: &str) -> Result<String, AllocError>
-    ensures { IfOk result (λ path. string_bytes path ≡ in_dir dir.now name.now) }
+pub fn in_folder(alloc: Global, folder: &str, name: &str) -> Result<String, AllocError>
+    ensures { IfOk result (λ path. string_bytes path ≡ in_folder folder.now name.now) }
 {
-    let room = dir.len().saturating_add(name.len()).saturating_add(1);
+    let room = folder.len().saturating_add(name.len()).saturating_add(1);
     let mut path = String::with_capacity(alloc, room)?;
-    path.push_str(dir)?;
+    path.push_str(folder)?;
     path.push_str("/")?;
     path.push_str(name)?;
     Ok(path)

@@ -8,4 +8,4 @@ use Rattle.cargo_toml_discovery.proofs.found.found.Goals as goal
 pub returns : goal.returns
 returns c = λ x is.
     c.in_ok-sort_products.ensures.ok ∙ ap in_order (c.in_ok-list.ensures x is)
-    ∙ walk-found c.args.edition c.args.dir.now (map product_meaning c.args.products.now) (map named_of c.args.entries.now) x c.requires
+    ∙ walk-found c.args.edition c.args.stated.now.folder.now (map product_meaning c.args.stated.now.products.now) (map named_of c.args.entries.now) x c.requires

@@ -5,6 +5,7 @@ use Rattle.cargo_toml_discovery.proofs.Walks.{walk-same}
 use Rattle.cargo_toml_discovery.specs.Found.{has_path, is_path_of, last_waiting, offers, Offered}
 use Rattle.cargo_toml_discovery.specs.Walk.{with_extra, walk, walked, waiting_in, is_path_in, named_of}
 use Rattle.cargo_toml_tables.specs.Products.{product_meaning, ProductMeaning}
+use Rattle.cargo_toml_discovery.specs.declared.found.Placing as code
 use Rattle.cargo_toml_discovery.proofs.found.placed.Goals as goal
 
 option-cons : (x : Option Offered) → cons_option x [] ≡ option_to_list x
@@ -13,16 +14,21 @@ option-cons (Some o) = refl
 
 pub returns : goal.returns
 returns c = λ x is.
-    let ps = map product_meaning c.args.products.now in
-    let dir = c.args.dir.now in
+    let ps = map product_meaning c.args.stated.now.products.now in
+    let folder = c.args.stated.now.folder.now in
     let es = map named_of c.args.entries.now in
-    let os = offers dir (is_path_of ps) es in
-    let start = waiting_in c.in_ok-still.still in
+    let os = offers folder (is_path_of ps) es in
+    let first : code.Placing = record {
+      edition = c.args.edition;
+      list = c.in_ok-staying.field-0;
+      still = c.in_ok-waiting.field-0;
+    } in
+    let start = waiting_in c.in_ok-waiting.field-0 in
     let last = c.in_ok-place_if_there.ensures.ok x [] is in
     let before = c.in_ok-place_all.ensures.ok (option_to_list x) in
-    sym (append-nil (map product_meaning c.place_if_there.new.list.items)) ∙ last
-    ∙ ap (λ (qs : List Offered). walked c.args.edition c.place_all.new.list c.place_all.new.still qs) (option-cons x)
+    sym (append-nil (map product_meaning c.place_if_there.new.placing.list.items)) ∙ last
+    ∙ ap (λ (qs : List Offered). walked c.place_all.new.placing qs) (option-cons x)
     ∙ before
-    ∙ ap (λ (qs : List Offered). walked c.args.edition c.in_ok-list.list c.in_ok-still.still (with_extra qs x)) (offers-same dir (is_path_in c.in_ok-paths.paths) (is_path_of ps) c.in_ok-paths.ensures es)
-    ∙ ap (λ (qs : List ProductMeaning). qs ++ walk c.args.edition start (with_extra os x)) c.in_ok-list.ensures
-    ∙ ap (λ (qs : List ProductMeaning). filter has_path ps ++ qs) (walk-same c.args.edition start (last_waiting ps) (with_extra os x) c.in_ok-still.ensures)
+    ∙ ap (λ (qs : List Offered). walked first (with_extra qs x)) (offers-same folder (is_path_in c.in_ok-paths.paths) (is_path_of ps) c.in_ok-paths.ensures es)
+    ∙ ap (λ (qs : List ProductMeaning). qs ++ walk c.args.edition start (with_extra os x)) c.in_ok-staying.ensures
+    ∙ ap (λ (qs : List ProductMeaning). filter has_path ps ++ qs) (walk-same c.args.edition start (last_waiting ps) (with_extra os x) c.in_ok-waiting.ensures)

@@ -1,10 +1,8 @@
 use Rattle.std.proofs.Common.{◌≡◌, [], Some, codes}
-use Rattle.std.proofs.lemmas.Result.{err_from_is_err_and}
 use Rattle.cargo_toml_discovery.specs.Answers.{answer_at, answers_of, texts_in}
-use Rattle.cargo_toml_discovery.specs.Around.{around, entries_at}
+use Rattle.cargo_toml_discovery.specs.Around.{around}
 use Rattle.cargo_toml_discovery.specs.Gathering.{Fits}
-use Rattle.cargo_toml_discovery.specs.Seen.{root_names, names_at}
-use Rattle.cargo_toml_discovery.proofs.Heard.{tells-by, grows-on, has-grows, has_products-grows}
+use Rattle.cargo_toml_discovery.proofs.Heard.{tells-on, grows-on, has-grows, has_products-grows}
 use Rattle.cargo_toml_discovery.proofs.Whole.{started, has_root, all-told, by-root, by-src, by-bins, by-examples, by-tests, by-benches}
 use Rattle.cargo_toml_discovery.proofs.gather.gather.Given.{Over}
 use Rattle.cargo_toml_discovery.proofs.gather.gather.Goals.{In_ok-ask}
@@ -24,27 +22,25 @@ pub returns-in_err-root-clause-faults : goal.returns-in_err-root-clause-faults
 returns-in_err-root-clause-faults g c =
     let told = g.Fs.Folders.names_at c.args.fs.now in
     let wanted = c.args.wanted in
-    let p = err_from_is_err_and c.from_residual.result c.from_residual.ensures.1 in
-    let told_by = tells-by (root_names (told [])) (around told wanted) c.in_err-root.field-0.0 (by-root told wanted) in
-    rw (p.1, p.2) (told_by c.in_err-root.ensures.listed)
+    tells-on _ (around told wanted) c.from_residual.result c.in_err-root.field-0.0
+    c.from_residual.ensures.1 (by-root told wanted) c.in_err-root.ensures.listed
 
 pub returns-in_err-ask-clause-faults : goal.returns-in_err-ask-clause-faults
 returns-in_err-ask-clause-faults g c =
     let told = g.Fs.Folders.names_at c.args.fs.now in
     let wanted = c.args.wanted in
-    let p = err_from_is_err_and c.from_residual-in_err-ask.result c.from_residual-in_err-ask.ensures.1 in
-    let told_by = tells-by (names_at (told (codes "src"))) (around told wanted) c.in_err-ask.field-0.0 (by-src told wanted) in
-    rw (p.1, p.2) (told_by c.in_err-ask.ensures.faults)
+    tells-on _ (around told wanted) c.from_residual-in_err-ask.result
+    c.in_err-ask.field-0.0 c.from_residual-in_err-ask.ensures.1
+    (by-src told wanted) c.in_err-ask.ensures.faults
 
 pub returns-in_err-ask_products-clause-faults : goal.returns-in_err-ask_products-clause-faults
 returns-in_err-ask_products-clause-faults g c =
     let told = g.Fs.Folders.names_at c.args.fs.now in
     let wanted = c.args.wanted in
     let fits0 = (first g (goal.at.returns-in_err-ask_products-clause-faults g c).In_ok-ask).0 in
-    let p = err_from_is_err_and c.from_residual-in_err-ask_products.result c.from_residual-in_err-ask_products.ensures.1 in
-    let there = entries_at told wanted.bins (codes "src/bin") in
-    let told_by = tells-by there (around told wanted) c.in_err-ask_products.field-0.0 (by-bins told wanted) in
-    rw (p.1, p.2) (told_by (c.in_err-ask_products.ensures.faults fits0))
+    tells-on _ (around told wanted) c.from_residual-in_err-ask_products.result
+    c.in_err-ask_products.field-0.0 c.from_residual-in_err-ask_products.ensures.1
+    (by-bins told wanted) (c.in_err-ask_products.ensures.faults fits0)
 
 pub returns-in_err-ask_products-2-clause-faults : goal.returns-in_err-ask_products-2-clause-faults
 returns-in_err-ask_products-2-clause-faults g c =
@@ -52,10 +48,9 @@ returns-in_err-ask_products-2-clause-faults g c =
     let wanted = c.args.wanted in
     let fits0 = (first g (goal.at.returns-in_err-ask_products-2-clause-faults g c).In_ok-ask).0 in
     let fits1 = c.in_ok-ask_products.ensures.grows.1 fits0 in
-    let p = err_from_is_err_and c.from_residual-in_err-ask_products-2.result c.from_residual-in_err-ask_products-2.ensures.1 in
-    let there = entries_at told wanted.examples (codes "examples") in
-    let told_by = tells-by there (around told wanted) c.in_err-ask_products-2.field-0.0 (by-examples told wanted) in
-    rw (p.1, p.2) (told_by (c.in_err-ask_products-2.ensures.faults fits1))
+    tells-on _ (around told wanted) c.from_residual-in_err-ask_products-2.result
+    c.in_err-ask_products-2.field-0.0 c.from_residual-in_err-ask_products-2.ensures.1
+    (by-examples told wanted) (c.in_err-ask_products-2.ensures.faults fits1)
 
 pub returns-in_err-ask_products-3-clause-faults : goal.returns-in_err-ask_products-3-clause-faults
 returns-in_err-ask_products-3-clause-faults g c =
@@ -64,10 +59,9 @@ returns-in_err-ask_products-3-clause-faults g c =
     let fits0 = (first g (goal.at.returns-in_err-ask_products-3-clause-faults g c).In_ok-ask).0 in
     let fits1 = c.in_ok-ask_products.ensures.grows.1 fits0 in
     let fits2 = c.in_ok-ask_products-2.ensures.grows.1 fits1 in
-    let p = err_from_is_err_and c.from_residual-in_err-ask_products-3.result c.from_residual-in_err-ask_products-3.ensures.1 in
-    let there = entries_at told wanted.tests (codes "tests") in
-    let told_by = tells-by there (around told wanted) c.in_err-ask_products-3.field-0.0 (by-tests told wanted) in
-    rw (p.1, p.2) (told_by (c.in_err-ask_products-3.ensures.faults fits2))
+    tells-on _ (around told wanted) c.from_residual-in_err-ask_products-3.result
+    c.in_err-ask_products-3.field-0.0 c.from_residual-in_err-ask_products-3.ensures.1
+    (by-tests told wanted) (c.in_err-ask_products-3.ensures.faults fits2)
 
 pub returns-in_err-ask_products-4-clause-faults : goal.returns-in_err-ask_products-4-clause-faults
 returns-in_err-ask_products-4-clause-faults g c =
@@ -77,10 +71,9 @@ returns-in_err-ask_products-4-clause-faults g c =
     let fits1 = c.in_ok-ask_products.ensures.grows.1 fits0 in
     let fits2 = c.in_ok-ask_products-2.ensures.grows.1 fits1 in
     let fits3 = c.in_ok-ask_products-3.ensures.grows.1 fits2 in
-    let p = err_from_is_err_and c.from_residual-in_err-ask_products-4.result c.from_residual-in_err-ask_products-4.ensures.1 in
-    let there = entries_at told wanted.benches (codes "benches") in
-    let told_by = tells-by there (around told wanted) c.in_err-ask_products-4.field-0.0 (by-benches told wanted) in
-    rw (p.1, p.2) (told_by (c.in_err-ask_products-4.ensures.faults fits3))
+    tells-on _ (around told wanted) c.from_residual-in_err-ask_products-4.result
+    c.in_err-ask_products-4.field-0.0 c.from_residual-in_err-ask_products-4.ensures.1
+    (by-benches told wanted) (c.in_err-ask_products-4.ensures.faults fits3)
 
 pub returns-clause-asked : goal.returns-clause-asked
 returns-clause-asked g c =

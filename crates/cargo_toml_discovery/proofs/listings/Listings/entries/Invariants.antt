@@ -4,4 +4,4 @@ use Rattle.cargo_toml_discovery.specs.Walk.{named_of}
 use Rattle.cargo_toml_discovery.proofs.listings.Listings.entries.Given as goal
 
 abbrev pub invariant-loop-name : goal.invariant-loop-name
-invariant-loop-name l = map named_of l.entries.items ++ map (named_in (answers_of l.self) l.dir) (map (λ k. string_bytes k) l.name-iterator) ≡ map (named_in (answers_of l.self) l.dir) (names_in (answers_of l.self) l.dir)
+invariant-loop-name l = map named_of l.entries.items ++ map (named_in (answers_of l.self) l.folder) (map (λ k. string_bytes k) l.name-iterator) ≡ map (named_in (answers_of l.self) l.folder) (names_in (answers_of l.self) l.folder)

@@ -3,4 +3,4 @@ use Rattle.cargo_toml_discovery.specs.Answers.{answers_of, names_in, below}
 use Rattle.cargo_toml_discovery.proofs.listings.Listings.folders_in.Given as goal
 
 abbrev pub invariant-loop-name : goal.invariant-loop-name
-invariant-loop-name l = map string_bytes l.paths.items ++ below l.dir (map (λ k. string_bytes k) l.name-iterator) ≡ below l.dir (names_in (answers_of l.self) l.dir)
+invariant-loop-name l = map string_bytes l.paths.items ++ below l.folder (map (λ k. string_bytes k) l.name-iterator) ≡ below l.folder (names_in (answers_of l.self) l.folder)

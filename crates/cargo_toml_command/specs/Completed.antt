@@ -1,5 +1,5 @@
 -- The lines that are printed of a completed manifest.
-use Rattle.std.specs.Prelude.{◌++◌, List, [], ◌∷◌, Option, Some, None, codes, option_map}
+use Rattle.std.specs.Prelude.{◌++◌, [], ◌∷◌, Option, Some, None, codes, option_map}
 use Rattle.std.specs.Prelude.{unwrap_or}
 use Rattle.std.specs.List.{flat_map}
 use Rattle.cargo_toml_graph.specs.Action.{Text}

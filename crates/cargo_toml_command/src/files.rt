@@ -1,10 +1,11 @@
 //! What the program writes of a manifest in a file, completed from the files around it.
-ghost use Rattle.std.specs.Prelude.{IfErr, IfOk, IsSome, OnOk, string_bytes};
+ghost use Rattle.std.specs.Prelude.{◌⊎◌, IfErr, IfOk, IsSome, OnOk, string_bytes};
 ghost use Rattle.std.specs.Io.KnownBytes.{Appends, Keeps};
 ghost use Rattle.std.specs.Path.{path_parent};
 ghost use Rattle.cargo_toml_command.specs.Printed.{IsOfCompleted};
+ghost use Rattle.cargo_toml_command.specs.Printed.{IsFileFault, IsSpelled};
 ghost use Rattle.cargo_toml_graph.specs.Action.{Text};
-ghost use Rattle.cargo_toml_print.specs.Printing.{IsOfManifest};
+ghost use Rattle.cargo_toml_print.specs.Printing.{IsOfManifest, IsOfOutput};
 
 use crate::completion::completion_lines;
 use cargo_toml_manifest::Manifest;
@@ -29,6 +30,7 @@ pub fn print_completed<R: Files + AllocGlobal, W: Write>(
     ensures named { OnOk result (IsSome (path_parent file.now)) }
     ensures unwritten { IfErr result (λ e. IsOfManifest e
         → Keeps (W.contents output.old) (W.contents output.new)) }
+    ensures refused { IfErr result (λ e. IsOfOutput e ⊎ IsFileFault file.now e) }
 {
     let mut manifest = manifest_in(rt, file)?;
     let lines = completed_lines(rt, file, &mut *manifest)?;
@@ -43,8 +45,10 @@ fn completed_lines<R: Files + AllocGlobal>(
     file: &str,
     manifest: &mut Manifest,
 ) -> Result<String, Error>
-    ensures lines { IfOk result (λ text. IsOfCompleted (string_bytes text)) }
+    ensures lines { IsSpelled manifest.old → IfOk result
+        (λ text. IsOfCompleted (string_bytes text)) }
     ensures named { OnOk result (IsSome (path_parent file.now)) }
+    ensures refused { IsSpelled manifest.old → IfErr result (IsFileFault file.now) }
 {
     manifest.complete_from_path(rt, rt.alloc(), file)?;
     Ok(completion_lines(rt.alloc(), manifest)?)
@@ -52,7 +56,10 @@ fn completed_lines<R: Files + AllocGlobal>(
 
 /// The manifest in a file, on the heap. It is wide, and so no call that does more than this
 /// holds it on the stack.
-fn manifest_in<R: Files + AllocGlobal>(rt: &R, file: &str) -> Result<Box<Manifest>, Error> {
+fn manifest_in<R: Files + AllocGlobal>(rt: &R, file: &str) -> Result<Box<Manifest>, Error>
+    ensures spelled { IfOk result (λ manifest. IsSpelled manifest.value) }
+    ensures refused { IfErr result (IsFileFault file.now) }
+{
     let text = fs::read_to_string(rt, file)?;
     match Manifest::from_str(rt.alloc(), text.as_str()) {
         Ok(manifest) => Ok(Box::new(rt.alloc(), manifest)?),

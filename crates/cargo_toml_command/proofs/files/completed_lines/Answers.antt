@@ -1,5 +1,7 @@
 use Rattle.std.proofs.Common.{◌≡◌, Option, None, Some, refl}
 use Rattle.std.specs.Prelude.{IsSome}
+use Rattle.std.proofs.lemmas.Result.{err_from_is_err_and}
+use Rattle.cargo_toml_command.proofs.FileFaults.{refused_file}
 use Rattle.cargo_toml_command.proofs.files.completed_lines.Goals as goal
 
 some_from : {X : Type 0} (o : Option X) → ¬ (o ≡ None) → IsSome o
@@ -7,7 +9,13 @@ some_from None h = absurd (h refl)
 some_from (Some x) h = refl
 
 pub returns-clause-lines : goal.returns-clause-lines
-returns-clause-lines g c = (c.args.manifest.now, c.complete_from_path.new.self, c.in_ok-complete_from_path.ensures.completed, c.in_ok-completion_lines.ensures)
+returns-clause-lines g c = λ spelled. (c.args.manifest.now, spelled, c.complete_from_path.new.self, c.in_ok-complete_from_path.ensures.completed, c.in_ok-completion_lines.ensures)
 
 pub returns-clause-named : goal.returns-clause-named
 returns-clause-named g c = some_from _ c.in_ok-complete_from_path.ensures.bad_path.0
+
+pub returns-in_err-complete_from_path-clause-refused : goal.returns-in_err-complete_from_path-clause-refused
+returns-in_err-complete_from_path-clause-refused g c =
+    let p = err_from_is_err_and c.from_residual.result c.from_residual.ensures.1 in
+    λ spelled. rw (p.1, p.2) (refused_file _ c.args.file.now c.args.manifest.now c.complete_from_path.new.self _ spelled
+    c.in_err-complete_from_path.ensures.outcome c.in_err-complete_from_path.ensures.bad_path c.in_err-complete_from_path.ensures.refused)

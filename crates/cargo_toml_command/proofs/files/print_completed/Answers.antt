@@ -1,5 +1,22 @@
-use Rattle.std.proofs.Common.{rules, string_bytes}
+use Rattle.std.proofs.Common.{inr, subst, sym, string_bytes}
+use Rattle.std.proofs.lemmas.Result.{err_from_is_err_and}
+use Rattle.cargo_toml_command.specs.Printed.{IsSpelled}
+use Rattle.cargo_toml_command.proofs.FileFaults.{still_appended}
 use Rattle.cargo_toml_command.proofs.files.print_completed.Goals as goal
 
+pub returns-in_err-manifest-clause-refused : goal.returns-in_err-manifest-clause-refused
+returns-in_err-manifest-clause-refused g c =
+    let p = err_from_is_err_and c.from_residual.result c.from_residual.ensures.1 in
+    rw (p.1, p.2) (inr c.in_err-manifest.ensures.refused)
+
+pub returns-in_err-lines-clause-refused : goal.returns-in_err-lines-clause-refused
+returns-in_err-lines-clause-refused g c =
+    let p = err_from_is_err_and c.from_residual-in_err-lines.result c.from_residual-in_err-lines.ensures.1 in
+    let spelled = subst IsSpelled (sym c.deref_mut.ensures.value) c.in_ok-manifest.ensures.spelled in
+    rw (p.1, p.2) (inr (c.in_err-lines.ensures.refused spelled))
+
 pub returns-clause-printed : goal.returns-clause-printed
-returns-clause-printed g c = (string_bytes c.in_ok-lines.lines, c.in_ok-lines.ensures.lines, search rules)
+returns-clause-printed g c =
+    let spelled = subst IsSpelled (sym c.deref_mut.ensures.value) c.in_ok-manifest.ensures.spelled in
+    let written = rw c.as_bytes.ensures.value at c.in_ok-write_all.ensures.bytes in
+    (string_bytes c.in_ok-lines.lines, c.in_ok-lines.ensures.lines spelled, still_appended _ _ _ _ written c.in_ok-flush.ensures.bytes)

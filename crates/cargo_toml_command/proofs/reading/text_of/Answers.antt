@@ -1,9 +1,12 @@
-use Rattle.std.proofs.Common.{Ok, subst, sym}
-use Rattle.std.proofs.lemmas.Result.{IfOk-weaker}
+use Rattle.std.proofs.Common.{Ok, inl, subst, sym}
+use Rattle.std.proofs.lemmas.Result.{IfErr-weaker, IfOk-weaker}
 use Rattle.cargo_toml_manifest.specs.Roots.{IsFromSlice}
 use Rattle.cargo_toml_command.proofs.reading.text_of.Goals as goal
 
-pub returns : goal.returns
-returns g c =
-    let spelled = subst (λ m. IsFromSlice c.args.bytes.now (Ok m)) (sym c.deref.ensures) c.in_ok-manifest.ensures in
-    IfOk-weaker c.text.result _ _ (λ t printed. (c.deref.result.now, spelled, printed)) c.text.ensures
+pub returns-clause-printed : goal.returns-clause-printed
+returns-clause-printed g c =
+    let spelled = subst (λ m. IsFromSlice c.args.bytes.now (Ok m)) (sym c.deref.ensures) c.in_ok-manifest.ensures.read in
+    IfOk-weaker c.text.result _ _ (λ t printed. (c.deref.result.now, spelled, printed)) c.text.ensures.printed
+
+pub returns-clause-refused : goal.returns-clause-refused
+returns-clause-refused g c = IfErr-weaker c.text.result _ _ (λ e memory. inl memory) c.text.ensures.refused

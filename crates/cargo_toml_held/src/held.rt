@@ -25,15 +25,16 @@ impl Drop for HeldManifest {
     }
 }
 
-fn boxed(alloc: Global, manifest: Manifest) -> Result<HeldManifest, Error>
-    ensures same { IfOk result (λ h. h.manifest.value ≡ manifest) }
-    ensures refused { IfErr result (λ e. e ≡ Memory) }
-{
-    let manifest = Box::new(alloc, manifest)?;
-    Ok(HeldManifest { manifest })
-}
-
 impl HeldManifest {
+    /// Holds this manifest. The one refusal is [`Error::Memory`].
+    pub fn new(alloc: Global, manifest: Manifest) -> Result<HeldManifest, Error>
+        ensures same { IfOk result (λ h. h.manifest.value ≡ manifest) }
+        ensures refused { IfErr result (λ e. e ≡ Memory) }
+    {
+        let manifest = Box::new(alloc, manifest)?;
+        Ok(HeldManifest { manifest })
+    }
+
     /// Holds the manifest that these bytes spell. Refuses as [`Manifest::from_slice`] does, with
     /// [`Error::Memory`] where there was no room.
     pub fn from_slice(alloc: Global, bytes: &[u8]) -> Result<HeldManifest, Error>
@@ -41,7 +42,7 @@ impl HeldManifest {
             (manifest_reads any_tree) (ManifestRefuses any_tree AnyRefuses) bytes.now result }
     {
         match Manifest::from_slice(alloc, bytes) {
-            Ok(manifest) => boxed(alloc, manifest),
+            Ok(manifest) => HeldManifest::new(alloc, manifest),
             Err(fault) => Err(fault),
         }
     }
@@ -54,7 +55,7 @@ impl HeldManifest {
             (parse_document text.now) result }
     {
         match Manifest::from_str(alloc, text) {
-            Ok(manifest) => boxed(alloc, manifest),
+            Ok(manifest) => HeldManifest::new(alloc, manifest),
             Err(fault) => Err(fault),
         }
     }
@@ -73,7 +74,7 @@ impl HeldManifest {
             (manifest_reads any_tree) (ManifestRefuses any_tree AnyRefuses)) }
     {
         match Manifest::from_path(rt, alloc, path) {
-            Ok(manifest) => boxed(alloc, manifest),
+            Ok(manifest) => HeldManifest::new(alloc, manifest),
             Err(fault) => Err(fault),
         }
     }

@@ -12,15 +12,15 @@ use Rattle.cargo_toml_held.proofs.held.HeldManifest.from_path.Goals as goal
 
 pub returns-in-Ok-clause-given : goal.returns-in-Ok-clause-given
 returns-in-Ok-clause-given g c =
-    IfOk-weaker c.boxed.result _ _
+    IfOk-weaker c.new.result _ _
     (λ h same. subst (λ (m : Manifest Value). IsReadAndCompleted view (manifest_reads any_tree) m) (sym same) c.in-Ok.ensures.given)
-    c.boxed.ensures.same
+    c.new.ensures.same
 
 pub returns-in-Ok-clause-filled : goal.returns-in-Ok-clause-filled
 returns-in-Ok-clause-filled g c =
-    IfOk-weaker c.boxed.result _ _
+    IfOk-weaker c.new.result _ _
     (λ h same. subst (λ (m : Manifest Value). IfSome m.«package» IsFilled) (sym same) c.in-Ok.ensures.filled)
-    c.boxed.ensures.same
+    c.new.ensures.same
 
 pub returns-in-Ok-clause-refused : goal.returns-in-Ok-clause-refused
-returns-in-Ok-clause-refused g c = IfErr-weaker c.boxed.result _ _ (λ e memory. inl memory) c.boxed.ensures.refused
+returns-in-Ok-clause-refused g c = IfErr-weaker c.new.result _ _ (λ e memory. inl memory) c.new.ensures.refused

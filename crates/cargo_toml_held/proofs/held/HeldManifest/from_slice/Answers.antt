@@ -10,6 +10,6 @@ pub returns-in-Ok : goal.returns-in-Ok
 returns-in-Ok c =
     holds_bytes (manifest_meaning view) (λ h. manifest_meaning view h.manifest.value)
     (manifest_reads any_tree) (ManifestRefuses any_tree AnyRefuses) c.in-Ok.manifest
-    c.boxed.result
-    (IfOk-weaker c.boxed.result _ _ (λ h same. ap (manifest_meaning view) same) c.boxed.ensures.same)
-    c.boxed.ensures.refused c.args.bytes.now c.in-Ok.ensures
+    c.new.result
+    (IfOk-weaker c.new.result _ _ (λ h same. ap (manifest_meaning view) same) c.new.ensures.same)
+    c.new.ensures.refused c.args.bytes.now c.in-Ok.ensures

@@ -2,3 +2,4 @@ mod Unfiltered
 mod AtLimit
 mod Kept
 mod Written
+mod First

@@ -1,6 +1,6 @@
 -- Which trees say who may rely on a package, and how that is written.
 use Rattle.std.specs.Prelude.{◌≡◌, ◌⊎◌, ℕ, List, codes, IsTrue, Option, Some}
-use Rattle.std.specs.Prelude.{None, option_and_then, if◌then◌else◌, IsUtf8, refl}
+use Rattle.std.specs.Prelude.{None, Err, option_and_then, if◌then◌else◌, IsUtf8, refl}
 use Rattle.std.proofs.Common.{sym, subst}
 use Rattle.std.specs.Str.{bytes_eq}
 use Rattle.toml.specs.Data.{Data, string, as_str}
@@ -10,7 +10,7 @@ use Rattle.cargo_toml.specs.Faults.{IsOther}
 use Rattle.cargo_toml.specs.Manifests.{ManifestMeaning, manifest_reads, ManifestRefuses}
 use Rattle.cargo_toml.specs.Texts.{document_reads, DocumentRefuses}
 use Rattle.cargo_toml.specs.Floats.{has_no_float}
-use Rattle.cargo_toml.specs.Writes.{Way, IsFloatless, never_left_out}
+use Rattle.cargo_toml.specs.Writes.{Way, IsFloatless, IsWriting, never_left_out}
 use Rattle.cargo_toml.specs.WrittenManifests.{manifest_way}
 use Rattle.cargo_toml_caller.specs.declared.audience.Audience.{Audience}
 use Rattle.cargo_toml_caller.specs.declared.audience.Audience.TheVariants.{Everyone, Team}
@@ -75,3 +75,11 @@ Refuses bytes e =
     ⊎ (IsUtf8 bytes
     × (document_reads (manifest_reads audience_reads) (parse_document bytes) ≡ None)
     × DocumentRefuses (ManifestRefuses audience_reads AudienceRefuses) (parse_document bytes) e)
+
+-- why no tree is written: the bytes are refused, or what they spell can't be written
+abbrev pub RefusesRewriting : List ℕ → Error → Type 0
+RefusesRewriting bytes e =
+    Refuses bytes e
+    ⊎ ((m : ManifestMeaning Audience)
+    × (document_reads (manifest_reads audience_reads) (parse_document bytes) ≡ Some m)
+    × IsWriting (manifest_way audience_way) m (Err e))

@@ -1,12 +1,12 @@
 //! Features that stand in no manifest.
-ghost use Rattle.std.specs.Prelude.{◌≡◌, IfErr, IfOk, map};
+ghost use Rattle.std.specs.Prelude.{◌≡◌, [], false, IfErr, IfOk, map};
 ghost use Rattle.cargo_toml.specs.Admitted.{Listed};
 ghost use Rattle.cargo_toml.specs.Agreement.{Agree};
 ghost use Rattle.cargo_toml.specs.Error.{Memory};
 ghost use Rattle.cargo_toml.specs.Hashed.{IsListingOf};
 ghost use Rattle.cargo_toml.specs.Limits.{MAX_ITEMS};
 ghost use Rattle.cargo_toml.specs.Manifests.{held};
-ghost use Rattle.cargo_toml.specs.Parsed.{parsed_entries};
+ghost use Rattle.cargo_toml.specs.Parsed.{IsAnswerFor, IsParsed, parsed_entries};
 ghost use Rattle.cargo_toml.specs.Views.{answer_of, entry_of};
 ghost use Rattle.cargo_toml_caller.specs.CustomFeatures.{IsNamed};
 
@@ -56,6 +56,11 @@ pub fn resolve_twice<'m: 'd, 'd, M, S: BuildHasher>(
         IsListingOf features.now m.features
         → map entry_of dependencies.now ≡ parsed_entries MAX_ITEMS m
         → Agree (answer_of r.0) (answer_of r.1)) }
+    ensures parsed { IfOk result
+        (λ r. IsParsed MAX_ITEMS (held manifest.now) (λ _. false) (answer_of r.0)) }
+    ensures custom { IfOk result (λ r. (listed : Listed) → IsListingOf features.now listed
+        → IsAnswerFor MAX_ITEMS listed (map entry_of dependencies.now) [] (λ _. []) (λ _. false)
+        (answer_of r.1)) }
     ensures refused { IfErr result (λ e. e ≡ Memory) }
 {
     let resolver = Resolver::new();

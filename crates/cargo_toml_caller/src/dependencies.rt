@@ -4,7 +4,7 @@ ghost use Rattle.cargo_toml.specs.Dependencies.{is_optional};
 ghost use Rattle.cargo_toml.specs.Error.{Memory};
 ghost use Rattle.cargo_toml.specs.Manifests.{held};
 ghost use Rattle.cargo_toml_caller.specs.Audiences.{Refuses};
-ghost use Rattle.cargo_toml_caller.specs.FirstDependencies.{first_under};
+ghost use Rattle.cargo_toml_caller.specs.FirstDependencies.{IsKindFrom, first_under};
 
 use crate::Audience;
 use cargo_toml::features::{Kind, Resolver};
@@ -16,6 +16,7 @@ use std::alloc::Global;
 ///
 /// Refuses as [`Manifest::from_slice_with_metadata`] does, with `Memory` where there was no room.
 pub fn kind_from(alloc: Global, bytes: &[u8], key: &str) -> Result<Option<Kind>, Error>
+    ensures answer { IfOk result (IsKindFrom bytes.now key.now) }
     ensures refused { IfErr result (Refuses bytes.now) }
 {
     let manifest: Manifest<Audience> = Manifest::from_slice_with_metadata(alloc, bytes)?;

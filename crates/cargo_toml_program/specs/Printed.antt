@@ -1,5 +1,5 @@
 -- Which texts are printed of the features of a manifest.
-use Rattle.std.specs.Prelude.{ℕ, List, Option, false}
+use Rattle.std.specs.Prelude.{◌≡◌, ◌⊎◌, ℕ, List, Option, Err, false}
 use Rattle.std.specs.Io.KnownBytes.{Appends, Consumes, IsAtEnd}
 use Rattle.std.specs.declared.hash.BuildHasherDefault.{BuildHasherDefault}
 use Rattle.std.specs.declared.hash.FoldHasher.{FoldHasher}
@@ -9,7 +9,10 @@ use Rattle.cargo_toml_features.specs.Views.{answer_of}
 use Rattle.cargo_toml_graph.specs.Action.{Text}
 use Rattle.cargo_toml_manifest.specs.declared.manifest.Manifest.{Manifest}
 use Rattle.cargo_toml_manifest.specs.Manifests.{held}
+use Rattle.cargo_toml_manifest.specs.Roots.{IsFromSlice}
+use Rattle.cargo_toml_parts.specs.declared.error.Error.{Error, Memory}
 use Rattle.cargo_toml_print.specs.Lines.{AreAllLines}
+use Rattle.cargo_toml_print.specs.Printing.{IsOfOutput}
 use Rattle.cargo_toml_resolver.specs.Parsed.{IsParsed}
 use Rattle.toml.specs.declared.value.Value.{Value}
 
@@ -29,3 +32,11 @@ pub record ArePrinted (limit : ℕ) (input rest output more : Option (List ℕ))
   pub whole : IsAtEnd rest
   pub lines : IsOfBytes (IsFeatureText limit) bytes text
   pub written : Appends output more text
+
+-- why printing fails: no memory, a fault of input or output, or that of the bytes which an input
+-- still had, read to its end
+abbrev pub IsPrintFault : Option (List ℕ) → Option (List ℕ) → Error → Type 0
+IsPrintFault input rest e =
+    (e ≡ Memory)
+    ⊎ (IsOfOutput e
+    ⊎ ((bytes : List ℕ) × Consumes input rest bytes × IsAtEnd rest × IsFromSlice bytes (Err e)))

@@ -5,7 +5,7 @@
 ghost use Rattle.std.specs.Prelude.{◌≤◌, IfErr, OnOk};
 ghost use Rattle.std.specs.Io.KnownBytes.{Keeps};
 ghost use Rattle.cargo_toml_print.specs.Printing.{IsOfManifest};
-ghost use Rattle.cargo_toml_program.specs.Printed.{ArePrinted};
+ghost use Rattle.cargo_toml_program.specs.Printed.{ArePrinted, IsPrintFault};
 
 pub use cargo_toml_command::{Command, Outcome, command, print_complete, print_completed};
 use cargo_toml_command::{Printer, text_of};
@@ -34,6 +34,8 @@ pub fn print_features<R: Read, W: Write>(
         (R.remaining input.new) (W.contents output.old) (W.contents output.new)) }
     ensures unwritten { IfErr result
         (λ e. IsOfManifest e → Keeps (W.contents output.old) (W.contents output.new)) }
+    ensures refused { IfErr result
+        (IsPrintFault (R.remaining input.old) (R.remaining input.new)) }
 {
     let mut bytes = Vec::new(alloc);
     input.read_to_end(&mut bytes)?;

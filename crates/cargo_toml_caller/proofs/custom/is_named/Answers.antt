@@ -1,4 +1,4 @@
-use Rattle.std.proofs.Common.{◌≡◌, ◌↔◌, Bool, true, false, List, [], map, IsTrue, Option, Some}
+use Rattle.std.proofs.Common.{◌≡◌, ◌↔◌, false, [], map, IsTrue, Some}
 use Rattle.std.proofs.Common.{None, is_some, sym, ap, ◌∙◌}
 use Rattle.std.proofs.lemmas.Bool.{false≢true}
 use Rattle.std.specs.HashMap.{HashMap}

@@ -1,9 +1,10 @@
-use Rattle.std.proofs.Common.{false, ap, sym, ◌∙◌, subst}
+use Rattle.std.proofs.Common.{[], map, false, ap, sym, ◌∙◌, subst}
 use Rattle.cargo_toml.specs.Filtered.{limit_of}
 use Rattle.cargo_toml.specs.Manifests.{manifest_meaning}
 use Rattle.cargo_toml.specs.OwnBins.{own_of}
 use Rattle.cargo_toml.specs.Parsed.{IsAnswerFor, parsed_entries, requirements}
-use Rattle.cargo_toml.specs.Views.{answer_of}
+use Rattle.cargo_toml.specs.Views.{answer_of, entry_of}
+use Rattle.cargo_toml_caller.proofs.AtLimit.{answered_at, parsed_at}
 use Rattle.cargo_toml_caller.proofs.Unfiltered.{keeps_none}
 use Rattle.cargo_toml_caller.proofs.custom.resolve_twice.Goals as goal
 
@@ -19,3 +20,18 @@ returns-clause-agree g c = λ is same.
     (c.in_ok-custom.ensures.agreement m.features is).by_test (λ _. false) m.feature_details own a
     tells (subst (λ es. IsAnswerFor limit m.features es m.feature_details own (λ _. false) a) (sym entries)
     (c.in_ok-parsed.ensures.resolved.told (λ _. false) tells))
+
+pub returns-clause-parsed : goal.returns-clause-parsed
+returns-clause-parsed g c =
+    let m = manifest_meaning (λ m. m) c.args.manifest.now in
+    let made = c.new-resolver.ensures in
+    let tells = keeps_none _ c.new-resolver.result.should_keep_hidden_feature made.unfiltered in
+    parsed_at (λ _. false) (answer_of c.in_ok-parsed.parsed) made.limit m
+    (c.in_ok-parsed.ensures.resolved.told (λ _. false) tells)
+
+pub returns-clause-custom : goal.returns-clause-custom
+returns-clause-custom g c = λ listed is.
+    let made = c.new-resolver.ensures in
+    let tells = keeps_none _ c.new-resolver.result.should_keep_hidden_feature made.unfiltered in
+    answered_at (λ _. false) (answer_of c.in_ok-custom.custom) made.limit
+    listed (map entry_of c.args.dependencies.now) [] (λ _. []) ((c.in_ok-custom.ensures.resolved listed is).told (λ _. false) tells)

@@ -1,20 +1,17 @@
-use Rattle.std.proofs.Common.{◌≡◌, List, [], ◌∷◌, option_map, false, Some, None, refl, sym, ap, subst, ◌∙◌}
+use Rattle.std.proofs.Common.{◌≡◌, List, option_map, false, Some, None, sym, ap, subst, ◌∙◌}
 use Rattle.std.specs.Option.{option_copied}
 use Rattle.cargo_toml.specs.Admitted.{admitted}
 use Rattle.cargo_toml.specs.Dependencies.{is_optional}
 use Rattle.cargo_toml.specs.Limits.{MAX_ITEMS}
 use Rattle.cargo_toml.specs.Manifests.{manifest_meaning}
 use Rattle.cargo_toml.specs.Parsed.{IsParsed, parsed_entries}
-use Rattle.cargo_toml.specs.Recorded.{Entry, entries_at, first_target, recorded_of}
+use Rattle.cargo_toml.specs.Recorded.{Entry, entries_at, recorded_of}
 use Rattle.cargo_toml.specs.Resolved.{SameRecorded}
 use Rattle.cargo_toml.specs.Views.{answer_of, recorded_in, value_at}
 use Rattle.cargo_toml_caller.proofs.AtLimit.{parsed_at}
+use Rattle.cargo_toml_caller.proofs.First.{none_first}
 use Rattle.cargo_toml_caller.proofs.Unfiltered.{keeps_none}
 use Rattle.cargo_toml_caller.proofs.dependencies.is_optional_at.Goals as goal
-
-none_first : (es : List Entry) → SameRecorded None (recorded_of es) → None ≡ first_target es
-none_first [] r = refl
-none_first (e ∷ es) r = absurd r
 
 pub returns-in_default-clause-answer : goal.returns-in_default-clause-answer
 returns-in_default-clause-answer g c =

@@ -6,8 +6,8 @@ use Rattle.cargo_toml_resolver.specs.Parsed.{IsParsed}
 use Rattle.cargo_toml_program.proofs.Unfiltered.{keeps_none}
 use Rattle.cargo_toml_program.proofs.FeaturePrinterPrinter.text.Goals as goal
 
-pub returns : goal.returns
-returns c =
+pub returns-clause-printed : goal.returns-clause-printed
+returns-clause-printed c =
     let limited = c.with_max_items-resolver.ensures in
     let tells = keeps_none _ c.with_max_items-resolver.result.should_keep_hidden_feature (limited.filter ∙ c.new.ensures.unfiltered) in
     let a = c.in_ok-parse.field-0 in

@@ -14,39 +14,11 @@ use Rattle.std.specs.Ordering.{nat_cmp}
 use Rattle.cargo_toml.specs.Action.{Text}
 use Rattle.cargo_toml.specs.Views.{set_has}
 
-module _ {A : Type 0} (hits : A → Bool) where
-  -- none is taken up yet
-  pub starts : (old : Bool) (left all : List A) → old ≡ false → left ≡ all
-      → (old || list_any hits left) ≡ list_any hits all
-  starts old left all none is = ap (λ t. t || list_any hits left) none ∙ ap (list_any hits) is
-
-  -- one element is taken up
-  pub goes_on : (old new : Bool) (x : A) (left rest : List A) (all : Bool) → left ≡ x ∷ rest → new
-      ≡ (old || hits x) →
-      (old || list_any hits left) ≡ all → (new || list_any hits rest) ≡ all
-  goes_on old new x left rest all is put before =
-      ap (λ t. t || list_any hits rest) put ∙ or_assoc old (hits x) (list_any hits rest)
-      ∙ ap (λ es. old || list_any hits es) (sym is) ∙ before
-
-  -- one element is passed over
-  pub passes : (old : Bool) (x : A) (left rest : List A) (all : Bool) → left ≡ x ∷ rest → hits x
-      ≡ false →
-      (old || list_any hits left) ≡ all → (old || list_any hits rest) ≡ all
-  passes old x left rest all is miss before =
-      ap (λ t. old || (t || list_any hits rest)) (sym miss)
-      ∙ ap (λ es. old || list_any hits es) (sym is) ∙ before
-
-  -- none is left
-  pub ends : (old : Bool) (left : List A) (all : Bool) → left ≡ [] → (old || list_any hits left)
-      ≡ all → old ≡ all
-  ends old left all none before = sym (or-false old) ∙ ap (λ es. old || list_any hits es) (sym none)
-      ∙ before
-
-  pub any_flat : {B : Type 0} (g : B → List A) (bs : List B) → list_any hits (flat_map g bs)
-      ≡ list_any (λ b. list_any hits (g b)) bs
-  any_flat g [] = refl
-  any_flat g (b ∷ bs) = list_any-append hits (g b) (flat_map g bs)
-      ∙ ap (λ t. list_any hits (g b) || t) (any_flat g bs)
+pub any_flat : {A B : Type 0} (hits : A → Bool) (g : B → List A) (bs : List B)
+    → list_any hits (flat_map g bs) ≡ list_any (λ b. list_any hits (g b)) bs
+any_flat hits g [] = refl
+any_flat hits g (b ∷ bs) = list_any-append hits (g b) (flat_map g bs)
+    ∙ ap (λ t. list_any hits (g b) || t) (any_flat hits g bs)
 
 -- some of the keys is f
 abbrev pub has_in : List (Bor Text) → Text → Bool
@@ -59,61 +31,82 @@ at_head k ks f e = elim (or_cases _ _ e) [
   | inr i ↦ inr i
 ]
 
--- of the keys that were passed, the set has those of which P holds
-pub record Gathers (P : Text → Type 0) (left : List (Bor Text))
+-- the set has what the keys that were passed give, where R tells what a key gives
+pub record Gathers (R : Text → Text → Type 0) (left : List (Bor Text))
     (s : BTreeSet (Bor Text)) : Type 0 where
-  pub sound : (f : Text) → IsTrue (set_has s f) → P f
-  pub complete : (f : Text) → P f → IsTrue (set_has s f) ⊎ IsTrue (has_in left f)
+  pub sound : (x : Text) → IsTrue (set_has s x) → (k : Text) × R k x
+  pub complete : (x k : Text) → R k x → IsTrue (set_has s x) ⊎ IsTrue (has_in left k)
 
-module _ (P : Text → Type 0) where
+module _ (R : Text → Text → Type 0) where
   pub begun : (ks all : List (Bor Text)) (s : BTreeSet (Bor Text)) → ks ≡ all → s.keys ≡ []
-      → ((f : Text) → P f → IsTrue (has_in all f)) → Gathers P ks s
+      → ((x k : Text) → R k x → IsTrue (has_in all k)) → Gathers R ks s
   begun ks all s is none each = record {
-    sound = λ f h. absurd (false≢true (ap (λ xs. has_in xs f) (sym none) ∙ h));
-    complete = λ f p. inr (ap (λ xs. has_in xs f) is ∙ each f p);
+    sound = λ x h. absurd (false≢true (ap (λ xs. has_in xs x) (sym none) ∙ h));
+    complete = λ x k r. inr (ap (λ xs. has_in xs k) is ∙ each x k r);
   }
 
   pub skipped : (k : Bor Text) (left rest : List (Bor Text)) (s : BTreeSet (Bor Text)) → left
-      ≡ k ∷ rest → ¬ P k.now → Gathers P left s → Gathers P rest s
+      ≡ k ∷ rest → ((x : Text) → ¬ R k.now x) → Gathers R left s → Gathers R rest s
   skipped k left rest s is miss g = record {
     sound = g.sound;
-    complete = λ f p. elim (g.complete f p) [
+    complete = λ x f r. elim (g.complete x f r) [
       | inl h ↦ inl h
       | inr i ↦ elim (at_head k rest f (ap (λ xs. has_in xs f) (sym is) ∙ i)) [
-        | inl e ↦ absurd (miss (subst P e p))
+        | inl e ↦ absurd (miss x (subst (λ q. R q x) e r))
         | inr j ↦ inr j
       ]
     ];
   }
 
   pub taken : (k : Bor Text) (left rest : List (Bor Text)) (s n : BTreeSet (Bor Text)) → left
-      ≡ k ∷ rest → P k.now →
-      ((x : Text) → set_has n x ≡ (set_has s x || bytes_eq x k.now)) → Gathers P left s
-      → Gathers P rest n
-  taken k left rest s n is hit put g = record {
-    sound = λ f h. elim (or_cases (set_has s f) (bytes_eq f k.now) (sym (put f) ∙ h)) [
-      | inl old ↦ g.sound f old
-      | inr e ↦ subst P (sym ((bytes_eq-Decides f k.now).0 e)) hit
-    ];
-    complete = λ f p. elim (g.complete f p) [
-      | inl h ↦ inl (put f ∙ or_left (set_has s f) (bytes_eq f k.now) h)
+      ≡ k ∷ rest →
+      ((x : Text) → IsTrue (set_has n x) ↔ (IsTrue (set_has s x) ⊎ R k.now x)) → Gathers R left s
+      → Gathers R rest n
+  taken k left rest s n is put g = record {
+    sound = λ x h. elim ((put x).0 h) [ inl o ↦ g.sound x o | inr r ↦ (k.now, r) ];
+    complete = λ x f r. elim (g.complete x f r) [
+      | inl h ↦ inl ((put x).1 (inl h))
       | inr i ↦ elim (at_head k rest f (ap (λ xs. has_in xs f) (sym is) ∙ i)) [
-        | inl e ↦ inl (put f ∙ or_right (set_has s f) (bytes_eq f k.now)
-            ((bytes_eq-Decides f k.now).1 e))
+        | inl e ↦ inl ((put x).1 (inr (subst (λ q. R q x) e r)))
         | inr j ↦ inr j
       ]
     ];
   }
 
-  pub gathered : (left : List (Bor Text)) (s : BTreeSet (Bor Text)) → left ≡ [] → Gathers P left s
-      → (f : Text) → IsTrue (set_has s f) ↔ P f
-  gathered left s none g f = (
-    g.sound f,
-    λ p. elim (g.complete f p) [
+  pub gathered : (left : List (Bor Text)) (s : BTreeSet (Bor Text)) → left ≡ [] → Gathers R left s
+      → (x : Text) → IsTrue (set_has s x) ↔ ((k : Text) × R k x)
+  gathered left s none g x = (
+    g.sound x,
+    λ r. elim (g.complete x r.0 r.1) [
       | inl h ↦ h
-      | inr i ↦ absurd (false≢true (sym (ap (λ xs. has_in xs f) none) ∙ i))
+      | inr i ↦ absurd (false≢true (sym (ap (λ xs. has_in xs r.0) none) ∙ i))
     ],
   )
+
+-- a key gives itself, where P holds of it
+abbrev pub Itself : (Text → Type 0) → Text → Text → Type 0
+Itself P k x = P k × (x ≡ k)
+
+pub itself_put : (P : Text → Type 0) (k : Text) (s n : BTreeSet (Bor Text)) → P k
+    → ((x : Text) → set_has n x ≡ (set_has s x || bytes_eq x k)) → (x : Text)
+    → IsTrue (set_has n x) ↔ (IsTrue (set_has s x) ⊎ Itself P k x)
+itself_put P k s n hit put x = (
+  λ h. elim (or_cases (set_has s x) (bytes_eq x k) (sym (put x) ∙ h)) [
+    | inl o ↦ inl o
+    | inr e ↦ inr (hit, (bytes_eq-Decides x k).0 e)
+  ],
+  elim [
+    | inl o ↦ put x ∙ or_left (set_has s x) (bytes_eq x k) o
+    | inr r ↦ put x ∙ or_right (set_has s x) (bytes_eq x k) ((bytes_eq-Decides x k).1 r.1)
+  ],
+)
+
+pub itself_given : (P : Text → Type 0) (x : Text) {b : Bool} → IsTrue b ↔ ((k : Text) × Itself P k x)
+    → IsTrue b ↔ P x
+itself_given P x h = (
+  λ y. let r = h.0 y in subst P (sym r.1.1) r.1.0,
+  λ p. h.1 (x, (p, refl)),
+)
 
 -- ---- one step of a loop
 -- a key is put into a set where the test holds
@@ -152,17 +145,6 @@ pub no_hit : (start before old hit now : Bool) → old ≡ (start || before) →
     ≡ (before || hit) → old ≡ (start || now)
 no_hit start before old hit now had miss is = had
     ∙ ap (λ b. start || b) (sym (is ∙ ap (λ b. before || b) miss ∙ or-false before))
-
--- a test of an early answer over what is left
-pub hit_settles : {A : Type 0} (p : A → Bool) (x : A) (left rest : List A) (all : Bool) → left
-    ≡ x ∷ rest → p x ≡ true → list_any p left ≡ all → all ≡ true
-hit_settles p x left rest all is hit before = sym before ∙ ap (list_any p) is
-    ∙ or_left (p x) (list_any p rest) hit
-
-pub miss_passes : {A : Type 0} (p : A → Bool) (x : A) (left rest : List A) (all : Bool) → left
-    ≡ x ∷ rest → p x ≡ false → list_any p left ≡ all → list_any p rest ≡ all
-miss_passes p x left rest all is miss before = ap (λ b. b || list_any p rest) (sym miss)
-    ∙ ap (list_any p) (sym is) ∙ before
 
 -- whether an iterator over what is left has nothing to give
 pub none_left : {K : Type 0} (ks rest : List K) (r : Option K) (none : Bool) → is_some r ≡ not none

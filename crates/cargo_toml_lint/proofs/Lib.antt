@@ -1,4 +1,5 @@
 pub mod Gathered
+pub mod Chosen
 pub mod Items
 pub mod Added
 pub mod Names

@@ -15,7 +15,7 @@ use Rattle.cargo_toml.specs.Reached.{AreEnabled, ComeFrom, Found}
 use Rattle.cargo_toml.specs.Recursive.{Enables}
 use Rattle.cargo_toml.specs.Views.{set_has, resolution_of, table_in, value_at}
 use Rattle.cargo_toml_lint.specs.Findings.{IsUnreachable, is_hidden}
-use Rattle.cargo_toml_lint.specs.Steps.{IsReached, IsRing}
+use Rattle.cargo_toml_lint.specs.Steps.{IsReached, IsRing, Leads}
 use Rattle.cargo_toml_lint.proofs.Gathered.{at_head, has_in}
 
 -- an element that passes
@@ -141,58 +141,15 @@ module _ {S : Type 0} (m : HashMap (Bor Text) Feature S) where
     ],
   )
 
--- of the kept features that were passed, what they enable is reached
-pub record Reaching (t : Table) (left : List (Bor Text)) (s : BTreeSet (Bor Text)) : Type 0 where
-  pub sound : (x : Text) → IsTrue (set_has s x) → IsReached t x
-  pub complete : (x k : Text) → IsTrue (t.has k) → IsFalse (is_hidden k) → Enables t k x
-      → IsTrue (set_has s x) ⊎ IsTrue (has_in left k)
-
 module _ (t : Table) where
-  pub reach_begun : (ks all : List (Bor Text)) (s : BTreeSet (Bor Text)) → ks ≡ all → s.keys ≡ []
-      → ((f : Text) → IsTrue (t.has f) → IsTrue (has_in all f)) → Reaching t ks s
-  reach_begun ks all s is none each = record {
-    sound = λ x h. absurd (false≢true (ap (λ xs. has_in xs x) (sym none) ∙ h));
-    complete = λ x k h p e. inr (ap (λ xs. has_in xs k) is ∙ each k h);
-  }
-
-  pub reach_skipped : (k : Bor Text) (left rest : List (Bor Text)) (s : BTreeSet (Bor Text)) → left
-      ≡ k ∷ rest → IsTrue (is_hidden k.now) → Reaching t left s → Reaching t rest s
-  reach_skipped k left rest s is hidden g = record {
-    sound = g.sound;
-    complete = λ x f h p e. elim (g.complete x f h p e) [
-      | inl o ↦ inl o
-      | inr i ↦ elim (at_head k rest f (ap (λ xs. has_in xs f) (sym is) ∙ i)) [
-        | inl s ↦ absurd (false≢true (sym p ∙ ap is_hidden s ∙ hidden))
-        | inr j ↦ inr j
-      ]
-    ];
-  }
-
-  pub reach_more : (k : Bor Text) (left rest : List (Bor Text)) (s n : BTreeSet (Bor Text)) → left
-      ≡ k ∷ rest → IsFalse (is_hidden k.now) →
-      ((x : Text) → IsTrue (set_has n x)
-      ↔ (IsTrue (set_has s x) ⊎ (IsTrue (t.has k.now) × Enables t k.now x)))
-      → Reaching t left s → Reaching t rest n
-  reach_more k left rest s n is kept put g = record {
-    sound = λ x h. elim ((put x).0 h) [ inl o ↦ g.sound x o | inr e ↦ (k.now, e.0, kept, e.1) ];
-    complete = λ x f h p e. elim (g.complete x f h p e) [
-      | inl o ↦ inl ((put x).1 (inl o))
-      | inr i ↦ elim (at_head k rest f (ap (λ xs. has_in xs f) (sym is) ∙ i)) [
-        | inl s ↦ inl ((put x).1
-            (inr (subst (λ q. IsTrue (t.has q)) s h, subst (λ q. Enables t q x) s e)))
-        | inr j ↦ inr j
-      ]
-    ];
-  }
-
-  pub all_reached : (left : List (Bor Text)) (s : BTreeSet (Bor Text)) → left ≡ []
-      → Reaching t left s → (x : Text) → IsTrue (set_has s x) ↔ IsReached t x
-  all_reached left s none g x = (
-    g.sound x,
-    λ r. elim (g.complete x r.0 r.1 r.2 r.3) [
-      | inl h ↦ h
-      | inr i ↦ absurd (false≢true (sym (ap (λ xs. has_in xs r.0) none) ∙ i))
-    ],
+  -- what one more feature enables, which isn't hidden
+  pub leads_more : (k : Text) (s n : BTreeSet (Bor Text)) → IsFalse (is_hidden k)
+      → ((x : Text) → IsTrue (set_has n x)
+      ↔ (IsTrue (set_has s x) ⊎ (IsTrue (t.has k) × Enables t k x)))
+      → (x : Text) → IsTrue (set_has n x) ↔ (IsTrue (set_has s x) ⊎ Leads t k x)
+  leads_more k s n kept put x = (
+    λ h. elim ((put x).0 h) [ inl o ↦ inl o | inr e ↦ inr (e.0, kept, e.1) ],
+    elim [ inl o ↦ (put x).1 (inl o) | inr e ↦ (put x).1 (inr (e.0, e.2)) ],
   )
 
   -- a feature that is hidden and not reached
@@ -207,11 +164,11 @@ module _ (t : Table) where
           known = p.0;
           hidden = q.0;
           left_alone = λ k h kept e. false≢true
-              (sym (not-true (set_has s f) q.1) ∙ (reached f).1 (k, h, kept, e));
+              (sym (not-true (set_has s f) q.1) ∙ (reached f).1 (k, (h, kept, e)));
         },
     λ u. is ∙ and_from (t.has f) (is_hidden f && not (set_has s f)) u.known
         (and_from (is_hidden f) (not (set_has s f)) u.hidden
         (not_from_false (set_has s f)
         (false_from_ne_true (set_has s f)
-        (λ e. let r = (reached f).0 e in u.left_alone r.0 r.1 r.2 r.3)))),
+        (λ e. let r = (reached f).0 e in u.left_alone r.0 r.1.0 r.1.1 r.1.2)))),
   )

@@ -38,9 +38,12 @@ abbrev pub IsRing : Resolution → Text → Type 0
 IsRing m f =
     (h : Text) × IsTrue (m.enabled_by f h) × Enables m.table f h × IsTrue (m.table.names h f)
 
--- some feature of the table that isn't hidden enables x
+-- k is a feature of the table that isn't hidden, and enables x
+abbrev pub Leads : Table → Text → Text → Type 0
+Leads t k x = IsTrue (t.has k) × IsFalse (is_hidden k) × Enables t k x
+
 abbrev pub IsReached : Table → Text → Type 0
-IsReached t x = (k : Text) × IsTrue (t.has k) × IsFalse (is_hidden k) × Enables t k x
+IsReached t x = (k : Text) × Leads t k x
 
 module _ {S : Type 0} (m : HashMap (Bor Text) Feature S) where
   abbrev pub explicit_at : Text → Bool

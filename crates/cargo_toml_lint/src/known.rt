@@ -45,12 +45,12 @@ fn add_table<'m>(
     ensures { OnOk result ((k : Text) → set_has keys.new k ≡ (set_has keys.old k
         || has_entry (tried are_all) k (map_meaning dependency_meaning table.now))) }
 {
-    for (key, dependency) in table {
-        if is_tried(are_all, dependency) {
-            keys.insert(key.as_str())?;
-        }
-    }
-    Ok(())
+    keys.extend(
+        table
+            .iter()
+            .filter(|(_, dependency)| is_tried(are_all, *dependency))
+            .map(|(key, _)| key.as_str()),
+    )
 }
 
 // Adds those of the tables of a target.

@@ -16,9 +16,9 @@ ghost use Rattle.cargo_toml_lint.specs.Steps.{AreAllTold, AreWarnings, HoldsIn};
 
 use crate::adding::add_findings;
 use crate::finding::{Code, Finding};
-use crate::graph::{FeatureMap, implied, private_default};
+use crate::graph::{FeatureMap, is_implied, is_private_default, those};
 use crate::known::{Known, known_names};
-use crate::lists::{not_optional, over_limit, same_name, unknown};
+use crate::lists::{Fault, is_same_name, over_limit, unknown, with_fault};
 use crate::walks::{cyclic, unreachable};
 use cargo_toml::features::{Features, Resolver};
 use cargo_toml::{Error, Manifest, Product};
@@ -66,9 +66,9 @@ fn add_errors<'m, S: BuildHasher>(
     ensures told { OnOk result (AreAllTold findings.old.items → AreAllTold findings.new.items) }
 {
     let alloc = *findings.allocator();
-    let not_optional = not_optional(alloc, known)?;
+    let not_optional = with_fault(alloc, known, Fault::NotOptional)?;
     add_findings(findings, Code::NotOptional, &not_optional)?;
-    let same_name = same_name(alloc, known)?;
+    let same_name = those(alloc, &known.optional, |name| is_same_name(known, name))?;
     add_findings(findings, Code::SameName, &same_name)?;
     let unknown = unknown(alloc, known, features, bins)?;
     add_findings(findings, Code::Unknown, &unknown)
@@ -86,9 +86,9 @@ fn add_hints<'m, S: BuildHasher>(
     ensures told { OnOk result (AreAllTold findings.old.items → AreAllTold findings.new.items) }
 {
     let alloc = *findings.allocator();
-    let implied = implied(alloc, names, features)?;
+    let implied = those(alloc, names, |name| is_implied(features, name))?;
     add_findings(findings, Code::Implied, &implied)?;
-    let private_default = private_default(alloc, names, features)?;
+    let private_default = those(alloc, names, |name| is_private_default(features, name))?;
     add_findings(findings, Code::PrivateDefault, &private_default)
 }
 

@@ -1,5 +1,5 @@
 //! What is found of the lists of features, and of what binaries require.
-ghost use Rattle.std.specs.Prelude.{◌≡◌, ◌↔◌, ◌&&◌, ◌||◌, IfOk, IsTrue, OnOk};
+ghost use Rattle.std.specs.Prelude.{◌≡◌, ◌&&◌, ◌||◌, IfOk, OnOk};
 ghost use Rattle.std.specs.Prelude.{length, map, nat_lt, not, string_bytes};
 ghost use Rattle.std.specs.List.{list_any};
 ghost use Rattle.cargo_toml.specs.Action.{Text, item_of};
@@ -8,16 +8,26 @@ ghost use Rattle.cargo_toml.specs.Views.{set_has, table_in};
 ghost use Rattle.cargo_toml_lint.specs.Findings.{asks_for, has_same_name, is_missing};
 ghost use Rattle.cargo_toml_lint.specs.Findings.{is_not_optional, is_required, is_unknown};
 ghost use Rattle.cargo_toml_lint.specs.Known.{lists, says};
-ghost use Rattle.cargo_toml_lint.specs.Names.{listed_by, held_names};
+ghost use Rattle.cargo_toml_lint.specs.Names.{at_fault, held_names, listed_by};
 ghost use Rattle.cargo_toml_lint.specs.Steps.{explicit_at, over_at};
 
 use crate::graph::FeatureMap;
 use crate::known::Known;
 use cargo_toml::Product;
+use cargo_toml::features::Feature;
 use cargo_toml_features::action::read_action;
 use std::alloc::{AllocError, Global};
-use std::collections::BTreeSet;
+use std::collections::{BTreeSet, HashMap};
 use std::hash::BuildHasher;
+
+/// What may be wrong with a text of a list.
+#[derive(Clone, Copy)]
+pub(crate) enum Fault {
+    /// It acts by `dep:` or `?` on a dependency that isn't optional.
+    NotOptional,
+    /// It names or acts on what isn't there.
+    Unknown,
+}
 
 // Whether the text names what is neither a feature nor an optional dependency, or acts on no
 // dependency.
@@ -65,73 +75,47 @@ fn is_missing<S: BuildHasher>(known: &Known<'_>, features: &FeatureMap<'_, S>, t
     }
 }
 
-fn has_unknown(known: &Known<'_>, texts: &[String]) -> bool
-    ensures { result ≡ says (is_unknown (held_names known.now)) (map string_bytes texts.now) }
+// Whether the text has the fault.
+fn is_at_fault(known: &Known<'_>, fault: Fault, text: &str) -> bool
+    ensures { result ≡ at_fault fault (held_names known.now) (item_of text.now) }
 {
-    texts.iter().any(|text| is_unknown(known, text.as_str()))
+    match fault {
+        Fault::NotOptional => is_not_optional(known, text),
+        Fault::Unknown => is_unknown(known, text),
+    }
 }
 
-fn has_not_optional(known: &Known<'_>, texts: &[String]) -> bool
-    ensures { result ≡ says (is_not_optional (held_names known.now)) (map string_bytes texts.now) }
+// Whether one of the texts has the fault.
+fn is_one_at_fault(known: &Known<'_>, fault: Fault, texts: &[String]) -> bool
+    ensures { result ≡ says (at_fault fault (held_names known.now)) (map string_bytes texts.now) }
 {
     texts
         .iter()
-        .any(|text| is_not_optional(known, text.as_str()))
+        .any(|text| is_at_fault(known, fault, text.as_str()))
 }
 
-/// The features with `dep:d` or `d?/f`, where `d` is a dependency that isn't optional.
-pub(crate) fn not_optional<'m>(
+/// The features whose lists have a text with the fault.
+pub(crate) fn with_fault<'m>(
     alloc: Global,
     known: &Known<'m>,
+    fault: Fault,
 ) -> Result<BTreeSet<&'m str>, AllocError>
     ensures { IfOk result (λ s. (f : Text) → set_has s f
-        ≡ lists (listed_by known.now) (is_not_optional (held_names known.now)) f) }
+        ≡ lists (listed_by known.now) (at_fault fault (held_names known.now)) f) }
 {
-    let mut names = BTreeSet::new(alloc);
-    for (name, texts) in known.features {
-        if has_not_optional(known, texts.as_slice()) {
-            names.insert(name.as_str())?;
-        }
-    }
-    Ok(names)
+    known
+        .features
+        .iter()
+        .filter(|(_, texts)| is_one_at_fault(known, fault, texts.as_slice()))
+        .map(|(name, _)| name.as_str())
+        .collect(alloc)
 }
 
-// Whether a feature and an optional dependency have the name, which no action names by `dep:`.
-fn is_same_name(known: &Known<'_>, name: &str) -> bool
+/// Whether a feature and an optional dependency have the name, which no action names by `dep:`.
+pub(crate) fn is_same_name(known: &Known<'_>, name: &str) -> bool
     ensures { result ≡ has_same_name (held_names known.now) name.now }
 {
     known.lists(name) && known.optional.contains(name) && !known.reserved.contains(name)
-}
-
-/// The listed features with the name of an optional dependency that no action names by `dep:`.
-pub(crate) fn same_name<'m>(
-    alloc: Global,
-    known: &Known<'m>,
-) -> Result<BTreeSet<&'m str>, AllocError>
-    ensures { IfOk result (λ s. (f : Text) → IsTrue (set_has s f)
-        ↔ IsTrue (has_same_name (held_names known.now) f)) }
-{
-    let mut names = BTreeSet::new(alloc);
-    for name in &known.optional {
-        if is_same_name(known, *name) {
-            names.insert(*name)?;
-        }
-    }
-    Ok(names)
-}
-
-// The features whose lists have what the manifest doesn't.
-fn naming_unknown<'m>(alloc: Global, known: &Known<'m>) -> Result<BTreeSet<&'m str>, AllocError>
-    ensures { IfOk result (λ s. (f : Text) → set_has s f
-        ≡ lists (listed_by known.now) (is_unknown (held_names known.now)) f) }
-{
-    let mut names = BTreeSet::new(alloc);
-    for (name, texts) in known.features {
-        if has_unknown(known, texts.as_slice()) {
-            names.insert(name.as_str())?;
-        }
-    }
-    Ok(names)
 }
 
 // Adds what the texts that a binary requires have and the manifest doesn't.
@@ -167,7 +151,7 @@ pub(crate) fn unknown<'m, S: BuildHasher>(
         || is_required (held_names known.now) (table_in features.now).has
         (map product_meaning bins.now) f)) }
 {
-    let mut names = naming_unknown(alloc, known)?;
+    let mut names = with_fault(alloc, known, Fault::Unknown)?;
     for bin in bins {
         add_missing(
             &mut names,
@@ -180,7 +164,7 @@ pub(crate) fn unknown<'m, S: BuildHasher>(
 }
 
 // Whether the resolved features have one of the name that the manifest lists.
-fn is_explicit<S: BuildHasher>(features: &FeatureMap<'_, S>, name: &str) -> bool
+fn is_explicit<S: BuildHasher>(features: &HashMap<&str, Feature<'_>, S>, name: &str) -> bool
     ensures { result ≡ explicit_at features.now name.now }
 {
     match features.get(name) {
@@ -191,7 +175,7 @@ fn is_explicit<S: BuildHasher>(features: &FeatureMap<'_, S>, name: &str) -> bool
 
 // Whether the limit left out the name, or some of its actions.
 fn is_over<S: BuildHasher>(
-    features: &FeatureMap<'_, S>,
+    features: &HashMap<&str, Feature<'_>, S>,
     name: &str,
     texts: &[String],
     limit: usize,
@@ -212,12 +196,10 @@ pub(crate) fn over_limit<'m, S: BuildHasher>(
     ensures { IfOk result (λ s. (f : Text) → set_has s f
         ≡ over_at features.now limit (listed_by known.now) f) }
 {
-    let mut names = BTreeSet::new(alloc);
-    for (name, texts) in known.features {
-        let name = name.as_str();
-        if is_over(features, name, texts.as_slice(), limit) {
-            names.insert(name)?;
-        }
-    }
-    Ok(names)
+    known
+        .features
+        .iter()
+        .filter(|(name, texts)| is_over(features, name.as_str(), texts.as_slice(), limit))
+        .map(|(name, _)| name.as_str())
+        .collect(alloc)
 }

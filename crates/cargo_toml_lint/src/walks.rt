@@ -11,7 +11,7 @@ ghost use Rattle.cargo_toml.specs.Views.{set_has, resolution_of, table_in, value
 ghost use Rattle.cargo_toml_lint.specs.Findings.{IsUnreachable, is_hidden};
 ghost use Rattle.cargo_toml_lint.specs.Steps.{IsReached, IsRing};
 
-use crate::graph::{FeatureMap, is_hidden};
+use crate::graph::{FeatureMap, is_hidden, those};
 use cargo_toml::Error;
 use cargo_toml::features::Feature;
 use std::alloc::{AllocError, Global};
@@ -42,12 +42,10 @@ fn is_named_back<S: BuildHasher>(
         (λ k. option_map_or (λ v. set_has v.now.enables_features feature.now.key.now)
         (value_at enabled.now k.now) false) feature.now.enabled_by.keys }
 {
-    for other in &feature.enabled_by {
-        if names_back(enabled, *other, feature.key) {
-            return true;
-        }
-    }
-    false
+    feature
+        .enabled_by
+        .iter()
+        .any(|other| names_back(enabled, *other, feature.key))
 }
 
 // Whether the feature of this name enables itself through others, by names.
@@ -96,10 +94,7 @@ fn add_names<'m, S: BuildHasher>(
     ensures { OnOk result ((x : Text) → set_has reached.new x
         ≡ (set_has reached.old x || is_some (value_at enabled.now x))) }
 {
-    for name in enabled.keys() {
-        reached.insert(*name)?;
-    }
-    Ok(())
+    reached.extend(enabled.keys().copied())
 }
 
 // Adds the features that the one of this name enables, by names.
@@ -146,7 +141,7 @@ fn reached_by_users<'m, S: BuildHasher + Clone>(
 
 // Whether the feature of this name is hidden, and not among those that are reached.
 fn is_left_alone<S: BuildHasher>(
-    features: &FeatureMap<'_, S>,
+    features: &HashMap<&str, Feature<'_>, S>,
     reached: &BTreeSet<&str>,
     name: &str,
 ) -> bool
@@ -169,11 +164,7 @@ pub(crate) fn unreachable<'m, S: BuildHasher + Clone>(
     ensures refused { IfErr result (λ e. e ≡ Memory) }
 {
     let reached = reached_by_users(alloc, names, features)?;
-    let mut found = BTreeSet::new(alloc);
-    for name in names {
-        if is_left_alone(features, &reached, *name) {
-            found.insert(*name)?;
-        }
-    }
-    Ok(found)
+    Ok(those(alloc, names, |name| {
+        is_left_alone(features, &reached, name)
+    })?)
 }

@@ -1,37 +1,22 @@
-use Rattle.std.proofs.Common.{Bool, map, string_bytes, ap}
-use Rattle.std.proofs.lemmas.Map.Iter.{rest_more, rest_all}
-use Rattle.std.specs.Map.Iter.{deref_pair}
+use Rattle.std.proofs.Common.{Bool, Global, String, string_bytes, rules, tests}
+use Rattle.std.proofs.lemmas.Iterator.{YieldsList-from_map_by}
+use Rattle.std.proofs.lemmas.Iterator.Consumers.{YieldsList-at, YieldsList-from_filter, YieldsList-from_rest}
 use Rattle.cargo_toml.specs.Action.{Text}
 use Rattle.cargo_toml.specs.Dependencies.{DependencyMeaning, dependency_meaning}
-use Rattle.cargo_toml.specs.Views.{set_has}
+use Rattle.cargo_toml_dependencies.specs.declared.dependency.Dependency.{Dependency}
 use Rattle.cargo_toml_lint.specs.Names.{tried}
-use Rattle.cargo_toml_lint.proofs.Gathered.{ends}
-use Rattle.cargo_toml_lint.proofs.Tables.{entry_passed, entry_put, put_key}
+use Rattle.cargo_toml_lint.proofs.Chosen.{extended, told}
 use Rattle.cargo_toml_lint.proofs.known.add_table.Goals as goal
 
-pub loop-key-preserved-in_ok-insert : goal.loop-key-preserved-in_ok-insert
-loop-key-preserved-in_ok-insert c = λ f.
-    let test : Text × DependencyMeaning → Bool = λ e. tried c.args.are_all e.1 in
-    entry_put dependency_meaning test f _ _ c.in-Some.key.now c.in-Some.dependency.now
-    (rest_more deref_pair _ _ _
-    (c.in-Some.key, c.in-Some.dependency) c.in-Some.is c.next.ensures.steps) c.is_tried.result
-    c.is_tried.ensures _ c.if-is_tried.true (set_has c.loop-key.keys f)
-    (set_has c.insert.new.self f)
-    (put_key c.as_str.result.now
-    (string_bytes c.in-Some.key.now) c.loop-key.keys c.insert.new.self c.as_str.ensures.value
-    c.in_ok-insert.ensures.updates f)
-    (c.loop-key.invariant f)
-
-pub loop-key-preserved : goal.loop-key-preserved
-loop-key-preserved c = λ f.
-    let test : Text × DependencyMeaning → Bool = λ e. tried c.args.are_all e.1 in
-    entry_passed dependency_meaning test f _ _ c.in-Some.key.now c.in-Some.dependency.now
-    (rest_more deref_pair _ _ _
-    (c.in-Some.key, c.in-Some.dependency) c.in-Some.is c.next.ensures.steps) c.is_tried.result
-    c.is_tried.ensures _ c.if-is_tried.false (set_has c.loop-key.keys f) (c.loop-key.invariant f)
-
 pub returns : goal.returns
-returns c = λ f.
-    ends _ (set_has c.loop-key.keys f) _ _
-    (ap (map (λ e. (string_bytes e.0, dependency_meaning e.1)))
-    (rest_all deref_pair _ _ _ c.in-None.is c.next.ensures.steps)) (c.loop-key.invariant f)
+returns c =
+    let passes : Text × DependencyMeaning → Bool = λ e. tried c.args.are_all e.1 in
+    extended c.extend.result c.args.keys.now c.extend.new.self c.extend.ensures.ran
+    dependency_meaning passes c.args.table.now.entries
+    (YieldsList-from_map_by _ (λ k. k.now) (λ (e : String Global × Dependency). string_bytes e.0)
+    (YieldsList-at c.map.ensures.source
+    (YieldsList-from_filter _ (λ (e : String Global × Dependency).
+    passes (told dependency_meaning e))
+    (YieldsList-at c.filter.ensures.source (YieldsList-from_rest _ c.iter.ensures.rest))
+    c.filter.ensures.closure (λ x b q k. search (rules, tests))))
+    c.map.ensures.closure (λ x r q k. search (rules, tests)))

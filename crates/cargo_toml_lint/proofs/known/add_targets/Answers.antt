@@ -5,9 +5,9 @@ use Rattle.std.specs.Map.Iter.{deref}
 use Rattle.cargo_toml.specs.Targets.{TargetMeaning, target_meaning}
 use Rattle.cargo_toml.specs.Views.{set_has}
 use Rattle.cargo_toml_dependencies.specs.declared.target.Target.{Target}
+use Rattle.cargo_toml_features.proofs.Naming.{none_left, one_more}
 use Rattle.cargo_toml_lint.specs.Known.{has_entry, tables_in}
 use Rattle.cargo_toml_lint.specs.Names.{tried}
-use Rattle.cargo_toml_lint.proofs.Gathered.{ends, goes_on}
 use Rattle.cargo_toml_lint.proofs.Tables.{any_values}
 use Rattle.cargo_toml_lint.proofs.known.add_targets.Goals as goal
 
@@ -20,7 +20,7 @@ loop-target-init c = λ k.
 
 pub loop-target-preserved : goal.loop-target-preserved
 loop-target-preserved c = λ k.
-    goes_on (λ (t : Target). list_any (has_entry (tried c.args.are_all) k)
+    one_more (λ (t : Target). list_any (has_entry (tried c.args.are_all) k)
     (tables_in (target_meaning t))) (set_has c.loop-target.keys k)
     (set_has c.add_target.new.keys k) c.in-Some.target.now _ _ _
     (rest_more deref _ _ _ c.in-Some.target c.in-Some.is c.next.ensures.steps)
@@ -28,7 +28,7 @@ loop-target-preserved c = λ k.
 
 pub returns : goal.returns
 returns c = λ k.
-    ends (λ (t : Target). list_any (has_entry (tried c.args.are_all) k)
+    none_left (λ (t : Target). list_any (has_entry (tried c.args.are_all) k)
     (tables_in (target_meaning t))) (set_has c.loop-target.keys k) _ _
     (rest_all deref _ _ _ c.in-None.is c.next.ensures.steps) (c.loop-target.invariant k)
     ∙ ap (λ b. set_has c.args.keys.now k || b)

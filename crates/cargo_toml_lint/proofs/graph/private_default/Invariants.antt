@@ -1,9 +1,0 @@
-use Rattle.std.proofs.Common.{IsTrue}
-use Rattle.cargo_toml.specs.Action.{Text}
-use Rattle.cargo_toml_lint.specs.Steps.{private_default_at}
-use Rattle.cargo_toml_lint.proofs.Gathered.{Gathers}
-use Rattle.cargo_toml_lint.proofs.graph.private_default.Given as goal
-
-abbrev pub invariant-loop-name : goal.invariant-loop-name
-invariant-loop-name g l =
-    Gathers (λ (f : Text). IsTrue (private_default_at l.features f)) l.name-iterator l.found

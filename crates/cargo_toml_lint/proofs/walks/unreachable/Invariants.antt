@@ -1,7 +1,0 @@
-use Rattle.cargo_toml.specs.Views.{table_in}
-use Rattle.cargo_toml_lint.specs.Findings.{IsUnreachable}
-use Rattle.cargo_toml_lint.proofs.Gathered.{Gathers}
-use Rattle.cargo_toml_lint.proofs.walks.unreachable.Given as goal
-
-abbrev pub invariant-loop-name : goal.invariant-loop-name
-invariant-loop-name g l = Gathers (IsUnreachable (table_in l.features)) l.name-iterator l.found

@@ -18,6 +18,7 @@ use Rattle.cargo_toml_manifest.specs.Finding.{found_around, found_for, stated_by
 use Rattle.cargo_toml_manifest.specs.Installing.{installed, installed_if_there, taken}
 use Rattle.cargo_toml_manifest.specs.Manifests.{ManifestMeaning}
 use Rattle.cargo_toml_workspace.specs.declared.inheriting.NewParts.{NewParts}
+use Rattle.cargo_toml_manifest.proofs.StatedBy.{taken_keeps}
 
 -- what was found, and a refusal, by what is seen around the package
 module _ {M : Type 0} (m : ManifestMeaning M) (p : PackageMeaning M) (is : m.«package» ≡ Some p) where
@@ -48,10 +49,6 @@ taken_there : {M : Type 0} (p : PackageMeaning M) (new : Option NewFields) →
 taken_there p None = refl
 taken_there p (Some new) = refl
 
-wanted_taken : {M : Type 0} (p : PackageMeaning M) (new : Option NewFields) → wanted_by (taken p new) ≡ wanted_by p
-wanted_taken p None = refl
-wanted_taken p (Some new) = refl
-
 -- the same, once the package takes its fields
 module _ {M : Type 0} (m : ManifestMeaning M) (p : PackageMeaning M) (new : NewParts) (is : m.«package» ≡ Some p)
     (wanted : Wanted) (wants : wanted ≡ wanted_by p) where
@@ -60,7 +57,7 @@ module _ {M : Type 0} (m : ManifestMeaning M) (p : PackageMeaning M) (new : NewP
       ap (λ (o : Option (PackageMeaning M)). installed_if_there o new.«package») is ∙ taken_there p new.«package»
 
   wants_still : wanted ≡ wanted_by (taken p new.«package»)
-  wants_still = wants ∙ sym (wanted_taken p new.«package»)
+  wants_still = wants ∙ sym (taken_keeps p new.«package»).wanted
 
   pub parts_seen : (told : Name → Told) (answers : Answers) (d : Discovered) →
       around (filled told answers) wanted ≡ seen (around_in answers wanted) →

@@ -1,5 +1,5 @@
 -- What a manifest states whose package takes its fields.
-use Rattle.std.proofs.Common.{◌≡◌, sym, refl, false, Option, Some, None}
+use Rattle.std.proofs.Common.{◌≡◌, ◌∙◌, sym, refl, false, Option, Some, None}
 use Rattle.std.specs.Prelude.{unwrap_or}
 use Rattle.cargo_toml_parts.specs.InheritableValues.{value_of}
 use Rattle.cargo_toml_settings.specs.Settings.{flag}
@@ -11,44 +11,44 @@ use Rattle.cargo_toml_manifest.specs.Finding.{stated_by, wanted_by}
 use Rattle.cargo_toml_manifest.specs.Installing.{taken}
 use Rattle.cargo_toml_manifest.specs.Manifests.{ManifestMeaning}
 
-pub stated_so : {M : Type 0} (m : ManifestMeaning M) (p : PackageMeaning M) (new : Option NewFields) (s : StatedMeaning) →
+-- what a package keeps that takes its fields
+pub record Keeps {M : Type 0} (p q : PackageMeaning M) : Type 0 where
+  pub name : q.name ≡ p.name
+  pub autolib : q.autolib ≡ p.autolib
+  pub wanted : wanted_by q ≡ wanted_by p
+  pub build : q.build ≡ p.build
+
+pub taken_keeps : {M : Type 0} (p : PackageMeaning M) (new : Option NewFields) →
+    Keeps p (taken p new)
+taken_keeps p None = record { name = refl; autolib = refl; wanted = refl; build = refl }
+taken_keeps p (Some n) = record { name = refl; autolib = refl; wanted = refl; build = refl }
+
+pub stated_so : {M : Type 0} (m : ManifestMeaning M) (p : PackageMeaning M)
+    (new : Option NewFields) (s : StatedMeaning) →
     s.name ≡ p.name →
     s.edition ≡ unwrap_or (value_of (taken p new).edition) E2015 →
     s.autolib ≡ p.autolib →
     s.wanted ≡ wanted_by p →
-    s.lib ≡ m.lib →
-    s.bin ≡ m.bin →
-    s.example ≡ m.example →
-    s.test ≡ m.test →
-    s.bench ≡ m.bench →
-    s.build ≡ p.build →
-    s.readme ≡ unwrap_or (value_of (taken p new).readme) (flag false) →
+    s.stated.lib ≡ m.lib →
+    s.stated.bin ≡ m.bin →
+    s.stated.example ≡ m.example →
+    s.stated.test ≡ m.test →
+    s.stated.bench ≡ m.bench →
+    s.stated.build ≡ p.build →
+    s.stated.readme ≡ unwrap_or (value_of (taken p new).readme) (flag false) →
     s ≡ stated_by m (taken p new)
-stated_so m p None s name edition autolib wanted lib bin example test bench build readme =
+stated_so m p new s name edition autolib wanted lib bin example test bench build readme =
+    let keeps = taken_keeps p new in
     rw (
-      sym name,
+      keeps.name ∙ sym name,
       sym edition,
-      sym autolib,
-      sym wanted,
+      keeps.autolib ∙ sym autolib,
+      keeps.wanted ∙ sym wanted,
       sym lib,
       sym bin,
       sym example,
       sym test,
       sym bench,
-      sym build,
-      sym readme,
-    ) refl
-stated_so m p (Some n) s name edition autolib wanted lib bin example test bench build readme =
-    rw (
-      sym name,
-      sym edition,
-      sym autolib,
-      sym wanted,
-      sym lib,
-      sym bin,
-      sym example,
-      sym test,
-      sym bench,
-      sym build,
+      keeps.build ∙ sym build,
       sym readme,
     ) refl

@@ -31,13 +31,15 @@ stated_by m p = record {
   edition = unwrap_or (value_of p.edition) E2015;
   autolib = p.autolib;
   wanted = wanted_by p;
-  lib = m.lib;
-  bin = m.bin;
-  example = m.example;
-  test = m.test;
-  bench = m.bench;
-  build = p.build;
-  readme = unwrap_or (value_of p.readme) (flag false);
+  stated = record {
+    lib = m.lib;
+    bin = m.bin;
+    example = m.example;
+    test = m.test;
+    bench = m.bench;
+    build = p.build;
+    readme = unwrap_or (value_of p.readme) (flag false);
+  };
 }
 
 -- the manifest with this package, and what was found

@@ -1,8 +1,4 @@
-use Rattle.std.specs.Prelude.{option_map}
-use Rattle.std.specs.Option.{option_copied}
 use Rattle.std.proofs.lemmas.Result.{err_from_is_err_and}
-use Rattle.cargo_toml_dependencies.specs.Dependencies.{dependency_meaning}
-use Rattle.cargo_toml_parts.specs.Reads.{map_meaning}
 use Rattle.cargo_toml_manifest.specs.Inheriting.{own_tables}
 use Rattle.cargo_toml_manifest.specs.Manifests.{held}
 use Rattle.cargo_toml_manifest.proofs.Inherited.{stops_at_build, stops_at_dependencies, stops_at_dev, tables_given}
@@ -10,28 +6,24 @@ use Rattle.cargo_toml_manifest.proofs.inheriting.new_tables.Goals as goal
 
 pub returns-in_err-dependencies : goal.returns-in_err-dependencies
 returns-in_err-dependencies g c =
-    let templates = option_map (map_meaning dependency_meaning) (option_copied c.args.templates) in
     let p = err_from_is_err_and c.from_residual.result c.from_residual.ensures.1 in
-    rw (p.1, p.2) (stops_at_dependencies templates c.args.base.now (own_tables (held c.args.manifest.now)) _ c.in_err-dependencies.ensures)
+    rw (p.1, p.2) (stops_at_dependencies _ c.args.base.now (own_tables (held c.args.manifest.now)) _ c.in_err-dependencies.ensures)
 
 pub returns-in_err-build_dependencies : goal.returns-in_err-build_dependencies
 returns-in_err-build_dependencies g c =
-    let templates = option_map (map_meaning dependency_meaning) (option_copied c.args.templates) in
     let p = err_from_is_err_and c.from_residual-in_err-build_dependencies.result c.from_residual-in_err-build_dependencies.ensures.1 in
     rw (p.1, p.2)
-    (stops_at_build templates c.args.base.now (own_tables (held c.args.manifest.now)) _ _ c.in_ok-dependencies.ensures
+    (stops_at_build _ c.args.base.now (own_tables (held c.args.manifest.now)) _ _ c.in_ok-dependencies.ensures
     c.in_err-build_dependencies.ensures)
 
 pub returns-in_err-dev_dependencies : goal.returns-in_err-dev_dependencies
 returns-in_err-dev_dependencies g c =
-    let templates = option_map (map_meaning dependency_meaning) (option_copied c.args.templates) in
     let p = err_from_is_err_and c.from_residual-in_err-dev_dependencies.result c.from_residual-in_err-dev_dependencies.ensures.1 in
     rw (p.1, p.2)
-    (stops_at_dev templates c.args.base.now (own_tables (held c.args.manifest.now)) _ _ _ c.in_ok-dependencies.ensures
+    (stops_at_dev _ c.args.base.now (own_tables (held c.args.manifest.now)) _ _ _ c.in_ok-dependencies.ensures
     c.in_ok-build_dependencies.ensures c.in_err-dev_dependencies.ensures)
 
 pub returns : goal.returns
 returns g c =
-    let templates = option_map (map_meaning dependency_meaning) (option_copied c.args.templates) in
-    tables_given templates c.args.base.now (own_tables (held c.args.manifest.now)) _ _ _
+    tables_given _ c.args.base.now (own_tables (held c.args.manifest.now)) _ _ _
     c.in_ok-dependencies.ensures c.in_ok-build_dependencies.ensures c.in_ok-dev_dependencies.ensures

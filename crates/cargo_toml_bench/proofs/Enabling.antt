@@ -1,16 +1,13 @@
 -- What a feature enables in a resolution with nothing removed is what it enables in the table.
-use Rattle.std.proofs.Common.{◌≡◌, ◌↔◌, Bool, false, Bor, IsTrue, Some, None, is_some, refl, sym, ap, subst, inl, inr, ◌∙◌}
-use Rattle.std.proofs.lemmas.Bool.{false≢true}
+use Rattle.std.proofs.Common.{◌≡◌, ◌↔◌, Bool, Bor, IsTrue, refl, subst, inl, inr}
 use Rattle.std.specs.HashMap.{HashMap}
 use Rattle.cargo_toml.specs.Action.{Text}
 use Rattle.cargo_toml.specs.Graph.{Table, Edge, IsResolved}
 use Rattle.cargo_toml.specs.Reach.{Gathers}
-use Rattle.cargo_toml.specs.Reached.{AreEnabled, Found, IsKeyed}
 use Rattle.cargo_toml.specs.Recursive.{Enables}
 use Rattle.cargo_toml.specs.Recursive.Enables.{itself, further}
-use Rattle.cargo_toml.specs.Views.{resolution_of, table_in, value_at}
+use Rattle.cargo_toml.specs.Views.{resolution_of, table_in}
 use Rattle.cargo_toml.specs.Feature.{Feature}
-use Rattle.cargo_toml_features.proofs.Pending.{key_of}
 use Rattle.cargo_toml_bench.specs.Enabled.{HasEnabling}
 
 module _ {S : Type 0} (m : HashMap (Bor Text) Feature S) (t : Table) (Removed : Text → Type 0) (none : (f : Text) → ¬ Removed f) (resolved : IsResolved t Removed (resolution_of m)) where
@@ -37,15 +34,12 @@ module _ {S : Type 0} (m : HashMap (Bor Text) Feature S) (t : Table) (Removed : 
   enables_out h itself = (itself, h)
   enables_out h (further e n k) = let r = enables_out h e in (further r.0 ((resolved.names _ _ (r.1, none _)).1 ((_, inl refl, n), none _)) (held _ k), k)
 
-  -- the feature under the name enables those that are found
-  pub answer_told : IsKeyed m → (name other : Text) (v : Feature) → value_at m name ≡ Some v → (found : Found S) → AreEnabled m v.key.now found → (answer : Bool) → answer ≡ is_some (value_at found other) → IsTrue answer ↔ HasEnabling t name other
-  answer_told keyed name other v here found enabled answer told =
-      let key : v.key.now ≡ name = key_of m keyed name v here in
-      let known : IsTrue (t.has name) = there name (ap is_some here) in (
-        λ y. (known, (enables_in known (subst (λ f. Enables (table_in m) f other) key ((enabled other).0 (sym told ∙ y)))).0),
-        λ h. told ∙ (enabled other).1 (subst (λ f. Enables (table_in m) f other) (sym key) (enables_out known h.1).0),
-      )
-
-  -- no feature has the name
-  pub answer_missing : (name other : Text) → value_at m name ≡ None → IsTrue false ↔ HasEnabling t name other
-  answer_missing name other missing = (λ y. absurd (false≢true y), λ h. absurd (false≢true (sym (ap is_some missing) ∙ held name h.0)))
+  -- what is answered of the map's own table
+  pub answer_of_table : (name other : Text) (answer : Bool) → IsTrue answer ↔ HasEnabling (table_in m) name other →
+      IsTrue answer ↔ HasEnabling t name other
+  answer_of_table name other answer told = (
+    λ y.
+        let known = there name (told.0 y).0 in
+        (known, (enables_in known (told.0 y).1).0),
+    λ h. told.1 (held name h.0, (enables_out h.0 h.1).0),
+  )

@@ -8,8 +8,8 @@ pub mod ToldAt
 pub mod RootTold
 pub mod Texts
 mod Filters
-mod Kept
 mod SameAnswers
+mod Sorted
 mod AtLimit
 mod UserFacing
 mod Put

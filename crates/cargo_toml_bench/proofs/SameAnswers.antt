@@ -1,8 +1,7 @@
 -- Two answers to one manifest.
-use Rattle.std.proofs.Common.{◌≡◌, ℕ, Bool, IsTrue}
+use Rattle.std.proofs.Common.{ℕ, Bool, IsTrue}
 use Rattle.cargo_toml.specs.Action.{Text}
 use Rattle.cargo_toml.specs.Admitted.{admitted}
-use Rattle.cargo_toml.specs.Agreement.{Agree}
 use Rattle.cargo_toml.specs.Manifests.{ManifestMeaning}
 use Rattle.cargo_toml.specs.OwnBins.{own_of}
 use Rattle.cargo_toml.specs.Parsed.{IsParsed, parsed_entries, parsed_table, requirements}
@@ -10,15 +9,16 @@ use Rattle.cargo_toml.specs.Removal.{is_removed}
 use Rattle.cargo_toml.specs.Resolved.{Answer}
 use Rattle.cargo_toml_graph.proofs.InByteOrder.{passed_once}
 use Rattle.cargo_toml_features.proofs.Agreement.{settled}
+use Rattle.cargo_toml_bench.specs.Alike.{AreAlike}
 
 module _ {M : Type 0} (limit : ℕ) (m : ManifestMeaning M) (keep : Text → Bool) (a b : Answer) where
-  pub parsed_agree : IsParsed limit m keep a → IsParsed limit m keep b → Agree a b
-  parsed_agree h k = settled (admitted limit m.features) (parsed_entries limit m)
-      m.feature_details m.feature_details (own_of (requirements m)) (own_of (requirements m)) keep a b h k
-
-  pub parsed_bins : IsParsed limit m keep a → IsParsed limit m keep b → (f : Text) →
-      IsTrue (a.resolution.table.has f) → a.bins f ≡ b.bins f
-  parsed_bins h k f there =
+  pub parsed_alike : IsParsed limit m keep a → IsParsed limit m keep b → AreAlike a b
+  parsed_alike h k =
       let t = parsed_table limit m in
-      passed_once t (λ r. IsTrue (is_removed t keep r)) (own_of (requirements m)) a.bins b.bins
-      h.passed_on k.passed_on f ((h.kept.resolved.kept f).0 there)
+      let own = own_of (requirements m) in
+      record {
+        agree = settled (admitted limit m.features) (parsed_entries limit m)
+            m.feature_details m.feature_details own own keep a b h k;
+        bins = λ f there. passed_once t (λ r. IsTrue (is_removed t keep r)) own a.bins b.bins
+            h.passed_on k.passed_on f ((h.kept.resolved.kept f).0 there);
+      }

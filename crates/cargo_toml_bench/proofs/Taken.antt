@@ -75,10 +75,10 @@ module _ {S : Type 0} (key : Text) (old mid new : HashMap (Bor Text) Feature S) 
     has = has_now;
     names = λ f x stays.
         ap₂ (λ t n. cond t (((resolution_of old).table.names f x || n) && not (bytes_eq x key)) ((resolution_of old).table.names f x)) (of_gone (λ v. set_has v.enabled_by f) false) (of_gone (λ v. set_has v.enables_features x) false)
-        ∙ sym (each f stays (λ o o'. option_map_or (λ v. set_has v.enables_features x) o' false ≡ cond (set_has gone.enabled_by f) ((option_map_or (λ v. set_has v.enables_features x) o false || set_has gone.enables_features x) && not (bytes_eq x key)) (option_map_or (λ v. set_has v.enables_features x) o false)) (λ a b l. l.names x));
+        ∙ sym (each f stays (λ o o'. option_map_or (λ v. set_has v.enables_features x) o' false ≡ cond (set_has gone.enabled_by f) ((option_map_or (λ v. set_has v.enables_features x) o false || set_has gone.enables_features x) && not (bytes_eq x key)) (option_map_or (λ v. set_has v.enables_features x) o false)) (λ a b l. l.taken_over.names x));
     action = λ f k stays.
         ap₂ (λ t n. cond t (join_option ((resolution_of old).table.action f k) n) ((resolution_of old).table.action f k)) (of_gone (λ v. set_has v.enabled_by f) false) (of_gone (λ v. action_at v.enables_deps k) None)
-        ∙ sym (each f stays (λ o o'. option_map_or (λ v. action_at v.enables_deps k) o' None ≡ cond (set_has gone.enabled_by f) (join_option (option_map_or (λ v. action_at v.enables_deps k) o None) (action_at gone.enables_deps k)) (option_map_or (λ v. action_at v.enables_deps k) o None)) (λ a b l. l.actions k));
+        ∙ sym (each f stays (λ o o'. option_map_or (λ v. action_at v.enables_deps k) o' None ≡ cond (set_has gone.enabled_by f) (join_option (option_map_or (λ v. action_at v.enables_deps k) o None) (action_at gone.enables_deps k)) (option_map_or (λ v. action_at v.enables_deps k) o None)) (λ a b l. l.taken_over.actions k));
     enabled_by = λ f e stays.
         ap (λ n. cond ((resolution_of old).enabled_by f key) (((resolution_of old).enabled_by f e || n) && not (bytes_eq e key)) ((resolution_of old).enabled_by f e)) (of_gone (λ v. set_has v.enabled_by e) false)
         ∙ sym (each f stays (λ o o'. option_map_or (λ v. set_has v.enabled_by e) o' false ≡ cond (option_map_or (λ v. set_has v.enabled_by key) o false) ((option_map_or (λ v. set_has v.enabled_by e) o false || set_has gone.enabled_by e) && not (bytes_eq e key)) (option_map_or (λ v. set_has v.enabled_by e) o false)) (λ a b l. l.enabled_by e));

@@ -45,39 +45,6 @@ no_texts s none = (Decides-eqb (btree_set_len s) 0).1 (go s.keys refl)
     go [] is = ap length is
     go (k ∷ ks) is = absurd (none k.now (ap (λ (xs : List (Bor Text)). set_has (record s { keys = xs }) k.now) is ∙ or_left _ _ (is_eq-slice_cmp k.now k.now ∙ bytes_eq_refl k.now)))
 
--- the texts of a set
-pub texts_in : (s : BTreeSet (Bor Text)) (f : Text) → Among (map (λ t. t.now) s.keys) f ↔ IsTrue (set_has s f)
-texts_in s f = (into s.keys, out s.keys)
-  where
-    into : (ks : List (Bor Text)) → Among (map (λ t. t.now) ks) f → IsTrue (list_any (is_at (λ k. slice_cmp nat_cmp f k.now)) ks)
-    into [] i = absurd i
-    into (k ∷ ks) (inl e) = or_left _ _ (is_eq-slice_cmp f k.now ∙ (bytes_eq-Decides f k.now).1 e)
-    into (k ∷ ks) (inr i) = or_right _ _ (into ks i)
-
-    out : (ks : List (Bor Text)) → IsTrue (list_any (is_at (λ k. slice_cmp nat_cmp f k.now)) ks) → Among (map (λ t. t.now) ks) f
-    out [] e = absurd (false≢true e)
-    out (k ∷ ks) e = elim (or_cases _ _ e) [ inl h ↦ inl ((bytes_eq-Decides f k.now).0 (sym (is_eq-slice_cmp f k.now) ∙ h)) | inr i ↦ inr (out ks i) ]
-
--- a list of the keys of a set
-pub all_taken : {E : Type 0} (r : Result (Vec (Bor Text) Global) E) (s : BTreeSet (Bor Text)) → IfOk r (λ v. v.items ≡ s.keys) → IfOk r (λ v. (f : Text) → Among (texts v) f ↔ IsTrue (set_has s f))
-all_taken (Ok v) s e = λ f. subst (λ (ks : List (Bor Text)). Among (map (λ t. t.now) ks) f ↔ IsTrue (set_has s f)) (sym e) (texts_in s f)
-all_taken (Err _) s e = tt
-
--- texts by their bytes
-below_each : (k : Bor Text) (ks : List (Bor Text)) → AllByRecursion (λ x. slice_cmp nat_cmp k.now x.now ≡ Less) ks → AllByRecursion (λ x. slice_cmp nat_cmp k.now x ≡ Less) (texts_now ks)
-below_each k [] all = tt
-below_each k (x ∷ xs) all = (all.0, below_each k xs all.1)
-
-texts_in_order : (ks : List (Bor Text)) → IsStrictlySortedBy (λ (x : Bor Text) (y : Bor Text). slice_cmp nat_cmp x.now y.now) ks → IsStrictlySortedBy (slice_cmp nat_cmp) (texts_now ks)
-unfolding IsStrictlySortedBy
-texts_in_order [] ordered = tt
-texts_in_order (k ∷ ks) ordered = (below_each k ks ordered.0, texts_in_order ks ordered.1)
-
-pub taken_in_order : {E : Type 0} (r : Result (Vec (Bor Text) Global) E) (ks : List (Bor Text)) → IsStrictlySortedBy (λ (x : Bor Text) (y : Bor Text). slice_cmp nat_cmp x.now y.now) ks → IfOk r (λ v. v.items ≡ ks)
-    → IfOk r (λ v. IsStrictlySortedBy (slice_cmp nat_cmp) (texts v))
-taken_in_order (Ok v) ks ordered e = subst (λ xs. IsStrictlySortedBy (slice_cmp nat_cmp) (texts_now xs)) (sym e) (texts_in_order ks ordered)
-taken_in_order (Err _) ks ordered e = tt
-
 module _ {S : Type 0} (m : HashMap (Bor Text) Feature S) (t : Table) (Removed : Text → Type 0) (none : (f : Text) → ¬ Removed f) (resolved : IsResolved t Removed (resolution_of m)) where
   kept : (f : Text) → IsTrue (t.has f) → IsKept t Removed f
   kept f known = (known, none f)

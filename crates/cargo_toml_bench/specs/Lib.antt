@@ -3,6 +3,7 @@ pub mod Reports
 pub mod Printing
 pub mod Documented
 pub mod Filtered
+pub mod Alike
 pub mod Enabled
 pub mod Members
 pub mod Rewriting

@@ -1,13 +1,13 @@
 //! A manifest's features, resolved by the body that callers get and by the plain one beside it.
-ghost use Rattle.std.specs.Prelude.{◌≡◌, Bool, IfErr, IfOk, IsTrue};
+ghost use Rattle.std.specs.Prelude.{◌≡◌, Bool, IfErr, IfOk};
 ghost use Rattle.cargo_toml.specs.Action.{Text};
-ghost use Rattle.cargo_toml.specs.Agreement.{Agree};
 ghost use Rattle.cargo_toml.specs.Error.{Memory};
 ghost use Rattle.cargo_toml.specs.Filter.{HasNameFilter, FilterTells};
 ghost use Rattle.cargo_toml.specs.Limits.{MAX_ITEMS};
 ghost use Rattle.cargo_toml.specs.Manifests.{held};
 ghost use Rattle.cargo_toml.specs.Parsed.{IsParsed};
 ghost use Rattle.cargo_toml.specs.Views.{answer_of};
+ghost use Rattle.cargo_toml_bench.specs.Alike.{AreAlike};
 
 use crate::whole::{Answer, keep_a, resolve_keeping_a};
 use cargo_toml::features::Resolver;
@@ -27,9 +27,7 @@ pub fn resolve_by_both<'m, M>(
     alloc: Global,
     manifest: &'m Manifest<M>,
 ) -> Result<(Answer<'m>, Answer<'m>), Error>
-    ensures agree { IfOk result (λ p. Agree (answer_of p.0) (answer_of p.1)) }
-    ensures bins { IfOk result (λ p. (f : Text) → IsTrue ((answer_of p.0).resolution.table.has f)
-        → (answer_of p.0).bins f ≡ (answer_of p.1).bins f) }
+    ensures alike { IfOk result (λ p. AreAlike (answer_of p.0) (answer_of p.1)) }
     ensures refused { IfErr result (λ e. e ≡ Memory) }
 {
     let resolver = Resolver::new();
@@ -44,9 +42,7 @@ pub fn resolve_by_both_keeping_a<'m, M>(
     alloc: Global,
     manifest: &'m Manifest<M>,
 ) -> Result<(Answer<'m>, Answer<'m>), Error>
-    ensures agree { IfOk result (λ p. Agree (answer_of p.0) (answer_of p.1)) }
-    ensures bins { IfOk result (λ p. (f : Text) → IsTrue ((answer_of p.0).resolution.table.has f)
-        → (answer_of p.0).bins f ≡ (answer_of p.1).bins f) }
+    ensures alike { IfOk result (λ p. AreAlike (answer_of p.0) (answer_of p.1)) }
     ensures refused { IfErr result (λ e. e ≡ Memory) }
 {
     let called = resolve_keeping_a(alloc, manifest)?;

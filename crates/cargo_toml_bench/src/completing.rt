@@ -13,6 +13,7 @@ ghost use Rattle.cargo_toml.specs.Texts.{AnyRefuses, any_tree};
 
 use crate::in_memory::InMemory;
 use cargo_toml::{AbstractFilesystem, Edition, Error, Manifest};
+use cargo_toml_held::HeldManifest;
 use std::alloc::Global;
 use std::rt::Files;
 
@@ -30,8 +31,14 @@ pub fn complete_member(
     ensures filled { OnOk result (IfSome member.new.«package» IsFilled) }
     ensures unchanged { OnErr result (member.new ≡ member.old) }
 {
-    let workspace = Manifest::from_slice(alloc, workspace)?;
-    complete_among(alloc, member, &InMemory::new(alloc), &workspace, path)
+    let workspace = HeldManifest::from_slice(alloc, workspace)?;
+    complete_among(
+        alloc,
+        member,
+        &InMemory::new(alloc),
+        &*workspace.manifest,
+        path,
+    )
 }
 
 /// Completes the manifest of a member from that of its workspace, among these files.
@@ -51,18 +58,18 @@ pub fn complete_among<Fs: AbstractFilesystem + Drop>(
     member.complete_from_abstract_filesystem(alloc, files, Some((workspace, path)))
 }
 
-/// The manifest of a member, read of bytes and completed in the same way.
+/// The manifest of a member, read of bytes and completed in the same way. It is held on the heap.
 pub fn read_member(
     alloc: Global,
     member: &[u8],
     workspace: &[u8],
     path: &str,
-) -> Result<Manifest, Error>
-    ensures nothing_left { IfOk result (λ m. needs (held m) ≡ false) }
+) -> Result<HeldManifest, Error>
+    ensures nothing_left { IfOk result (λ h. needs (held h.manifest.value) ≡ false) }
 {
-    let mut manifest = Manifest::from_slice(alloc, member)?;
-    complete_member(alloc, &mut manifest, workspace, path)?;
-    Ok(manifest)
+    let mut member = HeldManifest::from_slice(alloc, member)?;
+    complete_member(alloc, &mut *member.manifest, workspace, path)?;
+    Ok(member)
 }
 
 /// Completes the manifest of a member in the same way, and answers the edition of its package, if
@@ -96,8 +103,8 @@ pub fn edition_of_file<'a, R: Files + AllocGlobal>(
     ensures refused { IfErr result (IsPathFault path.now (manifest_meaning view)
         (manifest_reads any_tree) (ManifestRefuses any_tree AnyRefuses)) }
 {
-    let manifest = Manifest::from_path(rt, rt.alloc(), path)?;
-    match &manifest.package {
+    let held = HeldManifest::from_path(rt, rt.alloc(), path)?;
+    match &held.manifest.package {
         Some(package) => Ok(Some(package.edition())),
         None => Ok(None),
     }

@@ -1,16 +1,17 @@
 //! What asking for one feature of a manifest enables.
-ghost use Rattle.std.specs.Prelude.{◌≡◌, IfErr, IfOk, IfSome, option_map};
+ghost use Rattle.std.specs.Prelude.{◌≡◌, ◌↔◌, IfErr, IfOk, IfSome, IsTrue, option_map};
 ghost use Rattle.cargo_toml.specs.Action.{Text};
 ghost use Rattle.cargo_toml.specs.Reached.{AreEnabled, IsKeyed, pairs_at};
 ghost use Rattle.cargo_toml.specs.Recursive.{ArePairs};
 ghost use Rattle.cargo_toml.specs.Manifests.{held};
 ghost use Rattle.cargo_toml.specs.Views.{table_in, value_at};
-ghost use Rattle.cargo_toml_bench.specs.Enabled.{IsAnswered, IsAnsweredFrom};
+ghost use Rattle.cargo_toml_bench.specs.Enabled.{HasEnabling, IsAnswered, IsAnsweredFrom};
 ghost use Rattle.cargo_toml_bench.specs.Printing.{RefusesBytes};
 
 use crate::whole::resolve_whole;
 use cargo_toml::features::{DependenciesEnabledByFeatures, Feature, Features};
 use cargo_toml::{Error, Manifest};
+use cargo_toml_held::HeldManifest;
 use std::alloc::Global;
 use std::collections::HashMap;
 use std::hash::BuildHasher;
@@ -54,6 +55,25 @@ pub fn find_enabled<'f, 'm, S: BuildHasher + Clone>(
     }))
 }
 
+// Whether the features have one of the name `name`, which enables the feature `other`.
+pub(crate) fn enables_among<S: BuildHasher + Clone>(
+    alloc: Global,
+    resolved: &Features<'_, '_, S>,
+    name: &str,
+    other: &str,
+) -> Result<bool, Error>
+    requires { IsKeyed resolved.now.features }
+    ensures answer { IfOk result (λ b. IsTrue b
+        ↔ HasEnabling (table_in resolved.now.features) name.now other.now) }
+    ensures refused { IfErr result (λ e. e ≡ Error.Memory) }
+{
+    let Some(feature) = resolved.features.get(name) else {
+        return Ok(false);
+    };
+    let (features, _dependencies) = feature.enables_recursive(alloc, &resolved.features)?;
+    Ok(features.contains_key(other))
+}
+
 /// Whether a manifest has the feature `name`, and asking for it enables the feature `other`. The
 /// one refusal is [`Error::Memory`].
 pub fn enables<M>(
@@ -67,11 +87,7 @@ pub fn enables<M>(
     ensures refused { IfErr result (λ e. e ≡ Error.Memory) }
 {
     let resolved = resolve_whole(alloc, manifest)?;
-    let Some(feature) = resolved.features.get(name) else {
-        return Ok(false);
-    };
-    let (features, _dependencies) = feature.enables_recursive(alloc, &resolved.features)?;
-    Ok(features.contains_key(other))
+    enables_among(alloc, &resolved, name, other)
 }
 
 /// The same of the manifest that the bytes spell. Refuses as [`Manifest::from_slice`] does, with
@@ -80,6 +96,6 @@ pub fn enables_from(alloc: Global, bytes: &[u8], name: &str, other: &str) -> Res
     ensures answer { IfOk result (IsAnsweredFrom bytes.now name.now other.now) }
     ensures refused { IfErr result (RefusesBytes bytes.now) }
 {
-    let manifest = Manifest::from_slice(alloc, bytes)?;
-    enables(alloc, &manifest, name, other)
+    let held = HeldManifest::from_slice(alloc, bytes)?;
+    enables(alloc, &*held.manifest, name, other)
 }

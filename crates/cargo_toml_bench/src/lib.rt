@@ -14,4 +14,5 @@ pub mod members;
 pub mod plain;
 pub mod report;
 pub mod round_trip;
+mod sets;
 pub mod whole;

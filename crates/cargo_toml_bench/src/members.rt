@@ -7,12 +7,13 @@ ghost use Rattle.cargo_toml.specs.Manifests.{held};
 ghost use Rattle.cargo_toml.specs.Refusing.{IsRefusedBy, MayLose};
 ghost use Rattle.cargo_toml_bench.specs.Members.{IsToldOfMember};
 
+use crate::enabled::enables_among;
 use cargo_toml::features::{Resolver, complete_and_parse_into};
 use cargo_toml::{AbstractFilesystem, Error, Manifest};
 use std::alloc::Global;
 
-/// Completes a member, and answers whether it then has the feature `name` and asking for that
-/// enables the feature `other`.
+/// Completes a member, and answers whether it then has the first of two features and asking for
+/// that enables the second.
 ///
 /// Refuses as completion does, with [`Error::Memory`] where there was no room.
 pub fn enables_in_member<Fs: AbstractFilesystem + Drop>(
@@ -20,13 +21,12 @@ pub fn enables_in_member<Fs: AbstractFilesystem + Drop>(
     member: &mut Manifest,
     files: Fs,
     workspace: Option<(&Manifest, &str)>,
-    name: &str,
-    other: &str,
+    names: (&str, &str),
 ) -> Result<bool, Error>
     ensures answer { IfOk result (IsToldOfMember (held member.old)
         (option_map handed_of workspace.entry)
         (roots_of Fs.Roots.ARE_READ (Fs.root_for files))
-        (Fs.names_at files) name.now other.now) }
+        (Fs.names_at files) names.entry.0.now names.entry.1.now) }
     ensures refused { IfErr result
         (IsRefusedBy (held member.old) (option_map handed_of workspace.entry)
         (roots_of Fs.Roots.ARE_READ (Fs.root_for files))
@@ -34,11 +34,7 @@ pub fn enables_in_member<Fs: AbstractFilesystem + Drop>(
 {
     let resolver = Resolver::new();
     let (_completed, resolved) = resolver.complete_and_parse(alloc, member, files, workspace)?;
-    let Some(feature) = resolved.features.get(name) else {
-        return Ok(false);
-    };
-    let (features, _dependencies) = feature.enables_recursive(alloc, &resolved.features)?;
-    Ok(features.contains_key(other))
+    enables_among(alloc, &resolved, names.0, names.1)
 }
 
 /// Completes a member, and counts the features that it then has.

@@ -1,15 +1,11 @@
 //! A report of a manifest: its optional dependencies, and its features that nothing enables.
 mod print;
 
-ghost use Rattle.std.specs.Prelude.{◌≡◌, ◌↔◌, IsTrue, IfErr, IfOk};
-ghost use Rattle.std.specs.Cmp.Lexicographic.{slice_cmp};
-ghost use Rattle.std.specs.List.Sorted.{IsStrictlySortedBy};
-ghost use Rattle.std.specs.Ordering.{nat_cmp};
+ghost use Rattle.std.specs.Prelude.{◌≡◌, IfErr, IfOk};
 ghost use Rattle.cargo_toml.specs.Error.{Memory};
 ghost use Rattle.cargo_toml.specs.Dependencies.{dependency_meaning};
 ghost use Rattle.cargo_toml.specs.Reads.{map_meaning};
 ghost use Rattle.cargo_toml.specs.Action.{Text};
-ghost use Rattle.cargo_toml.specs.Reach.{Among};
 ghost use Rattle.cargo_toml.specs.Limits.{MAX_ITEMS};
 ghost use Rattle.cargo_toml.specs.Manifests.{held};
 ghost use Rattle.cargo_toml.specs.Parsed.{parsed_table};
@@ -17,6 +13,7 @@ ghost use Rattle.cargo_toml.specs.Views.{set_has};
 ghost use Rattle.cargo_toml_bench.specs.Alone.{is_alone_at};
 ghost use Rattle.cargo_toml_bench.specs.Reports.{texts, optional_keys, AreUnreferenced};
 
+use crate::sets::in_order;
 use crate::whole::resolve_whole;
 use cargo_toml::features::Feature;
 use cargo_toml::{DepsSet, Error, Manifest};
@@ -97,12 +94,4 @@ fn unreferenced_names<'m, S: BuildHasher>(
         }
     }
     Ok(names)
-}
-
-fn in_order<'m>(alloc: Global, names: &BTreeSet<&'m str>) -> Result<Vec<&'m str>, AllocError>
-    ensures all { IfOk result
-        (λ v. (f : Text) → Among (texts v) f ↔ IsTrue (set_has names.now f)) }
-    ensures in_order { IfOk result (λ v. IsStrictlySortedBy (slice_cmp nat_cmp) (texts v)) }
-{
-    names.iter().copied().collect(alloc)
 }

@@ -19,9 +19,10 @@ ghost use Rattle.cargo_toml_parts.specs.declared.error.Error.{Error};
 ghost use Rattle.cargo_toml.specs.NoFloats.{LintHoldsNoFloat, PackageHoldsNoFloat};
 
 use cargo_toml::{
-    Badge, Edition, Error, FromValue, Lint, LtoSetting, Maintenance, Manifest, OptionalFile,
-    Package, Product, Publish, ToValue, Value,
+    Badge, Edition, Error, FromValue, Lint, LtoSetting, Maintenance, OptionalFile, Package,
+    Product, Publish, ToValue, Value,
 };
+use cargo_toml_held::HeldManifest;
 use cargo_toml_write::laws::read_manifests_are_written;
 use cargo_toml_write::write::package::value_metadata;
 use std::alloc::Global;
@@ -105,12 +106,12 @@ pub fn package_again(alloc: Global, written: &Package) -> Result<Package, Error>
 }
 
 /// A tree of the manifest that these bytes spell: what was read can be written. Refuses as
-/// [`Manifest::from_slice`] does, with `Memory` where there was no room.
+/// [`HeldManifest::from_slice`] does, with `Memory` where there was no room.
 pub fn rewrite(alloc: Global, bytes: &[u8]) -> Result<Value, Error>
     ensures tree { IfOk result (λ v. IsRewritten bytes.now (view v)) }
     ensures refused { IfErr result (RefusesBytes bytes.now) }
 {
-    let manifest = Manifest::from_slice(alloc, bytes)?;
+    let held = HeldManifest::from_slice(alloc, bytes)?;
     read_manifests_are_written();
-    manifest.to_value(alloc)
+    held.manifest.to_value(alloc)
 }

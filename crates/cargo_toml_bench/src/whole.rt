@@ -1,13 +1,15 @@
 //! A manifest's features, with none removed, with one hidden name kept, and both with none
 //! and with all removed.
-ghost use Rattle.std.specs.Prelude.{◌≡◌, true, bytes_eq, codes, IfErr, IfOk};
+ghost use Rattle.std.specs.Prelude.{◌≡◌, Bool, Some, true, bytes_eq, codes, IfErr, IfOk};
+ghost use Rattle.cargo_toml.specs.Action.{Text};
 ghost use Rattle.cargo_toml.specs.Error.{Memory};
-ghost use Rattle.cargo_toml.specs.Kept.{KeepsEnabling, LosesNothing};
+ghost use Rattle.cargo_toml.specs.Filter.{FilterTells, IsNameFilter};
 ghost use Rattle.cargo_toml.specs.Limits.{MAX_ITEMS};
 ghost use Rattle.cargo_toml.specs.Manifests.{held};
 ghost use Rattle.cargo_toml.specs.Parsed.{IsParsed};
 ghost use Rattle.cargo_toml.specs.Reached.{IsKeyed};
 ghost use Rattle.cargo_toml.specs.Views.{answer_of};
+ghost use Rattle.cargo_toml_bench.specs.Filtered.{HidesAlone};
 
 use cargo_toml::features::{Features, Resolver};
 use cargo_toml::{Error, Manifest};
@@ -29,6 +31,23 @@ pub(crate) fn keep_a(name: &str) -> bool
     name == "_a"
 }
 
+// Resolves the features of a manifest by this filter.
+fn resolve_keeping<'m, M, F: Fn(&str) -> bool>(
+    alloc: Global,
+    filter: &F,
+    manifest: &'m Manifest<M>,
+) -> Result<Answer<'m>, Error>
+    requires { IsNameFilter F.Fn filter.now }
+    ensures resolved { IfOk result (λ a. (keep : Text → Bool)
+        → FilterTells F.Fn (Some filter.entry) keep
+        → IsParsed MAX_ITEMS (held manifest.now) keep (answer_of a)) }
+    ensures keyed { IfOk result (λ a. IsKeyed a.features) }
+    ensures refused { IfErr result (λ e. e ≡ Memory) }
+{
+    let resolver = Resolver::new_with_hasher_and_filter(BuildHasherDefault::new(), filter);
+    resolver.parse(alloc, manifest)
+}
+
 /// Resolves the features of a manifest by a filter that keeps every name, so that none is removed.
 /// The one refusal is [`Error::Memory`].
 pub fn resolve_whole<'m, M>(alloc: Global, manifest: &'m Manifest<M>) -> Result<Answer<'m>, Error>
@@ -38,8 +57,7 @@ pub fn resolve_whole<'m, M>(alloc: Global, manifest: &'m Manifest<M>) -> Result<
     ensures refused { IfErr result (λ e. e ≡ Memory) }
 {
     let keep = keep_every;
-    let resolver = Resolver::new_with_hasher_and_filter(BuildHasherDefault::new(), &keep);
-    resolver.parse(alloc, manifest)
+    resolve_keeping(alloc, &keep, manifest)
 }
 
 /// Resolves the features of a manifest by a filter that keeps `_a` alone of the hidden names. The
@@ -54,8 +72,7 @@ pub fn resolve_keeping_a<'m, M>(
     ensures refused { IfErr result (λ e. e ≡ Memory) }
 {
     let keep = keep_a;
-    let resolver = Resolver::new_with_hasher_and_filter(BuildHasherDefault::new(), &keep);
-    resolver.parse(alloc, manifest)
+    resolve_keeping(alloc, &keep, manifest)
 }
 
 /// Resolves the features of a manifest twice: first with none removed, then
@@ -67,10 +84,8 @@ pub fn resolve_both<'m, M>(
     alloc: Global,
     manifest: &'m Manifest<M>,
 ) -> Result<(Answer<'m>, Answer<'m>), Error>
-    ensures closure { IfOk result
-        (λ p. KeepsEnabling (answer_of p.0).resolution (answer_of p.1).resolution) }
-    ensures nothing_lost { IfOk result
-        (λ p. LosesNothing (answer_of p.0).resolution (answer_of p.1).resolution) }
+    ensures hiding { IfOk result
+        (λ p. HidesAlone (answer_of p.0).resolution (answer_of p.1).resolution) }
     ensures refused { IfErr result (λ e. e ≡ Memory) }
 {
     let whole = resolve_whole(alloc, manifest)?;

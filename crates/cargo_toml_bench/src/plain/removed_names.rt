@@ -7,6 +7,7 @@ ghost use Rattle.cargo_toml_graph.specs.Removal.{is_removed};
 ghost use Rattle.cargo_toml_features.specs.Views.{set_has, table_in, value_at};
 ghost use Rattle.cargo_toml_resolve.specs.Filter.{HasNameFilter, FilterTells};
 
+use crate::sets::in_order;
 use cargo_toml_features::features::Feature;
 use cargo_toml_resolve::filter::is_hidden;
 use std::alloc::{AllocError, Global};
@@ -53,13 +54,4 @@ pub fn hidden_names<'m, F: Fn(&str) -> bool, S: BuildHasher>(
 {
     let names = hidden_set(alloc, features, filter)?;
     in_order(alloc, &names)
-}
-
-fn in_order<'m>(alloc: Global, names: &BTreeSet<&'m str>) -> Result<Vec<&'m str>, AllocError>
-    ensures all { IfOk result
-        (λ v. (f : Text) → Among (map (λ t. t.now) v.items) f ↔ IsTrue (set_has names.now f)) }
-    ensures ascending { IfOk result
-        (λ v. Ascend (map (λ t. t.now) v.items)) }
-{
-    names.iter().copied().collect(alloc)
 }

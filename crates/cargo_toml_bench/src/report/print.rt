@@ -11,16 +11,17 @@ ghost use Rattle.cargo_toml_resolve.specs.Texts.{texts_now};
 ghost use Rattle.cargo_toml_bench.specs.Reports.{texts};
 
 use crate::report::{Report, make_report};
-use cargo_toml::{Error, Manifest};
+use cargo_toml::Error;
+use cargo_toml_held::HeldManifest;
 use std::alloc::{AllocError, Global};
 use std::io::Write;
 
 /// Writes a line `optional NAME` for each optional dependency of the manifest that the bytes spell,
 /// and then a line `unreferenced NAME` for each feature that nothing in it enables.
 ///
-/// Refuses as [`Manifest::from_slice`] does, with `Memory` where there was no room, and with `Io`
-/// where `output` can't be written. All lines stand before the first is written, so that a fault of
-/// the manifest leaves `output` as it was.
+/// Refuses as [`HeldManifest::from_slice`] does, with `Memory` where there was no room, and with
+/// `Io` where `output` can't be written. All lines stand before the first is written, so that a
+/// fault of the manifest leaves `output` as it was.
 pub fn print_report<W: Write>(alloc: Global, bytes: &[u8], output: &mut W) -> Result<(), Error>
     ensures printed { OnOk result ((text : Text) × IsReport bytes.now text
         × Appends (W.contents output.old) (W.contents output.new) text) }
@@ -39,16 +40,17 @@ fn report_of(alloc: Global, bytes: &[u8]) -> Result<String, Error>
     ensures text { IfOk result (λ s. IsReport bytes.now (string_bytes s)) }
     ensures refused { IfErr result (RefusesBytes bytes.now) }
 {
-    let manifest = read(alloc, bytes)?;
-    let report = make_report(alloc, &manifest)?;
+    let held = read(alloc, bytes)?;
+    let report = make_report(alloc, &*held.manifest)?;
     Ok(report_text(alloc, &report)?)
 }
 
-fn read(alloc: Global, bytes: &[u8]) -> Result<Manifest, Error>
-    ensures manifest { IfOk result (λ m. Spells bytes.now (manifest_meaning view m)) }
+fn read(alloc: Global, bytes: &[u8]) -> Result<HeldManifest, Error>
+    ensures manifest { IfOk result
+        (λ h. Spells bytes.now (manifest_meaning view h.manifest.value)) }
     ensures refused { IfErr result (RefusesBytes bytes.now) }
 {
-    Manifest::from_slice(alloc, bytes)
+    HeldManifest::from_slice(alloc, bytes)
 }
 
 // The lines of a report.

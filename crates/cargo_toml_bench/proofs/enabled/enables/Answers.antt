@@ -1,25 +1,22 @@
-use Rattle.std.proofs.Common.{◌≡◌, Some, None, true, IsTrue, sym, ap, ◌∙◌}
-use Rattle.std.specs.Option.{option_copied}
+use Rattle.std.proofs.Common.{true, IsTrue}
+use Rattle.std.proofs.lemmas.Result.{IfOk-weaker}
 use Rattle.cargo_toml.specs.Graph.{Table}
 use Rattle.cargo_toml.specs.Removal.{is_removed}
 use Rattle.cargo_toml.specs.Limits.{MAX_ITEMS}
 use Rattle.cargo_toml.specs.Manifests.{manifest_meaning}
 use Rattle.cargo_toml.specs.Parsed.{parsed_table}
-use Rattle.cargo_toml.specs.Views.{value_at}
-use Rattle.cargo_toml_bench.proofs.Enabling.{answer_missing, answer_told}
+use Rattle.cargo_toml_bench.specs.Enabled.{IsAnswered}
+use Rattle.cargo_toml_bench.proofs.Enabling.{answer_of_table}
 use Rattle.cargo_toml_bench.proofs.Unreferenced.{nothing_removed}
 use Rattle.cargo_toml_bench.proofs.enabled.enables.Goals as goal
 
-pub returns-in_default-clause-answer : goal.returns-in_default-clause-answer
-returns-in_default-clause-answer g c =
-    let t : Table = parsed_table MAX_ITEMS (manifest_meaning (λ m. m) c.args.manifest.now) in
-    let missing : value_at c.in_ok-resolved.resolved.features c.args.name.now ≡ None = sym c.get.ensures.value ∙ ap option_copied c.in_default.is in
-    answer_missing c.in_ok-resolved.resolved.features t (λ x. IsTrue (is_removed t (λ _. true) x)) (nothing_removed t) c.in_ok-resolved.ensures.resolved.kept.resolved
-    c.args.name.now c.args.other.now missing
-
 pub returns-clause-answer : goal.returns-clause-answer
 returns-clause-answer g c =
-    let t : Table = parsed_table MAX_ITEMS (manifest_meaning (λ m. m) c.args.manifest.now) in
-    let here : value_at c.in_ok-resolved.resolved.features c.args.name.now ≡ Some c.in-Some.feature.now = sym c.get.ensures.value ∙ ap option_copied c.in-Some.is in
-    answer_told c.in_ok-resolved.resolved.features t (λ x. IsTrue (is_removed t (λ _. true) x)) (nothing_removed t) c.in_ok-resolved.ensures.resolved.kept.resolved
-    c.in_ok-resolved.ensures.keyed c.args.name.now c.args.other.now c.in-Some.feature.now here c.in_ok-features.features c.in_ok-features.ensures.features c.contains_key.result c.contains_key.ensures
+    let m = manifest_meaning (λ m. m) c.args.manifest.now in
+    let t : Table = parsed_table MAX_ITEMS m in
+    IfOk-weaker c.enables_among.result _ (IsAnswered m c.args.name.now c.args.other.now)
+    (λ answer told. answer_of_table c.in_ok-resolved.resolved.features t
+    (λ x. IsTrue (is_removed t (λ _. true) x)) (nothing_removed t)
+    c.in_ok-resolved.ensures.resolved.kept.resolved
+    c.args.name.now c.args.other.now answer told)
+    c.enables_among.ensures.answer

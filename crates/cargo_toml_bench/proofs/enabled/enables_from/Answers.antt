@@ -1,7 +1,9 @@
-use Rattle.std.proofs.Common.{◌≡◌, inl, inr}
+use Rattle.std.proofs.Common.{◌≡◌, inl, inr, sym, subst}
 use Rattle.std.proofs.lemmas.Result.{IfOk-weaker, IfErr-weaker}
 use Rattle.toml.specs.View.{view}
+use Rattle.toml.specs.declared.value.Value.{Value}
 use Rattle.cargo_toml.specs.Error.{Memory}
+use Rattle.cargo_toml.specs.Manifest.{Manifest}
 use Rattle.cargo_toml.specs.Manifests.{manifest_meaning}
 use Rattle.cargo_toml_bench.specs.Enabled.{IsAnswered, IsAnsweredFrom}
 use Rattle.cargo_toml_bench.specs.Printing.{Spells, RefusesBytes}
@@ -9,8 +11,10 @@ use Rattle.cargo_toml_bench.proofs.enabled.enables_from.Goals as goal
 
 pub returns-clause-answer : goal.returns-clause-answer
 returns-clause-answer c =
-    let found = c.in_ok-manifest.manifest in
-    let spelled : Spells c.args.bytes.now (manifest_meaning view found) = elim (c.in_ok-manifest.ensures) [ inl b ↦ absurd b.1 | inr b ↦ record { text = b.0; reads = b.1 } ] in
+    let found = c.deref.result.now in
+    let spelled : Spells c.args.bytes.now (manifest_meaning view found) =
+    subst (λ (m : Manifest Value). Spells c.args.bytes.now (manifest_meaning view m)) (sym c.deref.ensures)
+    (elim (c.in_ok-held.ensures) [ inl b ↦ absurd b.1 | inr b ↦ record { text = b.0; reads = b.1 } ]) in
     IfOk-weaker c.enables.result (IsAnswered (manifest_meaning (λ m. m) found) c.args.name.now c.args.other.now) (IsAnsweredFrom c.args.bytes.now c.args.name.now c.args.other.now)
     (λ answer told. record {
       manifest = manifest_meaning view found;

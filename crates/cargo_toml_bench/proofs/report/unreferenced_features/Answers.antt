@@ -12,5 +12,5 @@ returns-clause-names g c = record {
       let t = parsed_table MAX_ITEMS (manifest_meaning (λ m. m) c.args.manifest.now) in
       let alone = alone_is c.in_ok-resolved.resolved.features t (λ x. IsTrue (is_removed t (λ _. true) x)) (nothing_removed t) c.in_ok-resolved.ensures.resolved.kept.resolved f in
       (λ i. alone.0 (sym (c.in_ok-names.ensures f) ∙ (c.in_ok-in_order.ensures.all f).0 i), λ u. (c.in_ok-in_order.ensures.all f).1 (c.in_ok-names.ensures f ∙ alone.1 u));
-  in_order = c.in_ok-in_order.ensures.in_order;
+  in_order = c.in_ok-in_order.ensures.sorted;
 }

@@ -5,17 +5,12 @@ use Rattle.cargo_toml.specs.Limits.{MAX_ITEMS}
 use Rattle.cargo_toml.specs.Manifests.{manifest_meaning}
 use Rattle.cargo_toml.specs.Parsed.{IsParsed}
 use Rattle.cargo_toml.specs.Views.{answer_of}
-use Rattle.cargo_toml_bench.proofs.AtLimit.{parsed_at}
-use Rattle.cargo_toml_bench.proofs.Kept.{tells_of}
 use Rattle.cargo_toml_bench.proofs.whole.resolve_keeping_a.Goals as goal
 
 pub returns-clause-resolved : goal.returns-clause-resolved
 returns-clause-resolved g c =
     let m = manifest_meaning (λ m. m) c.args.manifest.now in
-    let made = c.new_with_hasher_and_filter-resolver.ensures in
     let keep : Text → Bool = λ x. bytes_eq x (codes "_a") in
-    let tells = tells_of _ _ _ keep made.kept
-    (λ n r answer. answer.says.met ∙ ap keep answer.shows) in
-    IfOk-weaker c.parse.result _ (λ a. IsParsed MAX_ITEMS m keep (answer_of a))
-    (λ a by. parsed_at m keep (answer_of a) made.limit (by.told keep tells))
-    c.parse.ensures.resolved
+    IfOk-weaker c.resolve_keeping.result _ (λ a. IsParsed MAX_ITEMS m keep (answer_of a))
+    (λ a by. by keep (λ n r answer. answer.says.met ∙ ap keep answer.shows))
+    c.resolve_keeping.ensures.resolved

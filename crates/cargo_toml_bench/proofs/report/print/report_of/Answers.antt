@@ -1,16 +1,18 @@
-use Rattle.std.proofs.Common.{ap, ◌∙◌}
+use Rattle.std.proofs.Common.{ap, sym, subst, ◌∙◌}
 use Rattle.toml.specs.View.{view}
+use Rattle.toml.specs.declared.value.Value.{Value}
+use Rattle.cargo_toml.specs.Manifest.{Manifest}
 use Rattle.cargo_toml.specs.Manifests.{manifest_meaning}
-use Rattle.cargo_toml_bench.specs.Printing.{report_text}
+use Rattle.cargo_toml_bench.specs.Printing.{Spells, report_text}
 use Rattle.cargo_toml_bench.specs.Reports.{texts}
 use Rattle.cargo_toml_bench.proofs.report.print.report_of.Goals as goal
 
 pub returns-clause-text : goal.returns-clause-text
 returns-clause-text c =
-    let found = c.in_ok-manifest.manifest in
+    let found = c.deref.result.now in
     let names = texts c.in_ok-report.report.unreferenced in record {
       manifest = manifest_meaning view found;
-      spelled = c.in_ok-manifest.ensures.manifest;
+      spelled = subst (λ (m : Manifest Value). Spells c.args.bytes.now (manifest_meaning view m)) (sym c.deref.ensures) c.in_ok-held.ensures.manifest;
       unreferenced = names;
       exact = c.in_ok-report.ensures.unreferenced;
       whole = c.in_ok-report_text.ensures ∙ ap (λ keys. report_text keys names) c.in_ok-report.ensures.optional;

@@ -1,0 +1,10 @@
+-- Two answers to one manifest that say the same.
+use Rattle.std.specs.Prelude.{◌≡◌, IsTrue}
+use Rattle.cargo_toml.specs.Action.{Text}
+use Rattle.cargo_toml.specs.Agreement.{Agree}
+use Rattle.cargo_toml.specs.Resolved.{Answer}
+
+pub record AreAlike (a b : Answer) : Type 0 where
+  pub agree : Agree a b
+  -- each feature has the same binaries, in the same order
+  pub bins : (f : Text) → IsTrue (a.resolution.table.has f) → a.bins f ≡ b.bins f

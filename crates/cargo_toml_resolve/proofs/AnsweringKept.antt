@@ -28,6 +28,21 @@ use Rattle.cargo_toml_resolve.specs.Numbering.{IsFlagged}
 use Rattle.cargo_toml_resolve.specs.Removed.{IsAnswerWithout}
 use Rattle.cargo_toml_resolve.proofs.InPlace.{found_stands}
 
+-- the key of a feature that may be there
+pub key_told : (f : Text) (o : Option Feature) → IfSome o (λ v. v.key.now ≡ f) → IfSome (option_map (λ (v : Feature). v.key.now) o) (λ k. k ≡ f)
+key_told f None k = tt
+key_told f (Some v) k = k
+
+-- the binaries of one that is there
+pub bins_told : (own : List Text) (o : Option Feature) → IsTrue (is_some o) → IfSome o (λ v. map (λ b. b.now) v.required_by_bins.items ≡ own) → option_map_or (λ v. map (λ (b : Bor Text). b.now) v.required_by_bins.items) o [] ≡ own
+bins_told own None y e = absurd (false≢true y)
+bins_told own (Some v) y e = e
+
+-- a set of texts is there where it is seen as a test
+pub test_there : (o : Option (BTreeSet (Bor Text))) → is_some (option_map set_has o) ≡ is_some o
+test_there None = refl
+test_there (Some names) = refl
+
 module _ {S H : Type 0} (listed : Listed) (entries : List Entry) (details : NamedDetails) (own : Text → List Text) (removed : Text → Bool) (vs : List Feature) (a : Features S H)
     (start : AreTable (table_of listed entries) vs) (there : (f : Text) → IsTrue (removed f) → IsTrue ((table_of listed entries).has f))
     (marks : (f : Text) → IfSome (feature_at vs f) (λ v. marks_of v ≡ marks_in listed details f))
@@ -52,11 +67,7 @@ module _ {S H : Type 0} (listed : Listed) (entries : List Entry) (details : Name
       go (Some w) s = ap (λ x. x.now) s.2.key ∙ (found_stands vs f s.0 s.1).3
 
   key_at : (f : Text) → IfSome (option_map (λ (v : Feature). v.key.now) (value_at a.features f)) (λ k. k ≡ f)
-  key_at f = go (value_at a.features f) (keyed f)
-    where
-      go : (o : Option Feature) → IfSome o (λ v. v.key.now ≡ f) → IfSome (option_map (λ (v : Feature). v.key.now) o) (λ k. k ≡ f)
-      go None k = tt
-      go (Some v) k = k
+  key_at f = key_told f (value_at a.features f) (keyed f)
 
   marks_at : (f : Text) → IsTrue (is_some (value_at a.features f)) → option_map_or marks_of (value_at a.features f) (marked false plain_detail) ≡ marks_in listed details f
   marks_at f = go (value_at a.features f) (kept.own f)
@@ -66,11 +77,7 @@ module _ {S H : Type 0} (listed : Listed) (entries : List Entry) (details : Name
       go (Some w) s y = s.2.marks ∙ subst (λ o. IfSome o (λ v. marks_of v ≡ marks_in listed details f)) s.1 (marks f)
 
   own_at : (f : Text) → IsTrue (t.has f) → own_bins vs f ≡ own f
-  own_at f has = go (feature_at vs f) (start.has f ∙ has) (bins f)
-    where
-      go : (o : Option Feature) → IsTrue (is_some o) → IfSome o (λ v. map (λ b. b.now) v.required_by_bins.items ≡ own f) → option_map_or (λ v. map (λ (b : Bor Text). b.now) v.required_by_bins.items) o [] ≡ own f
-      go None y e = absurd (false≢true y)
-      go (Some v) y e = e
+  own_at f has = bins_told (own f) (feature_at vs f) (start.has f ∙ has) (bins f)
 
   passed_on : ArePassedOn t R own (answer_of a).bins
   passed_on = record {
@@ -81,11 +88,7 @@ module _ {S H : Type 0} (listed : Listed) (entries : List Entry) (details : Name
   }
 
   redirected : (r : Text) → is_some (option_map set_has (value_at a.hidden_features r)) ≡ removed r
-  redirected r = go (value_at a.hidden_features r) ∙ kept.redirected r
-    where
-      go : (o : Option (BTreeSet (Bor Text))) → is_some (option_map set_has o) ≡ is_some o
-      go None = refl
-      go (Some v) = refl
+  redirected r = test_there (value_at a.hidden_features r) ∙ kept.redirected r
 
   redirects : (r : Text) → IfSome (option_map set_has (value_at a.hidden_features r)) (λ names. (x : Text) → IsTrue (names x) ↔ RedirectsTo t R (λ s b. IsTrue (is_below s b)) r x)
   redirects r = go (value_at a.hidden_features r) (kept.redirects r)

@@ -11,24 +11,17 @@ use Rattle.cargo_toml_features.specs.Reached.{IsKeyed}
 use Rattle.cargo_toml_features.specs.Views.{value_at}
 use Rattle.cargo_toml_resolve.proofs.Placing.{place_inside}
 
+no_element : (v : Feature) (ws : List Feature) → v ∷ ws ≡ [] → ⊥
+no_element v ws same = false≢true (sym (ap is_cons same))
+  where
+    is_cons : List Feature → Bool
+    is_cons [] = false
+    is_cons (y ∷ ys) = true
+
 -- what comes next in a list
 pub next_there : (vs : List Feature) (n : ℕ) (v : Feature) (ws : List Feature) → v ∷ ws ≡ drop n vs → (slice_get vs n ≡ Some v) × (ws ≡ drop (suc n) vs)
-next_there [] zero v ws e = absurd (empty e)
-  where
-    is_cons : List Feature → Bool
-    is_cons [] = false
-    is_cons (y ∷ ys) = true
-
-    empty : v ∷ ws ≡ [] → ⊥
-    empty same = false≢true (sym (ap is_cons same))
-next_there [] (suc n) v ws e = absurd (empty e)
-  where
-    is_cons : List Feature → Bool
-    is_cons [] = false
-    is_cons (y ∷ ys) = true
-
-    empty : v ∷ ws ≡ [] → ⊥
-    empty same = false≢true (sym (ap is_cons same))
+next_there [] zero v ws e = absurd (no_element v ws e)
+next_there [] (suc n) v ws e = absurd (no_element v ws e)
 next_there (x ∷ vs) zero v ws e = (ap Some (sym (first e)), rest e)
   where
     head_or : List Feature → Feature

@@ -168,6 +168,10 @@ HaveLearnt n old new = LearnBy (LeaderBelow old n) old new
 pub none_learnt : (vs : List Feature) → HaveLearnt 0 vs vs
 none_learnt vs = record { same = same_features vs; learn = nobody_learns (LeaderBelow vs 0) vs (no_leader vs) }
 
+-- as many keys as features
+pub as_many : (keys : List (Bor Text)) (vs : List Feature) → texts_now keys ≡ names_of vs → length keys ≡ length vs
+as_many keys vs are = sym (length-map keys (λ (t : Bor Text). t.now)) ∙ ap length are ∙ length-map vs (λ (v : Feature). v.key.now)
+
 -- then the next, of which the row tells where it leads
 pub next_learnt : (n : ℕ) (keys : List (Bor Text)) (vs ws us : List Feature) (row : List ℕ) (u : Feature) → n < length vs → texts_now keys ≡ names_of vs → slice_get ws n ≡ Some u
     → ((x : ℕ) → Among row x ↔ (Among [] x ⊎ ((x < length keys) × (x ≢ n) × LeadsTo u (nth_text (texts_now keys) x))))
@@ -190,7 +194,7 @@ next_learnt n keys vs ws us row u lt are there rows h more = record {
     )
 
     long : length keys ≡ length vs
-    long = sym (length-map keys (λ (t : Bor Text). t.now)) ∙ ap length are ∙ length-map vs (λ (v : Feature). v.key.now)
+    long = as_many keys vs are
 
     key : (y : ℕ) → nth_text (names_of vs) y ≡ nth_text (texts_now keys) y
     key y = ap (λ ks. nth_text ks y) (sym are)
@@ -226,7 +230,7 @@ pub one_more_learnt : (n : ℕ) (keys : List (Bor Text)) (vs ws us : List Featur
     → ((x : ℕ) → Among row x ↔ (Among cleared x ⊎ ((x < length keys) × (x ≢ n) × LeadsTo u (nth_text (texts_now keys) x))))
     → HaveLearnt n vs ws → GainEnabler (Among given) source ws us → HaveLearnt (n + 1) vs us
 one_more_learnt n keys vs ws us cleared row given u source lt are clear gave read key rows h more =
-    let long : length keys ≡ length vs = sym (length-map keys (λ (t : Bor Text). t.now)) ∙ ap length are ∙ length-map vs (λ (v : Feature). v.key.now) in
+    let long : length keys ≡ length vs = as_many keys vs are in
     let inside : n < length vs = subst (λ m. n < m) long lt in
     next_learnt n keys vs ws us row u inside are (slice_get_read ws (length ws) n u refl (subst (λ m. n < m) (sym h.same.len) inside) read)
     (subst (λ ys. (x : ℕ) → Among row x ↔ (Among ys x ⊎ ((x < length keys) × (x ≢ n) × LeadsTo u (nth_text (texts_now keys) x)))) clear rows) h
@@ -272,33 +276,27 @@ module _ (vs ws : List Feature) (same : AreSameButEnablers vs ws) where
   pub in_order_still : AreInOrder vs → AreInOrder ws
   in_order_still up = subst Ascend (sym (keys_still vs ws same)) up
 
-  pub marks_still : (m : Text → FeatureMarks) → ((f : Text) → IfSome (feature_at vs f) (λ v. marks_of v ≡ m f)) → (f : Text) → IfSome (feature_at ws f) (λ v. marks_of v ≡ m f)
-  marks_still m h f = go (feature_at vs f) (feature_at ws f) (alike_at vs ws same f) (h f)
+  -- what holds of none, and of each that learnt, holds at every name
+  along : (f : Text) (P : Option Feature → Option Feature → Type 0) → P None None → ((v w : Feature) → IsSameButEnablers v w → P (Some v) (Some w)) → P (feature_at vs f) (feature_at ws f)
+  along f P none some = go (feature_at vs f) (feature_at ws f) (alike_at vs ws same f)
     where
-      go : (o o' : Option Feature) → Alike vs ws o o' → IfSome o (λ v. marks_of v ≡ m f) → IfSome o' (λ v. marks_of v ≡ m f)
-      go None None a k = tt
-      go None (Some w) a k = absurd a
-      go (Some v) None a k = absurd a
-      go (Some v) (Some w) a k = (same.each a.0 v w a.1 a.2).marks ∙ k
+      go : (o o' : Option Feature) → Alike vs ws o o' → P o o'
+      go None None a = none
+      go None (Some w) a = absurd a
+      go (Some v) None a = absurd a
+      go (Some v) (Some w) a = some v w (same.each a.0 v w a.1 a.2)
+
+  pub marks_still : (m : Text → FeatureMarks) → ((f : Text) → IfSome (feature_at vs f) (λ v. marks_of v ≡ m f)) → (f : Text) → IfSome (feature_at ws f) (λ v. marks_of v ≡ m f)
+  marks_still m h f = along f (λ o o'. IfSome o (λ v. marks_of v ≡ m f) → IfSome o' (λ v. marks_of v ≡ m f)) (λ k. k) (λ v w s k. s.marks ∙ k) (h f)
 
   pub bins_still : (own : Text → List Text) → ((f : Text) → IfSome (feature_at vs f) (λ v. map (λ b. b.now) v.required_by_bins.items ≡ own f))
       → (f : Text) → IfSome (feature_at ws f) (λ v. map (λ b. b.now) v.required_by_bins.items ≡ own f)
-  bins_still own h f = go (feature_at vs f) (feature_at ws f) (alike_at vs ws same f) (h f)
-    where
-      go : (o o' : Option Feature) → Alike vs ws o o' → IfSome o (λ v. map (λ b. b.now) v.required_by_bins.items ≡ own f) → IfSome o' (λ v. map (λ b. b.now) v.required_by_bins.items ≡ own f)
-      go None None a k = tt
-      go None (Some w) a k = absurd a
-      go (Some v) None a k = absurd a
-      go (Some v) (Some w) a k = ap (λ bs. map (λ (b : Bor Text). b.now) bs.items) (same.each a.0 v w a.1 a.2).bins ∙ k
+  bins_still own h f = along f (λ o o'. IfSome o (λ v. map (λ b. b.now) v.required_by_bins.items ≡ own f) → IfSome o' (λ v. map (λ b. b.now) v.required_by_bins.items ≡ own f)) (λ k. k)
+      (λ v w s k. ap (λ bs. map (λ (b : Bor Text). b.now) bs.items) s.bins ∙ k) (h f)
 
   pub own_still : (f : Text) → own_bins ws f ≡ own_bins vs f
-  own_still f = go (feature_at vs f) (feature_at ws f) (alike_at vs ws same f)
-    where
-      go : (o o' : Option Feature) → Alike vs ws o o' → option_map_or (λ v. map (λ (b : Bor Text). b.now) v.required_by_bins.items) o' [] ≡ option_map_or (λ v. map (λ (b : Bor Text). b.now) v.required_by_bins.items) o []
-      go None None a = refl
-      go None (Some w) a = absurd a
-      go (Some v) None a = absurd a
-      go (Some v) (Some w) a = ap (λ bs. map (λ (b : Bor Text). b.now) bs.items) (same.each a.0 v w a.1 a.2).bins
+  own_still f = along f (λ o o'. option_map_or (λ v. map (λ (b : Bor Text). b.now) v.required_by_bins.items) o' [] ≡ option_map_or (λ v. map (λ (b : Bor Text). b.now) v.required_by_bins.items) o []) refl
+      (λ v w s. ap (λ bs. map (λ (b : Bor Text). b.now) bs.items) s.bins)
 
   pub kept_still : {S : Type 0} (t : Table) (removed : Text → Bool) (features : HashMap (Bor Text) Feature S) (hidden : HashMap (Bor Text) (BTreeSet (Bor Text)) S)
       → AreKept t removed ws features hidden → AreKept t removed vs features hidden
@@ -327,36 +325,14 @@ module _ (vs ws : List Feature) (same : AreSameButEnablers vs ws) where
       own_at f (Some w) s = found f w s.0 s.1 s.2 (feature_at vs f) (feature_at ws f) refl refl (alike_at vs ws same f)
 
 -- they still make the table
-module _ (t : Table) (vs ws : List Feature) (made : AreTable t vs) (same : AreSameButEnablers vs ws) where
-  has_still : (f : Text) → is_some (feature_at ws f) ≡ t.has f
-  has_still f = go (feature_at vs f) (feature_at ws f) (alike_at vs ws same f) ∙ made.has f
-    where
-      go : (o o' : Option Feature) → Alike vs ws o o' → is_some o' ≡ is_some o
-      go None None a = refl
-      go None (Some w) a = absurd a
-      go (Some v) None a = absurd a
-      go (Some v) (Some w) a = refl
-
-  names_still : (f x : Text) → (table_among ws).names f x ≡ t.names f x
-  names_still f x = go (feature_at vs f) (feature_at ws f) (alike_at vs ws same f) ∙ made.names f x
-    where
-      go : (o o' : Option Feature) → Alike vs ws o o' → option_map_or (λ v. set_has v.enables_features x) o' false ≡ option_map_or (λ v. set_has v.enables_features x) o false
-      go None None a = refl
-      go None (Some w) a = absurd a
-      go (Some v) None a = absurd a
-      go (Some v) (Some w) a = ap (λ s. set_has s x) (same.each a.0 v w a.1 a.2).names
-
-  action_still : (f k : Text) → (table_among ws).action f k ≡ t.action f k
-  action_still f k = go (feature_at vs f) (feature_at ws f) (alike_at vs ws same f) ∙ made.action f k
-    where
-      go : (o o' : Option Feature) → Alike vs ws o o' → option_map_or (λ v. action_at v.enables_deps k) o' None ≡ option_map_or (λ v. action_at v.enables_deps k) o None
-      go None None a = refl
-      go None (Some w) a = absurd a
-      go (Some v) None a = absurd a
-      go (Some v) (Some w) a = ap (λ m. action_at m k) (same.each a.0 v w a.1 a.2).actions
-
-  pub table_still : AreTable t ws
-  table_still = record { has = has_still; names = names_still; action = action_still }
+pub table_still : (t : Table) (vs ws : List Feature) → AreTable t vs → AreSameButEnablers vs ws → AreTable t ws
+table_still t vs ws made same = record {
+  has = λ f. along vs ws same f (λ o o'. is_some o' ≡ is_some o) refl (λ v w s. refl) ∙ made.has f;
+  names = λ f x. along vs ws same f (λ o o'. option_map_or (λ v. set_has v.enables_features x) o' false ≡ option_map_or (λ v. set_has v.enables_features x) o false) refl
+      (λ v w s. ap (λ n. set_has n x) s.names) ∙ made.names f x;
+  action = λ f k. along vs ws same f (λ o o'. option_map_or (λ v. action_at v.enables_deps k) o' None ≡ option_map_or (λ v. action_at v.enables_deps k) o None) refl
+      (λ v w s. ap (λ m. action_at m k) s.actions) ∙ made.action f k;
+}
 
 -- and the graph still stands for them
 pub stand_still : (t : Table) (removed : Text → Bool) (vs ws : List Feature) (texts : List Text) (edges names : List (Vec ℕ Global)) (flags : List Bool) → AreSameButEnablers vs ws

@@ -20,9 +20,9 @@ mod TakingOver
 mod HashedRedirects
 mod HashedKept
 mod FromPlaces
-mod KeptAll
+pub mod KeptAll
 mod HashedSlots
-mod AnsweringKept
+pub mod AnsweringKept
 pub mod ByFilter
 mod PutAlong
 mod BinTurns

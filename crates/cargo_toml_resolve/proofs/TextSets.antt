@@ -11,9 +11,14 @@ use Rattle.cargo_toml_graph.proofs.BinLists.{is_among-true, among-true}
 use Rattle.cargo_toml_features.specs.Views.{set_has}
 use Rattle.cargo_toml_features.specs.Places.{nth_text}
 use Rattle.cargo_toml_features.proofs.TextKeys.{none_in}
+use Rattle.cargo_toml_walk.proofs.Steps.{among_at, item_at}
 use Rattle.cargo_toml_resolve.specs.Holding.{HasTextsOf, IsTextOf}
 use Rattle.cargo_toml_resolve.specs.Texts.{texts_now}
 use Rattle.cargo_toml_resolve.proofs.Gathered.{among_push}
+
+-- the place of a number that is read is below what all of them are below
+pub place_below : (numbers : List ℕ) (n i x p : ℕ) → ((y : ℕ) → Among numbers y → y < n) → i < length numbers → x ≡ get_or numbers i x → p ≡ x → p < n
+place_below numbers n i x p inside lt is at = subst (λ y. y < n) (sym (item_at numbers i x p lt is at)) (inside (get_or numbers i 0) (among_at numbers i lt))
 
 -- a set that tells of each text whether it is one of a list has those of the list
 pub set_made : {E : Type 0} (xs : List Text) (r : Result (BTreeSet (Bor Text)) E) → IfOk r (λ s. (x : Text) → set_has s x ≡ list_any (bytes_eq x) xs)

@@ -8,8 +8,10 @@ ghost use Rattle.cargo_toml_features.specs.InOrder.{AreInOrder, AreTable, HaveNo
 ghost use Rattle.cargo_toml_features.specs.InOrder.{names_of, resolution_among};
 ghost use Rattle.cargo_toml_features.specs.Views.{set_has};
 ghost use Rattle.cargo_toml_features.specs.Places.{nth_text};
+ghost use Rattle.cargo_toml_walk.specs.Numbers.{Leads};
 ghost use Rattle.cargo_toml_resolve.specs.Enabling.{AreSameButEnablers, GainEnabler, LeaderBelow};
 ghost use Rattle.cargo_toml_resolve.specs.Enabling.{LeadsTo, LearnBy};
+ghost use Rattle.cargo_toml_resolve.specs.Numbering.{IsTarget};
 ghost use Rattle.cargo_toml_resolve.specs.Texts.{texts_now};
 
 use crate::dense_enablers::learn_by_table;
@@ -138,43 +140,24 @@ fn name_many(features: &[Feature<'_>]) -> bool {
     are_many(total, features.len(), features.len())
 }
 
-// The same as `learn_leaders`, target by target.
-fn set_dense_enablers<'m>(
+// Each feature learns which others lead to it, target by target, by the rows of where each leads.
+fn learn_by_rows<'m>(
     alloc: Global,
     features: &mut Vec<Feature<'m>>,
     keys: &[&'m str],
+    edges: &[Vec<Node>],
 ) -> Result<(), AllocError>
-    requires in_order { Ascend (texts_now keys.now) }
     requires keys { texts_now keys.now ≡ names_of features.old.items }
+    requires len { length edges.now ≡ length features.old.items }
+    requires rows { (i x : ℕ) → i < length features.old.items → Leads edges.now i x
+        ↔ ((x < length keys.now) × IsTarget features.old.items (texts_now keys.now) i x) }
     ensures { OnOk result (LearnBy (LeaderBelow features.old.items (length features.old.items))
         features.old.items features.new.items) }
 {
     let count = keys.len();
-    let edges = edge_rows(alloc, features.as_slice(), keys)?;
-    let table = table_of(alloc, edges.as_slice(), words_for(count))?;
+    let table = table_of(alloc, edges, words_for(count))?;
     let none = Vec::from_elem(alloc, false, count)?;
     learn_by_table(alloc, features, table.as_slice(), keys, none.as_slice())?;
-    Ok(())
-}
-
-// The same as `learn_leaders`, source by source.
-fn set_sparse_enablers<'m>(
-    alloc: Global,
-    features: &mut Vec<Feature<'m>>,
-    keys: &[&'m str],
-) -> Result<(), AllocError>
-    requires in_order { Ascend (texts_now keys.now) }
-    requires keys { texts_now keys.now ≡ names_of features.old.items }
-    ensures { OnOk result (LearnBy (LeaderBelow features.old.items (length features.old.items))
-        features.old.items features.new.items) }
-{
-    let mut row = Vec::new(alloc);
-    let mut near = 0;
-    for own in 0..keys.len() {
-        row.clear();
-        near = push_targets(&mut row, &features[own], keys, Node::at(own), near)?;
-        enable_along(features, row.as_slice(), keys[own])?;
-    }
     Ok(())
 }
 
@@ -191,10 +174,17 @@ fn learn_leaders<'m>(
 {
     // A set of many texts is made in one go.
     if name_many(features.as_slice()) {
-        set_dense_enablers(alloc, features, keys)
-    } else {
-        set_sparse_enablers(alloc, features, keys)
+        let edges = edge_rows(alloc, features.as_slice(), keys)?;
+        return learn_by_rows(alloc, features, keys, edges.as_slice());
     }
+    let mut row = Vec::new(alloc);
+    let mut near = 0;
+    for own in 0..keys.len() {
+        row.clear();
+        near = push_targets(&mut row, &features[own], keys, Node::at(own), near)?;
+        enable_along(features, row.as_slice(), keys[own])?;
+    }
+    Ok(())
 }
 
 /// Each feature learns which others enable it: those that name it, and those that act plainly on

@@ -80,53 +80,12 @@ fn hash<'m, S: BuildHasher + Clone>(
     })
 }
 
-// Takes out the features whose flag is true.
-fn take_out<'m, S: BuildHasher + Clone>(
-    alloc: Global,
-    state: &S,
-    mut features: Vec<Feature<'m>>,
-    flags: &[bool],
-) -> Result<Kept<'m, S>, AllocError>
-    requires in_order { AreInOrder features.items }
-    requires no_enablers { HaveNoEnablers features.items }
-    requires len { length flags.now ≡ length features.items }
-    ensures keyed { IfOk result (λ l. IsKeyed l.features) }
-    ensures taken { IfOk result
-        (λ l. (t : Table) (removed : Text → Bool) → AreTable t features.entry.items
-        → ((f : Text) → IsTrue (removed f) ↔ IsFlagged features.entry.items flags.now f)
-        → AreKept t removed features.entry.items l.features l.hidden) }
-{
-    let graph = number(alloc, features.as_slice(), flags)?;
-    let walked = place(alloc, &mut features, graph)?;
-    hash(alloc, state, features, &walked)
-}
-
-// The same once each feature has learnt what enables it.
-fn keep_enabled<'m, S: BuildHasher + Clone>(
-    alloc: Global,
-    state: &S,
-    mut features: Vec<Feature<'m>>,
-    flags: &[bool],
-) -> Result<Kept<'m, S>, AllocError>
-    requires in_order { AreInOrder features.items }
-    requires no_enablers { HaveNoEnablers features.items }
-    requires count { length flags.now ≡ length features.items }
-    requires none_flagged { (i : ℕ) → ¬ IsWanted flags.now true i }
-    ensures keyed { IfOk result (λ l. IsKeyed l.features) }
-    ensures all { IfOk result (λ l. (t : Table) (removed : Text → Bool) →
-        AreTable t features.entry.items → ((f : Text) → ¬ IsTrue (removed f)) →
-        AreKept t removed features.entry.items l.features l.hidden) }
-{
-    set_enablers(alloc, &mut features)?;
-    keep_all(alloc, state, features, flags)
-}
-
 /// What is kept of features in the byte order of their names, once those are taken out whose flag
 /// stands. It fails only where memory runs out, or the clone of `state` does.
 pub fn kept_of<'m, S: BuildHasher + Clone>(
     alloc: Global,
     state: &S,
-    features: Vec<Feature<'m>>,
+    mut features: Vec<Feature<'m>>,
     flags: &[bool],
 ) -> Result<Kept<'m, S>, AllocError>
     requires in_order { AreInOrder features.items }
@@ -141,8 +100,11 @@ pub fn kept_of<'m, S: BuildHasher + Clone>(
     // Most manifests have no hidden feature: then nothing is numbered and no path is walked. Where
     // there is one, its removal finds what enables the others.
     if flags.contains(&true) {
-        take_out(alloc, state, features, flags)
+        let graph = number(alloc, features.as_slice(), flags)?;
+        let walked = place(alloc, &mut features, graph)?;
+        hash(alloc, state, features, &walked)
     } else {
-        keep_enabled(alloc, state, features, flags)
+        set_enablers(alloc, &mut features)?;
+        keep_all(alloc, state, features, flags)
     }
 }

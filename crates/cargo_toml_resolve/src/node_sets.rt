@@ -26,22 +26,6 @@ fn list_of<'m>(alloc: Global, nodes: &[Node], texts: &[&'m str]) -> Result<Vec<&
     Ok(list)
 }
 
-// The texts of nodes are put into a set one after another, with no list of them.
-fn put_nodes<'m>(
-    set: &mut BTreeSet<&'m str>,
-    nodes: &[Node],
-    texts: &[&'m str],
-) -> Result<(), AllocError>
-    requires { (x : ℕ) → Among nodes.now x → x < length texts.now }
-    ensures { OnOk result ((x : Text) → IsTrue (set_has set.new x) ↔ (IsTrue (set_has set.old x)
-        ⊎ IsTextOf (texts_now texts.now) nodes.now x)) }
-{
-    for x in nodes {
-        add_text(set, texts[x.place()])?;
-    }
-    Ok(())
-}
-
 // The texts of many nodes, of which a set is made in one go.
 fn many_of<'m>(
     alloc: Global,
@@ -55,26 +39,6 @@ fn many_of<'m>(
     set_of(alloc, list.as_slice())
 }
 
-// The texts of many nodes are put into a set. One that has none yet is made in one go, so that no
-// text is looked for in it.
-fn add_many<'m>(
-    alloc: Global,
-    set: &mut BTreeSet<&'m str>,
-    nodes: &[Node],
-    texts: &[&'m str],
-) -> Result<(), AllocError>
-    requires { (x : ℕ) → Among nodes.now x → x < length texts.now }
-    ensures { OnOk result ((x : Text) → IsTrue (set_has set.new x) ↔ (IsTrue (set_has set.old x)
-        ⊎ IsTextOf (texts_now texts.now) nodes.now x)) }
-{
-    if !set.is_empty() {
-        return put_nodes(set, nodes, texts);
-    }
-    let made = many_of(alloc, nodes, texts)?;
-    *set = made;
-    Ok(())
-}
-
 /// The texts of nodes are put into a set.
 pub(crate) fn add_nodes<'m>(
     alloc: Global,
@@ -86,11 +50,16 @@ pub(crate) fn add_nodes<'m>(
     ensures { OnOk result ((x : Text) → IsTrue (set_has set.new x) ↔ (IsTrue (set_has set.old x)
         ⊎ IsTextOf (texts_now texts.now) nodes.now x)) }
 {
-    if nodes.len() <= FEW {
-        put_nodes(set, nodes, texts)
-    } else {
-        add_many(alloc, set, nodes, texts)
+    // A set that has no text yet is made of many in one go, so that none is looked for in it.
+    if nodes.len() > FEW && set.is_empty() {
+        let made = many_of(alloc, nodes, texts)?;
+        *set = made;
+        return Ok(());
     }
+    for x in nodes {
+        add_text(set, texts[x.place()])?;
+    }
+    Ok(())
 }
 
 /// The texts of nodes, as a set.

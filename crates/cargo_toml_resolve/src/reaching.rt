@@ -6,7 +6,7 @@ ghost use Rattle.cargo_toml_features.specs.Places.{nth_text};
 ghost use Rattle.cargo_toml_walk.specs.Numbers.{HasLabel, IsWanted, Leads};
 ghost use Rattle.cargo_toml_resolve.specs.Enabling.{GainEnabler, LearnThrough};
 ghost use Rattle.cargo_toml_resolve.specs.Texts.{texts_now};
-ghost use Rattle.cargo_toml_resolve.specs.Walking.{ArePassed};
+ghost use Rattle.cargo_toml_resolve.specs.Walking.{AreNamed, ArePassed};
 
 use crate::dense_enablers::learn_by_table;
 use crate::enabling::{enable_along, enable_at};
@@ -79,53 +79,25 @@ fn enable_through<'m>(
     enable_along(features, targets, source)
 }
 
-// The same as `set_kept_enablers`, target by target.
-fn set_dense_enablers<'m>(
-    alloc: Global,
+// Each kept feature enables, source by source, the kept ones to which it, or one that it passes, has
+// an edge. For one that passes any, these are its targets.
+fn enable_each<'m>(
     features: &mut Vec<Feature<'m>>,
     graph: &Graph<'m>,
     passed: &[Vec<Node>],
+    targets: &[Vec<Node>],
 ) -> Result<(), AllocError>
     requires count { length graph.now.edges.items ≡ length features.old.items }
     requires len { length passed.now ≡ length graph.now.edges.items }
-    requires inside { (a b : ℕ) → Leads passed.now a b → b < length graph.now.edges.items }
     requires passed { ArePassed graph.now.edges.items graph.now.names.items graph.now.flags.items
         passed.now }
+    requires targets { length targets.now ≡ length passed.now }
+    requires labels { AreNamed graph.now.edges.items graph.now.edges.items graph.now.flags.items
+        passed.now targets.now }
     ensures { OnOk result (LearnThrough graph.now.edges.items graph.now.flags.items
         (texts_now graph.now.texts.items) (length graph.now.edges.items)
         features.old.items features.new.items) }
 {
-    let edges = graph.edges.as_slice();
-    let is_removed = graph.flags.as_slice();
-    let texts = graph.texts.as_slice();
-    let table = source_table(alloc, passed, edges, is_removed)?;
-    learn_by_table(alloc, features, table.as_slice(), texts, is_removed)?;
-    Ok(())
-}
-
-// The same as `set_kept_enablers`, source by source.
-fn set_sparse_enablers<'m>(
-    alloc: Global,
-    features: &mut Vec<Feature<'m>>,
-    graph: &Graph<'m>,
-    passed: &[Vec<Node>],
-) -> Result<(), AllocError>
-    requires count { length graph.now.edges.items ≡ length features.old.items }
-    requires len { length passed.now ≡ length graph.now.edges.items }
-    requires inside { (a b : ℕ) → Leads passed.now a b → b < length graph.now.edges.items }
-    requires passed { ArePassed graph.now.edges.items graph.now.names.items graph.now.flags.items
-        passed.now }
-    ensures { OnOk result (LearnThrough graph.now.edges.items graph.now.flags.items
-        (texts_now graph.now.texts.items) (length graph.now.edges.items)
-        features.old.items features.new.items) }
-{
-    // Each target once: to look for a source among its enablers costs more than to walk.
-    let targets = all_labels(
-        alloc,
-        passed,
-        graph.edges.as_slice(),
-        graph.flags.as_slice(),
-    )?;
     for own in 0..passed.len() {
         if !graph.flags[own] {
             enable_through(
@@ -157,10 +129,16 @@ pub(crate) fn set_kept_enablers<'m>(
         (texts_now graph.now.texts.items) (length graph.now.edges.items)
         features.old.items features.new.items) }
 {
+    let edges = graph.edges.as_slice();
+    let is_removed = graph.flags.as_slice();
     // A set of many texts is made in one go.
-    if is_dense(graph.edges.as_slice(), graph.edges.len()) {
-        set_dense_enablers(alloc, features, graph, passed)
-    } else {
-        set_sparse_enablers(alloc, features, graph, passed)
+    if is_dense(edges, edges.len()) {
+        let texts = graph.texts.as_slice();
+        let table = source_table(alloc, passed, edges, is_removed)?;
+        learn_by_table(alloc, features, table.as_slice(), texts, is_removed)?;
+        return Ok(());
     }
+    // Each target once: to look for a source among its enablers costs more than to walk.
+    let targets = all_labels(alloc, passed, edges, is_removed)?;
+    enable_each(features, graph, passed, targets.as_slice())
 }

@@ -1,11 +1,39 @@
-use Rattle.std.proofs.Common.{sym, ap, subst, ◌<◌, length, true, false, arith, ◌∙◌}
+use Rattle.std.proofs.Common.{false, true, sym, ap, subst, ◌<◌, length, arith, ◌∙◌}
 use Rattle.std.proofs.lemmas.Bool.{false≢true}
 use mathlib.Core.Bool.{beq}
+use Rattle.cargo_toml_resolve.proofs.FromPlaces.{NumberedBy, all_hashed, one_name}
 use Rattle.cargo_toml_resolve.proofs.KeptAll.{if_ok_weaker}
+use Rattle.cargo_toml_resolve.proofs.Learning.{in_order_still, kept_still}
 use Rattle.cargo_toml_resolve.proofs.kept.kept_of.Goals as goal
 
-pub returns-else-contains-clause-outcome : goal.returns-else-contains-clause-outcome
-returns-else-contains-clause-outcome g c = if_ok_weaker c.keep_enabled.result _ _ (λ l h t removed made removed_is. h t removed made (λ f gone.
+pub hash-requires-clause-names : goal.hash-requires-clause-names
+hash-requires-clause-names g c =
+    let f = c.in_ok-graph.graph in
+    let n : NumberedBy c.args.features.items c.args.flags.now f.texts.items f.edges.items f.names.items f.flags.items =
+    subst (λ vs. NumberedBy vs c.args.flags.now f.texts.items f.edges.items f.names.items f.flags.items) c.as_slice.ensures.value
+    (record { numbered = c.in_ok-graph.ensures.numbered; count = c.in_ok-graph.ensures.count; vertices = c.in_ok-graph.ensures.vertices }) in
+    one_name c.args.features.items c.place.new.features.items c.args.flags.now f.texts.items f.edges.items f.names.items f.flags.items n
+    c.in_ok-walked.ensures.len c.in_ok-walked.ensures.own
+
+pub returns-in_ok-walked-clause-outcome : goal.returns-in_ok-walked-clause-outcome
+returns-in_ok-walked-clause-outcome g c =
+    let f = c.in_ok-graph.graph in
+    let vs = c.args.features.items in
+    let n : NumberedBy vs c.args.flags.now f.texts.items f.edges.items f.names.items f.flags.items =
+    subst (λ xs. NumberedBy xs c.args.flags.now f.texts.items f.edges.items f.names.items f.flags.items) c.as_slice.ensures.value
+    (record { numbered = c.in_ok-graph.ensures.numbered; count = c.in_ok-graph.ensures.count; vertices = c.in_ok-graph.ensures.vertices }) in
+    if_ok_weaker c.hash.result _ _ (λ l hashed t removed same removed_is.
+    all_hashed t removed vs c.place.new.features.items c.args.flags.now f c.in_ok-walked.walked l.features l.hidden c.requires.in_order n c.in_ok-walked.ensures hashed same removed_is) c.hash.ensures.hashed
+
+pub keep_all-requires-clause-in_order : goal.keep_all-requires-clause-in_order
+keep_all-requires-clause-in_order g c = in_order_still c.args.features.items c.set_enablers.new.features.items c.in_ok-set_enablers.ensures.same c.requires.in_order
+
+pub keep_all-requires-clause-count : goal.keep_all-requires-clause-count
+keep_all-requires-clause-count g c = c.requires.count ∙ sym c.in_ok-set_enablers.ensures.same.len
+
+pub returns-in_ok-set_enablers-clause-outcome : goal.returns-in_ok-set_enablers-clause-outcome
+returns-in_ok-set_enablers-clause-outcome g c = if_ok_weaker c.keep_all.result _ _ (λ l h t removed made removed_is.
+    kept_still c.args.features.items c.set_enablers.new.features.items c.in_ok-set_enablers.ensures.same t removed l.features l.hidden (h t removed (c.in_ok-set_enablers.ensures.unremoved t made) (λ f gone.
     let flagged = (removed_is f).0 gone in
     let below : flagged.0 < length c.args.flags.now = subst (λ n. flagged.0 < n) (sym c.requires.count) flagged.1 in
-    false≢true (sym (c.if-contains.ensures.cases flagged.0 false (omega arith) below) ∙ ap (λ b. beq b true) flagged.3))) c.keep_enabled.ensures.all
+    false≢true (sym (c.if-contains.ensures.cases flagged.0 false (omega arith) below) ∙ ap (λ b. beq b true) flagged.3)))) c.keep_all.ensures.all

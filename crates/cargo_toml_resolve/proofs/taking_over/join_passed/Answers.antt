@@ -3,18 +3,17 @@ use Rattle.std.proofs.lemmas.Option.{slice_get-get_or}
 use Rattle.cargo_toml_features.specs.Views.{action_at}
 use Rattle.cargo_toml_walk.proofs.Steps.{among_at, item_at}
 use Rattle.cargo_toml_resolve.proofs.Passers.{begin_join, next_join, end_join}
+use Rattle.cargo_toml_resolve.proofs.TextSets.{place_below}
 use Rattle.cargo_toml_resolve.proofs.taking_over.join_passed.Goals as goal
 
 pub loop-b-init : goal.loop-b-init
 loop-b-init c = λ k. begin_join c.args.features.now c.args.passed.now k (action_at c.args.own.now k)
 
 pub offset_bounds-features-place : goal.offset_bounds-features-place
-offset_bounds-features-place c =
-    let lt : c.place.result < length c.args.features.now = rw (item_at c.args.passed.now c.loop-b.b-index _ _ c.loop-b-test.true c.b-item.is c.place.ensures) (c.requires _ (among_at c.args.passed.now c.loop-b.b-index c.loop-b-test.true)) in
-    search rules
+offset_bounds-features-place c = (let lt : c.place.result < length c.args.features.now = place_below c.args.passed.now (length c.args.features.now) c.loop-b.b-index _ _ c.requires c.loop-b-test.true c.b-item.is c.place.ensures in search rules)
 
 pub bounds-features-place : goal.bounds-features-place
-bounds-features-place c = rw (item_at c.args.passed.now c.loop-b.b-index _ _ c.loop-b-test.true c.b-item.is c.place.ensures) (c.requires _ (among_at c.args.passed.now c.loop-b.b-index c.loop-b-test.true))
+bounds-features-place c = place_below c.args.passed.now (length c.args.features.now) c.loop-b.b-index _ _ c.requires c.loop-b-test.true c.b-item.is c.place.ensures
 
 pub loop-b-preserved : goal.loop-b-preserved
 loop-b-preserved c = λ k.

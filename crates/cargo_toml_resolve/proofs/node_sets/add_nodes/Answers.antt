@@ -4,17 +4,16 @@ use Rattle.std.proofs.lemmas.List.{take_all}
 use Rattle.cargo_toml_graph.specs.Action.{Text}
 use Rattle.cargo_toml_features.specs.Views.{set_has}
 use Rattle.cargo_toml_resolve.specs.Texts.{texts_now}
-use Rattle.cargo_toml_resolve.proofs.TextSets.{all_texts_put, no_text_put, text_put}
-use Rattle.cargo_toml_walk.proofs.Steps.{among_at, item_at}
-use Rattle.cargo_toml_resolve.proofs.node_sets.put_nodes.Goals as goal
+use Rattle.cargo_toml_resolve.proofs.TextSets.{all_texts_put, no_text_put, place_below, put_in_none, text_put}
+use Rattle.cargo_toml_walk.proofs.Steps.{item_at}
+use Rattle.cargo_toml_resolve.proofs.Learning.{no_keys}
+use Rattle.cargo_toml_resolve.proofs.node_sets.add_nodes.Goals as goal
 
 pub offset_bounds-texts-place : goal.offset_bounds-texts-place
-offset_bounds-texts-place c =
-    let lt : c.place.result < length c.args.texts.now = rw (item_at c.args.nodes.now c.loop-x.x-index _ _ c.loop-x-test.true c.x-item.is c.place.ensures) (c.requires _ (among_at c.args.nodes.now c.loop-x.x-index c.loop-x-test.true)) in
-    search rules
+offset_bounds-texts-place c = (let lt : c.place.result < length c.args.texts.now = place_below c.args.nodes.now (length c.args.texts.now) c.loop-x.x-index _ _ c.requires c.loop-x-test.true c.x-item.is c.place.ensures in search rules)
 
 pub bounds-texts-place : goal.bounds-texts-place
-bounds-texts-place c = rw (item_at c.args.nodes.now c.loop-x.x-index _ _ c.loop-x-test.true c.x-item.is c.place.ensures) (c.requires _ (among_at c.args.nodes.now c.loop-x.x-index c.loop-x-test.true))
+bounds-texts-place c = place_below c.args.nodes.now (length c.args.texts.now) c.loop-x.x-index _ _ c.requires c.loop-x-test.true c.x-item.is c.place.ensures
 
 pub loop-x-preserved : goal.loop-x-preserved
 loop-x-preserved c =
@@ -32,3 +31,7 @@ returns c = λ x.
       λ y. elim ((c.loop-x.invariant x).0 y) [ inl o ↦ inl o | inr a ↦ inr (put.0 a) ],
       λ s. (c.loop-x.invariant x).1 (elim s [ inl o ↦ inl o | inr n ↦ inr (put.1 n) ]),
     )
+
+-- many in one go
+pub returns-then-is_empty : goal.returns-then-is_empty
+returns-then-is_empty c = put_in_none (texts_now c.args.texts.now) c.args.nodes.now c.args.set.now c.in_ok-made.made (no_keys c.args.set.now.keys (c.is_empty.ensures.0 c.if-is_empty.true)) c.in_ok-made.ensures

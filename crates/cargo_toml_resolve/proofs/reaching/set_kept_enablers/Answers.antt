@@ -1,9 +1,9 @@
-use Rattle.std.proofs.Common.{◌≤◌, length, Bor, arith}
+use Rattle.std.proofs.Common.{◌≤◌, length, Bor, ap, sym, ◌∙◌, arith}
 use Rattle.std.proofs.lemmas.List.{length-map}
 use Rattle.cargo_toml_graph.specs.Action.{Text}
 use Rattle.cargo_toml_resolve.specs.Texts.{texts_now}
 use Rattle.cargo_toml_resolve.proofs.Telling.{told_through}
-use Rattle.cargo_toml_resolve.proofs.reaching.set_dense_enablers.Goals as goal
+use Rattle.cargo_toml_resolve.proofs.reaching.set_kept_enablers.Goals as goal
 
 pub source_table-requires-clause-len : goal.source_table-requires-clause-len
 source_table-requires-clause-len c = rw c.as_slice-edges.ensures.value c.requires.len
@@ -42,8 +42,8 @@ learn_by_table-requires-clause-wide c =
     let w = wide a (omega (arith, lt, len)) in
     omega (arith, w, count))
 
-pub returns : goal.returns
-returns c =
+pub returns-then-is_dense : goal.returns-then-is_dense
+returns-then-is_dense c =
     let g = c.args.graph.now in
     let fits = g.features_count in
     let long = length-map g.texts.items (λ (t : Bor Text). t.now) in
@@ -51,3 +51,9 @@ returns c =
     told_through g.edges.items c.args.passed.now c.in_ok-table.table.items g.flags.items (texts_now g.texts.items) c.args.features.now.items c.learn_by_table.new.features.items inside
     (rw (c.as_slice-edges.ensures.value, c.as_slice-is_removed.ensures.value) at c.in_ok-table.ensures.bits) c.requires.passed c.requires.len
     (rw (c.as_slice.ensures.value, c.as_slice-is_removed.ensures.value, c.as_slice-texts.ensures.value) at c.in_ok-learn_by_table.ensures)
+
+pub enable_each-requires-clause-targets : goal.enable_each-requires-clause-targets
+enable_each-requires-clause-targets c = ap length c.as_slice-2.ensures.value ∙ c.in_ok-targets.ensures.len ∙ ap length c.as_slice-edges.ensures.value ∙ sym c.requires.len
+
+pub enable_each-requires-clause-labels : goal.enable_each-requires-clause-labels
+enable_each-requires-clause-labels c = rw c.as_slice-2.ensures.value (rw (c.as_slice-edges.ensures.value, c.as_slice-is_removed.ensures.value) at c.in_ok-targets.ensures.labels)

@@ -66,18 +66,6 @@ pub held_by_name : {S : Type 0} (vs : List Feature) (m : HashMap (Bor Text) Feat
     (Holds : Text → Feature → Type 0) → ((f : Text) → IfSome (feature_at vs f) (Holds f)) → (f : Text) → IfSome (value_at m f) (Holds f)
 held_by_name vs m same Holds each f = subst (λ o. IfSome o (Holds f)) (sym (same f)) (each f)
 
--- and what features in a list make up, they make up in such a map
-pub unremoved_by_name : {S : Type 0} (vs : List Feature) (m : HashMap (Bor Text) Feature S) → ((f : Text) → value_at m f ≡ feature_at vs f) →
-    (t : Table) → IsUnremoved t (resolution_among vs) → IsUnremoved t (resolution_of m)
-unremoved_by_name vs m same t h = record {
-  has = λ f. ap is_some (same f) ∙ h.has f;
-  names = λ f x. ap (λ o. option_map_or (λ (v : Feature). set_has v.enables_features x) o false) (same f) ∙ h.names f x;
-  action = λ f k. ap (λ o. option_map_or (λ (v : Feature). action_at v.enables_deps k) o None) (same f) ∙ h.action f k;
-  enabled_by = λ f e.
-      let alike = ap (λ o. option_map_or (λ (v : Feature). set_has v.enabled_by e) o false) (same f) in
-      (λ y. (h.enabled_by f e).0 (sym alike ∙ y), λ d. alike ∙ (h.enabled_by f e).1 d);
-}
-
 -- where a text stands in a list
 record Stands (xs : List Text) (x : Text) : Type 0 where
   before : List Text

@@ -11,7 +11,8 @@ use Rattle.cargo_toml_features.specs.Views.{entry_of, listed_of, recorded_in, ta
 use Rattle.cargo_toml_graph.proofs.InByteOrder.{ascending_once}
 use Rattle.cargo_toml_resolve.specs.Texts.{texts_now}
 use Rattle.cargo_toml_resolve.proofs.Learning.{bins_still, in_order_still, marks_still}
-use Rattle.cargo_toml_bench.proofs.Resolving.{answers, held_by_name, keyed_still, some_is, unremoved_by_name}
+use Rattle.cargo_toml_resolve.proofs.KeptAll.{unremoved_by}
+use Rattle.cargo_toml_bench.proofs.Resolving.{answers, held_by_name, keyed_still, some_is}
 use Rattle.cargo_toml_bench.proofs.plain.resolve.Goals as goal
 
 pub all_by_name-requires : goal.all_by_name-requires
@@ -42,7 +43,7 @@ returns-clause-resolved g c = λ keep tells.
     let same = c.as_slice.ensures.value in
     answers {S = g.row.S.Denot} {H = g.row.S-Hasher.Denot} listed entries (named_details c.args.lists.now.listings.now) own keep old
     (record { features = c.remove_all.new.features; dependencies = c.in_ok-dependencies.dependencies; removed_hidden_features = not c.is_empty.result; hidden_features = c.remove_all.new.hidden })
-    (texts_now c.as_slice.result.now) (unremoved_by_name vs old by_name (table_of listed entries) (enabled.unremoved (table_of listed entries) all.features.table)) c.in_ok-by_name.ensures.keyed
+    (texts_now c.as_slice.result.now) (unremoved_by vs old by_name (table_of listed entries) (enabled.unremoved (table_of listed entries) all.features.table)) c.in_ok-by_name.ensures.keyed
     (held_by_name vs old by_name (λ f v. marks_of v ≡ marks_in listed (named_details c.args.lists.now.listings.now) f) (marks_still old_vs vs enabled.same (marks_in listed (named_details c.args.lists.now.listings.now)) all.features.marks))
     (held_by_name vs old by_name (λ f v. map (λ b. b.now) v.required_by_bins.items ≡ own f) (bins_still old_vs vs enabled.same own all.features.bins))
     (λ k. subst (λ o. SameRecorded (option_map recorded_in o) (recorded_of (entries_at listed entries k))) (sym (c.in_ok-dependencies.ensures.same k)) (all.dependencies k))

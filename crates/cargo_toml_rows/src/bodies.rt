@@ -1,9 +1,9 @@
 //! Features resolved by the body that callers get and by the plain one beside it, as text.
-use crate::manifests::read;
+use crate::manifests::lines_of;
 use cargo_toml::Error;
 use cargo_toml_bench::bodies::{resolve_by_both, resolve_by_both_keeping_a};
 use cargo_toml_bench::whole::Answer;
-use cargo_toml_program::feature_lines;
+use cargo_toml_held::HeldManifest;
 use std::alloc::Global;
 use std::fs;
 use std::rt::Files;
@@ -35,19 +35,20 @@ fn answer<R: Files + AllocGlobal>(rt: &R, row: &str) -> Result<String, Error> {
     }
     let path = format!(in alloc; "{row}/Cargo.toml")?;
     let bytes = fs::read(rt, path.as_str())?;
-    let manifest = read(alloc, bytes.as_slice())?;
+    let held = HeldManifest::from_slice(alloc, bytes.as_slice())?;
     if row.starts_with("kept/") {
-        let (called, plain) = resolve_by_both_keeping_a(alloc, &*manifest)?;
-        return compared(alloc, &called, &plain);
+        compared(alloc, resolve_by_both_keeping_a(alloc, &*held.manifest)?)
+    } else {
+        compared(alloc, resolve_by_both(alloc, &*held.manifest)?)
     }
-    let (called, plain) = resolve_by_both(alloc, &*manifest)?;
-    compared(alloc, &called, &plain)
 }
 
 /// Whether the same is printed of both answers, or else what is.
-fn compared(alloc: Global, called: &Answer<'_>, plain: &Answer<'_>) -> Result<String, Error> {
-    let called = feature_lines(alloc, called)?;
-    let plain = feature_lines(alloc, plain)?;
+fn compared(alloc: Global, answers: (Answer<'_>, Answer<'_>)) -> Result<String, Error> {
+    let (called, plain) = answers;
+    let called = lines_of(alloc, called);
+    let plain = lines_of(alloc, plain);
+    let (called, plain) = (called?, plain?);
     if called == plain {
         return Ok(String::from_str(alloc, "alike")?);
     }
@@ -62,9 +63,8 @@ const TABLES: u32 = 512;
 fn tables(alloc: Global) -> Result<String, Error> {
     for number in 0..TABLES {
         let text = table(alloc, number)?;
-        let manifest = read(alloc, text.as_bytes())?;
-        let (called, plain) = resolve_by_both(alloc, &*manifest)?;
-        let compared = compared(alloc, &called, &plain)?;
+        let held = HeldManifest::from_str(alloc, text.as_str())?;
+        let compared = compared(alloc, resolve_by_both(alloc, &*held.manifest)?)?;
         if compared.as_str() != "alike" {
             return Ok(format!(in alloc; "{text} {compared}")?);
         }

@@ -1,10 +1,11 @@
 //! What completion makes of a manifest: with a workspace that is handed in, with its own, or with a
 //! root that is stated.
-use crate::manifests::{read, with_lines};
+use crate::manifests::with_lines;
 use crate::recorder::Recorder;
 use cargo_toml::features::Resolver;
 use cargo_toml::{AbstractFilesystem, Error, Manifest, ParseFault, Value};
 use cargo_toml_bench::in_memory::{Answer, InMemory, Root};
+use cargo_toml_held::HeldManifest;
 use std::alloc::Global;
 use std::rt::Files;
 use std::{fs, io};
@@ -126,8 +127,19 @@ fn complete<R: Files + AllocGlobal, Fs: AbstractFilesystem + Drop>(
     let Some(text) = text_of(rt, folder, "Workspace.toml")? else {
         return Err(Error::Other("a path without a workspace"));
     };
-    let workspace = read(alloc, text.as_bytes())?;
-    manifest.complete_from_abstract_filesystem(alloc, files, Some((&*workspace, path.as_str())))
+    let workspace = HeldManifest::from_str(alloc, text.as_str())?;
+    let handed = Some((&*workspace.manifest, path.as_str()));
+    manifest.complete_from_abstract_filesystem(alloc, files, handed)
+}
+
+/// Whether the manifest is as it was, as a word.
+pub fn left_of(alloc: Global, manifest: &Manifest, before: &str) -> Result<&'static str, Error> {
+    let after = format!(in alloc; "{manifest:?}")?;
+    Ok(if after.as_str() == before {
+        "unchanged"
+    } else {
+        "changed"
+    })
 }
 
 /// What came of completing: the fields of the manifest, or why it is refused, in words and by its
@@ -137,38 +149,43 @@ fn outcome_text<R: Files + AllocGlobal>(
     folder: &str,
     bytes: &[u8],
 ) -> Result<String, Error> {
-    let alloc = rt.alloc();
     let files = files_around(rt, folder)?;
-    let recorder = Recorder::new(alloc, &files);
-    let mut manifest = read(alloc, bytes)?;
-    let before = format!(in alloc; "{manifest:?}")?;
-    let outcome = complete(rt, folder, &mut *manifest, &recorder);
-    let after = format!(in alloc; "{manifest:?}")?;
     let is_handed = text_of(rt, folder, "path")?.is_some();
-    if let Some(objection) = recorder.objection(manifest.package.is_some(), is_handed)? {
+    outcome_among(rt, folder, bytes, &files, is_handed)
+}
+
+fn outcome_among<R: Files + AllocGlobal>(
+    rt: &R,
+    folder: &str,
+    bytes: &[u8],
+    files: &InMemory,
+    is_handed: bool,
+) -> Result<String, Error> {
+    let alloc = rt.alloc();
+    let recorder = Recorder::new(alloc, files);
+    let mut held = HeldManifest::from_slice(alloc, bytes)?;
+    let before = format!(in alloc; "{:?}", held.manifest)?;
+    let outcome = complete(rt, folder, &mut *held.manifest, &recorder);
+    if let Some(objection) = recorder.objection(held.manifest.package.is_some(), is_handed)? {
         return Ok(String::from_str(alloc, objection)?);
     }
-    match outcome {
-        Ok(()) => Ok(after),
-        Err(fault) if after == before => {
-            Ok(format!(in alloc; "refused, unchanged: {fault}\n{fault:?}")?)
-        }
-        Err(fault) => Ok(format!(in alloc; "refused, changed: {fault}")?),
-    }
+    let Err(fault) = outcome else {
+        return Ok(format!(in alloc; "{:?}", held.manifest)?);
+    };
+    let left = left_of(alloc, &*held.manifest, before.as_str())?;
+    Ok(format!(in alloc; "refused, {left}: {fault}\n{fault:?}")?)
 }
 
 /// What came of completing without a workspace: the fields of the manifest, or by its parts why it
 /// is refused, and whether the manifest is then as it was.
 pub fn completed_text(alloc: Global, bytes: &[u8], files: &InMemory) -> Result<String, Error> {
-    let mut manifest = read(alloc, bytes)?;
-    let before = format!(in alloc; "{manifest:?}")?;
-    let outcome = complete_alone(alloc, &mut *manifest, files);
-    let after = format!(in alloc; "{manifest:?}")?;
-    match outcome {
-        Ok(()) => Ok(after),
-        Err(fault) if after == before => Ok(format!(in alloc; "refused, unchanged: {fault:?}")?),
-        Err(fault) => Ok(format!(in alloc; "refused, changed: {fault:?}")?),
-    }
+    let mut held = HeldManifest::from_slice(alloc, bytes)?;
+    let before = format!(in alloc; "{:?}", held.manifest)?;
+    let Err(fault) = complete_alone(alloc, &mut *held.manifest, files) else {
+        return Ok(format!(in alloc; "{:?}", held.manifest)?);
+    };
+    let left = left_of(alloc, &*held.manifest, before.as_str())?;
+    Ok(format!(in alloc; "refused, {left}: {fault:?}")?)
 }
 
 /// The expected lines where each stands in what came of completing, and that text otherwise.
@@ -191,14 +208,17 @@ fn resolved_text<R: Files + AllocGlobal>(
 ) -> Result<String, Error> {
     let alloc = rt.alloc();
     let files = files_around(rt, folder)?;
-    let mut manifest = read(alloc, bytes)?;
+    let mut held = HeldManifest::from_slice(alloc, bytes)?;
     let path = fs::read_to_string(rt, format!(in alloc; "{folder}/path")?.as_str())?;
     let text = fs::read(rt, format!(in alloc; "{folder}/Workspace.toml")?.as_str())?;
-    let workspace = read(alloc, text.as_slice())?;
-    let handed = Some((&*workspace, path.as_str()));
+    let workspace = HeldManifest::from_slice(alloc, text.as_slice())?;
+    let handed = Some((&*workspace.manifest, path.as_str()));
     let resolver = Resolver::new();
-    let (_, resolved) = resolver.complete_and_parse(alloc, &mut *manifest, files, handed)?;
-    Ok(format!(in alloc; "{resolved:?}")?)
+    let (_, resolved) = resolver.complete_and_parse(alloc, &mut *held.manifest, files, handed)?;
+    let text = format!(in alloc; "{resolved:?}");
+    // by a call, as in `lines_of`
+    drop(resolved);
+    Ok(text?)
 }
 
 /// The expected lines where each stands in what is resolved of the completed manifest, and

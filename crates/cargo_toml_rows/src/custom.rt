@@ -1,8 +1,8 @@
 //! The features and the dependencies of a manifest, resolved as if they stood in none.
-use crate::manifests::read;
+use crate::manifests::lines_of;
 use cargo_toml::features::{Kind, ParseDependency, Resolver};
 use cargo_toml::{DepsSet, Error, FeatureSet, Manifest};
-use cargo_toml_program::feature_lines;
+use cargo_toml_held::HeldManifest;
 use std::alloc::Global;
 use std::collections::HashMap;
 use std::hash::{BuildHasherDefault, FoldHasher};
@@ -11,11 +11,14 @@ type Table = HashMap<String, Vec<String>, BuildHasherDefault<FoldHasher>>;
 
 /// What is printed of them.
 pub fn lines(alloc: Global, bytes: &[u8]) -> Result<String, Error> {
-    let manifest = read(alloc, bytes)?;
-    let table = hashed(alloc, &manifest.features)?;
-    let entries = entries(alloc, &*manifest)?;
-    let features = Resolver::new().parse_custom(alloc, &table, entries.as_slice())?;
-    feature_lines(alloc, &features)
+    let held = HeldManifest::from_slice(alloc, bytes)?;
+    let table = hashed(alloc, &held.manifest.features)?;
+    let entries = entries(alloc, &*held.manifest)?;
+    let resolver = Resolver::new();
+    lines_of(
+        alloc,
+        resolver.parse_custom(alloc, &table, entries.as_slice())?,
+    )
 }
 
 fn hashed(alloc: Global, features: &FeatureSet) -> Result<Table, Error> {

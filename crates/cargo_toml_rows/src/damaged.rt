@@ -1,13 +1,13 @@
 //! What comes of a manifest that is cut off, or has a byte that no text has.
-use crate::manifests::read;
 use cargo_toml::Error;
+use cargo_toml_held::HeldManifest;
 use std::alloc::Global;
 
 /// That each beginning of the manifest, of every length from 0, is read or answers `Parse`, or else
 /// what is answered to one.
 pub fn beginnings(alloc: Global, bytes: &[u8]) -> Result<String, Error> {
     for len in 0..=bytes.len() {
-        match read(alloc, &bytes[..len]) {
+        match HeldManifest::from_slice(alloc, &bytes[..len]) {
             Ok(_) | Err(Error::Parse(_)) => {}
             Err(fault) => return Ok(format!(in alloc; "{len} bytes: {fault:?}")?),
         }
@@ -27,7 +27,7 @@ pub fn replaced(alloc: Global, bytes: &[u8]) -> Result<String, Error> {
         if let Some((_, back)) = back.split_first() {
             changed.extend_from_slice(back)?;
         }
-        match read(alloc, changed.as_slice()) {
+        match HeldManifest::from_slice(alloc, changed.as_slice()) {
             Err(Error::Other("utf8")) => {}
             Err(fault) => return Ok(format!(in alloc; "byte {at}: {fault:?}")?),
             Ok(_) => return Ok(format!(in alloc; "byte {at}: nothing is refused")?),

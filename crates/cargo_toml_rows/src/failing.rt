@@ -1,9 +1,9 @@
 //! What comes of completion where one of the folders that it asks for answers a fault.
 use crate::completed::{answer_of, complete_alone, completed_text, files_around, text_of};
-use crate::manifests::read;
 use crate::recorder::Recorder;
 use cargo_toml::Error;
 use cargo_toml_bench::in_memory::{Answer, InMemory};
+use cargo_toml_held::HeldManifest;
 use std::alloc::Global;
 use std::rt::Files;
 
@@ -37,8 +37,8 @@ pub fn lines<R: Files + AllocGlobal>(rt: &R, folder: &str, bytes: &[u8]) -> Resu
 /// The paths that completion asks for where none fails.
 fn asked(alloc: Global, bytes: &[u8], files: &InMemory) -> Result<Vec<String>, Error> {
     let recorder = Recorder::new(alloc, files);
-    let mut manifest = read(alloc, bytes)?;
-    complete_alone(alloc, &mut *manifest, &recorder)?;
+    let mut held = HeldManifest::from_slice(alloc, bytes)?;
+    complete_alone(alloc, &mut *held.manifest, &recorder)?;
     recorder.into_paths()
 }
 

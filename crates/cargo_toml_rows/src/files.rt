@@ -1,9 +1,10 @@
 //! What comes of calls that look at real files, in a fresh folder that is removed again.
-use crate::completed::complete_alone;
-use crate::manifests::{read, text_of, with_lines};
+use crate::completed::{complete_alone, left_of};
+use crate::manifests::{text_of, with_lines};
 use crate::templates;
 use crate::tree::{fresh_folder, make_tree, reopen};
 use cargo_toml::{AbstractFilesystem, Error, Filesystem, Manifest, Value};
+use cargo_toml_held::HeldManifest;
 use cargo_toml_program::print_complete;
 use std::alloc::Global;
 use std::fs;
@@ -66,19 +67,20 @@ fn answer<R: Files + AllocGlobal>(rt: &R, words: &[String], field: &str) -> Resu
     }
 }
 
-/// The manifest of a path, behind a pointer (`read`).
+/// The manifest of a path.
 fn from_path<R: Files + AllocGlobal>(
     rt: &R,
     call: &str,
     path: &str,
-) -> Result<Box<Manifest>, Error> {
+) -> Result<HeldManifest, Error> {
     let alloc = rt.alloc();
-    let manifest = match call {
-        "from_path" => Manifest::from_path(rt, alloc, path)?,
-        "from_path_with_metadata" => Manifest::<Value>::from_path_with_metadata(rt, alloc, path)?,
-        _ => return Err(Error::Other("no such call of a path")),
-    };
-    Ok(Box::new(alloc, manifest)?)
+    match call {
+        "from_path" => HeldManifest::from_path(rt, alloc, path),
+        "from_path_with_metadata" => {
+            HeldManifest::new(alloc, Manifest::from_path_with_metadata(rt, alloc, path)?)
+        }
+        _ => Err(Error::Other("no such call of a path")),
+    }
 }
 
 fn made<R: Files + AllocGlobal>(
@@ -88,13 +90,13 @@ fn made<R: Files + AllocGlobal>(
     field: &str,
 ) -> Result<String, Error> {
     match from_path(rt, call, path) {
-        Ok(manifest) => shown(rt.alloc(), &*manifest, field),
-        Err(fault) => refused(rt.alloc(), "", &fault),
+        Ok(held) => shown(rt.alloc(), &*held.manifest, field),
+        Err(fault) => refused(rt.alloc(), "refused", &fault),
     }
 }
 
-fn read_file<R: Files + AllocGlobal>(rt: &R, file: &str) -> Result<Box<Manifest>, Error> {
-    read(rt.alloc(), fs::read(rt, file)?.as_slice())
+fn read_file<R: Files + AllocGlobal>(rt: &R, file: &str) -> Result<HeldManifest, Error> {
+    HeldManifest::from_slice(rt.alloc(), fs::read(rt, file)?.as_slice())
 }
 
 /// What comes of completing the manifest in a file by its own workspace. With `by_reference` the
@@ -107,17 +109,18 @@ fn completed<'a, R: Files + AllocGlobal>(
     field: &str,
 ) -> Result<String, Error> {
     let alloc = rt.alloc();
-    let mut manifest = read_file(rt, file)?;
-    let before = format!(in alloc; "{manifest:?}")?;
+    let mut held = read_file(rt, file)?;
+    let before = format!(in alloc; "{:?}", held.manifest)?;
+    let manifest = &mut *held.manifest;
     let outcome = match call {
         "complete_from_path" => manifest.complete_from_path(rt, alloc, path),
         "by_reference" => {
             let files = Filesystem::new(rt, path);
-            complete_alone(alloc, &mut *manifest, &files)
+            complete_alone(alloc, manifest, &files)
         }
         _ => manifest.complete_from_path_and_workspace::<Value, R>(rt, alloc, path, None),
     };
-    told(alloc, &*manifest, before.as_str(), outcome, field)
+    told(alloc, &*held.manifest, before.as_str(), outcome, field)
 }
 
 /// What comes of completing the manifest in a file by the workspace in another.
@@ -129,16 +132,14 @@ fn handed<R: Files + AllocGlobal>(
     field: &str,
 ) -> Result<String, Error> {
     let alloc = rt.alloc();
-    let mut manifest = read_file(rt, file)?;
+    let mut member = read_file(rt, file)?;
     let workspace = read_file(rt, root)?;
-    let before = format!(in alloc; "{manifest:?}")?;
-    let outcome = manifest.complete_from_path_and_workspace(
-        rt,
-        alloc,
-        path,
-        Some((&*workspace, root)),
-    );
-    told(alloc, &*manifest, before.as_str(), outcome, field)
+    let before = format!(in alloc; "{:?}", member.manifest)?;
+    let handed = Some((&*workspace.manifest, root));
+    let outcome = member
+        .manifest
+        .complete_from_path_and_workspace(rt, alloc, path, handed);
+    told(alloc, &*member.manifest, before.as_str(), outcome, field)
 }
 
 /// What is printed of a completion, with whether a manifest that isn't completed is as it was.
@@ -152,10 +153,12 @@ fn told(
     let Err(fault) = outcome else {
         return shown(alloc, manifest, field);
     };
-    if format!(in alloc; "{manifest:?}")?.as_str() == before {
-        return refused(alloc, ", unchanged", &fault);
-    }
-    refused(alloc, ", changed", &fault)
+    let left = left_of(alloc, manifest, before)?;
+    refused(
+        alloc,
+        format!(in alloc; "refused, {left}")?.as_str(),
+        &fault,
+    )
 }
 
 /// What the program `cargo-toml` prints of a completed manifest, and then the field that is asked
@@ -178,22 +181,22 @@ fn names<'a, R: Files + AllocGlobal>(
     let alloc = rt.alloc();
     let names = match Filesystem::new(rt, folder).file_names_in(alloc, path) {
         Ok(names) => names,
-        Err(fault) => return refused(alloc, "", &fault),
+        Err(fault) => return refused(alloc, "refused", &fault),
     };
     let mut sorted: Vec<&str> = names.iter().map(|name| name.as_str()).collect(alloc)?;
     sorted.sort()?;
     Ok(format!(in alloc; "{sorted:?}")?)
 }
 
-/// The fault by its parts: of input its kind, of a workspace what is wrong with it and its path,
-/// and else its words.
-fn refused(alloc: Global, left: &str, fault: &Error) -> Result<String, Error> {
+/// What happened, and the fault by its parts: of input its kind, of a workspace what is wrong with
+/// it and its path, and else its words.
+fn refused(alloc: Global, what: &str, fault: &Error) -> Result<String, Error> {
     match fault {
         Error::Workspace(parts) => {
             let cause = cause(alloc, &parts.0)?;
-            Ok(format!(in alloc; "refused{left}: Workspace({cause}, {:?})", parts.1)?)
+            Ok(format!(in alloc; "{what}: Workspace({cause}, {:?})", parts.1)?)
         }
-        _ => Ok(format!(in alloc; "refused{left}: {}", cause(alloc, fault)?)?),
+        _ => Ok(format!(in alloc; "{what}: {}", cause(alloc, fault)?)?),
     }
 }
 

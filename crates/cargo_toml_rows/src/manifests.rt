@@ -1,17 +1,25 @@
 //! What comes of a manifest, as text.
 
+use cargo_toml::features::Features;
 use cargo_toml::{Error, Manifest, ParseFault, ToValue, Value};
 use cargo_toml_bench::documented::documented_features;
 use cargo_toml_bench::report::print_report;
 use cargo_toml_bench::whole::{resolve_keeping_a, resolve_whole};
+use cargo_toml_held::HeldManifest;
 use cargo_toml_program::{feature_lines, print_features};
 use std::alloc::Global;
+use std::hash::BuildHasher;
 use toml::Table;
 
-/// The manifest behind a pointer: of what a function owns itself each field is looked at
-/// when it is proved.
-pub fn read(alloc: Global, bytes: &[u8]) -> Result<Box<Manifest>, Error> {
-    Ok(Box::new(alloc, Manifest::from_slice(alloc, bytes)?)?)
+/// The lines of features. These are dropped by a call: what a function owns itself where it ends is
+/// taken apart field by field when it is proved.
+pub fn lines_of<S: BuildHasher + Drop>(
+    alloc: Global,
+    features: Features<'_, '_, S>,
+) -> Result<String, Error> {
+    let lines = feature_lines(alloc, &features);
+    drop(features);
+    lines
 }
 
 /// The text that a manifest is written as.
@@ -35,8 +43,11 @@ fn print_table(alloc: Global, table: &Table) -> Result<String, Error> {
 
 /// How the manifest is written. What is written has to be written alike where it is read again.
 pub fn written(alloc: Global, bytes: &[u8]) -> Result<String, Error> {
-    let text = print(alloc, &*read(alloc, bytes)?)?;
-    let again = print(alloc, &*read(alloc, text.as_bytes())?)?;
+    let text = print(alloc, &*HeldManifest::from_slice(alloc, bytes)?.manifest)?;
+    let again = print(
+        alloc,
+        &*HeldManifest::from_str(alloc, text.as_str())?.manifest,
+    )?;
     if again == text {
         return Ok(text);
     }
@@ -46,8 +57,8 @@ pub fn written(alloc: Global, bytes: &[u8]) -> Result<String, Error> {
 /// The expected lines where each stands in the text of the manifest's fields, and
 /// that text otherwise.
 pub fn fields(alloc: Global, bytes: &[u8], expected: &str) -> Result<String, Error> {
-    let manifest = read(alloc, bytes)?;
-    let text = format!(in alloc; "{manifest:?}")?;
+    let held = HeldManifest::from_slice(alloc, bytes)?;
+    let text = format!(in alloc; "{:?}", held.manifest)?;
     with_lines(alloc, text.as_str(), expected)
 }
 
@@ -73,7 +84,7 @@ fn variant(fault: &Error) -> &'static str {
 /// Why the manifest is refused: the variant of the fault and its words. The words of `toml` are its
 /// own and are left out.
 pub fn fault(alloc: Global, bytes: &[u8]) -> Result<String, Error> {
-    match read(alloc, bytes) {
+    match HeldManifest::from_slice(alloc, bytes) {
         Ok(_) => Ok(String::from_str(alloc, "nothing is refused")?),
         Err(fault) => match variant(&fault) {
             "Parse(Toml)" => Ok(String::from_str(alloc, "Parse(Toml)\n")?),
@@ -108,16 +119,14 @@ pub fn limited(alloc: Global, bytes: &[u8], max_items: usize) -> Result<String, 
 
 /// The lines of the manifest's features where every hidden name is kept.
 pub fn whole(alloc: Global, bytes: &[u8]) -> Result<String, Error> {
-    let manifest = read(alloc, bytes)?;
-    let features = resolve_whole(alloc, &*manifest)?;
-    feature_lines(alloc, &features)
+    let held = HeldManifest::from_slice(alloc, bytes)?;
+    lines_of(alloc, resolve_whole(alloc, &*held.manifest)?)
 }
 
 /// The lines of the manifest's features where `_a` alone of the hidden names is kept.
 pub fn kept(alloc: Global, bytes: &[u8]) -> Result<String, Error> {
-    let manifest = read(alloc, bytes)?;
-    let features = resolve_keeping_a(alloc, &*manifest)?;
-    feature_lines(alloc, &features)
+    let held = HeldManifest::from_slice(alloc, bytes)?;
+    lines_of(alloc, resolve_keeping_a(alloc, &*held.manifest)?)
 }
 
 /// What the proved caller prints of the manifest.
@@ -129,16 +138,21 @@ pub fn report(alloc: Global, bytes: &[u8]) -> Result<String, Error> {
 
 /// The features that users are meant to ask for, each with its text.
 pub fn documented(alloc: Global, bytes: &[u8]) -> Result<String, Error> {
-    let manifest = read(alloc, bytes)?;
-    let documented = documented_features(alloc, &*manifest)?;
+    let held = HeldManifest::from_slice(alloc, bytes)?;
+    let documented = documented_features(alloc, &*held.manifest)?;
     let mut text = String::new(alloc);
     for (name, said) in &documented {
-        text.push_str(*name)?;
-        if let Some(doc) = *said {
-            text.push_str(": ")?;
-            text.push_str(doc)?;
-        }
-        text.push_str("\n")?;
+        push_documented(&mut text, *name, *said)?;
     }
     Ok(text)
+}
+
+fn push_documented(text: &mut String, name: &str, said: Option<&str>) -> Result<(), Error> {
+    text.push_str(name)?;
+    if let Some(doc) = said {
+        text.push_str(": ")?;
+        text.push_str(doc)?;
+    }
+    text.push_str("\n")?;
+    Ok(())
 }

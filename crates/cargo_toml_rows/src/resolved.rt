@@ -1,9 +1,9 @@
 //! What the features of a manifest come to, as text.
-use crate::manifests::read;
 use cargo_toml::Error;
 use cargo_toml::features::{
-    DepAction, DependenciesEnabledByFeatures, Feature, FeatureDependency, Resolver,
+    DepAction, DependenciesEnabledByFeatures, Feature, FeatureDependency, Features, Resolver,
 };
+use cargo_toml_held::HeldManifest;
 use std::alloc::Global;
 use std::collections::HashMap;
 use std::fmt::Write;
@@ -12,26 +12,27 @@ use std::hash::BuildHasher;
 /// What is recorded of dependencies, a line for each in the order of their keys, and whether hidden
 /// features were removed.
 pub fn recorded(alloc: Global, bytes: &[u8]) -> Result<String, Error> {
-    let manifest = read(alloc, bytes)?;
-    let features = Resolver::new().parse(alloc, &*manifest)?;
-    let removed = features.removed_hidden_features;
-    dependency_lines(alloc, &features.dependencies, removed)
+    let held = HeldManifest::from_slice(alloc, bytes)?;
+    let features = Resolver::new().parse(alloc, &*held.manifest)?;
+    let lines = dependency_lines(alloc, &features);
+    // by a call, as in `lines_of`
+    drop(features);
+    lines
 }
 
 fn dependency_lines<S: BuildHasher>(
     alloc: Global,
-    dependencies: &HashMap<&str, FeatureDependency<'_>, S>,
-    removed: bool,
+    features: &Features<'_, '_, S>,
 ) -> Result<String, Error> {
-    let mut keys: Vec<&str> = dependencies.keys().copied().collect(alloc)?;
+    let mut keys: Vec<&str> = features.dependencies.keys().copied().collect(alloc)?;
     keys.sort()?;
     let mut text = String::new(alloc);
     for key in keys {
-        if let Some(dependency) = dependencies.get(key) {
+        if let Some(dependency) = features.dependencies.get(key) {
             push_dependency(&mut text, key, dependency)?;
         }
     }
-    write!(text, "removed {removed}\n")?;
+    write!(text, "removed {}\n", features.removed_hidden_features)?;
     Ok(text)
 }
 
@@ -55,8 +56,8 @@ fn push_dependency(
 /// What a feature enables transitively: a line for each feature, in byte order, and one for each
 /// dependency with the features that act on it, in the order in which they are visited.
 pub fn enabled(alloc: Global, bytes: &[u8], start: &str) -> Result<String, Error> {
-    let manifest = read(alloc, bytes)?;
-    let resolved = Resolver::new().parse(alloc, &*manifest)?;
+    let held = HeldManifest::from_slice(alloc, bytes)?;
+    let resolved = Resolver::new().parse(alloc, &*held.manifest)?;
     let Some(feature) = resolved.features.get(start) else {
         return Err(Error::Other("no such feature"));
     };

@@ -18,7 +18,7 @@ pub fn audit<R: Files + Eprint + AllocGlobal>(
     let alloc = rt.alloc();
     let path = manifest_path(alloc, folder, ".")?;
     let root = manifest_in(rt, path.as_str())?;
-    let audit = audited(rt, folder, (&*root, path.as_str()), shows)?;
+    let audit = audited(rt, folder, (&*root.manifest, path.as_str()), shows)?;
     let report = if as_json {
         json(alloc, &audit)?
     } else {
@@ -48,7 +48,8 @@ fn audited<R: Files + Eprint + AllocGlobal>(
             folder: member.as_str(),
             path: path.as_str(),
         };
-        add_member(rt, place, root, workspace, &mut audit)?;
+        let outcome = add_member(rt, place, root, workspace, &mut audit);
+        add_refusal(alloc, member.as_str(), outcome, &mut audit)?;
     }
     audit.finish(workspace)?;
     Ok(audit)
@@ -61,20 +62,19 @@ struct Place<'a> {
     path: &'a str,
 }
 
-/// Adds a member to a report, completed from its workspace. Only want of memory ends the report.
-fn add_member<R: Files + AllocGlobal>(
-    rt: &R,
-    place: Place<'_>,
-    root: (&Manifest, &str),
-    workspace: &Workspace,
+/// Adds to a report that a member was refused, where it was. Only want of memory ends the report.
+fn add_refusal(
+    alloc: Global,
+    folder: &str,
+    outcome: Result<(), Error>,
     audit: &mut Audit,
 ) -> Result<(), Error> {
-    match completed(rt, place, root, workspace, audit) {
+    match outcome {
         Ok(()) => Ok(()),
         Err(Error::Memory) => Err(Error::Memory),
         Err(fault) => {
-            let words = words_of(rt.alloc(), &fault)?;
-            Ok(audit.add_refused(place.folder, words.as_str().trim_end())?)
+            let words = words_of(alloc, &fault)?;
+            Ok(audit.add_refused(folder, words.as_str().trim_end())?)
         }
     }
 }
@@ -88,7 +88,8 @@ fn words_of(alloc: Global, fault: &Error) -> Result<String, AllocError> {
     }
 }
 
-fn completed<R: Files + AllocGlobal>(
+/// Adds a member to a report, completed from its workspace.
+fn add_member<R: Files + AllocGlobal>(
     rt: &R,
     place: Place<'_>,
     root: (&Manifest, &str),
@@ -96,10 +97,11 @@ fn completed<R: Files + AllocGlobal>(
     audit: &mut Audit,
 ) -> Result<(), Error> {
     let alloc = rt.alloc();
-    let mut manifest = manifest_in(rt, place.path)?;
-    let inherits = audit.add_written(&*manifest)?;
-    manifest.complete_from_path_and_workspace(rt, alloc, place.path, Some(root))?;
-    audit.add_completed(place.folder, &*manifest, inherits, workspace)
+    let mut held = manifest_in(rt, place.path)?;
+    let inherits = audit.add_written(&*held.manifest)?;
+    held.manifest
+        .complete_from_path_and_workspace(rt, alloc, place.path, Some(root))?;
+    audit.add_completed(place.folder, &*held.manifest, inherits, workspace)
 }
 
 /// Tells a terminal how far a long report is.

@@ -16,8 +16,8 @@ pub fn document<R: Files + RandomSource + AllocGlobal>(
     file: &str,
     dot: bool,
 ) -> Result<String, Error> {
-    let manifest = manifest_in(rt, file)?;
-    document_of(rt, &*manifest, dot)
+    let held = manifest_in(rt, file)?;
+    document_of(rt, &*held.manifest, dot)
 }
 
 fn keep_every(_name: &str) -> bool
@@ -37,9 +37,11 @@ fn document_of<R: RandomSource + AllocGlobal>(
     let resolver = Resolver::new_with_hasher_and_filter(state, &keep);
     let resolved = resolver.parse(rt.alloc(), manifest)?;
     let text = if dot {
-        graph(rt.alloc(), manifest, &resolved)?
+        graph(rt.alloc(), manifest, &resolved)
     } else {
-        page(rt.alloc(), manifest, &resolved)?
+        page(rt.alloc(), manifest, &resolved)
     };
-    Ok(text)
+    // by a call: what a function owns where it ends is taken apart field by field when it is proved
+    drop(resolved);
+    Ok(text?)
 }

@@ -51,8 +51,8 @@ pub fn index<R: Files + AllocGlobal>(
     checksum: Option<&str>,
 ) -> Result<String, Fault> {
     let text = text_in(rt, file)?;
-    let manifest = completed_of(rt, file, text.as_str())?;
-    let mut line = index_line(rt.alloc(), &*manifest, text.as_str(), checksum)?;
+    let held = completed_of(rt, file, text.as_str())?;
+    let mut line = index_line(rt.alloc(), &*held.manifest, text.as_str(), checksum)?;
     line.push_str("\n")?;
     Ok(line)
 }

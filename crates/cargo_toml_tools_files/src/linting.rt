@@ -14,8 +14,8 @@ pub fn lint<R: Files + RandomSource + AllocGlobal>(
     file: &str,
     named: bool,
 ) -> Result<(String, bool), Error> {
-    let manifest = manifest_in(rt, file)?;
+    let held = manifest_in(rt, file)?;
     let state = RandomState::new(rt)?;
     let name = if named { Some(file) } else { None };
-    lint_lines(rt.alloc(), state, &*manifest, name)
+    lint_lines(rt.alloc(), state, &*held.manifest, name)
 }

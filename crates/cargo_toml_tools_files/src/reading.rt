@@ -1,7 +1,7 @@
 //! Manifests that are read from files and held on the heap.
 
-use cargo_toml::{Error, Manifest};
-use std::alloc::Global;
+use cargo_toml::Error;
+use cargo_toml_held::HeldManifest;
 use std::fs;
 use std::rt::Files;
 
@@ -10,31 +10,22 @@ pub(crate) fn text_in<R: Files + AllocGlobal>(rt: &R, file: &str) -> Result<Stri
     Ok(fs::read_to_string(rt, file)?)
 }
 
-/// The manifest in this text. It is wide, and so no call that does more than this holds it on the
-/// stack.
-pub(crate) fn manifest_of(alloc: Global, text: &str) -> Result<Box<Manifest>, Error> {
-    match Manifest::from_str(alloc, text) {
-        Ok(manifest) => Ok(Box::new(alloc, manifest)?),
-        Err(fault) => Err(fault),
-    }
-}
-
 /// The manifest in the text of this file, completed from what is around it.
 pub(crate) fn completed_of<R: Files + AllocGlobal>(
     rt: &R,
     file: &str,
     text: &str,
-) -> Result<Box<Manifest>, Error> {
-    let mut manifest = manifest_of(rt.alloc(), text)?;
-    manifest.complete_from_path(rt, rt.alloc(), file)?;
-    Ok(manifest)
+) -> Result<HeldManifest, Error> {
+    let mut held = HeldManifest::from_str(rt.alloc(), text)?;
+    held.manifest.complete_from_path(rt, rt.alloc(), file)?;
+    Ok(held)
 }
 
 /// The manifest in this file.
 pub(crate) fn manifest_in<R: Files + AllocGlobal>(
     rt: &R,
     path: &str,
-) -> Result<Box<Manifest>, Error> {
+) -> Result<HeldManifest, Error> {
     let text = text_in(rt, path)?;
-    manifest_of(rt.alloc(), text.as_str())
+    HeldManifest::from_str(rt.alloc(), text.as_str())
 }

@@ -5,6 +5,8 @@
 //! says that all is as expected, or what came instead.
 #![tactic(auto)]
 
+mod findings;
+
 use cargo_toml::Error;
 use cargo_toml_tools::escape::fault_line;
 use cargo_toml_tools_files::{audit, document, index, lint};
@@ -43,9 +45,13 @@ fn reported(
     }
 }
 
-/// The checksum beside a manifest, if there is one.
-fn checksum_in<R: Files + AllocGlobal>(rt: &R, folder: &str) -> Result<Option<String>, Error> {
-    let path = format!(in rt.alloc(); "{folder}/checksum")?;
+/// The text of a file beside a manifest, if there is one.
+fn text_beside<R: Files + AllocGlobal>(
+    rt: &R,
+    folder: &str,
+    name: &str,
+) -> Result<Option<String>, Error> {
+    let path = format!(in rt.alloc(); "{folder}/{name}")?;
     match fs::read_to_string(rt, path.as_str()) {
         Ok(text) => Ok(Some(text)),
         Err(_) => Ok(None),
@@ -62,9 +68,14 @@ fn answer<R: Files + RandomSource + Eprint + AllocGlobal>(
     let file = format!(in alloc; "{row}/Cargo.toml")?;
     match kind {
         "index" => {
-            let checksum = checksum_in(rt, row)?;
+            let checksum = text_beside(rt, row, "checksum")?;
             let checksum = checksum.as_ref().map(|text| text.as_str().trim_end());
             told(alloc, "FILE", index(rt, file.as_str(), checksum))
+        }
+        "findings" => {
+            let limit = text_beside(rt, row, "max")?;
+            let limit = limit.as_ref().map(|text| text.as_str().trim_end());
+            findings::lines(rt, file.as_str(), limit)
         }
         "lint" => reported(alloc, "FILE", lint(rt, file.as_str(), false)),
         "document" => told(alloc, "FILE", document(rt, file.as_str(), false)),

@@ -79,8 +79,8 @@ fn enable_through<'m>(
     enable_along(features, targets, source)
 }
 
-// Each kept feature enables, source by source, the kept ones to which it, or one that it passes, has
-// an edge. For one that passes any, these are its targets.
+// Each kept feature enables, source by source, the kept ones to which it, or one that it passes,
+// has an edge. For one that passes any, these are its targets.
 fn enable_each<'m>(
     features: &mut Vec<Feature<'m>>,
     graph: &Graph<'m>,

@@ -5,6 +5,7 @@ pub mod ActionTexts
 pub mod Listings
 pub mod TextKeys
 pub mod Naming
+pub mod Unremoved
 pub mod Pairs
 pub mod Pending
 pub mod Held

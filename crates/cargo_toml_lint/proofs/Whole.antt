@@ -15,7 +15,7 @@ use Rattle.cargo_toml.specs.Graph.{Table, Edge, IsResolved}
 use Rattle.cargo_toml.specs.Marks.{NamedDetails, FeatureMarks, marked, marks_in, marks_of}
 use Rattle.cargo_toml.specs.NonDefault.{without_default}
 use Rattle.cargo_toml.specs.Products.{ProductMeaning}
-use Rattle.cargo_toml.specs.Reach.{Gathers, Reaches}
+use Rattle.cargo_toml.specs.Reach.{Reaches}
 use Rattle.cargo_toml.specs.Reach.Reaches.{edge, through}
 use Rattle.cargo_toml.specs.Recorded.{Entry, is_implied}
 use Rattle.cargo_toml.specs.Recursive.{Enables}
@@ -23,6 +23,7 @@ use Rattle.cargo_toml.specs.Recursive.Enables.{itself, further}
 use Rattle.cargo_toml.specs.Removal.{is_removed}
 use Rattle.cargo_toml.specs.Resolved.{table_of}
 use Rattle.cargo_toml.specs.Views.{set_has, resolution_of, table_in, value_at}
+use Rattle.cargo_toml_features.proofs.Unremoved.{enables_has, enables_in, enables_out, held, named, names, there}
 use Rattle.cargo_toml_graph.proofs.Texts.{decided_text}
 use Rattle.cargo_toml_lint.specs.Findings.{IsCyclic, IsOnlyDefault, IsUnreachable, is_hidden, is_private, is_required}
 use Rattle.cargo_toml_lint.specs.Known.{Names}
@@ -81,10 +82,6 @@ enables_more : {t : Table} {f g h : Text} → Enables t f g → Enables t g h �
 enables_more a itself = a
 enables_more a (further e n k) = further (enables_more a e) n k
 
-enables_has : {t : Table} {f g : Text} → IsTrue (t.has f) → Enables t f g → IsTrue (t.has g)
-enables_has h itself = h
-enables_has h (further e n k) = k
-
 -- the last one before f that isn't f
 last_before : {t : Table} {f o : Text} (x : Text) → x ≡ f → o ≢ f → Enables t f o → Enables t o x
     → (h : Text) × (h ≢ f) × Enables t f h × IsTrue (t.names h f)
@@ -96,36 +93,8 @@ last_before {t} {f} {o} x same apart there (further {g = h} e n k) = elim (decid
 
 module _ {S : Type 0} (m : HashMap (Bor Text) Feature S) (t : Table) (Removed : Text → Type 0)
     (none : (f : Text) → ¬ Removed f) (resolved : IsResolved t Removed (resolution_of m)) where
-  there : (f : Text) → IsTrue ((table_in m).has f) → IsTrue (t.has f)
-  there f h = ((resolved.kept f).0 h).0
-
-  held : (f : Text) → IsTrue (t.has f) → IsTrue ((table_in m).has f)
-  held f h = (resolved.kept f).1 (h, none f)
-
   pub has_same : (f : Text) → (table_in m).has f ≡ t.has f
-  has_same f = same_truth _ _ (there f, held f)
-
-  own : (f b : Text) → Gathers (Edge t) Removed f b → b ≡ f
-  own f b (inl e) = e
-  own f b (inr r) = absurd (none b r.0)
-
-  named : (f x : Text) → IsTrue (t.has f) → IsTrue ((table_in m).names f x) → IsTrue (t.names f x)
-  named f x h n =
-      let k = (resolved.names f x (h, none f)).0 n in
-      subst (λ b. IsTrue (t.names b x)) (own f k.0.0 k.0.1) k.0.2
-
-  names : (f x : Text) → IsTrue (t.has f) → IsTrue (t.names f x) → IsTrue ((table_in m).names f x)
-  names f x h n = (resolved.names f x (h, none f)).1 ((f, inl refl, n), none x)
-
-  enables_in : {f x : Text} → IsTrue (t.has f) → Enables (table_in m) f x → Enables t f x
-  enables_in h itself = itself
-  enables_in h (further e n k) =
-      let r = enables_in h e in further r (named _ _ (enables_has h r) n) (there _ k)
-
-  enables_out : {f x : Text} → IsTrue (t.has f) → Enables t f x → Enables (table_in m) f x
-  enables_out h itself = itself
-  enables_out h (further e n k) =
-      further (enables_out h e) (names _ _ (enables_has h e) n) (held _ k)
+  has_same f = same_truth _ _ (there m t Removed none resolved f, held m t Removed none resolved f)
 
   only : {a b : Text} → Reaches (Edge t) Removed a b → Edge t a b
   only (edge e) = e
@@ -140,7 +109,7 @@ module _ {S : Type 0} (m : HashMap (Bor Text) Feature S) (t : Table) (Removed : 
 
   -- a feature that tells an enabler is there
   told_has : (f e : Text) → IsTrue ((resolution_of m).enabled_by f e) → IsTrue (t.has f)
-  told_has f e y = there f (go (value_at m f) y)
+  told_has f e y = there m t Removed none resolved f (go (value_at m f) y)
     where
       go : (o : Option Feature) → IsTrue (option_map_or (λ v. set_has v.enabled_by e) o false)
           → IsTrue (is_some o)
@@ -156,35 +125,38 @@ module _ {S : Type 0} (m : HashMap (Bor Text) Feature S) (t : Table) (Removed : 
           other = r.0;
           known = known;
           apart = d.apart;
-          there = enables_in known r.2;
-          back = further itself (named r.0 f d.source r.3) known;
+          there = enables_in m t Removed none resolved known r.2;
+          back = further itself (named m t Removed none resolved r.0 f d.source r.3) known;
         },
     λ c.
         let l = last_before f refl c.apart c.there c.back in
         let known : IsTrue (t.has l.0) = enables_has c.known l.2 in
         let d : Edge t l.0 f =
         record { source = known; target = c.known; apart = l.1; leads = inl l.3 } in
-        (l.0, (enablers f l.0 c.known).1 d, enables_out c.known l.2, names l.0 f known l.3),
+        (l.0, (enablers f l.0 c.known).1 d, enables_out m t Removed none resolved c.known l.2,
+            names m t Removed none resolved l.0 f known l.3),
   )
 
   pub unreachable_is : (f : Text) → IsUnreachable (table_in m) f ↔ IsUnreachable t f
   unreachable_is f = (
     λ u. record {
-      known = there f u.known;
+      known = there m t Removed none resolved f u.known;
       hidden = u.hidden;
-      left_alone = λ k h kept e. u.left_alone k (held k h) kept (enables_out h e);
+      left_alone = λ k h kept e. u.left_alone k (held m t Removed none resolved k h) kept
+          (enables_out m t Removed none resolved h e);
     },
     λ u. record {
-      known = held f u.known;
+      known = held m t Removed none resolved f u.known;
       hidden = u.hidden;
-      left_alone = λ k h kept e. u.left_alone k (there k h) kept (enables_in (there k h) e);
+      left_alone = λ k h kept e. let known = there m t Removed none resolved k h in
+          u.left_alone k known kept (enables_in m t Removed none resolved known e);
     },
   )
 
   only_default_is : (f : Text) (v : Feature) → value_at m f ≡ Some v → IsTrue (only_default v)
       ↔ IsOnlyDefault t f
   only_default_is f v is =
-      let known : IsTrue (t.has f) = there f (ap is_some is) in
+      let known : IsTrue (t.has f) = there m t Removed none resolved f (ap is_some is) in
       let told : (e : Text) → (resolution_of m).enabled_by f e ≡ set_has v.enabled_by e =
       λ e. ap (λ o. option_map_or (λ (u : Feature). set_has u.enabled_by e) o false) is in (
         λ y.

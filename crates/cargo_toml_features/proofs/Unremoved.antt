@@ -1,0 +1,48 @@
+-- A map of a resolution with nothing removed has what the table has, and enables what it enables.
+use Rattle.std.proofs.Common.{◌≡◌, Bor, IsTrue, refl, subst, inl, inr}
+use Rattle.std.specs.HashMap.{HashMap}
+use Rattle.cargo_toml_graph.specs.Action.{Text}
+use Rattle.cargo_toml_graph.specs.Graph.{Table, Edge, IsResolved}
+use Rattle.cargo_toml_graph.specs.Reach.{Gathers}
+use Rattle.cargo_toml_graph.specs.Recursive.{Enables}
+use Rattle.cargo_toml_graph.specs.Recursive.Enables.{itself, further}
+use Rattle.cargo_toml_features.specs.Views.{resolution_of, table_in}
+use Rattle.cargo_toml_features.specs.declared.features.Feature.{Feature}
+
+-- what a feature of a table enables is one of its features
+pub enables_has : {t : Table} {f g : Text} → IsTrue (t.has f) → Enables t f g → IsTrue (t.has g)
+enables_has h itself = h
+enables_has h (further e n k) = k
+
+module _ {S : Type 0} (m : HashMap (Bor Text) Feature S) (t : Table) (Removed : Text → Type 0)
+    (none : (f : Text) → ¬ Removed f) (resolved : IsResolved t Removed (resolution_of m)) where
+  pub there : (f : Text) → IsTrue ((table_in m).has f) → IsTrue (t.has f)
+  there f h = ((resolved.kept f).0 h).0
+
+  pub held : (f : Text) → IsTrue (t.has f) → IsTrue ((table_in m).has f)
+  held f h = (resolved.kept f).1 (h, none f)
+
+  own : (f b : Text) → Gathers (Edge t) Removed f b → b ≡ f
+  own f b (inl e) = e
+  own f b (inr r) = absurd (none b r.0)
+
+  -- what the map names is named in the table, and the other way round
+  pub named : (f x : Text) → IsTrue (t.has f) → IsTrue ((table_in m).names f x)
+      → IsTrue (t.names f x)
+  named f x h n =
+      let k = (resolved.names f x (h, none f)).0 n in
+      subst (λ b. IsTrue (t.names b x)) (own f k.0.0 k.0.1) k.0.2
+
+  pub names : (f x : Text) → IsTrue (t.has f) → IsTrue (t.names f x)
+      → IsTrue ((table_in m).names f x)
+  names f x h n = (resolved.names f x (h, none f)).1 ((f, inl refl, n), none x)
+
+  pub enables_in : {f x : Text} → IsTrue (t.has f) → Enables (table_in m) f x → Enables t f x
+  enables_in h itself = itself
+  enables_in h (further e n k) =
+      let r = enables_in h e in further r (named _ _ (enables_has h r) n) (there _ k)
+
+  pub enables_out : {f x : Text} → IsTrue (t.has f) → Enables t f x → Enables (table_in m) f x
+  enables_out h itself = itself
+  enables_out h (further e n k) =
+      further (enables_out h e) (names _ _ (enables_has h e) n) (held _ k)

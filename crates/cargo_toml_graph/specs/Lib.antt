@@ -8,6 +8,6 @@ pub mod Bins
 pub mod Recursive
 pub mod Kept
 pub mod Admitted
+pub mod Ascending
 -- worked examples, which compute: nothing here has to be believed
 pub mod Examples
-pub mod Ascending

@@ -16,7 +16,8 @@ use std::alloc::{AllocError, Global};
 use std::path::{Ancestors, Path};
 
 /// The path `b` as seen from the folder `a`: `b` itself where it begins with a slash or `a` is
-/// empty, and else both with one slash between them. It takes memory for the whole text once.
+/// empty. Else both, with a slash between them unless `a` ends with one. It takes memory for the
+/// whole text once.
 pub fn join(alloc: Global, a: &str, b: &str) -> Result<String, AllocError>
     ensures { IfOk result (λ s. string_bytes s ≡ path_join a.now b.now) }
 {
@@ -46,8 +47,8 @@ pub fn ancestors(path: &str) -> Ancestors<'_>
     Path::new(path).ancestors()
 }
 
-/// The folder of a workspace with this path: that of its `Cargo.toml`, or the path itself where
-/// that is a folder.
+/// The folder of a workspace with this path: the folder above where the last name is `Cargo.toml`,
+/// which is the empty path for that name alone. Any other path is taken for the folder itself.
 pub fn workspace_folder(path: &str) -> &str
     ensures { result.now ≡ workspace_folder path.now }
 {

@@ -1,6 +1,6 @@
--- which values say which setting, and what is asked of one: a user has to believe these
+-- which values say which setting, what is asked of one, and how they compare: a user has to believe
+-- these, and there are no others
 pub mod Settings
 pub mod ProfileSettings
 pub mod SettingAnswers
--- what private laws say alone: nothing here has to be believed
 pub mod SettingsLaws

@@ -5,7 +5,7 @@ use Rattle.cargo_toml_settings.specs.declared.settings.Edition.TheVariants.{E201
 use Rattle.cargo_toml_settings.specs.declared.settings.Edition.TheVariants.{E2024}
 use Rattle.cargo_toml_settings.specs.Settings.{File, flag, path, Registries, everywhere, among}
 
--- x, where 1.x is the first version of Rust with the edition
+-- x, where 1.x is the first version of Rust with the edition; 1 for 2015, which 1.0 has too
 abbrev pub first_minor_of : Edition → ℕ
 first_minor_of E2015 = 1
 first_minor_of E2018 = 31

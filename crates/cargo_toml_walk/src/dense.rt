@@ -15,7 +15,7 @@ use std::alloc::{AllocError, Global};
 
 /// Whether so many nodes are many in so many rows, over `count` nodes: whether a table of bits
 /// takes no more memory than the rows do, so that it is worth its cost. Rows of a few nodes are
-/// walked faster.
+/// walked faster. It decides speed and memory alone, so no clause says when it is true.
 pub fn are_many(total: usize, rows: usize, count: usize) -> bool {
     let least = (count / 64).max(16);
     total >= rows.saturating_mul(least)

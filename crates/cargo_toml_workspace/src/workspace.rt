@@ -21,9 +21,9 @@ use toml::{Table, Value};
 
 /// The table `[workspace]`: which packages belong together, and what they share.
 ///
-/// A manifest may have it beside a package, or without one. A key's `_` is written `-` in a
-/// manifest. A list or a map whose key is missing is empty, and any other field is then `None`;
-/// keys that are not listed here are ignored.
+/// A manifest may have it beside a package, or without one. Where a field's name has `_`, its key
+/// has `-`. A list or a map whose key is missing is empty, and any other field is then `None`; keys
+/// that are not listed here are ignored.
 #[derive(Debug, PartialEq, Drop)]
 pub struct Workspace<Metadata = Value> {
     /// The paths of the members' folders, relative to the workspace. Patterns among them stay

@@ -1,4 +1,4 @@
-// Making the values of fields one after the other, until memory is refused.
+// Making the values of fields one after the other, and whether memory was refused for one.
 ghost use Rattle.std.specs.Prelude.{◌≡◌, Some, IfOk, IsOkAnd, false, option_map, string_bytes};
 ghost use Rattle.std.specs.Path.{path_join};
 ghost use Rattle.cargo_toml_parts.specs.Copies.{Finishes};

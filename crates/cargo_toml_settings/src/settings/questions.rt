@@ -8,7 +8,8 @@ use std::fmt;
 impl Edition {
     ghost use Rattle.cargo_toml_settings.specs.SettingAnswers.{first_minor_of};
 
-    /// The minor version `x` of the first Rust 1.`x` that knows the edition.
+    /// The minor version `x` of the first Rust 1.`x` that knows the edition. Of 2015, which 1.0
+    /// knows too, it is 1.
     pub fn min_rust_version_minor(self) -> u16
         ensures { result ≡ first_minor_of self }
     {

@@ -50,12 +50,18 @@ module _ (t : Table) (removed : Text → Bool) (full m : Resolution) (u : IsUnre
       let w : StillUnder f g = still_under k e in
       elim (w.3) [ inl i ↦ subst (λ v. Enables m.table f v) (sym i) w.2 | inr q ↦ absurd (k'.1 q.0) ]
 
-  joined_plain : {P : Action → Type 0} (o : Option Action) → IsJoin P o → (a : Action) → P a → IsFalse a.is_conditional → (j : Action) × (o ≡ Some j) × IsFalse j.is_conditional
+  joined_plain : {P : Action → Type 0} (o : Option Action) → IsJoin P o → (a : Action) → P a
+      → IsFalse a.is_conditional → (j : Action) × (o ≡ Some j) × IsFalse j.is_conditional
+      × ((x : Text) → IsTrue (a.features x) → IsTrue (j.features x))
   joined_plain None j a p e = absurd (false≢true (j.there.1 (a, p)))
-  joined_plain (Some i) j a p e = (i, refl, j.plain.1 (a, p, e))
+  joined_plain (Some i) j a p e =
+      (i, refl, j.plain.1 (a, p, e), λ x asked. (j.features x).1 (a, p, asked))
 
-  pub keeps_dependency : {f k g : Text} {a : Action} → IsKept t (λ v. IsTrue (removed v)) f → EnablesDependency full.table f k g a → (g' : Text) × (a' : Action) × EnablesDependency m.table f k g' a'
+  pub keeps_dependency : {f k g : Text} {a : Action} → IsKept t (λ v. IsTrue (removed v)) f
+      → EnablesDependency full.table f k g a
+      → (g' : Text) × (a' : Action) × EnablesDependency m.table f k g' a'
+      × ((x : Text) → IsTrue (a.features x) → IsTrue (a'.features x))
   keeps_dependency {f} {k} {g} {a} kept e =
       let w : StillUnder f g = still_under kept e.0 in
       let j = joined_plain (m.table.action w.0 k) (h.action w.0 k w.1) a (g, w.3, sym (u.action g k) ∙ e.1) e.2 in
-      (w.0, j.0, (w.2, j.1, j.2))
+      (w.0, j.0, (w.2, j.1, j.2), j.3)

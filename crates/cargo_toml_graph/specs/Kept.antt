@@ -18,10 +18,11 @@ KeepsEnabling full m =
     → EnablesAtLast m a b ↔ EnablesAtLast full a b
 
 -- what a feature that m has enables recursively in full, it enables in m: each feature that m has,
--- and each dependency
+-- and each dependency, with each feature of it that is asked for
 pub record LosesNothing (full m : Resolution) : Type 0 where
   pub features : (f g : Text) → IsTrue (m.table.has f) → IsTrue (m.table.has g)
       → Enables full.table f g → Enables m.table f g
   pub dependencies : (f k g : Text) (a : Action) → IsTrue (m.table.has f)
       → EnablesDependency full.table f k g a
       → (h : Text) × (b : Action) × EnablesDependency m.table f k h b
+      × ((x : Text) → IsTrue (a.features x) → IsTrue (b.features x))

@@ -117,7 +117,7 @@ fn ask_products<Fs: Folders>(
 }
 
 /// The names in the folder of a package, in `src`, in each folder of a list that is wanted, and in
-/// those of its names that may be folders of a product. Each is asked for once.
+/// those of its names that may be folders of a product.
 ///
 /// The folder of the package must be there; another that is absent counts as empty. Refused by what
 /// `fs` answers in place of names, the first time that this is no absent folder, and by

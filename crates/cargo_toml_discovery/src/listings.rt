@@ -82,7 +82,7 @@ impl Listings {
     }
 
     /// Keeps the names in a folder, in place of those that were kept of it. It is refused only
-    /// where there was no memory.
+    /// where there was no memory; nothing is said of the listings then.
     pub fn keep(
         &mut self,
         alloc: Global,

@@ -2,7 +2,7 @@
 use Rattle.cargo_toml.specs.Graph.{Resolution}
 use Rattle.cargo_toml.specs.Kept.{KeepsEnabling, LosesNothing}
 
--- of the whole only what is hidden goes
+-- the features that are left enable what they do in the whole: which these are isn't said here
 pub record HidesAlone (whole left : Resolution) : Type 0 where
   -- between features that are left, what enables what transitively is the same
   pub closure : KeepsEnabling whole left

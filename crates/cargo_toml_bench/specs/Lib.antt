@@ -8,6 +8,7 @@ pub mod Enabled
 pub mod Members
 pub mod Rewriting
 pub mod InMemory
--- the code's own steps, in contracts of inner functions alone: nothing here has to be believed
+-- the code's own steps, in contracts of inner functions and of `plain` alone: no caller's promise
+-- rests on these
 pub mod Alone
 pub mod Removing

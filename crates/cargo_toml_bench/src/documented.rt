@@ -15,8 +15,8 @@ use std::hash::BuildHasher;
 /// The features of a manifest that users are meant to ask for, by name, each with what the
 /// manifest says of it.
 ///
-/// These are its features without the hidden ones that are public, and that it lists or no other
-/// feature enables. The one refusal is [`Error::Memory`].
+/// These are the public ones that aren't hidden, and that it lists or no other feature enables. The
+/// one refusal is [`Error::Memory`].
 pub fn documented_features<'m, M>(
     alloc: Global,
     manifest: &'m Manifest<M>,

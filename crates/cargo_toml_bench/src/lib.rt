@@ -1,7 +1,8 @@
 //! Callers of `cargo_toml` that are proved, written as a user of the crate writes them.
 //!
 //! `plain` is no such caller: it resolves features in a way that is easy to follow, to compare
-//! with.
+//! with. `bodies` compares, and calls what lies below `cargo_toml`. So does `round_trip`, which
+//! needs laws of `cargo_toml_write`.
 #![tactic(auto)]
 
 pub mod bodies;

@@ -25,7 +25,7 @@ use std::hash::BuildHasher;
 /// What a report says of a manifest. The texts are borrowed from it.
 #[derive(Debug, Drop)]
 pub struct Report<'m> {
-    /// The keys of the optional dependencies, in byte order.
+    /// The keys of the optional dependencies of the table `dependencies`, in byte order.
     pub optional: Vec<&'m str>,
     /// The names of the features that nothing in the manifest enables, except `default`, in byte
     /// order.

@@ -29,8 +29,9 @@ use std::io::Write;
 /// script and one for its readme.
 ///
 /// What isn't known, as the name of a product that has none or a readme that is left to the
-/// workspace, is written `-`. Refuses with `Io` where `output` can't be written, and with `Memory`
-/// where there is not enough memory. Nothing is written before all lines stand.
+/// workspace, is written `-`. Names and paths are written as they are, line feeds and all. Refuses
+/// with `Io` where `output` can't be written, and with `Memory` where there is not enough memory.
+/// Nothing is written before all lines stand.
 pub fn print_complete<Metadata, W: Write>(
     alloc: Global,
     manifest: &Manifest<Metadata>,

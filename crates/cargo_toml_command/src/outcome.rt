@@ -51,9 +51,9 @@ impl Outcome {
     }
 }
 
-/// What is written on standard error: nothing where all is done, a line with the fault after
-/// `error: ` where it was refused, and else a line that says how the program is called. It takes no
-/// memory, since refused memory is reported in the same way.
+/// What is written on standard error: nothing where all is done; `error: `, the fault and a line
+/// feed where it was refused; and else a line that says how the program is called. A fault of
+/// `toml` has several lines. It takes no memory, since refused memory is reported in the same way.
 impl fmt::Display for Outcome {
     ghost output = { text_of_outcome };
 

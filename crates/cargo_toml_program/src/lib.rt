@@ -18,7 +18,7 @@ use std::io::{Read, Write};
 
 /// Reads a manifest from `input` and writes to `output` a line for each of its features, and then
 /// one for each that is removed since it is hidden. They are resolved with the limit of items
-/// `max_items`, at least 1.
+/// `max_items`, at least 1. Names and texts are written as they are, line feeds and all.
 ///
 /// Refuses as `Manifest::from_slice` does, with `Io` where `input` can't be read or `output` can't
 /// be written, and with `Memory` where there is not enough memory. Nothing is written before all

@@ -7,8 +7,8 @@ use cargo_toml_held::HeldManifest;
 use std::alloc::Global;
 use std::rt::Files;
 
-/// A line for each path that completion asks for, in order: `PATH: ` and what comes where that path
-/// answers what the file `answered` says.
+/// A line for each path that completion asks for, in byte order: `PATH: ` and what comes where that
+/// path answers what the file `answered` says.
 pub fn lines<R: Files + AllocGlobal>(rt: &R, folder: &str, bytes: &[u8]) -> Result<String, Error> {
     let alloc = rt.alloc();
     let Some(words) = text_of(rt, folder, "answered")? else {

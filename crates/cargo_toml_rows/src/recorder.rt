@@ -24,7 +24,7 @@ impl<'a> Recorder<'a> {
         }
     }
 
-    /// The paths whose names were asked for, in order.
+    /// The paths whose names were asked for, in byte order.
     pub fn into_paths(self) -> Result<Vec<String>, Error> {
         let mut paths = self.paths.into_inner();
         paths.sort()?;

@@ -8,7 +8,11 @@ use std::alloc::{AllocError, Global};
 use std::io;
 use std::rt::Files;
 
-/// The report on the workspace in a folder, and whether something is odd.
+/// The report on the workspace in a folder, and whether something is odd: JSON where `as_json` is
+/// set, and else lines. Where `shows` is set, a long one tells on standard error how far it is.
+///
+/// Refused where the folder's manifest can't be read or has no workspace, or its members can't be
+/// listed. A member that is refused is a finding.
 pub fn audit<R: Files + Eprint + AllocGlobal>(
     rt: &R,
     folder: &str,

@@ -10,7 +10,7 @@ use std::random::RandomSource;
 use std::rt::Files;
 
 /// What is documented of the features of the crate of this file: the graph where `dot` is set, and
-/// else a page.
+/// else a page. Refused where the file can't be read as a manifest; nothing around it is read.
 pub fn document<R: Files + RandomSource + AllocGlobal>(
     rt: &R,
     file: &str,

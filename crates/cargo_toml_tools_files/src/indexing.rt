@@ -44,7 +44,8 @@ impl fmt::Display for Fault {
 }
 
 /// The line that an index has of the crate of this file, which is completed first. The checksum is
-/// that of the crate's archive.
+/// that of the crate's archive. Refused where the file can't be read or completed as a manifest, or
+/// has what no index takes.
 pub fn index<R: Files + AllocGlobal>(
     rt: &R,
     file: &str,

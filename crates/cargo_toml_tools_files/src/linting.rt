@@ -8,7 +8,8 @@ use std::random::RandomSource;
 use std::rt::Files;
 
 /// What is amiss with the features of the crate of this file, as lines, and whether one tells an
-/// error or a warning. The lines begin with the file's name where `named` is set.
+/// error or a warning. The lines begin with the file's name where `named` is set. Refused where the
+/// file can't be read as a manifest; nothing around it is read.
 pub fn lint<R: Files + RandomSource + AllocGlobal>(
     rt: &R,
     file: &str,

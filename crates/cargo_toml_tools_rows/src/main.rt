@@ -15,7 +15,7 @@ use std::random::RandomSource;
 use std::rt::Files;
 use std::{env, fmt, fs};
 
-/// The text that is made, or the line that tells the fault. The file is named as the row's.
+/// The text that is made, or the line that tells the fault, in which the file is called `file`.
 fn told<F: fmt::Display + Drop>(
     alloc: Global,
     file: &str,

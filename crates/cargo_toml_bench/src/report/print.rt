@@ -16,8 +16,9 @@ use cargo_toml_held::HeldManifest;
 use std::alloc::{AllocError, Global};
 use std::io::Write;
 
-/// Writes a line `optional NAME` for each optional dependency of the manifest that the bytes spell,
-/// and then a line `unreferenced NAME` for each feature that nothing in it enables.
+/// Writes the report of the manifest that the bytes spell: a line `optional NAME` for each optional
+/// key of its table `dependencies`, and then a line `unreferenced NAME` for each feature other than
+/// `default` that nothing in it enables.
 ///
 /// Refuses as [`HeldManifest::from_slice`] does, with `Memory` where there was no room, and with
 /// `Io` where `output` can't be written. All lines stand before the first is written, so that a

@@ -61,9 +61,10 @@ impl<Metadata: Drop> Manifest<Metadata> {
     ///
     /// A path that names no file, as the empty one and `/`, is refused as
     /// `Error::Other("bad path")`. Other refusals are those of `complete_from_abstract_filesystem`:
-    /// `Error::Workspace` and `Error::Memory`. What the files answer in place of names is
-    /// `Error::Io`, and in place of a root what `Filesystem::parse_root_workspace` refuses with. A
-    /// refusal leaves the manifest as it was.
+    /// `Error::Workspace` and `Error::Memory`. In the former stands what the files answer:
+    /// `Error::Io` in place of names; in place of a root what `Filesystem::parse_root_workspace`
+    /// refuses with, unless it is `Error::Workspace` itself. A refusal leaves the manifest as it
+    /// was.
     pub fn complete_from_path_and_workspace<'a, N, R: Files + AllocGlobal>(
         &mut self,
         rt: &'a R,

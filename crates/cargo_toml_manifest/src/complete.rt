@@ -187,10 +187,15 @@ fn completion_for<Metadata, N, Fs: AbstractFilesystem>(
 impl<Metadata: Drop> Manifest<Metadata> {
     /// Puts in what the manifest leaves to its workspace, and what is found in its folders.
     ///
-    /// The workspace is the one that is handed in, with the path of its folder or of its
-    /// `Cargo.toml`; else the manifest's own workspace table; else, where something is left to it,
-    /// the root that `fs` finds by what the package says of its workspace. It gives dependencies,
-    /// lints and fields of the package; where nothing is left to it, these stay as they are.
+    /// The workspace is the first of these:
+    ///
+    /// - the one that is handed in, with the path of its folder or of its `Cargo.toml`;
+    /// - the manifest's own workspace table;
+    /// - where something is left to it, the root that `fs` finds by what the package says of its
+    ///   workspace.
+    ///
+    /// It gives dependencies, lints and fields of the package; where nothing is left to it, these
+    /// stay as they are.
     ///
     /// Where no workspace is handed in, `N` has to be named, and any type of metadata does:
     /// `complete_from_abstract_filesystem::<Value, _>(alloc, fs, None)`.

@@ -8,6 +8,7 @@ pub use Rattle.cargo_toml_parts.specs.Answers
 pub use Rattle.cargo_toml_parts.specs.Faults
 pub use Rattle.cargo_toml_parts.specs.FaultValues
 pub use Rattle.cargo_toml_parts.specs.Floats
+pub use Rattle.cargo_toml_parts.specs.InheritableLaws
 pub use Rattle.cargo_toml_parts.specs.InheritableValues
 pub use Rattle.cargo_toml_parts.specs.Inherits
 pub use Rattle.cargo_toml_parts.specs.Lending
@@ -17,6 +18,7 @@ pub use Rattle.cargo_toml_parts.specs.Readings
 pub use Rattle.cargo_toml_parts.specs.Reads
 pub use Rattle.cargo_toml_settings.specs.SettingAnswers
 pub use Rattle.cargo_toml_settings.specs.Settings
+pub use Rattle.cargo_toml_settings.specs.SettingsLaws
 pub use Rattle.cargo_toml_parts.specs.Versions
 pub use Rattle.cargo_toml_parts.specs.Wrapping
 pub use Rattle.cargo_toml_tables.specs.Badges
@@ -81,6 +83,7 @@ pub use Rattle.cargo_toml_graph.specs.Bins
 pub use Rattle.cargo_toml_graph.specs.Recursive
 pub use Rattle.cargo_toml_graph.specs.Kept
 pub use Rattle.cargo_toml_graph.specs.Admitted
+pub use Rattle.cargo_toml_graph.specs.Ascending
 pub use Rattle.cargo_toml_resolve.specs.Filter
 pub use Rattle.cargo_toml_resolve.specs.Removed
 pub use Rattle.cargo_toml_features.specs.Agreement
@@ -97,12 +100,9 @@ pub use Rattle.cargo_toml_features.specs.Reached
 pub use Rattle.cargo_toml_features.specs.NonDefault
 -- what proofs alone use: nothing here has to be believed
 pub use Rattle.cargo_toml_parts.specs.Copies
-pub use Rattle.cargo_toml_parts.specs.InheritableLaws
 pub use Rattle.cargo_toml_features.specs.InOrder
-pub use Rattle.cargo_toml_graph.specs.Ascending
 pub use Rattle.cargo_toml_full.specs.Reading
 pub use Rattle.cargo_toml_full.specs.Slots
-pub use Rattle.cargo_toml_settings.specs.SettingsLaws
 -- the same of the types that a caller's own definitions name, with their variants
 pub use Rattle.cargo_toml_parts.specs.declared.error.Error
 pub use Rattle.cargo_toml_parts.specs.declared.error.ParseFault

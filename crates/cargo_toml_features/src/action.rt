@@ -121,6 +121,7 @@ pub fn join_action<'a>(
         ≡ join_option (action_at deps.old k)
         (if bytes_eq k action.entry.target.now then Some (action_in action.entry) else None)) }
 {
+    // Whatever is joined to it stays as it is.
     let first = DepAction {
         is_conditional: true,
         is_dep_only: false,

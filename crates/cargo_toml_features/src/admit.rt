@@ -17,7 +17,7 @@ use std::collections::{BTreeMap, HashMap};
 use std::hash::BuildHasher;
 
 /// How many names of a table of features count, how many actions of a feature, and how many keys of
-/// a table of dependencies.
+/// a table of dependencies, where no other limit is set.
 pub const MAX_ITEMS: usize = 2048;
 
 /// A feature as a table lists it: its name and its actions, and what else is said

@@ -26,11 +26,13 @@ pub struct Feature<'a> {
     pub key: &'a str,
     /// What the feature does to dependencies, by their keys.
     pub enables_deps: BTreeMap<&'a str, DepAction<'a>>,
-    /// The names that the feature's list has, whether features have them or not.
+    /// The names that the feature's list has, whether features have them or not. Where features
+    /// were removed, also those of each removed one that this one enables, and no removed name.
     pub enables_features: BTreeSet<&'a str>,
-    /// The names of the features that enable this one directly.
+    /// The names of the features that enable this one directly, or through removed ones alone.
     pub enabled_by: BTreeSet<&'a str>,
-    /// The names of the binaries that require this feature.
+    /// The names of the binaries that require this feature, once for each mention, and then
+    /// of those that removed features passed on to it.
     pub required_by_bins: Vec<&'a str>,
     /// Whether the manifest lists the feature; `default` always counts as listed.
     pub explicit: bool,

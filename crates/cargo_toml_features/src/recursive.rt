@@ -156,19 +156,22 @@ impl<'a> Feature<'a> {
         requires start { IsHeldBy features.now self.now }
         ensures { value_at features.now self.now.key.now ≡ Some result.now }
     {
-        // by `len` no key stands in the map twice
+        // called for its contract: no key stands in the map twice
         let _count = features.len();
         &features[self.key]
     }
 
-    /// What Cargo enables where this feature is asked for: the features that it enables, and what
-    /// they do to dependencies.
+    /// What this feature enables by names: the features, and what they do to dependencies.
     ///
     /// The first map has this feature, those that it names, those that they name, and so on, each
-    /// once and under its name. A name that no feature of `features` has is passed over. The second
-    /// map has under each dependency's key one pair for each of these features that acts on it
-    /// unconditionally: the feature's name and its action. It has no empty list. A conditional
-    /// action, as `dependency?/feature`, isn't listed, since it doesn't enable the dependency.
+    /// once and under its name. A name that no feature of `features` has is passed over. So is a
+    /// feature that an action alone enables, as `log/std` that of an optional `log`, though Cargo
+    /// enables it.
+    ///
+    /// The second map has under each dependency's key one pair for each of these features that acts
+    /// on it unconditionally: the feature's name and its action. It has no empty list. A
+    /// conditional action, as `dependency?/feature`, isn't listed, since it doesn't enable the
+    /// dependency.
     ///
     /// Each feature of `features` must stand under its own key, and this feature must be one
     /// of them, or `features` must have one under its key. That one counts where it differs

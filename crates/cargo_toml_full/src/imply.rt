@@ -15,8 +15,8 @@ use cargo_toml_features::features::{DepAction, Feature, ParseDependency};
 use std::alloc::{AllocError, Global};
 use std::collections::{BTreeMap, BTreeSet};
 
-/// So many optional entries have their features put among the others one by one. Of more they are
-/// merged with them, so that not each moves those behind it.
+/// Up to so many optional entries, the implied features are put among the others one by one. More
+/// are merged with the others in one go, so that not each moves those behind it.
 pub const FEW: usize = 16;
 
 // The one action of the feature that a key implies.

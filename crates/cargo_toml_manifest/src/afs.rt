@@ -234,6 +234,7 @@ fn in_workspace(alloc: Global, fault: Error, path: Option<&str>) -> Result<Error
     Ok(Error::Workspace(Box::new(alloc, (fault, path))?))
 }
 
+// The text is the original's, its misspelling included.
 fn not_a_workspace(alloc: Global) -> Result<Error, Error>
     ensures { Gives fault_of result (Ok (workspace_integrity not_a_workspace)) }
 {

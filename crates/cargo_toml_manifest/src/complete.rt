@@ -187,10 +187,15 @@ fn completion_for<Metadata, N, Fs: AbstractFilesystem>(
 impl<Metadata: Drop> Manifest<Metadata> {
     /// Puts in what the manifest leaves to its workspace, and what is found in its folders.
     ///
-    /// The workspace is the one that is handed in, with the path of its folder or of its
-    /// `Cargo.toml`; else the manifest's own workspace table; else, where something is left to it,
-    /// the root that `fs` finds by what the package says of its workspace. It gives dependencies,
-    /// lints and fields of the package; where nothing is left to it, these stay as they are.
+    /// The workspace is the first of these:
+    ///
+    /// - the one that is handed in, with the path of its folder or of its `Cargo.toml`;
+    /// - the manifest's own workspace table;
+    /// - where something is left to it, the root that `fs` finds by what the package says of its
+    ///   workspace.
+    ///
+    /// It gives dependencies, lints and fields of the package; where nothing is left to it, these
+    /// stay as they are.
     ///
     /// Where no workspace is handed in, `N` has to be named, and any type of metadata does:
     /// `complete_from_abstract_filesystem::<Value, _>(alloc, fs, None)`.
@@ -204,14 +209,18 @@ impl<Metadata: Drop> Manifest<Metadata> {
     /// Afterwards nothing is left to the workspace, every getter of the package may be called, and
     /// completing again with the same workspace and folders changes nothing.
     ///
-    /// Each fault is reported as `Error::Workspace` with the path of that workspace (with the hint
-    /// where no root was found), unless it is one already: what `fs` answers in place of a root;
-    /// `WorkspaceIntegrity` for a dependency that the workspace lacks, for lints without a
-    /// workspace table and for a field of the package that is still left; `InheritedUnknownValue`
-    /// for a dependency that the workspace itself leaves to another; and after all these what `fs`
-    /// answers in place of names. Out of memory is `Error::Memory`. A refusal leaves the manifest
-    /// as it was. A fault that `fs` answers is one that its `may_refuse_root` or `may_refuse`
-    /// allows.
+    /// Each fault is reported as `Error::Workspace`, unless it is one already. It has the path of
+    /// that workspace, which is empty for the manifest's own table. Where no root was found, it has
+    /// the hint; where there is neither a workspace nor need of one, no path. The faults are:
+    ///
+    /// - what `fs` answers in place of a root;
+    /// - `WorkspaceIntegrity` for a dependency that the workspace lacks, for lints without a
+    ///   workspace table and for a field of the package that is still left;
+    /// - `InheritedUnknownValue` for a dependency that the workspace itself leaves to another;
+    /// - after all these, what `fs` answers in place of names.
+    ///
+    /// Out of memory is `Error::Memory`. A refusal leaves the manifest as it was. A fault that `fs`
+    /// answers is one that its `may_refuse_root` or `may_refuse` allows.
     pub fn complete_from_abstract_filesystem<N, Fs: AbstractFilesystem + Drop>(
         &mut self,
         alloc: Global,

@@ -54,16 +54,20 @@ impl<Metadata: Drop> Manifest<Metadata> {
     /// the real files around it.
     ///
     /// What is put in is what `complete_from_abstract_filesystem` puts in, over the `Filesystem`
-    /// of the folder that holds the file, and as Cargo does it: the workspace is the one that is
-    /// handed in with its path; else the manifest's own table; else, where something is left to
-    /// it, the root that `package.workspace` leads to, or the nearest above the folder. The file
-    /// itself is not read.
+    /// of the folder that holds the file. The file itself is not read. The workspace is the first
+    /// of these:
+    ///
+    /// - the one that is handed in with its path;
+    /// - the manifest's own table;
+    /// - where something is left to it, the root that `package.workspace` leads to, or without that
+    ///   key the nearest above the folder.
     ///
     /// A path that names no file, as the empty one and `/`, is refused as
     /// `Error::Other("bad path")`. Other refusals are those of `complete_from_abstract_filesystem`:
-    /// `Error::Workspace` and `Error::Memory`. What the files answer in place of names is
-    /// `Error::Io`, and in place of a root what `Filesystem::parse_root_workspace` refuses with. A
-    /// refusal leaves the manifest as it was.
+    /// `Error::Workspace` and `Error::Memory`. In the former stands what the files answer:
+    /// `Error::Io` in place of names; in place of a root what `Filesystem::parse_root_workspace`
+    /// refuses with, unless it is `Error::Workspace` itself. A refusal leaves the manifest as it
+    /// was.
     pub fn complete_from_path_and_workspace<'a, N, R: Files + AllocGlobal>(
         &mut self,
         rt: &'a R,

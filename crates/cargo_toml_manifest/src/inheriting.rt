@@ -108,10 +108,14 @@ fn parts_from<Metadata>(
 /// What a manifest takes from a workspace table, if there is one, with paths joined to `base`, the
 /// workspace's folder.
 ///
-/// Refused by the first fault in this order: of `dependencies`, `build-dependencies` and
-/// `dev-dependencies`, then of the same three of each target, by key (see `replacements`);
-/// `WorkspaceIntegrity` where lints are left to a workspace without a table; of the package (see
-/// `new_fields`). Out of memory is `Memory`.
+/// Refused by the first fault in this order:
+///
+/// - of `dependencies`, `build-dependencies` and `dev-dependencies`, then of the same three of each
+///   target, by key (see `replacements`);
+/// - `WorkspaceIntegrity` where lints are left to a workspace without a table;
+/// - of the package (see `new_fields`).
+///
+/// Out of memory is `Memory`.
 pub fn new_parts<Metadata, N>(
     alloc: Global,
     manifest: &Manifest<Metadata>,

@@ -48,7 +48,7 @@ use toml::{Table, Value};
 /// `Metadata` is what the free tables `package.metadata` and `workspace.metadata` are read as:
 /// any tree, where no type is named. Where a field's name has `_`, its key has `-`. A list or a map
 /// whose key is missing is empty, and any other field is then `None`, unless another value is
-/// named at the field; keys that are not listed here are ignored, such as those of Cargo's
+/// named at the field. Keys that are not listed here are ignored, such as those of Cargo's
 /// unstable features.
 ///
 /// What is read is what stands in the text alone: libraries and binaries that Cargo finds by their

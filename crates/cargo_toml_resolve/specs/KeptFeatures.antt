@@ -36,7 +36,7 @@ pub record IsNamedAlike (old new : Feature) : Type 0 where
   pub key : new.key ≡ old.key
   pub marks : marks_of new ≡ marks_of old
 
--- the binaries that a feature of this name requires itself
+-- the binaries that require the feature of this name themselves
 abbrev pub own_bins : List Feature → Text → List Text
 own_bins vs f = option_map_or (λ v. map (λ b. b.now) v.required_by_bins.items) (feature_at vs f) []
 

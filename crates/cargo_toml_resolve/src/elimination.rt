@@ -36,8 +36,8 @@ fn take_over_all<'m>(
 /// In each place what is kept of the feature there, and what walks over the graph of the features
 /// found. None of them knows an enabler before.
 ///
-/// A removed feature stays in its place, for whatever it then holds. It fails only where memory
-/// runs out.
+/// A removed feature stays in its place, and what it then holds is left open. It fails only where
+/// memory runs out.
 pub(crate) fn place<'m>(
     alloc: Global,
     features: &mut Vec<Feature<'m>>,

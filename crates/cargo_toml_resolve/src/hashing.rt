@@ -125,7 +125,7 @@ pub fn hashed_dependencies<'d, S: BuildHasher + Drop>(
 {
     let Slots { names, values } = dependencies;
     let by_key = hashed(state, alloc, names.as_slice(), values)?;
-    // by `len` no key stands in the map twice
+    // called for its contract: no key stands in the map twice
     let _count = by_key.len();
     Ok(by_key)
 }

@@ -40,6 +40,7 @@ fn add_action<'a>(
     ensures { OnOk result ((k : Text) → action_at own.new k ≡ join_option (action_at own.old k)
         (if bytes_eq k key.now then Some (action_of action.now) else None)) }
 {
+    // Whatever is joined to it stays as it is.
     let first = DepAction {
         is_conditional: true,
         is_dep_only: false,

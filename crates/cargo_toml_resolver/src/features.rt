@@ -114,12 +114,13 @@ impl<'config, F: Fn(&str) -> bool, S: BuildHasher + Clone> Resolver<'config, F, 
     /// key no feature has and no `dep:` keeps for itself. It has the dependencies that are
     /// optional, that a feature acts on, or whose key a feature has, with each target that they
     /// stand under: normal and build dependencies come before those of targets, and dev
-    /// dependencies last. Each feature names its enablers: those that name it, and those that act
-    /// on the dependency of its name neither conditionally nor by `dep:`. It names the binaries
-    /// that require it, once for each mention.
+    /// dependencies last. Each feature names its enablers among the others: those that name it, and
+    /// those that act on the dependency of its name neither conditionally nor by `dep:`. It names
+    /// the binaries that require it, once for each mention.
     ///
-    /// Features of a dependency that its first target asks for anyway are left out of actions:
-    /// `default`, unless it turns default features off, and those that it lists.
+    /// Where a dependency's first target is `Dependency::Detailed`, the features that it asks for
+    /// anyway are left out of actions: `default`, unless it turns default features off, and those
+    /// that it lists.
     ///
     /// The limit n of items is 2048 unless [`Resolver::with_max_items`] set another. So many count:
     ///
@@ -196,11 +197,10 @@ impl<'config, F: Fn(&str) -> bool, S: BuildHasher + Clone> Resolver<'config, F, 
     /// index.
     ///
     /// It answers as [`Resolver::parse`] does of the same features and of these entries in their
-    /// order, of which each counts, however many there are. In two points it differs: no binary
-    /// requires a feature, and each feature is public and has no text. The hashed table's order
-    /// doesn't matter: of its names those count that come first in byte order, up to the limit, and
-    /// `default`. Features borrow from the table and from the entries' keys, dependencies from the
-    /// entries.
+    /// order, whose number no limit cuts. In two points it differs: no binary requires a feature,
+    /// and each feature is public and has no text. The hashed table's order doesn't matter: of its
+    /// names those count that come first in byte order, up to the limit, and `default`. Features
+    /// borrow from the table and from the entries' keys, dependencies from the entries.
     ///
     /// The one refusal is [`Error::Memory`], where there was no room for the answer.
     pub fn parse_custom<'m: 'd, 'd, S2: BuildHasher>(

@@ -39,7 +39,7 @@ badges_rows b =
     ∷ required_row (codes "maintenance") maintenance_way b.maintenance
     ∷ []
 
--- no badge of a service or of maintenance, and a status that says nothing
+-- a status that says nothing, no badge of a service, and no badge at all
 abbrev pub is_unstated : MaintenanceStatus → Bool
 is_unstated status.None = true
 is_unstated _ = false

@@ -39,10 +39,13 @@ pub trait ToValue {
     ghost way: { Way Meaning };
 
     /// A tree of the value. A value that has none is refused with a fault of its own, and any value
-    /// may be refused as [`Error::Memory`] where there is not enough memory. Of the types of a
-    /// manifest only those have no tree in which a free value holds a float, which is refused as
-    /// [`Error::Other`] with the text `floats are not supported`, or in which metadata of a
-    /// caller's own type has none, whose fault is handed on as it is.
+    /// may be refused as [`Error::Memory`] where there is not enough memory.
+    ///
+    /// Of the types of a manifest only these values have no tree:
+    ///
+    /// - one in which a free value holds a float, which is refused as [`Error::Other`] with the
+    ///   text `floats are not supported`;
+    /// - one whose metadata, of a caller's own type, has none; that fault is handed on as it is.
     fn to_value(&self, alloc: Global) -> Result<Value, Error>
         ensures { IsWriting way (meaning self.now) result };
 
@@ -57,7 +60,7 @@ pub trait LeftOut: ToValue {
         ensures { result ≡ Self.way.left_out (Self.meaning self.now) };
 }
 
-/// Puts a value at a key.
+/// Puts a value at a key. It fails only where memory runs out.
 pub fn put(table: &mut Table, alloc: Global, key: &str, value: Value) -> Result<(), Error>
     ensures ok { OnOk result (table_view table.new
         ≡ put_member key.now (view value) (table_view table.old)) }

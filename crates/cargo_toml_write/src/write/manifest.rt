@@ -17,7 +17,7 @@ use cargo_toml_parts::{Error, FromValue};
 use std::alloc::Global;
 use toml::Value;
 
-/// What is as where its key is missing is left out: the default manifest is written
+/// A field that holds what a missing key stands for is left out: the default manifest is written
 /// as the empty table.
 impl<Metadata: FromValue + ToValue> ToValue for Manifest<Metadata> {
     ghost Meaning = { ManifestMeaning Metadata.ToValue.Meaning };

@@ -6,5 +6,6 @@ use Rattle.cargo_toml.specs.Kept.{KeepsEnabling, LosesNothing}
 pub record HidesAlone (whole left : Resolution) : Type 0 where
   -- between features that are left, what enables what transitively is the same
   pub closure : KeepsEnabling whole left
-  -- what one of them enables recursively loses no feature that is left and no dependency
+  -- what one of them enables recursively loses no feature that is left, no dependency, and nothing
+  -- that is asked of one
   pub nothing_lost : LosesNothing whole left

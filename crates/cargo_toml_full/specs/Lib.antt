@@ -1,6 +1,7 @@
 -- what binaries require: a user has to believe these
 pub mod OwnBins
--- the code's own steps, in contracts of inner functions alone: nothing here has to be believed
+-- the code's own steps, in contracts of functions that `cargo_toml` doesn't hand on: nothing here
+-- has to be believed
 pub mod Reading
 pub mod Recording
 pub mod Redundant

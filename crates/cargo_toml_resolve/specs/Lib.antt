@@ -1,7 +1,8 @@
 -- which features are removed: a user has to believe these
 pub mod Filter
 pub mod Removed
--- the code's own steps, in contracts of inner functions alone: nothing here has to be believed
+-- the code's own steps, in contracts of functions that `cargo_toml` doesn't hand on: nothing here
+-- has to be believed
 pub mod Holding
 pub mod TakingOver
 pub mod KeptFeatures

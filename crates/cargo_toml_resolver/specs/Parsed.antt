@@ -32,7 +32,8 @@ requirements m = option_map_or (λ p. flat_map (requirements_by p.name) m.bin) m
 pub record IsHiding (IsFull : Answer → Type 0) (a : Answer) : Type 0 where
   -- between features that are left, what enables what transitively is the same
   pub closure : (full : Answer) → IsFull full → KeepsEnabling full.resolution a.resolution
-  -- what one of them enables recursively loses no feature that is left and no dependency
+  -- what one of them enables recursively loses no feature that is left, no dependency, and nothing
+  -- that is asked of one
   pub nothing_lost : (full : Answer) → IsFull full → LosesNothing full.resolution a.resolution
 
 -- where so many names count, actions of a feature, and keys of a table of dependencies

@@ -154,7 +154,7 @@ impl<'config, F: Fn(&str) -> bool, S: BuildHasher + Clone> Resolver<'config, F, 
     ///
     /// - between features of this answer the transitive closure of `enabled_by` is the same;
     /// - what [`Feature::enables_recursive`] answers for one of them loses no feature of this
-    ///   answer and no dependency.
+    ///   answer, no dependency, and no feature that is asked of one.
     ///
     /// No name of a removed feature is left in `enables_features` or `enabled_by`.
     ///

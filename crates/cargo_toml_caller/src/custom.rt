@@ -44,6 +44,8 @@ pub type Twice<'m, 'd> = (
     Features<'m, 'd, BuildHasherDefault<FoldHasher>>,
 );
 
+/// Resolves the features of a manifest by `parse`, and a table with entries by `parse_custom`.
+///
 /// Where the table and the entries are those of the manifest, the two agree in all but the binaries
 /// that require features, what is public, and texts. The one refusal is [`Error::Memory`].
 pub fn resolve_twice<'m: 'd, 'd, M, S: BuildHasher>(

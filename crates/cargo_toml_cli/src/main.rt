@@ -25,13 +25,7 @@ fn features<R: Files + Print + AllocGlobal>(
 
 /// The words of the command line without the program's own name.
 fn words<R: Env + AllocGlobal>(rt: &R) -> io::Result<Vec<String>> {
-    let mut all = Vec::new(rt.alloc());
-    for (i, word) in env::args(rt)?.enumerate() {
-        if i > 0 {
-            all.push(word)?;
-        }
-    }
-    Ok(all)
+    Ok(env::args(rt)?.skip(1).collect(rt.alloc())?)
 }
 
 /// What the program is asked to do, done.

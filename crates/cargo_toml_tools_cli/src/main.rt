@@ -99,18 +99,26 @@ fn answer<R: Files + Print + Eprint + RandomSource + AllocGlobal>(
     Ok(outcome)
 }
 
+/// The words of the command line; none where one of them is no text.
+fn words<R: Env + AllocGlobal>(rt: &R) -> io::Result<Option<Vec<String>>> {
+    match env::args(rt) {
+        Ok(words) => Ok(Some(words.collect(rt.alloc())?)),
+        Err(fault) if fault.kind() == io::ErrorKind::OutOfMemory => Err(fault),
+        Err(_) => Ok(None),
+    }
+}
+
 fn run<R: Env + Files + Print + Eprint + RandomSource + AllocGlobal>(
     rt: &R,
     shows: bool,
 ) -> io::Result<Outcome> {
-    let words: Vec<String> = env::args(rt)?.collect(rt.alloc())?;
-    match read_request(rt.alloc(), words.as_slice())? {
-        Some(request) => answer(rt, &request, shows),
-        None => {
-            eprint!(rt; "{USAGE}")?;
-            Ok(Outcome::NoCommand)
+    if let Some(words) = words(rt)? {
+        if let Some(request) = read_request(rt.alloc(), words.as_slice())? {
+            return answer(rt, &request, shows);
         }
     }
+    eprint!(rt; "{USAGE}")?;
+    Ok(Outcome::NoCommand)
 }
 
 fn main(rt: HostRuntime) -> ExitCode {

@@ -10,5 +10,6 @@ mod manifests;
 mod packages;
 mod printing;
 mod refusing;
+mod samples;
 mod settings;
 mod written;

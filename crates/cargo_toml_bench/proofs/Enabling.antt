@@ -18,6 +18,8 @@ module _ {S : Type 0} (m : HashMap (Bor Text) Feature S) (t : Table) (Removed : 
     λ y.
         let known = there m t Removed none resolved name (told.0 y).0 in
         (known, enables_in m t Removed none resolved known (told.0 y).1),
-    λ h. told.1 (held m t Removed none resolved name h.0,
-        enables_out m t Removed none resolved h.0 h.1),
+    λ h. told.1 (
+      held m t Removed none resolved name h.0,
+      enables_out m t Removed none resolved h.0 h.1,
+    ),
   )

@@ -4,7 +4,7 @@ use Rattle.std.specs.Prelude.{◌↔◌, IfErr, IsErrAnd, IsSome, IsUtf8}
 use Rattle.std.specs.Path.{path_parent}
 use Rattle.std.specs.Result.{result_and}
 use Rattle.toml.specs.Data.{Data}
-use Rattle.cargo_toml_parts.specs.declared.error.Error.{Error, Memory}
+use Rattle.cargo_toml_parts.specs.declared.error.Error.{Error}
 use Rattle.cargo_toml_parts.specs.FaultValues.{Fault, fault_of, toml, shape, io, workspace, inherited_unknown_value, workspace_integrity, other, memory}
 use Rattle.cargo_toml_parts.specs.Wrapping.{wrap}
 use Rattle.cargo_toml_manifest.specs.Choosing.{Choice, Handed, RootsTold, alone, choice, from, hint_of, lost, unclear_root}

@@ -1,36 +1,43 @@
 -- A manifest that was read, or why it could not be completed.
 use Rattle.std.proofs.Common.{◌≡◌, inl, inr, refl, sym, ap, ◌∙◌, subst, false, ℕ, List, Option, Some, None, Result, Ok, Err}
-use Rattle.std.specs.Prelude.{◌↔◌, IfErr, IfOk, IsErrAnd, IsSome, OnOk}
+use Rattle.std.specs.Prelude.{◌↔◌, IfErr, IsErrAnd, IsSome, IsUtf8}
 use Rattle.std.specs.Path.{path_parent}
 use Rattle.std.specs.Result.{result_and}
 use Rattle.toml.specs.Data.{Data}
-use Rattle.cargo_toml_parts.specs.declared.error.Error.{Error, Memory}
+use Rattle.cargo_toml_parts.specs.declared.error.Error.{Error}
 use Rattle.cargo_toml_parts.specs.FaultValues.{Fault, fault_of, toml, shape, io, workspace, inherited_unknown_value, workspace_integrity, other, memory}
 use Rattle.cargo_toml_parts.specs.Wrapping.{wrap}
 use Rattle.cargo_toml_manifest.specs.Choosing.{Choice, Handed, RootsTold, alone, choice, from, hint_of, lost, unclear_root}
-use Rattle.cargo_toml_manifest.specs.Completing.{GivenBy, Meets, complete}
-use Rattle.cargo_toml_manifest.specs.Manifests.{ManifestMeaning, held, manifest_meaning}
+use Rattle.cargo_toml_manifest.specs.Completing.{Meets, complete}
+use Rattle.cargo_toml_manifest.specs.Manifests.{ManifestMeaning, held}
 use Rattle.cargo_toml_manifest.specs.Refusing.{IsRefusedAt, IsRefusedBy, MayLose}
-use Rattle.cargo_toml_manifest.specs.RealFiles.{IsCompletionFault, IsPathFault, IsReadAndCompleted, IsReadFromText, bad_path, real_folders, RealListingRefuses, RealRootRefuses, real_roots}
+use Rattle.cargo_toml_manifest.specs.RealFiles.{IsCompletionFault, IsPathFault, IsReadFromText, IsTextFault, ReadsAs, bad_path, real_folders, RealListingRefuses, RealRootRefuses, real_roots}
 use Rattle.cargo_toml_manifest.specs.declared.manifest.Manifest.{Manifest}
 use Rattle.cargo_toml_discovery.specs.Disk.{or_here}
 use Rattle.cargo_toml_discovery.proofs.Faults.{fault_of-memory}
 use Rattle.cargo_toml_manifest.proofs.Meeting.{refused_again}
 
--- what holds once it is completed, holds of the answer
-pub if_completed : {T X E : Type 0} (P : X → Type 0) (r : Result T E) (new : X) → OnOk r (P new) → IfOk (result_and r (Ok new)) P
-if_completed P (Ok t) new h = h
-if_completed P (Err e) new h = tt
+-- the refusal of a manifest that a text reads as
+pub refused_of : {T X M : Type 0} (path text : List ℕ) (meaning : Manifest X → ManifestMeaning M) (reads : Data → Option (ManifestMeaning M))
+    (refuses : Data → Error → Type 0) (f : T → ManifestMeaning X) (read : Manifest X) (parent : Option (List ℕ)) (e : Error) →
+    ReadsAs text meaning reads read →
+    (IsSome parent → Meets f (complete (held read) None real_roots real_folders) (Err e)) →
+    (parent ≡ None) ↔ (fault_of e ≡ bad_path) →
+    IsCompletionFault path (held read) None e →
+    IsTextFault path text meaning reads refuses e
+refused_of path text meaning reads refuses f read None e read_as outcome bad why = inr (inl (bad.0 refl))
+refused_of path text meaning reads refuses f read (Some folder) e read_as outcome bad (inl at) = inr (inl at)
+refused_of path text meaning reads refuses f read (Some folder) e read_as outcome bad (inr around) =
+    inr (inr (read, read_as, (refused_again f held _ e (outcome refl), around)))
 
--- what completion makes of a manifest that some text reads as
-pub given : {T X M : Type 0} (meaning : X → M) (reads : Data → Option (ManifestMeaning M)) (read new : Manifest X) (r : Result T Error) →
-    IsReadFromText (manifest_meaning meaning) reads read →
-    OnOk r (GivenBy (held read) None real_roots real_folders (held new)) →
-    IfOk (result_and r (Ok new)) (IsReadAndCompleted meaning reads)
-given meaning reads read new (Ok t) text_of h = (read, text_of, h)
-given meaning reads read new (Err e) text_of h = tt
+-- and of one that was read in a file
+pub refused_in_file : {X M : Type 0} (path text : List ℕ) (meaning : Manifest X → ManifestMeaning M) (reads : Data → Option (ManifestMeaning M))
+    (refuses : Data → Error → Type 0) (e : Error) → IsUtf8 text → IsTextFault path text meaning reads refuses e → IsPathFault path meaning reads refuses e
+refused_in_file path text meaning reads refuses e utf8 (inl own) = inr (inr (inl (text, utf8, own)))
+refused_in_file path text meaning reads refuses e utf8 (inr (inl bad)) = inr (inr (inr (inl bad)))
+refused_in_file path text meaning reads refuses e utf8 (inr (inr (read, read_as, why))) = inr (inr (inr (inr (read, (text, utf8, read_as), why))))
 
--- the refusal of a manifest that some text reads as
+-- and where completion is the last step
 pub refused : {T X M : Type 0} (path : List ℕ) (meaning : Manifest X → ManifestMeaning M) (reads : Data → Option (ManifestMeaning M))
     (refuses : Data → Error → Type 0) (f : T → ManifestMeaning X) (read new : Manifest X) (parent : Option (List ℕ))
     (r : Result T Error) →
@@ -40,10 +47,8 @@ pub refused : {T X M : Type 0} (path : List ℕ) (meaning : Manifest X → Manif
     IfErr r (IsCompletionFault path (held read) None) →
     IfErr (result_and r (Ok new)) (IsPathFault path meaning reads refuses)
 refused path meaning reads refuses f read new parent (Ok t) text_of outcome bad why = tt
-refused path meaning reads refuses f read new None (Err e) text_of outcome bad why = inr (inr (inr (inl (bad.0 refl))))
-refused path meaning reads refuses f read new (Some folder) (Err e) text_of outcome bad (inl at) = inr (inr (inr (inl at)))
-refused path meaning reads refuses f read new (Some folder) (Err e) text_of outcome bad (inr around) =
-    inr (inr (inr (inr (read, text_of, (refused_again f held _ e (outcome refl), around)))))
+refused path meaning reads refuses f read new parent (Err e) (text, utf8, read_as) outcome bad why =
+    refused_in_file path text meaning reads refuses e utf8 (refused_of path text meaning reads refuses f read parent e read_as outcome bad why)
 
 -- the refusal of completion in the folder of a path is one around that
 pub around_path : {T M : Type 0} (path folder there : List ℕ) (m : ManifestMeaning M) (handed : Option Handed) (r : Result T Error) →

@@ -27,23 +27,17 @@ installed_if_there-none None = refl
 installed_if_there-none (Some p) = refl
 
 -- nothing is in the parts
-pub record IsNothing (new : NewParts) : Type 0 where
-  pub dependencies : new.tables.dependencies.items ≡ []
-  pub build_dependencies : new.tables.build_dependencies.items ≡ []
-  pub dev_dependencies : new.tables.dev_dependencies.items ≡ []
-  pub targets : new.targets.items ≡ []
-  pub lints : new.lints ≡ None
-  pub fields : new.«package» ≡ None
-
-pub installed-none : {M : Type 0} (m : ManifestMeaning M) (new : NewParts) → IsNothing new → installed m new ≡ m
-installed-none m new is =
+pub installed-none : {M : Type 0} (m : ManifestMeaning M) (new : NewParts) →
+    (new.tables.dependencies.items ≡ []) × ((new.tables.build_dependencies.items ≡ []) × (new.tables.dev_dependencies.items ≡ [])) →
+    new.targets.items ≡ [] → new.lints ≡ None → new.«package» ≡ None → installed m new ≡ m
+installed-none m new tables targets lints fields =
     rw (
-      is.dependencies,
-      is.build_dependencies,
-      is.dev_dependencies,
-      is.targets,
-      is.lints,
-      is.fields,
+      tables.0,
+      tables.1.0,
+      tables.1.1,
+      targets,
+      lints,
+      fields,
       replaced-none m.dependencies,
       replaced-none m.build_dependencies,
       replaced-none m.dev_dependencies,

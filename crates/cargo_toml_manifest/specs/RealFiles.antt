@@ -149,11 +149,15 @@ abbrev pub IsCompletionFault : {M : Type 0} → List ℕ → ManifestMeaning M �
     → Error → Type 0
 IsCompletionFault path m handed e = (fault_of e ≡ bad_path) ⊎ IsRefusedAround path m handed e
 
+-- the text reads as this manifest
+abbrev pub ReadsAs : {X M : Type 0} → List ℕ → (Manifest X → ManifestMeaning M)
+    → (Data → Option (ManifestMeaning M)) → Manifest X → Type 0
+ReadsAs text meaning reads m = document_reads reads (parse_document text) ≡ Some (meaning m)
+
 -- some text reads as this manifest
 abbrev pub IsReadFromText : {X M : Type 0} → (Manifest X → ManifestMeaning M)
     → (Data → Option (ManifestMeaning M)) → Manifest X → Type 0
-IsReadFromText meaning reads m =
-    (text : List ℕ) × IsUtf8 text × (document_reads reads (parse_document text) ≡ Some (meaning m))
+IsReadFromText meaning reads m = (text : List ℕ) × IsUtf8 text × ReadsAs text meaning reads m
 
 -- completing this manifest among the real files around this path, with no workspace handed in, may
 -- be refused with this fault
@@ -162,6 +166,14 @@ IsRefusalOf path m e =
     Meets held
     (complete (held m) None real_roots real_folders) (Err e)
     × IsRefusedAround path (held m) None e
+
+-- the text reads as a manifest which completion among real files makes into this one
+abbrev pub IsCompletedOf : {X M : Type 0} → List ℕ → (X → M)
+    → (Data → Option (ManifestMeaning M)) → Manifest X → Type 0
+IsCompletedOf text meaning reads new =
+    (read : Manifest _) × ReadsAs text (manifest_meaning meaning) reads read
+    × GivenBy (held read) None real_roots real_folders
+    (held new)
 
 -- some text reads as a manifest which completion among real files makes into this one
 abbrev pub IsReadAndCompleted : {X M : Type 0} → (X → M) → (Data → Option (ManifestMeaning M))
@@ -176,6 +188,15 @@ abbrev pub IsReadAndRefused : {X M : Type 0} → List ℕ → (Manifest X → Ma
     → (Data → Option (ManifestMeaning M)) → Error → Type 0
 IsReadAndRefused path meaning reads e =
     (read : Manifest _) × IsReadFromText meaning reads read × IsRefusalOf path read e
+
+-- why a text gives no completed manifest: no memory, its own fault, a path that names no file, or
+-- the fault of completing a manifest that it reads as
+abbrev pub IsTextFault : {X M : Type 0} → List ℕ → List ℕ → (Manifest X → ManifestMeaning M)
+    → (Data → Option (ManifestMeaning M)) → (Data → Error → Type 0) → Error → Type 0
+IsTextFault path text meaning reads refuses e =
+    IsFromText meaning reads refuses (parse_document text) (Err e)
+    ⊎ ((fault_of e ≡ bad_path)
+    ⊎ ((read : Manifest _) × ReadsAs text meaning reads read × IsRefusalOf path read e))
 
 -- why a file gives no completed manifest: no memory, a fault of reading, one of some text, a path
 -- that names no file, or the fault of completing a manifest that some text reads as

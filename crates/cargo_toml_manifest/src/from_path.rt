@@ -11,8 +11,9 @@ ghost use Rattle.cargo_toml_manifest.specs.Completing.{Meets, complete};
 ghost use Rattle.cargo_toml_manifest.specs.Inheriting.{needs};
 ghost use Rattle.cargo_toml_manifest.specs.Manifests.{held, manifest_meaning, manifest_reads};
 ghost use Rattle.cargo_toml_manifest.specs.Manifests.{ManifestRefuses};
-ghost use Rattle.cargo_toml_manifest.specs.RealFiles.{IsCompletionFault, IsPathFault};
-ghost use Rattle.cargo_toml_manifest.specs.RealFiles.{IsReadAndCompleted, bad_path};
+ghost use Rattle.cargo_toml_manifest.specs.RealFiles.{IsCompletedOf, IsCompletionFault};
+ghost use Rattle.cargo_toml_manifest.specs.RealFiles.{IsPathFault, IsReadAndCompleted};
+ghost use Rattle.cargo_toml_manifest.specs.RealFiles.{IsTextFault, bad_path};
 ghost use Rattle.cargo_toml_manifest.specs.RealFiles.{real_folders, real_roots};
 ghost use Rattle.cargo_toml_manifest.specs.Texts.{AnyRefuses, any_tree};
 
@@ -138,9 +139,27 @@ impl<Metadata: FromValue> Manifest<Metadata> {
             (ManifestRefuses Metadata.from_tree Metadata.from_refuses)) }
     {
         let text = fs::read_to_string(rt, path)?;
-        let mut manifest = Manifest::from_text(alloc, text.as_str())?;
-        manifest
-            .complete_from_path(rt, alloc, path)
-            .and(Ok(manifest))
+        completed_of(rt, alloc, path, text.as_str())
     }
+}
+
+// The manifest that this text spells, completed from the real files around the path.
+fn completed_of<'a, Metadata: FromValue, R: Files + AllocGlobal>(
+    rt: &'a R,
+    alloc: Global,
+    path: &'a str,
+    text: &str,
+) -> Result<Manifest<Metadata>, Error>
+    ensures given { IfOk result
+        (IsCompletedOf text.now Metadata.meaning (manifest_reads Metadata.from_tree)) }
+    ensures needs { IfOk result (λ new. needs (held new) ≡ false) }
+    ensures filled { IfOk result (λ new. IfSome new.package IsFilled) }
+    ensures refused { IfErr result
+        (IsTextFault path.now text.now (manifest_meaning Metadata.meaning)
+        (manifest_reads Metadata.from_tree)
+        (ManifestRefuses Metadata.from_tree Metadata.from_refuses)) }
+{
+    let mut manifest = Manifest::from_text(alloc, text)?;
+    manifest.complete_from_path(rt, alloc, path)?;
+    Ok(manifest)
 }

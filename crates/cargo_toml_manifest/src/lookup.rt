@@ -104,6 +104,9 @@ fn look_at<R: Files + AllocGlobal>(rt: &R, alloc: Global, file: &str) -> Result<
 /// If none is left, the fault is that of the last such file, and else `Error::Io` of the kind
 /// `NotFound`. A `Cargo.toml` that can't be read for another cause is refused at once as
 /// `Error::Io`, and refused memory as `Error::Memory`.
+///
+/// No contract says what stands on a disk. So none says that the nearest root is the one that is
+/// found, nor of which file the fault is.
 pub fn root_above<R: Files + AllocGlobal>(
     rt: &R,
     alloc: Global,

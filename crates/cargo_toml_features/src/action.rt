@@ -73,7 +73,9 @@ fn split_slash(text: &str) -> (&str, Option<&str>)
 
 /// Takes a text of a feature's list apart.
 pub fn read_action(text: &str) -> ActionText<'_>
-    ensures { item_in result ≡ item_of text.now }
+    ensures item { item_in result ≡ item_of text.now }
+    ensures conditional { result.is_conditional ≡ ends_with nat_eq
+        (without_start (codes "dep:") (before_first is_slash text.now)) (codes "?") }
 {
     let (front, dep_feature) = split_slash(text);
     let (marked, is_dep_only) = strip_dep(front);

@@ -4,19 +4,17 @@ use Rattle.std.specs.List.{starts_with, ends_with, before_first, after_first, li
 use Rattle.std.specs.Option.{option_map_or}
 use Rattle.std.specs.BTreeMap.{BTreeMap, is_at}
 use Rattle.std.specs.Map.{lookup}
-use Rattle.std.specs.BTreeSet.{BTreeSet}
 use Rattle.std.specs.Cmp.Lexicographic.{slice_cmp}
 use Rattle.std.specs.Ordering.{nat_cmp}
 use Rattle.std.proofs.Math.Seq.{take-length}
 use Rattle.cargo_toml_graph.specs.Action.{Text, Action, join, join_option, without_start, without_end, is_slash, item_of}
 use Rattle.cargo_toml_graph.specs.Action.Item.{Name, On}
-use Rattle.cargo_toml_features.specs.ActionText.{action_in, item_in}
-use Rattle.cargo_toml_features.specs.Views.{set_has, action_of, action_at}
+use Rattle.cargo_toml_features.specs.ActionText.{item_in}
+use Rattle.cargo_toml_features.specs.Views.{action_of, action_at}
 use Rattle.cargo_toml_features.specs.declared.action.ActionText.{ActionText}
 use Rattle.cargo_toml_features.specs.declared.features.DepAction.{DepAction}
 use Rattle.std.proofs.lemmas.Slice.Eq.{bytes_eq-Decides}
 use Rattle.cargo_toml_graph.proofs.Texts.{bytes_eq_sym}
-use Rattle.cargo_toml_features.proofs.TextKeys.{none_in}
 
 -- where no element passes, the search runs to the end
 pub none_found : (p : ℕ → Bool) (xs : List ℕ) → position_or_len p xs ≡ length xs → list_any p xs ≡ false
@@ -65,10 +63,6 @@ apart text front marked t front_is has after marked_is dep_only target condition
     key : t.target.now ≡ without_end (codes "?") (without_start (codes "dep:") (before_first is_slash text))
     key = target ∙ ap (without_end (codes "?")) whole
 
--- what stands in place of no action changes nothing
-pub joined_first : (s : BTreeSet (Bor Text)) (t : ActionText) → s.keys ≡ [] → join (record { is_conditional = true; is_dep_only = false; features = set_has s }) (action_in t) ≡ action_in t
-joined_first s t none = λ i. record { is_conditional = t.is_conditional; is_dep_only = t.is_dep_only; features = λ x. ap (λ b. b || (action_in t).features x) (none_in s none x) i }
-
 pub join_none : (o : Option Action) → join_option o None ≡ o
 join_none None = refl
 join_none (Some a) = refl
@@ -77,19 +71,19 @@ join_none (Some a) = refl
 abbrev entry_at : List (Bor Text × DepAction) → Text → Option DepAction
 entry_at es k = lookup (is_at (λ q. slice_cmp nat_cmp k q.now)) es
 
--- one more action on the key of t; the map is told by its entries, since it has no name after `entry`
-pub joined_at : (old : BTreeMap (Bor Text) DepAction) (new : List (Bor Text × DepAction)) (t : ActionText) (s : BTreeSet (Bor Text)) (held made : DepAction)
-    → ((k : Text) → bytes_eq t.target.now k ≡ false → entry_at new k ≡ entry_at old.entries k)
-    → entry_at new t.target.now ≡ Some made
-    → s.keys ≡ [] → held ≡ unwrap_or (entry_at old.entries t.target.now) (record { is_conditional = true; is_dep_only = false; dep_features = s })
-    → action_of made ≡ join (action_of held) (action_in t)
-    → (k : Text) → option_map action_of (entry_at new k) ≡ join_option (action_at old k) (cond (bytes_eq k t.target.now) (Some (action_in t)) None)
-joined_at old new t s held made others there none held_is made_is k = go (bytes_eq k t.target.now) refl
+-- one more action on the key; the map is told by its entries, since it has no name after `entry`
+pub joined_at : (old : BTreeMap (Bor Text) DepAction) (new : List (Bor Text × DepAction)) (key : Text) (a : Action) (first held made : DepAction)
+    → ((k : Text) → bytes_eq key k ≡ false → entry_at new k ≡ entry_at old.entries k)
+    → entry_at new key ≡ Some made
+    → join (action_of first) a ≡ a → held ≡ unwrap_or (entry_at old.entries key) first
+    → action_of made ≡ join (action_of held) a
+    → (k : Text) → option_map action_of (entry_at new k) ≡ join_option (action_at old k) (cond (bytes_eq k key) (Some a) None)
+joined_at old new key a first held made others there neutral held_is made_is k = go (bytes_eq k key) refl
   where
-    here : (o : Option DepAction) → held ≡ unwrap_or o (record { is_conditional = true; is_dep_only = false; dep_features = s }) → Some (action_of made) ≡ join_option (option_map action_of o) (Some (action_in t))
-    here None e = ap Some (made_is ∙ ap (λ h. join (action_of h) (action_in t)) e ∙ joined_first s t none)
-    here (Some o) e = ap Some (made_is ∙ ap (λ h. join (action_of h) (action_in t)) e)
+    here : (o : Option DepAction) → held ≡ unwrap_or o first → Some (action_of made) ≡ join_option (option_map action_of o) (Some a)
+    here None e = ap Some (made_is ∙ ap (λ h. join (action_of h) a) e ∙ neutral)
+    here (Some o) e = ap Some (made_is ∙ ap (λ h. join (action_of h) a) e)
 
-    go : (b : Bool) → bytes_eq k t.target.now ≡ b → option_map action_of (entry_at new k) ≡ join_option (action_at old k) (cond b (Some (action_in t)) None)
-    go true e = subst (λ q. option_map action_of (entry_at new q) ≡ join_option (action_at old q) (Some (action_in t))) (sym ((bytes_eq-Decides k t.target.now).0 e)) (ap (option_map action_of) there ∙ here (entry_at old.entries t.target.now) held_is)
-    go false e = ap (option_map action_of) (others k (bytes_eq_sym t.target.now k ∙ e)) ∙ sym (join_none (action_at old k))
+    go : (b : Bool) → bytes_eq k key ≡ b → option_map action_of (entry_at new k) ≡ join_option (action_at old k) (cond b (Some a) None)
+    go true e = subst (λ q. option_map action_of (entry_at new q) ≡ join_option (action_at old q) (Some a)) (sym ((bytes_eq-Decides k key).0 e)) (ap (option_map action_of) there ∙ here (entry_at old.entries key) held_is)
+    go false e = ap (option_map action_of) (others k (bytes_eq_sym key k ∙ e)) ∙ sym (join_none (action_at old k))

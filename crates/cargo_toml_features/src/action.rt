@@ -2,7 +2,7 @@
 ghost use Rattle.std.specs.Prelude.{◌≡◌, ◌||◌, if◌then◌else◌, nat_eq, codes};
 ghost use Rattle.std.specs.Prelude.{bytes_eq, is_some, Some, None, IfSome, OnOk};
 ghost use Rattle.std.specs.List.{starts_with, ends_with, before_first, after_first, list_any};
-ghost use Rattle.cargo_toml_graph.specs.Action.{Text, join, join_option, without_start};
+ghost use Rattle.cargo_toml_graph.specs.Action.{Action, Text, join, join_option, without_start};
 ghost use Rattle.cargo_toml_graph.specs.Action.{without_end, is_slash, item_of};
 ghost use Rattle.cargo_toml_features.specs.ActionText.{action_in, item_in};
 ghost use Rattle.cargo_toml_features.specs.Views.{set_has, action_of, action_at};
@@ -73,7 +73,9 @@ fn split_slash(text: &str) -> (&str, Option<&str>)
 
 /// Takes a text of a feature's list apart.
 pub fn read_action(text: &str) -> ActionText<'_>
-    ensures { item_in result ≡ item_of text.now }
+    ensures item { item_in result ≡ item_of text.now }
+    ensures conditional { result.is_conditional ≡ ends_with nat_eq
+        (without_start (codes "dep:") (before_first is_slash text.now)) (codes "?") }
 {
     let (front, dep_feature) = split_slash(text);
     let (marked, is_dep_only) = strip_dep(front);
@@ -110,6 +112,17 @@ impl<'a> DepAction<'a> {
     }
 }
 
+/// The action that changes none that is joined to it.
+pub fn neutral_action<'a>(alloc: Global) -> DepAction<'a>
+    ensures { (a : Action) → join (action_of result) a ≡ a }
+{
+    DepAction {
+        is_conditional: true,
+        is_dep_only: false,
+        dep_features: BTreeSet::new(alloc),
+    }
+}
+
 /// Joins an action into the one that its target has, if any: the two are conditional only where
 /// both are, and dep-only where one is. It fails only where memory runs out.
 pub fn join_action<'a>(
@@ -121,12 +134,7 @@ pub fn join_action<'a>(
         ≡ join_option (action_at deps.old k)
         (if bytes_eq k action.entry.target.now then Some (action_in action.entry) else None)) }
 {
-    // Whatever is joined to it stays as it is.
-    let first = DepAction {
-        is_conditional: true,
-        is_dep_only: false,
-        dep_features: BTreeSet::new(alloc),
-    };
+    let first = neutral_action(alloc);
     deps.entry(action.target)?.or_insert(first).join(action)?;
     Ok(())
 }

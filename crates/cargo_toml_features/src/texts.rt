@@ -11,8 +11,8 @@ use std::alloc::{AllocError, Global};
 use std::collections::{BTreeSet, HashMap};
 use std::hash::BuildHasher;
 
-// So many texts are gone through sooner than halved: most differ from another by their length.
-const FEW: usize = 24;
+/// So many texts are gone through sooner than halved: most differ from another by their length.
+pub const FEW: usize = 24;
 
 /// The texts in byte order, each once.
 pub fn in_order<'m>(mut texts: Vec<&'m str>) -> Vec<&'m str>

@@ -3,6 +3,7 @@ use Rattle.std.specs.Prelude.{Bool, IsTrue, List, Vec, bytes_eq, length, map, na
 use Rattle.std.specs.Borrow.{Bor}
 use Rattle.std.specs.List.{list_any}
 use Rattle.std.specs.declared.alloc.Global.{Global}
+use Rattle.cargo_toml_features.specs.declared.texts.TheConstants.{FEW}
 use Rattle.cargo_toml_graph.specs.Action.{Text}
 use Rattle.cargo_toml_graph.specs.Ascending.{Ascend, Ascend-prop}
 
@@ -12,7 +13,7 @@ has_key keys k = list_any (bytes_eq k) (map (λ t. t.now) keys.items)
 
 -- more than a few ascend
 abbrev pub IsSearchable : List Text → Type 0
-IsSearchable texts = IsTrue (nat_lt 24 (length texts)) → Ascend texts
+IsSearchable texts = IsTrue (nat_lt FEW (length texts)) → Ascend texts
 
 -- that they do is one fact
 pub IsSearchable-prop : (texts : List Text) → IsProp (IsSearchable texts)

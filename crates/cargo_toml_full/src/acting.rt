@@ -9,12 +9,8 @@ ghost use Rattle.cargo_toml_full.specs.Searching.{IsSearchable, has_key};
 use crate::acted::Acted;
 use crate::names::ascending;
 use cargo_toml_features::action::ActionText;
-use cargo_toml_features::texts::{is_same, place_of};
+use cargo_toml_features::texts::{FEW, is_same, place_of};
 use std::alloc::{AllocError, Global};
-
-// So many texts are gone through as they come. It is the bound of `place_of` too: up to there no
-// order is needed.
-const FEW: usize = 24;
 
 /// The keys that features act on, as their lists say them: once for each action.
 #[derive(Drop)]
@@ -25,7 +21,8 @@ pub struct Acting<'m> {
     pub reserved: Vec<&'m str>,
 }
 
-// Texts in a form in which `holds` finds them: a few as they are, and more in byte order.
+// Texts in a form in which `holds` finds them: a few as they are, since `place_of` too would go
+// through them, and more in byte order.
 fn searchable<'m>(texts: Vec<&'m str>) -> Vec<&'m str>
     ensures same { (k : Text) → has_key result k ≡ has_key texts.entry k }
     ensures searchable { IsSearchable (map (λ t. t.now) result.items) }

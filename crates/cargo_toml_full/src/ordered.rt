@@ -9,12 +9,9 @@ ghost use Rattle.cargo_toml_full.specs.Placing.{IsBoundOf, IsPlaceOf};
 ghost use Rattle.cargo_toml_features.specs.Places.{nth_text};
 
 use cargo_toml_features::features::Feature;
-use cargo_toml_features::texts::is_same;
+use cargo_toml_features::texts::{FEW, is_same};
 use cargo_toml_walk::node::Node;
 use std::alloc::AllocError;
-
-// So many features are gone through sooner than halved: most names differ in length.
-const FEW: usize = 24;
 
 // Whether the name of the feature at this place is below another.
 fn is_below(features: &[Feature<'_>], place: usize, name: &str) -> bool

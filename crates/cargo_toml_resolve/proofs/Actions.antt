@@ -1,46 +1,19 @@
 -- Actions that a feature takes over, one after another.
-use Rattle.std.proofs.Common.{◌≡◌, Bool, true, false, cond, ◌||◌, List, [], ◌∷◌, ◌++◌, map, Option, Some, None, is_some, Bor, bytes_eq, option_map, unwrap_or, refl, sym, ap, ap₂, subst, ◌∙◌}
+use Rattle.std.proofs.Common.{◌≡◌, Bool, true, false, cond, ◌||◌, List, [], ◌∷◌, ◌++◌, map, Option, Some, None, is_some, Bor, bytes_eq, option_map, refl, sym, ap, ap₂, ◌∙◌}
 use Rattle.std.proofs.lemmas.Bool.{false≢true}
 use Rattle.std.proofs.lemmas.List.{map_push}
 use Rattle.std.proofs.lemmas.Slice.Eq.{bytes_eq-Decides}
 use Rattle.std.specs.Cmp.Lexicographic.{slice_cmp}
 use Rattle.std.specs.Ordering.{nat_cmp}
 use Rattle.std.specs.BTreeMap.{BTreeMap, is_at}
-use Rattle.std.specs.BTreeSet.{BTreeSet}
 use Rattle.std.specs.Map.{lookup}
 use Rattle.std.specs.Map.Iter.{deref_pair}
-use Rattle.cargo_toml_graph.specs.Action.{Text, Action, join, join_option}
+use Rattle.cargo_toml_graph.specs.Action.{Text, Action, join_option}
 use Rattle.cargo_toml_graph.proofs.JoinLaws.{join_option_assoc, join_option_self, join_option_none}
-use Rattle.cargo_toml_graph.proofs.Texts.{bytes_eq_sym}
 use Rattle.cargo_toml_features.specs.declared.features.DepAction.{DepAction}
-use Rattle.cargo_toml_features.specs.Views.{action_of, action_at, set_has}
+use Rattle.cargo_toml_features.specs.Views.{action_of, action_at}
 use Rattle.cargo_toml_full.proofs.Gathering.{is_text_in}
-use Rattle.cargo_toml_features.proofs.TextKeys.{none_in}
 use Rattle.cargo_toml_resolve.proofs.Sets.{text_in_more}
-
--- what a list of entries holds at a text
-abbrev entry_at : List (Bor Text × DepAction) → Text → Option DepAction
-entry_at es k = lookup (is_at (λ q. slice_cmp nat_cmp k q.now)) es
-
--- one more action on the key; the map is told by its entries, since it has no name after `entry`
-pub joined_at : (old : BTreeMap (Bor Text) DepAction) (new : List (Bor Text × DepAction)) (key : Text) (a : Action) (s : BTreeSet (Bor Text)) (held made : DepAction)
-    → ((k : Text) → bytes_eq key k ≡ false → entry_at new k ≡ entry_at old.entries k)
-    → entry_at new key ≡ Some made
-    → s.keys ≡ [] → held ≡ unwrap_or (entry_at old.entries key) (record { is_conditional = true; is_dep_only = false; dep_features = s })
-    → action_of made ≡ join (action_of held) a
-    → (k : Text) → option_map action_of (entry_at new k) ≡ join_option (action_at old k) (cond (bytes_eq k key) (Some a) None)
-joined_at old new key a s held made others there none held_is made_is k = go (bytes_eq k key) refl
-  where
-    first : join (record { is_conditional = true; is_dep_only = false; features = set_has s }) a ≡ a
-    first = λ i. record { is_conditional = a.is_conditional; is_dep_only = a.is_dep_only; features = λ x. ap (λ b. b || a.features x) (none_in s none x) i }
-
-    here : (o : Option DepAction) → held ≡ unwrap_or o (record { is_conditional = true; is_dep_only = false; dep_features = s }) → Some (action_of made) ≡ join_option (option_map action_of o) (Some a)
-    here None e = ap Some (made_is ∙ ap (λ h. join (action_of h) a) e ∙ first)
-    here (Some o) e = ap Some (made_is ∙ ap (λ h. join (action_of h) a) e)
-
-    go : (b : Bool) → bytes_eq k key ≡ b → option_map action_of (entry_at new k) ≡ join_option (action_at old k) (cond b (Some a) None)
-    go true e = subst (λ q. option_map action_of (entry_at new q) ≡ join_option (action_at old q) (Some a)) (sym ((bytes_eq-Decides k key).0 e)) (ap (option_map action_of) there ∙ here (entry_at old.entries key) held_is)
-    go false e = ap (option_map action_of) (others k (bytes_eq_sym key k ∙ e)) ∙ sym (join_option_none (action_at old k))
 
 -- one more action of those that are taken over: `first` is what was there, `more` what is taken over
 module _ (first more own own' : Text → Option Action) (named named' : Text → Bool) (key : Text) (a : Action) (there : more key ≡ Some a) (next : (k : Text) → named' k ≡ (named k || bytes_eq k key))

@@ -3,6 +3,7 @@ ghost use Rattle.std.specs.Prelude.{◌≡◌, ◌||◌, if◌then◌else◌, No
 ghost use Rattle.cargo_toml_graph.specs.Action.{Text, join, join_option};
 ghost use Rattle.cargo_toml_features.specs.Views.{set_has, action_of, action_at};
 
+use cargo_toml_features::action::neutral_action;
 use cargo_toml_features::features::DepAction;
 use std::alloc::{AllocError, Global};
 use std::collections::{BTreeMap, BTreeSet};
@@ -40,12 +41,7 @@ fn add_action<'a>(
     ensures { OnOk result ((k : Text) → action_at own.new k ≡ join_option (action_at own.old k)
         (if bytes_eq k key.now then Some (action_of action.now) else None)) }
 {
-    // Whatever is joined to it stays as it is.
-    let first = DepAction {
-        is_conditional: true,
-        is_dep_only: false,
-        dep_features: BTreeSet::new(alloc),
-    };
+    let first = neutral_action(alloc);
     merge(own.entry(key)?.or_insert(first), action)?;
     Ok(())
 }

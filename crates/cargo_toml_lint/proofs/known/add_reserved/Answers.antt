@@ -11,7 +11,7 @@ use Rattle.cargo_toml_lint.proofs.known.add_reserved.Goals.{then-action+in_ok-in
 pub loop-text-preserved : goal.loop-text-preserved
 loop-text-preserved c = λ k.
     let action = c.read_action-action.result in
-    let is = c.read_action-action.ensures ∙ ap item_of c.as_str.ensures.value in
+    let is = c.read_action-action.ensures.item ∙ ap item_of c.as_str.ensures.value in
     let more = any_more (λ (text : Text). reserves k
     (item_of text)) string_bytes c.args.texts.now c.loop-text.text-index c.text-item.result
     (omega arith) c.text-item.is in

@@ -7,11 +7,11 @@ use Rattle.cargo_toml_lint.proofs.lists.is_unknown.Goals as goal
 pub returns-then-acts : goal.returns-then-acts
 returns-then-acts c =
     ap not c.contains.ensures
-    ∙ sym (acting c.args.text.now c.read_action-action.result c.read_action-action.ensures
+    ∙ sym (acting c.args.text.now c.read_action-action.result c.read_action-action.ensures.item
     (is_unknown (held_names c.args.known.now)) c.acts.result c.acts.ensures c.if-acts.true)
 
 pub returns-else-acts : goal.returns-else-acts
 returns-else-acts c =
     ap not c.has_name.ensures
-    ∙ sym (naming c.args.text.now c.read_action-action.result c.read_action-action.ensures
+    ∙ sym (naming c.args.text.now c.read_action-action.result c.read_action-action.ensures.item
     (is_unknown (held_names c.args.known.now)) c.acts.result c.acts.ensures c.if-acts.false)

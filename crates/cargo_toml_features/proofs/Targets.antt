@@ -1,8 +1,8 @@
 -- The targets of a dependency, by the order of their keys.
-use Rattle.std.proofs.Common.{◌≡◌, Ordering, Less, Equal, Greater, Bool, true, false, cond, Option, Some, None, option_map, is_some, unwrap_or, Bor, refl, sym, ap, ap₂, ◌∙◌}
+use Rattle.std.proofs.Common.{◌≡◌, Ordering, Less, Equal, Greater, true, Option, Some, None, option_map, unwrap_or, Bor, refl, sym, ap, ◌∙◌}
 use Rattle.std.proofs.lemmas.Bool.{false≢true}
-use Rattle.std.specs.Option.{option_or, option_copied}
-use Rattle.std.specs.Ordering.{is_eq, ordering_reverse}
+use Rattle.std.specs.Option.{option_copied}
+use Rattle.std.specs.Ordering.{is_eq}
 use Rattle.std.specs.BTreeMap as tree
 use Rattle.std.specs.BTreeMap.{BTreeMap}
 use Rattle.cargo_toml_dependencies.specs.declared.dependency.Dependency.{Dependency}
@@ -55,21 +55,9 @@ target_of-key_of t = go t.0 t.1
     go k None = refl
     go k (Some s) = refl
 
-is_eq-reverse : (o : Ordering) → is_eq (ordering_reverse o) ≡ is_eq o
-is_eq-reverse Less = refl
-is_eq-reverse Equal = refl
-is_eq-reverse Greater = refl
-
 -- the look-up of a target is that of its key
 pub by_key : {X : Type 0} (m : BTreeMap TargetKey X) (t : Target) → tree.get_by (λ k. target_cmp t (target_in k)) m ≡ tree.get (key_order.cmp-value).it m (key_of t)
 by_key m t = ap (λ f. tree.get_by f m) (λ i k. (ap (λ x. target_cmp x (target_in k)) (sym (target_of-key_of t)) ∙ sym (cmp_is (key_of t) k)) i)
-
--- a target once the map has w at a key
-target_updated : {X : Type 0} (key : TargetKey) (m n : BTreeMap TargetKey X) (w : Option X) → tree.Updates (key_order.cmp-value).it m n key w
-    → (t : Target) → tree.get_by (λ k. target_cmp t (target_in k)) n ≡ cond (is_eq (target_cmp t (target_in key))) w (tree.get_by (λ k. target_cmp t (target_in k)) m)
-target_updated key m n w u t =
-    by_key n t ∙ u.0 (key_of t)
-    ∙ ap₂ (λ b o. cond b w o) (ap is_eq (laws.total-law.antisymm key (key_of t)) ∙ is_eq-reverse _ ∙ ap is_eq (cmp_is (key_of t) key ∙ ap (λ x. target_cmp x (target_in key)) (target_of-key_of t))) (sym (by_key m t))
 
 -- equal targets find the same
 pub target_same : {X : Type 0} (key : TargetKey) (m : BTreeMap TargetKey X) (t : Target) → is_eq (target_cmp t (target_in key)) ≡ true
@@ -86,35 +74,6 @@ target_same key m t e = by_key m t ∙ ap (λ f. tree.get_by f m) (λ i k. laws.
 
 abbrev pub at : BTreeMap TargetKey (Bor Dependency) → Target → Option DependencyMeaning
 at m t = option_map (λ x. dependency_meaning x.now) (tree.get_by (λ k. target_cmp t (target_in k)) m)
-
-module _ (key : TargetKey) (d : Bor Dependency) (m n : BTreeMap TargetKey (Bor Dependency)) (u : tree.Updates (key_order.cmp-value).it m n key (Some d)) where
-  put_at : (t : Target) → at n t ≡ cond (is_eq (target_cmp t (target_in key))) (Some (dependency_meaning d.now)) (at m t)
-  put_at t = ap (option_map (λ x. dependency_meaning x.now)) (target_updated key m n (Some d) u t) ∙ go (is_eq (target_cmp t (target_in key)))
-    where
-      go : (b : Bool) → option_map (λ x. dependency_meaning x.now) (cond b (Some d) (tree.get_by (λ k. target_cmp t (target_in k)) m)) ≡ cond b (Some (dependency_meaning d.now)) (at m t)
-      go true = refl
-      go false = refl
-
-  -- a further target
-  pub target_added : is_some (tree.get (key_order.cmp-value).it m key) ≡ false → (t : Target) → at n t ≡ option_or (at m t) (cond (is_eq (target_cmp t (target_in key))) (Some (dependency_meaning d.now)) None)
-  target_added free t = put_at t ∙ go (is_eq (target_cmp t (target_in key))) (tree.get_by (λ k. target_cmp t (target_in k)) m) (λ e. ap is_some (target_same key m t e) ∙ free)
-    where
-      go : (b : Bool) (o : Option (Bor Dependency)) → (b ≡ true → is_some o ≡ false) → cond b (Some (dependency_meaning d.now)) (option_map (λ x. dependency_meaning x.now) o) ≡ option_or (option_map (λ x. dependency_meaning x.now) o) (cond b (Some (dependency_meaning d.now)) None)
-      go true None h = refl
-      go true (Some x) h = absurd (false≢true (sym (h refl)))
-      go false None h = refl
-      go false (Some x) h = refl
-
--- the target is there
-pub target_kept : (key : TargetKey) (d : DependencyMeaning) (m : BTreeMap TargetKey (Bor Dependency)) → is_some (tree.get (key_order.cmp-value).it m key) ≡ true
-    → (t : Target) → at m t ≡ option_or (at m t) (cond (is_eq (target_cmp t (target_in key))) (Some d) None)
-target_kept key d m there t = go (is_eq (target_cmp t (target_in key))) (tree.get_by (λ k. target_cmp t (target_in k)) m) (λ e. ap is_some (target_same key m t e) ∙ there)
-  where
-    go : (b : Bool) (o : Option (Bor Dependency)) → (b ≡ true → is_some o ≡ true) → option_map (λ x. dependency_meaning x.now) o ≡ option_or (option_map (λ x. dependency_meaning x.now) o) (cond b (Some d) None)
-    go true None h = absurd (false≢true (h refl))
-    go true (Some x) h = refl
-    go false None h = refl
-    go false (Some x) h = refl
 
 -- the text of a name that may be missing
 pub text_or : (o : Option (Bor Text)) (d : Bor Text) → (unwrap_or o d).now ≡ unwrap_or (option_map (λ t. t.now) o) d.now

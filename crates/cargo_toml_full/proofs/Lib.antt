@@ -6,6 +6,7 @@ pub mod Implying
 pub mod Answering
 pub mod SlotValues
 pub mod Placed
+mod PutTarget
 pub mod Searched
 mod Defaulted
 pub mod ReadAll

@@ -224,13 +224,7 @@ fn merged<'m>(
 
 /// How many entries are optional, and so may imply a feature.
 pub fn optional_count(entries: &[ParseDependency<'_, '_>]) -> usize {
-    let mut count: usize = 0;
-    for entry in entries {
-        if entry.dep.optional() {
-            count = count.saturating_add(1);
-        }
-    }
-    count
+    entries.iter().filter(|entry| entry.dep.optional()).count()
 }
 
 /// The features with those that optional dependencies imply, of which there are so many entries.

@@ -97,11 +97,6 @@ pub fn insert_at<'m>(
         ≡ (if bytes_eq f feature.entry.key.now then Some feature.entry
         else feature_at features.old.items f)) }
 {
-    // It mostly comes last: then none is moved.
-    if place >= features.len() {
-        features.push(feature)?;
-        return Ok(());
-    }
     features.insert(place, feature)?;
     Ok(())
 }

@@ -55,9 +55,7 @@ fn add_target<'m: 'd, 'd>(
         ≡ recorded_next (recorded_in dependency.old) (entry_of entry.now)) }
 {
     let target = target_key(entry);
-    if !dependency.targets.contains_key(&target) {
-        dependency.targets.insert(target, entry.dep)?;
-    }
+    dependency.targets.entry(target)?.or_insert(entry.dep);
     Ok(())
 }
 

@@ -180,12 +180,10 @@ fn have_bins(features: &[Feature<'_>], flags: &[bool]) -> bool
     ensures { result ≡ false → (r : ℕ) → r < length features.now → IsWanted flags.now true r
         → bins_of features.now r ≡ [] }
 {
-    for r in 0..features.len() {
-        if passes_any(&features[r], flags[r]) {
-            return true;
-        }
-    }
-    false
+    features
+        .iter()
+        .zip(flags)
+        .any(|(feature, is_removed)| passes_any(feature, *is_removed))
 }
 
 /// Removed features pass their binaries on to those that their redirects name, in the order of

@@ -1,13 +1,14 @@
 -- Removed places pass binaries on, turn after turn.
-use Rattle.std.proofs.Common.{◌≡◌, ◌⊎◌, ◌<◌, ◌+◌, ◌&&◌, ℕ, zero, suc, true, false, Bool, List, [], ◌∷◌, cond, length, map, nat_eq, not, take, Vec, Bor, refl, sym, ap, ap₂, subst, inl, inr, ◌∙◌, arith, eq-eqb, eqb-true}
+use Rattle.std.proofs.Common.{◌≡◌, ◌⊎◌, ◌<◌, ◌≤◌, ◌+◌, ◌&&◌, ◌||◌, ℕ, zero, suc, true, false, Bool, List, [], ◌∷◌, cond, length, map, nat_eq, not, take, Vec, Bor, refl, sym, ap, ap₂, subst, inl, inr, ◌∙◌, arith, eq-eqb, eqb-true}
 use Rattle.std.proofs.lemmas.Bool.{cases_Bool, false≢true, or_cases, or_left, or_right}
 use Rattle.std.proofs.lemmas.Bool.Decides.{nat_tests}
-use Rattle.std.specs.List.{list_any, slice_index_or}
+use Rattle.std.specs.List.{list_any, slice_index_or, zip}
 use Rattle.cargo_toml_graph.specs.Action.{Text}
 use Rattle.cargo_toml_graph.specs.Reach.{Among}
 use Rattle.cargo_toml_graph.specs.Removal.{put_each}
 use Rattle.cargo_toml_walk.specs.Numbers.{IsWanted, Leads, row_items}
-use Rattle.cargo_toml_resolve.specs.Passing.{passed_below, passed_from}
+use Rattle.cargo_toml_features.specs.declared.features.Feature.{Feature}
+use Rattle.cargo_toml_resolve.specs.Passing.{bins_of, passed_below, passed_from}
 
 -- a test tells whether a number stands in a list
 pub stands_true : (xs : List ℕ) (y : ℕ) → Among xs y → list_any (nat_eq y) xs ≡ true
@@ -23,10 +24,22 @@ stands_false : (xs : List ℕ) (y : ℕ) → ¬ Among xs y → list_any (nat_eq 
 stands_false xs y n = elim (cases_Bool (list_any (nat_eq y) xs)) [ inl t ↦ absurd (n (true_stands xs y t)) | inr f ↦ f ]
 
 -- what passes none, though it is removed, has no binary
-pub no_bins : (b : Bool) (bins : List (Bor Text)) → (b && not (nat_eq (length bins) 0)) ≡ false → b ≡ true → map (λ x. x.now) bins ≡ []
+no_bins : (b : Bool) (bins : List (Bor Text)) → (b && not (nat_eq (length bins) 0)) ≡ false → b ≡ true → map (λ x. x.now) bins ≡ []
 no_bins false bins none on = absurd (false≢true on)
 no_bins true [] none on = refl
 no_bins true (x ∷ bins) none on = let some : not (nat_eq (length (x ∷ bins)) 0) ≡ true = grind (arith, nat_tests) in absurd (false≢true (sym none ∙ some))
+
+either_off : (a b : Bool) → (a || b) ≡ false → (a ≡ false) × (b ≡ false)
+either_off true b off = absurd (false≢true (sym off))
+either_off false b off = (refl, off)
+
+-- where the test of every feature with its flag fails, no removed place has a binary
+pub none_had : (vs : List Feature) (flags : List Bool) → length vs ≤ length flags → list_any (λ (p : Feature × Bool). p.1 && not (nat_eq (length p.0.required_by_bins.items) 0)) (zip vs flags) ≡ false
+    → (r : ℕ) → r < length vs → IsWanted flags true r → bins_of vs r ≡ []
+none_had [] flags long none r lt on = absurd (omega (arith, lt))
+none_had (v ∷ vs) [] long none r lt on = absurd (omega (arith, long))
+none_had (v ∷ vs) (b ∷ flags) long none zero lt on = no_bins b v.required_by_bins.items (either_off _ _ none).0 on
+none_had (v ∷ vs) (b ∷ flags) long none (suc r) lt on = none_had vs flags (omega (arith, long)) (either_off _ _ none).1 r (omega (arith, lt)) on
 
 -- where no removed place below n has a binary, none is passed on
 pub none_passed : {Z : Type 0} (rows : List (Vec ℕ Z)) (flags : List Bool) (own : ℕ → List Text) (n : ℕ) → ((r : ℕ) → r < n → IsWanted flags true r → own r ≡ [])

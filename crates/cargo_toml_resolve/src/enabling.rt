@@ -59,24 +59,6 @@ fn leads_nowhere(feature: &Feature<'_>) -> bool
     feature.enables_deps.is_empty()
 }
 
-// Those that a feature enables which leads somewhere.
-fn push_each_target(
-    row: &mut Vec<Node>,
-    feature: &Feature<'_>,
-    keys: &[&str],
-    own: Node,
-    near: usize,
-) -> Result<usize, AllocError>
-    requires { Ascend (texts_now keys.now) }
-    ensures { OnOk result ((x : ℕ) → Among row.new.items x ↔ (Among row.old.items x
-        ⊎ ((x < length keys.now) × (x ≢ own)
-        × LeadsTo feature.now (nth_text (texts_now keys.now) x)))) }
-{
-    let near = push_names(row, &feature.enables_features, keys, own, near)?;
-    push_actions(row, &feature.enables_deps, keys, own)?;
-    Ok(near)
-}
-
 /// The features that the one in place `own` enables: those that it names, and those that it acts on
 /// plainly. The first name is looked for at `near` first; the answer is as of `push_target`.
 //
@@ -97,7 +79,9 @@ pub(crate) fn push_targets(
     if leads_nowhere(feature) {
         return Ok(near);
     }
-    push_each_target(row, feature, keys, own, near)
+    let near = push_names(row, &feature.enables_features, keys, own, near)?;
+    push_actions(row, &feature.enables_deps, keys, own)?;
+    Ok(near)
 }
 
 // The source is put among what enables the feature in this place.

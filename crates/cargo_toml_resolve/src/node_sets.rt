@@ -26,19 +26,6 @@ fn list_of<'m>(alloc: Global, nodes: &[Node], texts: &[&'m str]) -> Result<Vec<&
     Ok(list)
 }
 
-// The texts of many nodes, of which a set is made in one go.
-fn many_of<'m>(
-    alloc: Global,
-    nodes: &[Node],
-    texts: &[&'m str],
-) -> Result<BTreeSet<&'m str>, AllocError>
-    requires { (x : ℕ) → Among nodes.now x → x < length texts.now }
-    ensures { IfOk result (HasTextsOf (texts_now texts.now) nodes.now) }
-{
-    let list = list_of(alloc, nodes, texts)?;
-    set_of(alloc, list.as_slice())
-}
-
 /// The texts of nodes are put into a set.
 pub(crate) fn add_nodes<'m>(
     alloc: Global,
@@ -52,7 +39,8 @@ pub(crate) fn add_nodes<'m>(
 {
     // A set that has no text yet is made of many in one go, so that none is looked for in it.
     if nodes.len() > FEW && set.is_empty() {
-        let made = many_of(alloc, nodes, texts)?;
+        let list = list_of(alloc, nodes, texts)?;
+        let made = set_of(alloc, list.as_slice())?;
         *set = made;
         return Ok(());
     }

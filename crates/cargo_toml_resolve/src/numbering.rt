@@ -208,29 +208,8 @@ fn is_plain(action: &DepAction<'_>) -> bool
     !action.is_conditional && !action.is_dep_only
 }
 
-// Those that the actions enable, other than the one in place `own`, where there is an action. An
-// implied feature acts on the dependency of its own name, so the first is looked for there.
-fn push_each_action(
-    row: &mut Vec<Node>,
-    actions: &BTreeMap<&str, DepAction<'_>>,
-    keys: &[&str],
-    own: Node,
-) -> Result<(), AllocError>
-    requires { Ascend (texts_now keys.now) }
-    ensures { OnOk result ((x : ℕ) → Among row.new.items x ↔ (Among row.old.items x
-        ⊎ ((x < length keys.now) × (x ≢ own)
-        × IsPlain (action_at actions.now (nth_text (texts_now keys.now) x))))) }
-{
-    let mut near = own.place();
-    for (key, action) in actions.iter() {
-        if is_plain(action) {
-            near = push_target(row, *key, keys, own, near)?;
-        }
-    }
-    Ok(())
-}
-
-/// Those that the actions enable, other than the one in place `own`.
+/// Those that the actions enable, other than the one in place `own`. An implied feature acts on the
+/// dependency of its own name, so the first is looked for there.
 pub(crate) fn push_actions(
     row: &mut Vec<Node>,
     actions: &BTreeMap<&str, DepAction<'_>>,
@@ -246,7 +225,13 @@ pub(crate) fn push_actions(
     if actions.is_empty() {
         return Ok(());
     }
-    push_each_action(row, actions, keys, own)
+    let mut near = own.place();
+    for (key, action) in actions.iter() {
+        if is_plain(action) {
+            near = push_target(row, *key, keys, own, near)?;
+        }
+    }
+    Ok(())
 }
 
 /// The features that each feature enables.

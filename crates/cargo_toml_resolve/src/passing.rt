@@ -23,18 +23,11 @@ const MAX_PASSED_BINS: usize = 10;
 
 /// A copy of the first ten, since the lists may change while it is read. It fails only where memory
 /// runs out.
-pub fn first_ten<'m>(bins: &Vec<&'m str>) -> Result<Vec<&'m str>, AllocError>
-    ensures { IfOk result (λ v. texts_now v.items ≡ take 10 (texts_now bins.now.items)) }
+pub fn first_ten<'m>(alloc: Global, bins: &[&'m str]) -> Result<Vec<&'m str>, AllocError>
+    ensures { IfOk result (λ v. texts_now v.items ≡ take 10 (texts_now bins.now)) }
 {
     let count = bins.len().min(MAX_PASSED_BINS);
-    bins[..count].to_vec(*bins.allocator())
-}
-
-// The binaries of a list, as a set.
-fn known_in<'m>(bins: &Vec<&'m str>) -> Result<BTreeSet<&'m str>, AllocError>
-    ensures { IfOk result (λ s. Knows s (texts_now bins.now.items)) }
-{
-    set_of(*bins.allocator(), bins.as_slice())
+    bins[..count].to_vec(alloc)
 }
 
 // A set for each feature, by places. Most features never come to have another binary, so
@@ -53,12 +46,16 @@ fn known_bins<'m>(
 }
 
 // The set is filled, unless it is already.
-fn know<'m>(known: &mut BTreeSet<&'m str>, bins: &Vec<&'m str>) -> Result<(), AllocError>
-    requires { MayKnow known.old (texts_now bins.now.items) }
-    ensures { OnOk result (Knows known.new (texts_now bins.now.items)) }
+fn know<'m>(
+    alloc: Global,
+    known: &mut BTreeSet<&'m str>,
+    bins: &[&'m str],
+) -> Result<(), AllocError>
+    requires { MayKnow known.old (texts_now bins.now) }
+    ensures { OnOk result (Knows known.new (texts_now bins.now)) }
 {
     if known.is_empty() {
-        *known = known_in(bins)?;
+        *known = set_of(alloc, bins)?;
     }
     Ok(())
 }
@@ -108,6 +105,7 @@ fn put_bins<'m>(
 }
 
 fn put_at<'m>(
+    alloc: Global,
     features: &mut Vec<Feature<'m>>,
     known: &mut Vec<BTreeSet<&'m str>>,
     at: Node,
@@ -121,13 +119,14 @@ fn put_at<'m>(
 {
     let feature = &mut features[at.place()];
     let known = &mut known[at.place()];
-    know(known, &feature.required_by_bins)?;
+    know(alloc, known, feature.required_by_bins.as_slice())?;
     put_bins(&mut feature.required_by_bins, known, bins)
 }
 
 // The binaries are put into the lists of the features that the row names; it may name what
 // is no feature, too.
 fn put_along<'m>(
+    alloc: Global,
     features: &mut Vec<Feature<'m>>,
     known: &mut Vec<BTreeSet<&'m str>>,
     row: &[Node],
@@ -140,7 +139,7 @@ fn put_along<'m>(
 {
     for at in row {
         if at.place() < features.len() {
-            put_at(features, known, *at, bins)?;
+            put_at(alloc, features, known, *at, bins)?;
         }
     }
     Ok(())
@@ -148,6 +147,7 @@ fn put_along<'m>(
 
 // The feature in place r passes its first ten binaries on along the row.
 fn pass_from<'m>(
+    alloc: Global,
     features: &mut Vec<Feature<'m>>,
     known: &mut Vec<BTreeSet<&'m str>>,
     r: Node,
@@ -159,11 +159,11 @@ fn pass_from<'m>(
         (take 10 (bins_of features.old.items r)) features.old.items features.new.items) }
     ensures known { OnOk result (AreKnown known.new.items features.new.items) }
 {
-    let bins = first_ten(&features[r.place()].required_by_bins)?;
+    let bins = first_ten(alloc, features[r.place()].required_by_bins.as_slice())?;
     if bins.is_empty() {
         return Ok(());
     }
-    put_along(features, known, row, bins.as_slice())
+    put_along(alloc, features, known, row, bins.as_slice())
 }
 
 // Whether the feature is removed and has a binary.
@@ -180,12 +180,10 @@ fn have_bins(features: &[Feature<'_>], flags: &[bool]) -> bool
     ensures { result ≡ false → (r : ℕ) → r < length features.now → IsWanted flags.now true r
         → bins_of features.now r ≡ [] }
 {
-    for r in 0..features.len() {
-        if passes_any(&features[r], flags[r]) {
-            return true;
-        }
-    }
-    false
+    features
+        .iter()
+        .zip(flags)
+        .any(|(feature, is_removed)| passes_any(feature, *is_removed))
 }
 
 /// Removed features pass their binaries on to those that their redirects name, in the order of
@@ -213,7 +211,13 @@ pub(crate) fn pass_bins<'m>(
     let size = features.len();
     for r in 0..size {
         if flags[r] {
-            pass_from(features, &mut known, Node::at(r), redirects[r].as_slice())?;
+            pass_from(
+                alloc,
+                features,
+                &mut known,
+                Node::at(r),
+                redirects[r].as_slice(),
+            )?;
         }
     }
     Ok(())

@@ -67,6 +67,7 @@ fn lose_enabler<'a>(
 }
 
 fn pass_bins<'a>(
+    alloc: Global,
     bins: &mut Vec<&'a str>,
     name: &'a str,
     gone: &Feature<'a>,
@@ -78,7 +79,7 @@ fn pass_bins<'a>(
         else texts_now bins.old.items)) }
 {
     if gone.enables_features.contains(name) {
-        let first = first_ten(&gone.required_by_bins)?;
+        let first = first_ten(alloc, gone.required_by_bins.as_slice())?;
         put_bins(bins, first.as_slice())?;
     }
     Ok(())
@@ -96,7 +97,7 @@ fn lose<'a>(
 {
     lose_names(alloc, feature, name, gone, key)?;
     lose_enabler(&mut feature.enabled_by, gone, key)?;
-    pass_bins(&mut feature.required_by_bins, name, gone)
+    pass_bins(alloc, &mut feature.required_by_bins, name, gone)
 }
 
 fn lose_at<'a, S: BuildHasher>(

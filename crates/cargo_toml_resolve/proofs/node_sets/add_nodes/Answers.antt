@@ -1,10 +1,10 @@
-use Rattle.std.proofs.Common.{rules, ◌≡◌, ◌<◌, [], Bor, IsTrue, get_or, inl, inr, length, sym, take}
+use Rattle.std.proofs.Common.{rules, ◌≡◌, ◌<◌, ℕ, [], Ok, Bor, IsTrue, get_or, inl, inr, length, sym, take}
 use Rattle.std.proofs.Math.ListN.{get_or-map}
 use Rattle.std.proofs.lemmas.List.{take_all}
 use Rattle.cargo_toml_graph.specs.Action.{Text}
 use Rattle.cargo_toml_features.specs.Views.{set_has}
 use Rattle.cargo_toml_resolve.specs.Texts.{texts_now}
-use Rattle.cargo_toml_resolve.proofs.TextSets.{all_texts_put, no_text_put, place_below, put_in_none, text_put}
+use Rattle.cargo_toml_resolve.proofs.TextSets.{all_texts_put, no_text_put, place_below, put_in_none, set_made, set_of_numbers, text_put}
 use Rattle.cargo_toml_walk.proofs.Steps.{item_at}
 use Rattle.cargo_toml_resolve.proofs.Learning.{no_keys}
 use Rattle.cargo_toml_resolve.proofs.node_sets.add_nodes.Goals as goal
@@ -34,4 +34,10 @@ returns c = λ x.
 
 -- many in one go
 pub returns-then-is_empty : goal.returns-then-is_empty
-returns-then-is_empty c = put_in_none (texts_now c.args.texts.now) c.args.nodes.now c.args.set.now c.in_ok-made.made (no_keys c.args.set.now.keys (c.is_empty.ensures.0 c.if-is_empty.true)) c.in_ok-made.ensures
+returns-then-is_empty c =
+    let texts = c.args.texts.now in
+    let nodes = c.args.nodes.now in
+    let list = c.in_ok-list.list.items in
+    let made = c.in_ok-made.made in
+    put_in_none (texts_now texts) nodes c.args.set.now made (no_keys c.args.set.now.keys (c.is_empty.ensures.0 c.if-is_empty.true))
+    (set_of_numbers {E = ℕ} texts nodes list (Ok made) c.requires c.in_ok-list.ensures (set_made {E = ℕ} (texts_now list) (Ok made) (rw c.as_slice.ensures.value at c.in_ok-made.ensures)))

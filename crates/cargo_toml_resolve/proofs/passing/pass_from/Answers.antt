@@ -8,5 +8,5 @@ pub returns-then-is_empty-clause-put : goal.returns-then-is_empty-clause-put
 returns-then-is_empty-clause-put c =
     let old = c.args.features.now.items in
     let none : length c.in_ok-bins.bins.items ≡ 0 = search rules in
-    let are : texts_now c.in_ok-bins.bins.items ≡ take 10 (bins_of old c.args.r) = c.in_ok-bins.ensures ∙ ap (take 10) (sym (bins_read old c.args.r c.index.result.now c.requires.r (rw c.place.ensures at c.index.ensures))) in
+    let are : texts_now c.in_ok-bins.bins.items ≡ take 10 (bins_of old c.args.r) = (rw c.as_slice.ensures.value at c.in_ok-bins.ensures) ∙ ap (take 10) (sym (bins_read old c.args.r c.index.result.now c.requires.r (rw c.place.ensures at c.index.ensures))) in
     put_nothing c.args.row.now c.in_ok-bins.bins.items (take 10 (bins_of old c.args.r)) old none are

@@ -1,5 +1,5 @@
 use Rattle.cargo_toml_resolve.proofs.NumberRows.{Gains, PlainSoFar}
-use Rattle.cargo_toml_resolve.proofs.numbering.push_each_action.Given as goal
+use Rattle.cargo_toml_resolve.proofs.numbering.push_actions.Given as goal
 
 abbrev pub invariant-loop-key : goal.invariant-loop-key
 invariant-loop-key l = Gains l.keys l.own (PlainSoFar l.keys l.own l.actions l.yielded) l.initial.row.items l.row.items

@@ -6,7 +6,7 @@ use Rattle.std.specs.Map.Iter.{deref_pair}
 use Rattle.cargo_toml_graph.specs.Action.{Text}
 use Rattle.cargo_toml_features.specs.Views.{action_at, action_of}
 use Rattle.cargo_toml_resolve.proofs.NumberRows.{action_left, action_plain, all_actions}
-use Rattle.cargo_toml_resolve.proofs.numbering.push_each_action.Goals as goal
+use Rattle.cargo_toml_resolve.proofs.numbering.push_actions.Goals as goal
 
 pub loop-key-preserved-then-is_plain : goal.loop-key-preserved-then-is_plain
 loop-key-preserved-then-is_plain c =

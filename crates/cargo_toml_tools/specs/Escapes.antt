@@ -46,12 +46,6 @@ is_unescaped Dot c = is_sign c && (not (nat_eq c 34) && not (nat_eq c 92))
 abbrev pub is_cell : List ℕ → Bool
 is_cell bytes = list_all (λ b. is_sign b && not (nat_eq b 124)) bytes
 
--- a text has one more whole line
-pub record AddsLine (old new : List ℕ) : Type 0 where
-  pub line : List ℕ
-  pub follows : new ≡ old ++ (line ++ (10 ∷ []))
-  pub signs : is_line line ≡ true
-
 -- a text of so many whole lines, in which no other control of ASCII stands
 pub record AreLines (count : ℕ) (bytes : List ℕ) : Type 0 where
   pub lines : List (List ℕ)

@@ -1,0 +1,113 @@
+-- The lines of a report.
+use Rattle.std.proofs.Common.{◌≡◌, ◌+◌, ◌++◌, ◌∙◌, ◌&&◌, ℕ, Bool, List, [], ◌∷◌, false, true, Option, Some, None, String}
+use Rattle.std.proofs.Common.{Bor, Global, IsUtf8, ap, append_assoc, arith, codes, length, option_map, refl, string_bytes, sym}
+use Rattle.std.specs.Prelude.{if◌then◌else◌, nat_eq, unwrap_or}
+use Rattle.std.proofs.lemmas.Bool.{and_from, and_parts, cond-false, ne_eqb, true≢false}
+use Rattle.std.proofs.lemmas.Str.{IsUtf8-from_is_utf8, IsUtf8-string_bytes}
+use Rattle.std.specs.List.{concat, enumerate_from, flat_map, list_all}
+use Rattle.cargo_toml_tools.specs.declared.audit.Code.{Code}
+use Rattle.cargo_toml_tools.specs.declared.audit.Code.TheVariants.{Incomplete, ListedTwice, OtherEdition, OtherLicense, Outside, SeveralRequirements, UnusedDependency}
+use Rattle.cargo_toml_tools.specs.declared.audit.Finding.{Finding}
+use Rattle.cargo_toml_tools.specs.declared.audit.Member.{Member}
+use Rattle.cargo_toml_tools.specs.declared.escape.Format.TheVariants.{Line}
+use Rattle.cargo_toml_tools.specs.Audited.{word_of}
+use Rattle.cargo_toml_tools.specs.Escaped.{column, comma, escaped_text}
+use Rattle.cargo_toml_tools.specs.Escapes.{is_line}
+use Rattle.cargo_toml_tools.specs.Reported.{finding_line, key_text, keys_text, member_line, or_dash}
+use Rattle.cargo_toml_tools.proofs.Escaping.{text_line}
+use Rattle.cargo_toml_tools.proofs.Signs.{line_append}
+
+-- ---- no line has another end
+word_line : (code : Code) → is_line (word_of code) ≡ true
+word_line Incomplete = refl
+word_line ListedTwice = refl
+word_line OtherEdition = refl
+word_line OtherLicense = refl
+word_line Outside = refl
+word_line SeveralRequirements = refl
+word_line UnusedDependency = refl
+
+string_line : (s : String Global) → is_line (escaped_text Line (string_bytes s)) ≡ true
+string_line s = text_line (string_bytes s) (IsUtf8-string_bytes s)
+
+column_line : (words : List ℕ) → IsUtf8 words → is_line (column words) ≡ true
+column_line words u = line_append (codes " | ") (escaped_text Line words) refl (text_line words u)
+
+string_column : (s : String Global) → is_line (column (string_bytes s)) ≡ true
+string_column s = column_line (string_bytes s) (IsUtf8-string_bytes s)
+
+dash_text : (o : Option (String Global)) → IsUtf8 (or_dash o)
+dash_text None = IsUtf8-from_is_utf8 (codes "-") refl
+dash_text (Some s) = IsUtf8-string_bytes s
+
+more_keys_line : (keys : List (String Global)) → is_line (flat_map (λ k. codes ", " ++ key_text k) keys) ≡ true
+more_keys_line [] = refl
+more_keys_line (k ∷ ks) =
+    line_append (codes ", " ++ key_text k) (flat_map (λ k. codes ", " ++ key_text k) ks)
+    (line_append (codes ", ") (key_text k) refl (string_line k)) (more_keys_line ks)
+
+keys_line : (keys : List (String Global)) → is_line (keys_text keys) ≡ true
+keys_line [] = refl
+keys_line (k ∷ ks) =
+    line_append (key_text k) (flat_map (λ k. codes ", " ++ key_text k) ks) (string_line k) (more_keys_line ks)
+
+concat_line : (ps : List (List ℕ)) → list_all is_line ps ≡ true → is_line (concat ps) ≡ true
+concat_line [] h = refl
+concat_line (p ∷ ps) h =
+    let both = and_parts (is_line p) (list_all is_line ps) h in
+    line_append p (concat ps) both.0 (concat_line ps both.1)
+
+both : {x y : Bool} → x ≡ true → y ≡ true → (x && y) ≡ true
+both {x} {y} e f = and_from x y e f
+
+pub member_is_line : (m : Member) → is_line (member_line m) ≡ true
+member_is_line m =
+    let pieces : List (List ℕ) = codes "member " ∷ escaped_text Line (string_bytes m.folder)
+        ∷ column (string_bytes m.name) ∷ column (string_bytes m.version)
+        ∷ column (string_bytes m.edition) ∷ column (or_dash m.rust_version)
+        ∷ column (or_dash m.license) ∷ column (string_bytes m.publish)
+        ∷ codes " | " ∷ keys_text m.inherits.items ∷ [] in
+    concat_line pieces (both (string_line m.folder) (both (string_column m.name) (both (string_column m.version)
+    (both (string_column m.edition) (both (column_line (or_dash m.rust_version) (dash_text m.rust_version))
+    (both (column_line (or_dash m.license) (dash_text m.license)) (both (string_column m.publish)
+    (both (keys_line m.inherits.items) refl))))))))
+
+pub finding_is_line : (f : Finding) → is_line (finding_line f) ≡ true
+finding_is_line f =
+    concat_line (codes "finding " ∷ word_of f.code ∷ column (string_bytes f.subject) ∷ column (string_bytes f.words) ∷ [])
+    (both (word_line f.code) (both (string_column f.subject) (both (string_column f.words) refl)))
+
+-- ---- the keys with their places
+abbrev pub placed : ℕ × String Global → List ℕ
+placed p = comma p.0 ++ key_text p.1
+
+later : (n : ℕ) → nat_eq n 0 ≡ false → (keys : List (String Global))
+    → flat_map placed (enumerate_from n keys) ≡ flat_map (λ k. codes ", " ++ key_text k) keys
+later n e [] = refl
+later n e (k ∷ ks) =
+    ap (λ t. (t ++ key_text k) ++ flat_map placed (enumerate_from (n + 1) ks)) (cond-false (nat_eq n 0) [] (codes ", ") e)
+    ∙ ap (λ t. (codes ", " ++ key_text k) ++ t) (later (n + 1) (ne_eqb (n + 1) 0 (λ h. omega arith)) ks)
+
+pub all_placed : (keys : List (String Global)) → nat_eq (length keys) 0 ≡ false
+    → flat_map placed (enumerate_from 0 keys) ≡ keys_text keys
+all_placed [] e = absurd (true≢false e)
+all_placed (k ∷ ks) e = ap (λ t. key_text k ++ t) (later 1 refl ks)
+
+-- one more key at its place
+pub key_more : (n m i : ℕ) (left rest : List (String Global)) (k : String Global) (old mid new c t whole : List ℕ)
+    → left ≡ k ∷ rest → i ≡ n → m ≡ n + 1 → c ≡ comma i → mid ≡ old ++ c → t ≡ string_bytes k → new ≡ mid ++ escaped_text Line t
+    → old ++ flat_map placed (enumerate_from n left) ≡ whole → new ++ flat_map placed (enumerate_from m rest) ≡ whole
+key_more n m i left rest k old mid new c t whole is here next says one reads other held =
+    ap (λ j. new ++ flat_map placed (enumerate_from j rest)) next
+    ∙ ap (λ b. b ++ flat_map placed (enumerate_from (n + 1) rest))
+      (other ∙ ap (λ w. mid ++ escaped_text Line w) reads
+      ∙ ap (λ b. b ++ key_text k) (one ∙ ap (λ b. old ++ b) (says ∙ ap comma here))
+      ∙ append_assoc old (comma n) (key_text k))
+    ∙ append_assoc old (comma n ++ key_text k) (flat_map placed (enumerate_from (n + 1) rest))
+    ∙ ap (λ ks. old ++ flat_map placed (enumerate_from n ks)) (sym is)
+    ∙ held
+
+-- what isn't there
+pub dashed : (o : Option (Bor (List ℕ))) (d : Bor (List ℕ)) → (unwrap_or o d).now ≡ unwrap_or (option_map (λ t. t.now) o) d.now
+dashed None d = refl
+dashed (Some t) d = refl

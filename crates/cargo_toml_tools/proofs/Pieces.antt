@@ -16,13 +16,9 @@ pub ended_if : {T E : Type 0} (r : Result T E) (old new t : List ℕ)
 ended_if (Ok x) old new t e = e
 ended_if (Err x) old new t e = tt
 
--- one piece, and those behind it
-pub goes_on : (a b c p : List ℕ) (ps : List (List ℕ)) → b ≡ a ++ p → c ≡ b ++ concat ps
-    → c ≡ a ++ concat (p ∷ ps)
-goes_on a b c p ps one rest = rest ∙ ap (λ t. t ++ concat ps) one ∙ append_assoc a p (concat ps)
-
-pub goes_last : (a b p : List ℕ) → b ≡ a ++ p → b ≡ a ++ concat (p ∷ [])
-goes_last a b p e = e ∙ ap (λ t. a ++ t) (sym (append-nil p))
+-- one piece, and what stands behind it
+pub goes_on : (a b c p rest : List ℕ) → b ≡ a ++ p → c ≡ b ++ rest → c ≡ a ++ (p ++ rest)
+goes_on a b c p rest one more = more ∙ ap (λ t. t ++ rest) one ∙ append_assoc a p rest
 
 -- the pieces of a line, and its end
 pub as_line : (a b : List ℕ) (ps : List (List ℕ)) → b ≡ a ++ concat (ps ++ ((10 ∷ []) ∷ []))

@@ -3,6 +3,7 @@ use Rattle.std.proofs.Common.{◌≡◌, ◌+◌, ◌++◌, ◌∙◌, ◌&&◌,
 use Rattle.std.proofs.Common.{Bor, Global, IsUtf8, ap, append_assoc, arith, codes, length, option_map, refl, string_bytes, sym}
 use Rattle.std.specs.Prelude.{if◌then◌else◌, nat_eq, unwrap_or}
 use Rattle.std.proofs.lemmas.Bool.{and_from, and_parts, cond-false, ne_eqb, true≢false}
+use Rattle.std.proofs.lemmas.List.{append-nil, nil_from_length}
 use Rattle.std.proofs.lemmas.Str.{IsUtf8-from_is_utf8, IsUtf8-string_bytes}
 use Rattle.std.specs.List.{concat, enumerate_from, flat_map, list_all}
 use Rattle.cargo_toml_tools.specs.declared.audit.Code.{Code}
@@ -111,3 +112,15 @@ key_more n m i left rest k old mid new c t whole is here next says one reads oth
 pub dashed : (o : Option (Bor (List ℕ))) (d : Bor (List ℕ)) → (unwrap_or o d).now ≡ unwrap_or (option_map (λ t. t.now) o) d.now
 dashed None d = refl
 dashed (Some t) d = refl
+
+-- the end of the keys and of the line
+pub keys_end : (n : ℕ) (left keys : List (String Global)) (text old new : List ℕ) → length left ≡ 0 → nat_eq (length keys) 0 ≡ false
+    → text ++ flat_map placed (enumerate_from n left) ≡ (old ++ codes " | ") ++ flat_map placed (enumerate_from 0 keys)
+    → new ≡ text ++ (10 ∷ []) → new ≡ old ++ (codes " | " ++ (keys_text keys ++ (10 ∷ [])))
+keys_end n left keys text old new none some held ends =
+    ends
+    ∙ ap (λ t. t ++ (10 ∷ []))
+      (sym (append-nil text) ∙ ap (λ ks. text ++ flat_map placed (enumerate_from n ks)) (sym (nil_from_length left none))
+      ∙ held ∙ ap (λ t. (old ++ codes " | ") ++ t) (all_placed keys some))
+    ∙ append_assoc (old ++ codes " | ") (keys_text keys) (10 ∷ [])
+    ∙ append_assoc old (codes " | ") (keys_text keys ++ (10 ∷ []))

@@ -4,7 +4,7 @@ use Rattle.std.specs.Str.{trim_end}
 use Rattle.cargo_toml_tools.specs.Escaped.{escaped_text}
 use Rattle.cargo_toml_tools.specs.Escapes.{is_line}
 use Rattle.cargo_toml_tools.specs.declared.escape.Format.TheVariants.{Line}
-use Rattle.cargo_toml_tools.proofs.Pieces.{goes_last, goes_on, of_text}
+use Rattle.cargo_toml_tools.proofs.Pieces.{goes_on, of_text}
 use Rattle.cargo_toml_tools.proofs.Signs.{one_line}
 use Rattle.cargo_toml_tools.proofs.escape.fault_line.Goals as goal
 
@@ -19,7 +19,7 @@ returns c =
       exact = goes_on zero one last _ _ c.in_ok-push_escaped.ensures.exact
           (goes_on one two last (codes ": ") _ c.in_ok-push_str.ensures.bytes
           (goes_on two three last _ _ (of_text Line two three c.trim_end.result.now (trim_end c.args.words.now) c.trim_end.ensures.trim c.in_ok-push_escaped-2.ensures.exact)
-          (goes_last three last (10 ∷ []) c.in_ok-push_str-2.ensures.bytes)))
+          c.in_ok-push_str-2.ensures.bytes))
           ∙ ap (λ t. t ++ concat (escaped_text Line c.args.file.now ∷ codes ": " ∷ escaped_text Line (trim_end c.args.words.now) ∷ (10 ∷ []) ∷ [])) c.in_ok-line.ensures.ok;
       one_line = one_line zero one two three last (codes ": ") (ap is_line c.in_ok-line.ensures.ok)
           c.in_ok-push_escaped.ensures.fits c.in_ok-push_str.ensures.bytes refl

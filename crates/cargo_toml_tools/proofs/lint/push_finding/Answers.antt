@@ -4,7 +4,7 @@ use Rattle.std.specs.Prelude.{option_copied}
 use Rattle.cargo_toml_lint.specs.Findings.{code_name, level_name}
 use Rattle.cargo_toml_tools.specs.Escaped.{column}
 use Rattle.cargo_toml_tools.specs.LintLines.{place}
-use Rattle.cargo_toml_tools.proofs.Pieces.{as_line, ended_if, goes_last, goes_on}
+use Rattle.cargo_toml_tools.proofs.Pieces.{as_line, ended_if, goes_on}
 use Rattle.cargo_toml_tools.proofs.lint.push_finding.Goals as goal
 
 pub returns : goal.returns
@@ -31,5 +31,5 @@ returns c =
     (goes_on five six new _ _ c.in_ok-push_escaped.ensures.exact
     (goes_on six seven new (codes " | ") _ c.in_ok-push_str-5.ensures.bytes
     (goes_on seven eight new _ _ c.in_ok-push_str-6.ensures.bytes
-    (goes_last eight new (10 ∷ []) last))))))))))
+    last)))))))))
     (ended_if c.push_str-7.result eight new (10 ∷ []) c.push_str-7.ensures.bytes)

@@ -2,7 +2,7 @@ use Rattle.std.proofs.Common.{◌∙◌, ◌++◌, [], ◌∷◌, ap, codes, str
 use Rattle.std.proofs.lemmas.Result.{on_ok_weaker}
 use Rattle.cargo_toml_tools.specs.Audited.{word_of}
 use Rattle.cargo_toml_tools.specs.Escaped.{column}
-use Rattle.cargo_toml_tools.proofs.Pieces.{as_line, ended_if, goes_last, goes_on, of_column}
+use Rattle.cargo_toml_tools.proofs.Pieces.{as_line, ended_if, goes_on, of_column}
 use Rattle.cargo_toml_tools.proofs.audit.report.push_finding.Goals as goal
 
 pub returns : goal.returns
@@ -20,5 +20,5 @@ returns c =
     (goes_on one two new _ _ (c.in_ok-push_str-2.ensures.bytes ∙ ap (λ w. one ++ w) c.word.ensures)
     (goes_on two three new _ _ (of_column two three c.as_str.result.now (string_bytes finding.subject) c.as_str.ensures.value c.in_ok-push_cell.ensures)
     (goes_on three four new _ _ (of_column three four c.as_str-2.result.now (string_bytes finding.words) c.as_str-2.ensures.value c.in_ok-push_cell-2.ensures)
-    (goes_last four new (10 ∷ []) last))))))
+    last)))))
     (ended_if c.push_str-3.result four new (10 ∷ []) c.push_str-3.ensures.bytes)

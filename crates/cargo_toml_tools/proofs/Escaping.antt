@@ -1,8 +1,8 @@
 -- What stands for a text, character by character, and that it fits its format.
 use Rattle.std.proofs.Common.{◌≡◌, ◌<◌, ◌++◌, ◌||◌, ◌&&◌, ◌^◌, ◌∙◌, ℕ, List, [], ◌∷◌, true, false}
-use Rattle.std.proofs.Common.{IsUtf8, ap, append_assoc, chars, inl, inr, lit<, refl, subst, sym}
+use Rattle.std.proofs.Common.{Bool, IsUtf8, ap, append_assoc, arith, chars, inl, inr, lit<, refl, subst, sym}
 use Rattle.std.proofs.lemmas.Bool.{agree_below, agree_below_at, and_from, and_parts, both_ways}
-use Rattle.std.proofs.lemmas.Bool.{cases_lt, cond_both, eqb-true, le-leb, not_from_false, or_cases}
+use Rattle.std.proofs.lemmas.Bool.{cases_lt, cond-false, cond-true, cond_both, eqb-true, le-leb, not_from_false, or_cases}
 use Rattle.std.proofs.lemmas.List.{append-nil, nil_from_length}
 use Rattle.std.proofs.lemmas.Str.{chars-nil, encode_ascii, encodes-chars, scalars-chars}
 use Rattle.std.specs.List.{flat_map, list_all}
@@ -35,6 +35,14 @@ pub last_char : (f : Format) (rest new whole : List ℕ) → length rest ≡ 0
     → new ++ escaped_text f rest ≡ whole → new ≡ whole
 last_char f rest new whole e held =
     sym (append-nil new) ∙ ap (λ cs. new ++ flat_map (escaped f) cs) (sym (no_char rest e)) ∙ held
+
+-- a test of each character of the rest
+pub all_char : (test : ℕ → Bool) (rest after : List ℕ) (c : ℕ) (b : Bool) → chars rest ≡ c ∷ chars after
+    → test c ≡ b → list_all test (chars rest) ≡ (b && list_all test (chars after))
+all_char test rest after c b step h = ap (list_all test) step ∙ ap (λ t. t && list_all test (chars after)) h
+
+pub all_none : (test : ℕ → Bool) (rest : List ℕ) → length rest ≡ 0 → list_all test (chars rest) ≡ true
+all_none test rest e = ap (list_all test) (no_char rest e)
 
 -- ---- what stands for a character fits
 low_signs : agree_below (λ c. is_control c || is_sign c) (λ c. true) 128 ≡ true
@@ -128,6 +136,14 @@ name_cell : (name : List ℕ) → IsUtf8 name → is_code name ≡ true → is_c
 name_cell name u h =
     let p = and_parts (list_all (λ c. is_plain c || nat_eq c 95) (chars name)) (not (nat_eq (length name) 0)) h in
     sym (ap is_cell (encodes-chars name u)) ∙ chars_cell (chars name) p.0
+
+-- the two ways to write it
+pub code_quoted : (name : List ℕ) → is_code name ≡ true → codes "`" ++ (name ++ codes "`") ≡ code name
+code_quoted name h = sym (cond-true (is_code name) _ _ h)
+
+pub code_marked : (name : List ℕ) → is_code name ≡ false
+    → codes "<code>" ++ (escaped_text Markdown name ++ codes "</code>") ≡ code name
+code_marked name h = sym (cond-false (is_code name) _ _ h)
 
 code_cell : (name : List ℕ) → IsUtf8 name → is_cell (code name) ≡ true
 code_cell name u =

@@ -1,11 +1,11 @@
 -- The lines of a report.
-use Rattle.std.proofs.Common.{◌≡◌, ◌+◌, ◌++◌, ◌∙◌, ◌&&◌, ℕ, Bool, List, [], ◌∷◌, false, true, Option, Some, None, String}
-use Rattle.std.proofs.Common.{Bor, Global, IsUtf8, ap, append_assoc, arith, codes, length, option_map, refl, string_bytes, sym}
-use Rattle.std.specs.Prelude.{if◌then◌else◌, nat_eq, unwrap_or}
+use Rattle.std.proofs.Common.{◌≡◌, ◌<◌, ◌≤◌, ◌+◌, ◌++◌, ◌∙◌, ◌&&◌, ℕ, Bool, List, [], ◌∷◌, false, true, Option, Some, None, String}
+use Rattle.std.proofs.Common.{Bor, Global, IsUtf8, ap, append_assoc, arith, codes, get_or, length, lit<, option_map, refl, string_bytes, sym, take}
+use Rattle.std.specs.Prelude.{nat_eq, unwrap_or}
 use Rattle.std.proofs.lemmas.Bool.{and_from, and_parts, cond-false, ne_eqb, true≢false}
-use Rattle.std.proofs.lemmas.List.{append-nil, nil_from_length}
-use Rattle.std.proofs.lemmas.Str.{IsUtf8-from_is_utf8, IsUtf8-string_bytes}
-use Rattle.std.specs.List.{concat, enumerate_from, flat_map, list_all}
+use Rattle.std.proofs.lemmas.List.{append-nil, flat_map_more, length-take-le, take_all, take_more}
+use Rattle.std.proofs.lemmas.Str.{IsUtf8-string_bytes, encode_ascii}
+use Rattle.std.specs.List.{concat, flat_map, list_all}
 use Rattle.cargo_toml_tools.specs.declared.audit.Code.{Code}
 use Rattle.cargo_toml_tools.specs.declared.audit.Code.TheVariants.{Incomplete, ListedTwice, OtherEdition, OtherLicense, Outside, SeveralRequirements, UnusedDependency}
 use Rattle.cargo_toml_tools.specs.declared.audit.Finding.{Finding}
@@ -38,7 +38,7 @@ string_column : (s : String Global) → is_line (column (string_bytes s)) ≡ tr
 string_column s = column_line (string_bytes s) (IsUtf8-string_bytes s)
 
 dash_text : (o : Option (String Global)) → IsUtf8 (or_dash o)
-dash_text None = IsUtf8-from_is_utf8 (codes "-") refl
+dash_text None = (codes "-", (refl, ap (λ t. t ++ []) (encode_ascii 45 (lit< tt))))
 dash_text (Some s) = IsUtf8-string_bytes s
 
 more_keys_line : (keys : List (String Global)) → is_line (flat_map (λ k. codes ", " ++ key_text k) keys) ≡ true
@@ -78,49 +78,51 @@ finding_is_line f =
     concat_line (codes "finding " ∷ word_of f.code ∷ column (string_bytes f.subject) ∷ column (string_bytes f.words) ∷ [])
     (both (word_line f.code) (both (string_column f.subject) (both (string_column f.words) refl)))
 
--- ---- the keys with their places
-abbrev pub placed : ℕ × String Global → List ℕ
-placed p = comma p.0 ++ key_text p.1
+-- ---- keys one after another
+abbrev pub so_far : List (String Global) → List ℕ
+so_far [] = []
+so_far (k ∷ ks) = key_text k ++ flat_map (λ k. codes ", " ++ key_text k) ks
 
-later : (n : ℕ) → nat_eq n 0 ≡ false → (keys : List (String Global))
-    → flat_map placed (enumerate_from n keys) ≡ flat_map (λ k. codes ", " ++ key_text k) keys
-later n e [] = refl
-later n e (k ∷ ks) =
-    ap (λ t. (t ++ key_text k) ++ flat_map placed (enumerate_from (n + 1) ks)) (cond-false (nat_eq n 0) [] (codes ", ") e)
-    ∙ ap (λ t. (codes ", " ++ key_text k) ++ t) (later (n + 1) (ne_eqb (n + 1) 0 (λ h. omega arith)) ks)
-
-pub all_placed : (keys : List (String Global)) → nat_eq (length keys) 0 ≡ false
-    → flat_map placed (enumerate_from 0 keys) ≡ keys_text keys
-all_placed [] e = absurd (true≢false e)
-all_placed (k ∷ ks) e = ap (λ t. key_text k ++ t) (later 1 refl ks)
+one_more : (keys : List (String Global)) (k : String Global)
+    → so_far (keys ++ (k ∷ [])) ≡ so_far keys ++ (comma (length keys) ++ key_text k)
+one_more [] k = append-nil (key_text k)
+one_more (x ∷ xs) k =
+    let n = length (x ∷ xs) in
+    let later : codes ", " ≡ comma n = sym (cond-false (nat_eq n 0) [] (codes ", ") (ne_eqb n 0 (λ h. omega arith))) in
+    sym (flat_map_more (λ k. codes ", " ++ key_text k) (key_text x) xs k)
+    ∙ ap (λ t. so_far (x ∷ xs) ++ (t ++ key_text k)) later
 
 -- one more key at its place
-pub key_more : (n m i : ℕ) (left rest : List (String Global)) (k : String Global) (old mid new c t whole : List ℕ)
-    → left ≡ k ∷ rest → i ≡ n → m ≡ n + 1 → c ≡ comma i → mid ≡ old ++ c → t ≡ string_bytes k → new ≡ mid ++ escaped_text Line t
-    → old ++ flat_map placed (enumerate_from n left) ≡ whole → new ++ flat_map placed (enumerate_from m rest) ≡ whole
-key_more n m i left rest k old mid new c t whole is here next says one reads other held =
-    ap (λ j. new ++ flat_map placed (enumerate_from j rest)) next
-    ∙ ap (λ b. b ++ flat_map placed (enumerate_from (n + 1) rest))
-      (other ∙ ap (λ w. mid ++ escaped_text Line w) reads
-      ∙ ap (λ b. b ++ key_text k) (one ∙ ap (λ b. old ++ b) (says ∙ ap comma here))
-      ∙ append_assoc old (comma n) (key_text k))
-    ∙ append_assoc old (comma n ++ key_text k) (flat_map placed (enumerate_from (n + 1) rest))
-    ∙ ap (λ ks. old ++ flat_map placed (enumerate_from n ks)) (sym is)
-    ∙ held
+pub key_more : (keys : List (String Global)) (i : ℕ) (k : String Global) (base old mid new c t : List ℕ) → i < length keys
+    → k ≡ get_or keys i k → c ≡ comma i → mid ≡ old ++ c → t ≡ string_bytes k → new ≡ mid ++ escaped_text Line t
+    → old ≡ base ++ so_far (take i keys) → new ≡ base ++ so_far (take (i + 1) keys)
+key_more keys i k base old mid new c t within is says one reads other held =
+    let before = take i keys in
+    let here : length before ≡ i = length-take-le i keys (omega arith) in
+    other ∙ ap (λ w. mid ++ escaped_text Line w) reads
+    ∙ ap (λ b. b ++ key_text k) (one ∙ ap (λ b. old ++ b) (says ∙ ap comma (sym here)))
+    ∙ append_assoc old (comma (length before)) (key_text k)
+    ∙ ap (λ b. b ++ (comma (length before) ++ key_text k)) held
+    ∙ append_assoc base (so_far before) (comma (length before) ++ key_text k)
+    ∙ ap (λ b. base ++ b) (sym (one_more before k)
+    ∙ ap (λ x. so_far (before ++ (x ∷ []))) is ∙ ap so_far (sym (take_more keys i k within)))
+
+all_keys : (keys : List (String Global)) → nat_eq (length keys) 0 ≡ false → so_far keys ≡ keys_text keys
+all_keys [] e = absurd (true≢false e)
+all_keys (k ∷ ks) e = refl
+
+-- the end of the keys and of the line
+pub keys_end : (keys : List (String Global)) (i : ℕ) (old text new : List ℕ) → length keys ≤ i → nat_eq (length keys) 0 ≡ false
+    → text ≡ (old ++ codes " | ") ++ so_far (take i keys)
+    → new ≡ text ++ (10 ∷ []) → new ≡ old ++ (codes " | " ++ (keys_text keys ++ (10 ∷ [])))
+keys_end keys i old text new all some held ends =
+    ends
+    ∙ ap (λ t. t ++ (10 ∷ []))
+      (held ∙ ap (λ ks. (old ++ codes " | ") ++ so_far ks) (take_all i keys all) ∙ ap (λ t. (old ++ codes " | ") ++ t) (all_keys keys some))
+    ∙ append_assoc (old ++ codes " | ") (keys_text keys) (10 ∷ [])
+    ∙ append_assoc old (codes " | ") (keys_text keys ++ (10 ∷ []))
 
 -- what isn't there
 pub dashed : (o : Option (Bor (List ℕ))) (d : Bor (List ℕ)) → (unwrap_or o d).now ≡ unwrap_or (option_map (λ t. t.now) o) d.now
 dashed None d = refl
 dashed (Some t) d = refl
-
--- the end of the keys and of the line
-pub keys_end : (n : ℕ) (left keys : List (String Global)) (text old new : List ℕ) → length left ≡ 0 → nat_eq (length keys) 0 ≡ false
-    → text ++ flat_map placed (enumerate_from n left) ≡ (old ++ codes " | ") ++ flat_map placed (enumerate_from 0 keys)
-    → new ≡ text ++ (10 ∷ []) → new ≡ old ++ (codes " | " ++ (keys_text keys ++ (10 ∷ [])))
-keys_end n left keys text old new none some held ends =
-    ends
-    ∙ ap (λ t. t ++ (10 ∷ []))
-      (sym (append-nil text) ∙ ap (λ ks. text ++ flat_map placed (enumerate_from n ks)) (sym (nil_from_length left none))
-      ∙ held ∙ ap (λ t. (old ++ codes " | ") ++ t) (all_placed keys some))
-    ∙ append_assoc (old ++ codes " | ") (keys_text keys) (10 ∷ [])
-    ∙ append_assoc old (codes " | ") (keys_text keys ++ (10 ∷ []))

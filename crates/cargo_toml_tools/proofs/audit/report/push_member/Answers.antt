@@ -32,5 +32,5 @@ returns c =
     (goes_on five six new _ _ (of_column five six c.or_dash.result.now (or_dash m.rust_version) c.or_dash.ensures c.in_ok-push_cell-4.ensures)
     (goes_on six seven new _ _ (of_column six seven c.or_dash-2.result.now (or_dash m.license) c.or_dash-2.ensures c.in_ok-push_cell-5.ensures)
     (goes_on seven eight new _ _ (of_column seven eight c.as_str-5.result.now (string_bytes m.publish) c.as_str-5.ensures.value c.in_ok-push_cell-6.ensures)
-    (last ∙ ap (λ ks. eight ++ (codes " | " ++ (keys_text ks ++ 10 ∷ []))) c.as_slice.ensures.value)))))))))
+    (last ∙ ap (λ ks. eight ++ (codes " | " ++ (keys_text ks ++ 10 ∷ []))) c.as_slice.ensures.value))))))))))
     c.push_keys.ensures

@@ -38,8 +38,9 @@ abbrev pub with_end : {X : Type 0} → (X → List ℕ) → X → List ℕ
 with_end line x = line x ++ (10 ∷ [])
 
 module _ {X : Type 0} (line : X → List ℕ) where
-  pub line_more : (xs : List X) (i : ℕ) (x : X) (old new : List ℕ) → i < length xs → x ≡ get_or xs i x
-      → old ≡ flat_map (with_end line) (take i xs) → new ≡ old ++ (line x ++ (10 ∷ []))
+  pub line_more : (xs : List X) (i : ℕ) (x : X) (old new : List ℕ) → i < length xs
+      → x ≡ get_or xs i x → old ≡ flat_map (with_end line) (take i xs)
+      → new ≡ old ++ (line x ++ (10 ∷ []))
       → new ≡ flat_map (with_end line) (take (i + 1) xs)
   line_more xs i x old new within is before more =
       more ∙ ap (λ t. t ++ with_end line x) before
@@ -50,17 +51,21 @@ module _ {X : Type 0} (line : X → List ℕ) where
   pub as_lines : (xs : List X) → flat_map (with_end line) xs ≡ whole_lines (map line xs)
   as_lines xs = sym (flat_map-map (λ l. l ++ (10 ∷ [])) line xs)
 
-  pub all_lines : ((x : X) → is_line (line x) ≡ true) → (xs : List X) → list_all is_line (map line xs) ≡ true
+  pub all_lines : ((x : X) → is_line (line x) ≡ true) → (xs : List X)
+      → list_all is_line (map line xs) ≡ true
   all_lines h [] = refl
-  all_lines h (x ∷ xs) = and_from (is_line (line x)) (list_all is_line (map line xs)) (h x) (all_lines h xs)
+  all_lines h (x ∷ xs) =
+      and_from (is_line (line x)) (list_all is_line (map line xs)) (h x) (all_lines h xs)
 
 -- one more of those that are left
-pub rest_less : {X : Type 0} (f : X → List ℕ) (left rest : List X) (x : X) (old new whole : List ℕ) → left ≡ x ∷ rest
-    → new ≡ old ++ f x → old ++ flat_map f left ≡ whole → new ++ flat_map f rest ≡ whole
+pub rest_less : {X : Type 0} (f : X → List ℕ) (left rest : List X) (x : X) (old new whole : List ℕ)
+    → left ≡ x ∷ rest → new ≡ old ++ f x → old ++ flat_map f left ≡ whole
+    → new ++ flat_map f rest ≡ whole
 rest_less f left rest x old new whole is more held =
     ap (λ t. t ++ flat_map f rest) more ∙ append_assoc old (f x) (flat_map f rest)
     ∙ ap (λ xs. old ++ flat_map f xs) (sym is) ∙ held
 
 pub rest_none : {X : Type 0} (f : X → List ℕ) (left : List X) (new whole : List ℕ) → left ≡ []
     → new ++ flat_map f left ≡ whole → new ≡ whole
-rest_none f left new whole is held = sym (append-nil new) ∙ ap (λ xs. new ++ flat_map f xs) (sym is) ∙ held
+rest_none f left new whole is held =
+    sym (append-nil new) ∙ ap (λ xs. new ++ flat_map f xs) (sym is) ∙ held

@@ -41,7 +41,11 @@ dash_text : (o : Option (String Global)) → IsUtf8 (or_dash o)
 dash_text None = (codes "-", (refl, ap (λ t. t ++ []) (encode_ascii 45 (lit< tt))))
 dash_text (Some s) = IsUtf8-string_bytes s
 
-more_keys_line : (keys : List (String Global)) → is_line (flat_map (λ k. codes ", " ++ key_text k) keys) ≡ true
+dash_column : (o : Option (String Global)) → is_line (column (or_dash o)) ≡ true
+dash_column o = column_line (or_dash o) (dash_text o)
+
+more_keys_line : (keys : List (String Global))
+    → is_line (flat_map (λ k. codes ", " ++ key_text k) keys) ≡ true
 more_keys_line [] = refl
 more_keys_line (k ∷ ks) =
     line_append (codes ", " ++ key_text k) (flat_map (λ k. codes ", " ++ key_text k) ks)
@@ -50,7 +54,8 @@ more_keys_line (k ∷ ks) =
 keys_line : (keys : List (String Global)) → is_line (keys_text keys) ≡ true
 keys_line [] = refl
 keys_line (k ∷ ks) =
-    line_append (key_text k) (flat_map (λ k. codes ", " ++ key_text k) ks) (string_line k) (more_keys_line ks)
+    line_append (key_text k) (flat_map (λ k. codes ", " ++ key_text k) ks)
+    (string_line k) (more_keys_line ks)
 
 concat_line : (ps : List (List ℕ)) → list_all is_line ps ≡ true → is_line (concat ps) ≡ true
 concat_line [] h = refl
@@ -68,14 +73,16 @@ member_is_line m =
         ∷ column (string_bytes m.edition) ∷ column (or_dash m.rust_version)
         ∷ column (or_dash m.license) ∷ column (string_bytes m.publish)
         ∷ codes " | " ∷ keys_text m.inherits.items ∷ [] in
-    concat_line pieces (both (string_line m.folder) (both (string_column m.name) (both (string_column m.version)
-    (both (string_column m.edition) (both (column_line (or_dash m.rust_version) (dash_text m.rust_version))
-    (both (column_line (or_dash m.license) (dash_text m.license)) (both (string_column m.publish)
+    concat_line pieces
+    (both (string_line m.folder) (both (string_column m.name) (both (string_column m.version)
+    (both (string_column m.edition) (both (dash_column m.rust_version)
+    (both (dash_column m.license) (both (string_column m.publish)
     (both (keys_line m.inherits.items) refl))))))))
 
 pub finding_is_line : (f : Finding) → is_line (finding_line f) ≡ true
 finding_is_line f =
-    concat_line (codes "finding " ∷ word_of f.code ∷ column (string_bytes f.subject) ∷ column (string_bytes f.words) ∷ [])
+    concat_line (codes "finding " ∷ word_of f.code ∷ column (string_bytes f.subject)
+        ∷ column (string_bytes f.words) ∷ [])
     (both (word_line f.code) (both (string_column f.subject) (both (string_column f.words) refl)))
 
 -- ---- keys one after another
@@ -88,13 +95,15 @@ one_more : (keys : List (String Global)) (k : String Global)
 one_more [] k = append-nil (key_text k)
 one_more (x ∷ xs) k =
     let n = length (x ∷ xs) in
-    let later : codes ", " ≡ comma n = sym (cond-false (nat_eq n 0) [] (codes ", ") (ne_eqb n 0 (λ h. omega arith))) in
+    let later : codes ", " ≡ comma n =
+    sym (cond-false (nat_eq n 0) [] (codes ", ") (ne_eqb n 0 (λ h. omega arith))) in
     sym (flat_map_more (λ k. codes ", " ++ key_text k) (key_text x) xs k)
     ∙ ap (λ t. so_far (x ∷ xs) ++ (t ++ key_text k)) later
 
 -- one more key at its place
-pub key_more : (keys : List (String Global)) (i : ℕ) (k : String Global) (base old mid new c t : List ℕ) → i < length keys
-    → k ≡ get_or keys i k → c ≡ comma i → mid ≡ old ++ c → t ≡ string_bytes k → new ≡ mid ++ escaped_text Line t
+pub key_more : (keys : List (String Global)) (i : ℕ) (k : String Global)
+    (base old mid new c t : List ℕ) → i < length keys → k ≡ get_or keys i k → c ≡ comma i
+    → mid ≡ old ++ c → t ≡ string_bytes k → new ≡ mid ++ escaped_text Line t
     → old ≡ base ++ so_far (take i keys) → new ≡ base ++ so_far (take (i + 1) keys)
 key_more keys i k base old mid new c t within is says one reads other held =
     let before = take i keys in
@@ -112,17 +121,19 @@ all_keys [] e = absurd (true≢false e)
 all_keys (k ∷ ks) e = refl
 
 -- the end of the keys and of the line
-pub keys_end : (keys : List (String Global)) (i : ℕ) (old text new : List ℕ) → length keys ≤ i → nat_eq (length keys) 0 ≡ false
-    → text ≡ (old ++ codes " | ") ++ so_far (take i keys)
+pub keys_end : (keys : List (String Global)) (i : ℕ) (old text new : List ℕ) → length keys ≤ i
+    → nat_eq (length keys) 0 ≡ false → text ≡ (old ++ codes " | ") ++ so_far (take i keys)
     → new ≡ text ++ (10 ∷ []) → new ≡ old ++ (codes " | " ++ (keys_text keys ++ (10 ∷ [])))
 keys_end keys i old text new all some held ends =
     ends
     ∙ ap (λ t. t ++ (10 ∷ []))
-      (held ∙ ap (λ ks. (old ++ codes " | ") ++ so_far ks) (take_all i keys all) ∙ ap (λ t. (old ++ codes " | ") ++ t) (all_keys keys some))
+      (held ∙ ap (λ ks. (old ++ codes " | ") ++ so_far ks) (take_all i keys all)
+      ∙ ap (λ t. (old ++ codes " | ") ++ t) (all_keys keys some))
     ∙ append_assoc (old ++ codes " | ") (keys_text keys) (10 ∷ [])
     ∙ append_assoc old (codes " | ") (keys_text keys ++ (10 ∷ []))
 
 -- what isn't there
-pub dashed : (o : Option (Bor (List ℕ))) (d : Bor (List ℕ)) → (unwrap_or o d).now ≡ unwrap_or (option_map (λ t. t.now) o) d.now
+pub dashed : (o : Option (Bor (List ℕ))) (d : Bor (List ℕ))
+    → (unwrap_or o d).now ≡ unwrap_or (option_map (λ t. t.now) o) d.now
 dashed None d = refl
 dashed (Some t) d = refl

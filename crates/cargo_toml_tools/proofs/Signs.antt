@@ -12,7 +12,13 @@ use Rattle.std.specs.Str.Parse.{AllDigits}
 use lib.Utf8.{encode}
 use Rattle.cargo_toml_tools.specs.declared.escape.Format.{Format}
 use Rattle.cargo_toml_tools.specs.declared.escape.Format.TheVariants.{Dot, Line, Markdown}
-use Rattle.cargo_toml_tools.specs.Escapes.{Adds, IsOneLine, fits, is_cell, is_guarded, is_line, is_mark, is_unescaped, is_sign}
+use Rattle.cargo_toml_tools.specs.Escapes.{Adds, IsOneLine, fits, is_cell, is_guarded, is_line, is_mark, is_sign}
+
+-- a character that stands for itself in the format
+abbrev pub is_unescaped : Format → ℕ → Bool
+is_unescaped Line c = is_sign c && (not (nat_eq c 124) && not (nat_eq c 92))
+is_unescaped Markdown c = is_sign c && not (is_mark c)
+is_unescaped Dot c = is_sign c && (not (nat_eq c 34) && not (nat_eq c 92))
 
 pub line_append : (xs ys : List ℕ) → is_line xs ≡ true → is_line ys ≡ true → is_line (xs ++ ys) ≡ true
 line_append xs ys e f = list_all-append is_sign xs ys ∙ and_from (is_line xs) (is_line ys) e f

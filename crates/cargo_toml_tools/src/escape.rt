@@ -4,7 +4,8 @@
 ghost use Rattle.std.specs.Prelude.{◌≡◌, ◌==◌, ◌++◌, ◌||◌, IfOk, OnOk, string_bytes, true};
 ghost use Rattle.cargo_toml_tools.specs.declared.escape.Format.TheVariants.{Dot, Line, Markdown};
 ghost use Rattle.cargo_toml_tools.specs.Escaped.{braced, code, comma, escaped, escaped_text};
-ghost use Rattle.cargo_toml_tools.specs.Escaped.{fault_line, is_code, is_control, is_plain, numbered};
+ghost use Rattle.cargo_toml_tools.specs.Escaped.{fault_line, is_code, is_control, is_plain};
+ghost use Rattle.cargo_toml_tools.specs.Escaped.{numbered};
 ghost use Rattle.cargo_toml_tools.specs.Escapes.{Adds, IsOneLine, fits, is_cell};
 
 use std::alloc::{AllocError, Global};
@@ -25,7 +26,8 @@ pub enum Format {
 pub fn push_escaped(text: &mut String, words: &str, format: Format) -> Result<(), AllocError>
     ensures exact { OnOk result
         (string_bytes text.new ≡ string_bytes text.old ++ escaped_text format words.now) }
-    ensures fits { OnOk result (Adds (fits format) (string_bytes text.old) (string_bytes text.new)) }
+    ensures fits { OnOk result
+        (Adds (fits format) (string_bytes text.old) (string_bytes text.new)) }
 {
     for c in words.chars() {
         push_char(text, c, format)?;

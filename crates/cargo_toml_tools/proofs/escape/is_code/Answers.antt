@@ -4,21 +4,17 @@ use Rattle.std.proofs.lemmas.Bool.{and_left}
 use Rattle.std.proofs.lemmas.Str.{IsUtf8-past_char, chars_past_char}
 use Rattle.std.specs.List.{list_all}
 use Rattle.std.specs.Str.Iter.{chars_rest}
-use Rattle.cargo_toml_tools.specs.Escaped.{is_plain}
-use Rattle.cargo_toml_tools.proofs.Escaping.{all_char, all_none}
+use Rattle.cargo_toml_tools.proofs.Escaping.{all_char, all_none, is_code_char}
 use Rattle.cargo_toml_tools.proofs.escape.is_code.Goals as goal
-
-abbrev passes : ℕ → Bool
-passes c = is_plain c || nat_eq c 95
 
 pub returns-then-not-is_plain_in_code : goal.returns-then-not-is_plain_in_code
 returns-then-not-is_plain_in_code c =
     let held = c.loop-c.invariant in
     let step = chars_past_char _ _ c.in-Some.c held.utf8 c.in-Some.ensures.steps.0 in
     let bad = sym c.is_plain_in_code.ensures ∙ c.if-not-is_plain_in_code.true in
-    let none : list_all passes (chars c.args.name.now) ≡ false =
-    sym held.whole ∙ all_char passes (chars_rest c.loop-c.c-iterator) (chars_rest c.next.new.self) c.in-Some.c false step bad in
-    sym (and_left (list_all passes (chars c.args.name.now)) (not (nat_eq (length c.args.name.now) 0)) none)
+    let none : list_all is_code_char (chars c.args.name.now) ≡ false =
+    sym held.whole ∙ all_char is_code_char (chars_rest c.loop-c.c-iterator) (chars_rest c.next.new.self) c.in-Some.c false step bad in
+    sym (and_left (list_all is_code_char (chars c.args.name.now)) (not (nat_eq (length c.args.name.now) 0)) none)
 
 pub loop-c-preserved : goal.loop-c-preserved
 loop-c-preserved c =
@@ -28,11 +24,11 @@ loop-c-preserved c =
     let good = sym c.is_plain_in_code.ensures ∙ c.if-not-is_plain_in_code.false in
     record {
       utf8 = IsUtf8-past_char _ _ c.in-Some.c held.utf8 parts;
-      whole = sym (all_char passes (chars_rest c.loop-c.c-iterator) (chars_rest c.next.new.self) c.in-Some.c true step good) ∙ held.whole;
+      whole = sym (all_char is_code_char (chars_rest c.loop-c.c-iterator) (chars_rest c.next.new.self) c.in-Some.c true step good) ∙ held.whole;
     }
 
 pub returns : goal.returns
 returns c =
-    let all : true ≡ list_all passes (chars c.args.name.now) =
-    sym (all_none passes (chars_rest c.loop-c.c-iterator) c.in-None.ensures.steps.0.0) ∙ c.loop-c.invariant.whole in
+    let all : true ≡ list_all is_code_char (chars c.args.name.now) =
+    sym (all_none is_code_char (chars_rest c.loop-c.c-iterator) c.in-None.ensures.steps.0.0) ∙ c.loop-c.invariant.whole in
     ap not c.is_empty.ensures ∙ ap (λ t. t && not (nat_eq (length c.args.name.now) 0)) all

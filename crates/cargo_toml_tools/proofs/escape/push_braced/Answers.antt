@@ -6,4 +6,5 @@ use Rattle.cargo_toml_tools.proofs.escape.push_braced.Goals as goal
 pub returns : goal.returns
 returns c =
     let bytes = rw c.in_radix.ensures at c.write.ensures.bytes in
-    on_ok_weaker c.write.result (λ e. e ∙ ap (λ n. string_bytes c.args.text.now ++ braced n) c.from-number.ensures) bytes
+    on_ok_weaker c.write.result
+    (λ e. e ∙ ap (λ n. string_bytes c.args.text.now ++ braced n) c.from-number.ensures) bytes

@@ -5,4 +5,5 @@ use Rattle.cargo_toml_tools.proofs.escape.push_numbered.Goals as goal
 
 pub returns : goal.returns
 returns c = on_ok_weaker c.write.result
-    (λ e. e ∙ ap (λ n. string_bytes c.args.text.now ++ numbered n) c.from-number.ensures) c.write.ensures.bytes
+    (λ e. e ∙ ap (λ n. string_bytes c.args.text.now ++ numbered n) c.from-number.ensures)
+    c.write.ensures.bytes

@@ -9,6 +9,7 @@ use Rattle.cargo_toml_tools.proofs.lint.lines.Goals as goal
 pub returns : goal.returns
 returns c =
     let line = finding_line (option_copied c.args.file) in
+    let xs = c.args.findings.now in
     c.loop-finding.invariant
-    ∙ ap (flat_map (with_end line)) (take_all c.loop-finding.finding-index c.args.findings.now c.loop-finding-test.false)
-    ∙ as_lines line c.args.findings.now
+    ∙ ap (flat_map (with_end line)) (take_all c.loop-finding.finding-index xs c.loop-finding-test.false)
+    ∙ as_lines line xs

@@ -7,4 +7,5 @@ use Rattle.cargo_toml_tools.proofs.lint.lines.Given as goal
 
 abbrev pub invariant-loop-finding : goal.invariant-loop-finding
 invariant-loop-finding l =
-    string_bytes l.text ≡ flat_map (with_end (finding_line (option_copied l.fn.file))) (take l.finding-index l.findings)
+    string_bytes l.text
+    ≡ flat_map (with_end (finding_line (option_copied l.fn.file))) (take l.finding-index l.findings)

@@ -7,7 +7,8 @@ use Rattle.cargo_toml_tools.proofs.audit.report.lines.Given as goal
 
 abbrev pub invariant-loop-member : goal.invariant-loop-member
 invariant-loop-member l =
-    string_bytes l.text ≡ flat_map (with_end member_line) (take l.member-index l.audit.members.items)
+    string_bytes l.text
+    ≡ flat_map (with_end member_line) (take l.member-index l.audit.members.items)
 
 abbrev pub invariant-loop-finding : goal.invariant-loop-finding
 invariant-loop-finding l =

@@ -69,10 +69,10 @@ both {x} {y} e f = and_from x y e f
 pub member_is_line : (m : Member) → is_line (member_line m) ≡ true
 member_is_line m =
     let pieces : List (List ℕ) = codes "member " ∷ escaped_text Line (string_bytes m.folder)
-        ∷ column (string_bytes m.name) ∷ column (string_bytes m.version)
-        ∷ column (string_bytes m.edition) ∷ column (or_dash m.rust_version)
-        ∷ column (or_dash m.license) ∷ column (string_bytes m.publish)
-        ∷ codes " | " ∷ keys_text m.inherits.items ∷ [] in
+    ∷ column (string_bytes m.name) ∷ column (string_bytes m.version)
+    ∷ column (string_bytes m.edition) ∷ column (or_dash m.rust_version)
+    ∷ column (or_dash m.license) ∷ column (string_bytes m.publish)
+    ∷ codes " | " ∷ keys_text m.inherits.items ∷ [] in
     concat_line pieces
     (both (string_line m.folder) (both (string_column m.name) (both (string_column m.version)
     (both (string_column m.edition) (both (dash_column m.rust_version)
@@ -82,7 +82,7 @@ member_is_line m =
 pub finding_is_line : (f : Finding) → is_line (finding_line f) ≡ true
 finding_is_line f =
     concat_line (codes "finding " ∷ word_of f.code ∷ column (string_bytes f.subject)
-        ∷ column (string_bytes f.words) ∷ [])
+    ∷ column (string_bytes f.words) ∷ [])
     (both (word_line f.code) (both (string_column f.subject) (both (string_column f.words) refl)))
 
 -- ---- keys one after another
@@ -127,8 +127,8 @@ pub keys_end : (keys : List (String Global)) (i : ℕ) (old text new : List ℕ)
 keys_end keys i old text new all some held ends =
     ends
     ∙ ap (λ t. t ++ (10 ∷ []))
-      (held ∙ ap (λ ks. (old ++ codes " | ") ++ so_far ks) (take_all i keys all)
-      ∙ ap (λ t. (old ++ codes " | ") ++ t) (all_keys keys some))
+    (held ∙ ap (λ ks. (old ++ codes " | ") ++ so_far ks) (take_all i keys all)
+    ∙ ap (λ t. (old ++ codes " | ") ++ t) (all_keys keys some))
     ∙ append_assoc (old ++ codes " | ") (keys_text keys) (10 ∷ [])
     ∙ append_assoc old (codes " | ") (keys_text keys ++ (10 ∷ []))
 

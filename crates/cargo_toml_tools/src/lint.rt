@@ -52,11 +52,7 @@ fn weighs(level: Level) -> bool
     }
 }
 
-fn lines(
-    alloc: Global,
-    file: Option<&str>,
-    findings: &[Finding<'_>],
-) -> Result<String, AllocError>
+fn lines(alloc: Global, file: Option<&str>, findings: &[Finding<'_>]) -> Result<String, AllocError>
     ensures { IfOk result (λ text. string_bytes text ≡
         whole_lines (map (finding_line (option_copied file.entry)) findings.now)) }
 {

@@ -15,12 +15,16 @@ returns c =
     let two = string_bytes c.push_str.new.self in
     let three = string_bytes c.push_escaped-2.new.text in
     let last = string_bytes c.push_str-2.new.self in
+    let trimmed = trim_end c.args.words.now in
+    let file = escaped_text Line c.args.file.now in
+    let words = of_text Line two three c.trim_end.result.now trimmed c.trim_end.ensures.trim
+    c.in_ok-push_escaped-2.ensures.exact in
+    let rest = concat (file ∷ codes ": " ∷ escaped_text Line trimmed ∷ (10 ∷ []) ∷ []) in
     record {
       exact = goes_on zero one last _ _ c.in_ok-push_escaped.ensures.exact
           (goes_on one two last (codes ": ") _ c.in_ok-push_str.ensures.bytes
-          (goes_on two three last _ _ (of_text Line two three c.trim_end.result.now (trim_end c.args.words.now) c.trim_end.ensures.trim c.in_ok-push_escaped-2.ensures.exact)
-          c.in_ok-push_str-2.ensures.bytes))
-          ∙ ap (λ t. t ++ concat (escaped_text Line c.args.file.now ∷ codes ": " ∷ escaped_text Line (trim_end c.args.words.now) ∷ (10 ∷ []) ∷ [])) c.in_ok-line.ensures.ok;
+          (goes_on two three last _ _ words c.in_ok-push_str-2.ensures.bytes))
+          ∙ ap (λ t. t ++ rest) c.in_ok-line.ensures.ok;
       one_line = one_line zero one two three last (codes ": ") (ap is_line c.in_ok-line.ensures.ok)
           c.in_ok-push_escaped.ensures.fits c.in_ok-push_str.ensures.bytes refl
           c.in_ok-push_escaped-2.ensures.fits c.in_ok-push_str-2.ensures.bytes;

@@ -12,13 +12,15 @@ returns-in_ok-push_str-2 c =
     let one = string_bytes c.push_str.new.self in
     let two = string_bytes c.push_str-then-is_code.new.self in
     let new = string_bytes c.push_str-then-is_code-2.new.self in
-    let ended = ended_if c.push_str-then-is_code-2.result two new (codes "`") c.push_str-then-is_code-2.ensures.bytes in
+    let r = c.push_str-then-is_code-2.result in
+    let ended = ended_if r two new (codes "`") c.push_str-then-is_code-2.ensures.bytes in
     let exact = λ (last : new ≡ two ++ codes "`").
-        goes_on old one new (codes "`") _ c.in_ok-push_str.ensures.bytes (goes_on one two new name (codes "`") c.in_ok-push_str-2.ensures.bytes last)
-        ∙ ap (λ t. old ++ t) (code_quoted name (sym c.is_code.ensures ∙ c.if-is_code.true)) in
+    goes_on old one new (codes "`") _ c.in_ok-push_str.ensures.bytes
+    (goes_on one two new name (codes "`") c.in_ok-push_str-2.ensures.bytes last)
+    ∙ ap (λ t. old ++ t) (code_quoted name (sym c.is_code.ensures ∙ c.if-is_code.true)) in
     record {
-      exact = on_ok_weaker c.push_str-then-is_code-2.result exact ended;
-      cell = on_ok_weaker c.push_str-then-is_code-2.result (λ last. adds_code name old new c.utf8.name (exact last)) ended;
+      exact = on_ok_weaker r exact ended;
+      cell = on_ok_weaker r (λ last. adds_code name old new c.utf8.name (exact last)) ended;
     }
 
 pub returns-in_ok-push_escaped : goal.returns-in_ok-push_escaped
@@ -28,11 +30,13 @@ returns-in_ok-push_escaped c =
     let one = string_bytes c.push_str-else-is_code.new.self in
     let two = string_bytes c.push_escaped.new.text in
     let new = string_bytes c.push_str-else-is_code-2.new.self in
-    let ended = ended_if c.push_str-else-is_code-2.result two new (codes "</code>") c.push_str-else-is_code-2.ensures.bytes in
+    let r = c.push_str-else-is_code-2.result in
+    let ended = ended_if r two new (codes "</code>") c.push_str-else-is_code-2.ensures.bytes in
     let exact = λ (last : new ≡ two ++ codes "</code>").
-        goes_on old one new (codes "<code>") _ c.in_ok-push_str-3.ensures.bytes (goes_on one two new _ (codes "</code>") c.in_ok-push_escaped.ensures.exact last)
-        ∙ ap (λ t. old ++ t) (code_marked name (sym c.is_code.ensures ∙ c.if-is_code.false)) in
+    goes_on old one new (codes "<code>") _ c.in_ok-push_str-3.ensures.bytes
+    (goes_on one two new _ (codes "</code>") c.in_ok-push_escaped.ensures.exact last)
+    ∙ ap (λ t. old ++ t) (code_marked name (sym c.is_code.ensures ∙ c.if-is_code.false)) in
     record {
-      exact = on_ok_weaker c.push_str-else-is_code-2.result exact ended;
-      cell = on_ok_weaker c.push_str-else-is_code-2.result (λ last. adds_code name old new c.utf8.name (exact last)) ended;
+      exact = on_ok_weaker r exact ended;
+      cell = on_ok_weaker r (λ last. adds_code name old new c.utf8.name (exact last)) ended;
     }

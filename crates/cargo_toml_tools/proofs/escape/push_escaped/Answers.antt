@@ -9,12 +9,13 @@ pub loop-c-preserved : goal.loop-c-preserved
 loop-c-preserved c =
     let held = c.loop-c.invariant in
     let parts = c.in-Some.ensures.steps.0 in
+    let step = chars_past_char _ _ c.in-Some.c held.utf8 parts in
     record {
       utf8 = IsUtf8-past_char _ _ c.in-Some.c held.utf8 parts;
       whole = one_char c.args.format (chars_rest c.loop-c.c-iterator) (chars_rest c.next.new.self)
           (string_bytes c.loop-c.text) (string_bytes c.push_char.new.text)
           (string_bytes c.args.text.now ++ escaped_text c.args.format c.args.words.now)
-          c.in-Some.c (chars_past_char _ _ c.in-Some.c held.utf8 parts) c.in_ok-push_char.ensures held.whole;
+          c.in-Some.c step c.in_ok-push_char.ensures held.whole;
     }
 
 pub returns : goal.returns
@@ -22,7 +23,8 @@ returns c =
     let old = string_bytes c.args.text.now in
     let new = string_bytes c.loop-c.text in
     let words = c.args.words.now in
-    let all : new ≡ old ++ escaped_text c.args.format words =
-    last_char c.args.format (chars_rest c.loop-c.c-iterator) new (old ++ escaped_text c.args.format words)
-    c.in-None.ensures.steps.0.0 c.loop-c.invariant.whole in
+    let rest = chars_rest c.loop-c.c-iterator in
+    let whole = old ++ escaped_text c.args.format words in
+    let all : new ≡ whole =
+    last_char c.args.format rest new whole c.in-None.ensures.steps.0.0 c.loop-c.invariant.whole in
     record { exact = all; fits = adds_text c.args.format words old new c.utf8.words all }

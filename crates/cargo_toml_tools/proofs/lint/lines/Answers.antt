@@ -11,5 +11,6 @@ returns c =
     let line = finding_line (option_copied c.args.file) in
     let xs = c.args.findings.now in
     c.loop-finding.invariant
-    ∙ ap (flat_map (with_end line)) (take_all c.loop-finding.finding-index xs c.loop-finding-test.false)
+    ∙ ap (flat_map (with_end line))
+    (take_all c.loop-finding.finding-index xs c.loop-finding-test.false)
     ∙ as_lines line xs

@@ -23,5 +23,7 @@ returns-clause-lines g c = record {
   exact = c.in_ok-findings.ensures.exact;
   in_order = c.in_ok-findings.ensures.in_order;
   told = c.in_ok-findings.ensures.told;
-  whole = c.in_ok-text.ensures ∙ ap (λ xs. whole_lines (map (finding_line (option_copied c.args.file)) xs)) c.as_slice-2.ensures.value;
+  whole = c.in_ok-text.ensures
+      ∙ ap (λ xs. whole_lines (map (finding_line (option_copied c.args.file)) xs))
+      c.as_slice-2.ensures.value;
 }

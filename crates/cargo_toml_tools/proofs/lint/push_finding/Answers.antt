@@ -22,7 +22,8 @@ returns c =
     let new = string_bytes c.push_str-7.new.self in
     on_ok_weaker c.push_str-7.result
     (λ last. as_line old new
-    (place (option_copied c.args.file) ∷ level_name x.level ∷ codes " | " ∷ code_name x.code ∷ column x.feature.now ∷ codes " | " ∷ x.words.now ∷ [])
+    (place (option_copied c.args.file) ∷ level_name x.level ∷ codes " | " ∷ code_name x.code
+    ∷ column x.feature.now ∷ codes " | " ∷ x.words.now ∷ [])
     (goes_on old one new _ _ c.in_ok-push_place.ensures
     (goes_on one two new _ _ (c.in_ok-push_str.ensures.bytes ∙ ap (λ t. one ++ t) c.name.ensures)
     (goes_on two three new (codes " | ") _ c.in_ok-push_str-2.ensures.bytes

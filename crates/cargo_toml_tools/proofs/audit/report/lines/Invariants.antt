@@ -14,4 +14,4 @@ abbrev pub invariant-loop-finding : goal.invariant-loop-finding
 invariant-loop-finding l =
     string_bytes l.text ++ flat_map (with_end finding_line) l.finding-iterator
     ≡ flat_map (with_end member_line) l.audit.members.items
-      ++ flat_map (with_end finding_line) (keys l.audit.findings)
+    ++ flat_map (with_end finding_line) (keys l.audit.findings)

@@ -19,18 +19,32 @@ returns c =
     let seven = string_bytes c.push_cell-5.new.text in
     let eight = string_bytes c.push_cell-6.new.text in
     let new = string_bytes c.push_keys.new.text in
+    let folder = string_bytes m.folder in
+    let name = string_bytes m.name in
+    let version = string_bytes m.version in
+    let edition = string_bytes m.edition in
+    let rust_version = or_dash m.rust_version in
+    let license = or_dash m.license in
+    let publish = string_bytes m.publish in
     on_ok_weaker c.push_keys.result
     (λ last. as_line old new
-    (codes "member " ∷ escaped_text Line (string_bytes m.folder) ∷ column (string_bytes m.name) ∷ column (string_bytes m.version)
-    ∷ column (string_bytes m.edition) ∷ column (or_dash m.rust_version) ∷ column (or_dash m.license) ∷ column (string_bytes m.publish)
-    ∷ codes " | " ∷ keys_text m.inherits.items ∷ [])
+    (codes "member " ∷ escaped_text Line folder ∷ column name ∷ column version ∷ column edition
+    ∷ column rust_version ∷ column license ∷ column publish ∷ codes " | "
+    ∷ keys_text m.inherits.items ∷ [])
     (goes_on old one new (codes "member ") _ c.in_ok-push_str.ensures.bytes
-    (goes_on one two new _ _ (of_text Line one two c.as_str.result.now (string_bytes m.folder) c.as_str.ensures.value c.in_ok-push_escaped.ensures.exact)
-    (goes_on two three new _ _ (of_column two three c.as_str-2.result.now (string_bytes m.name) c.as_str-2.ensures.value c.in_ok-push_cell.ensures)
-    (goes_on three four new _ _ (of_column three four c.as_str-3.result.now (string_bytes m.version) c.as_str-3.ensures.value c.in_ok-push_cell-2.ensures)
-    (goes_on four five new _ _ (of_column four five c.as_str-4.result.now (string_bytes m.edition) c.as_str-4.ensures.value c.in_ok-push_cell-3.ensures)
-    (goes_on five six new _ _ (of_column five six c.or_dash.result.now (or_dash m.rust_version) c.or_dash.ensures c.in_ok-push_cell-4.ensures)
-    (goes_on six seven new _ _ (of_column six seven c.or_dash-2.result.now (or_dash m.license) c.or_dash-2.ensures c.in_ok-push_cell-5.ensures)
-    (goes_on seven eight new _ _ (of_column seven eight c.as_str-5.result.now (string_bytes m.publish) c.as_str-5.ensures.value c.in_ok-push_cell-6.ensures)
+    (goes_on one two new _ _
+    (of_text Line one two c.as_str.result.now folder c.as_str.ensures.value c.in_ok-push_escaped.ensures.exact)
+    (goes_on two three new _ _
+    (of_column two three c.as_str-2.result.now name c.as_str-2.ensures.value c.in_ok-push_cell.ensures)
+    (goes_on three four new _ _
+    (of_column three four c.as_str-3.result.now version c.as_str-3.ensures.value c.in_ok-push_cell-2.ensures)
+    (goes_on four five new _ _
+    (of_column four five c.as_str-4.result.now edition c.as_str-4.ensures.value c.in_ok-push_cell-3.ensures)
+    (goes_on five six new _ _
+    (of_column five six c.or_dash.result.now rust_version c.or_dash.ensures c.in_ok-push_cell-4.ensures)
+    (goes_on six seven new _ _
+    (of_column six seven c.or_dash-2.result.now license c.or_dash-2.ensures c.in_ok-push_cell-5.ensures)
+    (goes_on seven eight new _ _
+    (of_column seven eight c.as_str-5.result.now publish c.as_str-5.ensures.value c.in_ok-push_cell-6.ensures)
     (last ∙ ap (λ ks. eight ++ (codes " | " ++ (keys_text ks ++ 10 ∷ []))) c.as_slice.ensures.value))))))))))
     c.push_keys.ensures

@@ -1,7 +1,9 @@
+pub mod Escaping
 pub mod Explained
 pub mod Matched
+pub mod Pieces
 pub mod Placed
+pub mod Reporting
 pub mod Signs
 pub mod Told
 pub mod Weighed
-pub mod WholeLines

@@ -1,28 +1,24 @@
--- What is added to a text piece by piece.
-use Rattle.std.proofs.Common.{◌≡◌, ◌<◌, ◌≤◌, ◌++◌, ◌&&◌, ◌||◌, ◌^◌, ◌∙◌, ℕ, Bool, List, [], ◌∷◌, true, false, refl, sym, ap, subst, append_assoc, arith, inl, inr, lit<, lit≤}
+-- What fits a format, piece by piece.
+use Rattle.std.proofs.Common.{◌≡◌, ◌<◌, ◌≤◌, ◌++◌, ◌&&◌, ◌||◌, ◌^◌, ◌∙◌, ℕ, Bool, List, [], ◌∷◌, true, false, refl, sym, ap, subst, arith, inl, inr, lit<, lit≤}
 use Rattle.std.proofs.lemmas.Bool.{agree_below, agree_below_at, and_from, and_parts, cases_Bool, cases_lt, eqb-true, false≢true, le-leb, leb-true, lt-ltb, ltb-true, ne_eqb, not-true, not_from_false, or_from}
 use Rattle.std.proofs.lemmas.Fmt.{digits_is_IsNumeral, decimal_is_IsNumeral}
-use Rattle.std.proofs.lemmas.List.{append-nil}
 use Rattle.std.proofs.lemmas.List.Folds.{list_all-append}
 use Rattle.std.proofs.lemmas.Str.{encode_ascii}
 use Rattle.std.specs.Char.{digit_value}
 use Rattle.std.specs.Fmt.{digits}
 use Rattle.std.specs.List.{list_all, list_any}
-use Rattle.std.specs.Prelude.{codes, encode_utf8, nat_le, nat_eq, nat_lt, not, decimal, Result, Ok, Err, is_ok, OnOk, if◌then◌else◌}
+use Rattle.std.specs.Prelude.{codes, encode_utf8, nat_le, nat_eq, nat_lt, not, decimal}
 use Rattle.std.specs.Str.Parse.{AllDigits}
 use lib.Utf8.{encode}
 use Rattle.cargo_toml_tools.specs.declared.escape.Format.{Format}
 use Rattle.cargo_toml_tools.specs.declared.escape.Format.TheVariants.{Dot, Line, Markdown}
-use Rattle.cargo_toml_tools.specs.Escapes.{Adds, IsOneLine, fits, is_cell, is_guarded, is_line, is_mark, is_unescaped, is_sign}
+use Rattle.cargo_toml_tools.specs.Escapes.{Adds, IsOneLine, fits, is_cell, is_guarded, is_line, is_mark, is_sign}
 
--- one text is added
-pub adds_one : (test : List ℕ → Bool) (old new added : List ℕ) → new ≡ old ++ added → test added ≡ true → Adds test old new
-adds_one test old new added e p = record { added = added; follows = e; passes = p }
-
--- what `push` and `push_str` say of the bytes
-pub adds_if : {T E : Type 0} (test : List ℕ → Bool) (r : Result T E) (old new t : List ℕ) → new ≡ (if is_ok r then old ++ t else old) → test t ≡ true → OnOk r (Adds test old new)
-adds_if test (Ok x) old new t e p = adds_one test old new t e p
-adds_if test (Err x) old new t e p = tt
+-- a character that stands for itself in the format
+abbrev pub is_unescaped : Format → ℕ → Bool
+is_unescaped Line c = is_sign c && (not (nat_eq c 124) && not (nat_eq c 92))
+is_unescaped Markdown c = is_sign c && not (is_mark c)
+is_unescaped Dot c = is_sign c && (not (nat_eq c 34) && not (nat_eq c 92))
 
 pub line_append : (xs ys : List ℕ) → is_line xs ≡ true → is_line ys ≡ true → is_line (xs ++ ys) ≡ true
 line_append xs ys e f = list_all-append is_sign xs ys ∙ and_from (is_line xs) (is_line ys) e f
@@ -52,17 +48,6 @@ pub fits_none : (f : Format) → fits f [] ≡ true
 fits_none Line = refl
 fits_none Markdown = refl
 fits_none Dot = refl
-
--- and another behind it
-pub adds_more : (f : Format) (a b c : List ℕ) → Adds (fits f) a b → Adds (fits f) b c → Adds (fits f) a c
-adds_more f a b c one other = record {
-  added = one.added ++ other.added;
-  follows = other.follows ∙ ap (λ t. t ++ other.added) one.follows ∙ append_assoc a one.added other.added;
-  passes = fits_append f one.added other.added one.passes other.passes;
-}
-
-pub adds_none : (f : Format) (a : List ℕ) → Adds (fits f) a a
-adds_none f a = record { added = []; follows = sym (append-nil a); passes = fits_none f }
 
 -- bytes that stand for themselves are not escaped
 plain_sign : (f : Format) (b : ℕ) → is_unescaped f b ≡ true → is_sign b ≡ true
@@ -176,7 +161,7 @@ fits_end Markdown = refl
 fits_end Dot = refl
 
 -- a cell of a table
-cell_quiet : (bs : List ℕ) → list_all (is_unescaped Markdown) bs ≡ true → is_cell bs ≡ true
+pub cell_quiet : (bs : List ℕ) → list_all (is_unescaped Markdown) bs ≡ true → is_cell bs ≡ true
 cell_quiet [] h = refl
 cell_quiet (b ∷ bs) h =
     let p = and_parts (is_unescaped Markdown b) (list_all (is_unescaped Markdown) bs) h in
@@ -196,25 +181,6 @@ cell_append xs ys e f = list_all-append (λ b. is_sign b && not (nat_eq b 124)) 
 pub cell_encode : (c : ℕ) → is_unescaped Markdown c ≡ true → is_cell (encode_utf8 c) ≡ true
 cell_encode c h = cell_quiet (encode_utf8 c) (fits_encode Markdown c h)
 
--- one piece behind another, for any test that both keep
-pub adds_on : (test : List ℕ → Bool) → ((xs ys : List ℕ) → test xs ≡ true → test ys ≡ true → test (xs ++ ys) ≡ true)
-    → (a b c : List ℕ) → Adds test a b → Adds test b c → Adds test a c
-adds_on test both a b c one other = record {
-  added = one.added ++ other.added;
-  follows = other.follows ∙ ap (λ t. t ++ other.added) one.follows ∙ append_assoc a one.added other.added;
-  passes = both one.added other.added one.passes other.passes;
-}
-
-pub adds_cell : (a b : List ℕ) → Adds (fits Markdown) a b → Adds is_cell a b
-adds_cell a b one = record { added = one.added; follows = one.follows; passes = cell_quiet one.added one.passes }
-
-pub adds_line : (a b : List ℕ) → Adds (fits Line) a b → Adds is_line a b
-adds_line a b one = record {
-  added = one.added;
-  follows = one.follows;
-  passes = (and_parts (is_line one.added) (is_guarded 124 false one.added) one.passes).0;
-}
-
 -- a line with its end
 line_after : (a b : List ℕ) → is_line a ≡ true → Adds (fits Line) a b → is_line b ≡ true
 line_after a b h more =
@@ -228,9 +194,3 @@ one_line a b c d e sep h first then_sep g second ends = record {
   ends = ends;
   signs = line_after c d (ap is_line then_sep ∙ line_append b sep (line_after a b h first) g) second;
 }
-
-pub cell_line : (bs : List ℕ) → is_cell bs ≡ true → is_line bs ≡ true
-cell_line [] h = refl
-cell_line (b ∷ bs) h =
-    let p = and_parts (is_sign b && not (nat_eq b 124)) (is_cell bs) h in
-    and_from (is_sign b) (is_line bs) (and_parts (is_sign b) (not (nat_eq b 124)) p.0).0 (cell_line bs p.1)

@@ -1,7 +1,8 @@
 -- What is written of a stranger's text.
 use Rattle.std.specs.Prelude.{◌≡◌, ◌++◌, ◌&&◌, ℕ, Bool, List, [], ◌∷◌, true, false}
 use Rattle.std.specs.Prelude.{codes, length, not, nat_eq, nat_le}
-use Rattle.std.specs.List.{flat_map, list_all, list_any}
+use Rattle.std.specs.List.{list_all, list_any}
+use Rattle.cargo_toml_tools.specs.Escaped.{whole_lines}
 use Rattle.cargo_toml_tools.specs.declared.escape.Format.{Format}
 use Rattle.cargo_toml_tools.specs.declared.escape.Format.TheVariants.{Dot, Line, Markdown}
 
@@ -36,26 +37,14 @@ pub record Adds (test : List ℕ → Bool) (old new : List ℕ) : Type 0 where
   pub follows : new ≡ old ++ added
   pub passes : test added ≡ true
 
--- a character that stands for itself in the format
-abbrev pub is_unescaped : Format → ℕ → Bool
-is_unescaped Line c = is_sign c && (not (nat_eq c 124) && not (nat_eq c 92))
-is_unescaped Markdown c = is_sign c && not (is_mark c)
-is_unescaped Dot c = is_sign c && (not (nat_eq c 34) && not (nat_eq c 92))
-
 -- no byte is a control of ASCII or a bar, as in a cell of a table
 abbrev pub is_cell : List ℕ → Bool
 is_cell bytes = list_all (λ b. is_sign b && not (nat_eq b 124)) bytes
 
--- a text has one more whole line
-pub record AddsLine (old new : List ℕ) : Type 0 where
-  pub line : List ℕ
-  pub follows : new ≡ old ++ (line ++ (10 ∷ []))
-  pub signs : is_line line ≡ true
-
 -- a text of so many whole lines, in which no other control of ASCII stands
 pub record AreLines (count : ℕ) (bytes : List ℕ) : Type 0 where
   pub lines : List (List ℕ)
-  pub whole : bytes ≡ flat_map (λ line. line ++ (10 ∷ [])) lines
+  pub whole : bytes ≡ whole_lines lines
   pub signs : list_all is_line lines ≡ true
   pub counted : length lines ≡ count
 

@@ -4,6 +4,9 @@ pub mod IndexRows
 pub mod Linted
 pub mod Audited
 pub mod Escapes
+pub mod Escaped
+pub mod Reported
+pub mod LintLines
 pub mod Patterns
 -- the code's own steps, in contracts of inner functions alone: nothing here has to be believed
 pub mod Checked

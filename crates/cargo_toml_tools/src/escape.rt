@@ -1,10 +1,12 @@
 //! How names and texts of strangers are written into lines, Markdown and Graphviz's language.
 //!
 //! No name can end the line that it stands in, or pass for what stands around it.
-ghost use Rattle.std.specs.Prelude.{◌≡◌, ◌≤◌, IfOk, IsFalse, IsTrue, OnOk, true};
-ghost use Rattle.std.specs.Prelude.{encode_utf8, string_bytes};
+ghost use Rattle.std.specs.Prelude.{◌≡◌, ◌==◌, ◌++◌, ◌||◌, IfOk, OnOk, string_bytes, true};
 ghost use Rattle.cargo_toml_tools.specs.declared.escape.Format.TheVariants.{Dot, Line, Markdown};
-ghost use Rattle.cargo_toml_tools.specs.Escapes.{Adds, IsOneLine, fits, is_cell, is_unescaped};
+ghost use Rattle.cargo_toml_tools.specs.Escaped.{braced, code, comma, escaped, escaped_text};
+ghost use Rattle.cargo_toml_tools.specs.Escaped.{fault_line, is_code, is_control, is_plain};
+ghost use Rattle.cargo_toml_tools.specs.Escaped.{numbered};
+ghost use Rattle.cargo_toml_tools.specs.Escapes.{Adds, IsOneLine, fits, is_cell};
 
 use std::alloc::{AllocError, Global};
 use std::fmt::Write;
@@ -22,7 +24,10 @@ pub enum Format {
 
 /// Writes a text so that it stands for itself in this format, and on one line.
 pub fn push_escaped(text: &mut String, words: &str, format: Format) -> Result<(), AllocError>
-    ensures { OnOk result (Adds (fits format) (string_bytes text.old) (string_bytes text.new)) }
+    ensures exact { OnOk result
+        (string_bytes text.new ≡ string_bytes text.old ++ escaped_text format words.now) }
+    ensures fits { OnOk result
+        (Adds (fits format) (string_bytes text.old) (string_bytes text.new)) }
 {
     for c in words.chars() {
         push_char(text, c, format)?;
@@ -33,9 +38,10 @@ pub fn push_escaped(text: &mut String, words: &str, format: Format) -> Result<()
 /// Writes a name into Markdown as code. It is put between backticks where it has nothing else that
 /// could have a meaning there.
 pub fn push_code(text: &mut String, name: &str) -> Result<(), AllocError>
-    ensures { OnOk result (Adds is_cell (string_bytes text.old) (string_bytes text.new)) }
+    ensures exact { OnOk result (string_bytes text.new ≡ string_bytes text.old ++ code name.now) }
+    ensures cell { OnOk result (Adds is_cell (string_bytes text.old) (string_bytes text.new)) }
 {
-    if !name.is_empty() && is_code(name) {
+    if is_code(name) {
         text.push_str("`")?;
         text.push_str(name)?;
         text.push_str("`")
@@ -48,14 +54,16 @@ pub fn push_code(text: &mut String, name: &str) -> Result<(), AllocError>
 
 /// What stands before the item at this place of a list: a comma, but not before the first.
 pub(crate) fn comma_before(place: usize) -> &'static str
-    ensures { is_cell result.now ≡ true }
+    ensures exact { result.now ≡ comma place }
+    ensures cell { is_cell result.now ≡ true }
 {
     if place == 0 { "" } else { ", " }
 }
 
 /// The line that tells why a file is refused.
 pub fn fault_line(alloc: Global, file: &str, words: &str) -> Result<String, AllocError>
-    ensures { IfOk result (λ line. IsOneLine (string_bytes line)) }
+    ensures exact { IfOk result (λ line. string_bytes line ≡ fault_line file.now words.now) }
+    ensures one_line { IfOk result (λ line. IsOneLine (string_bytes line)) }
 {
     let mut line = String::from_str(alloc, "error: ")?;
     push_escaped(&mut line, file, Format::Line)?;
@@ -66,7 +74,7 @@ pub fn fault_line(alloc: Global, file: &str, words: &str) -> Result<String, Allo
 }
 
 fn push_char(text: &mut String, c: char, format: Format) -> Result<(), AllocError>
-    ensures { OnOk result (Adds (fits format) (string_bytes text.old) (string_bytes text.new)) }
+    ensures { OnOk result (string_bytes text.new ≡ string_bytes text.old ++ escaped format c) }
 {
     match format {
         Format::Line => push_in_line(text, c),
@@ -75,70 +83,57 @@ fn push_char(text: &mut String, c: char, format: Format) -> Result<(), AllocErro
     }
 }
 
+#[tactic(auto, unfolding(crate::specs::Escaped::escaped))]
 fn push_in_line(text: &mut String, c: char) -> Result<(), AllocError>
-    ensures { OnOk result (Adds (fits Line) (string_bytes text.old) (string_bytes text.new)) }
+    ensures { OnOk result (string_bytes text.new ≡ string_bytes text.old ++ escaped Line c) }
 {
     if is_control(c) {
         return push_braced(text, c);
     }
     match c {
-        '\\' => push_signs(text, "\\\\", Format::Line),
-        '|' => push_signs(text, "\\|", Format::Line),
-        _ => push_plain(text, c, Format::Line),
+        '\\' => text.push_str("\\\\"),
+        '|' => text.push_str("\\|"),
+        _ => text.push(c),
     }
 }
 
+#[tactic(auto, unfolding(crate::specs::Escaped::escaped))]
 fn push_in_markdown(text: &mut String, c: char) -> Result<(), AllocError>
-    ensures { OnOk result (Adds (fits Markdown) (string_bytes text.old) (string_bytes text.new)) }
+    ensures { OnOk result (string_bytes text.new ≡ string_bytes text.old ++ escaped Markdown c) }
 {
     if is_plain_in_markdown(c) {
-        push_plain(text, c, Format::Markdown)
+        text.push(c)
     } else {
-        push_numbered(text, c, Format::Markdown)
+        push_numbered(text, c)
     }
 }
 
+#[tactic(auto, unfolding(crate::specs::Escaped::escaped))]
 fn push_in_dot(text: &mut String, c: char) -> Result<(), AllocError>
-    ensures { OnOk result (Adds (fits Dot) (string_bytes text.old) (string_bytes text.new)) }
+    ensures { OnOk result (string_bytes text.new ≡ string_bytes text.old ++ escaped Dot c) }
 {
     if is_control(c) {
-        return push_numbered(text, c, Format::Dot);
+        return push_numbered(text, c);
     }
     match c {
-        '\\' => push_signs(text, "\\\\", Format::Dot),
-        '"' => push_signs(text, "\\\"", Format::Dot),
-        '&' => push_signs(text, "&amp;", Format::Dot),
-        _ => push_plain(text, c, Format::Dot),
+        '\\' => text.push_str("\\\\"),
+        '"' => text.push_str("\\\""),
+        '&' => text.push_str("&amp;"),
+        _ => text.push(c),
     }
-}
-
-/// Writes what stands for a character in this format.
-fn push_signs(text: &mut String, signs: &str, format: Format) -> Result<(), AllocError>
-    requires { fits format signs.now ≡ true }
-    ensures { OnOk result (Adds (fits format) (string_bytes text.old) (string_bytes text.new)) }
-{
-    text.push_str(signs)
-}
-
-/// Writes a character that stands for itself in this format.
-fn push_plain(text: &mut String, c: char, format: Format) -> Result<(), AllocError>
-    requires { is_unescaped format c ≡ true }
-    ensures { OnOk result (Adds (fits format) (string_bytes text.old) (string_bytes text.new)) }
-{
-    text.push(c)
 }
 
 /// Writes a character by its number into a line, as Rust does.
 fn push_braced(text: &mut String, c: char) -> Result<(), AllocError>
-    ensures { OnOk result (Adds (fits Line) (string_bytes text.old) (string_bytes text.new)) }
+    ensures { OnOk result (string_bytes text.new ≡ string_bytes text.old ++ braced c) }
 {
     let number = u32::from(c);
     write!(text, "\\u{{{number:x}}}")
 }
 
 /// Writes a character by its number, as HTML does, and with it Markdown and Graphviz.
-fn push_numbered(text: &mut String, c: char, format: Format) -> Result<(), AllocError>
-    ensures { OnOk result (Adds (fits format) (string_bytes text.old) (string_bytes text.new)) }
+fn push_numbered(text: &mut String, c: char) -> Result<(), AllocError>
+    ensures { OnOk result (string_bytes text.new ≡ string_bytes text.old ++ numbered c) }
 {
     let number = u32::from(c);
     write!(text, "&#{number};")
@@ -147,7 +142,7 @@ fn push_numbered(text: &mut String, c: char, format: Format) -> Result<(), Alloc
 /// Whether the character is no sign: it ends a line, or takes no place, or turns the direction of
 /// what follows.
 fn is_control(c: char) -> bool
-    ensures { IsFalse result → 32 ≤ c }
+    ensures { result ≡ is_control c }
 {
     matches!(c, '\0'..='\u{1f}' | '\u{7f}'..='\u{9f}' | '\u{200b}'..='\u{200f}')
         || matches!(c, '\u{2028}'..='\u{202e}' | '\u{2060}'..='\u{206f}' | '\u{feff}')
@@ -155,7 +150,7 @@ fn is_control(c: char) -> bool
 
 /// Whether the character has no meaning in the text of a line of Markdown.
 fn is_plain_in_markdown(c: char) -> bool
-    ensures { IsTrue result → is_unescaped Markdown c ≡ true }
+    ensures { result ≡ is_plain c }
 {
     match c {
         ' ' | '-' | '+' | '.' | ',' | ':' | ';' | '/' | '?' | '(' | ')' | '=' | '%' => true,
@@ -164,20 +159,20 @@ fn is_plain_in_markdown(c: char) -> bool
     }
 }
 
-/// Whether each character of a name stands for itself between backticks.
+/// Whether a name has characters, each of which stands for itself between backticks.
 fn is_code(name: &str) -> bool
-    ensures { IsTrue result → is_cell name.now ≡ true }
+    ensures { result ≡ is_code name.now }
 {
     for c in name.chars() {
         if !is_plain_in_code(c) {
             return false;
         }
     }
-    true
+    !name.is_empty()
 }
 
 fn is_plain_in_code(c: char) -> bool
-    ensures { IsTrue result → is_cell (encode_utf8 c) ≡ true }
+    ensures { result ≡ (is_plain c || (c == 95)) }
 {
     is_plain_in_markdown(c) || c == '_'
 }

@@ -1,7 +1,10 @@
 //! How a report is written.
-ghost use Rattle.std.specs.Prelude.{◌+◌, IfOk, OnOk, string_bytes, vec_len};
-ghost use Rattle.std.specs.BTreeSet.{btree_set_len};
-ghost use Rattle.cargo_toml_tools.specs.Escapes.{Adds, AddsLine, AreLines, is_line};
+ghost use Rattle.std.specs.Prelude.{◌≡◌, ◌+◌, ◌∷◌, ◌++◌, [], IfOk, OnOk, codes, map};
+ghost use Rattle.std.specs.Prelude.{string_bytes, vec_len};
+ghost use Rattle.std.specs.BTreeSet.{btree_set_len, keys};
+ghost use Rattle.cargo_toml_tools.specs.Escaped.{column, whole_lines};
+ghost use Rattle.cargo_toml_tools.specs.Escapes.{AreLines};
+ghost use Rattle.cargo_toml_tools.specs.Reported.{finding_line, keys_text, member_line, or_dash};
 
 use super::{Audit, Finding, Member};
 use crate::escape::{Format, comma_before, push_escaped};
@@ -14,7 +17,9 @@ use std::alloc::{AllocError, Global};
 /// `member FOLDER | NAME | VERSION | EDITION | RUST-VERSION | LICENSE | PUBLISH | INHERITS`, and
 /// `finding CODE | SUBJECT | WORDS`, where `-` stands for what isn't there.
 pub fn lines(alloc: Global, audit: &Audit) -> Result<String, AllocError>
-    ensures { IfOk result (λ text. AreLines
+    ensures exact { IfOk result (λ text. string_bytes text ≡ whole_lines
+        (map member_line audit.now.members.items ++ map finding_line (keys audit.now.findings))) }
+    ensures lines { IfOk result (λ text. AreLines
         (vec_len audit.now.members + btree_set_len audit.now.findings) (string_bytes text)) }
 {
     let mut text = String::new(alloc);
@@ -28,21 +33,30 @@ pub fn lines(alloc: Global, audit: &Audit) -> Result<String, AllocError>
 }
 
 fn push_member(text: &mut String, member: &Member) -> Result<(), AllocError>
-    ensures { OnOk result (AddsLine (string_bytes text.old) (string_bytes text.new)) }
+    ensures { OnOk result
+        (string_bytes text.new ≡ string_bytes text.old ++ (member_line member.now ++ 10 ∷ [])) }
 {
     text.push_str("member ")?;
     push_escaped(text, member.folder.as_str(), Format::Line)?;
     push_cell(text, member.name.as_str())?;
     push_cell(text, member.version.as_str())?;
     push_cell(text, member.edition.as_str())?;
-    push_cell(text, member.rust_version.as_deref().unwrap_or("-"))?;
-    push_cell(text, member.license.as_deref().unwrap_or("-"))?;
+    push_cell(text, or_dash(&member.rust_version))?;
+    push_cell(text, or_dash(&member.license))?;
     push_cell(text, member.publish.as_str())?;
     push_keys(text, member.inherits.as_slice())
 }
 
+/// A dash stands for what isn't there.
+fn or_dash(words: &Option<String>) -> &str
+    ensures { result.now ≡ or_dash words.now }
+{
+    words.as_deref().unwrap_or("-")
+}
+
 fn push_finding(text: &mut String, finding: &Finding) -> Result<(), AllocError>
-    ensures { OnOk result (AddsLine (string_bytes text.old) (string_bytes text.new)) }
+    ensures { OnOk result
+        (string_bytes text.new ≡ string_bytes text.old ++ (finding_line finding.now ++ 10 ∷ [])) }
 {
     text.push_str("finding ")?;
     text.push_str(finding.code.word())?;
@@ -52,14 +66,15 @@ fn push_finding(text: &mut String, finding: &Finding) -> Result<(), AllocError>
 }
 
 fn push_cell(text: &mut String, cell: &str) -> Result<(), AllocError>
-    ensures { OnOk result (Adds is_line (string_bytes text.old) (string_bytes text.new)) }
+    ensures { OnOk result (string_bytes text.new ≡ string_bytes text.old ++ column cell.now) }
 {
     text.push_str(" | ")?;
     push_escaped(text, cell, Format::Line)
 }
 
 fn push_keys(text: &mut String, keys: &[String]) -> Result<(), AllocError>
-    ensures { OnOk result (AddsLine (string_bytes text.old) (string_bytes text.new)) }
+    ensures { OnOk result (string_bytes text.new ≡
+        string_bytes text.old ++ (codes " | " ++ (keys_text keys.now ++ 10 ∷ []))) }
 {
     if keys.is_empty() {
         return text.push_str(" | -\n");

@@ -1,12 +1,17 @@
-use Rattle.std.proofs.Common.{◌≡◌, ◌+◌, ℕ, length, string_bytes, vec_len}
-use Rattle.std.specs.BTreeSet.{btree_set_len}
-use Rattle.cargo_toml_tools.specs.Escapes.{AreLines}
+use Rattle.std.proofs.Common.{◌≡◌, ◌++◌, string_bytes, take}
+use Rattle.std.specs.BTreeSet.{keys}
+use Rattle.std.specs.List.{flat_map}
+use Rattle.cargo_toml_tools.specs.Reported.{finding_line, member_line}
+use Rattle.cargo_toml_tools.proofs.Pieces.{with_end}
 use Rattle.cargo_toml_tools.proofs.audit.report.lines.Given as goal
 
 abbrev pub invariant-loop-member : goal.invariant-loop-member
-invariant-loop-member l = AreLines l.member-index (string_bytes l.text)
+invariant-loop-member l =
+    string_bytes l.text
+    ≡ flat_map (with_end member_line) (take l.member-index l.audit.members.items)
 
 abbrev pub invariant-loop-finding : goal.invariant-loop-finding
 invariant-loop-finding l =
-    (n : ℕ) × (AreLines n (string_bytes l.text))
-    × (n + length l.finding-iterator ≡ vec_len l.audit.members + btree_set_len l.audit.findings)
+    string_bytes l.text ++ flat_map (with_end finding_line) l.finding-iterator
+    ≡ flat_map (with_end member_line) l.audit.members.items
+    ++ flat_map (with_end finding_line) (keys l.audit.findings)

@@ -1,33 +1,29 @@
-use Rattle.std.proofs.Common.{◌≡◌, ◌∙◌, [], ◌∷◌, ap, codes, refl, string_bytes, true}
+use Rattle.std.proofs.Common.{◌∙◌, ◌++◌, [], ◌∷◌, ap, codes, string_bytes}
 use Rattle.std.proofs.lemmas.Result.{on_ok_weaker}
-use Rattle.cargo_toml_tools.specs.declared.audit.Code.{Code}
-use Rattle.cargo_toml_tools.specs.declared.audit.Code.TheVariants.{Incomplete, ListedTwice, OtherEdition, OtherLicense, Outside, SeveralRequirements, UnusedDependency}
 use Rattle.cargo_toml_tools.specs.Audited.{word_of}
-use Rattle.cargo_toml_tools.specs.Escapes.{is_line}
-use Rattle.cargo_toml_tools.proofs.Signs.{adds_one}
-use Rattle.cargo_toml_tools.proofs.WholeLines.{begun, ended, ended_if}
+use Rattle.cargo_toml_tools.specs.Escaped.{column}
+use Rattle.cargo_toml_tools.proofs.Pieces.{as_line, ended_if, goes_on, of_column}
 use Rattle.cargo_toml_tools.proofs.audit.report.push_finding.Goals as goal
-
-word_line : (code : Code) → is_line (word_of code) ≡ true
-word_line Incomplete = refl
-word_line ListedTwice = refl
-word_line OtherEdition = refl
-word_line OtherLicense = refl
-word_line Outside = refl
-word_line SeveralRequirements = refl
-word_line UnusedDependency = refl
 
 pub returns : goal.returns
 returns c =
+    let finding = c.args.finding.now in
     let old = string_bytes c.args.text.now in
     let one = string_bytes c.push_str.new.self in
     let two = string_bytes c.push_str-2.new.self in
     let three = string_bytes c.push_cell.new.text in
     let four = string_bytes c.push_cell-2.new.text in
     let new = string_bytes c.push_str-3.new.self in
+    let subject = string_bytes finding.subject in
+    let words = string_bytes finding.words in
     on_ok_weaker c.push_str-3.result
-    (λ last. begun old one new (adds_one is_line old one (codes "finding ") c.in_ok-push_str.ensures.bytes refl)
-    (begun one two new (adds_one is_line one two c.word.result.now c.in_ok-push_str-2.ensures.bytes (ap is_line c.word.ensures ∙ word_line c.args.finding.now.code))
-    (begun two three new c.in_ok-push_cell.ensures
-    (ended three four new c.in_ok-push_cell-2.ensures last))))
+    (λ last. as_line old new
+    (codes "finding " ∷ word_of finding.code ∷ column subject ∷ column words ∷ [])
+    (goes_on old one new (codes "finding ") _ c.in_ok-push_str.ensures.bytes
+    (goes_on one two new _ _ (c.in_ok-push_str-2.ensures.bytes ∙ ap (λ w. one ++ w) c.word.ensures)
+    (goes_on two three new _ _
+    (of_column two three c.as_str.result.now subject c.as_str.ensures.value c.in_ok-push_cell.ensures)
+    (goes_on three four new _ _
+    (of_column three four c.as_str-2.result.now words c.as_str-2.ensures.value c.in_ok-push_cell-2.ensures)
+    last)))))
     (ended_if c.push_str-3.result four new (10 ∷ []) c.push_str-3.ensures.bytes)

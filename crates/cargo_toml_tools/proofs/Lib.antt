@@ -1,7 +1,11 @@
+pub mod Compared
 pub mod Explained
+pub mod Gained
+pub mod Left
 pub mod Matched
 pub mod Placed
 pub mod Signs
+pub mod Summed
 pub mod Told
 pub mod Weighed
 pub mod WholeLines

@@ -3,6 +3,8 @@ pub mod Indexed
 pub mod IndexRows
 pub mod Linted
 pub mod Audited
+pub mod Oddities
+pub mod LeftKeys
 pub mod Escapes
 pub mod Patterns
 -- the code's own steps, in contracts of inner functions alone: nothing here has to be believed

@@ -1,11 +1,19 @@
 -- Findings, with one more or with several.
-use Rattle.std.proofs.Common.{◌≡◌, ◌⊎◌, ◌++◌, Ordering, Less, Equal, Greater, List, [], ◌∷◌, map, string_bytes, refl, sym, ap, subst, inl, inr, ◌∙◌}
+use Rattle.std.proofs.Common.{◌≡◌, ◌⊎◌, ◌++◌, ◌&&◌, Bool, true, false, cond, Ordering, Less, Equal, Greater, List, [], ◌∷◌, String, Global, map, bytes_eq, string_bytes, refl, sym, ap, subst, inl, inr, ◌∙◌}
+use Rattle.std.proofs.lemmas.Bool.{and_parts}
+use Rattle.std.proofs.lemmas.Slice.Eq.{bytes_eq-Decides}
+use Rattle.std.specs.Prelude.{filter}
 use Rattle.std.specs.BTreeSet.{BTreeSet, insert_key}
 use Rattle.std.specs.Ordering.{match_ordering}
 use Rattle.cargo_toml.specs.Action.{Text}
 use Rattle.cargo_toml.specs.Reach.{Among}
-use Rattle.cargo_toml_tools.specs.Oddities.{AreFound, Gains, IsFound, Oddity, oddity_of}
+use Rattle.cargo_toml_tools.specs.Oddities.{AreFound, Gains, IsFound, Oddity, is_outside, oddity_of, oddity_with, outsider_of}
+use Rattle.cargo_toml_tools.specs.contracts.audit.Code.{the_type}
+use Rattle.cargo_toml_tools.specs.contracts.audit.FindingOrd.TheImpl as finding_order
+use Rattle.cargo_toml_tools.specs.contracts.audit.FindingOrd.TheImpl.Laws as laws
+use Rattle.cargo_toml_tools.specs.declared.audit.Code.{Code}
 use Rattle.cargo_toml_tools.specs.declared.audit.Finding.{Finding}
+use denote.Enum.Bare.{same_true}
 
 -- one key put among others
 module _ (cmp : Finding → Finding → Ordering) (f : Finding) where
@@ -68,6 +76,15 @@ module _ (cmp : Finding → Finding → Ordering) (f : Finding) where
       subst (λ (x : Oddity). IsFound n x) same
       (subst (λ (ks : List Finding). Among (map oddity_of ks) (oddity_of f)) (sym is) (there ties s.keys))
 
+-- findings that are tied in their order tell the same
+pub ties : (f x : Finding) → (finding_order.cmp-value).it f x ≡ Equal → oddity_of f ≡ oddity_of x
+ties f x e =
+    let p = and_parts _ _ ((laws.matches_eq-law f x).1 e) in
+    let q = and_parts _ _ p.1 in
+    λ i. oddity_with (same_true the_type tt f.code x.code p.0 i)
+    ((bytes_eq-Decides (string_bytes f.subject) (string_bytes x.subject)).0 q.0 i)
+    ((bytes_eq-Decides (string_bytes f.words) (string_bytes x.words)).0 q.1 i)
+
 -- nothing was added, or more and more
 module _ {P : Oddity → Type 0} where
   pub gains_none : (s n : BTreeSet Finding) → n.keys ≡ s.keys → Gains P s n
@@ -95,10 +112,10 @@ pub record Going (Such : Oddity → Type 0) (left : List Oddity) (old new : BTre
   pub within : (o : Oddity) → Among left o → Such o
 
 module _ {P : Oddity → Type 0} where
-  pub going_on : (o : Oddity) (left whole : List Oddity) (a b c : BTreeSet Finding) → whole ≡ o ∷ left
-      → Going P whole a b → Gains (λ x. x ≡ o) b c → Going P left a c
-  going_on o left whole a b c is go one = record {
-    gains = gains_on a b c go.gains (gains_wider b c (λ x e. go.within x (subst (λ (os : List Oddity). Among os x) (sym is) (inl e))) one);
+  pub going_on : (o p : Oddity) (left whole : List Oddity) (a b c : BTreeSet Finding) → whole ≡ o ∷ left → p ≡ o
+      → Going P whole a b → Gains (λ x. x ≡ p) b c → Going P left a c
+  going_on o p left whole a b c is same go one = record {
+    gains = gains_on a b c go.gains (gains_wider b c (λ x e. go.within x (subst (λ (os : List Oddity). Among os x) (sym is) (inl (e ∙ same)))) one);
     within = λ x i. go.within x (subst (λ (os : List Oddity). Among os x) (sym is) (inr i));
   }
 
@@ -114,20 +131,20 @@ pub record Adding (all left : List Oddity) (old new : BTreeSet Finding) : Type 0
   pub go : Going (Among all) left old new
   pub rest : (o : Oddity) → Among all o → IsFound new o ⊎ Among left o
 
-pub adding_none : (all : List Oddity) (s : BTreeSet Finding) → Adding all all s s
-adding_none all s = record {
-  go = record { gains = gains_none s s refl; within = λ x i. i };
-  rest = λ x i. inr i;
+pub adding_none : (all left : List Oddity) (s : BTreeSet Finding) → left ≡ all → Adding all left s s
+adding_none all left s is = record {
+  go = record { gains = gains_none s s refl; within = λ x i. subst (λ (os : List Oddity). Among os x) is i };
+  rest = λ x i. inr (subst (λ (os : List Oddity). Among os x) (sym is) i);
 }
 
-pub adding_on : (all : List Oddity) (o : Oddity) (left whole : List Oddity) (a b c : BTreeSet Finding) → whole ≡ o ∷ left
-    → Adding all whole a b → Gains (λ x. x ≡ o) b c → IsFound c o → Adding all left a c
-adding_on all o left whole a b c is before one there = record {
-  go = going_on o left whole a b c is before.go one;
+pub adding_on : (all : List Oddity) (o p : Oddity) (left whole : List Oddity) (a b c : BTreeSet Finding) → whole ≡ o ∷ left → p ≡ o
+    → Adding all whole a b → Gains (λ x. x ≡ p) b c → IsFound c p → Adding all left a c
+adding_on all o p left whole a b c is same before one there = record {
+  go = going_on o p left whole a b c is same before.go one;
   rest = λ x i. elim (before.rest x i) [
     | inl h ↦ inl (one.kept x h)
     | inr j ↦ elim (subst (λ (os : List Oddity). Among os x) is j) [
-      | inl e ↦ inl (subst (λ (y : Oddity). IsFound c y) (sym e) there)
+      | inl e ↦ inl (subst (λ (y : Oddity). IsFound c y) (same ∙ sym e) there)
       | inr k ↦ inr k
     ]
   ];
@@ -137,15 +154,32 @@ pub adding_same : (all left whole : List Oddity) (a b : BTreeSet Finding) → wh
 adding_same all left whole a b is before = subst (λ (os : List Oddity). Adding all os a b) is before
 
 -- what the call adds that was refused while one was added
-pub adding_refused : (all : List Oddity) (o : Oddity) (left whole : List Oddity) (a b c : BTreeSet Finding) → whole ≡ o ∷ left
-    → Adding all whole a b → Gains (λ x. x ≡ o) b c → Gains (Among all) a c
-adding_refused all o left whole a b c is before one = (going_on o left whole a b c is before.go one).gains
+pub adding_refused : (all : List Oddity) (o p : Oddity) (left whole : List Oddity) (a b c : BTreeSet Finding) → whole ≡ o ∷ left → p ≡ o
+    → Adding all whole a b → Gains (λ x. x ≡ p) b c → Gains (Among all) a c
+adding_refused all o p left whole a b c is same before one = (going_on o p left whole a b c is same before.go one).gains
 
 pub all_added : (all left : List Oddity) (a b : BTreeSet Finding) → left ≡ [] → Adding all left a b → AreFound b all
 all_added all left a b none before = λ o i. elim (before.rest o i) [
   | inl h ↦ h
   | inr j ↦ absurd (subst (λ (os : List Oddity). Among os o) none j)
 ]
+
+-- by the parts of an oddity
+pub same_with : (code : Code) (s t w v : Text) → s ≡ t → w ≡ v → oddity_with code s w ≡ oddity_with code t v
+same_with code s t w v e f = λ i. oddity_with code (e i) (f i)
+
+pub one_outside : (k : Text) (ks : List Text) (b : Bool) → b ≡ is_outside k → b ≡ true
+    → map outsider_of (filter is_outside (k ∷ ks)) ≡ outsider_of k ∷ map outsider_of (filter is_outside ks)
+one_outside k ks b is yes = ap (λ b. map outsider_of (cond b (k ∷ filter is_outside ks) (filter is_outside ks))) (sym is ∙ yes)
+
+pub not_outside : (k : Text) (ks : List Text) (b : Bool) → b ≡ is_outside k → b ≡ false
+    → map outsider_of (filter is_outside (k ∷ ks)) ≡ map outsider_of (filter is_outside ks)
+not_outside k ks b is no = ap (λ b. map outsider_of (cond b (k ∷ filter is_outside ks) (filter is_outside ks))) (sym is ∙ no)
+
+pub keys_meaning : {X Y : Type 0} (f : X → Y) (es : List (String Global × X))
+    → map string_bytes (map (λ e. e.0) es) ≡ map (λ (e : Text × Y). e.0) (map (λ e. (string_bytes e.0, f e.1)) es)
+keys_meaning f [] = refl
+keys_meaning f (e ∷ es) = ap (λ t. string_bytes e.0 ∷ t) (keys_meaning f es)
 
 -- ---- two lists, one after the other
 pub among_left : (xs ys : List Oddity) (o : Oddity) → Among xs o → Among (xs ++ ys) o

@@ -156,10 +156,11 @@ impl Audit {
             self.find(Code::ListedTwice, folder.as_str(), words)?;
         }
         for member in &members.folders {
-            if is_outside(member.as_str()) {
-                let words = String::from_str(alloc, "it lies outside the workspace's folder")?;
-                self.find(Code::Outside, member.as_str(), words)?;
+            if !is_outside(member.as_str()) {
+                continue;
             }
+            let words = String::from_str(alloc, "it lies outside the workspace's folder")?;
+            self.find(Code::Outside, member.as_str(), words)?;
         }
         Ok(())
     }
@@ -213,8 +214,8 @@ impl Audit {
         ensures found { OnOk result
             (IsFound self.new.findings (refusal_of folder.now words.now)) }
     {
-        let alloc = *self.members.allocator();
-        self.find(Code::Incomplete, folder, String::from_str(alloc, words)?)
+        let words = String::from_str(*self.members.allocator(), words)?;
+        self.find(Code::Incomplete, folder, words)
     }
 }
 

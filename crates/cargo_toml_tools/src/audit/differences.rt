@@ -80,10 +80,11 @@ impl Audit {
     {
         let alloc = *self.members.allocator();
         for key in workspace.dependencies.keys() {
-            if !self.inherited.contains(key.as_str()) {
-                let words = String::from_str(alloc, "no member inherits it")?;
-                self.find(Code::UnusedDependency, key.as_str(), words)?;
+            if self.inherited.contains(key.as_str()) {
+                continue;
             }
+            let words = String::from_str(alloc, "no member inherits it")?;
+            self.find(Code::UnusedDependency, key.as_str(), words)?;
         }
         add_requirements(alloc, &self.uses, &mut self.findings)
     }

@@ -132,9 +132,12 @@ module _ {S : Type 0} (m : HashMap (Bor Text) Feature S) (t : Table) (Removed : 
         let l = last_before f refl c.apart c.there c.back in
         let known : IsTrue (t.has l.0) = enables_has c.known l.2 in
         let d : Edge t l.0 f =
-        record { source = known; target = c.known; apart = l.1; leads = inl l.3 } in
-        (l.0, (enablers f l.0 c.known).1 d, enables_out m t Removed none resolved c.known l.2,
-            names m t Removed none resolved l.0 f known l.3),
+        record { source = known; target = c.known; apart = l.1; leads = inl l.3 } in (
+          l.0,
+          (enablers f l.0 c.known).1 d,
+          enables_out m t Removed none resolved c.known l.2,
+          names m t Removed none resolved l.0 f known l.3,
+        ),
   )
 
   pub unreachable_is : (f : Text) → IsUnreachable (table_in m) f ↔ IsUnreachable t f

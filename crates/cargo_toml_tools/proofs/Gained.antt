@@ -4,7 +4,7 @@ use Rattle.std.proofs.lemmas.Bool.{and_parts}
 use Rattle.std.proofs.lemmas.Slice.Eq.{bytes_eq-Decides}
 use Rattle.std.specs.Prelude.{filter}
 use Rattle.std.specs.BTreeSet.{BTreeSet, insert_key}
-use Rattle.std.specs.Ordering.{match_ordering}
+use Rattle.std.specs.Ordering.{is_eq, match_ordering}
 use Rattle.cargo_toml.specs.Action.{Text}
 use Rattle.cargo_toml.specs.Reach.{Among}
 use Rattle.cargo_toml_tools.specs.Oddities.{AreFound, Gains, IsFound, Oddity, is_outside, oddity_of, oddity_with, outsider_of}
@@ -69,21 +69,20 @@ module _ (cmp : Finding → Finding → Ordering) (f : Finding) where
     ];
   }
 
-  pub found_one : ((x : Finding) → cmp f x ≡ Equal → oddity_of f ≡ oddity_of x)
-      → (s n : BTreeSet Finding) (o : Oddity) → n.keys ≡ insert_key cmp s.keys f
-      → oddity_of f ≡ o → IsFound n o
-  found_one ties s n o is same =
-      subst (λ (x : Oddity). IsFound n x) same
-      (subst (λ (ks : List Finding). Among (map oddity_of ks) (oddity_of f)) (sym is) (there ties s.keys))
-
 -- findings that are tied in their order tell the same
 pub ties : (f x : Finding) → (finding_order.cmp-value).it f x ≡ Equal → oddity_of f ≡ oddity_of x
 ties f x e =
-    let p = and_parts _ _ ((laws.matches_eq-law f x).1 e) in
+    let p = and_parts _ _ (laws.matches_eq-law f x ∙ ap is_eq e) in
     let q = and_parts _ _ p.1 in
     λ i. oddity_with (same_true the_type tt f.code x.code p.0 i)
     ((bytes_eq-Decides (string_bytes f.subject) (string_bytes x.subject)).0 q.0 i)
     ((bytes_eq-Decides (string_bytes f.words) (string_bytes x.words)).0 q.1 i)
+
+pub found_one : (f : Finding) (s n : BTreeSet Finding) (o : Oddity) → n.keys ≡ insert_key (finding_order.cmp-value).it s.keys f
+    → oddity_of f ≡ o → IsFound n o
+found_one f s n o is same =
+    subst (λ (x : Oddity). IsFound n x) same
+    (subst (λ (ks : List Finding). Among (map oddity_of ks) (oddity_of f)) (sym is) (there (finding_order.cmp-value).it f (ties f) s.keys))
 
 -- nothing was added, or more and more
 module _ {P : Oddity → Type 0} where
@@ -164,17 +163,20 @@ all_added all left a b none before = λ o i. elim (before.rest o i) [
   | inr j ↦ absurd (subst (λ (os : List Oddity). Among os o) none j)
 ]
 
+pub just_one : (b : BTreeSet Finding) (o p : Oddity) → p ≡ o → IsFound b p → AreFound b (o ∷ [])
+just_one b o p same h = λ x i. elim i [ inl e ↦ subst (λ (y : Oddity). IsFound b y) (same ∙ sym e) h | inr j ↦ absurd j ]
+
 -- by the parts of an oddity
 pub same_with : (code : Code) (s t w v : Text) → s ≡ t → w ≡ v → oddity_with code s w ≡ oddity_with code t v
 same_with code s t w v e f = λ i. oddity_with code (e i) (f i)
 
 pub one_outside : (k : Text) (ks : List Text) (b : Bool) → b ≡ is_outside k → b ≡ true
     → map outsider_of (filter is_outside (k ∷ ks)) ≡ outsider_of k ∷ map outsider_of (filter is_outside ks)
-one_outside k ks b is yes = ap (λ b. map outsider_of (cond b (k ∷ filter is_outside ks) (filter is_outside ks))) (sym is ∙ yes)
+one_outside k ks b is holds = ap (λ b. map outsider_of (cond b (k ∷ filter is_outside ks) (filter is_outside ks))) (sym is ∙ holds)
 
 pub not_outside : (k : Text) (ks : List Text) (b : Bool) → b ≡ is_outside k → b ≡ false
     → map outsider_of (filter is_outside (k ∷ ks)) ≡ map outsider_of (filter is_outside ks)
-not_outside k ks b is no = ap (λ b. map outsider_of (cond b (k ∷ filter is_outside ks) (filter is_outside ks))) (sym is ∙ no)
+not_outside k ks b is fails = ap (λ b. map outsider_of (cond b (k ∷ filter is_outside ks) (filter is_outside ks))) (sym is ∙ fails)
 
 pub keys_meaning : {X Y : Type 0} (f : X → Y) (es : List (String Global × X))
     → map string_bytes (map (λ e. e.0) es) ≡ map (λ (e : Text × Y). e.0) (map (λ e. (string_bytes e.0, f e.1)) es)

@@ -41,10 +41,10 @@ first_left table e es = elim (is_left e.1) as
     [ true ↦ refl | false ↦ refl ]
 
 pub one_left : (table : Text) (e : Text × DependencyMeaning) (b : Bool) → b ≡ is_left e.1 → b ≡ true → left_in table (e ∷ []) ≡ (table ++ codes "." ++ e.0) ∷ []
-one_left table e b is yes = ap (λ b. map (λ (e : Text × DependencyMeaning). table ++ codes "." ++ e.0) (cond b (e ∷ []) [])) (sym is ∙ yes)
+one_left table e b is holds = ap (λ b. map (λ (e : Text × DependencyMeaning). table ++ codes "." ++ e.0) (cond b (e ∷ []) [])) (sym is ∙ holds)
 
 pub not_left : (table : Text) (e : Text × DependencyMeaning) (b : Bool) → b ≡ is_left e.1 → b ≡ false → left_in table (e ∷ []) ≡ []
-not_left table e b is no = ap (λ b. map (λ (e : Text × DependencyMeaning). table ++ codes "." ++ e.0) (cond b (e ∷ []) [])) (sym is ∙ no)
+not_left table e b is fails = ap (λ b. map (λ (e : Text × DependencyMeaning). table ++ codes "." ++ e.0) (cond b (e ∷ []) [])) (sym is ∙ fails)
 
 -- ---- three tables, and those of targets
 pub three : (keys one two end a b c : List Text) → one ≡ keys ++ a → two ≡ one ++ b → end ≡ two ++ c → end ≡ keys ++ (a ++ (b ++ (c ++ [])))
@@ -66,6 +66,9 @@ own_and_targets keys one end own g xs e f =
     ∙ ap (λ t. keys ++ t) (sym (flat_map-append named own (flat_map g xs)))
 
 -- ---- rows
+pub one_more : (key : Text) (a b : Bool) (xs ys : List (Text × Bool)) → a ≡ b → xs ≡ ys → (key, a) ∷ xs ≡ (key, b) ∷ ys
+one_more key a b xs ys e f = λ i. (key, e i) ∷ f i
+
 abbrev pub row_of : Bor Text × Bool → Text × Bool
 row_of r = (r.0.now, r.1)
 
@@ -88,7 +91,7 @@ pub rows_all : (rows : List (Bor Text × Bool)) (i : ℕ) (keys new : List Text)
 rows_all rows i keys new past before = before ∙ ap (λ (rs : List (Bor Text × Bool)). keys ++ left_rows (map row_of rs)) (take_all i rows past)
 
 pub one_row : (key : Text) (b : Bool) → b ≡ true → left_rows ((key, b) ∷ []) ≡ key ∷ []
-one_row key b yes = ap (λ b. left_rows ((key, b) ∷ [])) yes
+one_row key b holds = ap (λ b. left_rows ((key, b) ∷ [])) holds
 
 pub no_row : (key : Text) (b : Bool) → b ≡ false → left_rows ((key, b) ∷ []) ≡ []
-no_row key b no = ap (λ b. left_rows ((key, b) ∷ [])) no
+no_row key b fails = ap (λ b. left_rows ((key, b) ∷ [])) fails

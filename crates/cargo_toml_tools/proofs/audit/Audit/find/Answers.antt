@@ -1,6 +1,6 @@
 use Rattle.std.proofs.Common.{ap, string_bytes}
 use Rattle.cargo_toml_tools.specs.Oddities.{oddity_with}
-use Rattle.cargo_toml_tools.proofs.Gained.{found_one, gains_none, gains_one, ties}
+use Rattle.cargo_toml_tools.proofs.Gained.{found_one, gains_none, gains_one}
 use Rattle.cargo_toml_tools.proofs.audit.Audit.find.Goals as goal
 
 pub returns-in_err-insert-clause-findings : goal.returns-in_err-insert-clause-findings
@@ -13,5 +13,5 @@ returns-clause-findings c =
 
 pub returns-clause-found : goal.returns-clause-found
 returns-clause-found c =
-    found_one _ _ (ties _) _ _ _ c.in_ok-insert.ensures.keys
+    found_one _ c.args.self.now.findings _ _ c.in_ok-insert.ensures.keys
     (ap (λ s. oddity_with c.args.code s (string_bytes c.args.words)) c.in_ok-subject.ensures.ok)

@@ -10,4 +10,4 @@ returns-in_err-edition-clause-refused c =
 
 pub returns-clause-told : goal.returns-clause-told
 returns-clause-told c =
-    known_text (λ x. x) edition_text _ _ _ c.in_ok-edition.ensures.value ?
+    known_text (λ x. x) edition_text _ _ _ c.in_ok-edition.ensures.value c.in_ok-format.ensures.ok

@@ -10,4 +10,4 @@ returns-in_err-version-clause-refused c =
 
 pub returns-clause-told : goal.returns-clause-told
 returns-clause-told c =
-    known_text parts_of parts_text _ _ _ c.in_ok-version.ensures.value ?
+    known_text parts_of parts_text _ _ _ c.in_ok-version.ensures.value c.in_ok-format.ensures.ok

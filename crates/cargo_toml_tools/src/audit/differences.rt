@@ -1,5 +1,5 @@
 //! What members have otherwise than their workspace, or than one another.
-ghost use Rattle.std.specs.Prelude.{◌≡◌, IfOk, OnOk, option_map, string_bytes};
+ghost use Rattle.std.specs.Prelude.{◌≡◌, ◌++◌, IfOk, OnOk, codes, option_map, string_bytes};
 ghost use Rattle.std.specs.Option.{option_copied};
 ghost use Rattle.cargo_toml.specs.Dependencies.{dependency_meaning};
 ghost use Rattle.cargo_toml.specs.Reach.{Among};
@@ -66,7 +66,7 @@ impl Audit {
             return Ok(());
         }
         let alloc = *self.members.allocator();
-        let words = format!(in alloc; "{own}, where the workspace has {given}")?;
+        let words = other(alloc, own, given)?;
         self.find(code, folder, words)
     }
 
@@ -98,6 +98,13 @@ fn edition_text(alloc: Global, edition: Option<Edition>) -> Result<Option<String
         Some(edition) => Ok(Some(format!(in alloc; "{edition}")?)),
         None => Ok(None),
     }
+}
+
+fn other(alloc: Global, own: &str, given: &str) -> Result<String, AllocError>
+    ensures { IfOk result (λ words. string_bytes words
+        ≡ own.now ++ codes ", where the workspace has " ++ given.now) }
+{
+    format!(in alloc; "{own}, where the workspace has {given}")
 }
 
 /// Adds the crates that are asked for by several requirements. What asks for one crate stands

@@ -53,8 +53,8 @@ impl Audit {
         given: Option<&str>,
     ) -> Result<(), AllocError>
         ensures members { self.new.members ≡ self.old.members }
-        ensures findings {
-            Gains (Among (other_of code folder.now own.now (option_copied given.entry)))
+        ensures findings { Gains
+            (Among (other_of code folder.now own.now (option_copied given.entry)))
             self.old.findings self.new.findings }
         ensures found { OnOk result (AreFound self.new.findings
             (other_of code folder.now own.now (option_copied given.entry))) }
@@ -74,8 +74,8 @@ impl Audit {
     /// inherits, and crates that are asked for by several requirements.
     pub fn finish<M>(&mut self, workspace: &Workspace<M>) -> Result<(), AllocError>
         ensures members { self.new.members ≡ self.old.members }
-        ensures findings {
-            Gains (IsOfAll (map_meaning dependency_meaning workspace.now.dependencies))
+        ensures findings { Gains
+            (IsOfAll (map_meaning dependency_meaning workspace.now.dependencies))
             self.old.findings self.new.findings }
     {
         let alloc = *self.members.allocator();

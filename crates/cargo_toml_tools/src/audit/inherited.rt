@@ -30,10 +30,7 @@ pub fn inherited_keys<M>(alloc: Global, manifest: &Manifest<M>) -> Result<Vec<St
     Ok(keys)
 }
 
-fn package_keys<M>(
-    alloc: Global,
-    package: &Option<Package<M>>,
-) -> Result<Vec<String>, AllocError>
+fn package_keys<M>(alloc: Global, package: &Option<Package<M>>) -> Result<Vec<String>, AllocError>
     ensures { IfOk result (λ keys. map string_bytes keys.items
         ≡ left_rows (option_map_or package_rows (option_map held_package «package».now) [])) }
 {

@@ -1,9 +1,13 @@
 pub mod Escaping
+pub mod Compared
 pub mod Explained
+pub mod Gained
+pub mod Left
 pub mod Matched
 pub mod Pieces
 pub mod Placed
 pub mod Reporting
 pub mod Signs
+pub mod Summed
 pub mod Told
 pub mod Weighed

@@ -3,6 +3,8 @@ pub mod Indexed
 pub mod IndexRows
 pub mod Linted
 pub mod Audited
+pub mod Oddities
+pub mod LeftKeys
 pub mod Escapes
 pub mod Escaped
 pub mod Reported

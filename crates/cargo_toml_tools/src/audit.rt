@@ -1,7 +1,15 @@
 //! The report on a workspace: what each member is, and what is odd.
-ghost use Rattle.std.specs.Prelude.{◌≡◌, [], OnOk};
+ghost use Rattle.std.specs.Prelude.{◌≡◌, ◌↔◌, [], IfErr, IfOk, IsErrAnd, None, OnErr, OnOk, map};
+ghost use Rattle.std.specs.Prelude.{option_map, string_bytes};
 ghost use Rattle.std.specs.BTreeSet.{btree_set_len};
-ghost use Rattle.cargo_toml_tools.specs.Audited.{AddsMember, word_of};
+ghost use Rattle.cargo_toml.specs.Manifests.{held};
+ghost use Rattle.cargo_toml.specs.Reach.{Among};
+ghost use Rattle.cargo_toml.specs.Templates.{template_meaning};
+ghost use Rattle.cargo_toml_tools.specs.Audited.{AddsMember, IsNoPackage, IsUntold, word_of};
+ghost use Rattle.cargo_toml_tools.specs.LeftKeys.{left_keys};
+ghost use Rattle.cargo_toml_tools.specs.Oddities.{AreFound, Gains, IsFound, is_outside};
+ghost use Rattle.cargo_toml_tools.specs.Oddities.{listing_oddities, member_differences};
+ghost use Rattle.cargo_toml_tools.specs.Oddities.{oddity_with, refusal_of};
 
 mod differences;
 mod inherited;
@@ -120,7 +128,11 @@ impl Audit {
     }
 
     fn find(&mut self, code: Code, subject: &str, words: String) -> Result<(), AllocError>
-        ensures { self.new.members ≡ self.old.members }
+        ensures members { self.new.members ≡ self.old.members }
+        ensures findings { Gains (λ o. o ≡ oddity_with code subject.now (string_bytes words))
+            self.old.findings self.new.findings }
+        ensures found { OnOk result
+            (IsFound self.new.findings (oddity_with code subject.now (string_bytes words))) }
     {
         let subject = String::from_str(*self.members.allocator(), subject)?;
         self.findings.insert(Finding {
@@ -133,7 +145,10 @@ impl Audit {
 
     /// Adds what is odd of how members are listed.
     pub fn add_listing(&mut self, members: &Members) -> Result<(), AllocError>
-        ensures { self.new.members ≡ self.old.members }
+        ensures members { self.new.members ≡ self.old.members }
+        ensures findings { Gains (Among (listing_oddities members.now))
+            self.old.findings self.new.findings }
+        ensures found { OnOk result (AreFound self.new.findings (listing_oddities members.now)) }
     {
         let alloc = *self.members.allocator();
         for folder in &members.twice {
@@ -141,10 +156,11 @@ impl Audit {
             self.find(Code::ListedTwice, folder.as_str(), words)?;
         }
         for member in &members.folders {
-            if is_outside(member.as_str()) {
-                let words = String::from_str(alloc, "it lies outside the workspace's folder")?;
-                self.find(Code::Outside, member.as_str(), words)?;
+            if !is_outside(member.as_str()) {
+                continue;
             }
+            let words = String::from_str(alloc, "it lies outside the workspace's folder")?;
+            self.find(Code::Outside, member.as_str(), words)?;
         }
         Ok(())
     }
@@ -152,6 +168,8 @@ impl Audit {
     /// Takes in a member's manifest as it is written, and answers the keys that it leaves to the
     /// workspace.
     pub fn add_written<M>(&mut self, manifest: &Manifest<M>) -> Result<Vec<String>, AllocError>
+        ensures keys { IfOk result
+            (λ keys. map string_bytes keys.items ≡ left_keys (held manifest.now)) }
         ensures members { self.new.members ≡ self.old.members }
         ensures findings { self.new.findings ≡ self.old.findings }
     {
@@ -169,8 +187,16 @@ impl Audit {
         inherits: Vec<String>,
         workspace: &Workspace<M>,
     ) -> Result<(), Error>
-        ensures { OnOk result
-            (AddsMember folder.now inherits self.old.members.items self.new.members.items) }
+        ensures added { OnOk result (AddsMember folder.now (held manifest.now) inherits
+            self.old.members.items self.new.members.items) }
+        ensures kept { OnErr result (self.new.members.items ≡ self.old.members.items) }
+        ensures no_package { IsErrAnd result IsNoPackage ↔ (manifest.now.«package» ≡ None) }
+        ensures refused { IfErr result (IsUntold (held manifest.now)) }
+        ensures findings { Gains (Among (member_differences folder.now
+            (option_map template_meaning workspace.now.«package») (held manifest.now)))
+            self.old.findings self.new.findings }
+        ensures found { OnOk result (AreFound self.new.findings (member_differences folder.now
+            (option_map template_meaning workspace.now.«package») (held manifest.now))) }
     {
         let alloc = *self.members.allocator();
         let member = summarize(alloc, folder, manifest, inherits)?;
@@ -182,14 +208,20 @@ impl Audit {
 
     /// Adds a member that doesn't complete, by the words of its fault.
     pub fn add_refused(&mut self, folder: &str, words: &str) -> Result<(), AllocError>
-        ensures { self.new.members ≡ self.old.members }
+        ensures members { self.new.members ≡ self.old.members }
+        ensures findings { Gains (λ o. o ≡ refusal_of folder.now words.now)
+            self.old.findings self.new.findings }
+        ensures found { OnOk result
+            (IsFound self.new.findings (refusal_of folder.now words.now)) }
     {
-        let alloc = *self.members.allocator();
-        self.find(Code::Incomplete, folder, String::from_str(alloc, words)?)
+        let words = String::from_str(*self.members.allocator(), words)?;
+        self.find(Code::Incomplete, folder, words)
     }
 }
 
 /// Whether a folder that is seen from the workspace's lies outside that one.
-fn is_outside(folder: &str) -> bool {
+fn is_outside(folder: &str) -> bool
+    ensures { result ≡ is_outside folder.now }
+{
     folder == ".." || folder.starts_with("../") || folder.starts_with('/')
 }

@@ -1,8 +1,17 @@
 //! What members have otherwise than their workspace, or than one another.
-ghost use Rattle.std.specs.Prelude.{◌≡◌};
+ghost use Rattle.std.specs.Prelude.{◌≡◌, ◌++◌, IfOk, OnOk, codes, option_map, string_bytes};
+ghost use Rattle.std.specs.Option.{option_copied};
+ghost use Rattle.cargo_toml.specs.Dependencies.{dependency_meaning};
+ghost use Rattle.cargo_toml.specs.Reach.{Among};
+ghost use Rattle.cargo_toml.specs.Reads.{map_meaning};
+ghost use Rattle.cargo_toml.specs.Settings.{edition_text};
+ghost use Rattle.cargo_toml.specs.Templates.{template_meaning};
+ghost use Rattle.cargo_toml_tools.specs.Oddities.{AreFound, Gains, IsOfAll, differences_if_any};
+ghost use Rattle.cargo_toml_tools.specs.Oddities.{other_of};
+ghost use Rattle.cargo_toml_tools.specs.declared.audit.Code.TheVariants.{SeveralRequirements};
 
 use super::{Audit, Code, Finding, Member, Use};
-use cargo_toml::Workspace;
+use cargo_toml::{Edition, Workspace};
 use std::alloc::{AllocError, Global};
 use std::collections::BTreeSet;
 
@@ -14,45 +23,87 @@ impl Audit {
         member: &Member,
         workspace: &Workspace<M>,
     ) -> Result<(), AllocError>
-        ensures { self.new.members ≡ self.old.members }
+        ensures members { self.new.members ≡ self.old.members }
+        ensures findings { Gains (Among (differences_if_any (string_bytes member.now.folder)
+            (string_bytes member.now.edition) (option_map string_bytes member.now.license)
+            (option_map template_meaning workspace.now.«package»)))
+            self.old.findings self.new.findings }
+        ensures found { OnOk result (AreFound self.new.findings
+            (differences_if_any (string_bytes member.now.folder)
+            (string_bytes member.now.edition) (option_map string_bytes member.now.license)
+            (option_map template_meaning workspace.now.«package»))) }
     {
         let Some(package) = &workspace.package else {
             return Ok(());
         };
-        if let Some(edition) = package.edition {
-            let edition = format!(in alloc; "{edition}")?;
-            if edition != member.edition {
-                let words = other(alloc, member.edition.as_str(), edition.as_str())?;
-                self.find(Code::OtherEdition, member.folder.as_str(), words)?;
-            }
+        let folder = member.folder.as_str();
+        let edition = edition_text(alloc, package.edition)?;
+        let own = member.edition.as_str();
+        self.find_other(Code::OtherEdition, folder, own, edition.as_deref())?;
+        let own = member.license.as_deref().unwrap_or("none");
+        self.find_other(Code::OtherLicense, folder, own, package.license.as_deref())
+    }
+
+    /// Adds where a member has another text than the workspace gives.
+    fn find_other(
+        &mut self,
+        code: Code,
+        folder: &str,
+        own: &str,
+        given: Option<&str>,
+    ) -> Result<(), AllocError>
+        ensures members { self.new.members ≡ self.old.members }
+        ensures findings { Gains
+            (Among (other_of code folder.now own.now (option_copied given.entry)))
+            self.old.findings self.new.findings }
+        ensures found { OnOk result (AreFound self.new.findings
+            (other_of code folder.now own.now (option_copied given.entry))) }
+    {
+        let Some(given) = given else {
+            return Ok(());
+        };
+        if given == own {
+            return Ok(());
         }
-        if let Some(license) = &package.license {
-            let own = member.license.as_deref().unwrap_or("none");
-            if license.as_str() != own {
-                let words = other(alloc, own, license.as_str())?;
-                self.find(Code::OtherLicense, member.folder.as_str(), words)?;
-            }
-        }
-        Ok(())
+        let alloc = *self.members.allocator();
+        let words = other(alloc, own, given)?;
+        self.find(code, folder, words)
     }
 
     /// Adds what shows once all members were added: dependencies of the workspace that none
     /// inherits, and crates that are asked for by several requirements.
     pub fn finish<M>(&mut self, workspace: &Workspace<M>) -> Result<(), AllocError>
-        ensures { self.new.members ≡ self.old.members }
+        ensures members { self.new.members ≡ self.old.members }
+        ensures findings { Gains
+            (IsOfAll (map_meaning dependency_meaning workspace.now.dependencies))
+            self.old.findings self.new.findings }
     {
         let alloc = *self.members.allocator();
         for key in workspace.dependencies.keys() {
-            if !self.inherited.contains(key.as_str()) {
-                let words = String::from_str(alloc, "no member inherits it")?;
-                self.find(Code::UnusedDependency, key.as_str(), words)?;
+            if self.inherited.contains(key.as_str()) {
+                continue;
             }
+            let words = String::from_str(alloc, "no member inherits it")?;
+            self.find(Code::UnusedDependency, key.as_str(), words)?;
         }
         add_requirements(alloc, &self.uses, &mut self.findings)
     }
 }
 
-fn other(alloc: Global, own: &str, given: &str) -> Result<String, AllocError> {
+fn edition_text(alloc: Global, edition: Option<Edition>) -> Result<Option<String>, AllocError>
+    ensures { IfOk result
+        (λ text. option_map string_bytes text ≡ option_map edition_text edition) }
+{
+    match edition {
+        Some(edition) => Ok(Some(format!(in alloc; "{edition}")?)),
+        None => Ok(None),
+    }
+}
+
+fn other(alloc: Global, own: &str, given: &str) -> Result<String, AllocError>
+    ensures { IfOk result (λ words. string_bytes words
+        ≡ own.now ++ codes ", where the workspace has " ++ given.now) }
+{
     format!(in alloc; "{own}, where the workspace has {given}")
 }
 
@@ -62,7 +113,9 @@ fn add_requirements(
     alloc: Global,
     uses: &BTreeSet<Use>,
     findings: &mut BTreeSet<Finding>,
-) -> Result<(), AllocError> {
+) -> Result<(), AllocError>
+    ensures { Gains (λ o. o.code ≡ SeveralRequirements) findings.old findings.new }
+{
     let mut group = Group::new(alloc);
     for one in uses {
         if group.name != one.name {
@@ -111,14 +164,17 @@ impl Group {
     }
 
     /// Adds what was found, once all that asks for the crate was added.
-    fn close(&self, findings: &mut BTreeSet<Finding>) -> Result<(), AllocError> {
-        if self.is_several {
-            findings.insert(Finding {
-                code: Code::SeveralRequirements,
-                subject: self.name.clone()?,
-                words: self.words.clone()?,
-            })?;
+    fn close(&self, findings: &mut BTreeSet<Finding>) -> Result<(), AllocError>
+        ensures { Gains (λ o. o.code ≡ SeveralRequirements) findings.old findings.new }
+    {
+        if !self.is_several {
+            return Ok(());
         }
+        findings.insert(Finding {
+            code: Code::SeveralRequirements,
+            subject: self.name.clone()?,
+            words: self.words.clone()?,
+        })?;
         Ok(())
     }
 }

@@ -1,86 +1,98 @@
 //! What a manifest leaves to its workspace.
+ghost use Rattle.std.specs.Prelude.{◌≡◌, ◌++◌, [], ◌∷◌, IfOk, OnOk};
+ghost use Rattle.std.specs.Prelude.{map, option_map, string_bytes};
+ghost use Rattle.std.specs.Option.{option_map_or};
+ghost use Rattle.cargo_toml.specs.Dependencies.{dependency_meaning};
+ghost use Rattle.cargo_toml.specs.InheritedDependencies.{is_left};
+ghost use Rattle.cargo_toml.specs.InheritedPackages.{is_left_there};
+ghost use Rattle.cargo_toml.specs.Manifests.{held};
+ghost use Rattle.cargo_toml.specs.Packages.{held_package};
+ghost use Rattle.cargo_toml.specs.Targets.{target_meaning};
+ghost use Rattle.cargo_toml_dependencies.specs.Replacing.{entries_meaning};
+ghost use Rattle.cargo_toml_tools.specs.Indexed.{all_by_kind, target_by_kind, with_kinds};
+ghost use Rattle.cargo_toml_tools.specs.LeftKeys.{left_fields, left_in, left_in_tables};
+ghost use Rattle.cargo_toml_tools.specs.LeftKeys.{left_rows, package_rows};
 
-use cargo_toml::{Dependency, DepsSet, Inheritable, Manifest, Package};
+use cargo_toml::{Dependency, DepsSet, Inheritable, Manifest, Package, Target};
 use std::alloc::{AllocError, Global};
 use std::collections::BTreeSet;
 
+/// A key, and whether its value is left to the workspace.
+type Row = (&'static str, bool);
+
 /// The keys of the package that are left to the workspace, and `lints`, as they are written.
-pub fn inherited_keys<M>(alloc: Global, manifest: &Manifest<M>) -> Result<Vec<String>, AllocError> {
-    let mut keys = Vec::new(alloc);
-    if let Some(package) = &manifest.package {
-        add_values(alloc, &mut keys, package)?;
-        add_texts(alloc, &mut keys, package)?;
-    }
-    add_where(alloc, &mut keys, "lints", !manifest.lints.is_set())?;
+pub fn inherited_keys<M>(alloc: Global, manifest: &Manifest<M>) -> Result<Vec<String>, AllocError>
+    ensures { IfOk result (λ keys. map string_bytes keys.items ≡ left_fields (held manifest.now)) }
+{
+    let mut keys = package_keys(alloc, &manifest.package)?;
+    let lints = [("lints", !manifest.lints.is_set())];
+    add_left(alloc, &mut keys, &lints)?;
     Ok(keys)
 }
 
-fn add_where(
-    alloc: Global,
-    keys: &mut Vec<String>,
-    key: &str,
-    is_inherited: bool,
-) -> Result<(), AllocError> {
-    if is_inherited {
-        keys.push(String::from_str(alloc, key)?)?;
+fn package_keys<M>(alloc: Global, package: &Option<Package<M>>) -> Result<Vec<String>, AllocError>
+    ensures { IfOk result (λ keys. map string_bytes keys.items
+        ≡ left_rows (option_map_or package_rows (option_map held_package «package».now) [])) }
+{
+    let mut keys = Vec::new(alloc);
+    let Some(package) = package else {
+        return Ok(keys);
+    };
+    let rows = package_rows(package);
+    add_left(alloc, &mut keys, &rows)?;
+    Ok(keys)
+}
+
+/// The keys that a package may leave to the workspace.
+fn package_rows<M>(package: &Package<M>) -> [Row; 16]
+    ensures { map (λ r. (r.0.now, r.1)) result ≡ package_rows (held_package «package».now) }
+{
+    [
+        ("version", !package.version.is_set()),
+        ("edition", !package.edition.is_set()),
+        ("authors", !package.authors.is_set()),
+        ("categories", !package.categories.is_set()),
+        ("exclude", !package.exclude.is_set()),
+        ("include", !package.include.is_set()),
+        ("keywords", !package.keywords.is_set()),
+        ("publish", !package.publish.is_set()),
+        ("readme", !package.readme.is_set()),
+        ("description", is_inherited(&package.description)),
+        ("documentation", is_inherited(&package.documentation)),
+        ("homepage", is_inherited(&package.homepage)),
+        ("license", is_inherited(&package.license)),
+        ("license-file", is_inherited(&package.license_file)),
+        ("repository", is_inherited(&package.repository)),
+        ("rust-version", is_inherited(&package.rust_version)),
+    ]
+}
+
+fn is_inherited(text: &Option<Inheritable<String>>) -> bool
+    ensures { result ≡ is_left_there text.now }
+{
+    matches!(text, Some(Inheritable::Inherited))
+}
+
+fn add_left(alloc: Global, keys: &mut Vec<String>, rows: &[Row]) -> Result<(), AllocError>
+    ensures { OnOk result (map string_bytes keys.new.items
+        ≡ map string_bytes keys.old.items ++ left_rows (map (λ r. (r.0.now, r.1)) rows.now)) }
+{
+    for row in rows {
+        add_row(alloc, keys, *row)?;
     }
     Ok(())
 }
 
-fn is_inherited(text: &Option<Inheritable<String>>) -> bool {
-    matches!(text, Some(Inheritable::Inherited))
-}
-
-/// Adds the keys whose values are always there.
-fn add_values<M>(
-    alloc: Global,
-    keys: &mut Vec<String>,
-    package: &Package<M>,
-) -> Result<(), AllocError> {
-    add_where(alloc, keys, "version", !package.version.is_set())?;
-    add_where(alloc, keys, "edition", !package.edition.is_set())?;
-    add_where(alloc, keys, "authors", !package.authors.is_set())?;
-    add_where(alloc, keys, "categories", !package.categories.is_set())?;
-    add_where(alloc, keys, "exclude", !package.exclude.is_set())?;
-    add_where(alloc, keys, "include", !package.include.is_set())?;
-    add_where(alloc, keys, "keywords", !package.keywords.is_set())?;
-    add_where(alloc, keys, "publish", !package.publish.is_set())?;
-    add_where(alloc, keys, "readme", !package.readme.is_set())
-}
-
-/// Adds the keys of texts that may be missing.
-fn add_texts<M>(
-    alloc: Global,
-    keys: &mut Vec<String>,
-    package: &Package<M>,
-) -> Result<(), AllocError> {
-    add_where(
-        alloc,
-        keys,
-        "description",
-        is_inherited(&package.description),
-    )?;
-    add_where(
-        alloc,
-        keys,
-        "documentation",
-        is_inherited(&package.documentation),
-    )?;
-    add_where(alloc, keys, "homepage", is_inherited(&package.homepage))?;
-    add_where(alloc, keys, "license", is_inherited(&package.license))?;
-    add_where(
-        alloc,
-        keys,
-        "license-file",
-        is_inherited(&package.license_file),
-    )?;
-    add_where(alloc, keys, "repository", is_inherited(&package.repository))?;
-    add_where(
-        alloc,
-        keys,
-        "rust-version",
-        is_inherited(&package.rust_version),
-    )
+fn add_row(alloc: Global, keys: &mut Vec<String>, row: Row) -> Result<(), AllocError>
+    ensures { OnOk result (map string_bytes keys.new.items
+        ≡ map string_bytes keys.old.items ++ left_rows ((row.entry.0.now, row.entry.1) ∷ [])) }
+{
+    let (key, is_left) = row;
+    if !is_left {
+        return Ok(());
+    }
+    keys.push(String::from_str(alloc, key)?)?;
+    Ok(())
 }
 
 /// Adds the dependencies that are left to the workspace to the keys of this member, with the table
@@ -90,40 +102,58 @@ pub fn add_inherited_dependencies<M>(
     manifest: &Manifest<M>,
     keys: &mut Vec<String>,
     all: &mut BTreeSet<String>,
-) -> Result<(), AllocError> {
-    add_table(alloc, &manifest.dependencies, "dependencies", keys, all)?;
-    add_table(
+) -> Result<(), AllocError>
+    ensures { OnOk result (map string_bytes keys.new.items
+        ≡ map string_bytes keys.old.items ++ left_in_tables (all_by_kind (held manifest.now))) }
+{
+    add_tables(
         alloc,
+        &manifest.dependencies,
         &manifest.dev_dependencies,
-        "dev-dependencies",
-        keys,
-        all,
-    )?;
-    add_table(
-        alloc,
         &manifest.build_dependencies,
-        "build-dependencies",
         keys,
         all,
     )?;
-    for target in manifest.target.values() {
-        add_table(alloc, &target.dependencies, "dependencies", keys, all)?;
-        add_table(
-            alloc,
-            &target.dev_dependencies,
-            "dev-dependencies",
-            keys,
-            all,
-        )?;
-        add_table(
-            alloc,
-            &target.build_dependencies,
-            "build-dependencies",
-            keys,
-            all,
-        )?;
+    for (_, target) in &manifest.target {
+        add_target(alloc, target, keys, all)?;
     }
     Ok(())
+}
+
+fn add_target(
+    alloc: Global,
+    target: &Target,
+    keys: &mut Vec<String>,
+    all: &mut BTreeSet<String>,
+) -> Result<(), AllocError>
+    ensures { OnOk result (map string_bytes keys.new.items ≡ map string_bytes keys.old.items
+        ++ left_in_tables (target_by_kind (target_meaning target.now))) }
+{
+    add_tables(
+        alloc,
+        &target.dependencies,
+        &target.dev_dependencies,
+        &target.build_dependencies,
+        keys,
+        all,
+    )
+}
+
+fn add_tables(
+    alloc: Global,
+    normal: &DepsSet,
+    dev: &DepsSet,
+    build: &DepsSet,
+    keys: &mut Vec<String>,
+    all: &mut BTreeSet<String>,
+) -> Result<(), AllocError>
+    ensures { OnOk result (map string_bytes keys.new.items ≡ map string_bytes keys.old.items
+        ++ left_in_tables (with_kinds (entries_meaning normal.now) (entries_meaning dev.now)
+        (entries_meaning build.now))) }
+{
+    add_table(alloc, normal, "dependencies", keys, all)?;
+    add_table(alloc, dev, "dev-dependencies", keys, all)?;
+    add_table(alloc, build, "build-dependencies", keys, all)
 }
 
 fn add_table(
@@ -132,12 +162,38 @@ fn add_table(
     name: &str,
     keys: &mut Vec<String>,
     all: &mut BTreeSet<String>,
-) -> Result<(), AllocError> {
+) -> Result<(), AllocError>
+    ensures { OnOk result (map string_bytes keys.new.items
+        ≡ map string_bytes keys.old.items ++ left_in name.now (entries_meaning table.now)) }
+{
     for (key, dependency) in table {
-        if matches!(dependency, Dependency::Inherited(_)) {
-            keys.push(format!(in alloc; "{name}.{key}")?)?;
-            all.insert(key.clone()?)?;
-        }
+        add_dependency(alloc, key, dependency, name, keys, all)?;
     }
     Ok(())
+}
+
+/// Adds a dependency where it is left to the workspace.
+fn add_dependency(
+    alloc: Global,
+    key: &String,
+    dependency: &Dependency,
+    table: &str,
+    keys: &mut Vec<String>,
+    all: &mut BTreeSet<String>,
+) -> Result<(), AllocError>
+    ensures { OnOk result (map string_bytes keys.new.items ≡ map string_bytes keys.old.items
+        ++ left_in table.now ((string_bytes key.now, dependency_meaning dependency.now) ∷ [])) }
+{
+    if !is_left(dependency) {
+        return Ok(());
+    }
+    keys.push(format!(in alloc; "{table}.{key}")?)?;
+    all.insert(key.clone()?)?;
+    Ok(())
+}
+
+fn is_left(dependency: &Dependency) -> bool
+    ensures { result ≡ is_left (dependency_meaning dependency.now) }
+{
+    matches!(dependency, Dependency::Inherited(_))
 }

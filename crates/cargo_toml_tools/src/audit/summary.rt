@@ -1,9 +1,19 @@
 //! What the report tells of a member that completes.
-ghost use Rattle.std.specs.Prelude.{◌≡◌, IfOk, string_bytes};
+ghost use Rattle.std.specs.Prelude.{◌≡◌, ◌↔◌, IfErr, IfOk, IsErrAnd, None, Some, map, option_map};
+ghost use Rattle.std.specs.Prelude.{string_bytes};
+ghost use Rattle.semver.specs.Identifiers.{parts_of, parts_text};
+ghost use Rattle.cargo_toml.specs.InheritableValues.{value_of};
+ghost use Rattle.cargo_toml.specs.InheritedPackages.{field_is_left, is_left_there};
+ghost use Rattle.cargo_toml.specs.Inherits.{inheritable_map};
+ghost use Rattle.cargo_toml.specs.Manifests.{held};
+ghost use Rattle.cargo_toml.specs.Packages.{held_package};
+ghost use Rattle.cargo_toml.specs.Settings.{edition_text, publish_meaning};
+ghost use Rattle.cargo_toml_tools.specs.Audited.{IsMemberOf, IsNoPackage, IsToldOf, IsUnknown};
+ghost use Rattle.cargo_toml_tools.specs.Audited.{IsUntold, leaves_told, names_text, publish_text};
+ghost use Rattle.cargo_toml_tools.specs.Audited.{stated};
 
 use super::{Member, Use};
-use crate::escape::comma_before;
-use cargo_toml::{DepsSet, Error, Inheritable, Manifest, Package, Publish};
+use cargo_toml::{DepsSet, Edition, Error, Inheritable, Manifest, Package, Publish, SemVer};
 use std::alloc::{AllocError, Global};
 use std::collections::BTreeSet;
 
@@ -16,12 +26,31 @@ pub fn summarize<M>(
 ) -> Result<Member, Error>
     ensures folder { IfOk result (λ m. string_bytes m.folder ≡ folder.now) }
     ensures inherits { IfOk result (λ m. m.inherits ≡ inherits) }
+    ensures told { IfOk result (IsMemberOf (held manifest.now)) }
+    ensures no_package { IsErrAnd result IsNoPackage ↔ (manifest.now.«package» ≡ None) }
+    ensures refused { IfErr result (IsUntold (held manifest.now)) }
 {
     let Some(package) = &manifest.package else {
         return Err(Error::Other("there is no package"));
     };
-    let (version, edition) = numbers(alloc, package)?;
-    let publish = publish(alloc, package)?;
+    member_of(alloc, folder, package, inherits)
+}
+
+/// What is told of the member with this package.
+fn member_of<M>(
+    alloc: Global,
+    folder: &str,
+    package: &Package<M>,
+    inherits: Vec<String>,
+) -> Result<Member, Error>
+    ensures folder { IfOk result (λ m. string_bytes m.folder ≡ folder.now) }
+    ensures inherits { IfOk result (λ m. m.inherits ≡ inherits) }
+    ensures told { IfOk result (IsToldOf (held_package «package».now)) }
+    ensures refused { IfErr result (IsUnknown (leaves_told (held_package «package».now))) }
+{
+    let version = version_text(alloc, &package.version)?;
+    let edition = edition_text(alloc, &package.edition)?;
+    let publish = publish_text(alloc, &package.publish)?;
     let rust_version = text(&package.rust_version)?;
     let license = text(&package.license)?;
     let folder = String::from_str(alloc, folder)?;
@@ -38,39 +67,72 @@ pub fn summarize<M>(
     })
 }
 
-/// The version and the edition.
-fn numbers<M>(alloc: Global, package: &Package<M>) -> Result<(String, String), Error> {
-    let version = package.version.get()?;
-    let edition = package.edition.get()?;
-    let version = format!(in alloc; "{version}")?;
-    let edition = format!(in alloc; "{edition}")?;
-    Ok((version, edition))
+fn version_text(alloc: Global, version: &Inheritable<SemVer>) -> Result<String, Error>
+    ensures told { IfOk result (λ text.
+        option_map parts_text (value_of (inheritable_map parts_of version.now))
+        ≡ Some (string_bytes text)) }
+    ensures refused { IfErr result
+        (IsUnknown (field_is_left (inheritable_map parts_of version.now))) }
+{
+    let version = version.get()?;
+    Ok(format!(in alloc; "{version}")?)
+}
+
+fn edition_text(alloc: Global, edition: &Inheritable<Edition>) -> Result<String, Error>
+    ensures told { IfOk result (λ text.
+        option_map edition_text (value_of (inheritable_map (λ x. x) edition.now))
+        ≡ Some (string_bytes text)) }
+    ensures refused { IfErr result
+        (IsUnknown (field_is_left (inheritable_map (λ x. x) edition.now))) }
+{
+    let edition = edition.get()?;
+    Ok(format!(in alloc; "{edition}")?)
 }
 
 /// A text that may be missing.
-fn text(text: &Option<Inheritable<String>>) -> Result<Option<String>, Error> {
+fn text(text: &Option<Inheritable<String>>) -> Result<Option<String>, Error>
+    ensures told { IfOk result
+        (λ copy. option_map (inheritable_map string_bytes) text.now ≡ stated copy) }
+    ensures refused { IfErr result
+        (IsUnknown (is_left_there (option_map (inheritable_map string_bytes) text.now))) }
+{
     match text {
-        Some(text) => Ok(Some(text.get()?.clone()?)),
+        Some(Inheritable::Set(text)) => Ok(Some(text.clone()?)),
+        Some(Inheritable::Inherited) => Err(Error::InheritedUnknownValue),
         None => Ok(None),
     }
 }
 
 /// Where it may be published.
-fn publish<M>(alloc: Global, package: &Package<M>) -> Result<String, Error> {
-    match package.publish.get()? {
-        Publish::Flag(true) => Ok(String::from_str(alloc, "yes")?),
-        Publish::Flag(false) => Ok(String::from_str(alloc, "no")?),
-        Publish::Registry(names) => Ok(joined(alloc, names.as_slice())?),
+fn publish_text(alloc: Global, publish: &Inheritable<Publish>) -> Result<String, Error>
+    ensures told { IfOk result (λ text.
+        option_map publish_text (value_of (inheritable_map publish_meaning publish.now))
+        ≡ Some (string_bytes text)) }
+    ensures refused { IfErr result
+        (IsUnknown (field_is_left (inheritable_map publish_meaning publish.now))) }
+{
+    let publish = publish.get()?;
+    Ok(place(alloc, publish)?)
+}
+
+fn place(alloc: Global, publish: &Publish) -> Result<String, AllocError>
+    ensures { IfOk result
+        (λ text. string_bytes text ≡ publish_text (publish_meaning publish.now)) }
+{
+    match publish {
+        Publish::Flag(true) => String::from_str(alloc, "yes"),
+        Publish::Flag(false) => String::from_str(alloc, "no"),
+        Publish::Registry(names) => joined(alloc, names.as_slice()),
     }
 }
 
-fn joined(alloc: Global, names: &[String]) -> Result<String, AllocError> {
-    let mut all = String::from_str(alloc, if names.is_empty() { "no" } else { "" })?;
-    for (i, name) in names.iter().enumerate() {
-        all.push_str(comma_before(i))?;
-        all.push_str(name.as_str())?;
+fn joined(alloc: Global, names: &[String]) -> Result<String, AllocError>
+    ensures { IfOk result (λ text. string_bytes text ≡ names_text (map string_bytes names.now)) }
+{
+    if names.is_empty() {
+        return String::from_str(alloc, "no");
     }
-    Ok(all)
+    names.join(alloc, ", ")
 }
 
 /// Adds what a member asks for by a requirement.

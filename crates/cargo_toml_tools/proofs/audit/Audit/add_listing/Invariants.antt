@@ -1,8 +1,20 @@
-use Rattle.std.proofs.Common.{◌≡◌}
+use Rattle.std.proofs.Common.{◌≡◌, ◌++◌, map, string_bytes}
+use Rattle.std.specs.Prelude.{filter}
+use Rattle.cargo_toml_tools.specs.Oddities.{is_outside, listing_oddities, outsider_of, repeat_of}
+use Rattle.cargo_toml_tools.proofs.Gained.{Adding}
 use Rattle.cargo_toml_tools.proofs.audit.Audit.add_listing.Given as goal
 
 abbrev pub invariant-loop-folder : goal.invariant-loop-folder
-invariant-loop-folder l = l.self.members ≡ l.fn.self.members
+invariant-loop-folder l = record {
+  same : l.self.members ≡ l.fn.self.members;
+  adding : Adding (listing_oddities l.members)
+      (map repeat_of (map string_bytes l.folder-iterator) ++ map outsider_of (filter is_outside (map string_bytes l.members.folders.keys)))
+      l.fn.self.findings l.self.findings;
+}
 
 abbrev pub invariant-loop-member : goal.invariant-loop-member
-invariant-loop-member l = l.self.members ≡ l.fn.self.members
+invariant-loop-member l = record {
+  same : l.self.members ≡ l.fn.self.members;
+  adding : Adding (listing_oddities l.members) (map outsider_of (filter is_outside (map string_bytes l.member-iterator)))
+      l.fn.self.findings l.self.findings;
+}

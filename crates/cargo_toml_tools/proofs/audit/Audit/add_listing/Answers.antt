@@ -1,0 +1,17 @@
+use Rattle.std.proofs.Common.{◌++◌, ◌∷◌, ◌∙◌, [], ap, map, refl, string_bytes}
+use Rattle.std.proofs.lemmas.Map.Iter.{rest_all, rest_more}
+use Rattle.std.specs.Map.Iter.{deref}
+use Rattle.std.specs.Prelude.{filter}
+use Rattle.cargo_toml_tools.specs.Oddities.{is_outside, outsider_of, repeat_of}
+use Rattle.cargo_toml_tools.proofs.Gained.{adding_none, adding_on, adding_refused, adding_same, all_added, not_outside, one_outside, same_with}
+use Rattle.cargo_toml_tools.proofs.audit.Audit.add_listing.Goals as goal
+
+pub loop-folder-preserved : goal.loop-folder-preserved
+loop-folder-preserved c = record {
+  same = c.in_ok-find.ensures.members ∙ c.loop-folder.invariant.same;
+  adding = adding_on _ (repeat_of (string_bytes c.in-Some.folder.now)) _ _ _ _ _ _
+      (ap (λ ks. map repeat_of (map string_bytes ks) ++ map outsider_of (filter is_outside (map string_bytes c.args.members.now.folders.keys)))
+      (rest_more deref _ _ _ c.in-Some.folder c.in-Some.is c.next.ensures.steps))
+      (same_with _ _ _ _ _ c.as_str.ensures.value c.in_ok-words.ensures.ok)
+      c.loop-folder.invariant.adding c.in_ok-find.ensures.findings c.in_ok-find.ensures.found;
+}

@@ -1,0 +1,114 @@
+-- What a report finds odd, and what each call adds to that.
+use Rattle.std.specs.Prelude.{◌≡◌, ◌⊎◌, ◌++◌, ◌||◌, Bool, List, [], ◌∷◌, Option, Some, None}
+use Rattle.std.specs.Prelude.{if◌then◌else◌, map, codes, bytes_eq, nat_eq, filter, option_map}
+use Rattle.std.specs.Prelude.{option_and_then, unwrap_or, string_bytes, String}
+use Rattle.std.specs.BTreeSet.{BTreeSet}
+use Rattle.std.specs.List.{starts_with}
+use Rattle.std.specs.Option.{option_map_or}
+use Rattle.std.specs.declared.alloc.Global.{Global}
+use Rattle.cargo_toml.specs.Action.{Text}
+use Rattle.cargo_toml.specs.InheritableValues.{value_of}
+use Rattle.cargo_toml.specs.InheritedDependencies.{Entries}
+use Rattle.cargo_toml.specs.Manifests.{ManifestMeaning}
+use Rattle.cargo_toml.specs.Packages.{PackageMeaning}
+use Rattle.cargo_toml.specs.Reach.{Among}
+use Rattle.cargo_toml.specs.Settings.{edition_text}
+use Rattle.cargo_toml.specs.Templates.{TemplateMeaning}
+use Rattle.cargo_toml_tools.specs.declared.audit.Code.{Code}
+use Rattle.cargo_toml_tools.specs.declared.audit.Code.TheVariants.{Incomplete, ListedTwice}
+use Rattle.cargo_toml_tools.specs.declared.audit.Code.TheVariants.{OtherEdition, OtherLicense}
+use Rattle.cargo_toml_tools.specs.declared.audit.Code.TheVariants.{Outside, SeveralRequirements}
+use Rattle.cargo_toml_tools.specs.declared.audit.Code.TheVariants.{UnusedDependency}
+use Rattle.cargo_toml_tools.specs.declared.audit.Finding.{Finding}
+use Rattle.cargo_toml_tools.specs.declared.members.Members.{Members}
+
+-- what a finding tells: its code, the folder or the dependency that it is about, and its words
+pub record Oddity : Type 0 where
+  pub code : Code
+  pub subject : Text
+  pub words : Text
+
+abbrev pub oddity_of : Finding → Oddity
+oddity_of f = record {
+  code = f.code;
+  subject = string_bytes f.subject;
+  words = string_bytes f.words;
+}
+
+-- what a finding of the code tells of the subject in these words
+abbrev pub oddity_with : Code → Text → Text → Oddity
+oddity_with code subject words = record { code = code; subject = subject; words = words }
+
+-- some finding tells this
+abbrev pub IsFound : BTreeSet Finding → Oddity → Type 0
+IsFound findings o = Among (map oddity_of findings.keys) o
+
+-- all of these are found
+abbrev pub AreFound : BTreeSet Finding → List Oddity → Type 0
+AreFound findings os = (o : Oddity) → Among os o → IsFound findings o
+
+-- no finding is lost, and each new one is such
+pub record Gains (Such : Oddity → Type 0) (old new : BTreeSet Finding) : Type 0 where
+  pub kept : (o : Oddity) → IsFound old o → IsFound new o
+  pub gained : (o : Oddity) → IsFound new o → IsFound old o ⊎ Such o
+
+-- a member that doesn't complete, with the words of its fault
+abbrev pub refusal_of : Text → Text → Oddity
+refusal_of folder words = oddity_with Incomplete folder words
+
+-- seen from the workspace's folder, this one lies outside
+abbrev pub is_outside : Text → Bool
+is_outside folder =
+    bytes_eq folder (codes "..")
+    || (starts_with nat_eq folder (codes "../") || starts_with nat_eq folder (codes "/"))
+
+abbrev pub repeat_of : Text → Oddity
+repeat_of folder = oddity_with ListedTwice folder (codes "two entries of members lead to it")
+
+abbrev pub outsider_of : Text → Oddity
+outsider_of folder =
+    oddity_with Outside folder (codes "it lies outside the workspace's folder")
+
+-- what is odd of how members are listed: those that are listed twice, and those outside
+abbrev pub listing_oddities : Members → List Oddity
+listing_oddities m =
+    map repeat_of (map string_bytes m.twice.keys)
+    ++ map outsider_of (filter is_outside (map string_bytes m.folders.keys))
+
+-- a member has another text than its workspace gives
+abbrev pub other_of : Code → Text → Text → Option Text → List Oddity
+other_of code folder own None = []
+other_of code folder own (Some given) =
+    if bytes_eq given own then []
+    else (oddity_with code folder (own ++ codes ", where the workspace has " ++ given) ∷ [])
+
+-- what a member has otherwise: its edition, and its licence
+abbrev pub differences : Text → Text → Option Text → TemplateMeaning → List Oddity
+differences folder edition license t =
+    other_of OtherEdition folder edition (option_map edition_text t.edition)
+    ++ other_of OtherLicense folder (unwrap_or license (codes "none")) t.license
+
+abbrev pub differences_if_any : Text → Text → Option Text → Option TemplateMeaning → List Oddity
+differences_if_any folder edition license t =
+    option_map_or (differences folder edition license) t []
+
+abbrev pub package_differences : {M : Type 0} → Text → Option TemplateMeaning → PackageMeaning M
+    → List Oddity
+package_differences folder t p =
+    option_map_or
+    (λ e. differences_if_any folder (edition_text e) (option_and_then value_of p.license) t)
+    (value_of p.edition) []
+
+-- the same of a member's manifest, by what its workspace gives to packages
+abbrev pub member_differences : {M : Type 0} → Text → Option TemplateMeaning → ManifestMeaning M
+    → List Oddity
+member_differences folder t m = option_map_or (package_differences folder t) m.«package» []
+
+abbrev pub unused_of : Text → Oddity
+unused_of key = oddity_with UnusedDependency key (codes "no member inherits it")
+
+-- what only all members together show: of a dependency of the workspace that none inherits it, or
+-- that they ask for a crate by several requirements
+abbrev pub IsOfAll : Entries → Oddity → Type 0
+IsOfAll dependencies o =
+    Among (map unused_of (map (λ e. e.0) dependencies)) o ⊎ (o.code ≡ SeveralRequirements)

@@ -1,7 +1,12 @@
 pub mod Explained
+pub mod Floatless
+pub mod Grown
 pub mod Matched
+pub mod Parts
 pub mod Placed
+pub mod Settled
 pub mod Signs
 pub mod Told
 pub mod Weighed
 pub mod WholeLines
+pub mod Yielded

@@ -1,16 +1,17 @@
 -- Members that are put into an object one after another.
-use Rattle.std.proofs.Common.{◌≡◌, ◌++◌, ◌∙◌, List, [], ◌∷◌, refl, sym, ap, subst}
-use Rattle.std.specs.Prelude.{Option, Some, None, Result, Ok, Err, IfOk, codes}
-use Rattle.std.specs.Prelude.{String}
+use Rattle.std.proofs.Common.{◌≡◌, ◌++◌, ◌∙◌, Bool, true, false, if◌then◌else◌, List, [], ◌∷◌, map, refl, sym, ap, subst}
+use Rattle.std.proofs.lemmas.List.{append-nil, map-append}
+use Rattle.std.specs.Prelude.{Result, Ok, Err, IfOk, String}
+use Rattle.std.specs.List.{flat_map}
 use Rattle.std.specs.declared.alloc.Global.{Global}
-use Rattle.serde_json.specs.Data.{Data, Members, no_members, number, put, unsigned}
-use Rattle.serde_json.specs.View.{members_view}
+use Rattle.serde_json.specs.Data.{Data, Members, no_members, put}
+use Rattle.serde_json.specs.View.{members_view, view}
 use Rattle.serde_json.specs.declared.value.Value.{Value}
 use Rattle.serde_json.specs.Written.{IsInOrder}
 use Rattle.cargo_toml.specs.Action.{Text}
-use Rattle.cargo_toml_tools.specs.IndexRows.{AddsFeatures, HasRows, with_rows}
+use Rattle.cargo_toml_tools.specs.IndexRows.{with_rows}
 
-with_both : (xs ys : List (Text × Data)) (ms : Members) → with_rows (xs ++ ys) ms ≡ with_rows ys (with_rows xs ms)
+pub with_both : (xs ys : List (Text × Data)) (ms : Members) → with_rows (xs ++ ys) ms ≡ with_rows ys (with_rows xs ms)
 with_both [] ys ms = refl
 with_both (x ∷ xs) ys ms = with_both xs ys (put x.0 x.1 ms)
 
@@ -29,19 +30,32 @@ pub if_ok_weaker : {T E : Type 0} (r : Result T E) (P Q : T → Type 0) → ((x 
 if_ok_weaker (Ok x) P Q f h = f x h
 if_ok_weaker (Err e) P Q f h = tt
 
-pub same_rows : (xs ys : List (Text × Data)) (checksum : Option Text) (line : Text) → xs ≡ ys → HasRows xs checksum line → HasRows ys checksum line
-same_rows xs ys checksum line e h = let P : List (Text × Data) → Type 0 = λ rows. HasRows rows checksum line in subst P e h
-
-pub plain_features : (a b : Members) (x : Data) → b ≡ put (codes "features") x a → AddsFeatures a b
-plain_features a b x e = record { features = x; others = None; rows = e }
-
-pub both_features : (a b c d : Members) (x y z : Data) → b ≡ put (codes "features") x a → c ≡ put (codes "features2") y b → z ≡ number (unsigned 2) → d ≡ put (codes "v") z c → AddsFeatures a d
-both_features a b c d x y z first second two third = record {
-  features = x;
-  others = Some y;
-  rows = third ∙ ap (λ v. put (codes "v") v c) two
-      ∙ ap (put (codes "v") (number (unsigned 2))) (second ∙ ap (put (codes "features2") y) first);
-}
-
 pub begun_empty : (rows : List (Text × Data)) (es : List (String Global × Value)) → es ≡ [] → with_rows rows (members_view es) ≡ with_rows rows no_members
 begun_empty rows es e = ap (λ xs. with_rows rows (members_view xs)) e
+
+-- members of what is left, one after another
+module _ {A : Type 0} (f : A → List (Text × Data)) where
+  pub rows_step : (x : A) (left rest : List A) (a b whole : Members) → left ≡ x ∷ rest → b ≡ with_rows (f x) a → with_rows (flat_map f left) a ≡ whole → with_rows (flat_map f rest) b ≡ whole
+  rows_step x left rest a b whole is puts before =
+      ap (with_rows (flat_map f rest)) puts ∙ sym (with_both (f x) (flat_map f rest) a) ∙ ap (λ t. with_rows (flat_map f t) a) (sym is) ∙ before
+
+  pub rows_end : (left : List A) (a whole : Members) → left ≡ [] → with_rows (flat_map f left) a ≡ whole → a ≡ whole
+  rows_end left a whole none before = ap (λ t. with_rows (flat_map f t) a) (sym none) ∙ before
+
+-- the members of an entry, in four parts
+pub in_four : (ws xs ys zs : List (Text × Data)) (a b c d e : Members) → b ≡ with_rows ws a → c ≡ with_rows xs b → d ≡ with_rows ys c → e ≡ with_rows zs d
+    → e ≡ with_rows (ws ++ (xs ++ (ys ++ zs))) a
+in_four ws xs ys zs a b c d e first second third fourth =
+    fourth ∙ ap (with_rows zs) (third ∙ ap (with_rows ys) (second ∙ ap (with_rows xs) first))
+    ∙ sym (with_both ys zs (with_rows xs (with_rows ws a)))
+    ∙ sym (with_both xs (ys ++ zs) (with_rows ws a))
+    ∙ sym (with_both ws (xs ++ (ys ++ zs)) a)
+
+-- one more entry, or none
+pub one_entry : (old new : List Value) (v : Value) (d : Data) (lacks : Bool) → new ≡ old ++ v ∷ [] → view v ≡ d → lacks ≡ false
+    → map view new ≡ map view old ++ (if lacks then [] else d ∷ [])
+one_entry old new v d lacks e is h =
+    ap (map view) e ∙ map-append view old (v ∷ []) ∙ ap (λ x. map view old ++ x ∷ []) is ∙ ap (λ b. map view old ++ (if b then [] else d ∷ [])) (sym h)
+
+pub no_entry : (old : List Value) (d : Data) (lacks : Bool) → lacks ≡ true → map view old ≡ map view old ++ (if lacks then [] else d ∷ [])
+no_entry old d lacks h = sym (append-nil (map view old)) ∙ ap (λ b. map view old ++ (if b then [] else d ∷ [])) (sym h)

@@ -16,7 +16,7 @@ use Rattle.cargo_toml.specs.InheritedDependencies.{Entries}
 use Rattle.cargo_toml.specs.Kind.{Kind}
 use Rattle.cargo_toml.specs.Packages.{PackageMeaning}
 use Rattle.cargo_toml.specs.Targets.{TargetMeaning}
-use Rattle.cargo_toml_tools.specs.IndexEntries.{entries_among, entries_of, entry_rows, package_rows, place_rows, registry_of, renamed, tables_entries, wanted_rows}
+use Rattle.cargo_toml_tools.specs.IndexEntries.{entries_among, entries_of, entry_rows, features_of, package_rows, place_rows, registry_of, renamed, tables_entries, wanted_rows}
 use Rattle.cargo_toml_tools.specs.IndexFeatures.{feature_rows, is_chosen, list_rows, lists_rows, second_rows}
 use Rattle.cargo_toml_tools.specs.Indexed.{lacks_version, target_by_kind, with_kinds}
 use Rattle.cargo_toml_tools.specs.IndexLines.{line_data, line_rows}
@@ -76,7 +76,7 @@ package_floatless (Some name) = refl
 entry_floatless : (kind : Kind) (target : Option Text) (e : Text × DependencyMeaning) → list_any (λ r. has_float r.1) (entry_rows kind target e) ≡ false
 entry_floatless kind target e =
     both_floatless (wanted_rows e.0 e.1) (package_rows (renamed e.0 (package_of e.1)) ++ (place_rows kind target ++ (codes "registry", text_or_null (registry_of e.1)) ∷ []))
-    (or_from (has_float (texts _)) false (texts_floatless _) refl)
+    (or_from (has_float (texts (features_of e.1))) false (texts_floatless (features_of e.1)) refl)
     (both_floatless (package_rows (renamed e.0 (package_of e.1))) (place_rows kind target ++ (codes "registry", text_or_null (registry_of e.1)) ∷ [])
     (package_floatless (renamed e.0 (package_of e.1)))
     (or_from (has_float (text_or_null target)) (has_float (text_or_null (registry_of e.1)) || false) (or_null_floatless target)

@@ -40,3 +40,7 @@ any_found test x left rest some is hit before = ap (λ t. t || list_any test res
 
 pub any_none : {A : Type 0} (test : A → Bool) (left : List A) (some : Bool) → left ≡ [] → list_any test left ≡ some → false ≡ some
 any_none test left some none before = ap (list_any test) (sym none) ∙ before
+
+pub any_mapped : {A B : Type 0} (test : B → Bool) (f : A → B) (xs : List A) → list_any (λ x. test (f x)) xs ≡ list_any test (map f xs)
+any_mapped test f [] = refl
+any_mapped test f (x ∷ xs) = ap (λ b. test (f x) || b) (any_mapped test f xs)

@@ -1,15 +1,16 @@
 -- Members that are put into an object one after another.
 use Rattle.std.proofs.Common.{◌≡◌, ◌++◌, ◌∙◌, Bool, true, false, if◌then◌else◌, List, [], ◌∷◌, map, refl, sym, ap, subst}
 use Rattle.std.proofs.lemmas.List.{append-nil, map-append}
-use Rattle.std.specs.Prelude.{Result, Ok, Err, IfOk, String}
-use Rattle.std.specs.List.{flat_map}
+use Rattle.std.specs.Prelude.{Result, Ok, Err, IfOk, String, codes}
+use Rattle.std.specs.List.{flat_map, list_any}
 use Rattle.std.specs.declared.alloc.Global.{Global}
-use Rattle.serde_json.specs.Data.{Data, Members, no_members, put}
+use Rattle.serde_json.specs.Data.{Data, Members, no_members, number, put, unsigned}
 use Rattle.serde_json.specs.View.{members_view, view}
 use Rattle.serde_json.specs.declared.value.Value.{Value}
 use Rattle.serde_json.specs.Written.{IsInOrder}
 use Rattle.cargo_toml.specs.Action.{Text}
-use Rattle.cargo_toml_tools.specs.IndexRows.{with_rows}
+use Rattle.cargo_toml_tools.specs.IndexRows.{texts, with_rows}
+use Rattle.cargo_toml_tools.specs.IndexFeatures.{feature_rows, is_chosen, is_extended, list_rows, lists_object}
 
 pub with_both : (xs ys : List (Text × Data)) (ms : Members) → with_rows (xs ++ ys) ms ≡ with_rows ys (with_rows xs ms)
 with_both [] ys ms = refl
@@ -59,3 +60,36 @@ one_entry old new v d lacks e is h =
 
 pub no_entry : (old : List Value) (d : Data) (lacks : Bool) → lacks ≡ true → map view old ≡ map view old ++ (if lacks then [] else d ∷ [])
 no_entry old d lacks h = sym (append-nil (map view old)) ∙ ap (λ b. map view old ++ (if b then [] else d ∷ [])) (sym h)
+
+-- five members, and what stands for each
+pub in_five : (r s t u v : Text × Data) (a b c d e f : Members) → b ≡ put r.0 r.1 a → c ≡ put s.0 s.1 b → d ≡ put t.0 t.1 c → e ≡ put u.0 u.1 d → f ≡ put v.0 v.1 e
+    → f ≡ with_rows (r ∷ s ∷ t ∷ u ∷ v ∷ []) a
+in_five r s t u v a b c d e f first second third fourth fifth =
+    fifth ∙ ap (put v.0 v.1) (fourth ∙ ap (put u.0 u.1) (third ∙ ap (put t.0 t.1) (second ∙ ap (put s.0 s.1) first)))
+
+pub put_same : (key : Text) (d e : Data) (a b : Members) → b ≡ put key d a → d ≡ e → b ≡ put key e a
+put_same key d e a b puts same = puts ∙ ap (λ x. put key x a) same
+
+-- the features, without those of the second version or with them
+pub first_version : (fs : List (Text × List Text)) (a b : Members) (x : Data) → b ≡ put (codes "features") x a → x ≡ lists_object false fs
+    → list_any (λ (f : Text × List Text). is_extended f.1) fs ≡ false → b ≡ with_rows (feature_rows fs) a
+first_version fs a b x puts is none =
+    put_same (codes "features") x (lists_object false fs) a b puts is
+    ∙ ap (λ c. with_rows (if c then (codes "features2", lists_object true fs) ∷ (codes "v", number (unsigned 2)) ∷ [] else []) (put (codes "features") (lists_object false fs) a)) (sym none)
+
+pub second_version : (fs : List (Text × List Text)) (a b c d : Members) (x y z : Data) → b ≡ put (codes "features") x a → x ≡ lists_object false fs
+    → list_any (λ (f : Text × List Text). is_extended f.1) fs ≡ true → c ≡ put (codes "features2") y b → y ≡ lists_object true fs
+    → d ≡ put (codes "v") z c → z ≡ number (unsigned 2) → d ≡ with_rows (feature_rows fs) a
+second_version fs a b c d x y z first is some second is_too third two =
+    put_same (codes "v") z (number (unsigned 2)) c d third two
+    ∙ ap (put (codes "v") (number (unsigned 2)))
+    (put_same (codes "features2") y (lists_object true fs) b c second is_too
+    ∙ ap (put (codes "features2") (lists_object true fs)) (put_same (codes "features") x (lists_object false fs) a b first is))
+    ∙ ap (λ o. with_rows (if o then (codes "features2", lists_object true fs) ∷ (codes "v", number (unsigned 2)) ∷ [] else []) (put (codes "features") (lists_object false fs) a)) (sym some)
+
+-- a list that is put, or isn't
+pub list_put : (extended : Bool) (f : Text × List Text) (a b : Members) → is_chosen extended f.1 ≡ true → b ≡ put f.0 (texts f.1) a → b ≡ with_rows (list_rows extended f) a
+list_put extended f a b h puts = puts ∙ ap (λ c. with_rows (if c then (f.0, texts f.1) ∷ [] else []) a) (sym h)
+
+pub list_left : (extended : Bool) (f : Text × List Text) (a : Members) → is_chosen extended f.1 ≡ false → a ≡ with_rows (list_rows extended f) a
+list_left extended f a h = ap (λ c. with_rows (if c then (f.0, texts f.1) ∷ [] else []) a) (sym h)

@@ -4,8 +4,8 @@ ghost use Rattle.std.specs.Option.{option_copied};
 ghost use Rattle.serde_json.specs.View.{members_view, view};
 ghost use Rattle.cargo_toml.specs.Dependencies.{dependency_meaning, package_of};
 ghost use Rattle.cargo_toml.specs.Versions.{requirement_meaning};
-ghost use Rattle.cargo_toml_tools.specs.IndexEntries.{entries_of, entry_rows, has_default};
-ghost use Rattle.cargo_toml_tools.specs.IndexEntries.{kind_text, package_rows, place_rows};
+ghost use Rattle.cargo_toml_tools.specs.IndexEntries.{address_of, entries_of, entry_rows};
+ghost use Rattle.cargo_toml_tools.specs.IndexEntries.{has_default, kind_text, package_rows, place_rows};
 ghost use Rattle.cargo_toml_tools.specs.IndexEntries.{registry_of, renamed, req_text, version_of};
 ghost use Rattle.cargo_toml_tools.specs.IndexEntries.{wanted_rows};
 ghost use Rattle.cargo_toml_tools.specs.IndexRows.{with_rows};
@@ -101,7 +101,7 @@ fn requirement(alloc: Global, dependency: &Dependency) -> Result<String, AllocEr
 
 /// The requirement, where there is one.
 fn version(dependency: &Dependency) -> Option<&VersionReq>
-    ensures { option_map (λ r. requirement_meaning r.now) result
+    ensures { option_map requirement_meaning (option_copied result)
         ≡ version_of (dependency_meaning dependency.now) }
 {
     match dependency {
@@ -175,10 +175,20 @@ fn kind_text(kind: Kind) -> &'static str
 fn registry(dependency: &Dependency) -> Option<&str>
     ensures { option_copied result ≡ registry_of (dependency_meaning dependency.now) }
 {
-    let Dependency::Detailed(detail) = dependency else {
-        return None;
-    };
-    match (detail.registry_index.as_deref(), detail.registry.as_deref()) {
+    match dependency {
+        Dependency::Detailed(detail) => {
+            address_of(detail.registry_index.as_deref(), detail.registry.as_deref())
+        }
+        _ => None,
+    }
+}
+
+/// The address that is told, or that of the registry of this name: no other's is known.
+fn address_of<'a>(address: Option<&'a str>, name: Option<&'a str>) -> Option<&'a str>
+    ensures { option_copied result
+        ≡ address_of (option_copied address.entry) (option_copied name.entry) }
+{
+    match (address, name) {
         (Some(address), _) => Some(address),
         (None, Some(_)) => Some(CRATES_IO),
         (None, None) => None,

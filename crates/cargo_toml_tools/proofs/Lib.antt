@@ -2,6 +2,7 @@ pub mod Asked
 pub mod Explained
 pub mod Floatless
 pub mod Grown
+pub mod Listed
 pub mod Matched
 pub mod Parts
 pub mod Placed
@@ -10,4 +11,5 @@ pub mod Signs
 pub mod Told
 pub mod Weighed
 pub mod WholeLines
+pub mod Within
 pub mod Yielded

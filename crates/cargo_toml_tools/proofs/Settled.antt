@@ -1,12 +1,13 @@
 -- Names of a path, taken one after another.
-use Rattle.std.proofs.Common.{◌≡◌, ◌++◌, ◌&&◌, ◌||◌, ◌∙◌, Bool, true, false, if◌then◌else◌, List, [], ◌∷◌, Option, Some, None, codes, not, refl, sym, ap, subst, append_assoc, inl, inr, option_to_list}
-use Rattle.std.specs.Prelude.{bytes_eq}
+use Rattle.std.proofs.Common.{◌≡◌, ◌++◌, ◌&&◌, ◌||◌, ◌∙◌, Bool, true, false, if◌then◌else◌, List, [], ◌∷◌, Option, Some, None, codes, not, refl, sym, ap, subst, append_assoc, inl, inr, ◌<◌, arith, length, map}
+use Rattle.std.specs.Prelude.{bytes_eq, is_some, option_to_list}
+use Rattle.std.specs.Borrow.{Bor}
 use Rattle.std.proofs.lemmas.Bool.{and_from, and_parts, cases_Bool, false≢true, not-true, not_from_false}
-use Rattle.std.proofs.lemmas.List.{append-nil}
+use Rattle.std.proofs.lemmas.List.{append-nil, map-append}
 use Rattle.std.proofs.lemmas.Slice.Eq.{bytes_eq-Decides}
 use Rattle.std.specs.List.{flat_map, join_with_byte}
 use Rattle.cargo_toml.specs.Action.{Text}
-use Rattle.cargo_toml_tools.specs.Places.{before_names, ends_in_name, in_front, is_nothing, is_settled, is_up, settled}
+use Rattle.cargo_toml_tools.specs.Places.{before_names, GoesOn, ends_in_name, in_front, is_nothing, is_settled, is_up, settled}
 
 -- a name that leads up does lead somewhere
 up_leads : (up : Text) → is_up up ≡ true → is_nothing up ≡ false
@@ -102,3 +103,37 @@ one_more (one ∷ other ∷ names) name h named last =
 pub with_slashes : (name : Text) (names : List Text) → join_with_byte 47 (name ∷ names) ≡ name ++ flat_map (λ t. codes "/" ++ t) names
 with_slashes name [] = sym (append-nil name)
 with_slashes name (next ∷ names) = ap (λ t. name ++ 47 ∷ t) (with_slashes next names)
+
+-- one name further, in each of three ways
+pub goes_nowhere : (old : List Text) (name : Text) → is_settled old ≡ true → is_nothing name ≡ true → GoesOn old name old
+goes_nowhere old name kept h = record { kept = kept; goes = λ rest. sym (skips old name rest h) }
+
+pub goes_up : (old front : List Text) (last name : Text) → is_settled old ≡ true → old ≡ front ++ last ∷ [] → (is_up name && ends_in_name old) ≡ true → GoesOn old name front
+goes_up old front last name kept is h =
+    let up = and_parts (is_up name) (ends_in_name old) h in
+    let less = one_less front last (sym (ap is_settled is) ∙ kept) in
+    record {
+      kept = less.0;
+      goes = λ rest. sym (ap (λ ns. settled (ns ++ name ∷ rest)) is
+          ∙ takes_back front last name rest less.1 (not-true (is_up last) (sym (ends_in_last front last) ∙ sym (ap ends_in_name is) ∙ up.1)) up.0);
+    }
+
+pub goes_down : (old new : List Text) (name : Text) → is_settled old ≡ true → new ≡ old ++ name ∷ [] → is_nothing name ≡ false → (is_up name && ends_in_name old) ≡ false → GoesOn old name new
+goes_down old new name kept is named h = record {
+  kept = ap is_settled is ∙ one_more old name kept named h;
+  goes = λ rest. ap (λ ns. settled (ns ++ rest)) is ∙ ap settled (append_assoc old (name ∷ []) rest);
+}
+
+-- what is popped was the last
+pub popped : (before after : List (Bor Text)) (o : Option (Bor Text)) → before ≡ after ++ option_to_list o → is_some o ≡ true
+    → (x : Bor Text) × (map (λ t. t.now) before ≡ map (λ t. t.now) after ++ x.now ∷ [])
+popped before after None e h = absurd (false≢true h)
+popped before after (Some x) e h = (x, ap (map (λ t. t.now)) e ∙ map-append (λ t. t.now) after (x ∷ []))
+
+pub some_last : (names : List (Bor Text)) → ends_in_name (map (λ t. t.now) names) ≡ true → 0 < length names
+some_last [] h = absurd (false≢true h)
+some_last (x ∷ xs) h = omega arith
+
+-- a name that takes back the last of these
+abbrev pub up_and_last : Text → List Text → Bool
+up_and_last name names = is_up name && ends_in_name names

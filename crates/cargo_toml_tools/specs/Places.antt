@@ -105,3 +105,8 @@ abbrev pub ends_in_name : List Text → Bool
 ends_in_name [] = false
 ends_in_name (name ∷ []) = not (is_up name)
 ends_in_name (name ∷ next ∷ names) = ends_in_name (next ∷ names)
+
+-- names with one more, of which it takes one back or is left out itself
+pub record GoesOn (old : List Text) (name : Text) (new : List Text) : Type 0 where
+  pub kept : is_settled new ≡ true
+  pub goes : (rest : List Text) → settled (new ++ rest) ≡ settled (old ++ name ∷ rest)

@@ -53,10 +53,28 @@ pub fn list_members<M, R: Files + AllocGlobal>(
             add_found(alloc, &mut members, folder.as_str(), workspace)?;
         }
     }
-    if manifest.package.is_some() {
-        members.folders.insert(String::from_str(alloc, ".")?)?;
-    }
+    add_own(alloc, &mut members, manifest)?;
     Ok(members)
+}
+
+/// Adds the folder of the workspace, where its manifest has a package.
+fn add_own<M>(
+    alloc: Global,
+    members: &mut Members,
+    manifest: &Manifest<M>,
+) -> Result<(), AllocError>
+    ensures own { OnOk result (IsSome manifest.now.«package»
+        → IsTrue (contains_text members.new.folders (codes "."))) }
+    ensures kept { OnOk result ((entries excluded : List (List ℕ)) → AreListed entries excluded
+        (contains_text members.old.folders) (contains_text members.old.twice)
+        → AreListed entries excluded
+        (contains_text members.new.folders) (contains_text members.new.twice)) }
+{
+    if manifest.package.is_none() {
+        return Ok(());
+    }
+    members.folders.insert(String::from_str(alloc, ".")?)?;
+    Ok(())
 }
 
 /// Adds a folder that an entry of `members` leads to, unless it is excluded.
@@ -77,15 +95,16 @@ fn add_found<M>(
     if is_excluded(alloc, folder.as_str(), workspace)? {
         return Ok(());
     }
-    add(members, folder)
+    add(members, folder)?;
+    Ok(())
 }
 
 /// Adds a folder, or tells that it is there already.
 fn add(members: &mut Members, folder: String) -> Result<(), AllocError>
     ensures folders { OnOk result ((text : List ℕ) → contains_text members.new.folders text
-        ≡ (contains_text members.old.folders text || bytes_eq text (string_bytes folder))) }
+        ≡ (contains_text members.old.folders text || bytes_eq (string_bytes folder) text)) }
     ensures twice { OnOk result ((text : List ℕ) → contains_text members.new.twice text
-        ≡ (contains_text members.old.twice text || (bytes_eq text (string_bytes folder)
+        ≡ (contains_text members.old.twice text || (bytes_eq (string_bytes folder) text
         && contains_text members.old.folders (string_bytes folder)))) }
 {
     if members.folders.contains(folder.as_str()) {

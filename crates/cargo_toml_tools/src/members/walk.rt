@@ -1,10 +1,10 @@
 //! Paths of folders, and those that an entry of `members` stands for.
-ghost use Rattle.std.specs.Prelude.{◌≡◌, ◌++◌, ◌∷◌, ℕ, List, IfErr, IfOk, OnOk, map, string_bytes, true};
+ghost use Rattle.std.specs.Prelude.{◌≡◌, ◌++◌, ◌&&◌, IfErr, IfOk, OnOk, map, string_bytes, true};
 ghost use Rattle.std.specs.List.{join_with_byte};
 ghost use Rattle.cargo_toml.specs.RealFiles.{is_absent};
-ghost use Rattle.cargo_toml_tools.specs.Places.{IsOfFolders, below, ends_in_name, is_settled};
-ghost use Rattle.cargo_toml_tools.specs.Places.{is_within, normalized, pieces, root_of, seen_from};
-ghost use Rattle.cargo_toml_tools.specs.Places.{settled};
+ghost use Rattle.cargo_toml_tools.specs.Places.{GoesOn, IsOfFolders, below, ends_in_name};
+ghost use Rattle.cargo_toml_tools.specs.Places.{is_nothing, is_rooted, is_settled, is_up};
+ghost use Rattle.cargo_toml_tools.specs.Places.{is_within, normalized, pieces, seen_from, settled};
 
 use super::matching::{is_pattern, matches};
 use cargo_toml::Error;
@@ -18,9 +18,15 @@ pub fn is_within(folder: &str, outer: &str) -> bool
     ensures { result ≡ is_within folder.now outer.now }
 {
     match folder.strip_prefix(outer) {
-        Some(rest) => rest.is_empty() || rest.starts_with('/'),
+        Some(rest) => rest.is_empty() || is_rooted(rest),
         None => false,
     }
+}
+
+fn is_rooted(path: &str) -> bool
+    ensures { result ≡ is_rooted path.now }
+{
+    path.starts_with('/')
 }
 
 /// The path with no `.` in it, and with `..` at its front alone. The folder itself is `.`.
@@ -28,7 +34,7 @@ pub fn normalized(alloc: Global, path: &str) -> Result<String, AllocError>
     ensures { IfOk result (λ text. string_bytes text ≡ normalized path.now) }
 {
     let names = settled(alloc, path)?;
-    let first = if path.starts_with('/') { "/" } else { "" };
+    let first = if is_rooted(path) { "/" } else { "" };
     let whole = joined(alloc, first, names.as_slice())?;
     if whole.is_empty() {
         return String::from_str(alloc, ".");
@@ -66,21 +72,33 @@ fn joined(alloc: Global, first: &str, names: &[&str]) -> Result<String, AllocErr
 
 /// Goes one name further.
 fn step<'a>(names: &mut Vec<&'a str>, name: &'a str) -> Result<(), AllocError>
-    ensures goes { OnOk result ((rest : List (List ℕ))
-        → settled (map (λ t. t.now) names.new.items ++ rest)
-        ≡ settled (map (λ t. t.now) names.old.items ++ name.now ∷ rest)) }
-    ensures kept { OnOk result (is_settled (map (λ t. t.now) names.old.items) ≡ true
-        → is_settled (map (λ t. t.now) names.new.items) ≡ true) }
+    ensures { OnOk result (is_settled (map (λ t. t.now) names.old.items) ≡ true
+        → GoesOn (map (λ t. t.now) names.old.items) name.now
+        (map (λ t. t.now) names.new.items)) }
 {
-    if name.is_empty() || name == "." {
+    if is_nothing(name) {
         return Ok(());
     }
-    if name == ".." && can_go_back(names.as_slice()) {
+    if goes_back(names.as_slice(), name) {
         names.pop();
         return Ok(());
     }
     names.push(name)?;
     Ok(())
+}
+
+/// Whether a name leads nowhere.
+fn is_nothing(name: &str) -> bool
+    ensures { result ≡ is_nothing name.now }
+{
+    name.is_empty() || name == "."
+}
+
+/// Whether a name takes back the last of these.
+fn goes_back(names: &[&str], name: &str) -> bool
+    ensures { result ≡ (is_up name.now && ends_in_name (map (λ t. t.now) names.now)) }
+{
+    name == ".." && can_go_back(names)
 }
 
 fn can_go_back(names: &[&str]) -> bool
@@ -113,7 +131,7 @@ pub fn expanded<R: Files + AllocGlobal>(
     ensures { IfErr result IsOfFolders }
 {
     let alloc = rt.alloc();
-    let first = if entry.starts_with('/') { "/" } else { "" };
+    let first = if is_rooted(entry) { "/" } else { "" };
     let mut folders = BTreeSet::new(alloc);
     folders.insert(String::from_str(alloc, first)?)?;
     for name in entry.split('/') {
@@ -196,7 +214,7 @@ pub fn seen_from(alloc: Global, root: &str, folder: &str) -> Result<String, Allo
     if folder.is_empty() || folder == "." {
         return String::from_str(alloc, root);
     }
-    if folder.starts_with('/') {
+    if is_rooted(folder) {
         return String::from_str(alloc, folder);
     }
     below(alloc, root, folder)

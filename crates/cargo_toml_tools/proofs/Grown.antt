@@ -1,5 +1,5 @@
 -- Lists that grow by a piece for each element.
-use Rattle.std.proofs.Common.{◌≡◌, ◌+◌, ◌++◌, ◌∙◌, ◌<◌, ◌||◌, ℕ, Bool, false, true, List, [], ◌∷◌, get_or, length, map, take, refl, sym, ap, append_assoc}
+use Rattle.std.proofs.Common.{◌≡◌, ◌+◌, ◌++◌, ◌∙◌, ◌<◌, ◌||◌, ℕ, Bool, false, true, List, [], ◌∷◌, add-one, drop, drop-cons, get_or, length, map, take, refl, sym, ap, append_assoc}
 use Rattle.std.proofs.lemmas.List.{append-nil, map-append, take_more}
 use Rattle.std.specs.List.{flat_map, list_any}
 
@@ -44,3 +44,7 @@ any_none test left some none before = ap (list_any test) (sym none) ∙ before
 pub any_mapped : {A B : Type 0} (test : B → Bool) (f : A → B) (xs : List A) → list_any (λ x. test (f x)) xs ≡ list_any test (map f xs)
 any_mapped test f [] = refl
 any_mapped test f (x ∷ xs) = ap (λ b. test (f x) || b) (any_mapped test f xs)
+
+-- what is left begins with the next
+pub drop_next : {A : Type 0} (xs : List A) (i : ℕ) (d : A) → i < length xs → drop i xs ≡ get_or xs i d ∷ drop (i + 1) xs
+drop_next xs i d h = rw (add-one, drop-cons xs i d)

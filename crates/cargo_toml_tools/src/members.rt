@@ -3,7 +3,7 @@ ghost use Rattle.std.specs.Prelude.{◌≡◌, ◌⊎◌, ◌&&◌, ◌||◌, �
 ghost use Rattle.std.specs.Prelude.{IsSome, bytes_eq, codes, map, not, string_bytes};
 ghost use Rattle.std.specs.BTreeSet.{contains_text};
 ghost use Rattle.cargo_toml_tools.specs.Places.{AreListed, IsOfFolders, is_excluded, lies_in};
-ghost use Rattle.cargo_toml_tools.specs.Places.{manifest_path};
+ghost use Rattle.cargo_toml_tools.specs.Places.{lies_under, manifest_path};
 
 mod matching;
 mod walk;
@@ -136,11 +136,18 @@ fn lies_in(alloc: Global, folder: &str, folders: &[String]) -> Result<bool, Allo
 {
     for outer in folders {
         let outer = normalized(alloc, outer.as_str())?;
-        if outer.as_str() == "." || is_within(folder, outer.as_str()) {
+        if lies_under(folder, outer.as_str()) {
             return Ok(true);
         }
     }
     Ok(false)
+}
+
+/// Whether a folder is this one, or lies in it.
+fn lies_under(folder: &str, outer: &str) -> bool
+    ensures { result ≡ lies_under folder.now outer.now }
+{
+    outer == "." || is_within(folder, outer)
 }
 
 /// The path of the manifest in a folder that is seen from `root`.

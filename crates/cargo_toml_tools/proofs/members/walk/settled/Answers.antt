@@ -1,7 +1,7 @@
 use Rattle.std.proofs.Common.{◌≡◌, ◌++◌, ◌∙◌, List, Option, ap, append-nil, lit<, map, refl, subst, sym}
 use Rattle.std.proofs.lemmas.Iterator.Splits.{YieldsList-from_str_split}
 use Rattle.std.specs.Borrow.{Bor}
-use Rattle.std.specs.Str.Iter.{split_steps}
+use Rattle.std.specs.Str.Iter.{split_has_more, split_pattern, split_steps, split_text}
 use Rattle.std.specs.Str.Pattern.{FindsChar}
 use Rattle.cargo_toml.specs.Action.{Text}
 use Rattle.cargo_toml_tools.specs.Places.{is_settled, pieces, settled}
@@ -10,7 +10,15 @@ use Rattle.cargo_toml_tools.proofs.Yielded.{yield_more, yield_none}
 use Rattle.cargo_toml_tools.proofs.members.walk.settled.Goals as goal
 
 pub loop-name-init : goal.loop-name-init
-loop-name-init c = let e = c.into_iter-name-iterator.ensures in ?
+loop-name-init c =
+    let same = c.into_iter-name-iterator.ensures.into_iter_gives in
+    let split = c.split-name-items.ensures in (
+      pieces c.args.path.now,
+      ((YieldsList-from_str_split 47 c.args.path.now (lit< tt) (ap split_text same ∙ split.text) (ap split_has_more same ∙ split.has_more)
+      (ap split_pattern same ∙ split.pattern)).runs,
+      (ap (λ (ns : List (Bor Text)). settled (map (λ t. t.now) ns ++ pieces c.args.path.now)) c.new-names.ensures.items,
+      ap (λ (ns : List (Bor Text)). is_settled (map (λ t. t.now) ns)) c.new-names.ensures.items)),
+    )
 
 pub loop-name-preserved : goal.loop-name-preserved
 loop-name-preserved c =

@@ -24,7 +24,7 @@ if_any_mapped f None = refl
 if_any_mapped f (Some Inherited) = refl
 if_any_mapped f (Some (Set x)) = refl
 
-none_passes : {A : Type 0} (test : A → Bool) (xs : List A) → ((x : A) → test x ≡ false) → list_any test xs ≡ false
+pub none_passes : {A : Type 0} (test : A → Bool) (xs : List A) → ((x : A) → test x ≡ false) → list_any test xs ≡ false
 none_passes test [] h = refl
 none_passes test (x ∷ xs) h = or_from (test x) (list_any test xs) (h x) (none_passes test xs h)
 

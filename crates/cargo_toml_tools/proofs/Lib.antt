@@ -7,7 +7,16 @@ pub mod Matched
 pub mod Pieces
 pub mod Placed
 pub mod Reporting
+pub mod Asked
+pub mod Floatless
+pub mod Grown
+pub mod Listed
+pub mod Parts
+pub mod Settled
 pub mod Signs
 pub mod Summed
 pub mod Told
 pub mod Weighed
+pub mod WholeLines
+pub mod Within
+pub mod Yielded

@@ -1,16 +1,18 @@
 -- Members that are put into an object one after another.
-use Rattle.std.proofs.Common.{◌≡◌, ◌++◌, ◌∙◌, List, [], ◌∷◌, refl, sym, ap, subst}
-use Rattle.std.specs.Prelude.{Option, Some, None, Result, Ok, Err, IfOk, codes}
-use Rattle.std.specs.Prelude.{String}
+use Rattle.std.proofs.Common.{◌≡◌, ◌++◌, ◌∙◌, Bool, true, false, if◌then◌else◌, List, [], ◌∷◌, map, refl, sym, ap, subst}
+use Rattle.std.proofs.lemmas.List.{append-nil, map-append}
+use Rattle.std.specs.Prelude.{Result, Ok, Err, IfOk, String, codes}
+use Rattle.std.specs.List.{flat_map, list_any}
 use Rattle.std.specs.declared.alloc.Global.{Global}
 use Rattle.serde_json.specs.Data.{Data, Members, no_members, number, put, unsigned}
-use Rattle.serde_json.specs.View.{members_view}
+use Rattle.serde_json.specs.View.{members_view, view}
 use Rattle.serde_json.specs.declared.value.Value.{Value}
 use Rattle.serde_json.specs.Written.{IsInOrder}
 use Rattle.cargo_toml.specs.Action.{Text}
-use Rattle.cargo_toml_tools.specs.IndexRows.{AddsFeatures, HasRows, with_rows}
+use Rattle.cargo_toml_tools.specs.IndexRows.{texts, with_rows}
+use Rattle.cargo_toml_tools.specs.IndexFeatures.{feature_rows, is_chosen, is_extended, list_rows, lists_object}
 
-with_both : (xs ys : List (Text × Data)) (ms : Members) → with_rows (xs ++ ys) ms ≡ with_rows ys (with_rows xs ms)
+pub with_both : (xs ys : List (Text × Data)) (ms : Members) → with_rows (xs ++ ys) ms ≡ with_rows ys (with_rows xs ms)
 with_both [] ys ms = refl
 with_both (x ∷ xs) ys ms = with_both xs ys (put x.0 x.1 ms)
 
@@ -29,19 +31,65 @@ pub if_ok_weaker : {T E : Type 0} (r : Result T E) (P Q : T → Type 0) → ((x 
 if_ok_weaker (Ok x) P Q f h = f x h
 if_ok_weaker (Err e) P Q f h = tt
 
-pub same_rows : (xs ys : List (Text × Data)) (checksum : Option Text) (line : Text) → xs ≡ ys → HasRows xs checksum line → HasRows ys checksum line
-same_rows xs ys checksum line e h = let P : List (Text × Data) → Type 0 = λ rows. HasRows rows checksum line in subst P e h
-
-pub plain_features : (a b : Members) (x : Data) → b ≡ put (codes "features") x a → AddsFeatures a b
-plain_features a b x e = record { features = x; others = None; rows = e }
-
-pub both_features : (a b c d : Members) (x y z : Data) → b ≡ put (codes "features") x a → c ≡ put (codes "features2") y b → z ≡ number (unsigned 2) → d ≡ put (codes "v") z c → AddsFeatures a d
-both_features a b c d x y z first second two third = record {
-  features = x;
-  others = Some y;
-  rows = third ∙ ap (λ v. put (codes "v") v c) two
-      ∙ ap (put (codes "v") (number (unsigned 2))) (second ∙ ap (put (codes "features2") y) first);
-}
-
 pub begun_empty : (rows : List (Text × Data)) (es : List (String Global × Value)) → es ≡ [] → with_rows rows (members_view es) ≡ with_rows rows no_members
 begun_empty rows es e = ap (λ xs. with_rows rows (members_view xs)) e
+
+-- members of what is left, one after another
+module _ {A : Type 0} (f : A → List (Text × Data)) where
+  pub rows_step : (x : A) (left rest : List A) (a b whole : Members) → left ≡ x ∷ rest → b ≡ with_rows (f x) a → with_rows (flat_map f left) a ≡ whole → with_rows (flat_map f rest) b ≡ whole
+  rows_step x left rest a b whole is puts before =
+      ap (with_rows (flat_map f rest)) puts ∙ sym (with_both (f x) (flat_map f rest) a) ∙ ap (λ t. with_rows (flat_map f t) a) (sym is) ∙ before
+
+  pub rows_end : (left : List A) (a whole : Members) → left ≡ [] → with_rows (flat_map f left) a ≡ whole → a ≡ whole
+  rows_end left a whole none before = ap (λ t. with_rows (flat_map f t) a) (sym none) ∙ before
+
+-- the members of an entry, in four parts
+pub in_four : (ws xs ys zs : List (Text × Data)) (a b c d e : Members) → b ≡ with_rows ws a → c ≡ with_rows xs b → d ≡ with_rows ys c → e ≡ with_rows zs d
+    → e ≡ with_rows (ws ++ (xs ++ (ys ++ zs))) a
+in_four ws xs ys zs a b c d e first second third fourth =
+    fourth ∙ ap (with_rows zs) (third ∙ ap (with_rows ys) (second ∙ ap (with_rows xs) first))
+    ∙ sym (with_both ys zs (with_rows xs (with_rows ws a)))
+    ∙ sym (with_both xs (ys ++ zs) (with_rows ws a))
+    ∙ sym (with_both ws (xs ++ (ys ++ zs)) a)
+
+-- one more entry, or none
+pub one_entry : (old new : List Value) (v : Value) (d : Data) (lacks : Bool) → new ≡ old ++ v ∷ [] → view v ≡ d → lacks ≡ false
+    → map view new ≡ map view old ++ (if lacks then [] else d ∷ [])
+one_entry old new v d lacks e is h =
+    ap (map view) e ∙ map-append view old (v ∷ []) ∙ ap (λ x. map view old ++ x ∷ []) is ∙ ap (λ b. map view old ++ (if b then [] else d ∷ [])) (sym h)
+
+pub no_entry : (old : List Value) (d : Data) (lacks : Bool) → lacks ≡ true → map view old ≡ map view old ++ (if lacks then [] else d ∷ [])
+no_entry old d lacks h = sym (append-nil (map view old)) ∙ ap (λ b. map view old ++ (if b then [] else d ∷ [])) (sym h)
+
+-- five members, and what stands for each
+pub in_five : (r s t u v : Text × Data) (a b c d e f : Members) → b ≡ put r.0 r.1 a → c ≡ put s.0 s.1 b → d ≡ put t.0 t.1 c → e ≡ put u.0 u.1 d → f ≡ put v.0 v.1 e
+    → f ≡ with_rows (r ∷ s ∷ t ∷ u ∷ v ∷ []) a
+in_five r s t u v a b c d e f first second third fourth fifth =
+    fifth ∙ ap (put v.0 v.1) (fourth ∙ ap (put u.0 u.1) (third ∙ ap (put t.0 t.1) (second ∙ ap (put s.0 s.1) first)))
+
+pub put_same : (key : Text) (d e : Data) (a b : Members) → b ≡ put key d a → d ≡ e → b ≡ put key e a
+put_same key d e a b puts same = puts ∙ ap (λ x. put key x a) same
+
+-- the features, without those of the second version or with them
+pub first_version : (fs : List (Text × List Text)) (a b : Members) (x : Data) → b ≡ put (codes "features") x a → x ≡ lists_object false fs
+    → list_any (λ (f : Text × List Text). is_extended f.1) fs ≡ false → b ≡ with_rows (feature_rows fs) a
+first_version fs a b x puts is none =
+    put_same (codes "features") x (lists_object false fs) a b puts is
+    ∙ ap (λ c. with_rows (if c then (codes "features2", lists_object true fs) ∷ (codes "v", number (unsigned 2)) ∷ [] else []) (put (codes "features") (lists_object false fs) a)) (sym none)
+
+pub second_version : (fs : List (Text × List Text)) (a b c d : Members) (x y z : Data) → b ≡ put (codes "features") x a → x ≡ lists_object false fs
+    → list_any (λ (f : Text × List Text). is_extended f.1) fs ≡ true → c ≡ put (codes "features2") y b → y ≡ lists_object true fs
+    → d ≡ put (codes "v") z c → z ≡ number (unsigned 2) → d ≡ with_rows (feature_rows fs) a
+second_version fs a b c d x y z first is some second is_too third two =
+    put_same (codes "v") z (number (unsigned 2)) c d third two
+    ∙ ap (put (codes "v") (number (unsigned 2)))
+    (put_same (codes "features2") y (lists_object true fs) b c second is_too
+    ∙ ap (put (codes "features2") (lists_object true fs)) (put_same (codes "features") x (lists_object false fs) a b first is))
+    ∙ ap (λ o. with_rows (if o then (codes "features2", lists_object true fs) ∷ (codes "v", number (unsigned 2)) ∷ [] else []) (put (codes "features") (lists_object false fs) a)) (sym some)
+
+-- a list that is put, or isn't
+pub list_put : (extended : Bool) (f : Text × List Text) (a b : Members) → is_chosen extended f.1 ≡ true → b ≡ put f.0 (texts f.1) a → b ≡ with_rows (list_rows extended f) a
+list_put extended f a b h puts = puts ∙ ap (λ c. with_rows (if c then (f.0, texts f.1) ∷ [] else []) a) (sym h)
+
+pub list_left : (extended : Bool) (f : Text × List Text) (a : Members) → is_chosen extended f.1 ≡ false → a ≡ with_rows (list_rows extended f) a
+list_left extended f a h = ap (λ c. with_rows (if c then (f.0, texts f.1) ∷ [] else []) a) (sym h)

@@ -1,6 +1,6 @@
 -- Entries and tables of dependencies, one after another.
 use Rattle.std.proofs.Common.{◌≡◌, ◌⊎◌, ◌++◌, ◌&&◌, ◌||◌, Bool, true, List, [], ◌∷◌, String, Global, string_bytes, inl, inr, refl, sym, ap, subst, ◌∙◌}
-use Rattle.std.specs.Prelude.{Result, Err, IfErr}
+use Rattle.std.specs.Prelude.{Result, Err, IfErr, Vec, map}
 use Rattle.std.proofs.lemmas.Bool.{and_from, or_left, or_right}
 use Rattle.std.proofs.lemmas.List.Folds.{list_all-append, list_any-append}
 use Rattle.std.specs.List.{flat_map, list_all, list_any}
@@ -16,6 +16,10 @@ entry_of e = (string_bytes e.0, dependency_meaning e.1)
 
 abbrev pub target_of : String Global × Target → Text × TargetMeaning
 target_of e = (string_bytes e.0, target_meaning e.1)
+
+-- and one of the features
+abbrev pub list_of : String Global × Vec (String Global) Global → Text × List Text
+list_of e = (string_bytes e.0, map string_bytes e.1.items)
 
 -- the second way, with what follows from it
 pub or_then : {P Q R : Type 0} → P ⊎ Q → (Q → R) → P ⊎ R

@@ -1,6 +1,10 @@
 -- what an index takes, what is amiss or odd, and how names are written: a user has to believe these
 pub mod Indexed
 pub mod IndexRows
+pub mod IndexEntries
+pub mod IndexFeatures
+pub mod IndexLines
+pub mod Requirements
 pub mod Linted
 pub mod Audited
 pub mod Oddities
@@ -10,6 +14,7 @@ pub mod Escaped
 pub mod Reported
 pub mod LintLines
 pub mod Patterns
+pub mod Places
 -- the code's own steps, in contracts of inner functions alone: nothing here has to be believed
 pub mod Checked
 pub mod Documented

@@ -2,21 +2,26 @@
 ghost use Rattle.std.specs.Prelude.{◌≡◌, ◌↔◌, ◌⊎◌, Err, IfErr, IfOk, None, OnOk, string_bytes};
 ghost use Rattle.std.specs.Option.{option_copied};
 ghost use Rattle.serde_json.specs.View.{members_view};
+ghost use Rattle.serde_json.specs.Written.{IsInOrder, compact_text};
 ghost use Rattle.cargo_toml.specs.Manifests.{held};
 ghost use Rattle.cargo_toml_tools.specs.declared.index.IndexError.TheVariants.{Memory, NoPackage};
 ghost use Rattle.cargo_toml_tools.specs.Indexed.{Explains, IsTaken};
-ghost use Rattle.cargo_toml_tools.specs.IndexRows.{AddsFeatures, HasRows, IsLineOf};
+ghost use Rattle.cargo_toml_tools.specs.Checked.{all_entries, lists_meaning};
+ghost use Rattle.cargo_toml_tools.specs.IndexLines.{IsLineOf, line_data};
 ghost use Rattle.cargo_toml_tools.specs.IndexRows.{checksum_rows, stated_rows, with_rows};
 
 mod checks;
 mod dependencies;
 mod entry;
+mod features;
 mod refusals;
+mod requirement;
 
-use crate::json::{put_text, put_texts};
+use crate::json::put_text;
 use cargo_toml::{FeatureSet, Manifest};
 use checks::{Stated, check_crate};
 use dependencies::entries;
+use features::put_features;
 use refusals::{AllTables, Tables};
 use serde_json::{Map, Value, put};
 use std::alloc::{AllocError, AllocFailed, Global};
@@ -121,8 +126,12 @@ fn line_of(
     features: &FeatureSet,
     checksum: Option<&str>,
 ) -> Result<String, AllocError>
-    ensures { IfOk result (λ line. HasRows (stated_rows stated.entry)
-        (option_copied checksum.entry) (string_bytes line)) }
+    ensures text { IfOk result (λ line. string_bytes line
+        ≡ compact_text (line_data (stated_rows stated.entry) (all_entries dependencies.entry)
+        (lists_meaning features.now) (option_copied checksum.entry))) }
+    ensures order { IfOk result (λ line. IsInOrder (string_bytes line)
+        (line_data (stated_rows stated.entry) (all_entries dependencies.entry)
+        (lists_meaning features.now) (option_copied checksum.entry))) }
 {
     let dependencies = entries(alloc, dependencies)?;
     let mut line = Map::new(alloc);
@@ -165,37 +174,4 @@ fn put_checksum(
         Some(_) => put_text(alloc, line, "cksum", checksum),
         None => Ok(()),
     }
-}
-
-/// The members that are of the features.
-fn put_features(
-    alloc: Global,
-    line: &mut Map<String, Value>,
-    features: &FeatureSet,
-) -> Result<(), AllocError>
-    ensures { OnOk result
-        (AddsFeatures (members_view line.old.entries) (members_view line.new.entries)) }
-{
-    put(line, alloc, "features", listed(alloc, features, false)?)?;
-    if !features.values().any(|list| is_extended(list.as_slice())) {
-        return Ok(());
-    }
-    put(line, alloc, "features2", listed(alloc, features, true)?)?;
-    put(line, alloc, "v", Value::from(2u8))
-}
-
-/// The features whose lists are extended, or those whose aren't.
-fn listed(alloc: Global, features: &FeatureSet, extended: bool) -> Result<Value, AllocError> {
-    let mut members = Map::new(alloc);
-    for (name, list) in features {
-        if is_extended(list.as_slice()) == extended {
-            put_texts(alloc, &mut members, name.as_str(), list.as_slice())?;
-        }
-    }
-    Ok(Value::Object(members))
-}
-
-/// Whether some text of a feature's list is of the second version of the index.
-fn is_extended(list: &[String]) -> bool {
-    list.iter().any(|text| text.as_str().starts_with("dep:") || text.as_str().contains("?/"))
 }

@@ -1,9 +1,9 @@
 //! Values of JSON that several tools make.
-ghost use Rattle.std.specs.Prelude.{◌≡◌, OnOk};
+ghost use Rattle.std.specs.Prelude.{◌≡◌, OnOk, map, string_bytes};
 ghost use Rattle.std.specs.Option.{option_copied};
 ghost use Rattle.serde_json.specs.Data.{put as with_member};
 ghost use Rattle.serde_json.specs.View.{members_view};
-ghost use Rattle.cargo_toml_tools.specs.IndexRows.{text_or_null};
+ghost use Rattle.cargo_toml_tools.specs.IndexRows.{text_or_null, texts as texts_data};
 
 use serde_json::{Map, Value, push, put};
 use std::alloc::{AllocError, Global};
@@ -32,10 +32,14 @@ pub fn put_texts(
     object: &mut Map<String, Value>,
     key: &str,
     texts: &[String],
-) -> Result<(), AllocError> {
+) -> Result<(), AllocError>
+    ensures { OnOk result (members_view object.new.entries
+        ≡ with_member key.now (texts_data (map string_bytes texts.now))
+        (members_view object.old.entries)) }
+{
     let mut items = Vec::new(alloc);
     for text in texts {
         push(&mut items, Value::try_from_str(alloc, text.as_str())?)?;
     }
-    put(object, alloc, key, Value::Array(items))
+    put(object, alloc, key, Value::from(items))
 }

@@ -1,4 +1,9 @@
 //! The members of a workspace, by the rules of Cargo's `members` and `exclude`.
+ghost use Rattle.std.specs.Prelude.{◌≡◌, ◌⊎◌, ◌&&◌, ◌||◌, ℕ, List, IfErr, IfOk, IsTrue, OnOk};
+ghost use Rattle.std.specs.Prelude.{IsSome, bytes_eq, codes, map, not, string_bytes};
+ghost use Rattle.std.specs.BTreeSet.{contains_text};
+ghost use Rattle.cargo_toml_tools.specs.Places.{AreListed, IsOfFolders, is_excluded, lies_in};
+ghost use Rattle.cargo_toml_tools.specs.Places.{lies_under, manifest_path};
 
 mod matching;
 mod walk;
@@ -29,7 +34,15 @@ pub fn list_members<M, R: Files + AllocGlobal>(
     root: &str,
     manifest: &Manifest<M>,
     workspace: &Workspace<M>,
-) -> Result<Members, Error> {
+) -> Result<Members, Error>
+    ensures listed { IfOk result (λ m. AreListed
+        (map string_bytes workspace.now.members.items)
+        (map string_bytes workspace.now.exclude.items)
+        (contains_text m.folders) (contains_text m.twice)) }
+    ensures own { IfOk result (λ m. IsSome manifest.now.«package»
+        → IsTrue (contains_text m.folders (codes "."))) }
+    ensures refused { IfErr result IsOfFolders }
+{
     let alloc = rt.alloc();
     let mut members = Members {
         folders: BTreeSet::new(alloc),
@@ -37,19 +50,63 @@ pub fn list_members<M, R: Files + AllocGlobal>(
     };
     for entry in &workspace.members {
         for folder in &expanded(rt, root, entry.as_str())? {
-            let folder = normalized(alloc, folder.as_str())?;
-            if !is_excluded(alloc, folder.as_str(), workspace)? {
-                add(&mut members, folder)?;
-            }
+            add_found(alloc, &mut members, folder.as_str(), workspace)?;
         }
     }
-    if manifest.package.is_some() {
-        members.folders.insert(String::from_str(alloc, ".")?)?;
-    }
+    add_own(alloc, &mut members, manifest)?;
     Ok(members)
 }
 
-fn add(members: &mut Members, folder: String) -> Result<(), AllocError> {
+/// Adds the folder of the workspace, where its manifest has a package.
+fn add_own<M>(
+    alloc: Global,
+    members: &mut Members,
+    manifest: &Manifest<M>,
+) -> Result<(), AllocError>
+    ensures own { OnOk result (IsSome manifest.now.«package»
+        → IsTrue (contains_text members.new.folders (codes "."))) }
+    ensures kept { OnOk result ((entries excluded : List (List ℕ)) → AreListed entries excluded
+        (contains_text members.old.folders) (contains_text members.old.twice)
+        → AreListed entries excluded
+        (contains_text members.new.folders) (contains_text members.new.twice)) }
+{
+    if manifest.package.is_none() {
+        return Ok(());
+    }
+    members.folders.insert(String::from_str(alloc, ".")?)?;
+    Ok(())
+}
+
+/// Adds a folder that an entry of `members` leads to, unless it is excluded.
+fn add_found<M>(
+    alloc: Global,
+    members: &mut Members,
+    folder: &str,
+    workspace: &Workspace<M>,
+) -> Result<(), AllocError>
+    ensures { OnOk result (AreListed (map string_bytes workspace.now.members.items)
+        (map string_bytes workspace.now.exclude.items)
+        (contains_text members.old.folders) (contains_text members.old.twice)
+        → AreListed (map string_bytes workspace.now.members.items)
+        (map string_bytes workspace.now.exclude.items)
+        (contains_text members.new.folders) (contains_text members.new.twice)) }
+{
+    let folder = normalized(alloc, folder)?;
+    if is_excluded(alloc, folder.as_str(), workspace)? {
+        return Ok(());
+    }
+    add(members, folder)?;
+    Ok(())
+}
+
+/// Adds a folder, or tells that it is there already.
+fn add(members: &mut Members, folder: String) -> Result<(), AllocError>
+    ensures folders { OnOk result ((text : List ℕ) → contains_text members.new.folders text
+        ≡ (contains_text members.old.folders text || bytes_eq (string_bytes folder) text)) }
+    ensures twice { OnOk result ((text : List ℕ) → contains_text members.new.twice text
+        ≡ (contains_text members.old.twice text || (bytes_eq (string_bytes folder) text
+        && contains_text members.old.folders (string_bytes folder)))) }
+{
     if members.folders.contains(folder.as_str()) {
         members.twice.insert(folder)?;
     } else {
@@ -63,7 +120,10 @@ fn is_excluded<M>(
     alloc: Global,
     folder: &str,
     workspace: &Workspace<M>,
-) -> Result<bool, AllocError> {
+) -> Result<bool, AllocError>
+    ensures { IfOk result (λ b. b ≡ is_excluded (map string_bytes workspace.now.members.items)
+        (map string_bytes workspace.now.exclude.items) folder.now) }
+{
     if !lies_in(alloc, folder, workspace.exclude.as_slice())? {
         return Ok(false);
     }
@@ -71,18 +131,29 @@ fn is_excluded<M>(
 }
 
 /// Whether a folder is one of these, or lies in one.
-fn lies_in(alloc: Global, folder: &str, folders: &[String]) -> Result<bool, AllocError> {
+fn lies_in(alloc: Global, folder: &str, folders: &[String]) -> Result<bool, AllocError>
+    ensures { IfOk result (λ b. b ≡ lies_in folder.now (map string_bytes folders.now)) }
+{
     for outer in folders {
         let outer = normalized(alloc, outer.as_str())?;
-        if outer.as_str() == "." || is_within(folder, outer.as_str()) {
+        if lies_under(folder, outer.as_str()) {
             return Ok(true);
         }
     }
     Ok(false)
 }
 
+/// Whether a folder is this one, or lies in it.
+fn lies_under(folder: &str, outer: &str) -> bool
+    ensures { result ≡ lies_under folder.now outer.now }
+{
+    outer == "." || is_within(folder, outer)
+}
+
 /// The path of the manifest in a folder that is seen from `root`.
-pub fn manifest_path(alloc: Global, root: &str, folder: &str) -> Result<String, AllocError> {
+pub fn manifest_path(alloc: Global, root: &str, folder: &str) -> Result<String, AllocError>
+    ensures { IfOk result (λ path. string_bytes path ≡ manifest_path root.now folder.now) }
+{
     let folder = seen_from(alloc, root, folder)?;
     below(alloc, folder.as_str(), "Cargo.toml")
 }

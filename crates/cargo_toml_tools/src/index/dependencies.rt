@@ -1,7 +1,13 @@
 //! The entries that an index has of a crate's dependencies.
+ghost use Rattle.std.specs.Prelude.{◌≡◌, ◌++◌, IfOk, OnOk, map};
+ghost use Rattle.std.specs.Option.{option_copied};
+ghost use Rattle.serde_json.specs.View.{view};
+ghost use Rattle.cargo_toml_dependencies.specs.Replacing.{entries_meaning};
+ghost use Rattle.cargo_toml_tools.specs.Checked.{all_entries, own_by_kind};
+ghost use Rattle.cargo_toml_tools.specs.IndexEntries.{table_entries, tables_entries};
 
 use super::entry::{Place, push_dependency};
-use super::refusals::{AllTables, Tables, lacks_version};
+use super::refusals::{AllTables, Tables};
 use cargo_toml::DepsSet;
 use cargo_toml::features::Kind;
 use serde_json::Value;
@@ -11,7 +17,9 @@ use std::alloc::{AllocError, Global};
 pub(super) fn entries(
     alloc: Global,
     dependencies: AllTables<'_>,
-) -> Result<Vec<Value>, AllocError> {
+) -> Result<Vec<Value>, AllocError>
+    ensures { IfOk result (λ v. map view v.items ≡ all_entries dependencies.entry) }
+{
     let mut entries = Vec::new(alloc);
     push_tables(alloc, &mut entries, dependencies.own, None)?;
     for (name, target) in dependencies.targets {
@@ -30,26 +38,29 @@ fn push_tables(
     entries: &mut Vec<Value>,
     tables: Tables<'_>,
     target: Option<&str>,
-) -> Result<(), AllocError> {
+) -> Result<(), AllocError>
+    ensures { OnOk result (map view entries.new.items ≡ map view entries.old.items
+        ++ tables_entries (option_copied target.entry) (own_by_kind tables.entry)) }
+{
     push_table(alloc, entries, tables.normal, Kind::Normal, target)?;
     push_table(alloc, entries, tables.dev, Kind::Dev, target)?;
     push_table(alloc, entries, tables.build, Kind::Build, target)
 }
 
-/// Adds the entries of a table. A dependency with a path or a repository and no version has none:
-/// it is for tests.
+/// Adds the entries of a table.
 fn push_table(
     alloc: Global,
     entries: &mut Vec<Value>,
     table: &DepsSet,
     kind: Kind,
     target: Option<&str>,
-) -> Result<(), AllocError> {
+) -> Result<(), AllocError>
+    ensures { OnOk result (map view entries.new.items ≡ map view entries.old.items
+        ++ table_entries kind (option_copied target.entry) (entries_meaning table.now)) }
+{
     let place = Place { kind, target };
     for (key, dependency) in table {
-        if !lacks_version(dependency) {
-            push_dependency(alloc, entries, key.as_str(), dependency, place)?;
-        }
+        push_dependency(alloc, entries, key.as_str(), dependency, place)?;
     }
     Ok(())
 }

@@ -1,4 +1,10 @@
 //! Paths of folders, and those that an entry of `members` stands for.
+ghost use Rattle.std.specs.Prelude.{◌≡◌, ◌++◌, ◌&&◌, IfErr, IfOk, OnOk, map, string_bytes, true};
+ghost use Rattle.std.specs.List.{join_with_byte};
+ghost use Rattle.cargo_toml.specs.RealFiles.{is_absent};
+ghost use Rattle.cargo_toml_tools.specs.Places.{GoesOn, IsOfFolders, below, ends_in_name};
+ghost use Rattle.cargo_toml_tools.specs.Places.{is_nothing, is_rooted, is_settled, is_up};
+ghost use Rattle.cargo_toml_tools.specs.Places.{is_within, normalized, pieces, seen_from, settled};
 
 use super::matching::{is_pattern, matches};
 use cargo_toml::Error;
@@ -8,37 +14,72 @@ use std::rt::Files;
 use std::{fs, io};
 
 /// Whether a folder is `outer`, or lies in it.
-pub fn is_within(folder: &str, outer: &str) -> bool {
+pub fn is_within(folder: &str, outer: &str) -> bool
+    ensures { result ≡ is_within folder.now outer.now }
+{
     match folder.strip_prefix(outer) {
-        Some(rest) => rest.is_empty() || rest.starts_with('/'),
+        Some(rest) => rest.is_empty() || is_rooted(rest),
         None => false,
     }
 }
 
+fn is_rooted(path: &str) -> bool
+    ensures { result ≡ is_rooted path.now }
+{
+    path.starts_with('/')
+}
+
 /// The path with no `.` in it, and with `..` at its front alone. The folder itself is `.`.
-pub fn normalized(alloc: Global, path: &str) -> Result<String, AllocError> {
+pub fn normalized(alloc: Global, path: &str) -> Result<String, AllocError>
+    ensures { IfOk result (λ text. string_bytes text ≡ normalized path.now) }
+{
+    let names = settled(alloc, path)?;
+    let first = if is_rooted(path) { "/" } else { "" };
+    let whole = joined(alloc, first, names.as_slice())?;
+    if whole.is_empty() {
+        return String::from_str(alloc, ".");
+    }
+    Ok(whole)
+}
+
+/// The names of a path that nothing takes back.
+fn settled<'a>(alloc: Global, path: &'a str) -> Result<Vec<&'a str>, AllocError>
+    ensures { IfOk result (λ names. map (λ t. t.now) names.items ≡ settled (pieces path.now)) }
+{
     let mut names = Vec::new(alloc);
     for name in path.split('/') {
         step(&mut names, name)?;
     }
-    let first = if path.starts_with('/') { "/" } else { "" };
+    Ok(names)
+}
+
+/// The names with slashes between them, behind what a path begins with.
+fn joined(alloc: Global, first: &str, names: &[&str]) -> Result<String, AllocError>
+    ensures { IfOk result (λ text. string_bytes text
+        ≡ first.now ++ join_with_byte 47 (map (λ t. t.now) names.now)) }
+{
     let mut whole = String::from_str(alloc, first)?;
-    for (i, name) in names.iter().enumerate() {
-        whole.push_str(if i == 0 { "" } else { "/" })?;
-        whole.push_str(*name)?;
-    }
-    if whole.is_empty() {
-        whole.push_str(".")?;
+    let Some((name, others)) = names.split_first() else {
+        return Ok(whole);
+    };
+    whole.push_str(*name)?;
+    for other in others {
+        whole.push_str("/")?;
+        whole.push_str(*other)?;
     }
     Ok(whole)
 }
 
 /// Goes one name further.
-fn step<'a>(names: &mut Vec<&'a str>, name: &'a str) -> Result<(), AllocError> {
-    if name.is_empty() || name == "." {
+fn step<'a>(names: &mut Vec<&'a str>, name: &'a str) -> Result<(), AllocError>
+    ensures { OnOk result (is_settled (map (λ t. t.now) names.old.items) ≡ true
+        → GoesOn (map (λ t. t.now) names.old.items) name.now
+        (map (λ t. t.now) names.new.items)) }
+{
+    if is_nothing(name) {
         return Ok(());
     }
-    if name == ".." && can_go_back(names.as_slice()) {
+    if goes_back(names.as_slice(), name) {
         names.pop();
         return Ok(());
     }
@@ -46,15 +87,33 @@ fn step<'a>(names: &mut Vec<&'a str>, name: &'a str) -> Result<(), AllocError> {
     Ok(())
 }
 
-fn can_go_back(names: &[&str]) -> bool {
-    match names.last() {
-        Some(last) => *last != "..",
+/// Whether a name leads nowhere.
+fn is_nothing(name: &str) -> bool
+    ensures { result ≡ is_nothing name.now }
+{
+    name.is_empty() || name == "."
+}
+
+/// Whether a name takes back the last of these.
+fn goes_back(names: &[&str], name: &str) -> bool
+    ensures { result ≡ (is_up name.now && ends_in_name (map (λ t. t.now) names.now)) }
+{
+    name == ".." && can_go_back(names)
+}
+
+fn can_go_back(names: &[&str]) -> bool
+    ensures { result ≡ ends_in_name (map (λ t. t.now) names.now) }
+{
+    match names.split_last() {
+        Some((last, _)) => *last != "..",
         None => false,
     }
 }
 
 /// The path of what lies in a folder. The empty path is the folder in which all others are seen.
-pub fn below(alloc: Global, folder: &str, name: &str) -> Result<String, AllocError> {
+pub fn below(alloc: Global, folder: &str, name: &str) -> Result<String, AllocError>
+    ensures { IfOk result (λ path. string_bytes path ≡ below folder.now name.now) }
+{
     let mut path = String::from_str(alloc, folder)?;
     if !folder.is_empty() && !folder.ends_with('/') {
         path.push_str("/")?;
@@ -68,9 +127,11 @@ pub fn expanded<R: Files + AllocGlobal>(
     rt: &R,
     root: &str,
     entry: &str,
-) -> Result<BTreeSet<String>, Error> {
+) -> Result<BTreeSet<String>, Error>
+    ensures { IfErr result IsOfFolders }
+{
     let alloc = rt.alloc();
-    let first = if entry.starts_with('/') { "/" } else { "" };
+    let first = if is_rooted(entry) { "/" } else { "" };
     let mut folders = BTreeSet::new(alloc);
     folders.insert(String::from_str(alloc, first)?)?;
     for name in entry.split('/') {
@@ -90,7 +151,9 @@ fn one_further<R: Files + AllocGlobal>(
     root: &str,
     folders: &BTreeSet<String>,
     name: &str,
-) -> Result<BTreeSet<String>, Error> {
+) -> Result<BTreeSet<String>, Error>
+    ensures { IfErr result IsOfFolders }
+{
     let alloc = rt.alloc();
     let mut all = BTreeSet::new(alloc);
     for folder in folders {
@@ -110,7 +173,9 @@ fn add_matched<R: Files + AllocGlobal>(
     folder: &str,
     pattern: &str,
     all: &mut BTreeSet<String>,
-) -> Result<(), Error> {
+) -> Result<(), Error>
+    ensures { IfErr result IsOfFolders }
+{
     let alloc = rt.alloc();
     let place = seen_from(alloc, root, folder)?;
     let entries = match fs::read_dir(&rt, place.as_str()) {
@@ -129,7 +194,9 @@ fn add_matched<R: Files + AllocGlobal>(
     Ok(())
 }
 
-fn is_absent(kind: io::ErrorKind) -> bool {
+fn is_absent(kind: io::ErrorKind) -> bool
+    ensures { result ≡ is_absent kind }
+{
     matches!(kind, io::ErrorKind::NotFound | io::ErrorKind::NotADirectory)
 }
 
@@ -141,11 +208,13 @@ fn is_folder<R: Files>(rt: &R, path: &str) -> bool {
 }
 
 /// The path of a folder that is seen from `root`.
-pub fn seen_from(alloc: Global, root: &str, folder: &str) -> Result<String, AllocError> {
+pub fn seen_from(alloc: Global, root: &str, folder: &str) -> Result<String, AllocError>
+    ensures { IfOk result (λ path. string_bytes path ≡ seen_from root.now folder.now) }
+{
     if folder.is_empty() || folder == "." {
         return String::from_str(alloc, root);
     }
-    if folder.starts_with('/') {
+    if is_rooted(folder) {
         return String::from_str(alloc, folder);
     }
     below(alloc, root, folder)

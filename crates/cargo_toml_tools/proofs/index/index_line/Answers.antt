@@ -1,10 +1,15 @@
 use Rattle.std.proofs.Common.{◌∙◌, ap, option_map, sym}
 use Rattle.std.proofs.lemmas.Result.{err_from_is_err_and}
+use Rattle.serde_json.specs.Written.{compact_text}
 use Rattle.cargo_toml.specs.Manifests.{manifest_meaning}
 use Rattle.cargo_toml.specs.Packages.{package_meaning}
+use Rattle.std.specs.Option.{option_copied}
+use Rattle.cargo_toml_tools.specs.Checked.{lists_meaning}
 use Rattle.cargo_toml_tools.specs.Indexed.{all_by_kind}
+use Rattle.cargo_toml_tools.specs.IndexEntries.{dependency_entries}
+use Rattle.cargo_toml_tools.specs.IndexLines.{line_data}
 use Rattle.cargo_toml_tools.proofs.Explained.{checked_taken, explained, not_no_package, not_taken, other_fault}
-use Rattle.cargo_toml_tools.proofs.Placed.{same_rows}
+use Rattle.cargo_toml_tools.proofs.Placed.{in_order_of}
 use Rattle.cargo_toml_tools.proofs.index.index_line.Goals as goal
 
 pub returns-in_err-stated-clause-no_package : goal.returns-in_err-stated-clause-no_package
@@ -38,8 +43,12 @@ returns-clause-taken g c =
     checked_taken c.args.text.now m p is c.in_ok-stated.ensures.taken
 
 pub returns-clause-line : goal.returns-clause-line
-returns-clause-line g c = record {
-  of = package_meaning (λ m. m) c.in-Some.package;
-  is = ap (option_map (package_meaning (λ m. m))) c.in-Some.is;
-  rows = same_rows _ _ _ _ c.in_ok-stated.ensures.told c.in_ok-line_of.ensures;
-}
+returns-clause-line g c =
+    let m = c.args.manifest.now in
+    let same = ap (λ rows. line_data rows (dependency_entries (manifest_meaning (λ m. m) m)) (lists_meaning m.features) (option_copied c.args.checksum)) c.in_ok-stated.ensures.told in
+    record {
+      of = package_meaning (λ m. m) c.in-Some.package;
+      is = ap (option_map (package_meaning (λ m. m))) c.in-Some.is;
+      text = c.in_ok-line_of.ensures.text ∙ ap compact_text same;
+      order = in_order_of _ _ _ same c.in_ok-line_of.ensures.order;
+    }

@@ -1,0 +1,21 @@
+use Rattle.std.proofs.Common.{◌++◌, ◌∙◌, ap, codes, map, string_bytes, sym}
+use Rattle.std.proofs.lemmas.List.{take_all}
+use Rattle.std.proofs.lemmas.List.Folds.{flat_map-map}
+use Rattle.std.specs.List.{flat_map}
+use Rattle.semver.specs.Identifiers.{comparator_view}
+use Rattle.semver.specs.Parse.{Held}
+use Rattle.semver.specs.declared.Comparator.{Comparator}
+use Rattle.cargo_toml_tools.specs.Requirements.{comparator_text, requirement_text}
+use Rattle.cargo_toml_tools.proofs.index.requirement.requirement_text.Goals as goal
+
+pub returns : goal.returns
+returns c =
+    let first = c.in-Some.first.now in
+    let others = c.in-Some.others.now in
+    c.loop-other.invariant
+    ∙ ap (λ t. string_bytes c.push_comparator.new.text ++ flat_map (λ (x : Comparator). codes ", " ++ comparator_text (comparator_view x)) t)
+    (take_all c.loop-other.other-index others c.loop-other-test.false)
+    ∙ ap (λ t. t ++ flat_map (λ (x : Comparator). codes ", " ++ comparator_text (comparator_view x)) others)
+    (c.in_ok-push_comparator.ensures ∙ ap (λ t. t ++ comparator_text (comparator_view first)) c.new-text.ensures.bytes)
+    ∙ ap (λ t. comparator_text (comparator_view first) ++ t) (sym (flat_map-map (λ (h : Held). codes ", " ++ comparator_text h) comparator_view others))
+    ∙ ap (λ cs. requirement_text (map comparator_view cs)) (sym c.in-Some.ensures.cases.0 ∙ c.deref.ensures.value)

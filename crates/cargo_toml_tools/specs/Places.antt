@@ -1,0 +1,112 @@
+-- Paths of folders: a path is its bytes, and its names stand between slashes.
+use Rattle.std.specs.Prelude.{◌≡◌, ◌⊎◌, ◌++◌, ◌&&◌, ◌||◌, ◌==◌, IsFalse, IsTrue, Bool, true, false, if◌then◌else◌, not}
+use Rattle.std.specs.Prelude.{List, [], ◌∷◌, bytes_eq, codes, length, nat_eq}
+use Rattle.std.specs.List.{ends_with, join_with_byte, list_any, slice_split, starts_with}
+use Rattle.std.specs.declared.io.Error.{Error as IoError}
+use Rattle.cargo_toml.specs.Action.{Text}
+use Rattle.cargo_toml.specs.Error.{Error, Io, Memory}
+
+-- a path that begins or ends with a slash
+abbrev pub is_rooted : Text → Bool
+is_rooted path = starts_with nat_eq path (codes "/")
+
+abbrev pub is_closed : Text → Bool
+is_closed path = ends_with nat_eq path (codes "/")
+
+-- a name that leads nowhere, and the one that leads to the folder around
+abbrev pub is_nothing : Text → Bool
+is_nothing name = length name == 0 || bytes_eq name (codes ".")
+
+abbrev pub is_up : Text → Bool
+is_up name = bytes_eq name (codes "..")
+
+-- a name in front of others: the `..` behind it takes it back, unless it is one itself
+abbrev pub before_names : Text → List Text → List Text
+before_names name [] = name ∷ []
+before_names name (next ∷ names) =
+    if is_up next && not (is_up name) then names else name ∷ next ∷ names
+
+abbrev pub in_front : Text → List Text → List Text
+in_front name names = if is_nothing name then names else before_names name names
+
+-- names with nothing to take back
+abbrev pub settled : List Text → List Text
+settled [] = []
+settled (name ∷ names) = in_front name (settled names)
+
+-- what stands between the slashes of a path
+abbrev pub pieces : Text → List Text
+pieces path = slice_split (λ b. nat_eq b 47) path
+
+-- the path with no `.` in it, and with `..` at its front alone; the folder itself is `.`
+abbrev pub or_here : Text → Text
+or_here [] = codes "."
+or_here (b ∷ bs) = b ∷ bs
+
+abbrev pub root_of : Text → Text
+root_of path = if is_rooted path then codes "/" else []
+
+abbrev pub normalized : Text → Text
+normalized path = or_here (root_of path ++ join_with_byte 47 (settled (pieces path)))
+
+-- the path of what lies in a folder; the empty path is the folder in which all others are seen
+abbrev pub below : Text → Text → Text
+below folder name =
+    folder ++ ((if length folder == 0 || is_closed folder then [] else codes "/") ++ name)
+
+-- the path of a folder that is seen from a root, and that of its manifest
+abbrev pub seen_from : Text → Text → Text
+seen_from root folder =
+    if is_nothing folder then root else if is_rooted folder then folder else below root folder
+
+abbrev pub manifest_path : Text → Text → Text
+manifest_path root folder = below (seen_from root folder) (codes "Cargo.toml")
+
+-- a folder is another, or lies in it; all lie in `.`
+abbrev pub is_within : Text → Text → Bool
+is_within folder outer =
+    bytes_eq folder outer || starts_with nat_eq folder (outer ++ codes "/")
+
+abbrev pub lies_under : Text → Text → Bool
+lies_under folder outer = bytes_eq outer (codes ".") || is_within folder outer
+
+-- a folder is one of these, as they are written, or lies in one
+abbrev pub lies_in : Text → List Text → Bool
+lies_in folder folders = list_any (λ outer. lies_under folder (normalized outer)) folders
+
+-- a folder is excluded, and no entry of `members` leads to it as it is written
+abbrev pub is_excluded : List Text → List Text → Text → Bool
+is_excluded members excluded folder = lies_in folder excluded && not (lies_in folder members)
+
+-- a folder that a workspace may list: its own, or one by a normalized path that isn't excluded
+abbrev pub IsListed : List Text → List Text → Text → Type 0
+IsListed members excluded folder =
+    (folder ≡ codes ".")
+    ⊎ (((path : Text) × (folder ≡ normalized path)) × IsFalse (is_excluded members excluded folder))
+
+-- folders that a workspace may list, and those among them that are listed more than once
+pub record AreListed (members excluded : List Text) (folders twice : Text → Bool) : Type 0 where
+  pub listed : (folder : Text) → IsTrue (folders folder) → IsListed members excluded folder
+  pub among : (folder : Text) → IsTrue (twice folder) → IsTrue (folders folder)
+
+-- there was no memory, or a fault of reading folders
+abbrev pub IsOfFolders : Error → Type 0
+IsOfFolders e = (e ≡ Memory) ⊎ ((fault : IoError) × (e ≡ Io fault))
+
+-- names that are settled already
+abbrev pub is_settled : List Text → Bool
+is_settled [] = true
+is_settled (name ∷ []) = not (is_nothing name)
+is_settled (name ∷ next ∷ names) =
+    not (is_nothing name) && (not (is_up next && not (is_up name)) && is_settled (next ∷ names))
+
+-- the last of these names can be taken back
+abbrev pub ends_in_name : List Text → Bool
+ends_in_name [] = false
+ends_in_name (name ∷ []) = not (is_up name)
+ends_in_name (name ∷ next ∷ names) = ends_in_name (next ∷ names)
+
+-- names with one more, of which it takes one back or is left out itself
+pub record GoesOn (old : List Text) (name : Text) (new : List Text) : Type 0 where
+  pub kept : is_settled new ≡ true
+  pub goes : (rest : List Text) → settled (new ++ rest) ≡ settled (old ++ name ∷ rest)

@@ -1,0 +1,48 @@
+-- The text of a requirement on a version, as `semver` writes it.
+use Rattle.std.specs.Prelude.{◌++◌, ℕ, List, [], ◌∷◌, Option, Some, None, codes, decimal}
+use Rattle.std.specs.List.{flat_map}
+use Rattle.semver.specs.Identifiers.{marked}
+use Rattle.semver.specs.Parse.{Held}
+use Rattle.semver.specs.declared.Op.{Op}
+use Rattle.semver.specs.declared.Op.TheVariants.{Caret, Exact, Greater, GreaterEq, Less, LessEq}
+use Rattle.semver.specs.declared.Op.TheVariants.{Tilde, Wildcard}
+use Rattle.cargo_toml.specs.Action.{Text}
+
+-- what stands in front of the numbers, and what stands for those that are left out
+abbrev pub sign_of : Op → Text
+sign_of Exact = codes "="
+sign_of Greater = codes ">"
+sign_of GreaterEq = codes ">="
+sign_of Less = codes "<"
+sign_of LessEq = codes "<="
+sign_of Tilde = codes "~"
+sign_of Caret = codes "^"
+sign_of Wildcard = []
+
+abbrev pub star_of : Op → Text
+star_of Exact = []
+star_of Greater = []
+star_of GreaterEq = []
+star_of Less = []
+star_of LessEq = []
+star_of Tilde = []
+star_of Caret = []
+star_of Wildcard = codes ".*"
+
+-- what follows the first number, and the second
+abbrev pub after_minor : Text → Option ℕ → Text → Text
+after_minor star None pre = star
+after_minor star (Some patch) pre = codes "." ++ (decimal patch ++ marked 45 pre)
+
+abbrev pub after_major : Text → Option ℕ → Option ℕ → Text → Text
+after_major star None patch pre = star
+after_major star (Some minor) patch pre = codes "." ++ (decimal minor ++ after_minor star patch pre)
+
+-- a comparator, as `>=1.2.3-pre`
+abbrev pub comparator_text : Held → Text
+comparator_text c = sign_of c.0 ++ (decimal c.1 ++ after_major (star_of c.0) c.2 c.3 c.4)
+
+-- comparators with `, ` between them; `*` is any version
+abbrev pub requirement_text : List Held → Text
+requirement_text [] = codes "*"
+requirement_text (c ∷ cs) = comparator_text c ++ flat_map (λ d. codes ", " ++ comparator_text d) cs

@@ -5,11 +5,12 @@ ghost use Rattle.cargo_toml_lint.specs.Findings.{code_name, level_name, code_lev
 /// How much a finding weighs.
 #[derive(Debug, Copy, Clone, PartialEq, Eq)]
 pub enum Level {
-    /// Cargo refuses such a manifest.
+    /// Cargo refuses such a manifest, but for two cases. It takes `SameName` where a feature acts
+    /// on the dependency by `d/f` or `d?/f`, and it mostly just warns of what a binary requires.
     Error,
     /// It works as it stands, but may not be meant so.
     Hint,
-    /// Cargo takes it, but it can't be meant so.
+    /// Cargo takes it, but it is hardly meant so.
     Warning,
 }
 
@@ -105,7 +106,7 @@ pub struct Finding<'m> {
     pub level: Level,
     /// What is found.
     pub code: Code,
-    /// The feature, as the manifest writes it.
+    /// The feature, as the manifest writes it; or the text that a binary requires.
     pub feature: &'m str,
     /// What a finding of this code says.
     pub words: &'static str,

@@ -53,7 +53,7 @@ fn resolve_whole<'m, M, S: BuildHasher + Clone + Drop>(
     limited.parse(alloc, manifest)
 }
 
-// Adds what Cargo refuses.
+// Adds the errors.
 fn add_errors<'m, S: BuildHasher>(
     findings: &mut Vec<Finding<'m>>,
     known: &Known<'m>,
@@ -74,7 +74,7 @@ fn add_errors<'m, S: BuildHasher>(
     add_findings(findings, Code::Unknown, &unknown)
 }
 
-// Adds what is shown to users.
+// Adds the hints.
 fn add_hints<'m, S: BuildHasher>(
     findings: &mut Vec<Finding<'m>>,
     names: &BTreeSet<&'m str>,
@@ -92,7 +92,7 @@ fn add_hints<'m, S: BuildHasher>(
     add_findings(findings, Code::PrivateDefault, &private_default)
 }
 
-// Adds what can't be meant.
+// Adds the warnings.
 fn add_warnings<'m, S: BuildHasher + Clone>(
     findings: &mut Vec<Finding<'m>>,
     known: &Known<'m>,

@@ -1,10 +1,9 @@
 -- Sets of the names that pass a test, as chains of iterators make them.
-use Rattle.std.proofs.Common.{◌≡◌, ◌↔◌, ◌||◌, ◌&&◌, Bool, true, false, cond, Option, None, Result, OnOk, MatchResult, List, [], ◌∷◌, map, filter, Bor, String, Global, string_bytes, bytes_eq, IsTrue, refl, sym, ap, ap₂, ◌∙◌}
+use Rattle.std.proofs.Common.{◌≡◌, ◌↔◌, ◌||◌, ◌&&◌, Bool, true, false, cond, Option, None, List, [], ◌∷◌, map, filter, Bor, String, Global, string_bytes, bytes_eq, IsTrue, refl, sym, ap, ap₂, ◌∙◌}
 use Rattle.std.proofs.Math.Bool.{and-false, and-true}
 use Rattle.std.proofs.lemmas.Bool.{and_from, and_parts}
 use Rattle.std.proofs.lemmas.Iterator.{YieldsList}
-use Rattle.std.proofs.lemmas.Iterator.Adapters.{fact_from_extend}
-use Rattle.std.proofs.lemmas.Iterator.Consumers.{YieldsList-at, YieldsList-end}
+use Rattle.std.proofs.lemmas.Iterator.Consumers.{YieldsList-end}
 use Rattle.std.proofs.lemmas.Map.Text.{is_eq-slice_cmp}
 use Rattle.std.proofs.lemmas.Slice.Eq.{bytes_eq-Decides}
 use Rattle.std.specs.BTreeMap.{is_at}
@@ -12,7 +11,7 @@ use Rattle.std.specs.BTreeSet as sorted
 use Rattle.std.specs.BTreeSet.{BTreeSet}
 use Rattle.std.specs.Bool.{⊤}
 use Rattle.std.specs.Cmp.Lexicographic.{slice_cmp}
-use Rattle.std.specs.Iterator.{Drains, DrainsIf, Yields}
+use Rattle.std.specs.Iterator.{DrainsIf}
 use Rattle.std.specs.List.{list_any}
 use Rattle.std.specs.Ordering.{nat_cmp}
 use Rattle.cargo_toml.specs.Action.{Text}
@@ -127,32 +126,6 @@ module _ {S : Type 0} {steps : S → Option (Bor Text) → S → Type 0} {s : S}
   named value p es road f =
       made.2.0 (record { ref_ptr = (0, 0); now = f }) ∙ in_texts made.0 f
       ∙ ap (list_any (bytes_eq f)) (all_given made.0 road made.1) ∙ named_in value p f es
-
--- such keys are added to a set
-named_more : {X Y : Type 0} (value : X → Y) (p : Text × Y → Bool) (es : List (String Global × X))
-    (xs : List (Bor Text)) → map (λ k. k.now) xs ≡ passing_keys value p es
-    → (s n : BTreeSet (Bor Text))
-    → sorted.InsertsAll (λ x y. slice_cmp nat_cmp x.now y.now) s xs n
-    → (f : Text) → set_has n f ≡ (set_has s f
-    || list_any (λ (e : Text × Y). bytes_eq f e.0 && p e) (map (told value) es))
-named_more value p es xs read s n union f =
-    union.0 (record { ref_ptr = (0, 0); now = f })
-    ∙ ap (λ b. set_has s f || b)
-    (in_texts xs f ∙ ap (list_any (bytes_eq f)) read ∙ named_in value p f es)
-
--- such keys are what a chain gives that extends a set
-pub extended : {T E : Type 0} {steps : T → Option (Bor Text) → T → Type 0} {s : T}
-    (r : Result (Unit {0}) E) (old new : BTreeSet (Bor Text))
-    → ((it : T) × (xs : List (Bor Text)) × (it ≡ s)
-    × sorted.InsertsAll (λ x y. slice_cmp nat_cmp x.now y.now) old xs new
-    × MatchResult r (λ _. Drains steps it xs) (λ _. (t : T) × Yields steps it xs t))
-    → {X Y : Type 0} (value : X → Y) (p : Text × Y → Bool) (es : List (String Global × X))
-    → YieldsList steps (λ k. k.now) s (passing_keys value p es)
-    → OnOk r ((f : Text) → set_has new f ≡ (set_has old f
-    || list_any (λ (e : Text × Y). bytes_eq f e.0 && p e) (map (told value) es)))
-extended r old new ran value p es road =
-    fact_from_extend (λ k. k.now) r ran (λ it is. YieldsList-at is road)
-    (λ xs read union. named_more value p es xs read old new union)
 
 -- what passes is among the names anyway
 pub those_are : {s : Bool} (n p : Bool) → s ≡ (n && p) → (IsTrue p → IsTrue n) → IsTrue s ↔ IsTrue p

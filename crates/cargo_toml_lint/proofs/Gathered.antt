@@ -1,6 +1,6 @@
 -- What a loop over a list gathers.
 use Rattle.std.proofs.Common.{◌≡◌, ◌⊎◌, ◌↔◌, ◌||◌, ◌&&◌, ◌<◌, ◌≤◌, ◌+◌, ◌==◌, not, ℕ, Bool, true, false, Option, Some, None, MatchOption, is_some, arith, List, [], ◌∷◌, ◌++◌, map, take, length, get_or, Bor, IsTrue, refl, sym, ap, subst, inl, inr, ◌∙◌}
-use Rattle.std.proofs.Math.Bool.{and-true, or-false, or_assoc}
+use Rattle.std.proofs.Math.Bool.{and-false, and-true, or-false, or_assoc}
 use Rattle.std.proofs.lemmas.List.{map_push, take_all, take_more}
 use Rattle.std.proofs.lemmas.Bool.{false≢true, ne_eqb, or_cases}
 use Rattle.std.proofs.lemmas.List.Folds.{list_any-append}
@@ -9,16 +9,10 @@ use Rattle.std.proofs.lemmas.Slice.Eq.{bytes_eq-Decides}
 use Rattle.std.specs.BTreeMap.{is_at}
 use Rattle.std.specs.BTreeSet.{BTreeSet}
 use Rattle.std.specs.Cmp.Lexicographic.{slice_cmp}
-use Rattle.std.specs.List.{flat_map, list_any}
+use Rattle.std.specs.List.{list_any}
 use Rattle.std.specs.Ordering.{nat_cmp}
 use Rattle.cargo_toml.specs.Action.{Text}
 use Rattle.cargo_toml.specs.Views.{set_has}
-
-pub any_flat : {A B : Type 0} (hits : A → Bool) (g : B → List A) (bs : List B)
-    → list_any hits (flat_map g bs) ≡ list_any (λ b. list_any hits (g b)) bs
-any_flat hits g [] = refl
-any_flat hits g (b ∷ bs) = list_any-append hits (g b) (flat_map g bs)
-    ∙ ap (λ t. list_any hits (g b) || t) (any_flat hits g bs)
 
 -- some of the keys is f
 abbrev pub has_in : List (Bor Text) → Text → Bool
@@ -104,6 +98,10 @@ pub put_if : (old new same test : Bool) → test ≡ true → new ≡ (old || sa
     ≡ (old || (same && test))
 put_if old new same test is put = put
     ∙ ap (λ b. old || b) (sym (ap (λ b. same && b) is ∙ and-true same))
+
+pub put_none : (old same test : Bool) → test ≡ false → old ≡ (old || (same && test))
+put_none old same test is = sym (ap (λ b. old || (same && b)) is
+    ∙ ap (λ b. old || b) (and-false same) ∙ or-false old)
 
 -- one more of the first elements
 pub any_more : {X Y : Type 0} (p : Y → Bool) (g : X → Y) (xs : List X) (i : ℕ) (x : X)

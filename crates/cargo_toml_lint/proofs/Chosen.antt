@@ -104,28 +104,31 @@ module _ (p : Text × List Text → Bool) where
     each = λ f. none_yet (hits f) (set_has s f) _ _ (none_in s none f) (ap (map told) is);
   }
 
-  pub choosing_put : {left rest all : List Entry} {s n : BTreeSet (Bor Text)} (e : Entry)
-      → left ≡ e ∷ rest → p (told e) ≡ true
+module _ {p : Text × List Text → Bool} {left rest all : List Entry} {s : BTreeSet (Bor Text)}
+    (choosing : Choosing p left all s) where
+  pub choosing_put : (e : Entry) (n : BTreeSet (Bor Text)) → left ≡ e ∷ rest → p (told e) ≡ true
       → ((f : Text) → set_has n f ≡ (set_has s f || bytes_eq f (string_bytes e.0)))
-      → Choosing left all s → Choosing rest all n
-  choosing_put {s = s} {n = n} e is passes put choosing = record {
-    each = λ f. one_more (hits f) (set_has s f) (set_has n f) (told e) _ _ _ (ap (map told) is)
-        (put_if (set_has s f) (set_has n f) (bytes_eq f (string_bytes e.0)) (p (told e)) passes
-        (put f)) (choosing.each f);
+      → Choosing p rest all n
+  choosing_put e n is passes put = record {
+    each = λ f. one_more (hits p f) (set_has s f) (set_has n f) (told e) _ _ _
+        (ap (map told) is) (put_if (set_has s f) (set_has n f) (bytes_eq f (string_bytes e.0))
+        (p (told e)) passes (put f)) (choosing.each f);
   }
 
-  pub choosing_skipped : {left rest all : List Entry} {s : BTreeSet (Bor Text)} (e : Entry)
-      → left ≡ e ∷ rest → p (told e) ≡ false → Choosing left all s → Choosing rest all s
-  choosing_skipped {s = s} e is fails choosing = record {
-    each = λ f. one_more (hits f) (set_has s f) (set_has s f) (told e) _ _ _ (ap (map told) is)
-        (put_none (set_has s f) (bytes_eq f (string_bytes e.0)) (p (told e)) fails)
-        (choosing.each f);
+  pub choosing_skipped : (e : Entry) → left ≡ e ∷ rest → p (told e) ≡ false
+      → Choosing p rest all s
+  choosing_skipped e is fails = record {
+    each = λ f. one_more (hits p f) (set_has s f) (set_has s f) (told e) _ _ _
+        (ap (map told) is) (put_none (set_has s f) (bytes_eq f (string_bytes e.0))
+        (p (told e)) fails) (choosing.each f);
   }
 
-  pub choosing_done : {left all : List Entry} {s : BTreeSet (Bor Text)} → left ≡ []
-      → Choosing left all s → (f : Text) → set_has s f ≡ list_any (hits f) (map told all)
-  choosing_done {s = s} none choosing f =
-      none_left (hits f) (set_has s f) _ _ (ap (map told) none) (choosing.each f)
+-- once none is left
+pub choosing_done : {p : Text × List Text → Bool} {left all : List Entry} {s : BTreeSet (Bor Text)}
+    → left ≡ [] → Choosing p left all s → (f : Text)
+    → set_has s f ≡ list_any (λ e. bytes_eq f e.0 && p e) (map told all)
+choosing_done {p} {s = s} none choosing f =
+    none_left (hits p f) (set_has s f) _ _ (ap (map told) none) (choosing.each f)
 
 -- what passes is among the names anyway
 pub those_are : {s : Bool} (n p : Bool) → s ≡ (n && p) → (IsTrue p → IsTrue n) → IsTrue s ↔ IsTrue p

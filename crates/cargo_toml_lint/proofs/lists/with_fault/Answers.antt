@@ -1,10 +1,9 @@
-use Rattle.std.proofs.Common.{◌≡◌, Bool, List, map, string_bytes, sym, ap, ◌∙◌}
+use Rattle.std.proofs.Common.{map, string_bytes, sym, ap, ◌∙◌}
 use Rattle.std.proofs.lemmas.Map.Iter.{rest_all, rest_more}
 use Rattle.std.specs.Map.Iter.{deref_pair}
-use Rattle.cargo_toml.specs.Action.{Text}
 use Rattle.cargo_toml_lint.specs.Known.{says}
 use Rattle.cargo_toml_lint.specs.Names.{at_fault, held_names}
-use Rattle.cargo_toml_lint.proofs.Chosen.{choosing_begun, choosing_done, choosing_put, choosing_skipped, told}
+use Rattle.cargo_toml_lint.proofs.Chosen.{choosing_begun, choosing_done, choosing_put, choosing_skipped}
 use Rattle.cargo_toml_lint.proofs.Tables.{put_key}
 use Rattle.cargo_toml_lint.proofs.lists.with_fault.Goals as goal
 
@@ -16,32 +15,27 @@ loop-name-init c =
 
 pub loop-name-preserved-in_ok-insert : goal.loop-name-preserved-in_ok-insert
 loop-name-preserved-in_ok-insert c =
-    let passes : Text × List Text → Bool = λ e. says (at_fault c.args.fault (held_names c.args.known.now)) e.1 in
-    let same : c.is_one_at_fault.result ≡ passes (told (c.in-Some.name.now, c.in-Some.texts.now)) =
-    c.is_one_at_fault.ensures
+    let same = c.is_one_at_fault.ensures
     ∙ ap (λ xs. says (at_fault c.args.fault (held_names c.args.known.now)) (map string_bytes xs))
     c.as_slice.ensures.value in
-    choosing_put passes (c.in-Some.name.now, c.in-Some.texts.now)
+    choosing_put c.loop-name.invariant (c.in-Some.name.now, c.in-Some.texts.now) c.insert.new.self
     (rest_more deref_pair _ _ _ (c.in-Some.name, c.in-Some.texts) c.in-Some.is
     c.next.ensures.steps)
     (sym same ∙ c.if-is_one_at_fault.true)
     (put_key c.as_str.result.now (string_bytes c.in-Some.name.now) c.loop-name.names
     c.insert.new.self c.as_str.ensures.value c.in_ok-insert.ensures.updates)
-    c.loop-name.invariant
 
 pub loop-name-preserved : goal.loop-name-preserved
 loop-name-preserved c =
-    let passes : Text × List Text → Bool = λ e. says (at_fault c.args.fault (held_names c.args.known.now)) e.1 in
-    let same : c.is_one_at_fault.result ≡ passes (told (c.in-Some.name.now, c.in-Some.texts.now)) =
-    c.is_one_at_fault.ensures
+    let same = c.is_one_at_fault.ensures
     ∙ ap (λ xs. says (at_fault c.args.fault (held_names c.args.known.now)) (map string_bytes xs))
     c.as_slice.ensures.value in
-    choosing_skipped passes (c.in-Some.name.now, c.in-Some.texts.now)
+    choosing_skipped c.loop-name.invariant (c.in-Some.name.now, c.in-Some.texts.now)
     (rest_more deref_pair _ _ _ (c.in-Some.name, c.in-Some.texts) c.in-Some.is
     c.next.ensures.steps)
-    (sym same ∙ c.if-is_one_at_fault.false) c.loop-name.invariant
+    (sym same ∙ c.if-is_one_at_fault.false)
 
 pub returns : goal.returns
 returns c =
-    choosing_done (λ e. says (at_fault c.args.fault (held_names c.args.known.now)) e.1)
-    (rest_all deref_pair _ _ _ c.in-None.is c.next.ensures.steps) c.loop-name.invariant
+    choosing_done (rest_all deref_pair _ _ _ c.in-None.is c.next.ensures.steps)
+    c.loop-name.invariant

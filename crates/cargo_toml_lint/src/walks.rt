@@ -32,8 +32,8 @@ fn names_back<S: BuildHasher>(
     }
 }
 
-// The feature of this name with those that it enables and that name it, its enablers as they are; or
-// none, where there are no such.
+// Features in rings: the one of this name, and those of its enablers that it enables and that name
+// it. None, where no enabler does.
 fn ring_of<'m, S: BuildHasher + Clone>(
     alloc: Global,
     features: &FeatureMap<'m, S>,
@@ -75,7 +75,7 @@ pub(crate) fn cyclic<'m, S: BuildHasher + Clone>(
 {
     let mut found = BTreeSet::new(alloc);
     for name in names {
-        // a walk may be long, and where all features name all, one finds each ring
+        // Who is found needs no walk: where all features name all, one walk is enough.
         if !found.contains(*name) {
             let mut ring = ring_of(alloc, features, *name)?;
             found.append(&mut ring)?;
@@ -130,7 +130,7 @@ fn reached_by_users<'m, S: BuildHasher + Clone>(
 {
     let mut reached = BTreeSet::new(alloc);
     for name in names {
-        // what a feature enables that is reached, is reached too
+        // Where a feature is reached, so is all that it enables.
         if !is_hidden(*name) && !reached.contains(*name) {
             add_enabled(alloc, &mut reached, features, *name)?;
         }

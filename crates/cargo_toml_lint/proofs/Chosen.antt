@@ -1,10 +1,9 @@
--- Sets of the names that pass a test, as chains of iterators make them.
-use Rattle.std.proofs.Common.{◌≡◌, ◌↔◌, ◌||◌, ◌&&◌, Bool, true, false, cond, Option, None, Result, OnOk, MatchResult, List, [], ◌∷◌, map, filter, Bor, String, Global, string_bytes, bytes_eq, IsTrue, refl, sym, ap, ap₂, ◌∙◌}
-use Rattle.std.proofs.Math.Bool.{and-false, and-true}
+-- Sets of the names that pass a test, as a chain of iterators or a loop makes them.
+use Rattle.std.proofs.Common.{◌≡◌, ◌↔◌, ◌||◌, ◌&&◌, Bool, true, false, cond, Option, None, List, [], ◌∷◌, map, filter, Bor, String, Vec, Global, string_bytes, bytes_eq, IsTrue, refl, sym, ap, ap₂, ◌∙◌}
+use Rattle.std.proofs.Math.Bool.{and-false}
 use Rattle.std.proofs.lemmas.Bool.{and_from, and_parts}
 use Rattle.std.proofs.lemmas.Iterator.{YieldsList}
-use Rattle.std.proofs.lemmas.Iterator.Adapters.{fact_from_extend}
-use Rattle.std.proofs.lemmas.Iterator.Consumers.{YieldsList-at, YieldsList-end}
+use Rattle.std.proofs.lemmas.Iterator.Consumers.{YieldsList-end}
 use Rattle.std.proofs.lemmas.Map.Text.{is_eq-slice_cmp}
 use Rattle.std.proofs.lemmas.Slice.Eq.{bytes_eq-Decides}
 use Rattle.std.specs.BTreeMap.{is_at}
@@ -12,22 +11,19 @@ use Rattle.std.specs.BTreeSet as sorted
 use Rattle.std.specs.BTreeSet.{BTreeSet}
 use Rattle.std.specs.Bool.{⊤}
 use Rattle.std.specs.Cmp.Lexicographic.{slice_cmp}
-use Rattle.std.specs.Iterator.{Drains, DrainsIf, Yields}
+use Rattle.std.specs.Iterator.{DrainsIf}
 use Rattle.std.specs.List.{list_any}
 use Rattle.std.specs.Ordering.{nat_cmp}
 use Rattle.cargo_toml.specs.Action.{Text}
 use Rattle.cargo_toml.specs.Views.{set_has}
-use Rattle.cargo_toml_lint.proofs.Gathered.{has_in}
+use Rattle.cargo_toml_features.proofs.Naming.{none_left, none_yet, one_more}
+use Rattle.cargo_toml_features.proofs.TextKeys.{none_in}
+use Rattle.cargo_toml_lint.proofs.Gathered.{has_in, put_if, put_none}
 
 -- ---- lists of keys, by bytes
 pub in_keys : (ks : List (Bor Text)) (f : Text) → has_in ks f ≡ list_any (λ k. bytes_eq f k.now) ks
 in_keys [] f = refl
 in_keys (k ∷ ks) f = ap₂ (λ a b. a || b) (is_eq-slice_cmp f k.now) (in_keys ks f)
-
-in_texts : (ks : List (Bor Text)) (f : Text) → has_in ks f
-    ≡ list_any (bytes_eq f) (map (λ k. k.now) ks)
-in_texts [] f = refl
-in_texts (k ∷ ks) f = ap₂ (λ a b. a || b) (is_eq-slice_cmp f k.now) (in_texts ks f)
 
 -- those of the keys that pass
 chosen_in : (p : Text → Bool) (ks : List (Bor Text)) (f : Text)
@@ -58,40 +54,6 @@ chosen_in p (k ∷ ks) f = go (chosen_in p ks f) (p k.now) refl (bytes_eq f k.no
     go before false is false same = before
         ∙ sym (ap (λ b. (b || has_in ks f) && p f) (at false same))
 
--- ---- keys of entries
--- an entry, by the bytes of its key
-abbrev pub told : {X Y : Type 0} → (X → Y) → String Global × X → Text × Y
-told value e = (string_bytes e.0, value e.1)
-
--- the keys of those of the entries that pass
-abbrev pub passing_keys : {X Y : Type 0} → (X → Y) → (Text × Y → Bool) → List (String Global × X)
-    → List Text
-passing_keys value p es = map (λ e. string_bytes e.0) (filter (λ e. p (told value e)) es)
-
-named_in : {X Y : Type 0} (value : X → Y) (p : Text × Y → Bool) (f : Text)
-    (es : List (String Global × X)) → list_any (bytes_eq f) (passing_keys value p es)
-    ≡ list_any (λ (e : Text × Y). bytes_eq f e.0 && p e) (map (told value) es)
-named_in value p f [] = refl
-named_in {X} {Y} value p f (e ∷ es) = go (named_in value p f es) (p (told value e)) refl
-  where
-    rest : List (String Global × X)
-    rest = filter (λ e. p (told value e)) es
-
-    all : Bool
-    all = list_any (λ (e : Text × Y). bytes_eq f e.0 && p e) (map (told value) es)
-
-    key : Text
-    key = string_bytes e.0
-
-    go : list_any (bytes_eq f) (map (λ (e : String Global × X). string_bytes e.0) rest) ≡ all
-        → (b : Bool) → p (told value e) ≡ b → list_any (bytes_eq f)
-        (map (λ (e : String Global × X). string_bytes e.0) (cond b (e ∷ rest) rest))
-        ≡ ((bytes_eq f key && p (told value e)) || all)
-    go before true is = ap₂ (λ a b. a || b) (sym (and-true (bytes_eq f key))) before
-        ∙ ap (λ b. (bytes_eq f key && b) || all) (sym is)
-    go before false is = before ∙ ap (λ b. b || all) (sym (and-false (bytes_eq f key)))
-        ∙ ap (λ b. (bytes_eq f key && b) || all) (sym is)
-
 -- ---- what a chain that is at its end has given
 all_given : {S A B : Type 0} {steps : S → Option A → S → Type 0} {v : A → B} {s : S} {all : List B}
     (xs : List A) → YieldsList steps v s all → DrainsIf steps ⊤ s xs → map v xs ≡ all
@@ -119,40 +81,54 @@ module _ {S : Type 0} {steps : S → Option (Bor Text) → S → Type 0} {s : S}
       map_id [] = refl
       map_id (x ∷ xs) = ap (λ ys. x ∷ ys) (map_id xs)
 
-  -- of the keys of those of the entries that pass
-  pub named : {X Y : Type 0} (value : X → Y) (p : Text × Y → Bool) (es : List (String Global × X))
-      → YieldsList steps (λ k. k.now) s (passing_keys value p es)
-      → (f : Text) → set_has n f
-      ≡ list_any (λ (e : Text × Y). bytes_eq f e.0 && p e) (map (told value) es)
-  named value p es road f =
-      made.2.0 (record { ref_ptr = (0, 0); now = f }) ∙ in_texts made.0 f
-      ∙ ap (list_any (bytes_eq f)) (all_given made.0 road made.1) ∙ named_in value p f es
+-- ---- the names of entries that pass, as a loop puts them into a set
+abbrev pub Entry : Type 0
+Entry = String Global × Vec (String Global) Global
 
--- such keys are added to a set
-named_more : {X Y : Type 0} (value : X → Y) (p : Text × Y → Bool) (es : List (String Global × X))
-    (xs : List (Bor Text)) → map (λ k. k.now) xs ≡ passing_keys value p es
-    → (s n : BTreeSet (Bor Text))
-    → sorted.InsertsAll (λ x y. slice_cmp nat_cmp x.now y.now) s xs n
-    → (f : Text) → set_has n f ≡ (set_has s f
-    || list_any (λ (e : Text × Y). bytes_eq f e.0 && p e) (map (told value) es))
-named_more value p es xs read s n union f =
-    union.0 (record { ref_ptr = (0, 0); now = f })
-    ∙ ap (λ b. set_has s f || b)
-    (in_texts xs f ∙ ap (list_any (bytes_eq f)) read ∙ named_in value p f es)
+-- a name, and the texts of its list
+abbrev pub told : Entry → Text × List Text
+told e = (string_bytes e.0, map string_bytes e.1.items)
 
--- such keys are what a chain gives that extends a set
-pub extended : {T E : Type 0} {steps : T → Option (Bor Text) → T → Type 0} {s : T}
-    (r : Result (Unit {0}) E) (old new : BTreeSet (Bor Text))
-    → ((it : T) × (xs : List (Bor Text)) × (it ≡ s)
-    × sorted.InsertsAll (λ x y. slice_cmp nat_cmp x.now y.now) old xs new
-    × MatchResult r (λ _. Drains steps it xs) (λ _. (t : T) × Yields steps it xs t))
-    → {X Y : Type 0} (value : X → Y) (p : Text × Y → Bool) (es : List (String Global × X))
-    → YieldsList steps (λ k. k.now) s (passing_keys value p es)
-    → OnOk r ((f : Text) → set_has new f ≡ (set_has old f
-    || list_any (λ (e : Text × Y). bytes_eq f e.0 && p e) (map (told value) es)))
-extended r old new ran value p es road =
-    fact_from_extend (λ k. k.now) r ran (λ it is. YieldsList-at is road)
-    (λ xs read union. named_more value p es xs read old new union)
+module _ (p : Text × List Text → Bool) where
+  abbrev hits : Text → Text × List Text → Bool
+  hits f e = bytes_eq f e.0 && p e
+
+  -- the set, with those that are left, has all
+  pub record Choosing (left all : List Entry) (s : BTreeSet (Bor Text)) : Type 0 where
+    pub each : (f : Text) → (set_has s f || list_any (hits f) (map told left))
+        ≡ list_any (hits f) (map told all)
+
+  pub choosing_begun : (left all : List Entry) (s : BTreeSet (Bor Text)) → s.keys ≡ []
+      → left ≡ all → Choosing left all s
+  choosing_begun left all s none is = record {
+    each = λ f. none_yet (hits f) (set_has s f) _ _ (none_in s none f) (ap (map told) is);
+  }
+
+module _ {p : Text × List Text → Bool} {left rest all : List Entry} {s : BTreeSet (Bor Text)}
+    (choosing : Choosing p left all s) where
+  pub choosing_put : (e : Entry) (n : BTreeSet (Bor Text)) → left ≡ e ∷ rest → p (told e) ≡ true
+      → ((f : Text) → set_has n f ≡ (set_has s f || bytes_eq f (string_bytes e.0)))
+      → Choosing p rest all n
+  choosing_put e n is passes put = record {
+    each = λ f. one_more (hits p f) (set_has s f) (set_has n f) (told e) _ _ _
+        (ap (map told) is) (put_if (set_has s f) (set_has n f) (bytes_eq f (string_bytes e.0))
+        (p (told e)) passes (put f)) (choosing.each f);
+  }
+
+  pub choosing_skipped : (e : Entry) → left ≡ e ∷ rest → p (told e) ≡ false
+      → Choosing p rest all s
+  choosing_skipped e is fails = record {
+    each = λ f. one_more (hits p f) (set_has s f) (set_has s f) (told e) _ _ _
+        (ap (map told) is) (put_none (set_has s f) (bytes_eq f (string_bytes e.0))
+        (p (told e)) fails) (choosing.each f);
+  }
+
+-- once none is left
+pub choosing_done : {p : Text × List Text → Bool} {left all : List Entry} {s : BTreeSet (Bor Text)}
+    → left ≡ [] → Choosing p left all s → (f : Text)
+    → set_has s f ≡ list_any (λ e. bytes_eq f e.0 && p e) (map told all)
+choosing_done {p} {s = s} none choosing f =
+    none_left (hits p f) (set_has s f) _ _ (ap (map told) none) (choosing.each f)
 
 -- what passes is among the names anyway
 pub those_are : {s : Bool} (n p : Bool) → s ≡ (n && p) → (IsTrue p → IsTrue n) → IsTrue s ↔ IsTrue p

@@ -1,24 +1,18 @@
 -- What a loop over a list gathers.
-use Rattle.std.proofs.Common.{◌≡◌, ◌⊎◌, ◌↔◌, ◌||◌, ◌&&◌, ◌<◌, ◌≤◌, ◌+◌, ◌==◌, not, ℕ, Bool, true, false, Option, Some, None, MatchOption, is_some, arith, List, [], ◌∷◌, ◌++◌, map, take, length, get_or, Bor, bytes_eq, IsTrue, refl, sym, ap, subst, inl, inr, ◌∙◌}
-use Rattle.std.proofs.Math.Bool.{and-true, or-false, or_assoc}
+use Rattle.std.proofs.Common.{◌≡◌, ◌⊎◌, ◌↔◌, ◌||◌, ◌&&◌, ◌<◌, ◌≤◌, ◌+◌, ◌==◌, not, ℕ, Bool, true, false, Option, Some, None, MatchOption, is_some, arith, List, [], ◌∷◌, ◌++◌, map, take, length, get_or, Bor, IsTrue, refl, sym, ap, subst, inl, inr, ◌∙◌}
+use Rattle.std.proofs.Math.Bool.{and-false, and-true, or-false, or_assoc}
 use Rattle.std.proofs.lemmas.List.{map_push, take_all, take_more}
-use Rattle.std.proofs.lemmas.Bool.{false≢true, ne_eqb, or_cases, or_left, or_right}
+use Rattle.std.proofs.lemmas.Bool.{false≢true, ne_eqb, or_cases}
 use Rattle.std.proofs.lemmas.List.Folds.{list_any-append}
 use Rattle.std.proofs.lemmas.Map.Text.{is_eq-slice_cmp}
 use Rattle.std.proofs.lemmas.Slice.Eq.{bytes_eq-Decides}
 use Rattle.std.specs.BTreeMap.{is_at}
 use Rattle.std.specs.BTreeSet.{BTreeSet}
 use Rattle.std.specs.Cmp.Lexicographic.{slice_cmp}
-use Rattle.std.specs.List.{flat_map, list_any}
+use Rattle.std.specs.List.{list_any}
 use Rattle.std.specs.Ordering.{nat_cmp}
 use Rattle.cargo_toml.specs.Action.{Text}
 use Rattle.cargo_toml.specs.Views.{set_has}
-
-pub any_flat : {A B : Type 0} (hits : A → Bool) (g : B → List A) (bs : List B)
-    → list_any hits (flat_map g bs) ≡ list_any (λ b. list_any hits (g b)) bs
-any_flat hits g [] = refl
-any_flat hits g (b ∷ bs) = list_any-append hits (g b) (flat_map g bs)
-    ∙ ap (λ t. list_any hits (g b) || t) (any_flat hits g bs)
 
 -- some of the keys is f
 abbrev pub has_in : List (Bor Text) → Text → Bool
@@ -45,33 +39,37 @@ module _ (R : Text → Text → Type 0) where
     complete = λ x k r. inr (ap (λ xs. has_in xs k) is ∙ each x k r);
   }
 
-  pub skipped : (k : Bor Text) (left rest : List (Bor Text)) (s : BTreeSet (Bor Text)) → left
-      ≡ k ∷ rest → ((x : Text) → ¬ R k.now x) → Gathers R left s → Gathers R rest s
-  skipped k left rest s is miss g = record {
-    sound = g.sound;
+  -- one key is passed: what it gives is there, and what came is of some key
+  pub passed : (k : Bor Text) (left rest : List (Bor Text)) (s n : BTreeSet (Bor Text)) → left
+      ≡ k ∷ rest → ((x : Text) → IsTrue (set_has n x) → IsTrue (set_has s x) ⊎ ((f : Text) × R f x))
+      → ((x : Text) → IsTrue (set_has s x) ⊎ R k.now x → IsTrue (set_has n x)) → Gathers R left s
+      → Gathers R rest n
+  passed k left rest s n is came there g = record {
+    sound = λ x h. elim (came x h) [ inl o ↦ g.sound x o | inr r ↦ r ];
     complete = λ x f r. elim (g.complete x f r) [
-      | inl h ↦ inl h
+      | inl h ↦ inl (there x (inl h))
       | inr i ↦ elim (at_head k rest f (ap (λ xs. has_in xs f) (sym is) ∙ i)) [
-        | inl e ↦ absurd (miss x (subst (λ q. R q x) e r))
+        | inl e ↦ inl (there x (inr (subst (λ q. R q x) e r)))
         | inr j ↦ inr j
       ]
     ];
   }
 
+  -- what it gives is there already
+  pub skipped : (k : Bor Text) (left rest : List (Bor Text)) (s : BTreeSet (Bor Text)) → left
+      ≡ k ∷ rest → ((x : Text) → R k.now x → IsTrue (set_has s x)) → Gathers R left s
+      → Gathers R rest s
+  skipped k left rest s is there g =
+      passed k left rest s s is (λ x h. inl h) (λ x. elim [ inl h ↦ h | inr r ↦ there x r ]) g
+
+  -- what it gives is put there
   pub taken : (k : Bor Text) (left rest : List (Bor Text)) (s n : BTreeSet (Bor Text)) → left
       ≡ k ∷ rest →
       ((x : Text) → IsTrue (set_has n x) ↔ (IsTrue (set_has s x) ⊎ R k.now x)) → Gathers R left s
       → Gathers R rest n
-  taken k left rest s n is put g = record {
-    sound = λ x h. elim ((put x).0 h) [ inl o ↦ g.sound x o | inr r ↦ (k.now, r) ];
-    complete = λ x f r. elim (g.complete x f r) [
-      | inl h ↦ inl ((put x).1 (inl h))
-      | inr i ↦ elim (at_head k rest f (ap (λ xs. has_in xs f) (sym is) ∙ i)) [
-        | inl e ↦ inl ((put x).1 (inr (subst (λ q. R q x) e r)))
-        | inr j ↦ inr j
-      ]
-    ];
-  }
+  taken k left rest s n is put g =
+      passed k left rest s n is
+      (λ x h. elim ((put x).0 h) [ inl o ↦ inl o | inr r ↦ inr (k.now, r) ]) (λ x. (put x).1) g
 
   pub gathered : (left : List (Bor Text)) (s : BTreeSet (Bor Text)) → left ≡ [] → Gathers R left s
       → (x : Text) → IsTrue (set_has s x) ↔ ((k : Text) × R k x)
@@ -87,20 +85,6 @@ module _ (R : Text → Text → Type 0) where
 abbrev pub Itself : (Text → Type 0) → Text → Text → Type 0
 Itself P k x = P k × (x ≡ k)
 
-pub itself_put : (P : Text → Type 0) (k : Text) (s n : BTreeSet (Bor Text)) → P k
-    → ((x : Text) → set_has n x ≡ (set_has s x || bytes_eq x k)) → (x : Text)
-    → IsTrue (set_has n x) ↔ (IsTrue (set_has s x) ⊎ Itself P k x)
-itself_put P k s n hit put x = (
-  λ h. elim (or_cases (set_has s x) (bytes_eq x k) (sym (put x) ∙ h)) [
-    | inl o ↦ inl o
-    | inr e ↦ inr (hit, (bytes_eq-Decides x k).0 e)
-  ],
-  elim [
-    | inl o ↦ put x ∙ or_left (set_has s x) (bytes_eq x k) o
-    | inr r ↦ put x ∙ or_right (set_has s x) (bytes_eq x k) ((bytes_eq-Decides x k).1 r.1)
-  ],
-)
-
 pub itself_given : (P : Text → Type 0) (x : Text) {b : Bool} → IsTrue b ↔ ((k : Text) × Itself P k x)
     → IsTrue b ↔ P x
 itself_given P x h = (
@@ -114,6 +98,10 @@ pub put_if : (old new same test : Bool) → test ≡ true → new ≡ (old || sa
     ≡ (old || (same && test))
 put_if old new same test is put = put
     ∙ ap (λ b. old || b) (sym (ap (λ b. same && b) is ∙ and-true same))
+
+pub put_none : (old same test : Bool) → test ≡ false → old ≡ (old || (same && test))
+put_none old same test is = sym (ap (λ b. old || (same && b)) is
+    ∙ ap (λ b. old || b) (and-false same) ∙ or-false old)
 
 -- one more of the first elements
 pub any_more : {X Y : Type 0} (p : Y → Bool) (g : X → Y) (xs : List X) (i : ℕ) (x : X)

@@ -1,5 +1,5 @@
 -- What is found in the maps of an answer, of the table of a manifest.
-use Rattle.std.proofs.Common.{◌≡◌, ◌≢◌, ◌↔◌, ◌||◌, ◌&&◌, ◌==◌, not, cond, Bool, true, false, ℕ, List, [], ◌∷◌, length, Option, Some, None, is_some, Bor, IsTrue, bytes_eq, codes, nat_lt, arith, refl, sym, ap, subst, inl, inr, ◌∙◌}
+use Rattle.std.proofs.Common.{◌≡◌, ◌↔◌, ◌||◌, ◌&&◌, ◌==◌, not, cond, Bool, true, false, ℕ, List, [], ◌∷◌, length, Option, Some, None, is_some, Bor, IsTrue, bytes_eq, codes, nat_lt, arith, refl, sym, ap, subst, inl, inr, ◌∙◌}
 use Rattle.std.proofs.lemmas.Bool.{false≢true, and_parts, and_from, not-true, not_from_false, false_from_ne_true, or_cases, or_left, or_right, eqb-true}
 use Rattle.std.proofs.lemmas.Bool.Decides.{Decides-eqb}
 use Rattle.std.proofs.lemmas.Map.Text.{is_eq-slice_cmp}
@@ -18,17 +18,15 @@ use Rattle.cargo_toml.specs.Products.{ProductMeaning}
 use Rattle.cargo_toml.specs.Reach.{Reaches}
 use Rattle.cargo_toml.specs.Reach.Reaches.{edge, through}
 use Rattle.cargo_toml.specs.Recorded.{Entry, is_implied}
-use Rattle.cargo_toml.specs.Recursive.{Enables}
-use Rattle.cargo_toml.specs.Recursive.Enables.{itself, further}
 use Rattle.cargo_toml.specs.Removal.{is_removed}
 use Rattle.cargo_toml.specs.Resolved.{table_of}
 use Rattle.cargo_toml.specs.Views.{set_has, resolution_of, table_in, value_at}
-use Rattle.cargo_toml_features.proofs.Unremoved.{enables_has, enables_in, enables_out, held, named, names, there}
-use Rattle.cargo_toml_graph.proofs.Texts.{decided_text}
+use Rattle.cargo_toml_features.proofs.Unremoved.{enables_has, enables_in, enables_out, held, named, there}
 use Rattle.cargo_toml_lint.specs.Findings.{IsCyclic, IsOnlyDefault, IsUnreachable, is_hidden, is_private, is_required}
 use Rattle.cargo_toml_lint.specs.Known.{Names}
-use Rattle.cargo_toml_lint.specs.Steps.{IsRing, explicit_at, implied_at, only_default, over_at, private_default_at}
+use Rattle.cargo_toml_lint.specs.Steps.{TellsEnablers, explicit_at, implied_at, only_default, over_at, private_default_at}
 use Rattle.cargo_toml_lint.proofs.Gathered.{at_head, has_in}
+use Rattle.cargo_toml_lint.proofs.Walked.{there_is}
 
 -- a filter that keeps each feature removes none
 pub nothing_removed : (t : Table) (f : Text) → ¬ IsTrue (is_removed t (λ _. true) f)
@@ -77,20 +75,6 @@ no_keys (k ∷ ks) all =
     ∙ (bytes_eq-Decides k.now k.now).1 refl))) in
     ap length (skips_default k ks is) ∙ no_keys ks (λ e h. all e (or_right _ _ h))
 
--- ---- what a feature enables
-enables_more : {t : Table} {f g h : Text} → Enables t f g → Enables t g h → Enables t f h
-enables_more a itself = a
-enables_more a (further e n k) = further (enables_more a e) n k
-
--- the last one before f that isn't f
-last_before : {t : Table} {f o : Text} (x : Text) → x ≡ f → o ≢ f → Enables t f o → Enables t o x
-    → (h : Text) × (h ≢ f) × Enables t f h × IsTrue (t.names h f)
-last_before x same apart there itself = absurd (apart same)
-last_before {t} {f} {o} x same apart there (further {g = h} e n k) = elim (decided_text h f) [
-  | inl s ↦ last_before h s apart there e
-  | inr ne ↦ (h, ne, enables_more there e, subst (λ y. IsTrue (t.names h y)) same n)
-]
-
 module _ {S : Type 0} (m : HashMap (Bor Text) Feature S) (t : Table) (Removed : Text → Type 0)
     (none : (f : Text) → ¬ Removed f) (resolved : IsResolved t Removed (resolution_of m)) where
   pub has_same : (f : Text) → (table_in m).has f ≡ t.has f
@@ -107,37 +91,46 @@ module _ {S : Type 0} (m : HashMap (Bor Text) Feature S) (t : Table) (Removed : 
     λ d. (resolved.enabled_by f e (known, none f)).1 ((d.source, none e), edge d),
   )
 
-  -- a feature that tells an enabler is there
-  told_has : (f e : Text) → IsTrue ((resolution_of m).enabled_by f e) → IsTrue (t.has f)
-  told_has f e y = there m t Removed none resolved f (go (value_at m f) y)
-    where
-      go : (o : Option Feature) → IsTrue (option_map_or (λ v. set_has v.enabled_by e) o false)
-          → IsTrue (is_some o)
-      go None y = y
-      go (Some v) y = refl
+  -- a feature that tells an enabler has an edge from it
+  told_edge : (f e : Text) → IsTrue ((resolution_of m).enabled_by f e) → Edge t e f
+  told_edge f e y =
+      let here = there_is m f (λ v. set_has v.enabled_by e) y in
+      (enablers f e (there m t Removed none resolved f here)).0 y
 
-  pub cyclic_is : (f : Text) → IsRing (resolution_of m) f ↔ IsCyclic t f
+  pub tells : TellsEnablers (resolution_of m)
+  tells = record {
+    others = λ f e y. (told_edge f e y).apart;
+    namers = λ f e h n apart.
+        let known = there m t Removed none resolved f h in
+        let source = there m t Removed none resolved e
+        (there_is m e (λ v. set_has v.enables_features f) n) in
+        (enablers f e known).1 (record {
+          source = source;
+          target = known;
+          apart = apart;
+          leads = inl (named m t Removed none resolved e f source n);
+        });
+  }
+
+  pub cyclic_is : (f : Text) → IsCyclic (table_in m) f ↔ IsCyclic t f
   cyclic_is f = (
-    λ r.
-        let known : IsTrue (t.has f) = told_has f r.0 r.1 in
-        let d : Edge t r.0 f = (enablers f r.0 known).0 r.1 in
-        record {
-          other = r.0;
-          known = known;
-          apart = d.apart;
-          there = enables_in m t Removed none resolved known r.2;
-          back = further itself (named m t Removed none resolved r.0 f d.source r.3) known;
-        },
     λ c.
-        let l = last_before f refl c.apart c.there c.back in
-        let known : IsTrue (t.has l.0) = enables_has c.known l.2 in
-        let d : Edge t l.0 f =
-        record { source = known; target = c.known; apart = l.1; leads = inl l.3 } in (
-          l.0,
-          (enablers f l.0 c.known).1 d,
-          enables_out m t Removed none resolved c.known l.2,
-          names m t Removed none resolved l.0 f known l.3,
-        ),
+        let known = there m t Removed none resolved f c.known in
+        let leads = enables_in m t Removed none resolved known c.there in
+        record {
+          other = c.other;
+          known = known;
+          apart = c.apart;
+          there = leads;
+          back = enables_in m t Removed none resolved (enables_has known leads) c.back;
+        },
+    λ c. record {
+      other = c.other;
+      known = held m t Removed none resolved f c.known;
+      apart = c.apart;
+      there = enables_out m t Removed none resolved c.known c.there;
+      back = enables_out m t Removed none resolved (enables_has c.known c.there) c.back;
+    },
   )
 
   pub unreachable_is : (f : Text) → IsUnreachable (table_in m) f ↔ IsUnreachable t f
@@ -256,21 +249,9 @@ module _ {S : Type 0} (m : HashMap (Bor Text) Feature S) (listed : Listed) (entr
   over_is limit all f = λ i. list_any
       (λ e. bytes_eq f e.0 && (nat_lt limit (length e.1) || not (explicit_is e.0 i))) all
 
--- what is told of a name is told of a feature
 module _ {S : Type 0} (m : HashMap (Bor Text) Feature S) where
-  there_is : (f : Text) (test : Feature → Bool) → IsTrue (option_map_or test (value_at m f) false)
-      → IsTrue ((table_in m).has f)
-  there_is f test h = go (value_at m f) h
-    where
-      go : (o : Option Feature) → IsTrue (option_map_or test o false) → IsTrue (is_some o)
-      go None h = h
-      go (Some v) h = refl
-
   pub implied_has : (f : Text) → IsTrue (implied_at m f) → IsTrue ((table_in m).has f)
-  implied_has f h = there_is f (λ v. not v.explicit) h
+  implied_has f h = there_is m f (λ v. not v.explicit) h
 
   pub private_has : (f : Text) → IsTrue (private_default_at m f) → IsTrue ((table_in m).has f)
-  private_has f h = there_is f (λ v. (is_hidden f || not v.public) && only_default v) h
-
-  pub ring_has : (f : Text) → IsRing (resolution_of m) f → IsTrue ((table_in m).has f)
-  ring_has f r = there_is f (λ v. set_has v.enabled_by r.0) r.1
+  private_has f h = there_is m f (λ v. (is_hidden f || not v.public) && only_default v) h

@@ -1,5 +1,5 @@
 -- What the steps of linting find in what was gathered and resolved: no public contract rests on it.
-use Rattle.std.specs.Prelude.{◌≡◌, ◌⊎◌, ◌↔◌, ◌<◌, ◌+◌, ◌==◌, ℕ, Bool, false, ◌&&◌, ◌||◌}
+use Rattle.std.specs.Prelude.{◌≡◌, ◌≢◌, ◌⊎◌, ◌↔◌, ◌<◌, ◌+◌, ◌==◌, ℕ, Bool, false, ◌&&◌, ◌||◌}
 use Rattle.std.specs.Prelude.{not, nat_lt, length, List, IsTrue, IsFalse, bytes_eq, codes}
 use Rattle.std.specs.Borrow.{Bor}
 use Rattle.std.specs.HashMap.{HashMap}
@@ -14,8 +14,8 @@ use Rattle.cargo_toml.specs.NonDefault.{without_default}
 use Rattle.cargo_toml.specs.Products.{ProductMeaning}
 use Rattle.cargo_toml.specs.Reach.{Among}
 use Rattle.cargo_toml.specs.Recursive.{Enables}
-use Rattle.cargo_toml.specs.Views.{set_has, resolution_of, table_in, value_at}
-use Rattle.cargo_toml_lint.specs.Findings.{IsTold, IsUnreachable, about_cmp}
+use Rattle.cargo_toml.specs.Views.{set_has, table_in, value_at}
+use Rattle.cargo_toml_lint.specs.Findings.{IsCyclic, IsTold, IsUnreachable, about_cmp}
 use Rattle.cargo_toml_lint.specs.Findings.{has_same_name, is_hidden, is_not_optional}
 use Rattle.cargo_toml_lint.specs.Findings.{is_required, is_unknown, code_rank}
 use Rattle.cargo_toml_lint.specs.Known.{lists}
@@ -32,11 +32,11 @@ abbrev pub only_default : Feature → Bool
 only_default v =
     set_has v.enabled_by (codes "default") && (length (without_default v.enabled_by.keys) == 0)
 
--- f names what enables it, through others: one that f enables, and that enables it directly and
--- by its name
-abbrev pub IsRing : Resolution → Text → Type 0
-IsRing m f =
-    (h : Text) × IsTrue (m.enabled_by f h) × Enables m.table f h × IsTrue (m.table.names h f)
+-- a feature's enablers are others, and each other one that names it is among them
+pub record TellsEnablers (m : Resolution) : Type 0 where
+  pub others : (f e : Text) → IsTrue (m.enabled_by f e) → e ≢ f
+  pub namers : (f e : Text) → IsTrue (m.table.has f) → IsTrue (m.table.names e f) → e ≢ f
+      → IsTrue (m.enabled_by f e)
 
 -- k is a feature of the table that isn't hidden, and enables x
 abbrev pub Leads : Table → Text → Text → Type 0
@@ -70,7 +70,7 @@ module _ {S : Type 0} (m : HashMap (Bor Text) Feature S) where
       || is_required (held_names known) (table_in m).has bins f)
   HoldsIn known bins limit Implied f = IsTrue (implied_at f)
   HoldsIn known bins limit PrivateDefault f = IsTrue (private_default_at f)
-  HoldsIn known bins limit Cycle f = IsRing (resolution_of m) f
+  HoldsIn known bins limit Cycle f = IsCyclic (table_in m) f
   HoldsIn known bins limit OverLimit f = IsTrue (over_at limit (listed_by known) f)
   HoldsIn known bins limit Unreachable f = IsUnreachable (table_in m) f
 
@@ -119,6 +119,6 @@ module _ {S : Type 0} (m : HashMap (Bor Text) Feature S) where
   -- what is found by walks and at the limit
   abbrev pub AreWarnings : Known → ℕ → Code → Text → Type 0
   AreWarnings known limit c f =
-      (At Cycle (λ f. IsRing (resolution_of m) f) c f
+      (At Cycle (λ f. IsCyclic (table_in m) f) c f
       ⊎ At OverLimit (λ f. IsTrue (over_at m limit (listed_by known) f)) c f)
       ⊎ At Unreachable (λ f. IsUnreachable (table_in m) f) c f

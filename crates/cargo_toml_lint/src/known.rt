@@ -1,17 +1,18 @@
 //! Which names a manifest has: of features, of dependencies, and those that `dep:` names.
-ghost use Rattle.std.specs.Prelude.{◌≡◌, ◌||◌, IfOk, OnOk, bytes_eq, codes, map, string_bytes};
-ghost use Rattle.std.specs.List.{list_any};
+ghost use Rattle.std.specs.Prelude.{◌≡◌, ◌||◌, ◌∷◌, [], true, IfOk, OnOk};
+ghost use Rattle.std.specs.Prelude.{bytes_eq, codes, map, string_bytes};
+ghost use Rattle.std.specs.List.{flat_map, list_any};
 ghost use Rattle.cargo_toml.specs.Action.{Text, item_of};
-ghost use Rattle.cargo_toml.specs.Dependencies.{dependency_meaning};
+ghost use Rattle.cargo_toml.specs.Dependencies.{dependency_meaning, is_optional};
 ghost use Rattle.cargo_toml.specs.Manifests.{held};
 ghost use Rattle.cargo_toml.specs.Reads.{map_meaning};
 ghost use Rattle.cargo_toml.specs.Targets.{target_meaning};
 ghost use Rattle.cargo_toml.specs.Views.{set_has};
 ghost use Rattle.cargo_toml_lint.specs.Known.{has_entry, all_names, reserves};
 ghost use Rattle.cargo_toml_lint.specs.Known.{says, tables, tables_in};
-ghost use Rattle.cargo_toml_lint.specs.Names.{listed_by, held_names, tried};
+ghost use Rattle.cargo_toml_lint.specs.Names.{AddsKeys, listed_by, held_names};
 
-use cargo_toml::{Dependency, DepsSet, FeatureSet, Manifest, Target, TargetDepsSet};
+use cargo_toml::{DepsSet, FeatureSet, Manifest, Target, TargetDepsSet};
 use cargo_toml_features::action::read_action;
 use std::alloc::{AllocError, Global};
 use std::collections::BTreeSet;
@@ -29,75 +30,69 @@ pub(crate) struct Known<'m> {
     pub reserved: BTreeSet<&'m str>,
 }
 
-// Whether the dependency counts, where all do or the optional ones alone.
-fn is_tried(are_all: bool, dependency: &Dependency) -> bool
-    ensures { result ≡ tried are_all (dependency_meaning dependency.now) }
-{
-    are_all || dependency.optional()
+// The keys of tables of dependencies.
+#[derive(Drop)]
+struct Keys<'m> {
+    // Those of all dependencies.
+    all: BTreeSet<&'m str>,
+    // Those of optional ones.
+    optional: BTreeSet<&'m str>,
 }
 
-// Adds the keys of a table, or those of its optional dependencies alone.
-fn add_table<'m>(
-    keys: &mut BTreeSet<&'m str>,
-    table: &'m DepsSet,
-    are_all: bool,
-) -> Result<(), AllocError>
-    ensures { OnOk result ((k : Text) → set_has keys.new k ≡ (set_has keys.old k
-        || has_entry (tried are_all) k (map_meaning dependency_meaning table.now))) }
-{
-    keys.extend(
-        table
-            .iter()
-            .filter(|(_, dependency)| is_tried(are_all, *dependency))
-            .map(|(key, _)| key.as_str()),
-    )
-}
-
-// Adds those of the tables of a target.
-fn add_target<'m>(
-    keys: &mut BTreeSet<&'m str>,
-    target: &'m Target,
-    are_all: bool,
-) -> Result<(), AllocError>
-    ensures { OnOk result ((k : Text) → set_has keys.new k ≡ (set_has keys.old k
-        || list_any (has_entry (tried are_all) k) (tables_in (target_meaning target.now)))) }
-{
-    add_table(keys, &target.dependencies, are_all)?;
-    add_table(keys, &target.build_dependencies, are_all)?;
-    add_table(keys, &target.dev_dependencies, are_all)
-}
-
-// Adds those of each target.
-fn add_targets<'m>(
-    keys: &mut BTreeSet<&'m str>,
-    targets: &'m TargetDepsSet,
-    are_all: bool,
-) -> Result<(), AllocError>
-    ensures { OnOk result ((k : Text) → set_has keys.new k ≡ (set_has keys.old k
-        || list_any (λ t. list_any (has_entry (tried are_all) k) (tables_in t.1))
-        (map_meaning target_meaning targets.now))) }
-{
-    for target in targets.values() {
-        add_target(keys, target, are_all)?;
+impl<'m> Keys<'m> {
+    // Adds those of a table.
+    fn add_table(&mut self, table: &'m DepsSet) -> Result<(), AllocError>
+        ensures { OnOk result
+            (AddsKeys (map_meaning dependency_meaning table.now ∷ []) self.old self.new) }
+    {
+        for (key, dependency) in table {
+            let key = key.as_str();
+            self.all.insert(key)?;
+            if dependency.optional() {
+                self.optional.insert(key)?;
+            }
+        }
+        Ok(())
     }
-    Ok(())
+
+    // Adds those of the tables of a target.
+    fn add_target(&mut self, target: &'m Target) -> Result<(), AllocError>
+        ensures { OnOk result
+            (AddsKeys (tables_in (target_meaning target.now)) self.old self.new) }
+    {
+        self.add_table(&target.dependencies)?;
+        self.add_table(&target.build_dependencies)?;
+        self.add_table(&target.dev_dependencies)
+    }
+
+    // Adds those of each target.
+    fn add_targets(&mut self, targets: &'m TargetDepsSet) -> Result<(), AllocError>
+        ensures { OnOk result
+            (AddsKeys (flat_map (λ t. tables_in t.1) (map_meaning target_meaning targets.now))
+            self.old self.new) }
+    {
+        for target in targets.values() {
+            self.add_target(target)?;
+        }
+        Ok(())
+    }
 }
 
-// The keys of all tables of dependencies, or those of optional dependencies alone.
-fn keys_of<'m, M>(
-    alloc: Global,
-    manifest: &'m Manifest<M>,
-    are_all: bool,
-) -> Result<BTreeSet<&'m str>, AllocError>
-    ensures { IfOk result (λ s. (k : Text) → set_has s k
-        ≡ list_any (has_entry (tried are_all) k)
-        (tables (held manifest.now))) }
+// The keys of all tables of dependencies of a manifest.
+fn keys_of<M>(alloc: Global, manifest: &Manifest<M>) -> Result<Keys<'_>, AllocError>
+    ensures all { IfOk result (λ keys. (k : Text) → set_has keys.all k
+        ≡ list_any (has_entry (λ _. true) k) (tables (held manifest.now))) }
+    ensures optional { IfOk result (λ keys. (k : Text) → set_has keys.optional k
+        ≡ list_any (has_entry is_optional k) (tables (held manifest.now))) }
 {
-    let mut keys = BTreeSet::new(alloc);
-    add_table(&mut keys, &manifest.dependencies, are_all)?;
-    add_table(&mut keys, &manifest.build_dependencies, are_all)?;
-    add_table(&mut keys, &manifest.dev_dependencies, are_all)?;
-    add_targets(&mut keys, &manifest.target, are_all)?;
+    let mut keys = Keys {
+        all: BTreeSet::new(alloc),
+        optional: BTreeSet::new(alloc),
+    };
+    keys.add_table(&manifest.dependencies)?;
+    keys.add_table(&manifest.build_dependencies)?;
+    keys.add_table(&manifest.dev_dependencies)?;
+    keys.add_targets(&manifest.target)?;
     Ok(keys)
 }
 
@@ -137,13 +132,12 @@ pub(crate) fn known_names<'m, M>(
     ensures listed { IfOk result (λ known. listed_by known
         ≡ (held manifest.now).features) }
 {
-    let dependencies = keys_of(alloc, manifest, true)?;
-    let optional = keys_of(alloc, manifest, false)?;
+    let keys = keys_of(alloc, manifest)?;
     let reserved = reserved_keys(alloc, &manifest.features)?;
     Ok(Known {
         features: &manifest.features,
-        dependencies,
-        optional,
+        dependencies: keys.all,
+        optional: keys.optional,
         reserved,
     })
 }

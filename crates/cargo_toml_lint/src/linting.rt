@@ -8,11 +8,11 @@ ghost use Rattle.cargo_toml.specs.Manifests.{held};
 ghost use Rattle.cargo_toml.specs.Parsed.{IsParsed};
 ghost use Rattle.cargo_toml.specs.Products.{product_meaning};
 ghost use Rattle.cargo_toml.specs.Reached.{IsKeyed};
-ghost use Rattle.cargo_toml.specs.Views.{answer_of, set_has, table_in};
+ghost use Rattle.cargo_toml.specs.Views.{answer_of, resolution_of, set_has, table_in};
 ghost use Rattle.cargo_toml_lint.specs.declared.finding.Code.{Code};
 ghost use Rattle.cargo_toml_lint.specs.Findings.{AreSorted, HoldsOf, IsFound, IsTold, about};
 ghost use Rattle.cargo_toml_lint.specs.Steps.{AddsFindings, AreErrors, AreHints};
-ghost use Rattle.cargo_toml_lint.specs.Steps.{AreAllTold, AreWarnings, HoldsIn};
+ghost use Rattle.cargo_toml_lint.specs.Steps.{AreAllTold, AreWarnings, HoldsIn, TellsEnablers};
 
 use crate::adding::add_findings;
 use crate::finding::{Code, Finding};
@@ -45,6 +45,7 @@ fn resolve_whole<'m, M, S: BuildHasher + Clone + Drop>(
     ensures resolved { IfOk result (λ a.
         IsParsed limit (held manifest.now) (λ _. true) (answer_of a)) }
     ensures keyed { IfOk result (λ a. IsKeyed a.features) }
+    ensures enablers { IfOk result (λ a. TellsEnablers (resolution_of a.features)) }
     ensures refused { IfErr result (λ e. e ≡ Memory) }
 {
     let keep = keep_every;
@@ -101,6 +102,7 @@ fn add_warnings<'m, S: BuildHasher + Clone>(
     limit: usize,
 ) -> Result<(), Error>
     requires keyed { IsKeyed features.now }
+    requires enablers { TellsEnablers (resolution_of features.now) }
     requires names { (f : Text) → set_has names.now f ≡ (table_in features.now).has f }
     ensures added { OnOk result (AddsFindings 5 8 (AreWarnings features.now known.now limit)
         (map about findings.old.items) (map about findings.new.items)) }
@@ -125,7 +127,8 @@ fn found_in<'m, S: BuildHasher + Clone>(
     bins: &'m [Product],
     limit: usize,
 ) -> Result<Vec<Finding<'m>>, Error>
-    requires { IsKeyed features.now }
+    requires keyed { IsKeyed features.now }
+    requires enablers { TellsEnablers (resolution_of features.now) }
     ensures exact { IfOk result (λ v. (c : Code) (f : Text) → IsFound v.items c f
         ↔ HoldsIn features.now known.now (map product_meaning bins.now) limit c f) }
     ensures in_order { IfOk result (λ v. AreSorted v.items) }

@@ -103,12 +103,13 @@ pub(crate) fn with_fault<'m>(
     ensures { IfOk result (λ s. (f : Text) → set_has s f
         ≡ lists (listed_by known.now) (at_fault fault (held_names known.now)) f) }
 {
-    known
-        .features
-        .iter()
-        .filter(|(_, texts)| is_one_at_fault(known, fault, texts.as_slice()))
-        .map(|(name, _)| name.as_str())
-        .collect(alloc)
+    let mut names = BTreeSet::new(alloc);
+    for (name, texts) in known.features {
+        if is_one_at_fault(known, fault, texts.as_slice()) {
+            names.insert(name.as_str())?;
+        }
+    }
+    Ok(names)
 }
 
 /// Whether a feature and an optional dependency have the name, which no action names by `dep:`.
@@ -196,10 +197,12 @@ pub(crate) fn over_limit<'m, S: BuildHasher>(
     ensures { IfOk result (λ s. (f : Text) → set_has s f
         ≡ over_at features.now limit (listed_by known.now) f) }
 {
-    known
-        .features
-        .iter()
-        .filter(|(name, texts)| is_over(features, name.as_str(), texts.as_slice(), limit))
-        .map(|(name, _)| name.as_str())
-        .collect(alloc)
+    let mut names = BTreeSet::new(alloc);
+    for (name, texts) in known.features {
+        let name = name.as_str();
+        if is_over(features, name, texts.as_slice(), limit) {
+            names.insert(name)?;
+        }
+    }
+    Ok(names)
 }

@@ -1,15 +1,14 @@
 //! What is found of the graph of features by walking it: by names, and to any depth.
 ghost use Rattle.std.specs.Prelude.{◌≡◌, ◌⊎◌, ◌↔◌, ◌&&◌, ◌||◌, false, IfOk};
 ghost use Rattle.std.specs.Prelude.{IfErr, IsTrue, OnOk, is_some, not};
-ghost use Rattle.std.specs.List.{list_any};
 ghost use Rattle.std.specs.Option.{option_map_or};
 ghost use Rattle.cargo_toml.specs.Action.{Text};
 ghost use Rattle.cargo_toml.specs.Error.{Memory};
 ghost use Rattle.cargo_toml.specs.Reached.{IsKeyed};
 ghost use Rattle.cargo_toml.specs.Recursive.{Enables};
 ghost use Rattle.cargo_toml.specs.Views.{set_has, resolution_of, table_in, value_at};
-ghost use Rattle.cargo_toml_lint.specs.Findings.{IsUnreachable, is_hidden};
-ghost use Rattle.cargo_toml_lint.specs.Steps.{IsReached, IsRing};
+ghost use Rattle.cargo_toml_lint.specs.Findings.{IsCyclic, IsUnreachable, is_hidden};
+ghost use Rattle.cargo_toml_lint.specs.Steps.{IsReached, TellsEnablers};
 
 use crate::graph::{FeatureMap, is_hidden, those};
 use cargo_toml::Error;
@@ -33,36 +32,32 @@ fn names_back<S: BuildHasher>(
     }
 }
 
-// Whether one of the enablers that are found names the feature.
-fn is_named_back<S: BuildHasher>(
-    enabled: &HashMap<&str, &Feature<'_>, S>,
-    feature: &Feature<'_>,
-) -> bool
-    ensures { result ≡ list_any
-        (λ k. option_map_or (λ v. set_has v.now.enables_features feature.now.key.now)
-        (value_at enabled.now k.now) false) feature.now.enabled_by.keys }
-{
-    feature
-        .enabled_by
-        .iter()
-        .any(|other| names_back(enabled, *other, feature.key))
-}
-
-// Whether the feature of this name enables itself through others, by names.
-fn is_cyclic<'m, S: BuildHasher + Clone>(
+// Features in rings: the one of this name, and those of its enablers that it enables and that name
+// it. None, where no enabler does.
+fn ring_of<'m, S: BuildHasher + Clone>(
     alloc: Global,
     features: &FeatureMap<'m, S>,
     name: &str,
-) -> Result<bool, Error>
-    requires { IsKeyed features.now }
-    ensures cyclic { IfOk result (λ b. IsTrue b ↔ IsRing (resolution_of features.now) name.now) }
+) -> Result<BTreeSet<&'m str>, Error>
+    requires keyed { IsKeyed features.now }
+    requires enablers { TellsEnablers (resolution_of features.now) }
+    ensures rings { IfOk result (λ s. (f : Text) → IsTrue (set_has s f)
+        → IsCyclic (table_in features.now) f) }
+    ensures itself { IfOk result (λ s. IsCyclic (table_in features.now) name.now
+        → IsTrue (set_has s name.now)) }
     ensures refused { IfErr result (λ e. e ≡ Memory) }
 {
     let Some(feature) = features.get(name) else {
-        return Ok(false);
+        return Ok(BTreeSet::new(alloc));
     };
     let (enabled, _dependencies) = feature.enables_recursive(alloc, features)?;
-    Ok(is_named_back(&enabled, feature))
+    let mut ring = those(alloc, &feature.enabled_by, |other| {
+        names_back(&enabled, other, feature.key)
+    })?;
+    if !ring.is_empty() {
+        ring.insert(feature.key)?;
+    }
+    Ok(ring)
 }
 
 /// The features that enable themselves through others, by names.
@@ -72,15 +67,18 @@ pub(crate) fn cyclic<'m, S: BuildHasher + Clone>(
     features: &FeatureMap<'m, S>,
 ) -> Result<BTreeSet<&'m str>, Error>
     requires keyed { IsKeyed features.now }
+    requires enablers { TellsEnablers (resolution_of features.now) }
     requires names { (f : Text) → set_has names.now f ≡ (table_in features.now).has f }
     ensures cyclic { IfOk result (λ s. (f : Text) → IsTrue (set_has s f)
-        ↔ IsRing (resolution_of features.now) f) }
+        ↔ IsCyclic (table_in features.now) f) }
     ensures refused { IfErr result (λ e. e ≡ Memory) }
 {
     let mut found = BTreeSet::new(alloc);
     for name in names {
-        if is_cyclic(alloc, features, *name)? {
-            found.insert(*name)?;
+        // Who is found needs no walk: where all features name all, one walk is enough.
+        if !found.contains(*name) {
+            let mut ring = ring_of(alloc, features, *name)?;
+            found.append(&mut ring)?;
         }
     }
     Ok(found)
@@ -132,7 +130,8 @@ fn reached_by_users<'m, S: BuildHasher + Clone>(
 {
     let mut reached = BTreeSet::new(alloc);
     for name in names {
-        if !is_hidden(*name) {
+        // Where a feature is reached, so is all that it enables.
+        if !is_hidden(*name) && !reached.contains(*name) {
             add_enabled(alloc, &mut reached, features, *name)?;
         }
     }

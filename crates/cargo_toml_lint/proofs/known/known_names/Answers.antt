@@ -5,7 +5,7 @@ use Rattle.cargo_toml_lint.proofs.known.known_names.Goals as goal
 pub returns-clause-names : goal.returns-clause-names
 returns-clause-names g c = λ i. record {
   listed = is_name (manifest_meaning (λ m. m) c.args.manifest.now).features;
-  dependency = λ k. c.in_ok-dependencies.ensures k i;
-  optional = λ k. c.in_ok-optional.ensures k i;
+  dependency = λ k. c.in_ok-keys.ensures.all k i;
+  optional = λ k. c.in_ok-keys.ensures.optional k i;
   reserved = λ k. c.in_ok-reserved.ensures k i;
 }

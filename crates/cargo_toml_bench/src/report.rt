@@ -1,5 +1,5 @@
 //! A report of a manifest: its optional dependencies, and its features that nothing enables.
-mod print;
+pub(crate) mod print;
 
 ghost use Rattle.std.specs.Prelude.{◌≡◌, IfErr, IfOk};
 ghost use Rattle.cargo_toml.specs.Error.{Memory};

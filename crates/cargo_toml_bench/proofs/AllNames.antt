@@ -16,7 +16,7 @@ keys_shown : (xs : List (Bor (Bor Text) × Bor Feature)) → map (λ e. e.0.now)
 keys_shown [] = refl
 keys_shown (x ∷ xs) = ap (λ ys. x.0.now ∷ ys) (keys_shown xs)
 
-among_keys : (es : List (Bor Text × Feature)) (f : Text) → IsSome (lookup (λ k. bytes_eq f k.now) es) → Among (texts_now (map (λ e. e.0) es)) f
+pub among_keys : (es : List (Bor Text × Feature)) (f : Text) → IsSome (lookup (λ k. bytes_eq f k.now) es) → Among (texts_now (map (λ e. e.0) es)) f
 among_keys [] f i = absurd (false≢true i)
 among_keys (e ∷ es) f i = go (among_keys es f) (bytes_eq f e.0.now) refl i
   where
@@ -30,7 +30,7 @@ apart_all k [] a i = i
 apart_all k (y ∷ ks) a (inl s) = false≢true (sym a.0 ∙ (bytes_eq-Decides k.now y.now).1 s)
 apart_all k (y ∷ ks) a (inr i) = apart_all k ks a.1 i
 
-once_keys : (ks : List (Bor Text)) → IsDistinct (λ x y. bytes_eq x.now y.now) ks → IsOnce (texts_now ks)
+pub once_keys : (ks : List (Bor Text)) → IsDistinct (λ x y. bytes_eq x.now y.now) ks → IsOnce (texts_now ks)
 unfolding IsDistinct
 once_keys [] d = tt
 once_keys (k ∷ ks) d = (apart_all k ks d.0, once_keys ks d.1)

@@ -14,6 +14,8 @@ mod AtLimit
 mod UserFacing
 mod Put
 mod AllNames
+mod FeatureNames
+mod LeftMember
 mod Turns
 mod Taken
 mod InTurn

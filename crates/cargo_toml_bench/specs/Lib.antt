@@ -6,6 +6,7 @@ pub mod Filtered
 pub mod Alike
 pub mod Enabled
 pub mod Members
+pub mod Completing
 pub mod Rewriting
 pub mod InMemory
 -- the code's own steps, in contracts of inner functions and of `plain` alone: no caller's promise

@@ -1,20 +1,25 @@
--- Whether one feature of a completed member enables another.
-use Rattle.std.specs.Prelude.{◌↔◌, List, ℕ, Bool, false, IsTrue, Option}
+-- What a member says of its features once it is completed, without the hidden ones.
+use Rattle.std.specs.Prelude.{◌≡◌, ◌↔◌, ℕ, List, length, Bool, false, IsTrue}
 use Rattle.cargo_toml.specs.Action.{Text}
-use Rattle.cargo_toml.specs.Choosing.{Handed, RootsTold}
-use Rattle.cargo_toml.specs.Completing.{GivenBy}
+use Rattle.cargo_toml.specs.Graph.{IsKept}
 use Rattle.cargo_toml.specs.Limits.{MAX_ITEMS}
 use Rattle.cargo_toml.specs.Manifests.{ManifestMeaning}
-use Rattle.cargo_toml.specs.Parsed.{IsParsed}
+use Rattle.cargo_toml.specs.Parsed.{IsParsed, parsed_table}
+use Rattle.cargo_toml.specs.Reach.{Among, IsOnce}
 use Rattle.cargo_toml.specs.Resolved.{Answer}
-use Rattle.cargo_toml.specs.ToldFolders.{Told}
+use Rattle.cargo_toml_bench.specs.Documented.{IsHidden}
 use Rattle.cargo_toml_bench.specs.Enabled.{HasEnabling}
 
--- the answer says so of what is resolved of what completion gives
-pub record IsToldOfMember {M : Type 0} (m : ManifestMeaning M) (handed : Option Handed)
-    (roots : RootsTold) (told : List ℕ → Told) (name other : Text) (answer : Bool) : Type 0 where
-  pub completed : ManifestMeaning M
-  pub given : GivenBy m handed roots told completed
-  pub resolved : Answer
-  pub parsed : IsParsed MAX_ITEMS completed (λ _. false) resolved
-  pub exact : IsTrue answer ↔ HasEnabling resolved.resolution.table name other
+module _ {M : Type 0} (m : ManifestMeaning M) where
+  -- the answer says whether there is the first feature, and enables the other
+  pub record IsToldOfMember (name other : Text) (answer : Bool) : Type 0 where
+    pub resolved : Answer
+    pub parsed : IsParsed MAX_ITEMS m (λ _. false) resolved
+    pub exact : IsTrue answer ↔ HasEnabling resolved.resolution.table name other
+
+  -- there are so many features: as many as a list has that holds each of them once
+  pub record IsFeatureCount (count : ℕ) : Type 0 where
+    pub names : List Text
+    pub once : IsOnce names
+    pub exact : (f : Text) → Among names f ↔ IsKept (parsed_table MAX_ITEMS m) (IsHidden m) f
+    pub counted : count ≡ length names

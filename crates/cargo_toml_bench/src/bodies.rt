@@ -1,5 +1,5 @@
 //! A manifest's features, resolved by the body that callers get and by the plain one beside it.
-ghost use Rattle.std.specs.Prelude.{◌≡◌, Bool, IfErr, IfOk};
+ghost use Rattle.std.specs.Prelude.{◌≡◌, Bool, false, bytes_eq, codes, IfErr, IfOk};
 ghost use Rattle.cargo_toml.specs.Action.{Text};
 ghost use Rattle.cargo_toml.specs.Error.{Memory};
 ghost use Rattle.cargo_toml.specs.Filter.{HasNameFilter, FilterTells};
@@ -9,8 +9,7 @@ ghost use Rattle.cargo_toml.specs.Parsed.{IsParsed};
 ghost use Rattle.cargo_toml.specs.Views.{answer_of};
 ghost use Rattle.cargo_toml_bench.specs.Alike.{AreAlike};
 
-use crate::whole::{Answer, keep_a, resolve_keeping_a};
-use cargo_toml::features::Resolver;
+use crate::whole::{Answer, keep_a, resolve_keeping_a, resolve_shown};
 use cargo_toml::{Error, Manifest};
 use cargo_toml_features::admit::{MAX_ITEMS, listings};
 use cargo_toml_features::entries::{Tables, entries_of};
@@ -22,16 +21,18 @@ use std::hash::BuildHasherDefault;
 /// Resolves the features of a manifest by both bodies, without the hidden ones: first as callers
 /// do, then by the plain body.
 ///
-/// Both are the same, and each feature has the same binaries. The one refusal is [`Error::Memory`].
+/// The first is the answer to the manifest, and the second says the same: each feature has the same
+/// binaries, too. The one refusal is [`Error::Memory`].
 pub fn resolve_by_both<'m, M>(
     alloc: Global,
     manifest: &'m Manifest<M>,
 ) -> Result<(Answer<'m>, Answer<'m>), Error>
+    ensures called { IfOk result (λ p.
+        IsParsed MAX_ITEMS (held manifest.now) (λ _. false) (answer_of p.0)) }
     ensures alike { IfOk result (λ p. AreAlike (answer_of p.0) (answer_of p.1)) }
     ensures refused { IfErr result (λ e. e ≡ Memory) }
 {
-    let resolver = Resolver::new();
-    let called = resolver.parse(alloc, manifest)?;
+    let called = resolve_shown(alloc, manifest)?;
     let no_filter: Option<&fn(&str) -> bool> = None;
     let plain = resolve_plainly(alloc, no_filter, manifest)?;
     Ok((called, plain))
@@ -42,6 +43,9 @@ pub fn resolve_by_both_keeping_a<'m, M>(
     alloc: Global,
     manifest: &'m Manifest<M>,
 ) -> Result<(Answer<'m>, Answer<'m>), Error>
+    ensures called { IfOk result (λ p.
+        IsParsed MAX_ITEMS (held manifest.now) (λ n. bytes_eq n (codes "_a"))
+        (answer_of p.0)) }
     ensures alike { IfOk result (λ p. AreAlike (answer_of p.0) (answer_of p.1)) }
     ensures refused { IfErr result (λ e. e ≡ Memory) }
 {

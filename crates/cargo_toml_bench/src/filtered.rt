@@ -8,7 +8,7 @@ ghost use Rattle.cargo_toml.specs.Filtered.{filter_of, limit_of};
 ghost use Rattle.cargo_toml.specs.Kept.{NoneIsLeft};
 ghost use Rattle.cargo_toml.specs.Limits.{MAX_ITEMS};
 ghost use Rattle.cargo_toml.specs.Manifests.{held};
-ghost use Rattle.cargo_toml.specs.Parsed.{IsParsed, parsed_table};
+ghost use Rattle.cargo_toml.specs.Parsed.{IsParsed, IsParsedBy, parsed_table};
 ghost use Rattle.cargo_toml.specs.Removed.{IsRemovedBy};
 ghost use Rattle.cargo_toml.specs.Views.{answer_of};
 ghost use Rattle.cargo_toml_bench.specs.Filtered.{HidesAlone};
@@ -22,9 +22,10 @@ use std::hash::BuildHasherDefault;
 /// Resolves the features of a manifest beside `whole`, an answer with none removed at the same
 /// limit.
 ///
-/// Something stands in the answer for exactly the features that the filter refuses. It keeps each
-/// hidden one that is left. No name of a removed feature is left, and what is left enables what
-/// it does in `whole`. The one refusal is [`Error::Memory`].
+/// The answer is the one by the filter: something stands in it for exactly the features that the
+/// filter refuses, and the filter keeps each hidden one that is left. No name of a removed feature
+/// is left, and what is left enables what it does in `whole`. The one refusal is
+/// [`Error::Memory`].
 pub fn resolve_beside<'m, M, F: Fn(&str) -> bool>(
     alloc: Global,
     resolver: &Resolver<'_, F>,
@@ -34,6 +35,8 @@ pub fn resolve_beside<'m, M, F: Fn(&str) -> bool>(
     requires filter { HasNameFilter F.Fn (filter_of resolver.now) }
     requires whole { IsParsed (limit_of resolver.now) (held manifest.now)
         (λ _. true) (answer_of whole.now) }
+    ensures resolved { IfOk result (λ a. IsParsedBy (limit_of resolver.now)
+        (held manifest.now) F.Fn (filter_of resolver.now) (answer_of a)) }
     ensures removed { IfOk result (λ a. (r : Text) → IsSome ((answer_of a).redirects r)
         ↔ IsRemovedBy F.Fn (filter_of resolver.now)
         (parsed_table (limit_of resolver.now) (held manifest.now)) r) }
@@ -45,20 +48,24 @@ pub fn resolve_beside<'m, M, F: Fn(&str) -> bool>(
         HidesAlone (answer_of whole.now).resolution (answer_of a).resolution) }
     ensures refused { IfErr result (λ e. e ≡ Memory) }
 {
-    let resolved = resolver.parse(alloc, manifest)?;
-    Ok(resolved)
+    resolver.parse(alloc, manifest)
 }
 
 /// Resolves the features of a manifest twice: first with none removed, then by this filter.
 ///
-/// The second answer has no name of a feature that the filter refuses, and what it has enables what
-/// it does in the first. The one refusal is [`Error::Memory`].
+/// Each is the answer to the manifest by its filter. The second has no name of a feature that the
+/// filter refuses, and what it has enables what it does in the first. The one refusal is
+/// [`Error::Memory`].
 pub fn resolve_by<'m, M, F: Fn(&str) -> bool>(
     alloc: Global,
     manifest: &'m Manifest<M>,
     filter: &F,
 ) -> Result<(Answer<'m>, Answer<'m>), Error>
     requires { IsNameFilter F.Fn filter.now }
+    ensures whole { IfOk result (λ p.
+        IsParsed MAX_ITEMS (held manifest.now) (λ _. true) (answer_of p.0)) }
+    ensures resolved { IfOk result (λ p. IsParsedBy MAX_ITEMS
+        (held manifest.now) F.Fn (Some filter.entry) (answer_of p.1)) }
     ensures removed { IfOk result (λ p. (r : Text) → IsSome ((answer_of p.1).redirects r)
         ↔ IsRemovedBy F.Fn (Some filter.entry)
         (parsed_table MAX_ITEMS (held manifest.now)) r) }

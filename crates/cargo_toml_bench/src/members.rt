@@ -1,11 +1,12 @@
 //! Features of members of a workspace, once these are completed.
 ghost use Rattle.std.specs.Prelude.{◌≡◌, ◌⊎◌, false, IfErr, IfOk, OnOk, option_map};
 ghost use Rattle.cargo_toml.specs.Choosing.{handed_of, roots_of};
+ghost use Rattle.cargo_toml.specs.Completed.{IsCompleted};
 ghost use Rattle.cargo_toml.specs.Error.{Memory};
 ghost use Rattle.cargo_toml.specs.InheritedManifests.{needs};
 ghost use Rattle.cargo_toml.specs.Manifests.{held};
 ghost use Rattle.cargo_toml.specs.Refusing.{IsRefusedBy, MayLose};
-ghost use Rattle.cargo_toml_bench.specs.Members.{IsToldOfMember};
+ghost use Rattle.cargo_toml_bench.specs.Members.{IsFeatureCount, IsToldOfMember};
 
 use crate::enabled::enables_among;
 use cargo_toml::features::{Resolver, complete_and_parse_into};
@@ -15,7 +16,8 @@ use std::alloc::Global;
 /// Completes a member, and answers whether it then has the first of two features and asking for
 /// that enables the second.
 ///
-/// Refuses as completion does, with [`Error::Memory`] where there was no room.
+/// Refuses as completion does, with [`Error::Memory`] where there was no room. A refusal leaves the
+/// member as it was, unless it is `Error::Memory`: then the member may be completed.
 pub fn enables_in_member<Fs: AbstractFilesystem + Drop>(
     alloc: Global,
     member: &mut Manifest,
@@ -23,33 +25,51 @@ pub fn enables_in_member<Fs: AbstractFilesystem + Drop>(
     workspace: Option<(&Manifest, &str)>,
     names: (&str, &str),
 ) -> Result<bool, Error>
-    ensures answer { IfOk result (IsToldOfMember (held member.old)
-        (option_map handed_of workspace.entry)
-        (roots_of Fs.Roots.ARE_READ (Fs.root_for files))
-        (Fs.names_at files) names.entry.0.now names.entry.1.now) }
+    ensures answer { IfOk result
+        (IsToldOfMember (held member.new) names.entry.0.now names.entry.1.now) }
+    ensures completed { OnOk result
+        (IsCompleted member.old (option_map handed_of workspace.entry)
+        (roots_of Fs.Roots.ARE_READ (Fs.root_for files)) (Fs.names_at files) member.new) }
+    ensures left { IfErr result (λ e. (member.new ≡ member.old)
+        ⊎ ((e ≡ Memory) × IsCompleted member.old (option_map handed_of workspace.entry)
+        (roots_of Fs.Roots.ARE_READ (Fs.root_for files)) (Fs.names_at files) member.new)) }
     ensures refused { IfErr result
         (IsRefusedBy (held member.old) (option_map handed_of workspace.entry)
         (roots_of Fs.Roots.ARE_READ (Fs.root_for files))
         (MayLose Fs.Roots.ARE_READ (Fs.may_refuse_root files)) (Fs.may_refuse files)) }
 {
+    let mut slot = None;
     let resolver = Resolver::new();
-    let (_completed, resolved) = resolver.complete_and_parse(alloc, member, files, workspace)?;
-    enables_among(alloc, &resolved, names.0, names.1)
+    complete_and_parse_into(member, &resolver, alloc, files, workspace, &mut slot);
+    match slot {
+        Some(Ok(resolved)) => enables_among(alloc, &resolved, names.0, names.1),
+        Some(Err(fault)) => Err(fault),
+        None => unreachable!(),
+    }
 }
 
-/// Completes a member, and counts the features that it then has.
+/// Completes a member, and counts the features that it then has, without the hidden ones.
 ///
-/// A refusal leaves the member as it was, unless it is `Error::Memory`: then the member may be
-/// completed.
+/// Refuses as completion does, with [`Error::Memory`] where there was no room. A refusal leaves the
+/// member as it was, unless it is `Error::Memory`: then the member may be completed.
 pub fn count_features<Fs: AbstractFilesystem + Drop>(
     alloc: Global,
     member: &mut Manifest,
     files: Fs,
     workspace: Option<(&Manifest, &str)>,
 ) -> Result<usize, Error>
+    ensures counted { IfOk result (IsFeatureCount (held member.new)) }
+    ensures completed { OnOk result
+        (IsCompleted member.old (option_map handed_of workspace.entry)
+        (roots_of Fs.Roots.ARE_READ (Fs.root_for files)) (Fs.names_at files) member.new) }
     ensures nothing_left { OnOk result (needs (held member.new) ≡ false) }
     ensures left { IfErr result (λ e. (member.new ≡ member.old)
-        ⊎ ((e ≡ Memory) × (needs (held member.new) ≡ false))) }
+        ⊎ ((e ≡ Memory) × IsCompleted member.old (option_map handed_of workspace.entry)
+        (roots_of Fs.Roots.ARE_READ (Fs.root_for files)) (Fs.names_at files) member.new)) }
+    ensures refused { IfErr result
+        (IsRefusedBy (held member.old) (option_map handed_of workspace.entry)
+        (roots_of Fs.Roots.ARE_READ (Fs.root_for files))
+        (MayLose Fs.Roots.ARE_READ (Fs.may_refuse_root files)) (Fs.may_refuse files)) }
 {
     let mut slot = None;
     let resolver = Resolver::new();

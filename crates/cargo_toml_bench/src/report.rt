@@ -1,5 +1,5 @@
 //! A report of a manifest: its optional dependencies, and its features that nothing enables.
-mod print;
+pub(crate) mod print;
 
 ghost use Rattle.std.specs.Prelude.{◌≡◌, IfErr, IfOk};
 ghost use Rattle.cargo_toml.specs.Error.{Memory};
@@ -80,7 +80,7 @@ pub fn unreferenced_features<'m, M>(
     Ok(in_order(alloc, &names)?)
 }
 
-// The names of the features of a map that name no feature that enables them, except `default`.
+// The names of a map's features without enablers, except `default`.
 fn unreferenced_names<'m, S: BuildHasher>(
     alloc: Global,
     features: &HashMap<&'m str, Feature<'m>, S>,

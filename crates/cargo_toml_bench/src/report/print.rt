@@ -46,7 +46,8 @@ fn report_of(alloc: Global, bytes: &[u8]) -> Result<String, Error>
     Ok(report_text(alloc, &report)?)
 }
 
-fn read(alloc: Global, bytes: &[u8]) -> Result<HeldManifest, Error>
+// The manifest that the bytes spell.
+pub(crate) fn read(alloc: Global, bytes: &[u8]) -> Result<HeldManifest, Error>
     ensures manifest { IfOk result
         (λ h. Spells bytes.now (manifest_meaning view h.manifest.value)) }
     ensures refused { IfErr result (RefusesBytes bytes.now) }

@@ -1,23 +1,27 @@
-use Rattle.std.proofs.Common.{false}
+use Rattle.std.proofs.Common.{false, Some, ap, ◌∙◌}
 use Rattle.std.proofs.lemmas.Result.{IfOk-weaker}
-use Rattle.cargo_toml.specs.Manifests.{manifest_meaning}
+use Rattle.cargo_toml.specs.Limits.{MAX_ITEMS}
+use Rattle.cargo_toml.specs.Manifests.{held}
+use Rattle.cargo_toml.specs.Parsed.{IsParsed}
 use Rattle.cargo_toml.specs.Views.{answer_of}
-use Rattle.cargo_toml_bench.proofs.AtLimit.{parsed_at}
-use Rattle.cargo_toml_bench.proofs.Filters.{keeps_none}
+use Rattle.cargo_toml_bench.proofs.LeftMember.{parsed_of_left}
 use Rattle.cargo_toml_bench.proofs.members.enables_in_member.Goals as goal
 
-pub returns-clause-answer : goal.returns-clause-answer
-returns-clause-answer g c =
-    let m = manifest_meaning (λ m. m) c.in_ok-_completed._completed.now in
+pub returns-in-Some-Ok-clause-answer : goal.returns-in-Some-Ok-clause-answer
+returns-in-Some-Ok-clause-answer g c =
     let made = c.new-resolver.ensures in
-    let tells = keeps_none _ c.new-resolver.result.should_keep_hidden_feature made.unfiltered in
-    let resolved = answer_of c.in_ok-_completed.resolved in
+    let resolver = c.new-resolver.result in
+    let into = c.complete_and_parse_into in
+    let resolved = c.in-Some-Ok.resolved in
+    let member = into.follows.lender-at-none in
+    let parsed : IsParsed MAX_ITEMS (held member) (λ _. false) (answer_of resolved) =
+    parsed_of_left c.args.member.now member _ resolver.should_keep_hidden_feature
+    resolver.max_items made.unfiltered made.limit into.result into.new.slot resolved
+    into.follows.holds-at-none (c.in-Some-Ok.is ∙ ap Some c.in-Some-Ok.field-0-is)
+    into.ensures.answered into.ensures.resolved in
     IfOk-weaker c.enables_among.result _ _ (λ answer told. record {
-      completed = m;
-      given = c.in_ok-_completed.ensures.completed.given;
-      resolved = resolved;
-      parsed = parsed_at m (λ _. false) resolved made.limit
-          (c.in_ok-_completed.ensures.resolved.told (λ _. false) tells);
+      resolved = answer_of resolved;
+      parsed = parsed;
       exact = told;
     })
     c.enables_among.ensures.answer

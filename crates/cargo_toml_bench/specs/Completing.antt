@@ -1,0 +1,52 @@
+-- A member that is completed from a workspace which bytes spell.
+use Rattle.std.specs.Prelude.{◌⊎◌, ℕ, List, Option, Some}
+use Rattle.toml.specs.View.{view}
+use Rattle.toml.specs.declared.value.Value.{Value}
+use Rattle.cargo_toml.specs.Choosing.{Handed, RootsTold}
+use Rattle.cargo_toml.specs.Completed.{IsCompleted}
+use Rattle.cargo_toml.specs.Error.{Error}
+use Rattle.cargo_toml.specs.FaultValues.{Fault}
+use Rattle.cargo_toml.specs.Manifest.{Manifest}
+use Rattle.cargo_toml.specs.Manifests.{held, manifest_meaning}
+use Rattle.cargo_toml.specs.Refusing.{IsRefusedBy}
+use Rattle.cargo_toml.specs.Sharing.{shared_of}
+use Rattle.cargo_toml.specs.ToldFolders.{Told}
+use Rattle.cargo_toml_bench.specs.Printing.{RefusesBytes, Spells}
+
+-- the bytes are the text of this manifest
+abbrev pub SpellsManifest : List ℕ → Manifest Value → Type 0
+SpellsManifest bytes m = Spells bytes (manifest_meaning view m)
+
+-- a workspace that is handed in with this path
+abbrev pub handed_at : Manifest Value → List ℕ → Option Handed
+handed_at workspace path = Some (shared_of workspace.workspace, path)
+
+module _ (bytes path : List ℕ) (old : Manifest Value) (roots : RootsTold) where
+  -- completed from the workspace that the bytes spell, by what is stated of roots and of folders
+  pub record IsCompletedFrom (told : List ℕ → Told) (new : Manifest Value) : Type 0 where
+    pub workspace : Manifest Value
+    pub spelled : SpellsManifest bytes workspace
+    pub completed : IsCompleted old (handed_at workspace path) roots told new
+
+  -- why it isn't: the bytes are no manifest, or completion from the one that they spell is refused
+  abbrev pub IsRefusedFrom : (Option (List ℕ) → Fault → Type 0) → (List ℕ → Fault → Type 0)
+      → Error → Type 0
+  IsRefusedFrom lost names e =
+      RefusesBytes bytes e
+      ⊎ ((workspace : Manifest Value) × (SpellsManifest bytes workspace
+      × IsRefusedBy (held old) (handed_at workspace path) roots lost names e))
+
+module _ (member bytes path : List ℕ) (roots : RootsTold) where
+  -- so completed is the member that the first bytes spell
+  pub record IsReadFrom (told : List ℕ → Told) (new : Manifest Value) : Type 0 where
+    pub old : Manifest Value
+    pub spelled : SpellsManifest member old
+    pub completed : IsCompletedFrom bytes path old roots told new
+
+  -- why there is none: those bytes are no manifest, or the one that they spell isn't completed
+  abbrev pub IsUnreadFrom : (Option (List ℕ) → Fault → Type 0) → (List ℕ → Fault → Type 0)
+      → Error → Type 0
+  IsUnreadFrom lost names e =
+      RefusesBytes member e
+      ⊎ ((old : Manifest Value) × (SpellsManifest member old
+      × IsRefusedFrom bytes path old roots lost names e))

@@ -81,10 +81,12 @@ one_less (one ∷ []) name h =
     (ap not (named_first one (name ∷ []) h), (one_less [] name (settled_rest one (name ∷ []) h)).1)
 one_less (one ∷ other ∷ names) name h =
     let more = one_less (other ∷ names) name (settled_rest one (other ∷ (names ++ name ∷ [])) h) in
-    let parts = and_parts (not (is_nothing one)) (not (is_up other && not (is_up one)) && is_settled (other ∷ (names ++ name ∷ []))) h in
-    (and_from (not (is_nothing one)) (not (is_up other && not (is_up one)) && is_settled (other ∷ names)) parts.0
-    (and_from (not (is_up other && not (is_up one))) (is_settled (other ∷ names))
-    (and_parts (not (is_up other && not (is_up one))) (is_settled (other ∷ (names ++ name ∷ []))) parts.1).0 more.0), more.1)
+    let parts = and_parts (not (is_nothing one)) (not (is_up other && not (is_up one)) && is_settled (other ∷ (names ++ name ∷ []))) h in (
+      and_from (not (is_nothing one)) (not (is_up other && not (is_up one)) && is_settled (other ∷ names)) parts.0
+          (and_from (not (is_up other && not (is_up one))) (is_settled (other ∷ names))
+          (and_parts (not (is_up other && not (is_up one))) (is_settled (other ∷ (names ++ name ∷ []))) parts.1).0 more.0),
+      more.1,
+    )
 
 -- a name that takes none back
 pub one_more : (names : List Text) (name : Text) → is_settled names ≡ true → is_nothing name ≡ false → (is_up name && ends_in_name names) ≡ false

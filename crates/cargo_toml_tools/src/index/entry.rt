@@ -85,7 +85,12 @@ fn put_wanted(
     put_texts(alloc, entry, "features", dependency.req_features())?;
     put(entry, alloc, "optional", Value::from(dependency.optional()))?;
     let default_features = has_default(dependency);
-    put(entry, alloc, "default_features", Value::from(default_features))
+    put(
+        entry,
+        alloc,
+        "default_features",
+        Value::from(default_features),
+    )
 }
 
 /// The requirement on the version, as the index has it: `*` is any.

@@ -1,13 +1,18 @@
 -- The lines of a report.
-use Rattle.std.proofs.Common.{◌≡◌, ◌<◌, ◌≤◌, ◌+◌, ◌++◌, ◌∙◌, ◌&&◌, ℕ, Bool, List, [], ◌∷◌, false, true, Option, Some, None, String}
-use Rattle.std.proofs.Common.{Bor, Global, IsUtf8, ap, append_assoc, arith, codes, get_or, length, lit<, option_map, refl, string_bytes, sym, take}
+use Rattle.std.proofs.Common.{◌≡◌, ◌<◌, ◌≤◌, ◌+◌, ◌++◌, ◌∙◌, ◌&&◌, ℕ, Bool, List, [], ◌∷◌, false}
+use Rattle.std.proofs.Common.{true, Option, Some, None, String}
+use Rattle.std.proofs.Common.{Bor, Global, IsUtf8, ap, append_assoc, arith, codes, get_or, length}
+use Rattle.std.proofs.Common.{lit<, option_map, refl, string_bytes, sym, take}
 use Rattle.std.specs.Prelude.{nat_eq, unwrap_or}
 use Rattle.std.proofs.lemmas.Bool.{and_from, and_parts, cond-false, ne_eqb, true≢false}
 use Rattle.std.proofs.lemmas.List.{append-nil, flat_map_more, length-take-le, take_all, take_more}
 use Rattle.std.proofs.lemmas.Str.{IsUtf8-string_bytes, encode_ascii}
 use Rattle.std.specs.List.{concat, flat_map, list_all}
 use Rattle.cargo_toml_tools.specs.declared.audit.Code.{Code}
-use Rattle.cargo_toml_tools.specs.declared.audit.Code.TheVariants.{Incomplete, ListedTwice, OtherEdition, OtherLicense, Outside, SeveralRequirements, UnusedDependency}
+use Rattle.cargo_toml_tools.specs.declared.audit.Code.TheVariants.{Incomplete, ListedTwice}
+use Rattle.cargo_toml_tools.specs.declared.audit.Code.TheVariants.{OtherEdition, OtherLicense}
+use Rattle.cargo_toml_tools.specs.declared.audit.Code.TheVariants.{Outside, SeveralRequirements}
+use Rattle.cargo_toml_tools.specs.declared.audit.Code.TheVariants.{UnusedDependency}
 use Rattle.cargo_toml_tools.specs.declared.audit.Finding.{Finding}
 use Rattle.cargo_toml_tools.specs.declared.audit.Member.{Member}
 use Rattle.cargo_toml_tools.specs.declared.escape.Format.TheVariants.{Line}
@@ -116,7 +121,8 @@ key_more keys i k base old mid new c t within is says one reads other held =
     ∙ ap (λ b. base ++ b) (sym (one_more before k)
     ∙ ap (λ x. so_far (before ++ (x ∷ []))) is ∙ ap so_far (sym (take_more keys i k within)))
 
-all_keys : (keys : List (String Global)) → nat_eq (length keys) 0 ≡ false → so_far keys ≡ keys_text keys
+all_keys : (keys : List (String Global)) → nat_eq (length keys) 0 ≡ false
+    → so_far keys ≡ keys_text keys
 all_keys [] e = absurd (true≢false e)
 all_keys (k ∷ ks) e = refl
 

@@ -27,7 +27,8 @@ returns c =
     (goes_on old one new _ _ c.in_ok-push_place.ensures
     (goes_on one two new _ _ (c.in_ok-push_str.ensures.bytes ∙ ap (λ t. one ++ t) c.name.ensures)
     (goes_on two three new (codes " | ") _ c.in_ok-push_str-2.ensures.bytes
-    (goes_on three four new _ _ (c.in_ok-push_str-3.ensures.bytes ∙ ap (λ t. three ++ t) c.name-2.ensures)
+    (goes_on three four new _ _
+    (c.in_ok-push_str-3.ensures.bytes ∙ ap (λ t. three ++ t) c.name-2.ensures)
     (goes_on four five new (codes " | ") _ c.in_ok-push_str-4.ensures.bytes
     (goes_on five six new _ _ c.in_ok-push_escaped.ensures.exact
     (goes_on six seven new (codes " | ") _ c.in_ok-push_str-5.ensures.bytes

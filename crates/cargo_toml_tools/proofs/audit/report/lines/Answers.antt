@@ -18,7 +18,8 @@ pub loop-finding-preserved : goal.loop-finding-preserved
 loop-finding-preserved c =
     let one = rest_more deref _ _ _ c.in-Some.finding c.in-Some.is c.next.ensures.steps in
     rest_less (with_end finding_line) c.loop-finding.finding-iterator c.next.new.self
-    c.in-Some.finding.now (string_bytes c.loop-finding.text) (string_bytes c.push_finding.new.text) _
+    c.in-Some.finding.now (string_bytes c.loop-finding.text)
+    (string_bytes c.push_finding.new.text) _
     one c.in_ok-push_finding.ensures c.loop-finding.invariant
 
 pub returns : goal.returns

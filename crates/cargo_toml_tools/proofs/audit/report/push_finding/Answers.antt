@@ -22,8 +22,10 @@ returns c =
     (goes_on old one new (codes "finding ") _ c.in_ok-push_str.ensures.bytes
     (goes_on one two new _ _ (c.in_ok-push_str-2.ensures.bytes ∙ ap (λ w. one ++ w) c.word.ensures)
     (goes_on two three new _ _
-    (of_column two three c.as_str.result.now subject c.as_str.ensures.value c.in_ok-push_cell.ensures)
+    (of_column two three c.as_str.result.now subject c.as_str.ensures.value
+    c.in_ok-push_cell.ensures)
     (goes_on three four new _ _
-    (of_column three four c.as_str-2.result.now words c.as_str-2.ensures.value c.in_ok-push_cell-2.ensures)
+    (of_column three four c.as_str-2.result.now words c.as_str-2.ensures.value
+    c.in_ok-push_cell-2.ensures)
     last)))))
     (ended_if c.push_str-3.result four new (10 ∷ []) c.push_str-3.ensures.bytes)

@@ -33,18 +33,26 @@ returns c =
     ∷ keys_text m.inherits.items ∷ [])
     (goes_on old one new (codes "member ") _ c.in_ok-push_str.ensures.bytes
     (goes_on one two new _ _
-    (of_text Line one two c.as_str.result.now folder c.as_str.ensures.value c.in_ok-push_escaped.ensures.exact)
+    (of_text Line one two c.as_str.result.now folder c.as_str.ensures.value
+    c.in_ok-push_escaped.ensures.exact)
     (goes_on two three new _ _
-    (of_column two three c.as_str-2.result.now name c.as_str-2.ensures.value c.in_ok-push_cell.ensures)
+    (of_column two three c.as_str-2.result.now name c.as_str-2.ensures.value
+    c.in_ok-push_cell.ensures)
     (goes_on three four new _ _
-    (of_column three four c.as_str-3.result.now version c.as_str-3.ensures.value c.in_ok-push_cell-2.ensures)
+    (of_column three four c.as_str-3.result.now version c.as_str-3.ensures.value
+    c.in_ok-push_cell-2.ensures)
     (goes_on four five new _ _
-    (of_column four five c.as_str-4.result.now edition c.as_str-4.ensures.value c.in_ok-push_cell-3.ensures)
+    (of_column four five c.as_str-4.result.now edition c.as_str-4.ensures.value
+    c.in_ok-push_cell-3.ensures)
     (goes_on five six new _ _
-    (of_column five six c.or_dash.result.now rust_version c.or_dash.ensures c.in_ok-push_cell-4.ensures)
+    (of_column five six c.or_dash.result.now rust_version c.or_dash.ensures
+    c.in_ok-push_cell-4.ensures)
     (goes_on six seven new _ _
-    (of_column six seven c.or_dash-2.result.now license c.or_dash-2.ensures c.in_ok-push_cell-5.ensures)
+    (of_column six seven c.or_dash-2.result.now license c.or_dash-2.ensures
+    c.in_ok-push_cell-5.ensures)
     (goes_on seven eight new _ _
-    (of_column seven eight c.as_str-5.result.now publish c.as_str-5.ensures.value c.in_ok-push_cell-6.ensures)
-    (last ∙ ap (λ ks. eight ++ (codes " | " ++ (keys_text ks ++ 10 ∷ []))) c.as_slice.ensures.value))))))))))
+    (of_column seven eight c.as_str-5.result.now publish c.as_str-5.ensures.value
+    c.in_ok-push_cell-6.ensures)
+    (last ∙ ap (λ ks. eight ++ (codes " | " ++ (keys_text ks ++ 10 ∷ [])))
+    c.as_slice.ensures.value))))))))))
     c.push_keys.ensures

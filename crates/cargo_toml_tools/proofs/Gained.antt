@@ -1,13 +1,12 @@
 -- Findings, with one more or with several.
-use Rattle.std.proofs.Common.{◌≡◌, ◌⊎◌, ◌++◌, ◌&&◌, Bool, true, false, cond, Ordering, Less, Equal, Greater, List, [], ◌∷◌, String, Global, map, bytes_eq, string_bytes, refl, sym, ap, subst, inl, inr, ◌∙◌}
+use Rattle.std.proofs.Common.{◌≡◌, ◌⊎◌, Ordering, Less, Equal, Greater, List, [], ◌∷◌, String, Global, map, string_bytes, refl, sym, ap, subst, inl, inr, ◌∙◌}
 use Rattle.std.proofs.lemmas.Bool.{and_parts}
 use Rattle.std.proofs.lemmas.Slice.Eq.{bytes_eq-Decides}
-use Rattle.std.specs.Prelude.{filter}
 use Rattle.std.specs.BTreeSet.{BTreeSet, insert_key}
 use Rattle.std.specs.Ordering.{is_eq, match_ordering}
 use Rattle.cargo_toml.specs.Action.{Text}
 use Rattle.cargo_toml.specs.Reach.{Among}
-use Rattle.cargo_toml_tools.specs.Oddities.{AreFound, Gains, IsFound, Oddity, is_outside, oddity_of, oddity_with, outsider_of}
+use Rattle.cargo_toml_tools.specs.Oddities.{AreFound, Gains, IsFound, Oddity, oddity_of, oddity_with}
 use Rattle.cargo_toml_tools.specs.contracts.audit.Code.{the_type}
 use Rattle.cargo_toml_tools.specs.contracts.audit.FindingOrd.TheImpl as finding_order
 use Rattle.cargo_toml_tools.specs.contracts.audit.FindingOrd.TheImpl.Laws as laws
@@ -118,23 +117,10 @@ module _ {P : Oddity → Type 0} where
     within = λ x i. go.within x (subst (λ (os : List Oddity). Among os x) (sym is) (inr i));
   }
 
-  pub going_past : (o : Oddity) (left whole : List Oddity) (a b : BTreeSet Finding) → whole ≡ o ∷ left
-      → Going P whole a b → Going P left a b
-  going_past o left whole a b is go = record {
-    gains = go.gains;
-    within = λ x i. go.within x (subst (λ (os : List Oddity). Among os x) (sym is) (inr i));
-  }
-
 -- all of a list, where these are left
 pub record Adding (all left : List Oddity) (old new : BTreeSet Finding) : Type 0 where
   pub go : Going (Among all) left old new
   pub rest : (o : Oddity) → Among all o → IsFound new o ⊎ Among left o
-
-pub adding_none : (all left : List Oddity) (s : BTreeSet Finding) → left ≡ all → Adding all left s s
-adding_none all left s is = record {
-  go = record { gains = gains_none s s refl; within = λ x i. subst (λ (os : List Oddity). Among os x) is i };
-  rest = λ x i. inr (subst (λ (os : List Oddity). Among os x) (sym is) i);
-}
 
 pub adding_on : (all : List Oddity) (o p : Oddity) (left whole : List Oddity) (a b c : BTreeSet Finding) → whole ≡ o ∷ left → p ≡ o
     → Adding all whole a b → Gains (λ x. x ≡ p) b c → IsFound c p → Adding all left a c
@@ -149,20 +135,6 @@ adding_on all o p left whole a b c is same before one there = record {
   ];
 }
 
-pub adding_same : (all left whole : List Oddity) (a b : BTreeSet Finding) → whole ≡ left → Adding all whole a b → Adding all left a b
-adding_same all left whole a b is before = subst (λ (os : List Oddity). Adding all os a b) is before
-
--- what the call adds that was refused while one was added
-pub adding_refused : (all : List Oddity) (o p : Oddity) (left whole : List Oddity) (a b c : BTreeSet Finding) → whole ≡ o ∷ left → p ≡ o
-    → Adding all whole a b → Gains (λ x. x ≡ p) b c → Gains (Among all) a c
-adding_refused all o p left whole a b c is same before one = (going_on o p left whole a b c is same before.go one).gains
-
-pub all_added : (all left : List Oddity) (a b : BTreeSet Finding) → left ≡ [] → Adding all left a b → AreFound b all
-all_added all left a b none before = λ o i. elim (before.rest o i) [
-  | inl h ↦ h
-  | inr j ↦ absurd (subst (λ (os : List Oddity). Among os o) none j)
-]
-
 pub just_one : (b : BTreeSet Finding) (o p : Oddity) → p ≡ o → IsFound b p → AreFound b (o ∷ [])
 just_one b o p same h = λ x i. elim i [ inl e ↦ subst (λ (y : Oddity). IsFound b y) (same ∙ sym e) h | inr j ↦ absurd j ]
 
@@ -170,39 +142,7 @@ just_one b o p same h = λ x i. elim i [ inl e ↦ subst (λ (y : Oddity). IsFou
 pub same_with : (code : Code) (s t w v : Text) → s ≡ t → w ≡ v → oddity_with code s w ≡ oddity_with code t v
 same_with code s t w v e f = λ i. oddity_with code (e i) (f i)
 
-pub one_outside : (k : Text) (ks : List Text) (b : Bool) → b ≡ is_outside k → b ≡ true
-    → map outsider_of (filter is_outside (k ∷ ks)) ≡ outsider_of k ∷ map outsider_of (filter is_outside ks)
-one_outside k ks b is holds = ap (λ b. map outsider_of (cond b (k ∷ filter is_outside ks) (filter is_outside ks))) (sym is ∙ holds)
-
-pub not_outside : (k : Text) (ks : List Text) (b : Bool) → b ≡ is_outside k → b ≡ false
-    → map outsider_of (filter is_outside (k ∷ ks)) ≡ map outsider_of (filter is_outside ks)
-not_outside k ks b is fails = ap (λ b. map outsider_of (cond b (k ∷ filter is_outside ks) (filter is_outside ks))) (sym is ∙ fails)
-
 pub keys_meaning : {X Y : Type 0} (f : X → Y) (es : List (String Global × X))
     → map string_bytes (map (λ e. e.0) es) ≡ map (λ (e : Text × Y). e.0) (map (λ e. (string_bytes e.0, f e.1)) es)
 keys_meaning f [] = refl
 keys_meaning f (e ∷ es) = ap (λ t. string_bytes e.0 ∷ t) (keys_meaning f es)
-
--- ---- two lists, one after the other
-pub among_left : (xs ys : List Oddity) (o : Oddity) → Among xs o → Among (xs ++ ys) o
-among_left [] ys o i = absurd i
-among_left (x ∷ xs) ys o (inl e) = inl e
-among_left (x ∷ xs) ys o (inr i) = inr (among_left xs ys o i)
-
-pub among_right : (xs ys : List Oddity) (o : Oddity) → Among ys o → Among (xs ++ ys) o
-among_right [] ys o i = i
-among_right (x ∷ xs) ys o i = inr (among_right xs ys o i)
-
-among_parts : (xs ys : List Oddity) (o : Oddity) → Among (xs ++ ys) o → Among xs o ⊎ Among ys o
-among_parts [] ys o i = inr i
-among_parts (x ∷ xs) ys o (inl e) = inl (inl e)
-among_parts (x ∷ xs) ys o (inr i) = elim (among_parts xs ys o i) [ inl j ↦ inl (inr j) | inr j ↦ inr j ]
-
-pub gains_left : (xs ys : List Oddity) (a b : BTreeSet Finding) → Gains (Among xs) a b → Gains (Among (xs ++ ys)) a b
-gains_left xs ys a b one = gains_wider a b (among_left xs ys) one
-
-pub gains_both : (xs ys : List Oddity) (a b c : BTreeSet Finding) → Gains (Among xs) a b → Gains (Among ys) b c → Gains (Among (xs ++ ys)) a c
-gains_both xs ys a b c one two = gains_on a b c (gains_left xs ys a b one) (gains_wider b c (among_right xs ys) two)
-
-pub found_both : (xs ys : List Oddity) (b c : BTreeSet Finding) → AreFound b xs → Gains (Among ys) b c → AreFound c ys → AreFound c (xs ++ ys)
-found_both xs ys b c one more two = λ o i. elim (among_parts xs ys o i) [ inl j ↦ more.kept o (one o j) | inr j ↦ two o j ]

@@ -1,5 +1,5 @@
 -- Keys that are left to a workspace, one after the other.
-use Rattle.std.proofs.Common.{◌≡◌, ◌+◌, ◌<◌, ◌≤◌, ◌++◌, ℕ, Bool, true, false, not, cond, List, [], ◌∷◌, Option, Some, None, map, take, length, get_or, Bor, option_map, refl, sym, ap, append_assoc, append-nil, ◌∙◌}
+use Rattle.std.proofs.Common.{◌≡◌, ◌+◌, ◌<◌, ◌≤◌, ◌++◌, ℕ, Bool, true, false, cond, List, [], ◌∷◌, Option, Some, None, map, take, length, get_or, Bor, option_map, refl, sym, ap, append_assoc, append-nil, ◌∙◌}
 use Rattle.std.proofs.lemmas.List.{map-append, map_more, take_all}
 use Rattle.std.proofs.lemmas.List.Concat.{flat_map-append}
 use Rattle.std.proofs.lemmas.List.Elements.{filter-append}
@@ -39,12 +39,6 @@ first_left table e es = elim (is_left e.1) as
     (λ b. map (λ (e : Text × DependencyMeaning). table ++ codes "." ++ e.0) (cond b (e ∷ filter (λ e. is_left e.1) es) (filter (λ e. is_left e.1) es))
     ≡ map (λ (e : Text × DependencyMeaning). table ++ codes "." ++ e.0) (cond b (e ∷ []) []) ++ left_in table es)
     [ true ↦ refl | false ↦ refl ]
-
-pub one_left : (table : Text) (e : Text × DependencyMeaning) (b : Bool) → b ≡ is_left e.1 → b ≡ true → left_in table (e ∷ []) ≡ (table ++ codes "." ++ e.0) ∷ []
-one_left table e b is holds = ap (λ b. map (λ (e : Text × DependencyMeaning). table ++ codes "." ++ e.0) (cond b (e ∷ []) [])) (sym is ∙ holds)
-
-pub not_left : (table : Text) (e : Text × DependencyMeaning) (b : Bool) → b ≡ is_left e.1 → b ≡ false → left_in table (e ∷ []) ≡ []
-not_left table e b is fails = ap (λ b. map (λ (e : Text × DependencyMeaning). table ++ codes "." ++ e.0) (cond b (e ∷ []) [])) (sym is ∙ fails)
 
 -- ---- three tables, and those of targets
 pub three : (keys one two end a b c : List Text) → one ≡ keys ++ a → two ≡ one ++ b → end ≡ two ++ c → end ≡ keys ++ (a ++ (b ++ (c ++ [])))
@@ -89,9 +83,3 @@ rows_more rows i d keys old new lt before added =
 pub rows_all : (rows : List (Bor Text × Bool)) (i : ℕ) (keys new : List Text) → length rows ≤ i
     → new ≡ keys ++ left_rows (map row_of (take i rows)) → new ≡ keys ++ left_rows (map row_of rows)
 rows_all rows i keys new past before = before ∙ ap (λ (rs : List (Bor Text × Bool)). keys ++ left_rows (map row_of rs)) (take_all i rows past)
-
-pub one_row : (key : Text) (b : Bool) → b ≡ true → left_rows ((key, b) ∷ []) ≡ key ∷ []
-one_row key b holds = ap (λ b. left_rows ((key, b) ∷ [])) holds
-
-pub no_row : (key : Text) (b : Bool) → b ≡ false → left_rows ((key, b) ∷ []) ≡ []
-no_row key b fails = ap (λ b. left_rows ((key, b) ∷ [])) fails

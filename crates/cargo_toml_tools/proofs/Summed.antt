@@ -1,8 +1,8 @@
 -- What a report tells of a member, and why it tells nothing.
-use Rattle.std.proofs.Common.{◌≡◌, ◌⊎◌, ◌++◌, ◌||◌, Bool, true, false, List, [], ◌∷◌, Option, Some, None, Result, Ok, Err, String, Global, map, option_map, string_bytes, refl, sym, ap, subst, inl, inr, ◌∙◌}
+use Rattle.std.proofs.Common.{◌≡◌, ◌++◌, ◌||◌, Bool, false, List, [], ◌∷◌, Option, Some, None, Result, Ok, Err, String, Global, map, option_map, string_bytes, refl, sym, ap, subst, inl, inr, ◌∙◌}
 use Rattle.std.proofs.lemmas.Bool.{or_left, or_right}
 use Rattle.std.proofs.lemmas.Option.{none-some}
-use Rattle.std.specs.Prelude.{◌↔◌, IfErr, IsErrAnd, IsTrue, codes, option_and_then}
+use Rattle.std.specs.Prelude.{◌↔◌, IfErr, IsErrAnd, IsTrue, codes}
 use Rattle.std.specs.List.{flat_map, join_by}
 use Rattle.std.specs.Option.{option_map_or}
 use Rattle.cargo_toml.specs.Action.{Text}
@@ -16,7 +16,7 @@ use Rattle.cargo_toml.specs.InheritedPackages.{field_is_left, is_left_there}
 use Rattle.cargo_toml.specs.Inherits.{inheritable_map}
 use Rattle.cargo_toml.specs.Manifests.{ManifestMeaning}
 use Rattle.cargo_toml.specs.Packages.{PackageMeaning}
-use Rattle.cargo_toml_tools.specs.Audited.{IsMemberOf, IsNoPackage, IsUnknown, IsUntold, leaves_told, names_text}
+use Rattle.cargo_toml_tools.specs.Audited.{IsNoPackage, IsUnknown, IsUntold, leaves_told, names_text}
 
 -- the text of a value that is known
 pub known_text : {X Y : Type 0} (f : X → Y) (text : Y → Text) (x : Inheritable X) (v : X) (t : Text) → value_of x ≡ Some v → t ≡ text (f v)
@@ -97,9 +97,3 @@ with_package (Err e) left o p is u = (λ h. absurd (not_unknown left e u h), λ 
 
 pub untold : {M : Type 0} (m : ManifestMeaning M) (p : PackageMeaning M) (e : Error) → m.«package» ≡ Some p → IsUnknown (leaves_told p) e → IsUntold m e
 untold m p e is u = inr (wider (leaves_told p) (option_map_or leaves_told m.«package» false) e (λ t. ap (λ o. option_map_or leaves_told o false) is ∙ t) u)
-
--- out of memory, once a member is told
-pub out_of_memory : {T P M : Type 0} (f : P → PackageMeaning M) (r : Result T Error) (o : Option P) (p : PackageMeaning M) → option_map f o ≡ Some p
-    → IsErrAnd r (λ e. e ≡ Memory) → IsErrAnd r IsNoPackage ↔ (o ≡ None)
-out_of_memory f (Ok x) o p is h = absurd h
-out_of_memory f (Err e) o p is h = (λ n. absurd (not_memory e h n), λ none. absurd (none-some p (sym (ap (option_map f) none) ∙ is)))

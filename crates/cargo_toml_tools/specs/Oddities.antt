@@ -1,11 +1,10 @@
 -- What a report finds odd, and what each call adds to that.
 use Rattle.std.specs.Prelude.{◌≡◌, ◌⊎◌, ◌++◌, ◌||◌, Bool, List, [], ◌∷◌, Option, Some, None}
 use Rattle.std.specs.Prelude.{if◌then◌else◌, map, codes, bytes_eq, nat_eq, filter, option_map}
-use Rattle.std.specs.Prelude.{option_and_then, unwrap_or, string_bytes, String}
+use Rattle.std.specs.Prelude.{option_and_then, unwrap_or, string_bytes}
 use Rattle.std.specs.BTreeSet.{BTreeSet}
 use Rattle.std.specs.List.{starts_with}
 use Rattle.std.specs.Option.{option_map_or}
-use Rattle.std.specs.declared.alloc.Global.{Global}
 use Rattle.cargo_toml.specs.Action.{Text}
 use Rattle.cargo_toml.specs.InheritableValues.{value_of}
 use Rattle.cargo_toml.specs.InheritedDependencies.{Entries}

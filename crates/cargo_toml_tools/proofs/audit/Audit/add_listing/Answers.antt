@@ -1,9 +1,9 @@
-use Rattle.std.proofs.Common.{◌++◌, ◌∷◌, ◌∙◌, [], ap, map, refl, string_bytes}
-use Rattle.std.proofs.lemmas.Map.Iter.{rest_all, rest_more}
+use Rattle.std.proofs.Common.{◌++◌, ◌∙◌, ap, map, string_bytes}
+use Rattle.std.proofs.lemmas.Map.Iter.{rest_more}
 use Rattle.std.specs.Map.Iter.{deref}
 use Rattle.std.specs.Prelude.{filter}
 use Rattle.cargo_toml_tools.specs.Oddities.{is_outside, outsider_of, repeat_of}
-use Rattle.cargo_toml_tools.proofs.Gained.{adding_none, adding_on, adding_refused, adding_same, all_added, not_outside, one_outside, same_with}
+use Rattle.cargo_toml_tools.proofs.Gained.{adding_on, same_with}
 use Rattle.cargo_toml_tools.proofs.audit.Audit.add_listing.Goals as goal
 
 pub loop-folder-preserved : goal.loop-folder-preserved

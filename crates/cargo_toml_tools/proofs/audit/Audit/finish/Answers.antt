@@ -1,7 +1,7 @@
 use Rattle.std.proofs.Common.{◌∙◌, ap, inl, map, refl, string_bytes, subst}
 use Rattle.cargo_toml.specs.Dependencies.{dependency_meaning}
 use Rattle.cargo_toml.specs.Reach.{Among}
-use Rattle.cargo_toml_tools.specs.Oddities.{Oddity, unused_of}
+use Rattle.cargo_toml_tools.specs.Oddities.{unused_of}
 use Rattle.cargo_toml_tools.proofs.Gained.{gains_none, keys_meaning}
 use Rattle.cargo_toml_tools.proofs.audit.Audit.finish.Goals as goal
 

@@ -1,8 +1,8 @@
 -- Names of a path, taken one after another.
-use Rattle.std.proofs.Common.{◌≡◌, ◌++◌, ◌&&◌, ◌||◌, ◌∙◌, Bool, true, false, if◌then◌else◌, List, [], ◌∷◌, Option, Some, None, codes, not, refl, sym, ap, subst, append_assoc, inl, inr, ◌<◌, arith, length, map}
-use Rattle.std.specs.Prelude.{bytes_eq, is_some, option_to_list}
+use Rattle.std.proofs.Common.{◌≡◌, ◌++◌, ◌&&◌, ◌∙◌, Bool, true, false, if◌then◌else◌, List, [], ◌∷◌, Option, Some, None, codes, not, refl, sym, ap, append_assoc, ◌<◌, arith, length, map}
+use Rattle.std.specs.Prelude.{is_some, option_to_list}
 use Rattle.std.specs.Borrow.{Bor}
-use Rattle.std.proofs.lemmas.Bool.{and_from, and_parts, cases_Bool, false≢true, not-true, not_from_false}
+use Rattle.std.proofs.lemmas.Bool.{and_from, and_parts, false≢true, not-true}
 use Rattle.std.proofs.lemmas.List.{append-nil, map-append}
 use Rattle.std.proofs.lemmas.Slice.Eq.{bytes_eq-Decides}
 use Rattle.std.specs.List.{flat_map, join_with_byte}
@@ -81,10 +81,12 @@ one_less (one ∷ []) name h =
     (ap not (named_first one (name ∷ []) h), (one_less [] name (settled_rest one (name ∷ []) h)).1)
 one_less (one ∷ other ∷ names) name h =
     let more = one_less (other ∷ names) name (settled_rest one (other ∷ (names ++ name ∷ [])) h) in
-    let parts = and_parts (not (is_nothing one)) (not (is_up other && not (is_up one)) && is_settled (other ∷ (names ++ name ∷ []))) h in
-    (and_from (not (is_nothing one)) (not (is_up other && not (is_up one)) && is_settled (other ∷ names)) parts.0
-    (and_from (not (is_up other && not (is_up one))) (is_settled (other ∷ names))
-    (and_parts (not (is_up other && not (is_up one))) (is_settled (other ∷ (names ++ name ∷ []))) parts.1).0 more.0), more.1)
+    let parts = and_parts (not (is_nothing one)) (not (is_up other && not (is_up one)) && is_settled (other ∷ (names ++ name ∷ []))) h in (
+      and_from (not (is_nothing one)) (not (is_up other && not (is_up one)) && is_settled (other ∷ names)) parts.0
+          (and_from (not (is_up other && not (is_up one))) (is_settled (other ∷ names))
+          (and_parts (not (is_up other && not (is_up one))) (is_settled (other ∷ (names ++ name ∷ []))) parts.1).0 more.0),
+      more.1,
+    )
 
 -- a name that takes none back
 pub one_more : (names : List Text) (name : Text) → is_settled names ≡ true → is_nothing name ≡ false → (is_up name && ends_in_name names) ≡ false

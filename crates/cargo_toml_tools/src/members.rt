@@ -116,11 +116,7 @@ fn add(members: &mut Members, folder: String) -> Result<(), AllocError>
 }
 
 /// Whether a folder is excluded, and no entry of `members` leads to it as it is written.
-fn is_excluded<M>(
-    alloc: Global,
-    folder: &str,
-    workspace: &Workspace<M>,
-) -> Result<bool, AllocError>
+fn is_excluded<M>(alloc: Global, folder: &str, workspace: &Workspace<M>) -> Result<bool, AllocError>
     ensures { IfOk result (λ b. b ≡ is_excluded (map string_bytes workspace.now.members.items)
         (map string_bytes workspace.now.exclude.items) folder.now) }
 {

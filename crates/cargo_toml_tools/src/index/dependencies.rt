@@ -14,10 +14,7 @@ use serde_json::Value;
 use std::alloc::{AllocError, Global};
 
 /// The entries of all dependencies: first those of the package's own tables, then those of targets.
-pub(super) fn entries(
-    alloc: Global,
-    dependencies: AllTables<'_>,
-) -> Result<Vec<Value>, AllocError>
+pub(super) fn entries(alloc: Global, dependencies: AllTables<'_>) -> Result<Vec<Value>, AllocError>
     ensures { IfOk result (λ v. map view v.items ≡ all_entries dependencies.entry) }
 {
     let mut entries = Vec::new(alloc);

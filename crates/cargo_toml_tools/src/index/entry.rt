@@ -5,9 +5,9 @@ ghost use Rattle.serde_json.specs.View.{members_view, view};
 ghost use Rattle.cargo_toml.specs.Dependencies.{dependency_meaning, package_of};
 ghost use Rattle.cargo_toml.specs.Versions.{requirement_meaning};
 ghost use Rattle.cargo_toml_tools.specs.IndexEntries.{address_of, entries_of, entry_rows};
-ghost use Rattle.cargo_toml_tools.specs.IndexEntries.{has_default, kind_text, package_rows, place_rows};
-ghost use Rattle.cargo_toml_tools.specs.IndexEntries.{registry_of, renamed, req_text, version_of};
-ghost use Rattle.cargo_toml_tools.specs.IndexEntries.{wanted_rows};
+ghost use Rattle.cargo_toml_tools.specs.IndexEntries.{has_default, kind_text, package_rows};
+ghost use Rattle.cargo_toml_tools.specs.IndexEntries.{place_rows, registry_of, renamed, req_text};
+ghost use Rattle.cargo_toml_tools.specs.IndexEntries.{version_of, wanted_rows};
 ghost use Rattle.cargo_toml_tools.specs.IndexRows.{with_rows};
 
 use super::refusals::lacks_version;
@@ -85,7 +85,12 @@ fn put_wanted(
     put_texts(alloc, entry, "features", dependency.req_features())?;
     put(entry, alloc, "optional", Value::from(dependency.optional()))?;
     let default_features = has_default(dependency);
-    put(entry, alloc, "default_features", Value::from(default_features))
+    put(
+        entry,
+        alloc,
+        "default_features",
+        Value::from(default_features),
+    )
 }
 
 /// The requirement on the version, as the index has it: `*` is any.

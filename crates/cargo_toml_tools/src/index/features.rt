@@ -49,7 +49,13 @@ fn listed(alloc: Global, features: &FeatureSet, extended: bool) -> Result<Value,
 {
     let mut members = Map::new(alloc);
     for (name, list) in features {
-        put_list(alloc, &mut members, name.as_str(), list.as_slice(), extended)?;
+        put_list(
+            alloc,
+            &mut members,
+            name.as_str(),
+            list.as_slice(),
+            extended,
+        )?;
     }
     Ok(Value::from(members))
 }

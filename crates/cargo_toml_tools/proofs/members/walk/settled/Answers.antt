@@ -1,4 +1,4 @@
-use Rattle.std.proofs.Common.{◌≡◌, ◌++◌, ◌∙◌, List, Option, ap, append-nil, lit<, map, refl, subst, sym}
+use Rattle.std.proofs.Common.{◌≡◌, ◌++◌, ◌∙◌, List, Option, ap, append-nil, lit<, map, subst, sym}
 use Rattle.std.proofs.lemmas.Iterator.Splits.{YieldsList-from_str_split}
 use Rattle.std.specs.Borrow.{Bor}
 use Rattle.std.specs.Str.Iter.{split_has_more, split_pattern, split_steps, split_text}
@@ -14,10 +14,14 @@ loop-name-init c =
     let same = c.into_iter-name-iterator.ensures.into_iter_gives in
     let split = c.split-name-items.ensures in (
       pieces c.args.path.now,
-      ((YieldsList-from_str_split 47 c.args.path.now (lit< tt) (ap split_text same ∙ split.text) (ap split_has_more same ∙ split.has_more)
-      (ap split_pattern same ∙ split.pattern)).runs,
-      (ap (λ (ns : List (Bor Text)). settled (map (λ t. t.now) ns ++ pieces c.args.path.now)) c.new-names.ensures.items,
-      ap (λ (ns : List (Bor Text)). is_settled (map (λ t. t.now) ns)) c.new-names.ensures.items)),
+      (
+        (YieldsList-from_str_split 47 c.args.path.now (lit< tt) (ap split_text same ∙ split.text) (ap split_has_more same ∙ split.has_more)
+            (ap split_pattern same ∙ split.pattern)).runs,
+        (
+          ap (λ (ns : List (Bor Text)). settled (map (λ t. t.now) ns ++ pieces c.args.path.now)) c.new-names.ensures.items,
+          ap (λ (ns : List (Bor Text)). is_settled (map (λ t. t.now) ns)) c.new-names.ensures.items,
+        ),
+      ),
     )
 
 pub loop-name-preserved : goal.loop-name-preserved
@@ -28,8 +32,10 @@ loop-name-preserved c =
     (subst P c.in-Some.is c.next.ensures.steps) in
     let on = c.in_ok-step.ensures inv.1.1.1 in (
       more.0,
-      (more.1.1,
-      (on.goes more.0 ∙ ap (λ ps. settled (map (λ (t : Bor Text). t.now) c.loop-name.names.items ++ ps)) (sym more.1.0) ∙ inv.1.1.0, on.kept)),
+      (
+        more.1.1,
+        (on.goes more.0 ∙ ap (λ ps. settled (map (λ (t : Bor Text). t.now) c.loop-name.names.items ++ ps)) (sym more.1.0) ∙ inv.1.1.0, on.kept),
+      ),
     )
 
 pub returns : goal.returns

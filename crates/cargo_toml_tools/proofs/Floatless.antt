@@ -1,20 +1,19 @@
 -- The line of an index holds no float.
-use Rattle.std.proofs.Common.{◌≡◌, ◌++◌, ◌||◌, ◌∙◌, Bool, true, false, if◌then◌else◌, List, [], ◌∷◌, Option, Some, None, codes, map, refl, sym, ap, inl, inr}
+use Rattle.std.proofs.Common.{◌≡◌, ◌++◌, ◌||◌, ◌∙◌, Bool, true, false, if◌then◌else◌, List, [], ◌∷◌, Option, Some, None, codes, refl, ap}
 use Rattle.std.specs.Option.{option_copied}
 use Rattle.std.specs.Ordering.{match_ordering}
 use Rattle.std.specs.declared.cmp.Ordering.{Ordering}
 use Rattle.std.specs.declared.cmp.Ordering.TheVariants.{Less, Equal, Greater}
-use Rattle.std.proofs.lemmas.Bool.{cases_Bool, or_from}
+use Rattle.std.proofs.lemmas.Bool.{or_from}
 use Rattle.std.proofs.lemmas.List.Folds.{list_any-append}
 use Rattle.std.specs.List.{flat_map, list_any}
-use Rattle.serde_json.specs.Data.{Data, Items, Members, array, member, no_members, number, object, put, string, unsigned}
+use Rattle.serde_json.specs.Data.{Data, Members, array, member, no_members, number, object, put, unsigned}
 use Rattle.serde_json.specs.View.{items_of}
 use Rattle.serde_json.specs.Written.{has_float, items_have_float, members_have_float}
 use Rattle.cargo_toml.specs.Action.{Text}
 use Rattle.cargo_toml.specs.Dependencies.{DependencyMeaning, package_of}
 use Rattle.cargo_toml.specs.InheritedDependencies.{Entries}
 use Rattle.cargo_toml.specs.Kind.{Kind}
-use Rattle.cargo_toml.specs.Packages.{PackageMeaning}
 use Rattle.cargo_toml.specs.Targets.{TargetMeaning}
 use Rattle.cargo_toml_tools.specs.IndexEntries.{entries_among, entries_of, entry_rows, features_of, package_rows, place_rows, registry_of, renamed, tables_entries, wanted_rows}
 use Rattle.cargo_toml_tools.specs.IndexFeatures.{feature_rows, is_chosen, list_rows, lists_rows, second_rows}

@@ -1,6 +1,6 @@
 -- Folders that are added to those that a workspace may list.
-use Rattle.std.proofs.Common.{◌≡◌, ◌&&◌, ◌||◌, ◌∙◌, Bool, true, false, List, refl, sym, ap, subst, inl, inr}
-use Rattle.std.specs.Prelude.{bytes_eq, cond, IsFalse}
+use Rattle.std.proofs.Common.{◌≡◌, ◌&&◌, ◌||◌, ◌∙◌, Bool, true, false, List, refl, sym, subst, inl, inr}
+use Rattle.std.specs.Prelude.{bytes_eq, cond}
 use Rattle.std.proofs.lemmas.Bool.{and_parts, or_cases, or_left, or_right}
 use Rattle.std.proofs.lemmas.Slice.Eq.{bytes_eq-Decides}
 use Rattle.cargo_toml.specs.Action.{Text}

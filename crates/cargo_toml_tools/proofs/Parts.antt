@@ -1,5 +1,5 @@
 -- A text that stands somewhere in another.
-use Rattle.std.proofs.Common.{◌≡◌, ◌↔◌, ◌++◌, ◌||◌, ◌∙◌, Bool, true, false, List, [], ◌∷◌, ℕ, drop, length, nat_eq, refl, sym, ap, inl, inr}
+use Rattle.std.proofs.Common.{◌≡◌, ◌↔◌, ◌++◌, ◌∙◌, Bool, true, [], ◌∷◌, drop, length, nat_eq, refl, sym, ap, inl, inr}
 use Rattle.std.proofs.lemmas.Bool.{cases_Bool, false≢true, or_cases, or_left, or_right}
 use Rattle.std.proofs.lemmas.Bool.Decides.{Decides-eqb}
 use Rattle.std.proofs.lemmas.Slice.Eq.{starts_is}

@@ -1,5 +1,6 @@
 -- Paths of folders: a path is its bytes, and its names stand between slashes.
-use Rattle.std.specs.Prelude.{◌≡◌, ◌⊎◌, ◌++◌, ◌&&◌, ◌||◌, ◌==◌, IsFalse, IsTrue, Bool, true, false, if◌then◌else◌, not}
+use Rattle.std.specs.Prelude.{◌≡◌, ◌⊎◌, ◌++◌, ◌&&◌, ◌||◌, ◌==◌, Bool, true, false}
+use Rattle.std.specs.Prelude.{IsFalse, IsTrue, if◌then◌else◌, not}
 use Rattle.std.specs.Prelude.{List, [], ◌∷◌, bytes_eq, codes, length, nat_eq}
 use Rattle.std.specs.List.{ends_with, join_with_byte, list_any, slice_split, starts_with}
 use Rattle.std.specs.declared.io.Error.{Error as IoError}

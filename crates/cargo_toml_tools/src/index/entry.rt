@@ -5,9 +5,9 @@ ghost use Rattle.serde_json.specs.View.{members_view, view};
 ghost use Rattle.cargo_toml.specs.Dependencies.{dependency_meaning, package_of};
 ghost use Rattle.cargo_toml.specs.Versions.{requirement_meaning};
 ghost use Rattle.cargo_toml_tools.specs.IndexEntries.{address_of, entries_of, entry_rows};
-ghost use Rattle.cargo_toml_tools.specs.IndexEntries.{has_default, kind_text, package_rows, place_rows};
-ghost use Rattle.cargo_toml_tools.specs.IndexEntries.{registry_of, renamed, req_text, version_of};
-ghost use Rattle.cargo_toml_tools.specs.IndexEntries.{wanted_rows};
+ghost use Rattle.cargo_toml_tools.specs.IndexEntries.{has_default, kind_text, package_rows};
+ghost use Rattle.cargo_toml_tools.specs.IndexEntries.{place_rows, registry_of, renamed, req_text};
+ghost use Rattle.cargo_toml_tools.specs.IndexEntries.{version_of, wanted_rows};
 ghost use Rattle.cargo_toml_tools.specs.IndexRows.{with_rows};
 
 use super::refusals::lacks_version;

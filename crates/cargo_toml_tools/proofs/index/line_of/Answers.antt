@@ -1,4 +1,4 @@
-use Rattle.std.proofs.Common.{◌≡◌, ◌∙◌, ◌∷◌, ◌++◌, ap, codes, string_bytes}
+use Rattle.std.proofs.Common.{◌≡◌, ◌∙◌, ap, codes, string_bytes}
 use Rattle.std.specs.Option.{option_copied}
 use Rattle.serde_json.specs.Data.{array, object, put}
 use Rattle.serde_json.specs.View.{items_of, members_view, view}

@@ -1,4 +1,4 @@
-use Rattle.std.proofs.Common.{◌&&◌, ◌||◌, ◌∙◌, ap, string_bytes, sym, true}
+use Rattle.std.proofs.Common.{◌||◌, ◌∙◌, ap, string_bytes, sym, true}
 use Rattle.std.specs.Prelude.{bytes_eq}
 use Rattle.std.specs.BTreeSet.{contains_text}
 use Rattle.std.proofs.lemmas.Map.Text.{btree_set_updates_text}

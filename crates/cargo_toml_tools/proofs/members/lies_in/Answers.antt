@@ -1,4 +1,4 @@
-use Rattle.std.proofs.Common.{◌≡◌, ◌+◌, ◌∷◌, ◌∙◌, ap, drop, false, map, string_bytes, sym, true}
+use Rattle.std.proofs.Common.{◌+◌, ◌∷◌, ◌∙◌, ap, drop, map, string_bytes, sym}
 use Rattle.std.proofs.lemmas.List.{drop_all}
 use Rattle.cargo_toml.specs.Action.{Text}
 use Rattle.cargo_toml_tools.specs.Places.{lies_in, lies_under, normalized}

@@ -1,5 +1,4 @@
 use Rattle.std.proofs.Common.{◌≡◌, drop, map, string_bytes}
-use Rattle.std.specs.List.{list_any}
 use Rattle.cargo_toml_tools.specs.Places.{lies_in}
 use Rattle.cargo_toml_tools.proofs.members.lies_in.Given as goal
 

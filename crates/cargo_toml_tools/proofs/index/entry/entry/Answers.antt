@@ -1,4 +1,4 @@
-use Rattle.std.proofs.Common.{◌∷◌, ◌++◌, ◌∙◌, [], ap, codes}
+use Rattle.std.proofs.Common.{◌∷◌, ◌∙◌, [], ap, codes}
 use Rattle.std.specs.Option.{option_copied}
 use Rattle.serde_json.specs.Data.{put}
 use Rattle.serde_json.specs.View.{members_view}

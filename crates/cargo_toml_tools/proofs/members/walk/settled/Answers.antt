@@ -1,4 +1,4 @@
-use Rattle.std.proofs.Common.{◌≡◌, ◌++◌, ◌∙◌, List, Option, ap, append-nil, lit<, map, refl, subst, sym}
+use Rattle.std.proofs.Common.{◌≡◌, ◌++◌, ◌∙◌, List, Option, ap, append-nil, lit<, map, subst, sym}
 use Rattle.std.proofs.lemmas.Iterator.Splits.{YieldsList-from_str_split}
 use Rattle.std.specs.Borrow.{Bor}
 use Rattle.std.specs.Str.Iter.{split_has_more, split_pattern, split_steps, split_text}

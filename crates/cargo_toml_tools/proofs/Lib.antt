@@ -17,6 +17,5 @@ pub mod Signs
 pub mod Summed
 pub mod Told
 pub mod Weighed
-pub mod WholeLines
 pub mod Within
 pub mod Yielded

@@ -175,7 +175,7 @@ impl Audit {
     {
         let alloc = *self.members.allocator();
         let mut keys = inherited_keys(alloc, manifest)?;
-        add_inherited_dependencies(alloc, manifest, &mut keys, &mut self.inherited)?;
+        add_inherited_dependencies(manifest, &mut keys, &mut self.inherited)?;
         Ok(keys)
     }
 

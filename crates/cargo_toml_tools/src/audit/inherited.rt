@@ -98,7 +98,6 @@ fn add_row(alloc: Global, keys: &mut Vec<String>, row: Row) -> Result<(), AllocE
 /// Adds the dependencies that are left to the workspace to the keys of this member, with the table
 /// in front, and to those of all members.
 pub fn add_inherited_dependencies<M>(
-    alloc: Global,
     manifest: &Manifest<M>,
     keys: &mut Vec<String>,
     all: &mut BTreeSet<String>,
@@ -107,7 +106,6 @@ pub fn add_inherited_dependencies<M>(
         ≡ map string_bytes keys.old.items ++ left_in_tables (all_by_kind (held manifest.now))) }
 {
     add_tables(
-        alloc,
         &manifest.dependencies,
         &manifest.dev_dependencies,
         &manifest.build_dependencies,
@@ -115,13 +113,12 @@ pub fn add_inherited_dependencies<M>(
         all,
     )?;
     for (_, target) in &manifest.target {
-        add_target(alloc, target, keys, all)?;
+        add_target(target, keys, all)?;
     }
     Ok(())
 }
 
 fn add_target(
-    alloc: Global,
     target: &Target,
     keys: &mut Vec<String>,
     all: &mut BTreeSet<String>,
@@ -130,7 +127,6 @@ fn add_target(
         ++ left_in_tables (target_by_kind (target_meaning target.now))) }
 {
     add_tables(
-        alloc,
         &target.dependencies,
         &target.dev_dependencies,
         &target.build_dependencies,
@@ -140,7 +136,6 @@ fn add_target(
 }
 
 fn add_tables(
-    alloc: Global,
     normal: &DepsSet,
     dev: &DepsSet,
     build: &DepsSet,
@@ -151,13 +146,12 @@ fn add_tables(
         ++ left_in_tables (with_kinds (entries_meaning normal.now) (entries_meaning dev.now)
         (entries_meaning build.now))) }
 {
-    add_table(alloc, normal, "dependencies", keys, all)?;
-    add_table(alloc, dev, "dev-dependencies", keys, all)?;
-    add_table(alloc, build, "build-dependencies", keys, all)
+    add_table(normal, "dependencies", keys, all)?;
+    add_table(dev, "dev-dependencies", keys, all)?;
+    add_table(build, "build-dependencies", keys, all)
 }
 
 fn add_table(
-    alloc: Global,
     table: &DepsSet,
     name: &str,
     keys: &mut Vec<String>,
@@ -167,14 +161,13 @@ fn add_table(
         ≡ map string_bytes keys.old.items ++ left_in name.now (entries_meaning table.now)) }
 {
     for (key, dependency) in table {
-        add_dependency(alloc, key, dependency, name, keys, all)?;
+        add_dependency(key, dependency, name, keys, all)?;
     }
     Ok(())
 }
 
 /// Adds a dependency where it is left to the workspace.
 fn add_dependency(
-    alloc: Global,
     key: &String,
     dependency: &Dependency,
     table: &str,
@@ -187,6 +180,7 @@ fn add_dependency(
     if !is_left(dependency) {
         return Ok(());
     }
+    let alloc = *keys.allocator();
     keys.push(format!(in alloc; "{table}.{key}")?)?;
     all.insert(key.clone()?)?;
     Ok(())

@@ -10,7 +10,7 @@ use Rattle.cargo_toml_graph.specs.Action.{Text}
 use Rattle.cargo_toml_manifest.specs.declared.manifest.Manifest.{Manifest}
 use Rattle.cargo_toml_manifest.specs.Manifests.{held}
 use Rattle.cargo_toml_manifest.specs.Roots.{IsFromSlice}
-use Rattle.cargo_toml_parts.specs.declared.error.Error.{Error}
+use Rattle.cargo_toml_parts.specs.declared.error.Error.{Error, Memory}
 use Rattle.cargo_toml_print.specs.Lines.{AreAllLines}
 use Rattle.cargo_toml_print.specs.Printing.{IsOfOutput}
 use Rattle.cargo_toml_resolver.specs.Parsed.{IsParsed}
@@ -33,9 +33,10 @@ pub record ArePrinted (limit : ℕ) (input rest output more : Option (List ℕ))
   pub lines : IsOfBytes (IsFeatureText limit) bytes text
   pub written : Appends output more text
 
--- why printing fails: a fault of input or output or no memory, or the fault of the bytes which an
--- input still had, read to its end
+-- why printing fails: no memory, a fault of input or output, or that of the bytes which an input
+-- still had, read to its end
 abbrev pub IsPrintFault : Option (List ℕ) → Option (List ℕ) → Error → Type 0
 IsPrintFault input rest e =
-    IsOfOutput e
-    ⊎ ((bytes : List ℕ) × Consumes input rest bytes × IsAtEnd rest × IsFromSlice bytes (Err e))
+    (e ≡ Memory)
+    ⊎ (IsOfOutput e
+    ⊎ ((bytes : List ℕ) × Consumes input rest bytes × IsAtEnd rest × IsFromSlice bytes (Err e)))

@@ -1,6 +1,5 @@
 use Rattle.std.proofs.Common.{◌≡◌, ◌∙◌, List, ℕ, ap, inl, inr, length, rules, string_bytes, subst, sym, drop}
 use Rattle.std.specs.Io.KnownBytes.{Consumes}
-use Rattle.cargo_toml_print.specs.Printing.{IsOfOutput}
 use Rattle.std.proofs.lemmas.Result.{err_from_is_err_and}
 use Rattle.cargo_toml_program.proofs.print_features.Goals as goal
 
@@ -14,8 +13,8 @@ returns-in_err-lines-clause-refused g c =
     let left = c.from_residual-in_err-lines in
     let p = err_from_is_err_and left.result left.ensures.1 in
     rw (p.1, p.2) (elim c.in_err-lines.ensures.refused [
-      | inl memory ↦ inl (subst IsOfOutput (sym memory) tt)
-      | inr spelled ↦ inr (c.as_slice.result.now, read, c.in_ok-read_to_end.ensures.end, spelled)
+      | inl memory ↦ inl memory
+      | inr spelled ↦ inr (inr (c.as_slice.result.now, read, c.in_ok-read_to_end.ensures.end, spelled))
     ])
 
 pub returns-clause-printed : goal.returns-clause-printed

@@ -100,7 +100,7 @@ fn answer<R: Files + Print + Eprint + RandomSource + AllocGlobal>(
 }
 
 /// The words of the command line; none where one of them is no text.
-fn words<R: Env + AllocGlobal>(rt: &R) -> io::Result<Option<Vec<String>>> {
+fn arguments<R: Env + AllocGlobal>(rt: &R) -> io::Result<Option<Vec<String>>> {
     match env::args(rt) {
         Ok(words) => Ok(Some(words.collect(rt.alloc())?)),
         Err(fault) if fault.kind() == io::ErrorKind::OutOfMemory => Err(fault),
@@ -112,7 +112,7 @@ fn run<R: Env + Files + Print + Eprint + RandomSource + AllocGlobal>(
     rt: &R,
     shows: bool,
 ) -> io::Result<Outcome> {
-    if let Some(words) = words(rt)? {
+    if let Some(words) = arguments(rt)? {
         if let Some(request) = read_request(rt.alloc(), words.as_slice())? {
             return answer(rt, &request, shows);
         }

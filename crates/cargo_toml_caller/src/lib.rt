@@ -1,4 +1,4 @@
-//! A caller whose code names `cargo_toml` alone, with metadata of its own that are read and written.
+//! A caller whose code names `cargo_toml` alone, with metadata of its own, read and written.
 #![tactic(auto)]
 
 pub mod audience;

@@ -13,8 +13,8 @@ use Rattle.std.specs.Prelude.{if◌then◌else◌}
 use Rattle.std.specs.Fmt.{digits}
 use lib.Utf8.{scalar, scalar_fits, scalars}
 use Rattle.cargo_toml_tools.specs.Escaped.{braced, code, escaped, escaped_text, is_code}
-use Rattle.cargo_toml_tools.specs.Escaped.{is_control, is_plain, numbered}
-use Rattle.cargo_toml_tools.specs.Escapes.{Adds, fits, is_cell, is_guarded, is_line, is_sign}
+use Rattle.cargo_toml_tools.specs.Escaped.{is_control, is_plain_sign, numbered}
+use Rattle.cargo_toml_tools.specs.Escapes.{Appends, fits, is_cell, is_guarded, is_line, is_sign}
 use Rattle.cargo_toml_tools.specs.declared.escape.Format.{Format}
 use Rattle.cargo_toml_tools.specs.declared.escape.Format.TheVariants.{Dot, Line, Markdown}
 use Rattle.cargo_toml_tools.proofs.Signs.{between, cell_append, cell_encode, cell_quiet}
@@ -70,13 +70,13 @@ sign_of c h = elim (cases_lt c 128) [
 ]
 
 is_plain_fine : ℕ → Bool
-is_plain_fine c = not (is_plain c) || is_unescaped Markdown c
+is_plain_fine c = not (is_plain_sign c) || is_unescaped Markdown c
 
 low_plain : agree_below is_plain_fine (λ c. true) 128 ≡ true
 unfolding is_plain_fine
 low_plain = refl
 
-plain_unescaped : (c : ℕ) → is_plain c ≡ true → is_unescaped Markdown c ≡ true
+plain_unescaped : (c : ℕ) → is_plain_sign c ≡ true → is_unescaped Markdown c ≡ true
 unfolding is_plain_fine
 plain_unescaped c h = elim (cases_lt c 128) [
   | inl low ↦ (let fine = agree_below_at is_plain_fine (λ c. true) 128 c low_plain low in
@@ -115,7 +115,7 @@ char_fits Line c h =
     (λ d. fits_if Line (nat_eq c 124) (codes "\\|") (encode_utf8 c) (λ k. refl)
     (λ k. fits_encode Line c (apart c 124 92 e k d))))
 char_fits Markdown c h =
-    fits_if Markdown (is_plain c) (encode_utf8 c) (numbered c)
+    fits_if Markdown (is_plain_sign c) (encode_utf8 c) (numbered c)
     (λ e. fits_encode Markdown c (plain_unescaped c e)) (λ e. numbered_fits Markdown c h)
 char_fits Dot c h =
     let three = if nat_eq c 38 then codes "&amp;" else encode_utf8 c in
@@ -140,7 +140,7 @@ text_fits : (f : Format) (words : List ℕ) → IsUtf8 words → fits f (escaped
 text_fits f words u = chars_fit f (chars words) (scalars-chars words u)
 
 pub adds_text : (f : Format) (words old new : List ℕ) → IsUtf8 words
-    → new ≡ old ++ escaped_text f words → Adds (fits f) old new
+    → new ≡ old ++ escaped_text f words → Appends (fits f) old new
 adds_text f words old new u e =
     record { added = escaped_text f words; follows = e; passes = text_fits f words u }
 
@@ -152,10 +152,10 @@ text_line words u =
 
 -- ---- a name as code is a cell
 abbrev pub is_code_char : ℕ → Bool
-is_code_char c = is_plain c || nat_eq c 95
+is_code_char c = is_plain_sign c || nat_eq c 95
 
 char_cell : (c : ℕ) → is_code_char c ≡ true → is_cell (encode_utf8 c) ≡ true
-char_cell c h = elim (or_cases (is_plain c) (nat_eq c 95) h) [
+char_cell c h = elim (or_cases (is_plain_sign c) (nat_eq c 95) h) [
   | inl e ↦ cell_encode c (plain_unescaped c e)
   | inr e ↦ (let P : ℕ → Type 0 = λ n. is_cell (encode_utf8 n) ≡ true in
       let Q : List ℕ → Type 0 = λ bs. is_cell bs ≡ true in
@@ -206,5 +206,5 @@ code_cell name u =
     (λ e. quoted_cell name (name_cell name u e)) (λ e. marked_cell name u)
 
 pub adds_code : (name old new : List ℕ) → IsUtf8 name → new ≡ old ++ code name
-    → Adds is_cell old new
+    → Appends is_cell old new
 adds_code name old new u e = record { added = code name; follows = e; passes = code_cell name u }

@@ -15,11 +15,11 @@ use Rattle.cargo_toml.specs.Dependencies.{DependencyMeaning, package_of}
 use Rattle.cargo_toml.specs.InheritedDependencies.{Entries}
 use Rattle.cargo_toml.specs.Kind.{Kind}
 use Rattle.cargo_toml.specs.Targets.{TargetMeaning}
-use Rattle.cargo_toml_tools.specs.IndexEntries.{entries_among, entries_of, entry_rows, features_of, package_rows, place_rows, registry_of, renamed, tables_entries, wanted_rows}
+use Rattle.cargo_toml_tools.specs.IndexEntries.{asked_features, entries_among, entries_of, index_rows, place_rows, registry_of, renamed, renamed_rows, tables_entries, wanted_rows}
 use Rattle.cargo_toml_tools.specs.IndexFeatures.{feature_rows, is_chosen, list_rows, lists_rows, second_rows}
 use Rattle.cargo_toml_tools.specs.Indexed.{lacks_version, target_by_kind, with_kinds}
 use Rattle.cargo_toml_tools.specs.IndexLines.{line_data, line_rows}
-use Rattle.cargo_toml_tools.specs.IndexRows.{checksum_rows, stated_rows, text_or_null, texts, with_rows}
+use Rattle.cargo_toml_tools.specs.IndexRows.{checksum_rows, stated_rows, text_array, text_or_null, with_rows}
 use Rattle.cargo_toml_tools.specs.declared.index.checks.Stated.{Stated}
 use Rattle.cargo_toml_tools.proofs.Explained.{none_passes}
 use Rattle.cargo_toml_tools.proofs.Told.{any_flat}
@@ -55,7 +55,7 @@ in_items : (ds : List Data) → items_have_float (items_of ds) ≡ list_any has_
 in_items [] = refl
 in_items (d ∷ ds) = ap (λ b. has_float d || b) (in_items ds)
 
-texts_floatless : (ts : List Text) → has_float (texts ts) ≡ false
+texts_floatless : (ts : List Text) → has_float (text_array ts) ≡ false
 texts_floatless [] = refl
 texts_floatless (t ∷ ts) = texts_floatless ts
 
@@ -68,15 +68,15 @@ both_floatless : (xs ys : List (Text × Data)) → list_any (λ r. has_float r.1
 both_floatless xs ys h g = list_any-append (λ (r : Text × Data). has_float r.1) xs ys ∙ or_from (list_any (λ (r : Text × Data). has_float r.1) xs) (list_any (λ (r : Text × Data). has_float r.1) ys) h g
 
 -- the entry of a dependency
-package_floatless : (name : Option Text) → list_any (λ r. has_float r.1) (package_rows name) ≡ false
+package_floatless : (name : Option Text) → list_any (λ r. has_float r.1) (renamed_rows name) ≡ false
 package_floatless None = refl
 package_floatless (Some name) = refl
 
-entry_floatless : (kind : Kind) (target : Option Text) (e : Text × DependencyMeaning) → list_any (λ r. has_float r.1) (entry_rows kind target e) ≡ false
+entry_floatless : (kind : Kind) (target : Option Text) (e : Text × DependencyMeaning) → list_any (λ r. has_float r.1) (index_rows kind target e) ≡ false
 entry_floatless kind target e =
-    both_floatless (wanted_rows e.0 e.1) (package_rows (renamed e.0 (package_of e.1)) ++ (place_rows kind target ++ (codes "registry", text_or_null (registry_of e.1)) ∷ []))
-    (or_from (has_float (texts (features_of e.1))) false (texts_floatless (features_of e.1)) refl)
-    (both_floatless (package_rows (renamed e.0 (package_of e.1))) (place_rows kind target ++ (codes "registry", text_or_null (registry_of e.1)) ∷ [])
+    both_floatless (wanted_rows e.0 e.1) (renamed_rows (renamed e.0 (package_of e.1)) ++ (place_rows kind target ++ (codes "registry", text_or_null (registry_of e.1)) ∷ []))
+    (or_from (has_float (text_array (asked_features e.1))) false (texts_floatless (asked_features e.1)) refl)
+    (both_floatless (renamed_rows (renamed e.0 (package_of e.1))) (place_rows kind target ++ (codes "registry", text_or_null (registry_of e.1)) ∷ [])
     (package_floatless (renamed e.0 (package_of e.1)))
     (or_from (has_float (text_or_null target)) (has_float (text_or_null (registry_of e.1)) || false) (or_null_floatless target)
     (or_from (has_float (text_or_null (registry_of e.1))) false (or_null_floatless (registry_of e.1)) refl)))
@@ -84,11 +84,11 @@ entry_floatless kind target e =
 one_floatless : (kind : Kind) (target : Option Text) (e : Text × DependencyMeaning) → list_any has_float (entries_of kind target e) ≡ false
 one_floatless kind target e = by_version (lacks_version e.1)
   where
-    by_version : (b : Bool) → list_any has_float (if b then [] else object (with_rows (entry_rows kind target e) no_members) ∷ []) ≡ false
+    by_version : (b : Bool) → list_any has_float (if b then [] else object (with_rows (index_rows kind target e) no_members) ∷ []) ≡ false
     by_version true = refl
     by_version false =
-        or_from (members_have_float (with_rows (entry_rows kind target e) no_members)) false
-        (rows_floatless (entry_rows kind target e) no_members (entry_floatless kind target e) refl) refl
+        or_from (members_have_float (with_rows (index_rows kind target e) no_members)) false
+        (rows_floatless (index_rows kind target e) no_members (entry_floatless kind target e) refl) refl
 
 tables_floatless : (target : Option Text) (ts : List (Kind × Entries)) → list_any has_float (tables_entries target ts) ≡ false
 tables_floatless target ts =
@@ -111,8 +111,8 @@ entries_floatless normal dev build ts =
 list_floatless : (extended : Bool) (f : Text × List Text) → list_any (λ r. has_float r.1) (list_rows extended f) ≡ false
 list_floatless extended f = by_choice (is_chosen extended f.1)
   where
-    by_choice : (b : Bool) → list_any (λ (r : Text × Data). has_float r.1) (if b then (f.0, texts f.1) ∷ [] else []) ≡ false
-    by_choice true = or_from (has_float (texts f.1)) false (texts_floatless f.1) refl
+    by_choice : (b : Bool) → list_any (λ (r : Text × Data). has_float r.1) (if b then (f.0, text_array f.1) ∷ [] else []) ≡ false
+    by_choice true = or_from (has_float (text_array f.1)) false (texts_floatless f.1) refl
     by_choice false = refl
 
 lists_floatless : (extended : Bool) (fs : List (Text × List Text)) → members_have_float (with_rows (lists_rows extended fs) no_members) ≡ false

@@ -6,7 +6,7 @@ use Rattle.std.specs.BTreeSet.{BTreeSet, insert_key}
 use Rattle.std.specs.Ordering.{is_eq, match_ordering}
 use Rattle.cargo_toml.specs.Action.{Text}
 use Rattle.cargo_toml.specs.Reach.{Among}
-use Rattle.cargo_toml_tools.specs.Oddities.{AreFound, Gains, IsFound, Oddity, oddity_of, oddity_with}
+use Rattle.cargo_toml_tools.specs.Oddities.{AreReported, GainsOnly, IsReported, Oddity, oddity_of, oddity_with}
 use Rattle.cargo_toml_tools.specs.contracts.audit.Code.{the_type}
 use Rattle.cargo_toml_tools.specs.contracts.audit.FindingOrd.TheImpl as finding_order
 use Rattle.cargo_toml_tools.specs.contracts.audit.FindingOrd.TheImpl.Laws as laws
@@ -59,7 +59,7 @@ module _ (cmp : Finding → Finding → Ordering) (f : Finding) where
     there (x ∷ xs) = stands x xs (insert_key cmp xs f) (cmp f x) refl (there xs)
 
   pub gains_one : (s n : BTreeSet Finding) (o : Oddity) → n.keys ≡ insert_key cmp s.keys f
-      → oddity_of f ≡ o → Gains (λ x. x ≡ o) s n
+      → oddity_of f ≡ o → GainsOnly (λ x. x ≡ o) s n
   gains_one s n o is same = record {
     kept = λ x h. subst (λ (ks : List Finding). Among (map oddity_of ks) x) (sym is) (keeps x s.keys h);
     gained = λ x h. elim (adds x s.keys (subst (λ (ks : List Finding). Among (map oddity_of ks) x) is h)) [
@@ -78,27 +78,27 @@ ties f x e =
     ((bytes_eq-Decides (string_bytes f.words) (string_bytes x.words)).0 q.1 i)
 
 pub found_one : (f : Finding) (s n : BTreeSet Finding) (o : Oddity) → n.keys ≡ insert_key (finding_order.cmp-value).it s.keys f
-    → oddity_of f ≡ o → IsFound n o
+    → oddity_of f ≡ o → IsReported n o
 found_one f s n o is same =
-    subst (λ (x : Oddity). IsFound n x) same
+    subst (λ (x : Oddity). IsReported n x) same
     (subst (λ (ks : List Finding). Among (map oddity_of ks) (oddity_of f)) (sym is) (there (finding_order.cmp-value).it f (ties f) s.keys))
 
 -- nothing was added, or more and more
 module _ {P : Oddity → Type 0} where
-  pub gains_none : (s n : BTreeSet Finding) → n.keys ≡ s.keys → Gains P s n
+  pub gains_none : (s n : BTreeSet Finding) → n.keys ≡ s.keys → GainsOnly P s n
   gains_none s n is = record {
     kept = λ x h. subst (λ (ks : List Finding). Among (map oddity_of ks) x) (sym is) h;
     gained = λ x h. inl (subst (λ (ks : List Finding). Among (map oddity_of ks) x) is h);
   }
 
-  pub gains_on : (a b c : BTreeSet Finding) → Gains P a b → Gains P b c → Gains P a c
+  pub gains_on : (a b c : BTreeSet Finding) → GainsOnly P a b → GainsOnly P b c → GainsOnly P a c
   gains_on a b c one two = record {
     kept = λ x h. two.kept x (one.kept x h);
     gained = λ x h. elim (two.gained x h) [ inl i ↦ one.gained x i | inr p ↦ inr p ];
   }
 
   pub gains_wider : {Q : Oddity → Type 0} → (a b : BTreeSet Finding) → ((o : Oddity) → Q o → P o)
-      → Gains Q a b → Gains P a b
+      → GainsOnly Q a b → GainsOnly P a b
   gains_wider a b so one = record {
     kept = one.kept;
     gained = λ x h. elim (one.gained x h) [ inl i ↦ inl i | inr q ↦ inr (so x q) ];
@@ -106,12 +106,12 @@ module _ {P : Oddity → Type 0} where
 
 -- ---- one after the other of a list, where these are left
 pub record Going (Such : Oddity → Type 0) (left : List Oddity) (old new : BTreeSet Finding) : Type 0 where
-  pub gains : Gains Such old new
+  pub gains : GainsOnly Such old new
   pub within : (o : Oddity) → Among left o → Such o
 
 module _ {P : Oddity → Type 0} where
   pub going_on : (o p : Oddity) (left whole : List Oddity) (a b c : BTreeSet Finding) → whole ≡ o ∷ left → p ≡ o
-      → Going P whole a b → Gains (λ x. x ≡ p) b c → Going P left a c
+      → Going P whole a b → GainsOnly (λ x. x ≡ p) b c → Going P left a c
   going_on o p left whole a b c is same go one = record {
     gains = gains_on a b c go.gains (gains_wider b c (λ x e. go.within x (subst (λ (os : List Oddity). Among os x) (sym is) (inl (e ∙ same)))) one);
     within = λ x i. go.within x (subst (λ (os : List Oddity). Among os x) (sym is) (inr i));
@@ -120,23 +120,23 @@ module _ {P : Oddity → Type 0} where
 -- all of a list, where these are left
 pub record Adding (all left : List Oddity) (old new : BTreeSet Finding) : Type 0 where
   pub go : Going (Among all) left old new
-  pub rest : (o : Oddity) → Among all o → IsFound new o ⊎ Among left o
+  pub rest : (o : Oddity) → Among all o → IsReported new o ⊎ Among left o
 
 pub adding_on : (all : List Oddity) (o p : Oddity) (left whole : List Oddity) (a b c : BTreeSet Finding) → whole ≡ o ∷ left → p ≡ o
-    → Adding all whole a b → Gains (λ x. x ≡ p) b c → IsFound c p → Adding all left a c
+    → Adding all whole a b → GainsOnly (λ x. x ≡ p) b c → IsReported c p → Adding all left a c
 adding_on all o p left whole a b c is same before one there = record {
   go = going_on o p left whole a b c is same before.go one;
   rest = λ x i. elim (before.rest x i) [
     | inl h ↦ inl (one.kept x h)
     | inr j ↦ elim (subst (λ (os : List Oddity). Among os x) is j) [
-      | inl e ↦ inl (subst (λ (y : Oddity). IsFound c y) (same ∙ sym e) there)
+      | inl e ↦ inl (subst (λ (y : Oddity). IsReported c y) (same ∙ sym e) there)
       | inr k ↦ inr k
     ]
   ];
 }
 
-pub just_one : (b : BTreeSet Finding) (o p : Oddity) → p ≡ o → IsFound b p → AreFound b (o ∷ [])
-just_one b o p same h = λ x i. elim i [ inl e ↦ subst (λ (y : Oddity). IsFound b y) (same ∙ sym e) h | inr j ↦ absurd j ]
+pub just_one : (b : BTreeSet Finding) (o p : Oddity) → p ≡ o → IsReported b p → AreReported b (o ∷ [])
+just_one b o p same h = λ x i. elim i [ inl e ↦ subst (λ (y : Oddity). IsReported b y) (same ∙ sym e) h | inr j ↦ absurd j ]
 
 -- by the parts of an oddity
 pub same_with : (code : Code) (s t w v : Text) → s ≡ t → w ≡ v → oddity_with code s w ≡ oddity_with code t v

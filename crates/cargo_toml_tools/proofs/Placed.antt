@@ -9,7 +9,7 @@ use Rattle.serde_json.specs.View.{members_view, view}
 use Rattle.serde_json.specs.declared.value.Value.{Value}
 use Rattle.serde_json.specs.Written.{IsInOrder}
 use Rattle.cargo_toml.specs.Action.{Text}
-use Rattle.cargo_toml_tools.specs.IndexRows.{texts, with_rows}
+use Rattle.cargo_toml_tools.specs.IndexRows.{text_array, with_rows}
 use Rattle.cargo_toml_tools.specs.IndexFeatures.{feature_rows, is_chosen, is_extended, list_rows, lists_object}
 
 pub with_both : (xs ys : List (Text × Data)) (ms : Members) → with_rows (xs ++ ys) ms ≡ with_rows ys (with_rows xs ms)
@@ -88,8 +88,8 @@ second_version fs a b c d x y z first is some second is_too third two =
     ∙ ap (λ o. with_rows (if o then (codes "features2", lists_object true fs) ∷ (codes "v", number (unsigned 2)) ∷ [] else []) (put (codes "features") (lists_object false fs) a)) (sym some)
 
 -- a list that is put, or isn't
-pub list_put : (extended : Bool) (f : Text × List Text) (a b : Members) → is_chosen extended f.1 ≡ true → b ≡ put f.0 (texts f.1) a → b ≡ with_rows (list_rows extended f) a
-list_put extended f a b h puts = puts ∙ ap (λ c. with_rows (if c then (f.0, texts f.1) ∷ [] else []) a) (sym h)
+pub list_put : (extended : Bool) (f : Text × List Text) (a b : Members) → is_chosen extended f.1 ≡ true → b ≡ put f.0 (text_array f.1) a → b ≡ with_rows (list_rows extended f) a
+list_put extended f a b h puts = puts ∙ ap (λ c. with_rows (if c then (f.0, text_array f.1) ∷ [] else []) a) (sym h)
 
 pub list_left : (extended : Bool) (f : Text × List Text) (a : Members) → is_chosen extended f.1 ≡ false → a ≡ with_rows (list_rows extended f) a
-list_left extended f a h = ap (λ c. with_rows (if c then (f.0, texts f.1) ∷ [] else []) a) (sym h)
+list_left extended f a h = ap (λ c. with_rows (if c then (f.0, text_array f.1) ∷ [] else []) a) (sym h)

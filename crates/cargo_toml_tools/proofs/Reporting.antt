@@ -19,7 +19,7 @@ use Rattle.cargo_toml_tools.specs.declared.escape.Format.TheVariants.{Line}
 use Rattle.cargo_toml_tools.specs.Audited.{word_of}
 use Rattle.cargo_toml_tools.specs.Escaped.{column, comma, escaped_text}
 use Rattle.cargo_toml_tools.specs.Escapes.{is_line}
-use Rattle.cargo_toml_tools.specs.Reported.{finding_line, key_text, keys_text, member_line, or_dash}
+use Rattle.cargo_toml_tools.specs.Reported.{key_text, keys_text, member_line, oddity_line, or_dash}
 use Rattle.cargo_toml_tools.proofs.Escaping.{text_line}
 use Rattle.cargo_toml_tools.proofs.Signs.{line_append}
 
@@ -84,7 +84,7 @@ member_is_line m =
     (both (dash_column m.license) (both (string_column m.publish)
     (both (keys_line m.inherits.items) refl))))))))
 
-pub finding_is_line : (f : Finding) → is_line (finding_line f) ≡ true
+pub finding_is_line : (f : Finding) → is_line (oddity_line f) ≡ true
 finding_is_line f =
     concat_line (codes "finding " ∷ word_of f.code ∷ column (string_bytes f.subject)
     ∷ column (string_bytes f.words) ∷ [])

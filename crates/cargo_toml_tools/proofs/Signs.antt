@@ -12,7 +12,7 @@ use Rattle.std.specs.Str.Parse.{AllDigits}
 use lib.Utf8.{encode}
 use Rattle.cargo_toml_tools.specs.declared.escape.Format.{Format}
 use Rattle.cargo_toml_tools.specs.declared.escape.Format.TheVariants.{Dot, Line, Markdown}
-use Rattle.cargo_toml_tools.specs.Escapes.{Adds, IsOneLine, fits, is_cell, is_guarded, is_line, is_mark, is_sign}
+use Rattle.cargo_toml_tools.specs.Escapes.{Appends, IsOneLine, fits, is_cell, is_guarded, is_line, is_mark, is_sign}
 
 -- a character that stands for itself in the format
 abbrev pub is_unescaped : Format → ℕ → Bool
@@ -182,12 +182,12 @@ pub cell_encode : (c : ℕ) → is_unescaped Markdown c ≡ true → is_cell (en
 cell_encode c h = cell_quiet (encode_utf8 c) (fits_encode Markdown c h)
 
 -- a line with its end
-line_after : (a b : List ℕ) → is_line a ≡ true → Adds (fits Line) a b → is_line b ≡ true
+line_after : (a b : List ℕ) → is_line a ≡ true → Appends (fits Line) a b → is_line b ≡ true
 line_after a b h more =
     ap is_line more.follows
     ∙ line_append a more.added h (and_parts (is_line more.added) (is_guarded 124 false more.added) more.passes).0
 
-pub one_line : (a b c d e sep : List ℕ) → is_line a ≡ true → Adds (fits Line) a b → c ≡ b ++ sep → is_line sep ≡ true → Adds (fits Line) c d
+pub one_line : (a b c d e sep : List ℕ) → is_line a ≡ true → Appends (fits Line) a b → c ≡ b ++ sep → is_line sep ≡ true → Appends (fits Line) c d
     → e ≡ d ++ 10 ∷ [] → IsOneLine e
 one_line a b c d e sep h first then_sep g second ends = record {
   text = d;

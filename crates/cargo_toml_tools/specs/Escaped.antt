@@ -18,8 +18,8 @@ is_control c =
     || is_in_range 0x2028 0x202E c || is_in_range 0x2060 0x206F c || (c == 0xFEFF)
 
 -- a character that has no meaning in the text of a line of Markdown
-abbrev pub is_plain : ℕ → Bool
-is_plain c =
+abbrev pub is_plain_sign : ℕ → Bool
+is_plain_sign c =
     list_any (nat_eq c) (codes " -+.,:;/?()=%") || is_ascii_alphanumeric c
     || (not (is_ascii c) && not (is_control c))
 
@@ -35,7 +35,7 @@ unfoldable pub escaped : Format → ℕ → Text
 escaped Line c =
     if is_control c then braced c
     else (if c == 92 then codes "\\\\" else (if c == 124 then codes "\\|" else encode_utf8 c))
-escaped Markdown c = if is_plain c then encode_utf8 c else numbered c
+escaped Markdown c = if is_plain_sign c then encode_utf8 c else numbered c
 escaped Dot c =
     if is_control c then numbered c
     else (if c == 92 then codes "\\\\" else (if c == 34 then codes "\\\""
@@ -47,7 +47,7 @@ escaped_text format words = flat_map (escaped format) (chars words)
 
 -- a name with characters, each of which is plain or `_`, which is 95
 abbrev pub is_code : Text → Bool
-is_code name = list_all (λ c. is_plain c || (c == 95)) (chars name) && not (length name == 0)
+is_code name = list_all (λ c. is_plain_sign c || (c == 95)) (chars name) && not (length name == 0)
 
 -- a name as code in Markdown: between backticks, where nothing in it could have a meaning there
 abbrev pub code : Text → Text

@@ -32,7 +32,7 @@ fits Markdown bytes = list_all (λ b. is_sign b && not (is_mark b)) bytes
 fits Dot bytes = is_line bytes && is_guarded 34 false bytes
 
 -- a text has more behind what it had, which passes the test
-pub record Adds (test : List ℕ → Bool) (old new : List ℕ) : Type 0 where
+pub record Appends (test : List ℕ → Bool) (old new : List ℕ) : Type 0 where
   pub added : List ℕ
   pub follows : new ≡ old ++ added
   pub passes : test added ≡ true

@@ -13,24 +13,24 @@ use Rattle.cargo_toml.specs.Kind.TheVariants.{Build, Dev, Normal}
 use Rattle.cargo_toml.specs.Manifests.{ManifestMeaning}
 use Rattle.cargo_toml.specs.Targets.{TargetMeaning}
 use Rattle.cargo_toml_tools.specs.Indexed.{lacks_version, target_by_kind, with_kinds}
-use Rattle.cargo_toml_tools.specs.IndexRows.{text_or_null, texts, with_rows}
+use Rattle.cargo_toml_tools.specs.IndexRows.{text_array, text_or_null, with_rows}
 use Rattle.cargo_toml_tools.specs.Requirements.{requirement_text}
 
 -- the requirement on the version, if there is one, and how it is written
-abbrev pub version_of : DependencyMeaning → Option (List Held)
-version_of (simple r) = Some r
-version_of (inherited i) = None
-version_of (detailed d) = d.version
+abbrev pub required_version : DependencyMeaning → Option (List Held)
+required_version (simple r) = Some r
+required_version (inherited i) = None
+required_version (detailed d) = d.version
 
 abbrev pub req_text : Option (List Held) → Text
 req_text None = codes "*"
 req_text (Some r) = requirement_text r
 
 -- the features that are asked for, and whether the default ones are
-abbrev pub features_of : DependencyMeaning → List Text
-features_of (simple r) = []
-features_of (inherited i) = i.features
-features_of (detailed d) = d.features
+abbrev pub asked_features : DependencyMeaning → List Text
+asked_features (simple r) = []
+asked_features (inherited i) = i.features
+asked_features (detailed d) = d.features
 
 abbrev pub has_default : DependencyMeaning → Bool
 has_default (simple r) = true
@@ -53,9 +53,9 @@ abbrev pub renamed : Text → Option Text → Option Text
 renamed key None = None
 renamed key (Some name) = if bytes_eq name key then None else Some name
 
-abbrev pub package_rows : Option Text → List (Text × Data)
-package_rows None = []
-package_rows (Some name) = (codes "package", string name) ∷ []
+abbrev pub renamed_rows : Option Text → List (Text × Data)
+renamed_rows None = []
+renamed_rows (Some name) = (codes "package", string name) ∷ []
 
 abbrev pub kind_text : Kind → Text
 kind_text Normal = codes "normal"
@@ -66,8 +66,8 @@ kind_text Dev = codes "dev"
 abbrev pub wanted_rows : Text → DependencyMeaning → List (Text × Data)
 wanted_rows key d =
     (codes "name", string key)
-    ∷ (codes "req", string (req_text (version_of d)))
-    ∷ (codes "features", texts (features_of d))
+    ∷ (codes "req", string (req_text (required_version d)))
+    ∷ (codes "features", text_array (asked_features d))
     ∷ (codes "optional", boolean (is_optional d))
     ∷ (codes "default_features", boolean (has_default d)) ∷ []
 
@@ -76,15 +76,15 @@ place_rows kind target =
     (codes "target", text_or_null target) ∷ (codes "kind", string (kind_text kind)) ∷ []
 
 -- all members of an entry
-abbrev pub entry_rows : Kind → Option Text → Text × DependencyMeaning → List (Text × Data)
-entry_rows kind target e =
-    wanted_rows e.0 e.1 ++ (package_rows (renamed e.0 (package_of e.1))
+abbrev pub index_rows : Kind → Option Text → Text × DependencyMeaning → List (Text × Data)
+index_rows kind target e =
+    wanted_rows e.0 e.1 ++ (renamed_rows (renamed e.0 (package_of e.1))
     ++ (place_rows kind target ++ (codes "registry", text_or_null (registry_of e.1)) ∷ []))
 
 -- the entry, unless the dependency has a path or a repository and no version: it is for tests then
 abbrev pub entries_of : Kind → Option Text → Text × DependencyMeaning → List Data
 entries_of kind target e =
-    if lacks_version e.1 then [] else object (with_rows (entry_rows kind target e) no_members) ∷ []
+    if lacks_version e.1 then [] else object (with_rows (index_rows kind target e) no_members) ∷ []
 
 -- those of one table, and of all tables of a package or a target
 abbrev pub table_entries : Kind → Option Text → Entries → List Data

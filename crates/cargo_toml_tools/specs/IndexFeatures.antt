@@ -4,7 +4,7 @@ use Rattle.std.specs.Prelude.{List, [], ◌∷◌, codes}
 use Rattle.std.specs.List.{flat_map, list_any, starts_with}
 use Rattle.serde_json.specs.Data.{Data, no_members, number, object, unsigned}
 use Rattle.cargo_toml.specs.Action.{Text}
-use Rattle.cargo_toml_tools.specs.IndexRows.{texts, with_rows}
+use Rattle.cargo_toml_tools.specs.IndexRows.{text_array, with_rows}
 
 -- the bytes stand somewhere in the text
 abbrev pub has_part : Text → Text → Bool
@@ -26,7 +26,7 @@ is_chosen false list = not (is_extended list)
 
 -- the features with such lists, which are as they are written
 abbrev pub list_rows : Bool → Text × List Text → List (Text × Data)
-list_rows extended f = if is_chosen extended f.1 then (f.0, texts f.1) ∷ [] else []
+list_rows extended f = if is_chosen extended f.1 then (f.0, text_array f.1) ∷ [] else []
 
 abbrev pub lists_rows : Bool → List (Text × List Text) → List (Text × Data)
 lists_rows extended fs = flat_map (list_rows extended) fs

@@ -20,8 +20,8 @@ text_or_null None = null
 text_or_null (Some text) = string text
 
 -- a list of texts
-abbrev pub texts : List Text → Data
-texts ts = array (items_of (map string ts))
+abbrev pub text_array : List Text → Data
+text_array ts = array (items_of (map string ts))
 
 -- what is of the package alone
 abbrev pub rows_of_package : {M : Type 0} → PackageMeaning M → List (Text × Data)

@@ -16,8 +16,8 @@ abbrev pub left_rows : List (Text × Bool) → List Text
 left_rows rows = map (λ r. r.0) (filter (λ r. r.1) rows)
 
 -- the keys that a package may leave, and whether it does
-abbrev pub package_rows : {M : Type 0} → PackageMeaning M → List (Text × Bool)
-package_rows p =
+abbrev pub leavable_rows : {M : Type 0} → PackageMeaning M → List (Text × Bool)
+leavable_rows p =
     (codes "version", field_is_left p.version)
     ∷ (codes "edition", field_is_left p.edition)
     ∷ (codes "authors", field_is_left p.authors)
@@ -38,7 +38,7 @@ package_rows p =
 -- the keys of the package, and then `lints`
 abbrev pub left_fields : {M : Type 0} → ManifestMeaning M → List Text
 left_fields m =
-    left_rows (option_map_or package_rows m.«package» [])
+    left_rows (option_map_or leavable_rows m.«package» [])
     ++ left_rows ((codes "lints", field_is_left m.lints) ∷ [])
 
 abbrev pub table_name : Kind → Text

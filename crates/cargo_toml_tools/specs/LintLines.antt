@@ -16,8 +16,8 @@ place None = []
 place (Some file) = escaped_text Line file ++ codes ": "
 
 -- a finding's line, without its end
-abbrev pub finding_line : Option Text → Finding → Text
-finding_line file x =
+abbrev pub lint_line : Option Text → Finding → Text
+lint_line file x =
     concat (place file ∷ level_name x.level ∷ codes " | " ∷ code_name x.code
     ∷ column x.feature.now ∷ codes " | " ∷ x.words.now ∷ [])
 
@@ -28,4 +28,4 @@ pub record TellsFindings {M : Type 0} (m : ManifestMeaning M) (file : Option Tex
   pub exact : (c : Code) (f : Text) → IsFound findings c f ↔ HoldsOf 2048 m c f
   pub in_order : AreSorted findings
   pub told : AllByRecursion IsTold findings
-  pub whole : text ≡ whole_lines (map (finding_line file) findings)
+  pub whole : text ≡ whole_lines (map (lint_line file) findings)

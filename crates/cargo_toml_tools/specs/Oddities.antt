@@ -39,17 +39,17 @@ abbrev pub oddity_with : Code → Text → Text → Oddity
 oddity_with code subject words = record { code = code; subject = subject; words = words }
 
 -- some finding tells this
-abbrev pub IsFound : BTreeSet Finding → Oddity → Type 0
-IsFound findings o = Among (map oddity_of findings.keys) o
+abbrev pub IsReported : BTreeSet Finding → Oddity → Type 0
+IsReported findings o = Among (map oddity_of findings.keys) o
 
 -- all of these are found
-abbrev pub AreFound : BTreeSet Finding → List Oddity → Type 0
-AreFound findings os = (o : Oddity) → Among os o → IsFound findings o
+abbrev pub AreReported : BTreeSet Finding → List Oddity → Type 0
+AreReported findings os = (o : Oddity) → Among os o → IsReported findings o
 
 -- no finding is lost, and each new one is such
-pub record Gains (Such : Oddity → Type 0) (old new : BTreeSet Finding) : Type 0 where
-  pub kept : (o : Oddity) → IsFound old o → IsFound new o
-  pub gained : (o : Oddity) → IsFound new o → IsFound old o ⊎ Such o
+pub record GainsOnly (Such : Oddity → Type 0) (old new : BTreeSet Finding) : Type 0 where
+  pub kept : (o : Oddity) → IsReported old o → IsReported new o
+  pub gained : (o : Oddity) → IsReported new o → IsReported old o ⊎ Such o
 
 -- a member that doesn't complete, with the words of its fault
 abbrev pub refusal_of : Text → Text → Oddity

@@ -40,28 +40,28 @@ abbrev pub pieces : Text → List Text
 pieces path = slice_split (λ b. nat_eq b 47) path
 
 -- the path with no `.` in it, and with `..` at its front alone; the folder itself is `.`
-abbrev pub or_here : Text → Text
-or_here [] = codes "."
-or_here (b ∷ bs) = b ∷ bs
+abbrev pub or_dot : Text → Text
+or_dot [] = codes "."
+or_dot (b ∷ bs) = b ∷ bs
 
 abbrev pub root_of : Text → Text
 root_of path = if is_rooted path then codes "/" else []
 
 abbrev pub normalized : Text → Text
-normalized path = or_here (root_of path ++ join_with_byte 47 (settled (pieces path)))
+normalized path = or_dot (root_of path ++ join_with_byte 47 (settled (pieces path)))
 
 -- the path of what lies in a folder; the empty path is the folder in which all others are seen
-abbrev pub below : Text → Text → Text
-below folder name =
+abbrev pub path_below : Text → Text → Text
+path_below folder name =
     folder ++ ((if length folder == 0 || is_closed folder then [] else codes "/") ++ name)
 
 -- the path of a folder that is seen from a root, and that of its manifest
 abbrev pub seen_from : Text → Text → Text
 seen_from root folder =
-    if is_nothing folder then root else if is_rooted folder then folder else below root folder
+    if is_nothing folder then root else if is_rooted folder then folder else path_below root folder
 
 abbrev pub manifest_path : Text → Text → Text
-manifest_path root folder = below (seen_from root folder) (codes "Cargo.toml")
+manifest_path root folder = path_below (seen_from root folder) (codes "Cargo.toml")
 
 -- a folder is another, or lies in it; all lie in `.`
 abbrev pub is_within : Text → Text → Bool
@@ -80,14 +80,14 @@ abbrev pub is_excluded : List Text → List Text → Text → Bool
 is_excluded members excluded folder = lies_in folder excluded && not (lies_in folder members)
 
 -- a folder that a workspace may list: its own, or one by a normalized path that isn't excluded
-abbrev pub IsListed : List Text → List Text → Text → Type 0
-IsListed members excluded folder =
+abbrev pub MayBeMember : List Text → List Text → Text → Type 0
+MayBeMember members excluded folder =
     (folder ≡ codes ".")
     ⊎ (((path : Text) × (folder ≡ normalized path)) × IsFalse (is_excluded members excluded folder))
 
 -- folders that a workspace may list, and those among them that are listed more than once
 pub record AreListed (members excluded : List Text) (folders twice : Text → Bool) : Type 0 where
-  pub listed : (folder : Text) → IsTrue (folders folder) → IsListed members excluded folder
+  pub listed : (folder : Text) → IsTrue (folders folder) → MayBeMember members excluded folder
   pub among : (folder : Text) → IsTrue (twice folder) → IsTrue (folders folder)
 
 -- there was no memory, or a fault of reading folders

@@ -32,7 +32,7 @@ member_line m =
     ∷ codes " | " ∷ keys_text m.inherits.items ∷ [])
 
 -- what is odd
-abbrev pub finding_line : Finding → Text
-finding_line f =
+abbrev pub oddity_line : Finding → Text
+oddity_line f =
     concat (codes "finding " ∷ word_of f.code ∷ column (string_bytes f.subject)
     ∷ column (string_bytes f.words) ∷ [])

@@ -7,7 +7,7 @@ ghost use Rattle.cargo_toml.specs.Reach.{Among};
 ghost use Rattle.cargo_toml.specs.Templates.{template_meaning};
 ghost use Rattle.cargo_toml_tools.specs.Audited.{AddsMember, IsNoPackage, IsUntold, word_of};
 ghost use Rattle.cargo_toml_tools.specs.LeftKeys.{left_keys};
-ghost use Rattle.cargo_toml_tools.specs.Oddities.{AreFound, Gains, IsFound, is_outside};
+ghost use Rattle.cargo_toml_tools.specs.Oddities.{AreReported, GainsOnly, IsReported, is_outside};
 ghost use Rattle.cargo_toml_tools.specs.Oddities.{listing_oddities, member_differences};
 ghost use Rattle.cargo_toml_tools.specs.Oddities.{oddity_with, refusal_of};
 
@@ -129,10 +129,10 @@ impl Audit {
 
     fn find(&mut self, code: Code, subject: &str, words: String) -> Result<(), AllocError>
         ensures members { self.new.members ≡ self.old.members }
-        ensures findings { Gains (λ o. o ≡ oddity_with code subject.now (string_bytes words))
+        ensures findings { GainsOnly (λ o. o ≡ oddity_with code subject.now (string_bytes words))
             self.old.findings self.new.findings }
         ensures found { OnOk result
-            (IsFound self.new.findings (oddity_with code subject.now (string_bytes words))) }
+            (IsReported self.new.findings (oddity_with code subject.now (string_bytes words))) }
     {
         let subject = String::from_str(*self.members.allocator(), subject)?;
         self.findings.insert(Finding {
@@ -146,9 +146,9 @@ impl Audit {
     /// Adds what is odd of how members are listed.
     pub fn add_listing(&mut self, members: &Members) -> Result<(), AllocError>
         ensures members { self.new.members ≡ self.old.members }
-        ensures findings { Gains (Among (listing_oddities members.now))
+        ensures findings { GainsOnly (Among (listing_oddities members.now))
             self.old.findings self.new.findings }
-        ensures found { OnOk result (AreFound self.new.findings (listing_oddities members.now)) }
+        ensures found { OnOk result (AreReported self.new.findings (listing_oddities members.now)) }
     {
         let alloc = *self.members.allocator();
         for folder in &members.twice {
@@ -192,10 +192,10 @@ impl Audit {
         ensures kept { OnErr result (self.new.members.items ≡ self.old.members.items) }
         ensures no_package { IsErrAnd result IsNoPackage ↔ (manifest.now.«package» ≡ None) }
         ensures refused { IfErr result (IsUntold (held manifest.now)) }
-        ensures findings { Gains (Among (member_differences folder.now
+        ensures findings { GainsOnly (Among (member_differences folder.now
             (option_map template_meaning workspace.now.«package») (held manifest.now)))
             self.old.findings self.new.findings }
-        ensures found { OnOk result (AreFound self.new.findings (member_differences folder.now
+        ensures found { OnOk result (AreReported self.new.findings (member_differences folder.now
             (option_map template_meaning workspace.now.«package») (held manifest.now))) }
     {
         let alloc = *self.members.allocator();
@@ -209,10 +209,10 @@ impl Audit {
     /// Adds a member that doesn't complete, by the words of its fault.
     pub fn add_refused(&mut self, folder: &str, words: &str) -> Result<(), AllocError>
         ensures members { self.new.members ≡ self.old.members }
-        ensures findings { Gains (λ o. o ≡ refusal_of folder.now words.now)
+        ensures findings { GainsOnly (λ o. o ≡ refusal_of folder.now words.now)
             self.old.findings self.new.findings }
         ensures found { OnOk result
-            (IsFound self.new.findings (refusal_of folder.now words.now)) }
+            (IsReported self.new.findings (refusal_of folder.now words.now)) }
     {
         let words = String::from_str(*self.members.allocator(), words)?;
         self.find(Code::Incomplete, folder, words)

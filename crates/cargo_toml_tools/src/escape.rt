@@ -4,9 +4,9 @@
 ghost use Rattle.std.specs.Prelude.{◌≡◌, ◌==◌, ◌++◌, ◌||◌, IfOk, OnOk, string_bytes, true};
 ghost use Rattle.cargo_toml_tools.specs.declared.escape.Format.TheVariants.{Dot, Line, Markdown};
 ghost use Rattle.cargo_toml_tools.specs.Escaped.{braced, code, comma, escaped, escaped_text};
-ghost use Rattle.cargo_toml_tools.specs.Escaped.{fault_line, is_code, is_control, is_plain};
+ghost use Rattle.cargo_toml_tools.specs.Escaped.{fault_line, is_code, is_control, is_plain_sign};
 ghost use Rattle.cargo_toml_tools.specs.Escaped.{numbered};
-ghost use Rattle.cargo_toml_tools.specs.Escapes.{Adds, IsOneLine, fits, is_cell};
+ghost use Rattle.cargo_toml_tools.specs.Escapes.{Appends, IsOneLine, fits, is_cell};
 
 use std::alloc::{AllocError, Global};
 use std::fmt::Write;
@@ -27,7 +27,7 @@ pub fn push_escaped(text: &mut String, words: &str, format: Format) -> Result<()
     ensures exact { OnOk result
         (string_bytes text.new ≡ string_bytes text.old ++ escaped_text format words.now) }
     ensures fits { OnOk result
-        (Adds (fits format) (string_bytes text.old) (string_bytes text.new)) }
+        (Appends (fits format) (string_bytes text.old) (string_bytes text.new)) }
 {
     for c in words.chars() {
         push_char(text, c, format)?;
@@ -39,7 +39,7 @@ pub fn push_escaped(text: &mut String, words: &str, format: Format) -> Result<()
 /// could have a meaning there.
 pub fn push_code(text: &mut String, name: &str) -> Result<(), AllocError>
     ensures exact { OnOk result (string_bytes text.new ≡ string_bytes text.old ++ code name.now) }
-    ensures cell { OnOk result (Adds is_cell (string_bytes text.old) (string_bytes text.new)) }
+    ensures cell { OnOk result (Appends is_cell (string_bytes text.old) (string_bytes text.new)) }
 {
     if is_code(name) {
         text.push_str("`")?;
@@ -150,7 +150,7 @@ fn is_control(c: char) -> bool
 
 /// Whether the character has no meaning in the text of a line of Markdown.
 fn is_plain_in_markdown(c: char) -> bool
-    ensures { result ≡ is_plain c }
+    ensures { result ≡ is_plain_sign c }
 {
     match c {
         ' ' | '-' | '+' | '.' | ',' | ':' | ';' | '/' | '?' | '(' | ')' | '=' | '%' => true,
@@ -172,7 +172,7 @@ fn is_code(name: &str) -> bool
 }
 
 fn is_plain_in_code(c: char) -> bool
-    ensures { result ≡ (is_plain c || (c == 95)) }
+    ensures { result ≡ (is_plain_sign c || (c == 95)) }
 {
     is_plain_in_markdown(c) || c == '_'
 }

@@ -3,7 +3,7 @@ ghost use Rattle.std.specs.Prelude.{◌≡◌, OnOk, map, string_bytes};
 ghost use Rattle.std.specs.Option.{option_copied};
 ghost use Rattle.serde_json.specs.Data.{put as with_member};
 ghost use Rattle.serde_json.specs.View.{members_view};
-ghost use Rattle.cargo_toml_tools.specs.IndexRows.{text_or_null, texts as texts_data};
+ghost use Rattle.cargo_toml_tools.specs.IndexRows.{text_array, text_or_null};
 
 use serde_json::{Map, Value, push, put};
 use std::alloc::{AllocError, Global};
@@ -34,7 +34,7 @@ pub fn put_texts(
     texts: &[String],
 ) -> Result<(), AllocError>
     ensures { OnOk result (members_view object.new.entries
-        ≡ with_member key.now (texts_data (map string_bytes texts.now))
+        ≡ with_member key.now (text_array (map string_bytes texts.now))
         (members_view object.old.entries)) }
 {
     let mut items = Vec::new(alloc);

@@ -5,7 +5,7 @@ ghost use Rattle.std.specs.List.{list_any};
 ghost use Rattle.cargo_toml.specs.Error.{Memory};
 ghost use Rattle.cargo_toml.specs.Manifests.{held};
 ghost use Rattle.cargo_toml_tools.specs.Escaped.{whole_lines};
-ghost use Rattle.cargo_toml_tools.specs.LintLines.{TellsFindings, finding_line, place};
+ghost use Rattle.cargo_toml_tools.specs.LintLines.{TellsFindings, lint_line, place};
 ghost use Rattle.cargo_toml_tools.specs.Linted.{IsAmiss, weighs};
 
 use crate::escape::{Format, push_escaped};
@@ -54,7 +54,7 @@ fn weighs(level: Level) -> bool
 
 fn lines(alloc: Global, file: Option<&str>, findings: &[Finding<'_>]) -> Result<String, AllocError>
     ensures { IfOk result (λ text. string_bytes text ≡
-        whole_lines (map (finding_line (option_copied file.entry)) findings.now)) }
+        whole_lines (map (lint_line (option_copied file.entry)) findings.now)) }
 {
     let mut text = String::new(alloc);
     for finding in findings {
@@ -69,7 +69,7 @@ fn push_finding(
     finding: &Finding<'_>,
 ) -> Result<(), AllocError>
     ensures { OnOk result (string_bytes text.new ≡ string_bytes text.old
-        ++ (finding_line (option_copied file.entry) finding.now ++ 10 ∷ [])) }
+        ++ (lint_line (option_copied file.entry) finding.now ++ 10 ∷ [])) }
 {
     push_place(text, file)?;
     text.push_str(finding.level.name())?;

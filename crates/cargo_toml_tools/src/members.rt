@@ -12,7 +12,7 @@ use cargo_toml::{Error, Manifest, Workspace};
 use std::alloc::{AllocError, Global};
 use std::collections::BTreeSet;
 use std::rt::Files;
-use walk::{below, expanded, is_within, normalized, seen_from};
+use walk::{expanded, is_within, normalized, path_below, seen_from};
 
 /// The members that a workspace lists, by their folders from its own on.
 #[derive(Debug, Drop)]
@@ -151,5 +151,5 @@ pub fn manifest_path(alloc: Global, root: &str, folder: &str) -> Result<String, 
     ensures { IfOk result (λ path. string_bytes path ≡ manifest_path root.now folder.now) }
 {
     let folder = seen_from(alloc, root, folder)?;
-    below(alloc, folder.as_str(), "Cargo.toml")
+    path_below(alloc, folder.as_str(), "Cargo.toml")
 }

@@ -6,8 +6,8 @@ ghost use Rattle.cargo_toml.specs.Reach.{Among};
 ghost use Rattle.cargo_toml.specs.Reads.{map_meaning};
 ghost use Rattle.cargo_toml.specs.Settings.{edition_text};
 ghost use Rattle.cargo_toml.specs.Templates.{template_meaning};
-ghost use Rattle.cargo_toml_tools.specs.Oddities.{AreFound, Gains, IsOfAll, differences_if_any};
-ghost use Rattle.cargo_toml_tools.specs.Oddities.{other_of};
+ghost use Rattle.cargo_toml_tools.specs.Oddities.{AreReported, GainsOnly, IsOfAll};
+ghost use Rattle.cargo_toml_tools.specs.Oddities.{differences_if_any, other_of};
 ghost use Rattle.cargo_toml_tools.specs.declared.audit.Code.TheVariants.{SeveralRequirements};
 
 use super::{Audit, Code, Finding, Member, Use};
@@ -24,11 +24,11 @@ impl Audit {
         workspace: &Workspace<M>,
     ) -> Result<(), AllocError>
         ensures members { self.new.members ≡ self.old.members }
-        ensures findings { Gains (Among (differences_if_any (string_bytes member.now.folder)
+        ensures findings { GainsOnly (Among (differences_if_any (string_bytes member.now.folder)
             (string_bytes member.now.edition) (option_map string_bytes member.now.license)
             (option_map template_meaning workspace.now.«package»)))
             self.old.findings self.new.findings }
-        ensures found { OnOk result (AreFound self.new.findings
+        ensures found { OnOk result (AreReported self.new.findings
             (differences_if_any (string_bytes member.now.folder)
             (string_bytes member.now.edition) (option_map string_bytes member.now.license)
             (option_map template_meaning workspace.now.«package»))) }
@@ -53,10 +53,10 @@ impl Audit {
         given: Option<&str>,
     ) -> Result<(), AllocError>
         ensures members { self.new.members ≡ self.old.members }
-        ensures findings { Gains
+        ensures findings { GainsOnly
             (Among (other_of code folder.now own.now (option_copied given.entry)))
             self.old.findings self.new.findings }
-        ensures found { OnOk result (AreFound self.new.findings
+        ensures found { OnOk result (AreReported self.new.findings
             (other_of code folder.now own.now (option_copied given.entry))) }
     {
         let Some(given) = given else {
@@ -74,7 +74,7 @@ impl Audit {
     /// inherits, and crates that are asked for by several requirements.
     pub fn finish<M>(&mut self, workspace: &Workspace<M>) -> Result<(), AllocError>
         ensures members { self.new.members ≡ self.old.members }
-        ensures findings { Gains
+        ensures findings { GainsOnly
             (IsOfAll (map_meaning dependency_meaning workspace.now.dependencies))
             self.old.findings self.new.findings }
     {
@@ -114,7 +114,7 @@ fn add_requirements(
     uses: &BTreeSet<Use>,
     findings: &mut BTreeSet<Finding>,
 ) -> Result<(), AllocError>
-    ensures { Gains (λ o. o.code ≡ SeveralRequirements) findings.old findings.new }
+    ensures { GainsOnly (λ o. o.code ≡ SeveralRequirements) findings.old findings.new }
 {
     let mut group = Group::new(alloc);
     for one in uses {
@@ -165,7 +165,7 @@ impl Group {
 
     /// Adds what was found, once all that asks for the crate was added.
     fn close(&self, findings: &mut BTreeSet<Finding>) -> Result<(), AllocError>
-        ensures { Gains (λ o. o.code ≡ SeveralRequirements) findings.old findings.new }
+        ensures { GainsOnly (λ o. o.code ≡ SeveralRequirements) findings.old findings.new }
     {
         if !self.is_several {
             return Ok(());

@@ -11,7 +11,7 @@ ghost use Rattle.cargo_toml.specs.Targets.{target_meaning};
 ghost use Rattle.cargo_toml_dependencies.specs.Replacing.{entries_meaning};
 ghost use Rattle.cargo_toml_tools.specs.Indexed.{all_by_kind, target_by_kind, with_kinds};
 ghost use Rattle.cargo_toml_tools.specs.LeftKeys.{left_fields, left_in, left_in_tables};
-ghost use Rattle.cargo_toml_tools.specs.LeftKeys.{left_rows, package_rows};
+ghost use Rattle.cargo_toml_tools.specs.LeftKeys.{leavable_rows, left_rows};
 
 use cargo_toml::{Dependency, DepsSet, Inheritable, Manifest, Package, Target};
 use std::alloc::{AllocError, Global};
@@ -32,20 +32,20 @@ pub fn inherited_keys<M>(alloc: Global, manifest: &Manifest<M>) -> Result<Vec<St
 
 fn package_keys<M>(alloc: Global, package: &Option<Package<M>>) -> Result<Vec<String>, AllocError>
     ensures { IfOk result (λ keys. map string_bytes keys.items
-        ≡ left_rows (option_map_or package_rows (option_map held_package «package».now) [])) }
+        ≡ left_rows (option_map_or leavable_rows (option_map held_package «package».now) [])) }
 {
     let mut keys = Vec::new(alloc);
     let Some(package) = package else {
         return Ok(keys);
     };
-    let rows = package_rows(package);
+    let rows = leavable_rows(package);
     add_left(alloc, &mut keys, &rows)?;
     Ok(keys)
 }
 
 /// The keys that a package may leave to the workspace.
-fn package_rows<M>(package: &Package<M>) -> [Row; 16]
-    ensures { map (λ r. (r.0.now, r.1)) result ≡ package_rows (held_package «package».now) }
+fn leavable_rows<M>(package: &Package<M>) -> [Row; 16]
+    ensures { map (λ r. (r.0.now, r.1)) result ≡ leavable_rows (held_package «package».now) }
 {
     [
         ("version", !package.version.is_set()),

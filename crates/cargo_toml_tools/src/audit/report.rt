@@ -4,7 +4,7 @@ ghost use Rattle.std.specs.Prelude.{string_bytes, vec_len};
 ghost use Rattle.std.specs.BTreeSet.{btree_set_len, keys};
 ghost use Rattle.cargo_toml_tools.specs.Escaped.{column, whole_lines};
 ghost use Rattle.cargo_toml_tools.specs.Escapes.{AreLines};
-ghost use Rattle.cargo_toml_tools.specs.Reported.{finding_line, keys_text, member_line, or_dash};
+ghost use Rattle.cargo_toml_tools.specs.Reported.{keys_text, member_line, oddity_line, or_dash};
 
 use super::{Audit, Finding, Member};
 use crate::escape::{Format, comma_before, push_escaped};
@@ -18,7 +18,7 @@ use std::alloc::{AllocError, Global};
 /// `finding CODE | SUBJECT | WORDS`, where `-` stands for what isn't there.
 pub fn lines(alloc: Global, audit: &Audit) -> Result<String, AllocError>
     ensures exact { IfOk result (λ text. string_bytes text ≡ whole_lines
-        (map member_line audit.now.members.items ++ map finding_line (keys audit.now.findings))) }
+        (map member_line audit.now.members.items ++ map oddity_line (keys audit.now.findings))) }
     ensures lines { IfOk result (λ text. AreLines
         (vec_len audit.now.members + btree_set_len audit.now.findings) (string_bytes text)) }
 {
@@ -56,7 +56,7 @@ fn or_dash(words: &Option<String>) -> &str
 
 fn push_finding(text: &mut String, finding: &Finding) -> Result<(), AllocError>
     ensures { OnOk result
-        (string_bytes text.new ≡ string_bytes text.old ++ (finding_line finding.now ++ 10 ∷ [])) }
+        (string_bytes text.new ≡ string_bytes text.old ++ (oddity_line finding.now ++ 10 ∷ [])) }
 {
     text.push_str("finding ")?;
     text.push_str(finding.code.word())?;

@@ -4,10 +4,10 @@ ghost use Rattle.std.specs.Option.{option_copied};
 ghost use Rattle.serde_json.specs.View.{members_view, view};
 ghost use Rattle.cargo_toml.specs.Dependencies.{dependency_meaning, package_of};
 ghost use Rattle.cargo_toml.specs.Versions.{requirement_meaning};
-ghost use Rattle.cargo_toml_tools.specs.IndexEntries.{address_of, entries_of, entry_rows};
-ghost use Rattle.cargo_toml_tools.specs.IndexEntries.{has_default, kind_text, package_rows};
+ghost use Rattle.cargo_toml_tools.specs.IndexEntries.{address_of, entries_of, index_rows};
+ghost use Rattle.cargo_toml_tools.specs.IndexEntries.{has_default, kind_text, renamed_rows};
 ghost use Rattle.cargo_toml_tools.specs.IndexEntries.{place_rows, registry_of, renamed, req_text};
-ghost use Rattle.cargo_toml_tools.specs.IndexEntries.{version_of, wanted_rows};
+ghost use Rattle.cargo_toml_tools.specs.IndexEntries.{required_version, wanted_rows};
 ghost use Rattle.cargo_toml_tools.specs.IndexRows.{with_rows};
 
 use super::refusals::lacks_version;
@@ -57,7 +57,7 @@ fn entry(
     place: Place<'_>,
 ) -> Result<Map<String, Value>, AllocError>
     ensures { IfOk result (λ entry. members_view entry.entries
-        ≡ with_rows (entry_rows place.entry.kind (option_copied place.entry.target)
+        ≡ with_rows (index_rows place.entry.kind (option_copied place.entry.target)
         (key.now, dependency_meaning dependency.now)) (members_view [])) }
 {
     let mut entry = Map::new(alloc);
@@ -96,7 +96,7 @@ fn put_wanted(
 /// The requirement on the version, as the index has it: `*` is any.
 fn requirement(alloc: Global, dependency: &Dependency) -> Result<String, AllocError>
     ensures { IfOk result (λ text. string_bytes text
-        ≡ req_text (version_of (dependency_meaning dependency.now))) }
+        ≡ req_text (required_version (dependency_meaning dependency.now))) }
 {
     match version(dependency) {
         Some(requirement) => requirement_text(alloc, requirement),
@@ -107,7 +107,7 @@ fn requirement(alloc: Global, dependency: &Dependency) -> Result<String, AllocEr
 /// The requirement, where there is one.
 fn version(dependency: &Dependency) -> Option<&VersionReq>
     ensures { option_map requirement_meaning (option_copied result)
-        ≡ version_of (dependency_meaning dependency.now) }
+        ≡ required_version (dependency_meaning dependency.now) }
 {
     match dependency {
         Dependency::Simple(requirement) => Some(requirement),
@@ -143,7 +143,7 @@ fn put_package(
     package: Option<&str>,
 ) -> Result<(), AllocError>
     ensures { OnOk result (members_view entry.new.entries
-        ≡ with_rows (package_rows (option_copied «package».entry))
+        ≡ with_rows (renamed_rows (option_copied «package».entry))
         (members_view entry.old.entries)) }
 {
     match package {

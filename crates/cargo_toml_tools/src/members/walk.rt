@@ -2,7 +2,7 @@
 ghost use Rattle.std.specs.Prelude.{◌≡◌, ◌++◌, ◌&&◌, IfErr, IfOk, OnOk, map, string_bytes, true};
 ghost use Rattle.std.specs.List.{join_with_byte};
 ghost use Rattle.cargo_toml.specs.RealFiles.{is_absent};
-ghost use Rattle.cargo_toml_tools.specs.Places.{GoesOn, IsOfFolders, below, ends_in_name};
+ghost use Rattle.cargo_toml_tools.specs.Places.{GoesOn, IsOfFolders, ends_in_name, path_below};
 ghost use Rattle.cargo_toml_tools.specs.Places.{is_nothing, is_rooted, is_settled, is_up};
 ghost use Rattle.cargo_toml_tools.specs.Places.{is_within, normalized, pieces, seen_from, settled};
 
@@ -111,8 +111,8 @@ fn can_go_back(names: &[&str]) -> bool
 }
 
 /// The path of what lies in a folder. The empty path is the folder in which all others are seen.
-pub fn below(alloc: Global, folder: &str, name: &str) -> Result<String, AllocError>
-    ensures { IfOk result (λ path. string_bytes path ≡ below folder.now name.now) }
+pub fn path_below(alloc: Global, folder: &str, name: &str) -> Result<String, AllocError>
+    ensures { IfOk result (λ path. string_bytes path ≡ path_below folder.now name.now) }
 {
     let mut path = String::from_str(alloc, folder)?;
     if !folder.is_empty() && !folder.ends_with('/') {
@@ -160,7 +160,7 @@ fn one_further<R: Files + AllocGlobal>(
         if is_pattern(name) {
             add_matched(rt, root, folder.as_str(), name, &mut all)?;
         } else {
-            all.insert(below(alloc, folder.as_str(), name)?)?;
+            all.insert(path_below(alloc, folder.as_str(), name)?)?;
         }
     }
     Ok(all)
@@ -186,9 +186,9 @@ fn add_matched<R: Files + AllocGlobal>(
     for entry in entries {
         let entry = entry?;
         let name = String::from_str(alloc, entry.file_name())?;
-        let path = below(alloc, place.as_str(), name.as_str())?;
+        let path = path_below(alloc, place.as_str(), name.as_str())?;
         if matches(alloc, pattern, name.as_str())? && is_folder(rt, path.as_str()) {
-            all.insert(below(alloc, folder, name.as_str())?)?;
+            all.insert(path_below(alloc, folder, name.as_str())?)?;
         }
     }
     Ok(())
@@ -217,5 +217,5 @@ pub fn seen_from(alloc: Global, root: &str, folder: &str) -> Result<String, Allo
     if is_rooted(folder) {
         return String::from_str(alloc, folder);
     }
-    below(alloc, root, folder)
+    path_below(alloc, root, folder)
 }

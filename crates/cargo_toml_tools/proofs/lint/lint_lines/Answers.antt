@@ -3,7 +3,7 @@ use Rattle.std.specs.Prelude.{option_copied}
 use Rattle.std.specs.List.{list_any}
 use Rattle.cargo_toml_lint.specs.declared.finding.Finding.{Finding}
 use Rattle.cargo_toml_tools.specs.Escaped.{whole_lines}
-use Rattle.cargo_toml_tools.specs.LintLines.{finding_line}
+use Rattle.cargo_toml_tools.specs.LintLines.{lint_line}
 use Rattle.cargo_toml_tools.specs.Linted.{weighs}
 use Rattle.cargo_toml_tools.proofs.Weighed.{some_weighed, weighed_some}
 use Rattle.cargo_toml_tools.proofs.lint.lint_lines.Goals as goal
@@ -24,6 +24,6 @@ returns-clause-lines g c = record {
   in_order = c.in_ok-findings.ensures.in_order;
   told = c.in_ok-findings.ensures.told;
   whole = c.in_ok-text.ensures
-      ∙ ap (λ xs. whole_lines (map (finding_line (option_copied c.args.file)) xs))
+      ∙ ap (λ xs. whole_lines (map (lint_line (option_copied c.args.file)) xs))
       c.as_slice-2.ensures.value;
 }

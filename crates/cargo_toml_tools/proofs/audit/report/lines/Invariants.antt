@@ -1,7 +1,7 @@
 use Rattle.std.proofs.Common.{◌≡◌, ◌++◌, string_bytes, take}
 use Rattle.std.specs.BTreeSet.{keys}
 use Rattle.std.specs.List.{flat_map}
-use Rattle.cargo_toml_tools.specs.Reported.{finding_line, member_line}
+use Rattle.cargo_toml_tools.specs.Reported.{member_line, oddity_line}
 use Rattle.cargo_toml_tools.proofs.Pieces.{with_end}
 use Rattle.cargo_toml_tools.proofs.audit.report.lines.Given as goal
 
@@ -12,6 +12,6 @@ invariant-loop-member l =
 
 abbrev pub invariant-loop-finding : goal.invariant-loop-finding
 invariant-loop-finding l =
-    string_bytes l.text ++ flat_map (with_end finding_line) l.finding-iterator
+    string_bytes l.text ++ flat_map (with_end oddity_line) l.finding-iterator
     ≡ flat_map (with_end member_line) l.audit.members.items
-    ++ flat_map (with_end finding_line) (keys l.audit.findings)
+    ++ flat_map (with_end oddity_line) (keys l.audit.findings)

@@ -2,7 +2,7 @@ use Rattle.std.proofs.Common.{◌∙◌, ap, map, not, refl, string_bytes}
 use Rattle.semver.specs.Identifiers.{parts_of}
 use Rattle.cargo_toml.specs.Settings.{file_meaning, publish_meaning}
 use Rattle.cargo_toml_tools.proofs.Left.{left_mapped, left_there_mapped, one_more}
-use Rattle.cargo_toml_tools.proofs.audit.inherited.package_rows.Goals as goal
+use Rattle.cargo_toml_tools.proofs.audit.inherited.leavable_rows.Goals as goal
 
 pub returns : goal.returns
 returns g c =

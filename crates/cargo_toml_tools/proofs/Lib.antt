@@ -11,6 +11,7 @@ pub mod Asked
 pub mod Floatless
 pub mod Grown
 pub mod Listed
+pub mod NamedFolder
 pub mod Parts
 pub mod Settled
 pub mod Signs
@@ -19,3 +20,5 @@ pub mod Told
 pub mod Weighed
 pub mod Within
 pub mod Yielded
+pub mod Followed
+pub mod KeysInOrder

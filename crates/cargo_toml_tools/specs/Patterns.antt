@@ -1,6 +1,7 @@
 -- Which names a pattern matches.
 use Rattle.std.specs.Prelude.{◌&&◌, ◌||◌, ℕ, Bool, List, [], ◌∷◌, true, false, nat_eq}
 use Rattle.std.specs.List.{list_any}
+use Rattle.std.specs.Str.{chars}
 
 -- a text, and what is left of it after each of its characters
 abbrev pub ends : List ℕ → List (List ℕ)
@@ -28,3 +29,7 @@ begins false wanted rest = after_one wanted rest
 abbrev pub matches : List ℕ → List ℕ → Bool
 matches [] = is_empty
 matches (wanted ∷ pattern) = begins (nat_eq wanted 42) wanted (matches pattern)
+
+-- a name that is a pattern: `*` or `?` stands in it, which are 42 and 63
+abbrev pub is_pattern : List ℕ → Bool
+is_pattern name = list_any (λ c. nat_eq c 42 || nat_eq c 63) (chars name)

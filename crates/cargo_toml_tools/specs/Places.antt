@@ -1,11 +1,9 @@
 -- Paths of folders: a path is its bytes, and its names stand between slashes.
-use Rattle.std.specs.Prelude.{◌≡◌, ◌⊎◌, ◌++◌, ◌&&◌, ◌||◌, ◌==◌, Bool, true, false}
-use Rattle.std.specs.Prelude.{IsFalse, IsTrue, if◌then◌else◌, not}
+use Rattle.std.specs.Prelude.{◌≡◌, ◌++◌, ◌&&◌, ◌||◌, ◌==◌, Bool, true, false}
+use Rattle.std.specs.Prelude.{if◌then◌else◌, not}
 use Rattle.std.specs.Prelude.{List, [], ◌∷◌, bytes_eq, codes, length, nat_eq}
 use Rattle.std.specs.List.{ends_with, join_with_byte, list_any, slice_split, starts_with}
-use Rattle.std.specs.declared.io.Error.{Error as IoError}
 use Rattle.cargo_toml.specs.Action.{Text}
-use Rattle.cargo_toml.specs.Error.{Error, Io, Memory}
 
 -- a path that begins or ends with a slash
 abbrev pub is_rooted : Text → Bool
@@ -78,21 +76,6 @@ lies_in folder folders = list_any (λ outer. lies_under folder (normalized outer
 -- a folder is excluded, and no entry of `members` leads to it as it is written
 abbrev pub is_excluded : List Text → List Text → Text → Bool
 is_excluded members excluded folder = lies_in folder excluded && not (lies_in folder members)
-
--- a folder that a workspace may list: its own, or one by a normalized path that isn't excluded
-abbrev pub MayBeMember : List Text → List Text → Text → Type 0
-MayBeMember members excluded folder =
-    (folder ≡ codes ".")
-    ⊎ (((path : Text) × (folder ≡ normalized path)) × IsFalse (is_excluded members excluded folder))
-
--- folders that a workspace may list, and those among them that are listed more than once
-pub record AreListed (members excluded : List Text) (folders twice : Text → Bool) : Type 0 where
-  pub listed : (folder : Text) → IsTrue (folders folder) → MayBeMember members excluded folder
-  pub among : (folder : Text) → IsTrue (twice folder) → IsTrue (folders folder)
-
--- there was no memory, or a fault of reading folders
-abbrev pub IsOfFolders : Error → Type 0
-IsOfFolders e = (e ≡ Memory) ⊎ ((fault : IoError) × (e ≡ Io fault))
 
 -- names that are settled already
 abbrev pub is_settled : List Text → Bool

@@ -1,9 +1,14 @@
 //! The members of a workspace, by the rules of Cargo's `members` and `exclude`.
-ghost use Rattle.std.specs.Prelude.{◌≡◌, ◌⊎◌, ◌&&◌, ◌||◌, ℕ, List, IfErr, IfOk, IsTrue, OnOk};
-ghost use Rattle.std.specs.Prelude.{IsSome, bytes_eq, codes, map, not, string_bytes};
-ghost use Rattle.std.specs.BTreeSet.{contains_text};
-ghost use Rattle.cargo_toml_tools.specs.Places.{AreListed, IsOfFolders, is_excluded, lies_in};
-ghost use Rattle.cargo_toml_tools.specs.Places.{lies_under, manifest_path};
+ghost use Rattle.std.specs.Prelude.{◌≡◌, ◌<◌, ◌++◌, ◌∷◌, ◌&&◌, ◌||◌, [], ℕ, Bool, List, IfErr};
+ghost use Rattle.std.specs.Prelude.{IfOk, IsFalse, IsSome, IsTrue, OnOk, bytes_eq, codes, false};
+ghost use Rattle.std.specs.Prelude.{is_some, map, not, string_bytes};
+ghost use Rattle.std.specs.BTreeSet.{contains_text, keys};
+ghost use Rattle.std.specs.List.{list_any};
+ghost use Rattle.cargo_toml.specs.Reach.{Among};
+ghost use Rattle.cargo_toml_tools.specs.MemberFolders.{AreListed, AreOfPaths, IsOfFolders};
+ghost use Rattle.cargo_toml_tools.specs.MemberFolders.{has_pattern, lists_folder, times_named};
+ghost use Rattle.cargo_toml_tools.specs.Places.{is_excluded, lies_in, lies_under, manifest_path};
+ghost use Rattle.cargo_toml_tools.specs.Places.{normalized};
 
 mod matching;
 mod walk;
@@ -36,12 +41,20 @@ pub fn list_members<M, R: Files + AllocGlobal>(
     workspace: &Workspace<M>,
 ) -> Result<Members, Error>
     ensures listed { IfOk result (λ m. AreListed
-        (map string_bytes workspace.now.members.items)
-        (map string_bytes workspace.now.exclude.items)
+        (lists_folder (map string_bytes workspace.now.members.items)
+        (map string_bytes workspace.now.exclude.items))
+        (is_some manifest.now.«package») (map string_bytes workspace.now.members.items)
         (contains_text m.folders) (contains_text m.twice)) }
+    ensures named { IfOk result (λ m. (entry : List ℕ)
+        → Among (map string_bytes workspace.now.members.items) entry → IsFalse (has_pattern entry)
+        → IsTrue (contains_text m.folders (normalized entry))) }
     ensures own { IfOk result (λ m. IsSome manifest.now.«package»
         → IsTrue (contains_text m.folders (codes "."))) }
-    ensures refused { IfErr result IsOfFolders }
+    ensures twice { IfOk result (λ m. (folder : List ℕ)
+        → 1 < times_named (map string_bytes workspace.now.members.items) folder
+        → IsTrue (contains_text m.twice folder)) }
+    ensures refused { IfErr result (IsOfFolders
+        (list_any has_pattern (map string_bytes workspace.now.members.items))) }
 {
     let alloc = rt.alloc();
     let mut members = Members {
@@ -49,9 +62,8 @@ pub fn list_members<M, R: Files + AllocGlobal>(
         twice: BTreeSet::new(alloc),
     };
     for entry in &workspace.members {
-        for folder in &expanded(rt, root, entry.as_str())? {
-            add_found(alloc, &mut members, folder.as_str(), workspace)?;
-        }
+        let found = expanded(rt, root, entry.as_str())?;
+        add_all(alloc, &mut members, &found, workspace)?;
     }
     add_own(alloc, &mut members, manifest)?;
     Ok(members)
@@ -63,17 +75,38 @@ fn add_own<M>(
     members: &mut Members,
     manifest: &Manifest<M>,
 ) -> Result<(), AllocError>
-    ensures own { OnOk result (IsSome manifest.now.«package»
-        → IsTrue (contains_text members.new.folders (codes "."))) }
-    ensures kept { OnOk result ((entries excluded : List (List ℕ)) → AreListed entries excluded
+    ensures { OnOk result ((lists : List ℕ → List ℕ → Bool) → (paths : List (List ℕ))
+        → AreOfPaths lists false paths
         (contains_text members.old.folders) (contains_text members.old.twice)
-        → AreListed entries excluded
+        → AreOfPaths lists (is_some manifest.now.«package») paths
         (contains_text members.new.folders) (contains_text members.new.twice)) }
 {
     if manifest.package.is_none() {
         return Ok(());
     }
     members.folders.insert(String::from_str(alloc, ".")?)?;
+    Ok(())
+}
+
+/// Adds the folders that an entry of `members` leads to, but for those that are excluded.
+fn add_all<M>(
+    alloc: Global,
+    members: &mut Members,
+    found: &BTreeSet<String>,
+    workspace: &Workspace<M>,
+) -> Result<(), AllocError>
+    ensures { OnOk result ((paths : List (List ℕ)) → AreOfPaths
+        (lists_folder (map string_bytes workspace.now.members.items)
+        (map string_bytes workspace.now.exclude.items)) false paths
+        (contains_text members.old.folders) (contains_text members.old.twice)
+        → AreOfPaths (lists_folder (map string_bytes workspace.now.members.items)
+        (map string_bytes workspace.now.exclude.items)) false
+        (paths ++ map string_bytes (keys found.now))
+        (contains_text members.new.folders) (contains_text members.new.twice)) }
+{
+    for folder in found {
+        add_found(alloc, members, folder.as_str(), workspace)?;
+    }
     Ok(())
 }
 
@@ -84,11 +117,12 @@ fn add_found<M>(
     folder: &str,
     workspace: &Workspace<M>,
 ) -> Result<(), AllocError>
-    ensures { OnOk result (AreListed (map string_bytes workspace.now.members.items)
-        (map string_bytes workspace.now.exclude.items)
+    ensures { OnOk result ((paths : List (List ℕ)) → AreOfPaths
+        (lists_folder (map string_bytes workspace.now.members.items)
+        (map string_bytes workspace.now.exclude.items)) false paths
         (contains_text members.old.folders) (contains_text members.old.twice)
-        → AreListed (map string_bytes workspace.now.members.items)
-        (map string_bytes workspace.now.exclude.items)
+        → AreOfPaths (lists_folder (map string_bytes workspace.now.members.items)
+        (map string_bytes workspace.now.exclude.items)) false (paths ++ folder.now ∷ [])
         (contains_text members.new.folders) (contains_text members.new.twice)) }
 {
     let folder = normalized(alloc, folder)?;

@@ -1,15 +1,14 @@
 //! Names that a pattern matches: `*` is any text, and `?` any one character.
-ghost use Rattle.std.specs.Prelude.{◌≡◌, ◌∷◌, ◌||◌, IfOk, false, nat_eq, reverse};
-ghost use Rattle.std.specs.List.{list_any};
+ghost use Rattle.std.specs.Prelude.{◌≡◌, ◌∷◌, IfOk, false, nat_eq, reverse};
 ghost use Rattle.std.specs.Str.{chars};
-ghost use Rattle.cargo_toml_tools.specs.Patterns.{matches};
+ghost use Rattle.cargo_toml_tools.specs.Patterns.{is_pattern, matches};
 ghost use Rattle.cargo_toml_tools.specs.Rows.{accepts, next, scan, shift};
 
 use std::alloc::{AllocError, Global};
 
 /// Whether a name of an entry is a pattern.
 pub fn is_pattern(name: &str) -> bool
-    ensures { result ≡ list_any (λ c. nat_eq c 42 || nat_eq c 63) (chars name.now) }
+    ensures { result ≡ is_pattern name.now }
 {
     name.chars().any(|c| c == '*' || c == '?')
 }

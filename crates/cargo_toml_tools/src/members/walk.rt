@@ -1,10 +1,19 @@
 //! Paths of folders, and those that an entry of `members` stands for.
-ghost use Rattle.std.specs.Prelude.{◌≡◌, ◌++◌, ◌&&◌, IfErr, IfOk, OnOk, map, string_bytes, true};
+ghost use Rattle.std.specs.Prelude.{◌≡◌, ◌⊎◌, ◌<◌, ◌++◌, ◌∷◌, [], ◌&&◌, List, ℕ, IfErr, IfOk};
+ghost use Rattle.std.specs.Prelude.{IsFalse, IsTrue, OnOk, map, string_bytes, true};
+ghost use Rattle.std.specs.BTreeSet.{IsOrdered, btree_set_len, contains_text, keys};
 ghost use Rattle.std.specs.List.{join_with_byte};
+ghost use Rattle.std.specs.Path.{has_no_slash};
+ghost use Rattle.std.specs.String.{string_cmp};
 ghost use Rattle.cargo_toml.specs.RealFiles.{is_absent};
-ghost use Rattle.cargo_toml_tools.specs.Places.{GoesOn, IsOfFolders, ends_in_name, path_below};
+ghost use Rattle.cargo_toml_tools.specs.MemberFolders.{IsOfFolders, LeadsTo, has_pattern};
+ghost use Rattle.cargo_toml_tools.specs.MemberFolders.{named_folder};
+ghost use Rattle.cargo_toml_tools.specs.FurtherFolders.{IsFurther, IsOneFurther};
+ghost use Rattle.cargo_toml_tools.specs.Patterns.{is_pattern};
+ghost use Rattle.cargo_toml_tools.specs.Places.{GoesOn, ends_in_name, path_below};
 ghost use Rattle.cargo_toml_tools.specs.Places.{is_nothing, is_rooted, is_settled, is_up};
-ghost use Rattle.cargo_toml_tools.specs.Places.{is_within, normalized, pieces, seen_from, settled};
+ghost use Rattle.cargo_toml_tools.specs.Places.{is_within, normalized, pieces, root_of, seen_from};
+ghost use Rattle.cargo_toml_tools.specs.Places.{settled};
 
 use super::matching::{is_pattern, matches};
 use cargo_toml::Error;
@@ -29,13 +38,19 @@ fn is_rooted(path: &str) -> bool
     path.starts_with('/')
 }
 
+/// What a path begins with: a slash, or nothing.
+fn root_of(path: &str) -> &'static str
+    ensures { result.now ≡ root_of path.now }
+{
+    if is_rooted(path) { "/" } else { "" }
+}
+
 /// The path with no `.` in it, and with `..` at its front alone. The folder itself is `.`.
 pub fn normalized(alloc: Global, path: &str) -> Result<String, AllocError>
     ensures { IfOk result (λ text. string_bytes text ≡ normalized path.now) }
 {
     let names = settled(alloc, path)?;
-    let first = if is_rooted(path) { "/" } else { "" };
-    let whole = joined(alloc, first, names.as_slice())?;
+    let whole = joined(alloc, root_of(path), names.as_slice())?;
     if whole.is_empty() {
         return String::from_str(alloc, ".");
     }
@@ -122,26 +137,29 @@ pub fn path_below(alloc: Global, folder: &str, name: &str) -> Result<String, All
     Ok(path)
 }
 
-/// The folders that an entry of `members` stands for, seen from `root`.
+/// The folders that an entry of `members` leads to, seen from `root`.
 pub fn expanded<R: Files + AllocGlobal>(
     rt: &R,
     root: &str,
     entry: &str,
 ) -> Result<BTreeSet<String>, Error>
-    ensures { IfErr result IsOfFolders }
+    ensures leads { IfOk result (λ found. LeadsTo entry.now (map string_bytes (keys found))) }
+    ensures named { IfOk result (λ found. IsFalse (has_pattern entry.now)
+        → map string_bytes (keys found) ≡ named_folder entry.now ∷ []) }
+    ensures refused { IfErr result (IsOfFolders (has_pattern entry.now)) }
 {
     let alloc = rt.alloc();
-    let first = if is_rooted(entry) { "/" } else { "" };
     let mut folders = BTreeSet::new(alloc);
-    folders.insert(String::from_str(alloc, first)?)?;
+    folders.insert(String::from_str(alloc, root_of(entry))?)?;
     for name in entry.split('/') {
         if !name.is_empty() {
             folders = one_further(rt, root, &folders, name)?;
         }
     }
-    if folders.is_empty() {
-        folders.insert(String::from_str(alloc, entry)?)?;
+    if !folders.is_empty() {
+        return Ok(folders);
     }
+    folders.insert(String::from_str(alloc, entry)?)?;
     Ok(folders)
 }
 
@@ -152,18 +170,39 @@ fn one_further<R: Files + AllocGlobal>(
     folders: &BTreeSet<String>,
     name: &str,
 ) -> Result<BTreeSet<String>, Error>
-    ensures { IfErr result IsOfFolders }
+    ensures further { IfOk result (λ all. (path : List ℕ) → IsTrue (contains_text all path)
+        → IsFurther name.now (contains_text folders.now) path) }
+    ensures some { IfOk result (λ all. IsFalse (is_pattern name.now)
+        → 0 < btree_set_len folders.now → 0 < btree_set_len all) }
+    ensures ordered { IfOk result (IsOrdered string_cmp) }
+    ensures refused { IfErr result (IsOfFolders (is_pattern name.now)) }
 {
-    let alloc = rt.alloc();
-    let mut all = BTreeSet::new(alloc);
+    let mut all = BTreeSet::new(rt.alloc());
     for folder in folders {
-        if is_pattern(name) {
-            add_matched(rt, root, folder.as_str(), name, &mut all)?;
-        } else {
-            all.insert(path_below(alloc, folder.as_str(), name)?)?;
-        }
+        add_further(rt, root, folder.as_str(), name, &mut all)?;
     }
     Ok(all)
+}
+
+/// Adds what a name of an entry leads to from this folder.
+fn add_further<R: Files + AllocGlobal>(
+    rt: &R,
+    root: &str,
+    folder: &str,
+    name: &str,
+    all: &mut BTreeSet<String>,
+) -> Result<(), Error>
+    ensures added { OnOk result ((path : List ℕ) → IsTrue (contains_text all.new path)
+        → IsTrue (contains_text all.old path) ⊎ IsOneFurther name.now folder.now path) }
+    ensures some { OnOk result (IsFalse (is_pattern name.now) → 0 < btree_set_len all.new) }
+    ensures ordered { OnOk result (IsOrdered string_cmp all.old → IsOrdered string_cmp all.new) }
+    ensures refused { IfErr result (IsOfFolders (is_pattern name.now)) }
+{
+    if is_pattern(name) {
+        return add_matched(rt, root, folder, name, all);
+    }
+    all.insert(path_below(rt.alloc(), folder, name)?)?;
+    Ok(())
 }
 
 /// Adds the folders in this one whose names match. One that isn't there has none.
@@ -174,7 +213,11 @@ fn add_matched<R: Files + AllocGlobal>(
     pattern: &str,
     all: &mut BTreeSet<String>,
 ) -> Result<(), Error>
-    ensures { IfErr result IsOfFolders }
+    requires { IsTrue (is_pattern pattern.now) }
+    ensures added { OnOk result ((path : List ℕ) → IsTrue (contains_text all.new path)
+        → IsTrue (contains_text all.old path) ⊎ IsOneFurther pattern.now folder.now path) }
+    ensures ordered { OnOk result (IsOrdered string_cmp all.old → IsOrdered string_cmp all.new) }
+    ensures refused { IfErr result (IsOfFolders true) }
 {
     let alloc = rt.alloc();
     let place = seen_from(alloc, root, folder)?;
@@ -186,11 +229,36 @@ fn add_matched<R: Files + AllocGlobal>(
     for entry in entries {
         let entry = entry?;
         let name = String::from_str(alloc, entry.file_name())?;
-        let path = path_below(alloc, place.as_str(), name.as_str())?;
-        if matches(alloc, pattern, name.as_str())? && is_folder(rt, path.as_str()) {
-            all.insert(path_below(alloc, folder, name.as_str())?)?;
-        }
+        add_if_matched(rt, place.as_str(), folder, pattern, name.as_str(), all)?;
     }
+    Ok(())
+}
+
+/// Adds what has this name in a folder, which is seen from `root` as `place`, where the name
+/// matches and it is a folder too.
+fn add_if_matched<R: Files + AllocGlobal>(
+    rt: &R,
+    place: &str,
+    folder: &str,
+    pattern: &str,
+    name: &str,
+    all: &mut BTreeSet<String>,
+) -> Result<(), AllocError>
+    requires pattern { IsTrue (is_pattern pattern.now) }
+    requires name { IsTrue (has_no_slash name.now) }
+    ensures added { OnOk result ((path : List ℕ) → IsTrue (contains_text all.new path)
+        → IsTrue (contains_text all.old path) ⊎ IsOneFurther pattern.now folder.now path) }
+    ensures ordered { OnOk result (IsOrdered string_cmp all.old → IsOrdered string_cmp all.new) }
+{
+    let alloc = rt.alloc();
+    if !matches(alloc, pattern, name)? {
+        return Ok(());
+    }
+    let path = path_below(alloc, place, name)?;
+    if !is_folder(rt, path.as_str()) {
+        return Ok(());
+    }
+    all.insert(path_below(alloc, folder, name)?)?;
     Ok(())
 }
 

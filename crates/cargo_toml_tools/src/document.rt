@@ -1,5 +1,7 @@
 //! What is documented of a crate's features: a page in Markdown, or the graph for Graphviz.
-ghost use Rattle.std.specs.Prelude.{◌≡◌};
+ghost use Rattle.std.specs.Prelude.{◌≡◌, IfOk};
+ghost use Rattle.cargo_toml.specs.Action.{Text};
+ghost use Rattle.cargo_toml.specs.Views.{set_has, table_in};
 ghost use Rattle.cargo_toml_tools.specs.Documented.{is_internal, is_shown};
 
 mod dot;
@@ -8,6 +10,7 @@ mod reached;
 use crate::escape::{Format, comma_before, push_code, push_escaped};
 use cargo_toml::features::{DepAction, Feature, Features};
 use cargo_toml::{FeatureSet, Manifest};
+use cargo_toml_features::texts::keys_in_order;
 pub use dot::graph;
 use reached::{Reached, reach, turned_on};
 use std::alloc::{AllocError, Global};
@@ -82,16 +85,14 @@ fn row_of<'m, S: BuildHasher>(
     })
 }
 
-/// The names of the features.
+/// The names of the features, in byte order.
 fn names<'m, S: BuildHasher>(
     alloc: Global,
     features: &FeatureMap<'m, S>,
-) -> Result<BTreeSet<&'m str>, AllocError> {
-    let mut names = BTreeSet::new(alloc);
-    for name in features.keys() {
-        names.insert(*name)?;
-    }
-    Ok(names)
+) -> Result<BTreeSet<&'m str>, AllocError>
+    ensures { IfOk result (λ s. (f : Text) → set_has s f ≡ (table_in features.now).has f) }
+{
+    keys_in_order(alloc, features)
 }
 
 /// Whether a feature is told of: one that isn't private, and `default` where the manifest has it.

@@ -1,16 +1,17 @@
 //! What is documented of a crate's features: a page in Markdown, or the graph for Graphviz.
-ghost use Rattle.std.specs.Prelude.{◌≡◌, ◌++◌, IfOk, OnOk, map, string_bytes};
+ghost use Rattle.std.specs.Prelude.{◌≡◌, ◌↔◌, ◌++◌, IfOk, IsTrue, OnOk, codes, map, string_bytes};
 ghost use Rattle.std.specs.List.{AllByRecursion, list_any};
 ghost use Rattle.cargo_toml.specs.Action.{Text};
 ghost use Rattle.cargo_toml.specs.Ascending.{Ascend};
-ghost use Rattle.cargo_toml.specs.Views.{set_has, table_in};
+ghost use Rattle.cargo_toml.specs.Reached.{IsKeyed};
+ghost use Rattle.cargo_toml.specs.Views.{listed_in, set_has, table_in};
 ghost use Rattle.cargo_toml_tools.specs.Escaped.{code};
-ghost use Rattle.cargo_toml_tools.specs.PageSteps.{AskInOrder, IsInOrder, actions_in, asked_in};
-ghost use Rattle.cargo_toml_tools.specs.PageSteps.{row_in, texts_in};
+ghost use Rattle.cargo_toml_tools.specs.PageSteps.{AskInOrder, IsInOrder, TellOfAll, TellsOf};
+ghost use Rattle.cargo_toml_tools.specs.PageSteps.{actions_in, asked_in, row_in, texts_in};
 ghost use Rattle.cargo_toml_tools.specs.Pages.{action_cell, asked_text, conditional_mark};
 ghost use Rattle.cargo_toml_tools.specs.Pages.{default_column, is_of_kind, kind, row_text, table_head};
 ghost use Rattle.cargo_toml_tools.specs.Pages.{table_text, with_commas};
-ghost use Rattle.cargo_toml_tools.specs.Documented.{is_internal, is_shown};
+ghost use Rattle.cargo_toml_tools.specs.Documented.{IsOn, is_internal, is_shown};
 
 mod dot;
 mod reached;
@@ -61,7 +62,10 @@ fn rows<'m, S: BuildHasher>(
     alloc: Global,
     lists: &FeatureSet,
     features: &FeatureMap<'m, S>,
-) -> Result<Vec<Row<'m>>, AllocError> {
+) -> Result<Vec<Row<'m>>, AllocError>
+    ensures { IfOk result (λ rows. IsKeyed features.now
+        → TellOfAll (listed_in lists.now) features.now rows.items) }
+{
     let has_default = lists.contains_key("default");
     let defaults = turned_on(alloc, "default", lists, features)?;
     let mut rows = Vec::new(alloc);
@@ -82,7 +86,11 @@ fn row_of<'m, S: BuildHasher>(
     lists: &FeatureSet,
     features: &FeatureMap<'m, S>,
     defaults: &BTreeSet<&str>,
-) -> Result<Row<'m>, AllocError> {
+) -> Result<Row<'m>, AllocError>
+    ensures { IfOk result (λ row. IsKeyed features.now → ((x : Text) → IsTrue (set_has defaults.now x)
+        ↔ IsOn (listed_in lists.now) features.now (codes "default") x)
+        → TellsOf (listed_in lists.now) features.now row feature.now) }
+{
     let turns_on = reach(alloc, feature.key, lists, features)?;
     Ok(Row {
         name: feature.key,

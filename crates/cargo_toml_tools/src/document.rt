@@ -1,6 +1,17 @@
 //! What is documented of a crate's features: a page in Markdown, or the graph for Graphviz.
-ghost use Rattle.std.specs.Prelude.{◌≡◌};
-ghost use Rattle.cargo_toml_tools.specs.Documented.{is_internal, is_shown};
+ghost use Rattle.std.specs.Prelude.{◌≡◌, ◌↔◌, ◌++◌, IfOk, IsTrue, OnOk, codes, map, string_bytes};
+ghost use Rattle.std.specs.List.{AllByRecursion, list_any};
+ghost use Rattle.cargo_toml.specs.Action.{Text};
+ghost use Rattle.cargo_toml.specs.Ascending.{Ascend};
+ghost use Rattle.cargo_toml.specs.Reached.{IsKeyed};
+ghost use Rattle.cargo_toml.specs.Views.{listed_in, set_has, table_in};
+ghost use Rattle.cargo_toml_tools.specs.Escaped.{code};
+ghost use Rattle.cargo_toml_tools.specs.PageSteps.{AskInOrder, IsInOrder, TellOfAll, TellsOf};
+ghost use Rattle.cargo_toml_tools.specs.PageSteps.{actions_in, asked_in, row_in, texts_in};
+ghost use Rattle.cargo_toml_tools.specs.Pages.{action_cell, asked_text, conditional_mark};
+ghost use Rattle.cargo_toml_tools.specs.Pages.{default_column, is_of_kind, kind, row_text, table_head};
+ghost use Rattle.cargo_toml_tools.specs.Pages.{table_text, with_commas};
+ghost use Rattle.cargo_toml_tools.specs.Documented.{IsOn, is_internal, is_shown};
 
 mod dot;
 mod reached;
@@ -8,6 +19,7 @@ mod reached;
 use crate::escape::{Format, comma_before, push_code, push_escaped};
 use cargo_toml::features::{DepAction, Feature, Features};
 use cargo_toml::{FeatureSet, Manifest};
+use cargo_toml_features::texts::keys_in_order;
 pub use dot::graph;
 use reached::{Reached, reach, turned_on};
 use std::alloc::{AllocError, Global};
@@ -50,7 +62,10 @@ fn rows<'m, S: BuildHasher>(
     alloc: Global,
     lists: &FeatureSet,
     features: &FeatureMap<'m, S>,
-) -> Result<Vec<Row<'m>>, AllocError> {
+) -> Result<Vec<Row<'m>>, AllocError>
+    ensures { IfOk result (λ rows. IsKeyed features.now
+        → TellOfAll (listed_in lists.now) features.now rows.items) }
+{
     let has_default = lists.contains_key("default");
     let defaults = turned_on(alloc, "default", lists, features)?;
     let mut rows = Vec::new(alloc);
@@ -71,7 +86,11 @@ fn row_of<'m, S: BuildHasher>(
     lists: &FeatureSet,
     features: &FeatureMap<'m, S>,
     defaults: &BTreeSet<&str>,
-) -> Result<Row<'m>, AllocError> {
+) -> Result<Row<'m>, AllocError>
+    ensures { IfOk result (λ row. IsKeyed features.now → ((x : Text) → IsTrue (set_has defaults.now x)
+        ↔ IsOn (listed_in lists.now) features.now (codes "default") x)
+        → TellsOf (listed_in lists.now) features.now row feature.now) }
+{
     let turns_on = reach(alloc, feature.key, lists, features)?;
     Ok(Row {
         name: feature.key,
@@ -82,16 +101,14 @@ fn row_of<'m, S: BuildHasher>(
     })
 }
 
-/// The names of the features.
+/// The names of the features, in byte order.
 fn names<'m, S: BuildHasher>(
     alloc: Global,
     features: &FeatureMap<'m, S>,
-) -> Result<BTreeSet<&'m str>, AllocError> {
-    let mut names = BTreeSet::new(alloc);
-    for name in features.keys() {
-        names.insert(*name)?;
-    }
-    Ok(names)
+) -> Result<BTreeSet<&'m str>, AllocError>
+    ensures { IfOk result (λ s. (f : Text) → set_has s f ≡ (table_in features.now).has f) }
+{
+    keys_in_order(alloc, features)
 }
 
 /// Whether a feature is told of: one that isn't private, and `default` where the manifest has it.
@@ -123,44 +140,78 @@ fn push_table(
     page: &mut String,
     rows: &[Row<'_>],
     listed: bool,
-) -> Result<(), AllocError> {
-    if !rows.iter().any(|row| row.is_listed == listed) {
+) -> Result<(), AllocError>
+    ensures text { OnOk result (string_bytes page.new ≡ string_bytes page.old
+        ++ table_text (table_head listed) (kind listed (map row_in rows.now))) }
+    ensures in_order { OnOk result (AllByRecursion IsInOrder (kind listed (map row_in rows.now))) }
+{
+    if !has_kind(rows, listed) {
         return Ok(());
     }
-    page.push_str(if listed {
-        "\n| Feature | Text | Default | Features | Dependencies |\n|---|---|---|---|---|\n"
-    } else {
-        "\n## Optional dependencies\n\n\
-            | Feature | Text | Default | Features | Dependencies |\n|---|---|---|---|---|\n"
-    })?;
+    page.push_str(table_head(listed))?;
     for row in rows {
-        if row.is_listed == listed {
+        if is_of_kind(row, listed) {
             push_row(alloc, page, row)?;
         }
     }
     Ok(())
 }
 
-fn push_row(alloc: Global, page: &mut String, row: &Row<'_>) -> Result<(), AllocError> {
+fn has_kind(rows: &[Row<'_>], listed: bool) -> bool
+    ensures { result ≡ list_any (λ r. is_of_kind listed (row_in r)) rows.now }
+{
+    rows.iter().any(|row| is_of_kind(row, listed))
+}
+
+fn is_of_kind(row: &Row<'_>, listed: bool) -> bool
+    ensures { result ≡ is_of_kind listed (row_in row.now) }
+{
+    row.is_listed == listed
+}
+
+fn table_head(listed: bool) -> &'static str
+    ensures { result.now ≡ table_head listed }
+{
+    if listed {
+        "\n| Feature | Text | Default | Features | Dependencies |\n|---|---|---|---|---|\n"
+    } else {
+        "\n## Optional dependencies\n\n\
+            | Feature | Text | Default | Features | Dependencies |\n|---|---|---|---|---|\n"
+    }
+}
+
+fn push_row(alloc: Global, page: &mut String, row: &Row<'_>) -> Result<(), AllocError>
+    ensures text { OnOk result
+        (string_bytes page.new ≡ string_bytes page.old ++ row_text (row_in row.now)) }
+    ensures in_order { OnOk result (IsInOrder (row_in row.now)) }
+{
     page.push_str("| ")?;
     push_code(page, row.name)?;
     page.push_str(" | ")?;
     push_escaped(page, row.doc.unwrap_or(""), Format::Markdown)?;
-    page.push_str(if row.is_default {
-        " | yes | "
-    } else {
-        " | no | "
-    })?;
+    page.push_str(default_column(row.is_default))?;
     push_names(page, &row.turns_on.features)?;
     page.push_str(" | ")?;
     push_actions(alloc, page, &row.turns_on.actions)?;
     page.push_str(" |\n")
 }
 
-fn push_names(page: &mut String, names: &BTreeSet<&str>) -> Result<(), AllocError> {
-    for (i, name) in names.iter().enumerate() {
-        page.push_str(comma_before(i))?;
+fn default_column(is_default: bool) -> &'static str
+    ensures { result.now ≡ default_column is_default }
+{
+    if is_default { " | yes | " } else { " | no | " }
+}
+
+fn push_names(page: &mut String, names: &BTreeSet<&str>) -> Result<(), AllocError>
+    ensures text { OnOk result (string_bytes page.new
+        ≡ string_bytes page.old ++ with_commas code (texts_in names.now)) }
+    ensures in_order { OnOk result (Ascend (texts_in names.now)) }
+{
+    let mut comma = "";
+    for name in names {
+        page.push_str(comma)?;
         push_code(page, *name)?;
+        comma = ", ";
     }
     Ok(())
 }
@@ -171,10 +222,17 @@ fn push_actions(
     alloc: Global,
     page: &mut String,
     actions: &BTreeMap<&str, DepAction<'_>>,
-) -> Result<(), AllocError> {
-    for (i, (key, action)) in actions.iter().enumerate() {
-        page.push_str(comma_before(i))?;
+) -> Result<(), AllocError>
+    ensures text { OnOk result (string_bytes page.new
+        ≡ string_bytes page.old ++ with_commas action_cell (actions_in actions.now)) }
+    ensures in_order { OnOk result (Ascend (map (λ a. a.key) (actions_in actions.now))) }
+    ensures asked { OnOk result (AskInOrder (actions_in actions.now)) }
+{
+    let mut comma = "";
+    for (key, action) in actions {
+        page.push_str(comma)?;
         push_action(alloc, page, *key, action)?;
+        comma = ", ";
     }
     Ok(())
 }
@@ -184,14 +242,41 @@ fn push_action(
     page: &mut String,
     key: &str,
     action: &DepAction<'_>,
-) -> Result<(), AllocError> {
-    let mark = if action.is_conditional { "?" } else { "" };
-    if action.dep_features.is_empty() {
-        return push_code(page, format!(in alloc; "{key}{mark}")?.as_str());
+) -> Result<(), AllocError>
+    ensures text { OnOk result (string_bytes page.new
+        ≡ string_bytes page.old ++ action_cell (asked_in key.now action.now)) }
+    ensures in_order { OnOk result (Ascend (texts_in action.now.dep_features)) }
+{
+    let mark = conditional_mark(action.is_conditional);
+    let front = format!(in alloc; "{key}{mark}")?;
+    push_asked(alloc, page, front.as_str(), &action.dep_features)
+}
+
+fn conditional_mark(is_conditional: bool) -> &'static str
+    ensures { result.now ≡ conditional_mark is_conditional }
+{
+    if is_conditional { "?" } else { "" }
+}
+
+/// What stands in front of its slash, with each feature that is asked for, or alone.
+fn push_asked(
+    alloc: Global,
+    page: &mut String,
+    front: &str,
+    asked: &BTreeSet<&str>,
+) -> Result<(), AllocError>
+    ensures text { OnOk result (string_bytes page.new
+        ≡ string_bytes page.old ++ asked_text front.now (texts_in asked.now)) }
+    ensures in_order { OnOk result (Ascend (texts_in asked.now)) }
+{
+    if asked.is_empty() {
+        return push_code(page, front);
     }
-    for (i, feature) in action.dep_features.iter().enumerate() {
-        page.push_str(comma_before(i))?;
-        push_code(page, format!(in alloc; "{key}{mark}/{feature}")?.as_str())?;
+    let mut comma = "";
+    for feature in asked {
+        page.push_str(comma)?;
+        push_code(page, format!(in alloc; "{front}/{feature}")?.as_str())?;
+        comma = ", ";
     }
     Ok(())
 }

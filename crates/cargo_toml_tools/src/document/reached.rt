@@ -1,9 +1,18 @@
 //! What a feature turns on, by any number of steps.
+ghost use Rattle.std.specs.Prelude.{◌≡◌, ◌≤◌, ◌+◌, ◌↔◌, ◌&&◌, ◌||◌, false, IfOk, IsTrue, None, OnOk};
+ghost use Rattle.std.specs.Prelude.{Some, bytes_eq, if◌then◌else◌, length, map, string_bytes};
+ghost use Rattle.std.specs.Option.{option_map_or};
+ghost use Rattle.cargo_toml.specs.Action.{Text, item_of, join, join_option};
+ghost use Rattle.cargo_toml.specs.Reached.{IsKeyed};
+ghost use Rattle.cargo_toml.specs.Views.{action_at, action_of, listed_in, set_has, table_in};
+ghost use Rattle.cargo_toml_tools.specs.Documented.{IsOn, turns_to};
+ghost use Rattle.cargo_toml_tools.specs.PageSteps.{AddsFound, TellsOfReached, is_told_beside};
+ghost use Rattle.cargo_toml_tools.specs.PageSteps.{left_over, says_some};
 
 use super::{FeatureMap, is_private};
 use cargo_toml::FeatureSet;
 use cargo_toml::features::{DepAction, Feature};
-use cargo_toml_features::action::read_action;
+use cargo_toml_features::action::{neutral_action, read_action};
 use std::alloc::{AllocError, Global};
 use std::collections::{BTreeMap, BTreeSet};
 use std::hash::BuildHasher;
@@ -23,7 +32,10 @@ pub fn reach<'m, S: BuildHasher>(
     name: &str,
     lists: &FeatureSet,
     features: &FeatureMap<'m, S>,
-) -> Result<Reached<'m>, AllocError> {
+) -> Result<Reached<'m>, AllocError>
+    ensures { IfOk result (λ r. IsKeyed features.now
+        → TellsOfReached (listed_in lists.now) features.now name.now r) }
+{
     let mut others = BTreeSet::new(alloc);
     let mut actions = BTreeMap::new(alloc);
     let names = turned_on(alloc, name, lists, features)?;
@@ -47,15 +59,14 @@ pub fn turned_on<'m, S: BuildHasher>(
     name: &str,
     lists: &FeatureSet,
     features: &FeatureMap<'m, S>,
-) -> Result<BTreeSet<&'m str>, AllocError> {
+) -> Result<BTreeSet<&'m str>, AllocError>
+    ensures { IfOk result (λ s. IsKeyed features.now → (x : Text) → IsTrue (set_has s x)
+        ↔ IsOn (listed_in lists.now) features.now name.now x) }
+{
     let mut found = BTreeSet::new(alloc);
     let mut left = Vec::new(alloc);
     add(&mut found, &mut left, features, name)?;
-    // each is left to be looked at once
-    for _ in 0..features.len() {
-        let Some(next) = left.pop() else {
-            break;
-        };
+    while let Some(next) = left.pop() {
         if let Some(texts) = lists.get(next) {
             add_next(&mut found, &mut left, features, texts.as_slice())?;
         }
@@ -69,7 +80,12 @@ fn add<'m, S: BuildHasher>(
     left: &mut Vec<&'m str>,
     features: &FeatureMap<'m, S>,
     name: &str,
-) -> Result<(), AllocError> {
+) -> Result<(), AllocError>
+    ensures added { OnOk result (IsKeyed features.now → AddsFound (λ x. bytes_eq x name.now
+        && (table_in features.now).has x) found.old found.new left.old.items left.new.items) }
+    ensures less { OnOk result (left_over features.now found.new + length left.new.items
+        ≤ left_over features.now found.old + length left.old.items) }
+{
     if let Some(feature) = features.get(name) {
         if found.insert(feature.key)? {
             left.push(feature.key)?;
@@ -84,14 +100,32 @@ fn add_next<'m, S: BuildHasher>(
     left: &mut Vec<&'m str>,
     features: &FeatureMap<'m, S>,
     texts: &[String],
-) -> Result<(), AllocError> {
+) -> Result<(), AllocError>
+    ensures added { OnOk result (IsKeyed features.now → AddsFound
+        (λ x. says_some x (map string_bytes texts.now) && (table_in features.now).has x)
+        found.old found.new left.old.items left.new.items) }
+    ensures less { OnOk result (left_over features.now found.new + length left.new.items
+        ≤ left_over features.now found.old + length left.old.items) }
+{
     for text in texts {
-        let action = read_action(text.as_str());
-        if !action.acts() || (!action.is_conditional && !action.is_dep_only) {
-            add(found, left, features, action.target)?;
+        if let Some(name) = turned_by(text.as_str()) {
+            add(found, left, features, name)?;
         }
     }
     Ok(())
+}
+
+/// What a text of a list turns on, if that is a feature: what it names, or what has the name of the
+/// dependency on which it acts, neither conditionally nor by `dep:`.
+fn turned_by(text: &str) -> Option<&str>
+    ensures { (x : Text) → turns_to x (item_of text.now)
+        ≡ option_map_or (λ name. bytes_eq x name.now) result false }
+{
+    let action = read_action(text);
+    if action.is_dep_only || (action.acts() && action.is_conditional) {
+        return None;
+    }
+    Some(action.target)
 }
 
 /// Adds a feature that is another, unless it is private.
@@ -99,7 +133,10 @@ fn add_other<'m>(
     others: &mut BTreeSet<&'m str>,
     feature: &Feature<'m>,
     name: &str,
-) -> Result<(), AllocError> {
+) -> Result<(), AllocError>
+    ensures { OnOk result ((x : Text) → set_has others.new x ≡ (set_has others.old x
+        || (bytes_eq x feature.now.key.now && is_told_beside name.now feature.now))) }
+{
     if feature.key != name && !is_private(feature) {
         others.insert(feature.key)?;
     }
@@ -111,7 +148,10 @@ fn join_actions<'m>(
     alloc: Global,
     actions: &mut BTreeMap<&'m str, DepAction<'m>>,
     feature: &Feature<'m>,
-) -> Result<(), AllocError> {
+) -> Result<(), AllocError>
+    ensures { OnOk result ((k : Text) → action_at actions.new k
+        ≡ join_option (action_at actions.old k) (action_at feature.now.enables_deps k)) }
+{
     for (key, action) in &feature.enables_deps {
         join(alloc, actions, *key, action)?;
     }
@@ -124,16 +164,32 @@ fn join<'m>(
     actions: &mut BTreeMap<&'m str, DepAction<'m>>,
     key: &'m str,
     action: &DepAction<'m>,
-) -> Result<(), AllocError> {
-    let none = DepAction {
-        is_conditional: true,
-        is_dep_only: false,
-        dep_features: BTreeSet::new(alloc),
-    };
-    let joined = actions.entry(key)?.or_insert(none);
-    joined.is_conditional = joined.is_conditional && action.is_conditional;
-    for feature in &action.dep_features {
-        joined.dep_features.insert(*feature)?;
-    }
+) -> Result<(), AllocError>
+    ensures { OnOk result ((k : Text) → action_at actions.new k
+        ≡ join_option (action_at actions.old k)
+        (if bytes_eq k key.now then Some (action_of action.now) else None)) }
+{
+    let first = neutral_action(alloc);
+    join_into(actions.entry(key)?.or_insert(first), action)?;
     Ok(())
+}
+
+fn join_into<'m>(joined: &mut DepAction<'m>, action: &DepAction<'m>) -> Result<(), AllocError>
+    ensures { OnOk result
+        (action_of joined.new ≡ join (action_of joined.old) (action_of action.now)) }
+{
+    add_texts(&mut joined.dep_features, &action.dep_features)?;
+    joined.is_conditional &= action.is_conditional;
+    joined.is_dep_only |= action.is_dep_only;
+    Ok(())
+}
+
+fn add_texts<'m>(
+    set: &mut BTreeSet<&'m str>,
+    texts: &BTreeSet<&'m str>,
+) -> Result<(), AllocError>
+    ensures { OnOk result ((x : Text) → set_has set.new x
+        ≡ (set_has set.old x || set_has texts.now x)) }
+{
+    set.extend(texts.iter().copied())
 }

@@ -23,7 +23,7 @@ use Rattle.cargo_toml.specs.Ascending.{Ascend}
 use Rattle.cargo_toml.specs.Error.{Error}
 use Rattle.cargo_toml.specs.Reach.{Among}
 use Rattle.cargo_toml_tools.specs.FurtherFolders.{IsFurther, IsOneFurther}
-use Rattle.cargo_toml_tools.specs.MemberFolders.{IsOfFolders, LeadsTo, StandsFor, fits_name, has_pattern, named_folder, names_along, path_along}
+use Rattle.cargo_toml_tools.specs.MemberFolders.{IsOfFolders, LeadsToFolders, StandsFor, fits_name, has_pattern, named_folder, names_along, path_along}
 use Rattle.cargo_toml_tools.specs.Patterns.{is_pattern, matches}
 use Rattle.cargo_toml_tools.specs.Places.{path_below, pieces, root_of}
 use Rattle.cargo_toml_tools.proofs.KeysInOrder.{among_in, among_out, keys_ascend, one_alone}
@@ -233,7 +233,7 @@ of_entry one all more e (inl memory) = inl memory
 of_entry one all more e (inr io) = inr (more io.0, io.1)
 
 -- all its names were taken
-pub leads_to : (entry : Text) (folders : BTreeSet (String Global)) → 0 < btree_set_len folders → Followed entry [] folders → LeadsTo entry (map string_bytes folders.keys)
+pub leads_to : (entry : Text) (folders : BTreeSet (String Global)) → 0 < btree_set_len folders → Followed entry [] folders → LeadsToFolders entry (map string_bytes folders.keys)
 leads_to entry folders some before = record {
   some = omega (arith, length-map folders.keys string_bytes, some);
   in_order = keys_ascend string_bytes folders.keys before.ordered;
@@ -241,7 +241,7 @@ leads_to entry folders some before = record {
 }
 
 pub leads_itself : (entry : Text) (folders more : BTreeSet (String Global)) (k : String Global) → btree_set_len folders ≡ 0 → Followed entry [] folders
-    → more.keys ≡ insert_key string_cmp folders.keys k → string_bytes k ≡ entry → LeadsTo entry (map string_bytes more.keys)
+    → more.keys ≡ insert_key string_cmp folders.keys k → string_bytes k ≡ entry → LeadsToFolders entry (map string_bytes more.keys)
 leads_itself entry folders more k none before is itself =
     let alone : map string_bytes more.keys ≡ entry ∷ [] = ap (map string_bytes) (first_key folders more k (no_keys folders.keys none) is) ∙ ap (λ t. t ∷ []) itself in
     record {
@@ -251,7 +251,7 @@ leads_itself entry folders more k none before is itself =
     }
 
 -- an entry without patterns leads to the folder that it names, alone
-pub leads_alone : (entry : Text) (folders : List Text) → LeadsTo entry folders → IsFalse (has_pattern entry) → folders ≡ named_folder entry ∷ []
+pub leads_alone : (entry : Text) (folders : List Text) → LeadsToFolders entry folders → IsFalse (has_pattern entry) → folders ≡ named_folder entry ∷ []
 leads_alone entry folders leads plain = elim leads.stands [
   | inl stands ↦ one_alone (named_folder entry) folders leads.in_order
       (λ folder i. let s = stands folder i in s.leads ∙ ap (path_along (root_of entry)) (same_names (names_along entry) s.names plain s.fit)) leads.some

@@ -22,3 +22,8 @@ pub mod Within
 pub mod Yielded
 pub mod Followed
 pub mod KeysInOrder
+pub mod Joined
+pub mod Ordered
+pub mod Paged
+pub mod Separated
+pub mod Drawn

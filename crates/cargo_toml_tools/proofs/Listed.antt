@@ -11,7 +11,7 @@ use Rattle.std.proofs.lemmas.Slice.Eq.{bytes_eq-Decides}
 use Rattle.std.specs.List.{flat_map, list_any}
 use Rattle.cargo_toml.specs.Action.{Text}
 use Rattle.cargo_toml.specs.Reach.{Among}
-use Rattle.cargo_toml_tools.specs.MemberFolders.{AreListed, AreOfPaths, LeadsTo, has_pattern, lists_folder, named_folder, times_named}
+use Rattle.cargo_toml_tools.specs.MemberFolders.{AreListed, AreOfPaths, LeadsToFolders, has_pattern, lists_folder, named_folder, times_named}
 use Rattle.cargo_toml_tools.specs.Places.{is_excluded, is_within, lies_in, lies_under, normalized}
 use Rattle.cargo_toml_tools.proofs.Followed.{leads_alone}
 use Rattle.cargo_toml_tools.proofs.NamedFolder.{normalized_named}
@@ -126,13 +126,13 @@ pattern_among (x ∷ xs) zero e within is h = or_left (has_pattern (string_bytes
 pattern_among (x ∷ xs) (suc i) e within is h = or_right (has_pattern (string_bytes x)) _ (pattern_among xs i e (omega arith) is h)
 
 pub listed_more : (lists : Text → Text → Bool) (es : List (String Global)) (i : ℕ) (e : String Global) (texts : List Text) (folders twice new newly : Text → Bool) → i < length es → e ≡ get_or es i e
-    → LeadsTo (string_bytes e) texts → ((paths : List Text) → AreOfPaths lists false paths folders twice → AreOfPaths lists false (paths ++ texts) new newly)
+    → LeadsToFolders (string_bytes e) texts → ((paths : List Text) → AreOfPaths lists false paths folders twice → AreOfPaths lists false (paths ++ texts) new newly)
     → AreListed lists false (map string_bytes (take i es)) folders twice → AreListed lists false (map string_bytes (take (i + 1) es)) new newly
 listed_more lists es i e texts folders twice new newly within is leads adds before = record {
   found = before.found ++ one ∷ [];
   of = map-append (λ f. f.0) before.found (one ∷ []) ∙ ap (λ ts. ts ++ string_bytes e ∷ []) before.of
       ∙ sym (map-append string_bytes (take i es) (e ∷ [])) ∙ ap (λ s. map string_bytes (take i es ++ s ∷ [])) is ∙ ap (map string_bytes) (sym (take_more es i e within));
-  led = among_last (λ f. LeadsTo f.0 f.1) before.found one before.led leads;
+  led = among_last (λ f. LeadsToFolders f.0 f.1) before.found one before.led leads;
   are = subst (λ ps. AreOfPaths lists false ps new newly) (ap (λ t. flat_map (λ f. f.1) before.found ++ t) (sym (append-nil texts)) ∙ sym (flat_map-append (λ (f : Text × List Text). f.1) before.found (one ∷ [])))
       (adds (flat_map (λ f. f.1) before.found) before.are);
 }
@@ -179,11 +179,11 @@ module _ (members excluded : List Text) where
         ∙ or_right (own && bytes_eq (codes ".") (normalized entry)) _
         (hit listed.found listed.led (subst (λ ms. Among ms entry) (sym listed.of) i))
       where
-        hit : (fs : List (Text × List Text)) → ((f : Text × List Text) → Among fs f → LeadsTo f.0 f.1) → Among (map (λ f. f.0) fs) entry
+        hit : (fs : List (Text × List Text)) → ((f : Text × List Text) → Among fs f → LeadsToFolders f.0 f.1) → Among (map (λ f. f.0) fs) entry
             → list_any (lists_folder members excluded (normalized entry)) (flat_map (λ f. f.1) fs) ≡ true
         hit [] led none = absurd none
         hit (f ∷ fs) led (inl is) =
-            let alone : f.1 ≡ named_folder entry ∷ [] = leads_alone entry f.1 (subst (λ t. LeadsTo t f.1) (sym is) (led f (inl refl))) plain in
+            let alone : f.1 ≡ named_folder entry ∷ [] = leads_alone entry f.1 (subst (λ t. LeadsToFolders t f.1) (sym is) (led f (inl refl))) plain in
             list_any-append (lists_folder members excluded (normalized entry)) f.1 (flat_map (λ f. f.1) fs)
             ∙ or_left _ _ (ap (list_any (lists_folder members excluded (normalized entry))) alone
             ∙ or_left _ false (named_lists entry i (normalized entry) ∙ (bytes_eq-Decides (normalized entry) (normalized entry)).1 refl))
@@ -202,7 +202,7 @@ module _ (members excluded : List Text) where
         names : Text → Bool
         names entry = not (has_pattern entry) && bytes_eq (normalized entry) folder
 
-        counted : (fs : List (Text × List Text)) → ((f : Text × List Text) → Among fs f → LeadsTo f.0 f.1) → ((entry : Text) → Among (map (λ f. f.0) fs) entry → Among members entry)
+        counted : (fs : List (Text × List Text)) → ((f : Text × List Text) → Among fs f → LeadsToFolders f.0 f.1) → ((entry : Text) → Among (map (λ f. f.0) fs) entry → Among members entry)
             → times_named (map (λ f. f.0) fs) folder ≤ count_by (lists_folder members excluded folder) (flat_map (λ f. f.1) fs)
         counted [] led of = omega arith
         counted (f ∷ fs) led of =

@@ -44,7 +44,7 @@ pub record StandsFor (entry folder : Text) : Type 0 where
   pub leads : folder ≡ path_along (root_of entry) names
 
 -- what an entry leads to: folders that it stands for, or itself where its patterns match none
-pub record LeadsTo (entry : Text) (folders : List Text) : Type 0 where
+pub record LeadsToFolders (entry : Text) (folders : List Text) : Type 0 where
   pub some : 0 < length folders
   pub in_order : Ascend folders
   pub stands : ((folder : Text) → Among folders folder → StandsFor entry folder)
@@ -68,7 +68,7 @@ pub record AreListed (lists : Text → Text → Bool) (own : Bool) (entries : Li
     (folders twice : Text → Bool) : Type 0 where
   pub found : List (Text × List Text)
   pub of : map (λ f. f.0) found ≡ entries
-  pub led : (f : Text × List Text) → Among found f → LeadsTo f.0 f.1
+  pub led : (f : Text × List Text) → Among found f → LeadsToFolders f.0 f.1
   pub are : AreOfPaths lists own (flat_map (λ f. f.1) found) folders twice
 
 -- how many of these entries name a folder without a pattern

@@ -6,7 +6,7 @@ ghost use Rattle.std.specs.List.{join_with_byte};
 ghost use Rattle.std.specs.Path.{has_no_slash};
 ghost use Rattle.std.specs.String.{string_cmp};
 ghost use Rattle.cargo_toml.specs.RealFiles.{is_absent};
-ghost use Rattle.cargo_toml_tools.specs.MemberFolders.{IsOfFolders, LeadsTo, has_pattern};
+ghost use Rattle.cargo_toml_tools.specs.MemberFolders.{IsOfFolders, LeadsToFolders, has_pattern};
 ghost use Rattle.cargo_toml_tools.specs.MemberFolders.{named_folder};
 ghost use Rattle.cargo_toml_tools.specs.FurtherFolders.{IsFurther, IsOneFurther};
 ghost use Rattle.cargo_toml_tools.specs.Patterns.{is_pattern};
@@ -143,7 +143,7 @@ pub fn expanded<R: Files + AllocGlobal>(
     root: &str,
     entry: &str,
 ) -> Result<BTreeSet<String>, Error>
-    ensures leads { IfOk result (λ found. LeadsTo entry.now (map string_bytes (keys found))) }
+    ensures leads { IfOk result (λ found. LeadsToFolders entry.now (map string_bytes (keys found))) }
     ensures named { IfOk result (λ found. IsFalse (has_pattern entry.now)
         → map string_bytes (keys found) ≡ named_folder entry.now ∷ []) }
     ensures refused { IfErr result (IsOfFolders (has_pattern entry.now)) }

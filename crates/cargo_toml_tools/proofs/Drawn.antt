@@ -1,0 +1,76 @@
+-- The names and keys of a graph.
+use Rattle.std.proofs.Common.{◌≡◌, ◌↔◌, ◌||◌, ◌∙◌, Bool, Bor, false, true, IsTrue, List, [], ◌∷◌, Option, None, Some, ap, is_some, map, option_map, refl, sym, inl, inr}
+use Rattle.std.specs.Prelude.{IsSome, cond}
+use Rattle.std.proofs.lemmas.Bool.{false≢true, or_cases, or_left, or_right}
+use Rattle.std.specs.BTreeSet.{BTreeSet}
+use Rattle.std.specs.HashMap.{HashMap}
+use Rattle.std.specs.List.{list_any}
+use Rattle.std.specs.Map.{lookup}
+use Rattle.std.specs.Option.{option_map_or}
+use Rattle.cargo_toml.specs.Action.{Text}
+use Rattle.cargo_toml.specs.Feature.{Feature}
+use Rattle.cargo_toml.specs.Reach.{Among}
+use Rattle.cargo_toml.specs.Views.{action_at, action_of, set_has, table_in, value_at}
+use Rattle.cargo_toml_features.specs.declared.features.DepAction.{DepAction}
+use Rattle.cargo_toml_tools.specs.PageSteps.{texts_in}
+use Rattle.cargo_toml_tools.proofs.KeysInOrder.{among_in, among_out}
+
+-- a map acts on the keys of its entries
+pub acts_on_keys : (test : Bor Text → Bool) (es : List (Bor Text × DepAction)) → list_any test (map (λ e. e.0) es) ≡ is_some (option_map action_of (lookup test es))
+acts_on_keys test [] = refl
+acts_on_keys test (e ∷ es) = go (test e.0) (acts_on_keys test es)
+  where
+    go : (b : Bool) → list_any test (map (λ e. e.0) es) ≡ is_some (option_map action_of (lookup test es))
+        → (b || list_any test (map (λ e. e.0) es)) ≡ is_some (option_map action_of (cond b (Some e.1) (lookup test es)))
+    go true later = refl
+    go false later = later
+
+-- one more of those that are left
+or_on : (a b c : Bool) → ((a || b) || c) ≡ (a || (b || c))
+or_on true b c = refl
+or_on false b c = refl
+
+pub one_taken : (test : Text → Bool) (x : Text) (left rest : List Text) (old new whole : Bool) → left ≡ x ∷ rest → new ≡ (old || test x)
+    → (old || list_any test left) ≡ whole → (new || list_any test rest) ≡ whole
+one_taken test x left rest old new whole is more before =
+    ap (λ b. b || list_any test rest) more ∙ or_on old (test x) (list_any test rest) ∙ ap (λ ts. old || list_any test ts) (sym is) ∙ before
+
+pub all_taken : (test : Text → Bool) (left : List Text) (new whole : Bool) → left ≡ [] → (new || list_any test left) ≡ whole → new ≡ whole
+all_taken test left new whole none before = sym (or_none new) ∙ ap (λ ts. new || list_any test ts) (sym none) ∙ before
+  where
+    or_none : (b : Bool) → (b || false) ≡ b
+    or_none true = refl
+    or_none false = refl
+
+-- ---- texts of sets
+module _ (s : BTreeSet (Bor Text)) where
+  pub has_text : (x : Text) → Among (texts_in s) x → set_has s x ≡ true
+  has_text x i = among_in (λ (k : Bor Text). k.now) x s.keys i
+
+  pub text_of : (x : Text) → set_has s x ≡ true → Among (texts_in s) x
+  text_of x h = among_out (λ (k : Bor Text). k.now) x s.keys h
+
+  pub exactly : (test : Text → Bool) → ((x : Text) → set_has s x ≡ test x) → (x : Text) → Among (texts_in s) x ↔ (test x ≡ true)
+  exactly test is x = (λ i. sym (is x) ∙ has_text x i, λ h. text_of x (is x ∙ h))
+
+some_of : (test : Text → Bool) (xs : List Text) → list_any test xs ≡ true → (x : Text) × (test x ≡ true)
+some_of test [] h = absurd (false≢true h)
+some_of test (x ∷ xs) h = elim (or_cases (test x) (list_any test xs) h) [ inl here ↦ (x, here) | inr later ↦ some_of test xs later ]
+
+any_of : (test : Text → Bool) (xs : List Text) (x : Text) → Among xs x → test x ≡ true → list_any test xs ≡ true
+any_of test [] x none h = absurd none
+any_of test (y ∷ ys) x (inl is) h = or_left (test y) (list_any test ys) (ap test (sym is) ∙ h)
+any_of test (y ∷ ys) x (inr i) h = or_right (test y) (list_any test ys) (any_of test ys x i h)
+
+-- what some feature acts on, by the names of all
+pub exactly_acted : {S : Type 0} (m : HashMap (Bor Text) Feature S) (names keys : BTreeSet (Bor Text)) → ((f : Text) → set_has names f ≡ is_some (value_at m f))
+    → ((k : Text) → set_has keys k ≡ list_any (λ f. is_some ((table_in m).action f k)) (texts_in names))
+    → (k : Text) → Among (texts_in keys) k ↔ ((f : Text) × IsSome ((table_in m).action f k))
+exactly_acted {S} m names keys all acted k = (
+  λ i. some_of (λ f. is_some ((table_in m).action f k)) (texts_in names) (sym (acted k) ∙ has_text keys k i),
+  λ some. text_of keys k (acted k ∙ any_of (λ f. is_some ((table_in m).action f k)) (texts_in names) some.0 (text_of names some.0 (all some.0 ∙ there (value_at m some.0) some.1)) some.1),
+)
+  where
+    there : (o : Option Feature) → is_some (option_map_or (λ (v : Feature). action_at v.enables_deps k) o None) ≡ true → is_some o ≡ true
+    there (Some v) h = refl
+    there None h = absurd (false≢true h)

@@ -108,22 +108,22 @@ module _ {S : Type 0} (listed : Listed) (m : HashMap (Bor Text) Feature S) where
   module _ (all : List (Bor Text)) (k : Bor Text) (left rest : List (Bor Text)) (is : left ≡ k ∷ rest) where
     -- a feature that is told of
     pub rowed_one : (r : Row) (rows more : List Row) → more ≡ rows ++ r ∷ [] → r.name.now ≡ k.now → told k.now ≡ true → Tells r → Rowed all left rows → Rowed all rest more
-    rowed_one r rows more pushed named yes tells h = record {
+    rowed_one r rows more pushed named passes tells h = record {
       names =
           ap (λ rs. names_of_rows rs ++ filter told (map (λ q. q.now) rest)) pushed
           ∙ ap (λ ts. ts ++ filter told (map (λ q. q.now) rest)) (map-append (λ (q : Row). q.name.now) rows (r ∷ []))
           ∙ append_assoc (names_of_rows rows) (r.name.now ∷ []) (filter told (map (λ q. q.now) rest))
           ∙ ap (λ t. names_of_rows rows ++ (t ∷ filter told (map (λ q. q.now) rest))) named
-          ∙ ap (λ ts. names_of_rows rows ++ ts) (sym (picked told k.now (map (λ q. q.now) rest) true yes))
+          ∙ ap (λ ts. names_of_rows rows ++ ts) (sym (picked told k.now (map (λ q. q.now) rest) true passes))
           ∙ ap (λ ks. names_of_rows rows ++ filter told (map (λ q. q.now) ks)) (sym is) ∙ h.names;
       each = subst (λ rs. AllByRecursion Tells rs) (sym pushed) (all_push rows r h.each tells);
     }
 
     -- one that isn't
     pub rowed_none : (rows : List Row) → told k.now ≡ false → Rowed all left rows → Rowed all rest rows
-    rowed_none rows no h = record {
+    rowed_none rows fails h = record {
       names =
-          ap (λ ts. names_of_rows rows ++ ts) (sym (picked told k.now (map (λ q. q.now) rest) false no))
+          ap (λ ts. names_of_rows rows ++ ts) (sym (picked told k.now (map (λ q. q.now) rest) false fails))
           ∙ ap (λ ks. names_of_rows rows ++ filter told (map (λ q. q.now) ks)) (sym is) ∙ h.names;
       each = h.each;
     }
@@ -160,10 +160,10 @@ module _ {S : Type 0} (listed : Listed) (m : HashMap (Bor Text) Feature S) where
   pub untold_at : (x : Text) → value_at m x ≡ None → told x ≡ false
   untold_at x at = ap (λ o. option_map_or (is_shown (is_some (lookup (bytes_eq (codes "default")) listed))) o false) at
 
+mapped : {X Y : Type 0} (f : X → Y) (o : Option X) → is_some (option_map f o) ≡ is_some o
+mapped f None = refl
+mapped f (Some x) = refl
+
 pub lists_default : (lists : BTreeMap (String Global) (Vec (String Global) Global)) (b : Bool) → b ≡ is_some (get_by_text lists (codes "default"))
     → b ≡ is_some (lookup (bytes_eq (codes "default")) (listed_in lists))
-lists_default lists b is = is ∙ sym (ap is_some (listed_at lists (codes "default")) ∙ mapped (get_by_text lists (codes "default")))
-  where
-    mapped : {X Y : Type 0} {f : X → Y} (o : Option X) → is_some (option_map f o) ≡ is_some o
-    mapped None = refl
-    mapped (Some x) = refl
+lists_default lists b is = is ∙ sym (ap is_some (listed_at lists (codes "default")) ∙ mapped _ (get_by_text lists (codes "default")))

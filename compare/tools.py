@@ -4,7 +4,7 @@
     compare/tools.py index|lint|document|graph FILE..     # prints what is wanted of these manifests
     compare/tools.py audit|report FOLDER..                # and of these workspaces
     compare/tools.py --compare TOOL FILE|FOLDER..         # holds the program against that
-    compare/tools.py --random TOOL COUNT [SEED]           # the same, on manifests of compare/run
+    compare/tools.py --random TOOL COUNT [SEED]           # the same, on random ones
 
 Nothing here follows the program's code. Features are found by definitions.py.
 """
@@ -22,6 +22,7 @@ import tempfile
 import tomllib
 
 from definitions import Graph, enabled_by, in_order, join, mention
+from workspaces import Workspaces
 
 HERE = os.path.dirname(os.path.realpath(__file__))
 PROGRAM = os.path.join(os.path.dirname(HERE), "cargo-toml-tools")
@@ -79,6 +80,14 @@ def tables(manifest):
     for target, place in [(None, manifest), *((name, targets[name]) for name in in_order(targets))]:
         for name, kind in TABLES:
             yield name, kind, target, place.get(name, {})
+
+
+def tables_to_fill(manifest):
+    """The same tables in the order in which they are filled: the first fault counts."""
+    every = list(tables(manifest))
+    for place in range(0, len(every), 3):
+        normal, dev, build = every[place : place + 3]
+        yield from (normal, build, dev)
 
 
 def filled(key, value, workspace):
@@ -500,13 +509,13 @@ def inspected(root):
                 inherited |= {key for key in table if is_inherited(table[key])}
             asked = [
                 (given.get("package", key), requirement(given["version"]))
-                for _, _, _, table in tables(member)
+                for _, _, _, table in tables_to_fill(member)
                 for key in in_order(table)
                 if "version" in (given := filled(key, table[key], workspace))
             ]
             told.append(summary(folder, member, workspace))
-        except FileNotFoundError:
-            odd.add(("incomplete", folder, "No such file or directory (os error 2)"))
+        except (FileNotFoundError, NotADirectoryError) as fault:
+            odd.add(("incomplete", folder, f"{fault.strerror} (os error {fault.errno})"))
             continue
         except Refused as why:
             odd.add(("incomplete", folder, str(why)))
@@ -599,20 +608,30 @@ def compare(tool, paths):
     return len(differ)
 
 
-def compare_random(tool, count, seed=1):
-    """The same, on random manifests."""
-    if tool in ["audit", "report"]:
-        sys.exit(f"compare/tools.py: {tool} is of workspaces, and random manifests have none")
+def random_manifests(folder, count, seed):
+    """Paths of random manifests, as compare/run makes them."""
     loader = importlib.machinery.SourceFileLoader("run", f"{HERE}/run")
     run = importlib.util.module_from_spec(importlib.util.spec_from_loader("run", loader))
     loader.exec_module(run)
-    manifests = run.Manifests(int(seed), run.NAMES + run.HIDDEN, has_details=True)
+    manifests = run.Manifests(seed, run.NAMES + run.HIDDEN, has_details=True)
+    paths = [f"{folder}/{number}.toml" for number in range(count)]
+    for path in paths:
+        with open(path, "w", encoding="utf-8") as file:
+            file.write(manifests.manifest())
+    return paths
+
+
+def random_workspaces(folder, count, seed):
+    """Paths of random workspaces."""
+    workspaces = Workspaces(seed)
+    return [workspaces.write(f"{folder}/{number}") for number in range(count)]
+
+
+def compare_random(tool, count, seed=1):
+    """The same, on random manifests or, where the tool is of workspaces, on these."""
+    made = random_workspaces if tool in ["audit", "report"] else random_manifests
     with tempfile.TemporaryDirectory() as folder:
-        paths = [f"{folder}/{number}.toml" for number in range(int(count))]
-        for path in paths:
-            with open(path, "w", encoding="utf-8") as file:
-                file.write(manifests.manifest())
-        return compare(tool, paths)
+        return compare(tool, made(folder, int(count), int(seed)))
 
 
 def main(words):

@@ -19,3 +19,12 @@ pub mod Told
 pub mod Weighed
 pub mod Within
 pub mod Yielded
+pub mod Separated
+pub mod Ordered
+pub mod Paged
+pub mod Joined
+pub mod Turned
+pub mod Walking
+pub mod Reaching
+pub mod Rowed
+pub mod Shown

@@ -1,12 +1,12 @@
 -- What is gathered of all features that one turns on.
-use Rattle.std.proofs.Common.{◌≡◌, ◌≢◌, ◌⊎◌, ◌↔◌, ◌&&◌, ◌||◌, ◌∙◌, Bool, Bor, IfSome, IsTrue, List, [], ◌∷◌}
-use Rattle.std.proofs.Common.{None, Option, Some, ap, ap₂, false, inl, inr, is_some, not, refl, subst, sym, true}
+use Rattle.std.proofs.Common.{◌≡◌, ◌≢◌, ◌⊎◌, ◌↔◌, ◌&&◌, ◌||◌, ◌∙◌, Bool, Bor, IsTrue, List, [], ◌∷◌}
+use Rattle.std.proofs.Common.{None, Option, Some, ap, ap₂, false, inl, inr, not, refl, subst, sym, true}
 use Rattle.std.proofs.Math.Bool.{and-false, and-true, or-false}
 use Rattle.std.proofs.lemmas.Bool.{and_from, and_parts, false≢true, false_from_ne_true, not-true}
 use Rattle.std.proofs.lemmas.Bool.{not_from_false, or_left, or_right}
 use Rattle.std.proofs.lemmas.Map.Text.{is_eq-slice_cmp}
 use Rattle.std.proofs.lemmas.Slice.Eq.{bytes_eq-Decides}
-use Rattle.std.specs.BTreeMap.{BTreeMap, is_at}
+use Rattle.std.specs.BTreeMap.{is_at}
 use Rattle.std.specs.BTreeSet.{BTreeSet}
 use Rattle.std.specs.Cmp.Lexicographic.{slice_cmp}
 use Rattle.std.specs.HashMap.{HashMap}
@@ -122,9 +122,11 @@ module _ {S : Type 0} (m : HashMap (Bor Text) Feature S) (name : Text) where
         → (x ≢ name) × IsTrue (option_map_or (λ v. not (is_internal v)) o false)
     other x None at e = absurd (false≢true e)
     other x (Some v) at e =
-        let p = and_parts (not (bytes_eq v.key.now name)) (not (is_internal v)) e in
-        (λ same. false≢true (sym (not-true (bytes_eq v.key.now name) p.0)
-        ∙ (bytes_eq-Decides v.key.now name).1 (key_of m keyed x v at ∙ same)), p.1)
+        let p = and_parts (not (bytes_eq v.key.now name)) (not (is_internal v)) e in (
+          λ same. false≢true (sym (not-true (bytes_eq v.key.now name) p.0)
+              ∙ (bytes_eq-Decides v.key.now name).1 (key_of m keyed x v at ∙ same)),
+          p.1,
+        )
 
     beside : (x : Text) (o : Option Feature) → value_at m x ≡ o → (x ≢ name)
         → IsTrue (option_map_or (λ v. not (is_internal v)) o false)

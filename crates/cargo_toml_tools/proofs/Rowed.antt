@@ -1,28 +1,26 @@
 -- The rows of the features that are told of.
-use Rattle.std.proofs.Common.{◌≡◌, ◌⊎◌, ◌↔◌, ◌++◌, ◌∙◌, ◌||◌, Bool, Bor, Global, IfSome, IsTrue, List, []}
+use Rattle.std.proofs.Common.{◌≡◌, ◌↔◌, ◌++◌, ◌∙◌, Bool, Bor, Global, IfSome, IsTrue, List, []}
 use Rattle.std.proofs.Common.{◌∷◌, None, Option, Some, String, Vec, ap, append_assoc, cond, false, inl, inr}
 use Rattle.std.proofs.Common.{is_some, map, option_map, refl, subst, sym, true}
-use Rattle.std.proofs.lemmas.Bool.{false≢true, or_cases, or_left, or_right}
+use Rattle.std.proofs.lemmas.Bool.{false≢true, or_left, or_right}
 use Rattle.std.proofs.lemmas.List.{append-nil, map-append}
 use Rattle.std.proofs.lemmas.Map.Text.{is_eq-slice_cmp}
 use Rattle.std.proofs.lemmas.Slice.Eq.{bytes_eq-Decides}
-use Rattle.std.specs.BTreeMap.{BTreeMap, get_by_text, is_at}
+use Rattle.std.specs.BTreeMap.{BTreeMap, get_by_text}
 use Rattle.std.specs.BTreeSet.{BTreeSet}
-use Rattle.std.specs.Cmp.Lexicographic.{slice_cmp}
 use Rattle.std.specs.HashMap.{HashMap}
-use Rattle.std.specs.List.{AllByRecursion, list_any}
+use Rattle.std.specs.List.{AllByRecursion}
 use Rattle.std.specs.Map.{lookup}
 use Rattle.std.specs.Option.{option_map_or}
-use Rattle.std.specs.Ordering.{nat_cmp}
 use Rattle.std.specs.Prelude.{bytes_eq, codes, filter}
 use Rattle.cargo_toml.specs.Action.{Text}
-use Rattle.cargo_toml.specs.Admitted.{Listed, is_below}
+use Rattle.cargo_toml.specs.Admitted.{Listed}
 use Rattle.cargo_toml.specs.Ascending.{Ascend}
 use Rattle.cargo_toml.specs.Feature.{Feature}
 use Rattle.cargo_toml.specs.Reach.{Among}
 use Rattle.cargo_toml.specs.Views.{listed_in, set_has, table_in, value_at}
 use Rattle.cargo_toml_lint.proofs.Gathered.{at_head, has_in}
-use Rattle.cargo_toml_tools.specs.Documented.{AreTexts, is_shown, is_told_of}
+use Rattle.cargo_toml_tools.specs.Documented.{is_shown, is_told_of}
 use Rattle.cargo_toml_tools.specs.PageSteps.{TellsOf, TellOfAll, texts_in}
 use Rattle.cargo_toml_tools.specs.declared.document.Row.{Row}
 use Rattle.cargo_toml_tools.proofs.Walking.{listed_at}

@@ -1,15 +1,14 @@
 -- The features that are found, and those that are left to be looked at.
-use Rattle.std.proofs.Common.{◌≡◌, ◌⊎◌, ◌+◌, ◌≤◌, ◌++◌, ◌&&◌, ◌||◌, ◌∙◌, ℕ, Bool, Bor, List, [], ◌∷◌}
-use Rattle.std.proofs.Common.{IsTrue, Option, None, Some, ap, arith, cond, false, inl, inr, is_some, not}
+use Rattle.std.proofs.Common.{◌≡◌, ◌+◌, ◌≤◌, ◌++◌, ◌&&◌, ◌||◌, ◌∙◌, ℕ, Bool, Bor, List, [], ◌∷◌}
+use Rattle.std.proofs.Common.{Option, None, Some, ap, arith, cond, false, is_some, not}
 use Rattle.std.proofs.Common.{◌<◌, Global, String, get_or, length, map, refl, string_bytes, subst, sym}
 use Rattle.std.proofs.Common.{take, true}
-use Rattle.std.proofs.Math.Bool.{and-true, or-false}
+use Rattle.std.proofs.Math.Bool.{or-false}
 use Rattle.std.proofs.lemmas.Bool.{false≢true, or_left, or_right}
 use Rattle.std.proofs.lemmas.List.Folds.{list_any-append}
 use Rattle.std.proofs.lemmas.Slice.Eq.{bytes_eq-Decides}
 use Rattle.std.specs.BTreeSet.{BTreeSet}
 use Rattle.std.specs.HashMap.{HashMap}
-use Rattle.std.specs.List.{list_any}
 use Rattle.std.specs.Map.{lookup}
 use Rattle.std.specs.Option.{option_map_or}
 use Rattle.std.specs.Prelude.{bytes_eq, if◌then◌else◌}

@@ -1,5 +1,5 @@
 -- The walk over all that a feature turns on.
-use Rattle.std.proofs.Common.{◌≡◌, ◌⊎◌, ◌↔◌, ◌++◌, ◌&&◌, ◌||◌, ◌∙◌, Bool, Bor, Global, IsTrue, List, [], ◌∷◌}
+use Rattle.std.proofs.Common.{◌≡◌, ◌⊎◌, ◌↔◌, ◌++◌, ◌&&◌, ◌∙◌, Bool, Bor, Global, IsTrue, List, [], ◌∷◌}
 use Rattle.std.proofs.Common.{None, Option, Some, String, Vec, ap, cond, false, inl, inr, map, not}
 use Rattle.std.proofs.Common.{option_map, refl, string_bytes, subst, sym, true}
 use Rattle.std.proofs.lemmas.Bool.{and_from, and_parts, cases_Bool, false≢true, not_from_false}
@@ -93,8 +93,11 @@ module _ {S : Type 0} (listed : Listed) (m : HashMap (Bor Text) Feature S) (f : 
       | inl old ↦ inl old
       | inr new ↦ elim (or_cases (set_has s x) (P x) (sym (h.found x) ∙ e)) [
         | inl old ↦ inl old
-        | inr p ↦ inr (p, h.left x ∙ or_right (is_left l x) (P x && not (set_has s x))
-            (and_from (P x) (not (set_has s x)) p (not_from_false (set_has s x) new)))
+        | inr p ↦ inr (
+          p,
+          h.left x ∙ or_right (is_left l x) (P x && not (set_has s x))
+              (and_from (P x) (not (set_has s x)) p (not_from_false (set_has s x) new)),
+        )
       ]
     ]
 

@@ -15,7 +15,9 @@ pub mod Reported
 pub mod LintLines
 pub mod Patterns
 pub mod Places
+pub mod Pages
+pub mod Documented
 -- the code's own steps, in contracts of inner functions alone: nothing here has to be believed
 pub mod Checked
-pub mod Documented
+pub mod PageSteps
 pub mod Rows

@@ -69,9 +69,11 @@ abbrev pub of_crate : Option Text → Text
 of_crate None = []
 of_crate (Some name) = codes " of " ++ code name
 
+abbrev pub title : Option Text → Text
+title name = concat (codes "# Features" ∷ of_crate name ∷ codes "\n" ∷ [])
+
 -- the title, the table of the listed features, and that of the others
 abbrev pub page_text : Option Text → List PageRow → Text
 page_text name rows =
-    concat (codes "# Features" ∷ of_crate name ∷ codes "\n"
-    ∷ table_text (table_head true) (kind true rows)
+    concat (title name ∷ table_text (table_head true) (kind true rows)
     ∷ table_text (table_head false) (kind false rows) ∷ [])

@@ -1,8 +1,10 @@
 //! What is documented of a crate's features: a page in Markdown, or the graph for Graphviz.
-ghost use Rattle.std.specs.Prelude.{◌≡◌, ◌↔◌, ◌++◌, IfOk, IsTrue, OnOk, codes, map, string_bytes};
+ghost use Rattle.std.specs.Prelude.{◌≡◌, ◌↔◌, ◌++◌, IfOk, IsTrue, OnOk, codes, map, option_map};
+ghost use Rattle.std.specs.Prelude.{string_bytes};
 ghost use Rattle.std.specs.List.{AllByRecursion, list_any};
 ghost use Rattle.cargo_toml.specs.Action.{Text};
 ghost use Rattle.cargo_toml.specs.Ascending.{Ascend};
+ghost use Rattle.cargo_toml.specs.Manifests.{held};
 ghost use Rattle.cargo_toml.specs.Reached.{IsKeyed};
 ghost use Rattle.cargo_toml.specs.Views.{listed_in, set_has, table_in};
 ghost use Rattle.cargo_toml_tools.specs.Escaped.{code};
@@ -10,8 +12,8 @@ ghost use Rattle.cargo_toml_tools.specs.PageSteps.{AskInOrder, IsInOrder, TellOf
 ghost use Rattle.cargo_toml_tools.specs.PageSteps.{actions_in, asked_in, row_in, texts_in};
 ghost use Rattle.cargo_toml_tools.specs.Pages.{action_cell, asked_text, conditional_mark};
 ghost use Rattle.cargo_toml_tools.specs.Pages.{default_column, is_of_kind, kind, row_text, table_head};
-ghost use Rattle.cargo_toml_tools.specs.Pages.{table_text, with_commas};
-ghost use Rattle.cargo_toml_tools.specs.Documented.{IsOn, is_internal, is_shown};
+ghost use Rattle.cargo_toml_tools.specs.Pages.{of_crate, table_text, title, with_commas};
+ghost use Rattle.cargo_toml_tools.specs.Documented.{Documents, IsOn, is_internal, is_shown};
 
 mod dot;
 mod reached;
@@ -48,7 +50,10 @@ pub fn page<M, S: BuildHasher>(
     alloc: Global,
     manifest: &Manifest<M>,
     resolved: &Features<'_, '_, S>,
-) -> Result<String, AllocError> {
+) -> Result<String, AllocError>
+    ensures documents { IfOk result (λ page.
+        Documents (held manifest.now) resolved.now.features (string_bytes page)) }
+{
     let rows = rows(alloc, &manifest.features, &resolved.features)?;
     let mut page = String::new(alloc);
     push_title(&mut page, manifest)?;
@@ -125,13 +130,24 @@ fn is_private(feature: &Feature<'_>) -> bool
     !feature.public || feature.key.starts_with('_')
 }
 
-fn push_title<M>(page: &mut String, manifest: &Manifest<M>) -> Result<(), AllocError> {
+fn push_title<M>(page: &mut String, manifest: &Manifest<M>) -> Result<(), AllocError>
+    ensures { OnOk result (string_bytes page.new ≡ string_bytes page.old
+        ++ title (option_map (λ p. p.name) (held manifest.now).«package»)) }
+{
     page.push_str("# Features")?;
-    if let Some(package) = &manifest.package {
-        page.push_str(" of ")?;
-        push_code(page, package.name.as_str())?;
-    }
+    push_crate(page, manifest)?;
     page.push_str("\n")
+}
+
+fn push_crate<M>(page: &mut String, manifest: &Manifest<M>) -> Result<(), AllocError>
+    ensures { OnOk result (string_bytes page.new ≡ string_bytes page.old
+        ++ of_crate (option_map (λ p. p.name) (held manifest.now).«package»)) }
+{
+    let Some(package) = &manifest.package else {
+        return Ok(());
+    };
+    page.push_str(" of ")?;
+    push_code(page, package.name.as_str())
 }
 
 /// The table of the features that are listed, or of those that are optional dependencies.

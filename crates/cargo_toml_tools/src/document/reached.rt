@@ -184,10 +184,7 @@ fn join_into<'m>(joined: &mut DepAction<'m>, action: &DepAction<'m>) -> Result<(
     Ok(())
 }
 
-fn add_texts<'m>(
-    set: &mut BTreeSet<&'m str>,
-    texts: &BTreeSet<&'m str>,
-) -> Result<(), AllocError>
+fn add_texts<'m>(set: &mut BTreeSet<&'m str>, texts: &BTreeSet<&'m str>) -> Result<(), AllocError>
     ensures { OnOk result ((x : Text) → set_has set.new x
         ≡ (set_has set.old x || set_has texts.now x)) }
 {

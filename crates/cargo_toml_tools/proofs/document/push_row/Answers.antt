@@ -1,10 +1,7 @@
-use Rattle.std.proofs.Common.{◌≡◌, ◌++◌, ◌∙◌, ◌∷◌, [], Option, None, Some, Bor, List, ℕ, ap, codes}
-use Rattle.std.proofs.Common.{refl, string_bytes, sym}
+use Rattle.std.proofs.Common.{◌≡◌, ◌++◌, ◌∙◌, [], Option, None, Some, Bor, List, ℕ, ap, codes}
+use Rattle.std.proofs.Common.{refl, string_bytes}
 use Rattle.std.proofs.lemmas.Result.{on_ok_weaker}
 use Rattle.std.specs.Prelude.{option_copied, unwrap_or}
-use Rattle.cargo_toml_tools.specs.Escaped.{code, escaped_text}
-use Rattle.cargo_toml_tools.specs.PageSteps.{actions_in, texts_in}
-use Rattle.cargo_toml_tools.specs.Pages.{action_cell, default_column, with_commas}
 use Rattle.cargo_toml_tools.specs.declared.escape.Format.TheVariants.{Markdown}
 use Rattle.cargo_toml_tools.proofs.Pieces.{ended_if, goes_on, of_text}
 use Rattle.cargo_toml_tools.proofs.document.push_row.Goals as goal

@@ -2,7 +2,6 @@ use Rattle.std.proofs.Common.{◌≡◌, ◌∙◌, None, Some, ap, refl, subst,
 use Rattle.std.proofs.lemmas.Map.Iter.{rest_all, rest_more}
 use Rattle.std.specs.Map.Iter.{deref}
 use Rattle.std.specs.Option.{IfSome, option_copied}
-use Rattle.cargo_toml.specs.Feature.{Feature}
 use Rattle.cargo_toml.specs.Views.{listed_in, value_at}
 use Rattle.cargo_toml_features.proofs.Pending.{key_of}
 use Rattle.cargo_toml_tools.specs.PageSteps.{TellsOf}

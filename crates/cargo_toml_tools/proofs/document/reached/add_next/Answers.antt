@@ -1,4 +1,4 @@
-use Rattle.std.proofs.Common.{◌+◌, Global, List, String, ap, arith, length, refl, subst}
+use Rattle.std.proofs.Common.{Global, List, String, ap, arith, length, refl, subst}
 use Rattle.std.proofs.lemmas.List.{take_all}
 use Rattle.cargo_toml.specs.Views.{table_in}
 use Rattle.cargo_toml_tools.specs.PageSteps.{AddsFound, left_over}

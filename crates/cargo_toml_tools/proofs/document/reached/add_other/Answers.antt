@@ -1,4 +1,4 @@
-use Rattle.std.proofs.Common.{◌||◌, ◌&&◌, ◌∙◌, ap, bytes_eq, not, sym, true}
+use Rattle.std.proofs.Common.{◌∙◌, bytes_eq, sym}
 use Rattle.std.proofs.lemmas.Bool.{and_from, not_from_false}
 use Rattle.cargo_toml.specs.Views.{set_has}
 use Rattle.cargo_toml_features.proofs.TextKeys.{inserted}

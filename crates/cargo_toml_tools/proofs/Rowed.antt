@@ -21,7 +21,7 @@ use Rattle.cargo_toml.specs.Reach.{Among}
 use Rattle.cargo_toml.specs.Views.{listed_in, set_has, table_in, value_at}
 use Rattle.cargo_toml_lint.proofs.Gathered.{at_head, has_in}
 use Rattle.cargo_toml_tools.specs.Documented.{is_shown, is_told_of}
-use Rattle.cargo_toml_tools.specs.PageSteps.{TellsOf, TellOfAll, texts_in}
+use Rattle.cargo_toml_tools.specs.PageSteps.{TellsOf, TellOfAll, key_texts}
 use Rattle.cargo_toml_tools.specs.declared.document.Row.{Row}
 use Rattle.cargo_toml_tools.proofs.Walking.{listed_at}
 
@@ -36,7 +36,7 @@ keys_among (k ∷ ks) x = (
   λ h. elim (at_head k ks x h) [ inl e ↦ inl e | inr i ↦ inr ((keys_among ks x).1 i) ],
 )
 
-pub texts_among : (s : BTreeSet (Bor Text)) (x : Text) → Among (texts_in s) x ↔ IsTrue (set_has s x)
+pub texts_among : (s : BTreeSet (Bor Text)) (x : Text) → Among (key_texts s) x ↔ IsTrue (set_has s x)
 texts_among s x = keys_among s.keys x
 
 -- ---- those of the texts that pass
@@ -133,18 +133,18 @@ module _ {S : Type 0} (listed : Listed) (m : HashMap (Bor Text) Feature S) where
       go None e = e
       go (Some v) e = refl
 
-  pub rowed_all : (names : BTreeSet (Bor Text)) (left : List (Bor Text)) (rows : List Row) → left ≡ [] → Ascend (texts_in names)
+  pub rowed_all : (names : BTreeSet (Bor Text)) (left : List (Bor Text)) (rows : List Row) → left ≡ [] → Ascend (key_texts names)
       → ((x : Text) → set_has names x ≡ (table_in m).has x) → Rowed names.keys left rows → TellOfAll listed m rows
   rowed_all names left rows none up are h =
-      let same : names_of_rows rows ≡ filter told (texts_in names) =
+      let same : names_of_rows rows ≡ filter told (key_texts names) =
       sym (append-nil (names_of_rows rows)) ∙ ap (λ ks. names_of_rows rows ++ filter told (map (λ (q : Bor Text). q.now) ks)) (sym none) ∙ h.names in
       record {
         names = record {
           exact = λ x. (
-            λ i. ((filtered_among told (texts_in names) x).0 (subst (λ ts. Among ts x) same i)).1,
-            λ t. subst (λ ts. Among ts x) (sym same) ((filtered_among told (texts_in names) x).1 ((texts_among names x).1 (are x ∙ has_told x t), t)),
+            λ i. ((filtered_among told (key_texts names) x).0 (subst (λ ts. Among ts x) same i)).1,
+            λ t. subst (λ ts. Among ts x) (sym same) ((filtered_among told (key_texts names) x).1 ((texts_among names x).1 (are x ∙ has_told x t), t)),
           );
-          in_order = subst Ascend (sym same) (filtered_ascend told (texts_in names) up);
+          in_order = subst Ascend (sym same) (filtered_ascend told (key_texts names) up);
         };
         each = h.each;
       }

@@ -17,14 +17,14 @@ use Rattle.cargo_toml.specs.Feature.{Feature}
 use Rattle.cargo_toml.specs.Views.{set_has, table_in, value_at}
 use Rattle.cargo_toml_lint.proofs.Gathered.{any_more}
 use Rattle.cargo_toml_tools.specs.Documented.{turns_to}
-use Rattle.cargo_toml_tools.specs.PageSteps.{AddsFound, is_left, left_among, says_some}
+use Rattle.cargo_toml_tools.specs.PageSteps.{AddsFound, is_waiting, left_among, says_some}
 
 -- ---- one feature
 pub left_push : (left : List (Bor Text)) (t : Bor Text) (x : Text)
-    → is_left (left ++ t ∷ []) x ≡ (is_left left x || bytes_eq x t.now)
+    → is_waiting (left ++ t ∷ []) x ≡ (is_waiting left x || bytes_eq x t.now)
 left_push left t x =
     list_any-append (λ (k : Bor Text). bytes_eq x k.now) left (t ∷ [])
-    ∙ ap (λ b. is_left left x || b) (or-false (bytes_eq x t.now))
+    ∙ ap (λ b. is_waiting left x || b) (or-false (bytes_eq x t.now))
 
 module _ {S : Type 0} (m : HashMap (Bor Text) Feature S) where
   abbrev pub only : Text → Text → Bool
@@ -53,8 +53,8 @@ module _ {S : Type 0} (m : HashMap (Bor Text) Feature S) where
     added_new left more new pushed = record {
       found = there;
       left = λ x.
-          ap (λ l. is_left l x) pushed ∙ left_push left v.key x
-          ∙ ap (λ b. is_left left x || b)
+          ap (λ l. is_waiting l x) pushed ∙ left_push left v.key x
+          ∙ ap (λ b. is_waiting left x || b)
           (ap (bytes_eq x) key ∙ here_new x (bytes_eq x name) refl
           ∙ ap (λ b. b && not (set_has s x)) (sym (only_there name v here x)));
     }
@@ -73,9 +73,9 @@ module _ {S : Type 0} (m : HashMap (Bor Text) Feature S) where
     added_old left old = record {
       found = there;
       left = λ x.
-          sym (ap (λ b. is_left left x || (b && not (set_has s x))) (only_there name v here x)
-          ∙ ap (λ b. is_left left x || b) (never x (bytes_eq x name) refl)
-          ∙ or-false (is_left left x));
+          sym (ap (λ b. is_waiting left x || (b && not (set_has s x))) (only_there name v here x)
+          ∙ ap (λ b. is_waiting left x || b) (never x (bytes_eq x name) refl)
+          ∙ or-false (is_waiting left x));
     }
       where
         never : (x : Text) (b : Bool) → bytes_eq x name ≡ b
@@ -146,15 +146,15 @@ pub adds_alike : {P Q : Text → Bool} {s n : BTreeSet (Bor Text)} {l k : List (
     → ((x : Text) → Q x ≡ P x) → AddsFound P s n l k → AddsFound Q s n l k
 adds_alike {P} {Q} {s} {n} {l} {k} same h = record {
   found = λ x. h.found x ∙ ap (λ b. set_has s x || b) (sym (same x));
-  left = λ x. h.left x ∙ ap (λ b. is_left l x || (b && not (set_has s x))) (sym (same x));
+  left = λ x. h.left x ∙ ap (λ b. is_waiting l x || (b && not (set_has s x))) (sym (same x));
 }
 
 pub adds_none : (P : Text → Bool) (s : BTreeSet (Bor Text)) (l : List (Bor Text))
     → ((x : Text) → P x ≡ false) → AddsFound P s s l l
 adds_none P s l none = record {
   found = λ x. sym (ap (λ b. set_has s x || b) (none x) ∙ or-false (set_has s x));
-  left = λ x. sym (ap (λ b. is_left l x || (b && not (set_has s x))) (none x)
-      ∙ or-false (is_left l x));
+  left = λ x. sym (ap (λ b. is_waiting l x || (b && not (set_has s x))) (none x)
+      ∙ or-false (is_waiting l x));
 }
 
 both_found : (a p q : Bool) → ((a || p) || q) ≡ (a || (p || q))
@@ -180,8 +180,8 @@ adds_both {P} {Q} {a} {b} {c} {l} {k} {j} g h = record {
   found = λ x. h.found x ∙ ap (λ t. t || Q x) (g.found x) ∙ both_found (set_has a x) (P x) (Q x);
   left = λ x.
       h.left x ∙ ap (λ t. t || (Q x && not (set_has b x))) (g.left x)
-      ∙ ap (λ t. (is_left l x || (P x && not (set_has a x))) || (Q x && not t)) (g.found x)
-      ∙ both_left (is_left l x) (set_has a x) (P x) (Q x);
+      ∙ ap (λ t. (is_waiting l x || (P x && not (set_has a x))) || (Q x && not t)) (g.found x)
+      ∙ both_left (is_waiting l x) (set_has a x) (P x) (Q x);
 }
 
 -- what the first texts of a list turn on

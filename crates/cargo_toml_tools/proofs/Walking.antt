@@ -22,7 +22,7 @@ use Rattle.cargo_toml_features.proofs.TextKeys.{none_in}
 use Rattle.cargo_toml_lint.proofs.Gathered.{any_map}
 use Rattle.cargo_toml_tools.specs.Documented.{IsOn, TurnsOn, leads_to, turns_to}
 use Rattle.cargo_toml_tools.specs.Documented.TurnsOn.{onward, start}
-use Rattle.cargo_toml_tools.specs.PageSteps.{AddsFound, is_left, says_some}
+use Rattle.cargo_toml_tools.specs.PageSteps.{AddsFound, is_waiting, says_some}
 use Rattle.cargo_toml_tools.proofs.Turned.{left_push, only}
 
 -- ---- the list of a feature
@@ -73,9 +73,9 @@ module _ {S : Type 0} (listed : Listed) (m : HashMap (Bor Text) Feature S) (f : 
   pub record Walks (s : BTreeSet (Bor Text)) (left : List (Bor Text)) : Type 0 where
     pub begun : IsTrue (has f) → IsTrue (set_has s f)
     pub sound : (x : Text) → IsTrue (set_has s x) → IsOn listed m f x
-    pub within : (x : Text) → IsTrue (is_left left x) → IsTrue (set_has s x)
+    pub within : (x : Text) → IsTrue (is_waiting left x) → IsTrue (set_has s x)
     pub closed : (x y : Text) → IsTrue (set_has s x) → IsTrue (leads_to listed x y) → IsTrue (has y)
-        → IsTrue (set_has s y) ⊎ IsTrue (is_left left x)
+        → IsTrue (set_has s y) ⊎ IsTrue (is_waiting left x)
 
   -- what is added is found; who is found was, or is left and of those that were added
   module _ {P : Text → Bool} {s n : BTreeSet (Bor Text)} {l k : List (Bor Text)} (h : AddsFound P s n l k) where
@@ -85,24 +85,24 @@ module _ {S : Type 0} (listed : Listed) (m : HashMap (Bor Text) Feature S) (f : 
     put : (x : Text) → IsTrue (P x) → IsTrue (set_has n x)
     put x e = h.found x ∙ or_right (set_has s x) (P x) e
 
-    still_left : (x : Text) → IsTrue (is_left l x) → IsTrue (is_left k x)
-    still_left x e = h.left x ∙ or_left (is_left l x) (P x && not (set_has s x)) e
+    still_left : (x : Text) → IsTrue (is_waiting l x) → IsTrue (is_waiting k x)
+    still_left x e = h.left x ∙ or_left (is_waiting l x) (P x && not (set_has s x)) e
 
-    came : (x : Text) → IsTrue (set_has n x) → IsTrue (set_has s x) ⊎ (IsTrue (P x) × IsTrue (is_left k x))
+    came : (x : Text) → IsTrue (set_has n x) → IsTrue (set_has s x) ⊎ (IsTrue (P x) × IsTrue (is_waiting k x))
     came x e = elim (cases_Bool (set_has s x)) [
       | inl old ↦ inl old
       | inr new ↦ elim (or_cases (set_has s x) (P x) (sym (h.found x) ∙ e)) [
         | inl old ↦ inl old
         | inr p ↦ inr (
           p,
-          h.left x ∙ or_right (is_left l x) (P x && not (set_has s x))
+          h.left x ∙ or_right (is_waiting l x) (P x && not (set_has s x))
               (and_from (P x) (not (set_has s x)) p (not_from_false (set_has s x) new)),
         )
       ]
     ]
 
-    left_found : ((x : Text) → IsTrue (is_left l x) → IsTrue (set_has s x)) → (x : Text) → IsTrue (is_left k x) → IsTrue (set_has n x)
-    left_found before x e = elim (or_cases (is_left l x) (P x && not (set_has s x)) (sym (h.left x) ∙ e)) [
+    left_found : ((x : Text) → IsTrue (is_waiting l x) → IsTrue (set_has s x)) → (x : Text) → IsTrue (is_waiting k x) → IsTrue (set_has n x)
+    left_found before x e = elim (or_cases (is_waiting l x) (P x && not (set_has s x)) (sym (h.left x) ∙ e)) [
       | inl old ↦ kept x (before x old)
       | inr p ↦ put x (and_parts (P x) (not (set_has s x)) p).0
     ]
@@ -117,7 +117,7 @@ module _ {S : Type 0} (listed : Listed) (m : HashMap (Bor Text) Feature S) (f : 
           let same = (bytes_eq-Decides x f).0 q.0 in
           subst (IsOn listed m f) (sym same) (start (sym (ap has same) ∙ q.1)))
     ];
-    within = left_found h (λ x e. absurd (false≢true (sym (ap (λ ls. is_left ls x) empty) ∙ e)));
+    within = left_found h (λ x e. absurd (false≢true (sym (ap (λ ls. is_waiting ls x) empty) ∙ e)));
     closed = λ x y e leads there. elim (came h x e) [
       | inl old ↦ absurd (false≢true (sym (none_in s none x) ∙ old))
       | inr p ↦ inr p.1
@@ -133,11 +133,11 @@ module _ {S : Type 0} (listed : Listed) (m : HashMap (Bor Text) Feature S) (f : 
       | inl old ↦ w.sound x old
       | inr p ↦ (let q = and_parts (leads_to listed next.now x) (has x) p.0 in onward (w.sound next.now here) q.0 q.1)
     ];
-    within = left_found h (λ x e. w.within x (left_push l next x ∙ or_left (is_left l x) (bytes_eq x next.now) e));
+    within = left_found h (λ x e. w.within x (left_push l next x ∙ or_left (is_waiting l x) (bytes_eq x next.now) e));
     closed = λ x y e leads there. elim (came h x e) [
       | inl old ↦ elim (w.closed x y old leads there) [
         | inl found ↦ inl (kept h y found)
-        | inr left ↦ elim (or_cases (is_left l x) (bytes_eq x next.now) (sym (left_push l next x) ∙ left)) [
+        | inr left ↦ elim (or_cases (is_waiting l x) (bytes_eq x next.now) (sym (left_push l next x) ∙ left)) [
           | inl later ↦ inr (still_left h x later)
           | inr now ↦ (let same = (bytes_eq-Decides x next.now).0 now in
               inl (put h y (and_from (leads_to listed next.now y) (has y) (sym (ap (λ z. leads_to listed z y) same) ∙ leads) there)))
@@ -148,7 +148,7 @@ module _ {S : Type 0} (listed : Listed) (m : HashMap (Bor Text) Feature S) (f : 
   }
     where
       here : IsTrue (set_has s next.now)
-      here = w.within next.now (left_push l next next.now ∙ or_right (is_left l next.now) (bytes_eq next.now next.now) ((bytes_eq-Decides next.now next.now).1 refl))
+      here = w.within next.now (left_push l next next.now ∙ or_right (is_waiting l next.now) (bytes_eq next.now next.now) ((bytes_eq-Decides next.now next.now).1 refl))
 
   -- none is left
   pub walks_done : {s : BTreeSet (Bor Text)} {l : List (Bor Text)} → l ≡ [] → Walks s l → (x : Text) → IsTrue (set_has s x) ↔ IsOn listed m f x
@@ -158,5 +158,5 @@ module _ {S : Type 0} (listed : Listed) (m : HashMap (Bor Text) Feature S) (f : 
       complete (start t) = w.begun t
       complete (onward {g} {x} e leads there) = elim (w.closed g x (complete e) leads there) [
         | inl found ↦ found
-        | inr left ↦ absurd (false≢true (sym (ap (λ ls. is_left ls g) none) ∙ left))
+        | inr left ↦ absurd (false≢true (sym (ap (λ ls. is_waiting ls g) none) ∙ left))
       ]

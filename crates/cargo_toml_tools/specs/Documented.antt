@@ -87,8 +87,8 @@ module _ {S : Type 0} (listed : Listed) (m : HashMap (Bor Text) Feature S) where
     pub each : AllByRecursion (λ r. IfSome (value_at m r.name) (IsRowOf r)) rows
 
 -- the page is that of the rows. Each feature has to stand under its own name, as `parse` leaves it
-pub record Documents {M S : Type 0} (m : ManifestMeaning M) (features : HashMap (Bor Text) Feature S)
-    (page : Text) : Type 0 where
+pub record Documents {M S : Type 0} (m : ManifestMeaning M)
+    (features : HashMap (Bor Text) Feature S) (page : Text) : Type 0 where
   pub rows : List PageRow
   pub are : IsKeyed features → AreRows m.features features rows
   pub whole : page ≡ page_text (option_map (λ p. p.name) m.«package») rows

@@ -7,18 +7,18 @@ ghost use Rattle.cargo_toml.specs.Ascending.{Ascend};
 ghost use Rattle.cargo_toml.specs.Manifests.{held};
 ghost use Rattle.cargo_toml.specs.Reached.{IsKeyed};
 ghost use Rattle.cargo_toml.specs.Views.{listed_in, set_has, table_in};
+ghost use Rattle.cargo_toml_tools.specs.Documented.{Documents, IsOn, is_internal, is_shown};
 ghost use Rattle.cargo_toml_tools.specs.Escaped.{code};
 ghost use Rattle.cargo_toml_tools.specs.PageSteps.{AskInOrder, IsInOrder, TellOfAll, TellsOf};
-ghost use Rattle.cargo_toml_tools.specs.PageSteps.{actions_in, asked_in, row_in, texts_in};
+ghost use Rattle.cargo_toml_tools.specs.PageSteps.{actions_in, asked_in, key_texts, row_in};
 ghost use Rattle.cargo_toml_tools.specs.Pages.{action_cell, asked_text, conditional_mark};
-ghost use Rattle.cargo_toml_tools.specs.Pages.{default_column, is_of_kind, kind, row_text, table_head};
-ghost use Rattle.cargo_toml_tools.specs.Pages.{of_crate, table_text, title, with_commas};
-ghost use Rattle.cargo_toml_tools.specs.Documented.{Documents, IsOn, is_internal, is_shown};
+ghost use Rattle.cargo_toml_tools.specs.Pages.{default_column, is_of_kind, kind, of_crate, row_text};
+ghost use Rattle.cargo_toml_tools.specs.Pages.{table_head, table_text, title, with_commas};
 
 mod dot;
 mod reached;
 
-use crate::escape::{Format, comma_before, push_code, push_escaped};
+use crate::escape::{Format, push_code, push_escaped};
 use cargo_toml::features::{DepAction, Feature, Features};
 use cargo_toml::{FeatureSet, Manifest};
 use cargo_toml_features::texts::keys_in_order;
@@ -92,7 +92,8 @@ fn row_of<'m, S: BuildHasher>(
     features: &FeatureMap<'m, S>,
     defaults: &BTreeSet<&str>,
 ) -> Result<Row<'m>, AllocError>
-    ensures { IfOk result (λ row. IsKeyed features.now → ((x : Text) → IsTrue (set_has defaults.now x)
+    ensures { IfOk result (λ row. IsKeyed features.now
+        → ((x : Text) → IsTrue (set_has defaults.now x)
         ↔ IsOn (listed_in lists.now) features.now (codes "default") x)
         → TellsOf (listed_in lists.now) features.now row feature.now) }
 {
@@ -220,8 +221,8 @@ fn default_column(is_default: bool) -> &'static str
 
 fn push_names(page: &mut String, names: &BTreeSet<&str>) -> Result<(), AllocError>
     ensures text { OnOk result (string_bytes page.new
-        ≡ string_bytes page.old ++ with_commas code (texts_in names.now)) }
-    ensures in_order { OnOk result (Ascend (texts_in names.now)) }
+        ≡ string_bytes page.old ++ with_commas code (key_texts names.now)) }
+    ensures in_order { OnOk result (Ascend (key_texts names.now)) }
 {
     let mut comma = "";
     for name in names {
@@ -261,7 +262,7 @@ fn push_action(
 ) -> Result<(), AllocError>
     ensures text { OnOk result (string_bytes page.new
         ≡ string_bytes page.old ++ action_cell (asked_in key.now action.now)) }
-    ensures in_order { OnOk result (Ascend (texts_in action.now.dep_features)) }
+    ensures in_order { OnOk result (Ascend (key_texts action.now.dep_features)) }
 {
     let mark = conditional_mark(action.is_conditional);
     let front = format!(in alloc; "{key}{mark}")?;
@@ -282,8 +283,8 @@ fn push_asked(
     asked: &BTreeSet<&str>,
 ) -> Result<(), AllocError>
     ensures text { OnOk result (string_bytes page.new
-        ≡ string_bytes page.old ++ asked_text front.now (texts_in asked.now)) }
-    ensures in_order { OnOk result (Ascend (texts_in asked.now)) }
+        ≡ string_bytes page.old ++ asked_text front.now (key_texts asked.now)) }
+    ensures in_order { OnOk result (Ascend (key_texts asked.now)) }
 {
     if asked.is_empty() {
         return push_code(page, front);

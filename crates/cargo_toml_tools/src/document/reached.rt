@@ -1,6 +1,6 @@
 //! What a feature turns on, by any number of steps.
-ghost use Rattle.std.specs.Prelude.{◌≡◌, ◌≤◌, ◌+◌, ◌↔◌, ◌&&◌, ◌||◌, false, IfOk, IsTrue, None, OnOk};
-ghost use Rattle.std.specs.Prelude.{Some, bytes_eq, if◌then◌else◌, length, map, string_bytes};
+ghost use Rattle.std.specs.Prelude.{◌≡◌, ◌≤◌, ◌+◌, ◌↔◌, ◌&&◌, ◌||◌, false, IfOk, IsTrue, None};
+ghost use Rattle.std.specs.Prelude.{OnOk, Some, bytes_eq, if◌then◌else◌, length, map, string_bytes};
 ghost use Rattle.std.specs.Option.{option_map_or};
 ghost use Rattle.cargo_toml.specs.Action.{Text, item_of, join, join_option};
 ghost use Rattle.cargo_toml.specs.Reached.{IsKeyed};

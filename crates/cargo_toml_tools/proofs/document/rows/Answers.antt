@@ -18,36 +18,24 @@ pub loop-name-preserved-in_ok-push : goal.loop-name-preserved-in_ok-push
 loop-name-preserved-in_ok-push g c = λ keyed.
     let listed = listed_in c.args.lists.now in
     let m = c.args.features.now in
-    let k = c.in-Some.name.now in
-    let v = c.in-Some-get.feature.now in
     let row = c.in_ok-row_of.field-0 in
-    let at : value_at m k.now ≡ Some v =
-    sym c.get.ensures.value ∙ ap option_copied c.in-Some-get.is in
-    let key = key_of m keyed k.now v at in
-    let is = rest_more deref _ _ _ c.in-Some.name c.in-Some.is c.next.ensures.steps in
+    let at = sym c.get.ensures.value ∙ ap option_copied c.in-Some-get.is in
+    let key = key_of m keyed _ _ at in
     let tells = c.in_ok-row_of.ensures keyed (c.in_ok-defaults.ensures keyed) in
-    rowed_one listed m _ k _ _ is row c.loop-name.rows.items c.push.new.self.items
+    rowed_one listed m _ c.in-Some.name.now _ _
+    (rest_more deref _ _ _ c.in-Some.name c.in-Some.is c.next.ensures.steps) row c.loop-name.rows.items c.push.new.self.items
     c.in_ok-push.ensures.items (tells.name ∙ key)
-    (told_at listed m k.now v c.contains_key-has_default.result at
-    (lists_default c.args.lists.now c.contains_key-has_default.result
-    c.contains_key-has_default.ensures)
+    (told_at listed m _ _ _ at (lists_default c.args.lists.now _ c.contains_key-has_default.ensures)
     ∙ sym c.is_shown.ensures ∙ c.if-is_shown.true)
     (subst (λ o. IfSome o (TellsOf listed m row)) (sym (ap (value_at m) (tells.name ∙ key) ∙ at)) tells)
     (c.loop-name.invariant keyed)
 
 pub loop-name-preserved-else-is_shown : goal.loop-name-preserved-else-is_shown
 loop-name-preserved-else-is_shown g c = λ keyed.
-    let listed = listed_in c.args.lists.now in
-    let m = c.args.features.now in
-    let k = c.in-Some.name.now in
-    let v = c.in-Some-get.feature.now in
-    let at : value_at m k.now ≡ Some v =
-    sym c.get.ensures.value ∙ ap option_copied c.in-Some-get.is in
-    let is = rest_more deref _ _ _ c.in-Some.name c.in-Some.is c.next.ensures.steps in
-    rowed_none listed m _ k _ _ is c.loop-name.rows.items
-    (told_at listed m k.now v c.contains_key-has_default.result at
-    (lists_default c.args.lists.now c.contains_key-has_default.result
-    c.contains_key-has_default.ensures)
+    let at = sym c.get.ensures.value ∙ ap option_copied c.in-Some-get.is in
+    rowed_none (listed_in c.args.lists.now) c.args.features.now _ c.in-Some.name.now _ _
+    (rest_more deref _ _ _ c.in-Some.name c.in-Some.is c.next.ensures.steps) c.loop-name.rows.items
+    (told_at (listed_in c.args.lists.now) c.args.features.now _ _ _ at (lists_default c.args.lists.now _ c.contains_key-has_default.ensures)
     ∙ sym c.is_shown.ensures ∙ c.if-is_shown.false)
     (c.loop-name.invariant keyed)
 

@@ -9,14 +9,9 @@ use Rattle.cargo_toml_tools.proofs.document.reached.add.Goals as goal
 
 pub returns-in_ok-push-clause-added : goal.returns-in_ok-push-clause-added
 returns-in_ok-push-clause-added g c = λ keyed.
-    let m = c.args.features.now in
-    let v = c.in-Some.feature.now in
-    let here : value_at m c.args.name.now ≡ Some v =
-    sym c.get.ensures.value ∙ ap option_copied c.in-Some.is in
-    added_new m c.args.name.now v here (key_of m keyed c.args.name.now v here) c.args.found.now
-    c.insert.new.self
-    (inserted v.key.now c.args.found.now c.insert.new.self c.in_ok-insert.ensures.updates)
-    c.args.left.now.items c.push.new.self.items
+    let here = sym c.get.ensures.value ∙ ap option_copied c.in-Some.is in
+    added_new c.args.features.now c.args.name.now c.in-Some.feature.now here
+    (key_of c.args.features.now keyed _ _ here) _ _ (inserted _ _ _ c.in_ok-insert.ensures.updates) _ _
     (not-true _ (sym c.in_ok-insert.ensures.added ∙ c.if-branch.true)) c.in_ok-push.ensures.items
 
 pub returns-in_ok-push-clause-less : goal.returns-in_ok-push-clause-less
@@ -35,12 +30,7 @@ returns-in_ok-push-clause-less g c =
 
 pub returns-else-branch-clause-added : goal.returns-else-branch-clause-added
 returns-else-branch-clause-added g c = λ keyed.
-    let m = c.args.features.now in
-    let v = c.in-Some.feature.now in
-    let here : value_at m c.args.name.now ≡ Some v =
-    sym c.get.ensures.value ∙ ap option_copied c.in-Some.is in
-    added_old m c.args.name.now v here (key_of m keyed c.args.name.now v here) c.args.found.now
-    c.insert.new.self
-    (inserted v.key.now c.args.found.now c.insert.new.self c.in_ok-insert.ensures.updates)
-    c.args.left.now.items
+    let here = sym c.get.ensures.value ∙ ap option_copied c.in-Some.is in
+    added_old c.args.features.now c.args.name.now c.in-Some.feature.now here
+    (key_of c.args.features.now keyed _ _ here) _ _ (inserted _ _ _ c.in_ok-insert.ensures.updates) _
     (not-false _ (sym c.in_ok-insert.ensures.added ∙ c.if-branch.false))

@@ -28,14 +28,12 @@ loop-other-preserved-in-Continue-branch-3 g c = λ keyed.
     let m = c.args.features.now in
     let name = c.args.name.now in
     let k = c.in-Some.other.now in
-    let v = c.in-Some-get.feature.now in
-    let at : value_at m k.now ≡ Some v =
-    sym c.get.ensures.value ∙ ap option_copied c.in-Some-get.is in
+    let at = sym c.get.ensures.value ∙ ap option_copied c.in-Some-get.is in
     let is = rest_more deref _ _ _ c.in-Some.other c.in-Some.is c.next.ensures.steps in
     let held = c.loop-other.invariant keyed in
     record {
-      others = besides_one m name _ k v _ _ c.loop-other.others c.add_other.new.others is at
-          (key_of m keyed k.now v at) c.in_ok-add_other.ensures held.others;
+      others = besides_one m name _ k _ _ _ c.loop-other.others c.add_other.new.others is at
+          (key_of m keyed _ _ at) c.in_ok-add_other.ensures held.others;
       actions = joining_one (listed_in c.args.lists.now) m name k _ _ (action_at c.loop-other.actions)
           (action_at c.join_actions.new.actions) is
           (λ q. c.in_ok-join_actions.ensures q ∙ ap (join_option (action_at c.loop-other.actions q))

@@ -22,8 +22,13 @@ pub mod Within
 pub mod Yielded
 pub mod Followed
 pub mod KeysInOrder
-pub mod Joined
+pub mod Drawn
+pub mod Separated
 pub mod Ordered
 pub mod Paged
-pub mod Separated
-pub mod Drawn
+pub mod Joined
+pub mod Turned
+pub mod Walking
+pub mod Reaching
+pub mod Rowed
+pub mod Shown

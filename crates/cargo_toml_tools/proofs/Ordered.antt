@@ -16,7 +16,7 @@ use Rattle.cargo_toml.specs.Admitted.{is_below}
 use Rattle.cargo_toml.specs.Ascending.{Ascend}
 use Rattle.cargo_toml.specs.Reach.{Among}
 use Rattle.cargo_toml_features.specs.declared.features.DepAction.{DepAction}
-use Rattle.cargo_toml_tools.specs.PageSteps.{actions_in, asked_in, texts_in}
+use Rattle.cargo_toml_tools.specs.PageSteps.{actions_in, asked_in, key_texts}
 
 abbrev pub key_cmp : Bor Text → Bor Text → Ordering
 key_cmp a b = slice_cmp nat_cmp a.now b.now
@@ -35,7 +35,7 @@ keys_ascend [] h = tt
 keys_ascend (k ∷ ks) h =
     (below_each k ks (sorted_head key_cmp k ks h), keys_ascend ks (sorted_tail key_cmp k ks h))
 
-pub set_ascends : (s : BTreeSet (Bor Text)) → sorted.IsOrdered key_cmp s → Ascend (texts_in s)
+pub set_ascends : (s : BTreeSet (Bor Text)) → sorted.IsOrdered key_cmp s → Ascend (key_texts s)
 set_ascends s h = keys_ascend s.keys h
 
 keys_shown : (es : List (Bor Text × DepAction))

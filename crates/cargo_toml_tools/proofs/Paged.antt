@@ -1,12 +1,10 @@
 -- The rows of a table, one after another.
-use Rattle.std.proofs.Common.{◌≡◌, ◌++◌, ◌∙◌, ◌||◌, Bool, List, [], ◌∷◌, append_assoc, ap, cond, false, map}
-use Rattle.std.proofs.Common.{refl, subst, sym, true}
+use Rattle.std.proofs.Common.{◌≡◌, ◌++◌, ◌∙◌, ◌||◌, Bool, List, [], ◌∷◌, ap, cond, false, map}
+use Rattle.std.proofs.Common.{refl, sym, true}
 use Rattle.std.proofs.lemmas.Bool.{false≢true}
-use Rattle.std.proofs.lemmas.List.{append-nil}
-use Rattle.std.specs.List.{AllByRecursion, flat_map, list_any}
-use Rattle.std.specs.Prelude.{filter}
+use Rattle.std.specs.List.{flat_map, list_any}
 use Rattle.cargo_toml.specs.Action.{Text}
-use Rattle.cargo_toml_tools.specs.PageSteps.{IsInOrder, row_in}
+use Rattle.cargo_toml_tools.specs.PageSteps.{row_in}
 use Rattle.cargo_toml_tools.specs.Pages.{PageRow, is_of_kind, kind, row_text, table_text}
 use Rattle.cargo_toml_tools.specs.declared.document.Row.{Row}
 

@@ -1,6 +1,6 @@
 -- Which features are documented, and what each turns on.
 use Rattle.std.specs.Prelude.{◌≡◌, ◌≢◌, ◌↔◌, ◌&&◌, ◌||◌, Bool, false, IfSome, IsFalse, IsTrue, List}
-use Rattle.std.specs.Prelude.{Option, Some, bytes_eq, codes, is_some, map, nat_eq, not}
+use Rattle.std.specs.Prelude.{Some, bytes_eq, codes, is_some, map, nat_eq, not, option_map}
 use Rattle.std.specs.Borrow.{Bor}
 use Rattle.std.specs.HashMap.{HashMap}
 use Rattle.std.specs.List.{AllByRecursion, list_any, starts_with}
@@ -11,9 +11,11 @@ use Rattle.cargo_toml.specs.Action.Item.{Name, On}
 use Rattle.cargo_toml.specs.Admitted.{Listed, items}
 use Rattle.cargo_toml.specs.Ascending.{Ascend}
 use Rattle.cargo_toml.specs.Feature.{Feature}
+use Rattle.cargo_toml.specs.Manifests.{ManifestMeaning}
 use Rattle.cargo_toml.specs.Reach.{Among}
+use Rattle.cargo_toml.specs.Reached.{IsKeyed}
 use Rattle.cargo_toml.specs.Views.{table_in, value_at}
-use Rattle.cargo_toml_tools.specs.Pages.{PageAction, PageRow}
+use Rattle.cargo_toml_tools.specs.Pages.{PageAction, PageRow, page_text}
 
 -- hidden by its name, or private by its table
 abbrev pub is_internal : Feature → Bool
@@ -83,3 +85,10 @@ module _ {S : Type 0} (listed : Listed) (m : HashMap (Bor Text) Feature S) where
   pub record AreRows (rows : List PageRow) : Type 0 where
     pub names : AreTexts (λ f. IsTrue (is_told_of f)) (map (λ r. r.name) rows)
     pub each : AllByRecursion (λ r. IfSome (value_at m r.name) (IsRowOf r)) rows
+
+-- the page is that of the rows. Each feature has to stand under its own name, as `parse` leaves it
+pub record Documents {M S : Type 0} (m : ManifestMeaning M)
+    (features : HashMap (Bor Text) Feature S) (page : Text) : Type 0 where
+  pub rows : List PageRow
+  pub are : IsKeyed features → AreRows m.features features rows
+  pub whole : page ≡ page_text (option_map (λ p. p.name) m.«package») rows

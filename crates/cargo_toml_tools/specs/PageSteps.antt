@@ -20,14 +20,14 @@ use Rattle.cargo_toml_tools.specs.Pages.{PageAction, PageRow}
 use Rattle.cargo_toml_tools.specs.declared.document.Row.{Row}
 use Rattle.cargo_toml_tools.specs.declared.document.reached.Reached.{Reached}
 
-abbrev pub texts_in : BTreeSet (Bor Text) → List Text
-texts_in s = map (λ t. t.now) s.keys
+abbrev pub key_texts : BTreeSet (Bor Text) → List Text
+key_texts s = map (λ t. t.now) s.keys
 
 abbrev pub asked_in : Text → DepAction → PageAction
 asked_in key a = record {
   key = key;
   is_conditional = a.is_conditional;
-  asked = texts_in a.dep_features;
+  asked = key_texts a.dep_features;
 }
 
 abbrev pub actions_in : BTreeMap (Bor Text) DepAction → List PageAction
@@ -39,7 +39,7 @@ row_in r = record {
   is_listed = r.is_listed;
   doc = option_copied r.doc;
   is_default = r.is_default;
-  features = texts_in r.turns_on.features;
+  features = key_texts r.turns_on.features;
   actions = actions_in r.turns_on.actions;
 }
 
@@ -59,15 +59,15 @@ abbrev pub says_some : Text → List Text → Bool
 says_some x texts = list_any (λ text. turns_to x (item_of text)) texts
 
 -- x is among the names that are left to be looked at
-abbrev pub is_left : List (Bor Text) → Text → Bool
-is_left left x = list_any (λ t. bytes_eq x t.now) left
+abbrev pub is_waiting : List (Bor Text) → Text → Bool
+is_waiting left x = list_any (λ t. bytes_eq x t.now) left
 
 -- the names of the test are found, and those that weren't found before are left
 pub record AddsFound (test : Text → Bool) (old new : BTreeSet (Bor Text))
     (left_old left_new : List (Bor Text)) : Type 0 where
   pub found : (x : Text) → set_has new x ≡ (set_has old x || test x)
-  pub left : (x : Text) → is_left left_new x
-      ≡ (is_left left_old x || (test x && not (set_has old x)))
+  pub left : (x : Text) → is_waiting left_new x
+      ≡ (is_waiting left_old x || (test x && not (set_has old x)))
 
 -- how many features of the map aren't found
 abbrev pub left_among : BTreeSet (Bor Text) → List (Bor Text × Feature) → ℕ

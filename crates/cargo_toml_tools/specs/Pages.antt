@@ -1,6 +1,6 @@
 -- The page that is made of rows.
-use Rattle.std.specs.Prelude.{Bool, false, true, List, [], ◌∷◌, ◌++◌, Option, None, Some, codes, filter}
-use Rattle.std.specs.Prelude.{if◌then◌else◌, not, unwrap_or}
+use Rattle.std.specs.Prelude.{◌∷◌, ◌++◌, Bool, false, true, List, [], Option, None, Some, codes}
+use Rattle.std.specs.Prelude.{filter, if◌then◌else◌, not, unwrap_or}
 use Rattle.std.specs.List.{concat, flat_map, join_by}
 use Rattle.cargo_toml.specs.Action.{Text}
 use Rattle.cargo_toml_tools.specs.Escaped.{code, escaped_text}
@@ -47,11 +47,14 @@ row_text r =
     ∷ default_column r.is_default ∷ with_commas code r.features
     ∷ codes " | " ∷ with_commas action_cell r.actions ∷ codes " |\n" ∷ [])
 
+abbrev pub columns : Text
+columns =
+    codes "| Feature | Text | Default | Features | Dependencies |\n|---|---|---|---|---|\n"
+
 -- what stands above the rows of a table: of optional dependencies with a heading
 abbrev pub table_head : Bool → Text
 table_head is_listed =
-    if is_listed then codes "\n| Feature | Text | Default | Features | Dependencies |\n|---|---|---|---|---|\n"
-    else codes "\n## Optional dependencies\n\n| Feature | Text | Default | Features | Dependencies |\n|---|---|---|---|---|\n"
+    (if is_listed then codes "\n" else codes "\n## Optional dependencies\n\n") ++ columns
 
 -- the listed ones of the rows, or the others
 abbrev pub is_of_kind : Bool → PageRow → Bool
@@ -69,9 +72,11 @@ abbrev pub of_crate : Option Text → Text
 of_crate None = []
 of_crate (Some name) = codes " of " ++ code name
 
+abbrev pub title : Option Text → Text
+title name = concat (codes "# Features" ∷ of_crate name ∷ codes "\n" ∷ [])
+
 -- the title, the table of the listed features, and that of the others
 abbrev pub page_text : Option Text → List PageRow → Text
 page_text name rows =
-    concat (codes "# Features" ∷ of_crate name ∷ codes "\n"
-    ∷ table_text (table_head true) (kind true rows)
+    concat (title name ∷ table_text (table_head true) (kind true rows)
     ∷ table_text (table_head false) (kind false rows) ∷ [])

@@ -1,22 +1,24 @@
 //! What is documented of a crate's features: a page in Markdown, or the graph for Graphviz.
-ghost use Rattle.std.specs.Prelude.{◌≡◌, ◌↔◌, ◌++◌, IfOk, IsTrue, OnOk, codes, map, string_bytes};
+ghost use Rattle.std.specs.Prelude.{◌≡◌, ◌↔◌, ◌++◌, IfOk, IsTrue, OnOk, codes, map, option_map};
+ghost use Rattle.std.specs.Prelude.{string_bytes};
 ghost use Rattle.std.specs.List.{AllByRecursion, list_any};
 ghost use Rattle.cargo_toml.specs.Action.{Text};
 ghost use Rattle.cargo_toml.specs.Ascending.{Ascend};
+ghost use Rattle.cargo_toml.specs.Manifests.{held};
 ghost use Rattle.cargo_toml.specs.Reached.{IsKeyed};
 ghost use Rattle.cargo_toml.specs.Views.{listed_in, set_has, table_in};
+ghost use Rattle.cargo_toml_tools.specs.Documented.{Documents, IsOn, is_internal, is_shown};
 ghost use Rattle.cargo_toml_tools.specs.Escaped.{code};
 ghost use Rattle.cargo_toml_tools.specs.PageSteps.{AskInOrder, IsInOrder, TellOfAll, TellsOf};
-ghost use Rattle.cargo_toml_tools.specs.PageSteps.{actions_in, asked_in, row_in, texts_in};
+ghost use Rattle.cargo_toml_tools.specs.PageSteps.{actions_in, asked_in, key_texts, row_in};
 ghost use Rattle.cargo_toml_tools.specs.Pages.{action_cell, asked_text, conditional_mark};
-ghost use Rattle.cargo_toml_tools.specs.Pages.{default_column, is_of_kind, kind, row_text, table_head};
-ghost use Rattle.cargo_toml_tools.specs.Pages.{table_text, with_commas};
-ghost use Rattle.cargo_toml_tools.specs.Documented.{IsOn, is_internal, is_shown};
+ghost use Rattle.cargo_toml_tools.specs.Pages.{default_column, is_of_kind, kind, of_crate, row_text};
+ghost use Rattle.cargo_toml_tools.specs.Pages.{table_head, table_text, title, with_commas};
 
 mod dot;
 mod reached;
 
-use crate::escape::{Format, comma_before, push_code, push_escaped};
+use crate::escape::{Format, push_code, push_escaped};
 use cargo_toml::features::{DepAction, Feature, Features};
 use cargo_toml::{FeatureSet, Manifest};
 use cargo_toml_features::texts::keys_in_order;
@@ -48,7 +50,10 @@ pub fn page<M, S: BuildHasher>(
     alloc: Global,
     manifest: &Manifest<M>,
     resolved: &Features<'_, '_, S>,
-) -> Result<String, AllocError> {
+) -> Result<String, AllocError>
+    ensures documents { IfOk result (λ page.
+        Documents (held manifest.now) resolved.now.features (string_bytes page)) }
+{
     let rows = rows(alloc, &manifest.features, &resolved.features)?;
     let mut page = String::new(alloc);
     push_title(&mut page, manifest)?;
@@ -87,7 +92,8 @@ fn row_of<'m, S: BuildHasher>(
     features: &FeatureMap<'m, S>,
     defaults: &BTreeSet<&str>,
 ) -> Result<Row<'m>, AllocError>
-    ensures { IfOk result (λ row. IsKeyed features.now → ((x : Text) → IsTrue (set_has defaults.now x)
+    ensures { IfOk result (λ row. IsKeyed features.now
+        → ((x : Text) → IsTrue (set_has defaults.now x)
         ↔ IsOn (listed_in lists.now) features.now (codes "default") x)
         → TellsOf (listed_in lists.now) features.now row feature.now) }
 {
@@ -125,13 +131,24 @@ fn is_private(feature: &Feature<'_>) -> bool
     !feature.public || feature.key.starts_with('_')
 }
 
-fn push_title<M>(page: &mut String, manifest: &Manifest<M>) -> Result<(), AllocError> {
+fn push_title<M>(page: &mut String, manifest: &Manifest<M>) -> Result<(), AllocError>
+    ensures { OnOk result (string_bytes page.new ≡ string_bytes page.old
+        ++ title (option_map (λ p. p.name) (held manifest.now).«package»)) }
+{
     page.push_str("# Features")?;
-    if let Some(package) = &manifest.package {
-        page.push_str(" of ")?;
-        push_code(page, package.name.as_str())?;
-    }
+    push_crate(page, manifest)?;
     page.push_str("\n")
+}
+
+fn push_crate<M>(page: &mut String, manifest: &Manifest<M>) -> Result<(), AllocError>
+    ensures { OnOk result (string_bytes page.new ≡ string_bytes page.old
+        ++ of_crate (option_map (λ p. p.name) (held manifest.now).«package»)) }
+{
+    let Some(package) = &manifest.package else {
+        return Ok(());
+    };
+    page.push_str(" of ")?;
+    push_code(page, package.name.as_str())
 }
 
 /// The table of the features that are listed, or of those that are optional dependencies.
@@ -204,8 +221,8 @@ fn default_column(is_default: bool) -> &'static str
 
 fn push_names(page: &mut String, names: &BTreeSet<&str>) -> Result<(), AllocError>
     ensures text { OnOk result (string_bytes page.new
-        ≡ string_bytes page.old ++ with_commas code (texts_in names.now)) }
-    ensures in_order { OnOk result (Ascend (texts_in names.now)) }
+        ≡ string_bytes page.old ++ with_commas code (key_texts names.now)) }
+    ensures in_order { OnOk result (Ascend (key_texts names.now)) }
 {
     let mut comma = "";
     for name in names {
@@ -245,7 +262,7 @@ fn push_action(
 ) -> Result<(), AllocError>
     ensures text { OnOk result (string_bytes page.new
         ≡ string_bytes page.old ++ action_cell (asked_in key.now action.now)) }
-    ensures in_order { OnOk result (Ascend (texts_in action.now.dep_features)) }
+    ensures in_order { OnOk result (Ascend (key_texts action.now.dep_features)) }
 {
     let mark = conditional_mark(action.is_conditional);
     let front = format!(in alloc; "{key}{mark}")?;
@@ -266,8 +283,8 @@ fn push_asked(
     asked: &BTreeSet<&str>,
 ) -> Result<(), AllocError>
     ensures text { OnOk result (string_bytes page.new
-        ≡ string_bytes page.old ++ asked_text front.now (texts_in asked.now)) }
-    ensures in_order { OnOk result (Ascend (texts_in asked.now)) }
+        ≡ string_bytes page.old ++ asked_text front.now (key_texts asked.now)) }
+    ensures in_order { OnOk result (Ascend (key_texts asked.now)) }
 {
     if asked.is_empty() {
         return push_code(page, front);

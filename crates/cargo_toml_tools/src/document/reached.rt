@@ -1,6 +1,6 @@
 //! What a feature turns on, by any number of steps.
-ghost use Rattle.std.specs.Prelude.{◌≡◌, ◌≤◌, ◌+◌, ◌↔◌, ◌&&◌, ◌||◌, false, IfOk, IsTrue, None, OnOk};
-ghost use Rattle.std.specs.Prelude.{Some, bytes_eq, if◌then◌else◌, length, map, string_bytes};
+ghost use Rattle.std.specs.Prelude.{◌≡◌, ◌≤◌, ◌+◌, ◌↔◌, ◌&&◌, ◌||◌, false, IfOk, IsTrue, None};
+ghost use Rattle.std.specs.Prelude.{OnOk, Some, bytes_eq, if◌then◌else◌, length, map, string_bytes};
 ghost use Rattle.std.specs.Option.{option_map_or};
 ghost use Rattle.cargo_toml.specs.Action.{Text, item_of, join, join_option};
 ghost use Rattle.cargo_toml.specs.Reached.{IsKeyed};
@@ -184,10 +184,7 @@ fn join_into<'m>(joined: &mut DepAction<'m>, action: &DepAction<'m>) -> Result<(
     Ok(())
 }
 
-fn add_texts<'m>(
-    set: &mut BTreeSet<&'m str>,
-    texts: &BTreeSet<&'m str>,
-) -> Result<(), AllocError>
+fn add_texts<'m>(set: &mut BTreeSet<&'m str>, texts: &BTreeSet<&'m str>) -> Result<(), AllocError>
     ensures { OnOk result ((x : Text) → set_has set.new x
         ≡ (set_has set.old x || set_has texts.now x)) }
 {

@@ -1,4 +1,4 @@
-use Rattle.std.proofs.Common.{◌≡◌, Bor, List, ap, map, refl, subst}
+use Rattle.std.proofs.Common.{Bor, ap, map, refl, subst}
 use Rattle.std.proofs.lemmas.Map.Iter.{rest_all, rest_more}
 use Rattle.std.specs.Map.Iter.{deref_pair}
 use Rattle.cargo_toml.specs.Action.{Text}

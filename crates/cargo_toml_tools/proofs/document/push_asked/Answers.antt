@@ -1,4 +1,4 @@
-use Rattle.std.proofs.Common.{◌≡◌, ◌++◌, ◌∙◌, Bor, ap, codes, false, map, refl, string_bytes, subst, sym}
+use Rattle.std.proofs.Common.{◌++◌, ◌∙◌, Bor, ap, codes, map, refl, string_bytes, subst, sym}
 use Rattle.std.proofs.lemmas.Bool.{false≢true}
 use Rattle.std.proofs.lemmas.List.{nil_from_length}
 use Rattle.std.proofs.lemmas.Map.Iter.{rest_all, rest_more}

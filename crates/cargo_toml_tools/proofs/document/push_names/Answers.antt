@@ -1,4 +1,4 @@
-use Rattle.std.proofs.Common.{◌≡◌, refl, string_bytes, Bor}
+use Rattle.std.proofs.Common.{refl, Bor}
 use Rattle.std.proofs.lemmas.Map.Iter.{rest_all, rest_more}
 use Rattle.std.specs.Map.Iter.{deref}
 use Rattle.cargo_toml.specs.Action.{Text}

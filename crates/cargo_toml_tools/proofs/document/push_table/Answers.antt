@@ -1,9 +1,9 @@
-use Rattle.std.proofs.Common.{◌≡◌, ◌+◌, ◌++◌, ◌∙◌, [], ◌∷◌, ap, append_assoc, drop, false, map, not, string_bytes}
-use Rattle.std.proofs.Common.{subst, sym, true}
+use Rattle.std.proofs.Common.{◌≡◌, ◌+◌, ◌++◌, ◌∙◌, [], ◌∷◌, ap, append_assoc, drop, string_bytes}
+use Rattle.std.proofs.Common.{subst, sym}
 use Rattle.std.proofs.lemmas.List.{append-nil, drop_all}
 use Rattle.std.specs.List.{AllByRecursion, flat_map}
 use Rattle.cargo_toml_tools.specs.PageSteps.{IsInOrder, row_in}
-use Rattle.cargo_toml_tools.specs.Pages.{PageRow, kind, row_text, table_head, table_text}
+use Rattle.cargo_toml_tools.specs.Pages.{row_text, table_head, table_text}
 use Rattle.cargo_toml_tools.proofs.Grown.{drop_next}
 use Rattle.cargo_toml_tools.proofs.Paged.{kinds, none_of, passed, some_of, taken}
 use Rattle.cargo_toml_tools.proofs.Pieces.{rest_less, rest_none}

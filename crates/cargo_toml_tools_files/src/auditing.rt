@@ -1,9 +1,25 @@
 //! The report on a workspace.
+ghost use Rattle.std.specs.Prelude.{◌≡◌, ◌⊎◌, IfErr, IfOk, IfSome, OnErr, OnOk, Some};
+ghost use Rattle.std.specs.Prelude.{string_bytes};
+ghost use Rattle.std.specs.BTreeSet.{keys};
+ghost use Rattle.toml.specs.declared.value.Value.{Value};
+ghost use Rattle.cargo_toml.specs.Error.{Memory};
+ghost use Rattle.cargo_toml.specs.Workspace.{Workspace as Table};
+ghost use Rattle.cargo_toml_tools.specs.Oddities.{GainsOnly};
+ghost use Rattle.cargo_toml_tools.specs.Places.{IsOfFolders};
+ghost use Rattle.cargo_toml_tools_files.specs.AuditSteps.{AddsAudited, AddsFolder};
+ghost use Rattle.cargo_toml_tools_files.specs.AuditSteps.{IsRefusedWith};
+ghost use Rattle.cargo_toml_tools_files.specs.AuditedFolders.{AreMembersOf, IsAuditFault};
+ghost use Rattle.cargo_toml_tools_files.specs.AuditedFolders.{IsAudited};
+ghost use Rattle.cargo_toml_tools_files.specs.AuditedFolders.{IsDifference, IsMemberFault};
+ghost use Rattle.cargo_toml_tools_files.specs.AuditedFolders.{IsOfFolder, IsRefusedFolder};
+ghost use Rattle.cargo_toml_tools_files.specs.AuditedFolders.{IsReportOn, IsReportText};
+ghost use Rattle.cargo_toml_tools_files.specs.AuditedFolders.{IsWithoutWorkspace, words_told};
 
 use crate::reading::manifest_in;
 use cargo_toml::{Error, Manifest, Workspace};
 use cargo_toml_tools::audit::{Audit, json, lines};
-use cargo_toml_tools::members::{list_members, manifest_path};
+use cargo_toml_tools::members::{Members, list_members, manifest_path};
 use std::alloc::{AllocError, Global};
 use std::io;
 use std::rt::Files;
@@ -18,17 +34,28 @@ pub fn audit<R: Files + Eprint + AllocGlobal>(
     folder: &str,
     as_json: bool,
     shows: bool,
-) -> Result<(String, bool), Error> {
+) -> Result<(String, bool), Error>
+    ensures audited { IfOk result (λ r. IsAudited folder.now as_json (string_bytes r.0) r.1) }
+    ensures refused { IfErr result IsAuditFault }
+{
     let alloc = rt.alloc();
     let path = manifest_path(alloc, folder, ".")?;
     let root = manifest_in(rt, path.as_str())?;
     let audit = audited(rt, folder, (&*root.manifest, path.as_str()), shows)?;
-    let report = if as_json {
-        json(alloc, &audit)?
+    let text = written(alloc, &audit, as_json)?;
+    Ok((text, !audit.findings.is_empty()))
+}
+
+/// A report as JSON, or as lines.
+fn written(alloc: Global, audit: &Audit, as_json: bool) -> Result<String, AllocError>
+    ensures { IfOk result (λ text. IsReportText as_json audit.now.members.items
+        (keys audit.now.findings) (string_bytes text)) }
+{
+    if as_json {
+        json(alloc, audit)
     } else {
-        lines(alloc, &audit)?
-    };
-    Ok((report, !audit.findings.is_empty()))
+        lines(alloc, audit)
+    }
 }
 
 /// The report on the workspace of this manifest, which lies in `folder`, at its path.
@@ -37,26 +64,68 @@ fn audited<R: Files + Eprint + AllocGlobal>(
     folder: &str,
     root: (&Manifest, &str),
     shows: bool,
-) -> Result<Audit, Error> {
-    let alloc = rt.alloc();
+) -> Result<Audit, Error>
+    ensures report { IfOk result (λ a. (workspace : Table Value)
+        × (root.entry.0.now.workspace ≡ Some workspace) × IsReportOn root.entry.0.now
+        root.entry.1.now workspace folder.now a.members.items a.findings) }
+    ensures refused { IfErr result
+        (λ e. IsOfFolders e ⊎ IsWithoutWorkspace root.entry.0.now e) }
+{
     let Some(workspace) = &root.0.workspace else {
         return Err(Error::Other("there is no workspace"));
     };
     let found = list_members(rt, folder, root.0, workspace)?;
-    let mut audit = Audit::new(alloc);
-    audit.add_listing(&found)?;
+    report_on(rt, folder, root, workspace, &found, shows)
+}
+
+/// The report on these members of a workspace.
+fn report_on<R: Files + Eprint + AllocGlobal>(
+    rt: &R,
+    folder: &str,
+    root: (&Manifest, &str),
+    workspace: &Workspace,
+    found: &Members,
+    shows: bool,
+) -> Result<Audit, Error>
+    requires { AreMembersOf root.0.now workspace.now found.now }
+    ensures report { IfOk result (λ a. IsReportOn root.entry.0.now root.entry.1.now workspace.now
+        folder.now a.members.items a.findings) }
+    ensures refused { IfErr result IsOfFolders }
+{
+    let mut audit = Audit::new(rt.alloc());
+    audit.add_listing(found)?;
     for (i, member) in found.folders.iter().enumerate() {
         show_progress(rt, shows, i, found.folders.len())?;
-        let path = manifest_path(alloc, folder, member.as_str())?;
-        let place = Place {
-            folder: member.as_str(),
-            path: path.as_str(),
-        };
-        let outcome = add_member(rt, place, root, workspace, &mut audit);
-        add_refusal(alloc, member.as_str(), outcome, &mut audit)?;
+        add_folder(rt, folder, member.as_str(), root, workspace, &mut audit)?;
     }
     audit.finish(workspace)?;
     Ok(audit)
+}
+
+/// Adds to a report what lies in a folder, which is seen from the workspace's: a member, or that it
+/// was refused.
+fn add_folder<R: Files + AllocGlobal>(
+    rt: &R,
+    folder: &str,
+    member: &str,
+    root: (&Manifest, &str),
+    workspace: &Workspace,
+    audit: &mut Audit,
+) -> Result<(), Error>
+    ensures added { OnOk result (AddsFolder root.entry.0.now root.entry.1.now workspace.now
+        member.now audit.old.members.items audit.new.members.items audit.new.findings) }
+    ensures findings { OnOk result (GainsOnly (IsOfFolder root.entry.0.now root.entry.1.now
+        workspace.now folder.now member.now) audit.old.findings audit.new.findings) }
+    ensures refused { IfErr result (λ e. e ≡ Memory) }
+{
+    let alloc = rt.alloc();
+    let path = manifest_path(alloc, folder, member)?;
+    let place = Place {
+        folder: member,
+        path: path.as_str(),
+    };
+    let outcome = add_member(rt, place, root, workspace, audit);
+    add_refusal(alloc, member, outcome, audit)
 }
 
 /// Where a member is.
@@ -72,7 +141,13 @@ fn add_refusal(
     folder: &str,
     outcome: Result<(), Error>,
     audit: &mut Audit,
-) -> Result<(), Error> {
+) -> Result<(), Error>
+    ensures members { audit.new.members ≡ audit.old.members }
+    ensures findings { GainsOnly (IsRefusedWith outcome folder.now)
+        audit.old.findings audit.new.findings }
+    ensures told { OnOk result (OnErr outcome (IsRefusedFolder audit.new.findings folder.now)) }
+    ensures refused { IfErr result (λ e. e ≡ Memory) }
+{
     match outcome {
         Ok(()) => Ok(()),
         Err(Error::Memory) => Err(Error::Memory),
@@ -85,7 +160,10 @@ fn add_refusal(
 
 /// The words of a member's fault. Of what its workspace gives the fault inside is told: which
 /// workspace it is, is known.
-fn words_of(alloc: Global, fault: &Error) -> Result<String, AllocError> {
+fn words_of(alloc: Global, fault: &Error) -> Result<String, AllocError>
+    ensures { IfOk result
+        (λ words. IfSome (words_told fault.now) (λ t. string_bytes words ≡ t)) }
+{
     match fault {
         Error::Workspace(inner) => format!(in alloc; "{}", inner.0),
         _ => format!(in alloc; "{fault}"),
@@ -99,7 +177,16 @@ fn add_member<R: Files + AllocGlobal>(
     root: (&Manifest, &str),
     workspace: &Workspace,
     audit: &mut Audit,
-) -> Result<(), Error> {
+) -> Result<(), Error>
+    ensures added { OnOk result (AddsAudited root.entry.0.now root.entry.1.now workspace.now
+        place.entry.folder.now audit.old.members.items audit.new.members.items
+        audit.new.findings) }
+    ensures kept { OnErr result (audit.new.members.items ≡ audit.old.members.items) }
+    ensures findings { GainsOnly (IsDifference root.entry.0.now root.entry.1.now workspace.now
+        place.entry.folder.now) audit.old.findings audit.new.findings }
+    ensures refused { IfErr result (IsMemberFault root.entry.0.now root.entry.1.now workspace.now
+        place.entry.path.now) }
+{
     let alloc = rt.alloc();
     let mut held = manifest_in(rt, place.path)?;
     let inherits = audit.add_written(&*held.manifest)?;

@@ -1,4 +1,8 @@
 //! The line of a registry's index.
+ghost use Rattle.std.specs.Prelude.{IfErr, IfOk, IsSome, OnOk, string_bytes};
+ghost use Rattle.std.specs.Option.{option_copied};
+ghost use Rattle.std.specs.Path.{path_parent};
+ghost use Rattle.cargo_toml_tools_files.specs.IndexedFiles.{IsIndexFault, IsIndexed};
 
 use crate::reading::{completed_of, text_in};
 use cargo_toml::Error;
@@ -17,18 +21,34 @@ pub enum Fault {
 }
 
 impl From<Error> for Fault {
+    ghost use Rattle.std.specs.Prelude.{◌≡◌};
+    ghost use Rattle.cargo_toml_tools_files.specs.declared.indexing.Fault.TheVariants as fault;
+
+    ghost from_gives = { λ inner e. e ≡ fault.Manifest inner };
+
     fn from(fault: Error) -> Fault {
         Fault::Manifest(fault)
     }
 }
 
 impl From<IndexError> for Fault {
+    ghost use Rattle.std.specs.Prelude.{◌≡◌};
+    ghost use Rattle.cargo_toml_tools_files.specs.declared.indexing.Fault.TheVariants as fault;
+
+    ghost from_gives = { λ inner e. e ≡ fault.Index inner };
+
     fn from(fault: IndexError) -> Fault {
         Fault::Index(fault)
     }
 }
 
 impl From<AllocError> for Fault {
+    ghost use Rattle.std.specs.Prelude.{◌≡◌};
+    ghost use Rattle.cargo_toml.specs.Error.{Memory};
+    ghost use Rattle.cargo_toml_tools_files.specs.declared.indexing.Fault.TheVariants as fault;
+
+    ghost from_gives = { λ _ e. e ≡ fault.Manifest Memory };
+
     fn from(fault: AllocError) -> Fault {
         Fault::Manifest(Error::from(fault))
     }
@@ -50,7 +70,12 @@ pub fn index<R: Files + AllocGlobal>(
     rt: &R,
     file: &str,
     checksum: Option<&str>,
-) -> Result<String, Fault> {
+) -> Result<String, Fault>
+    ensures indexed { IfOk result
+        (λ line. IsIndexed (option_copied checksum.entry) (string_bytes line)) }
+    ensures named { OnOk result (IsSome (path_parent file.now)) }
+    ensures refused { IfErr result (IsIndexFault file.now) }
+{
     let text = text_in(rt, file)?;
     let held = completed_of(rt, file, text.as_str())?;
     let mut line = index_line(rt.alloc(), &*held.manifest, text.as_str(), checksum)?;

@@ -1,4 +1,8 @@
 //! What is amiss with features.
+ghost use Rattle.std.specs.Prelude.{IfErr, IfOk, string_bytes};
+ghost use Rattle.std.specs.Bool.{then_some};
+ghost use Rattle.cargo_toml_tools_files.specs.FromFiles.{IsUnreadable};
+ghost use Rattle.cargo_toml_tools_files.specs.LintedFiles.{IsLinted};
 
 use crate::reading::manifest_in;
 use cargo_toml::Error;
@@ -14,9 +18,12 @@ pub fn lint<R: Files + RandomSource + AllocGlobal>(
     rt: &R,
     file: &str,
     named: bool,
-) -> Result<(String, bool), Error> {
+) -> Result<(String, bool), Error>
+    ensures linted { IfOk result
+        (λ r. IsLinted (then_some named file.now) (string_bytes r.0) r.1) }
+    ensures refused { IfErr result IsUnreadable }
+{
     let held = manifest_in(rt, file)?;
     let state = RandomState::new(rt)?;
-    let name = if named { Some(file) } else { None };
-    lint_lines(rt.alloc(), state, &*held.manifest, name)
+    lint_lines(rt.alloc(), state, &*held.manifest, named.then_some(file))
 }

@@ -1,0 +1,3 @@
+mod FileFacts
+mod Going
+mod Refusals

@@ -1,0 +1,19 @@
+use Rattle.std.proofs.Common.{◌∙◌, ap}
+use Rattle.cargo_toml_tools_files.proofs.FileFacts.{always_on_ok}
+use Rattle.cargo_toml_tools_files.proofs.Refusals.{folder_added, folder_finds}
+use Rattle.cargo_toml_tools_files.proofs.auditing.add_folder.Goals as goal
+
+pub returns-clause-added : goal.returns-clause-added
+returns-clause-added g c =
+    folder_added c.args.root.0.now c.args.root.1.now c.args.workspace.now c.args.member.now c.add_member-outcome.result c.add_refusal.result
+    c.args.audit.now.members.items c.add_member-outcome.new.audit.members.items c.add_refusal.new.audit.members.items
+    c.add_member-outcome.new.audit.findings c.add_refusal.new.audit.findings
+    c.add_member-outcome.ensures.added c.add_member-outcome.ensures.kept (ap (λ v. v.items) c.add_refusal.ensures.members)
+    c.add_refusal.ensures.findings.kept c.add_refusal.ensures.told
+
+pub returns-clause-findings : goal.returns-clause-findings
+returns-clause-findings g c =
+    always_on_ok c.add_refusal.result
+    (folder_finds c.args.root.0.now c.args.root.1.now c.args.workspace.now c.args.member.now c.args.folder.now c.as_str.result.now c.add_member-outcome.result
+    c.args.audit.now.findings c.add_member-outcome.new.audit.findings c.add_refusal.new.audit.findings
+    (c.as_str.ensures.value ∙ c.in_ok-path.ensures) c.add_member-outcome.ensures.refused c.add_member-outcome.ensures.findings c.add_refusal.ensures.findings)

@@ -1,0 +1,32 @@
+use Rattle.std.specs.Path.{path_parent}
+use Rattle.std.proofs.lemmas.Result.{err_from_is_err_and}
+use Rattle.std.proofs.Common.{subst, sym}
+use Rattle.toml.specs.View.{view}
+use Rattle.toml.specs.declared.value.Value.{Value}
+use Rattle.cargo_toml.specs.Manifest.{Manifest}
+use Rattle.cargo_toml.specs.Manifests.{ManifestRefuses, held, manifest_meaning, manifest_reads}
+use Rattle.cargo_toml.specs.RealFiles.{ReadsAs}
+use Rattle.cargo_toml.specs.Texts.{AnyRefuses, any_tree}
+use Rattle.cargo_toml_manifest.proofs.PathFaults.{refused_of}
+use Rattle.cargo_toml_tools_files.proofs.reading.completed_of.Goals as goal
+
+pub returns-clause-completed : goal.returns-clause-completed
+returns-clause-completed g c = record {
+  read = c.deref_mut.result.now;
+  written = record {
+    utf8 = c.utf8.text;
+    reads = subst (λ (m : Manifest Value). ReadsAs c.args.text.now (manifest_meaning view) (manifest_reads any_tree) m)
+        (sym c.deref_mut.ensures.value) c.in_ok-held.ensures;
+  };
+  completed = c.in_ok-complete_from_path.ensures.completed;
+}
+
+pub returns-in_err-complete_from_path-clause-refused : goal.returns-in_err-complete_from_path-clause-refused
+returns-in_err-complete_from_path-clause-refused g c =
+    let reads = subst (λ (m : Manifest Value). ReadsAs c.args.text.now (manifest_meaning view) (manifest_reads any_tree) m)
+    (sym c.deref_mut.ensures.value) c.in_ok-held.ensures in
+    let p = err_from_is_err_and c.from_residual-in_err-complete_from_path.result c.from_residual-in_err-complete_from_path.ensures.1 in
+    rw (p.1, p.2)
+    (refused_of c.args.file.now c.args.text.now (manifest_meaning view) (manifest_reads any_tree) (ManifestRefuses any_tree AnyRefuses)
+    (λ _. held c.complete_from_path.new.self) c.deref_mut.result.now (path_parent c.args.file.now) _ reads
+    c.in_err-complete_from_path.ensures.outcome c.in_err-complete_from_path.ensures.bad_path c.in_err-complete_from_path.ensures.refused)

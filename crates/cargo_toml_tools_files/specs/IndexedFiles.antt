@@ -1,0 +1,36 @@
+-- What `index` answers of a file.
+use Rattle.std.specs.Prelude.{◌≡◌, ◌⊎◌, ◌++◌, [], ◌∷◌, Option}
+use Rattle.toml.specs.declared.value.Value.{Value}
+use Rattle.cargo_toml.specs.Action.{Text}
+use Rattle.cargo_toml.specs.Manifest.{Manifest}
+use Rattle.cargo_toml.specs.Manifests.{held}
+use Rattle.cargo_toml_tools.specs.IndexLines.{IsLineOf}
+use Rattle.cargo_toml_tools.specs.Indexed.{Explains, IsTaken}
+use Rattle.cargo_toml_tools.specs.declared.index.IndexError.{IndexError}
+use Rattle.cargo_toml_tools.specs.declared.index.IndexError.TheVariants.{Memory}
+use Rattle.cargo_toml_tools_files.specs.FromFiles.{IsCompletedIn, IsUncompleted}
+use Rattle.cargo_toml_tools_files.specs.declared.indexing.Fault.{Fault}
+use Rattle.cargo_toml_tools_files.specs.declared.indexing.Fault.TheVariants as fault
+
+-- some text reads and completes as a manifest that an index takes, and this is its line
+pub record IsIndexed (checksum : Option Text) (told : Text) : Type 0 where
+  pub text : Text
+  pub manifest : Manifest Value
+  pub completed : IsCompletedIn text manifest
+  pub taken : IsTaken text (held manifest)
+  pub line : Text
+  pub exact : IsLineOf (held manifest) checksum line
+  pub ended : told ≡ line ++ 10 ∷ []
+
+-- some text reads and completes as a manifest that an index doesn't take, for what is told
+pub record IsUntaken (e : IndexError) : Type 0 where
+  pub text : Text
+  pub manifest : Manifest Value
+  pub completed : IsCompletedIn text manifest
+  pub told : Explains text (held manifest) e
+  pub exact : (e ≡ Memory) ⊎ ¬ IsTaken text (held manifest)
+
+-- why the file at this path gives no line
+abbrev pub IsIndexFault : Text → Fault → Type 0
+IsIndexFault path (fault.Manifest e) = IsUncompleted path e
+IsIndexFault path (fault.Index e) = IsUntaken e

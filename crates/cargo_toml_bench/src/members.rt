@@ -1,9 +1,8 @@
 //! Features of members of a workspace, once these are completed.
-ghost use Rattle.std.specs.Prelude.{◌≡◌, ◌⊎◌, false, IfErr, IfOk, OnOk, option_map};
+ghost use Rattle.std.specs.Prelude.{◌≡◌, ◌⊎◌, IfErr, IfOk, OnOk, option_map};
 ghost use Rattle.cargo_toml.specs.Choosing.{handed_of, roots_of};
 ghost use Rattle.cargo_toml.specs.Completed.{IsCompleted};
 ghost use Rattle.cargo_toml.specs.Error.{Memory};
-ghost use Rattle.cargo_toml.specs.InheritedManifests.{needs};
 ghost use Rattle.cargo_toml.specs.Manifests.{held};
 ghost use Rattle.cargo_toml.specs.Refusing.{IsRefusedBy, MayLose};
 ghost use Rattle.cargo_toml_bench.specs.Members.{IsFeatureCount, IsToldOfMember};
@@ -62,7 +61,6 @@ pub fn count_features<Fs: AbstractFilesystem + Drop>(
     ensures completed { OnOk result
         (IsCompleted member.old (option_map handed_of workspace.entry)
         (roots_of Fs.Roots.ARE_READ (Fs.root_for files)) (Fs.names_at files) member.new) }
-    ensures nothing_left { OnOk result (needs (held member.new) ≡ false) }
     ensures left { IfErr result (λ e. (member.new ≡ member.old)
         ⊎ ((e ≡ Memory) × IsCompleted member.old (option_map handed_of workspace.entry)
         (roots_of Fs.Roots.ARE_READ (Fs.root_for files)) (Fs.names_at files) member.new)) }

@@ -1,5 +1,5 @@
 -- Facts of what is lent and of what is resolved beside it, as facts of both together.
-use Rattle.std.proofs.Common.{◌≡◌, T, is_ok, Option, Some, Result, Ok, Err, IfOk, IfErr, IfSome, IsSome, OnErr, OnOk, refl, sym, ap, ◌∙◌, subst, inl, inr}
+use Rattle.std.proofs.Common.{◌≡◌, ℕ, T, is_ok, Option, Some, Result, Ok, Err, IfOk, IfErr, IfSome, IsSome, OnErr, OnOk, refl, sym, ap, ◌∙◌, subst, inl, inr}
 use Rattle.std.specs.Prelude.{⊤}
 use Rattle.std.specs.Borrow.{follows_so}
 use seplogic.Ra.Ura.{Ura}
@@ -17,8 +17,14 @@ use Rattle.cargo_toml_manifest.specs.declared.manifest.Manifest.{Manifest}
 use Rattle.cargo_toml_manifest.specs.Choosing.{Handed, RootsTold}
 use Rattle.cargo_toml_manifest.specs.Completed.{IsCompleted}
 use Rattle.cargo_toml_manifest.specs.Completing.{Outcome, gives, refuses, no_workspace, untold, Meets, complete}
-use Rattle.cargo_toml_manifest.specs.Manifests.{held}
+use Rattle.cargo_toml_manifest.specs.Manifests.{ManifestMeaning, held}
+use Rattle.cargo_toml_resolve.specs.Filter.{Asked}
+use Rattle.cargo_toml_features.specs.declared.features.Features.{Features}
+use Rattle.cargo_toml_features.specs.FirstTarget.{HaveTargets}
+use Rattle.cargo_toml_features.specs.Reached.{IsKeyed}
+use Rattle.cargo_toml_features.specs.Views.{answer_of}
 use Rattle.cargo_toml_resolver.specs.Lent.{with_lent, IsLeftAfter}
+use Rattle.cargo_toml_resolver.specs.Parsed.{IsParsedBy, IsResolvedFor}
 
 -- a refusal is one by the same outcome, whatever a success would have been
 pub refused_alike : {T U A : Type 0} (f : T → A) (g : U → A) (o : Outcome A) (e : Error) → Meets f o (Err e) → Meets g o (Err e)
@@ -59,6 +65,13 @@ pub resolved_with : {X Y : Type 0} (P : X → Y → Type 0) (x : X) (r : Result 
     IfSome (with_lent (Some x) (Some r)) (λ a. IfOk a (λ p. P p.0 p.1))
 resolved_with P x (Ok y) h = h
 resolved_with P x (Err e) h = tt
+
+-- three facts of what is resolved are one
+pub resolved_for : {F S H M : Type 0} (limit : ℕ) (m : ManifestMeaning M) (g : Asked F) (filter : Option (Bor F)) (r : Result (Features S H) Error)
+    → IfOk r (λ a. IsParsedBy limit m g filter (answer_of a)) → IfOk r (λ a. IsKeyed a.features) → IfOk r (λ a. HaveTargets a.dependencies)
+    → IfOk r (IsResolvedFor limit m g filter)
+resolved_for limit m g filter (Ok a) parsed keyed targets = record { parsed = parsed; keyed = keyed; targets = targets }
+resolved_for limit m g filter (Err e) parsed keyed targets = tt
 
 -- what is known of a lender's last value is known under a weaker relation too
 pub rests_so : {M : Type 1} {𝓤 : Ura M} (𝓛 : Logic 𝓤) (R : RattleType) (γ : GName) (P Q : R.Denot → Type 0) → ((n : R.Denot) → P n → Q n)

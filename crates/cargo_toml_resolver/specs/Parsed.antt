@@ -11,11 +11,15 @@ use Rattle.cargo_toml_graph.specs.Kept.{KeepsEnabling, LosesNothing}
 use Rattle.cargo_toml_tables.specs.Products.{ProductMeaning}
 use Rattle.cargo_toml_manifest.specs.Inheriting.{own_tables}
 use Rattle.cargo_toml_manifest.specs.Manifests.{ManifestMeaning}
+use Rattle.cargo_toml_features.specs.declared.features.Features.{Features}
 use Rattle.cargo_toml_features.specs.Entries.{entries_of}
+use Rattle.cargo_toml_features.specs.FirstTarget.{HaveTargets}
 use Rattle.cargo_toml_full.specs.OwnBins.{own_of}
 use Rattle.cargo_toml_features.specs.Marks.{NamedDetails}
+use Rattle.cargo_toml_features.specs.Reached.{IsKeyed}
 use Rattle.cargo_toml_features.specs.Recorded.{Entry}
 use Rattle.cargo_toml_features.specs.Resolved.{Answer, IsAnswer, table_of}
+use Rattle.cargo_toml_features.specs.Views.{answer_of}
 use Rattle.cargo_toml_resolve.specs.Filter.{Asked}
 use Rattle.cargo_toml_resolve.specs.Removed.{IsAnswerBy}
 
@@ -64,6 +68,14 @@ module _ (limit : ℕ) where
     IsParsedBy g filter a =
         IsAnswerBy g filter (admitted limit m.features) parsed_entries m.feature_details
         (own_of (requirements m)) a
+
+    -- what is resolved is that answer, with each feature under its own key, and a target for each
+    -- dependency
+    pub record IsResolvedFor {F S H : Type 0} (g : Asked F) (filter : Option (Bor F))
+        (a : Features S H) : Type 0 where
+      pub parsed : IsParsedBy g filter (answer_of a)
+      pub keyed : IsKeyed a.features
+      pub targets : HaveTargets a.dependencies
 
     -- with at most ten mentions of removed features, each binary that requires one of these
     -- requires each kept feature to which naming alone leads from it through removed ones

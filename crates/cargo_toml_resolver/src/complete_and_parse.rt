@@ -1,5 +1,5 @@
 //! Completing a manifest, and resolving the features that it then has.
-ghost use Rattle.std.specs.Prelude.{◌≡◌, false, Err, IfErr, IfOk};
+ghost use Rattle.std.specs.Prelude.{◌≡◌, Err, IfErr, IfOk};
 ghost use Rattle.std.specs.Prelude.{IfSome, IsSome, OnOk, option_map};
 ghost use Rattle.std.specs.Borrow.{sem};
 ghost use Rattle.cargo_toml_parts.specs.declared.error.Error.{Memory};
@@ -7,7 +7,6 @@ ghost use Rattle.cargo_toml_resolve.specs.Filter.{HasNameFilter};
 ghost use Rattle.cargo_toml_manifest.specs.Choosing.{handed_of, roots_of};
 ghost use Rattle.cargo_toml_manifest.specs.Completed.{IsCompleted};
 ghost use Rattle.cargo_toml_manifest.specs.Completing.{Meets, complete};
-ghost use Rattle.cargo_toml_manifest.specs.Inheriting.{needs};
 ghost use Rattle.cargo_toml_manifest.specs.Manifests.{held};
 ghost use Rattle.cargo_toml_manifest.specs.Refusing.{IsRefusedBy, MayLose};
 ghost use Rattle.cargo_toml_features.specs.FirstTarget.{HaveTargets};
@@ -15,7 +14,7 @@ ghost use Rattle.cargo_toml_features.specs.Reached.{IsKeyed};
 ghost use Rattle.cargo_toml_features.specs.Views.{answer_of};
 ghost use Rattle.cargo_toml_resolver.specs.Filtered.{filter_of, limit_of};
 ghost use Rattle.cargo_toml_resolver.specs.Lent.{IsLentAfter, IsLentAs, IsLentOn, with_lent};
-ghost use Rattle.cargo_toml_resolver.specs.Parsed.{IsParsedBy};
+ghost use Rattle.cargo_toml_resolver.specs.Parsed.{IsParsedBy, IsResolvedFor};
 
 use crate::features::{Features, Resolver};
 use cargo_toml_manifest::{AbstractFilesystem, Manifest};
@@ -50,7 +49,6 @@ pub fn complete_and_parse_into<
     ensures completed { IfSome result
         (λ lent. IsCompleted manifest.old (option_map handed_of workspace.entry)
         (roots_of Fs.Roots.ARE_READ (Fs.root_for fs)) (Fs.names_at fs) lent.now) }
-    ensures needs { IfSome result (λ m. needs (held m.now) ≡ false) }
     ensures memory { IfSome result (λ _. IfSome slot.new (λ r. IfErr r (λ e. e ≡ Memory))) }
     ensures outcome { IfSome (with_lent result slot.new)
         (Meets (λ p. held p.0.now)
@@ -60,12 +58,8 @@ pub fn complete_and_parse_into<
         (held manifest.old) (option_map handed_of workspace.entry)
         (roots_of Fs.Roots.ARE_READ (Fs.root_for fs))
         (MayLose Fs.Roots.ARE_READ (Fs.may_refuse_root fs)) (Fs.may_refuse fs))) }
-    ensures resolved { IfSome (with_lent result slot.new) (λ r. IfOk r (λ p.
-        IsParsedBy (limit_of resolver.now) (held p.0.now)
-        F.Fn (filter_of resolver.now) (answer_of p.1))) }
-    ensures keyed { IfSome (with_lent result slot.new) (λ r. IfOk r (λ p. IsKeyed p.1.features)) }
-    ensures targets { IfSome (with_lent result slot.new)
-        (λ r. IfOk r (λ p. HaveTargets p.1.dependencies)) }
+    ensures features { IfSome (with_lent result slot.new) (λ r. IfOk r (λ p. IsResolvedFor
+        (limit_of resolver.now) (held p.0.now) F.Fn (filter_of resolver.now) p.1)) }
 {
     match manifest.complete_from_abstract_filesystem(alloc, fs, workspace) {
         Ok(()) => {}

@@ -19,3 +19,9 @@ pub mod Told
 pub mod Weighed
 pub mod Within
 pub mod Yielded
+pub mod Exactly
+pub mod Grouped
+pub mod Inserted
+pub mod Using
+pub mod Unused
+pub mod ReportFloatless

@@ -52,10 +52,7 @@ fn text_beside<R: Files + AllocGlobal>(
     name: &str,
 ) -> Result<Option<String>, Error> {
     let path = format!(in rt.alloc(); "{folder}/{name}")?;
-    match fs::read_to_string(rt, path.as_str()) {
-        Ok(text) => Ok(Some(text)),
-        Err(_) => Ok(None),
-    }
+    Ok(fs::read_to_string(rt, path.as_str()).ok())
 }
 
 /// What came of a row of this kind.

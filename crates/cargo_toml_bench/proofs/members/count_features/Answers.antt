@@ -18,6 +18,6 @@ returns-in-Some-Ok-clause-counted g c =
     parsed_of_left c.args.member.now member _ resolver.should_keep_hidden_feature
     resolver.max_items made.unfiltered made.limit into.result into.new.slot resolved
     into.follows.holds-at-none (c.in-Some-Ok.is ∙ ap Some c.in-Some-Ok.field-0-is)
-    into.ensures.answered into.ensures.resolved in
+    into.ensures.answered into.ensures.features in
     counted (held member) resolved.features parsed.kept.resolved c.len.result c.len.ensures.len
     c.len.ensures.unique

@@ -18,7 +18,7 @@ returns-in-Some-Ok-clause-answer g c =
     parsed_of_left c.args.member.now member _ resolver.should_keep_hidden_feature
     resolver.max_items made.unfiltered made.limit into.result into.new.slot resolved
     into.follows.holds-at-none (c.in-Some-Ok.is ∙ ap Some c.in-Some-Ok.field-0-is)
-    into.ensures.answered into.ensures.resolved in
+    into.ensures.answered into.ensures.features in
     IfOk-weaker c.enables_among.result _ _ (λ answer told. record {
       resolved = answer_of resolved;
       parsed = parsed;

@@ -9,13 +9,11 @@ use Rattle.cargo_toml.specs.Admitted.{admitted}
 use Rattle.cargo_toml.specs.Feature.{Feature}
 use Rattle.cargo_toml.specs.Graph.{Table, IsResolved}
 use Rattle.cargo_toml.specs.Limits.{MAX_ITEMS}
-use Rattle.cargo_toml.specs.Parsed.{IsAnswerFor}
 use Rattle.cargo_toml.specs.Removal.{is_removed}
 use Rattle.cargo_toml.specs.Resolved.{table_of}
 use Rattle.cargo_toml.specs.Views.{answer_of, entry_of, set_has, resolution_of, value_at}
 use Rattle.cargo_toml_caller.specs.CustomFeatures.{LeavesName}
-use Rattle.cargo_toml_caller.proofs.AtLimit.{answered_at}
-use Rattle.cargo_toml_caller.proofs.Unfiltered.{keeps_none}
+use Rattle.cargo_toml_caller.proofs.Unfiltered.{answered_unfiltered}
 use Rattle.cargo_toml_caller.proofs.custom.is_named.Goals as goal
 
 module _ {S : Type 0} (t : Table) (Removed : Text → Type 0) (m : HashMap (Bor Text) Feature S) (h : IsResolved t Removed (resolution_of m)) (f x : Text) where
@@ -32,11 +30,9 @@ pub returns-in_default-clause-answer : goal.returns-in_default-clause-answer
 returns-in_default-clause-answer g c = λ listed is.
     let entries = map entry_of c.args.dependencies.now in
     let t : Table = table_of (admitted MAX_ITEMS listed) entries in
-    let tells = keeps_none _ c.new.result.should_keep_hidden_feature c.new.ensures.unfiltered in
-    let answer : IsAnswerFor MAX_ITEMS listed entries [] (λ _. []) (λ _. false)
-    (answer_of c.in_ok-resolved.resolved) =
-    answered_at (λ _. false) (answer_of c.in_ok-resolved.resolved) c.new.ensures.limit
-    listed entries [] (λ _. []) ((c.in_ok-resolved.ensures.resolved listed is).told (λ _. false) tells) in
+    let answer = answered_unfiltered _ c.new.result.should_keep_hidden_feature c.new.ensures.unfiltered
+    c.new.ensures.limit (answer_of c.in_ok-resolved.resolved) listed entries [] (λ _. [])
+    (c.in_ok-resolved.ensures.resolved listed is) in
     no_feature t (λ r. IsTrue (is_removed t (λ _. false) r)) c.in_ok-resolved.resolved.features
     answer.kept.resolved c.args.name.now c.args.other.now
     (sym c.get.ensures.value ∙ ap option_copied c.in_default.is)
@@ -45,11 +41,9 @@ pub returns-clause-answer : goal.returns-clause-answer
 returns-clause-answer g c = λ listed is.
     let entries = map entry_of c.args.dependencies.now in
     let t : Table = table_of (admitted MAX_ITEMS listed) entries in
-    let tells = keeps_none _ c.new.result.should_keep_hidden_feature c.new.ensures.unfiltered in
-    let answer : IsAnswerFor MAX_ITEMS listed entries [] (λ _. []) (λ _. false)
-    (answer_of c.in_ok-resolved.resolved) =
-    answered_at (λ _. false) (answer_of c.in_ok-resolved.resolved) c.new.ensures.limit
-    listed entries [] (λ _. []) ((c.in_ok-resolved.ensures.resolved listed is).told (λ _. false) tells) in
+    let answer = answered_unfiltered _ c.new.result.should_keep_hidden_feature c.new.ensures.unfiltered
+    c.new.ensures.limit (answer_of c.in_ok-resolved.resolved) listed entries [] (λ _. [])
+    (c.in_ok-resolved.ensures.resolved listed is) in
     let told = names_it t (λ r. IsTrue (is_removed t (λ _. false) r))
     c.in_ok-resolved.resolved.features answer.kept.resolved c.args.name.now c.args.other.now
     c.in-Some.feature.now (sym c.get.ensures.value ∙ ap option_copied c.in-Some.is) in

@@ -4,8 +4,7 @@ use Rattle.cargo_toml.specs.Manifests.{manifest_meaning}
 use Rattle.cargo_toml.specs.OwnBins.{own_of}
 use Rattle.cargo_toml.specs.Parsed.{IsAnswerFor, parsed_entries, requirements}
 use Rattle.cargo_toml.specs.Views.{answer_of, entry_of}
-use Rattle.cargo_toml_caller.proofs.AtLimit.{answered_at, parsed_at}
-use Rattle.cargo_toml_caller.proofs.Unfiltered.{keeps_none}
+use Rattle.cargo_toml_caller.proofs.Unfiltered.{answered_unfiltered, keeps_none, parsed_unfiltered}
 use Rattle.cargo_toml_caller.proofs.custom.resolve_twice.Goals as goal
 
 pub returns-clause-agree : goal.returns-clause-agree
@@ -23,15 +22,14 @@ returns-clause-agree g c = λ is same.
 
 pub returns-clause-parsed : goal.returns-clause-parsed
 returns-clause-parsed g c =
-    let m = manifest_meaning (λ m. m) c.args.manifest.now in
     let made = c.new-resolver.ensures in
-    let tells = keeps_none _ c.new-resolver.result.should_keep_hidden_feature made.unfiltered in
-    parsed_at (λ _. false) (answer_of c.in_ok-parsed.parsed) made.limit m
-    (c.in_ok-parsed.ensures.resolved.told (λ _. false) tells)
+    parsed_unfiltered _ c.new-resolver.result.should_keep_hidden_feature made.unfiltered made.limit
+    (answer_of c.in_ok-parsed.parsed) (manifest_meaning (λ m. m) c.args.manifest.now)
+    c.in_ok-parsed.ensures.resolved
 
 pub returns-clause-custom : goal.returns-clause-custom
 returns-clause-custom g c = λ listed is.
     let made = c.new-resolver.ensures in
-    let tells = keeps_none _ c.new-resolver.result.should_keep_hidden_feature made.unfiltered in
-    answered_at (λ _. false) (answer_of c.in_ok-custom.custom) made.limit
-    listed (map entry_of c.args.dependencies.now) [] (λ _. []) ((c.in_ok-custom.ensures.resolved listed is).told (λ _. false) tells)
+    answered_unfiltered _ c.new-resolver.result.should_keep_hidden_feature made.unfiltered made.limit
+    (answer_of c.in_ok-custom.custom) listed (map entry_of c.args.dependencies.now) [] (λ _. [])
+    (c.in_ok-custom.ensures.resolved listed is)

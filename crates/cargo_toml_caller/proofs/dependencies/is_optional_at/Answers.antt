@@ -1,26 +1,23 @@
-use Rattle.std.proofs.Common.{◌≡◌, List, option_map, false, Some, None, sym, ap, subst, ◌∙◌}
+use Rattle.std.proofs.Common.{◌≡◌, List, option_map, Some, None, sym, ap, subst, ◌∙◌}
 use Rattle.std.specs.Option.{option_copied}
 use Rattle.cargo_toml.specs.Admitted.{admitted}
 use Rattle.cargo_toml.specs.Dependencies.{is_optional}
 use Rattle.cargo_toml.specs.Limits.{MAX_ITEMS}
 use Rattle.cargo_toml.specs.Manifests.{manifest_meaning}
-use Rattle.cargo_toml.specs.Parsed.{IsParsed, parsed_entries}
+use Rattle.cargo_toml.specs.Parsed.{parsed_entries}
 use Rattle.cargo_toml.specs.Recorded.{Entry, entries_at, recorded_of}
 use Rattle.cargo_toml.specs.Resolved.{SameRecorded}
 use Rattle.cargo_toml.specs.Views.{answer_of, recorded_in, value_at}
-use Rattle.cargo_toml_caller.proofs.AtLimit.{parsed_at}
 use Rattle.cargo_toml_caller.proofs.First.{none_first}
-use Rattle.cargo_toml_caller.proofs.Unfiltered.{keeps_none}
+use Rattle.cargo_toml_caller.proofs.Unfiltered.{parsed_unfiltered}
 use Rattle.cargo_toml_caller.proofs.dependencies.is_optional_at.Goals as goal
 
 pub returns-in_default-clause-answer : goal.returns-in_default-clause-answer
 returns-in_default-clause-answer g c =
     let m = manifest_meaning (λ m. m) c.args.manifest.now in
-    let tells = keeps_none _ c.new.result.should_keep_hidden_feature c.new.ensures.unfiltered in
     let resolved = c.in_ok-resolved.resolved in
-    let answer : IsParsed MAX_ITEMS m (λ _. false) (answer_of resolved) =
-    parsed_at (λ _. false) (answer_of resolved) c.new.ensures.limit m
-    (c.in_ok-resolved.ensures.resolved.told (λ _. false) tells) in
+    let answer = parsed_unfiltered _ c.new.result.should_keep_hidden_feature c.new.ensures.unfiltered
+    c.new.ensures.limit (answer_of resolved) m c.in_ok-resolved.ensures.resolved in
     let es : List Entry =
     entries_at (admitted MAX_ITEMS m.features) (parsed_entries MAX_ITEMS m) c.args.key.now in
     let missing : value_at resolved.dependencies c.args.key.now ≡ None =
@@ -32,11 +29,9 @@ returns-in_default-clause-answer g c =
 pub returns-clause-answer : goal.returns-clause-answer
 returns-clause-answer g c =
     let m = manifest_meaning (λ m. m) c.args.manifest.now in
-    let tells = keeps_none _ c.new.result.should_keep_hidden_feature c.new.ensures.unfiltered in
     let resolved = c.in_ok-resolved.resolved in
-    let answer : IsParsed MAX_ITEMS m (λ _. false) (answer_of resolved) =
-    parsed_at (λ _. false) (answer_of resolved) c.new.ensures.limit m
-    (c.in_ok-resolved.ensures.resolved.told (λ _. false) tells) in
+    let answer = parsed_unfiltered _ c.new.result.should_keep_hidden_feature c.new.ensures.unfiltered
+    c.new.ensures.limit (answer_of resolved) m c.in_ok-resolved.ensures.resolved in
     let es : List Entry =
     entries_at (admitted MAX_ITEMS m.features) (parsed_entries MAX_ITEMS m) c.args.key.now in
     let here : value_at resolved.dependencies c.args.key.now ≡ Some c.in-Some.dependency.now =

@@ -1,26 +1,21 @@
-use Rattle.std.proofs.Common.{◌≡◌, List, option_map, false, Some, None, inl, inr, sym, ap, subst, ◌∙◌}
+use Rattle.std.proofs.Common.{◌≡◌, List, option_map, Some, None, inl, inr, sym, ap, subst, ◌∙◌}
 use Rattle.std.specs.Option.{option_copied}
-use Rattle.cargo_toml.specs.Limits.{MAX_ITEMS}
 use Rattle.cargo_toml.specs.Manifests.{ManifestMeaning, manifest_meaning}
-use Rattle.cargo_toml.specs.Parsed.{IsParsed}
 use Rattle.cargo_toml.specs.Recorded.{Entry, recorded_of}
 use Rattle.cargo_toml.specs.Resolved.{SameRecorded}
 use Rattle.cargo_toml.specs.Views.{answer_of, recorded_in, value_at}
 use Rattle.cargo_toml_caller.specs.FirstDependencies.{counted}
 use Rattle.cargo_toml_caller.specs.declared.audience.Audience.{Audience}
-use Rattle.cargo_toml_caller.proofs.AtLimit.{parsed_at}
 use Rattle.cargo_toml_caller.proofs.First.{none_first}
-use Rattle.cargo_toml_caller.proofs.Unfiltered.{keeps_none}
+use Rattle.cargo_toml_caller.proofs.Unfiltered.{parsed_unfiltered}
 use Rattle.cargo_toml_caller.proofs.dependencies.kind_from.Goals as goal
 
 pub returns-in_default-clause-answer : goal.returns-in_default-clause-answer
 returns-in_default-clause-answer c =
     let m : ManifestMeaning Audience = manifest_meaning (λ m. m) c.in_ok-manifest.manifest in
-    let tells = keeps_none _ c.new.result.should_keep_hidden_feature c.new.ensures.unfiltered in
     let resolved = c.in_ok-resolved.resolved in
-    let answer : IsParsed MAX_ITEMS m (λ _. false) (answer_of resolved) =
-    parsed_at (λ _. false) (answer_of resolved) c.new.ensures.limit m
-    (c.in_ok-resolved.ensures.resolved.told (λ _. false) tells) in
+    let answer = parsed_unfiltered _ c.new.result.should_keep_hidden_feature c.new.ensures.unfiltered
+    c.new.ensures.limit (answer_of resolved) m c.in_ok-resolved.ensures.resolved in
     let es : List Entry = counted m c.args.key.now in
     let missing : value_at resolved.dependencies c.args.key.now ≡ None =
     sym c.get.ensures.value ∙ ap option_copied c.in_default.is in
@@ -35,11 +30,9 @@ returns-in_default-clause-answer c =
 pub returns-clause-answer : goal.returns-clause-answer
 returns-clause-answer c =
     let m : ManifestMeaning Audience = manifest_meaning (λ m. m) c.in_ok-manifest.manifest in
-    let tells = keeps_none _ c.new.result.should_keep_hidden_feature c.new.ensures.unfiltered in
     let resolved = c.in_ok-resolved.resolved in
-    let answer : IsParsed MAX_ITEMS m (λ _. false) (answer_of resolved) =
-    parsed_at (λ _. false) (answer_of resolved) c.new.ensures.limit m
-    (c.in_ok-resolved.ensures.resolved.told (λ _. false) tells) in
+    let answer = parsed_unfiltered _ c.new.result.should_keep_hidden_feature c.new.ensures.unfiltered
+    c.new.ensures.limit (answer_of resolved) m c.in_ok-resolved.ensures.resolved in
     let es : List Entry = counted m c.args.key.now in
     let here : value_at resolved.dependencies c.args.key.now ≡ Some c.in-Some.dependency.now =
     sym c.get.ensures.value ∙ ap option_copied c.in-Some.is in

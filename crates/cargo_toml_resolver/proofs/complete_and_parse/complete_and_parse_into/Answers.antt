@@ -1,11 +1,8 @@
 use Rattle.std.proofs.Common.{inl, refl}
 use Rattle.cargo_toml_manifest.specs.Manifests.{held}
-use Rattle.cargo_toml_features.specs.FirstTarget.{HaveTargets}
-use Rattle.cargo_toml_features.specs.Reached.{IsKeyed}
-use Rattle.cargo_toml_features.specs.Views.{answer_of}
 use Rattle.cargo_toml_resolver.specs.Filtered.{filter_of, limit_of}
-use Rattle.cargo_toml_resolver.specs.Parsed.{IsParsedBy}
-use Rattle.cargo_toml_resolver.proofs.Lent.{refused_alike, is_answered, outcome_with, wrapped_with, resolved_with}
+use Rattle.cargo_toml_resolver.specs.Parsed.{IsResolvedFor}
+use Rattle.cargo_toml_resolver.proofs.Lent.{refused_alike, is_answered, outcome_with, wrapped_with, resolved_for, resolved_with}
 use Rattle.cargo_toml_resolver.proofs.complete_and_parse.complete_and_parse_into.Goals as goal
 
 pub returns-in-Err : goal.returns-in-Err
@@ -15,32 +12,28 @@ returns-in-Err g c = (
     left = tt;
     answered = refl;
     completed = tt;
-    needs = tt;
     memory = tt;
     outcome = refused_alike _ _ _ _ c.in-Err.ensures.outcome;
     wrapped = c.in-Err.ensures.wrapped;
-    resolved = tt;
-    keyed = tt;
-    targets = tt;
+    features = tt;
   },
 )
 
 pub returns : goal.returns
-returns g c = (
-  (refl, λ _. tt, refl),
-  record {
-    left = tt;
-    answered = is_answered _ c.parse.result;
-    completed = c.in-Ok.ensures.completed;
-    needs = c.in-Ok.ensures.completed.needs_nothing;
-    memory = c.parse.ensures.refused;
-    outcome = outcome_with _ (λ m. held m.now) _ _ _ c.parse.result refl c.in-Ok.ensures.outcome c.parse.ensures.refused;
-    wrapped = wrapped_with _ _ c.parse.result (λ e memory. inl memory) c.parse.ensures.refused;
-    resolved = resolved_with (λ m a.
-        IsParsedBy (limit_of c.args.resolver.now) (held m.now)
-        g.F.Fn (filter_of c.args.resolver.now) (answer_of a))
-        _ c.parse.result c.parse.ensures.resolved;
-    keyed = resolved_with (λ _ a. IsKeyed a.features) _ c.parse.result c.parse.ensures.keyed;
-    targets = resolved_with (λ _ a. HaveTargets a.dependencies) _ c.parse.result c.parse.ensures.targets;
-  },
-)
+returns g c =
+    let limit = limit_of c.args.resolver.now in
+    let filter = filter_of c.args.resolver.now in
+    let r = c.parse.result in
+    let resolved = c.parse.ensures in (
+      (refl, λ _. tt, refl),
+      record {
+        left = tt;
+        answered = is_answered _ r;
+        completed = c.in-Ok.ensures.completed;
+        memory = resolved.refused;
+        outcome = outcome_with _ (λ m. held m.now) _ _ _ r refl c.in-Ok.ensures.outcome resolved.refused;
+        wrapped = wrapped_with _ _ r (λ e memory. inl memory) resolved.refused;
+        features = resolved_with (λ m a. IsResolvedFor limit (held m.now) g.F.Fn filter a) _ r
+            (resolved_for limit _ g.F.Fn filter r resolved.resolved resolved.keyed resolved.targets);
+      },
+    )

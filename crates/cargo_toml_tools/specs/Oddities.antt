@@ -1,5 +1,5 @@
 -- What a report finds odd, and what each call adds to that.
-use Rattle.std.specs.Prelude.{◌≡◌, ◌⊎◌, ◌++◌, ◌||◌, Bool, List, [], ◌∷◌, Option, Some, None}
+use Rattle.std.specs.Prelude.{◌⊎◌, ◌++◌, ◌||◌, Bool, List, [], ◌∷◌, Option, Some, None}
 use Rattle.std.specs.Prelude.{if◌then◌else◌, map, codes, bytes_eq, nat_eq, filter, option_map}
 use Rattle.std.specs.Prelude.{option_and_then, unwrap_or, string_bytes}
 use Rattle.std.specs.BTreeSet.{BTreeSet}

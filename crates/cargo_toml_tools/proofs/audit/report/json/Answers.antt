@@ -1,10 +1,10 @@
-use Rattle.std.proofs.Common.{◌≡◌, ◌++◌, ◌∷◌, ◌∙◌, [], ap, codes, string_bytes, subst, sym}
+use Rattle.std.proofs.Common.{◌≡◌, ◌++◌, ◌∷◌, ◌∙◌, [], ap, codes, map, string_bytes, subst}
 use Rattle.std.specs.BTreeSet.{keys}
 use Rattle.serde_json.specs.Data.{array, object, put}
 use Rattle.serde_json.specs.View.{items_of, members_view, view}
 use Rattle.serde_json.specs.Written.{IsInOrder, compact_text, has_float}
 use Rattle.cargo_toml.specs.Action.{Text}
-use Rattle.cargo_toml_tools.specs.ReportedJson.{finding_rows, member_rows, objects_of, report_data}
+use Rattle.cargo_toml_tools.specs.ReportedJson.{finding_rows, member_rows, object_of_rows, objects_of, report_data}
 use Rattle.cargo_toml_tools.proofs.Placed.{begun_empty, in_order_of, put_same}
 use Rattle.cargo_toml_tools.proofs.ReportFloatless.{report_floatless}
 use Rattle.cargo_toml_tools.proofs.audit.report.json.Goals as goal
@@ -18,7 +18,8 @@ returns c =
     let one = members_view c.put.new.map.entries in
     let two = members_view c.put-2.new.map.entries in
     let first = put_same (codes "members") _ (objects_of member_rows members) none one c.in_ok-put.ensures.ok
-    (c.from.ensures ∙ ap (λ ds. array (items_of ds)) c.in_ok-members.ensures) in
+    (c.from.ensures ∙ ap (λ ds. array (items_of ds))
+    (c.in_ok-members.ensures ∙ ap (map (λ m. object_of_rows (member_rows m))) c.as_slice.ensures.value)) in
     let second = put_same (codes "findings") _ (objects_of finding_rows findings) one two c.in_ok-put-2.ensures.ok
     (c.from-2.ensures ∙ ap (λ ds. array (items_of ds)) c.in_ok-findings.ensures) in
     let whole : view c.from-3.result ≡ report =

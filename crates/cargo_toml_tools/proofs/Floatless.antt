@@ -44,7 +44,7 @@ put_floatless k d (member l e ms) h g =
     (or_from (has_float d) (members_have_float ms) h p.1)
     (or_from (has_float e) (members_have_float (put k d ms)) p.0 (put_floatless k d ms h p.1))
 
-rows_floatless : (rows : List (Text × Data)) (ms : Members) → list_any (λ r. has_float r.1) rows ≡ false → members_have_float ms ≡ false
+pub rows_floatless : (rows : List (Text × Data)) (ms : Members) → list_any (λ r. has_float r.1) rows ≡ false → members_have_float ms ≡ false
     → members_have_float (with_rows rows ms) ≡ false
 rows_floatless [] ms h g = g
 rows_floatless (row ∷ rows) ms h g =
@@ -55,11 +55,11 @@ in_items : (ds : List Data) → items_have_float (items_of ds) ≡ list_any has_
 in_items [] = refl
 in_items (d ∷ ds) = ap (λ b. has_float d || b) (in_items ds)
 
-texts_floatless : (ts : List Text) → has_float (text_array ts) ≡ false
+pub texts_floatless : (ts : List Text) → has_float (text_array ts) ≡ false
 texts_floatless [] = refl
 texts_floatless (t ∷ ts) = texts_floatless ts
 
-or_null_floatless : (t : Option Text) → has_float (text_or_null t) ≡ false
+pub or_null_floatless : (t : Option Text) → has_float (text_or_null t) ≡ false
 or_null_floatless None = refl
 or_null_floatless (Some t) = refl
 

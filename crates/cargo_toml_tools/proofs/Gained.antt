@@ -1,9 +1,9 @@
 -- Findings, with one more or with several.
-use Rattle.std.proofs.Common.{◌≡◌, ◌⊎◌, Ordering, Less, Equal, Greater, List, [], ◌∷◌, String, Global, map, string_bytes, refl, sym, ap, subst, inl, inr, ◌∙◌}
+use Rattle.std.proofs.Common.{◌≡◌, ◌⊎◌, ◌++◌, Ordering, Equal, List, [], ◌∷◌, String, Global, map, string_bytes, refl, sym, ap, subst, inl, inr, ◌∙◌}
 use Rattle.std.proofs.lemmas.Bool.{and_parts}
 use Rattle.std.proofs.lemmas.Slice.Eq.{bytes_eq-Decides}
 use Rattle.std.specs.BTreeSet.{BTreeSet, insert_key}
-use Rattle.std.specs.Ordering.{is_eq, match_ordering}
+use Rattle.std.specs.Ordering.{is_eq}
 use Rattle.cargo_toml.specs.Action.{Text}
 use Rattle.cargo_toml.specs.Reach.{Among}
 use Rattle.cargo_toml_tools.specs.Oddities.{AreReported, GainsOnly, IsReported, Oddity, oddity_of, oddity_with}
@@ -12,57 +12,16 @@ use Rattle.cargo_toml_tools.specs.contracts.audit.FindingOrd.TheImpl as finding_
 use Rattle.cargo_toml_tools.specs.contracts.audit.FindingOrd.TheImpl.Laws as laws
 use Rattle.cargo_toml_tools.specs.declared.audit.Code.{Code}
 use Rattle.cargo_toml_tools.specs.declared.audit.Finding.{Finding}
+use Rattle.cargo_toml_tools.proofs.Inserted.{adds, in_either, in_first, in_second, keeps, there}
 use denote.Enum.Bare.{same_true}
 
--- one key put among others
+-- one more finding
 module _ (cmp : Finding → Finding → Ordering) (f : Finding) where
-  put : (o : Oddity) (x : Finding) (xs more : List Finding) (r : Ordering)
-      → (Among (map oddity_of xs) o → Among (map oddity_of more) o)
-      → Among (map oddity_of (x ∷ xs)) o
-      → Among (map oddity_of (match_ordering r (f ∷ x ∷ xs) (x ∷ xs) (x ∷ more))) o
-  put o x xs more Less on h = inr h
-  put o x xs more Equal on h = h
-  put o x xs more Greater on (inl e) = inl e
-  put o x xs more Greater on (inr i) = inr (on i)
-
-  keeps : (o : Oddity) (xs : List Finding) → Among (map oddity_of xs) o
-      → Among (map oddity_of (insert_key cmp xs f)) o
-  keeps o [] h = absurd h
-  keeps o (x ∷ xs) h = put o x xs (insert_key cmp xs f) (cmp f x) (keeps o xs) h
-
-  taken : (o : Oddity) (x : Finding) (xs more : List Finding) (r : Ordering)
-      → (Among (map oddity_of more) o → Among (map oddity_of xs) o ⊎ (o ≡ oddity_of f))
-      → Among (map oddity_of (match_ordering r (f ∷ x ∷ xs) (x ∷ xs) (x ∷ more))) o
-      → Among (map oddity_of (x ∷ xs)) o ⊎ (o ≡ oddity_of f)
-  taken o x xs more Less on (inl e) = inr e
-  taken o x xs more Less on (inr i) = inl i
-  taken o x xs more Equal on h = inl h
-  taken o x xs more Greater on (inl e) = inl (inl e)
-  taken o x xs more Greater on (inr i) = elim (on i) [ inl j ↦ inl (inr j) | inr e ↦ inr e ]
-
-  adds : (o : Oddity) (xs : List Finding) → Among (map oddity_of (insert_key cmp xs f)) o
-      → Among (map oddity_of xs) o ⊎ (o ≡ oddity_of f)
-  adds o [] (inl e) = inr e
-  adds o [] (inr i) = absurd i
-  adds o (x ∷ xs) h = taken o x xs (insert_key cmp xs f) (cmp f x) (adds o xs) h
-
-  module _ (ties : (x : Finding) → cmp f x ≡ Equal → oddity_of f ≡ oddity_of x) where
-    stands : (x : Finding) (xs more : List Finding) (r : Ordering) → cmp f x ≡ r
-        → Among (map oddity_of more) (oddity_of f)
-        → Among (map oddity_of (match_ordering r (f ∷ x ∷ xs) (x ∷ xs) (x ∷ more))) (oddity_of f)
-    stands x xs more Less e on = inl refl
-    stands x xs more Equal e on = inl (ties x e)
-    stands x xs more Greater e on = inr on
-
-    there : (xs : List Finding) → Among (map oddity_of (insert_key cmp xs f)) (oddity_of f)
-    there [] = inl refl
-    there (x ∷ xs) = stands x xs (insert_key cmp xs f) (cmp f x) refl (there xs)
-
   pub gains_one : (s n : BTreeSet Finding) (o : Oddity) → n.keys ≡ insert_key cmp s.keys f
       → oddity_of f ≡ o → GainsOnly (λ x. x ≡ o) s n
   gains_one s n o is same = record {
-    kept = λ x h. subst (λ (ks : List Finding). Among (map oddity_of ks) x) (sym is) (keeps x s.keys h);
-    gained = λ x h. elim (adds x s.keys (subst (λ (ks : List Finding). Among (map oddity_of ks) x) is h)) [
+    kept = λ x h. subst (λ (ks : List Finding). Among (map oddity_of ks) x) (sym is) (keeps cmp oddity_of f x s.keys h);
+    gained = λ x h. elim (adds cmp oddity_of f x s.keys (subst (λ (ks : List Finding). Among (map oddity_of ks) x) is h)) [
       | inl i ↦ inl i
       | inr e ↦ inr (e ∙ same)
     ];
@@ -81,7 +40,7 @@ pub found_one : (f : Finding) (s n : BTreeSet Finding) (o : Oddity) → n.keys �
     → oddity_of f ≡ o → IsReported n o
 found_one f s n o is same =
     subst (λ (x : Oddity). IsReported n x) same
-    (subst (λ (ks : List Finding). Among (map oddity_of ks) (oddity_of f)) (sym is) (there (finding_order.cmp-value).it f (ties f) s.keys))
+    (subst (λ (ks : List Finding). Among (map oddity_of ks) (oddity_of f)) (sym is) (there (finding_order.cmp-value).it oddity_of f (ties f) s.keys))
 
 -- nothing was added, or more and more
 module _ {P : Oddity → Type 0} where
@@ -103,6 +62,13 @@ module _ {P : Oddity → Type 0} where
     kept = one.kept;
     gained = λ x h. elim (one.gained x h) [ inl i ↦ inl i | inr q ↦ inr (so x q) ];
   }
+
+-- of one list as of an equal one
+pub gains_same : (xs ys : List Oddity) (a b : BTreeSet Finding) → xs ≡ ys → GainsOnly (Among xs) a b → GainsOnly (Among ys) a b
+gains_same xs ys a b is g = subst (λ (os : List Oddity). GainsOnly (Among os) a b) is g
+
+pub found_same : (xs ys : List Oddity) (b : BTreeSet Finding) → xs ≡ ys → AreReported b xs → AreReported b ys
+found_same xs ys b is h = subst (λ (os : List Oddity). AreReported b os) is h
 
 -- ---- one after the other of a list, where these are left
 pub record Going (Such : Oddity → Type 0) (left : List Oddity) (old new : BTreeSet Finding) : Type 0 where
@@ -134,6 +100,36 @@ adding_on all o p left whole a b c is same before one there = record {
     ]
   ];
 }
+
+-- some of them, where memory runs out
+pub adding_stopped : (all os left whole : List Oddity) (a b c : BTreeSet Finding) → whole ≡ os ++ left
+    → Adding all whole a b → GainsOnly (Among os) b c → GainsOnly (Among all) a c
+adding_stopped all os left whole a b c is before more =
+    gains_on a b c before.go.gains
+    (gains_wider b c (λ x i. before.go.within x (subst (λ (ps : List Oddity). Among ps x) (sym is) (in_first os left x i))) more)
+
+-- several more at once
+pub adding_more : (all os left whole : List Oddity) (a b c : BTreeSet Finding) → whole ≡ os ++ left
+    → Adding all whole a b → GainsOnly (Among os) b c → AreReported c os → Adding all left a c
+adding_more all os left whole a b c is before more there = record {
+  go = record {
+    gains = adding_stopped all os left whole a b c is before more;
+    within = λ x i. before.go.within x (subst (λ (ps : List Oddity). Among ps x) (sym is) (in_second os left x i));
+  };
+  rest = λ x i. elim (before.rest x i) [
+    | inl h ↦ inl (more.kept x h)
+    | inr j ↦ elim (in_either os left x (subst (λ (ps : List Oddity). Among ps x) is j)) [ inl k ↦ inl (there x k) | inr k ↦ inr k ]
+  ];
+}
+
+pub adding_from : (all left : List Oddity) (a : BTreeSet Finding) → left ≡ all → Adding all left a a
+adding_from all left a is = record {
+  go = record { gains = gains_none a a refl; within = λ x i. subst (λ (os : List Oddity). Among os x) is i };
+  rest = λ x i. inr (subst (λ (os : List Oddity). Among os x) (sym is) i);
+}
+
+pub adding_same : (all left rest : List Oddity) (a b : BTreeSet Finding) → left ≡ rest → Adding all left a b → Adding all rest a b
+adding_same all left rest a b is before = subst (λ (os : List Oddity). Adding all os a b) is before
 
 pub just_one : (b : BTreeSet Finding) (o p : Oddity) → p ≡ o → IsReported b p → AreReported b (o ∷ [])
 just_one b o p same h = λ x i. elim i [ inl e ↦ subst (λ (y : Oddity). IsReported b y) (same ∙ sym e) h | inr j ↦ absurd j ]

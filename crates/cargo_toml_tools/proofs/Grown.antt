@@ -1,7 +1,8 @@
 -- Lists that grow by a piece for each element.
-use Rattle.std.proofs.Common.{◌≡◌, ◌+◌, ◌++◌, ◌∙◌, ◌<◌, ◌||◌, ℕ, Bool, false, true, List, [], ◌∷◌, add-one, drop, drop-cons, get_or, length, map, take, refl, sym, ap, append_assoc}
+use Rattle.std.proofs.Common.{◌≡◌, ◌+◌, ◌++◌, ◌∙◌, ◌<◌, ◌&&◌, ◌||◌, ℕ, Bool, false, true, List, [], ◌∷◌, add-one, drop, drop-cons, get_or, length, map, take, refl, sym, ap, append_assoc}
 use Rattle.std.proofs.lemmas.List.{append-nil, map-append, take_more}
-use Rattle.std.specs.List.{flat_map, list_any}
+use Rattle.std.proofs.lemmas.List.Concat.{flat_map-append}
+use Rattle.std.specs.List.{flat_map, list_all, list_any}
 
 -- what is left to be added behind what was
 module _ {A B : Type 0} (f : A → List B) where
@@ -11,6 +12,10 @@ module _ {A B : Type 0} (f : A → List B) where
 
   pub flat_end : (left : List A) (items whole : List B) → left ≡ [] → items ++ flat_map f left ≡ whole → items ≡ whole
   flat_end left items whole none before = sym (append-nil items) ∙ ap (λ t. items ++ flat_map f t) (sym none) ∙ before
+
+pub flat_flat : {A B C : Type 0} (f : B → List C) (g : A → List B) (xs : List A) → flat_map f (flat_map g xs) ≡ flat_map (λ x. flat_map f (g x)) xs
+flat_flat f g [] = refl
+flat_flat f g (x ∷ xs) = flat_map-append f (g x) (flat_map g xs) ∙ ap (λ t. flat_map f (g x) ++ t) (flat_flat f g xs)
 
 -- three pieces, one behind the other
 pub three_pieces : {A : Type 0} (a b c d x y z : List A) → b ≡ a ++ x → c ≡ b ++ y → d ≡ c ++ z → d ≡ a ++ (x ++ (y ++ (z ++ [])))
@@ -44,6 +49,10 @@ any_none test left some none before = ap (list_any test) (sym none) ∙ before
 pub any_mapped : {A B : Type 0} (test : B → Bool) (f : A → B) (xs : List A) → list_any (λ x. test (f x)) xs ≡ list_any test (map f xs)
 any_mapped test f [] = refl
 any_mapped test f (x ∷ xs) = ap (λ b. test (f x) || b) (any_mapped test f xs)
+
+pub all_mapped : {A B : Type 0} (test : B → Bool) (f : A → B) (xs : List A) → list_all (λ x. test (f x)) xs ≡ list_all test (map f xs)
+all_mapped test f [] = refl
+all_mapped test f (x ∷ xs) = ap (λ b. test (f x) && b) (all_mapped test f xs)
 
 -- what is left begins with the next
 pub drop_next : {A : Type 0} (xs : List A) (i : ℕ) (d : A) → i < length xs → drop i xs ≡ get_or xs i d ∷ drop (i + 1) xs

@@ -14,6 +14,8 @@ use Rattle.cargo_toml.specs.InheritedPackages.{field_is_left, is_left_there}
 use Rattle.cargo_toml.specs.Inherits.{inheritable_map}
 use Rattle.cargo_toml.specs.Kind.{Kind}
 use Rattle.cargo_toml_tools.specs.LeftKeys.{left_in, left_in_tables, left_rows, table_name}
+use Rattle.cargo_toml_tools.specs.Noted.{inherited_in}
+use Rattle.cargo_toml_tools.proofs.Grown.{flat_flat}
 
 -- what is left stays so in what a package holds
 pub left_mapped : {X Y : Type 0} (f : X → Y) (x : Inheritable X) → field_is_left x ≡ field_is_left (inheritable_map f x)
@@ -40,15 +42,27 @@ first_left table e es = elim (is_left e.1) as
     ≡ map (λ (e : Text × DependencyMeaning). table ++ codes "." ++ e.0) (cond b (e ∷ []) []) ++ left_in table es)
     [ true ↦ refl | false ↦ refl ]
 
+-- the same of the keys alone
+inherited_by : Bool → Text × DependencyMeaning → Entries → List Text
+inherited_by b e es = map (λ (e : Text × DependencyMeaning). e.0) (cond b (e ∷ filter (λ e. is_left e.1) es) (filter (λ e. is_left e.1) es))
+
+pub one_inherited : (e : Text × DependencyMeaning) → is_left e.1 ≡ true → inherited_in (e ∷ []) ≡ e.0 ∷ []
+unfolding inherited_by
+one_inherited e h = ap (λ b. inherited_by b e []) h
+
+pub none_inherited : (e : Text × DependencyMeaning) → is_left e.1 ≡ false → inherited_in (e ∷ []) ≡ []
+unfolding inherited_by
+none_inherited e h = ap (λ b. inherited_by b e []) h
+
+pub first_inherited : (e : Text × DependencyMeaning) (es : Entries) → inherited_in (e ∷ es) ≡ inherited_in (e ∷ []) ++ inherited_in es
+unfolding inherited_by
+first_inherited e es = elim (is_left e.1) as (λ b. inherited_by b e es ≡ inherited_by b e [] ++ inherited_in es) [ true ↦ refl | false ↦ refl ]
+
 -- ---- three tables, and those of targets
 pub three : (keys one two end a b c : List Text) → one ≡ keys ++ a → two ≡ one ++ b → end ≡ two ++ c → end ≡ keys ++ (a ++ (b ++ (c ++ [])))
 three keys one two end a b c e f g =
     g ∙ ap (λ t. t ++ c) (f ∙ ap (λ t. t ++ b) e) ∙ append_assoc (keys ++ a) b c ∙ append_assoc keys a (b ++ c)
     ∙ ap (λ t. keys ++ (a ++ (b ++ t))) (sym (append-nil c))
-
-flat_flat : {A B : Type 0} (f : B → List Text) (g : A → List B) (xs : List A) → flat_map f (flat_map g xs) ≡ flat_map (λ x. flat_map f (g x)) xs
-flat_flat f g [] = refl
-flat_flat f g (x ∷ xs) = flat_map-append f (g x) (flat_map g xs) ∙ ap (λ t. flat_map f (g x) ++ t) (flat_flat f g xs)
 
 pub own_and_targets : {A : Type 0} (keys one end : List Text) (own : List (Kind × Entries)) (g : A → List (Kind × Entries)) (xs : List A)
     → one ≡ keys ++ left_in_tables own → end ≡ one ++ flat_map (λ x. left_in_tables (g x)) xs → end ≡ keys ++ left_in_tables (own ++ flat_map g xs)

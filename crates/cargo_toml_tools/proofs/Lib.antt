@@ -32,3 +32,9 @@ pub mod Walking
 pub mod Reaching
 pub mod Rowed
 pub mod Shown
+pub mod Exactly
+pub mod Grouped
+pub mod Inserted
+pub mod Using
+pub mod Unused
+pub mod ReportFloatless

@@ -1,5 +1,5 @@
 -- What a report finds odd, and what each call adds to that.
-use Rattle.std.specs.Prelude.{◌≡◌, ◌⊎◌, ◌++◌, ◌||◌, Bool, List, [], ◌∷◌, Option, Some, None}
+use Rattle.std.specs.Prelude.{◌⊎◌, ◌++◌, ◌||◌, Bool, List, [], ◌∷◌, Option, Some, None}
 use Rattle.std.specs.Prelude.{if◌then◌else◌, map, codes, bytes_eq, nat_eq, filter, option_map}
 use Rattle.std.specs.Prelude.{option_and_then, unwrap_or, string_bytes}
 use Rattle.std.specs.BTreeSet.{BTreeSet}
@@ -7,7 +7,6 @@ use Rattle.std.specs.List.{starts_with}
 use Rattle.std.specs.Option.{option_map_or}
 use Rattle.cargo_toml.specs.Action.{Text}
 use Rattle.cargo_toml.specs.InheritableValues.{value_of}
-use Rattle.cargo_toml.specs.InheritedDependencies.{Entries}
 use Rattle.cargo_toml.specs.Manifests.{ManifestMeaning}
 use Rattle.cargo_toml.specs.Packages.{PackageMeaning}
 use Rattle.cargo_toml.specs.Reach.{Among}
@@ -16,8 +15,7 @@ use Rattle.cargo_toml.specs.Templates.{TemplateMeaning}
 use Rattle.cargo_toml_tools.specs.declared.audit.Code.{Code}
 use Rattle.cargo_toml_tools.specs.declared.audit.Code.TheVariants.{Incomplete, ListedTwice}
 use Rattle.cargo_toml_tools.specs.declared.audit.Code.TheVariants.{OtherEdition, OtherLicense}
-use Rattle.cargo_toml_tools.specs.declared.audit.Code.TheVariants.{Outside, SeveralRequirements}
-use Rattle.cargo_toml_tools.specs.declared.audit.Code.TheVariants.{UnusedDependency}
+use Rattle.cargo_toml_tools.specs.declared.audit.Code.TheVariants.{Outside}
 use Rattle.cargo_toml_tools.specs.declared.audit.Finding.{Finding}
 use Rattle.cargo_toml_tools.specs.declared.members.Members.{Members}
 
@@ -102,12 +100,3 @@ package_differences folder t p =
 abbrev pub member_differences : {M : Type 0} → Text → Option TemplateMeaning → ManifestMeaning M
     → List Oddity
 member_differences folder t m = option_map_or (package_differences folder t) m.«package» []
-
-abbrev pub unused_of : Text → Oddity
-unused_of key = oddity_with UnusedDependency key (codes "no member inherits it")
-
--- what only all members together show: of a dependency of the workspace that none inherits it, or
--- that they ask for a crate by several requirements
-abbrev pub IsOfAll : Entries → Oddity → Type 0
-IsOfAll dependencies o =
-    Among (map unused_of (map (λ e. e.0) dependencies)) o ⊎ (o.code ≡ SeveralRequirements)

@@ -1,12 +1,15 @@
 //! The report on a workspace: what each member is, and what is odd.
 ghost use Rattle.std.specs.Prelude.{◌≡◌, ◌↔◌, [], IfErr, IfOk, IsErrAnd, None, OnErr, OnOk, map};
 ghost use Rattle.std.specs.Prelude.{option_map, string_bytes};
-ghost use Rattle.std.specs.BTreeSet.{btree_set_len};
+ghost use Rattle.std.specs.BTreeSet.{IsEmpty, btree_set_len};
 ghost use Rattle.cargo_toml.specs.Manifests.{held};
 ghost use Rattle.cargo_toml.specs.Reach.{Among};
 ghost use Rattle.cargo_toml.specs.Templates.{template_meaning};
 ghost use Rattle.cargo_toml_tools.specs.Audited.{AddsMember, IsNoPackage, IsUntold, word_of};
+ghost use Rattle.cargo_toml_tools.specs.Indexed.{all_by_kind};
 ghost use Rattle.cargo_toml_tools.specs.LeftKeys.{left_keys};
+ghost use Rattle.cargo_toml_tools.specs.Noted.{GainsExactly, IsInherited, NotesUses};
+ghost use Rattle.cargo_toml_tools.specs.Noted.{inherited_in_all};
 ghost use Rattle.cargo_toml_tools.specs.Oddities.{AreReported, GainsOnly, IsReported, is_outside};
 ghost use Rattle.cargo_toml_tools.specs.Oddities.{listing_oddities, member_differences};
 ghost use Rattle.cargo_toml_tools.specs.Oddities.{oddity_with, refusal_of};
@@ -15,6 +18,7 @@ mod differences;
 mod inherited;
 mod report;
 mod summary;
+mod uses;
 
 use crate::members::Members;
 use cargo_toml::{Error, Manifest, Workspace};
@@ -22,7 +26,8 @@ use inherited::{add_inherited_dependencies, inherited_keys};
 pub use report::{json, lines};
 use std::alloc::{AllocError, Global};
 use std::collections::BTreeSet;
-use summary::{add_uses, summarize};
+use summary::summarize;
+use uses::add_uses;
 
 /// What a member is. What isn't there is `None`.
 #[derive(Debug, Drop)]
@@ -94,10 +99,13 @@ pub struct Finding {
 
 /// A crate that a member asks for.
 #[derive(Debug, PartialEq, Eq, PartialOrd, Ord, Drop)]
-struct Use {
-    name: String,
-    requirement: String,
-    folder: String,
+pub struct Use {
+    /// The name of the crate.
+    pub name: String,
+    /// The requirement on its version, as `semver` writes it.
+    pub requirement: String,
+    /// The member's folder.
+    pub folder: String,
 }
 
 /// A report that is being made.
@@ -107,10 +115,10 @@ pub struct Audit {
     pub members: Vec<Member>,
     /// What is odd.
     pub findings: BTreeSet<Finding>,
-    /// What the members ask for.
-    uses: BTreeSet<Use>,
+    /// What the members ask for by a requirement.
+    pub uses: BTreeSet<Use>,
     /// The keys of the workspace's dependencies that some member inherits.
-    inherited: BTreeSet<String>,
+    pub inherited: BTreeSet<String>,
 }
 
 impl Audit {
@@ -118,6 +126,8 @@ impl Audit {
     pub fn new(alloc: Global) -> Audit
         ensures members { result.members.items ≡ [] }
         ensures findings { btree_set_len result.findings ≡ 0 }
+        ensures uses { IsEmpty result.uses }
+        ensures inherited { IsEmpty result.inherited }
     {
         Audit {
             members: Vec::new(alloc),
@@ -128,7 +138,7 @@ impl Audit {
     }
 
     fn find(&mut self, code: Code, subject: &str, words: String) -> Result<(), AllocError>
-        ensures members { self.new.members ≡ self.old.members }
+        ensures rest { self.new ≡ record self.old { findings = self.new.findings } }
         ensures findings { GainsOnly (λ o. o ≡ oddity_with code subject.now (string_bytes words))
             self.old.findings self.new.findings }
         ensures found { OnOk result
@@ -145,7 +155,7 @@ impl Audit {
 
     /// Adds what is odd of how members are listed.
     pub fn add_listing(&mut self, members: &Members) -> Result<(), AllocError>
-        ensures members { self.new.members ≡ self.old.members }
+        ensures rest { self.new ≡ record self.old { findings = self.new.findings } }
         ensures findings { GainsOnly (Among (listing_oddities members.now))
             self.old.findings self.new.findings }
         ensures found { OnOk result (AreReported self.new.findings (listing_oddities members.now)) }
@@ -165,13 +175,15 @@ impl Audit {
         Ok(())
     }
 
-    /// Takes in a member's manifest as it is written, and answers the keys that it leaves to the
-    /// workspace.
+    /// Takes in a member's manifest as it is written: notes which dependencies of the workspace it
+    /// inherits, and answers the keys that it leaves to the workspace.
     pub fn add_written<M>(&mut self, manifest: &Manifest<M>) -> Result<Vec<String>, AllocError>
         ensures keys { IfOk result
             (λ keys. map string_bytes keys.items ≡ left_keys (held manifest.now)) }
-        ensures members { self.new.members ≡ self.old.members }
-        ensures findings { self.new.findings ≡ self.old.findings }
+        ensures rest { self.new ≡ record self.old { inherited = self.new.inherited } }
+        ensures inherited { OnOk result
+            (GainsExactly (inherited_in_all (all_by_kind (held manifest.now)))
+            (IsInherited self.old) (IsInherited self.new)) }
     {
         let alloc = *self.members.allocator();
         let mut keys = inherited_keys(alloc, manifest)?;
@@ -179,7 +191,7 @@ impl Audit {
         Ok(keys)
     }
 
-    /// Adds a member whose manifest is completed.
+    /// Adds a member whose manifest is completed, and notes what it asks for.
     pub fn add_completed<M>(
         &mut self,
         folder: &str,
@@ -197,6 +209,7 @@ impl Audit {
             self.old.findings self.new.findings }
         ensures found { OnOk result (AreReported self.new.findings (member_differences folder.now
             (option_map template_meaning workspace.now.«package») (held manifest.now))) }
+        ensures noted { NotesUses folder.now (held manifest.now) result self.old self.new }
     {
         let alloc = *self.members.allocator();
         let member = summarize(alloc, folder, manifest, inherits)?;
@@ -208,7 +221,7 @@ impl Audit {
 
     /// Adds a member that doesn't complete, by the words of its fault.
     pub fn add_refused(&mut self, folder: &str, words: &str) -> Result<(), AllocError>
-        ensures members { self.new.members ≡ self.old.members }
+        ensures rest { self.new ≡ record self.old { findings = self.new.findings } }
         ensures findings { GainsOnly (λ o. o ≡ refusal_of folder.now words.now)
             self.old.findings self.new.findings }
         ensures found { OnOk result

@@ -15,7 +15,6 @@ mod dependencies;
 mod entry;
 mod features;
 mod refusals;
-mod requirement;
 
 use crate::json::put_text;
 use cargo_toml::{FeatureSet, Manifest};
@@ -64,7 +63,13 @@ impl<T: Drop> From<AllocFailed<T>> for IndexError {
     }
 }
 
+/// What each variant says above, in words.
 impl fmt::Display for IndexError {
+    ghost use Rattle.std.specs.Prelude.{Some};
+    ghost use Rattle.cargo_toml_tools.specs.IndexFaults.{index_fault_text};
+
+    ghost output = { λ fault. Some (index_fault_text fault) };
+
     fn fmt<W: fmt::Write>(&self, f: &mut fmt::Formatter<W>) -> fmt::Result {
         match self {
             IndexError::NoPackage => f.write_str("there is no package"),

@@ -14,3 +14,4 @@ pub mod index;
 mod json;
 pub mod lint;
 pub mod members;
+mod requirement;

@@ -6,14 +6,14 @@ ghost use Rattle.cargo_toml.specs.Reach.{Among};
 ghost use Rattle.cargo_toml.specs.Reads.{map_meaning};
 ghost use Rattle.cargo_toml.specs.Settings.{edition_text};
 ghost use Rattle.cargo_toml.specs.Templates.{template_meaning};
-ghost use Rattle.cargo_toml_tools.specs.Oddities.{AreReported, GainsOnly, IsOfAll};
-ghost use Rattle.cargo_toml_tools.specs.Oddities.{differences_if_any, other_of};
-ghost use Rattle.cargo_toml_tools.specs.declared.audit.Code.TheVariants.{SeveralRequirements};
+ghost use Rattle.cargo_toml_tools.specs.Oddities.{AreReported, GainsOnly, differences_if_any};
+ghost use Rattle.cargo_toml_tools.specs.Oddities.{other_of};
+ghost use Rattle.cargo_toml_tools.specs.Overall.{overall_oddities};
 
-use super::{Audit, Code, Finding, Member, Use};
+use super::uses::add_requirements;
+use super::{Audit, Code, Member};
 use cargo_toml::{Edition, Workspace};
 use std::alloc::{AllocError, Global};
-use std::collections::BTreeSet;
 
 impl Audit {
     /// Adds where a member's edition or licence is another than the workspace gives.
@@ -23,7 +23,7 @@ impl Audit {
         member: &Member,
         workspace: &Workspace<M>,
     ) -> Result<(), AllocError>
-        ensures members { self.new.members ≡ self.old.members }
+        ensures rest { self.new ≡ record self.old { findings = self.new.findings } }
         ensures findings { GainsOnly (Among (differences_if_any (string_bytes member.now.folder)
             (string_bytes member.now.edition) (option_map string_bytes member.now.license)
             (option_map template_meaning workspace.now.«package»)))
@@ -52,7 +52,7 @@ impl Audit {
         own: &str,
         given: Option<&str>,
     ) -> Result<(), AllocError>
-        ensures members { self.new.members ≡ self.old.members }
+        ensures rest { self.new ≡ record self.old { findings = self.new.findings } }
         ensures findings { GainsOnly
             (Among (other_of code folder.now own.now (option_copied given.entry)))
             self.old.findings self.new.findings }
@@ -73,10 +73,12 @@ impl Audit {
     /// Adds what shows once all members were added: dependencies of the workspace that none
     /// inherits, and crates that are asked for by several requirements.
     pub fn finish<M>(&mut self, workspace: &Workspace<M>) -> Result<(), AllocError>
-        ensures members { self.new.members ≡ self.old.members }
-        ensures findings { GainsOnly
-            (IsOfAll (map_meaning dependency_meaning workspace.now.dependencies))
+        ensures rest { self.new ≡ record self.old { findings = self.new.findings } }
+        ensures findings { GainsOnly (Among (overall_oddities
+            (map_meaning dependency_meaning workspace.now.dependencies) self.old))
             self.old.findings self.new.findings }
+        ensures found { OnOk result (AreReported self.new.findings (overall_oddities
+            (map_meaning dependency_meaning workspace.now.dependencies) self.old)) }
     {
         let alloc = *self.members.allocator();
         for key in workspace.dependencies.keys() {
@@ -105,76 +107,4 @@ fn other(alloc: Global, own: &str, given: &str) -> Result<String, AllocError>
         ≡ own.now ++ codes ", where the workspace has " ++ given.now) }
 {
     format!(in alloc; "{own}, where the workspace has {given}")
-}
-
-/// Adds the crates that are asked for by several requirements. What asks for one crate stands
-/// together, and in it what asks by one requirement.
-fn add_requirements(
-    alloc: Global,
-    uses: &BTreeSet<Use>,
-    findings: &mut BTreeSet<Finding>,
-) -> Result<(), AllocError>
-    ensures { GainsOnly (λ o. o.code ≡ SeveralRequirements) findings.old findings.new }
-{
-    let mut group = Group::new(alloc);
-    for one in uses {
-        if group.name != one.name {
-            group.close(findings)?;
-            group = Group::new(alloc);
-            group.name.push_str(one.name.as_str())?;
-        }
-        group.add(one)?;
-    }
-    group.close(findings)
-}
-
-/// What asks for one crate.
-#[derive(Drop)]
-struct Group {
-    name: String,
-    requirement: String,
-    words: String,
-    is_several: bool,
-}
-
-impl Group {
-    fn new(alloc: Global) -> Group {
-        Group {
-            name: String::new(alloc),
-            requirement: String::new(alloc),
-            words: String::new(alloc),
-            is_several: false,
-        }
-    }
-
-    fn add(&mut self, one: &Use) -> Result<(), AllocError> {
-        if self.requirement == one.requirement {
-            self.words.push_str(", ")?;
-        } else {
-            if !self.words.is_empty() {
-                self.is_several = true;
-                self.words.push_str("; ")?;
-            }
-            self.requirement.clear();
-            self.requirement.push_str(one.requirement.as_str())?;
-            self.words.push_str(one.requirement.as_str())?;
-            self.words.push_str(" in ")?;
-        }
-        self.words.push_str(one.folder.as_str())
-    }
-
-    /// Adds what was found, once all that asks for the crate was added.
-    fn close(&self, findings: &mut BTreeSet<Finding>) -> Result<(), AllocError>
-        ensures { GainsOnly (λ o. o.code ≡ SeveralRequirements) findings.old findings.new }
-    {
-        if !self.is_several {
-            return Ok(());
-        }
-        findings.insert(Finding {
-            code: Code::SeveralRequirements,
-            subject: self.name.clone()?,
-            words: self.words.clone()?,
-        })?;
-        Ok(())
-    }
 }

@@ -2,15 +2,19 @@
 ghost use Rattle.std.specs.Prelude.{◌≡◌, ◌+◌, ◌∷◌, ◌++◌, [], IfOk, OnOk, codes, map};
 ghost use Rattle.std.specs.Prelude.{string_bytes, vec_len};
 ghost use Rattle.std.specs.BTreeSet.{btree_set_len, keys};
+ghost use Rattle.serde_json.specs.View.{view};
 ghost use Rattle.cargo_toml_tools.specs.Escaped.{column, whole_lines};
 ghost use Rattle.cargo_toml_tools.specs.Escapes.{AreLines};
 ghost use Rattle.cargo_toml_tools.specs.Reported.{keys_text, member_line, oddity_line, or_dash};
+ghost use Rattle.cargo_toml_tools.specs.ReportedJson.{IsReportOf, finding_rows, member_rows};
+ghost use Rattle.cargo_toml_tools.specs.ReportedJson.{object_of_rows};
 
 use super::{Audit, Finding, Member};
 use crate::escape::{Format, comma_before, push_escaped};
 use crate::json::{put_text, put_texts};
 use serde_json::{Map, Value, push, put};
 use std::alloc::{AllocError, Global};
+use std::collections::BTreeSet;
 
 /// The report as lines: one for each member, and then one for each finding, in byte order.
 ///
@@ -88,24 +92,45 @@ fn push_keys(text: &mut String, keys: &[String]) -> Result<(), AllocError>
 }
 
 /// The same as a line of JSON, an object of two lists: `findings` and `members`.
-pub fn json(alloc: Global, audit: &Audit) -> Result<String, AllocError> {
-    let mut members = Vec::new(alloc);
-    for member in &audit.members {
-        push(&mut members, member_value(alloc, member)?)?;
-    }
-    let mut findings = Vec::new(alloc);
-    for finding in &audit.findings {
-        push(&mut findings, finding_value(alloc, finding)?)?;
-    }
+pub fn json(alloc: Global, audit: &Audit) -> Result<String, AllocError>
+    ensures { IfOk result (λ text. IsReportOf audit.now.members.items (keys audit.now.findings)
+        (string_bytes text)) }
+{
+    let members = member_values(alloc, audit.members.as_slice())?;
+    let findings = finding_values(alloc, &audit.findings)?;
     let mut report = Map::new(alloc);
-    put(&mut report, alloc, "members", Value::Array(members))?;
-    put(&mut report, alloc, "findings", Value::Array(findings))?;
-    let mut text = Value::Object(report).to_string(alloc)?;
+    put(&mut report, alloc, "members", Value::from(members))?;
+    put(&mut report, alloc, "findings", Value::from(findings))?;
+    let mut text = Value::from(report).to_string(alloc)?;
     text.push_str("\n")?;
     Ok(text)
 }
 
-fn member_value(alloc: Global, member: &Member) -> Result<Value, AllocError> {
+fn member_values(alloc: Global, members: &[Member]) -> Result<Vec<Value>, AllocError>
+    ensures { IfOk result (λ values.
+        map view values.items ≡ map (λ m. object_of_rows (member_rows m)) members.now) }
+{
+    let mut values = Vec::new(alloc);
+    for member in members {
+        push(&mut values, member_value(alloc, member)?)?;
+    }
+    Ok(values)
+}
+
+fn finding_values(alloc: Global, findings: &BTreeSet<Finding>) -> Result<Vec<Value>, AllocError>
+    ensures { IfOk result (λ values.
+        map view values.items ≡ map (λ f. object_of_rows (finding_rows f)) (keys findings.now)) }
+{
+    let mut values = Vec::new(alloc);
+    for finding in findings {
+        push(&mut values, finding_value(alloc, finding)?)?;
+    }
+    Ok(values)
+}
+
+fn member_value(alloc: Global, member: &Member) -> Result<Value, AllocError>
+    ensures { IfOk result (λ value. view value ≡ object_of_rows (member_rows member.now)) }
+{
     let mut object = Map::new(alloc);
     put_text(alloc, &mut object, "folder", Some(member.folder.as_str()))?;
     put_text(alloc, &mut object, "name", Some(member.name.as_str()))?;
@@ -120,10 +145,12 @@ fn member_value(alloc: Global, member: &Member) -> Result<Value, AllocError> {
     put_text(alloc, &mut object, "license", member.license.as_deref())?;
     put_text(alloc, &mut object, "publish", Some(member.publish.as_str()))?;
     put_texts(alloc, &mut object, "inherits", member.inherits.as_slice())?;
-    Ok(Value::Object(object))
+    Ok(Value::from(object))
 }
 
-fn finding_value(alloc: Global, finding: &Finding) -> Result<Value, AllocError> {
+fn finding_value(alloc: Global, finding: &Finding) -> Result<Value, AllocError>
+    ensures { IfOk result (λ value. view value ≡ object_of_rows (finding_rows finding.now)) }
+{
     let mut object = Map::new(alloc);
     put_text(alloc, &mut object, "code", Some(finding.code.word()))?;
     put_text(
@@ -133,5 +160,5 @@ fn finding_value(alloc: Global, finding: &Finding) -> Result<Value, AllocError> 
         Some(finding.subject.as_str()),
     )?;
     put_text(alloc, &mut object, "words", Some(finding.words.as_str()))?;
-    Ok(Value::Object(object))
+    Ok(Value::from(object))
 }

@@ -12,10 +12,9 @@ ghost use Rattle.cargo_toml_tools.specs.Audited.{IsMemberOf, IsNoPackage, IsTold
 ghost use Rattle.cargo_toml_tools.specs.Audited.{IsUntold, leaves_told, names_text, publish_text};
 ghost use Rattle.cargo_toml_tools.specs.Audited.{stated};
 
-use super::{Member, Use};
-use cargo_toml::{DepsSet, Edition, Error, Inheritable, Manifest, Package, Publish, SemVer};
+use super::Member;
+use cargo_toml::{Edition, Error, Inheritable, Manifest, Package, Publish, SemVer};
 use std::alloc::{AllocError, Global};
-use std::collections::BTreeSet;
 
 /// What is told of a member. What is left to the workspace was filled in.
 pub fn summarize<M>(
@@ -133,41 +132,4 @@ fn joined(alloc: Global, names: &[String]) -> Result<String, AllocError>
         return String::from_str(alloc, "no");
     }
     names.join(alloc, ", ")
-}
-
-/// Adds what a member asks for by a requirement.
-pub fn add_uses<M>(
-    alloc: Global,
-    folder: &str,
-    manifest: &Manifest<M>,
-    uses: &mut BTreeSet<Use>,
-) -> Result<(), AllocError> {
-    add_table(alloc, folder, &manifest.dependencies, uses)?;
-    add_table(alloc, folder, &manifest.dev_dependencies, uses)?;
-    add_table(alloc, folder, &manifest.build_dependencies, uses)?;
-    for target in manifest.target.values() {
-        add_table(alloc, folder, &target.dependencies, uses)?;
-        add_table(alloc, folder, &target.dev_dependencies, uses)?;
-        add_table(alloc, folder, &target.build_dependencies, uses)?;
-    }
-    Ok(())
-}
-
-fn add_table(
-    alloc: Global,
-    folder: &str,
-    table: &DepsSet,
-    uses: &mut BTreeSet<Use>,
-) -> Result<(), AllocError> {
-    for (key, dependency) in table {
-        if let Ok(Some(requirement)) = dependency.try_req() {
-            let name = dependency.package().unwrap_or(key.as_str());
-            uses.insert(Use {
-                name: String::from_str(alloc, name)?,
-                requirement: format!(in alloc; "{requirement}")?,
-                folder: String::from_str(alloc, folder)?,
-            })?;
-        }
-    }
-    Ok(())
 }

@@ -1,9 +1,8 @@
 //! The entry that an index has of a dependency.
-ghost use Rattle.std.specs.Prelude.{◌≡◌, ◌++◌, [], IfOk, OnOk, map, option_map, string_bytes};
+ghost use Rattle.std.specs.Prelude.{◌≡◌, ◌++◌, [], IfOk, OnOk, map, string_bytes};
 ghost use Rattle.std.specs.Option.{option_copied};
 ghost use Rattle.serde_json.specs.View.{members_view, view};
 ghost use Rattle.cargo_toml.specs.Dependencies.{dependency_meaning, package_of};
-ghost use Rattle.cargo_toml.specs.Versions.{requirement_meaning};
 ghost use Rattle.cargo_toml_tools.specs.IndexEntries.{address_of, entries_of, index_rows};
 ghost use Rattle.cargo_toml_tools.specs.IndexEntries.{has_default, kind_text, renamed_rows};
 ghost use Rattle.cargo_toml_tools.specs.IndexEntries.{place_rows, registry_of, renamed, req_text};
@@ -11,11 +10,10 @@ ghost use Rattle.cargo_toml_tools.specs.IndexEntries.{required_version, wanted_r
 ghost use Rattle.cargo_toml_tools.specs.IndexRows.{with_rows};
 
 use super::refusals::lacks_version;
-use super::requirement::requirement_text;
 use crate::json::{put_text, put_texts};
+use crate::requirement::{required_version, requirement_text};
 use cargo_toml::Dependency;
 use cargo_toml::features::Kind;
-use semver::VersionReq;
 use serde_json::{Map, Value, push, put};
 use std::alloc::{AllocError, Global};
 
@@ -98,21 +96,9 @@ fn requirement(alloc: Global, dependency: &Dependency) -> Result<String, AllocEr
     ensures { IfOk result (λ text. string_bytes text
         ≡ req_text (required_version (dependency_meaning dependency.now))) }
 {
-    match version(dependency) {
+    match required_version(dependency) {
         Some(requirement) => requirement_text(alloc, requirement),
         None => String::from_str(alloc, "*"),
-    }
-}
-
-/// The requirement, where there is one.
-fn version(dependency: &Dependency) -> Option<&VersionReq>
-    ensures { option_map requirement_meaning (option_copied result)
-        ≡ required_version (dependency_meaning dependency.now) }
-{
-    match dependency {
-        Dependency::Simple(requirement) => Some(requirement),
-        Dependency::Inherited(_) => None,
-        Dependency::Detailed(detail) => detail.version.as_ref(),
     }
 }
 

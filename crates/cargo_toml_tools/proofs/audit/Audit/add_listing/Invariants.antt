@@ -6,7 +6,7 @@ use Rattle.cargo_toml_tools.proofs.audit.Audit.add_listing.Given as goal
 
 abbrev pub invariant-loop-folder : goal.invariant-loop-folder
 invariant-loop-folder l = record {
-  same : l.self.members ≡ l.fn.self.members;
+  rest : l.self ≡ record l.fn.self { findings = l.self.findings };
   adding : Adding (listing_oddities l.members)
       (map repeat_of (map string_bytes l.folder-iterator) ++ map outsider_of (filter is_outside (map string_bytes l.members.folders.keys)))
       l.fn.self.findings l.self.findings;
@@ -14,7 +14,7 @@ invariant-loop-folder l = record {
 
 abbrev pub invariant-loop-member : goal.invariant-loop-member
 invariant-loop-member l = record {
-  same : l.self.members ≡ l.fn.self.members;
+  rest : l.self ≡ record l.fn.self { findings = l.self.findings };
   adding : Adding (listing_oddities l.members) (map outsider_of (filter is_outside (map string_bytes l.member-iterator)))
       l.fn.self.findings l.self.findings;
 }

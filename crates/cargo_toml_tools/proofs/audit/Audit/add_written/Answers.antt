@@ -6,5 +6,5 @@ use Rattle.cargo_toml_tools.proofs.audit.Audit.add_written.Goals as goal
 
 pub returns-clause-keys : goal.returns-clause-keys
 returns-clause-keys g c =
-    c.in_ok-add_inherited_dependencies.ensures
+    c.in_ok-add_inherited_dependencies.ensures.keys
     ∙ ap (λ t. t ++ left_in_tables (all_by_kind (held c.args.manifest.now))) c.in_ok-keys.ensures

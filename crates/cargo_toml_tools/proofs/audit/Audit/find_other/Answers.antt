@@ -1,8 +1,8 @@
 use Rattle.std.proofs.Common.{◌∙◌, ap, inl, refl, sym}
 use Rattle.std.proofs.lemmas.Result.{on_ok_weaker}
 use Rattle.std.specs.Option.{option_copied}
-use Rattle.cargo_toml_tools.proofs.Compared.{found_same, gains_same, one_other}
-use Rattle.cargo_toml_tools.proofs.Gained.{gains_wider, just_one, same_with}
+use Rattle.cargo_toml_tools.proofs.Compared.{one_other}
+use Rattle.cargo_toml_tools.proofs.Gained.{found_same, gains_same, gains_wider, just_one, same_with}
 use Rattle.cargo_toml_tools.proofs.audit.Audit.find_other.Goals as goal
 
 pub returns-clause-findings : goal.returns-clause-findings

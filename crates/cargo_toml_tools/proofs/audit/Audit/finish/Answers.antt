@@ -1,17 +1,56 @@
-use Rattle.std.proofs.Common.{◌∙◌, ap, inl, map, refl, string_bytes, subst}
+use Rattle.std.proofs.Common.{◌++◌, ◌∙◌, [], ◌∷◌, ap, inl, map, refl, string_bytes}
+use Rattle.std.proofs.lemmas.Map.Iter.{rest_more}
+use Rattle.std.specs.Map.Iter.{deref}
 use Rattle.cargo_toml.specs.Dependencies.{dependency_meaning}
-use Rattle.cargo_toml.specs.Reach.{Among}
-use Rattle.cargo_toml_tools.specs.Oddities.{unused_of}
-use Rattle.cargo_toml_tools.proofs.Gained.{gains_none, keys_meaning}
+use Rattle.cargo_toml_tools.specs.Noted.{askings_of}
+use Rattle.cargo_toml_tools.specs.Overall.{several_among, unused_among, unused_of}
+use Rattle.cargo_toml_tools.specs.declared.audit.Code.TheVariants.{UnusedDependency}
+use Rattle.cargo_toml_tools.proofs.Gained.{adding_from, adding_on, adding_same, adding_stopped, gains_wider, keys_meaning, same_with}
+use Rattle.cargo_toml_tools.proofs.Unused.{inherited_still, next_known, next_unused, still}
 use Rattle.cargo_toml_tools.proofs.audit.Audit.finish.Goals as goal
 
 pub loop-key-init : goal.loop-key-init
 loop-key-init g c = record {
-  same = refl;
-  going = record {
-    gains = gains_none _ _ refl;
-    within = λ o i. inl (subst (λ os. Among os o)
-        (ap (map unused_of) (ap (map string_bytes) (c.into_iter-key-iterator.ensures.into_iter_gives ∙ c.keys-key-items.ensures.rest)
-        ∙ keys_meaning dependency_meaning c.args.workspace.now.dependencies.entries)) i);
-  };
+  rest = refl;
+  adding = adding_from _ _ c.args.self.now.findings
+      (ap (λ ks. unused_among c.args.self.now ks ++ several_among (askings_of c.args.self.now.uses))
+      (ap (map string_bytes) (c.into_iter-key-iterator.ensures.into_iter_gives ∙ c.keys-key-items.ensures.rest)
+      ∙ keys_meaning dependency_meaning c.args.workspace.now.dependencies.entries));
 }
+
+pub loop-key-preserved-then-contains : goal.loop-key-preserved-then-contains
+loop-key-preserved-then-contains g c =
+    let audit = c.args.self.now in
+    let key = c.in-Some.key.now in
+    let more = rest_more deref _ _ _ c.in-Some.key c.in-Some.is c.next.ensures.steps in
+    let has = inherited_still audit c.loop-key.self (string_bytes key) c.as_str.result.now c.contains.result c.loop-key.invariant.rest c.contains.ensures c.as_str.ensures.value in
+    record {
+      rest = c.loop-key.invariant.rest;
+      adding = adding_same _ _ _ _ _ (next_known audit (several_among (askings_of audit.uses)) c.loop-key.key-iterator c.next.new.self key more (has ∙ c.if-contains.true))
+          c.loop-key.invariant.adding;
+    }
+
+pub loop-key-preserved : goal.loop-key-preserved
+loop-key-preserved g c =
+    let audit = c.args.self.now in
+    let key = c.in-Some.key.now in
+    let more = rest_more deref _ _ _ c.in-Some.key c.in-Some.is c.next.ensures.steps in
+    let has = inherited_still audit c.loop-key.self (string_bytes key) c.as_str.result.now c.contains.result c.loop-key.invariant.rest c.contains.ensures c.as_str.ensures.value in
+    record {
+      rest = still audit c.loop-key.self c.find.new.self c.loop-key.invariant.rest c.in_ok-find.ensures.rest;
+      adding = adding_on _ (unused_of (string_bytes key)) _ _ _ _ _ _
+          (next_unused audit (several_among (askings_of audit.uses)) c.loop-key.key-iterator c.next.new.self key more (has ∙ c.if-contains.false))
+          (same_with UnusedDependency _ _ _ _ c.as_str-in-loop-key.ensures.value c.in_ok-words.ensures.ok)
+          c.loop-key.invariant.adding c.in_ok-find.ensures.findings c.in_ok-find.ensures.found;
+    }
+
+pub returns-in_err-find-clause-findings : goal.returns-in_err-find-clause-findings
+returns-in_err-find-clause-findings g c =
+    let audit = c.args.self.now in
+    let key = c.in-Some.key.now in
+    let more = rest_more deref _ _ _ c.in-Some.key c.in-Some.is c.next.ensures.steps in
+    let has = inherited_still audit c.loop-key.self (string_bytes key) c.as_str.result.now c.contains.result c.loop-key.invariant.rest c.contains.ensures c.as_str.ensures.value in
+    adding_stopped _ (unused_of (string_bytes key) ∷ []) _ _ _ _ _
+    (next_unused audit (several_among (askings_of audit.uses)) c.loop-key.key-iterator c.next.new.self key more (has ∙ c.if-contains.false))
+    c.loop-key.invariant.adding
+    (gains_wider _ _ (λ o e. inl (e ∙ same_with UnusedDependency _ _ _ _ c.as_str-in-loop-key.ensures.value c.in_ok-words.ensures.ok)) c.in_err-find.ensures.findings)

@@ -3,27 +3,40 @@ use Rattle.std.proofs.lemmas.Map.Iter.{rest_all, rest_more}
 use Rattle.std.specs.List.{flat_map}
 use Rattle.std.specs.Map.Iter.{deref_pair}
 use Rattle.cargo_toml.specs.Action.{Text}
+use Rattle.cargo_toml.specs.InheritedDependencies.{Entries}
+use Rattle.cargo_toml.specs.Kind.{Kind}
 use Rattle.cargo_toml.specs.Reads.{map_meaning}
 use Rattle.cargo_toml.specs.Targets.{TargetMeaning, target_meaning}
 use Rattle.cargo_toml_dependencies.specs.Replacing.{entries_meaning}
 use Rattle.cargo_toml_tools.specs.Indexed.{target_by_kind, with_kinds}
 use Rattle.cargo_toml_tools.specs.LeftKeys.{left_in_tables}
+use Rattle.cargo_toml_tools.specs.Noted.{inherited_in, inherited_in_all}
+use Rattle.cargo_toml_tools.proofs.Exactly.{gaining_end, gaining_on, gains_own_and_targets}
 use Rattle.cargo_toml_tools.proofs.Left.{more, none_left, own_and_targets}
 use Rattle.cargo_toml_tools.proofs.Told.{target_of}
 use Rattle.cargo_toml_tools.proofs.audit.inherited.add_inherited_dependencies.Goals as goal
 
 pub loop-target-preserved : goal.loop-target-preserved
 loop-target-preserved g c =
-    more (λ (t : Text × TargetMeaning). left_in_tables (target_by_kind t.1)) (flat_map (λ (t : Text × TargetMeaning). left_in_tables (target_by_kind t.1)))
-    (λ t ts. refl) _ _ _ _ _ _
-    (ap (map target_of) (rest_more deref_pair _ _ _ (c.in-Some.field-0-0, c.in-Some.target) c.in-Some.is c.next.ensures.steps))
-    c.in_ok-add_target.ensures c.loop-target.invariant
+    let is = ap (map target_of) (rest_more deref_pair _ _ _ (c.in-Some.field-0-0, c.in-Some.target) c.in-Some.is c.next.ensures.steps) in
+    record {
+      keys = more (λ (t : Text × TargetMeaning). left_in_tables (target_by_kind t.1)) (flat_map (λ (t : Text × TargetMeaning). left_in_tables (target_by_kind t.1)))
+          (λ t ts. refl) _ _ _ _ _ _ is c.in_ok-add_target.ensures.keys c.loop-target.invariant.keys;
+      all = gaining_on (inherited_in_all (target_by_kind (target_meaning c.in-Some.target.now))) _ _ _ _ _ _
+          (ap (flat_map (λ (t : Text × TargetMeaning). inherited_in_all (target_by_kind t.1))) is) c.loop-target.invariant.all c.in_ok-add_target.ensures.all;
+    }
 
 pub returns : goal.returns
 returns g c =
-    own_and_targets (map string_bytes c.args.keys.now.items) (map string_bytes c.add_tables.new.keys.items) _
-    (with_kinds (entries_meaning c.args.manifest.now.dependencies) (entries_meaning c.args.manifest.now.dev_dependencies) (entries_meaning c.args.manifest.now.build_dependencies))
-    (λ (t : Text × TargetMeaning). target_by_kind t.1) (map_meaning target_meaning c.args.manifest.now.target)
-    c.in_ok-add_tables.ensures
-    (none_left (flat_map (λ (t : Text × TargetMeaning). left_in_tables (target_by_kind t.1))) refl _ _ _
-    (ap (map target_of) (rest_all deref_pair _ _ _ c.in-None.is c.next.ensures.steps)) c.loop-target.invariant)
+    let m = c.args.manifest.now in
+    let own = with_kinds (entries_meaning m.dependencies) (entries_meaning m.dev_dependencies) (entries_meaning m.build_dependencies) in
+    let targets = map_meaning target_meaning m.target in
+    let none = ap (map target_of) (rest_all deref_pair _ _ _ c.in-None.is c.next.ensures.steps) in
+    record {
+      keys = own_and_targets (map string_bytes c.args.keys.now.items) (map string_bytes c.add_tables.new.keys.items) _ own
+          (λ (t : Text × TargetMeaning). target_by_kind t.1) targets c.in_ok-add_tables.ensures.keys
+          (none_left (flat_map (λ (t : Text × TargetMeaning). left_in_tables (target_by_kind t.1))) refl _ _ _ none c.loop-target.invariant.keys);
+      all = gains_own_and_targets (λ (t : Kind × Entries). inherited_in t.1) (λ (t : Text × TargetMeaning). target_by_kind t.1) own targets _ _ _
+          c.in_ok-add_tables.ensures.all
+          (gaining_end _ _ _ _ (ap (flat_map (λ (t : Text × TargetMeaning). inherited_in_all (target_by_kind t.1))) none) c.loop-target.invariant.all);
+    }

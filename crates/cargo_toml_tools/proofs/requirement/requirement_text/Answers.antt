@@ -6,7 +6,7 @@ use Rattle.semver.specs.Identifiers.{comparator_view}
 use Rattle.semver.specs.Parse.{Held}
 use Rattle.semver.specs.declared.Comparator.{Comparator}
 use Rattle.cargo_toml_tools.specs.Requirements.{comparator_text, requirement_text}
-use Rattle.cargo_toml_tools.proofs.index.requirement.requirement_text.Goals as goal
+use Rattle.cargo_toml_tools.proofs.requirement.requirement_text.Goals as goal
 
 pub returns : goal.returns
 returns c =

@@ -1,18 +1,32 @@
-//! The text of a requirement on a version. It is as `semver` writes it, whose contracts leave that
-//! open.
-ghost use Rattle.std.specs.Prelude.{◌≡◌, ◌++◌, IfOk, OnOk, map, string_bytes};
+//! The requirement that a dependency has on a version, and its text. That is as `semver` writes it,
+//! whose contracts leave it open.
+ghost use Rattle.std.specs.Prelude.{◌≡◌, ◌++◌, IfOk, OnOk, map, option_map, string_bytes};
+ghost use Rattle.std.specs.Option.{option_copied};
 ghost use Rattle.semver.specs.Identifiers.{comparator_view, marked, pre_text};
+ghost use Rattle.cargo_toml.specs.Dependencies.{dependency_meaning};
+ghost use Rattle.cargo_toml.specs.Versions.{requirement_meaning};
+ghost use Rattle.cargo_toml_tools.specs.IndexEntries.{required_version};
 ghost use Rattle.cargo_toml_tools.specs.Requirements.{after_major, comparator_text};
 ghost use Rattle.cargo_toml_tools.specs.Requirements.{requirement_text, sign_of, star_of};
 
+use cargo_toml::Dependency;
 use semver::{Comparator, Op, Prerelease, VersionReq};
 use std::alloc::{AllocError, Global};
 
+/// The requirement, where there is one.
+pub fn required_version(dependency: &Dependency) -> Option<&VersionReq>
+    ensures { option_map requirement_meaning (option_copied result)
+        ≡ required_version (dependency_meaning dependency.now) }
+{
+    match dependency {
+        Dependency::Simple(requirement) => Some(requirement),
+        Dependency::Inherited(_) => None,
+        Dependency::Detailed(detail) => detail.version.as_ref(),
+    }
+}
+
 /// The text of a requirement: `*` is any version.
-pub(super) fn requirement_text(
-    alloc: Global,
-    requirement: &VersionReq,
-) -> Result<String, AllocError>
+pub fn requirement_text(alloc: Global, requirement: &VersionReq) -> Result<String, AllocError>
     ensures { IfOk result (λ text. string_bytes text
         ≡ requirement_text (map comparator_view requirement.now.comparators.items)) }
 {

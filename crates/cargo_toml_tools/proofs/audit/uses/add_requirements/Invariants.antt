@@ -1,0 +1,14 @@
+use Rattle.std.proofs.Common.{map}
+use Rattle.std.specs.List.{flat_map}
+use Rattle.std.specs.Slice.Iter.{chunk_by_rest}
+use Rattle.cargo_toml_tools.specs.Neighbours.{runs_of}
+use Rattle.cargo_toml_tools.specs.Noted.{askings_of}
+use Rattle.cargo_toml_tools.specs.Overall.{asks_for_same, several_among, several_of}
+use Rattle.cargo_toml_tools.proofs.Gained.{Adding}
+use Rattle.cargo_toml_tools.proofs.Using.{use_lent}
+use Rattle.cargo_toml_tools.proofs.audit.uses.add_requirements.Given as goal
+
+abbrev pub invariant-loop-own : goal.invariant-loop-own
+invariant-loop-own l =
+    Adding (several_among (askings_of l.fn.uses)) (several_among (map use_lent (chunk_by_rest l.own-iterator)))
+    l.fn.findings l.findings

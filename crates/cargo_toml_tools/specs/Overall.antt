@@ -1,0 +1,55 @@
+-- What only all members together show.
+use Rattle.std.specs.Prelude.{◌++◌, if◌then◌else◌, Bool, List, [], ◌∷◌, bytes_eq, codes, filter}
+use Rattle.std.specs.Prelude.{map, not}
+use Rattle.std.specs.BTreeSet.{contains_text}
+use Rattle.std.specs.List.{flat_map, join_by, list_all}
+use Rattle.cargo_toml.specs.Action.{Text}
+use Rattle.cargo_toml.specs.InheritedDependencies.{Entries}
+use Rattle.cargo_toml_tools.specs.Neighbours.{runs_of}
+use Rattle.cargo_toml_tools.specs.Noted.{Asking, askings_of}
+use Rattle.cargo_toml_tools.specs.Oddities.{Oddity, oddity_with}
+use Rattle.cargo_toml_tools.specs.declared.audit.Audit.{Audit}
+use Rattle.cargo_toml_tools.specs.declared.audit.Code.TheVariants.{SeveralRequirements}
+use Rattle.cargo_toml_tools.specs.declared.audit.Code.TheVariants.{UnusedDependency}
+
+-- of the dependencies of the workspace, by their keys, those that no member inherits
+abbrev pub unused_of : Text → Oddity
+unused_of key = oddity_with UnusedDependency key (codes "no member inherits it")
+
+abbrev pub unused_among : Audit → List Text → List Oddity
+unused_among audit keys =
+    map unused_of (filter (λ key. not (contains_text audit.inherited key)) keys)
+
+abbrev pub asks_for_same : Asking → Asking → Bool
+asks_for_same a b = bytes_eq a.name b.name
+
+abbrev pub has_same_requirement : Asking → Asking → Bool
+has_same_requirement a b = bytes_eq a.requirement b.requirement
+
+-- the words of what asks by one requirement: `REQUIREMENT in FOLDER, FOLDER`
+abbrev pub requirement_words : List Asking → Text
+requirement_words [] = []
+requirement_words (a ∷ others) =
+    a.requirement ++ codes " in " ++ join_by (λ b. b.folder) (codes ", ") (a ∷ others)
+
+-- the same of several requirements, with `; ` between them
+abbrev pub several_words : List Asking → Text
+several_words asked =
+    join_by requirement_words (codes "; ") (runs_of has_same_requirement asked)
+
+-- of what asks for one crate: that some of it has another requirement than the first
+abbrev pub several_of : List Asking → List Oddity
+several_of [] = []
+several_of (a ∷ others) =
+    if list_all (λ b. has_same_requirement b a) others then []
+    else (oddity_with SeveralRequirements a.name (several_words (a ∷ others)) ∷ [])
+
+-- Of each crate. A report has what is asked for in order, by crate, requirement and folder. So what
+-- asks for one crate stands together, and in it what asks by one requirement
+abbrev pub several_among : List Asking → List Oddity
+several_among asked = flat_map several_of (runs_of asks_for_same asked)
+
+-- all that, by the dependencies of the workspace
+abbrev pub overall_oddities : Entries → Audit → List Oddity
+overall_oddities dependencies audit =
+    unused_among audit (map (λ e. e.0) dependencies) ++ several_among (askings_of audit.uses)

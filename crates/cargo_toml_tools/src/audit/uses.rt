@@ -1,0 +1,229 @@
+//! What members ask for, and which crates they ask for by several requirements.
+ghost use Rattle.std.specs.Prelude.{◌≡◌, ◌++◌, IfOk, OnOk, map, string_bytes};
+ghost use Rattle.std.specs.List.{list_all};
+ghost use Rattle.cargo_toml.specs.Dependencies.{dependency_meaning};
+ghost use Rattle.cargo_toml.specs.Manifests.{held};
+ghost use Rattle.cargo_toml.specs.Reach.{Among};
+ghost use Rattle.cargo_toml.specs.Targets.{target_meaning};
+ghost use Rattle.cargo_toml_dependencies.specs.Replacing.{entries_meaning};
+ghost use Rattle.cargo_toml_tools.specs.Indexed.{all_by_kind, target_by_kind, with_kinds};
+ghost use Rattle.cargo_toml_tools.specs.Noted.{GainsExactly, asked_by, asked_in, asked_in_all};
+ghost use Rattle.cargo_toml_tools.specs.Noted.{asking_of, askings_of};
+ghost use Rattle.cargo_toml_tools.specs.Oddities.{AreReported, GainsOnly};
+ghost use Rattle.cargo_toml_tools.specs.Overall.{has_same_requirement, requirement_words};
+ghost use Rattle.cargo_toml_tools.specs.Overall.{several_among, several_of, several_words};
+
+use super::{Code, Finding, Use};
+use crate::requirement::{required_version, requirement_text};
+use cargo_toml::{Dependency, DepsSet, Manifest, Target};
+use std::alloc::{AllocError, Global};
+use std::collections::BTreeSet;
+
+/// Adds what a member asks for by a requirement.
+pub fn add_uses<M>(
+    alloc: Global,
+    folder: &str,
+    manifest: &Manifest<M>,
+    uses: &mut BTreeSet<Use>,
+) -> Result<(), AllocError>
+    ensures { OnOk result
+        (GainsExactly (asked_in_all folder.now (all_by_kind (held manifest.now)))
+        (Among (askings_of uses.old)) (Among (askings_of uses.new))) }
+{
+    let normal = &manifest.dependencies;
+    let dev = &manifest.dev_dependencies;
+    add_tables(
+        alloc,
+        folder,
+        normal,
+        dev,
+        &manifest.build_dependencies,
+        uses,
+    )?;
+    for (_, target) in &manifest.target {
+        add_target(alloc, folder, target, uses)?;
+    }
+    Ok(())
+}
+
+fn add_target(
+    alloc: Global,
+    folder: &str,
+    target: &Target,
+    uses: &mut BTreeSet<Use>,
+) -> Result<(), AllocError>
+    ensures { OnOk result
+        (GainsExactly (asked_in_all folder.now (target_by_kind (target_meaning target.now)))
+        (Among (askings_of uses.old)) (Among (askings_of uses.new))) }
+{
+    let normal = &target.dependencies;
+    let dev = &target.dev_dependencies;
+    add_tables(alloc, folder, normal, dev, &target.build_dependencies, uses)
+}
+
+fn add_tables(
+    alloc: Global,
+    folder: &str,
+    normal: &DepsSet,
+    dev: &DepsSet,
+    build: &DepsSet,
+    uses: &mut BTreeSet<Use>,
+) -> Result<(), AllocError>
+    ensures { OnOk result (GainsExactly (asked_in_all folder.now (with_kinds
+        (entries_meaning normal.now) (entries_meaning dev.now) (entries_meaning build.now)))
+        (Among (askings_of uses.old)) (Among (askings_of uses.new))) }
+{
+    add_table(alloc, folder, normal, uses)?;
+    add_table(alloc, folder, dev, uses)?;
+    add_table(alloc, folder, build, uses)
+}
+
+fn add_table(
+    alloc: Global,
+    folder: &str,
+    table: &DepsSet,
+    uses: &mut BTreeSet<Use>,
+) -> Result<(), AllocError>
+    ensures { OnOk result (GainsExactly (asked_in folder.now (entries_meaning table.now))
+        (Among (askings_of uses.old)) (Among (askings_of uses.new))) }
+{
+    for (key, dependency) in table {
+        add_use(alloc, folder, key.as_str(), dependency, uses)?;
+    }
+    Ok(())
+}
+
+/// Adds what a dependency asks for, where it has a requirement.
+fn add_use(
+    alloc: Global,
+    folder: &str,
+    key: &str,
+    dependency: &Dependency,
+    uses: &mut BTreeSet<Use>,
+) -> Result<(), AllocError>
+    ensures { OnOk result
+        (GainsExactly (asked_by folder.now (key.now, dependency_meaning dependency.now))
+        (Among (askings_of uses.old)) (Among (askings_of uses.new))) }
+{
+    let Some(requirement) = required_version(dependency) else {
+        return Ok(());
+    };
+    let name = dependency.package().unwrap_or(key);
+    let name = String::from_str(alloc, name)?;
+    let requirement = requirement_text(alloc, requirement)?;
+    let folder = String::from_str(alloc, folder)?;
+    uses.insert(Use {
+        name,
+        requirement,
+        folder,
+    })?;
+    Ok(())
+}
+
+/// A use that is lent.
+#[derive(Clone, Copy)]
+struct Lent<'a>(&'a Use);
+
+/// Adds the crates that are asked for by several requirements. What asks for one crate stands
+/// together, and in it what asks by one requirement.
+pub fn add_requirements(
+    alloc: Global,
+    uses: &BTreeSet<Use>,
+    findings: &mut BTreeSet<Finding>,
+) -> Result<(), AllocError>
+    ensures findings { GainsOnly (Among (several_among (askings_of uses.now)))
+        findings.old findings.new }
+    ensures found { OnOk result
+        (AreReported findings.new (several_among (askings_of uses.now))) }
+{
+    let uses = in_order(alloc, uses)?;
+    for own in uses.chunk_by(|a, b| a.0.name == b.0.name) {
+        add_crate(alloc, own, findings)?;
+    }
+    Ok(())
+}
+
+/// The uses side by side, in order.
+fn in_order(alloc: Global, uses: &BTreeSet<Use>) -> Result<Vec<Lent<'_>>, AllocError>
+    ensures { IfOk result
+        (λ all. map (λ u. asking_of u.0.now) all.items ≡ askings_of uses.now) }
+{
+    let mut all = Vec::new(alloc);
+    for one in uses {
+        all.push(Lent(one))?;
+    }
+    Ok(all)
+}
+
+/// Adds a crate where it is asked for by several requirements, by all that asks for it.
+fn add_crate(
+    alloc: Global,
+    uses: &[Lent<'_>],
+    findings: &mut BTreeSet<Finding>,
+) -> Result<(), AllocError>
+    ensures findings { GainsOnly (Among (several_of (map (λ u. asking_of u.0.now) uses.now)))
+        findings.old findings.new }
+    ensures found { OnOk result
+        (AreReported findings.new (several_of (map (λ u. asking_of u.0.now) uses.now))) }
+{
+    let Some((first, others)) = uses.split_first() else {
+        return Ok(());
+    };
+    if is_single(first.0, others) {
+        return Ok(());
+    }
+    let words = several_words(alloc, uses)?;
+    let subject = String::from_str(alloc, first.0.name.as_str())?;
+    findings.insert(Finding {
+        code: Code::SeveralRequirements,
+        subject,
+        words,
+    })?;
+    Ok(())
+}
+
+/// Whether the others have the requirement of the first.
+fn is_single(first: &Use, others: &[Lent<'_>]) -> bool
+    ensures { result ≡ list_all (λ b. has_same_requirement b (asking_of first.now))
+        (map (λ u. asking_of u.0.now) others.now) }
+{
+    others
+        .iter()
+        .all(|other| other.0.requirement == first.requirement)
+}
+
+/// The requirements by which a crate is asked for, each with the folders.
+fn several_words(alloc: Global, uses: &[Lent<'_>]) -> Result<String, AllocError>
+    ensures { IfOk result (λ words. string_bytes words
+        ≡ several_words (map (λ u. asking_of u.0.now) uses.now)) }
+{
+    let mut words = String::new(alloc);
+    let mut all = uses.chunk_by(|a, b| a.0.requirement == b.0.requirement);
+    let Some(first) = all.next() else {
+        return Ok(words);
+    };
+    push_requirement(&mut words, first)?;
+    for own in all {
+        words.push_str("; ")?;
+        push_requirement(&mut words, own)?;
+    }
+    Ok(words)
+}
+
+/// Writes a requirement, and the folders of what asks by it.
+fn push_requirement(words: &mut String, uses: &[Lent<'_>]) -> Result<(), AllocError>
+    ensures { OnOk result (string_bytes words.new ≡ string_bytes words.old
+        ++ requirement_words (map (λ u. asking_of u.0.now) uses.now)) }
+{
+    let Some((first, others)) = uses.split_first() else {
+        return Ok(());
+    };
+    words.push_str(first.0.requirement.as_str())?;
+    words.push_str(" in ")?;
+    words.push_str(first.0.folder.as_str())?;
+    for other in others {
+        words.push_str(", ")?;
+        words.push_str(other.0.folder.as_str())?;
+    }
+    Ok(())
+}

@@ -1,5 +1,5 @@
 -- Exactly these more, one after another.
-use Rattle.std.proofs.Common.{◌≡◌, ◌⊎◌, ◌||◌, ◌++◌, ◌∙◌, Ordering, Equal, Bool, true, List, [], ◌∷◌, String, Global, string_bytes, map, refl, sym, ap, append_assoc, subst, inl, inr}
+use Rattle.std.proofs.Common.{◌≡◌, ◌||◌, ◌++◌, ◌∙◌, Equal, Bool, List, [], ◌∷◌, string_bytes, map, refl, sym, ap, append_assoc, subst, inl, inr}
 use Rattle.std.proofs.lemmas.Bool.{and_parts, or_cases, or_left, or_right}
 use Rattle.std.proofs.lemmas.List.{append-nil}
 use Rattle.std.proofs.lemmas.List.Concat.{flat_map-append}
@@ -7,7 +7,7 @@ use Rattle.std.proofs.lemmas.Slice.Eq.{bytes_eq-Decides}
 use Rattle.std.specs.BTreeSet.{BTreeSet, insert_key}
 use Rattle.std.specs.List.{flat_map}
 use Rattle.std.specs.Ordering.{is_eq}
-use Rattle.std.specs.Prelude.{◌↔◌, IsTrue, bytes_eq}
+use Rattle.std.specs.Prelude.{IsTrue, bytes_eq}
 use Rattle.cargo_toml.specs.Action.{Text}
 use Rattle.cargo_toml.specs.Reach.{Among}
 use Rattle.cargo_toml_tools.specs.Noted.{Asking, GainsExactly, asking_for, asking_of, askings_of}

@@ -1,5 +1,5 @@
 -- What stands for the keys of a set, with one more key. Lists that are joined.
-use Rattle.std.proofs.Common.{◌≡◌, ◌⊎◌, ◌++◌, Ordering, Less, Equal, Greater, List, [], ◌∷◌, map, refl, sym, subst, inl, inr}
+use Rattle.std.proofs.Common.{◌≡◌, ◌⊎◌, ◌++◌, Ordering, Less, Equal, Greater, List, [], ◌∷◌, map, refl, inl, inr}
 use Rattle.std.specs.BTreeSet.{insert_key}
 use Rattle.std.specs.Ordering.{match_ordering}
 use Rattle.cargo_toml.specs.Reach.{Among}

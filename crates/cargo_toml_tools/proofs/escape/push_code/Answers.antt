@@ -1,6 +1,5 @@
 use Rattle.std.proofs.Common.{◌++◌, ◌≡◌, ◌∙◌, ap, codes, string_bytes, sym}
 use Rattle.std.proofs.lemmas.Result.{on_ok_weaker}
-use Rattle.cargo_toml_tools.specs.Escaped.{code}
 use Rattle.cargo_toml_tools.proofs.Escaping.{adds_code, code_marked, code_quoted}
 use Rattle.cargo_toml_tools.proofs.Pieces.{ended_if, goes_on}
 use Rattle.cargo_toml_tools.proofs.escape.push_code.Goals as goal

@@ -1,4 +1,4 @@
-use Rattle.std.proofs.Common.{◌∙◌, ◌==◌, String, Global, List, ap, length, sym, true}
+use Rattle.std.proofs.Common.{◌∙◌, ◌==◌, String, Global, List, ap, length, sym}
 use Rattle.std.proofs.lemmas.Bool.{false≢true}
 use Rattle.std.proofs.lemmas.Result.{IfOk-weaker}
 use Rattle.cargo_toml_tools.proofs.Summed.{names_joined}

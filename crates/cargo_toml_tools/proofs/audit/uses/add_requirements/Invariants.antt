@@ -1,9 +1,7 @@
 use Rattle.std.proofs.Common.{map}
-use Rattle.std.specs.List.{flat_map}
 use Rattle.std.specs.Slice.Iter.{chunk_by_rest}
-use Rattle.cargo_toml_tools.specs.Neighbours.{runs_of}
 use Rattle.cargo_toml_tools.specs.Noted.{askings_of}
-use Rattle.cargo_toml_tools.specs.Overall.{asks_for_same, several_among, several_of}
+use Rattle.cargo_toml_tools.specs.Overall.{several_among}
 use Rattle.cargo_toml_tools.proofs.Gained.{Adding}
 use Rattle.cargo_toml_tools.proofs.Using.{use_lent}
 use Rattle.cargo_toml_tools.proofs.audit.uses.add_requirements.Given as goal

@@ -2,7 +2,6 @@ use Rattle.std.proofs.Common.{◌∙◌, ap, option_map, refl, sym}
 use Rattle.std.specs.Option.{option_copied}
 use Rattle.cargo_toml.specs.Dependencies.{dependency_meaning, package_of}
 use Rattle.cargo_toml.specs.Versions.{requirement_meaning}
-use Rattle.cargo_toml_tools.specs.Noted.{asking_of}
 use Rattle.cargo_toml_tools.proofs.Asked.{asks, crate_name}
 use Rattle.cargo_toml_tools.proofs.Exactly.{gains_these, gains_use}
 use Rattle.cargo_toml_tools.proofs.audit.uses.add_use.Goals as goal

@@ -7,11 +7,10 @@ use Rattle.std.specs.BTreeSet.{BTreeSet}
 use Rattle.std.specs.HashMap.{HashMap}
 use Rattle.std.specs.List.{AllByRecursion, list_any}
 use Rattle.std.specs.Option.{option_copied}
-use Rattle.cargo_toml.specs.Action.{Text, item_of}
+use Rattle.cargo_toml.specs.Action.{IsJoin, Text, item_of}
 use Rattle.cargo_toml.specs.Admitted.{Listed}
 use Rattle.cargo_toml.specs.Ascending.{Ascend}
 use Rattle.cargo_toml.specs.Feature.{Feature}
-use Rattle.cargo_toml.specs.Action.{IsJoin}
 use Rattle.cargo_toml.specs.Views.{action_at, set_has, value_at}
 use Rattle.cargo_toml_features.specs.declared.features.DepAction.{DepAction}
 use Rattle.cargo_toml_tools.specs.Documented.{Acts, AreTexts, IsOn, TurnsOnOther, is_internal}

@@ -12,8 +12,9 @@ ghost use Rattle.cargo_toml_tools.specs.Escaped.{code};
 ghost use Rattle.cargo_toml_tools.specs.PageSteps.{AskInOrder, IsInOrder, TellOfAll, TellsOf};
 ghost use Rattle.cargo_toml_tools.specs.PageSteps.{actions_in, asked_in, key_texts, row_in};
 ghost use Rattle.cargo_toml_tools.specs.Pages.{action_cell, asked_text, conditional_mark};
-ghost use Rattle.cargo_toml_tools.specs.Pages.{default_column, is_of_kind, kind, of_crate, row_text};
-ghost use Rattle.cargo_toml_tools.specs.Pages.{table_head, table_text, title, with_commas};
+ghost use Rattle.cargo_toml_tools.specs.Pages.{default_column, is_of_kind, kind, of_crate};
+ghost use Rattle.cargo_toml_tools.specs.Pages.{row_text, table_head, table_text, title};
+ghost use Rattle.cargo_toml_tools.specs.Pages.{with_commas};
 
 mod dot;
 mod reached;
@@ -200,6 +201,7 @@ fn table_head(listed: bool) -> &'static str
 fn push_row(alloc: Global, page: &mut String, row: &Row<'_>) -> Result<(), AllocError>
     ensures text { OnOk result
         (string_bytes page.new ≡ string_bytes page.old ++ row_text (row_in row.now)) }
+    // who goes through a set or a map learns that its keys are in order
     ensures in_order { OnOk result (IsInOrder (row_in row.now)) }
 {
     page.push_str("| ")?;

@@ -12,8 +12,8 @@ use Rattle.cargo_toml.specs.Feature.{Feature}
 use Rattle.cargo_toml.specs.Reach.{Among}
 use Rattle.cargo_toml.specs.Views.{action_at, action_of, set_has, table_in, value_at}
 use Rattle.cargo_toml_features.specs.declared.features.DepAction.{DepAction}
-use Rattle.cargo_toml_tools.specs.PageSteps.{texts_in}
-use Rattle.cargo_toml_tools.proofs.KeysInOrder.{among_in, among_out}
+use Rattle.cargo_toml_tools.specs.PageSteps.{key_texts}
+use Rattle.cargo_toml_tools.proofs.Rowed.{texts_among}
 
 -- a map acts on the keys of its entries
 pub acts_on_keys : (test : Bor Text → Bool) (es : List (Bor Text × DepAction)) → list_any test (map (λ e. e.0) es) ≡ is_some (option_map action_of (lookup test es))
@@ -43,15 +43,8 @@ all_taken test left new whole none before = sym (or_none new) ∙ ap (λ ts. new
     or_none false = refl
 
 -- ---- texts of sets
-module _ (s : BTreeSet (Bor Text)) where
-  pub has_text : (x : Text) → Among (texts_in s) x → set_has s x ≡ true
-  has_text x i = among_in (λ (k : Bor Text). k.now) x s.keys i
-
-  pub text_of : (x : Text) → set_has s x ≡ true → Among (texts_in s) x
-  text_of x h = among_out (λ (k : Bor Text). k.now) x s.keys h
-
-  pub exactly : (test : Text → Bool) → ((x : Text) → set_has s x ≡ test x) → (x : Text) → Among (texts_in s) x ↔ (test x ≡ true)
-  exactly test is x = (λ i. sym (is x) ∙ has_text x i, λ h. text_of x (is x ∙ h))
+pub exactly : (s : BTreeSet (Bor Text)) (test : Text → Bool) → ((x : Text) → set_has s x ≡ test x) → (x : Text) → Among (key_texts s) x ↔ (test x ≡ true)
+exactly s test is x = (λ i. sym (is x) ∙ (texts_among s x).0 i, λ h. (texts_among s x).1 (is x ∙ h))
 
 some_of : (test : Text → Bool) (xs : List Text) → list_any test xs ≡ true → (x : Text) × (test x ≡ true)
 some_of test [] h = absurd (false≢true h)
@@ -64,11 +57,11 @@ any_of test (y ∷ ys) x (inr i) h = or_right (test y) (list_any test ys) (any_o
 
 -- what some feature acts on, by the names of all
 pub exactly_acted : {S : Type 0} (m : HashMap (Bor Text) Feature S) (names keys : BTreeSet (Bor Text)) → ((f : Text) → set_has names f ≡ is_some (value_at m f))
-    → ((k : Text) → set_has keys k ≡ list_any (λ f. is_some ((table_in m).action f k)) (texts_in names))
-    → (k : Text) → Among (texts_in keys) k ↔ ((f : Text) × IsSome ((table_in m).action f k))
+    → ((k : Text) → set_has keys k ≡ list_any (λ f. is_some ((table_in m).action f k)) (key_texts names))
+    → (k : Text) → Among (key_texts keys) k ↔ ((f : Text) × IsSome ((table_in m).action f k))
 exactly_acted {S} m names keys all acted k = (
-  λ i. some_of (λ f. is_some ((table_in m).action f k)) (texts_in names) (sym (acted k) ∙ has_text keys k i),
-  λ some. text_of keys k (acted k ∙ any_of (λ f. is_some ((table_in m).action f k)) (texts_in names) some.0 (text_of names some.0 (all some.0 ∙ there (value_at m some.0) some.1)) some.1),
+  λ i. some_of (λ f. is_some ((table_in m).action f k)) (key_texts names) (sym (acted k) ∙ (texts_among keys k).0 i),
+  λ some. (texts_among keys k).1 (acted k ∙ any_of (λ f. is_some ((table_in m).action f k)) (key_texts names) some.0 ((texts_among names some.0).1 (all some.0 ∙ there (value_at m some.0) some.1)) some.1),
 )
   where
     there : (o : Option Feature) → is_some (option_map_or (λ (v : Feature). action_at v.enables_deps k) o None) ≡ true → is_some o ≡ true

@@ -17,26 +17,13 @@ use Rattle.cargo_toml.specs.Ascending.{Ascend}
 use Rattle.cargo_toml.specs.Reach.{Among}
 use Rattle.cargo_toml_features.specs.declared.features.DepAction.{DepAction}
 use Rattle.cargo_toml_tools.specs.PageSteps.{actions_in, asked_in, key_texts}
+use Rattle.cargo_toml_tools.proofs.KeysInOrder.{keys_ascend}
 
 abbrev pub key_cmp : Bor Text → Bor Text → Ordering
 key_cmp a b = slice_cmp nat_cmp a.now b.now
 
-below_each : (k : Bor Text) (ks : List (Bor Text))
-    → AllByRecursion (λ q. key_cmp k q ≡ Less) ks → (y : Text)
-    → Among (map (λ q. q.now) ks) y → IsTrue (is_below k.now y)
-below_each k [] all y there = absurd there
-below_each k (q ∷ ks) all y (inl is) =
-    subst (λ z. IsTrue (is_below k.now z)) (sym is) (ap is_lt all.0)
-below_each k (q ∷ ks) all y (inr there) = below_each k ks all.1 y there
-
-keys_ascend : (ks : List (Bor Text)) → IsStrictlySortedBy key_cmp ks
-    → Ascend (map (λ q. q.now) ks)
-keys_ascend [] h = tt
-keys_ascend (k ∷ ks) h =
-    (below_each k ks (sorted_head key_cmp k ks h), keys_ascend ks (sorted_tail key_cmp k ks h))
-
 pub set_ascends : (s : BTreeSet (Bor Text)) → sorted.IsOrdered key_cmp s → Ascend (key_texts s)
-set_ascends s h = keys_ascend s.keys h
+set_ascends s h = keys_ascend (λ (q : Bor Text). q.now) s.keys h
 
 keys_shown : (es : List (Bor Text × DepAction))
     → map (λ q. q.now) (map (λ e. e.0) es) ≡ map (λ a. a.key) (map (λ e. asked_in e.0.now e.1) es)
@@ -45,4 +32,4 @@ keys_shown (e ∷ es) = ap (λ ts. e.0.now ∷ ts) (keys_shown es)
 
 pub map_ascends : (m : BTreeMap (Bor Text) DepAction) → tree.IsOrdered key_cmp m
     → Ascend (map (λ a. a.key) (actions_in m))
-map_ascends m h = subst Ascend (keys_shown m.entries) (keys_ascend (map (λ e. e.0) m.entries) h)
+map_ascends m h = subst Ascend (keys_shown m.entries) (keys_ascend (λ (q : Bor Text). q.now) (map (λ e. e.0) m.entries) h)

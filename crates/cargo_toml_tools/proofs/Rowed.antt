@@ -23,21 +23,15 @@ use Rattle.cargo_toml_lint.proofs.Gathered.{at_head, has_in}
 use Rattle.cargo_toml_tools.specs.Documented.{is_shown, is_told_of}
 use Rattle.cargo_toml_tools.specs.PageSteps.{TellsOf, TellOfAll, key_texts}
 use Rattle.cargo_toml_tools.specs.declared.document.Row.{Row}
+use Rattle.cargo_toml_tools.proofs.KeysInOrder.{among_in, among_out}
 use Rattle.cargo_toml_tools.proofs.Walking.{listed_at}
 
 -- ---- the texts of a set
-keys_among : (ks : List (Bor Text)) (x : Text) → Among (map (λ k. k.now) ks) x ↔ IsTrue (has_in ks x)
-keys_among [] x = (λ i. absurd i, λ h. absurd (false≢true h))
-keys_among (k ∷ ks) x = (
-  elim [
-    | inl e ↦ or_left _ _ (is_eq-slice_cmp x k.now ∙ (bytes_eq-Decides x k.now).1 e)
-    | inr i ↦ or_right _ _ ((keys_among ks x).0 i)
-  ],
-  λ h. elim (at_head k ks x h) [ inl e ↦ inl e | inr i ↦ inr ((keys_among ks x).1 i) ],
-)
-
 pub texts_among : (s : BTreeSet (Bor Text)) (x : Text) → Among (key_texts s) x ↔ IsTrue (set_has s x)
-texts_among s x = keys_among s.keys x
+texts_among s x = (
+  λ i. among_in (λ (k : Bor Text). k.now) x s.keys i,
+  λ h. among_out (λ (k : Bor Text). k.now) x s.keys h,
+)
 
 -- ---- those of the texts that pass
 picked : (p : Text → Bool) (t : Text) (ts : List Text) (b : Bool) → p t ≡ b

@@ -10,7 +10,7 @@ ghost use Rattle.cargo_toml_tools.specs.FeatureGraphs.{IsGraphOf, action_end, de
 ghost use Rattle.cargo_toml_tools.specs.FeatureGraphs.{dependency_node, edge_start, feature_edge};
 ghost use Rattle.cargo_toml_tools.specs.FeatureGraphs.{feature_node, label_end, label_line};
 ghost use Rattle.cargo_toml_tools.specs.FeatureGraphs.{node_id, node_line, part_at, style_of};
-ghost use Rattle.cargo_toml_tools.specs.PageSteps.{texts_in};
+ghost use Rattle.cargo_toml_tools.specs.PageSteps.{key_texts};
 
 use super::{FeatureMap, is_private, names};
 use crate::escape::{Format, push_escaped};
@@ -51,8 +51,8 @@ fn push_features<S: BuildHasher>(
     features: &FeatureMap<'_, S>,
 ) -> Result<(), AllocError>
     ensures text { OnOk result (string_bytes graph.new ≡ string_bytes graph.old
-        ++ flat_map (part_at (value_at features.now)) (texts_in names.now)) }
-    ensures in_order { OnOk result (Ascend (texts_in names.now)) }
+        ++ flat_map (part_at (value_at features.now)) (key_texts names.now)) }
+    ensures in_order { OnOk result (Ascend (key_texts names.now)) }
 {
     for name in names {
         push_part(graph, *name, features)?;
@@ -80,8 +80,8 @@ fn push_part<S: BuildHasher>(
 /// The dependencies of these keys.
 fn push_dependencies(graph: &mut String, keys: &BTreeSet<&str>) -> Result<(), AllocError>
     ensures text { OnOk result (string_bytes graph.new ≡ string_bytes graph.old
-        ++ flat_map dependency_node (texts_in keys.now)) }
-    ensures in_order { OnOk result (Ascend (texts_in keys.now)) }
+        ++ flat_map dependency_node (key_texts keys.now)) }
+    ensures in_order { OnOk result (Ascend (key_texts keys.now)) }
 {
     for key in keys {
         push_node(graph, "dependency", *key, "shape=box")?;
@@ -96,7 +96,7 @@ fn acted_on<'m, S: BuildHasher>(
     features: &FeatureMap<'m, S>,
 ) -> Result<BTreeSet<&'m str>, AllocError>
     ensures { IfOk result (λ keys. (k : Text) → set_has keys k
-        ≡ list_any (λ f. is_some ((table_in features.now).action f k)) (texts_in names.now)) }
+        ≡ list_any (λ f. is_some ((table_in features.now).action f k)) (key_texts names.now)) }
 {
     let mut keys = BTreeSet::new(alloc);
     for name in names {

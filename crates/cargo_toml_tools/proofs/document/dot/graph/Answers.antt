@@ -1,6 +1,6 @@
 use Rattle.std.proofs.Common.{◌++◌, ◌∙◌, [], ap, codes, is_some, string_bytes}
 use Rattle.cargo_toml.specs.Views.{value_at}
-use Rattle.cargo_toml_tools.specs.PageSteps.{texts_in}
+use Rattle.cargo_toml_tools.specs.PageSteps.{key_texts}
 use Rattle.cargo_toml_tools.proofs.Drawn.{exactly, exactly_acted}
 use Rattle.cargo_toml_tools.proofs.Pieces.{goes_on}
 use Rattle.cargo_toml_tools.proofs.document.dot.graph.Goals as goal
@@ -16,8 +16,8 @@ returns g c =
     let four = string_bytes c.push_dependencies.new.graph in
     let new = string_bytes c.push_str-2.new.self in
     record {
-      names = texts_in names;
-      keys = texts_in keys;
+      names = key_texts names;
+      keys = key_texts keys;
       are_names = record {
         exact = exactly names (λ f. is_some (value_at features f)) c.in_ok-names.ensures;
         in_order = c.in_ok-push_features.ensures.in_order;

@@ -16,7 +16,7 @@ use Rattle.cargo_toml.specs.Admitted.{is_below}
 use Rattle.cargo_toml.specs.Ascending.{Ascend}
 use Rattle.cargo_toml.specs.Reach.{Among}
 use Rattle.cargo_toml_features.specs.declared.features.DepAction.{DepAction}
-use Rattle.cargo_toml_tools.specs.PageSteps.{actions_in, asked_in, key_texts}
+use Rattle.cargo_toml_tools.specs.PageSteps.{actions_in, key_texts, told_action}
 use Rattle.cargo_toml_tools.proofs.KeysInOrder.{keys_ascend}
 
 abbrev pub key_cmp : Bor Text → Bor Text → Ordering
@@ -26,7 +26,7 @@ pub set_ascends : (s : BTreeSet (Bor Text)) → sorted.IsOrdered key_cmp s → A
 set_ascends s h = keys_ascend (λ (q : Bor Text). q.now) s.keys h
 
 keys_shown : (es : List (Bor Text × DepAction))
-    → map (λ q. q.now) (map (λ e. e.0) es) ≡ map (λ a. a.key) (map (λ e. asked_in e.0.now e.1) es)
+    → map (λ q. q.now) (map (λ e. e.0) es) ≡ map (λ a. a.key) (map (λ e. told_action e.0.now e.1) es)
 keys_shown [] = refl
 keys_shown (e ∷ es) = ap (λ ts. e.0.now ∷ ts) (keys_shown es)
 

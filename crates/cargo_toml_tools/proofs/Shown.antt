@@ -23,7 +23,7 @@ use Rattle.cargo_toml_graph.proofs.RedirectsInOrder.{below_one_way}
 use Rattle.cargo_toml_tools.specs.Documented.{Acts, AreRows, AreTexts, IsJoined, IsOn, IsRowOf}
 use Rattle.cargo_toml_tools.specs.Documented.{is_told_of}
 use Rattle.cargo_toml_tools.specs.PageSteps.{AskInOrder, IsInOrder, TellOfAll, TellsOf}
-use Rattle.cargo_toml_tools.specs.PageSteps.{TellsOfReached, actions_in, asked_in, row_in}
+use Rattle.cargo_toml_tools.specs.PageSteps.{TellsOfReached, actions_in, row_in, told_action}
 use Rattle.cargo_toml_tools.specs.Pages.{PageAction, kind}
 use Rattle.cargo_toml_tools.specs.declared.document.Row.{Row}
 use Rattle.cargo_toml_tools.proofs.Joined.{Entry, found_in}
@@ -44,7 +44,7 @@ module _ {X Y : Type 0} (f : X → Y) where
 
 -- ---- the actions of a map, in order
 abbrev asked : Entry → PageAction
-asked e = asked_in e.0.now e.1
+asked e = told_action e.0.now e.1
 
 abbrev keys_of_all : List Entry → List Text
 keys_of_all es = map (λ a. a.key) (map asked es)

@@ -22,15 +22,15 @@ use Rattle.cargo_toml_tools.specs.declared.document.reached.Reached.{Reached}
 abbrev pub key_texts : BTreeSet (Bor Text) → List Text
 key_texts s = map (λ t. t.now) s.keys
 
-abbrev pub asked_in : Text → DepAction → PageAction
-asked_in key a = record {
+abbrev pub told_action : Text → DepAction → PageAction
+told_action key a = record {
   key = key;
   is_conditional = a.is_conditional;
   asked = key_texts a.dep_features;
 }
 
 abbrev pub actions_in : BTreeMap (Bor Text) DepAction → List PageAction
-actions_in m = map (λ e. asked_in e.0.now e.1) m.entries
+actions_in m = map (λ e. told_action e.0.now e.1) m.entries
 
 abbrev pub row_in : Row → PageRow
 row_in r = record {

@@ -10,7 +10,7 @@ ghost use Rattle.cargo_toml.specs.Views.{listed_in, set_has, table_in};
 ghost use Rattle.cargo_toml_tools.specs.Documented.{Documents, IsOn, is_internal, is_shown};
 ghost use Rattle.cargo_toml_tools.specs.Escaped.{code};
 ghost use Rattle.cargo_toml_tools.specs.PageSteps.{AskInOrder, IsInOrder, TellOfAll, TellsOf};
-ghost use Rattle.cargo_toml_tools.specs.PageSteps.{actions_in, asked_in, key_texts, row_in};
+ghost use Rattle.cargo_toml_tools.specs.PageSteps.{actions_in, key_texts, row_in, told_action};
 ghost use Rattle.cargo_toml_tools.specs.Pages.{action_cell, asked_text, conditional_mark};
 ghost use Rattle.cargo_toml_tools.specs.Pages.{default_column, is_of_kind, kind, of_crate};
 ghost use Rattle.cargo_toml_tools.specs.Pages.{row_text, table_head, table_text, title};
@@ -263,7 +263,7 @@ fn push_action(
     action: &DepAction<'_>,
 ) -> Result<(), AllocError>
     ensures text { OnOk result (string_bytes page.new
-        ≡ string_bytes page.old ++ action_cell (asked_in key.now action.now)) }
+        ≡ string_bytes page.old ++ action_cell (told_action key.now action.now)) }
     ensures in_order { OnOk result (Ascend (key_texts action.now.dep_features)) }
 {
     let mark = conditional_mark(action.is_conditional);

@@ -4,7 +4,7 @@ use Rattle.std.specs.Map.Iter.{deref_pair}
 use Rattle.cargo_toml.specs.Action.{Text}
 use Rattle.cargo_toml.specs.Ascending.{Ascend}
 use Rattle.cargo_toml_features.specs.declared.features.DepAction.{DepAction}
-use Rattle.cargo_toml_tools.specs.PageSteps.{AskInOrder, actions_in, asked_in}
+use Rattle.cargo_toml_tools.specs.PageSteps.{AskInOrder, actions_in, told_action}
 use Rattle.cargo_toml_tools.specs.Pages.{PageAction, action_cell}
 use Rattle.cargo_toml_tools.proofs.Ordered.{map_ascends}
 use Rattle.cargo_toml_tools.proofs.Separated.{all_told, all_written, comma_utf8, each_told}
@@ -12,7 +12,7 @@ use Rattle.cargo_toml_tools.proofs.Separated.{none_written, nothing_utf8, one_wr
 use Rattle.cargo_toml_tools.proofs.document.push_actions.Goals as goal
 
 abbrev asked : Bor Text × DepAction → PageAction
-asked e = asked_in e.0.now e.1
+asked e = told_action e.0.now e.1
 
 pub loop-key-init : goal.loop-key-init
 loop-key-init c = record {

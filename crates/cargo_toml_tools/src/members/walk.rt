@@ -230,17 +230,16 @@ fn add_matched<R: Files + AllocGlobal>(
     for entry in entries {
         let entry = entry?;
         let name = String::from_str(alloc, entry.file_name())?;
-        add_if_matched(rt, place.as_str(), folder, pattern, name.as_str(), all)?;
+        add_if_matched(rt, (folder, place.as_str()), pattern, name.as_str(), all)?;
     }
     Ok(())
 }
 
-/// Adds what has this name in a folder, which is seen from `root` as `place`, where the name
-/// matches and it is a folder too.
+/// Adds what has this name in a folder, where the name matches and it is a folder too. Behind the
+/// folder stands its path from where the program runs.
 fn add_if_matched<R: Files + AllocGlobal>(
     rt: &R,
-    place: &str,
-    folder: &str,
+    folder: (&str, &str),
     pattern: &str,
     name: &str,
     all: &mut BTreeSet<String>,
@@ -248,18 +247,18 @@ fn add_if_matched<R: Files + AllocGlobal>(
     requires pattern { IsTrue (is_pattern pattern.now) }
     requires name { IsTrue (has_no_slash name.now) }
     ensures added { OnOk result ((path : List ℕ) → IsTrue (contains_text all.new path)
-        → IsTrue (contains_text all.old path) ⊎ IsOneFurther pattern.now folder.now path) }
+        → IsTrue (contains_text all.old path) ⊎ IsOneFurther pattern.now folder.entry.0.now path) }
     ensures ordered { OnOk result (IsOrdered string_cmp all.old → IsOrdered string_cmp all.new) }
 {
     let alloc = rt.alloc();
     if !matches(alloc, pattern, name)? {
         return Ok(());
     }
-    let path = path_below(alloc, place, name)?;
+    let path = path_below(alloc, folder.1, name)?;
     if !is_folder(rt, path.as_str()) {
         return Ok(());
     }
-    all.insert(path_below(alloc, folder, name)?)?;
+    all.insert(path_below(alloc, folder.0, name)?)?;
     Ok(())
 }
 

@@ -4,5 +4,5 @@ use Rattle.cargo_toml_tools.proofs.members.walk.add_if_matched.Goals as goal
 
 pub returns-clause-added : goal.returns-clause-added
 returns-clause-added g c =
-    put_further c.args.pattern.now c.args.folder.now c.args.name.now c.in_ok-path_below.field-0 c.args.all.now c.insert.new.self c.in_ok-insert.ensures.updates
+    put_further c.args.pattern.now c.args.folder.0.now c.args.name.now c.in_ok-path_below.field-0 c.args.all.now c.insert.new.self c.in_ok-insert.ensures.updates
     c.in_ok-path_below.ensures (matched_fits c.args.pattern.now c.args.name.now c.requires.pattern c.requires.name (sym c.in_ok-matches.ensures ∙ c.if-not-branch.false))

@@ -11,23 +11,26 @@ use Rattle.cargo_toml_tools.specs.declared.audit.Audit.{Audit}
 pub still : (a b c : Audit) → b ≡ record a { findings = b.findings } → c ≡ record b { findings = c.findings } → c ≡ record a { findings = c.findings }
 still a b c one two = two ∙ ap (λ (x : Audit). record x { findings = c.findings }) one
 
-pub inherited_still : (a b : Audit) (key text : Text) (r : Bool) → b ≡ record a { findings = b.findings } → r ≡ contains_text b.inherited text → text ≡ key
-    → contains_text a.inherited key ≡ r
-inherited_still a b key text r one has is =
-    sym (has ∙ ap (contains_text b.inherited) is ∙ ap (λ (x : Audit). contains_text x.inherited key) one)
-
-module _ (audit : Audit) (others : List Oddity) (left rest : List (String Global)) (key : String Global) (is : left ≡ key ∷ rest) where
+-- the next key, which the report has as it was, and whether that has noted it
+module _ (audit now : Audit) (others : List Oddity) (left rest : List (String Global)) (key : String Global) (text : Text) (noted : Bool)
+    (stays : now ≡ record audit { findings = now.findings }) (has : noted ≡ contains_text now.inherited text) (is_key : text ≡ string_bytes key)
+    (is : left ≡ key ∷ rest) where
   by_test : Bool → List Oddity
   by_test b =
       let more = filter (λ k. not (contains_text audit.inherited k)) (map string_bytes rest) in
       map unused_of (cond (not b) (string_bytes key ∷ more) more) ++ others
 
-  pub next_known : contains_text audit.inherited (string_bytes key) ≡ true
-      → unused_among audit (map string_bytes left) ++ others ≡ unused_among audit (map string_bytes rest) ++ others
+  next_by : unused_among audit (map string_bytes left) ++ others ≡ by_test noted
   unfolding by_test
-  next_known h = ap (λ ks. unused_among audit (map string_bytes ks) ++ others) is ∙ ap by_test h
+  next_by =
+      ap (λ ks. unused_among audit (map string_bytes ks) ++ others) is
+      ∙ ap by_test (sym (has ∙ ap (contains_text now.inherited) is_key ∙ ap (λ (x : Audit). contains_text x.inherited (string_bytes key)) stays))
 
-  pub next_unused : contains_text audit.inherited (string_bytes key) ≡ false
+  pub next_known : noted ≡ true → unused_among audit (map string_bytes left) ++ others ≡ unused_among audit (map string_bytes rest) ++ others
+  unfolding by_test
+  next_known h = next_by ∙ ap by_test h
+
+  pub next_unused : noted ≡ false
       → unused_among audit (map string_bytes left) ++ others ≡ unused_of (string_bytes key) ∷ (unused_among audit (map string_bytes rest) ++ others)
   unfolding by_test
-  next_unused h = ap (λ ks. unused_among audit (map string_bytes ks) ++ others) is ∙ ap by_test h
+  next_unused h = next_by ∙ ap by_test h

@@ -1,9 +1,10 @@
 -- What a report notes of each member, for what only all of them together show.
 use Rattle.std.specs.Prelude.{◌≡◌, ◌↔◌, ◌⊎◌, List, [], ◌∷◌, Result, IfErr, IsTrue, OnOk}
-use Rattle.std.specs.Prelude.{filter, map, string_bytes, unwrap_or}
+use Rattle.std.specs.Prelude.{String, filter, map, string_bytes, unwrap_or}
 use Rattle.std.specs.BTreeSet.{BTreeSet, contains_text}
 use Rattle.std.specs.List.{flat_map}
 use Rattle.std.specs.Option.{option_map_or}
+use Rattle.std.specs.declared.alloc.Global.{Global}
 use Rattle.cargo_toml.specs.Action.{Text}
 use Rattle.cargo_toml.specs.Dependencies.{DependencyMeaning, package_of}
 use Rattle.cargo_toml.specs.Error.{Error, Memory}
@@ -30,9 +31,11 @@ inherited_in es = map (λ e. e.0) (filter (λ e. is_left e.1) es)
 abbrev pub inherited_in_all : List (Kind × Entries) → List Text
 inherited_in_all ts = flat_map (λ t. inherited_in t.1) ts
 
--- a report has noted that some member inherits the key
-abbrev pub IsInherited : Audit → Text → Type 0
-IsInherited audit key = IsTrue (contains_text audit.inherited key)
+-- a set of keys has these more, and no others
+abbrev pub GainsKeys : List Text → BTreeSet (String Global) → BTreeSet (String Global) → Type 0
+GainsKeys keys old new =
+    GainsExactly keys (λ key. IsTrue (contains_text old key))
+    (λ key. IsTrue (contains_text new key))
 
 -- ---- what members ask for
 
@@ -59,7 +62,7 @@ asked_in folder es = flat_map (asked_by folder) es
 abbrev pub asked_in_all : Text → List (Kind × Entries) → List Asking
 asked_in_all folder ts = flat_map (λ t. asked_in folder t.1) ts
 
--- a report has noted these
+-- a report has noted these uses
 abbrev pub asking_of : Use → Asking
 asking_of u =
     asking_for (string_bytes u.name) (string_bytes u.requirement) (string_bytes u.folder)
@@ -67,11 +70,14 @@ asking_of u =
 abbrev pub askings_of : BTreeSet Use → List Asking
 askings_of uses = map asking_of uses.keys
 
+abbrev pub GainsUses : List Asking → BTreeSet Use → BTreeSet Use → Type 0
+GainsUses asked old new =
+    GainsExactly asked (Among (askings_of old)) (Among (askings_of new))
+
 -- what a member asks for is noted, once the member was taken in. Where it is refused for what it
 -- holds, nothing is
 pub record NotesUses {M : Type 0} (folder : Text) (m : ManifestMeaning M)
     (result : Result (Unit {0}) Error) (old new : Audit) : Type 0 where
   pub inherited : new.inherited ≡ old.inherited
-  pub all : OnOk result (GainsExactly (asked_in_all folder (all_by_kind m))
-      (Among (askings_of old.uses)) (Among (askings_of new.uses)))
+  pub all : OnOk result (GainsUses (asked_in_all folder (all_by_kind m)) old.uses new.uses)
   pub none : IfErr result (λ e. (e ≡ Memory) ⊎ (new.uses ≡ old.uses))

@@ -8,8 +8,7 @@ ghost use Rattle.cargo_toml.specs.Templates.{template_meaning};
 ghost use Rattle.cargo_toml_tools.specs.Audited.{AddsMember, IsNoPackage, IsUntold, word_of};
 ghost use Rattle.cargo_toml_tools.specs.Indexed.{all_by_kind};
 ghost use Rattle.cargo_toml_tools.specs.LeftKeys.{left_keys};
-ghost use Rattle.cargo_toml_tools.specs.Noted.{GainsExactly, IsInherited, NotesUses};
-ghost use Rattle.cargo_toml_tools.specs.Noted.{inherited_in_all};
+ghost use Rattle.cargo_toml_tools.specs.Noted.{GainsKeys, NotesUses, inherited_in_all};
 ghost use Rattle.cargo_toml_tools.specs.Oddities.{AreReported, GainsOnly, IsReported, is_outside};
 ghost use Rattle.cargo_toml_tools.specs.Oddities.{listing_oddities, member_differences};
 ghost use Rattle.cargo_toml_tools.specs.Oddities.{oddity_with, refusal_of};
@@ -182,8 +181,8 @@ impl Audit {
             (λ keys. map string_bytes keys.items ≡ left_keys (held manifest.now)) }
         ensures rest { self.new ≡ record self.old { inherited = self.new.inherited } }
         ensures inherited { OnOk result
-            (GainsExactly (inherited_in_all (all_by_kind (held manifest.now)))
-            (IsInherited self.old) (IsInherited self.new)) }
+            (GainsKeys (inherited_in_all (all_by_kind (held manifest.now)))
+            self.old.inherited self.new.inherited) }
     {
         let alloc = *self.members.allocator();
         let mut keys = inherited_keys(alloc, manifest)?;

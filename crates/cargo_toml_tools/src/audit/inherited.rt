@@ -1,7 +1,6 @@
 //! What a manifest leaves to its workspace.
-ghost use Rattle.std.specs.Prelude.{◌≡◌, ◌++◌, [], ◌∷◌, IfOk, IsTrue, OnOk};
+ghost use Rattle.std.specs.Prelude.{◌≡◌, ◌++◌, [], ◌∷◌, IfOk, OnOk};
 ghost use Rattle.std.specs.Prelude.{map, option_map, string_bytes};
-ghost use Rattle.std.specs.BTreeSet.{contains_text};
 ghost use Rattle.std.specs.Option.{option_map_or};
 ghost use Rattle.cargo_toml.specs.Dependencies.{dependency_meaning};
 ghost use Rattle.cargo_toml.specs.InheritedDependencies.{is_left};
@@ -13,7 +12,7 @@ ghost use Rattle.cargo_toml_dependencies.specs.Replacing.{entries_meaning};
 ghost use Rattle.cargo_toml_tools.specs.Indexed.{all_by_kind, target_by_kind, with_kinds};
 ghost use Rattle.cargo_toml_tools.specs.LeftKeys.{left_fields, left_in, left_in_tables};
 ghost use Rattle.cargo_toml_tools.specs.LeftKeys.{leavable_rows, left_rows};
-ghost use Rattle.cargo_toml_tools.specs.Noted.{GainsExactly, inherited_in, inherited_in_all};
+ghost use Rattle.cargo_toml_tools.specs.Noted.{GainsKeys, inherited_in, inherited_in_all};
 
 use cargo_toml::{Dependency, DepsSet, Inheritable, Manifest, Package, Target};
 use std::alloc::{AllocError, Global};
@@ -107,9 +106,7 @@ pub fn add_inherited_dependencies<M>(
     ensures keys { OnOk result (map string_bytes keys.new.items
         ≡ map string_bytes keys.old.items ++ left_in_tables (all_by_kind (held manifest.now))) }
     ensures all { OnOk result
-        (GainsExactly (inherited_in_all (all_by_kind (held manifest.now)))
-        (λ key. IsTrue (contains_text all.old key))
-        (λ key. IsTrue (contains_text all.new key))) }
+        (GainsKeys (inherited_in_all (all_by_kind (held manifest.now))) all.old all.new) }
 {
     add_tables(
         &manifest.dependencies,
@@ -132,9 +129,8 @@ fn add_target(
     ensures keys { OnOk result (map string_bytes keys.new.items ≡ map string_bytes keys.old.items
         ++ left_in_tables (target_by_kind (target_meaning target.now))) }
     ensures all { OnOk result
-        (GainsExactly (inherited_in_all (target_by_kind (target_meaning target.now)))
-        (λ key. IsTrue (contains_text all.old key))
-        (λ key. IsTrue (contains_text all.new key))) }
+        (GainsKeys (inherited_in_all (target_by_kind (target_meaning target.now)))
+        all.old all.new) }
 {
     add_tables(
         &target.dependencies,
@@ -155,10 +151,9 @@ fn add_tables(
     ensures keys { OnOk result (map string_bytes keys.new.items ≡ map string_bytes keys.old.items
         ++ left_in_tables (with_kinds (entries_meaning normal.now) (entries_meaning dev.now)
         (entries_meaning build.now))) }
-    ensures all { OnOk result (GainsExactly (inherited_in_all (with_kinds
+    ensures all { OnOk result (GainsKeys (inherited_in_all (with_kinds
         (entries_meaning normal.now) (entries_meaning dev.now) (entries_meaning build.now)))
-        (λ key. IsTrue (contains_text all.old key))
-        (λ key. IsTrue (contains_text all.new key))) }
+        all.old all.new) }
 {
     add_table(normal, "dependencies", keys, all)?;
     add_table(dev, "dev-dependencies", keys, all)?;
@@ -173,9 +168,8 @@ fn add_table(
 ) -> Result<(), AllocError>
     ensures keys { OnOk result (map string_bytes keys.new.items
         ≡ map string_bytes keys.old.items ++ left_in name.now (entries_meaning table.now)) }
-    ensures all { OnOk result (GainsExactly (inherited_in (entries_meaning table.now))
-        (λ key. IsTrue (contains_text all.old key))
-        (λ key. IsTrue (contains_text all.new key))) }
+    ensures all { OnOk result
+        (GainsKeys (inherited_in (entries_meaning table.now)) all.old all.new) }
 {
     for (key, dependency) in table {
         add_dependency(key, dependency, name, keys, all)?;
@@ -193,10 +187,9 @@ fn add_dependency(
 ) -> Result<(), AllocError>
     ensures keys { OnOk result (map string_bytes keys.new.items ≡ map string_bytes keys.old.items
         ++ left_in table.now ((string_bytes key.now, dependency_meaning dependency.now) ∷ [])) }
-    ensures all { OnOk result (GainsExactly
+    ensures all { OnOk result (GainsKeys
         (inherited_in ((string_bytes key.now, dependency_meaning dependency.now) ∷ []))
-        (λ key. IsTrue (contains_text all.old key))
-        (λ key. IsTrue (contains_text all.new key))) }
+        all.old all.new) }
 {
     if !is_left(dependency) {
         return Ok(());

@@ -7,7 +7,7 @@ ghost use Rattle.cargo_toml.specs.Reach.{Among};
 ghost use Rattle.cargo_toml.specs.Targets.{target_meaning};
 ghost use Rattle.cargo_toml_dependencies.specs.Replacing.{entries_meaning};
 ghost use Rattle.cargo_toml_tools.specs.Indexed.{all_by_kind, target_by_kind, with_kinds};
-ghost use Rattle.cargo_toml_tools.specs.Noted.{GainsExactly, asked_by, asked_in, asked_in_all};
+ghost use Rattle.cargo_toml_tools.specs.Noted.{GainsUses, asked_by, asked_in, asked_in_all};
 ghost use Rattle.cargo_toml_tools.specs.Noted.{asking_of, askings_of};
 ghost use Rattle.cargo_toml_tools.specs.Oddities.{AreReported, GainsOnly};
 ghost use Rattle.cargo_toml_tools.specs.Overall.{has_same_requirement, requirement_words};
@@ -27,8 +27,7 @@ pub fn add_uses<M>(
     uses: &mut BTreeSet<Use>,
 ) -> Result<(), AllocError>
     ensures { OnOk result
-        (GainsExactly (asked_in_all folder.now (all_by_kind (held manifest.now)))
-        (Among (askings_of uses.old)) (Among (askings_of uses.new))) }
+        (GainsUses (asked_in_all folder.now (all_by_kind (held manifest.now))) uses.old uses.new) }
 {
     let normal = &manifest.dependencies;
     let dev = &manifest.dev_dependencies;
@@ -53,8 +52,8 @@ fn add_target(
     uses: &mut BTreeSet<Use>,
 ) -> Result<(), AllocError>
     ensures { OnOk result
-        (GainsExactly (asked_in_all folder.now (target_by_kind (target_meaning target.now)))
-        (Among (askings_of uses.old)) (Among (askings_of uses.new))) }
+        (GainsUses (asked_in_all folder.now (target_by_kind (target_meaning target.now)))
+        uses.old uses.new) }
 {
     let normal = &target.dependencies;
     let dev = &target.dev_dependencies;
@@ -69,9 +68,9 @@ fn add_tables(
     build: &DepsSet,
     uses: &mut BTreeSet<Use>,
 ) -> Result<(), AllocError>
-    ensures { OnOk result (GainsExactly (asked_in_all folder.now (with_kinds
+    ensures { OnOk result (GainsUses (asked_in_all folder.now (with_kinds
         (entries_meaning normal.now) (entries_meaning dev.now) (entries_meaning build.now)))
-        (Among (askings_of uses.old)) (Among (askings_of uses.new))) }
+        uses.old uses.new) }
 {
     add_table(alloc, folder, normal, uses)?;
     add_table(alloc, folder, dev, uses)?;
@@ -84,8 +83,8 @@ fn add_table(
     table: &DepsSet,
     uses: &mut BTreeSet<Use>,
 ) -> Result<(), AllocError>
-    ensures { OnOk result (GainsExactly (asked_in folder.now (entries_meaning table.now))
-        (Among (askings_of uses.old)) (Among (askings_of uses.new))) }
+    ensures { OnOk result
+        (GainsUses (asked_in folder.now (entries_meaning table.now)) uses.old uses.new) }
 {
     for (key, dependency) in table {
         add_use(alloc, folder, key.as_str(), dependency, uses)?;
@@ -102,8 +101,8 @@ fn add_use(
     uses: &mut BTreeSet<Use>,
 ) -> Result<(), AllocError>
     ensures { OnOk result
-        (GainsExactly (asked_by folder.now (key.now, dependency_meaning dependency.now))
-        (Among (askings_of uses.old)) (Among (askings_of uses.new))) }
+        (GainsUses (asked_by folder.now (key.now, dependency_meaning dependency.now))
+        uses.old uses.new) }
 {
     let Some(requirement) = required_version(dependency) else {
         return Ok(());

@@ -6,7 +6,7 @@ use Rattle.cargo_toml_tools.specs.Noted.{askings_of}
 use Rattle.cargo_toml_tools.specs.Overall.{several_among, unused_among, unused_of}
 use Rattle.cargo_toml_tools.specs.declared.audit.Code.TheVariants.{UnusedDependency}
 use Rattle.cargo_toml_tools.proofs.Gained.{adding_from, adding_on, adding_same, adding_stopped, gains_wider, keys_meaning, same_with}
-use Rattle.cargo_toml_tools.proofs.Unused.{inherited_still, next_known, next_unused, still}
+use Rattle.cargo_toml_tools.proofs.Unused.{next_known, next_unused, still}
 use Rattle.cargo_toml_tools.proofs.audit.Audit.finish.Goals as goal
 
 pub loop-key-init : goal.loop-key-init
@@ -19,38 +19,32 @@ loop-key-init g c = record {
 }
 
 pub loop-key-preserved-then-contains : goal.loop-key-preserved-then-contains
-loop-key-preserved-then-contains g c =
-    let audit = c.args.self.now in
-    let key = c.in-Some.key.now in
-    let more = rest_more deref _ _ _ c.in-Some.key c.in-Some.is c.next.ensures.steps in
-    let has = inherited_still audit c.loop-key.self (string_bytes key) c.as_str.result.now c.contains.result c.loop-key.invariant.rest c.contains.ensures c.as_str.ensures.value in
-    record {
-      rest = c.loop-key.invariant.rest;
-      adding = adding_same _ _ _ _ _ (next_known audit (several_among (askings_of audit.uses)) c.loop-key.key-iterator c.next.new.self key more (has ∙ c.if-contains.true))
-          c.loop-key.invariant.adding;
-    }
+loop-key-preserved-then-contains g c = record {
+  rest = c.loop-key.invariant.rest;
+  adding = adding_same _ _ _ _ _
+      (next_known c.args.self.now c.loop-key.self (several_among (askings_of c.args.self.now.uses)) c.loop-key.key-iterator c.next.new.self
+      c.in-Some.key.now c.as_str.result.now c.contains.result c.loop-key.invariant.rest c.contains.ensures c.as_str.ensures.value
+      (rest_more deref _ _ _ c.in-Some.key c.in-Some.is c.next.ensures.steps) c.if-contains.true)
+      c.loop-key.invariant.adding;
+}
 
 pub loop-key-preserved : goal.loop-key-preserved
-loop-key-preserved g c =
-    let audit = c.args.self.now in
-    let key = c.in-Some.key.now in
-    let more = rest_more deref _ _ _ c.in-Some.key c.in-Some.is c.next.ensures.steps in
-    let has = inherited_still audit c.loop-key.self (string_bytes key) c.as_str.result.now c.contains.result c.loop-key.invariant.rest c.contains.ensures c.as_str.ensures.value in
-    record {
-      rest = still audit c.loop-key.self c.find.new.self c.loop-key.invariant.rest c.in_ok-find.ensures.rest;
-      adding = adding_on _ (unused_of (string_bytes key)) _ _ _ _ _ _
-          (next_unused audit (several_among (askings_of audit.uses)) c.loop-key.key-iterator c.next.new.self key more (has ∙ c.if-contains.false))
-          (same_with UnusedDependency _ _ _ _ c.as_str-in-loop-key.ensures.value c.in_ok-words.ensures.ok)
-          c.loop-key.invariant.adding c.in_ok-find.ensures.findings c.in_ok-find.ensures.found;
-    }
+loop-key-preserved g c = record {
+  rest = still c.args.self.now c.loop-key.self c.find.new.self c.loop-key.invariant.rest c.in_ok-find.ensures.rest;
+  adding = adding_on _ (unused_of (string_bytes c.in-Some.key.now)) _ _ _ _ _ _
+      (next_unused c.args.self.now c.loop-key.self (several_among (askings_of c.args.self.now.uses)) c.loop-key.key-iterator c.next.new.self
+      c.in-Some.key.now c.as_str.result.now c.contains.result c.loop-key.invariant.rest c.contains.ensures c.as_str.ensures.value
+      (rest_more deref _ _ _ c.in-Some.key c.in-Some.is c.next.ensures.steps) c.if-contains.false)
+      (same_with UnusedDependency _ _ _ _ c.as_str-in-loop-key.ensures.value c.in_ok-words.ensures.ok)
+      c.loop-key.invariant.adding c.in_ok-find.ensures.findings c.in_ok-find.ensures.found;
+}
 
 pub returns-in_err-find-clause-findings : goal.returns-in_err-find-clause-findings
 returns-in_err-find-clause-findings g c =
-    let audit = c.args.self.now in
-    let key = c.in-Some.key.now in
-    let more = rest_more deref _ _ _ c.in-Some.key c.in-Some.is c.next.ensures.steps in
-    let has = inherited_still audit c.loop-key.self (string_bytes key) c.as_str.result.now c.contains.result c.loop-key.invariant.rest c.contains.ensures c.as_str.ensures.value in
-    adding_stopped _ (unused_of (string_bytes key) ∷ []) _ _ _ _ _
-    (next_unused audit (several_among (askings_of audit.uses)) c.loop-key.key-iterator c.next.new.self key more (has ∙ c.if-contains.false))
-    c.loop-key.invariant.adding
-    (gains_wider _ _ (λ o e. inl (e ∙ same_with UnusedDependency _ _ _ _ c.as_str-in-loop-key.ensures.value c.in_ok-words.ensures.ok)) c.in_err-find.ensures.findings)
+    let others = several_among (askings_of c.args.self.now.uses) in
+    let is = next_unused c.args.self.now c.loop-key.self others c.loop-key.key-iterator c.next.new.self c.in-Some.key.now c.as_str.result.now
+    c.contains.result c.loop-key.invariant.rest c.contains.ensures c.as_str.ensures.value
+    (rest_more deref _ _ _ c.in-Some.key c.in-Some.is c.next.ensures.steps) c.if-contains.false in
+    let same = same_with UnusedDependency _ _ _ _ c.as_str-in-loop-key.ensures.value c.in_ok-words.ensures.ok in
+    adding_stopped _ (unused_of (string_bytes c.in-Some.key.now) ∷ []) _ _ _ _ _ is c.loop-key.invariant.adding
+    (gains_wider _ _ (λ o e. inl (e ∙ same)) c.in_err-find.ensures.findings)

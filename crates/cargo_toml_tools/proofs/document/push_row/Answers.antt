@@ -1,4 +1,4 @@
-use Rattle.std.proofs.Common.{◌≡◌, ◌++◌, ◌∙◌, [], Bor, List, ℕ, ap, codes, string_bytes}
+use Rattle.std.proofs.Common.{◌++◌, ◌∙◌, [], Bor, List, ℕ, ap, codes, string_bytes}
 use Rattle.std.proofs.lemmas.Result.{on_ok_weaker}
 use Rattle.std.specs.Prelude.{option_copied, unwrap_or}
 use Rattle.cargo_toml_tools.specs.Escaped.{escaped_text}

@@ -50,7 +50,8 @@ label_end is_conditional =
 -- the end of its edge: for which features of the dependency it asks
 abbrev pub action_end : DepAction → Text
 action_end a =
-    concat (codes " [label=\"" ∷ with_commas (escaped_text Dot) (map (λ k. k.now) a.dep_features.keys)
+    concat (codes " [label=\""
+    ∷ with_commas (escaped_text Dot) (map (λ k. k.now) a.dep_features.keys)
     ∷ label_end a.is_conditional ∷ [])
 
 abbrev pub dependency_edge : Text → Bor Text × DepAction → Text

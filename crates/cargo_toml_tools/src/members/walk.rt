@@ -143,7 +143,8 @@ pub fn expanded<R: Files + AllocGlobal>(
     root: &str,
     entry: &str,
 ) -> Result<BTreeSet<String>, Error>
-    ensures leads { IfOk result (λ found. LeadsToFolders entry.now (map string_bytes (keys found))) }
+    ensures leads { IfOk result
+        (λ found. LeadsToFolders entry.now (map string_bytes (keys found))) }
     ensures named { IfOk result (λ found. IsFalse (has_pattern entry.now)
         → map string_bytes (keys found) ≡ named_folder entry.now ∷ []) }
     ensures refused { IfErr result (IsOfFolders (has_pattern entry.now)) }

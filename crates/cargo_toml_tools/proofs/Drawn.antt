@@ -1,5 +1,5 @@
 -- The names and keys of a graph.
-use Rattle.std.proofs.Common.{◌≡◌, ◌↔◌, ◌||◌, ◌∙◌, Bool, Bor, false, true, IsTrue, List, [], ◌∷◌, Option, None, Some, ap, is_some, map, option_map, refl, sym, inl, inr}
+use Rattle.std.proofs.Common.{◌≡◌, ◌↔◌, ◌||◌, ◌∙◌, Bool, Bor, false, true, List, [], ◌∷◌, Option, None, Some, ap, is_some, map, option_map, refl, sym, inl, inr}
 use Rattle.std.specs.Prelude.{IsSome, cond}
 use Rattle.std.proofs.lemmas.Bool.{false≢true, or_cases, or_left, or_right}
 use Rattle.std.specs.BTreeSet.{BTreeSet}

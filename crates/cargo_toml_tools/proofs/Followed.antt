@@ -1,5 +1,5 @@
 -- Folders that an entry of `members` leads to, one name after another.
-use Rattle.std.proofs.Common.{◌≡◌, ◌↔◌, ◌<◌, ◌+◌, ◌++◌, ◌&&◌, ◌∙◌, ◌⊎◌, ℕ, Bool, false, true, List, [], ◌∷◌, IsTrue, String, Global, Option, None, Some, ap, arith, drop, get_or, inl, inr, length, length-drop, map, nat_eq, option_map, refl, string_bytes, subst, suc, sym, take, zero}
+use Rattle.std.proofs.Common.{◌≡◌, ◌↔◌, ◌<◌, ◌+◌, ◌&&◌, ◌∙◌, ◌⊎◌, ℕ, Bool, false, true, List, [], ◌∷◌, IsTrue, String, Global, Option, None, Some, ap, arith, drop, get_or, inl, inr, length, length-drop, map, nat_eq, option_map, refl, string_bytes, subst, suc, sym, take, zero}
 use Rattle.std.specs.Prelude.{◌==◌, IsFalse, MatchOption, bytes_eq, cond, filter, not, unwrap_or}
 use Rattle.std.proofs.lemmas.Bool.{and_from, and_parts, both_ways, cases_Bool, cases_eq, cases_lt, cond-false, cond-true, cond_both, eqb-false, false≢true, false_from_ne_true, iff_false, ne_eqb, or_left, or_parts, or_right, true_from_ne_false}
 use Rattle.std.proofs.lemmas.List.{get_or-drop, length-map}

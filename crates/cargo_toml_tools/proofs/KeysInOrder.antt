@@ -1,6 +1,5 @@
 -- The texts of a set's keys, in byte order.
-use Rattle.std.proofs.Common.{◌≡◌, ◌<◌, ◌∙◌, false, true, List, [], ◌∷◌, IsTrue, ap, arith, length, map, nat_eq, refl, subst, sym, inl, inr}
-use Rattle.std.specs.Prelude.{bytes_eq}
+use Rattle.std.proofs.Common.{◌≡◌, ◌<◌, ◌∙◌, false, List, [], ◌∷◌, IsTrue, ap, arith, length, map, refl, subst, sym, inl, inr}
 use Rattle.std.proofs.lemmas.Bool.{false≢true, or_cases, or_left, or_right, true≢false}
 use Rattle.std.proofs.lemmas.Cmp.{tied_itself}
 use Rattle.std.proofs.lemmas.Map.Keys.{sorted_head, sorted_tail}

@@ -1,8 +1,8 @@
 -- Folders that are added to those that a workspace lists.
-use Rattle.std.proofs.Common.{◌≡◌, ◌<◌, ◌≤◌, ◌+◌, ◌++◌, ◌&&◌, ◌||◌, ◌∙◌, ◌⊎◌, ℕ, Bool, true, false, List, [], ◌∷◌, IsTrue, String, Global, ap, arith, codes, get_or, inl, inr, length, map, refl, string_bytes, subst, suc, sym, take, zero}
+use Rattle.std.proofs.Common.{◌≡◌, ◌<◌, ◌≤◌, ◌+◌, ◌++◌, ◌&&◌, ◌||◌, ◌∙◌, ℕ, Bool, true, false, List, [], ◌∷◌, IsTrue, String, Global, ap, arith, codes, get_or, inl, inr, length, map, refl, string_bytes, subst, suc, sym, take, zero}
 use Rattle.std.specs.Prelude.{IsFalse, bytes_eq, cond, count_by, nat_lt, not}
 use Rattle.std.proofs.Math.Bool.{or_comm}
-use Rattle.std.proofs.lemmas.Bool.{and_from, and_parts, cases_Bool, cases_lt, cond-true, cond-false, le-ltb, lt-ltb, not-true, or_from, or_left, or_right}
+use Rattle.std.proofs.lemmas.Bool.{and_parts, cases_Bool, cases_lt, cond-true, cond-false, le-ltb, lt-ltb, not-true, or_from, or_left, or_right}
 use Rattle.std.proofs.lemmas.List.{append-nil, map-append, take_all, take_more}
 use Rattle.std.proofs.lemmas.List.Concat.{flat_map-append}
 use Rattle.std.proofs.lemmas.List.Folds.{list_any-append}

@@ -9,7 +9,7 @@ use Rattle.std.proofs.lemmas.Slice.Eq.{ends_is}
 use Rattle.std.specs.List.{join_with_byte, list_all, onto_first}
 use Rattle.cargo_toml.specs.Action.{Text}
 use Rattle.cargo_toml_tools.specs.MemberFolders.{named_folder, names_along, path_along}
-use Rattle.cargo_toml_tools.specs.Places.{before_names, in_front, is_closed, is_nothing, is_rooted, normalized, or_dot, path_below, pieces, root_of, settled}
+use Rattle.cargo_toml_tools.specs.Places.{before_names, in_front, is_closed, is_rooted, normalized, or_dot, path_below, pieces, root_of, settled}
 
 abbrev is_slash : ℕ → Bool
 is_slash b = nat_eq b 47

@@ -1,20 +1,14 @@
 -- The keys of sets and maps of texts, in byte order.
-use Rattle.std.proofs.Common.{◌≡◌, List, [], ◌∷◌, IsTrue, Bor, ap, map, refl, subst, sym, inl, inr}
-use Rattle.std.proofs.lemmas.Map.Keys.{sorted_head, sorted_tail}
+use Rattle.std.proofs.Common.{◌≡◌, List, [], ◌∷◌, Bor, ap, map, refl, subst}
 use Rattle.std.specs.BTreeMap.{BTreeMap}
 use Rattle.std.specs.BTreeMap as tree
 use Rattle.std.specs.BTreeSet.{BTreeSet}
 use Rattle.std.specs.BTreeSet as sorted
 use Rattle.std.specs.Cmp.Lexicographic.{slice_cmp}
-use Rattle.std.specs.List.{AllByRecursion}
-use Rattle.std.specs.List.Sorted.{IsStrictlySortedBy}
-use Rattle.std.specs.Ordering.{is_lt, nat_cmp}
+use Rattle.std.specs.Ordering.{nat_cmp}
 use Rattle.std.specs.declared.cmp.Ordering.{Ordering}
-use Rattle.std.specs.declared.cmp.Ordering.TheVariants.{Less}
 use Rattle.cargo_toml.specs.Action.{Text}
-use Rattle.cargo_toml.specs.Admitted.{is_below}
 use Rattle.cargo_toml.specs.Ascending.{Ascend}
-use Rattle.cargo_toml.specs.Reach.{Among}
 use Rattle.cargo_toml_features.specs.declared.features.DepAction.{DepAction}
 use Rattle.cargo_toml_tools.specs.PageSteps.{actions_in, key_texts, told_action}
 use Rattle.cargo_toml_tools.proofs.KeysInOrder.{keys_ascend}

@@ -2,10 +2,8 @@
 use Rattle.std.proofs.Common.{◌≡◌, ◌↔◌, ◌++◌, ◌∙◌, Bool, Bor, Global, IfSome, IsTrue, List, []}
 use Rattle.std.proofs.Common.{◌∷◌, None, Option, Some, String, Vec, ap, append_assoc, cond, false, inl, inr}
 use Rattle.std.proofs.Common.{is_some, map, option_map, refl, subst, sym, true}
-use Rattle.std.proofs.lemmas.Bool.{false≢true, or_left, or_right}
+use Rattle.std.proofs.lemmas.Bool.{false≢true}
 use Rattle.std.proofs.lemmas.List.{append-nil, map-append}
-use Rattle.std.proofs.lemmas.Map.Text.{is_eq-slice_cmp}
-use Rattle.std.proofs.lemmas.Slice.Eq.{bytes_eq-Decides}
 use Rattle.std.specs.BTreeMap.{BTreeMap, get_by_text}
 use Rattle.std.specs.BTreeSet.{BTreeSet}
 use Rattle.std.specs.HashMap.{HashMap}
@@ -19,7 +17,6 @@ use Rattle.cargo_toml.specs.Ascending.{Ascend}
 use Rattle.cargo_toml.specs.Feature.{Feature}
 use Rattle.cargo_toml.specs.Reach.{Among}
 use Rattle.cargo_toml.specs.Views.{listed_in, set_has, table_in, value_at}
-use Rattle.cargo_toml_lint.proofs.Gathered.{at_head, has_in}
 use Rattle.cargo_toml_tools.specs.Documented.{is_shown, is_told_of}
 use Rattle.cargo_toml_tools.specs.PageSteps.{TellsOf, TellOfAll, key_texts}
 use Rattle.cargo_toml_tools.specs.declared.document.Row.{Row}

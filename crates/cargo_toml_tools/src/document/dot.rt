@@ -128,8 +128,8 @@ fn add_keys<'m>(keys: &mut BTreeSet<&'m str>, feature: &Feature<'m>) -> Result<(
 }
 
 fn push_label<M>(graph: &mut String, manifest: &Manifest<M>) -> Result<(), AllocError>
-    ensures { OnOk result (string_bytes graph.new
-        ≡ string_bytes graph.old ++ option_map_or label_line
+    ensures { OnOk result (string_bytes graph.new ≡ string_bytes graph.old
+        ++ option_map_or label_line
         (option_map (λ p. string_bytes p.name) manifest.now.«package») []) }
 {
     let Some(package) = &manifest.package else {

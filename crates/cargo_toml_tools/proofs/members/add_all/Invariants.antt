@@ -1,5 +1,5 @@
 use Rattle.std.proofs.Common.{◌≡◌, ◌++◌, List, false, map, string_bytes}
-use Rattle.std.specs.BTreeSet.{contains_text, keys}
+use Rattle.std.specs.BTreeSet.{contains_text}
 use Rattle.cargo_toml.specs.Action.{Text}
 use Rattle.cargo_toml_tools.specs.MemberFolders.{AreOfPaths, lists_folder}
 use Rattle.cargo_toml_tools.proofs.members.add_all.Given as goal

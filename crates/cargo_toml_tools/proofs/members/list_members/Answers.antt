@@ -5,7 +5,7 @@ use Rattle.std.specs.BTreeSet.{contains_text}
 use Rattle.std.specs.Cmp.Lexicographic.{slice_cmp}
 use Rattle.std.specs.List.{list_any}
 use Rattle.std.specs.Ordering.{nat_cmp}
-use Rattle.cargo_toml_tools.specs.MemberFolders.{has_pattern, lists_folder}
+use Rattle.cargo_toml_tools.specs.MemberFolders.{lists_folder}
 use Rattle.cargo_toml_tools.proofs.Followed.{of_entry}
 use Rattle.cargo_toml_tools.proofs.Listed.{listed_all, listed_more, listed_none, named_listed, named_twice, pattern_among}
 use Rattle.cargo_toml_tools.proofs.members.list_members.Goals as goal

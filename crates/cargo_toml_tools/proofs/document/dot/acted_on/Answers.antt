@@ -6,7 +6,7 @@ use Rattle.std.specs.List.{list_any}
 use Rattle.std.specs.Map.Iter.{deref}
 use Rattle.std.specs.Ordering.{nat_cmp}
 use Rattle.cargo_toml.specs.Action.{Text}
-use Rattle.cargo_toml.specs.Views.{set_has, table_in}
+use Rattle.cargo_toml.specs.Views.{table_in}
 use Rattle.cargo_toml_tools.proofs.Drawn.{all_taken, one_taken}
 use Rattle.cargo_toml_tools.proofs.document.dot.acted_on.Goals as goal
 

@@ -1,6 +1,5 @@
-use Rattle.std.proofs.Common.{◌≡◌, ◌++◌, Bor, string_bytes}
+use Rattle.std.proofs.Common.{◌≡◌, ◌++◌, string_bytes}
 use Rattle.std.specs.List.{flat_map}
-use Rattle.cargo_toml.specs.Action.{Text}
 use Rattle.cargo_toml.specs.Views.{value_at}
 use Rattle.cargo_toml_tools.specs.FeatureGraphs.{feature_edge}
 use Rattle.cargo_toml_tools.proofs.document.dot.push_feature_edges.Given as goal

@@ -7,25 +7,20 @@ use Rattle.std.specs.Option.{option_copied}
 use Rattle.std.specs.IoError.{error_kind}
 use Rattle.toml.specs.declared.value.Value.{Value}
 use Rattle.cargo_toml.specs.Action.{Text}
-use Rattle.cargo_toml.specs.Disk.{IsInput}
-use Rattle.cargo_toml.specs.Error.{Error, Memory}
+use Rattle.cargo_toml.specs.Error.{Error}
 use Rattle.cargo_toml.specs.FaultValues.{fault_of}
 use Rattle.cargo_toml.specs.Manifest.{Manifest}
 use Rattle.cargo_toml_discovery.proofs.Faults.{fault_of-io}
-use Rattle.cargo_toml_tools.specs.Places.{IsOfFolders}
-use Rattle.cargo_toml_tools_files.specs.FromFiles.{IsCompletedIn, IsUncompleted, IsUnreadable}
+use Rattle.cargo_toml_tools.specs.MemberFolders.{IsOfFolders}
+use Rattle.cargo_toml_tools_files.specs.FromFiles.{IsCompletedIn, IsOfInput, IsUnreadable}
 
-pub of_input : (e : Error) → (e ≡ Memory) ⊎ IsInput e → IsUnreadable e
+pub of_input : (e : Error) → IsOfInput e → IsUnreadable e
 of_input e (inl memory) = inl memory
 of_input e (inr input) = inr (inl input)
 
-pub of_folders : (e : Error) → IsOfFolders e → IsUnreadable e
-of_folders e (inl memory) = inl memory
-of_folders e (inr h) = inr (inl (error_kind h.0, ap fault_of h.1 ∙ fault_of-io h.0))
-
-pub of_input_there : (path : Text) (e : Error) → (e ≡ Memory) ⊎ IsInput e → IsUncompleted path e
-of_input_there path e (inl memory) = inl memory
-of_input_there path e (inr input) = inr (inl input)
+pub of_folders : (some : Bool) (e : Error) → IsOfFolders some e → IsOfInput e
+of_folders some e (inl memory) = inl memory
+of_folders some e (inr h) = inr (error_kind h.1.0, ap fault_of h.1.1 ∙ fault_of-io h.1.0)
 
 -- what is said of an answer twice is said at once
 pub both_hold : {T E : Type 0} {P Q R : T → Type 0} (r : Result T E) → ((x : T) → P x → Q x → R x) → IfOk r P → IfOk r Q → IfOk r R

@@ -1,63 +1,178 @@
 -- A folder that gives a member, or is refused.
-use Rattle.std.proofs.Common.{◌≡◌, List, Result, Ok, Err, Some, ◌∙◌, inl, inr, subst, sym}
-use Rattle.std.specs.Prelude.{⊤, IfErr, OnErr, OnOk}
-use Rattle.std.specs.BTreeSet.{BTreeSet}
+use Rattle.std.proofs.Common.{◌≡◌, ◌∙◌, List, Result, Ok, Err, Some, String, Global, ap, inl, inr, map, string_bytes, subst, sym}
+use Rattle.std.specs.Prelude.{◌≢◌, ⊤, IfErr, OnErr, OnOk, Vec}
 use Rattle.std.proofs.lemmas.Result.{IfErr-at_err}
 use Rattle.toml.specs.declared.value.Value.{Value}
 use Rattle.cargo_toml.specs.Action.{Text}
 use Rattle.cargo_toml.specs.Completed.{IsCompleted}
-use Rattle.cargo_toml.specs.Error.{Error}
+use Rattle.cargo_toml.specs.Error.{Error, Memory}
 use Rattle.cargo_toml.specs.Manifest.{Manifest}
+use Rattle.cargo_toml.specs.Manifests.{ManifestMeaning, held}
+use Rattle.cargo_toml.specs.Reach.{Among}
 use Rattle.cargo_toml.specs.RealFiles.{real_folders, real_roots}
 use Rattle.cargo_toml.specs.Sharing.{shared_of}
 use Rattle.cargo_toml.specs.Workspace.{Workspace}
-use Rattle.cargo_toml_tools.specs.Oddities.{GainsOnly, IsReported, Oddity}
+use Rattle.std.specs.BTreeSet.{BTreeSet}
+use Rattle.cargo_toml_tools.specs.Audited.{AddsMember}
+use Rattle.cargo_toml_tools.specs.Indexed.{all_by_kind}
+use Rattle.cargo_toml_tools.specs.LeftKeys.{left_keys}
+use Rattle.cargo_toml_tools.specs.Noted.{Asking, GainsExactly, NotesUses, asked_in_all, askings_of, inherited_in_all}
+use Rattle.cargo_toml_tools.specs.Oddities.{AreReported, GainsOnly, IsReported, Oddity}
 use Rattle.cargo_toml_tools.specs.Places.{manifest_path}
+use Rattle.cargo_toml_tools.specs.declared.audit.Audit.{Audit}
 use Rattle.cargo_toml_tools.specs.declared.audit.Finding.{Finding}
 use Rattle.cargo_toml_tools.specs.declared.audit.Member.{Member}
+use Rattle.cargo_toml_tools.specs.declared.audit.Use.{Use}
 use Rattle.cargo_toml_tools.proofs.Gained.{gains_on, gains_wider}
-use Rattle.cargo_toml_tools_files.specs.AuditSteps.{AddsAudited, AddsFolder, IsRefusedWith}
-use Rattle.cargo_toml_tools_files.specs.AuditedFolders.{IsCompletedThere, IsDifference, IsMemberFault, IsOfFolder, IsRefusedFolder}
+use Rattle.cargo_toml_tools_files.specs.AuditSteps.{AddsAudited, AddsFolder, IsRefusedWith, NotesOnly, UnlessMemory}
+use Rattle.cargo_toml_tools_files.specs.AuditedFolders.{IsOfFolder, IsRefusedFolder}
+use Rattle.cargo_toml_tools_files.specs.AuditedMembers.{IsAskedThere, IsCompletedThere, IsDifference, IsInheritedThere, IsKeyNoted, IsMemberFault, differences_there}
 use Rattle.cargo_toml_tools_files.specs.FromFiles.{IsManifestIn}
 
-module _ (root : Manifest Value) (path : Text) (workspace : Workspace Value) where
+-- ---- what is noted
+-- nothing, by a report of the same
+pub notes_none : {K : Text → Type 0} {A : Asking → Type 0} (old new : Audit) → new.inherited ≡ old.inherited → new.uses ≡ old.uses → NotesOnly K A old new
+notes_none old new same_keys same_uses = record {
+  keys_kept = λ key h. subst (λ (s : BTreeSet (String Global)). IsKeyNoted (record old { inherited = s }) key) (sym same_keys) h;
+  keys = λ key h. inl (subst (λ (s : BTreeSet (String Global)). IsKeyNoted (record old { inherited = s }) key) same_keys h);
+  asked_kept = λ x h. subst (λ (s : BTreeSet Use). Among (askings_of s) x) (sym same_uses) h;
+  asked = λ x h. inl (subst (λ (s : BTreeSet Use). Among (askings_of s) x) same_uses h);
+}
+
+-- keys, of which each is such
+pub notes_keys : {K : Text → Type 0} {A : Asking → Type 0} (ks : List Text) (old new : Audit) → new ≡ record old { inherited = new.inherited }
+    → GainsExactly ks (IsKeyNoted old) (IsKeyNoted new) → ((key : Text) → Among ks key → K key) → NotesOnly K A old new
+notes_keys ks old new rest gains such = record {
+  keys_kept = λ key h. (gains key).1 (inl h);
+  keys = λ key h. elim ((gains key).0 h) [ inl i ↦ inl i | inr i ↦ inr (such key i) ];
+  asked_kept = λ x h. subst (λ (a : Audit). Among (askings_of a.uses) x) (sym rest) h;
+  asked = λ x h. inl (subst (λ (a : Audit). Among (askings_of a.uses) x) rest h);
+}
+
+-- what is asked for besides, unless memory was refused
+pub notes_uses : {K : Text → Type 0} {A : Asking → Type 0} {M : Type 0} (folder : Text) (m : ManifestMeaning M) (result : Result ⊤ Error) (old mid new : Audit)
+    → NotesOnly K A old mid → NotesUses folder m result mid new → ((x : Asking) → Among (asked_in_all folder (all_by_kind m)) x → A x)
+    → UnlessMemory result (NotesOnly K A old new)
+notes_uses {K} {A} folder m (Ok u) old mid new before notes such = record {
+  keys_kept = λ key h. subst (λ (s : BTreeSet (String Global)). IsKeyNoted (record old { inherited = s }) key) (sym notes.inherited) (before.keys_kept key h);
+  keys = λ key h. before.keys key (subst (λ (s : BTreeSet (String Global)). IsKeyNoted (record old { inherited = s }) key) notes.inherited h);
+  asked_kept = λ x h. (notes.all x).1 (inl (before.asked_kept x h));
+  asked = λ x h. elim ((notes.all x).0 h) [ inl i ↦ before.asked x i | inr i ↦ inr (such x i) ];
+}
+notes_uses {K} {A} folder m (Err e) old mid new before notes such = elim notes.none [
+  | inl memory ↦ inl memory
+  | inr same ↦ inr (record {
+    keys_kept = λ key h. subst (λ (s : BTreeSet (String Global)). IsKeyNoted (record old { inherited = s }) key) (sym notes.inherited) (before.keys_kept key h);
+    keys = λ key h. before.keys key (subst (λ (s : BTreeSet (String Global)). IsKeyNoted (record old { inherited = s }) key) notes.inherited h);
+    asked_kept = λ x h. subst (λ (s : BTreeSet Use). Among (askings_of s) x) (sym same) (before.asked_kept x h);
+    asked = λ x h. before.asked x (subst (λ (s : BTreeSet Use). Among (askings_of s) x) same h);
+  })
+]
+
+-- a refusal that isn't want of memory
+unless_memory : {P : Type 0} (outcome : Result ⊤ Error) → UnlessMemory outcome P → IfErr outcome (λ e. e ≢ Memory) → P
+unless_memory (Ok u) h other = h
+unless_memory (Err e) (inl memory) other = absurd (other memory)
+unless_memory (Err e) (inr h) other = h
+
+module _ (root : Manifest Value) (path : Text) where
   -- a manifest that was read and completed, as it is held now
   pub completed_there : (text : Text) (m read new made : Manifest Value) → read ≡ m → made ≡ new → IsManifestIn text m
-      → IsCompleted read (Some (shared_of root.workspace, path)) real_roots real_folders new → IsCompletedThere root path workspace read made
+      → IsCompleted read (Some (shared_of root.workspace, path)) real_roots real_folders new → IsCompletedThere root path read made
   completed_there text m read new made is same written done = record {
     text = text;
     written = subst (IsManifestIn text) (sym is) written;
     completed = subst (λ (x : Manifest Value). IsCompleted read (Some (shared_of root.workspace, path)) real_roots real_folders x) (sym same) done;
   }
 
-  module _ (folder : Text) where
+  -- a member that was read and completed, and what is noted of it
+  module _ (workspace : Workspace Value) (folder : Text) (read made : Manifest Value) (inherits : Vec (String Global) Global) (result : Result ⊤ Error) (old mid new : Audit)
+      (from : IsCompletedThere root path read made) (left : map string_bytes inherits.items ≡ left_keys (held read))
+      (rest : mid ≡ record old { inherited = mid.inherited })
+      (keys : GainsExactly (inherited_in_all (all_by_kind (held read))) (IsKeyNoted old) (IsKeyNoted mid))
+      (notes : NotesUses folder (held made) result mid new) where
+    pub member_added : OnOk result (AddsMember folder (held made) inherits mid.members.items new.members.items)
+        → OnOk result (AreReported new.findings (differences_there root path workspace folder made)) → OnOk result (AddsAudited root path workspace folder old new)
+    member_added = go result notes
+      where
+        go : (r : Result ⊤ Error) → NotesUses folder (held made) r mid new → OnOk r (AddsMember folder (held made) inherits mid.members.items new.members.items)
+            → OnOk r (AreReported new.findings (differences_there root path workspace folder made)) → OnOk r (AddsAudited root path workspace folder old new)
+        go (Err e) noted added found = tt
+        go (Ok x) noted added found = record {
+          read = read;
+          made = made;
+          inherits = inherits;
+          from = from;
+          left = left;
+          added = subst (λ (ms : List Member). AddsMember folder (held made) inherits ms new.members.items) (ap (λ (a : Audit). a.members.items) rest) added;
+          taken = record {
+            differences = found;
+            inherited = λ key i. subst (λ (s : BTreeSet (String Global)). IsKeyNoted (record old { inherited = s }) key) (sym noted.inherited) ((keys key).1 (inr i));
+            asked = λ x i. (noted.all x).1 (inr i);
+          };
+        }
+
+    pub member_notes : UnlessMemory result (NotesOnly IsInheritedThere (IsAskedThere root path folder) old new)
+    member_notes = notes_uses folder (held made) result old mid new
+        (notes_keys (inherited_in_all (all_by_kind (held read))) old mid rest keys (λ key i. (from.text, (read, (from.written, i)))))
+        notes (λ x i. (read, (made, (from, i))))
+
+  module _ (workspace : Workspace Value) (folder : Text) (outcome : Result ⊤ Error) (old mid new : Audit) (rest : new ≡ record mid { findings = new.findings }) where
     -- with more found
-    on_found : (old mid new : List Member) (f g : BTreeSet Finding) → new ≡ mid → ((o : Oddity) → IsReported f o → IsReported g o)
-        → AddsAudited root path workspace folder old mid f → AddsAudited root path workspace folder old new g
-    on_found old mid new f g same more h = subst (λ (ms : List Member). AddsAudited root path workspace folder old ms g) (sym same) (record {
+    on_found : ((o : Oddity) → IsReported mid.findings o → IsReported new.findings o) → AddsAudited root path workspace folder old mid
+        → AddsAudited root path workspace folder old new
+    on_found more h = record {
       read = h.read;
       made = h.made;
       inherits = h.inherits;
       from = h.from;
       left = h.left;
-      added = h.added;
-      differences = λ o i. more o (h.differences o i);
-    })
+      added = record {
+        member = h.added.member;
+        last = ap (λ (a : Audit). a.members.items) rest ∙ h.added.last;
+        folder_is = h.added.folder_is;
+        inherits_is = h.added.inherits_is;
+        told = h.added.told;
+      };
+      taken = record {
+        differences = λ o i. more o (h.taken.differences o i);
+        inherited = λ key i. subst (λ (a : Audit). IsKeyNoted a key) (sym rest) (h.taken.inherited key i);
+        asked = λ x i. subst (λ (a : Audit). Among (askings_of a.uses) x) (sym rest) (h.taken.asked x i);
+      };
+    }
 
-    pub folder_added : (outcome done : Result ⊤ Error) (old mid new : List Member) (f g : BTreeSet Finding) → OnOk outcome (AddsAudited root path workspace folder old mid f)
-        → OnErr outcome (mid ≡ old) → new ≡ mid → ((o : Oddity) → IsReported f o → IsReported g o) → OnOk done (OnErr outcome (IsRefusedFolder g folder))
-        → OnOk done (AddsFolder root path workspace folder old new g)
-    folder_added outcome (Err e) old mid new f g added kept same more told = tt
-    folder_added (Ok x) (Ok y) old mid new f g added kept same more told = inl (on_found old mid new f g same more added)
-    folder_added (Err e) (Ok y) old mid new f g added kept same more told = inr (same ∙ kept, told)
+    pub folder_added : (done : Result ⊤ Error) → OnOk outcome (AddsAudited root path workspace folder old mid) → OnErr outcome (mid.members.items ≡ old.members.items)
+        → ((o : Oddity) → IsReported mid.findings o → IsReported new.findings o)
+        → OnOk done (IfErr outcome (λ e. (e ≢ Memory) × IsRefusedFolder new.findings folder)) → OnOk done (AddsFolder root path workspace folder old new)
+    folder_added (Err e) added kept more told = tt
+    folder_added (Ok y) added kept more told = go outcome added kept told
+      where
+        go : (r : Result ⊤ Error) → OnOk r (AddsAudited root path workspace folder old mid) → OnErr r (mid.members.items ≡ old.members.items)
+            → IfErr r (λ e. (e ≢ Memory) × IsRefusedFolder new.findings folder) → AddsFolder root path workspace folder old new
+        go (Ok x) added kept told = inl (on_found more added)
+        go (Err e) added kept told = inr (ap (λ (a : Audit). a.members.items) rest ∙ kept, told.1)
 
-    pub folder_finds : (seen at : Text) (outcome : Result ⊤ Error) (f g h : BTreeSet Finding) → at ≡ manifest_path seen folder
-        → IfErr outcome (IsMemberFault root path workspace at) → GainsOnly (IsDifference root path workspace folder) f g
-        → GainsOnly (IsRefusedWith outcome folder) g h → GainsOnly (IsOfFolder root path workspace seen folder) f h
-    folder_finds seen at outcome f g h is why one two =
-        gains_on f g h (gains_wider f g (λ o d. inr d) one)
-        (gains_wider g h (λ o r. inl (record {
-          fault = r.0;
-          why = subst (λ (p : Text). IsMemberFault root path workspace p r.0) is (IfErr-at_err (IsMemberFault root path workspace at) r.1.0 why);
-          words = r.1.1;
-        })) two)
+    pub folder_notes : (done : Result ⊤ Error) → UnlessMemory outcome (NotesOnly IsInheritedThere (IsAskedThere root path folder) old mid)
+        → OnOk done (IfErr outcome (λ e. (e ≢ Memory) × IsRefusedFolder new.findings folder))
+        → OnOk done (NotesOnly IsInheritedThere (IsAskedThere root path folder) old new)
+    folder_notes (Err e) notes told = tt
+    folder_notes (Ok y) notes told = subst (λ (a : Audit). NotesOnly IsInheritedThere (IsAskedThere root path folder) old a) (sym rest)
+        (go (unless_memory outcome notes (go_other outcome told)))
+      where
+        go_other : (r : Result ⊤ Error) → IfErr r (λ e. (e ≢ Memory) × IsRefusedFolder new.findings folder) → IfErr r (λ e. e ≢ Memory)
+        go_other (Ok x) h = tt
+        go_other (Err e) h = h.0
+
+        go : NotesOnly IsInheritedThere (IsAskedThere root path folder) old mid → NotesOnly IsInheritedThere (IsAskedThere root path folder) old (record mid { findings = new.findings })
+        go h = record { keys_kept = h.keys_kept; keys = h.keys; asked_kept = h.asked_kept; asked = h.asked }
+
+  pub folder_finds : (workspace : Workspace Value) (folder seen at : Text) (outcome : Result ⊤ Error) (f g h : BTreeSet Finding) → at ≡ manifest_path seen folder
+      → IfErr outcome (IsMemberFault root path at) → GainsOnly (IsDifference root path workspace folder) f g
+      → GainsOnly (IsRefusedWith outcome folder) g h → GainsOnly (IsOfFolder root path workspace seen folder) f h
+  folder_finds workspace folder seen at outcome f g h is why one two =
+      gains_on f g h (gains_wider f g (λ o d. inr d) one)
+      (gains_wider g h (λ o r. inl (record {
+        fault = r.0;
+        why = subst (λ (p : Text). IsMemberFault root path p r.0) is (IfErr-at_err (IsMemberFault root path at) r.1.0 why);
+        words = r.1.1;
+      })) two)

@@ -29,6 +29,10 @@ RefusesText text e =
     IsFromText (manifest_meaning view) (manifest_reads any_tree)
     (ManifestRefuses any_tree AnyRefuses) (parse_document text) (Err e)
 
+-- there was no memory, or a fault of input
+abbrev pub IsOfInput : Error → Type 0
+IsOfInput e = (e ≡ Memory) ⊎ IsInput e
+
 -- why a file gives no manifest: no memory, a fault of input, or one of some text
 abbrev pub IsUnreadable : Error → Type 0
 IsUnreadable e =

@@ -1,9 +1,11 @@
 -- What `index` answers of a file.
-use Rattle.std.specs.Prelude.{◌≡◌, ◌⊎◌, ◌++◌, [], ◌∷◌, Option}
+use Rattle.std.specs.Prelude.{◌≡◌, ◌⊎◌, ◌++◌, [], ◌∷◌, Option, Some}
 use Rattle.toml.specs.declared.value.Value.{Value}
 use Rattle.cargo_toml.specs.Action.{Text}
+use Rattle.cargo_toml.specs.Faults.{text_of}
 use Rattle.cargo_toml.specs.Manifest.{Manifest}
 use Rattle.cargo_toml.specs.Manifests.{held}
+use Rattle.cargo_toml_tools.specs.IndexFaults.{index_fault_text}
 use Rattle.cargo_toml_tools.specs.IndexLines.{IsLineOf}
 use Rattle.cargo_toml_tools.specs.Indexed.{Explains, IsTaken}
 use Rattle.cargo_toml_tools.specs.declared.index.IndexError.{IndexError}
@@ -34,3 +36,8 @@ pub record IsUntaken (e : IndexError) : Type 0 where
 abbrev pub IsIndexFault : Text → Fault → Type 0
 IsIndexFault path (fault.Manifest e) = IsUncompleted path e
 IsIndexFault path (fault.Index e) = IsUntaken e
+
+-- what a fault displays, where that is stated
+abbrev pub text_of_fault : Fault → Option Text
+text_of_fault (fault.Manifest e) = text_of e
+text_of_fault (fault.Index e) = Some (index_fault_text e)

@@ -1,20 +1,21 @@
 //! The report on a workspace.
-ghost use Rattle.std.specs.Prelude.{◌≡◌, ◌⊎◌, IfErr, IfOk, IfSome, OnErr, OnOk, Some};
+ghost use Rattle.std.specs.Prelude.{◌≡◌, ◌≢◌, ◌⊎◌, IfErr, IfOk, IfSome, OnErr, OnOk, Some};
 ghost use Rattle.std.specs.Prelude.{string_bytes};
 ghost use Rattle.std.specs.BTreeSet.{keys};
 ghost use Rattle.toml.specs.declared.value.Value.{Value};
 ghost use Rattle.cargo_toml.specs.Error.{Memory};
 ghost use Rattle.cargo_toml.specs.Workspace.{Workspace as Table};
 ghost use Rattle.cargo_toml_tools.specs.Oddities.{GainsOnly};
-ghost use Rattle.cargo_toml_tools.specs.Places.{IsOfFolders};
-ghost use Rattle.cargo_toml_tools_files.specs.AuditSteps.{AddsAudited, AddsFolder};
-ghost use Rattle.cargo_toml_tools_files.specs.AuditSteps.{IsRefusedWith};
+ghost use Rattle.cargo_toml_tools_files.specs.AuditSteps.{AddsAudited, AddsFolder, IsRefusedWith};
+ghost use Rattle.cargo_toml_tools_files.specs.AuditSteps.{NotesOnly, UnlessMemory};
 ghost use Rattle.cargo_toml_tools_files.specs.AuditedFolders.{AreMembersOf, IsAuditFault};
-ghost use Rattle.cargo_toml_tools_files.specs.AuditedFolders.{IsAudited};
-ghost use Rattle.cargo_toml_tools_files.specs.AuditedFolders.{IsDifference, IsMemberFault};
-ghost use Rattle.cargo_toml_tools_files.specs.AuditedFolders.{IsOfFolder, IsRefusedFolder};
-ghost use Rattle.cargo_toml_tools_files.specs.AuditedFolders.{IsReportOn, IsReportText};
-ghost use Rattle.cargo_toml_tools_files.specs.AuditedFolders.{IsWithoutWorkspace, words_told};
+ghost use Rattle.cargo_toml_tools_files.specs.AuditedFolders.{IsAudited, IsOfFolder};
+ghost use Rattle.cargo_toml_tools_files.specs.AuditedFolders.{IsRefusedFolder, IsReportOn};
+ghost use Rattle.cargo_toml_tools_files.specs.AuditedFolders.{IsReportText, IsWithoutWorkspace};
+ghost use Rattle.cargo_toml_tools_files.specs.AuditedMembers.{IsAskedThere, IsDifference};
+ghost use Rattle.cargo_toml_tools_files.specs.AuditedMembers.{IsInheritedThere, IsMemberFault};
+ghost use Rattle.cargo_toml_tools_files.specs.AuditedMembers.{words_told};
+ghost use Rattle.cargo_toml_tools_files.specs.FromFiles.{IsOfInput};
 
 use crate::reading::manifest_in;
 use cargo_toml::{Error, Manifest, Workspace};
@@ -66,10 +67,9 @@ fn audited<R: Files + Eprint + AllocGlobal>(
     shows: bool,
 ) -> Result<Audit, Error>
     ensures report { IfOk result (λ a. (workspace : Table Value)
-        × (root.entry.0.now.workspace ≡ Some workspace) × IsReportOn root.entry.0.now
-        root.entry.1.now workspace folder.now a.members.items a.findings) }
-    ensures refused { IfErr result
-        (λ e. IsOfFolders e ⊎ IsWithoutWorkspace root.entry.0.now e) }
+        × (root.entry.0.now.workspace ≡ Some workspace)
+        × IsReportOn root.entry.0.now root.entry.1.now workspace folder.now a) }
+    ensures refused { IfErr result (λ e. IsOfInput e ⊎ IsWithoutWorkspace root.entry.0.now e) }
 {
     let Some(workspace) = &root.0.workspace else {
         return Err(Error::Other("there is no workspace"));
@@ -88,9 +88,9 @@ fn report_on<R: Files + Eprint + AllocGlobal>(
     shows: bool,
 ) -> Result<Audit, Error>
     requires { AreMembersOf root.0.now workspace.now found.now }
-    ensures report { IfOk result (λ a. IsReportOn root.entry.0.now root.entry.1.now workspace.now
-        folder.now a.members.items a.findings) }
-    ensures refused { IfErr result IsOfFolders }
+    ensures report { IfOk result
+        (IsReportOn root.entry.0.now root.entry.1.now workspace.now folder.now) }
+    ensures refused { IfErr result IsOfInput }
 {
     let mut audit = Audit::new(rt.alloc());
     audit.add_listing(found)?;
@@ -113,9 +113,11 @@ fn add_folder<R: Files + AllocGlobal>(
     audit: &mut Audit,
 ) -> Result<(), Error>
     ensures added { OnOk result (AddsFolder root.entry.0.now root.entry.1.now workspace.now
-        member.now audit.old.members.items audit.new.members.items audit.new.findings) }
+        member.now audit.old audit.new) }
     ensures findings { OnOk result (GainsOnly (IsOfFolder root.entry.0.now root.entry.1.now
         workspace.now folder.now member.now) audit.old.findings audit.new.findings) }
+    ensures noted { OnOk result (NotesOnly IsInheritedThere
+        (IsAskedThere root.entry.0.now root.entry.1.now member.now) audit.old audit.new) }
     ensures refused { IfErr result (λ e. e ≡ Memory) }
 {
     let alloc = rt.alloc();
@@ -142,10 +144,11 @@ fn add_refusal(
     outcome: Result<(), Error>,
     audit: &mut Audit,
 ) -> Result<(), Error>
-    ensures members { audit.new.members ≡ audit.old.members }
+    ensures rest { audit.new ≡ record audit.old { findings = audit.new.findings } }
     ensures findings { GainsOnly (IsRefusedWith outcome folder.now)
         audit.old.findings audit.new.findings }
-    ensures told { OnOk result (OnErr outcome (IsRefusedFolder audit.new.findings folder.now)) }
+    ensures told { OnOk result (IfErr outcome
+        (λ e. (e ≢ Memory) × IsRefusedFolder audit.new.findings folder.now)) }
     ensures refused { IfErr result (λ e. e ≡ Memory) }
 {
     match outcome {
@@ -179,13 +182,14 @@ fn add_member<R: Files + AllocGlobal>(
     audit: &mut Audit,
 ) -> Result<(), Error>
     ensures added { OnOk result (AddsAudited root.entry.0.now root.entry.1.now workspace.now
-        place.entry.folder.now audit.old.members.items audit.new.members.items
-        audit.new.findings) }
+        place.entry.folder.now audit.old audit.new) }
     ensures kept { OnErr result (audit.new.members.items ≡ audit.old.members.items) }
     ensures findings { GainsOnly (IsDifference root.entry.0.now root.entry.1.now workspace.now
         place.entry.folder.now) audit.old.findings audit.new.findings }
-    ensures refused { IfErr result (IsMemberFault root.entry.0.now root.entry.1.now workspace.now
-        place.entry.path.now) }
+    ensures noted { UnlessMemory result (NotesOnly IsInheritedThere (IsAskedThere
+        root.entry.0.now root.entry.1.now place.entry.folder.now) audit.old audit.new) }
+    ensures refused { IfErr result
+        (IsMemberFault root.entry.0.now root.entry.1.now place.entry.path.now) }
 {
     let alloc = rt.alloc();
     let mut held = manifest_in(rt, place.path)?;

@@ -1,10 +1,14 @@
 //! What is documented of features.
-ghost use Rattle.std.specs.Prelude.{◌≡◌, true};
+ghost use Rattle.std.specs.Prelude.{◌≡◌, true, IfErr, IfOk, string_bytes};
+ghost use Rattle.cargo_toml_tools_files.specs.DocumentedFiles.{IsDocument, IsDocumentOf};
+ghost use Rattle.cargo_toml_tools_files.specs.DocumentedFiles.{IsDocumented};
+ghost use Rattle.cargo_toml_tools_files.specs.FromFiles.{IsOfInput, IsUnreadable};
 
 use crate::reading::manifest_in;
-use cargo_toml::features::Resolver;
+use cargo_toml::features::{Features, Resolver};
 use cargo_toml::{Error, Manifest};
 use cargo_toml_tools::document::{graph, page};
+use std::alloc::{AllocError, Global};
 use std::hash::RandomState;
 use std::random::RandomSource;
 use std::rt::Files;
@@ -15,7 +19,10 @@ pub fn document<R: Files + RandomSource + AllocGlobal>(
     rt: &R,
     file: &str,
     dot: bool,
-) -> Result<String, Error> {
+) -> Result<String, Error>
+    ensures documented { IfOk result (λ text. IsDocumented dot (string_bytes text)) }
+    ensures refused { IfErr result IsUnreadable }
+{
     let held = manifest_in(rt, file)?;
     document_of(rt, &*held.manifest, dot)
 }
@@ -31,17 +38,33 @@ fn document_of<R: RandomSource + AllocGlobal>(
     rt: &R,
     manifest: &Manifest,
     dot: bool,
-) -> Result<String, Error> {
+) -> Result<String, Error>
+    ensures documented { IfOk result (λ text. IsDocumentOf manifest.now dot (string_bytes text)) }
+    ensures refused { IfErr result IsOfInput }
+{
     let state = RandomState::new(rt)?;
     let keep = keep_every;
     let resolver = Resolver::new_with_hasher_and_filter(state, &keep);
     let resolved = resolver.parse(rt.alloc(), manifest)?;
-    let text = if dot {
-        graph(rt.alloc(), manifest, &resolved)
-    } else {
-        page(rt.alloc(), manifest, &resolved)
-    };
+    let text = told_of(rt.alloc(), manifest, &resolved, dot);
     // by a call: what a function owns where it ends is taken apart field by field when it is proved
     drop(resolved);
     Ok(text?)
+}
+
+/// The graph of these features of a manifest, or a page.
+fn told_of(
+    alloc: Global,
+    manifest: &Manifest,
+    resolved: &Features<'_, '_, RandomState>,
+    dot: bool,
+) -> Result<String, AllocError>
+    ensures { IfOk result
+        (λ text. IsDocument manifest.now resolved.now dot (string_bytes text)) }
+{
+    if dot {
+        graph(alloc, manifest, resolved)
+    } else {
+        page(alloc, manifest, resolved)
+    }
 }

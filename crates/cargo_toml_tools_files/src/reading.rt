@@ -1,15 +1,13 @@
 //! Manifests that are read from files and held on the heap.
-ghost use Rattle.std.specs.Prelude.{◌≡◌, ◌⊎◌, IfErr, IfOk, IsSome, OnOk};
+ghost use Rattle.std.specs.Prelude.{IfErr, IfOk, IsSome, OnOk};
 ghost use Rattle.std.specs.Path.{path_parent};
 ghost use Rattle.toml.specs.View.{view};
 ghost use Rattle.cargo_toml.specs.Action.{Text};
-ghost use Rattle.cargo_toml.specs.Disk.{IsInput};
-ghost use Rattle.cargo_toml.specs.Error.{Memory};
 ghost use Rattle.cargo_toml.specs.Manifests.{ManifestRefuses, manifest_meaning, manifest_reads};
 ghost use Rattle.cargo_toml.specs.RealFiles.{IsTextFault};
 ghost use Rattle.cargo_toml.specs.Texts.{AnyRefuses, any_tree};
 ghost use Rattle.cargo_toml_tools_files.specs.FromFiles.{IsCompletedIn, IsManifestIn};
-ghost use Rattle.cargo_toml_tools_files.specs.FromFiles.{IsUnreadable};
+ghost use Rattle.cargo_toml_tools_files.specs.FromFiles.{IsOfInput, IsUnreadable};
 
 use cargo_toml::Error;
 use cargo_toml_held::HeldManifest;
@@ -18,7 +16,7 @@ use std::rt::Files;
 
 /// The text of a file.
 pub(crate) fn text_in<R: Files + AllocGlobal>(rt: &R, file: &str) -> Result<String, Error>
-    ensures { IfErr result (λ e. (e ≡ Memory) ⊎ IsInput e) }
+    ensures { IfErr result IsOfInput }
 {
     Ok(fs::read_to_string(rt, file)?)
 }

@@ -1,15 +1,20 @@
-use Rattle.std.proofs.Common.{◌∙◌, ap}
+use Rattle.std.proofs.Common.{◌∙◌}
 use Rattle.cargo_toml_tools_files.proofs.FileFacts.{always_on_ok}
-use Rattle.cargo_toml_tools_files.proofs.Refusals.{folder_added, folder_finds}
+use Rattle.cargo_toml_tools_files.proofs.Refusals.{folder_added, folder_finds, folder_notes}
 use Rattle.cargo_toml_tools_files.proofs.auditing.add_folder.Goals as goal
 
 pub returns-clause-added : goal.returns-clause-added
 returns-clause-added g c =
-    folder_added c.args.root.0.now c.args.root.1.now c.args.workspace.now c.args.member.now c.add_member-outcome.result c.add_refusal.result
-    c.args.audit.now.members.items c.add_member-outcome.new.audit.members.items c.add_refusal.new.audit.members.items
-    c.add_member-outcome.new.audit.findings c.add_refusal.new.audit.findings
-    c.add_member-outcome.ensures.added c.add_member-outcome.ensures.kept (ap (λ v. v.items) c.add_refusal.ensures.members)
+    folder_added c.args.root.0.now c.args.root.1.now c.args.workspace.now c.args.member.now c.add_member-outcome.result
+    c.args.audit.now c.add_member-outcome.new.audit c.add_refusal.new.audit c.add_refusal.ensures.rest c.add_refusal.result
+    c.add_member-outcome.ensures.added c.add_member-outcome.ensures.kept
     c.add_refusal.ensures.findings.kept c.add_refusal.ensures.told
+
+pub returns-clause-noted : goal.returns-clause-noted
+returns-clause-noted g c =
+    folder_notes c.args.root.0.now c.args.root.1.now c.args.workspace.now c.args.member.now c.add_member-outcome.result
+    c.args.audit.now c.add_member-outcome.new.audit c.add_refusal.new.audit c.add_refusal.ensures.rest c.add_refusal.result
+    c.add_member-outcome.ensures.noted c.add_refusal.ensures.told
 
 pub returns-clause-findings : goal.returns-clause-findings
 returns-clause-findings g c =

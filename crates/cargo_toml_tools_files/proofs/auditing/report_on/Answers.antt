@@ -1,20 +1,24 @@
-use Rattle.std.proofs.Common.{◌∙◌, List, String, Global, ap, arith, length, subst}
+use Rattle.std.proofs.Common.{◌≡◌, ◌+◌, List, String, Global, ap, arith, length, string_bytes, subst}
 use Rattle.std.proofs.lemmas.Map.Iter.{rest_all, rest_more}
 use Rattle.std.specs.Map.Iter.{deref}
+use Rattle.std.proofs.lemmas.Result.{err_from_is_err_and}
 use Rattle.cargo_toml.specs.Action.{Text}
+use Rattle.cargo_toml_discovery.proofs.Faults.{from_input}
 use Rattle.cargo_toml_tools.specs.Oddities.{GainsOnly}
-use Rattle.cargo_toml_tools_files.specs.AuditSteps.{AddsFolder}
+use Rattle.cargo_toml_tools_files.specs.AuditSteps.{AddsFolder, NotesOnly}
 use Rattle.cargo_toml_tools_files.specs.AuditedFolders.{IsOfFolder}
-use Rattle.cargo_toml_tools_files.proofs.Going.{auditing_begins, auditing_ends, auditing_on, places}
+use Rattle.cargo_toml_tools_files.specs.AuditedMembers.{IsAskedThere, IsInheritedThere}
+use Rattle.cargo_toml_tools_files.proofs.Going.{auditing_begins, auditing_ends, auditing_on}
 use Rattle.cargo_toml_tools_files.proofs.auditing.report_on.Goals as goal
 
 pub loop-i-init : goal.loop-i-init
 loop-i-init g c = record {
   count = omega (arith, ap (λ (ks : List (String Global)). length ks) c.iter-member-items.ensures.rest);
   going = auditing_begins c.args.root.0.now c.args.root.1.now c.args.workspace.now c.args.folder.now c.args.found.now
-      c.iter-member-items.result c.add_listing.new.self.members.items c.new-audit.result.findings c.add_listing.new.self.findings
-      c.iter-member-items.ensures.rest (ap (λ v. v.items) c.in_ok-add_listing.ensures.members ∙ c.new-audit.ensures.members)
-      c.new-audit.ensures.findings c.in_ok-add_listing.ensures.findings c.in_ok-add_listing.ensures.found;
+      c.iter-member-items.result c.new-audit.result c.add_listing.new.self
+      c.iter-member-items.ensures.rest c.in_ok-add_listing.ensures.rest c.new-audit.ensures.members
+      c.new-audit.ensures.findings c.new-audit.ensures.uses c.new-audit.ensures.inherited
+      c.in_ok-add_listing.ensures.findings c.in_ok-add_listing.ensures.found;
 }
 
 pub overflow_step-i : goal.overflow_step-i
@@ -28,20 +32,26 @@ loop-i-preserved g c =
     let root = c.args.root.0.now in
     let path = c.args.root.1.now in
     let workspace = c.args.workspace.now in
-    let more = c.add_folder.new.audit in record {
+    let old = c.loop-i.audit in
+    let new = c.add_folder.new.audit in record {
       count = omega (arith, ap (λ (ks : List (String Global)). length ks) one, c.loop-i.invariant.count);
       going = auditing_on root path workspace c.args.folder.now c.args.found.now c.in-Some.member.now c.next.new.self c.loop-i.member-iterator
-          c.loop-i.audit.members.items more.members.items c.loop-i.audit.findings more.findings one c.loop-i.invariant.going
-          (subst (λ (f : Text). AddsFolder root path workspace f c.loop-i.audit.members.items more.members.items more.findings)
-          c.as_str.ensures.value c.in_ok-add_folder.ensures.added)
-          (subst (λ (f : Text). GainsOnly (IsOfFolder root path workspace c.args.folder.now f) c.loop-i.audit.findings more.findings)
+          old new one c.loop-i.invariant.going
+          (subst (λ (f : Text). AddsFolder root path workspace f old new) c.as_str.ensures.value c.in_ok-add_folder.ensures.added)
+          (subst (λ (f : Text). GainsOnly (IsOfFolder root path workspace c.args.folder.now f) old.findings new.findings)
           c.as_str.ensures.value c.in_ok-add_folder.ensures.findings)
-          (places root workspace c.args.found.now c.requires);
+          (subst (λ (f : Text). NotesOnly IsInheritedThere (IsAskedThere root path f) old new) c.as_str.ensures.value c.in_ok-add_folder.ensures.noted);
     }
+
+pub returns-in_err-show_progress-clause-refused : goal.returns-in_err-show_progress-clause-refused
+returns-in_err-show_progress-clause-refused g c =
+    let left = c.from_residual-in_err-show_progress in
+    let p = err_from_is_err_and left.result left.ensures.1 in
+    rw p.1 (from_input _ p.0 p.2)
 
 pub returns-clause-report : goal.returns-clause-report
 returns-clause-report g c =
     auditing_ends c.args.root.0.now c.args.root.1.now c.args.workspace.now c.args.folder.now c.args.found.now c.loop-i.member-iterator
-    c.loop-i.audit.members.items c.finish.new.self.members.items c.loop-i.audit.findings c.finish.new.self.findings
-    (rest_all deref _ _ _ c.in-None.is c.next.ensures.steps) (ap (λ v. v.items) c.in_ok-finish.ensures.members)
-    c.requires c.in_ok-finish.ensures.findings c.loop-i.invariant.going
+    c.loop-i.audit c.finish.new.self
+    (rest_all deref _ _ _ c.in-None.is c.next.ensures.steps) c.in_ok-finish.ensures.rest
+    c.requires c.in_ok-finish.ensures.findings c.in_ok-finish.ensures.found c.loop-i.invariant.going

@@ -1,5 +1,5 @@
 -- Faults of files and folders, what was read of a file, and two facts of one answer.
-use Rattle.std.proofs.Common.{◌≡◌, ◌<◌, ◌⊎◌, ◌∙◌, ◌↔◌, ℕ, suc, zero, Bool, true, false, Result, Ok, Err, IfOk, List, Bor, ap, arith, inl, inr, refl, subst, sym}
+use Rattle.std.proofs.Common.{◌≡◌, ◌<◌, ◌∙◌, ◌↔◌, ℕ, suc, zero, Bool, true, false, Result, Ok, Err, IfOk, List, Bor, ap, arith, inl, inr, refl, subst, sym}
 use Rattle.std.proofs.lemmas.Bool.{true≢false}
 use Rattle.std.specs.Prelude.{IsTrue, OnOk, not}
 use Rattle.std.specs.Bool.{then_some}

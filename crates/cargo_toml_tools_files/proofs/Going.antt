@@ -1,7 +1,7 @@
 -- A report that is being made, while folders are left.
 use Rattle.std.proofs.Common.{◌≡◌, ◌⊎◌, ◌++◌, ◌∙◌, List, [], ◌∷◌, String, Global, ap, arith, inl, inr, length, map, refl, string_bytes, subst, sym}
 use Rattle.std.specs.Prelude.{IsTrue, Vec}
-use Rattle.std.specs.BTreeSet.{BTreeSet, btree_set_len, contains_text}
+use Rattle.std.specs.BTreeSet.{btree_set_len, contains_text}
 use Rattle.std.specs.List.{AllByRecursion}
 use Rattle.toml.specs.declared.value.Value.{Value}
 use Rattle.cargo_toml.specs.Action.{Text}
@@ -11,7 +11,6 @@ use Rattle.cargo_toml.specs.Workspace.{Workspace}
 use Rattle.cargo_toml_tools.specs.Noted.{Asking, asking_of, askings_of}
 use Rattle.cargo_toml_tools.specs.Oddities.{AreReported, GainsOnly, IsReported, Oddity, listing_oddities, oddity_of}
 use Rattle.cargo_toml_tools.specs.declared.audit.Audit.{Audit}
-use Rattle.cargo_toml_tools.specs.declared.audit.Finding.{Finding}
 use Rattle.cargo_toml_tools.specs.declared.audit.Member.{Member}
 use Rattle.cargo_toml_tools.specs.declared.audit.Use.{Use}
 use Rattle.cargo_toml_tools.specs.declared.members.Members.{Members}

@@ -1,4 +1,4 @@
-use Rattle.std.proofs.Common.{◌≡◌, ◌+◌, List, String, Global, ap, arith, length, string_bytes, subst}
+use Rattle.std.proofs.Common.{List, String, Global, ap, arith, length, subst}
 use Rattle.std.proofs.lemmas.Map.Iter.{rest_all, rest_more}
 use Rattle.std.specs.Map.Iter.{deref}
 use Rattle.std.proofs.lemmas.Result.{err_from_is_err_and}

@@ -1,4 +1,4 @@
-use Rattle.std.proofs.Common.{string_bytes, subst, sym}
+use Rattle.std.proofs.Common.{subst, sym}
 use Rattle.std.proofs.lemmas.Result.{IfErr-weaker, IfOk-weaker}
 use Rattle.cargo_toml_tools_files.specs.FromFiles.{IsManifestIn}
 use Rattle.cargo_toml_tools_files.proofs.FileFacts.{of_input}

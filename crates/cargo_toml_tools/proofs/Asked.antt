@@ -9,7 +9,7 @@ use Rattle.cargo_toml.specs.Dependency.TheVariants as kind
 use Rattle.cargo_toml.specs.DependencyAnswers.{features_at}
 use Rattle.cargo_toml_tools.specs.IndexEntries.{asked_features, required_version}
 use Rattle.cargo_toml_tools.specs.Noted.{asked_by, asking_for}
-use Rattle.cargo_toml_tools.specs.Requirements.{requirement_text}
+use Rattle.cargo_toml.specs.Requirements.{requirement_text}
 
 pub features_asked : (d : Dependency) → map string_bytes (features_at d) ≡ asked_features (dependency_meaning d)
 features_asked (kind.Simple r) = refl

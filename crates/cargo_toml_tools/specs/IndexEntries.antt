@@ -14,7 +14,7 @@ use Rattle.cargo_toml.specs.Manifests.{ManifestMeaning}
 use Rattle.cargo_toml.specs.Targets.{TargetMeaning}
 use Rattle.cargo_toml_tools.specs.Indexed.{lacks_version, target_by_kind, with_kinds}
 use Rattle.cargo_toml_tools.specs.IndexRows.{text_array, text_or_null, with_rows}
-use Rattle.cargo_toml_tools.specs.Requirements.{requirement_text}
+use Rattle.cargo_toml.specs.Requirements.{requirement_text}
 
 -- the requirement on the version, if there is one, and how it is written
 abbrev pub required_version : DependencyMeaning → Option (List Held)

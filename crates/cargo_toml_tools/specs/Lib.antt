@@ -5,7 +5,6 @@ pub mod IndexEntries
 pub mod IndexFeatures
 pub mod IndexLines
 pub mod IndexFaults
-pub mod Requirements
 pub mod Linted
 pub mod Audited
 pub mod Oddities

@@ -14,7 +14,7 @@ use Rattle.cargo_toml.specs.Manifests.{ManifestMeaning}
 use Rattle.cargo_toml.specs.Reach.{Among}
 use Rattle.cargo_toml_tools.specs.IndexEntries.{required_version}
 use Rattle.cargo_toml_tools.specs.Indexed.{all_by_kind}
-use Rattle.cargo_toml_tools.specs.Requirements.{requirement_text}
+use Rattle.cargo_toml.specs.Requirements.{requirement_text}
 use Rattle.cargo_toml_tools.specs.declared.audit.Audit.{Audit}
 use Rattle.cargo_toml_tools.specs.declared.audit.Use.{Use}
 

@@ -9,8 +9,9 @@ use Rattle.cargo_toml_parts.specs.declared.error.Error.{Error, Memory}
 use Rattle.cargo_toml_parts.specs.declared.inheritable.Inheritable.{Inheritable}
 use Rattle.cargo_toml_parts.specs.declared.inheritable.Inheritable.TheVariants.{Set, Inherited}
 use Rattle.cargo_toml_parts.specs.Floats.{has_no_float}
-use Rattle.cargo_toml_write.specs.Floatless.{exactly_floatless, word_floatless, requirement_floatless, free_floatless, list_floatless, inheritable_floatless, table_floatless}
+use Rattle.cargo_toml_write.specs.Floatless.{exactly_floatless, word_floatless, free_floatless, list_floatless, inheritable_floatless, table_floatless}
 use Rattle.cargo_toml_write.specs.NoFloats.{HoldsNoFloat, EachValue, IfSet}
+use Rattle.cargo_toml_write.specs.Requirements.{requirement_text}
 use Rattle.cargo_toml_write.specs.Ways.{exactly, requirement_way, free_way, text_way, truth_way, number_way, version_way, texts_way, list_way, AreItems, entry_rows, map_way, inheritable_way, inherited_tree, is_nil, is_set_and}
 use Rattle.cargo_toml_write.specs.Writes.{Way, HasTree, IsFloatless, IsWriting, Row, IsHeld, put_some, optional_row, required_row, given_row, unless, AreWritten, table_way}
 
@@ -68,7 +69,7 @@ pub version_total : Total version_way
 version_total = word_total parts_text
 
 pub requirement_total : Total requirement_way
-requirement_total = record { tree = λ held. (string [], ([], refl)); floatless = requirement_floatless }
+requirement_total = word_total requirement_text
 
 items_tree : {X : Type 0} (way : Way X) → Total way → (xs : List X) → (ds : Items) × AreItems way xs ds
 items_tree way t [] = (no_items, tt)

@@ -16,6 +16,7 @@ use Rattle.cargo_toml_settings.specs.declared.profile_settings.LtoSetting.TheVar
 use Rattle.cargo_toml_settings.specs.declared.profile_settings.StripSetting.TheVariants as strip
 use Rattle.cargo_toml_settings.specs.Settings.{flag, path, everywhere, among}
 use Rattle.cargo_toml_tables.specs.Lints.{LintMeaning}
+use Rattle.cargo_toml_write.specs.Requirements.{requirement_text}
 use Rattle.cargo_toml_write.specs.Ways.{exactly, free_way, requirement_way, list_way, AreItems}
 use Rattle.cargo_toml_write.specs.Ways.{inheritable_way, text_way, texts_way}
 use Rattle.cargo_toml_write.specs.WrittenDependencies.{inherited_rows, detail_rows, dependency_way}
@@ -42,7 +43,7 @@ pub word_floatless : {X : Type 0} (word : X → List ℕ) → IsFloatless (exact
 word_floatless word = exactly_floatless (λ x. string (word x)) (λ x. refl)
 
 pub requirement_floatless : IsFloatless requirement_way
-requirement_floatless held d (bytes, is) = subst Floatless (sym is) refl
+requirement_floatless = word_floatless requirement_text
 
 pub free_floatless : IsFloatless free_way
 free_floatless tree d (h, is) = subst Floatless (sym is) h

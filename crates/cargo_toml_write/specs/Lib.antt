@@ -1,5 +1,6 @@
 -- how each type is written: a user has to believe these
 pub mod Writes
+pub mod Requirements
 pub mod Ways
 pub mod NoFloats
 pub mod WrittenBadges

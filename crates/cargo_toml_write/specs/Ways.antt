@@ -11,6 +11,7 @@ use Rattle.cargo_toml_parts.specs.declared.inheritable.Inheritable.TheVariants.{
 use Rattle.cargo_toml_parts.specs.Faults.{IsOther, floats_unsupported}
 use Rattle.cargo_toml_parts.specs.Floats.{has_no_float}
 use Rattle.cargo_toml_parts.specs.Versions.{Parts}
+use Rattle.cargo_toml_write.specs.Requirements.{requirement_text}
 use Rattle.cargo_toml_write.specs.Writes.{Way, Row, required_row, optional_row, table_way}
 use Rattle.cargo_toml_write.specs.Writes.{never_left_out}
 
@@ -31,16 +32,12 @@ truth_way = exactly boolean
 abbrev pub number_way : Way ℕ
 number_way = exactly (λ n. integer (pos n))
 
--- a version as `semver` writes it; the text of a requirement is left open
+-- a version and a requirement as `semver` writes them
 abbrev pub version_way : Way Parts
 version_way = exactly (λ parts. string (parts_text parts))
 
 abbrev pub requirement_way : Way (List Held)
-requirement_way = record {
-  trees = λ held d. (bytes : List ℕ) × (d ≡ string bytes);
-  refuses = λ held e. ⊥;
-  left_out = never_left_out;
-}
+requirement_way = exactly (λ held. string (requirement_text held))
 
 -- a tree itself, unless it holds a float
 abbrev pub free_way : Way Data

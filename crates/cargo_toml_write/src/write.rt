@@ -14,6 +14,7 @@ pub mod package;
 pub mod plain;
 pub mod product;
 pub mod profile;
+pub mod requirement;
 pub mod settings;
 pub mod workspace;
 pub mod writing;

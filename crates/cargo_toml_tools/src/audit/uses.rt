@@ -14,8 +14,9 @@ ghost use Rattle.cargo_toml_tools.specs.Overall.{has_same_requirement, requireme
 ghost use Rattle.cargo_toml_tools.specs.Overall.{several_among, several_of, several_words};
 
 use super::{Code, Finding, Use};
-use crate::requirement::{required_version, requirement_text};
+use crate::requirement::required_version;
 use cargo_toml::{Dependency, DepsSet, Manifest, Target};
+use cargo_toml_write::write::requirement::requirement_text;
 use std::alloc::{AllocError, Global};
 use std::collections::BTreeSet;
 

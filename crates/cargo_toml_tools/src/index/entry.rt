@@ -11,9 +11,10 @@ ghost use Rattle.cargo_toml_tools.specs.IndexRows.{with_rows};
 
 use super::refusals::lacks_version;
 use crate::json::{put_text, put_texts};
-use crate::requirement::{required_version, requirement_text};
+use crate::requirement::required_version;
 use cargo_toml::Dependency;
 use cargo_toml::features::Kind;
+use cargo_toml_write::write::requirement::requirement_text;
 use serde_json::{Map, Value, push, put};
 use std::alloc::{AllocError, Global};
 

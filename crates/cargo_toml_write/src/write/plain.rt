@@ -11,6 +11,7 @@ ghost use Rattle.cargo_toml_write.specs.Ways.{text_way, truth_way, number_way};
 ghost use Rattle.cargo_toml_write.specs.Ways.{version_way, requirement_way, free_way};
 
 use crate::write::ToValue;
+use crate::write::requirement::requirement_text;
 use cargo_toml_parts::floats::has_no_float;
 use cargo_toml_parts::{Error, SemVer, VersionReq};
 use std::alloc::Global;
@@ -82,7 +83,7 @@ impl ToValue for VersionReq {
     ghost floatless = { requirement_floatless };
 
     fn to_value(&self, alloc: Global) -> Result<Value, Error> {
-        Ok(Value::String(self.to_string(alloc)?))
+        Ok(Value::String(requirement_text(alloc, self)?))
     }
 }
 

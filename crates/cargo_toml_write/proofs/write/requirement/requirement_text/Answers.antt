@@ -5,8 +5,8 @@ use Rattle.std.specs.List.{flat_map}
 use Rattle.semver.specs.Identifiers.{comparator_view}
 use Rattle.semver.specs.Parse.{Held}
 use Rattle.semver.specs.declared.Comparator.{Comparator}
-use Rattle.cargo_toml_tools.specs.Requirements.{comparator_text, requirement_text}
-use Rattle.cargo_toml_tools.proofs.requirement.requirement_text.Goals as goal
+use Rattle.cargo_toml_write.specs.Requirements.{comparator_text, requirement_text}
+use Rattle.cargo_toml_write.proofs.write.requirement.requirement_text.Goals as goal
 
 pub returns : goal.returns
 returns c =

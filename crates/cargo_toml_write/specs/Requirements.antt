@@ -6,10 +6,9 @@ use Rattle.semver.specs.Parse.{Held}
 use Rattle.semver.specs.declared.Op.{Op}
 use Rattle.semver.specs.declared.Op.TheVariants.{Caret, Exact, Greater, GreaterEq, Less, LessEq}
 use Rattle.semver.specs.declared.Op.TheVariants.{Tilde, Wildcard}
-use Rattle.cargo_toml.specs.Action.{Text}
 
 -- what stands in front of the numbers, and what stands for those that are left out
-abbrev pub sign_of : Op → Text
+abbrev pub sign_of : Op → List ℕ
 sign_of Exact = codes "="
 sign_of Greater = codes ">"
 sign_of GreaterEq = codes ">="
@@ -19,7 +18,7 @@ sign_of Tilde = codes "~"
 sign_of Caret = codes "^"
 sign_of Wildcard = []
 
-abbrev pub star_of : Op → Text
+abbrev pub star_of : Op → List ℕ
 star_of Exact = []
 star_of Greater = []
 star_of GreaterEq = []
@@ -30,19 +29,19 @@ star_of Caret = []
 star_of Wildcard = codes ".*"
 
 -- what follows the first number, and the second
-abbrev pub after_minor : Text → Option ℕ → Text → Text
+abbrev pub after_minor : List ℕ → Option ℕ → List ℕ → List ℕ
 after_minor star None pre = star
 after_minor star (Some patch) pre = codes "." ++ (decimal patch ++ marked 45 pre)
 
-abbrev pub after_major : Text → Option ℕ → Option ℕ → Text → Text
+abbrev pub after_major : List ℕ → Option ℕ → Option ℕ → List ℕ → List ℕ
 after_major star None patch pre = star
 after_major star (Some minor) patch pre = codes "." ++ (decimal minor ++ after_minor star patch pre)
 
 -- a comparator, as `>=1.2.3-pre`
-abbrev pub comparator_text : Held → Text
+abbrev pub comparator_text : Held → List ℕ
 comparator_text c = sign_of c.0 ++ (decimal c.1 ++ after_major (star_of c.0) c.2 c.3 c.4)
 
 -- comparators with `, ` between them; `*` is any version
-abbrev pub requirement_text : List Held → Text
+abbrev pub requirement_text : List Held → List ℕ
 requirement_text [] = codes "*"
 requirement_text (c ∷ cs) = comparator_text c ++ flat_map (λ d. codes ", " ++ comparator_text d) cs

@@ -1,9 +1,9 @@
 -- Rows that are filled, or finished, are what the walks are to find.
-use Rattle.std.proofs.Common.{◌≡◌, ◌↔◌, ◌<◌, ◌≤◌, ℕ, Bool, true, false, List, [], Vec, length, sym, subst, ◌∙◌, arith}
+use Rattle.std.proofs.Common.{◌≡◌, ◌↔◌, ◌<◌, ◌≤◌, ◌+◌, ℕ, Bool, true, false, List, [], ◌∷◌, ◌++◌, Vec, length, sym, subst, ◌∙◌, arith}
 use Rattle.std.proofs.lemmas.Bool.{false≢true}
 use Rattle.cargo_toml_graph.specs.Reach.{Among}
 use Rattle.cargo_toml_walk.specs.Numbers.{AreEdges, AreWithin, FindsLabels, FindsPassed, FindsRedirects, HasLabel, IsPassed, IsWanted, Leads, PassesAny, row_items}
-use Rattle.cargo_toml_walk.proofs.Filling.{IsFilled, read_filled}
+use Rattle.cargo_toml_walk.proofs.Filling.{IsFilled, one_more_filled, read_filled}
 use Rattle.cargo_toml_walk.proofs.Labelled.{some_among}
 use Rattle.cargo_toml_walk.proofs.Rows.{RowsState, none_among}
 use Rattle.cargo_toml_walk.proofs.Walking.{path_inside}
@@ -24,15 +24,17 @@ some_passed edges flags a row kept is b = (λ i. (kept, (is b).0 i), λ p. (is b
 abbrev pub LabelsOf : {Z : Type 0} → List (Vec ℕ Z) → List (Vec ℕ Z) → List Bool → ℕ → ℕ → Type 0
 LabelsOf passed labels flags a x = PassesAny passed a × HasLabel (Leads passed a) labels flags a x
 
--- the row of a vertex that passes none
-pub none_labelled : {Z : Type 0} (passed labels : List (Vec ℕ Z)) (flags : List Bool) (a : ℕ) (through row : List ℕ) → through ≡ row_items passed a → length through ≡ 0 → row ≡ [] → (x : ℕ) → Among row x ↔ LabelsOf passed labels flags a x
-none_labelled passed labels flags a through row read none empty x = (λ i. absurd (subst (λ t. Among t x) empty i), λ p. absurd (none_among through none p.0.0 (subst (λ t. Among t p.0.0) (sym read) p.0.1)))
+-- one more row of labels is put at the end
+module _ {Z : Type 0} (passed labels : List (Vec ℕ Z)) (flags : List Bool) (a : ℕ) (rows : List (Vec ℕ Z)) (filled : IsFilled (LabelsOf passed labels flags) a rows) (through : List ℕ) (read : through ≡ row_items passed a) (v : Vec ℕ Z) (more : List (Vec ℕ Z)) (pushed : more ≡ rows ++ v ∷ []) where
+  -- of a vertex that passes none
+  pub none_labelled : length through ≡ 0 → v.items ≡ [] → IsFilled (LabelsOf passed labels flags) (a + 1) more
+  none_labelled none empty = subst (IsFilled (LabelsOf passed labels flags) (a + 1)) (sym pushed) (one_more_filled (LabelsOf passed labels flags) a rows v filled
+      (λ x. (λ i. absurd (subst (λ t. Among t x) empty i), λ p. absurd (none_among through none p.0.0 (subst (λ t. Among t p.0.0) (sym read) p.0.1)))))
 
--- and of another
-pub some_labelled : {Z : Type 0} (passed labels : List (Vec ℕ Z)) (flags : List Bool) (a : ℕ) (through row : List ℕ) → through ≡ row_items passed a → 0 < length through → ((x : ℕ) → Among row x ↔ HasLabel (Among through) labels flags a x)
-    → (x : ℕ) → Among row x ↔ LabelsOf passed labels flags a x
-some_labelled passed labels flags a through row read some has = subst (λ t. (x : ℕ) → Among row x ↔ (((d : ℕ) × Among t d) × HasLabel (Among t) labels flags a x)) read
-    (λ x. (λ i. (some_among through some, (has x).0 i), λ n. (has x).1 n.1))
+  -- and of another
+  pub some_labelled : 0 < length through → ((x : ℕ) → Among v.items x ↔ HasLabel (Among through) labels flags a x) → IsFilled (LabelsOf passed labels flags) (a + 1) more
+  some_labelled some has = subst (IsFilled (LabelsOf passed labels flags) (a + 1)) (sym pushed) (one_more_filled (LabelsOf passed labels flags) a rows v filled
+      (subst (λ t. (x : ℕ) → Among v.items x ↔ (((d : ℕ) × Among t d) × HasLabel (Among t) labels flags a x)) read (λ x. (λ i. (some_among through some, (has x).0 i), λ n. (has x).1 n.1))))
 
 pub finds_passed : {Z Y : Type 0} (edges : List (Vec ℕ Z)) (flags : List Bool) (rows : List (Vec ℕ Y)) → AreEdges edges flags → IsFilled (PassedBy edges flags) (length edges) rows → FindsPassed edges flags rows
 finds_passed edges flags rows are filled = record {

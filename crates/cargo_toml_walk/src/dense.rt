@@ -71,7 +71,7 @@ pub(crate) fn dense_labels(
     is_removed: &[bool],
 ) -> Result<Vec<Vec<Node>>, AllocError>
     requires { AreWithin passed.now labels.now is_removed.now }
-    ensures { IfOk result (λ rows. FindsLabels passed.now labels.now is_removed.now rows.items) }
+    ensures { IfOk result (λ r. FindsLabels passed.now labels.now is_removed.now r.items) }
 {
     let width = words_for(is_removed.len());
     let table = table_of(alloc, labels, width)?;
@@ -120,7 +120,7 @@ pub(crate) fn dense_passed(
     is_removed: &[bool],
 ) -> Result<Vec<Vec<Node>>, AllocError>
     requires { AreEdges edges.now is_removed.now }
-    ensures { IfOk result (λ rows. FindsPassed edges.now is_removed.now rows.items) }
+    ensures { IfOk result (λ r. FindsPassed edges.now is_removed.now r.items) }
 {
     let table = reached(alloc, edges, is_removed)?;
     let mut passed = Vec::with_capacity(alloc, edges.len())?;
@@ -142,8 +142,7 @@ pub(crate) fn dense_redirects(
     is_removed: &[bool],
 ) -> Result<Vec<Vec<Node>>, AllocError>
     requires { AreWithin edges.now labels.items is_removed.now }
-    ensures { IfOk result
-        (λ rows. FindsRedirects edges.now labels.items is_removed.now rows.items) }
+    ensures { IfOk result (λ r. FindsRedirects edges.now labels.items is_removed.now r.items) }
 {
     let total = is_removed.len();
     let mut finished = Vec::from_elem(alloc, false, total)?;

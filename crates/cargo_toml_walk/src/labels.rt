@@ -77,7 +77,7 @@ pub fn all_labels(
     is_removed: &[bool],
 ) -> Result<Vec<Vec<Node>>, AllocError>
     requires { AreWithin passed.now labels.now is_removed.now }
-    ensures { IfOk result (λ rows. FindsLabels passed.now labels.now is_removed.now rows.items) }
+    ensures { IfOk result (λ r. FindsLabels passed.now labels.now is_removed.now r.items) }
 {
     if is_dense(labels, is_removed.len()) {
         return dense_labels(alloc, passed, labels, is_removed);

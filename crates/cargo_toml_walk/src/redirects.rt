@@ -74,8 +74,7 @@ pub fn redirects(
     is_removed: &[bool],
 ) -> Result<Vec<Vec<Node>>, AllocError>
     requires { AreWithin edges.items labels.items is_removed.now }
-    ensures { IfOk result
-        (λ rows. FindsRedirects edges.items labels.items is_removed.now rows.items) }
+    ensures { IfOk result (λ r. FindsRedirects edges.items labels.items is_removed.now r.items) }
 {
     // There is none below a sole removed vertex: its redirect is its labels.
     if is_sole(is_removed) {

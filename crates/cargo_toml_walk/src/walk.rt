@@ -134,7 +134,7 @@ pub fn all_passed(
     is_removed: &[bool],
 ) -> Result<Vec<Vec<Node>>, AllocError>
     requires { AreEdges edges.now is_removed.now }
-    ensures { IfOk result (λ rows. FindsPassed edges.now is_removed.now rows.items) }
+    ensures { IfOk result (λ r. FindsPassed edges.now is_removed.now r.items) }
 {
     if is_dense(edges, is_removed.len()) {
         return dense_passed(alloc, edges, is_removed);

@@ -1,7 +1,7 @@
-use Rattle.std.proofs.Common.{rules, ◌≡◌, ◌<◌, ◌+◌, length, sym, subst, ◌∙◌, arith}
+use Rattle.std.proofs.Common.{rules, ◌≡◌, ◌<◌, length, sym, subst, ◌∙◌, arith}
 use Rattle.std.proofs.lemmas.Bool.Decides.{nat_tests}
 use Rattle.cargo_toml_graph.specs.Reach.{Among}
-use Rattle.cargo_toml_walk.proofs.Filling.{IsFilled, one_more_filled}
+use Rattle.cargo_toml_walk.proofs.Filling.{IsFilled}
 use Rattle.cargo_toml_walk.proofs.Found.{LabelsOf, finds_labels, none_labelled, some_labelled}
 use Rattle.cargo_toml_walk.proofs.Steps.{list_read}
 use Rattle.cargo_toml_walk.proofs.Tabled.{label_row}
@@ -19,25 +19,15 @@ gathered-requires-clause-named c = λ b i.
 
 pub loop-own-preserved : goal.loop-own-preserved
 loop-own-preserved c =
-    let passed = c.args.passed.now in
-    let labels = c.args.labels.now in
-    let flags = c.args.is_removed.now in
-    let a = c.loop-own.own in
-    let own : a < length passed = search rules in
-    let read = c.as_slice-through.ensures.value ∙ sym (list_read passed a c.index-passed-own.result own c.index-passed-own.is) in
+    let read = c.as_slice-through.ensures.value ∙ sym (list_read c.args.passed.now c.loop-own.own c.index-passed-own.result (search rules) c.index-passed-own.is) in
     elim c.if-is_empty.branch [
-      | then-is_empty+in_ok-push w ↦
-          let none : length c.as_slice-through.result.now ≡ 0 = grind (arith, nat_tests) in
-          rw w.rows-is (subst (IsFilled (LabelsOf passed labels flags) (a + 1)) (sym w.in_ok-push.ensures.items)
-          (one_more_filled (LabelsOf passed labels flags) a c.loop-own.rows.items w.new.result c.loop-own.invariant (none_labelled passed labels flags a c.as_slice-through.result.now w.new.result.items read none w.new.ensures.items)))
+      | then-is_empty+in_ok-push w ↦ rw w.rows-is (none_labelled c.args.passed.now c.args.labels.now c.args.is_removed.now c.loop-own.own c.loop-own.rows.items c.loop-own.invariant c.as_slice-through.result.now read w.new.result _ w.in_ok-push.ensures.items (grind (arith, nat_tests)) w.new.ensures.items)
       | else-is_empty+in_ok-bits+in_ok-nodes_of+in_ok-push-2 w ↦
-          let some : 0 < length c.as_slice-through.result.now = grind (arith, nat_tests) in
           let has = rw (w.as_slice.ensures.value, w.at.ensures) at w.in_ok-bits.ensures.bits in
           let nodes = rw w.as_slice-else-is_empty.ensures.value at w.in_ok-nodes_of.ensures in
           let found = w.in_ok-nodes_of.field-0 in
-          let row = label_row labels c.in_ok-table.table.items flags a c.as_slice-through.result.now w.in_ok-bits.bits.items found.items c.in_ok-table.ensures.bits has nodes c.requires.labels_inside in
-          rw w.rows-is (subst (IsFilled (LabelsOf passed labels flags) (a + 1)) (sym w.in_ok-push-2.ensures.items)
-          (one_more_filled (LabelsOf passed labels flags) a c.loop-own.rows.items found c.loop-own.invariant (some_labelled passed labels flags a c.as_slice-through.result.now found.items read some row)))
+          let row = label_row c.args.labels.now c.in_ok-table.table.items c.args.is_removed.now c.loop-own.own c.as_slice-through.result.now w.in_ok-bits.bits.items found.items c.in_ok-table.ensures.bits has nodes c.requires.labels_inside in
+          rw w.rows-is (some_labelled c.args.passed.now c.args.labels.now c.args.is_removed.now c.loop-own.own c.loop-own.rows.items c.loop-own.invariant c.as_slice-through.result.now read found _ w.in_ok-push-2.ensures.items (grind (arith, nat_tests)) row)
     ]
 
 pub returns : goal.returns

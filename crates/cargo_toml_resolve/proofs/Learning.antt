@@ -2,7 +2,7 @@
 use Rattle.std.proofs.Common.{◌≡◌, ◌≢◌, ◌↔◌, ◌⊎◌, ◌<◌, ◌+◌, ◌||◌, ◌∷◌, ℕ, suc, Bool, true, false, cond, List, [], length, map, get_or, set, slice_get, Option, Some, None, Bor, Global, IsTrue, IfSome, Vec, is_some, option_map, bytes_eq, refl, sym, ap, subst, inl, inr, ◌∙◌, arith}
 use Rattle.std.proofs.lemmas.Bool.{cases_eq, false≢true, or_cases, or_left, or_right}
 use Rattle.std.proofs.lemmas.List.{length-map}
-use Rattle.std.proofs.lemmas.Option.{same_Some, slice_get-get_or, slice_get_read, slice_get_within}
+use Rattle.std.proofs.lemmas.Option.{same_Some, slice_get_read, slice_get_within}
 use Rattle.std.proofs.lemmas.Slice.Eq.{bytes_eq-Decides}
 use Rattle.std.specs.BTreeSet.{BTreeSet}
 use Rattle.std.specs.BTreeSet.{btree_set_len}
@@ -20,7 +20,7 @@ use Rattle.cargo_toml_graph.specs.Reach.{Among}
 use Rattle.cargo_toml_features.specs.Places.{nth_text}
 use Rattle.cargo_toml_features.specs.declared.features.DepAction.{DepAction}
 use Rattle.cargo_toml_features.specs.declared.features.Feature.{Feature}
-use Rattle.cargo_toml_features.specs.InOrder.{AreInOrder, AreTable, HaveNoEnablers, feature_at, names_of, resolution_among, table_among}
+use Rattle.cargo_toml_features.specs.InOrder.{AreInOrder, AreTable, HaveNoEnablers, feature_at, names_of, resolution_among}
 use Rattle.cargo_toml_features.specs.Marks.{FeatureMarks, marks_of}
 use Rattle.cargo_toml_features.specs.Views.{action_at, action_of, set_has, value_at}
 use Rattle.cargo_toml_features.proofs.TextKeys.{none_in}

@@ -1,7 +1,7 @@
 -- Binaries that are put into the lists of features, place after place.
-use Rattle.std.proofs.Common.{◌≡◌, ◌⊎◌, ◌↔◌, ◌<◌, ◌≤◌, ℕ, cond, List, [], ◌∷◌, ◌++◌, length, get_or, slice_get, Option, Some, Bor, refl, sym, ap, subst, inl, inr, ◌∙◌, arith}
+use Rattle.std.proofs.Common.{◌≡◌, ◌⊎◌, ◌↔◌, ◌<◌, ◌≤◌, ℕ, cond, List, [], ◌∷◌, ◌++◌, length, get_or, Option, Bor, refl, sym, ap, subst, inl, inr, ◌∙◌, arith}
 use Rattle.std.proofs.lemmas.Bool.{cases_eq}
-use Rattle.std.proofs.lemmas.Option.{same_Some, slice_get-get_or, slice_get_read, slice_get_within}
+use Rattle.std.proofs.lemmas.Option.{slice_get_read}
 use Rattle.std.specs.Option.{option_map_or}
 use Rattle.cargo_toml_graph.specs.Action.{Text}
 use Rattle.cargo_toml_graph.specs.Reach.{Among}

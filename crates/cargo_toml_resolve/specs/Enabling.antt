@@ -1,6 +1,6 @@
 -- Features that learn what enables them, place by place.
 use Rattle.std.specs.Prelude.{◌≡◌, ◌≢◌, ◌<◌, ◌↔◌, ◌⊎◌, ℕ, Bool, IsTrue, List, Vec, false, true}
-use Rattle.std.specs.Prelude.{length, slice_get, Some}
+use Rattle.std.specs.Prelude.{slice_get, Some}
 use Rattle.cargo_toml_graph.specs.Action.{Text}
 use Rattle.cargo_toml_graph.specs.Graph.{IsPlain}
 use Rattle.cargo_toml_features.specs.declared.features.Feature.{Feature}

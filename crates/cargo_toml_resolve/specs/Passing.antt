@@ -1,6 +1,6 @@
 -- The binaries that are passed on, by places.
 use Rattle.std.specs.Prelude.{◌≡◌, ℕ, zero, suc, Bool, false, List, [], if◌then◌else◌}
-use Rattle.std.specs.Prelude.{length, map, nat_eq, take, slice_get, Some, Vec}
+use Rattle.std.specs.Prelude.{map, nat_eq, take, slice_get, Vec}
 use Rattle.std.specs.List.{list_any, slice_index_or}
 use Rattle.std.specs.Option.{option_map_or}
 use Rattle.cargo_toml_graph.specs.Action.{Text}

@@ -1,12 +1,9 @@
-use Rattle.std.proofs.Common.{rules, ◌≡◌, ◌<◌, ◌≤◌, ℕ, Bor, true, length, ap, sym, subst, ◌∙◌}
+use Rattle.std.proofs.Common.{rules, ◌≡◌, ◌<◌, ◌≤◌, Bor, length, ap, sym, subst, ◌∙◌}
 use Rattle.std.proofs.lemmas.List.{length-map}
 use Rattle.cargo_toml_graph.specs.Ascending.{Ascend}
 use Rattle.cargo_toml_graph.specs.Action.{Text}
-use Rattle.cargo_toml_walk.specs.Numbers.{IsWanted}
 use Rattle.cargo_toml_walk.proofs.Filling.{has_row}
 use Rattle.cargo_toml_features.specs.InOrder.{names_of}
-use Rattle.cargo_toml_resolve.specs.NumberedTables.{IsNaming}
-use Rattle.cargo_toml_resolve.specs.Numbering.{AreTextsOf}
 use Rattle.cargo_toml_resolve.specs.Texts.{texts_now}
 use Rattle.cargo_toml_resolve.proofs.NumberingGraph.{graph_found, named_by, targets_by}
 use Rattle.cargo_toml_resolve.proofs.numbering.number.Goals as goal

@@ -1,5 +1,5 @@
 //! Where no feature is removed: each learns which others enable it.
-ghost use Rattle.std.specs.Prelude.{◌≡◌, ◌≢◌, ◌↔◌, ◌⊎◌, ◌<◌, ℕ, IsTrue, OnOk, length};
+ghost use Rattle.std.specs.Prelude.{◌≡◌, ◌↔◌, ◌<◌, ℕ, IsTrue, OnOk, length};
 ghost use Rattle.cargo_toml_graph.specs.Action.{Text};
 ghost use Rattle.cargo_toml_graph.specs.Graph.{IsUnremoved, Table};
 ghost use Rattle.cargo_toml_graph.specs.Reach.{Among};

@@ -11,7 +11,7 @@ use Rattle.cargo_toml_graph.specs.Reach.{Among}
 use Rattle.cargo_toml_graph.specs.Recursive.{Enables}
 use Rattle.cargo_toml_graph.specs.Recursive.Enables.{itself, further}
 use Rattle.cargo_toml_graph.proofs.Texts.{same}
-use Rattle.cargo_toml_graph.proofs.WorkedExamples.{listed_explicit, one}
+use Rattle.cargo_toml_graph.proofs.WorkedExamples.{enables_two, listed_explicit, one}
 use Rattle.cargo_toml_features.specs.Examples.{small, small_entries, small_listed}
 use Rattle.cargo_toml_features.specs.Recorded.{is_reserved}
 use Rattle.cargo_toml_features.specs.Resolved.{joined_table}
@@ -62,10 +62,4 @@ small_reached itself = inl refl
 small_reached (further e n h) = small_next _ _ (small_reached e) n
 
 pub small_enables : (x : Text) → Enables small (codes "default") x ↔ ((x ≡ codes "default") ⊎ (x ≡ codes "fast"))
-small_enables x = (
-  λ e. small_reached e,
-  elim [
-    | inl e ↦ subst (λ v. Enables small (codes "default") v) (sym e) itself
-    | inr e ↦ subst (λ v. Enables small (codes "default") v) (sym e) (further itself refl refl)
-  ],
-)
+small_enables = enables_two small (codes "default") (codes "fast") (λ y e. small_reached e) refl refl

@@ -16,3 +16,4 @@ pub mod Visits
 pub mod Examples
 pub mod InOrder
 pub mod Places
+pub mod Adding

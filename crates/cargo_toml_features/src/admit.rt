@@ -1,11 +1,11 @@
 //! Which features of a table count, in what order, and what is said of them.
-ghost use Rattle.std.specs.Prelude.{◌≡◌, ◌∷◌, ◌++◌, ◌||◌, [], IfOk, OnOk, if◌then◌else◌};
-ghost use Rattle.std.specs.Prelude.{bytes_eq, codes, length, map, nat_lt, string_bytes, take};
+ghost use Rattle.std.specs.Prelude.{◌≡◌, [], IfOk, OnOk, map, take};
 ghost use Rattle.cargo_toml_graph.specs.Action.{Text};
 ghost use Rattle.cargo_toml_graph.specs.Admitted.{Listed, admitted};
 ghost use Rattle.cargo_toml_graph.specs.Reach.{IsOnce};
 ghost use Rattle.cargo_toml_parts.specs.Reads.{map_meaning};
 ghost use Rattle.cargo_toml_dependencies.specs.Details.{detail_of};
+ghost use Rattle.cargo_toml_features.specs.Adding.{AddsListing};
 ghost use Rattle.cargo_toml_features.specs.Marks.{detail_named, detail_in, details_listed};
 ghost use Rattle.cargo_toml_features.specs.Marks.{named_details};
 ghost use Rattle.cargo_toml_features.specs.Views.{listed_of, listed_in};
@@ -44,18 +44,8 @@ fn add_listing<'m>(
     listing: Listing<'m>,
     limit: usize,
 ) -> Result<(), AllocError>
-    ensures listed { OnOk result (listed_of listings.new.items
-        ≡ (if nat_lt (length listings.old.items) limit
-        || bytes_eq listing.entry.name.now (codes "default")
-        then listed_of listings.old.items
-        ++ (listing.entry.name.now, take limit (map string_bytes listing.entry.actions.now)) ∷ []
-        else listed_of listings.old.items)) }
-    ensures details { OnOk result (named_details listings.new.items
-        ≡ (if nat_lt (length listings.old.items) limit
-        || bytes_eq listing.entry.name.now (codes "default")
-        then named_details listings.old.items
-        ++ (listing.entry.name.now, detail_in listing.entry.detail) ∷ []
-        else named_details listings.old.items)) }
+    ensures { OnOk result
+        (AddsListing limit listing.entry listings.old.items listings.new.items) }
 {
     if listings.len() < limit || listing.name == "default" {
         let actions = first_actions(listing.actions, limit);

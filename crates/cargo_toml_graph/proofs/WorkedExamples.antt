@@ -140,6 +140,16 @@ itself_redirect x =
       ],
     )
 
+-- a enables itself and b, which it names, where it enables no other
+pub enables_two : (t : Table) (a b : Text) → ((y : Text) → Enables t a y → (y ≡ a) ⊎ (y ≡ b)) → IsTrue (t.names a b) → IsTrue (t.has b) → (x : Text) → Enables t a x ↔ ((x ≡ a) ⊎ (x ≡ b))
+enables_two t a b only named has x = (
+  only x,
+  elim [
+    | inl e ↦ subst (λ v. Enables t a v) (sym e) itself
+    | inr e ↦ subst (λ v. Enables t a v) (sym e) (further itself named has)
+  ],
+)
+
 -- ---- a = ["b", "zz"], b = ["a"]
 ring_next : (g y : Text) → (g ≡ codes "a") ⊎ (g ≡ codes "b") → IsTrue (ring.names g y) → IsTrue (ring.has y) → (y ≡ codes "a") ⊎ (y ≡ codes "b")
 ring_next g y (inl a) n h = elim (or_cases (bytes_eq y (codes "b")) _ (subst (λ v. IsTrue (ring.names v y)) a n)) [
@@ -153,10 +163,4 @@ ring_only itself = inl refl
 ring_only (further e n h) = ring_next _ _ (ring_only e) n h
 
 pub ring_enables : (x : Text) → Enables ring (codes "a") x ↔ ((x ≡ codes "a") ⊎ (x ≡ codes "b"))
-ring_enables x = (
-  λ e. ring_only e,
-  elim [
-    | inl e ↦ subst (λ v. Enables ring (codes "a") v) (sym e) itself
-    | inr e ↦ subst (λ v. Enables ring (codes "a") v) (sym e) (further itself refl refl)
-  ],
-)
+ring_enables = enables_two ring (codes "a") (codes "b") (λ y e. ring_only e) refl refl

@@ -1,9 +1,13 @@
 -- Tables of worked examples.
-use Rattle.std.specs.Prelude.{if◌then◌else◌, bytes_eq, List, [], ◌∷◌, codes}
+use Rattle.std.specs.Prelude.{Bool, if◌then◌else◌, bytes_eq, List, [], ◌∷◌, codes}
 use Rattle.cargo_toml_graph.specs.Action.{Text}
 use Rattle.cargo_toml_graph.specs.Admitted.{Listed, is_explicit, names, joined_action}
 use Rattle.cargo_toml_graph.specs.Graph.{Table, Resolution}
 use Rattle.cargo_toml_graph.specs.Removal.{unremoved, without_all}
+
+-- the feature f and no other
+abbrev pub only : Text → Text → Bool
+only f x = bytes_eq x f
 
 -- what the listed features of a table say, where there are no dependencies
 abbrev pub features_alone : Listed → Table

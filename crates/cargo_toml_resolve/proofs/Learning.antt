@@ -2,7 +2,7 @@
 use Rattle.std.proofs.Common.{◌≡◌, ◌≢◌, ◌↔◌, ◌⊎◌, ◌<◌, ◌+◌, ◌||◌, ◌∷◌, ℕ, suc, Bool, true, false, cond, List, [], length, map, get_or, set, slice_get, Option, Some, None, Bor, Global, IsTrue, IfSome, Vec, is_some, option_map, bytes_eq, refl, sym, ap, subst, inl, inr, ◌∙◌, arith}
 use Rattle.std.proofs.lemmas.Bool.{cases_eq, false≢true, or_cases, or_left, or_right}
 use Rattle.std.proofs.lemmas.List.{length-map}
-use Rattle.std.proofs.lemmas.Option.{same_Some, slice_get-get_or, slice_get_read, slice_get_within}
+use Rattle.std.proofs.lemmas.Option.{same_Some, slice_get_read, slice_get_within}
 use Rattle.std.proofs.lemmas.Slice.Eq.{bytes_eq-Decides}
 use Rattle.std.specs.BTreeSet.{BTreeSet}
 use Rattle.std.specs.BTreeSet.{btree_set_len}
@@ -20,7 +20,7 @@ use Rattle.cargo_toml_graph.specs.Reach.{Among}
 use Rattle.cargo_toml_features.specs.Places.{nth_text}
 use Rattle.cargo_toml_features.specs.declared.features.DepAction.{DepAction}
 use Rattle.cargo_toml_features.specs.declared.features.Feature.{Feature}
-use Rattle.cargo_toml_features.specs.InOrder.{AreInOrder, AreTable, HaveNoEnablers, feature_at, names_of, resolution_among, table_among}
+use Rattle.cargo_toml_features.specs.InOrder.{AreInOrder, AreTable, HaveNoEnablers, feature_at, names_of, resolution_among}
 use Rattle.cargo_toml_features.specs.Marks.{FeatureMarks, marks_of}
 use Rattle.cargo_toml_features.specs.Views.{action_at, action_of, set_has, value_at}
 use Rattle.cargo_toml_features.proofs.TextKeys.{none_in}
@@ -29,30 +29,18 @@ use Rattle.cargo_toml_resolve.specs.KeptFeatures.{IsNamedAlike, StandFor, own_bi
 use Rattle.cargo_toml_resolve.specs.KeptByName.{AreKept}
 use Rattle.cargo_toml_resolve.specs.TakingOver.{ChangesIn}
 use Rattle.cargo_toml_resolve.specs.Texts.{texts_now}
+use Rattle.cargo_toml_resolve.proofs.AlikePlaces.{does_itself, each_itself, then_does, then_each, there_too}
 use Rattle.cargo_toml_resolve.proofs.InPlace.{found_stands, name_in, one_place, stands_found, stands_in}
 use Rattle.cargo_toml_resolve.proofs.TakingOver.{then_set, unchanged}
 
 itself : (v : Feature) → IsSameButEnablers v v
-itself v = record { key = refl; marks = refl; names = refl; actions = refl; bins = refl }
+itself v = record { does = does_itself v; bins = refl }
 
 pub same_features : (vs : List Feature) → AreSameButEnablers vs vs
-same_features vs = record { len = refl; each = λ i v w old new. subst (IsSameButEnablers v) (same_Some v w (sym old ∙ new)) (itself v) }
-
--- what stands in a place of a list that is as long
-pub there_too : (vs ws : List Feature) → length ws ≡ length vs → (i : ℕ) (v : Feature) → slice_get vs i ≡ Some v → (w : Feature) × (slice_get ws i ≡ Some w)
-there_too vs ws len i v old =
-    let inside : i < length ws = subst (λ n. i < n) (sym len) (slice_get_within vs i v old) in
-    (get_or ws i v, slice_get-get_or ws i v inside)
+same_features vs = each_itself IsSameButEnablers itself vs
 
 pub then_same : (vs ws us : List Feature) → AreSameButEnablers vs ws → AreSameButEnablers ws us → AreSameButEnablers vs us
-then_same vs ws us a b = record {
-  len = b.len ∙ a.len;
-  each = λ i v u old new.
-      let w = there_too vs ws a.len i v old in
-      let s = a.each i v w.0 old w.1 in
-      let t = b.each i w.0 u w.1 new in
-      record { key = t.key ∙ s.key; marks = t.marks ∙ s.marks; names = t.names ∙ s.names; actions = t.actions ∙ s.actions; bins = t.bins ∙ s.bins };
-}
+then_same vs ws us a b = then_each IsSameButEnablers (λ v w u s t. record { does = then_does v w u s.does t.does; bins = t.bins ∙ s.bins }) vs ws us a b
 
 learns_nothing : (By : Text → Type 0) (v : Feature) → ((e : Text) → ¬ By e) → Learns By v v
 learns_nothing By v none e = (λ y. inl y, elim [ inl y ↦ y | inr b ↦ absurd (none e b) ])
@@ -101,7 +89,7 @@ told_at By vs i v by lt read gains = record {
 
     all : ChangesIn Changes i vs (set vs i (record v { enabled_by = by }))
     all = then_set (λ u x. x ≡ u) Changes i vs vs v (record v { enabled_by = by }) lt read (unchanged (λ u x. x ≡ u) i vs (λ x e. refl))
-        (λ u e. subst (λ x. Changes x (record v { enabled_by = by })) e (record { key = refl; marks = refl; names = refl; actions = refl; bins = refl }, gains))
+        (λ u e. subst (λ x. Changes x (record v { enabled_by = by })) e (record { does = record { key = refl; marks = refl; names = refl; actions = refl }; bins = refl }, gains))
 
     here : (j : ℕ) → j ≡ i → (u w : Feature) → slice_get vs j ≡ Some u → slice_get (set vs i (record v { enabled_by = by })) j ≡ Some w → Changes u w
     here j is u w old new = all.here u w (subst (λ k. slice_get vs k ≡ Some u) is old) (subst (λ k. slice_get (set vs i (record v { enabled_by = by })) k ≡ Some w) is new)
@@ -189,8 +177,8 @@ next_learnt n keys vs ws us row u lt are there rows h more = record {
 
     led : (x : Text) → LeadsTo u x ↔ LeadsTo first.0 x
     led x = (
-      λ l. elim l [ inl i ↦ inl (subst (λ s. IsTrue (set_has s x)) same.names i) | inr p ↦ inr (subst (λ m. IsPlain (action_at m x)) same.actions p) ],
-      λ l. elim l [ inl i ↦ inl (subst (λ s. IsTrue (set_has s x)) (sym same.names) i) | inr p ↦ inr (subst (λ m. IsPlain (action_at m x)) (sym same.actions) p) ],
+      λ l. elim l [ inl i ↦ inl (subst (λ s. IsTrue (set_has s x)) same.does.names i) | inr p ↦ inr (subst (λ m. IsPlain (action_at m x)) same.does.actions p) ],
+      λ l. elim l [ inl i ↦ inl (subst (λ s. IsTrue (set_has s x)) (sym same.does.names) i) | inr p ↦ inr (subst (λ m. IsPlain (action_at m x)) (sym same.does.actions) p) ],
     )
 
     long : length keys ≡ length vs
@@ -248,7 +236,7 @@ alike_at [] [] s f = tt
 alike_at [] (w ∷ ws) s f = absurd (let len = s.len in omega (arith, len))
 alike_at (v ∷ vs) [] s f = absurd (let len = s.len in omega (arith, len))
 alike_at (v ∷ vs) (w ∷ ws) s f =
-    subst (λ k. Alike (v ∷ vs) (w ∷ ws) (feature_at (v ∷ vs) f) (cond (bytes_eq f k) (Some w) (feature_at ws f))) (ap (λ q. q.now) (sym (s.each 0 v w refl refl).key)) (go (alike_at vs ws later f) (bytes_eq f v.key.now))
+    subst (λ k. Alike (v ∷ vs) (w ∷ ws) (feature_at (v ∷ vs) f) (cond (bytes_eq f k) (Some w) (feature_at ws f))) (ap (λ q. q.now) (sym (s.each 0 v w refl refl).does.key)) (go (alike_at vs ws later f) (bytes_eq f v.key.now))
   where
     later : AreSameButEnablers vs ws
     later = record { len = (let len = s.len in omega (arith, len)); each = λ i a b old new. s.each (suc i) a b old new }
@@ -268,7 +256,7 @@ keys_still [] [] s = refl
 keys_still [] (w ∷ ws) s = absurd (let len = s.len in omega (arith, len))
 keys_still (v ∷ vs) [] s = absurd (let len = s.len in omega (arith, len))
 keys_still (v ∷ vs) (w ∷ ws) s =
-    ap (λ x. x ∷ names_of ws) (ap (λ q. q.now) (s.each 0 v w refl refl).key)
+    ap (λ x. x ∷ names_of ws) (ap (λ q. q.now) (s.each 0 v w refl refl).does.key)
     ∙ ap (λ xs. v.key.now ∷ xs) (keys_still vs ws (record { len = (let len = s.len in omega (arith, len)); each = λ i a b old new. s.each (suc i) a b old new }))
 
 -- what doesn't speak of enablers still holds
@@ -287,7 +275,7 @@ module _ (vs ws : List Feature) (same : AreSameButEnablers vs ws) where
       go (Some v) (Some w) a = some v w (same.each a.0 v w a.1 a.2)
 
   pub marks_still : (m : Text → FeatureMarks) → ((f : Text) → IfSome (feature_at vs f) (λ v. marks_of v ≡ m f)) → (f : Text) → IfSome (feature_at ws f) (λ v. marks_of v ≡ m f)
-  marks_still m h f = along f (λ o o'. IfSome o (λ v. marks_of v ≡ m f) → IfSome o' (λ v. marks_of v ≡ m f)) (λ k. k) (λ v w s k. s.marks ∙ k) (h f)
+  marks_still m h f = along f (λ o o'. IfSome o (λ v. marks_of v ≡ m f) → IfSome o' (λ v. marks_of v ≡ m f)) (λ k. k) (λ v w s k. s.does.marks ∙ k) (h f)
 
   pub bins_still : (own : Text → List Text) → ((f : Text) → IfSome (feature_at vs f) (λ v. map (λ b. b.now) v.required_by_bins.items ≡ own f))
       → (f : Text) → IfSome (feature_at ws f) (λ v. map (λ b. b.now) v.required_by_bins.items ≡ own f)
@@ -318,7 +306,7 @@ module _ (vs ws : List Feature) (same : AreSameButEnablers vs ws) where
       found f w x is alike (Some v) (Some y) was is' a =
           let s = same.each a.0 v y a.1 a.2 in
           let e : y ≡ x = same_Some y x (sym is' ∙ is) in
-          (v, was, record { key = alike.key ∙ ap (λ (z : Feature). z.key) (sym e) ∙ s.key; marks = alike.marks ∙ ap marks_of (sym e) ∙ s.marks })
+          (v, was, record { key = alike.key ∙ ap (λ (z : Feature). z.key) (sym e) ∙ s.does.key; marks = alike.marks ∙ ap marks_of (sym e) ∙ s.does.marks })
 
       own_at : (f : Text) (o : Option Feature) → IfSome o (Stays ws f) → IfSome o (Stays vs f)
       own_at f None s = tt
@@ -329,9 +317,9 @@ pub table_still : (t : Table) (vs ws : List Feature) → AreTable t vs → AreSa
 table_still t vs ws made same = record {
   has = λ f. along vs ws same f (λ o o'. is_some o' ≡ is_some o) refl (λ v w s. refl) ∙ made.has f;
   names = λ f x. along vs ws same f (λ o o'. option_map_or (λ v. set_has v.enables_features x) o' false ≡ option_map_or (λ v. set_has v.enables_features x) o false) refl
-      (λ v w s. ap (λ n. set_has n x) s.names) ∙ made.names f x;
+      (λ v w s. ap (λ n. set_has n x) s.does.names) ∙ made.names f x;
   action = λ f k. along vs ws same f (λ o o'. option_map_or (λ v. action_at v.enables_deps k) o' None ≡ option_map_or (λ v. action_at v.enables_deps k) o None) refl
-      (λ v w s. ap (λ m. action_at m k) s.actions) ∙ made.action f k;
+      (λ v w s. ap (λ m. action_at m k) s.does.actions) ∙ made.action f k;
 }
 
 -- and the graph still stands for them

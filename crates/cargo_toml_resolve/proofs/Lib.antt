@@ -27,6 +27,7 @@ pub mod ByFilter
 mod PutAlong
 mod BinTurns
 mod KnownBins
+mod AlikePlaces
 pub mod Learning
 mod KeptEnablers
 pub mod NumberedTables

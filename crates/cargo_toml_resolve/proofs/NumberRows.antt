@@ -21,7 +21,7 @@ use Rattle.cargo_toml_features.specs.declared.features.DepAction.{DepAction}
 use Rattle.cargo_toml_features.specs.declared.features.Feature.{Feature}
 use Rattle.cargo_toml_features.specs.Views.{action_at, action_of, set_has}
 use Rattle.cargo_toml_resolve.specs.Enabling.{LeadsTo}
-use Rattle.cargo_toml_resolve.specs.Numbering.{IsPicked, IsTarget, place_names}
+use Rattle.cargo_toml_resolve.specs.Numbering.{Gains, IsPicked, IsTarget, place_names}
 use Rattle.cargo_toml_resolve.specs.NumberedTables.{IsNaming}
 use Rattle.cargo_toml_resolve.specs.Texts.{texts_now}
 use Rattle.cargo_toml_resolve.proofs.Gathered.{all_seen, among_push, seen, seen_push}
@@ -58,16 +58,13 @@ all_numbers ts s ks row all h x = (
   λ w. (h x).1 (w.0, (all_seen s ks all _).1 w.1),
 )
 
--- the row gains the features, other than the one in place `own`, of which P holds
+-- rows that gain features
 module _ (keys : List (Bor Text)) (own : ℕ) where
-  abbrev pub Gains : (ℕ → Type 0) → List ℕ → List ℕ → Type 0
-  Gains P old new = (x : ℕ) → Among new x ↔ (Among old x ⊎ ((x < length keys) × (x ≢ own) × P x))
-
   module _ (up : Ascend (texts_now keys)) (key : Text) (row : List ℕ) where
     one_key : (i j : ℕ) → i < length keys → j < length keys → nth_text (texts_now keys) i ≡ nth_text (texts_now keys) j → i ≡ j
     one_key i j lt lt' same = let long = length-map keys (λ (t : Bor Text). t.now) in once (texts_now keys) up i j (omega (arith, long, lt)) (omega (arith, long, lt')) same
 
-    pub key_put : (n : ℕ) → (n < length keys) × (nth_text (texts_now keys) n ≡ key) → n ≢ own → Gains (λ x. nth_text (texts_now keys) x ≡ key) row (row ++ n ∷ [])
+    pub key_put : (n : ℕ) → (n < length keys) × (nth_text (texts_now keys) n ≡ key) → n ≢ own → Gains keys own (λ x. nth_text (texts_now keys) x ≡ key) row (row ++ n ∷ [])
     key_put n at other x = (
       λ i. elim ((among_push row n x).0 i) [
         | inl j ↦ inl j
@@ -76,18 +73,18 @@ module _ (keys : List (Bor Text)) (own : ℕ) where
       λ w. (among_push row n x).1 (elim w [ inl j ↦ inl j | inr t ↦ inr (one_key x n t.0 at.0 (t.2 ∙ sym at.1)) ]),
     )
 
-    pub key_own : (n : ℕ) → (n < length keys) × (nth_text (texts_now keys) n ≡ key) → n ≡ own → Gains (λ x. nth_text (texts_now keys) x ≡ key) row row
+    pub key_own : (n : ℕ) → (n < length keys) × (nth_text (texts_now keys) n ≡ key) → n ≡ own → Gains keys own (λ x. nth_text (texts_now keys) x ≡ key) row row
     key_own n at is x = (λ i. inl i, elim [ inl i ↦ i | inr t ↦ absurd (t.1 (one_key x n t.0 at.0 (t.2 ∙ sym at.1) ∙ is)) ])
 
-    pub key_missing : (Among (texts_now keys) key → ⊥) → Gains (λ x. nth_text (texts_now keys) x ≡ key) row row
+    pub key_missing : (Among (texts_now keys) key → ⊥) → Gains keys own (λ x. nth_text (texts_now keys) x ≡ key) row row
     key_missing none x = (
       λ i. inl i,
       elim [ inl i ↦ i | inr t ↦ absurd (none (subst (Among (texts_now keys)) t.2 (among_at (texts_now keys) x [] (let long = length-map keys (λ (t : Bor Text). t.now) in let lt = t.0 in omega (arith, long, lt))))) ],
     )
 
   -- one more name
-  pub name_gained : (ks : List (Bor (Bor Text))) (k : Bor (Bor Text)) (old row new : List ℕ) → Gains (λ x. Among (seen ks) (nth_text (texts_now keys) x)) old row
-      → Gains (λ x. nth_text (texts_now keys) x ≡ k.now.now) row new → Gains (λ x. Among (seen (ks ++ k ∷ [])) (nth_text (texts_now keys) x)) old new
+  pub name_gained : (ks : List (Bor (Bor Text))) (k : Bor (Bor Text)) (old row new : List ℕ) → Gains keys own (λ x. Among (seen ks) (nth_text (texts_now keys) x)) old row
+      → Gains keys own (λ x. nth_text (texts_now keys) x ≡ k.now.now) row new → Gains keys own (λ x. Among (seen (ks ++ k ∷ [])) (nth_text (texts_now keys) x)) old new
   name_gained ks k old row new so_far more x = (
     λ i. elim ((more x).0 i) [
       | inl j ↦ elim ((so_far x).0 j) [ inl o ↦ inl o | inr t ↦ inr (t.0, t.1, (seen_push ks k _).1 (inl t.2)) ]
@@ -99,19 +96,19 @@ module _ (keys : List (Bor Text)) (own : ℕ) where
     ]),
   )
 
-  pub names_gained : (s : BTreeSet (Bor Text)) (ks : List (Bor (Bor Text))) (old row : List ℕ) → map (λ k. k.now) ks ≡ s.keys → Gains (λ x. Among (seen ks) (nth_text (texts_now keys) x)) old row
-      → Gains (λ x. IsTrue (set_has s (nth_text (texts_now keys) x))) old row
+  pub names_gained : (s : BTreeSet (Bor Text)) (ks : List (Bor (Bor Text))) (old row : List ℕ) → map (λ k. k.now) ks ≡ s.keys → Gains keys own (λ x. Among (seen ks) (nth_text (texts_now keys) x)) old row
+      → Gains keys own (λ x. IsTrue (set_has s (nth_text (texts_now keys) x))) old row
   names_gained s ks old row all h x = (
     λ i. elim ((h x).0 i) [ inl o ↦ inl o | inr t ↦ inr (t.0, t.1, (all_seen s ks all _).0 t.2) ],
     elim [ inl o ↦ (h x).1 (inl o) | inr t ↦ (h x).1 (inr (t.0, t.1, (all_seen s ks all _).1 t.2)) ],
   )
 
   -- nothing is gained
-  pub none_gained : (P : ℕ → Type 0) (row : List ℕ) → ((x : ℕ) → ¬ P x) → Gains P row row
+  pub none_gained : (P : ℕ → Type 0) (row : List ℕ) → ((x : ℕ) → ¬ P x) → Gains keys own P row row
   none_gained P row none x = (λ i. inl i, elim [ inl i ↦ i | inr t ↦ absurd (none x t.2) ])
 
   -- first these, then those
-  pub both_gained : (P Q : ℕ → Type 0) (old mid new : List ℕ) → Gains P old mid → Gains Q mid new → Gains (λ x. P x ⊎ Q x) old new
+  pub both_gained : (P Q : ℕ → Type 0) (old mid new : List ℕ) → Gains keys own P old mid → Gains keys own Q mid new → Gains keys own (λ x. P x ⊎ Q x) old new
   both_gained P Q old mid new p q x = (
     λ i. elim ((q x).0 i) [
       | inl j ↦ elim ((p x).0 j) [ inl o ↦ inl o | inr t ↦ inr (t.0, t.1, inl t.2) ]
@@ -132,9 +129,9 @@ module _ (keys : List (Bor Text)) (own : ℕ) where
   PlainSoFar m es x = Among (acted es) (nth_text (texts_now keys) x) × IsPlain (action_at m (nth_text (texts_now keys) x))
 
   action_put : (m : BTreeMap (Bor Text) DepAction) (es : List (Bor (Bor Text) × Bor DepAction)) (k : Bor (Bor Text)) (a : Bor DepAction) (old row new : List ℕ)
-      → action_at m k.now.now ≡ Some (action_of a.now) → Gains (PlainSoFar m es) old row
+      → action_at m k.now.now ≡ Some (action_of a.now) → Gains keys own (PlainSoFar m es) old row
       → ((x : ℕ) → Among new x ↔ (Among row x ⊎ (((x < length keys) × (x ≢ own) × (nth_text (texts_now keys) x ≡ k.now.now)) × IsPlain (Some (action_of a.now)))))
-      → Gains (PlainSoFar m (es ++ (k, a) ∷ [])) old new
+      → Gains keys own (PlainSoFar m (es ++ (k, a) ∷ [])) old new
   action_put m es k a old row new there so_far more x = (
     λ i. elim ((more x).0 i) [
       | inl j ↦ elim ((so_far x).0 j) [ inl o ↦ inl o | inr t ↦ inr (t.0, t.1, (push.1 (inl t.2.0), t.2.1)) ]
@@ -155,16 +152,16 @@ module _ (keys : List (Bor Text)) (own : ℕ) where
 
   -- a plain action enables the feature of its key's name, and another one none
   pub action_plain : (m : BTreeMap (Bor Text) DepAction) (es : List (Bor (Bor Text) × Bor DepAction)) (k : Bor (Bor Text)) (a : Bor DepAction) (old row new : List ℕ)
-      → action_at m k.now.now ≡ Some (action_of a.now) → Gains (PlainSoFar m es) old row → IsPlain (Some (action_of a.now))
-      → Gains (λ x. nth_text (texts_now keys) x ≡ k.now.now) row new → Gains (PlainSoFar m (es ++ (k, a) ∷ [])) old new
+      → action_at m k.now.now ≡ Some (action_of a.now) → Gains keys own (PlainSoFar m es) old row → IsPlain (Some (action_of a.now))
+      → Gains keys own (λ x. nth_text (texts_now keys) x ≡ k.now.now) row new → Gains keys own (PlainSoFar m (es ++ (k, a) ∷ [])) old new
   action_plain m es k a old row new there so_far plain more = action_put m es k a old row new there so_far (λ x. (
     λ i. elim ((more x).0 i) [ inl j ↦ inl j | inr t ↦ inr (t, plain) ],
     elim [ inl j ↦ (more x).1 (inl j) | inr t ↦ (more x).1 (inr t.0) ],
   ))
 
   pub action_left : (m : BTreeMap (Bor Text) DepAction) (es : List (Bor (Bor Text) × Bor DepAction)) (k : Bor (Bor Text)) (a : Bor DepAction) (old row : List ℕ)
-      → action_at m k.now.now ≡ Some (action_of a.now) → Gains (PlainSoFar m es) old row → ¬ IsPlain (Some (action_of a.now))
-      → Gains (PlainSoFar m (es ++ (k, a) ∷ [])) old row
+      → action_at m k.now.now ≡ Some (action_of a.now) → Gains keys own (PlainSoFar m es) old row → ¬ IsPlain (Some (action_of a.now))
+      → Gains keys own (PlainSoFar m (es ++ (k, a) ∷ [])) old row
   action_left m es k a old row there so_far none = action_put m es k a old row row there so_far (λ x. (
     λ i. inl i,
     elim [ inl i ↦ i | inr t ↦ absurd (none t.1) ],
@@ -178,8 +175,8 @@ module _ (keys : List (Bor Text)) (own : ℕ) where
   plain_there None p = absurd p
   plain_there (Some a) p = refl
 
-  pub all_actions : (m : BTreeMap (Bor Text) DepAction) (es : List (Bor (Bor Text) × Bor DepAction)) (old row : List ℕ) → map deref_pair es ≡ m.entries → Gains (PlainSoFar m es) old row
-      → Gains (λ x. IsPlain (action_at m (nth_text (texts_now keys) x))) old row
+  pub all_actions : (m : BTreeMap (Bor Text) DepAction) (es : List (Bor (Bor Text) × Bor DepAction)) (old row : List ℕ) → map deref_pair es ≡ m.entries → Gains keys own (PlainSoFar m es) old row
+      → Gains keys own (λ x. IsPlain (action_at m (nth_text (texts_now keys) x))) old row
   all_actions m es old row all h x = (
     λ i. elim ((h x).0 i) [ inl o ↦ inl o | inr t ↦ inr (t.0, t.1, t.2.1) ],
     elim [ inl o ↦ (h x).1 (inl o) | inr t ↦ (h x).1 (inr (t.0, t.1, (met (nth_text (texts_now keys) x) t.2, t.2))) ],

@@ -176,3 +176,14 @@ module _ (vs : List Feature) (marks naming : List Bool) (texts : List Text) (edg
     flagged = is_flagged;
     removed = λ v r. (has_key v).1 (r.0, r.1, r.2);
   }
+
+-- the features as a graph, by what its parts are found to be
+pub graph_found : (vs : List Feature) (marks naming : List Bool) (keys texts : List (Bor Text)) (edges names : List (Vec ℕ Global)) (flags : List Bool) → AreInOrder vs → length marks ≡ length vs → texts_now keys ≡ names_of vs → AreTextsOf naming vs (texts_now texts)
+    → ((i : ℕ) → i < length edges → IsNaming edges marks i → IsWanted naming true i)
+    → length names ≡ length vs → ((i x : ℕ) → i < length vs → Leads names i x ↔ ((x < length (texts_now texts)) × IsPicked naming vs i (nth_text (texts_now texts) x)))
+    → length edges ≡ length vs → ((i x : ℕ) → i < length vs → Leads edges i x ↔ ((x < length keys) × IsTarget vs (texts_now keys) i x))
+    → length flags ≡ length texts → ((i : ℕ) → IsWanted flags true i ↔ IsWanted marks true i)
+    → IsNumbered (table_among vs) (IsFlagged vs marks) (texts_now texts) edges names flags
+graph_found vs marks naming keys texts edges names flags up marked same are picked name_len named edge_len rows flag_len flag =
+    graph_stands vs marks naming (texts_now texts) edges names flags up marked are (λ i lt is. picked i (subst (λ n. i < n) (sym edge_len) lt) is) name_len named edge_len (targets_by vs edges keys same rows)
+    (flag_len ∙ sym (length-map texts (λ (t : Bor Text). t.now))) flag

@@ -38,9 +38,9 @@ stood old new len i w at = stands_in old i (subst (λ n. i < n) len (place_insid
 
 still_holds : {vs : List Feature} {texts : List Text} {i : ℕ} {passed named : List ℕ} {v w u : Feature} → Holds vs texts i passed named v w → IsSameButBins w u → Holds vs texts i passed named v u
 still_holds {vs} {texts} {i} {passed} {named} {v} {w} {u} h same = record {
-  same_names = λ none. same.names ∙ h.same_names none;
-  names = λ some. subst (λ s. HasTextsOf texts named s) (sym same.names) (h.names some);
-  actions = subst (λ m. HasActions vs (λ b. (b ≡ i) ⊎ Among passed b) m) (sym same.actions) h.actions;
+  same_names = λ none. same.does.names ∙ h.same_names none;
+  names = λ some. subst (λ s. HasTextsOf texts named s) (sym same.does.names) (h.names some);
+  actions = subst (λ m. HasActions vs (λ b. (b ≡ i) ⊎ Among passed b) m) (sym same.does.actions) h.actions;
 }
 
 -- a feature that is left keeps its name and its marks
@@ -50,7 +50,7 @@ named_alike_there flags passed named texts old left new l s i v w at at' =
     let u = stood left new s.len i w at' in
     let own = l.own i v u.0 at u.1 in
     let same = s.each i u.0 w u.1 at' in
-    record { key = same.key ∙ own.key; marks = same.marks ∙ own.marks }
+    record { key = same.does.key ∙ own.key; marks = same.does.marks ∙ own.marks }
 
 module _ (t : Table) (removed : Text → Bool) (old left new : List Feature) (texts : List Text) (edges names : List (Vec ℕ Global)) (flags : List Bool)
     (stand : StandFor t removed old texts edges names flags) where

@@ -1,7 +1,7 @@
 -- Binaries that are put into the lists of features, place after place.
-use Rattle.std.proofs.Common.{◌≡◌, ◌⊎◌, ◌↔◌, ◌<◌, ◌≤◌, ℕ, cond, List, [], ◌∷◌, ◌++◌, length, get_or, slice_get, Option, Some, Bor, refl, sym, ap, subst, inl, inr, ◌∙◌, arith}
+use Rattle.std.proofs.Common.{◌≡◌, ◌⊎◌, ◌↔◌, ◌<◌, ◌≤◌, ℕ, cond, List, [], ◌∷◌, ◌++◌, length, get_or, Option, Bor, refl, sym, ap, subst, inl, inr, ◌∙◌, arith}
 use Rattle.std.proofs.lemmas.Bool.{cases_eq}
-use Rattle.std.proofs.lemmas.Option.{same_Some, slice_get-get_or, slice_get_read, slice_get_within}
+use Rattle.std.proofs.lemmas.Option.{slice_get_read}
 use Rattle.std.specs.Option.{option_map_or}
 use Rattle.cargo_toml_graph.specs.Action.{Text}
 use Rattle.cargo_toml_graph.specs.Reach.{Among}
@@ -11,6 +11,7 @@ use Rattle.cargo_toml_features.specs.declared.features.Feature.{Feature}
 use Rattle.cargo_toml_resolve.specs.Passing.{bins_of, IsSameButBins, AreSameButBins}
 use Rattle.cargo_toml_resolve.specs.Puts.{Puts}
 use Rattle.cargo_toml_resolve.specs.Texts.{texts_now}
+use Rattle.cargo_toml_resolve.proofs.AlikePlaces.{does_itself, each_itself, then_does, then_each}
 
 -- what is there already isn't put
 put_none : (xs ys : List Text) → ((x : Text) → Among ys x → Among xs x) → put_each xs ys ≡ xs
@@ -20,23 +21,11 @@ put_none xs (y ∷ ys) there = ap (λ b. put_each (cond b xs (xs ++ y ∷ [])) y
 put_again : (xs ys : List Text) → put_each (put_each xs ys) ys ≡ put_each xs ys
 put_again xs ys = put_none (put_each xs ys) ys (λ x i. put_puts xs ys x i)
 
-itself : (v : Feature) → IsSameButBins v v
-itself v = record { key = refl; marks = refl; names = refl; actions = refl; enabled_by = refl }
-
 pub same_features : (vs : List Feature) → AreSameButBins vs vs
-same_features vs = record { len = refl; each = λ i v w old new. subst (IsSameButBins v) (same_Some v w (sym old ∙ new)) (itself v) }
+same_features vs = each_itself IsSameButBins (λ v. record { does = does_itself v; enabled_by = refl }) vs
 
 pub then_same : (vs ws us : List Feature) → AreSameButBins vs ws → AreSameButBins ws us → AreSameButBins vs us
-then_same vs ws us a b = record {
-  len = b.len ∙ a.len;
-  each = λ i v u old new.
-      let inside : i < length ws = subst (λ n. i < n) (sym a.len) (slice_get_within vs i v old) in
-      let w = get_or ws i v in
-      let there : slice_get ws i ≡ Some w = slice_get-get_or ws i v inside in
-      let s = a.each i v w old there in
-      let t = b.each i w u there new in
-      record { key = t.key ∙ s.key; marks = t.marks ∙ s.marks; names = t.names ∙ s.names; actions = t.actions ∙ s.actions; enabled_by = t.enabled_by ∙ s.enabled_by };
-}
+then_same vs ws us a b = then_each IsSameButBins (λ v w u s t. record { does = then_does v w u s.does t.does; enabled_by = t.enabled_by ∙ s.enabled_by }) vs ws us a b
 
 abbrev list_in : Option Feature → List Text
 list_in o = option_map_or (λ v. texts_now v.required_by_bins.items) o []

@@ -1,30 +1,25 @@
 -- Features that learn what enables them, place by place.
 use Rattle.std.specs.Prelude.{◌≡◌, ◌≢◌, ◌<◌, ◌↔◌, ◌⊎◌, ℕ, Bool, IsTrue, List, Vec, false, true}
-use Rattle.std.specs.Prelude.{length, slice_get, Some}
+use Rattle.std.specs.Prelude.{slice_get, Some}
 use Rattle.cargo_toml_graph.specs.Action.{Text}
 use Rattle.cargo_toml_graph.specs.Graph.{IsPlain}
 use Rattle.cargo_toml_features.specs.declared.features.Feature.{Feature}
 use Rattle.cargo_toml_features.specs.InOrder.{names_of}
-use Rattle.cargo_toml_features.specs.Marks.{marks_of}
 use Rattle.cargo_toml_features.specs.Places.{nth_text}
 use Rattle.cargo_toml_features.specs.Views.{action_at, set_has}
 use Rattle.cargo_toml_graph.specs.Reach.{Reaches}
 use Rattle.cargo_toml_walk.specs.Numbers.{IsWanted, Leads}
+use Rattle.cargo_toml_resolve.specs.InEachPlace.{DoesTheSame, InEachPlace}
 use Rattle.cargo_toml_resolve.specs.NumberedTables.{HasNumber}
 
 -- what a feature holds beside its enablers stays
 pub record IsSameButEnablers (old new : Feature) : Type 0 where
-  pub key : new.key ≡ old.key
-  pub marks : marks_of new ≡ marks_of old
-  pub names : new.enables_features ≡ old.enables_features
-  pub actions : new.enables_deps ≡ old.enables_deps
+  pub does : DoesTheSame old new
   pub bins : new.required_by_bins ≡ old.required_by_bins
 
 -- in each place
-pub record AreSameButEnablers (old new : List Feature) : Type 0 where
-  pub len : length new ≡ length old
-  pub each : (i : ℕ) (v w : Feature) → slice_get old i ≡ Some v → slice_get new i ≡ Some w →
-      IsSameButEnablers v w
+abbrev pub AreSameButEnablers : List Feature → List Feature → Type 0
+AreSameButEnablers old new = InEachPlace IsSameButEnablers old new
 
 -- the feature names x, or acts on it plainly
 abbrev pub LeadsTo : Feature → Text → Type 0

@@ -8,6 +8,7 @@ pub mod TakingOver
 pub mod KeptFeatures
 pub mod Texts
 pub mod Numbering
+pub mod InEachPlace
 pub mod Passing
 pub mod Walking
 pub mod Placed

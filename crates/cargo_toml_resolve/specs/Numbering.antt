@@ -1,6 +1,7 @@
 -- Features as a graph of numbers.
-use Rattle.std.specs.Prelude.{◌≡◌, ◌≢◌, ◌<◌, ◌≤◌, ℕ, Bool, true, false}
+use Rattle.std.specs.Prelude.{◌≡◌, ◌≢◌, ◌↔◌, ◌⊎◌, ◌<◌, ◌≤◌, ℕ, Bool, true, false}
 use Rattle.std.specs.Prelude.{List, length, take, drop, slice_get, IsTrue}
+use Rattle.std.specs.Borrow.{Bor}
 use Rattle.std.specs.Option.{IsSomeAnd, option_map_or}
 use Rattle.cargo_toml_graph.specs.Action.{Text}
 use Rattle.cargo_toml_graph.specs.Reach.{Among}
@@ -32,6 +33,11 @@ IsNamedBy naming vs n x = (i : ℕ) × (i < n) × IsPicked naming vs i x
 -- the feature in place i leads to another one, in place x
 abbrev pub IsTarget : List Feature → List Text → ℕ → ℕ → Type 0
 IsTarget vs keys i x = (x ≢ i) × IsSomeAnd (slice_get vs i) (λ v. LeadsTo v (nth_text keys x))
+
+-- the row gains the places of the keys, other than `own`, of which P holds
+abbrev pub Gains : List (Bor Text) → ℕ → (ℕ → Type 0) → List ℕ → List ℕ → Type 0
+Gains keys own P old new =
+    (x : ℕ) → Among new x ↔ (Among old x ⊎ ((x < length keys) × (x ≢ own) × P x))
 
 -- the first n texts and those after them stand in byte order, and no text stands twice
 pub record AreParted (n : ℕ) (texts : List Text) : Type 0 where

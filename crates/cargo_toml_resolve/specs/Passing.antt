@@ -1,13 +1,13 @@
 -- The binaries that are passed on, by places.
 use Rattle.std.specs.Prelude.{◌≡◌, ℕ, zero, suc, Bool, false, List, [], if◌then◌else◌}
-use Rattle.std.specs.Prelude.{length, map, nat_eq, take, slice_get, Some, Vec}
+use Rattle.std.specs.Prelude.{map, nat_eq, take, slice_get, Vec}
 use Rattle.std.specs.List.{list_any, slice_index_or}
 use Rattle.std.specs.Option.{option_map_or}
 use Rattle.cargo_toml_graph.specs.Action.{Text}
 use Rattle.cargo_toml_graph.specs.Removal.{put_each}
 use Rattle.cargo_toml_walk.specs.Numbers.{row_items}
 use Rattle.cargo_toml_features.specs.declared.features.Feature.{Feature}
-use Rattle.cargo_toml_features.specs.Marks.{marks_of}
+use Rattle.cargo_toml_resolve.specs.InEachPlace.{DoesTheSame, InEachPlace}
 
 -- the binaries that require the feature in place i, none past the end
 abbrev pub bins_of : List Feature → ℕ → List Text
@@ -30,14 +30,9 @@ passed_below redirects flags (suc n) lists =
 
 -- what a feature holds beside its binaries stays
 pub record IsSameButBins (old new : Feature) : Type 0 where
-  pub key : new.key ≡ old.key
-  pub marks : marks_of new ≡ marks_of old
-  pub names : new.enables_features ≡ old.enables_features
-  pub actions : new.enables_deps ≡ old.enables_deps
+  pub does : DoesTheSame old new
   pub enabled_by : new.enabled_by ≡ old.enabled_by
 
 -- in each place
-pub record AreSameButBins (old new : List Feature) : Type 0 where
-  pub len : length new ≡ length old
-  pub each : (i : ℕ) (v w : Feature) → slice_get old i ≡ Some v → slice_get new i ≡ Some w
-      → IsSameButBins v w
+abbrev pub AreSameButBins : List Feature → List Feature → Type 0
+AreSameButBins old new = InEachPlace IsSameButBins old new

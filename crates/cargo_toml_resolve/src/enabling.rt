@@ -1,5 +1,5 @@
 //! Where no feature is removed: each learns which others enable it.
-ghost use Rattle.std.specs.Prelude.{◌≡◌, ◌≢◌, ◌↔◌, ◌⊎◌, ◌<◌, ℕ, IsTrue, OnOk, length};
+ghost use Rattle.std.specs.Prelude.{◌≡◌, ◌↔◌, ◌<◌, ℕ, IsTrue, OnOk, length};
 ghost use Rattle.cargo_toml_graph.specs.Action.{Text};
 ghost use Rattle.cargo_toml_graph.specs.Graph.{IsUnremoved, Table};
 ghost use Rattle.cargo_toml_graph.specs.Reach.{Among};
@@ -11,7 +11,7 @@ ghost use Rattle.cargo_toml_features.specs.Places.{nth_text};
 ghost use Rattle.cargo_toml_walk.specs.Numbers.{Leads};
 ghost use Rattle.cargo_toml_resolve.specs.Enabling.{AreSameButEnablers, GainEnabler, LeaderBelow};
 ghost use Rattle.cargo_toml_resolve.specs.Enabling.{LeadsTo, LearnBy};
-ghost use Rattle.cargo_toml_resolve.specs.Numbering.{IsTarget};
+ghost use Rattle.cargo_toml_resolve.specs.Numbering.{Gains, IsTarget};
 ghost use Rattle.cargo_toml_resolve.specs.Texts.{texts_now};
 
 use crate::dense_enablers::learn_by_table;
@@ -35,9 +35,9 @@ fn push_names(
     mut near: usize,
 ) -> Result<usize, AllocError>
     requires { Ascend (texts_now keys.now) }
-    ensures { OnOk result ((x : ℕ) → Among row.new.items x ↔ (Among row.old.items x
-        ⊎ ((x < length keys.now) × (x ≢ own)
-        × IsTrue (set_has named.now (nth_text (texts_now keys.now) x))))) }
+    ensures { OnOk result (Gains keys.now own
+        (λ x. IsTrue (set_has named.now (nth_text (texts_now keys.now) x)))
+        row.old.items row.new.items) }
 {
     if named.is_empty() {
         return Ok(near);
@@ -72,9 +72,9 @@ pub(crate) fn push_targets(
     near: usize,
 ) -> Result<usize, AllocError>
     requires { Ascend (texts_now keys.now) }
-    ensures { OnOk result ((x : ℕ) → Among row.new.items x ↔ (Among row.old.items x
-        ⊎ ((x < length keys.now) × (x ≢ own)
-        × LeadsTo feature.now (nth_text (texts_now keys.now) x)))) }
+    ensures { OnOk result (Gains keys.now own
+        (λ x. LeadsTo feature.now (nth_text (texts_now keys.now) x))
+        row.old.items row.new.items) }
 {
     if leads_nowhere(feature) {
         return Ok(near);

@@ -1,5 +1,5 @@
 //! Features become a graph of nodes.
-ghost use Rattle.std.specs.Prelude.{◌≡◌, ◌≢◌, ◌↔◌, ◌⊎◌, ◌<◌, ◌≤◌, ℕ, IfOk, IfSome};
+ghost use Rattle.std.specs.Prelude.{◌≡◌, ◌↔◌, ◌⊎◌, ◌<◌, ◌≤◌, ℕ, IfOk, IfSome};
 ghost use Rattle.std.specs.Prelude.{IsTrue, None, OnOk, Some, false, length, map, true};
 ghost use Rattle.cargo_toml_graph.specs.Action.{Text};
 ghost use Rattle.cargo_toml_graph.specs.Graph.{IsPlain};
@@ -10,7 +10,7 @@ ghost use Rattle.cargo_toml_features.specs.Views.{action_at, action_of, set_has}
 ghost use Rattle.cargo_toml_walk.specs.Numbers.{IsWanted, Leads};
 ghost use Rattle.cargo_toml_features.specs.Places.{nth_text};
 ghost use Rattle.cargo_toml_resolve.specs.NumberedTables.{IsNaming, IsNumbered};
-ghost use Rattle.cargo_toml_resolve.specs.Numbering.{AreParted, AreTextsOf, IsFlagged};
+ghost use Rattle.cargo_toml_resolve.specs.Numbering.{AreParted, AreTextsOf, Gains, IsFlagged};
 ghost use Rattle.cargo_toml_resolve.specs.Numbering.{IsNamedBy, IsPicked, IsTarget};
 ghost use Rattle.cargo_toml_resolve.specs.Texts.{texts_now};
 
@@ -188,8 +188,8 @@ pub(crate) fn push_target(
     near: usize,
 ) -> Result<usize, AllocError>
     requires { Ascend (texts_now keys.now) }
-    ensures { OnOk result ((x : ℕ) → Among row.new.items x ↔ (Among row.old.items x
-        ⊎ ((x < length keys.now) × (x ≢ own) × (nth_text (texts_now keys.now) x ≡ key.now)))) }
+    ensures { OnOk result (Gains keys.now own (λ x. nth_text (texts_now keys.now) x ≡ key.now)
+        row.old.items row.new.items) }
 {
     let Some(place) = place_near(keys, key, near) else {
         return Ok(near);
@@ -217,9 +217,9 @@ pub(crate) fn push_actions(
     own: Node,
 ) -> Result<(), AllocError>
     requires { Ascend (texts_now keys.now) }
-    ensures { OnOk result ((x : ℕ) → Among row.new.items x
-        ↔ (Among row.old.items x ⊎ ((x < length keys.now) × (x ≢ own)
-        × IsPlain (action_at actions.now (nth_text (texts_now keys.now) x))))) }
+    ensures { OnOk result (Gains keys.now own
+        (λ x. IsPlain (action_at actions.now (nth_text (texts_now keys.now) x)))
+        row.old.items row.new.items) }
 {
     // Most features act on nothing, and to begin a walk over an empty map costs more than this.
     if actions.is_empty() {

@@ -7,3 +7,4 @@ pub mod Rows
 pub mod Words
 pub mod Tabled
 pub mod Closing
+pub mod Found

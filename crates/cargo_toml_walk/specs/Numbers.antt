@@ -50,6 +50,11 @@ pub record AreWithin {Z : Type 0} (edges labels : List (Vec ℕ Z)) (flags : Lis
   pub edges_inside : (a b : ℕ) → Leads edges a b → b < length edges
   pub labels_inside : (a x : ℕ) → Leads labels a x → x < length flags
 
+-- each vertex has a flag, and edges lead to vertices
+pub record AreEdges {Z : Type 0} (edges : List (Vec ℕ Z)) (flags : List Bool) : Type 0 where
+  pub count : length edges ≤ length flags
+  pub inside : (a b : ℕ) → Leads edges a b → b < length edges
+
 -- the named numbers are found too, each that was not there put at the end, and nothing else changes
 pub record FindsNamed (epoch : ℕ) (Named : ℕ → Type 0)
     (found found' met met' : List ℕ) : Type 0 where
@@ -105,3 +110,42 @@ pub record Replaces {Z : Type 0} (r : ℕ) (P : ℕ → Type 0) (old new : List 
   pub len : length new ≡ length old
   pub here : (x : ℕ) → Leads new r x ↔ P x
   pub others : (a x : ℕ) → a ≢ r → Leads new a x ↔ Leads old a x
+
+-- what each vertex that isn't removed passes
+pub record FindsPassed {Z Y : Type 0} (edges : List (Vec ℕ Z)) (flags : List Bool)
+    (rows : List (Vec ℕ Y)) : Type 0 where
+  -- each vertex has a row
+  pub len : length rows ≡ length edges
+  -- of one that isn't removed it has the removed ones that it reaches through removed ones
+  pub passed : (a b : ℕ) → a < length edges → IsWanted flags false a
+      → Leads rows a b ↔ IsPassed edges flags a b
+  -- of a removed one it has nothing
+  pub removed : (a b : ℕ) → IsWanted flags true a → ¬ Leads rows a b
+  -- what it has are vertices
+  pub inside : (a b : ℕ) → Leads rows a b → b < length edges
+
+-- the labels that each vertex which passes any then has
+pub record FindsLabels {Z Y : Type 0} (passed own : List (Vec ℕ Z)) (flags : List Bool)
+    (rows : List (Vec ℕ Y)) : Type 0 where
+  -- each vertex has a row
+  pub len : length rows ≡ length own
+  -- of one that passes any it has its labels and those of the passed ones, without the removed
+  pub labels : (a x : ℕ) → a < length own → PassesAny passed a
+      → Leads rows a x ↔ HasLabel (Leads passed a) own flags a x
+  -- of one that passes none it has nothing
+  pub none : (a x : ℕ) → ¬ PassesAny passed a → ¬ Leads rows a x
+  -- what it has are labels
+  pub inside : (a x : ℕ) → Leads rows a x → x < length flags
+
+-- what stands for each removed vertex
+pub record FindsRedirects {Z Y : Type 0} (edges labels : List (Vec ℕ Z)) (flags : List Bool)
+    (rows : List (Vec ℕ Y)) : Type 0 where
+  -- each vertex has a row
+  pub len : length rows ≡ length labels
+  -- of a removed one it has its labels once the removed ones below it are taken out
+  pub redirects : (r x : ℕ) → r < length labels → IsWanted flags true r
+      → Leads rows r x ↔ IsRedirect edges flags labels r x
+  -- of another it has its labels
+  pub others : (a x : ℕ) → IsWanted flags false a → Leads rows a x ↔ Leads labels a x
+  -- what it has are labels
+  pub inside : (r x : ℕ) → Leads rows r x → x < length flags

@@ -5,8 +5,9 @@
 ghost use Rattle.std.specs.Prelude.{◌≡◌, ◌<◌, ◌≤◌, ◌↔◌, ◌*◌, ℕ, IfOk, length, true, false};
 ghost use Rattle.cargo_toml_graph.specs.Reach.{Reaches};
 ghost use Rattle.cargo_toml_walk.specs.Bits.{Holds};
-ghost use Rattle.cargo_toml_walk.specs.Numbers.{AreWithin, HasLabel, IsPassed, IsRedirect};
-ghost use Rattle.cargo_toml_walk.specs.Numbers.{IsFrom, IsWanted, Leads, PassesAny, row_items};
+ghost use Rattle.cargo_toml_walk.specs.Numbers.{AreEdges, AreWithin, FindsLabels, FindsPassed};
+ghost use Rattle.cargo_toml_walk.specs.Numbers.{FindsRedirects, IsFrom, IsWanted, Leads};
+ghost use Rattle.cargo_toml_walk.specs.Numbers.{row_items};
 
 use crate::bits::{nodes_of, words_for};
 use crate::node::Node;
@@ -70,11 +71,7 @@ pub(crate) fn dense_labels(
     is_removed: &[bool],
 ) -> Result<Vec<Vec<Node>>, AllocError>
     requires { AreWithin passed.now labels.now is_removed.now }
-    ensures len { IfOk result (λ r. length r.items ≡ length labels.now) }
-    ensures labels { IfOk result (λ r. (a x : ℕ) → a < length labels.now → PassesAny passed.now a
-        → Leads r.items a x ↔ HasLabel (Leads passed.now a) labels.now is_removed.now a x) }
-    ensures none { IfOk result (λ r. (a x : ℕ) → ¬ PassesAny passed.now a → ¬ Leads r.items a x) }
-    ensures inside { IfOk result (λ r. (a x : ℕ) → Leads r.items a x → x < length is_removed.now) }
+    ensures { IfOk result (λ r. FindsLabels passed.now labels.now is_removed.now r.items) }
 {
     let width = words_for(is_removed.len());
     let table = table_of(alloc, labels, width)?;
@@ -97,8 +94,7 @@ fn reached(
     edges: &[Vec<Node>],
     is_removed: &[bool],
 ) -> Result<Vec<Vec<u64>>, AllocError>
-    requires whole { length edges.now ≤ length is_removed.now }
-    requires inside { (a b : ℕ) → Leads edges.now a b → b < length edges.now }
+    requires { AreEdges edges.now is_removed.now }
     ensures len { IfOk result (λ table. length table.items ≡ length edges.now) }
     ensures wide { IfOk result (λ table. (a : ℕ) → a < length edges.now
         → length is_removed.now ≤ 64 * length (row_items table.items a)) }
@@ -123,15 +119,8 @@ pub(crate) fn dense_passed(
     edges: &[Vec<Node>],
     is_removed: &[bool],
 ) -> Result<Vec<Vec<Node>>, AllocError>
-    requires whole { length edges.now ≤ length is_removed.now }
-    requires inside { (a b : ℕ) → Leads edges.now a b → b < length edges.now }
-    ensures len { IfOk result (λ p. length p.items ≡ length edges.now) }
-    ensures passed { IfOk result
-        (λ p. (a b : ℕ) → a < length edges.now → IsWanted is_removed.now false a
-        → Leads p.items a b ↔ IsPassed edges.now is_removed.now a b) }
-    ensures removed { IfOk result
-        (λ p. (a b : ℕ) → IsWanted is_removed.now true a → ¬ Leads p.items a b) }
-    ensures inside { IfOk result (λ p. (a b : ℕ) → Leads p.items a b → b < length edges.now) }
+    requires { AreEdges edges.now is_removed.now }
+    ensures { IfOk result (λ r. FindsPassed edges.now is_removed.now r.items) }
 {
     let table = reached(alloc, edges, is_removed)?;
     let mut passed = Vec::with_capacity(alloc, edges.len())?;
@@ -153,14 +142,7 @@ pub(crate) fn dense_redirects(
     is_removed: &[bool],
 ) -> Result<Vec<Vec<Node>>, AllocError>
     requires { AreWithin edges.now labels.items is_removed.now }
-    ensures len { IfOk result (λ rows. length rows.items ≡ length labels.items) }
-    ensures redirects { IfOk result
-        (λ rows. (r x : ℕ) → r < length labels.items → IsWanted is_removed.now true r
-        → Leads rows.items r x ↔ IsRedirect edges.now is_removed.now labels.items r x) }
-    ensures others { IfOk result (λ rows. (a x : ℕ) → IsWanted is_removed.now false a
-        → Leads rows.items a x ↔ Leads labels.items a x) }
-    ensures inside { IfOk result
-        (λ rows. (r x : ℕ) → Leads rows.items r x → x < length is_removed.now) }
+    ensures { IfOk result (λ r. FindsRedirects edges.now labels.items is_removed.now r.items) }
 {
     let total = is_removed.len();
     let mut finished = Vec::from_elem(alloc, false, total)?;

@@ -1,8 +1,8 @@
 //! The labels that vertices have once removed ones are taken out.
 ghost use Rattle.std.specs.Prelude.{◌≡◌, ◌<◌, ◌≤◌, ◌↔◌, IfOk, OnOk, ℕ, length, false};
 ghost use Rattle.cargo_toml_graph.specs.Reach.{Among};
-ghost use Rattle.cargo_toml_walk.specs.Numbers.{AreStamped, AreWithin, CanMeet, FindsNamed};
-ghost use Rattle.cargo_toml_walk.specs.Numbers.{HasLabel, IsWanted, Leads, OldStamps, PassesAny};
+ghost use Rattle.cargo_toml_walk.specs.Numbers.{AreStamped, AreWithin, CanMeet, FindsLabels};
+ghost use Rattle.cargo_toml_walk.specs.Numbers.{FindsNamed, HasLabel, IsWanted, Leads, OldStamps};
 
 use crate::dense::{dense_labels, is_dense};
 use crate::node::Node;
@@ -68,29 +68,6 @@ pub(crate) fn kept_labels(
     Ok(found)
 }
 
-// The labels that a vertex then has, if it passes any; else nothing, which takes no memory.
-fn labels_of(
-    alloc: Global,
-    passer: &Passer<'_>,
-    labels: &[Vec<Node>],
-    is_removed: &[bool],
-    met: &mut Vec<usize>,
-) -> Result<Vec<Node>, AllocError>
-    requires own { passer.now.own < length labels.now }
-    requires passed { (b : ℕ) → Among passer.now.passed.now b → b < length labels.now }
-    requires ready { CanMeet passer.now.own labels.now is_removed.now met.old.items }
-    ensures labels { IfOk result (λ found. (x : ℕ) → Among found.items x
-        ↔ (((c : ℕ) × Among passer.now.passed.now c)
-        × HasLabel (Among passer.now.passed.now) labels.now is_removed.now passer.now.own x)) }
-    ensures len { OnOk result (length met.new.items ≡ length met.old.items) }
-    ensures stamps { OnOk result (OldStamps passer.now.own met.old.items met.new.items) }
-{
-    if passer.passed.is_empty() {
-        return Ok(Vec::new(alloc));
-    }
-    kept_labels(alloc, passer, labels, is_removed, met)
-}
-
 /// For each vertex that passes removed ones, the labels that it then has: those of its own and of
 /// the passed ones, without the removed. Nothing for the others.
 pub fn all_labels(
@@ -100,11 +77,7 @@ pub fn all_labels(
     is_removed: &[bool],
 ) -> Result<Vec<Vec<Node>>, AllocError>
     requires { AreWithin passed.now labels.now is_removed.now }
-    ensures len { IfOk result (λ r. length r.items ≡ length labels.now) }
-    ensures labels { IfOk result (λ r. (a x : ℕ) → a < length labels.now → PassesAny passed.now a
-        → Leads r.items a x ↔ HasLabel (Leads passed.now a) labels.now is_removed.now a x) }
-    ensures none { IfOk result (λ r. (a x : ℕ) → ¬ PassesAny passed.now a → ¬ Leads r.items a x) }
-    ensures inside { IfOk result (λ r. (a x : ℕ) → Leads r.items a x → x < length is_removed.now) }
+    ensures { IfOk result (λ r. FindsLabels passed.now labels.now is_removed.now r.items) }
 {
     if is_dense(labels, is_removed.len()) {
         return dense_labels(alloc, passed, labels, is_removed);
@@ -114,12 +87,17 @@ pub fn all_labels(
     let mut met = Vec::from_elem(alloc, total, total)?;
     let mut rows = Vec::with_capacity(alloc, size)?;
     for own in 0..size {
-        let passer = Passer {
-            own: Node::at(own),
-            passed: passed[own].as_slice(),
-        };
-        let row = labels_of(alloc, &passer, labels, is_removed, &mut met)?;
-        rows.push(row)?;
+        let through = passed[own].as_slice();
+        // An empty row takes no memory.
+        if through.is_empty() {
+            rows.push(Vec::new(alloc))?;
+        } else {
+            let passer = Passer {
+                own: Node::at(own),
+                passed: through,
+            };
+            rows.push(kept_labels(alloc, &passer, labels, is_removed, &mut met)?)?;
+        }
     }
     Ok(rows)
 }

@@ -1,9 +1,9 @@
 //! What stands for a removed vertex: the labels that it has once the removed vertices
 //! below it are taken out.
-ghost use Rattle.std.specs.Prelude.{◌≡◌, ◌<◌, ◌↔◌, ℕ, length, true, false};
+ghost use Rattle.std.specs.Prelude.{◌≡◌, ◌<◌, ℕ, length, true, false};
 ghost use Rattle.std.specs.Prelude.{IfOk, IsTrue, OnOk};
 ghost use Rattle.cargo_toml_graph.specs.Reach.{Among};
-ghost use Rattle.cargo_toml_walk.specs.Numbers.{AreWithin, CanMeet, HasLabel, IsRedirect};
+ghost use Rattle.cargo_toml_walk.specs.Numbers.{AreWithin, CanMeet, FindsRedirects, HasLabel};
 ghost use Rattle.cargo_toml_walk.specs.Numbers.{IsWanted, Leads, OldStamps, Replaces};
 
 use crate::dense::{dense_redirects, is_dense};
@@ -74,14 +74,7 @@ pub fn redirects(
     is_removed: &[bool],
 ) -> Result<Vec<Vec<Node>>, AllocError>
     requires { AreWithin edges.items labels.items is_removed.now }
-    ensures len { IfOk result (λ rows. length rows.items ≡ length labels.items) }
-    ensures redirects { IfOk result
-        (λ rows. (r x : ℕ) → r < length labels.items → IsWanted is_removed.now true r
-        → Leads rows.items r x ↔ IsRedirect edges.items is_removed.now labels.items r x) }
-    ensures others { IfOk result (λ rows. (a x : ℕ) → IsWanted is_removed.now false a
-        → Leads rows.items a x ↔ Leads labels.items a x) }
-    ensures inside { IfOk result
-        (λ rows. (r x : ℕ) → Leads rows.items r x → x < length is_removed.now) }
+    ensures { IfOk result (λ r. FindsRedirects edges.items labels.items is_removed.now r.items) }
 {
     // There is none below a sole removed vertex: its redirect is its labels.
     if is_sole(is_removed) {

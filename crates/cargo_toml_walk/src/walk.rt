@@ -2,8 +2,8 @@
 ghost use Rattle.std.specs.Prelude.{◌≡◌, ◌<◌, ◌≤◌, ◌↔◌, ℕ, length, true, false};
 ghost use Rattle.std.specs.Prelude.{IfOk, IsTrue, OnOk};
 ghost use Rattle.cargo_toml_graph.specs.Reach.{Among};
-ghost use Rattle.cargo_toml_walk.specs.Numbers.{CanMeet, IsPassed, IsWanted};
-ghost use Rattle.cargo_toml_walk.specs.Numbers.{Leads, AreStamped, OldStamps, FindsNamed};
+ghost use Rattle.cargo_toml_walk.specs.Numbers.{AreEdges, CanMeet, FindsPassed, IsPassed};
+ghost use Rattle.cargo_toml_walk.specs.Numbers.{IsWanted, Leads, AreStamped, OldStamps, FindsNamed};
 
 use crate::dense::{dense_passed, is_dense};
 use crate::node::Node;
@@ -126,28 +126,6 @@ pub(crate) fn passing(
     Ok(found)
 }
 
-// What a kept vertex passes; nothing for a removed one.
-fn passed_by(
-    alloc: Global,
-    start: Node,
-    edges: &[Vec<Node>],
-    is_removed: &[bool],
-    met: &mut Vec<usize>,
-) -> Result<Vec<Node>, AllocError>
-    requires start { start < length met.old.items }
-    requires whole { length edges.now ≡ length met.old.items }
-    requires ready { CanMeet start edges.now is_removed.now met.old.items }
-    ensures passed { IfOk result (λ found. (b : ℕ) → Among found.items b
-        ↔ (IsWanted is_removed.now false start × IsPassed edges.now is_removed.now start b)) }
-    ensures len { OnOk result (length met.new.items ≡ length met.old.items) }
-    ensures stamps { OnOk result (OldStamps start met.old.items met.new.items) }
-{
-    if is_removed[start.place()] {
-        return Ok(Vec::new(alloc));
-    }
-    passing(alloc, start, edges, is_removed, met)
-}
-
 /// For each vertex that isn't removed, the removed ones that it reaches through removed ones;
 /// nothing for a removed one.
 pub fn all_passed(
@@ -155,15 +133,8 @@ pub fn all_passed(
     edges: &[Vec<Node>],
     is_removed: &[bool],
 ) -> Result<Vec<Vec<Node>>, AllocError>
-    requires whole { length edges.now ≤ length is_removed.now }
-    requires inside { (a b : ℕ) → Leads edges.now a b → b < length edges.now }
-    ensures len { IfOk result (λ p. length p.items ≡ length edges.now) }
-    ensures passed { IfOk result
-        (λ p. (a b : ℕ) → a < length edges.now → IsWanted is_removed.now false a
-        → Leads p.items a b ↔ IsPassed edges.now is_removed.now a b) }
-    ensures removed { IfOk result
-        (λ p. (a b : ℕ) → IsWanted is_removed.now true a → ¬ Leads p.items a b) }
-    ensures inside { IfOk result (λ p. (a b : ℕ) → Leads p.items a b → b < length edges.now) }
+    requires { AreEdges edges.now is_removed.now }
+    ensures { IfOk result (λ r. FindsPassed edges.now is_removed.now r.items) }
 {
     if is_dense(edges, is_removed.len()) {
         return dense_passed(alloc, edges, is_removed);
@@ -172,8 +143,11 @@ pub fn all_passed(
     let mut met = Vec::from_elem(alloc, size, size)?;
     let mut passed = Vec::with_capacity(alloc, size)?;
     for start in 0..size {
-        let removed = passed_by(alloc, Node::at(start), edges, is_removed, &mut met)?;
-        passed.push(removed)?;
+        if is_removed[start] {
+            passed.push(Vec::new(alloc))?;
+        } else {
+            passed.push(passing(alloc, Node::at(start), edges, is_removed, &mut met)?)?;
+        }
     }
     Ok(passed)
 }

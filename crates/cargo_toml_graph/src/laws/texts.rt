@@ -1,6 +1,7 @@
 //! What some action texts say.
-ghost use Rattle.std.specs.Prelude.{◌≡◌, bytes_eq, codes, false, true};
+ghost use Rattle.std.specs.Prelude.{◌≡◌, codes, false, true};
 ghost use Rattle.cargo_toml_graph.specs.Action.{Item, item_of};
+ghost use Rattle.cargo_toml_graph.specs.Examples.{only};
 
 /// Texts that name features: a `?` at the end goes, once, and a `?` elsewhere stays.
 pub fn some_texts_name_features()
@@ -21,28 +22,16 @@ pub fn some_texts_name_features()
 pub fn some_texts_act_on_dependencies()
     // `dep:a?/b/c`
     ensures both { item_of (codes "dep:a?/b/c") ≡ Item.On (codes "a")
-        (record {
-          is_conditional = true;
-          is_dep_only = true;
-          features = λ x. bytes_eq x (codes "b/c");
-        }) }
+        (record { is_conditional = true; is_dep_only = true; features = only (codes "b/c") }) }
     // `dep:dep:x`
     ensures twice { item_of (codes "dep:dep:x") ≡ Item.On (codes "dep:x")
         (record { is_conditional = false; is_dep_only = true; features = λ x. false }) }
     // `/`
     ensures slash { item_of (codes "/") ≡ Item.On (codes "")
-        (record {
-          is_conditional = false;
-          is_dep_only = false;
-          features = λ x. bytes_eq x (codes "");
-        }) }
+        (record { is_conditional = false; is_dep_only = false; features = only (codes "") }) }
     // `a//`
     ensures two_slashes { item_of (codes "a//") ≡ Item.On (codes "a")
-        (record {
-          is_conditional = false;
-          is_dep_only = false;
-          features = λ x. bytes_eq x (codes "/");
-        }) }
+        (record { is_conditional = false; is_dep_only = false; features = only (codes "/") }) }
     // `dep:?`
     ensures no_key { item_of (codes "dep:?") ≡ Item.On (codes "")
         (record { is_conditional = true; is_dep_only = true; features = λ x. false }) }

@@ -4,7 +4,8 @@ use Rattle.cargo_toml_resolve.specs.Holding.{AllTakeOver}
 use Rattle.cargo_toml_resolve.specs.Passing.{bins_of, passed_below}
 use Rattle.cargo_toml_resolve.specs.Texts.{texts_now}
 use Rattle.cargo_toml_resolve.proofs.KeptEnablers.{learnt_through}
-use Rattle.cargo_toml_resolve.proofs.Learning.{own_still, stand_still, there_too}
+use Rattle.cargo_toml_resolve.proofs.AlikePlaces.{there_too}
+use Rattle.cargo_toml_resolve.proofs.Learning.{own_still, stand_still}
 use Rattle.cargo_toml_resolve.proofs.Placing.{bins_there, kept_there, named_alike_there, redirects_there}
 use Rattle.cargo_toml_resolve.proofs.elimination.place.Goals as goal
 
@@ -41,7 +42,7 @@ returns c =
           let m = there_too old mid learnt.same.len i v at in
           let first = learnt.same.each i v m.0 at m.1 in
           let then = named_alike_there fs ps ms ts mid left new leaves others i m.0 u m.1 at' in
-          record { key = then.key ∙ first.key; marks = then.marks ∙ first.marks };
+          record { key = then.key ∙ first.does.key; marks = then.marks ∙ first.does.marks };
       kept = λ t removed stand. kept_there t removed mid left new ts es ns fs (stand_still t removed old mid ts es ns fs learnt.same stand) ps ms found.passed found.named
           (λ i m kept at e.
           let v = there_too mid old (sym learnt.same.len) i m at in

@@ -1,14 +1,11 @@
-use Rattle.std.proofs.Common.{rules, ◌≡◌, ◌<◌, ◌≤◌, ℕ, Bor, true, length, ap, sym, subst, ◌∙◌}
+use Rattle.std.proofs.Common.{rules, ◌≡◌, ◌<◌, ◌≤◌, Bor, length, ap, sym, subst, ◌∙◌}
 use Rattle.std.proofs.lemmas.List.{length-map}
 use Rattle.cargo_toml_graph.specs.Ascending.{Ascend}
 use Rattle.cargo_toml_graph.specs.Action.{Text}
-use Rattle.cargo_toml_walk.specs.Numbers.{IsWanted}
 use Rattle.cargo_toml_walk.proofs.Filling.{has_row}
 use Rattle.cargo_toml_features.specs.InOrder.{names_of}
-use Rattle.cargo_toml_resolve.specs.NumberedTables.{IsNaming}
-use Rattle.cargo_toml_resolve.specs.Numbering.{AreTextsOf}
 use Rattle.cargo_toml_resolve.specs.Texts.{texts_now}
-use Rattle.cargo_toml_resolve.proofs.NumberingGraph.{graph_stands, named_by, targets_by}
+use Rattle.cargo_toml_resolve.proofs.NumberingGraph.{graph_found, named_by, targets_by}
 use Rattle.cargo_toml_resolve.proofs.numbering.number.Goals as goal
 
 pub edge_rows-requires : goal.edge_rows-requires
@@ -28,38 +25,24 @@ naming_flags-requires-clause-inside c =
 
 pub returns-clause-numbered : goal.returns-clause-numbered
 returns-clause-numbered c =
-    let vs = c.args.features.now in
     let ts = c.in_ok-texts.texts.items in
     let es = c.in_ok-edges.edges.items in
-    let ns = c.in_ok-names.names.items in
-    let asked = c.in_ok-naming.naming.items in
     let size : length c.in_ok-flags.flags.items ≡ length ts = search rules in
-    let same : texts_now c.as_slice.result.now ≡ names_of vs = ap texts_now c.as_slice.ensures.value ∙ c.in_ok-keys.ensures in
-    let are : AreTextsOf asked vs (texts_now ts) = rw c.as_slice-3.ensures.value at c.in_ok-texts.ensures in
-    let picked : (i : ℕ) → i < length vs → IsNaming es c.args.flags.now i → IsWanted asked true i = λ i lt is.
-    (rw c.as_slice-2.ensures.value at c.in_ok-naming.ensures.naming) i (subst (λ n. i < n) (sym c.in_ok-edges.ensures.len) lt) is in
-    graph_stands vs c.args.flags.now asked (texts_now ts) es ns c.in_ok-flags.flags.items c.requires.in_order c.requires.len are picked
-    c.in_ok-names.ensures.len (named_by asked c.as_slice-4.result.now vs ns c.as_slice-5.result.now ts c.as_slice-5.ensures.value c.as_slice-4.ensures.value c.in_ok-names.ensures.rows)
-    c.in_ok-edges.ensures.len (targets_by vs es c.as_slice.result.now same c.in_ok-edges.ensures.rows)
-    (size ∙ sym (length-map ts (λ (t : Bor Text). t.now))) c.in_ok-flags.ensures.flags
+    graph_found c.args.features.now c.args.flags.now c.in_ok-naming.naming.items c.as_slice.result.now ts es c.in_ok-names.names.items c.in_ok-flags.flags.items c.requires.in_order c.requires.len
+    (ap texts_now c.as_slice.ensures.value ∙ c.in_ok-keys.ensures) (rw c.as_slice-3.ensures.value at c.in_ok-texts.ensures) (rw c.as_slice-2.ensures.value at c.in_ok-naming.ensures.naming) c.in_ok-names.ensures.len
+    (named_by c.in_ok-naming.naming.items c.as_slice-4.result.now c.args.features.now c.in_ok-names.names.items c.as_slice-5.result.now ts c.as_slice-5.ensures.value c.as_slice-4.ensures.value c.in_ok-names.ensures.rows)
+    c.in_ok-edges.ensures.len c.in_ok-edges.ensures.rows size c.in_ok-flags.ensures.flags
 
 pub invariant_of-result : goal.invariant_of-result
 invariant_of-result c =
-    let vs = c.args.features.now in
     let ts = c.in_ok-texts.texts.items in
-    let es = c.in_ok-edges.edges.items in
-    let ns = c.in_ok-names.names.items in
-    let asked = c.in_ok-naming.naming.items in
-    let size : length c.in_ok-flags.flags.items ≡ length ts = search rules in
     let long : length (texts_now ts) ≡ length ts = length-map ts (λ (t : Bor Text). t.now) in
-    let same : texts_now c.as_slice.result.now ≡ names_of vs = ap texts_now c.as_slice.ensures.value ∙ c.in_ok-keys.ensures in
-    let are : AreTextsOf asked vs (texts_now ts) = rw c.as_slice-3.ensures.value at c.in_ok-texts.ensures in
-    let picked : (i : ℕ) → i < length vs → IsNaming es c.args.flags.now i → IsWanted asked true i = λ i lt is.
-    (rw c.as_slice-2.ensures.value at c.in_ok-naming.ensures.naming) i (subst (λ n. i < n) (sym c.in_ok-edges.ensures.len) lt) is in
-    let n = graph_stands vs c.args.flags.now asked (texts_now ts) es ns c.in_ok-flags.flags.items c.requires.in_order c.requires.len are picked
-    c.in_ok-names.ensures.len (named_by asked c.as_slice-4.result.now vs ns c.as_slice-5.result.now ts c.as_slice-5.ensures.value c.as_slice-4.ensures.value c.in_ok-names.ensures.rows)
-    c.in_ok-edges.ensures.len (targets_by vs es c.as_slice.result.now same c.in_ok-edges.ensures.rows)
-    (size ∙ sym long) c.in_ok-flags.ensures.flags in
+    let es = c.in_ok-edges.edges.items in
+    let size : length c.in_ok-flags.flags.items ≡ length ts = search rules in
+    let n = graph_found c.args.features.now c.args.flags.now c.in_ok-naming.naming.items c.as_slice.result.now ts es c.in_ok-names.names.items c.in_ok-flags.flags.items c.requires.in_order c.requires.len
+    (ap texts_now c.as_slice.ensures.value ∙ c.in_ok-keys.ensures) (rw c.as_slice-3.ensures.value at c.in_ok-texts.ensures) (rw c.as_slice-2.ensures.value at c.in_ok-naming.ensures.naming) c.in_ok-names.ensures.len
+    (named_by c.in_ok-naming.naming.items c.as_slice-4.result.now c.args.features.now c.in_ok-names.names.items c.as_slice-5.result.now ts c.as_slice-5.ensures.value c.as_slice-4.ensures.value c.in_ok-names.ensures.rows)
+    c.in_ok-edges.ensures.len c.in_ok-edges.ensures.rows size c.in_ok-flags.ensures.flags in
     record {
       once = λ i j lt lt'. n.one i j (subst (λ m. i < m) (sym long) lt) (subst (λ m. j < m) (sym long) lt');
       in_order = n.in_order;

@@ -1,4 +1,5 @@
-use Rattle.cargo_toml_resolve.proofs.NumberRows.{Gains, PlainSoFar}
+use Rattle.cargo_toml_resolve.specs.Numbering.{Gains}
+use Rattle.cargo_toml_resolve.proofs.NumberRows.{PlainSoFar}
 use Rattle.cargo_toml_resolve.proofs.numbering.push_actions.Given as goal
 
 abbrev pub invariant-loop-key : goal.invariant-loop-key

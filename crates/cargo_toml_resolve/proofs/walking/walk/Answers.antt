@@ -1,5 +1,11 @@
-use Rattle.std.proofs.Common.{◌<◌, refl, sym, subst, ◌∙◌}
+use Rattle.std.proofs.Common.{◌<◌, refl, sym, subst, ◌∙◌, arith}
 use Rattle.cargo_toml_resolve.proofs.walking.walk.Goals as goal
+
+pub all_passed-requires : goal.all_passed-requires
+all_passed-requires c =
+    let fits = c.args.graph.features_count in
+    let flags = c.args.graph.flags_count in
+    rw (c.as_slice.ensures.value, c.as_slice-2.ensures.value) (record { count = omega (arith, fits, flags); inside = c.args.graph.edges_inside })
 
 pub set_kept_enablers-requires-clause-len : goal.set_kept_enablers-requires-clause-len
 set_kept_enablers-requires-clause-len c = rw c.as_slice-3.ensures.value (rw c.as_slice.ensures.value at c.in_ok-passed.ensures.len)

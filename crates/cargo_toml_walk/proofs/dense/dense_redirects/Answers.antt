@@ -3,6 +3,7 @@ use Rattle.cargo_toml_graph.specs.Reach.{Among}
 use Rattle.cargo_toml_walk.specs.Bits.{Holds}
 use Rattle.cargo_toml_walk.specs.Numbers.{IsRedirect, IsWanted}
 use Rattle.cargo_toml_walk.proofs.Closing.{first_labels, first_paths, more_labels, more_paths, none_finished, redirect_row, same_labels, same_paths}
+use Rattle.cargo_toml_walk.proofs.Found.{finds_redirects}
 use Rattle.cargo_toml_walk.proofs.Rows.{next_rows, one_more_finished, replaced, skipped_rows, still_finished}
 use Rattle.cargo_toml_walk.proofs.Steps.{list_read}
 use Rattle.cargo_toml_walk.proofs.Tabled.{holds_inside}
@@ -78,3 +79,9 @@ loop-r-preserved c =
             rows = skipped_rows c.args.edges.now c.args.is_removed.now c.args.labels.items _ c.loop-r.r c.loop-r.labels.items kept old.rows;
           })
     ]
+
+pub returns : goal.returns
+returns c =
+    let same = c.requires.same in
+    let end = c.loop-r-test.false in
+    finds_redirects c.args.edges.now c.args.labels.items c.args.is_removed.now c.loop-r.r c.loop-r.labels.items (omega (arith, same, end)) c.loop-r.invariant.rows

@@ -1,7 +1,8 @@
-use Rattle.std.proofs.Common.{arith, rules, ◌<◌, ◌↔◌, ℕ, length, true, false, subst, ◌∙◌, length-set}
+use Rattle.std.proofs.Common.{arith, refl, rules, ◌<◌, ◌↔◌, ℕ, length, true, false, subst, ◌∙◌, length-set}
 use Rattle.cargo_toml_graph.specs.Reach.{Among}
 use Rattle.cargo_toml_walk.specs.Numbers.{HasLabel, IsPassed, IsWanted, Replaces}
 use Rattle.cargo_toml_walk.proofs.Filling.{fresh_past, stamps_past, past_later}
+use Rattle.cargo_toml_walk.proofs.Found.{finds_redirects}
 use Rattle.cargo_toml_walk.proofs.Rows.{sole_redirect, still_finished, one_more_finished, skipped_rows, one_more_row}
 use Rattle.cargo_toml_walk.proofs.redirects.redirects.Goals as goal
 use Rattle.cargo_toml_walk.proofs.redirects.redirects.Goals.{then-is_removed-r+in_ok-passed+in_ok-finish+in_ok-finish-2, else-is_removed-r}
@@ -57,13 +58,17 @@ finish-requires-then-is_removed-r-clause-ready c = record {
   fresh = rw c.at-own.ensures (fresh_past c.loop-r.r _ c.loop-r.met_targets.items c.loop-r.invariant.targets_past c.loop-r-test.true);
 }
 
-pub returns-clause-redirects : goal.returns-clause-redirects
-returns-clause-redirects c = λ r x lt gone.
+pub returns : goal.returns
+returns c =
     let same = c.requires.same in
     let size = c.len-size.ensures in
     let end = c.loop-r-test.false in
-    let below : r < c.loop-r.r = omega (arith, lt, same, size, end) in
-    c.loop-r.invariant.label_rows.done r x (gone, below)
+    finds_redirects c.args.edges.items c.args.labels.items c.args.is_removed.now c.loop-r.r c.loop-r.labels.items (omega (arith, same, size, end)) c.loop-r.invariant.label_rows
 
-pub returns-then-is_sole-clause-redirects : goal.returns-then-is_sole-clause-redirects
-returns-then-is_sole-clause-redirects c = λ r x lt gone. sole_redirect c.args.edges.items c.args.labels.items c.args.is_removed.now (c.is_sole.ensures c.if-is_sole.true) r gone x
+pub returns-then-is_sole : goal.returns-then-is_sole
+returns-then-is_sole c = record {
+  len = refl;
+  redirects = λ r x lt gone. sole_redirect c.args.edges.items c.args.labels.items c.args.is_removed.now (c.is_sole.ensures c.if-is_sole.true) r gone x;
+  others = λ a x kept. (λ i. i, λ i. i);
+  inside = c.requires.labels_inside;
+}

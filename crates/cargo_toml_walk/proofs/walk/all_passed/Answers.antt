@@ -1,24 +1,37 @@
-use Rattle.std.proofs.Common.{◌+◌, length, false, sym, subst, ◌∙◌}
-use Rattle.std.proofs.lemmas.Bool.{false≢true}
-use Rattle.cargo_toml_walk.specs.Numbers.{IsPassed, IsWanted}
-use Rattle.cargo_toml_walk.proofs.Filling.{IsFilled, one_more_filled, read_filled, stamps_past}
-use Rattle.cargo_toml_walk.proofs.Walking.{path_inside}
+use Rattle.std.proofs.Common.{rules, ◌≡◌, ◌+◌, true, false, length, sym, subst, ◌∙◌}
+use Rattle.cargo_toml_walk.specs.Numbers.{IsWanted}
+use Rattle.cargo_toml_walk.proofs.Filling.{IsFilled, one_more_filled, past_later, stamps_past}
+use Rattle.cargo_toml_walk.proofs.Found.{PassedBy, finds_passed, none_passed, some_passed}
 use Rattle.cargo_toml_walk.proofs.walk.all_passed.Goals as goal
+use Rattle.cargo_toml_walk.proofs.walk.all_passed.Goals.{then-is_removed-start+in_ok-push, else-is_removed-start+in_ok-passing+in_ok-push-2}
 
 pub loop-start-preserved : goal.loop-start-preserved
-loop-start-preserved c = record {
-  met = c.in_ok-removed.ensures.len ∙ c.loop-start.invariant.met;
-  past = stamps_past c.loop-start.start (length c.args.edges.now) c.loop-start.met.items c.passed_by.new.met.items c.in_ok-removed.ensures.len c.loop-start.invariant.past (rw c.at.ensures at c.in_ok-removed.ensures.stamps);
-  filled = subst (IsFilled (λ a b. IsWanted c.args.is_removed.now false a × IsPassed c.args.edges.now c.args.is_removed.now a b) (c.loop-start.start + 1)) (sym c.in_ok-push.ensures.items)
-      (one_more_filled (λ a b. IsWanted c.args.is_removed.now false a × IsPassed c.args.edges.now c.args.is_removed.now a b) c.loop-start.start c.loop-start.passed.items _ c.loop-start.invariant.filled (rw c.at.ensures at c.in_ok-removed.ensures.passed));
-}
+loop-start-preserved c =
+    let es = c.args.edges.now in
+    let flags = c.args.is_removed.now in
+    let a = c.loop-start.start in
+    let old = c.loop-start.invariant in
+    elim c.if-is_removed-start.branch [
+      | then-is_removed-start+in_ok-push w ↦
+          let gone : IsWanted flags true a = search rules in
+          rw (w.passed-is, w.met-is) (record {
+            met = old.met;
+            past = past_later a (length es) c.loop-start.met.items old.past;
+            filled = subst (IsFilled (PassedBy es flags) (a + 1)) (sym w.in_ok-push.ensures.items)
+                (one_more_filled (PassedBy es flags) a c.loop-start.passed.items w.new.result old.filled (none_passed es flags a w.new.result.items gone w.new.ensures.items));
+          })
+      | else-is_removed-start+in_ok-passing+in_ok-push-2 w ↦
+          let kept : IsWanted flags false a = search rules in
+          let found = w.in_ok-passing.field-0 in
+          rw (w.passed-is, w.met-is) (record {
+            met = w.in_ok-passing.ensures.len ∙ old.met;
+            past = stamps_past a (length es) c.loop-start.met.items w.passing.new.met.items w.in_ok-passing.ensures.len old.past (rw w.at.ensures at w.in_ok-passing.ensures.stamps);
+            filled = subst (IsFilled (PassedBy es flags) (a + 1)) (sym w.in_ok-push-2.ensures.items)
+                (one_more_filled (PassedBy es flags) a c.loop-start.passed.items found old.filled (some_passed es flags a found.items kept (rw w.at.ensures at w.in_ok-passing.ensures.passed)));
+          })
+    ]
 
-pub returns-clause-removed : goal.returns-clause-removed
-returns-clause-removed c = λ a b gone i.
-    let p = read_filled (λ a b. IsWanted c.args.is_removed.now false a × IsPassed c.args.edges.now c.args.is_removed.now a b) c.loop-start.start c.loop-start.passed.items c.loop-start.invariant.filled a b i in
-    false≢true (sym p.0 ∙ gone)
-
-pub returns-clause-inside : goal.returns-clause-inside
-returns-clause-inside c = λ a b i.
-    let p = read_filled (λ a b. IsWanted c.args.is_removed.now false a × IsPassed c.args.edges.now c.args.is_removed.now a b) c.loop-start.start c.loop-start.passed.items c.loop-start.invariant.filled a b i in
-    path_inside (length c.args.edges.now) c.requires.inside p.1.1
+pub returns : goal.returns
+returns c =
+    let all : c.loop-start.start ≡ length c.args.edges.now = search rules in
+    finds_passed c.args.edges.now c.args.is_removed.now c.loop-start.passed.items c.requires (subst (λ n. IsFilled (PassedBy c.args.edges.now c.args.is_removed.now) n c.loop-start.passed.items) all c.loop-start.invariant.filled)

@@ -10,12 +10,15 @@ pub mod LintAgain
 pub mod Others
 pub mod ReadAgain
 pub mod ReadAgainBadges
+pub mod ReadAgainDependencies
 pub mod ReadAgainFeatures
 pub mod ReadAgainPackages
 pub mod ReadAgainProducts
 pub mod ReadAgainSettings
 pub mod ReadNoFloats
 pub mod Rows
+pub mod Spelled
+pub mod SpelledAgain
 pub mod Tables
 pub mod Told
 pub mod ToldFeatures

@@ -1,5 +1,6 @@
 pub mod Collected
 pub mod Entries
+pub mod EntriesAgain
 pub mod FloatlessAgain
 pub mod FreeTrees
 pub mod Gathered

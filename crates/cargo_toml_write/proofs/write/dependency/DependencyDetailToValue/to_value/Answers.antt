@@ -1,6 +1,8 @@
 use Rattle.cargo_toml_dependencies.specs.Dependencies.{detail_meaning}
-use Rattle.cargo_toml_write.specs.WrittenDependencies.{detail_rows, detail_way}
+use Rattle.cargo_toml_write.specs.WrittenDependencies.{detail_reads, detail_rows, detail_way}
 use Rattle.cargo_toml_write.specs.Writes.{IsWriting}
+use Rattle.cargo_toml_write.proofs.FloatlessAgain.{table_again}
+use Rattle.cargo_toml_write.proofs.ReadAgainDependencies.{detail_again}
 use Rattle.cargo_toml_write.proofs.FreeTrees.{detail_exact}
 use Rattle.cargo_toml_write.proofs.Trees.{exact_alone}
 use Rattle.cargo_toml_write.proofs.Rows.{◌then◌, done, ends, entries_then}
@@ -16,5 +18,6 @@ returns c =
     c.finish.ensures in
     record {
       written = written;
+      read_again = λ again. table_again detail_rows detail detail_reads detail c.finish.result written (detail_again detail again);
       memory = exact_alone detail_exact detail c.finish.result written;
     }

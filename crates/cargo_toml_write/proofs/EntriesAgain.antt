@@ -1,23 +1,39 @@
 -- Collected keys that are written in their order, and known keys that are put over them: both are found again.
-use Rattle.std.proofs.Common.{◌≡◌, ◌∙◌, refl, sym, ap, subst, true, false, Bool, ℕ, List, [], ◌∷◌, ◌++◌, append_assoc, append-nil, Option, Some, None, Ordering, Less, Equal, Greater, is_eq, nat_cmp}
+use Rattle.std.proofs.Common.{◌≡◌, ◌∙◌, refl, sym, ap, subst, true, false, Bool, ℕ, List, [], ◌∷◌, ◌++◌, append_assoc, append-nil, inl, inr, Option, Some, None, option_map, String, Global, string_bytes, Ordering, Less, Equal, Greater, is_eq, nat_cmp}
 use Rattle.std.specs.Cmp.Lexicographic.{slice_cmp}
 use Rattle.std.specs.List.{AllByRecursion}
 use Rattle.std.specs.List.Sorted.{IsStrictlySortedBy}
 use Rattle.std.specs.Map.{keys_of}
 use Rattle.std.specs.Ordering.{match_ordering, ordering_reverse}
-use Rattle.std.proofs.lemmas.Bool.{false≢true}
+use Rattle.std.specs.Option.{unwrap_or}
+use Rattle.std.specs.String.{string_cmp}
+use Rattle.std.proofs.lemmas.Bool.{cases_Bool, false≢true}
 use Rattle.std.proofs.lemmas.Cmp.{nat_list_cmp_total}
 use Rattle.toml.specs.Data.{Data, Members, no_members, member, get_member}
+use Rattle.toml.specs.View.{view}
+use Rattle.toml.proofs.Views.{Entry}
 use Rattle.cargo_toml_parts.specs.Reads.{is_among, others_read}
 use Rattle.cargo_toml_write.specs.Ways.{entry_rows, free_way}
 use Rattle.cargo_toml_write.specs.WrittenLints.{members_of}
 use Rattle.cargo_toml_write.specs.Writes.{Row, IsHeld, AreWritten, put_member, put_some}
+use Rattle.cargo_toml_write.proofs.Entries.{meant}
 use Rattle.cargo_toml_write.proofs.Others.{others_all, others_put, same_key}
 use Rattle.cargo_toml_write.proofs.ReadAgain.{Got, got}
 use Rattle.cargo_toml_write.proofs.Tables.{passes}
 
 abbrev Entries : Type 0
 Entries = List (List ℕ × Data)
+
+-- a map's keys are in order as texts, and as their bytes
+bytes_below : (k : String Global) (es : List Entry) → AllByRecursion (λ y. string_cmp k y ≡ Less) (keys_of es)
+    → AllByRecursion (λ y. slice_cmp nat_cmp (string_bytes k) y ≡ Less) (keys_of (meant view es))
+bytes_below k [] below = tt
+bytes_below k (e ∷ es) below = (below.0, bytes_below k es below.1)
+
+pub ordered_bytes : (es : List Entry) → IsStrictlySortedBy string_cmp (keys_of es) → IsStrictlySortedBy (slice_cmp nat_cmp) (keys_of (meant view es))
+unfolding IsStrictlySortedBy
+ordered_bytes [] ordered = tt
+ordered_bytes (e ∷ es) ordered = (bytes_below e.0 es ordered.0, ordered_bytes es ordered.1)
 
 -- the keys of some entries are below a key, and below those of others
 abbrev AreBelow : Entries → List ℕ → Type 0
@@ -79,11 +95,34 @@ named_or_not names k l Equal is named other =
     absurd (false≢true (sym other ∙ subst (λ (x : List ℕ). is_among names x ≡ true) (same_key k l (sym is)) named))
 named_or_not names k l Greater is named other = refl
 
+other_or_named : (names : List (List ℕ)) (k l : List ℕ) (o : Ordering) → o ≡ slice_cmp nat_cmp k l → is_among names k ≡ false → is_among names l ≡ true → is_eq o ≡ false
+other_or_named names k l Less is other named = refl
+other_or_named names k l Equal is other named =
+    absurd (false≢true (sym other ∙ subst (λ (x : List ℕ). is_among names x ≡ true) (sym (same_key k l (sym is))) named))
+other_or_named names k l Greater is other named = refl
+
 pub no_entry : (names : List (List ℕ)) (k : List ℕ) (es : Entries) → is_among names k ≡ true → AllByRecursion (λ (m : List ℕ × Data). is_among names m.0 ≡ false) es
     → get_member k (members_of es) ≡ None
 no_entry names k [] named apart = refl
 no_entry names k (e ∷ es) named apart =
     passes (slice_cmp nat_cmp k e.0) _ _ (named_or_not names k e.0 _ refl named apart.0) ∙ no_entry names k es named apart.1
+
+-- what was read of the other keys has them as the table does
+some_mapped : {A B : Type 0} (o : Option A) (f : A → B) (y : B) → option_map f o ≡ Some y → (x : A) × (o ≡ Some x) × (f x ≡ y)
+some_mapped None f y h = cc h
+some_mapped (Some x) f y h = (x, refl, ap (λ o. unwrap_or o (f x)) h)
+
+pub other_member : (names : List (List ℕ)) (k : List ℕ) (ms : Members) (es : Entries) → is_among names k ≡ false → others_read names (λ x. Some x) ms ≡ Some es
+    → get_member k ms ≡ get_member k (members_of es)
+other_member names k no_members es other read = ap (λ (o : Option Entries). get_member k (members_of (unwrap_or o []))) read
+other_member names k (member l d ms) es other read = elim (cases_Bool (is_among names l)) [
+  | inl named ↦
+      passes (slice_cmp nat_cmp k l) _ _ (other_or_named names k l _ refl other named) ∙ other_member names k ms es other (rw named at read)
+  | inr apart ↦
+      let more = some_mapped (others_read names (λ x. Some x) ms) (λ (xs : Entries). (l, d) ∷ xs) es (rw apart at read) in
+      ap (λ r. match_ordering (slice_cmp nat_cmp k l) r (Some d) r) (other_member names k ms more.0 other more.1)
+      ∙ ap (λ (xs : Entries). get_member k (members_of xs)) more.2
+]
 
 -- rows of named keys
 abbrev AreNamed : List (List ℕ) → List Row → Type 0
@@ -110,14 +149,10 @@ module _ (es : Entries) (known : List Row) (ms : Members) (ordered : IsStrictlyS
       let parts = apart_rows (entry_rows free_way es) known no_members ms written in
       subst (λ (mid : Members). AreWritten known mid ms) (entries_written es parts.0 ordered parts.1) parts.2
 
-  -- what a key holds then: what the known rows say, and else the entry
-  pub got_over : (k : List ℕ) → Got k known (get_member k (members_of es)) (get_member k ms)
-  got_over k = got k known (members_of es) ms over_entries
-
-  -- and where a named key is in no entry, what the known rows say
+  -- a named key then holds what the known rows say, where it is in no entry
   pub got_named : (names : List (List ℕ)) → AllByRecursion (λ (m : List ℕ × Data). is_among names m.0 ≡ false) es
       → (k : List ℕ) → is_among names k ≡ true → Got k known None (get_member k ms)
-  got_named names apart k named = subst (λ (o : Option Data). Got k known o (get_member k ms)) (no_entry names k es named apart) (got_over k)
+  got_named names apart k named = subst (λ (o : Option Data). Got k known o (get_member k ms)) (no_entry names k es named apart) (got k known (members_of es) ms over_entries)
 
   pub got_others : (names : List (List ℕ)) → AllByRecursion (λ (m : List ℕ × Data). is_among names m.0 ≡ false) es → AreNamed names known
       → others_read names (λ x. Some x) ms ≡ Some es

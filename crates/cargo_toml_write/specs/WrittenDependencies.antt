@@ -1,10 +1,6 @@
 -- How dependencies are written, and which are read again as they were.
 use Rattle.std.specs.Prelude.{◌≡◌, ℕ, List, [], ◌∷◌, ◌++◌, codes, true, false}
 use Rattle.std.specs.Prelude.{Option, None, IfSome, option_and_then, All}
-use Rattle.std.specs.Cmp.Lexicographic.{slice_cmp}
-use Rattle.std.specs.List.Sorted.{IsStrictlySortedBy}
-use Rattle.std.specs.Map.{keys_of}
-use Rattle.std.specs.Ordering.{nat_cmp}
 use Rattle.toml.specs.Data.{Data, as_bool, as_table}
 use Rattle.cargo_toml_dependencies.specs.Dependencies.{InheritedMeaning, DetailMeaning}
 use Rattle.cargo_toml_dependencies.specs.Dependencies.{DependencyMeaning, inherited_of}
@@ -87,8 +83,6 @@ pub record DetailAgain (d : DetailMeaning) : Type 0 where
   pub not_inherited : d.inherited ≡ false
   -- it collected no key that it knows
   pub apart : All (λ m. is_among detail_keys m.0 ≡ false) d.unstable
-  -- the collected keys are in order, as a map's are
-  pub ordered : IsStrictlySortedBy (slice_cmp nat_cmp) (keys_of d.unstable)
 
 -- the same of a dependency. A table with a truth value at `workspace` is an inherited one.
 abbrev pub DependencyAgain : DependencyMeaning → Type 0

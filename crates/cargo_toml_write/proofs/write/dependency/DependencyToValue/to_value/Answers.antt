@@ -1,22 +1,26 @@
-use Rattle.cargo_toml_dependencies.specs.Dependencies.{dependency_meaning}
-use Rattle.cargo_toml_write.specs.WrittenDependencies.{dependency_way}
-use Rattle.cargo_toml_write.specs.Writes.{IsWriting}
-use Rattle.cargo_toml_write.proofs.ReadAgainDependencies.{dependency_read}
+use Rattle.std.proofs.Common.{◌≡◌, subst, true}
+use Rattle.cargo_toml_dependencies.specs.Dependencies.{DependencyMeaning, dependency_meaning, dependency_of, detail_meaning, inherited_meaning}
+use Rattle.cargo_toml_parts.specs.Versions.{requirement_meaning}
+use Rattle.cargo_toml_write.specs.Floatless.{requirement_floatless, table_floatless}
+use Rattle.cargo_toml_write.specs.Requirements.{IsReadFromText}
+use Rattle.cargo_toml_write.specs.Ways.{requirement_way}
+use Rattle.cargo_toml_write.specs.WrittenDependencies.{DependencyAgain, inherited_rows}
+use Rattle.cargo_toml_write.specs.Writes.{IsReadAgain}
+use Rattle.cargo_toml_write.proofs.FloatlessAgain.{reads_again, table_again}
+use Rattle.cargo_toml_write.proofs.ReadAgainDependencies.{detailed_again, simple_again, strict_again}
 use Rattle.cargo_toml_write.proofs.write.dependency.DependencyToValue.to_value.Goals as goal
 
 pub returns-in-Simple-clause-read_again : goal.returns-in-Simple-clause-read_again
-returns-in-Simple-clause-read_again c again =
-    let written : IsWriting dependency_way (dependency_meaning c.args.self.now) c.to_value.result = rw c.in-Simple.is c.to_value.ensures.written in
-    dependency_read _ c.to_value.result written again
+returns-in-Simple-clause-read_again c = rw c.in-Simple.is (λ from_text.
+    reads_again requirement_way _ dependency_of _ c.to_value.result requirement_floatless c.to_value.ensures.written (simple_again _ from_text))
 
 pub returns-in-Inherited-clause-read_again : goal.returns-in-Inherited-clause-read_again
-returns-in-Inherited-clause-read_again c again =
-    let written : IsWriting dependency_way (dependency_meaning c.args.self.now) c.to_value-in-Inherited.result = rw c.in-Inherited.is c.to_value-in-Inherited.ensures.written in
-    dependency_read _ c.to_value-in-Inherited.result written again
+returns-in-Inherited-clause-read_again c = rw c.in-Inherited.is (λ told.
+    table_again inherited_rows _ dependency_of _ c.to_value-in-Inherited.result c.to_value-in-Inherited.ensures.written (strict_again _ told))
 
 pub returns-in-Detailed-clause-written : goal.returns-in-Detailed-clause-written
 returns-in-Detailed-clause-written c = rw (c.in-Detailed.is, ← c.deref.ensures) c.to_value-in-Detailed.ensures.written
 
 pub returns-in-Detailed-clause-read_again : goal.returns-in-Detailed-clause-read_again
-returns-in-Detailed-clause-read_again c again =
-    dependency_read _ c.to_value-in-Detailed.result (returns-in-Detailed-clause-written c) again
+returns-in-Detailed-clause-read_again c = rw (c.in-Detailed.is, ← c.deref.ensures) (λ again.
+    detailed_again _ c.to_value-in-Detailed.result c.to_value-in-Detailed.ensures.written (c.to_value-in-Detailed.ensures.read_again again.0) again.1)

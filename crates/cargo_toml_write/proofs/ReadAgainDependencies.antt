@@ -1,5 +1,5 @@
 -- Written requirements and dependencies read as themselves.
-use Rattle.std.proofs.Common.{◌≡◌, ◌∙◌, refl, sym, ap, subst, true, false, Bool, ℕ, List, [], ◌∷◌, codes, IsTrue, Option, Some, None, option_map, nat_cmp, Result, Ok, Err}
+use Rattle.std.proofs.Common.{◌≡◌, ◌∙◌, refl, sym, ap, subst, true, false, Bool, ℕ, List, [], codes, IsTrue, Option, Some, None, option_map, nat_cmp, Result, Ok, Err}
 use Rattle.std.specs.Cmp.Lexicographic.{slice_cmp}
 use Rattle.std.specs.List.{AllByRecursion}
 use Rattle.std.specs.List.Sorted.{IsStrictlySortedBy}

@@ -1,11 +1,7 @@
-use Rattle.std.proofs.Common.{◌≡◌, subst, true}
-use Rattle.cargo_toml_dependencies.specs.Dependencies.{DependencyMeaning, dependency_meaning, dependency_of, detail_meaning, inherited_meaning}
-use Rattle.cargo_toml_parts.specs.Versions.{requirement_meaning}
-use Rattle.cargo_toml_write.specs.Floatless.{requirement_floatless, table_floatless}
-use Rattle.cargo_toml_write.specs.Requirements.{IsReadFromText}
+use Rattle.cargo_toml_dependencies.specs.Dependencies.{dependency_of}
+use Rattle.cargo_toml_write.specs.Floatless.{requirement_floatless}
 use Rattle.cargo_toml_write.specs.Ways.{requirement_way}
-use Rattle.cargo_toml_write.specs.WrittenDependencies.{DependencyAgain, inherited_rows}
-use Rattle.cargo_toml_write.specs.Writes.{IsReadAgain}
+use Rattle.cargo_toml_write.specs.WrittenDependencies.{inherited_rows}
 use Rattle.cargo_toml_write.proofs.FloatlessAgain.{reads_again, table_again}
 use Rattle.cargo_toml_write.proofs.ReadAgainDependencies.{detailed_again, simple_again, strict_again}
 use Rattle.cargo_toml_write.proofs.write.dependency.DependencyToValue.to_value.Goals as goal

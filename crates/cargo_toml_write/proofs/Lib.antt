@@ -16,6 +16,7 @@ pub mod ReadAgainFeatures
 pub mod ReadAgainPackages
 pub mod ReadAgainProducts
 pub mod ReadAgainSettings
+pub mod ReadDependencies
 pub mod ReadNoFloats
 pub mod Rows
 pub mod Spelled

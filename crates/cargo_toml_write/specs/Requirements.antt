@@ -1,4 +1,4 @@
--- The text of a requirement on a version, as `semver` writes it, and the requirements that a text has.
+-- The text of a requirement on a version, as `semver` writes it, and which are read from a text.
 use Rattle.std.specs.Prelude.{◌≡◌, ◌++◌, ℕ, List, [], ◌∷◌, Option, Some, None, Ok, codes, decimal}
 use Rattle.std.specs.List.{flat_map}
 use Rattle.semver.specs.Identifiers.{marked}

@@ -13,6 +13,12 @@ floatless_again {M = M} reads d m floatless again =
     let P : Bool → Type 0 = λ b. (if b then reads d else None) ≡ Some m in
     subst P (sym floatless) again
 
+-- and what holds no float was read by the reader itself
+pub floatless_read : {M : Type 0} (reads : Data → Option M) (d : Data) (m : M) → IsTrue (has_no_float d) → without_floats reads d ≡ Some m → reads d ≡ Some m
+floatless_read {M = M} reads d m floatless again =
+    let P : Bool → Type 0 = λ b. (if b then reads d else None) ≡ Some m in
+    subst P floatless again
+
 -- each tree of a value reads as it: so does the one that was written
 pub reads_again : {X M : Type 0} (way : Way X) (x : X) (reads : Data → Option M) (m : M) (r : Result Value Error) → IsFloatless way → IsWriting way x r
     → ((d : Data) → way.trees x d → reads d ≡ Some m) → IsReadAgain reads m r

@@ -1,5 +1,6 @@
 pub mod Collected
 pub mod Entries
+pub mod EntriesAgain
 pub mod FloatlessAgain
 pub mod FreeTrees
 pub mod Gathered
@@ -10,12 +11,16 @@ pub mod LintAgain
 pub mod Others
 pub mod ReadAgain
 pub mod ReadAgainBadges
+pub mod ReadAgainDependencies
 pub mod ReadAgainFeatures
 pub mod ReadAgainPackages
 pub mod ReadAgainProducts
 pub mod ReadAgainSettings
+pub mod ReadDependencies
 pub mod ReadNoFloats
 pub mod Rows
+pub mod Spelled
+pub mod SpelledAgain
 pub mod Tables
 pub mod Told
 pub mod ToldFeatures

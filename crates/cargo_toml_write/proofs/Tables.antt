@@ -26,7 +26,7 @@ same_order : (k l m : List ℕ) → slice_cmp nat_cmp l m ≡ Equal → slice_cm
 same_order k l m e =
     nat_list_cmp_total.antisymm k m ∙ ap ordering_reverse (sym (nat_list_cmp_total.congr l m k e)) ∙ sym (nat_list_cmp_total.antisymm k l)
 
-passes : (o : Ordering) (r s : Option Data) → is_eq o ≡ false → match_ordering o r s r ≡ r
+pub passes : (o : Ordering) (r s : Option Data) → is_eq o ≡ false → match_ordering o r s r ≡ r
 passes Less r s h = refl
 passes Equal r s h = absurd (false≢true (sym h))
 passes Greater r s h = refl

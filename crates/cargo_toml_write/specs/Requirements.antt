@@ -1,8 +1,8 @@
--- The text of a requirement on a version, as `semver` writes it.
-use Rattle.std.specs.Prelude.{◌++◌, ℕ, List, [], ◌∷◌, Option, Some, None, codes, decimal}
+-- The text of a requirement on a version, as `semver` writes it, and which are read from a text.
+use Rattle.std.specs.Prelude.{◌≡◌, ◌++◌, ℕ, List, [], ◌∷◌, Option, Some, None, Ok, codes, decimal}
 use Rattle.std.specs.List.{flat_map}
 use Rattle.semver.specs.Identifiers.{marked}
-use Rattle.semver.specs.Parse.{Held}
+use Rattle.semver.specs.Parse.{Held, req_of}
 use Rattle.semver.specs.declared.Op.{Op}
 use Rattle.semver.specs.declared.Op.TheVariants.{Caret, Exact, Greater, GreaterEq, Less, LessEq}
 use Rattle.semver.specs.declared.Op.TheVariants.{Tilde, Wildcard}
@@ -45,3 +45,7 @@ comparator_text c = sign_of c.0 ++ (decimal c.1 ++ after_major (star_of c.0) c.2
 abbrev pub requirement_text : List Held → List ℕ
 requirement_text [] = codes "*"
 requirement_text (c ∷ cs) = comparator_text c ++ flat_map (λ d. codes ", " ++ comparator_text d) cs
+
+-- some text is read as these comparators
+abbrev pub IsReadFromText : List Held → Type 0
+IsReadFromText held = (text : List ℕ) × (req_of text ≡ Ok held)

@@ -1,14 +1,19 @@
--- How dependencies are written.
-use Rattle.std.specs.Prelude.{ℕ, List, [], ◌∷◌, ◌++◌, codes, true, false}
-use Rattle.toml.specs.Data.{Data}
+-- How dependencies are written, and which are read again as they were.
+use Rattle.std.specs.Prelude.{◌≡◌, ℕ, List, [], ◌∷◌, ◌++◌, codes, true, false}
+use Rattle.std.specs.Prelude.{Option, None, IfSome, option_and_then, All}
+use Rattle.toml.specs.Data.{Data, as_bool, as_table}
 use Rattle.cargo_toml_dependencies.specs.Dependencies.{InheritedMeaning, DetailMeaning}
-use Rattle.cargo_toml_dependencies.specs.Dependencies.{DependencyMeaning}
+use Rattle.cargo_toml_dependencies.specs.Dependencies.{DependencyMeaning, inherited_of}
+use Rattle.cargo_toml_dependencies.specs.Dependencies.{detail_keys, detail_of_table}
 use Rattle.cargo_toml_dependencies.specs.Dependencies as kind
 use Rattle.cargo_toml_dependencies.specs.Targets.{TargetMeaning}
 use Rattle.cargo_toml_parts.specs.declared.error.Error.{Error}
+use Rattle.cargo_toml_parts.specs.Reads.{is_among, required_at}
+use Rattle.cargo_toml_write.specs.Requirements.{IsReadFromText}
 use Rattle.cargo_toml_write.specs.Ways.{text_way, texts_way, requirement_way}
 use Rattle.cargo_toml_write.specs.Ways.{free_way, map_way, entry_rows, flag_row}
 use Rattle.cargo_toml_write.specs.Writes.{Way, Row, required_row, optional_row}
+use Rattle.cargo_toml_write.specs.WrittenLints.{members_of}
 use Rattle.cargo_toml_write.specs.Writes.{given_row, table_way, never_left_out}
 
 abbrev pub inherited_rows : InheritedMeaning → List Row
@@ -62,6 +67,29 @@ dependency_way = record {
   refuses = DependencyRefused;
   left_out = never_left_out;
 }
+
+-- the public readers of both tables
+abbrev pub inherited_reads : Data → Option InheritedMeaning
+inherited_reads d = option_and_then inherited_of (as_table d)
+
+abbrev pub detail_reads : Data → Option DetailMeaning
+detail_reads d = option_and_then detail_of_table (as_table d)
+
+-- the detail is one that a table says
+pub record DetailAgain (d : DetailMeaning) : Type 0 where
+  -- some text is read as its requirement
+  pub version : IfSome d.version IsReadFromText
+  -- it isn't marked as inherited, which is in no table
+  pub not_inherited : d.inherited ≡ false
+  -- it collected no key that it knows
+  pub apart : All (λ m. is_among detail_keys m.0 ≡ false) d.unstable
+
+-- the same of a dependency. A table with a truth value at `workspace` is an inherited one.
+abbrev pub DependencyAgain : DependencyMeaning → Type 0
+DependencyAgain (kind.simple r) = IsReadFromText r
+DependencyAgain (kind.inherited i) = i.workspace ≡ true
+DependencyAgain (kind.detailed d) =
+    DetailAgain d × (required_at "workspace" as_bool (members_of d.unstable) ≡ None)
 
 -- the dependencies by key, and those of some targets: all three tables are written, empty ones too
 abbrev pub dependencies_way : Way (List (List ℕ × DependencyMeaning))

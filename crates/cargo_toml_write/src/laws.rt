@@ -1,8 +1,10 @@
 //! Laws: what can be written. A value has a tree exactly where it holds no float in what
 //! it may hold freely.
-ghost use Rattle.std.specs.Prelude.{◌≡◌, ◌↔◌, Option, Some};
+ghost use Rattle.std.specs.Prelude.{◌≡◌, ◌↔◌, List, Option, Some};
+ghost use Rattle.semver.specs.Parse.{Held};
 ghost use Rattle.toml.specs.Data.{Data, Members};
 ghost use Rattle.cargo_toml_dependencies.specs.Dependencies.{DetailMeaning, DependencyMeaning};
+ghost use Rattle.cargo_toml_dependencies.specs.Dependencies.{simple, detailed, dependency_of};
 ghost use Rattle.cargo_toml_dependencies.specs.Targets.{TargetMeaning};
 ghost use Rattle.cargo_toml_manifest.specs.Manifests.{ManifestMeaning, manifest_reads};
 ghost use Rattle.cargo_toml_manifest.specs.Texts.{any_tree, document_reads};
@@ -18,7 +20,7 @@ ghost use Rattle.cargo_toml_write.specs.NoFloats.{LintHoldsNoFloat, PackageHolds
 ghost use Rattle.cargo_toml_write.specs.NoFloats.{WorkspaceHoldsNoFloat, ManifestHoldsNoFloat};
 ghost use Rattle.cargo_toml_write.specs.Ways.{free_way};
 ghost use Rattle.cargo_toml_write.specs.WrittenDependencies.{detail_way, dependency_way};
-ghost use Rattle.cargo_toml_write.specs.WrittenDependencies.{target_way};
+ghost use Rattle.cargo_toml_write.specs.WrittenDependencies.{target_way, DependencyAgain};
 ghost use Rattle.cargo_toml_write.specs.WrittenFeatures.{AreTold};
 ghost use Rattle.cargo_toml_write.specs.WrittenLints.{lint_way};
 ghost use Rattle.cargo_toml_write.specs.WrittenManifests.{all_features, manifest_way};
@@ -35,6 +37,14 @@ pub fn dependencies_without_floats()
     ensures dependency { (d : DependencyMeaning) → HasTree dependency_way d
         ↔ DependencyHoldsNoFloat d }
     ensures target { (t : TargetMeaning) → HasTree target_way t ↔ TargetHoldsNoFloat t }
+{}
+
+/// The requirements and details that were read of a dependency are such as are read again.
+pub fn read_dependencies_are_told()
+    ensures requirements { (d : Data) (r : List Held) → dependency_of d ≡ Some (simple r)
+        → DependencyAgain (simple r) }
+    ensures details { (d : Data) (x : DetailMeaning) → dependency_of d ≡ Some (detailed x)
+        → DependencyAgain (detailed x) }
 {}
 
 /// The profiles and lints that have a tree.

@@ -3,6 +3,7 @@ ghost use Rattle.std.specs.Prelude.{◌≡◌, IfErr};
 ghost use Rattle.cargo_toml_dependencies.specs.Dependencies.{InheritedMeaning, DetailMeaning};
 ghost use Rattle.cargo_toml_dependencies.specs.Dependencies.{DependencyMeaning, inherited_meaning};
 ghost use Rattle.cargo_toml_dependencies.specs.Dependencies.{detail_meaning, dependency_meaning};
+ghost use Rattle.cargo_toml_dependencies.specs.Dependencies.{dependency_of};
 ghost use Rattle.cargo_toml_dependencies.specs.Targets.{TargetMeaning, target_meaning};
 ghost use Rattle.cargo_toml_parts.specs.declared.error.Error.{Error};
 ghost use Rattle.cargo_toml_write.specs.Floatless.{dependency_floatless, table_floatless};
@@ -12,7 +13,9 @@ ghost use Rattle.cargo_toml_write.specs.WrittenDependencies.{inherited_way, deta
 ghost use Rattle.cargo_toml_write.specs.WrittenDependencies.{dependency_way, target_way};
 ghost use Rattle.cargo_toml_write.specs.WrittenDependencies.{inherited_rows, detail_rows};
 ghost use Rattle.cargo_toml_write.specs.WrittenDependencies.{target_rows};
-ghost use Rattle.cargo_toml_write.specs.Writes.{IsWriting};
+ghost use Rattle.cargo_toml_write.specs.WrittenDependencies.{inherited_reads, detail_reads};
+ghost use Rattle.cargo_toml_write.specs.WrittenDependencies.{DetailAgain, DependencyAgain};
+ghost use Rattle.cargo_toml_write.specs.Writes.{IsWriting, IsReadAgain};
 
 use crate::write::ToValue;
 use crate::write::writing::Writing;
@@ -32,6 +35,7 @@ impl ToValue for InheritedDependencyDetail {
 
     fn to_value(&self, alloc: Global) -> Result<Value, Error>
         ensures written { IsWriting inherited_way (inherited_meaning self.now) result }
+        ensures read_again { IsReadAgain inherited_reads (inherited_meaning self.now) result }
         ensures memory { IfErr result (λ e. e ≡ Error.Memory) }
     {
         let mut writing = Writing::new(alloc);
@@ -55,6 +59,8 @@ impl ToValue for DependencyDetail {
 
     fn to_value(&self, alloc: Global) -> Result<Value, Error>
         ensures written { IsWriting detail_way (detail_meaning self.now) result }
+        ensures read_again { DetailAgain (detail_meaning self.now)
+            → IsReadAgain detail_reads (detail_meaning self.now) result }
         ensures memory { DetailHoldsNoFloat (detail_meaning self.now)
             → IfErr result (λ e. e ≡ Error.Memory) }
     {
@@ -87,6 +93,8 @@ impl ToValue for Dependency {
 
     fn to_value(&self, alloc: Global) -> Result<Value, Error>
         ensures written { IsWriting dependency_way (dependency_meaning self.now) result }
+        ensures read_again { DependencyAgain (dependency_meaning self.now)
+            → IsReadAgain dependency_of (dependency_meaning self.now) result }
         ensures memory { DependencyHoldsNoFloat (dependency_meaning self.now)
             → IfErr result (λ e. e ≡ Error.Memory) }
     {

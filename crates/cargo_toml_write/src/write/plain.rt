@@ -1,14 +1,17 @@
 //! Writers of texts, truth values, numbers, versions and free values.
-ghost use Rattle.std.specs.Prelude.{ℕ, pos, List, Bool, string_bytes, refl};
+ghost use Rattle.std.specs.Prelude.{◌≡◌, ℕ, pos, List, Bool, IfErr, string_bytes, refl};
 ghost use Rattle.semver.specs.Identifiers.{parts_of, parts_text};
 ghost use Rattle.semver.specs.Parse.{Held};
 ghost use Rattle.toml.specs.Data.{Data, boolean, integer};
 ghost use Rattle.toml.specs.View.{view};
-ghost use Rattle.cargo_toml_parts.specs.Versions.{Parts, requirement_meaning};
+ghost use Rattle.cargo_toml_parts.specs.declared.error.Error.{Error};
+ghost use Rattle.cargo_toml_parts.specs.Versions.{Parts, requirement_meaning, requirement_of};
 ghost use Rattle.cargo_toml_write.specs.Floatless.{exactly_floatless, free_floatless};
 ghost use Rattle.cargo_toml_write.specs.Floatless.{requirement_floatless, word_floatless};
+ghost use Rattle.cargo_toml_write.specs.Requirements.{IsReadFromText};
 ghost use Rattle.cargo_toml_write.specs.Ways.{text_way, truth_way, number_way};
 ghost use Rattle.cargo_toml_write.specs.Ways.{version_way, requirement_way, free_way};
+ghost use Rattle.cargo_toml_write.specs.Writes.{IsReadAgain, IsWriting};
 
 use crate::write::ToValue;
 use crate::write::requirement::requirement_text;
@@ -82,7 +85,12 @@ impl ToValue for VersionReq {
 
     ghost floatless = { requirement_floatless };
 
-    fn to_value(&self, alloc: Global) -> Result<Value, Error> {
+    fn to_value(&self, alloc: Global) -> Result<Value, Error>
+        ensures written { IsWriting requirement_way (requirement_meaning self.now) result }
+        ensures read_again { IsReadFromText (requirement_meaning self.now)
+            → IsReadAgain requirement_of (requirement_meaning self.now) result }
+        ensures memory { IfErr result (λ e. e ≡ Error.Memory) }
+    {
         Ok(Value::String(requirement_text(alloc, self)?))
     }
 }

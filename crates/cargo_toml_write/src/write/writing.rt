@@ -3,6 +3,8 @@
 //! A type that is a table is written in a straight line: each key by a call, and then
 //! [`Writing::finish`], which is the only place where a fault comes out.
 ghost use Rattle.std.specs.Prelude.{◌≡◌, [], ◌∷◌, None, Some, option_map};
+ghost use Rattle.std.specs.BTreeMap.{IsOrdered};
+ghost use Rattle.std.specs.String.{string_cmp};
 ghost use Rattle.toml.specs.Data.{no_members};
 ghost use Rattle.toml.specs.View.{table_view};
 ghost use Rattle.cargo_toml_parts.specs.Reads.{map_meaning};
@@ -87,9 +89,11 @@ impl Writing {
         }
     }
 
-    /// Writes each value of a map at its key.
+    /// Writes each value of a map at its key, in the order of the keys.
     pub fn entries<T: ToValue>(&mut self, map: &BTreeMap<String, T>)
-        ensures { WritesRows (entry_rows T.way (map_meaning T.meaning map.now)) self.old self.new }
+        ensures written { WritesRows (entry_rows T.way (map_meaning T.meaning map.now))
+            self.old self.new }
+        ensures ordered { IsOrdered string_cmp map.now }
     {
         for (key, x) in map.iter() {
             self.required(key.as_str(), x);

@@ -1,6 +1,8 @@
 use Rattle.cargo_toml_dependencies.specs.Dependencies.{inherited_meaning}
-use Rattle.cargo_toml_write.specs.WrittenDependencies.{inherited_rows, inherited_way}
+use Rattle.cargo_toml_write.specs.WrittenDependencies.{inherited_rows, inherited_reads, inherited_way}
 use Rattle.cargo_toml_write.specs.Writes.{IsWriting}
+use Rattle.cargo_toml_write.proofs.FloatlessAgain.{table_again}
+use Rattle.cargo_toml_write.proofs.ReadAgainDependencies.{inherited_again}
 use Rattle.cargo_toml_write.proofs.TotalTrees.{inherited_total}
 use Rattle.cargo_toml_write.proofs.Trees.{total_alone}
 use Rattle.cargo_toml_write.proofs.Rows.{◌then◌, done, ends}
@@ -14,5 +16,6 @@ returns c =
     c.finish.ensures in
     record {
       written = written;
+      read_again = table_again inherited_rows detail inherited_reads detail c.finish.result written (inherited_again detail);
       memory = total_alone inherited_total detail c.finish.result written;
     }

@@ -10,7 +10,7 @@ pub returns : goal.returns
 returns c =
     let profiles = profiles_meaning c.args.self.now in
     let written : IsWriting profiles_way profiles c.finish.result = ends profiles_rows profiles c.finish.result c.new-writing.ensures.no_fault c.new-writing.ensures.no_key
-    (entries_then _ c.entries.ensures (c.optional.ensures then c.optional-2.ensures then c.optional-3.ensures then c.optional-4.ensures then
+    (entries_then _ c.entries.ensures.written (c.optional.ensures then c.optional-2.ensures then c.optional-3.ensures then c.optional-4.ensures then
     c.optional-5.ensures then done))
     c.finish.ensures in
     record {

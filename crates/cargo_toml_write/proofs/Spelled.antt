@@ -106,7 +106,7 @@ patch_of-ok default o wild pos (b ∷ rest) p h = elim (cases_Bool (b == 46)) [
   | inr other ↦ subst (PatchRead o wild (b ∷ rest)) (ok-value _ _ (rw other at h)) tt
 ]
 
--- what was read of the pre-release
+-- what was read of the pre-release. The kit keeps these three to its own proofs.
 good-pre : (p : List ℕ) → good place.Pre p ≡ is_pre_identifier p
 good-pre [] = refl
 good-pre (b ∷ []) = grind (arith, nat_tests)

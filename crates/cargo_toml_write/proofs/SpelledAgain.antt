@@ -83,7 +83,7 @@ digit-op Less (b ∷ rest) h =
     rw e refl
 digit-op o (b ∷ rest) h = refl
 
--- a pre-release is read whole
+-- a pre-release is read whole. The kit keeps this to its own proofs.
 bind-on : {A B : Type 0} (r : Result A Error) (x : A) (f : A → Result B Error) → r ≡ Ok x → (r >>= f) ≡ f x
 bind-on r x f e = rw e refl
 

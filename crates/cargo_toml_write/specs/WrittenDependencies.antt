@@ -75,7 +75,7 @@ inherited_reads d = option_and_then inherited_of (as_table d)
 abbrev pub detail_reads : Data → Option DetailMeaning
 detail_reads d = option_and_then detail_of_table (as_table d)
 
--- the detail is one that a table says
+-- when a detail is read again from what was written of it
 pub record DetailAgain (d : DetailMeaning) : Type 0 where
   -- some text is read as its requirement
   pub version : IfSome d.version IsReadFromText
@@ -84,7 +84,7 @@ pub record DetailAgain (d : DetailMeaning) : Type 0 where
   -- it collected no key that it knows
   pub apart : All (λ m. is_among detail_keys m.0 ≡ false) d.unstable
 
--- the same of a dependency. A table with a truth value at `workspace` is an inherited one.
+-- the same of a dependency: a table with a truth value at `workspace` reads as an inherited one
 abbrev pub DependencyAgain : DependencyMeaning → Type 0
 DependencyAgain (kind.simple r) = IsReadFromText r
 DependencyAgain (kind.inherited i) = i.workspace ≡ true

@@ -53,7 +53,7 @@ IsSameness {X} eq = (x y : X) → IsTrue (eq x y) ↔ (x ≡ y)
 
 -- how values of an enum compare
 pub record ComparesBy {X : Type 0} (number : X → ℕ) (cmp : X → X → Ordering) (eq : X → X → Bool)
-  : Type 0 where
+    : Type 0 where
   -- as their numbers do
   pub order : IsOrderedBy number cmp
   -- only a value is equal to itself

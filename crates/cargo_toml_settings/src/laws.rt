@@ -10,15 +10,16 @@ use crate::profile_settings::{DebugSetting, LtoSetting, StripSetting};
 use crate::settings::{Edition, Resolver};
 
 fn comparisons()
-    ensures edition {
-        ComparesBy edition_number ⟦<Edition as Ord>⟧.cmp ⟦<Edition as PartialEq>⟧.eq }
-    ensures resolver {
-        ComparesBy resolver_number ⟦<Resolver as Ord>⟧.cmp ⟦<Resolver as PartialEq>⟧.eq }
-    ensures debug {
-        ComparesBy debug_worth ⟦<DebugSetting as Ord>⟧.cmp ⟦<DebugSetting as PartialEq>⟧.eq }
-    ensures strip {
-        ComparesBy strip_place ⟦<StripSetting as Ord>⟧.cmp ⟦<StripSetting as PartialEq>⟧.eq }
-    ensures lto { ComparesBy lto_place ⟦<LtoSetting as Ord>⟧.cmp ⟦<LtoSetting as PartialEq>⟧.eq }
+    ensures edition { ComparesBy edition_number
+        ⟦<Edition as Ord>⟧.cmp ⟦<Edition as PartialEq>⟧.eq }
+    ensures resolver { ComparesBy resolver_number
+        ⟦<Resolver as Ord>⟧.cmp ⟦<Resolver as PartialEq>⟧.eq }
+    ensures debug { ComparesBy debug_worth
+        ⟦<DebugSetting as Ord>⟧.cmp ⟦<DebugSetting as PartialEq>⟧.eq }
+    ensures strip { ComparesBy strip_place
+        ⟦<StripSetting as Ord>⟧.cmp ⟦<StripSetting as PartialEq>⟧.eq }
+    ensures lto { ComparesBy lto_place
+        ⟦<LtoSetting as Ord>⟧.cmp ⟦<LtoSetting as PartialEq>⟧.eq }
 {}
 
 fn defaults()

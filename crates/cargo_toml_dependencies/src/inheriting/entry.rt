@@ -65,7 +65,8 @@ fn joined_detail(
 ) -> Result<Box<DependencyDetail>, AllocError>
     ensures { IfOk result (λ d. detail_meaning d.value
         ≡ record (detail_meaning template.now) {
-        path = option_map (path_join base.now) (detail_meaning template.now).path }) }
+          path = option_map (path_join base.now) (detail_meaning template.now).path;
+        }) }
 {
     let mut detail = Box::new(alloc, template.duplicate(alloc)?)?;
     detail.path = joined_path(alloc, base, template.path.as_ref())?;

@@ -36,9 +36,6 @@ debug_fault (integer z) = codes "wrong number for debug setting"
 debug_fault (string s) = codes "wrong name for debug setting"
 debug_fault _ = codes "wrong data type for debug setting"
 
-abbrev pub DebugRefuses : Data → Error → Type 0
-DebugRefuses d e = IsShape (debug_fault d) e
-
 abbrev pub strip_of : Data → Option StripSetting
 strip_of (boolean false) = Some strip.None
 strip_of (boolean true) = Some strip.Symbols
@@ -50,9 +47,6 @@ strip_of _ = None
 abbrev pub strip_fault : Data → List ℕ
 strip_fault (string s) = codes "strip setting has unknown string value"
 strip_fault _ = codes "wrong data type for strip setting"
-
-abbrev pub StripRefuses : Data → Error → Type 0
-StripRefuses d e = IsShape (strip_fault d) e
 
 abbrev pub lto_of : Data → Option LtoSetting
 lto_of (boolean false) = Some lto.ThinLocal
@@ -69,5 +63,6 @@ abbrev pub lto_fault : Data → List ℕ
 lto_fault (string s) = codes "lto setting has unknown string value"
 lto_fault _ = codes "wrong data type for lto setting"
 
-abbrev pub LtoRefuses : Data → Error → Type 0
-LtoRefuses d e = IsShape (lto_fault d) e
+-- the fault of a value that says no setting: its text, as that of a shape
+abbrev pub SettingRefuses : (Data → List ℕ) → Data → Error → Type 0
+SettingRefuses fault d e = IsShape (fault d) e

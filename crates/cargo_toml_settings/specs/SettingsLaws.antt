@@ -51,6 +51,14 @@ IsOrderedBy {X} number cmp = (x y : X) → cmp x y ≡ nat_cmp (number x) (numbe
 abbrev pub IsSameness : {X : Type 0} → (X → X → Bool) → Type 0
 IsSameness {X} eq = (x y : X) → IsTrue (eq x y) ↔ (x ≡ y)
 
+-- how values of an enum compare
+pub record ComparesBy {X : Type 0} (number : X → ℕ) (cmp : X → X → Ordering) (eq : X → X → Bool)
+    : Type 0 where
+  -- as their numbers do
+  pub order : IsOrderedBy number cmp
+  -- only a value is equal to itself
+  pub equality : IsSameness eq
+
 -- the default is this value and no other
 abbrev pub HasDefault : {X : Type 0} → (X → Type 0) → X → Type 0
 HasDefault {X} is_default value = (x : X) → is_default x → x ≡ value

@@ -2,36 +2,24 @@
 ghost use Rattle.std.specs.Prelude.{◌≡◌};
 ghost use Rattle.cargo_toml_settings.specs.declared.settings.Edition.TheVariants.{E2015};
 ghost use Rattle.cargo_toml_settings.specs.declared.settings.Resolver.TheVariants.{V1};
-ghost use Rattle.cargo_toml_settings.specs.SettingsLaws.{HasDefault, IsOrderedBy, IsSameness};
+ghost use Rattle.cargo_toml_settings.specs.SettingsLaws.{ComparesBy, HasDefault};
 ghost use Rattle.cargo_toml_settings.specs.SettingsLaws.{edition_number, resolver_number};
 ghost use Rattle.cargo_toml_settings.specs.SettingsLaws.{debug_worth, strip_place, lto_place};
 
 use crate::profile_settings::{DebugSetting, LtoSetting, StripSetting};
 use crate::settings::{Edition, Resolver};
 
-fn editions()
-    ensures order { IsOrderedBy edition_number ⟦<Edition as Ord>⟧.cmp }
-    ensures equality { IsSameness ⟦<Edition as PartialEq>⟧.eq }
-{}
-
-fn resolvers()
-    ensures order { IsOrderedBy resolver_number ⟦<Resolver as Ord>⟧.cmp }
-    ensures equality { IsSameness ⟦<Resolver as PartialEq>⟧.eq }
-{}
-
-fn debug_settings()
-    ensures order { IsOrderedBy debug_worth ⟦<DebugSetting as Ord>⟧.cmp }
-    ensures equality { IsSameness ⟦<DebugSetting as PartialEq>⟧.eq }
-{}
-
-fn strip_settings()
-    ensures order { IsOrderedBy strip_place ⟦<StripSetting as Ord>⟧.cmp }
-    ensures equality { IsSameness ⟦<StripSetting as PartialEq>⟧.eq }
-{}
-
-fn lto_settings()
-    ensures order { IsOrderedBy lto_place ⟦<LtoSetting as Ord>⟧.cmp }
-    ensures equality { IsSameness ⟦<LtoSetting as PartialEq>⟧.eq }
+fn comparisons()
+    ensures edition { ComparesBy edition_number
+        ⟦<Edition as Ord>⟧.cmp ⟦<Edition as PartialEq>⟧.eq }
+    ensures resolver { ComparesBy resolver_number
+        ⟦<Resolver as Ord>⟧.cmp ⟦<Resolver as PartialEq>⟧.eq }
+    ensures debug { ComparesBy debug_worth
+        ⟦<DebugSetting as Ord>⟧.cmp ⟦<DebugSetting as PartialEq>⟧.eq }
+    ensures strip { ComparesBy strip_place
+        ⟦<StripSetting as Ord>⟧.cmp ⟦<StripSetting as PartialEq>⟧.eq }
+    ensures lto { ComparesBy lto_place
+        ⟦<LtoSetting as Ord>⟧.cmp ⟦<LtoSetting as PartialEq>⟧.eq }
 {}
 
 fn defaults()

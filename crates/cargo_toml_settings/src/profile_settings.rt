@@ -1,9 +1,9 @@
 //! The settings of a profile, each of which is one value of a tree.
 ghost use Rattle.std.specs.Prelude.{◌≡◌, Some, None, MatchResult};
 ghost use Rattle.toml.specs.View.{view};
-ghost use Rattle.cargo_toml_settings.specs.ProfileSettings.{debug_of, debug_fault, DebugRefuses};
-ghost use Rattle.cargo_toml_settings.specs.ProfileSettings.{strip_of, strip_fault, StripRefuses};
-ghost use Rattle.cargo_toml_settings.specs.ProfileSettings.{lto_of, lto_fault, LtoRefuses};
+ghost use Rattle.cargo_toml_settings.specs.ProfileSettings.{debug_of, debug_fault, strip_of};
+ghost use Rattle.cargo_toml_settings.specs.ProfileSettings.{strip_fault, lto_of, lto_fault};
+ghost use Rattle.cargo_toml_settings.specs.ProfileSettings.{SettingRefuses};
 
 use cargo_toml_parts::read::Read;
 use cargo_toml_parts::{Error, ParseFault};
@@ -116,7 +116,7 @@ impl Read for DebugSetting {
 
     ghost reads = { debug_of };
 
-    ghost refuses = { DebugRefuses };
+    ghost refuses = { SettingRefuses debug_fault };
 
     ghost takes_memory = { ⊥ };
 
@@ -156,7 +156,7 @@ impl Read for StripSetting {
 
     ghost reads = { strip_of };
 
-    ghost refuses = { StripRefuses };
+    ghost refuses = { SettingRefuses strip_fault };
 
     ghost takes_memory = { ⊥ };
 
@@ -194,7 +194,7 @@ impl Read for LtoSetting {
 
     ghost reads = { lto_of };
 
-    ghost refuses = { LtoRefuses };
+    ghost refuses = { SettingRefuses lto_fault };
 
     ghost takes_memory = { ⊥ };
 

@@ -1,10 +1,10 @@
 //! The enums that stand for one value of a tree.
-ghost use Rattle.cargo_toml_parts.specs.Faults.{IsShape, wrong_shape};
 
 mod questions;
 
 use cargo_toml_parts::Error;
 use cargo_toml_parts::read::{Read, wrong_shape};
+use cargo_toml_parts::scalar::Scalar;
 use std::alloc::Global;
 use toml::Value;
 
@@ -78,57 +78,33 @@ impl Default for Publish {
     }
 }
 
-impl Read for Edition {
-    ghost use Rattle.cargo_toml_settings.specs.declared.settings.Edition.{Edition};
+impl Scalar for Edition {
     ghost use Rattle.cargo_toml_settings.specs.Settings.{edition_reads};
 
-    ghost Meaning = { Edition };
+    ghost says = { edition_reads };
 
-    ghost meaning = { λ x. x };
-
-    ghost reads = { edition_reads };
-
-    ghost refuses = { λ d e. IsShape wrong_shape e };
-
-    ghost takes_memory = { ⊥ };
-
-    fn read(_alloc: Global, value: &Value) -> Result<Edition, Error> {
-        let Some(text) = value.as_str() else {
-            return Err(wrong_shape());
-        };
-        match text {
-            "2015" => Ok(Edition::E2015),
-            "2018" => Ok(Edition::E2018),
-            "2021" => Ok(Edition::E2021),
-            "2024" => Ok(Edition::E2024),
-            _ => Err(wrong_shape()),
+    fn said(value: &Value) -> Option<Edition> {
+        match value.as_str()? {
+            "2015" => Some(Edition::E2015),
+            "2018" => Some(Edition::E2018),
+            "2021" => Some(Edition::E2021),
+            "2024" => Some(Edition::E2024),
+            _ => None,
         }
     }
 }
 
-impl Read for Resolver {
-    ghost use Rattle.cargo_toml_settings.specs.declared.settings.Resolver.{Resolver};
+impl Scalar for Resolver {
     ghost use Rattle.cargo_toml_settings.specs.Settings.{resolver_reads};
 
-    ghost Meaning = { Resolver };
+    ghost says = { resolver_reads };
 
-    ghost meaning = { λ x. x };
-
-    ghost reads = { resolver_reads };
-
-    ghost refuses = { λ d e. IsShape wrong_shape e };
-
-    ghost takes_memory = { ⊥ };
-
-    fn read(_alloc: Global, value: &Value) -> Result<Resolver, Error> {
-        let Some(text) = value.as_str() else {
-            return Err(wrong_shape());
-        };
-        match text {
-            "1" => Ok(Resolver::V1),
-            "2" => Ok(Resolver::V2),
-            "3" => Ok(Resolver::V3),
-            _ => Err(wrong_shape()),
+    fn said(value: &Value) -> Option<Resolver> {
+        match value.as_str()? {
+            "1" => Some(Resolver::V1),
+            "2" => Some(Resolver::V2),
+            "3" => Some(Resolver::V3),
+            _ => None,
         }
     }
 }
@@ -141,8 +117,6 @@ impl Read for OptionalFile {
     ghost meaning = { file_meaning };
 
     ghost reads = { file_of };
-
-    ghost refuses = { λ d e. IsShape wrong_shape e };
 
     fn read(alloc: Global, value: &Value) -> Result<OptionalFile, Error> {
         match value {

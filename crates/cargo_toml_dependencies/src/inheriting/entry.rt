@@ -55,23 +55,21 @@ fn add_texts(texts: &mut Vec<String>, more: &[String]) -> Result<(), AllocError>
     Ok(())
 }
 
-// A detail of the workspace with what a member's entry adds. It is kept out of line, so that a
-// short detail isn't handled as widely.
+// A copy of a detail of the workspace, with its path as seen from the folder `base`. It is kept out
+// of line, so that a short detail isn't handled as widely.
 #[inline(never)]
-fn with_entry(
+fn joined_detail(
     alloc: Global,
     base: &str,
-    entry: &InheritedDependencyDetail,
     template: &DependencyDetail,
 ) -> Result<Box<DependencyDetail>, AllocError>
     ensures { IfOk result (λ d. detail_meaning d.value
-        ≡ with_entry base.now (inherited_meaning entry.now) (detail_meaning template.now)) }
+        ≡ record (detail_meaning template.now) {
+          path = option_map (path_join base.now) (detail_meaning template.now).path;
+        }) }
 {
     let mut detail = Box::new(alloc, template.duplicate(alloc)?)?;
     detail.path = joined_path(alloc, base, template.path.as_ref())?;
-    add_texts(&mut detail.features, entry.features.as_slice())?;
-    detail.optional = template.optional || entry.optional;
-    detail.inherited = true;
     Ok(detail)
 }
 
@@ -80,15 +78,7 @@ fn with_entry(
 fn is_short(template: &DependencyDetail) -> bool
     ensures { IsTrue result → IsShort (detail_meaning template.now) }
 {
-    template.package.is_none()
-        && template.registry.is_none()
-        && template.registry_index.is_none()
-        && template.path.is_none()
-        && template.git.is_none()
-        && template.branch.is_none()
-        && template.tag.is_none()
-        && template.rev.is_none()
-        && template.unstable.is_empty()
+    template.package.is_none() && template.is_from_crates_io() && template.unstable.is_empty()
 }
 
 // A detail that has no keys except these. It is filled in where it stays, and not moved there.
@@ -167,7 +157,11 @@ fn detail_with_entry(
     if is_short(template) {
         return short_with_entry(alloc, entry, template);
     }
-    with_entry(alloc, base, entry, template)
+    let mut detail = joined_detail(alloc, base, template)?;
+    add_texts(&mut detail.features, entry.features.as_slice())?;
+    detail.optional = template.optional || entry.optional;
+    detail.inherited = true;
+    Ok(detail)
 }
 
 // A detail that has only a requirement in the workspace, with what a member's entry adds.

@@ -1,7 +1,7 @@
 -- How the code finds products: a walk over the offers. It gives what `Found` says, so nothing here
 -- has to be believed.
 use Rattle.std.specs.Prelude.{◌≡◌, Bool, List, [], ◌∷◌, ◌++◌, option_to_list, Option, None}
-use Rattle.std.specs.Prelude.{option_map, if◌then◌else◌, string_bytes, map, filter}
+use Rattle.std.specs.Prelude.{option_map, if◌then◌else◌, string_bytes, map}
 use Rattle.std.specs.BTreeMap.{BTreeMap, get_by}
 use Rattle.std.specs.BTreeSet.{BTreeSet, contains_by}
 use Rattle.std.specs.Cmp.Lexicographic.{slice_cmp}
@@ -15,8 +15,7 @@ use Rattle.cargo_toml_tables.specs.declared.product.Product.{Product}
 use Rattle.cargo_toml_discovery.specs.declared.found.Offer as code_offer
 use Rattle.cargo_toml_discovery.specs.declared.found.Placing as code_placing
 use Rattle.cargo_toml_discovery.specs.declared.listings.Entry as code_entry
-use Rattle.cargo_toml_discovery.specs.Found.{Named, Offered, product_for, has_path}
-use Rattle.cargo_toml_discovery.specs.Found.{is_path_of, last_waiting, offers}
+use Rattle.cargo_toml_discovery.specs.Found.{Named, Offered, product_for}
 use Rattle.cargo_toml_discovery.specs.Names.{Name}
 
 abbrev pub named_of : code_entry.Entry → Named
@@ -62,13 +61,6 @@ walked p os = map product_meaning p.list.items ++ walk p.edition (waiting_in p.s
 
 abbrev pub with_extra : List Offered → Option Offered → List Offered
 with_extra os extra = os ++ option_to_list extra
-
--- the products that stay, and those of the walk over all offers
-abbrev pub all_walked : Edition → Name → List ProductMeaning → List Named → Option Offered
-    → List ProductMeaning
-all_walked edition folder ps es extra =
-    filter has_path ps
-    ++ walk edition (last_waiting ps) (with_extra (offers folder (is_path_of ps) es) extra)
 
 -- each text stands after this one in byte order, and texts ascend
 abbrev pub AllAbove : Name → List Name → Type 0

@@ -11,7 +11,7 @@ ghost use Rattle.cargo_toml_discovery.specs.Found.{product_for, open_offer, offe
 ghost use Rattle.cargo_toml_discovery.specs.Names.{Name};
 ghost use Rattle.cargo_toml_discovery.specs.Walk.{named_of, all_named, offer_parts};
 ghost use Rattle.cargo_toml_discovery.specs.Walk.{parts_of_code, waiting_in, is_path_in};
-ghost use Rattle.cargo_toml_discovery.specs.Walk.{walked, all_walked, IsOffer, NamesAscend};
+ghost use Rattle.cargo_toml_discovery.specs.Walk.{walked, IsOffer, NamesAscend};
 ghost use Rattle.cargo_toml_tables.specs.Products.{ProductMeaning, product_meaning};
 
 use crate::listings::Entry;
@@ -217,23 +217,7 @@ fn place_if_there(
     Ok(())
 }
 
-// Places the product of a name, if the name offers one.
-fn place_one(
-    alloc: Global,
-    folder: &str,
-    paths: &BTreeSet<&str>,
-    entry: &Entry<'_>,
-    placing: &mut Placing<'_>,
-) -> Result<(), AllocError>
-    ensures ok { OnOk result ((os : List Offered) → walked placing.new os ≡ walked placing.old
-        (cons_option (open_offer folder.now (is_path_in paths.now) (named_of entry.now)) os)) }
-{
-    let offer = open_offer(alloc, folder, paths, entry)?;
-    place_if_there(alloc, offer, placing)?;
-    Ok(())
-}
-
-// Places the products of the names.
+// Places the products of the names, of each that offers one.
 fn place_all(
     alloc: Global,
     folder: &str,
@@ -245,32 +229,10 @@ fn place_all(
         (offers folder.now (is_path_in paths.now) (all_named entries.now) ++ os)) }
 {
     for entry in entries {
-        place_one(alloc, folder, paths, entry, placing)?;
+        let offer = open_offer(alloc, folder, paths, entry)?;
+        place_if_there(alloc, offer, placing)?;
     }
     Ok(())
-}
-
-// The products of the folder and of one more offer, those that have a path first.
-fn placed(
-    alloc: Global,
-    edition: Edition,
-    stated: &StatedList<'_>,
-    entries: &[Entry<'_>],
-    extra: Option<Offer>,
-) -> Result<Vec<Product>, AllocError>
-    ensures { IfOk result (λ v. (x : Option Offered) → IsOffer x extra → meanings v.items
-        ≡ all_walked edition stated.now.folder.now (meanings stated.now.products.now)
-        (all_named entries.now) x) }
-{
-    let paths = paths_of(alloc, stated.products)?;
-    let mut placing = Placing {
-        edition,
-        list: staying(alloc, stated.products)?,
-        still: waiting(alloc, stated.products)?,
-    };
-    place_all(alloc, stated.folder, &paths, entries, &mut placing)?;
-    place_if_there(alloc, extra, &mut placing)?;
-    Ok(placing.list)
 }
 
 /// The products of a folder whose names are these, each once and in byte order: those that are
@@ -290,7 +252,14 @@ pub fn found(
         ≡ found edition stated.now.folder.now (meanings stated.now.products.now)
         (all_named entries.now) x) }
 {
-    let mut list = placed(alloc, edition, stated, entries, extra)?;
-    sort_products(&mut list)?;
-    Ok(list)
+    let paths = paths_of(alloc, stated.products)?;
+    let mut placing = Placing {
+        edition,
+        list: staying(alloc, stated.products)?,
+        still: waiting(alloc, stated.products)?,
+    };
+    place_all(alloc, stated.folder, &paths, entries, &mut placing)?;
+    place_if_there(alloc, extra, &mut placing)?;
+    sort_products(&mut placing.list)?;
+    Ok(placing.list)
 }

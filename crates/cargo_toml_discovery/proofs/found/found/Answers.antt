@@ -1,11 +1,38 @@
-use Rattle.std.proofs.Common.{◌∙◌, ap, map}
-use Rattle.cargo_toml_discovery.proofs.Ascend.{walk-found}
+use Rattle.std.proofs.Common.{◌≡◌, ◌++◌, map, sym, ap, ◌∙◌, List, [], Option, Some, None, refl, filter, append-nil, option_to_list}
+use Rattle.std.specs.List.{cons_option}
+use Rattle.cargo_toml_discovery.proofs.Ascend.{offers-same, walk-found}
+use Rattle.cargo_toml_discovery.proofs.Walks.{walk-same}
+use Rattle.cargo_toml_discovery.specs.Found.{has_path, is_path_of, last_waiting, offers, Offered}
 use Rattle.cargo_toml_discovery.specs.Sorting.{in_order}
-use Rattle.cargo_toml_discovery.specs.Walk.{named_of}
-use Rattle.cargo_toml_tables.specs.Products.{product_meaning}
+use Rattle.cargo_toml_discovery.specs.Walk.{with_extra, walk, walked, waiting_in, is_path_in, named_of}
+use Rattle.cargo_toml_tables.specs.Products.{product_meaning, ProductMeaning}
+use Rattle.cargo_toml_discovery.specs.declared.found.Placing as code
 use Rattle.cargo_toml_discovery.proofs.found.found.Goals as goal
 
+option-cons : (x : Option Offered) → cons_option x [] ≡ option_to_list x
+option-cons None = refl
+option-cons (Some o) = refl
+
+-- what was placed is what the walk gives, and in order that is what is found
 pub returns : goal.returns
 returns c = λ x is.
-    c.in_ok-sort_products.ensures.ok ∙ ap in_order (c.in_ok-list.ensures x is)
-    ∙ walk-found c.args.edition c.args.stated.now.folder.now (map product_meaning c.args.stated.now.products.now) (map named_of c.args.entries.now) x c.requires
+    let ps = map product_meaning c.args.stated.now.products.now in
+    let folder = c.args.stated.now.folder.now in
+    let es = map named_of c.args.entries.now in
+    let os = offers folder (is_path_of ps) es in
+    let first : code.Placing = record {
+      edition = c.args.edition;
+      list = c.in_ok-staying.field-0;
+      still = c.in_ok-waiting.field-0;
+    } in
+    let start = waiting_in c.in_ok-waiting.field-0 in
+    let last = c.in_ok-place_if_there.ensures.ok x [] is in
+    let before = c.in_ok-place_all.ensures.ok (option_to_list x) in
+    let placed =
+    sym (append-nil (map product_meaning c.place_if_there.new.placing.list.items)) ∙ last
+    ∙ ap (λ (qs : List Offered). walked c.place_all.new.placing qs) (option-cons x)
+    ∙ before
+    ∙ ap (λ (qs : List Offered). walked first (with_extra qs x)) (offers-same folder (is_path_in c.in_ok-paths.paths) (is_path_of ps) c.in_ok-paths.ensures es)
+    ∙ ap (λ (qs : List ProductMeaning). qs ++ walk c.args.edition start (with_extra os x)) c.in_ok-staying.ensures
+    ∙ ap (λ (qs : List ProductMeaning). filter has_path ps ++ qs) (walk-same c.args.edition start (last_waiting ps) (with_extra os x) c.in_ok-waiting.ensures) in
+    c.in_ok-sort_products.ensures.ok ∙ ap in_order placed ∙ walk-found c.args.edition folder ps es x c.requires

@@ -120,17 +120,24 @@ fn read_table<Metadata: FromValue>(
 {
     let mut rest = table;
     let mut reading = Reading::new(alloc);
-    let whole = Workspace {
-        members: reading.list_of(take(&mut rest, "members")),
-        default_members: reading.list_of(take(&mut rest, "default-members")),
-        package: reading.optional_of(take(&mut rest, "package")),
-        exclude: reading.list_of(take(&mut rest, "exclude")),
-        metadata: reading.metadata_of(take(&mut rest, "metadata")),
-        resolver: reading.optional_of(take(&mut rest, "resolver")),
-        dependencies: reading.map_of(take(&mut rest, "dependencies")),
-        lints: reading.map_of(take(&mut rest, "lints")),
-    };
-    reading.finish(whole)
+    let members = reading.list_of(take(&mut rest, "members"));
+    let default_members = reading.list_of(take(&mut rest, "default-members"));
+    let package = reading.optional_of(take(&mut rest, "package"));
+    let exclude = reading.list_of(take(&mut rest, "exclude"));
+    let metadata = reading.metadata_of(take(&mut rest, "metadata"));
+    let resolver = reading.optional_of(take(&mut rest, "resolver"));
+    let dependencies = reading.map_of(take(&mut rest, "dependencies"));
+    let lints = reading.map_of(take(&mut rest, "lints"));
+    reading.finish(Workspace {
+        members,
+        default_members,
+        package,
+        exclude,
+        metadata,
+        resolver,
+        dependencies,
+        lints,
+    })
 }
 
 impl<Metadata: FromValue> Read for Workspace<Metadata> {

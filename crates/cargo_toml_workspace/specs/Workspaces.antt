@@ -58,9 +58,12 @@ workspace_of metadata_of ms = do
     lints = lints;
   })
 
+-- which errors may stand in place of what is read of a tree
+abbrev pub Refusal : Type 1
+Refusal = Data → Error → Type 0
+
 -- what may be wrong with a workspace
-abbrev pub WorkspaceFaults : {M : Type 0} → (Data → Option M) → (Data → Error → Type 0) → Members
-    → Error → Type 0
+abbrev pub WorkspaceFaults : {M : Type 0} → (Data → Option M) → Refusal → Members → Error → Type 0
 WorkspaceFaults metadata_of metadata_refuses ms e =
     FaultAt "members" list_of WrongShape ms e
     ⊎ FaultAt "default-members" list_of WrongShape ms e
@@ -76,7 +79,6 @@ unfoldable pub workspace_reads : {M : Type 0} → (Data → Option M) → Data
     → Option (WorkspaceMeaning M)
 workspace_reads metadata_of d = option_and_then (workspace_of metadata_of) (as_table d)
 
-unfoldable pub WorkspaceRefuses : {M : Type 0} → (Data → Option M) → (Data → Error → Type 0) → Data
-    → Error → Type 0
+unfoldable pub WorkspaceRefuses : {M : Type 0} → (Data → Option M) → Refusal → Refusal
 WorkspaceRefuses metadata_of metadata_refuses d e =
     TableRefuses (WorkspaceFaults metadata_of metadata_refuses) (as_table d) e

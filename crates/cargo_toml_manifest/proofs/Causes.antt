@@ -103,13 +103,3 @@ module _ {M : Type 0} (m : ManifestMeaning M) (roots : Option (List ℕ) → Fau
   refused_by_hint told table needed (inr (answer, (known, h))) =
       let here = answer_there (told (hint_of m)) answer known in
       inr ((λ hint. answered_by answer (told hint)), (answered told answer, chosen_so m roots names _ _ e (own_by_root m.workspace (needs m) _ _ table needed here) h))
-
-  -- by its own table
-  pub refused_by_table : (told : RootsTold) (w : WorkspaceMeaning M) → m.workspace ≡ Some w →
-      (e ≡ Memory) ⊎ IsRefusedAt m roots names (from (Some (shared w)) []) e → IsRefusedBy m None told roots names e
-  refused_by_table told w table h = refused_as_told None told _ (own_by_table m.workspace w (needs m) (told (hint_of m)) table) h
-
-  -- and alone, where nothing is inherited
-  pub refused_alone : (told : RootsTold) → m.workspace ≡ None → needs m ≡ false →
-      (e ≡ Memory) ⊎ IsRefusedAt m roots names alone e → IsRefusedBy m None told roots names e
-  refused_alone told table needed h = refused_as_told None told _ (own_alone m.workspace (needs m) (told (hint_of m)) table needed) h

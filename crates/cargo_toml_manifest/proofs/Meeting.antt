@@ -97,7 +97,7 @@ root_refused f m open_root told own e a (inr same) = tt
 abbrev pub GivenFrom : {M : Type 0} → ManifestMeaning M → Choice → (Name → Told) → ManifestMeaning M → Type 0
 GivenFrom m c told n = (answers : Answers) × (complete_by m c (filled told answers) ≡ gives n)
 
-chosen : {M : Type 0} (m n : ManifestMeaning M) (told : Name → Told) (c d : Choice) → c ≡ d → GivenFrom m d told n → GivenFrom m c told n
+pub chosen : {M : Type 0} (m n : ManifestMeaning M) (told : Name → Told) (c d : Choice) → c ≡ d → GivenFrom m d told n → GivenFrom m c told n
 chosen m n told c d same h = subst (λ (x : Choice). GivenFrom m x told n) (sym same) h
 
 -- the value that a root gives
@@ -155,30 +155,14 @@ given_by_hint m n roots told table needed (answer, known, h) =
     let here = answer_there (roots (hint_of m)) answer known in
     ((λ hint. answered_by answer (roots hint)), answered roots answer, chosen m n told _ _ (own_by_root m.workspace (needs m) _ _ table needed here) h)
 
--- by its own table
-pub given_by_table : {M : Type 0} (m n : ManifestMeaning M) (roots : RootsTold) (told : Name → Told) (w : WorkspaceMeaning M) →
-    m.workspace ≡ Some w → GivenFrom m (from (Some (shared w)) []) told n → GivenBy m None roots told n
-given_by_table m n roots told w table h =
-    given_as_told m n None roots told (chosen m n told _ _ (own_by_table m.workspace w (needs m) (roots (hint_of m)) table) h)
-
--- and alone, where nothing is inherited
-pub met_alone : {T M : Type 0} (f : T → ManifestMeaning M) (m : ManifestMeaning M) (roots : RootsTold) (told : Name → Told) (r : Result T Error) →
-    m.workspace ≡ None → needs m ≡ false → Meets f (complete_by m alone told) r → Meets f (complete m None roots told) r
-met_alone f m roots told r table needed h =
-    subst (λ (c : Choice). Meets f (complete_by m c told) r) (sym (own_alone m.workspace (needs m) (roots (hint_of m)) table needed)) h
-
-pub given_alone : {M : Type 0} (m n : ManifestMeaning M) (roots : RootsTold) (told : Name → Told) →
-    m.workspace ≡ None → needs m ≡ false → GivenFrom m alone told n → GivenBy m None roots told n
-given_alone m n roots told table needed h =
-    given_as_told m n None roots told (chosen m n told _ _ (own_alone m.workspace (needs m) (roots (hint_of m)) table needed) h)
-
--- a refusal, and a value, met by the answer of another call
+-- a refusal is one by the same outcome, whatever a success would have been
 pub refused_again : {T U A : Type 0} (f : T → A) (g : U → A) (o : Outcome A) (e : Error) → Meets f o (Err e) → Meets g o (Err e)
 refused_again f g (gives x) e h = h
 refused_again f g (refuses faults) e h = h
 refused_again f g (no_workspace path) e h = h
 refused_again f g untold e h = tt
 
+-- a success is one by the same outcome, where it means the same
 pub given_again : {T U A : Type 0} (f : T → A) (g : U → A) (o : Outcome A) (t : T) (u : U) → g u ≡ f t → Meets f o (Ok t) → Meets g o (Ok u)
 given_again f g (gives x) t u same h = same ∙ h
 given_again f g (refuses faults) t u same h = h

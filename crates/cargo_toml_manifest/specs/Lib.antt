@@ -12,3 +12,5 @@ pub mod Refusing
 pub mod RealFiles
 -- the code's own steps, in contracts of inner functions alone: nothing here has to be believed
 pub mod Installing
+pub mod Answering
+pub mod Given

@@ -24,7 +24,7 @@ use Rattle.cargo_toml_manifest.specs.declared.manifest.Manifest.{Manifest}
 use Rattle.cargo_toml_parts.specs.Keys.{inherited_at}
 use Rattle.cargo_toml_package.specs.Packages.{PackageMeaning, package_meaning}
 use Rattle.cargo_toml_package.specs.Packages.{package_reads, PackageRefuses}
-use Rattle.cargo_toml_workspace.specs.Workspaces.{WorkspaceMeaning, workspace_meaning}
+use Rattle.cargo_toml_workspace.specs.Workspaces.{Refusal, WorkspaceMeaning, workspace_meaning}
 use Rattle.cargo_toml_workspace.specs.Workspaces.{workspace_reads, WorkspaceRefuses}
 
 -- what a manifest holds, whose metadata are M
@@ -103,7 +103,7 @@ product_reads d = option_and_then product_of (as_table d)
 abbrev pub profiles_reads : Data → Option ProfilesMeaning
 profiles_reads d = option_and_then profiles_of (as_table d)
 
-abbrev pub ProfilesRefuse : Data → Error → Type 0
+abbrev pub ProfilesRefuse : Refusal
 ProfilesRefuse d e = TableRefuses ProfilesFaults (as_table d) e
 
 abbrev pub badges_reads : Data → Option BadgesMeaning
@@ -159,8 +159,7 @@ manifest_of metadata_of ms = do
   })
 
 -- what may be wrong with a manifest
-abbrev pub ManifestFaults : {M : Type 0} → (Data → Option M) → (Data → Error → Type 0) → Members
-    → Error → Type 0
+abbrev pub ManifestFaults : {M : Type 0} → (Data → Option M) → Refusal → Members → Error → Type 0
 ManifestFaults metadata_of metadata_refuses ms e =
     FaultAt "package" (package_reads metadata_of) (PackageRefuses metadata_of metadata_refuses) ms e
     ⊎ FaultAt "workspace" (workspace_reads metadata_of)
@@ -185,7 +184,6 @@ ManifestFaults metadata_of metadata_refuses ms e =
 abbrev pub manifest_reads : {M : Type 0} → (Data → Option M) → Data → Option (ManifestMeaning M)
 manifest_reads metadata_of d = option_and_then (manifest_of metadata_of) (as_table d)
 
-abbrev pub ManifestRefuses : {M : Type 0} → (Data → Option M) → (Data → Error → Type 0) → Data
-    → Error → Type 0
+abbrev pub ManifestRefuses : {M : Type 0} → (Data → Option M) → Refusal → Refusal
 ManifestRefuses metadata_of metadata_refuses d e =
     TableRefuses (ManifestFaults metadata_of metadata_refuses) (as_table d) e

@@ -6,10 +6,11 @@ ghost use Rattle.cargo_toml_parts.specs.declared.error.Error.{Memory};
 ghost use Rattle.cargo_toml_discovery.specs.Answers.{Answers, filled};
 ghost use Rattle.cargo_toml_discovery.specs.Folders.{IsListed};
 ghost use Rattle.cargo_toml_workspace.specs.Sharing.{shared_of};
+ghost use Rattle.cargo_toml_manifest.specs.Answering.{IsAnsweredBy};
 ghost use Rattle.cargo_toml_manifest.specs.Choosing.{from, handed_of, hint_of, roots_of};
 ghost use Rattle.cargo_toml_manifest.specs.Choosing.{told_choice};
 ghost use Rattle.cargo_toml_manifest.specs.Completed.{IsCompleted};
-ghost use Rattle.cargo_toml_manifest.specs.Completing.{GivenBy, GivenByRoot, Meets};
+ghost use Rattle.cargo_toml_manifest.specs.Completing.{GivenByRoot, Meets};
 ghost use Rattle.cargo_toml_manifest.specs.Completing.{complete, complete_by, gives, seen_at};
 ghost use Rattle.cargo_toml_manifest.specs.Finding.{found_around};
 ghost use Rattle.cargo_toml_manifest.specs.Installing.{installed, with_completion};
@@ -136,16 +137,9 @@ fn own_completion<Metadata, Fs: AbstractFilesystem>(
     manifest: &Manifest<Metadata>,
     fs: &Fs,
 ) -> Result<Completion, Error>
-    ensures outcome { let m = held manifest.now in
-        Meets (with_completion m) (complete m None
-        (roots_of Fs.Roots.ARE_READ (Fs.root_for fs.now)) (Fs.names_at fs.now)) result }
-    ensures given { let m = held manifest.now in
-        IfOk result
-        (λ new. GivenBy m None (roots_of Fs.Roots.ARE_READ (Fs.root_for fs.now))
-        (Fs.names_at fs.now) (with_completion m new)) }
-    ensures wrapped { let m = held manifest.now in
-        IfErr result (IsRefusedBy m None (roots_of Fs.Roots.ARE_READ (Fs.root_for fs.now))
-        (MayLose Fs.Roots.ARE_READ (Fs.may_refuse_root fs.now)) (Fs.may_refuse fs.now)) }
+    ensures { IsAnsweredBy (held manifest.now) None
+        (roots_of Fs.Roots.ARE_READ (Fs.root_for fs.now)) (Fs.names_at fs.now)
+        (MayLose Fs.Roots.ARE_READ (Fs.may_refuse_root fs.now)) (Fs.may_refuse fs.now) result }
 {
     match &manifest.workspace {
         Some(workspace) => completion_at(alloc, manifest, Some(workspace), "", fs),
@@ -166,17 +160,9 @@ fn completion_for<Metadata, N, Fs: AbstractFilesystem>(
     fs: &Fs,
     workspace: Option<(&Manifest<N>, &str)>,
 ) -> Result<Completion, Error>
-    ensures outcome { let m = held manifest.now in
-        Meets (with_completion m) (complete m (option_map handed_of workspace.entry)
-        (roots_of Fs.Roots.ARE_READ (Fs.root_for fs.now)) (Fs.names_at fs.now)) result }
-    ensures given { let m = held manifest.now in
-        IfOk result (λ new. GivenBy m (option_map handed_of workspace.entry)
+    ensures { IsAnsweredBy (held manifest.now) (option_map handed_of workspace.entry)
         (roots_of Fs.Roots.ARE_READ (Fs.root_for fs.now)) (Fs.names_at fs.now)
-        (with_completion m new)) }
-    ensures wrapped { let m = held manifest.now in
-        IfErr result (IsRefusedBy m (option_map handed_of workspace.entry)
-        (roots_of Fs.Roots.ARE_READ (Fs.root_for fs.now))
-        (MayLose Fs.Roots.ARE_READ (Fs.may_refuse_root fs.now)) (Fs.may_refuse fs.now)) }
+        (MayLose Fs.Roots.ARE_READ (Fs.may_refuse_root fs.now)) (Fs.may_refuse fs.now) result }
 {
     match workspace {
         Some((root, path)) => completion_at(alloc, manifest, root.workspace.as_ref(), path, fs),

@@ -10,9 +10,10 @@ ghost use Rattle.cargo_toml_parts.specs.Inherits.{inheritable_map, inheritable_o
 ghost use Rattle.cargo_toml_parts.specs.Inherits.{InheritableRefuses};
 ghost use Rattle.cargo_toml_tables.specs.Lints.{lint_meaning, lint_of};
 ghost use Rattle.cargo_toml_tables.specs.Profiles.{profiles_meaning};
-ghost use Rattle.cargo_toml_parts.specs.Reads.{Faulty, IsReading, given_of};
+ghost use Rattle.cargo_toml_parts.specs.Reads.{IsReading};
 ghost use Rattle.cargo_toml_parts.specs.Reads.{map_of, map_meaning, WrongShape};
-ghost use Rattle.cargo_toml_parts.specs.Readings.{Ends, Goes};
+ghost use Rattle.cargo_toml_parts.specs.Readings.{Ends};
+ghost use Rattle.cargo_toml_manifest.specs.Given.{GoesOr};
 ghost use Rattle.cargo_toml_manifest.specs.Manifests.{ManifestMeaning, manifest_meaning, held};
 ghost use Rattle.cargo_toml_manifest.specs.Manifests.{manifest_of, ManifestFaults, manifest_reads};
 ghost use Rattle.cargo_toml_manifest.specs.Manifests.{ManifestRefuses, zero_rule_applies};
@@ -159,44 +160,27 @@ impl<Metadata: Clone> Clone for Manifest<Metadata> {
     fn clone(&self) -> Result<Manifest<Metadata>, AllocError> {
         let alloc = *self.bin.allocator();
         let mut copying = Copying::new();
-        let package = copying.of(&self.package, None);
-        let workspace = copying.of(&self.workspace, None);
-        let dependencies = copying.of(&self.dependencies, BTreeMap::new(alloc));
-        let dev_dependencies = copying.of(&self.dev_dependencies, BTreeMap::new(alloc));
-        let build_dependencies = copying.of(&self.build_dependencies, BTreeMap::new(alloc));
-        let target = copying.of(&self.target, BTreeMap::new(alloc));
-        let features = copying.of(&self.features, BTreeMap::new(alloc));
-        let replace = copying.of(&self.replace, BTreeMap::new(alloc));
-        let patch = copying.of(&self.patch, BTreeMap::new(alloc));
-        let lib = copying.of(&self.lib, None);
-        let profile = copying.of(&self.profile, Profiles::default(alloc));
-        let badges = copying.of(&self.badges, Badges::default());
-        let bin = copying.of(&self.bin, Vec::new(alloc));
-        let bench = copying.of(&self.bench, Vec::new(alloc));
-        let test = copying.of(&self.test, Vec::new(alloc));
-        let example = copying.of(&self.example, Vec::new(alloc));
-        let lints = copying.of(&self.lints, Inheritable::Inherited);
-        let feature_details = copying.of(&self.feature_details, BTreeMap::new(alloc));
-        copying.finish(Manifest {
-            package,
-            workspace,
-            dependencies,
-            dev_dependencies,
-            build_dependencies,
-            target,
-            features,
-            replace,
-            patch,
-            lib,
-            profile,
-            badges,
-            bin,
-            bench,
-            test,
-            example,
-            lints,
-            feature_details,
-        })
+        let copy = Manifest {
+            package: copying.of(&self.package, None),
+            workspace: copying.of(&self.workspace, None),
+            dependencies: copying.of(&self.dependencies, BTreeMap::new(alloc)),
+            dev_dependencies: copying.of(&self.dev_dependencies, BTreeMap::new(alloc)),
+            build_dependencies: copying.of(&self.build_dependencies, BTreeMap::new(alloc)),
+            target: copying.of(&self.target, BTreeMap::new(alloc)),
+            features: copying.of(&self.features, BTreeMap::new(alloc)),
+            replace: copying.of(&self.replace, BTreeMap::new(alloc)),
+            patch: copying.of(&self.patch, BTreeMap::new(alloc)),
+            lib: copying.of(&self.lib, None),
+            profile: copying.of(&self.profile, Profiles::default(alloc)),
+            badges: copying.of(&self.badges, Badges::default()),
+            bin: copying.of(&self.bin, Vec::new(alloc)),
+            bench: copying.of(&self.bench, Vec::new(alloc)),
+            test: copying.of(&self.test, Vec::new(alloc)),
+            example: copying.of(&self.example, Vec::new(alloc)),
+            lints: copying.of(&self.lints, Inheritable::Inherited),
+            feature_details: copying.of(&self.feature_details, BTreeMap::new(alloc)),
+        };
+        copying.finish(copy)
     }
 }
 
@@ -400,10 +384,8 @@ fn ended<Whole: Drop>(reading: Reading, whole: Whole) -> Result<Whole, Error>
 // what stands on the stack while the other keys are read.
 #[inline(never)]
 fn profiles(reading: &mut Reading, value: Option<Value>) -> Profiles
-    ensures { Goes reading.old.fault reading.new.fault
-        (given_of profiles_reads no_profiles (option_map view value))
-        (profiles_meaning result)
-        (Faulty profiles_reads ProfilesRefuse (option_map view value)) }
+    ensures { GoesOr profiles_reads no_profiles ProfilesRefuse reading.old.fault reading.new.fault
+        (option_map view value) (profiles_meaning result) }
 {
     let none = Profiles::default(reading.alloc);
     reading.given_of(value, none)
@@ -412,23 +394,18 @@ fn profiles(reading: &mut Reading, value: Option<Value>) -> Profiles
 // The badges, none where there is no value.
 #[inline(never)]
 fn badges(reading: &mut Reading, value: Option<Value>) -> Badges
-    ensures { Goes reading.old.fault reading.new.fault
-        (given_of badges_reads no_badges (option_map view value))
-        (badges_meaning result)
-        (Faulty badges_reads WrongShape (option_map view value)) }
+    ensures { GoesOr badges_reads no_badges WrongShape reading.old.fault reading.new.fault
+        (option_map view value) (badges_meaning result) }
 {
-    let none = Badges::default();
-    reading.given_of(value, none)
+    reading.given_of(value, Badges::default())
 }
 
 // The lints, none where there is no value.
 #[inline(never)]
 fn lints(reading: &mut Reading, value: Option<Value>) -> Inheritable<LintGroups>
-    ensures { Goes reading.old.fault reading.new.fault
-        (given_of (inheritable_of (map_of (map_of lint_of))) (Set []) (option_map view value))
-        (inheritable_map (map_meaning (map_meaning lint_meaning)) result)
-        (Faulty (inheritable_of (map_of (map_of lint_of))) InheritableRefuses
-        (option_map view value)) }
+    ensures { GoesOr (inheritable_of (map_of (map_of lint_of))) (Set []) InheritableRefuses
+        reading.old.fault reading.new.fault (option_map view value)
+        (inheritable_map (map_meaning (map_meaning lint_meaning)) result) }
 {
     let none = Inheritable::Set(LintGroups::new(reading.alloc));
     reading.given_of(value, none)

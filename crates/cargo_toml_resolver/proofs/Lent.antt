@@ -18,6 +18,7 @@ use Rattle.cargo_toml_manifest.specs.Choosing.{Handed, RootsTold}
 use Rattle.cargo_toml_manifest.specs.Completed.{IsCompleted}
 use Rattle.cargo_toml_manifest.specs.Completing.{Outcome, gives, refuses, no_workspace, untold, Meets, complete}
 use Rattle.cargo_toml_manifest.specs.Manifests.{ManifestMeaning, held}
+use Rattle.cargo_toml_manifest.proofs.Meeting.{given_again, refused_again}
 use Rattle.cargo_toml_resolve.specs.Filter.{Asked}
 use Rattle.cargo_toml_features.specs.declared.features.Features.{Features}
 use Rattle.cargo_toml_features.specs.FirstTarget.{HaveTargets}
@@ -25,20 +26,6 @@ use Rattle.cargo_toml_features.specs.Reached.{IsKeyed}
 use Rattle.cargo_toml_features.specs.Views.{answer_of}
 use Rattle.cargo_toml_resolver.specs.Lent.{with_lent, IsLeftAfter}
 use Rattle.cargo_toml_resolver.specs.Parsed.{IsParsedBy, IsResolvedFor}
-
--- a refusal is one by the same outcome, whatever a success would have been
-pub refused_alike : {T U A : Type 0} (f : T → A) (g : U → A) (o : Outcome A) (e : Error) → Meets f o (Err e) → Meets g o (Err e)
-refused_alike f g (gives x) e h = h
-refused_alike f g (refuses faults) e h = h
-refused_alike f g (no_workspace path) e h = h
-refused_alike f g untold e h = tt
-
--- a success is one by the same outcome, where it means the same
-pub given_alike : {T U A : Type 0} (f : T → A) (g : U → A) (o : Outcome A) (t : T) (u : U) → g u ≡ f t → Meets f o (Ok t) → Meets g o (Ok u)
-given_alike f g (gives x) t u same h = same ∙ h
-given_alike f g (refuses faults) t u same h = h
-given_alike f g (no_workspace path) t u same h = h
-given_alike f g untold t u same h = tt
 
 -- where there is a success, `Memory` may still be the answer
 memory_after : {T U A : Type 0} (f : T → A) (g : U → A) (o : Outcome A) (t : T) (e : Error) → e ≡ Memory → Meets f o (Ok t) → Meets g o (Err e)
@@ -53,7 +40,7 @@ is_answered x (Err e) = refl
 
 pub outcome_with : {T X Y A : Type 0} (f : T → A) (g : X → A) (o : Outcome A) (t : T) (x : X) (r : Result Y Error) → g x ≡ f t →
     Meets f o (Ok t) → IfErr r (λ e. e ≡ Memory) → IfSome (with_lent (Some x) (Some r)) (Meets (λ p. g p.0) o)
-outcome_with f g o t x (Ok y) same h refused = given_alike f (λ p. g p.0) o t (x, y) same h
+outcome_with f g o t x (Ok y) same h refused = given_again f (λ p. g p.0) o t (x, y) same h
 outcome_with f g o t x (Err e) same h refused = memory_after f (λ p. g p.0) o t e refused h
 
 pub wrapped_with : {X Y : Type 0} (why : Error → Type 0) (x : X) (r : Result Y Error) → ((e : Error) → e ≡ Memory → why e) →
@@ -109,10 +96,10 @@ module _ {M Y : Type 0} {why : Error → Type 0} (old new : Manifest M) (handed 
 
   pub outcome_after : (d : Result (Unit {0}) Error) (p : Bor (Manifest M)) (y : Result (Bor (Manifest M) × Y) Error) → Completing old new handed roots told why d → Answering new d p y
       → Meets (λ q. held q.0.now) (complete (held old) handed roots told) y
-  outcome_after (Ok u) p (Ok q) c a = given_alike (λ (_ : Unit {0}). held new) (λ (q : Bor (Manifest M) × Y). held q.0.now) (complete (held old) handed roots told) tt q (ap (λ r. held r.now) a.lent ∙ ap held a.same) c.outcome
+  outcome_after (Ok u) p (Ok q) c a = given_again (λ (_ : Unit {0}). held new) (λ (q : Bor (Manifest M) × Y). held q.0.now) (complete (held old) handed roots told) tt q (ap (λ r. held r.now) a.lent ∙ ap held a.same) c.outcome
   outcome_after (Ok u) p (Err e) c a = memory_after (λ (_ : Unit {0}). held new) (λ (q : Bor (Manifest M) × Y). held q.0.now) (complete (held old) handed roots told) tt e a.memory c.outcome
   outcome_after (Err fault) p y c a = subst (Meets (λ (q : Bor (Manifest M) × Y). held q.0.now) (complete (held old) handed roots told)) (sym a.refused)
-      (refused_alike (λ (_ : Unit {0}). held new) (λ (q : Bor (Manifest M) × Y). held q.0.now) (complete (held old) handed roots told) fault c.outcome)
+      (refused_again (λ (_ : Unit {0}). held new) (λ (q : Bor (Manifest M) × Y). held q.0.now) (complete (held old) handed roots told) fault c.outcome)
 
   pub wrapped_after : (d : Result (Unit {0}) Error) (p : Bor (Manifest M)) (y : Result (Bor (Manifest M) × Y) Error) → ((e : Error) → e ≡ Memory → why e)
       → Completing old new handed roots told why d → Answering new d p y → IfErr y why

@@ -2,7 +2,8 @@ use Rattle.std.proofs.Common.{inl, refl}
 use Rattle.cargo_toml_manifest.specs.Manifests.{held}
 use Rattle.cargo_toml_resolver.specs.Filtered.{filter_of, limit_of}
 use Rattle.cargo_toml_resolver.specs.Parsed.{IsResolvedFor}
-use Rattle.cargo_toml_resolver.proofs.Lent.{refused_alike, is_answered, outcome_with, wrapped_with, resolved_for, resolved_with}
+use Rattle.cargo_toml_manifest.proofs.Meeting.{refused_again}
+use Rattle.cargo_toml_resolver.proofs.Lent.{is_answered, outcome_with, wrapped_with, resolved_for, resolved_with}
 use Rattle.cargo_toml_resolver.proofs.complete_and_parse.complete_and_parse_into.Goals as goal
 
 pub returns-in-Err : goal.returns-in-Err
@@ -13,7 +14,7 @@ returns-in-Err g c = (
     answered = refl;
     completed = tt;
     memory = tt;
-    outcome = refused_alike _ _ _ _ c.in-Err.ensures.outcome;
+    outcome = refused_again _ _ _ _ c.in-Err.ensures.outcome;
     wrapped = c.in-Err.ensures.wrapped;
     features = tt;
   },

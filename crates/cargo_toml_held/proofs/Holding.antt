@@ -1,24 +1,35 @@
--- What is held of a value that was read is read as that value.
+-- What is held of a manifest that was read is read as that manifest.
 use Rattle.std.proofs.Common.{◌≡◌, inl, inr, ℕ, List, Option, Some, Result, Ok, Err, IfOk, sym, ap, ◌∙◌}
 use Rattle.std.specs.Prelude.{IfErr}
 use Rattle.toml.specs.Data.{Data, Members}
 use Rattle.toml.specs.Parse.{parse_document}
+use Rattle.toml.specs.View.{view}
+use Rattle.toml.specs.declared.value.Value.{Value}
 use Rattle.cargo_toml.specs.Error.{Error, Memory}
+use Rattle.cargo_toml.specs.Manifest.{Manifest}
+use Rattle.cargo_toml.specs.Manifests.{ManifestMeaning, ManifestRefuses, manifest_meaning, manifest_reads}
 use Rattle.cargo_toml.specs.Reads.{IsReading}
-use Rattle.cargo_toml.specs.Texts.{DocumentRefuses, IsFromBytes, IsFromText, document_reads}
+use Rattle.cargo_toml.specs.Texts.{AnyRefuses, DocumentRefuses, IsFromBytes, IsFromText, any_tree, document_reads}
+use Rattle.cargo_toml_held.specs.declared.held.HeldManifest.{HeldManifest}
 
-module _ {X Y M : Type 0} (meaning : X → M) (held : Y → M) (reads : Data → Option M) (refuses : Data → Error → Type 0)
-    (x : X) (r : Result Y Error) (same : IfOk r (λ y. held y ≡ meaning x)) (refused : IfErr r (λ e. e ≡ Memory)) where
-  holds : (given : Option M) (fault : Error → Type 0) → given ≡ Some (meaning x) → IsReading held given fault r
+abbrev meaning_held : HeldManifest → ManifestMeaning Data
+meaning_held h = manifest_meaning view h.manifest.value
+
+module _ (m : Manifest Value) (r : Result HeldManifest Error) (same : IfOk r (λ h. h.manifest.value ≡ m)) (refused : IfErr r (λ e. e ≡ Memory)) where
+  holds : (given : Option (ManifestMeaning Data)) (fault : Error → Type 0) → given ≡ Some (manifest_meaning view m) → IsReading meaning_held given fault r
   holds given fault read = go r same refused
     where
-      go : (r : Result Y Error) → IfOk r (λ y. held y ≡ meaning x) → IfErr r (λ e. e ≡ Memory) → IsReading held given fault r
-      go (Ok y) is none = read ∙ ap Some (sym is)
+      go : (r : Result HeldManifest Error) → IfOk r (λ h. h.manifest.value ≡ m) → IfErr r (λ e. e ≡ Memory) → IsReading meaning_held given fault r
+      go (Ok h) is none = read ∙ ap (λ (x : Manifest Value). Some (manifest_meaning view x)) (sym is)
       go (Err e) none memory = inl memory
 
-  pub holds_text : (document : Option Members) → IsFromText meaning reads refuses document (Ok x) → IsFromText held reads refuses document r
-  holds_text document read = holds (document_reads reads document) (DocumentRefuses refuses document) read
+  pub holds_text : (document : Option Members)
+      → IsFromText (manifest_meaning view) (manifest_reads any_tree) (ManifestRefuses any_tree AnyRefuses) document (Ok m)
+      → IsFromText meaning_held (manifest_reads any_tree) (ManifestRefuses any_tree AnyRefuses) document r
+  holds_text document read = holds (document_reads (manifest_reads any_tree) document) (DocumentRefuses (ManifestRefuses any_tree AnyRefuses) document) read
 
-  pub holds_bytes : (bytes : List ℕ) → IsFromBytes meaning reads refuses bytes (Ok x) → IsFromBytes held reads refuses bytes r
+  pub holds_bytes : (bytes : List ℕ)
+      → IsFromBytes (manifest_meaning view) (manifest_reads any_tree) (ManifestRefuses any_tree AnyRefuses) bytes (Ok m)
+      → IsFromBytes meaning_held (manifest_reads any_tree) (ManifestRefuses any_tree AnyRefuses) bytes r
   holds_bytes bytes (inl b) = absurd b.1
   holds_bytes bytes (inr b) = inr (b.0, holds_text (parse_document bytes) b.1)

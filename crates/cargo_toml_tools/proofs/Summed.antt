@@ -1,6 +1,6 @@
 -- What a report tells of a member, and why it tells nothing.
 use Rattle.std.proofs.Common.{◌≡◌, ◌++◌, ◌||◌, Bool, false, List, [], ◌∷◌, Option, Some, None, Result, Ok, Err, String, Global, map, option_map, string_bytes, refl, sym, ap, subst, inl, inr, ◌∙◌}
-use Rattle.std.proofs.lemmas.Bool.{or_left, or_right}
+use Rattle.std.proofs.lemmas.Bool.{false≢true, or_left, or_right}
 use Rattle.std.proofs.lemmas.Option.{none-some}
 use Rattle.std.specs.Prelude.{◌↔◌, IfErr, IsErrAnd, IsTrue, codes}
 use Rattle.std.specs.List.{flat_map, join_by}
@@ -24,10 +24,12 @@ pub known_text : {X Y : Type 0} (f : X → Y) (text : Y → Text) (x : Inheritab
 known_text f text (Set x) v t is e = ap (option_map (λ x. text (f x))) is ∙ ap Some (sym e)
 known_text f text Inherited v t is e = absurd (none-some v is)
 
-pub unknown : {X Y : Type 0} (f : X → Y) (x : Inheritable X) (e : Error) → value_of x ≡ None → e ≡ InheritedUnknownValue
-    → IsUnknown (field_is_left (inheritable_map f x)) e
-unknown f (Set x) e none same = absurd (none-some x (sym none))
-unknown f Inherited e none same = inr (same, refl)
+-- where the one is left, so is the other, whatever is read of the one
+pub wider_mapped : {X Y : Type 0} (f : X → Y) (x : Inheritable X) (b : Bool) (e : Error) → (IsTrue (field_is_left (inheritable_map f x)) → IsTrue b)
+    → IsUnknown (field_is_left x) e → IsUnknown b e
+wider_mapped f x b e so (inl memory) = inl memory
+wider_mapped f (Set x) b e so (inr left) = absurd (false≢true left.1)
+wider_mapped f Inherited b e so (inr left) = inr (left.0, so refl)
 
 -- where the one is left, so is the other
 pub wider : (a b : Bool) (e : Error) → (IsTrue a → IsTrue b) → IsUnknown a e → IsUnknown b e

@@ -14,7 +14,7 @@ use Rattle.cargo_toml_tools.specs.declared.index.IndexError.TheVariants.{Incompl
 use Rattle.cargo_toml_tools.specs.declared.index.IndexError.TheVariants.{NoAddress, NoPackage}
 use Rattle.cargo_toml_tools.specs.declared.index.IndexError.TheVariants.{NoRequirement, NoVersion}
 use Rattle.cargo_toml_tools.specs.declared.index.refusals.AllTables.{AllTables}
-use Rattle.cargo_toml_tools.specs.declared.index.refusals.Tables.{Tables}
+use Rattle.cargo_toml_tools.specs.declared.tables.Tables.{Tables}
 use Rattle.cargo_toml_tools.specs.IndexEntries.{entries_among}
 use Rattle.cargo_toml_tools.specs.Indexed.{are_taken, is_stated_if_any, is_told, is_unwritten}
 use Rattle.cargo_toml_tools.specs.Indexed.{is_version, leaves_some, tables_among, with_kinds}

@@ -1,8 +1,10 @@
--- One name further from folders, as an entry of `members` is followed.
-use Rattle.std.specs.Prelude.{◌≡◌, Bool, IsTrue}
+-- One name further from folders, as an entry of `members` is followed, and the paths that it adds.
+use Rattle.std.specs.Prelude.{◌≡◌, ◌++◌, Bool, false, IsTrue, List}
+use Rattle.std.specs.BTreeSet.{contains_text}
 use Rattle.cargo_toml.specs.Action.{Text}
-use Rattle.cargo_toml_tools.specs.MemberFolders.{fits_name}
+use Rattle.cargo_toml_tools.specs.MemberFolders.{AreOfPaths, fits_name}
 use Rattle.cargo_toml_tools.specs.Places.{path_below}
+use Rattle.cargo_toml_tools.specs.declared.members.Members.{Members}
 
 -- a path leads from this folder to a name for which the wanted one stands
 pub record IsOneFurther (wanted folder path : Text) : Type 0 where
@@ -14,3 +16,11 @@ pub record IsOneFurther (wanted folder path : Text) : Type 0 where
 abbrev pub IsFurther : Text → (Text → Bool) → Text → Type 0
 IsFurther wanted folders path =
     (folder : Text) × (IsTrue (folders folder) × IsOneFurther wanted folder path)
+
+-- whatever paths led to the folders of a listing, now these lead to some besides
+abbrev pub AddsPaths : (Text → Text → Bool) → List Text → Members → Members → Type 0
+AddsPaths lists more old new =
+    (paths : List Text)
+    → AreOfPaths lists false paths (contains_text old.folders) (contains_text old.twice)
+    → AreOfPaths lists false (paths ++ more)
+    (contains_text new.folders) (contains_text new.twice)

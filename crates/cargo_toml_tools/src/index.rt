@@ -17,11 +17,12 @@ mod features;
 mod refusals;
 
 use crate::json::put_text;
+use crate::tables::Tables;
 use cargo_toml::{FeatureSet, Manifest};
 use checks::{Stated, check_crate};
 use dependencies::entries;
 use features::put_features;
-use refusals::{AllTables, Tables};
+use refusals::AllTables;
 use serde_json::{Map, Value, put};
 use std::alloc::{AllocError, AllocFailed, Global};
 use std::fmt;

@@ -15,3 +15,4 @@ mod json;
 pub mod lint;
 pub mod members;
 mod requirement;
+mod tables;

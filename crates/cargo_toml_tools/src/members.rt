@@ -1,10 +1,11 @@
 //! The members of a workspace, by the rules of Cargo's `members` and `exclude`.
-ghost use Rattle.std.specs.Prelude.{◌≡◌, ◌<◌, ◌++◌, ◌∷◌, ◌&&◌, ◌||◌, [], ℕ, Bool, List, IfErr};
+ghost use Rattle.std.specs.Prelude.{◌≡◌, ◌<◌, ◌∷◌, ◌&&◌, ◌||◌, [], ℕ, Bool, List, IfErr};
 ghost use Rattle.std.specs.Prelude.{IfOk, IsFalse, IsSome, IsTrue, OnOk, bytes_eq, codes, false};
 ghost use Rattle.std.specs.Prelude.{is_some, map, not, string_bytes};
 ghost use Rattle.std.specs.BTreeSet.{contains_text, keys};
 ghost use Rattle.std.specs.List.{list_any};
 ghost use Rattle.cargo_toml.specs.Reach.{Among};
+ghost use Rattle.cargo_toml_tools.specs.FurtherFolders.{AddsPaths};
 ghost use Rattle.cargo_toml_tools.specs.MemberFolders.{AreListed, AreOfPaths, IsOfFolders};
 ghost use Rattle.cargo_toml_tools.specs.MemberFolders.{has_pattern, lists_folder, times_named};
 ghost use Rattle.cargo_toml_tools.specs.Places.{is_excluded, lies_in, lies_under, manifest_path};
@@ -95,14 +96,10 @@ fn add_all<M>(
     found: &BTreeSet<String>,
     workspace: &Workspace<M>,
 ) -> Result<(), AllocError>
-    ensures { OnOk result ((paths : List (List ℕ)) → AreOfPaths
+    ensures { OnOk result (AddsPaths
         (lists_folder (map string_bytes workspace.now.members.items)
-        (map string_bytes workspace.now.exclude.items)) false paths
-        (contains_text members.old.folders) (contains_text members.old.twice)
-        → AreOfPaths (lists_folder (map string_bytes workspace.now.members.items)
-        (map string_bytes workspace.now.exclude.items)) false
-        (paths ++ map string_bytes (keys found.now))
-        (contains_text members.new.folders) (contains_text members.new.twice)) }
+        (map string_bytes workspace.now.exclude.items))
+        (map string_bytes (keys found.now)) members.old members.new) }
 {
     for folder in found {
         add_found(alloc, members, folder.as_str(), workspace)?;
@@ -117,13 +114,10 @@ fn add_found<M>(
     folder: &str,
     workspace: &Workspace<M>,
 ) -> Result<(), AllocError>
-    ensures { OnOk result ((paths : List (List ℕ)) → AreOfPaths
+    ensures { OnOk result (AddsPaths
         (lists_folder (map string_bytes workspace.now.members.items)
-        (map string_bytes workspace.now.exclude.items)) false paths
-        (contains_text members.old.folders) (contains_text members.old.twice)
-        → AreOfPaths (lists_folder (map string_bytes workspace.now.members.items)
-        (map string_bytes workspace.now.exclude.items)) false (paths ++ folder.now ∷ [])
-        (contains_text members.new.folders) (contains_text members.new.twice)) }
+        (map string_bytes workspace.now.exclude.items))
+        (folder.now ∷ []) members.old members.new) }
 {
     let folder = normalized(alloc, folder)?;
     if is_excluded(alloc, folder.as_str(), workspace)? {

@@ -55,9 +55,7 @@ stays root path workspace listing old new more m h = record {
   place = h.place;
   read = h.read;
   new = h.new;
-  from = h.from;
   told = h.told;
-  inherits = h.inherits;
   taken = record {
     differences = λ o i. more.found o (h.taken.differences o i);
     inherited = λ k i. more.keys k (h.taken.inherited k i);
@@ -119,9 +117,11 @@ module _ (root : Manifest Value) (path : Text) (workspace : Workspace Value) (se
           place = subst (Among (folders_of listing)) (sym a.added.folder_is) (there (string_bytes k) (inl refl));
           read = a.read;
           new = a.made;
-          from = a.from;
-          told = a.added.told;
-          inherits = ap (λ (v : Vec (String Global) Global). map string_bytes v.items) a.added.inherits_is ∙ a.left;
+          told = record {
+            from = a.from;
+            told = a.added.told;
+            inherits = ap (λ (v : Vec (String Global) Global). map string_bytes v.items) a.added.inherits_is ∙ a.left;
+          };
           taken = subst (λ (f : Text). IsTakenIn root path workspace f a.read a.made new) (sym a.added.folder_is) a.taken;
         }))
 

@@ -65,6 +65,12 @@ module _ (root : Manifest Value) (path : Text) where
     pub completed : IsCompleted read (Some (shared_of root.workspace, path)) real_roots
         real_folders new
 
+  -- a member is what is told of such a manifest, and inherits what that leaves to the workspace
+  pub record IsMemberThere (read new : Manifest Value) (member : Member) : Type 0 where
+    pub from : IsCompletedThere read new
+    pub told : IsMemberOf (held new) member
+    pub inherits : map string_bytes member.inherits.items ≡ left_keys (held read)
+
   -- such a manifest, in a folder, asks for this
   abbrev pub IsAskedThere : Text → Asking → Type 0
   IsAskedThere folder x =
@@ -110,7 +116,5 @@ module _ (root : Manifest Value) (path : Text) where
       pub place : Among (folders_of listing) (string_bytes member.folder)
       pub read : Manifest Value
       pub new : Manifest Value
-      pub from : IsCompletedThere read new
-      pub told : IsMemberOf (held new) member
-      pub inherits : map string_bytes member.inherits.items ≡ left_keys (held read)
+      pub told : IsMemberThere read new member
       pub taken : IsTakenIn (string_bytes member.folder) read new audit

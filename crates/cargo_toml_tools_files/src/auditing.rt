@@ -74,31 +74,46 @@ fn audited<R: Files + Eprint + AllocGlobal>(
     let Some(workspace) = &root.0.workspace else {
         return Err(Error::Other("there is no workspace"));
     };
-    let found = list_members(rt, folder, root.0, workspace)?;
-    report_on(rt, folder, root, workspace, &found, shows)
+    let (manifest, path) = root;
+    let found = list_members(rt, folder, manifest, workspace)?;
+    let root = Root {
+        folder,
+        manifest,
+        path,
+        workspace,
+    };
+    report_on(rt, root, &found, shows)
+}
+
+/// A workspace: the folder in which it lies, its manifest at the path that this has, and the table
+/// in there.
+#[derive(Clone, Copy)]
+struct Root<'a> {
+    folder: &'a str,
+    manifest: &'a Manifest,
+    path: &'a str,
+    workspace: &'a Workspace,
 }
 
 /// The report on these members of a workspace.
 fn report_on<R: Files + Eprint + AllocGlobal>(
     rt: &R,
-    folder: &str,
-    root: (&Manifest, &str),
-    workspace: &Workspace,
+    root: Root<'_>,
     found: &Members,
     shows: bool,
 ) -> Result<Audit, Error>
-    requires { AreMembersOf root.0.now workspace.now found.now }
-    ensures report { IfOk result
-        (IsReportOn root.entry.0.now root.entry.1.now workspace.now folder.now) }
+    requires { AreMembersOf root.manifest.now root.workspace.now found.now }
+    ensures report { IfOk result (IsReportOn root.entry.manifest.now root.entry.path.now
+        root.entry.workspace.now root.entry.folder.now) }
     ensures refused { IfErr result IsOfInput }
 {
     let mut audit = Audit::new(rt.alloc());
     audit.add_listing(found)?;
     for (i, member) in found.folders.iter().enumerate() {
         show_progress(rt, shows, i, found.folders.len())?;
-        add_folder(rt, folder, member.as_str(), root, workspace, &mut audit)?;
+        add_folder(rt, root, member.as_str(), &mut audit)?;
     }
-    audit.finish(workspace)?;
+    audit.finish(root.workspace)?;
     Ok(audit)
 }
 
@@ -106,27 +121,27 @@ fn report_on<R: Files + Eprint + AllocGlobal>(
 /// was refused.
 fn add_folder<R: Files + AllocGlobal>(
     rt: &R,
-    folder: &str,
+    root: Root<'_>,
     member: &str,
-    root: (&Manifest, &str),
-    workspace: &Workspace,
     audit: &mut Audit,
 ) -> Result<(), Error>
-    ensures added { OnOk result (AddsFolder root.entry.0.now root.entry.1.now workspace.now
-        member.now audit.old audit.new) }
-    ensures findings { OnOk result (GainsOnly (IsOfFolder root.entry.0.now root.entry.1.now
-        workspace.now folder.now member.now) audit.old.findings audit.new.findings) }
+    ensures added { OnOk result (AddsFolder root.entry.manifest.now root.entry.path.now
+        root.entry.workspace.now member.now audit.old audit.new) }
+    ensures findings { OnOk result (GainsOnly (IsOfFolder root.entry.manifest.now
+        root.entry.path.now root.entry.workspace.now root.entry.folder.now member.now)
+        audit.old.findings audit.new.findings) }
     ensures noted { OnOk result (NotesOnly IsInheritedThere
-        (IsAskedThere root.entry.0.now root.entry.1.now member.now) audit.old audit.new) }
+        (IsAskedThere root.entry.manifest.now root.entry.path.now member.now)
+        audit.old audit.new) }
     ensures refused { IfErr result (λ e. e ≡ Memory) }
 {
     let alloc = rt.alloc();
-    let path = manifest_path(alloc, folder, member)?;
+    let path = manifest_path(alloc, root.folder, member)?;
     let place = Place {
         folder: member,
         path: path.as_str(),
     };
-    let outcome = add_member(rt, place, root, workspace, audit);
+    let outcome = add_member(rt, place, root, audit);
     add_refusal(alloc, member, outcome, audit)
 }
 
@@ -177,26 +192,26 @@ fn words_of(alloc: Global, fault: &Error) -> Result<String, AllocError>
 fn add_member<R: Files + AllocGlobal>(
     rt: &R,
     place: Place<'_>,
-    root: (&Manifest, &str),
-    workspace: &Workspace,
+    root: Root<'_>,
     audit: &mut Audit,
 ) -> Result<(), Error>
-    ensures added { OnOk result (AddsAudited root.entry.0.now root.entry.1.now workspace.now
-        place.entry.folder.now audit.old audit.new) }
+    ensures added { OnOk result (AddsAudited root.entry.manifest.now root.entry.path.now
+        root.entry.workspace.now place.entry.folder.now audit.old audit.new) }
     ensures kept { OnErr result (audit.new.members.items ≡ audit.old.members.items) }
-    ensures findings { GainsOnly (IsDifference root.entry.0.now root.entry.1.now workspace.now
-        place.entry.folder.now) audit.old.findings audit.new.findings }
-    ensures noted { UnlessMemory result (NotesOnly IsInheritedThere (IsAskedThere
-        root.entry.0.now root.entry.1.now place.entry.folder.now) audit.old audit.new) }
+    ensures findings { GainsOnly (IsDifference root.entry.manifest.now root.entry.path.now
+        root.entry.workspace.now place.entry.folder.now) audit.old.findings audit.new.findings }
+    ensures noted { UnlessMemory result (NotesOnly IsInheritedThere
+        (IsAskedThere root.entry.manifest.now root.entry.path.now place.entry.folder.now)
+        audit.old audit.new) }
     ensures refused { IfErr result
-        (IsMemberFault root.entry.0.now root.entry.1.now place.entry.path.now) }
+        (IsMemberFault root.entry.manifest.now root.entry.path.now place.entry.path.now) }
 {
     let alloc = rt.alloc();
     let mut held = manifest_in(rt, place.path)?;
     let inherits = audit.add_written(&*held.manifest)?;
     held.manifest
-        .complete_from_path_and_workspace(rt, alloc, place.path, Some(root))?;
-    audit.add_completed(place.folder, &*held.manifest, inherits, workspace)
+        .complete_from_path_and_workspace(rt, alloc, place.path, Some((root.manifest, root.path)))?;
+    audit.add_completed(place.folder, &*held.manifest, inherits, root.workspace)
 }
 
 /// Tells a terminal how far a long report is.

@@ -7,14 +7,15 @@ ghost use Rattle.cargo_toml.specs.InheritedDependencies.{is_left};
 ghost use Rattle.cargo_toml.specs.InheritedPackages.{is_left_there};
 ghost use Rattle.cargo_toml.specs.Manifests.{held};
 ghost use Rattle.cargo_toml.specs.Packages.{held_package};
-ghost use Rattle.cargo_toml.specs.Targets.{target_meaning};
 ghost use Rattle.cargo_toml_dependencies.specs.Replacing.{entries_meaning};
-ghost use Rattle.cargo_toml_tools.specs.Indexed.{all_by_kind, target_by_kind, with_kinds};
+ghost use Rattle.cargo_toml_tools.specs.Checked.{own_by_kind};
+ghost use Rattle.cargo_toml_tools.specs.Indexed.{all_by_kind};
 ghost use Rattle.cargo_toml_tools.specs.LeftKeys.{left_fields, left_in, left_in_tables};
 ghost use Rattle.cargo_toml_tools.specs.LeftKeys.{leavable_rows, left_rows};
 ghost use Rattle.cargo_toml_tools.specs.Noted.{GainsKeys, inherited_in, inherited_in_all};
 
-use cargo_toml::{Dependency, DepsSet, Inheritable, Manifest, Package, Target};
+use crate::tables::Tables;
+use cargo_toml::{Dependency, DepsSet, Inheritable, Manifest, Package};
 use std::alloc::{AllocError, Global};
 use std::collections::BTreeSet;
 
@@ -108,56 +109,36 @@ pub fn add_inherited_dependencies<M>(
     ensures all { OnOk result
         (GainsKeys (inherited_in_all (all_by_kind (held manifest.now))) all.old all.new) }
 {
-    add_tables(
-        &manifest.dependencies,
-        &manifest.dev_dependencies,
-        &manifest.build_dependencies,
-        keys,
-        all,
-    )?;
+    let own = Tables {
+        normal: &manifest.dependencies,
+        dev: &manifest.dev_dependencies,
+        build: &manifest.build_dependencies,
+    };
+    add_tables(own, keys, all)?;
     for (_, target) in &manifest.target {
-        add_target(target, keys, all)?;
+        let tables = Tables {
+            normal: &target.dependencies,
+            dev: &target.dev_dependencies,
+            build: &target.build_dependencies,
+        };
+        add_tables(tables, keys, all)?;
     }
     Ok(())
 }
 
-fn add_target(
-    target: &Target,
-    keys: &mut Vec<String>,
-    all: &mut BTreeSet<String>,
-) -> Result<(), AllocError>
-    ensures keys { OnOk result (map string_bytes keys.new.items ≡ map string_bytes keys.old.items
-        ++ left_in_tables (target_by_kind (target_meaning target.now))) }
-    ensures all { OnOk result
-        (GainsKeys (inherited_in_all (target_by_kind (target_meaning target.now)))
-        all.old all.new) }
-{
-    add_tables(
-        &target.dependencies,
-        &target.dev_dependencies,
-        &target.build_dependencies,
-        keys,
-        all,
-    )
-}
-
 fn add_tables(
-    normal: &DepsSet,
-    dev: &DepsSet,
-    build: &DepsSet,
+    tables: Tables<'_>,
     keys: &mut Vec<String>,
     all: &mut BTreeSet<String>,
 ) -> Result<(), AllocError>
-    ensures keys { OnOk result (map string_bytes keys.new.items ≡ map string_bytes keys.old.items
-        ++ left_in_tables (with_kinds (entries_meaning normal.now) (entries_meaning dev.now)
-        (entries_meaning build.now))) }
-    ensures all { OnOk result (GainsKeys (inherited_in_all (with_kinds
-        (entries_meaning normal.now) (entries_meaning dev.now) (entries_meaning build.now)))
-        all.old all.new) }
+    ensures keys { OnOk result (map string_bytes keys.new.items
+        ≡ map string_bytes keys.old.items ++ left_in_tables (own_by_kind tables.entry)) }
+    ensures all { OnOk result
+        (GainsKeys (inherited_in_all (own_by_kind tables.entry)) all.old all.new) }
 {
-    add_table(normal, "dependencies", keys, all)?;
-    add_table(dev, "dev-dependencies", keys, all)?;
-    add_table(build, "build-dependencies", keys, all)
+    add_table(tables.normal, "dependencies", keys, all)?;
+    add_table(tables.dev, "dev-dependencies", keys, all)?;
+    add_table(tables.build, "build-dependencies", keys, all)
 }
 
 fn add_table(

@@ -1,19 +1,18 @@
 //! What the report tells of a member that completes.
 ghost use Rattle.std.specs.Prelude.{◌≡◌, ◌↔◌, IfErr, IfOk, IsErrAnd, None, Some, map, option_map};
 ghost use Rattle.std.specs.Prelude.{string_bytes};
-ghost use Rattle.semver.specs.Identifiers.{parts_of, parts_text};
 ghost use Rattle.cargo_toml.specs.InheritableValues.{value_of};
 ghost use Rattle.cargo_toml.specs.InheritedPackages.{field_is_left, is_left_there};
 ghost use Rattle.cargo_toml.specs.Inherits.{inheritable_map};
 ghost use Rattle.cargo_toml.specs.Manifests.{held};
 ghost use Rattle.cargo_toml.specs.Packages.{held_package};
-ghost use Rattle.cargo_toml.specs.Settings.{edition_text, publish_meaning};
+ghost use Rattle.cargo_toml.specs.Settings.{publish_meaning};
 ghost use Rattle.cargo_toml_tools.specs.Audited.{IsMemberOf, IsNoPackage, IsToldOf, IsUnknown};
 ghost use Rattle.cargo_toml_tools.specs.Audited.{IsUntold, leaves_told, names_text, publish_text};
 ghost use Rattle.cargo_toml_tools.specs.Audited.{stated};
 
 use super::Member;
-use cargo_toml::{Edition, Error, Inheritable, Manifest, Package, Publish, SemVer};
+use cargo_toml::{Error, Inheritable, Manifest, Package, Publish};
 use std::alloc::{AllocError, Global};
 
 /// What is told of a member. What is left to the workspace was filled in.
@@ -47,11 +46,14 @@ fn member_of<M>(
     ensures told { IfOk result (IsToldOf (held_package «package».now)) }
     ensures refused { IfErr result (IsUnknown (leaves_told (held_package «package».now))) }
 {
-    let version = version_text(alloc, &package.version)?;
-    let edition = edition_text(alloc, &package.edition)?;
-    let publish = publish_text(alloc, &package.publish)?;
+    let version = known(&package.version)?;
+    let edition = known(&package.edition)?;
+    let publish = known(&package.publish)?;
     let rust_version = text(&package.rust_version)?;
     let license = text(&package.license)?;
+    let version = format!(in alloc; "{version}")?;
+    let edition = format!(in alloc; "{edition}")?;
+    let publish = place(alloc, publish)?;
     let folder = String::from_str(alloc, folder)?;
     let name = package.name.clone()?;
     Ok(Member {
@@ -66,26 +68,15 @@ fn member_of<M>(
     })
 }
 
-fn version_text(alloc: Global, version: &Inheritable<SemVer>) -> Result<String, Error>
-    ensures told { IfOk result (λ text.
-        option_map parts_text (value_of (inheritable_map parts_of version.now))
-        ≡ Some (string_bytes text)) }
-    ensures refused { IfErr result
-        (IsUnknown (field_is_left (inheritable_map parts_of version.now))) }
+/// A value that isn't left to the workspace.
+fn known<T>(value: &Inheritable<T>) -> Result<&T, Error>
+    ensures known { IfOk result (λ x. value_of value.now ≡ Some x.now) }
+    ensures refused { IfErr result (IsUnknown (field_is_left value.now)) }
 {
-    let version = version.get()?;
-    Ok(format!(in alloc; "{version}")?)
-}
-
-fn edition_text(alloc: Global, edition: &Inheritable<Edition>) -> Result<String, Error>
-    ensures told { IfOk result (λ text.
-        option_map edition_text (value_of (inheritable_map (λ x. x) edition.now))
-        ≡ Some (string_bytes text)) }
-    ensures refused { IfErr result
-        (IsUnknown (field_is_left (inheritable_map (λ x. x) edition.now))) }
-{
-    let edition = edition.get()?;
-    Ok(format!(in alloc; "{edition}")?)
+    match value {
+        Inheritable::Set(x) => Ok(x),
+        Inheritable::Inherited => Err(Error::InheritedUnknownValue),
+    }
 }
 
 /// A text that may be missing.
@@ -102,18 +93,7 @@ fn text(text: &Option<Inheritable<String>>) -> Result<Option<String>, Error>
     }
 }
 
-/// Where it may be published.
-fn publish_text(alloc: Global, publish: &Inheritable<Publish>) -> Result<String, Error>
-    ensures told { IfOk result (λ text.
-        option_map publish_text (value_of (inheritable_map publish_meaning publish.now))
-        ≡ Some (string_bytes text)) }
-    ensures refused { IfErr result
-        (IsUnknown (field_is_left (inheritable_map publish_meaning publish.now))) }
-{
-    let publish = publish.get()?;
-    Ok(place(alloc, publish)?)
-}
-
+/// Where a package may be published.
 fn place(alloc: Global, publish: &Publish) -> Result<String, AllocError>
     ensures { IfOk result
         (λ text. string_bytes text ≡ publish_text (publish_meaning publish.now)) }

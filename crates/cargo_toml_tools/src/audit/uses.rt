@@ -4,9 +4,9 @@ ghost use Rattle.std.specs.List.{list_all};
 ghost use Rattle.cargo_toml.specs.Dependencies.{dependency_meaning};
 ghost use Rattle.cargo_toml.specs.Manifests.{held};
 ghost use Rattle.cargo_toml.specs.Reach.{Among};
-ghost use Rattle.cargo_toml.specs.Targets.{target_meaning};
 ghost use Rattle.cargo_toml_dependencies.specs.Replacing.{entries_meaning};
-ghost use Rattle.cargo_toml_tools.specs.Indexed.{all_by_kind, target_by_kind, with_kinds};
+ghost use Rattle.cargo_toml_tools.specs.Checked.{own_by_kind};
+ghost use Rattle.cargo_toml_tools.specs.Indexed.{all_by_kind};
 ghost use Rattle.cargo_toml_tools.specs.Noted.{GainsUses, asked_by, asked_in, asked_in_all};
 ghost use Rattle.cargo_toml_tools.specs.Noted.{asking_of, askings_of};
 ghost use Rattle.cargo_toml_tools.specs.Oddities.{AreReported, GainsOnly};
@@ -15,7 +15,8 @@ ghost use Rattle.cargo_toml_tools.specs.Overall.{several_among, several_of, seve
 
 use super::{Code, Finding, Use};
 use crate::requirement::required_version;
-use cargo_toml::{Dependency, DepsSet, Manifest, Target};
+use crate::tables::Tables;
+use cargo_toml::{Dependency, DepsSet, Manifest};
 use cargo_toml_write::write::requirement::requirement_text;
 use std::alloc::{AllocError, Global};
 use std::collections::BTreeSet;
@@ -30,52 +31,35 @@ pub fn add_uses<M>(
     ensures { OnOk result
         (GainsUses (asked_in_all folder.now (all_by_kind (held manifest.now))) uses.old uses.new) }
 {
-    let normal = &manifest.dependencies;
-    let dev = &manifest.dev_dependencies;
-    add_tables(
-        alloc,
-        folder,
-        normal,
-        dev,
-        &manifest.build_dependencies,
-        uses,
-    )?;
+    let own = Tables {
+        normal: &manifest.dependencies,
+        dev: &manifest.dev_dependencies,
+        build: &manifest.build_dependencies,
+    };
+    add_tables(alloc, folder, own, uses)?;
     for (_, target) in &manifest.target {
-        add_target(alloc, folder, target, uses)?;
+        let tables = Tables {
+            normal: &target.dependencies,
+            dev: &target.dev_dependencies,
+            build: &target.build_dependencies,
+        };
+        add_tables(alloc, folder, tables, uses)?;
     }
     Ok(())
-}
-
-fn add_target(
-    alloc: Global,
-    folder: &str,
-    target: &Target,
-    uses: &mut BTreeSet<Use>,
-) -> Result<(), AllocError>
-    ensures { OnOk result
-        (GainsUses (asked_in_all folder.now (target_by_kind (target_meaning target.now)))
-        uses.old uses.new) }
-{
-    let normal = &target.dependencies;
-    let dev = &target.dev_dependencies;
-    add_tables(alloc, folder, normal, dev, &target.build_dependencies, uses)
 }
 
 fn add_tables(
     alloc: Global,
     folder: &str,
-    normal: &DepsSet,
-    dev: &DepsSet,
-    build: &DepsSet,
+    tables: Tables<'_>,
     uses: &mut BTreeSet<Use>,
 ) -> Result<(), AllocError>
-    ensures { OnOk result (GainsUses (asked_in_all folder.now (with_kinds
-        (entries_meaning normal.now) (entries_meaning dev.now) (entries_meaning build.now)))
-        uses.old uses.new) }
+    ensures { OnOk result
+        (GainsUses (asked_in_all folder.now (own_by_kind tables.entry)) uses.old uses.new) }
 {
-    add_table(alloc, folder, normal, uses)?;
-    add_table(alloc, folder, dev, uses)?;
-    add_table(alloc, folder, build, uses)
+    add_table(alloc, folder, tables.normal, uses)?;
+    add_table(alloc, folder, tables.dev, uses)?;
+    add_table(alloc, folder, tables.build, uses)
 }
 
 fn add_table(

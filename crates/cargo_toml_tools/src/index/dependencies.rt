@@ -7,7 +7,8 @@ ghost use Rattle.cargo_toml_tools.specs.Checked.{all_entries, own_by_kind};
 ghost use Rattle.cargo_toml_tools.specs.IndexEntries.{table_entries, tables_entries};
 
 use super::entry::{Place, push_dependency};
-use super::refusals::{AllTables, Tables};
+use super::refusals::AllTables;
+use crate::tables::Tables;
 use cargo_toml::DepsSet;
 use cargo_toml::features::Kind;
 use serde_json::Value;

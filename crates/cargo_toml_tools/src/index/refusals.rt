@@ -11,17 +11,10 @@ ghost use Rattle.cargo_toml_tools.specs.Indexed.{is_taken, is_told, lacks_addres
 ghost use Rattle.cargo_toml_tools.specs.Indexed.{target_by_kind, tells};
 
 use super::IndexError;
+use crate::tables::Tables;
 use cargo_toml::features::Kind;
 use cargo_toml::{Dependency, DepsSet, Target, TargetDepsSet};
 use std::alloc::Global;
-
-/// The tables of dependencies that a package has, or a target.
-#[derive(Clone, Copy)]
-pub(super) struct Tables<'a> {
-    pub normal: &'a DepsSet,
-    pub dev: &'a DepsSet,
-    pub build: &'a DepsSet,
-}
 
 /// All dependencies of a crate: those of its own tables, and those of targets.
 #[derive(Clone, Copy)]

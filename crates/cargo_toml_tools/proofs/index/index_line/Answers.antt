@@ -1,4 +1,4 @@
-use Rattle.std.proofs.Common.{◌∙◌, ap, option_map, sym}
+use Rattle.std.proofs.Common.{◌∙◌, ap, option_map, rules, sym}
 use Rattle.std.proofs.lemmas.Result.{err_from_is_err_and}
 use Rattle.serde_json.specs.Written.{compact_text}
 use Rattle.cargo_toml.specs.Manifests.{manifest_meaning}
@@ -12,28 +12,22 @@ use Rattle.cargo_toml_tools.proofs.Explained.{checked_taken, explained, not_no_p
 use Rattle.cargo_toml_tools.proofs.Placed.{in_order_of}
 use Rattle.cargo_toml_tools.proofs.index.index_line.Goals as goal
 
-pub returns-in_err-stated-clause-no_package : goal.returns-in_err-stated-clause-no_package
-returns-in_err-stated-clause-no_package g c =
-    let r = err_from_is_err_and c.from_residual.result c.from_residual.ensures.1 in
-    other_fault c.from_residual.result c.args.manifest.now.package c.in-Some.package r.0 r.1 c.in-Some.is
-    (λ h. not_no_package c.args.text.now (package_meaning (λ m. m) c.in-Some.package) (all_by_kind (manifest_meaning (λ m. m) c.args.manifest.now))
-    c.in_err-stated.field-0.0 c.in_err-stated.ensures.refused (sym r.2 ∙ h))
-
-pub returns-in_err-stated-clause-refused : goal.returns-in_err-stated-clause-refused
-returns-in_err-stated-clause-refused g c =
+pub returns-in_err-stated : goal.returns-in_err-stated
+returns-in_err-stated g c =
     let m = manifest_meaning (λ m. m) c.args.manifest.now in
     let p = package_meaning (λ m. m) c.in-Some.package in
     let is = ap (option_map (package_meaning (λ m. m))) c.in-Some.is in
+    let e = c.in_err-stated.field-0.0 in
+    let why = c.in_err-stated.ensures.refused in
     let r = err_from_is_err_and c.from_residual.result c.from_residual.ensures.1 in
-    rw (r.1, r.2) (explained c.args.text.now m p is c.in_err-stated.field-0.0 c.in_err-stated.ensures.refused)
-
-pub returns-in_err-stated-clause-exact : goal.returns-in_err-stated-clause-exact
-returns-in_err-stated-clause-exact g c =
-    let m = manifest_meaning (λ m. m) c.args.manifest.now in
-    let p = package_meaning (λ m. m) c.in-Some.package in
-    let is = ap (option_map (package_meaning (λ m. m))) c.in-Some.is in
-    let r = err_from_is_err_and c.from_residual.result c.from_residual.ensures.1 in
-    rw (r.1, r.2) (not_taken c.args.text.now m p is c.in_err-stated.field-0.0 c.in_err-stated.ensures.refused)
+    record {
+      no_package = other_fault c.from_residual.result c.args.manifest.now.package c.in-Some.package r.0 r.1 c.in-Some.is
+          (λ h. not_no_package c.args.text.now p (all_by_kind m) e why (sym r.2 ∙ h));
+      taken = search rules;
+      refused = rw (r.1, r.2) (explained c.args.text.now m p is e why);
+      exact = rw (r.1, r.2) (not_taken c.args.text.now m p is e why);
+      line = search rules;
+    }
 
 pub returns-clause-taken : goal.returns-clause-taken
 returns-clause-taken g c =

@@ -66,60 +66,32 @@ returns-in_err-inherits-clause-kept g c =
 pub returns-in_err-inherits-clause-findings : goal.returns-in_err-inherits-clause-findings
 returns-in_err-inherits-clause-findings g c = gains_none _ _ (ap (λ (a : Audit). (a.findings).keys) c.in_err-inherits.ensures.rest)
 
-pub returns-clause-kept : goal.returns-clause-kept
-returns-clause-kept g c =
-    on_err_weaker c.add_completed.result (λ same. same ∙ ap (λ (a : Audit). a.members.items) c.in_ok-inherits.ensures.rest) c.add_completed.ensures.kept
-
-pub returns-clause-added : goal.returns-clause-added
-returns-clause-added g c =
-    let root = c.args.root.0.now in
-    let path = c.args.root.1.now in
-    let workspace = c.args.workspace.now in
+pub returns : goal.returns
+returns g c =
+    let root = c.args.root.manifest.now in
+    let path = c.args.root.path.now in
+    let workspace = c.args.root.workspace.now in
+    let folder = c.args.place.folder.now in
+    let old = c.args.audit.now in
+    let mid = c.add_written.new.self in
+    let new = c.add_completed.new.self in
+    let text = c.in_ok-held.ensures.read in
     let read = c.deref_mut.result.now in
     let made = c.deref-2.result.now in
     let same : c.deref.result.now ≡ read = c.deref.ensures ∙ sym c.deref_mut.ensures.value in
-    member_added root path workspace c.args.place.folder.now read made c.in_ok-inherits.inherits c.add_completed.result
-    c.args.audit.now c.add_written.new.self c.add_completed.new.self
-    (completed_there root path (c.in_ok-held.ensures.read).0 _ read c.complete_from_path_and_workspace.new.self made
-    c.deref_mut.ensures.value c.deref-2.ensures (c.in_ok-held.ensures.read).1 c.in_ok-complete_from_path_and_workspace.ensures.completed)
-    (c.in_ok-inherits.ensures.keys ∙ ap (λ (m : Manifest Value). left_keys (held m)) same)
-    c.in_ok-inherits.ensures.rest
-    (subst (λ (m : Manifest Value). GainsExactly (inherited_in_all (all_by_kind (held m))) (IsKeyNoted c.args.audit.now) (IsKeyNoted c.add_written.new.self))
-    same c.in_ok-inherits.ensures.inherited)
-    c.add_completed.ensures.noted c.add_completed.ensures.added c.add_completed.ensures.found
-
-pub returns-clause-noted : goal.returns-clause-noted
-returns-clause-noted g c =
-    let root = c.args.root.0.now in
-    let path = c.args.root.1.now in
-    let workspace = c.args.workspace.now in
-    let read = c.deref_mut.result.now in
-    let made = c.deref-2.result.now in
-    let same : c.deref.result.now ≡ read = c.deref.ensures ∙ sym c.deref_mut.ensures.value in
-    member_notes root path workspace c.args.place.folder.now read made c.in_ok-inherits.inherits c.add_completed.result
-    c.args.audit.now c.add_written.new.self c.add_completed.new.self
-    (completed_there root path (c.in_ok-held.ensures.read).0 _ read c.complete_from_path_and_workspace.new.self made
-    c.deref_mut.ensures.value c.deref-2.ensures (c.in_ok-held.ensures.read).1 c.in_ok-complete_from_path_and_workspace.ensures.completed)
-    (c.in_ok-inherits.ensures.keys ∙ ap (λ (m : Manifest Value). left_keys (held m)) same)
-    c.in_ok-inherits.ensures.rest
-    (subst (λ (m : Manifest Value). GainsExactly (inherited_in_all (all_by_kind (held m))) (IsKeyNoted c.args.audit.now) (IsKeyNoted c.add_written.new.self))
-    same c.in_ok-inherits.ensures.inherited)
-    c.add_completed.ensures.noted
-
-pub returns-clause-findings : goal.returns-clause-findings
-returns-clause-findings g c =
-    let read = c.in_ok-held.ensures.read in
-    let from = completed_there c.args.root.0.now c.args.root.1.now read.0 _ c.deref_mut.result.now c.complete_from_path_and_workspace.new.self
-    c.deref-2.result.now c.deref_mut.ensures.value c.deref-2.ensures read.1 c.in_ok-complete_from_path_and_workspace.ensures.completed in
-    let such = IsDifference c.args.root.0.now c.args.root.1.now c.args.workspace.now c.args.place.folder.now in
-    subst (λ (s : BTreeSet Finding). GainsOnly such s c.add_completed.new.self.findings) (ap (λ (a : Audit). a.findings) c.in_ok-inherits.ensures.rest)
-    (gains_wider _ _ (λ o i. (c.deref_mut.result.now, (c.deref-2.result.now, (from, i)))) c.add_completed.ensures.findings)
-
-pub returns-clause-refused : goal.returns-clause-refused
-returns-clause-refused g c =
-    let read = c.in_ok-held.ensures.read in
-    let from = completed_there c.args.root.0.now c.args.root.1.now read.0 _ c.deref_mut.result.now c.complete_from_path_and_workspace.new.self
-    c.deref-2.result.now c.deref_mut.ensures.value c.deref-2.ensures read.1 c.in_ok-complete_from_path_and_workspace.ensures.completed in
-    IfErr-weaker c.add_completed.result _ _
-    (λ e untold. inr (from.text, (c.deref_mut.result.now, (from.written, inr (c.deref-2.result.now, (from, untold))))))
-    c.add_completed.ensures.refused
+    let from = completed_there root path text.0 _ read c.complete_from_path_and_workspace.new.self made c.deref_mut.ensures.value c.deref-2.ensures text.1
+    c.in_ok-complete_from_path_and_workspace.ensures.completed in
+    let written = c.in_ok-inherits.ensures in
+    let left = written.keys ∙ ap (λ (m : Manifest Value). left_keys (held m)) same in
+    let keys = subst (λ (m : Manifest Value). GainsExactly (inherited_in_all (all_by_kind (held m))) (IsKeyNoted old) (IsKeyNoted mid)) same written.inherited in
+    let inherits = c.in_ok-inherits.inherits in
+    let result = c.add_completed.result in
+    let done = c.add_completed.ensures in record {
+      added = member_added root path workspace folder read made inherits result old mid new from left written.rest keys done.noted done.added done.found;
+      kept = on_err_weaker result (λ same. same ∙ ap (λ (a : Audit). a.members.items) written.rest) done.kept;
+      findings = subst (λ (s : BTreeSet Finding). GainsOnly (IsDifference root path workspace folder) s new.findings)
+          (ap (λ (a : Audit). a.findings) written.rest)
+          (gains_wider _ _ (λ o i. (read, (made, (from, i)))) done.findings);
+      noted = member_notes root path workspace folder read made inherits result old mid new from left written.rest keys done.noted;
+      refused = IfErr-weaker result _ _ (λ e untold. inr (from.text, (read, (from.written, inr (made, (from, untold)))))) done.refused;
+    }

@@ -14,7 +14,7 @@ use Rattle.cargo_toml_tools_files.proofs.auditing.report_on.Goals as goal
 pub loop-i-init : goal.loop-i-init
 loop-i-init g c = record {
   count = omega (arith, ap (λ (ks : List (String Global)). length ks) c.iter-member-items.ensures.rest);
-  going = auditing_begins c.args.root.0.now c.args.root.1.now c.args.workspace.now c.args.folder.now c.args.found.now
+  going = auditing_begins c.args.root.manifest.now c.args.root.path.now c.args.root.workspace.now c.args.root.folder.now c.args.found.now
       c.iter-member-items.result c.new-audit.result c.add_listing.new.self
       c.iter-member-items.ensures.rest c.in_ok-add_listing.ensures.rest c.new-audit.ensures.members
       c.new-audit.ensures.findings c.new-audit.ensures.uses c.new-audit.ensures.inherited
@@ -29,16 +29,16 @@ overflow_step-i g c =
 pub loop-i-preserved : goal.loop-i-preserved
 loop-i-preserved g c =
     let one = rest_more deref _ _ _ c.in-Some.member c.in-Some.is c.next.ensures.steps in
-    let root = c.args.root.0.now in
-    let path = c.args.root.1.now in
-    let workspace = c.args.workspace.now in
+    let root = c.args.root.manifest.now in
+    let path = c.args.root.path.now in
+    let workspace = c.args.root.workspace.now in
     let old = c.loop-i.audit in
     let new = c.add_folder.new.audit in record {
       count = omega (arith, ap (λ (ks : List (String Global)). length ks) one, c.loop-i.invariant.count);
-      going = auditing_on root path workspace c.args.folder.now c.args.found.now c.in-Some.member.now c.next.new.self c.loop-i.member-iterator
+      going = auditing_on root path workspace c.args.root.folder.now c.args.found.now c.in-Some.member.now c.next.new.self c.loop-i.member-iterator
           old new one c.loop-i.invariant.going
           (subst (λ (f : Text). AddsFolder root path workspace f old new) c.as_str.ensures.value c.in_ok-add_folder.ensures.added)
-          (subst (λ (f : Text). GainsOnly (IsOfFolder root path workspace c.args.folder.now f) old.findings new.findings)
+          (subst (λ (f : Text). GainsOnly (IsOfFolder root path workspace c.args.root.folder.now f) old.findings new.findings)
           c.as_str.ensures.value c.in_ok-add_folder.ensures.findings)
           (subst (λ (f : Text). NotesOnly IsInheritedThere (IsAskedThere root path f) old new) c.as_str.ensures.value c.in_ok-add_folder.ensures.noted);
     }
@@ -51,7 +51,7 @@ returns-in_err-show_progress-clause-refused g c =
 
 pub returns-clause-report : goal.returns-clause-report
 returns-clause-report g c =
-    auditing_ends c.args.root.0.now c.args.root.1.now c.args.workspace.now c.args.folder.now c.args.found.now c.loop-i.member-iterator
+    auditing_ends c.args.root.manifest.now c.args.root.path.now c.args.root.workspace.now c.args.root.folder.now c.args.found.now c.loop-i.member-iterator
     c.loop-i.audit c.finish.new.self
     (rest_all deref _ _ _ c.in-None.is c.next.ensures.steps) c.in_ok-finish.ensures.rest
     c.requires c.in_ok-finish.ensures.findings c.in_ok-finish.ensures.found c.loop-i.invariant.going

@@ -21,9 +21,9 @@ loop-target-preserved g c =
     let is = ap (map target_of) (rest_more deref_pair _ _ _ (c.in-Some.field-0-0, c.in-Some.target) c.in-Some.is c.next.ensures.steps) in
     record {
       keys = more (λ (t : Text × TargetMeaning). left_in_tables (target_by_kind t.1)) (flat_map (λ (t : Text × TargetMeaning). left_in_tables (target_by_kind t.1)))
-          (λ t ts. refl) _ _ _ _ _ _ is c.in_ok-add_target.ensures.keys c.loop-target.invariant.keys;
+          (λ t ts. refl) _ _ _ _ _ _ is c.in_ok-add_tables-2.ensures.keys c.loop-target.invariant.keys;
       all = gaining_on (inherited_in_all (target_by_kind (target_meaning c.in-Some.target.now))) _ _ _ _ _ _
-          (ap (flat_map (λ (t : Text × TargetMeaning). inherited_in_all (target_by_kind t.1))) is) c.loop-target.invariant.all c.in_ok-add_target.ensures.all;
+          (ap (flat_map (λ (t : Text × TargetMeaning). inherited_in_all (target_by_kind t.1))) is) c.loop-target.invariant.all c.in_ok-add_tables-2.ensures.all;
     }
 
 pub returns : goal.returns

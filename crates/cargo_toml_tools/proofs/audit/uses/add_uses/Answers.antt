@@ -20,7 +20,7 @@ loop-target-preserved g c =
     gaining_on (asked_in_all folder (target_by_kind (target_meaning c.in-Some.target.now))) _ _ _ _ _ _
     (ap (flat_map (λ (t : Text × TargetMeaning). asked_in_all folder (target_by_kind t.1)))
     (ap (map target_of) (rest_more deref_pair _ _ _ (c.in-Some.field-0-0, c.in-Some.target) c.in-Some.is c.next.ensures.steps)))
-    c.loop-target.invariant c.in_ok-add_target.ensures
+    c.loop-target.invariant c.in_ok-add_tables-2.ensures
 
 pub returns : goal.returns
 returns g c =

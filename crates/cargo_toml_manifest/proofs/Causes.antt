@@ -1,27 +1,22 @@
 -- What has to do with a refusal of completion.
-use Rattle.std.proofs.Common.{◌≡◌, ◌⊎◌, inl, inr, sym, ap, ◌∙◌, refl, subst, ℕ, List, true, false, Option, Some, None, Result, Ok, Err, [], String, string_bytes}
-use Rattle.std.specs.Prelude.{IfErr}
-use Rattle.std.specs.declared.alloc.Global.{Global}
+use Rattle.std.proofs.Common.{◌≡◌, ◌⊎◌, inl, inr, sym, ap, ◌∙◌, refl, subst, ℕ, List, true, false, Option, None, Result, Ok, Err, string_bytes}
 use Rattle.std.specs.declared.io.ErrorKind.TheVariants.{Unsupported}
 use Rattle.std.specs.declared.io.Error.{Error as IoError}
 use Rattle.std.specs.IoError.{error_kind}
-use Rattle.toml.specs.declared.value.Value.{Value}
 use Rattle.toml.specs.View.{view}
 use Rattle.cargo_toml_parts.specs.declared.error.Error.{Error, Memory, Io}
 use Rattle.cargo_toml_parts.specs.FaultValues.{Fault, fault_of, io}
 use Rattle.cargo_toml_parts.specs.Wrapping.{wrap}
-use Rattle.cargo_toml_workspace.specs.Sharing.{shared_of, shared}
-use Rattle.cargo_toml_manifest.specs.Choosing.{AnswersRoots, Choice, Handed, RootsTold, alone, choice, from, hint_of, lost, told_choice}
+use Rattle.cargo_toml_workspace.specs.Sharing.{shared_of}
+use Rattle.cargo_toml_manifest.specs.Choosing.{Choice, Handed, RootsTold, alone, choice, from, hint_of}
 use Rattle.cargo_toml_manifest.specs.Inheriting.{needs}
 use Rattle.cargo_toml_manifest.specs.Manifests.{ManifestMeaning, manifest_meaning}
 use Rattle.cargo_toml_discovery.specs.Folders.{IsListed, RefusesBy}
 use Rattle.cargo_toml_manifest.specs.Refusing.{IsCause, IsRefusedAt, IsRefusedBy, IsRefusedByRoot, IsToldWith, MayLose, ReadsBy}
 use Rattle.cargo_toml_manifest.specs.Roots.{IsRootAt}
 use Rattle.cargo_toml_manifest.specs.Told.{ToldRoot, root, no_root, open_root, AnswersRoot}
-use Rattle.cargo_toml_workspace.specs.Workspaces.{WorkspaceMeaning}
-use Rattle.cargo_toml_manifest.specs.declared.manifest.Manifest.{Manifest}
 use Rattle.cargo_toml_discovery.proofs.Faults.{fault_of-io}
-use Rattle.cargo_toml_manifest.proofs.Meeting.{answer_there, answered, answered_by, as_told, found_choice, own_alone, own_by_root, own_by_table, told_itself, Found}
+use Rattle.cargo_toml_manifest.proofs.Meeting.{answer_there, answered, answered_by, as_told, found_choice, own_by_root, told_itself, Found}
 use Rattle.cargo_toml_manifest.proofs.Rooted.{Read, memory_wrapped}
 
 -- no root is read by a call that is left out

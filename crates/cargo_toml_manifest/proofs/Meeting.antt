@@ -14,7 +14,7 @@ use Rattle.cargo_toml_discovery.specs.Told.{Told}
 use Rattle.cargo_toml_discovery.proofs.Extends.{tell-at}
 use Rattle.cargo_toml_workspace.specs.Sharing.{shared_of, Shared, shared}
 use Rattle.cargo_toml_manifest.specs.Choosing.{AnswersRoots, Choice, Handed, RootsTold, alone, choice, from, hint_of, own_choice, told_choice}
-use Rattle.cargo_toml_manifest.specs.Completing.{GivenBy, GivenByRoot, Meets, Outcome, complete, complete_by, gives, no_workspace, refuses, seen_at, then_found, untold}
+use Rattle.cargo_toml_manifest.specs.Completing.{GivenBy, GivenByRoot, Meets, Outcome, complete_by, gives, no_workspace, refuses, seen_at, then_found, untold}
 use Rattle.cargo_toml_manifest.specs.Finding.{with_found}
 use Rattle.cargo_toml_manifest.specs.Inheriting.{needs}
 use Rattle.cargo_toml_manifest.specs.Installing.{installed, with_completion}

@@ -34,8 +34,8 @@ returns-else-needs_workspace_inheritance g c =
     let none = c.no_parts.ensures in
     let same = installed-none m c.no_parts.result none.tables none.targets none.lints none.fields in
     let made =
-        subst
-        (λ (n : ManifestMeaning _). Meets (with_completion m) (seen_at None (found_around n names)) r
-        × IfOk r (λ new. (answers : Answers) × (seen_at None (found_around n (filled names answers)) ≡ gives (with_completion m new))))
-        same (c.completion.ensures.outcome, c.completion.ensures.given) in
+    subst
+    (λ (n : ManifestMeaning _). Meets (with_completion m) (seen_at None (found_around n names)) r
+    × IfOk r (λ new. (answers : Answers) × (seen_at None (found_around n (filled names answers)) ≡ gives (with_completion m new))))
+    same (c.completion.ensures.outcome, c.completion.ensures.given) in
     answered_alone m _ _ _ _ _ table needed (made.0, (made.1, c.completion.ensures.wrapped))

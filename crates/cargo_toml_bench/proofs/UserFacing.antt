@@ -30,7 +30,7 @@ use Rattle.cargo_toml.specs.Reached.{IsKeyed}
 use Rattle.cargo_toml.specs.Views.{set_has, resolution_of, value_at}
 use Rattle.cargo_toml_graph.proofs.Texts.{bytes_eq_sym}
 use Rattle.cargo_toml_features.proofs.TextKeys.{none_in}
-use Rattle.cargo_toml_bench.specs.Documented.{AreDocumented, IsDocumented, IsHidden, marks_stated, said_at, documented_text, documented_at}
+use Rattle.cargo_toml_bench.specs.Documented.{AreDocumented, IsFeatureDocumented, IsHidden, marks_stated, said_at, documented_text, documented_at}
 use Rattle.cargo_toml_bench.proofs.Unreferenced.{no_keys, no_texts}
 
 abbrev Walked : Type 0
@@ -143,7 +143,7 @@ module _ {M S : Type 0} (m : ManifestMeaning M) (fs : HashMap (Bor Text) Feature
   pub documented_is : (s : Said) → ((f : Text) → said_at s f ≡ documented_at fs f) → AreDocumented m s
   documented_is s is f said = go (value_at fs f) refl
     where
-      go : (o : Option Feature) → value_at fs f ≡ o → (said_at s f ≡ Some said) ↔ IsDocumented m f said
+      go : (o : Option Feature) → value_at fs f ≡ o → (said_at s f ≡ Some said) ↔ IsFeatureDocumented m f said
       go None here = (
         λ y. absurd (false≢true (ap is_some (sym (is f ∙ ap (option_and_then documented_text) here) ∙ y))),
         λ d. absurd (false≢true (sym (ap is_some here) ∙ (resolved.kept f).1 d.kept)),

@@ -31,7 +31,7 @@ module _ {M : Type 0} (m : ManifestMeaning M) where
 
   -- f is a feature that isn't hidden and that is public, and either it is listed or no other
   -- feature enables it; `said` is its text
-  pub record IsDocumented (f : Text) (said : Option Text) : Type 0 where
+  pub record IsFeatureDocumented (f : Text) (said : Option Text) : Type 0 where
     pub kept : IsKept (parsed_table MAX_ITEMS m) IsHidden f
     pub public : IsTrue (marks_stated f).public
     pub wanted : IsTrue (marks_stated f).explicit
@@ -46,7 +46,7 @@ said_at s f = option_map option_copied (tree.get_by (λ k. slice_cmp nat_cmp f k
 abbrev pub AreDocumented : {M : Type 0} → ManifestMeaning M
     → BTreeMap (Bor Text) (Option (Bor Text)) → Type 0
 AreDocumented m s =
-    (f : Text) (said : Option Text) → (said_at s f ≡ Some said) ↔ IsDocumented m f said
+    (f : Text) (said : Option Text) → (said_at s f ≡ Some said) ↔ IsFeatureDocumented m f said
 
 -- the text of a resolved feature that users are meant to ask for: a word of the step, on which no
 -- public contract rests

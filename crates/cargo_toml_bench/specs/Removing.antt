@@ -35,7 +35,7 @@ passed_on own gone key x = (set_has own x || set_has gone x) && not (bytes_eq x 
 
 -- what the feature `name` names once `gone`, whose name is `key`, is taken out, and how it acts: a
 -- parent takes over both
-pub record TakesOver (gone : Feature) (key name : Text) (old new : Feature) : Type 0 where
+pub record ParentTakesOver (gone : Feature) (key name : Text) (old new : Feature) : Type 0 where
   pub names : (x : Text) → set_has new.enables_features x
       ≡ (if set_has gone.enabled_by name
       then passed_on old.enables_features gone.enables_features key x
@@ -51,14 +51,14 @@ pub record TakesNames (gone : Feature) (key name : Text) (old new : Feature) : T
   pub marks : marks_of new ≡ marks_of old
   pub enabled_by : new.enabled_by ≡ old.enabled_by
   pub bins : new.required_by_bins ≡ old.required_by_bins
-  pub taken_over : TakesOver gone key name old new
+  pub taken_over : ParentTakesOver gone key name old new
 
 -- what the feature `name` becomes by that
 pub record Loses (gone : Feature) (key name : Text) (old new : Feature) : Type 0 where
   pub own_key : new.key ≡ old.key
   pub marks : marks_of new ≡ marks_of old
   -- a parent names what it named, and acts as it did
-  pub taken_over : TakesOver gone key name old new
+  pub taken_over : ParentTakesOver gone key name old new
   -- what it enabled is enabled by its parents
   pub enabled_by : (e : Text) → set_has new.enabled_by e
       ≡ (if set_has old.enabled_by key then passed_on old.enabled_by gone.enabled_by key e

@@ -60,7 +60,7 @@ pub record IsAudienceOf (bytes : List ℕ) (answer : Option Audience) : Type 0 w
   pub exact : answer ≡ audience_in manifest
 
 -- the tree is one of the manifest that the bytes spell
-pub record IsRewritten (bytes : List ℕ) (tree : Data) : Type 0 where
+pub record IsRewrittenOwn (bytes : List ℕ) (tree : Data) : Type 0 where
   pub manifest : ManifestMeaning Audience
   pub text : IsUtf8 bytes
   pub reads : document_reads (manifest_reads audience_reads) (parse_document bytes) ≡ Some manifest

@@ -17,7 +17,7 @@ ghost use Rattle.cargo_toml.specs.WrittenManifests.{manifest_way};
 ghost use Rattle.cargo_toml.specs.WrittenPackages.{package_way, VersionAgain};
 ghost use Rattle.cargo_toml.specs.Writes.{IsReadAgain, IsWriting};
 ghost use Rattle.cargo_toml_caller.specs.Audiences.{IsAudienceOf, Refuses, audience_way};
-ghost use Rattle.cargo_toml_caller.specs.Audiences.{IsRewritten, audience_reads, audience_in};
+ghost use Rattle.cargo_toml_caller.specs.Audiences.{IsRewrittenOwn, audience_reads, audience_in};
 ghost use Rattle.cargo_toml_caller.specs.Audiences.{RefusesRewriting};
 
 pub use audience::Audience;
@@ -57,7 +57,7 @@ pub fn write_manifest(alloc: Global, manifest: &Manifest<Audience>) -> Result<Va
 
 /// A tree of the manifest that these bytes spell: what was read is written again.
 pub fn rewrite(alloc: Global, bytes: &[u8]) -> Result<Value, Error>
-    ensures answer { IfOk result (λ v. IsRewritten bytes.now (view v)) }
+    ensures answer { IfOk result (λ v. IsRewrittenOwn bytes.now (view v)) }
     ensures refused { IfErr result (RefusesRewriting bytes.now) }
 {
     let manifest: Manifest<Audience> = Manifest::from_slice_with_metadata(alloc, bytes)?;

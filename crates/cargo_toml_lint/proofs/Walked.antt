@@ -16,7 +16,7 @@ use Rattle.cargo_toml.specs.Views.{set_has, resolution_of, table_in, value_at}
 use Rattle.cargo_toml_features.proofs.Unremoved.{enables_has}
 use Rattle.cargo_toml_graph.proofs.Texts.{decided_text}
 use Rattle.cargo_toml_lint.specs.Findings.{IsCyclic, IsUnreachable, is_hidden}
-use Rattle.cargo_toml_lint.specs.Steps.{IsReached, Leads, TellsEnablers}
+use Rattle.cargo_toml_lint.specs.Steps.{IsReached, LeadsShown, TellsEnablers}
 use Rattle.cargo_toml_lint.proofs.Gathered.{Gathers, Itself, has_in, passed}
 
 -- ---- what a feature enables
@@ -221,7 +221,7 @@ module _ (t : Table) where
   pub leads_more : (k : Text) (s n : BTreeSet (Bor Text)) → IsFalse (is_hidden k)
       → ((x : Text) → IsTrue (set_has n x)
       ↔ (IsTrue (set_has s x) ⊎ (IsTrue (t.has k) × Enables t k x)))
-      → (x : Text) → IsTrue (set_has n x) ↔ (IsTrue (set_has s x) ⊎ Leads t k x)
+      → (x : Text) → IsTrue (set_has n x) ↔ (IsTrue (set_has s x) ⊎ LeadsShown t k x)
   leads_more k s n kept put x = (
     λ h. elim ((put x).0 h) [ inl o ↦ inl o | inr e ↦ inr (e.0, kept, e.1) ],
     elim [ inl o ↦ (put x).1 (inl o) | inr e ↦ (put x).1 (inr (e.0, e.2)) ],

@@ -39,11 +39,11 @@ pub record TellsEnablers (m : Resolution) : Type 0 where
       → IsTrue (m.enabled_by f e)
 
 -- k is a feature of the table that isn't hidden, and enables x
-abbrev pub Leads : Table → Text → Text → Type 0
-Leads t k x = IsTrue (t.has k) × IsFalse (is_hidden k) × Enables t k x
+abbrev pub LeadsShown : Table → Text → Text → Type 0
+LeadsShown t k x = IsTrue (t.has k) × IsFalse (is_hidden k) × Enables t k x
 
 abbrev pub IsReached : Table → Text → Type 0
-IsReached t x = (k : Text) × Leads t k x
+IsReached t x = (k : Text) × LeadsShown t k x
 
 module _ {S : Type 0} (m : HashMap (Bor Text) Feature S) where
   abbrev pub explicit_at : Text → Bool

@@ -15,7 +15,7 @@ use Rattle.cargo_toml.specs.Dependencies.{DependencyMeaning, package_of}
 use Rattle.cargo_toml.specs.InheritedDependencies.{Entries}
 use Rattle.cargo_toml.specs.Kind.{Kind}
 use Rattle.cargo_toml.specs.Targets.{TargetMeaning}
-use Rattle.cargo_toml_tools.specs.IndexEntries.{asked_features, entries_among, entries_of, index_rows, place_rows, registry_of, renamed, renamed_rows, tables_entries, wanted_rows}
+use Rattle.cargo_toml_tools.specs.IndexEntries.{asked_features, entries_among, index_entries, index_rows, place_rows, registry_of, renamed, renamed_rows, tables_entries, wanted_rows}
 use Rattle.cargo_toml_tools.specs.IndexFeatures.{feature_rows, is_chosen, list_rows, lists_rows, second_rows}
 use Rattle.cargo_toml_tools.specs.Indexed.{lacks_version, target_by_kind, with_kinds}
 use Rattle.cargo_toml_tools.specs.IndexLines.{line_data, line_rows}
@@ -81,7 +81,7 @@ entry_floatless kind target e =
     (or_from (has_float (text_or_null target)) (has_float (text_or_null (registry_of e.1)) || false) (or_null_floatless target)
     (or_from (has_float (text_or_null (registry_of e.1))) false (or_null_floatless (registry_of e.1)) refl)))
 
-one_floatless : (kind : Kind) (target : Option Text) (e : Text × DependencyMeaning) → list_any has_float (entries_of kind target e) ≡ false
+one_floatless : (kind : Kind) (target : Option Text) (e : Text × DependencyMeaning) → list_any has_float (index_entries kind target e) ≡ false
 one_floatless kind target e = by_version (lacks_version e.1)
   where
     by_version : (b : Bool) → list_any has_float (if b then [] else object (with_rows (index_rows kind target e) no_members) ∷ []) ≡ false
@@ -92,10 +92,10 @@ one_floatless kind target e = by_version (lacks_version e.1)
 
 tables_floatless : (target : Option Text) (ts : List (Kind × Entries)) → list_any has_float (tables_entries target ts) ≡ false
 tables_floatless target ts =
-    any_flat has_float (λ (t : Kind × Entries). flat_map (entries_of t.0 target) t.1) ts
-    ∙ none_passes (λ (t : Kind × Entries). list_any has_float (flat_map (entries_of t.0 target) t.1)) ts
-    (λ (t : Kind × Entries). any_flat has_float (entries_of t.0 target) t.1
-    ∙ none_passes (λ e. list_any has_float (entries_of t.0 target e)) t.1 (one_floatless t.0 target))
+    any_flat has_float (λ (t : Kind × Entries). flat_map (index_entries t.0 target) t.1) ts
+    ∙ none_passes (λ (t : Kind × Entries). list_any has_float (flat_map (index_entries t.0 target) t.1)) ts
+    (λ (t : Kind × Entries). any_flat has_float (index_entries t.0 target) t.1
+    ∙ none_passes (λ e. list_any has_float (index_entries t.0 target e)) t.1 (one_floatless t.0 target))
 
 entries_floatless : (normal dev build : Entries) (ts : List (Text × TargetMeaning)) → list_any has_float (entries_among normal dev build ts) ≡ false
 entries_floatless normal dev build ts =

@@ -82,13 +82,13 @@ index_rows kind target e =
     ++ (place_rows kind target ++ (codes "registry", text_or_null (registry_of e.1)) ∷ []))
 
 -- the entry, unless the dependency has a path or a repository and no version: it is for tests then
-abbrev pub entries_of : Kind → Option Text → Text × DependencyMeaning → List Data
-entries_of kind target e =
+abbrev pub index_entries : Kind → Option Text → Text × DependencyMeaning → List Data
+index_entries kind target e =
     if lacks_version e.1 then [] else object (with_rows (index_rows kind target e) no_members) ∷ []
 
 -- those of one table, and of all tables of a package or a target
 abbrev pub table_entries : Kind → Option Text → Entries → List Data
-table_entries kind target es = flat_map (entries_of kind target) es
+table_entries kind target es = flat_map (index_entries kind target) es
 
 abbrev pub tables_entries : Option Text → List (Kind × Entries) → List Data
 tables_entries target ts = flat_map (λ t. table_entries t.0 target t.1) ts

@@ -71,14 +71,14 @@ overall_of workspace audit =
 -- of a workspace's manifest at a path, with this table, which is seen at another path
 module _ (root : Manifest Value) (path : Text) (workspace : Workspace Value) (seen : Text) where
   -- a folder is refused, in the words of such a fault
-  pub record IsRefusal (folder : Text) (o : Oddity) : Type 0 where
+  pub record IsFolderRefusal (folder : Text) (o : Oddity) : Type 0 where
     pub fault : Error
     pub why : IsMemberFault root path (manifest_path seen folder) fault
     pub words : IsRefusedFor fault folder o
 
   -- what may be found of a folder: that it is refused, or a difference
   abbrev pub IsOfFolder : Text → Oddity → Type 0
-  IsOfFolder folder o = IsRefusal folder o ⊎ IsDifference root path workspace folder o
+  IsOfFolder folder o = IsFolderRefusal folder o ⊎ IsDifference root path workspace folder o
 
   module _ (listing : Members) where
     -- what may be found by a listing: of itself, of a folder in it, or of all members

@@ -11,7 +11,7 @@ use Rattle.cargo_toml_dependencies.specs.Details.{Detail, detail_of}
 use Rattle.cargo_toml_parts.specs.declared.error.Error.{Error}
 use Rattle.cargo_toml_parts.specs.Reads.{map_meaning, pairs_meaning}
 use Rattle.cargo_toml_write.specs.Ways.{texts_way}
-use Rattle.cargo_toml_write.specs.WrittenFeatures.{detail_at, feature_way, told_features}
+use Rattle.cargo_toml_write.specs.WrittenFeatures.{detail_under, feature_way, told_features}
 use Rattle.cargo_toml_write.specs.Writes.{IsWriting}
 use Rattle.cargo_toml_write.proofs.Entries.{meant}
 
@@ -26,12 +26,12 @@ choose true x r s e = refl
 choose false x r s e = e
 
 in_entries : (name : List ℕ) (es : List (String Global × FeatureDetail))
-    → detail_at name (pairs_meaning detail_of es) ≡ option_map detail_of (lookup (is_at (λ k. slice_cmp nat_cmp name (string_bytes k))) es)
+    → detail_under name (pairs_meaning detail_of es) ≡ option_map detail_of (lookup (is_at (λ k. slice_cmp nat_cmp name (string_bytes k))) es)
 in_entries name [] = refl
 in_entries name (e ∷ es) = rw (is_eq-slice_cmp name (string_bytes e.0)) (choose (bytes_eq name (string_bytes e.0)) e.1 _ _ (in_entries name es))
 
 pub detail_at-map : (name : List ℕ) (m : BTreeMap (String Global) FeatureDetail)
-    → detail_at name (map_meaning detail_of m) ≡ option_map detail_of (get_by (λ k. slice_cmp nat_cmp name (string_bytes k)) m)
+    → detail_under name (map_meaning detail_of m) ≡ option_map detail_of (get_by (λ k. slice_cmp nat_cmp name (string_bytes k)) m)
 detail_at-map name m = in_entries name m.entries
 
 abbrev pub Feature : Type 0
@@ -40,7 +40,7 @@ Feature = String Global × Vec (String Global) Global
 module _ (details : List (List ℕ × Detail)) where
   -- a feature, with what is said of it
   abbrev pub with_detail : Feature → List (List ℕ) × Option Detail
-  with_detail f = (map string_bytes f.1.items, detail_at (string_bytes f.0) details)
+  with_detail f = (map string_bytes f.1.items, detail_under (string_bytes f.0) details)
 
   -- features as the values of their names
   abbrev pub by_name : List Feature → List (String Global × Feature)

@@ -18,7 +18,7 @@ use Rattle.cargo_toml_parts.specs.Floats.{has_no_float}
 use Rattle.cargo_toml_parts.specs.Reads.{is_among, list_of, given_at, optional_of, others_read, required_of, required_at}
 use Rattle.cargo_toml_parts.specs.Versions.{requirement_of}
 use Rattle.cargo_toml_write.specs.Floatless.{table_floatless}
-use Rattle.cargo_toml_write.specs.Requirements.{IsReadFromText}
+use Rattle.cargo_toml_write.specs.Requirements.{CanBeRead}
 use Rattle.cargo_toml_write.specs.Ways.{requirement_way, text_way, texts_way, truth_way, unless_missing}
 use Rattle.cargo_toml_write.specs.WrittenDependencies.{inherited_rows, inherited_way, known_rows, detail_rows, detail_way, inherited_reads, detail_reads, DetailAgain}
 use Rattle.cargo_toml_write.specs.WrittenLints.{members_of}
@@ -29,10 +29,10 @@ use Rattle.cargo_toml_write.proofs.Gives.{Gives, gives_some, bind, skip}
 use Rattle.cargo_toml_write.proofs.ReadAgain.{ReadsAs, Got, Holds, got, holds, optional_again, required_again, given_again, flag_again, text_again, texts_again, no_texts}
 use Rattle.cargo_toml_write.proofs.SpelledAgain.{spelled_again}
 
-pub requirement_again : (r : List Held) → IsReadFromText r → ReadsAs requirement_way requirement_of r r
+pub requirement_again : (r : List Held) → CanBeRead r → ReadsAs requirement_way requirement_of r r
 requirement_again r (text, h) d is = ap requirement_of is ∙ ap result_ok (spelled_again text r h)
 
-version_read : (x : Option (List Held)) (o : Option Data) → IfSome x IsReadFromText → IsHeld requirement_way x o → optional_of requirement_of o ≡ Some x
+version_read : (x : Option (List Held)) (o : Option Data) → IfSome x CanBeRead → IsHeld requirement_way x o → optional_of requirement_of o ≡ Some x
 version_read None o again is = ap (optional_of requirement_of) is
 version_read (Some r) None again is = absurd is
 version_read (Some r) (Some d) again is = ap (option_map Some) (requirement_again r again d is)
@@ -115,7 +115,7 @@ not_strict x ms read none =
     let told : Told ms x = (collected_told ms).each x read in
     stops _ _ (ap (required_of as_bool) (other_member detail_keys (codes "workspace") ms x.unstable refl told) ∙ none)
 
-pub simple_again : (r : List Held) → IsReadFromText r → ReadsAs requirement_way dependency_of r (simple r)
+pub simple_again : (r : List Held) → CanBeRead r → ReadsAs requirement_way dependency_of r (simple r)
 unfolding dependency_of
 simple_again r (text, h) d is = ap dependency_of is ∙ ap (λ o. option_map simple (result_ok o)) (spelled_again text r h)
 

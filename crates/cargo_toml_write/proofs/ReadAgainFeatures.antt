@@ -19,7 +19,7 @@ use Rattle.cargo_toml_parts.proofs.Steps.{then}
 use Rattle.cargo_toml_parts.specs.Reads.{is_among, list_of, map_of, members_reads}
 use Rattle.cargo_toml_write.specs.Ways.{entry_rows, is_nil, map_way, text_way, texts_way}
 use Rattle.cargo_toml_write.specs.Writes.{AreWritten, Way, put_member}
-use Rattle.cargo_toml_write.specs.WrittenFeatures.{AreTold, FeatureTree, detail_at, feature_way, features_in, features_way, told_features, told_rows}
+use Rattle.cargo_toml_write.specs.WrittenFeatures.{AreTold, FeatureTree, detail_under, feature_way, features_in, features_way, told_features, told_rows}
 use Rattle.cargo_toml_write.specs.WrittenManifests.{all_features, manifest_rows, manifest_way}
 use Rattle.cargo_toml_manifest.specs.Manifests.{ManifestMeaning}
 use Rattle.cargo_toml_write.proofs.ReadAgain.{ReadsAs, flag_again, given_again, got, no_texts, optional_again, text_again, texts_again}
@@ -127,7 +127,7 @@ below_lower k l [] lt all = tt
 below_lower k l (n ∷ names) lt all = (nat_list_cmp_total.trans k l n lt all.0, below_lower k l names lt all.1)
 
 -- nothing is said of a name that is below those of which something is
-nothing_said : (name : List ℕ) (es : List (List ℕ × Detail)) → AreAbove name (keys_of es) → detail_at name es ≡ None
+nothing_said : (name : List ℕ) (es : List (List ℕ × Detail)) → AreAbove name (keys_of es) → detail_under name es ≡ None
 nothing_said name [] h = refl
 nothing_said name (e ∷ es) h = rw (below_apart name e.0 h.0) (nothing_said name es h.1)
 
@@ -135,8 +135,8 @@ nothing_said name (e ∷ es) h = rw (below_apart name e.0 h.0) (nothing_said nam
 said_past : (fs : List (List ℕ × List (List ℕ))) (e : List ℕ × Detail) (es : List (List ℕ × Detail)) → AreAbove e.0 (keys_of fs) → told_features (fs, e ∷ es) ≡ told_features (fs, es)
 said_past [] e es h = refl
 said_past (f ∷ fs) e es h =
-    ap (λ (b : Bool). (f.0, (f.1, cond b (Some e.1) (detail_at f.0 es))) ∷ told_features (fs, e ∷ es)) (above_apart e.0 f.0 h.0)
-    ∙ ap (λ (rest : Beside). (f.0, (f.1, detail_at f.0 es)) ∷ rest) (said_past fs e es h.1)
+    ap (λ (b : Bool). (f.0, (f.1, cond b (Some e.1) (detail_under f.0 es))) ∷ told_features (fs, e ∷ es)) (above_apart e.0 f.0 h.0)
+    ∙ ap (λ (rest : Beside). (f.0, (f.1, detail_under f.0 es)) ∷ rest) (said_past fs e es h.1)
 
 -- a name among those above another is above it
 named_at : (b : Bool) (name m n : List ℕ) (names : List (List ℕ)) → bytes_eq m n ≡ b → slice_cmp nat_cmp name m ≡ Less → IsTrue (cond b true (is_among names n))
@@ -179,7 +179,7 @@ kept false e es h = refl
 
 details_at : (b : Bool) (f : List ℕ × List (List ℕ)) (fs : List (List ℕ × List (List ℕ))) (e : List ℕ × Detail) (es : List (List ℕ × Detail)) → bytes_eq f.0 e.0 ≡ b
     → AreAbove f.0 (keys_of fs) → AreAbove e.0 (keys_of es) → Ascend (keys_of es) → AreNamed (f.0 ∷ keys_of fs) (e ∷ es) → AreSaid (e ∷ es) → Again fs
-    → details_of ((f.0, (f.1, said (cond b (Some e.1) (detail_at f.0 es)))) ∷ joined fs (e ∷ es)) ≡ e ∷ es
+    → details_of ((f.0, (f.1, said (cond b (Some e.1) (detail_under f.0 es)))) ∷ joined fs (e ∷ es)) ≡ e ∷ es
 unfolding IsStrictlySortedBy
 details_at true f fs e es same above rest ascend named told again =
     let equal : f.0 ≡ e.0 = (bytes_eq-Decides f.0 e.0).0 same in

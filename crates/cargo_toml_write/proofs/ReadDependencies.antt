@@ -10,24 +10,24 @@ use Rattle.toml.specs.Data.{Data, string, table, Members, no_members, member, ge
 use Rattle.cargo_toml_dependencies.specs.Dependencies.{InheritedMeaning, DetailMeaning, DependencyMeaning, simple, inherited, detailed, strict_of, inherited_or, detail_keys, detail_of_table, dependency_of}
 use Rattle.cargo_toml_parts.specs.Reads.{is_among, flag_at, list_at, optional_at, optional_of, others_read, required_at, required_of}
 use Rattle.cargo_toml_parts.specs.Versions.{requirement_of}
-use Rattle.cargo_toml_write.specs.Requirements.{IsReadFromText}
+use Rattle.cargo_toml_write.specs.Requirements.{CanBeRead}
 use Rattle.cargo_toml_write.specs.WrittenDependencies.{DetailAgain, DependencyAgain}
 use Rattle.cargo_toml_write.specs.WrittenLints.{members_of}
 use Rattle.cargo_toml_write.proofs.EntriesAgain.{other_member}
 use Rattle.cargo_toml_write.proofs.Gives.{Gives, gives_none, gives_some, bind, skip, mapped}
 
 -- a requirement
-from_text : (text : List ℕ) (r : Result (List Held) Error) → req_of text ≡ r → Gives IsReadFromText (result_ok r)
-from_text text (Ok held) e = gives_some {P = IsReadFromText} held (text, e)
+from_text : (text : List ℕ) (r : Result (List Held) Error) → req_of text ≡ r → Gives CanBeRead (result_ok r)
+from_text text (Ok held) e = gives_some {P = CanBeRead} held (text, e)
 from_text text (Err e) h = gives_none
 
-of_tree : (d : Data) → Gives IsReadFromText (requirement_of d)
+of_tree : (d : Data) → Gives CanBeRead (requirement_of d)
 of_tree (string s) = from_text s (req_of s) refl
 of_tree d = gives_none
 
-of_version : (o : Option Data) → Gives (λ v. IfSome v IsReadFromText) (optional_of requirement_of o)
-of_version None = gives_some {P = λ v. IfSome v IsReadFromText} None tt
-of_version (Some d) = mapped {Q = IsReadFromText} {P = λ v. IfSome v IsReadFromText} (requirement_of d) (λ v. Some v) (of_tree d) (λ v h. h)
+of_version : (o : Option Data) → Gives (λ v. IfSome v CanBeRead) (optional_of requirement_of o)
+of_version None = gives_some {P = λ v. IfSome v CanBeRead} None tt
+of_version (Some d) = mapped {Q = CanBeRead} {P = λ v. IfSome v CanBeRead} (requirement_of d) (λ v. Some v) (of_tree d) (λ v h. h)
 
 -- what is collected has other keys than a detail knows
 abbrev AreOthers : List (List ℕ × Data) → Type 0
@@ -43,13 +43,13 @@ others no_members = gives_some {P = AreOthers} [] tt
 others (member k d ms) = one_other (is_among detail_keys k) k d _ refl (others ms)
 
 -- a detail
-detail_last : (x : DetailMeaning) → IfSome x.version IsReadFromText → AreOthers x.unstable → x.inherited ≡ false → Gives DetailAgain (Some x)
+detail_last : (x : DetailMeaning) → IfSome x.version CanBeRead → AreOthers x.unstable → x.inherited ≡ false → Gives DetailAgain (Some x)
 detail_last x version apart not_inherited =
     gives_some {P = DetailAgain} x (record { version = version; not_inherited = not_inherited; apart = All-from_recursion _ x.unstable apart })
 
 detail_told : (ms : Members) → Gives DetailAgain (detail_of_table ms)
 detail_told ms =
-    let version : Gives (λ v. IfSome v IsReadFromText) (optional_at "version" requirement_of ms) = of_version (get_member (codes "version") ms) in
+    let version : Gives (λ v. IfSome v CanBeRead) (optional_at "version" requirement_of ms) = of_version (get_member (codes "version") ms) in
     let collected : Gives AreOthers (others_read detail_keys (λ d. Some d) ms) = others ms in
     search (bind, skip, detail_last) depth 60 fits 4000
 
@@ -87,7 +87,7 @@ detailed_told ms strict = record { each = λ x e. ((detail_told ms).each x e, no
 
 -- a dependency
 abbrev ToldAgain : DependencyMeaning → Type 0
-ToldAgain (simple r) = IsReadFromText r
+ToldAgain (simple r) = CanBeRead r
 ToldAgain (inherited i) = Unit {0}
 ToldAgain (detailed x) = DependencyAgain (detailed x)
 
@@ -100,6 +100,6 @@ of_table ms = of_either (strict_of ms) (detail_of_table ms) (detailed_told ms)
 
 pub read_again_told : (d : Data) → Gives ToldAgain (dependency_of d)
 unfolding dependency_of
-read_again_told (string s) = mapped {Q = IsReadFromText} {P = ToldAgain} (result_ok (req_of s)) simple (from_text s (req_of s) refl) (λ x p. p)
+read_again_told (string s) = mapped {Q = CanBeRead} {P = ToldAgain} (result_ok (req_of s)) simple (from_text s (req_of s) refl) (λ x p. p)
 read_again_told (table ms) = of_table ms
 read_again_told d = gives_none

@@ -47,5 +47,5 @@ requirement_text [] = codes "*"
 requirement_text (c ∷ cs) = comparator_text c ++ flat_map (λ d. codes ", " ++ comparator_text d) cs
 
 -- some text is read as these comparators
-abbrev pub IsReadFromText : List Held → Type 0
-IsReadFromText held = (text : List ℕ) × (req_of text ≡ Ok held)
+abbrev pub CanBeRead : List Held → Type 0
+CanBeRead held = (text : List ℕ) × (req_of text ≡ Ok held)

@@ -9,7 +9,7 @@ use Rattle.cargo_toml_dependencies.specs.Dependencies as kind
 use Rattle.cargo_toml_dependencies.specs.Targets.{TargetMeaning}
 use Rattle.cargo_toml_parts.specs.declared.error.Error.{Error}
 use Rattle.cargo_toml_parts.specs.Reads.{is_among, required_at}
-use Rattle.cargo_toml_write.specs.Requirements.{IsReadFromText}
+use Rattle.cargo_toml_write.specs.Requirements.{CanBeRead}
 use Rattle.cargo_toml_write.specs.Ways.{text_way, texts_way, requirement_way}
 use Rattle.cargo_toml_write.specs.Ways.{free_way, map_way, entry_rows, flag_row}
 use Rattle.cargo_toml_write.specs.Writes.{Way, Row, required_row, optional_row}
@@ -78,7 +78,7 @@ detail_reads d = option_and_then detail_of_table (as_table d)
 -- when a detail is read again from what was written of it
 pub record DetailAgain (d : DetailMeaning) : Type 0 where
   -- some text is read as its requirement
-  pub version : IfSome d.version IsReadFromText
+  pub version : IfSome d.version CanBeRead
   -- it isn't marked as inherited, which is in no table
   pub not_inherited : d.inherited ≡ false
   -- it collected no key that it knows
@@ -86,7 +86,7 @@ pub record DetailAgain (d : DetailMeaning) : Type 0 where
 
 -- the same of a dependency: a table with a truth value at `workspace` reads as an inherited one
 abbrev pub DependencyAgain : DependencyMeaning → Type 0
-DependencyAgain (kind.simple r) = IsReadFromText r
+DependencyAgain (kind.simple r) = CanBeRead r
 DependencyAgain (kind.inherited i) = i.workspace ≡ true
 DependencyAgain (kind.detailed d) =
     DetailAgain d × (required_at "workspace" as_bool (members_of d.unstable) ≡ None)

@@ -41,13 +41,13 @@ feature_way = record {
 }
 
 -- the detail of a name
-abbrev pub detail_at : List ℕ → List (List ℕ × Detail) → Option Detail
-detail_at name [] = None
-detail_at name (e ∷ es) = if bytes_eq name e.0 then Some e.1 else detail_at name es
+abbrev pub detail_under : List ℕ → List (List ℕ × Detail) → Option Detail
+detail_under name [] = None
+detail_under name (e ∷ es) = if bytes_eq name e.0 then Some e.1 else detail_under name es
 
 -- each feature with its detail; those of other names are passed over
 abbrev pub told_features : FeaturesMeaning → List (List ℕ × (List (List ℕ) × Option Detail))
-told_features fs = map (λ f. (f.0, (f.1, detail_at f.0 fs.1))) fs.0
+told_features fs = map (λ f. (f.0, (f.1, detail_under f.0 fs.1))) fs.0
 
 -- the features of a manifest, which are left out where there is none
 abbrev pub features_way : Way FeaturesMeaning

@@ -3,7 +3,7 @@ ghost use Rattle.std.specs.Prelude.{◌≡◌, ◌++◌, [], IfOk, OnOk, map, st
 ghost use Rattle.std.specs.Option.{option_copied};
 ghost use Rattle.serde_json.specs.View.{members_view, view};
 ghost use Rattle.cargo_toml.specs.Dependencies.{dependency_meaning, package_of};
-ghost use Rattle.cargo_toml_tools.specs.IndexEntries.{address_of, entries_of, index_rows};
+ghost use Rattle.cargo_toml_tools.specs.IndexEntries.{address_of, index_entries, index_rows};
 ghost use Rattle.cargo_toml_tools.specs.IndexEntries.{has_default, kind_text, renamed_rows};
 ghost use Rattle.cargo_toml_tools.specs.IndexEntries.{place_rows, registry_of, renamed, req_text};
 ghost use Rattle.cargo_toml_tools.specs.IndexEntries.{required_version, wanted_rows};
@@ -38,7 +38,7 @@ pub(super) fn push_dependency(
     place: Place<'_>,
 ) -> Result<(), AllocError>
     ensures { OnOk result (map view entries.new.items ≡ map view entries.old.items
-        ++ entries_of place.entry.kind (option_copied place.entry.target)
+        ++ index_entries place.entry.kind (option_copied place.entry.target)
         (key.now, dependency_meaning dependency.now)) }
 {
     if lacks_version(dependency) {

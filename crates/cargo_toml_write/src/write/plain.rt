@@ -8,7 +8,7 @@ ghost use Rattle.cargo_toml_parts.specs.declared.error.Error.{Error};
 ghost use Rattle.cargo_toml_parts.specs.Versions.{Parts, requirement_meaning, requirement_of};
 ghost use Rattle.cargo_toml_write.specs.Floatless.{exactly_floatless, free_floatless};
 ghost use Rattle.cargo_toml_write.specs.Floatless.{requirement_floatless, word_floatless};
-ghost use Rattle.cargo_toml_write.specs.Requirements.{IsReadFromText};
+ghost use Rattle.cargo_toml_write.specs.Requirements.{CanBeRead};
 ghost use Rattle.cargo_toml_write.specs.Ways.{text_way, truth_way, number_way};
 ghost use Rattle.cargo_toml_write.specs.Ways.{version_way, requirement_way, free_way};
 ghost use Rattle.cargo_toml_write.specs.Writes.{IsReadAgain, IsWriting};
@@ -87,7 +87,7 @@ impl ToValue for VersionReq {
 
     fn to_value(&self, alloc: Global) -> Result<Value, Error>
         ensures written { IsWriting requirement_way (requirement_meaning self.now) result }
-        ensures read_again { IsReadFromText (requirement_meaning self.now)
+        ensures read_again { CanBeRead (requirement_meaning self.now)
             → IsReadAgain requirement_of (requirement_meaning self.now) result }
         ensures memory { IfErr result (λ e. e ≡ Error.Memory) }
     {

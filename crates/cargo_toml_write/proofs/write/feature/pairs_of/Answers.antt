@@ -4,7 +4,7 @@ use Rattle.toml.specs.View.{view}
 use Rattle.cargo_toml_dependencies.specs.Details.{Detail, detail_of}
 use Rattle.cargo_toml_parts.specs.Reads.{map_meaning}
 use Rattle.cargo_toml_write.specs.Floatless.{feature_floatless}
-use Rattle.cargo_toml_write.specs.WrittenFeatures.{detail_at, feature_way}
+use Rattle.cargo_toml_write.specs.WrittenFeatures.{detail_under, feature_way}
 use Rattle.cargo_toml_write.specs.Writes.{IsWriting}
 use Rattle.cargo_toml_write.proofs.Gathered.{Gathers, gather_start, gather_step, gather_end, gather_err}
 use Rattle.cargo_toml_write.proofs.GatheredFeatures.{by_name, detail_at-map, told-by_name, with_detail}
@@ -22,10 +22,10 @@ loop-name-preserved c =
     let name : List ℕ = string_bytes c.in-Some.name.now in
     let so_far = subst (λ rest. Gathers feature_way (with_detail details) (by_name details c.args.lists.now.entries) (by_name details rest) c.loop-name.pairs.items) c.in-Some.ensures.steps c.loop-name.invariant in
     let same : string_bytes c.in_ok-key.key ≡ name = search rules in
-    let said : option_map detail_of (option_copied c.get-detail.result) ≡ detail_at name details =
+    let said : option_map detail_of (option_copied c.get-detail.result) ≡ detail_under name details =
     ap (option_map detail_of) c.get-detail.ensures.value
     ∙ sym (detail_at-map c.as_str-in-loop-name.result.now c.args.details.now)
-    ∙ ap (λ (n : List ℕ). detail_at n details) c.as_str-in-loop-name.ensures.value in
+    ∙ ap (λ (n : List ℕ). detail_under n details) c.as_str-in-loop-name.ensures.value in
     let tree = subst (λ (o : Option Detail). feature_way.trees (map string_bytes c.in-Some.enables.now.items, o) (view c.in_ok-feature_value.field-0)) said c.in_ok-feature_value.ensures in
     gather_step feature_way (with_detail details) _ _ _ _ (c.in-Some.name.now, (c.in-Some.name.now, c.in-Some.enables.now)) c.in_ok-key.key c.in_ok-feature_value.field-0
     so_far tree (feature_floatless _ _ tree) same c.in_ok-push.ensures.items
@@ -35,10 +35,10 @@ returns-in_err-feature_value c =
     let details = map_meaning detail_of c.args.details.now in
     let name : List ℕ = string_bytes c.in-Some.name.now in
     let so_far = subst (λ rest. Gathers feature_way (with_detail details) (by_name details c.args.lists.now.entries) (by_name details rest) c.loop-name.pairs.items) c.in-Some.ensures.steps c.loop-name.invariant in
-    let said : option_map detail_of (option_copied c.get-detail.result) ≡ detail_at name details =
+    let said : option_map detail_of (option_copied c.get-detail.result) ≡ detail_under name details =
     ap (option_map detail_of) c.get-detail.ensures.value
     ∙ sym (detail_at-map c.as_str-in-loop-name.result.now c.args.details.now)
-    ∙ ap (λ (n : List ℕ). detail_at n details) c.as_str-in-loop-name.ensures.value in
+    ∙ ap (λ (n : List ℕ). detail_under n details) c.as_str-in-loop-name.ensures.value in
     let p = err_from_is_err_and c.from_residual-in_err-feature_value.result c.from_residual-in_err-feature_value.ensures.1 in
     let refused = subst (λ (o : Option Detail). IsWriting feature_way (map string_bytes c.in-Some.enables.now.items, o) (Err c.in_err-feature_value.field-0.0)) said c.in_err-feature_value.ensures in
     rw (p.1, p.2, ← told-by_name details c.args.lists.now.entries) (gather_err feature_way (with_detail details) _ _ c.loop-name.pairs.items (c.in-Some.name.now, (c.in-Some.name.now, c.in-Some.enables.now)) _ so_far refused)

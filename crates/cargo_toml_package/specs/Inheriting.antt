@@ -1,6 +1,7 @@
 -- What a package becomes whose fields are left to the workspace, and when none is left.
-use Rattle.std.specs.Prelude.{ℕ, List, ◌++◌, codes, Bool, false, not, ◌||◌, IsTrue, IsSome}
+use Rattle.std.specs.Prelude.{ℕ, List, [], ◌∷◌, ◌++◌, codes, Bool, false, not, IsTrue, IsSome}
 use Rattle.std.specs.Prelude.{if◌then◌else◌, Option, Some, option_map, Result, Ok, Err}
+use Rattle.std.specs.List.{list_any}
 use Rattle.std.specs.Option.{option_map_or}
 use Rattle.std.specs.Path.{path_join}
 use Rattle.cargo_toml_parts.specs.FaultValues.{Fault, workspace_integrity}
@@ -59,25 +60,29 @@ field_is_left field = not (is_set field)
 abbrev pub is_left_there : {A : Type 0} → Option (Inheritable A) → Bool
 is_left_there field = option_map_or field_is_left field false
 
+-- the keys that a package may leave, and whether it does
+abbrev pub leavable_rows : {M : Type 0} → PackageMeaning M → List (List ℕ × Bool)
+leavable_rows p =
+    (codes "version", field_is_left p.version)
+    ∷ (codes "edition", field_is_left p.edition)
+    ∷ (codes "authors", field_is_left p.authors)
+    ∷ (codes "categories", field_is_left p.categories)
+    ∷ (codes "exclude", field_is_left p.exclude)
+    ∷ (codes "include", field_is_left p.include)
+    ∷ (codes "keywords", field_is_left p.keywords)
+    ∷ (codes "publish", field_is_left p.publish)
+    ∷ (codes "readme", field_is_left p.readme)
+    ∷ (codes "description", is_left_there p.description)
+    ∷ (codes "documentation", is_left_there p.documentation)
+    ∷ (codes "homepage", is_left_there p.homepage)
+    ∷ (codes "license", is_left_there p.license)
+    ∷ (codes "license-file", is_left_there p.license_file)
+    ∷ (codes "repository", is_left_there p.repository)
+    ∷ (codes "rust-version", is_left_there p.rust_version) ∷ []
+
 -- whether some field is inherited
 abbrev pub any_field_left : {M : Type 0} → PackageMeaning M → Bool
-any_field_left p =
-    field_is_left p.version
-    || field_is_left p.edition
-    || is_left_there p.rust_version
-    || field_is_left p.authors
-    || is_left_there p.description
-    || is_left_there p.homepage
-    || is_left_there p.documentation
-    || field_is_left p.readme
-    || field_is_left p.keywords
-    || field_is_left p.categories
-    || field_is_left p.exclude
-    || field_is_left p.include
-    || is_left_there p.license
-    || is_left_there p.license_file
-    || is_left_there p.repository
-    || field_is_left p.publish
+any_field_left p = list_any (λ r. r.1) (leavable_rows p)
 
 -- every field is known that a workspace may give
 pub record IsFilled {M : Type 0} (p : Package M) : Type 0 where

@@ -182,20 +182,20 @@ fn any_stays<M>(package: &Package<M>, new: &NewFields) -> bool
 {
     stays(&package.version, &new.version)
         || stays(&package.edition, &new.edition)
-        || stays_there(&package.rust_version, &new.rust_version)
         || stays(&package.authors, &new.authors)
-        || stays_there(&package.description, &new.description)
-        || stays_there(&package.homepage, &new.homepage)
-        || stays_there(&package.documentation, &new.documentation)
-        || stays(&package.readme, &new.readme)
-        || stays(&package.keywords, &new.keywords)
         || stays(&package.categories, &new.categories)
         || stays(&package.exclude, &new.exclude)
         || stays(&package.include, &new.include)
+        || stays(&package.keywords, &new.keywords)
+        || stays(&package.publish, &new.publish)
+        || stays(&package.readme, &new.readme)
+        || stays_there(&package.description, &new.description)
+        || stays_there(&package.documentation, &new.documentation)
+        || stays_there(&package.homepage, &new.homepage)
         || stays_there(&package.license, &new.license)
         || stays_there(&package.license_file, &new.license_file)
         || stays_there(&package.repository, &new.repository)
-        || stays(&package.publish, &new.publish)
+        || stays_there(&package.rust_version, &new.rust_version)
 }
 
 /// Whether some field is left to the workspace. Where none is, each getter of the

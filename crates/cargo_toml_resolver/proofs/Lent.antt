@@ -1,6 +1,6 @@
 -- Facts of what is lent and of what is resolved beside it, as facts of both together.
 use Rattle.std.proofs.Common.{◌≡◌, ℕ, T, is_ok, Option, Some, Result, Ok, Err, IfOk, IfErr, IfSome, IsSome, OnErr, OnOk, refl, sym, ap, ◌∙◌, subst, inl, inr}
-use Rattle.std.specs.Prelude.{⊤}
+use Rattle.std.specs.Prelude.{⊤, is_some}
 use Rattle.std.specs.Borrow.{follows_so}
 use seplogic.Ra.Ura.{Ura}
 use mathlib.Core.Option.{none}
@@ -24,8 +24,8 @@ use Rattle.cargo_toml_features.specs.declared.features.Features.{Features}
 use Rattle.cargo_toml_features.specs.FirstTarget.{HaveTargets}
 use Rattle.cargo_toml_features.specs.Reached.{IsKeyed}
 use Rattle.cargo_toml_features.specs.Views.{answer_of}
-use Rattle.cargo_toml_resolver.specs.Lent.{with_lent, IsLeftAfter}
-use Rattle.cargo_toml_resolver.specs.Parsed.{IsParsedBy, IsResolvedFor}
+use Rattle.cargo_toml_resolver.specs.Lent.{with_lent, IsLeftAfter, IsResolvedAfter}
+use Rattle.cargo_toml_resolver.specs.Parsed.{AreBinsComplete, IsHiding, IsParsed, IsParsedBy, IsResolvedFor}
 
 -- where there is a success, `Memory` may still be the answer
 memory_after : {T U A : Type 0} (f : T → A) (g : U → A) (o : Outcome A) (t : T) (e : Error) → e ≡ Memory → Meets f o (Ok t) → Meets g o (Err e)
@@ -53,12 +53,21 @@ pub resolved_with : {X Y : Type 0} (P : X → Y → Type 0) (x : X) (r : Result 
 resolved_with P x (Ok y) h = h
 resolved_with P x (Err e) h = tt
 
--- three facts of what is resolved are one
+-- five facts of what is resolved are one
 pub resolved_for : {F S H M : Type 0} (limit : ℕ) (m : ManifestMeaning M) (g : Asked F) (filter : Option (Bor F)) (r : Result (Features S H) Error)
-    → IfOk r (λ a. IsParsedBy limit m g filter (answer_of a)) → IfOk r (λ a. IsKeyed a.features) → IfOk r (λ a. HaveTargets a.dependencies)
-    → IfOk r (IsResolvedFor limit m g filter)
-resolved_for limit m g filter (Ok a) parsed keyed targets = record { parsed = parsed; keyed = keyed; targets = targets }
-resolved_for limit m g filter (Err e) parsed keyed targets = tt
+    → IfOk r (λ a. IsParsedBy limit m g filter (answer_of a)) → IfOk r (λ a. IsHiding (IsParsed limit m (λ _. true)) (answer_of a))
+    → IfOk r (λ a. AreBinsComplete limit m (λ n. is_some ((answer_of a).redirects n)) (answer_of a))
+    → IfOk r (λ a. IsKeyed a.features) → IfOk r (λ a. HaveTargets a.dependencies) → IfOk r (IsResolvedFor limit m g filter)
+resolved_for limit m g filter (Ok a) parsed hiding bins keyed targets =
+    record { parsed = parsed; hiding = hiding; complete_bins = bins; keyed = keyed; targets = targets }
+resolved_for limit m g filter (Err e) parsed hiding bins keyed targets = tt
+
+-- and two facts of an answer that may be there
+pub answered_after : {M F S H : Type 0} (outcome : Outcome (ManifestMeaning M)) (limit : ℕ) (g : Asked F) (filter : Option (Bor F))
+    (o : Option (Result (Bor (Manifest M) × Features S H) Error)) → IfSome o (Meets (λ p. held p.0.now) outcome)
+    → IfSome o (λ r. IfOk r (λ p. IsResolvedFor limit (held p.0.now) g filter p.1)) → IfSome o (IsResolvedAfter outcome limit g filter)
+answered_after outcome limit g filter (Some r) completed features = record { completed = completed; features = features }
+answered_after outcome limit g filter None completed features = tt
 
 -- what is known of a lender's last value is known under a weaker relation too
 pub rests_so : {M : Type 1} {𝓤 : Ura M} (𝓛 : Logic 𝓤) (R : RattleType) (γ : GName) (P Q : R.Denot → Type 0) → ((n : R.Denot) → P n → Q n)

@@ -1,5 +1,5 @@
--- What is left of a manifest that is lent on, and what two answers in one are.
-use Rattle.std.specs.Prelude.{◌≡◌, ◌⊎◌, ⊤, Option, Some, None, Result, Ok, Err}
+-- What is left of a manifest that is lent on, and what two answers in one are and say.
+use Rattle.std.specs.Prelude.{◌≡◌, ◌⊎◌, ⊤, ℕ, Option, Some, None, Result, Ok, Err, IfOk}
 use Rattle.std.specs.Borrow.{Fml, MutBor, follows_so}
 use mathlib.Core.Option.{none}
 use denote.RattleType.{RattleType}
@@ -11,6 +11,11 @@ use Rattle.cargo_toml_manifest.specs.contracts.manifest.Manifest.{the_row}
 use Rattle.cargo_toml_manifest.specs.declared.manifest.Manifest.{Manifest}
 use Rattle.cargo_toml_manifest.specs.Choosing.{Handed, RootsTold}
 use Rattle.cargo_toml_manifest.specs.Completed.{IsCompleted}
+use Rattle.cargo_toml_manifest.specs.Completing.{Meets, Outcome}
+use Rattle.cargo_toml_manifest.specs.Manifests.{ManifestMeaning, held}
+use Rattle.cargo_toml_features.specs.declared.features.Features.{Features}
+use Rattle.cargo_toml_resolve.specs.Filter.{Asked}
+use Rattle.cargo_toml_resolver.specs.Parsed.{IsResolvedFor}
 
 -- where nothing was lent the manifest is as it was, and else as it was lent
 abbrev pub IsLeft : {M : Type 0} → Manifest M → Option (Bor (Manifest M)) → Manifest M → Type 0
@@ -52,3 +57,11 @@ abbrev pub IsLentAfter : (M : RattleType) {Y : Type 0} → MutBor (Manifest M.De
 IsLentAfter M manifest handed roots told answer =
     follows_so (the_row M) (the_row M) manifest.ghost_name none (λ _ _. ⊤)
     (IsLeftAfter manifest.now handed roots told answer)
+
+-- what comes of a manifest that is completed and then resolved: completing has this outcome, and
+-- the features are those of the manifest that is lent
+pub record IsResolvedAfter {M F S H : Type 0} (outcome : Outcome (ManifestMeaning M)) (limit : ℕ)
+    (g : Asked F) (filter : Option (Bor F)) (r : Result (Bor (Manifest M) × Features S H) Error)
+    : Type 0 where
+  pub completed : Meets (λ p. held p.0.now) outcome r
+  pub features : IfOk r (λ p. IsResolvedFor limit (held p.0.now) g filter p.1)

@@ -9,12 +9,10 @@ ghost use Rattle.cargo_toml_manifest.specs.Completed.{IsCompleted};
 ghost use Rattle.cargo_toml_manifest.specs.Completing.{Meets, complete};
 ghost use Rattle.cargo_toml_manifest.specs.Manifests.{held};
 ghost use Rattle.cargo_toml_manifest.specs.Refusing.{IsRefusedBy, MayLose};
-ghost use Rattle.cargo_toml_features.specs.FirstTarget.{HaveTargets};
-ghost use Rattle.cargo_toml_features.specs.Reached.{IsKeyed};
-ghost use Rattle.cargo_toml_features.specs.Views.{answer_of};
 ghost use Rattle.cargo_toml_resolver.specs.Filtered.{filter_of, limit_of};
-ghost use Rattle.cargo_toml_resolver.specs.Lent.{IsLentAfter, IsLentAs, IsLentOn, with_lent};
-ghost use Rattle.cargo_toml_resolver.specs.Parsed.{IsParsedBy, IsResolvedFor};
+ghost use Rattle.cargo_toml_resolver.specs.Lent.{IsLentAfter, IsLentAs, IsLentOn};
+ghost use Rattle.cargo_toml_resolver.specs.Lent.{IsResolvedAfter, with_lent};
+ghost use Rattle.cargo_toml_resolver.specs.Parsed.{IsResolvedFor};
 
 use crate::features::{Features, Resolver};
 use cargo_toml_manifest::{AbstractFilesystem, Manifest};
@@ -50,16 +48,14 @@ pub fn complete_and_parse_into<
         (λ lent. IsCompleted manifest.old (option_map handed_of workspace.entry)
         (roots_of Fs.Roots.ARE_READ (Fs.root_for fs)) (Fs.names_at fs) lent.now) }
     ensures memory { IfSome result (λ _. IfSome slot.new (λ r. IfErr r (λ e. e ≡ Memory))) }
-    ensures outcome { IfSome (with_lent result slot.new)
-        (Meets (λ p. held p.0.now)
+    ensures resolved { IfSome (with_lent result slot.new) (IsResolvedAfter
         (complete (held manifest.old) (option_map handed_of workspace.entry)
-        (roots_of Fs.Roots.ARE_READ (Fs.root_for fs)) (Fs.names_at fs))) }
+        (roots_of Fs.Roots.ARE_READ (Fs.root_for fs)) (Fs.names_at fs))
+        (limit_of resolver.now) F.Fn (filter_of resolver.now)) }
     ensures wrapped { IfSome (with_lent result slot.new) (λ r. IfErr r (IsRefusedBy
         (held manifest.old) (option_map handed_of workspace.entry)
         (roots_of Fs.Roots.ARE_READ (Fs.root_for fs))
         (MayLose Fs.Roots.ARE_READ (Fs.may_refuse_root fs)) (Fs.may_refuse fs))) }
-    ensures features { IfSome (with_lent result slot.new) (λ r. IfOk r (λ p. IsResolvedFor
-        (limit_of resolver.now) (held p.0.now) F.Fn (filter_of resolver.now) p.1)) }
 {
     match manifest.complete_from_abstract_filesystem(alloc, fs, workspace) {
         Ok(()) => {}
@@ -111,11 +107,9 @@ impl<'config, F: Fn(&str) -> bool, S: BuildHasher + Clone + Drop> Resolver<'conf
             (option_map handed_of workspace.entry)
             (roots_of Fs.Roots.ARE_READ (Fs.root_for fs))
             (MayLose Fs.Roots.ARE_READ (Fs.may_refuse_root fs)) (Fs.may_refuse fs)) }
-        ensures resolved { IfOk result
-            (λ p. IsParsedBy (limit_of self.now) (held p.0.now)
-            F.Fn (filter_of self.now) (answer_of p.1)) }
-        ensures keyed { IfOk result (λ p. IsKeyed p.1.features) }
-        ensures targets { IfOk result (λ p. HaveTargets p.1.dependencies) }
+        ensures features { IfOk result
+            (λ p. IsResolvedFor (limit_of self.now) (held p.0.now)
+            F.Fn (filter_of self.now) p.1) }
     {
         // The proof by hand walks through these lines, and names each local that they make: what
         // may change goes into `resolved`.
@@ -136,11 +130,9 @@ impl<'config, F: Fn(&str) -> bool, S: BuildHasher + Clone + Drop> Resolver<'conf
         ensures refused { IfErr completed (λ e. result ≡ Err e) }
         ensures memory { OnOk completed (IfErr result (λ e. e ≡ Memory)) }
         ensures lent { IfOk result (λ p. p.0 ≡ manifest.entry) }
-        ensures resolved { IfOk result
-            (λ p. IsParsedBy (limit_of self.now) (held p.0.now)
-            F.Fn (filter_of self.now) (answer_of p.1)) }
-        ensures keyed { IfOk result (λ p. IsKeyed p.1.features) }
-        ensures targets { IfOk result (λ p. HaveTargets p.1.dependencies) }
+        ensures features { IfOk result
+            (λ p. IsResolvedFor (limit_of self.now) (held p.0.now)
+            F.Fn (filter_of self.now) p.1) }
     {
         completed?;
         let features = self.parse(alloc, manifest)?;

@@ -1,15 +1,13 @@
 //! What the features of a manifest enable, and which features enable them.
 ghost use Rattle.std.specs.Prelude.{◌≡◌, ◌≤◌, [], None, Some};
-ghost use Rattle.std.specs.Prelude.{is_some, map, true, IfOk, IfErr, IsSome};
+ghost use Rattle.std.specs.Prelude.{is_some, map, true, IfOk, IfErr};
 ghost use Rattle.cargo_toml_parts.specs.declared.error.Error.{Memory};
 ghost use Rattle.cargo_toml_parts.specs.Reads.{map_meaning};
 ghost use Rattle.cargo_toml_dependencies.specs.Targets.{target_meaning};
 ghost use Rattle.cargo_toml_manifest.specs.Inheriting.{own_tables};
 ghost use Rattle.cargo_toml_manifest.specs.Manifests.{held};
 ghost use Rattle.cargo_toml_graph.specs.Admitted.{Listed, admitted};
-ghost use Rattle.cargo_toml_graph.specs.Kept.{NoneIsLeft};
 ghost use Rattle.cargo_toml_resolve.specs.Filter.{HasNameFilter, IsNameFilter};
-ghost use Rattle.cargo_toml_resolve.specs.Removed.{AgreesWithAll, IsAnswerBy};
 ghost use Rattle.cargo_toml_features.specs.declared.admit.TheConstants.{MAX_ITEMS};
 ghost use Rattle.cargo_toml_features.specs.Entries.{tables_meaning};
 ghost use Rattle.cargo_toml_features.specs.FirstTarget.{HaveTargets};
@@ -18,7 +16,7 @@ ghost use Rattle.cargo_toml_features.specs.Reached.{IsKeyed};
 ghost use Rattle.cargo_toml_features.specs.Views.{answer_of, entry_of};
 ghost use Rattle.cargo_toml_resolver.specs.Filtered.{filter_of, limit_of, state_of};
 ghost use Rattle.cargo_toml_resolver.specs.Parsed.{AreBinsComplete, IsAnswerFor, IsParsed};
-ghost use Rattle.cargo_toml_resolver.specs.Parsed.{IsHiding, IsParsedBy};
+ghost use Rattle.cargo_toml_resolver.specs.Parsed.{IsCustomAnswer, IsHiding, IsParsedBy};
 
 pub use crate::complete_and_parse::complete_and_parse_into;
 use crate::heap::keep_heap;
@@ -167,8 +165,6 @@ impl<'config, F: Fn(&str) -> bool, S: BuildHasher + Clone> Resolver<'config, F, 
         requires { HasNameFilter F.Fn (filter_of self.now) }
         ensures resolved { IfOk result (λ a. IsParsedBy (limit_of self.now)
             (held manifest.now) F.Fn (filter_of self.now) (answer_of a)) }
-        ensures no_removed_name { IfOk result (λ a.
-            NoneIsLeft (λ r. IsSome ((answer_of a).redirects r)) (answer_of a).resolution) }
         ensures hiding { IfOk result (λ a. IsHiding
             (IsParsed (limit_of self.now) (held manifest.now) (λ _. true))
             (answer_of a)) }
@@ -211,11 +207,8 @@ impl<'config, F: Fn(&str) -> bool, S: BuildHasher + Clone> Resolver<'config, F, 
     ) -> Result<Features<'m, 'd, S>, Error>
         requires { HasNameFilter F.Fn (filter_of self.now) }
         ensures resolved { IfOk result (λ a. (listed : Listed) → IsListingOf features.now listed
-            → IsAnswerBy F.Fn (filter_of self.now) (admitted (limit_of self.now) listed)
-            (map entry_of dependencies.now) [] (λ _. []) (answer_of a)) }
-        ensures agreement { IfOk result (λ b. (listed : Listed) → IsListingOf features.now listed
-            → AgreesWithAll F.Fn (filter_of self.now) (admitted (limit_of self.now) listed)
-            (map entry_of dependencies.now) (answer_of b)) }
+            → IsCustomAnswer F.Fn (filter_of self.now) (admitted (limit_of self.now) listed)
+            (map entry_of dependencies.now) (answer_of a)) }
         ensures hiding { IfOk result (λ a. (listed : Listed) → IsListingOf features.now listed
             → IsHiding (IsAnswerFor (limit_of self.now) listed (map entry_of dependencies.now) []
             (λ _. []) (λ _. true)) (answer_of a)) }

@@ -4,36 +4,15 @@ use Rattle.std.specs.List.{flat_map}
 use Rattle.std.specs.Option.{option_map_or}
 use Rattle.cargo_toml.specs.Action.{Text}
 use Rattle.cargo_toml.specs.InheritedDependencies.{Entries, is_left}
-use Rattle.cargo_toml.specs.InheritedPackages.{field_is_left, is_left_there}
+use Rattle.cargo_toml.specs.InheritedPackages.{field_is_left, leavable_rows}
 use Rattle.cargo_toml.specs.Kind.{Kind}
 use Rattle.cargo_toml.specs.Kind.TheVariants.{Build, Dev, Normal}
 use Rattle.cargo_toml.specs.Manifests.{ManifestMeaning}
-use Rattle.cargo_toml.specs.Packages.{PackageMeaning}
 use Rattle.cargo_toml_tools.specs.Indexed.{all_by_kind}
 
 -- the keys of the rows that are left to the workspace
 abbrev pub left_rows : List (Text × Bool) → List Text
 left_rows rows = map (λ r. r.0) (filter (λ r. r.1) rows)
-
--- the keys that a package may leave, and whether it does
-abbrev pub leavable_rows : {M : Type 0} → PackageMeaning M → List (Text × Bool)
-leavable_rows p =
-    (codes "version", field_is_left p.version)
-    ∷ (codes "edition", field_is_left p.edition)
-    ∷ (codes "authors", field_is_left p.authors)
-    ∷ (codes "categories", field_is_left p.categories)
-    ∷ (codes "exclude", field_is_left p.exclude)
-    ∷ (codes "include", field_is_left p.include)
-    ∷ (codes "keywords", field_is_left p.keywords)
-    ∷ (codes "publish", field_is_left p.publish)
-    ∷ (codes "readme", field_is_left p.readme)
-    ∷ (codes "description", is_left_there p.description)
-    ∷ (codes "documentation", is_left_there p.documentation)
-    ∷ (codes "homepage", is_left_there p.homepage)
-    ∷ (codes "license", is_left_there p.license)
-    ∷ (codes "license-file", is_left_there p.license_file)
-    ∷ (codes "repository", is_left_there p.repository)
-    ∷ (codes "rust-version", is_left_there p.rust_version) ∷ []
 
 -- the keys of the package, and then `lints`
 abbrev pub left_fields : {M : Type 0} → ManifestMeaning M → List Text

@@ -4,14 +4,14 @@ ghost use Rattle.std.specs.Prelude.{map, option_map, string_bytes};
 ghost use Rattle.std.specs.Option.{option_map_or};
 ghost use Rattle.cargo_toml.specs.Dependencies.{dependency_meaning};
 ghost use Rattle.cargo_toml.specs.InheritedDependencies.{is_left};
-ghost use Rattle.cargo_toml.specs.InheritedPackages.{is_left_there};
+ghost use Rattle.cargo_toml.specs.InheritedPackages.{is_left_there, leavable_rows};
 ghost use Rattle.cargo_toml.specs.Manifests.{held};
 ghost use Rattle.cargo_toml.specs.Packages.{held_package};
 ghost use Rattle.cargo_toml_dependencies.specs.Replacing.{entries_meaning};
 ghost use Rattle.cargo_toml_tools.specs.Checked.{own_by_kind};
 ghost use Rattle.cargo_toml_tools.specs.Indexed.{all_by_kind};
 ghost use Rattle.cargo_toml_tools.specs.LeftKeys.{left_fields, left_in, left_in_tables};
-ghost use Rattle.cargo_toml_tools.specs.LeftKeys.{leavable_rows, left_rows};
+ghost use Rattle.cargo_toml_tools.specs.LeftKeys.{left_rows};
 ghost use Rattle.cargo_toml_tools.specs.Noted.{GainsKeys, inherited_in, inherited_in_all};
 
 use crate::tables::Tables;

@@ -15,10 +15,10 @@ returns-in-Some-Ok-clause-answer g c =
     let resolved = c.in-Some-Ok.resolved in
     let member = into.follows.lender-at-none in
     let parsed : IsParsed MAX_ITEMS (held member) (λ _. false) (answer_of resolved) =
-    parsed_of_left c.args.member.now member _ resolver.should_keep_hidden_feature
+    parsed_of_left c.args.member.now member _ _ resolver.should_keep_hidden_feature
     resolver.max_items made.unfiltered made.limit into.result into.new.slot resolved
     into.follows.holds-at-none (c.in-Some-Ok.is ∙ ap Some c.in-Some-Ok.field-0-is)
-    into.ensures.answered into.ensures.features in
+    into.ensures.answered into.ensures.resolved in
     IfOk-weaker c.enables_among.result _ _ (λ answer told. record {
       resolved = answer_of resolved;
       parsed = parsed;

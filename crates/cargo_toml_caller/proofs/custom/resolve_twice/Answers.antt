@@ -16,7 +16,7 @@ returns-clause-agree g c = λ is same.
     let limit = limit_of c.new-resolver.result in
     let tells = keeps_none _ c.new-resolver.result.should_keep_hidden_feature made.unfiltered in
     let entries = same ∙ ap (λ n. parsed_entries n m) (sym made.limit) in
-    (c.in_ok-custom.ensures.agreement m.features is).by_test (λ _. false) m.feature_details own a
+    (c.in_ok-custom.ensures.resolved m.features is).agreement.by_test (λ _. false) m.feature_details own a
     tells (subst (λ es. IsAnswerFor limit m.features es m.feature_details own (λ _. false) a) (sym entries)
     (c.in_ok-parsed.ensures.resolved.told (λ _. false) tells))
 
@@ -32,4 +32,4 @@ returns-clause-custom g c = λ listed is.
     let made = c.new-resolver.ensures in
     answered_unfiltered _ c.new-resolver.result.should_keep_hidden_feature made.unfiltered made.limit
     (answer_of c.in_ok-custom.custom) listed (map entry_of c.args.dependencies.now) [] (λ _. [])
-    (c.in_ok-custom.ensures.resolved listed is)
+    (c.in_ok-custom.ensures.resolved listed is).answered

@@ -3,7 +3,7 @@ use Rattle.cargo_toml_manifest.specs.Manifests.{held}
 use Rattle.cargo_toml_resolver.specs.Filtered.{filter_of, limit_of}
 use Rattle.cargo_toml_resolver.specs.Parsed.{IsResolvedFor}
 use Rattle.cargo_toml_manifest.proofs.Meeting.{refused_again}
-use Rattle.cargo_toml_resolver.proofs.Lent.{is_answered, outcome_with, wrapped_with, resolved_for, resolved_with}
+use Rattle.cargo_toml_resolver.proofs.Lent.{answered_after, is_answered, outcome_with, wrapped_with, resolved_for, resolved_with}
 use Rattle.cargo_toml_resolver.proofs.complete_and_parse.complete_and_parse_into.Goals as goal
 
 pub returns-in-Err : goal.returns-in-Err
@@ -14,9 +14,8 @@ returns-in-Err g c = (
     answered = refl;
     completed = tt;
     memory = tt;
-    outcome = refused_again _ _ _ _ c.in-Err.ensures.outcome;
+    resolved = record { completed = refused_again _ _ _ _ c.in-Err.ensures.outcome; features = tt };
     wrapped = c.in-Err.ensures.wrapped;
-    features = tt;
   },
 )
 
@@ -32,9 +31,10 @@ returns g c =
         answered = is_answered _ r;
         completed = c.in-Ok.ensures.completed;
         memory = resolved.refused;
-        outcome = outcome_with _ (λ m. held m.now) _ _ _ r refl c.in-Ok.ensures.outcome resolved.refused;
+        resolved = answered_after _ limit g.F.Fn filter _
+            (outcome_with _ (λ m. held m.now) _ _ _ r refl c.in-Ok.ensures.outcome resolved.refused)
+            (resolved_with (λ m a. IsResolvedFor limit (held m.now) g.F.Fn filter a) _ r
+            (resolved_for limit _ g.F.Fn filter r resolved.resolved resolved.hiding resolved.complete_bins resolved.keyed resolved.targets));
         wrapped = wrapped_with _ _ r (λ e memory. inl memory) resolved.refused;
-        features = resolved_with (λ m a. IsResolvedFor limit (held m.now) g.F.Fn filter a) _ r
-            (resolved_for limit _ g.F.Fn filter r resolved.resolved resolved.keyed resolved.targets);
       },
     )

@@ -77,10 +77,7 @@ use Rattle.cargo_toml_manifest.specs.Completed.{IsCompleted}
 use Rattle.cargo_toml_manifest.specs.Completing.{Meets, complete}
 use Rattle.cargo_toml_manifest.specs.Refusing.{IsRefusedBy, MayLose}
 use Rattle.cargo_toml_resolver.specs.Filtered.{filter_of, limit_of}
-use Rattle.cargo_toml_resolver.specs.Parsed.{IsParsedBy}
-use Rattle.cargo_toml_features.specs.FirstTarget.{HaveTargets}
-use Rattle.cargo_toml_features.specs.Reached.{IsKeyed}
-use Rattle.cargo_toml_features.specs.Views.{answer_of}
+use Rattle.cargo_toml_resolver.specs.Parsed.{IsResolvedFor}
 use Rattle.cargo_toml_discovery.specs.Told.{Told}
 
 pub complete_and_parse_spec : {M : Type 1} → statement M
@@ -210,18 +207,16 @@ complete_and_parse_spec 𝓤 𝓛 𝓜 𝓡 wired F S I X N P Q LF LS LI LX LN L
     calls_at ! (framed 𝓤 H 𝓜 𝓣) G3 (resolved-met.met 𝓤 𝓛 𝓜 𝓡 (code.calls-cargo_toml_resolver::features::Resolver::resolved 𝓡.env wired) F S I X LF LS LI LX f df dfm dfo b' db h dh c dc drF drS drI mF mFm mFo mB mH mC gF gS gI) z3
     (and_then ! (get ! refl) (and_then ! (get ! refl) (and_then ! (get ! refl) (and_then ! (get ! refl) (no_more !))))) (λ v.
     let End = type_at T.signature.result κs in
-    let Parsed : End.Denot → Type 0 = λ y. IfOk y (λ w.
-    IsParsedBy (limit_of r.now) (held w.0.now) f (filter_of r.now) (answer_of w.1)) in
-    let Keyed : End.Denot → Type 0 = λ y. IfOk y (λ w. IsKeyed w.1.features) in let Targets : End.Denot → Type 0 = λ y. IfOk y (λ w. HaveTargets w.1.dependencies) in
+    let Resolved : End.Denot → Type 0 = λ y. IfOk y (λ w. IsResolvedFor (limit_of r.now) (held w.0.now) f (filter_of r.now) w.1) in
     use1 𝓛 (later (some (λ (y : End.Denot). ((t0 ⊛ t1 ⊛ t2 ⊛ t5 ⊛ t6 ⊛ t7 ⊛ t8 ⊛ ‵ ftrue) ⊛ ‵ (End.own_val y (v ∷ []))) ⊛ some (λ (ws' : Lasts E3 z3.0.0 z3.0.3). ‵ (lasts E3 z3.0.0 z3.0.3 ws') ⊛
-    raw (fact 𝓤 (IfErr d (λ e. y ≡ Err e))) ⊛ raw (fact 𝓤 (OnOk d (IfErr y (λ e. e ≡ Memory)))) ⊛ raw (fact 𝓤 (IfOk y (λ w. w.0 ≡ l))) ⊛ raw (fact 𝓤 (Parsed y)) ⊛ raw (fact 𝓤 (Keyed y)) ⊛ raw (fact 𝓤 (Targets y)))))) (id⊢ 𝓤 _) $
+    raw (fact 𝓤 (IfErr d (λ e. y ≡ Err e))) ⊛ raw (fact 𝓤 (OnOk d (IfErr y (λ e. e ≡ Memory)))) ⊛ raw (fact 𝓤 (IfOk y (λ w. w.0 ≡ l))) ⊛ raw (fact 𝓤 (Resolved y)))))) (id⊢ 𝓤 _) $
     await ! tt $ pick ! (λ y. split ! $ split ! $ move ! (2 ∷ []) $ pick ! (λ ws'. split ! $ drop ! $
-    split ! $ heard ! _ (λ refused. split ! $ heard ! _ (λ memory. split ! $ heard ! _ (λ lent. split ! $ heard ! _ (λ parsed. split ! $ heard ! _ (λ keyed. heard ! _ (λ targets.
+    split ! $ heard ! _ (λ refused. split ! $ heard ! _ (λ memory. split ! $ heard ! _ (λ lent. heard ! _ (λ features.
     -- [the tokens of the call; the answer; what is left; the tokens of 11, 10, 9, 4 and 3]
     move ! (1 ∷ []) $ peeks ! End (Is End) (shows 𝓛 End) y (v ∷ []) (λ isY. lands_as ! refl refl ((LE.lawful 𝓛).typed y (v ∷ []) isY).0 $ returns ! (look_at ! 0 refl) $ free_all ! refl $
     let after : Answering new d l y = record { same = same; refused = refused; memory = memory; lent = lent } in
     move ! (2 ∷ []) $ use1 𝓛 (‵ (IsLentAfter (param 3 X) m handed roots told y)) (rests_so 𝓛 MR γ (λ left. left ≡ l.now) (IsLeftAfter old handed roots told y) (left_after old new handed roots told d l y done after)) $
-    use0 𝓛 (raw (fact 𝓤 (Targets y))) (fact_i 𝓤 _ (emp 𝓤) targets) $ use0 𝓛 (raw (fact 𝓤 (Keyed y))) (fact_i 𝓤 _ (emp 𝓤) keyed) $ join ! $ use0 𝓛 (raw (fact 𝓤 (Parsed y))) (fact_i 𝓤 _ (emp 𝓤) parsed) $ join ! $
+    use0 𝓛 (raw (fact 𝓤 (Resolved y))) (fact_i 𝓤 _ (emp 𝓤) features) $
     use0 𝓛 (raw (fact 𝓤 (IfErr y Why))) (fact_i 𝓤 _ (emp 𝓤) (wrapped_after old new handed roots told d l y (λ e memory. inl memory) done after)) $ join ! $
     use0 𝓛 (raw (fact 𝓤 (IfOk y (λ w. IsCompleted old handed roots told w.0.now)))) (fact_i 𝓤 _ (emp 𝓤) (lent_after (λ x. IsCompleted old handed roots told x) new d l y done.completed after)) $ join ! $
     use0 𝓛 (raw (fact 𝓤 (Meets (λ w. meaning w.0.now) (complete (meaning old) handed roots told) y))) (fact_i 𝓤 _ (emp 𝓤) (outcome_after old new handed roots told d l y done after)) $ join ! $ move ! (1 ∷ 0 ∷ []) $ join ! $
@@ -230,4 +225,4 @@ complete_and_parse_spec 𝓤 𝓛 𝓜 𝓡 wired F S I X N P Q LF LS LI LX LN L
     -- [the token of 8; nothing; the tokens of 7, 6, 5, 2, 1 and 0; nothing for the parameters; what is ensured; the answer; the tokens of 11, 10, 9, 4 and 3]
     move ! (11 ∷ 1 ∷ []) $ join ! $ move ! (11 ∷ 0 ∷ []) $ join ! $ move ! (11 ∷ 0 ∷ []) $ join ! $ move ! (1 ∷ 0 ∷ []) $ join ! $ move ! (1 ∷ 0 ∷ []) $ join ! $ move ! (1 ∷ 0 ∷ []) $ join ! $ move ! (1 ∷ 0 ∷ []) $ join ! $ move ! (7 ∷ 0 ∷ []) $ join ! $ move ! (7 ∷ 0 ∷ []) $ join ! $
     move ! (1 ∷ 0 ∷ []) $ join ! $ move ! (1 ∷ 0 ∷ []) $ join ! $ move ! (1 ∷ 0 ∷ []) $ join ! $ move ! (0 ∷ 1 ∷ 3 ∷ 2 ∷ []) $
-    by ! (leaves 𝓛 T hs cl z v y (tt, (tt, (tt, (tt, (tt, tt))))) (tt, (tt, (tt, (tt, (tt, tt)))))))))))))))))))))))))))))))))))))))))
+    by ! (leaves 𝓛 T hs cl z v y (tt, (tt, (tt, (tt, (tt, tt))))) (tt, (tt, (tt, (tt, (tt, tt)))))))))))))))))))))))))))))))))))))))

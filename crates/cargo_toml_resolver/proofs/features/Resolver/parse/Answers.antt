@@ -47,13 +47,6 @@ returns-clause-resolved g c =
     (map entry_of c.as_slice-2.result.now) (named_details c.as_slice.result.now) (map bin_requirement c.as_slice-3.result.now)
     listed entries told required c.in_ok-resolve.ensures.resolved
 
-pub returns-clause-no_removed_name : goal.returns-clause-no_removed_name
-returns-clause-no_removed_name g c =
-    let limit = limit_of c.args.self.now in
-    let m = manifest_meaning (λ m. m) c.args.manifest.now in
-    none_left (admitted limit m.features) (parsed_entries limit m) m.feature_details (own_of (requirements m))
-    (IsRemovedBy g.F.Fn (filter_of c.args.self.now) (parsed_table limit m)) (answer_of c.in_ok-resolve.field-0) (returns-clause-resolved g c).answer
-
 pub returns-clause-hiding : goal.returns-clause-hiding
 returns-clause-hiding g c =
     let limit = limit_of c.args.self.now in
@@ -65,6 +58,7 @@ returns-clause-hiding g c =
     let a = answer_of c.in_ok-resolve.field-0 in
     let answer = (returns-clause-resolved g c).answer in
     record {
+      no_removed_name = none_left fs es m.feature_details own removed a answer;
       closure = λ full all. keeps_enabling fs es m.feature_details own removed a answer m.feature_details own full all;
       nothing_lost = λ full all. loses_nothing fs es m.feature_details own removed a answer m.feature_details own full all;
     }

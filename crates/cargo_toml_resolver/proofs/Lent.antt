@@ -1,6 +1,6 @@
 -- Facts of what is lent and of what is resolved beside it, as facts of both together.
 use Rattle.std.proofs.Common.{◌≡◌, ℕ, T, is_ok, Option, Some, Result, Ok, Err, IfOk, IfErr, IfSome, IsSome, OnErr, OnOk, refl, sym, ap, ◌∙◌, subst, inl, inr}
-use Rattle.std.specs.Prelude.{⊤, is_some}
+use Rattle.std.specs.Prelude.{⊤, is_some, true}
 use Rattle.std.specs.Borrow.{follows_so}
 use seplogic.Ra.Ura.{Ura}
 use mathlib.Core.Option.{none}
@@ -38,20 +38,10 @@ pub is_answered : {X Y : Type 0} (x : X) (r : Result Y Error) → IsSome (with_l
 is_answered x (Ok y) = refl
 is_answered x (Err e) = refl
 
-pub outcome_with : {T X Y A : Type 0} (f : T → A) (g : X → A) (o : Outcome A) (t : T) (x : X) (r : Result Y Error) → g x ≡ f t →
-    Meets f o (Ok t) → IfErr r (λ e. e ≡ Memory) → IfSome (with_lent (Some x) (Some r)) (Meets (λ p. g p.0) o)
-outcome_with f g o t x (Ok y) same h refused = given_again f (λ p. g p.0) o t (x, y) same h
-outcome_with f g o t x (Err e) same h refused = memory_after f (λ p. g p.0) o t e refused h
-
 pub wrapped_with : {X Y : Type 0} (why : Error → Type 0) (x : X) (r : Result Y Error) → ((e : Error) → e ≡ Memory → why e) →
     IfErr r (λ e. e ≡ Memory) → IfSome (with_lent (Some x) (Some r)) (λ a. IfErr a why)
 wrapped_with why x (Ok y) memory refused = tt
 wrapped_with why x (Err e) memory refused = memory e refused
-
-pub resolved_with : {X Y : Type 0} (P : X → Y → Type 0) (x : X) (r : Result Y Error) → IfOk r (P x) →
-    IfSome (with_lent (Some x) (Some r)) (λ a. IfOk a (λ p. P p.0 p.1))
-resolved_with P x (Ok y) h = h
-resolved_with P x (Err e) h = tt
 
 -- five facts of what is resolved are one
 pub resolved_for : {F S H M : Type 0} (limit : ℕ) (m : ManifestMeaning M) (g : Asked F) (filter : Option (Bor F)) (r : Result (Features S H) Error)
@@ -62,12 +52,14 @@ resolved_for limit m g filter (Ok a) parsed hiding bins keyed targets =
     record { parsed = parsed; hiding = hiding; complete_bins = bins; keyed = keyed; targets = targets }
 resolved_for limit m g filter (Err e) parsed hiding bins keyed targets = tt
 
--- and two facts of an answer that may be there
-pub answered_after : {M F S H : Type 0} (outcome : Outcome (ManifestMeaning M)) (limit : ℕ) (g : Asked F) (filter : Option (Bor F))
-    (o : Option (Result (Bor (Manifest M) × Features S H) Error)) → IfSome o (Meets (λ p. held p.0.now) outcome)
-    → IfSome o (λ r. IfOk r (λ p. IsResolvedFor limit (held p.0.now) g filter p.1)) → IfSome o (IsResolvedAfter outcome limit g filter)
-answered_after outcome limit g filter (Some r) completed features = record { completed = completed; features = features }
-answered_after outcome limit g filter None completed features = tt
+-- what is answered where a manifest was completed, and its features were resolved
+pub answered_with : {T M F S H : Type 0} (f : T → ManifestMeaning M) (outcome : Outcome (ManifestMeaning M)) (t : T) (limit : ℕ) (g : Asked F) (filter : Option (Bor F))
+    (x : Bor (Manifest M)) (r : Result (Features S H) Error) → held x.now ≡ f t → Meets f outcome (Ok t) → IfErr r (λ e. e ≡ Memory)
+    → IfOk r (IsResolvedFor limit (held x.now) g filter) → IfSome (with_lent (Some x) (Some r)) (IsResolvedAfter outcome limit g filter)
+answered_with f outcome t limit g filter x (Ok y) same h refused features =
+    record { completed = given_again f (λ p. held p.0.now) outcome t (x, y) same h; features = features }
+answered_with f outcome t limit g filter x (Err e) same h refused features =
+    record { completed = memory_after f (λ p. held p.0.now) outcome t e refused h; features = tt }
 
 -- what is known of a lender's last value is known under a weaker relation too
 pub rests_so : {M : Type 1} {𝓤 : Ura M} (𝓛 : Logic 𝓤) (R : RattleType) (γ : GName) (P Q : R.Denot → Type 0) → ((n : R.Denot) → P n → Q n)

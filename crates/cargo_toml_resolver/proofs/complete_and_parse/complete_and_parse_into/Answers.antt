@@ -3,7 +3,7 @@ use Rattle.cargo_toml_manifest.specs.Manifests.{held}
 use Rattle.cargo_toml_resolver.specs.Filtered.{filter_of, limit_of}
 use Rattle.cargo_toml_resolver.specs.Parsed.{IsResolvedFor}
 use Rattle.cargo_toml_manifest.proofs.Meeting.{refused_again}
-use Rattle.cargo_toml_resolver.proofs.Lent.{answered_after, is_answered, outcome_with, wrapped_with, resolved_for, resolved_with}
+use Rattle.cargo_toml_resolver.proofs.Lent.{answered_with, is_answered, wrapped_with, resolved_for}
 use Rattle.cargo_toml_resolver.proofs.complete_and_parse.complete_and_parse_into.Goals as goal
 
 pub returns-in-Err : goal.returns-in-Err
@@ -31,10 +31,8 @@ returns g c =
         answered = is_answered _ r;
         completed = c.in-Ok.ensures.completed;
         memory = resolved.refused;
-        resolved = answered_after _ limit g.F.Fn filter _
-            (outcome_with _ (λ m. held m.now) _ _ _ r refl c.in-Ok.ensures.outcome resolved.refused)
-            (resolved_with (λ m a. IsResolvedFor limit (held m.now) g.F.Fn filter a) _ r
-            (resolved_for limit _ g.F.Fn filter r resolved.resolved resolved.hiding resolved.complete_bins resolved.keyed resolved.targets));
+        resolved = answered_with _ _ _ limit g.F.Fn filter _ r refl c.in-Ok.ensures.outcome resolved.refused
+            (resolved_for limit _ g.F.Fn filter r resolved.resolved resolved.hiding resolved.complete_bins resolved.keyed resolved.targets);
         wrapped = wrapped_with _ _ r (λ e memory. inl memory) resolved.refused;
       },
     )

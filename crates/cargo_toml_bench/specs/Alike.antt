@@ -1,4 +1,4 @@
--- Two answers to one manifest that say the same.
+-- Two answers to one manifest that say the same, but for what is public and texts.
 use Rattle.std.specs.Prelude.{◌≡◌, IsTrue}
 use Rattle.cargo_toml.specs.Action.{Text}
 use Rattle.cargo_toml.specs.Agreement.{Agree}

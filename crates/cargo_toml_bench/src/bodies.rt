@@ -21,8 +21,8 @@ use std::hash::BuildHasherDefault;
 /// Resolves the features of a manifest by both bodies, without the hidden ones: first as callers
 /// do, then by the plain body.
 ///
-/// The first is the answer to the manifest, and the second says the same: each feature has the same
-/// binaries, too. The one refusal is [`Error::Memory`].
+/// The first is the answer to the manifest, and the second says the same, but for what is public
+/// and texts: each feature has the same binaries, too. The one refusal is [`Error::Memory`].
 pub fn resolve_by_both<'m, M>(
     alloc: Global,
     manifest: &'m Manifest<M>,

@@ -83,7 +83,7 @@ pub fn product_again(alloc: Global, product: &Product) -> Result<Product, Error>
     Product::from_value(alloc, product.to_value(alloc)?)
 }
 
-/// A lint that collected no key of another name of its own, written and read again.
+/// A lint whose config has no key `level` or `priority`, written and read again.
 pub fn lint_again(alloc: Global, lint: &Lint) -> Result<Lint, Error>
     requires { IsApart (lint_meaning lint.now) }
     ensures same { IfOk result (λ again. lint_meaning again ≡ lint_meaning lint.now) }

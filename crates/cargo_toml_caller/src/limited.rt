@@ -19,7 +19,7 @@ fn keep_internal(name: &str) -> bool
 
 /// Resolves the features of a manifest at a limit of items, at least 1, by a filter that keeps
 /// `_internal` alone of the hidden names. Where binaries mention removed features at most ten
-/// times, none is lost. The one refusal is [`Error::Memory`].
+/// times, none is lost on its way along names. The one refusal is [`Error::Memory`].
 pub fn resolve_limited<'m, M>(
     alloc: Global,
     manifest: &'m Manifest<M>,

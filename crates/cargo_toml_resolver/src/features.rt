@@ -112,9 +112,10 @@ impl<'config, F: Fn(&str) -> bool, S: BuildHasher + Clone> Resolver<'config, F, 
     /// key no feature has and no `dep:` keeps for itself. It has the dependencies that are
     /// optional, that a feature acts on, or whose key a feature has, with each target that they
     /// stand under: normal and build dependencies come before those of targets, and dev
-    /// dependencies last. Each feature names its enablers among the others: those that name it, and
-    /// those that act on the dependency of its name neither conditionally nor by `dep:`. It names
-    /// the binaries that require it, once for each mention.
+    /// dependencies last. Of a key that no listed feature has or acts on, the entries before the
+    /// first optional one don't count. Each feature names its enablers among the others: those that
+    /// name it, and those that act on the dependency of its name neither conditionally nor by
+    /// `dep:`. It names the binaries that require it, once for each mention.
     ///
     /// Where a dependency's first target is `Dependency::Detailed`, the features that it asks for
     /// anyway are left out of actions: `default`, unless it turns default features off, and those

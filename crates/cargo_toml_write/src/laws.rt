@@ -74,8 +74,8 @@ pub fn manifests_of_any_metadata<Metadata: ToValue>()
         → HasTree (manifest_way Metadata.way) m ↔ ManifestHoldsNoFloat (HasTree Metadata.way) m }
 {}
 
-/// A manifest that was read, of a tree or of a document, has a tree: it holds no float, since what
-/// it was read of holds none.
+/// A manifest that was read, of a tree or of a document, with metadata as a free value, has a tree:
+/// it holds no float, since what it was read of holds none.
 pub fn read_manifests_are_written()
     ensures no_float { (d : Data) (m : ManifestMeaning Data)
         → without_floats (manifest_reads any_tree) d ≡ Some m
@@ -88,8 +88,8 @@ pub fn read_manifests_are_written()
         → ManifestHoldsNoFloat (HasTree free_way) m }
 {}
 
-/// The features of a manifest that was read are such as are read again: each detail is of one of
-/// them, and says something.
+/// The features of a manifest that was read, with metadata as a free value, are such as are read
+/// again: each detail is of one of them, and says something.
 pub fn read_features_are_told()
     ensures of_tree { (d : Data) (m : ManifestMeaning Data)
         → without_floats (manifest_reads any_tree) d ≡ Some m → AreTold (all_features m) }

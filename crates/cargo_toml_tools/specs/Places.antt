@@ -73,7 +73,7 @@ lies_under folder outer = bytes_eq outer (codes ".") || is_within folder outer
 abbrev pub lies_in : Text → List Text → Bool
 lies_in folder folders = list_any (λ outer. lies_under folder (normalized outer)) folders
 
--- a folder is excluded, and no entry of `members` leads to it as it is written
+-- a folder is excluded, and lies in none that `members` names as it is written
 abbrev pub is_excluded : List Text → List Text → Text → Bool
 is_excluded members excluded folder = lies_in folder excluded && not (lies_in folder members)
 

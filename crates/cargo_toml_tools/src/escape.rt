@@ -1,6 +1,6 @@
 //! How names and texts of strangers are written into lines, Markdown and Graphviz's language.
 //!
-//! No name can end the line that it stands in, or pass for what stands around it.
+//! No name can end the line that it stands in, or close what stands around it.
 ghost use Rattle.std.specs.Prelude.{◌≡◌, ◌==◌, ◌++◌, ◌||◌, IfOk, OnOk, string_bytes, true};
 ghost use Rattle.cargo_toml_tools.specs.declared.escape.Format.TheVariants.{Dot, Line, Markdown};
 ghost use Rattle.cargo_toml_tools.specs.Escaped.{braced, code, comma, escaped, escaped_text};
@@ -139,8 +139,8 @@ fn push_numbered(text: &mut String, c: char) -> Result<(), AllocError>
     write!(text, "&#{number};")
 }
 
-/// Whether the character is no sign: it ends a line, or takes no place, or turns the direction of
-/// what follows.
+/// Whether the character is no sign: it ends a line, or is one of those that take no place or turn
+/// the direction of what follows. Others of that kind count as signs, as U+00AD and U+061C.
 fn is_control(c: char) -> bool
     ensures { result ≡ is_control c }
 {

@@ -1,4 +1,5 @@
-//! The members of a workspace, by the rules of Cargo's `members` and `exclude`.
+//! The members of a workspace, by its `members` and `exclude`. Unlike Cargo, `**` is no more than
+//! `*`, `[` stands for itself, and path dependencies add none.
 ghost use Rattle.std.specs.Prelude.{◌≡◌, ◌<◌, ◌∷◌, ◌&&◌, ◌||◌, [], ℕ, Bool, List, IfErr};
 ghost use Rattle.std.specs.Prelude.{IfOk, IsFalse, IsSome, IsTrue, OnOk, bytes_eq, codes, false};
 ghost use Rattle.std.specs.Prelude.{is_some, map, not, string_bytes};
@@ -32,9 +33,9 @@ pub struct Members {
 /// The members that the workspace of this manifest lists, which lies in `root`.
 ///
 /// A pattern stands for the folders that it matches, where each `*` and `?` stays within one name;
-/// one that matches none stands for itself. What lies in an excluded folder is left out, unless an
-/// entry of `members` leads to it without a pattern. The manifest itself is a member where it has a
-/// package.
+/// one that matches none stands for itself. What lies in an excluded folder is left out, unless it
+/// lies in one that an entry of `members` names as it is written. The manifest itself is a member
+/// where it has a package.
 pub fn list_members<M, R: Files + AllocGlobal>(
     rt: &R,
     root: &str,
@@ -143,7 +144,7 @@ fn add(members: &mut Members, folder: String) -> Result<(), AllocError>
     Ok(())
 }
 
-/// Whether a folder is excluded, and no entry of `members` leads to it as it is written.
+/// Whether a folder is excluded, and lies in none that `members` names as it is written.
 fn is_excluded<M>(alloc: Global, folder: &str, workspace: &Workspace<M>) -> Result<bool, AllocError>
     ensures { IfOk result (λ b. b ≡ is_excluded (map string_bytes workspace.now.members.items)
         (map string_bytes workspace.now.exclude.items) folder.now) }

@@ -1,5 +1,5 @@
 -- A folder that gives a member, or is refused.
-use Rattle.std.proofs.Common.{◌≡◌, ◌∙◌, List, Result, Ok, Err, Some, String, Global, ap, inl, inr, map, string_bytes, subst, sym}
+use Rattle.std.proofs.Common.{◌≡◌, ◌⊎◌, ◌∙◌, List, Result, Ok, Err, Some, String, Global, ap, inl, inr, map, string_bytes, subst, sym}
 use Rattle.std.specs.Prelude.{◌≢◌, ⊤, IfErr, OnErr, OnOk, Vec}
 use Rattle.std.proofs.lemmas.Result.{IfErr-at_err}
 use Rattle.toml.specs.declared.value.Value.{Value}
@@ -69,6 +69,16 @@ notes_uses {K} {A} folder m (Err e) old mid new before notes such = elim notes.n
   })
 ]
 
+-- what is asked for stays, unless memory was refused
+pub uses_on : (old mid new : Audit) → mid.uses ≡ old.uses → (e : Error) → (e ≡ Memory) ⊎ (new.uses ≡ mid.uses) → (e ≡ Memory) ⊎ (new.uses ≡ old.uses)
+uses_on old mid new same e (inl memory) = inl memory
+uses_on old mid new same e (inr h) = inr (h ∙ same)
+
+-- a fault that isn't want of memory
+but_memory : {P : Type 0} (e : Error) → (e ≡ Memory) ⊎ P → (e ≢ Memory) → P
+but_memory e (inl memory) other = absurd (other memory)
+but_memory e (inr h) other = h
+
 -- a refusal that isn't want of memory
 unless_memory : {P : Type 0} (outcome : Result ⊤ Error) → UnlessMemory outcome P → IfErr outcome (λ e. e ≢ Memory) → P
 unless_memory (Ok u) h other = h
@@ -92,13 +102,20 @@ module _ (root : Manifest Value) (path : Text) where
       (keys : GainsExactly (inherited_in_all (all_by_kind (held read))) (IsKeyNoted old) (IsKeyNoted mid))
       (notes : NotesUses folder (held made) result mid new) where
     pub member_added : OnOk result (AddsMember folder (held made) inherits mid.members.items new.members.items)
-        → OnOk result (AreReported new.findings (differences_there root path workspace folder made)) → OnOk result (AddsAudited root path workspace folder old new)
-    member_added = go result notes
+        → OnOk result (AreReported new.findings (differences_there root path workspace folder made))
+        → GainsOnly (Among (differences_there root path workspace folder made)) old.findings new.findings → OnOk result (AddsAudited root path workspace folder old new)
+    member_added added found gains = go result notes exactly added found
       where
-        go : (r : Result ⊤ Error) → NotesUses folder (held made) r mid new → OnOk r (AddsMember folder (held made) inherits mid.members.items new.members.items)
+        exactly : UnlessMemory result (NotesOnly (Among (inherited_in_all (all_by_kind (held read)))) (Among (asked_in_all folder (all_by_kind (held made)))) old new)
+        exactly = notes_uses folder (held made) result old mid new
+            (notes_keys (inherited_in_all (all_by_kind (held read))) old mid rest keys (λ key i. i)) notes (λ x i. i)
+
+        go : (r : Result ⊤ Error) → NotesUses folder (held made) r mid new
+            → UnlessMemory r (NotesOnly (Among (inherited_in_all (all_by_kind (held read)))) (Among (asked_in_all folder (all_by_kind (held made)))) old new)
+            → OnOk r (AddsMember folder (held made) inherits mid.members.items new.members.items)
             → OnOk r (AreReported new.findings (differences_there root path workspace folder made)) → OnOk r (AddsAudited root path workspace folder old new)
-        go (Err e) noted added found = tt
-        go (Ok x) noted added found = record {
+        go (Err e) noted only added found = tt
+        go (Ok x) noted only added found = record {
           read = read;
           made = made;
           inherits = inherits;
@@ -110,6 +127,8 @@ module _ (root : Manifest Value) (path : Text) where
             inherited = λ key i. subst (λ (s : BTreeSet (String Global)). IsKeyNoted (record old { inherited = s }) key) (sym noted.inherited) ((keys key).1 (inr i));
             asked = λ x i. (noted.all x).1 (inr i);
           };
+          finds = gains;
+          notes = only;
         }
 
     pub member_notes : UnlessMemory result (NotesOnly IsInheritedThere (IsAskedThere root path folder) old new)
@@ -119,9 +138,9 @@ module _ (root : Manifest Value) (path : Text) where
 
   module _ (workspace : Workspace Value) (folder : Text) (outcome : Result ⊤ Error) (old mid new : Audit) (rest : new ≡ record mid { findings = new.findings }) where
     -- with more found
-    on_found : ((o : Oddity) → IsReported mid.findings o → IsReported new.findings o) → AddsAudited root path workspace folder old mid
+    on_found : (x : ⊤) → GainsOnly (IsRefusedWith (Ok x) folder) mid.findings new.findings → AddsAudited root path workspace folder old mid
         → AddsAudited root path workspace folder old new
-    on_found more h = record {
+    on_found x gains h = record {
       read = h.read;
       made = h.made;
       inherits = h.inherits;
@@ -135,22 +154,40 @@ module _ (root : Manifest Value) (path : Text) where
         told = h.added.told;
       };
       taken = record {
-        differences = λ o i. more o (h.taken.differences o i);
+        differences = λ o i. gains.kept o (h.taken.differences o i);
         inherited = λ key i. subst (λ (a : Audit). IsKeyNoted a key) (sym rest) (h.taken.inherited key i);
         asked = λ x i. subst (λ (a : Audit). Among (askings_of a.uses) x) (sym rest) (h.taken.asked x i);
       };
+      finds = record {
+        kept = λ o i. gains.kept o (h.finds.kept o i);
+        gained = λ o i. elim (gains.gained o i) [ inl j ↦ h.finds.gained o j | inr refused ↦ absurd (no_fault o refused) ];
+      };
+      notes = record {
+        keys_kept = λ key i. subst (λ (a : Audit). IsKeyNoted a key) (sym rest) (h.notes.keys_kept key i);
+        keys = λ key i. h.notes.keys key (subst (λ (a : Audit). IsKeyNoted a key) rest i);
+        asked_kept = λ y i. subst (λ (a : Audit). Among (askings_of a.uses) y) (sym rest) (h.notes.asked_kept y i);
+        asked = λ y i. h.notes.asked y (subst (λ (a : Audit). Among (askings_of a.uses) y) rest i);
+      };
     }
+      where
+        no_fault : (o : Oddity) → IsRefusedWith (Ok x) folder o → ⊥
+        no_fault o refused = let is = refused.1.0 in cc
 
     pub folder_added : (done : Result ⊤ Error) → OnOk outcome (AddsAudited root path workspace folder old mid) → OnErr outcome (mid.members.items ≡ old.members.items)
-        → ((o : Oddity) → IsReported mid.findings o → IsReported new.findings o)
+        → IfErr outcome (λ e. (e ≡ Memory) ⊎ (mid.uses ≡ old.uses)) → GainsOnly (IsRefusedWith outcome folder) mid.findings new.findings
         → OnOk done (IfErr outcome (λ e. (e ≢ Memory) × IsRefusedFolder new.findings folder)) → OnOk done (AddsFolder root path workspace folder old new)
-    folder_added (Err e) added kept more told = tt
-    folder_added (Ok y) added kept more told = go outcome added kept told
+    folder_added (Err e) added kept same gains told = tt
+    folder_added (Ok y) added kept same gains told = go outcome added kept same gains told
       where
         go : (r : Result ⊤ Error) → OnOk r (AddsAudited root path workspace folder old mid) → OnErr r (mid.members.items ≡ old.members.items)
+            → IfErr r (λ e. (e ≡ Memory) ⊎ (mid.uses ≡ old.uses)) → GainsOnly (IsRefusedWith r folder) mid.findings new.findings
             → IfErr r (λ e. (e ≢ Memory) × IsRefusedFolder new.findings folder) → AddsFolder root path workspace folder old new
-        go (Ok x) added kept told = inl (on_found more added)
-        go (Err e) added kept told = inr (ap (λ (a : Audit). a.members.items) rest ∙ kept, told.1)
+        go (Ok x) added kept same gains told = inl (on_found x gains added)
+        go (Err e) added kept same gains told = inr (record {
+          members = ap (λ (a : Audit). a.members.items) rest ∙ kept;
+          uses = ap (λ (a : Audit). a.uses) rest ∙ but_memory e same told.0;
+          told = told.1;
+        })
 
     pub folder_notes : (done : Result ⊤ Error) → UnlessMemory outcome (NotesOnly IsInheritedThere (IsAskedThere root path folder) old mid)
         → OnOk done (IfErr outcome (λ e. (e ≢ Memory) × IsRefusedFolder new.findings folder))

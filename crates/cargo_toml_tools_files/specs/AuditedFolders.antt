@@ -5,6 +5,7 @@ use Rattle.std.specs.BTreeSet.{BTreeSet, btree_set_len, contains_text, keys}
 use Rattle.std.specs.List.{AllByRecursion}
 use Rattle.toml.specs.declared.value.Value.{Value}
 use Rattle.cargo_toml.specs.Action.{Text}
+use Rattle.cargo_toml.specs.Ascending.{Ascend}
 use Rattle.cargo_toml.specs.Dependencies.{dependency_meaning}
 use Rattle.cargo_toml.specs.Error.{Error}
 use Rattle.cargo_toml.specs.Faults.{IsOther}
@@ -25,10 +26,11 @@ use Rattle.cargo_toml_tools.specs.declared.audit.Audit.{Audit}
 use Rattle.cargo_toml_tools.specs.declared.audit.Finding.{Finding}
 use Rattle.cargo_toml_tools.specs.declared.audit.Member.{Member}
 use Rattle.cargo_toml_tools.specs.declared.members.Members.{Members}
-use Rattle.cargo_toml_tools_files.specs.AuditedMembers.{IsAskedThere, IsAuditedMember}
-use Rattle.cargo_toml_tools_files.specs.AuditedMembers.{IsDifference, IsInheritedThere}
-use Rattle.cargo_toml_tools_files.specs.AuditedMembers.{IsKeyNoted}
-use Rattle.cargo_toml_tools_files.specs.AuditedMembers.{IsMemberFault, IsRefusedFor, folders_of}
+use Rattle.cargo_toml_tools_files.specs.AuditedMembers.{IsAuditedMember, IsDifference}
+use Rattle.cargo_toml_tools_files.specs.AuditedMembers.{IsInheritedThere, IsKeyNoted}
+use Rattle.cargo_toml_tools_files.specs.AuditedMembers.{IsMemberFault, IsRefusedFor, Reading}
+use Rattle.cargo_toml_tools_files.specs.AuditedMembers.{asked_of, differences_there, folder_of}
+use Rattle.cargo_toml_tools_files.specs.AuditedMembers.{folders_of, inherited_by}
 use Rattle.cargo_toml_tools_files.specs.FromFiles.{IsManifestIn, IsUnreadable}
 
 -- how a report on these members and findings is written
@@ -41,11 +43,19 @@ IsReportText false members findings told =
 abbrev pub IsRefusedFolder : BTreeSet Finding → Text → Type 0
 IsRefusedFolder findings folder = (words : Text) × IsReported findings (refusal_of folder words)
 
+-- the folders of the members of a report
+abbrev pub member_folders : Audit → List Text
+member_folders audit = map (λ m. string_bytes m.folder) audit.members.items
+
 -- it has a member, or is told of as such
 abbrev pub IsToldFolder : Audit → Text → Type 0
 IsToldFolder audit folder =
-    Among (map (λ m. string_bytes m.folder) audit.members.items) folder
-    ⊎ IsRefusedFolder audit.findings folder
+    Among (member_folders audit) folder ⊎ IsRefusedFolder audit.findings folder
+
+-- a listed folder, in which no member of the report lies
+pub record IsWithoutMember (listing : Members) (audit : Audit) (folder : Text) : Type 0 where
+  pub listed : Among (folders_of listing) folder
+  pub none : ¬ Among (member_folders audit) folder
 
 abbrev pub member_entries : Workspace Value → List Text
 member_entries workspace = map string_bytes workspace.members.items
@@ -80,33 +90,47 @@ module _ (root : Manifest Value) (path : Text) (workspace : Workspace Value) (se
   abbrev pub IsOfFolder : Text → Oddity → Type 0
   IsOfFolder folder o = IsFolderRefusal folder o ⊎ IsDifference root path workspace folder o
 
-  module _ (listing : Members) where
-    -- what may be found by a listing: of itself, of a folder in it, or of all members
-    abbrev pub IsOfSome : Oddity → Type 0
-    IsOfSome o = (folder : Text) × (Among (folders_of listing) folder × IsOfFolder folder o)
+  -- by a listing, and by what was read of the members
+  module _ (listing : Members) (readings : List Reading) where
+    -- what may be found of folders: a difference of a member, or of one without a member its
+    -- refusal
+    abbrev pub IsOfSome : Audit → Oddity → Type 0
+    IsOfSome audit o =
+        ((r : Reading) × (Among readings r
+        × Among (differences_there root path workspace (folder_of r) r.new) o))
+        ⊎ ((folder : Text) × (IsWithoutMember listing audit folder × IsOfFolder folder o))
 
+    -- some member inherits the key, or a folder without a member may do so
+    abbrev pub IsInheritedSome : Audit → Text → Type 0
+    IsInheritedSome audit key =
+        ((r : Reading) × (Among readings r × Among (inherited_by r) key))
+        ⊎ ((folder : Text) × (IsWithoutMember listing audit folder × IsInheritedThere key))
+
+    -- some member asks for this
     abbrev pub IsAskedSome : Asking → Type 0
-    IsAskedSome x =
-        (folder : Text) × (Among (folders_of listing) folder × IsAskedThere root path folder x)
+    IsAskedSome x = (r : Reading) × (Among readings r × Among (asked_of r) x)
 
     -- nothing else is found or noted
     pub record FindsOnly (audit : Audit) : Type 0 where
       pub found : (o : Oddity) → IsReported audit.findings o
-          → (Among (listing_oddities listing) o ⊎ IsOfSome o) ⊎ Among (overall_of workspace audit) o
-      pub inherited : (key : Text) → IsKeyNoted audit key → IsInheritedThere key
+          → (Among (listing_oddities listing) o ⊎ IsOfSome audit o)
+          ⊎ Among (overall_of workspace audit) o
+      pub inherited : (key : Text) → IsKeyNoted audit key → IsInheritedSome audit key
       pub asked : (x : Asking) → Among (askings_of audit.uses) x → IsAskedSome x
 
-  -- a report by a listing of the workspace: each member is told as it is, each folder has a member
-  -- or is refused, and all that is odd is found, and nothing else
+  -- a report by a listing of the workspace: each member is told as it is, in order, each folder has
+  -- a member or is refused, and all that is odd is found, and nothing else
   pub record IsReportOn (audit : Audit) : Type 0 where
     pub listing : Members
     pub listed : AreMembersOf root workspace listing
-    pub members : AllByRecursion (IsAuditedMember root path workspace listing audit)
-        audit.members.items
+    pub readings : List Reading
+    pub each : map (λ r. r.member) readings ≡ audit.members.items
+    pub members : AllByRecursion (IsAuditedMember root path workspace listing audit) readings
+    pub in_order : Ascend (member_folders audit)
     pub told : (folder : Text) → Among (folders_of listing) folder → IsToldFolder audit folder
     pub odd : AreReported audit.findings (listing_oddities listing)
     pub overall : AreReported audit.findings (overall_of workspace audit)
-    pub only : FindsOnly listing audit
+    pub only : FindsOnly listing readings audit
 
 -- some text reads as this manifest, which has this table
 pub record IsWorkspaceIn (root : Manifest Value) (workspace : Workspace Value) : Type 0 where

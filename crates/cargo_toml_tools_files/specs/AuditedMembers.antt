@@ -56,6 +56,22 @@ IsInheritedThere key =
     (text : Text) × ((read : Manifest Value)
     × (IsManifestIn text read × Among (inherited_in_all (all_by_kind (held read))) key))
 
+-- a member, with the manifest that was read of it, and the one that completion makes of that
+pub record Reading : Type 0 where
+  pub member : Member
+  pub read : Manifest Value
+  pub new : Manifest Value
+
+abbrev pub folder_of : Reading → Text
+folder_of r = string_bytes r.member.folder
+
+-- the keys that a member inherits, and what it asks for
+abbrev pub inherited_by : Reading → List Text
+inherited_by r = inherited_in_all (all_by_kind (held r.read))
+
+abbrev pub asked_of : Reading → List Asking
+asked_of r = asked_in_all (folder_of r) (all_by_kind (held r.new))
+
 -- of a workspace's manifest at a path
 module _ (root : Manifest Value) (path : Text) where
   -- some text reads as a manifest that completion from the workspace makes into this one
@@ -111,10 +127,7 @@ module _ (root : Manifest Value) (path : Text) where
           → Among (askings_of audit.uses) x
 
     -- a member lies in a folder that is listed, and is what is told of such a manifest
-    pub record IsAuditedMember (listing : Members) (audit : Audit) (member : Member)
-        : Type 0 where
-      pub place : Among (folders_of listing) (string_bytes member.folder)
-      pub read : Manifest Value
-      pub new : Manifest Value
-      pub told : IsMemberThere read new member
-      pub taken : IsTakenIn (string_bytes member.folder) read new audit
+    pub record IsAuditedMember (listing : Members) (audit : Audit) (r : Reading) : Type 0 where
+      pub place : Among (folders_of listing) (folder_of r)
+      pub told : IsMemberThere r.read r.new r.member
+      pub taken : IsTakenIn (folder_of r) r.read r.new audit

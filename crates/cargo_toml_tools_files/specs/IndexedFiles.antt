@@ -1,10 +1,13 @@
 -- What `index` answers of a file.
 use Rattle.std.specs.Prelude.{◌≡◌, ◌⊎◌, ◌++◌, [], ◌∷◌, Option, Some}
+use Rattle.toml.specs.View.{view}
 use Rattle.toml.specs.declared.value.Value.{Value}
 use Rattle.cargo_toml.specs.Action.{Text}
 use Rattle.cargo_toml.specs.Faults.{text_of}
 use Rattle.cargo_toml.specs.Manifest.{Manifest}
-use Rattle.cargo_toml.specs.Manifests.{held}
+use Rattle.cargo_toml.specs.Manifests.{ManifestRefuses, held, manifest_meaning, manifest_reads}
+use Rattle.cargo_toml.specs.RealFiles.{IsTextFault}
+use Rattle.cargo_toml.specs.Texts.{AnyRefuses, any_tree}
 use Rattle.cargo_toml_tools.specs.IndexFaults.{index_fault_text}
 use Rattle.cargo_toml_tools.specs.IndexLines.{IsLineOf}
 use Rattle.cargo_toml_tools.specs.Indexed.{Explains, IsTaken}
@@ -14,9 +17,8 @@ use Rattle.cargo_toml_tools_files.specs.FromFiles.{IsCompletedIn, IsUncompleted}
 use Rattle.cargo_toml_tools_files.specs.declared.indexing.Fault.{Fault}
 use Rattle.cargo_toml_tools_files.specs.declared.indexing.Fault.TheVariants as fault
 
--- some text reads and completes as a manifest that an index takes, and this is its line
-pub record IsIndexed (checksum : Option Text) (told : Text) : Type 0 where
-  pub text : Text
+-- the text reads and completes as a manifest that an index takes, and this is its line
+pub record IsIndexedBy (text : Text) (checksum : Option Text) (told : Text) : Type 0 where
   pub manifest : Manifest Value
   pub completed : IsCompletedIn text manifest
   pub taken : IsTaken text (held manifest)
@@ -24,13 +26,26 @@ pub record IsIndexed (checksum : Option Text) (told : Text) : Type 0 where
   pub exact : IsLineOf (held manifest) checksum line
   pub ended : told ≡ line ++ 10 ∷ []
 
--- some text reads and completes as a manifest that an index doesn't take, for what is told
-pub record IsUntaken (e : IndexError) : Type 0 where
-  pub text : Text
+-- the text reads and completes as a manifest that an index doesn't take, for what is told
+pub record IsUntakenBy (text : Text) (e : IndexError) : Type 0 where
   pub manifest : Manifest Value
   pub completed : IsCompletedIn text manifest
   pub told : Explains text (held manifest) e
   pub exact : (e ≡ Memory) ⊎ ¬ IsTaken text (held manifest)
+
+-- some text does so
+abbrev pub IsIndexed : Option Text → Text → Type 0
+IsIndexed checksum told = (text : Text) × IsIndexedBy text checksum told
+
+abbrev pub IsUntaken : IndexError → Type 0
+IsUntaken e = (text : Text) × IsUntakenBy text e
+
+-- why this text of the file at the path gives no line
+abbrev pub IsLineFault : Text → Text → Fault → Type 0
+IsLineFault path text (fault.Manifest e) =
+    IsTextFault path text (manifest_meaning view) (manifest_reads any_tree)
+    (ManifestRefuses any_tree AnyRefuses) e
+IsLineFault path text (fault.Index e) = IsUntakenBy text e
 
 -- why the file at this path gives no line
 abbrev pub IsIndexFault : Text → Fault → Type 0

@@ -1,21 +1,21 @@
 //! The report on a workspace.
-ghost use Rattle.std.specs.Prelude.{◌≡◌, ◌≢◌, ◌⊎◌, IfErr, IfOk, IfSome, OnErr, OnOk, Some};
-ghost use Rattle.std.specs.Prelude.{string_bytes};
-ghost use Rattle.std.specs.BTreeSet.{keys};
+ghost use Rattle.std.specs.Prelude.{◌≡◌, ◌≢◌, ◌⊎◌, ◌≤◌, IfErr, IfOk, IfSome, IsTrue, OnErr, OnOk};
+ghost use Rattle.std.specs.Prelude.{Some, string_bytes};
+ghost use Rattle.std.specs.BTreeSet.{btree_set_len, keys};
 ghost use Rattle.toml.specs.declared.value.Value.{Value};
 ghost use Rattle.cargo_toml.specs.Error.{Memory};
 ghost use Rattle.cargo_toml.specs.Workspace.{Workspace as Table};
 ghost use Rattle.cargo_toml_tools.specs.Oddities.{GainsOnly};
 ghost use Rattle.cargo_toml_tools_files.specs.AuditSteps.{AddsAudited, AddsFolder, IsRefusedWith};
-ghost use Rattle.cargo_toml_tools_files.specs.AuditSteps.{NotesOnly, UnlessMemory};
+ghost use Rattle.cargo_toml_tools_files.specs.AuditSteps.{IsUnreported, IsUnshown, NotesOnly};
+ghost use Rattle.cargo_toml_tools_files.specs.AuditSteps.{UnlessMemory};
 ghost use Rattle.cargo_toml_tools_files.specs.AuditedFolders.{AreMembersOf, IsAuditFault};
 ghost use Rattle.cargo_toml_tools_files.specs.AuditedFolders.{IsAudited, IsOfFolder};
 ghost use Rattle.cargo_toml_tools_files.specs.AuditedFolders.{IsRefusedFolder, IsReportOn};
-ghost use Rattle.cargo_toml_tools_files.specs.AuditedFolders.{IsReportText, IsWithoutWorkspace};
+ghost use Rattle.cargo_toml_tools_files.specs.AuditedFolders.{IsReportText};
 ghost use Rattle.cargo_toml_tools_files.specs.AuditedMembers.{IsAskedThere, IsDifference};
 ghost use Rattle.cargo_toml_tools_files.specs.AuditedMembers.{IsInheritedThere, IsMemberFault};
 ghost use Rattle.cargo_toml_tools_files.specs.AuditedMembers.{words_told};
-ghost use Rattle.cargo_toml_tools_files.specs.FromFiles.{IsOfInput};
 
 use crate::reading::manifest_in;
 use cargo_toml::{Error, Manifest, Workspace};
@@ -69,7 +69,7 @@ fn audited<R: Files + Eprint + AllocGlobal>(
     ensures report { IfOk result (λ a. (workspace : Table Value)
         × (root.entry.0.now.workspace ≡ Some workspace)
         × IsReportOn root.entry.0.now root.entry.1.now workspace folder.now a) }
-    ensures refused { IfErr result (λ e. IsOfInput e ⊎ IsWithoutWorkspace root.entry.0.now e) }
+    ensures refused { IfErr result (IsUnreported root.entry.0.now shows) }
 {
     let Some(workspace) = &root.0.workspace else {
         return Err(Error::Other("there is no workspace"));
@@ -105,7 +105,7 @@ fn report_on<R: Files + Eprint + AllocGlobal>(
     requires { AreMembersOf root.manifest.now root.workspace.now found.now }
     ensures report { IfOk result (IsReportOn root.entry.manifest.now root.entry.path.now
         root.entry.workspace.now root.entry.folder.now) }
-    ensures refused { IfErr result IsOfInput }
+    ensures refused { IfErr result (IsUnshown shows (btree_set_len found.now.folders)) }
 {
     let mut audit = Audit::new(rt.alloc());
     audit.add_listing(found)?;
@@ -203,6 +203,7 @@ fn add_member<R: Files + AllocGlobal>(
     ensures noted { UnlessMemory result (NotesOnly IsInheritedThere
         (IsAskedThere root.entry.manifest.now root.entry.path.now place.entry.folder.now)
         audit.old audit.new) }
+    ensures asked { IfErr result (λ e. (e ≡ Memory) ⊎ (audit.new.uses ≡ audit.old.uses)) }
     ensures refused { IfErr result
         (IsMemberFault root.entry.manifest.now root.entry.path.now place.entry.path.now) }
 {
@@ -215,15 +216,16 @@ fn add_member<R: Files + AllocGlobal>(
 }
 
 /// Tells a terminal how far a long report is.
-fn show_progress<R: Eprint>(rt: &R, shows: bool, done: usize, all: usize) -> io::Result<()> {
+fn show_progress<R: Eprint>(rt: &R, shows: bool, done: usize, all: usize) -> io::Result<()>
+    ensures { IfErr result (λ _. IsTrue shows × (20 ≤ all)) }
+{
     if !shows || all < 20 {
         return Ok(());
     }
     if done.saturating_add(1) == all {
-        return eprint!(rt; "\r\u{1b}[K");
-    }
-    if done % 10 == 0 {
-        return eprint!(rt; "\r{done} of {all} members");
+        eprint!(rt; "\r\u{1b}[K")?;
+    } else if done % 10 == 0 {
+        eprint!(rt; "\r{done} of {all} members")?;
     }
     Ok(())
 }

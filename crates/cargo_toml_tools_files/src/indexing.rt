@@ -2,7 +2,8 @@
 ghost use Rattle.std.specs.Prelude.{IfErr, IfOk, IsSome, OnOk, string_bytes};
 ghost use Rattle.std.specs.Option.{option_copied};
 ghost use Rattle.std.specs.Path.{path_parent};
-ghost use Rattle.cargo_toml_tools_files.specs.IndexedFiles.{IsIndexFault, IsIndexed};
+ghost use Rattle.cargo_toml_tools_files.specs.IndexedFiles.{IsIndexFault, IsIndexed, IsIndexedBy};
+ghost use Rattle.cargo_toml_tools_files.specs.IndexedFiles.{IsLineFault};
 
 use crate::reading::{completed_of, text_in};
 use cargo_toml::Error;
@@ -82,8 +83,23 @@ pub fn index<R: Files + AllocGlobal>(
     ensures refused { IfErr result (IsIndexFault file.now) }
 {
     let text = text_in(rt, file)?;
-    let held = completed_of(rt, file, text.as_str())?;
-    let mut line = index_line(rt.alloc(), &*held.manifest, text.as_str(), checksum)?;
+    line_of(rt, file, text.as_str(), checksum)
+}
+
+/// The line of the crate whose manifest is this text of a file.
+fn line_of<R: Files + AllocGlobal>(
+    rt: &R,
+    file: &str,
+    text: &str,
+    checksum: Option<&str>,
+) -> Result<String, Fault>
+    ensures indexed { IfOk result
+        (λ line. IsIndexedBy text.now (option_copied checksum.entry) (string_bytes line)) }
+    ensures named { OnOk result (IsSome (path_parent file.now)) }
+    ensures refused { IfErr result (IsLineFault file.now text.now) }
+{
+    let held = completed_of(rt, file, text)?;
+    let mut line = index_line(rt.alloc(), &*held.manifest, text, checksum)?;
     line.push_str("\n")?;
     Ok(line)
 }

@@ -7,8 +7,8 @@ pub returns-clause-added : goal.returns-clause-added
 returns-clause-added g c =
     folder_added c.args.root.manifest.now c.args.root.path.now c.args.root.workspace.now c.args.member.now c.add_member-outcome.result
     c.args.audit.now c.add_member-outcome.new.audit c.add_refusal.new.audit c.add_refusal.ensures.rest c.add_refusal.result
-    c.add_member-outcome.ensures.added c.add_member-outcome.ensures.kept
-    c.add_refusal.ensures.findings.kept c.add_refusal.ensures.told
+    c.add_member-outcome.ensures.added c.add_member-outcome.ensures.kept c.add_member-outcome.ensures.asked
+    c.add_refusal.ensures.findings c.add_refusal.ensures.told
 
 pub returns-clause-noted : goal.returns-clause-noted
 returns-clause-noted g c =

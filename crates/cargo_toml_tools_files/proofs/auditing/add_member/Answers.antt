@@ -4,6 +4,7 @@ use Rattle.std.proofs.lemmas.Result.{IfErr-weaker, err_from_is_err_and, on_err_w
 use Rattle.toml.specs.declared.value.Value.{Value}
 use Rattle.cargo_toml.specs.Manifest.{Manifest}
 use Rattle.cargo_toml.specs.Manifests.{held}
+use Rattle.cargo_toml.specs.Reach.{Among}
 use Rattle.cargo_toml_tools.specs.Indexed.{all_by_kind}
 use Rattle.cargo_toml_tools.specs.LeftKeys.{left_keys}
 use Rattle.cargo_toml_tools.specs.Noted.{GainsExactly, inherited_in_all}
@@ -11,9 +12,9 @@ use Rattle.cargo_toml_tools.specs.Oddities.{GainsOnly}
 use Rattle.cargo_toml_tools.specs.declared.audit.Audit.{Audit}
 use Rattle.cargo_toml_tools.specs.declared.audit.Finding.{Finding}
 use Rattle.cargo_toml_tools.proofs.Gained.{gains_none, gains_wider}
-use Rattle.cargo_toml_tools_files.specs.AuditedMembers.{IsDifference, IsKeyNoted}
+use Rattle.cargo_toml_tools_files.specs.AuditedMembers.{IsDifference, IsKeyNoted, differences_there}
 use Rattle.cargo_toml_tools_files.specs.FromFiles.{IsManifestIn}
-use Rattle.cargo_toml_tools_files.proofs.Refusals.{completed_there, member_added, member_notes, notes_keys, notes_none}
+use Rattle.cargo_toml_tools_files.proofs.Refusals.{completed_there, member_added, member_notes, notes_keys, notes_none, uses_on}
 use Rattle.cargo_toml_tools_files.proofs.auditing.add_member.Goals as goal
 
 pub returns-in_err-held-clause-noted : goal.returns-in_err-held-clause-noted
@@ -66,6 +67,23 @@ returns-in_err-inherits-clause-kept g c =
 pub returns-in_err-inherits-clause-findings : goal.returns-in_err-inherits-clause-findings
 returns-in_err-inherits-clause-findings g c = gains_none _ _ (ap (λ (a : Audit). (a.findings).keys) c.in_err-inherits.ensures.rest)
 
+pub returns-in_err-complete_from_path_and_workspace-clause-asked : goal.returns-in_err-complete_from_path_and_workspace-clause-asked
+returns-in_err-complete_from_path_and_workspace-clause-asked g c =
+    let left = c.from_residual-in_err-complete_from_path_and_workspace in
+    let p = err_from_is_err_and left.result left.ensures.1 in
+    rw p.1 (inr (ap (λ (a : Audit). a.uses) c.in_ok-inherits.ensures.rest))
+
+pub returns-in_err-inherits-clause-asked : goal.returns-in_err-inherits-clause-asked
+returns-in_err-inherits-clause-asked g c =
+    let left = c.from_residual-in_err-inherits in
+    let p = err_from_is_err_and left.result left.ensures.1 in
+    rw p.1 (inr (ap (λ (a : Audit). a.uses) c.in_err-inherits.ensures.rest))
+
+pub returns-in_err-held-clause-asked : goal.returns-in_err-held-clause-asked
+returns-in_err-held-clause-asked g c =
+    let p = err_from_is_err_and c.from_residual.result c.from_residual.ensures.1 in
+    rw p.1 (inr refl)
+
 pub returns : goal.returns
 returns g c =
     let root = c.args.root.manifest.now in
@@ -86,12 +104,14 @@ returns g c =
     let keys = subst (λ (m : Manifest Value). GainsExactly (inherited_in_all (all_by_kind (held m))) (IsKeyNoted old) (IsKeyNoted mid)) same written.inherited in
     let inherits = c.in_ok-inherits.inherits in
     let result = c.add_completed.result in
-    let done = c.add_completed.ensures in record {
-      added = member_added root path workspace folder read made inherits result old mid new from left written.rest keys done.noted done.added done.found;
+    let done = c.add_completed.ensures in
+    let gains = subst (λ (s : BTreeSet Finding). GainsOnly (Among (differences_there root path workspace folder made)) s new.findings)
+    (ap (λ (a : Audit). a.findings) written.rest) done.findings in
+    let same_uses : mid.uses ≡ old.uses = ap (λ (a : Audit). a.uses) written.rest in record {
+      added = member_added root path workspace folder read made inherits result old mid new from left written.rest keys done.noted done.added done.found gains;
       kept = on_err_weaker result (λ same. same ∙ ap (λ (a : Audit). a.members.items) written.rest) done.kept;
-      findings = subst (λ (s : BTreeSet Finding). GainsOnly (IsDifference root path workspace folder) s new.findings)
-          (ap (λ (a : Audit). a.findings) written.rest)
-          (gains_wider _ _ (λ o i. (read, (made, (from, i)))) done.findings);
+      findings = gains_wider _ _ (λ o i. (read, (made, (from, i)))) gains;
+      asked = IfErr-weaker result _ _ (uses_on old mid new same_uses) done.noted.none;
       noted = member_notes root path workspace folder read made inherits result old mid new from left written.rest keys done.noted;
       refused = IfErr-weaker result _ _ (λ e untold. inr (from.text, (read, (from.written, inr (made, (from, untold)))))) done.refused;
     }

@@ -3,16 +3,16 @@ use Rattle.std.proofs.lemmas.Result.{err_from_is_err_and}
 use Rattle.cargo_toml.specs.Action.{Text}
 use Rattle.cargo_toml_tools_files.specs.AuditedFolders.{IsReportOn}
 use Rattle.cargo_toml_tools_files.specs.FromFiles.{IsManifestIn}
-use Rattle.cargo_toml_tools_files.proofs.FileFacts.{not_empty, of_input}
+use Rattle.cargo_toml_tools_files.proofs.FileFacts.{not_empty, of_input, unreported}
 use Rattle.cargo_toml_tools_files.proofs.auditing.audit.Goals as goal
 
 pub returns-in_err-audit-clause-refused : goal.returns-in_err-audit-clause-refused
 returns-in_err-audit-clause-refused g c =
     let read = c.in_ok-root.ensures.read in
     let p = err_from_is_err_and c.from_residual-in_err-audit.result c.from_residual-in_err-audit.ensures.1 in
-    rw (p.1, p.2) (elim c.in_err-audit.ensures.refused [
-      | inl input ↦ inl (of_input _ input)
-      | inr none ↦ inr (read.0, (c.deref.result.now, (subst (IsManifestIn read.0) (sym c.deref.ensures) read.1, none)))
+    rw (p.1, p.2) (elim (unreported c.deref.result.now c.args.shows _ c.in_err-audit.ensures.refused) [
+      | inl none ↦ inr (read.0, (c.deref.result.now, (subst (IsManifestIn read.0) (sym c.deref.ensures) read.1, none)))
+      | inr input ↦ inl (of_input _ input)
     ])
 
 pub returns-clause-audited : goal.returns-clause-audited

@@ -1,4 +1,4 @@
-use Rattle.std.proofs.Common.{List, String, Global, ap, arith, length, subst}
+use Rattle.std.proofs.Common.{◌≤◌, ℕ, List, inl, inr, String, Global, ap, arith, length, subst}
 use Rattle.std.proofs.lemmas.Map.Iter.{rest_all, rest_more}
 use Rattle.std.specs.Map.Iter.{deref}
 use Rattle.std.proofs.lemmas.Result.{err_from_is_err_and}
@@ -18,6 +18,7 @@ loop-i-init g c = record {
       c.iter-member-items.result c.new-audit.result c.add_listing.new.self
       c.iter-member-items.ensures.rest c.in_ok-add_listing.ensures.rest c.new-audit.ensures.members
       c.new-audit.ensures.findings c.new-audit.ensures.uses c.new-audit.ensures.inherited
+      c.iter-member-items.ensures.ordered
       c.in_ok-add_listing.ensures.findings c.in_ok-add_listing.ensures.found;
 }
 
@@ -37,17 +38,20 @@ loop-i-preserved g c =
       count = omega (arith, ap (λ (ks : List (String Global)). length ks) one, c.loop-i.invariant.count);
       going = auditing_on root path workspace c.args.root.folder.now c.args.found.now c.in-Some.member.now c.next.new.self c.loop-i.member-iterator
           old new one c.loop-i.invariant.going
-          (subst (λ (f : Text). AddsFolder root path workspace f old new) c.as_str.ensures.value c.in_ok-add_folder.ensures.added)
           (subst (λ (f : Text). GainsOnly (IsOfFolder root path workspace c.args.root.folder.now f) old.findings new.findings)
           c.as_str.ensures.value c.in_ok-add_folder.ensures.findings)
-          (subst (λ (f : Text). NotesOnly IsInheritedThere (IsAskedThere root path f) old new) c.as_str.ensures.value c.in_ok-add_folder.ensures.noted);
+          (subst (λ (f : Text). NotesOnly IsInheritedThere (IsAskedThere root path f) old new) c.as_str.ensures.value c.in_ok-add_folder.ensures.noted)
+          (subst (λ (f : Text). AddsFolder root path workspace f old new) c.as_str.ensures.value c.in_ok-add_folder.ensures.added);
     }
 
 pub returns-in_err-show_progress-clause-refused : goal.returns-in_err-show_progress-clause-refused
 returns-in_err-show_progress-clause-refused g c =
     let left = c.from_residual-in_err-show_progress in
     let p = err_from_is_err_and left.result left.ensures.1 in
-    rw p.1 (from_input _ p.0 p.2)
+    rw p.1 (elim (from_input _ p.0 p.2) [
+      | inl memory ↦ inl memory
+      | inr input ↦ inr ((c.in_err-show_progress.ensures.0, subst (λ (n : ℕ). 20 ≤ n) c.len.ensures.len c.in_err-show_progress.ensures.1), input)
+    ])
 
 pub returns-clause-report : goal.returns-clause-report
 returns-clause-report g c =

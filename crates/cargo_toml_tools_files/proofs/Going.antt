@@ -26,7 +26,7 @@ use Rattle.cargo_toml_tools.specs.declared.members.Members.{Members}
 use Rattle.cargo_toml_tools.proofs.KeysInOrder.{keys_ascend}
 use Rattle.cargo_toml_tools_files.specs.AuditSteps.{AddsAudited, AddsFolder, NotesOnly, RefusesFolder}
 use Rattle.cargo_toml_tools_files.specs.AuditedFolders.{AreMembersOf, IsAskedSome, IsInheritedSome, IsOfFolder, IsOfSome, IsReportOn, IsToldFolder, IsWithoutMember, member_folders, overall_of}
-use Rattle.cargo_toml_tools_files.specs.AuditedMembers.{IsAskedThere, IsAuditedMember, IsInheritedThere, IsKeyNoted, IsTakenIn, Reading, asked_of, differences_there, folder_of, folders_of, inherited_by}
+use Rattle.cargo_toml_tools_files.specs.AuditedMembers.{IsAskedThere, IsAuditedMember, IsInheritedThere, IsKeyNoted, IsTakenIn, Reading, differences_there, folder_of, folders_of, inherited_by}
 
 -- ---- lists
 module _ {X : Type 0} where

@@ -17,7 +17,7 @@ use Rattle.cargo_toml_tools.specs.Audited.{AddsMember}
 use Rattle.cargo_toml_tools.specs.Indexed.{all_by_kind}
 use Rattle.cargo_toml_tools.specs.LeftKeys.{left_keys}
 use Rattle.cargo_toml_tools.specs.Noted.{Asking, GainsExactly, NotesUses, asked_in_all, askings_of, inherited_in_all}
-use Rattle.cargo_toml_tools.specs.Oddities.{AreReported, GainsOnly, IsReported, Oddity}
+use Rattle.cargo_toml_tools.specs.Oddities.{AreReported, GainsOnly, Oddity}
 use Rattle.cargo_toml_tools.specs.Places.{manifest_path}
 use Rattle.cargo_toml_tools.specs.declared.audit.Audit.{Audit}
 use Rattle.cargo_toml_tools.specs.declared.audit.Finding.{Finding}

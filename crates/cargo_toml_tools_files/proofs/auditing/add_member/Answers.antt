@@ -12,7 +12,7 @@ use Rattle.cargo_toml_tools.specs.Oddities.{GainsOnly}
 use Rattle.cargo_toml_tools.specs.declared.audit.Audit.{Audit}
 use Rattle.cargo_toml_tools.specs.declared.audit.Finding.{Finding}
 use Rattle.cargo_toml_tools.proofs.Gained.{gains_none, gains_wider}
-use Rattle.cargo_toml_tools_files.specs.AuditedMembers.{IsDifference, IsKeyNoted, differences_there}
+use Rattle.cargo_toml_tools_files.specs.AuditedMembers.{IsKeyNoted, differences_there}
 use Rattle.cargo_toml_tools_files.specs.FromFiles.{IsManifestIn}
 use Rattle.cargo_toml_tools_files.proofs.Refusals.{completed_there, member_added, member_notes, notes_keys, notes_none, uses_on}
 use Rattle.cargo_toml_tools_files.proofs.auditing.add_member.Goals as goal

@@ -530,8 +530,9 @@ def inspected(root):
             uses.setdefault(crate, {}).setdefault(text, set()).add(folder)
         given = workspace.get("package", {})
         for key, word in ("edition", "other-edition"), ("license", "other-license"):
-            own = told[-1][key] or "none"
+            own = told[-1][key]
             if key in given and given[key] != own:
+                own = "none" if own is None else own
                 odd.add((word, folder, f"{own}, where the workspace has {given[key]}"))
     for crate, texts in uses.items():
         if len(texts) > 1:
@@ -547,7 +548,7 @@ def audit(root):
     text = ""
     for one in told:
         keys = "name", "version", "edition", "rust_version", "license", "publish"
-        cells = [one[key] or "-" for key in keys]
+        cells = ["-" if one[key] is None else one[key] for key in keys]
         inherits = ", ".join(map(for_line, one["inherits"])) or "-"
         front = f"member {for_line(one['folder'])}"
         text += " | ".join([front, *map(for_line, cells), inherits]) + "\n"

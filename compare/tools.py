@@ -189,9 +189,15 @@ def entry(key, kind, target, value):
 # escapes
 
 
+CONTROLS = (
+    "\0-\x1f\x7f-\x9f\xad\u061c\u180e\u200b-\u200f\u2028-\u202e\u2060-\u206f\ufeff"
+    "\ufff9-\ufffb\U000e0001\U000e0020-\U000e007f"
+)
+
+
 def is_control(c):
     """No sign: a line's end, another control, what takes no place or turns the direction."""
-    return bool(re.match("[\0-\x1f\x7f-\x9f\u200b-\u200f\u2028-\u202e\u2060-\u206f\ufeff]", c))
+    return bool(re.match(f"[{CONTROLS}]", c))
 
 
 def sign_for_line(c):
@@ -211,7 +217,7 @@ def for_markdown(text):
 
 
 def code(name):
-    if name and all(is_plain(c) or c == "_" for c in name):
+    if name and name[0] != " " and all(is_plain(c) or c == "_" for c in name):
         return f"`{name}`"
     return f"<code>{for_markdown(name)}</code>"
 
@@ -524,8 +530,9 @@ def inspected(root):
             uses.setdefault(crate, {}).setdefault(text, set()).add(folder)
         given = workspace.get("package", {})
         for key, word in ("edition", "other-edition"), ("license", "other-license"):
-            own = told[-1][key] or "none"
+            own = told[-1][key]
             if key in given and given[key] != own:
+                own = "none" if own is None else own
                 odd.add((word, folder, f"{own}, where the workspace has {given[key]}"))
     for crate, texts in uses.items():
         if len(texts) > 1:
@@ -541,7 +548,7 @@ def audit(root):
     text = ""
     for one in told:
         keys = "name", "version", "edition", "rust_version", "license", "publish"
-        cells = [one[key] or "-" for key in keys]
+        cells = ["-" if one[key] is None else one[key] for key in keys]
         inherits = ", ".join(map(for_line, one["inherits"])) or "-"
         front = f"member {for_line(one['folder'])}"
         text += " | ".join([front, *map(for_line, cells), inherits]) + "\n"

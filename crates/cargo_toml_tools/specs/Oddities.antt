@@ -1,5 +1,5 @@
 -- What a report finds odd, and what each call adds to that.
-use Rattle.std.specs.Prelude.{◌⊎◌, ◌++◌, ◌||◌, Bool, List, [], ◌∷◌, Option, Some, None}
+use Rattle.std.specs.Prelude.{◌⊎◌, ◌++◌, ◌||◌, Bool, false, List, [], ◌∷◌, Option, Some, None}
 use Rattle.std.specs.Prelude.{if◌then◌else◌, map, codes, bytes_eq, nat_eq, filter, option_map}
 use Rattle.std.specs.Prelude.{option_and_then, unwrap_or, string_bytes}
 use Rattle.std.specs.BTreeSet.{BTreeSet}
@@ -72,18 +72,25 @@ listing_oddities m =
     map repeat_of (map string_bytes m.twice.keys)
     ++ map outsider_of (filter is_outside (map string_bytes m.folders.keys))
 
--- a member has another text than its workspace gives
-abbrev pub other_of : Code → Text → Text → Option Text → List Oddity
+-- a member has what its workspace gives
+abbrev pub has_given : Option Text → Text → Bool
+has_given own given = option_map_or (bytes_eq given) own false
+
+abbrev pub other_words : Option Text → Text → Text
+other_words own given =
+    unwrap_or own (codes "none") ++ (codes ", where the workspace has " ++ given)
+
+-- a member has another text than its workspace gives, or none
+abbrev pub other_of : Code → Text → Option Text → Option Text → List Oddity
 other_of code folder own None = []
 other_of code folder own (Some given) =
-    if bytes_eq given own then []
-    else (oddity_with code folder (own ++ codes ", where the workspace has " ++ given) ∷ [])
+    if has_given own given then [] else (oddity_with code folder (other_words own given) ∷ [])
 
 -- what a member has otherwise: its edition, and its licence
 abbrev pub differences : Text → Text → Option Text → TemplateMeaning → List Oddity
 differences folder edition license t =
-    other_of OtherEdition folder edition (option_map edition_text t.edition)
-    ++ other_of OtherLicense folder (unwrap_or license (codes "none")) t.license
+    other_of OtherEdition folder (Some edition) (option_map edition_text t.edition)
+    ++ other_of OtherLicense folder license t.license
 
 abbrev pub differences_if_any : Text → Text → Option Text → Option TemplateMeaning → List Oddity
 differences_if_any folder edition license t =

@@ -16,6 +16,7 @@ import importlib.util
 import json
 import os
 import re
+import stat
 import subprocess
 import sys
 import tempfile
@@ -426,6 +427,14 @@ def lint(path):
 # audit
 
 
+def is_folder(path):
+    """Whether a folder is there. Any other fault is raised."""
+    try:
+        return stat.S_ISDIR(os.stat(path).st_mode)
+    except (FileNotFoundError, NotADirectoryError):
+        return False
+
+
 def expanded(root, entry):
     """The folders that an entry of `members` stands for."""
     found = ["/" if entry.startswith("/") else ""]
@@ -436,17 +445,29 @@ def expanded(root, entry):
         further = []
         for folder in found:
             place = os.path.join(root, folder)
-            within = os.listdir(place) if os.path.isdir(place) else []
+            within = os.listdir(place) if is_folder(place) else []
             for other in fnmatch.filter(within, name.replace("[", "[[]")):
-                if os.path.isdir(os.path.join(place, other)):
+                if is_folder(os.path.join(place, other)):
                     further.append(os.path.join(folder, other))
         found = further
     return found or [entry]
 
 
+def leads_out(path):
+    """Whether a normalized path leads out of the folder in which it is seen."""
+    return path.startswith("/") or path.split("/")[0] == ".."
+
+
+def lies_under(folder, outer):
+    """Whether a folder is another, or lies in it, by their normalized paths."""
+    if outer == ".":
+        return not leads_out(folder)
+    names, front = folder.split("/"), outer.split("/")
+    return names[: len(front)] == front and names[len(front) : len(front) + 1] != [".."]
+
+
 def lies_in(folder, outers):
-    outers = map(os.path.normpath, outers)
-    return any(outer == "." or f"{folder}/".startswith(f"{outer}/") for outer in outers)
+    return any(lies_under(folder, outer) for outer in map(os.path.normpath, outers))
 
 
 def members(root, manifest):
@@ -507,7 +528,7 @@ def inspected(root):
     told, uses, inherited = [], {}, set()
     odd = {("listed-twice", folder, "two entries of members lead to it") for folder in twice}
     for folder in in_order(folders):
-        if folder.startswith(("/", "../")) or folder == "..":
+        if leads_out(folder):
             odd.add(("outside", folder, "it lies outside the workspace's folder"))
         try:
             member = load(os.path.join(root, folder, "Cargo.toml"))

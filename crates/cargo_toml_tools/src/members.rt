@@ -19,7 +19,8 @@ use cargo_toml::{Error, Manifest, Workspace};
 use std::alloc::{AllocError, Global};
 use std::collections::BTreeSet;
 use std::rt::Files;
-use walk::{climbs_from, expanded, is_within, leads_out, normalized, path_below, seen_from};
+pub use walk::leads_out;
+use walk::{climbs_from, expanded, is_within, normalized, path_below, seen_from};
 
 /// The members that a workspace lists, by their folders from its own on.
 #[derive(Debug, Drop)]

@@ -16,6 +16,7 @@ import importlib.util
 import json
 import os
 import re
+import stat
 import subprocess
 import sys
 import tempfile
@@ -189,9 +190,15 @@ def entry(key, kind, target, value):
 # escapes
 
 
+CONTROLS = (
+    "\0-\x1f\x7f-\x9f\xad\u061c\u180e\u200b-\u200f\u2028-\u202e\u2060-\u206f\ufeff"
+    "\ufff9-\ufffb\U000e0001\U000e0020-\U000e007f"
+)
+
+
 def is_control(c):
     """No sign: a line's end, another control, what takes no place or turns the direction."""
-    return bool(re.match("[\0-\x1f\x7f-\x9f\u200b-\u200f\u2028-\u202e\u2060-\u206f\ufeff]", c))
+    return bool(re.match(f"[{CONTROLS}]", c))
 
 
 def sign_for_line(c):
@@ -211,7 +218,7 @@ def for_markdown(text):
 
 
 def code(name):
-    if name and all(is_plain(c) or c == "_" for c in name):
+    if name and name[0] != " " and all(is_plain(c) or c == "_" for c in name):
         return f"`{name}`"
     return f"<code>{for_markdown(name)}</code>"
 
@@ -420,6 +427,14 @@ def lint(path):
 # audit
 
 
+def is_folder(path):
+    """Whether a folder is there. Any other fault is raised."""
+    try:
+        return stat.S_ISDIR(os.stat(path).st_mode)
+    except (FileNotFoundError, NotADirectoryError):
+        return False
+
+
 def expanded(root, entry):
     """The folders that an entry of `members` stands for."""
     found = ["/" if entry.startswith("/") else ""]
@@ -430,17 +445,29 @@ def expanded(root, entry):
         further = []
         for folder in found:
             place = os.path.join(root, folder)
-            within = os.listdir(place) if os.path.isdir(place) else []
+            within = os.listdir(place) if is_folder(place) else []
             for other in fnmatch.filter(within, name.replace("[", "[[]")):
-                if os.path.isdir(os.path.join(place, other)):
+                if is_folder(os.path.join(place, other)):
                     further.append(os.path.join(folder, other))
         found = further
     return found or [entry]
 
 
+def leads_out(path):
+    """Whether a normalized path leads out of the folder in which it is seen."""
+    return path.startswith("/") or path.split("/")[0] == ".."
+
+
+def lies_under(folder, outer):
+    """Whether a folder is another, or lies in it, by their normalized paths."""
+    if outer == ".":
+        return not leads_out(folder)
+    names, front = folder.split("/"), outer.split("/")
+    return names[: len(front)] == front and names[len(front) : len(front) + 1] != [".."]
+
+
 def lies_in(folder, outers):
-    outers = map(os.path.normpath, outers)
-    return any(outer == "." or f"{folder}/".startswith(f"{outer}/") for outer in outers)
+    return any(lies_under(folder, outer) for outer in map(os.path.normpath, outers))
 
 
 def members(root, manifest):
@@ -501,7 +528,7 @@ def inspected(root):
     told, uses, inherited = [], {}, set()
     odd = {("listed-twice", folder, "two entries of members lead to it") for folder in twice}
     for folder in in_order(folders):
-        if folder.startswith(("/", "../")) or folder == "..":
+        if leads_out(folder):
             odd.add(("outside", folder, "it lies outside the workspace's folder"))
         try:
             member = load(os.path.join(root, folder, "Cargo.toml"))
@@ -524,8 +551,9 @@ def inspected(root):
             uses.setdefault(crate, {}).setdefault(text, set()).add(folder)
         given = workspace.get("package", {})
         for key, word in ("edition", "other-edition"), ("license", "other-license"):
-            own = told[-1][key] or "none"
+            own = told[-1][key]
             if key in given and given[key] != own:
+                own = "none" if own is None else own
                 odd.add((word, folder, f"{own}, where the workspace has {given[key]}"))
     for crate, texts in uses.items():
         if len(texts) > 1:
@@ -541,7 +569,7 @@ def audit(root):
     text = ""
     for one in told:
         keys = "name", "version", "edition", "rust_version", "license", "publish"
-        cells = [one[key] or "-" for key in keys]
+        cells = ["-" if one[key] is None else one[key] for key in keys]
         inherits = ", ".join(map(for_line, one["inherits"])) or "-"
         front = f"member {for_line(one['folder'])}"
         text += " | ".join([front, *map(for_line, cells), inherits]) + "\n"

@@ -4,6 +4,7 @@ pub mod Unreferenced
 pub mod Enabling
 pub mod MemberFeatures
 mod Rewriting
+mod FloatFaults
 pub mod ToldAt
 pub mod RootTold
 pub mod Texts
@@ -15,6 +16,7 @@ mod UserFacing
 mod Put
 mod AllNames
 mod FeatureNames
+mod Outcomes
 mod LeftMember
 mod Turns
 mod Taken

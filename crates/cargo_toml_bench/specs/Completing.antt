@@ -1,9 +1,10 @@
 -- A member that is completed from a workspace which bytes spell.
-use Rattle.std.specs.Prelude.{◌⊎◌, ℕ, List, Option, Some}
+use Rattle.std.specs.Prelude.{◌⊎◌, ℕ, List, Option, Some, Err}
 use Rattle.toml.specs.View.{view}
 use Rattle.toml.specs.declared.value.Value.{Value}
 use Rattle.cargo_toml.specs.Choosing.{Handed, RootsTold}
 use Rattle.cargo_toml.specs.Completed.{IsCompleted}
+use Rattle.cargo_toml.specs.Completing.{Meets, complete}
 use Rattle.cargo_toml.specs.Error.{Error}
 use Rattle.cargo_toml.specs.FaultValues.{Fault}
 use Rattle.cargo_toml.specs.Manifest.{Manifest}
@@ -28,13 +29,15 @@ module _ (bytes path : List ℕ) (old : Manifest Value) (roots : RootsTold) wher
     pub spelled : SpellsManifest bytes workspace
     pub completed : IsCompleted old (handed_at workspace path) roots told new
 
-  -- why it isn't: the bytes are no manifest, or completion from the one that they spell is refused
-  abbrev pub IsRefusedFrom : (Option (List ℕ) → Fault → Type 0) → (List ℕ → Fault → Type 0)
-      → Error → Type 0
-  IsRefusedFrom lost names e =
+  -- why it isn't: the bytes are no manifest, or completion from the one that they spell is refused,
+  -- as it has to be where all is stated that it asks for
+  abbrev pub IsRefusedFrom : (List ℕ → Told) → (Option (List ℕ) → Fault → Type 0)
+      → (List ℕ → Fault → Type 0) → Error → Type 0
+  IsRefusedFrom told lost names e =
       RefusesBytes bytes e
       ⊎ ((workspace : Manifest Value) × (SpellsManifest bytes workspace
-      × IsRefusedBy (held old) (handed_at workspace path) roots lost names e))
+      × (Meets held (complete (held old) (handed_at workspace path) roots told) (Err e)
+      × IsRefusedBy (held old) (handed_at workspace path) roots lost names e)))
 
 module _ (member bytes path : List ℕ) (roots : RootsTold) where
   -- so completed is the member that the first bytes spell
@@ -44,9 +47,9 @@ module _ (member bytes path : List ℕ) (roots : RootsTold) where
     pub completed : IsCompletedFrom bytes path old roots told new
 
   -- why there is none: those bytes are no manifest, or the one that they spell isn't completed
-  abbrev pub IsUnreadFrom : (Option (List ℕ) → Fault → Type 0) → (List ℕ → Fault → Type 0)
-      → Error → Type 0
-  IsUnreadFrom lost names e =
+  abbrev pub IsUnreadFrom : (List ℕ → Told) → (Option (List ℕ) → Fault → Type 0)
+      → (List ℕ → Fault → Type 0) → Error → Type 0
+  IsUnreadFrom told lost names e =
       RefusesBytes member e
       ⊎ ((old : Manifest Value) × (SpellsManifest member old
-      × IsRefusedFrom bytes path old roots lost names e))
+      × IsRefusedFrom bytes path old roots told lost names e))

@@ -21,14 +21,16 @@ use std::hash::BuildHasherDefault;
 /// Resolves the features of a manifest by both bodies, without the hidden ones: first as callers
 /// do, then by the plain body.
 ///
-/// The first is the answer to the manifest, and the second says the same, but for what is public
-/// and texts: each feature has the same binaries, too. The one refusal is [`Error::Memory`].
+/// Each is the answer to the manifest, so that the two say the same: each feature has the same
+/// binaries, too. The one refusal is [`Error::Memory`].
 pub fn resolve_by_both<'m, M>(
     alloc: Global,
     manifest: &'m Manifest<M>,
 ) -> Result<(Answer<'m>, Answer<'m>), Error>
     ensures called { IfOk result (λ p.
         IsParsed MAX_ITEMS (held manifest.now) (λ _. false) (answer_of p.0)) }
+    ensures plain { IfOk result (λ p.
+        IsParsed MAX_ITEMS (held manifest.now) (λ _. false) (answer_of p.1)) }
     ensures alike { IfOk result (λ p. AreAlike (answer_of p.0) (answer_of p.1)) }
     ensures refused { IfErr result (λ e. e ≡ Memory) }
 {
@@ -46,6 +48,9 @@ pub fn resolve_by_both_keeping_a<'m, M>(
     ensures called { IfOk result (λ p.
         IsParsed MAX_ITEMS (held manifest.now) (λ n. bytes_eq n (codes "_a"))
         (answer_of p.0)) }
+    ensures plain { IfOk result (λ p.
+        IsParsed MAX_ITEMS (held manifest.now) (λ n. bytes_eq n (codes "_a"))
+        (answer_of p.1)) }
     ensures alike { IfOk result (λ p. AreAlike (answer_of p.0) (answer_of p.1)) }
     ensures refused { IfErr result (λ e. e ≡ Memory) }
 {

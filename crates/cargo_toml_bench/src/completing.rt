@@ -4,6 +4,7 @@ ghost use Rattle.toml.specs.View.{view};
 ghost use Rattle.toml.specs.declared.value.Value.{Value};
 ghost use Rattle.cargo_toml.specs.Choosing.{roots_of};
 ghost use Rattle.cargo_toml.specs.Completed.{IsCompleted};
+ghost use Rattle.cargo_toml.specs.Completing.{Meets, complete};
 ghost use Rattle.cargo_toml.specs.InheritedPackages.{IsFilled};
 ghost use Rattle.cargo_toml.specs.InheritableValues.{value_of};
 ghost use Rattle.cargo_toml.specs.InheritedManifests.{needs};
@@ -41,7 +42,7 @@ pub fn complete_member<Fs: AbstractFilesystem + Drop>(
         (roots_of Fs.Roots.ARE_READ (Fs.root_for files.now)) (Fs.names_at files.now)
         member.new) }
     ensures refused { IfErr result (IsRefusedFrom workspace.now path.now member.old
-        (roots_of Fs.Roots.ARE_READ (Fs.root_for files.now))
+        (roots_of Fs.Roots.ARE_READ (Fs.root_for files.now)) (Fs.names_at files.now)
         (MayLose Fs.Roots.ARE_READ (Fs.may_refuse_root files.now)) (Fs.may_refuse files.now)) }
 {
     let workspace = read(alloc, workspace)?;
@@ -65,6 +66,9 @@ pub fn complete_among<Fs: AbstractFilesystem + Drop>(
     ensures completed { OnOk result (IsCompleted member.old (handed_at workspace.now path.now)
         (roots_of Fs.Roots.ARE_READ (Fs.root_for files.now)) (Fs.names_at files.now)
         member.new) }
+    ensures outcome { Meets (λ _. held member.new)
+        (complete (held member.old) (handed_at workspace.now path.now)
+        (roots_of Fs.Roots.ARE_READ (Fs.root_for files.now)) (Fs.names_at files.now)) result }
     ensures refused { IfErr result (IsRefusedBy (held member.old) (handed_at workspace.now path.now)
         (roots_of Fs.Roots.ARE_READ (Fs.root_for files.now))
         (MayLose Fs.Roots.ARE_READ (Fs.may_refuse_root files.now)) (Fs.may_refuse files.now)) }
@@ -89,7 +93,7 @@ pub fn read_member<Fs: AbstractFilesystem + Drop>(
         (roots_of Fs.Roots.ARE_READ (Fs.root_for files.now)) (Fs.names_at files.now)
         h.manifest.value) }
     ensures refused { IfErr result (IsUnreadFrom member.now workspace.now path.now
-        (roots_of Fs.Roots.ARE_READ (Fs.root_for files.now))
+        (roots_of Fs.Roots.ARE_READ (Fs.root_for files.now)) (Fs.names_at files.now)
         (MayLose Fs.Roots.ARE_READ (Fs.may_refuse_root files.now)) (Fs.may_refuse files.now)) }
 {
     let mut member = read(alloc, member)?;
@@ -115,7 +119,7 @@ pub fn edition_of_member<Fs: AbstractFilesystem + Drop>(
         (roots_of Fs.Roots.ARE_READ (Fs.root_for files.now)) (Fs.names_at files.now)
         member.new) }
     ensures refused { IfErr result (IsRefusedFrom workspace.now path.now member.old
-        (roots_of Fs.Roots.ARE_READ (Fs.root_for files.now))
+        (roots_of Fs.Roots.ARE_READ (Fs.root_for files.now)) (Fs.names_at files.now)
         (MayLose Fs.Roots.ARE_READ (Fs.may_refuse_root files.now)) (Fs.may_refuse files.now)) }
 {
     complete_member(alloc, member, files, workspace, path)?;

@@ -1,7 +1,8 @@
 //! What asking for one feature of a manifest enables.
 ghost use Rattle.std.specs.Prelude.{◌≡◌, ◌↔◌, IfErr, IfOk, IfSome, IsTrue, option_map};
 ghost use Rattle.cargo_toml.specs.Action.{Text};
-ghost use Rattle.cargo_toml.specs.Reached.{AreEnabled, IsKeyed, pairs_at};
+ghost use Rattle.cargo_toml.specs.Reached.{AreEnabled, ComeFrom, HaveNoEmpty};
+ghost use Rattle.cargo_toml.specs.Reached.{IsKeyed, pairs_at};
 ghost use Rattle.cargo_toml.specs.Recursive.{ArePairs};
 ghost use Rattle.cargo_toml.specs.Manifests.{held};
 ghost use Rattle.cargo_toml.specs.Views.{table_in, value_at};
@@ -39,9 +40,12 @@ pub fn find_enabled<'f, 'm, S: BuildHasher + Clone>(
         ≡ value_at resolved.now.features name.now) }
     ensures features { IfOk result (λ o. IfSome o (λ e.
         AreEnabled resolved.now.features e.asked.now.key.now e.features)) }
+    ensures values { IfOk result (λ o. IfSome o (λ e.
+        ComeFrom resolved.now.features e.features)) }
     ensures dependencies { IfOk result (λ o. IfSome o (λ e. (k : Text)
         → ArePairs (table_in resolved.now.features) e.asked.now.key.now k
         (pairs_at e.dependencies k))) }
+    ensures no_empty { IfOk result (λ o. IfSome o (λ e. HaveNoEmpty e.dependencies)) }
     ensures refused { IfErr result (λ e. e ≡ Error.Memory) }
 {
     let Some(asked) = resolved.features.get(name) else {

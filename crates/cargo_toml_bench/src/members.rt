@@ -2,6 +2,7 @@
 ghost use Rattle.std.specs.Prelude.{◌≡◌, ◌⊎◌, IfErr, IfOk, OnOk, option_map};
 ghost use Rattle.cargo_toml.specs.Choosing.{handed_of, roots_of};
 ghost use Rattle.cargo_toml.specs.Completed.{IsCompleted};
+ghost use Rattle.cargo_toml.specs.Completing.{Meets, complete};
 ghost use Rattle.cargo_toml.specs.Error.{Memory};
 ghost use Rattle.cargo_toml.specs.Manifests.{held};
 ghost use Rattle.cargo_toml.specs.Refusing.{IsRefusedBy, MayLose};
@@ -29,6 +30,9 @@ pub fn enables_in_member<Fs: AbstractFilesystem + Drop>(
     ensures completed { OnOk result
         (IsCompleted member.old (option_map handed_of workspace.entry)
         (roots_of Fs.Roots.ARE_READ (Fs.root_for files)) (Fs.names_at files) member.new) }
+    ensures outcome { Meets (λ _. held member.new)
+        (complete (held member.old) (option_map handed_of workspace.entry)
+        (roots_of Fs.Roots.ARE_READ (Fs.root_for files)) (Fs.names_at files)) result }
     ensures left { IfErr result (λ e. (member.new ≡ member.old)
         ⊎ ((e ≡ Memory) × IsCompleted member.old (option_map handed_of workspace.entry)
         (roots_of Fs.Roots.ARE_READ (Fs.root_for files)) (Fs.names_at files) member.new)) }
@@ -61,6 +65,9 @@ pub fn count_features<Fs: AbstractFilesystem + Drop>(
     ensures completed { OnOk result
         (IsCompleted member.old (option_map handed_of workspace.entry)
         (roots_of Fs.Roots.ARE_READ (Fs.root_for files)) (Fs.names_at files) member.new) }
+    ensures outcome { Meets (λ _. held member.new)
+        (complete (held member.old) (option_map handed_of workspace.entry)
+        (roots_of Fs.Roots.ARE_READ (Fs.root_for files)) (Fs.names_at files)) result }
     ensures left { IfErr result (λ e. (member.new ≡ member.old)
         ⊎ ((e ≡ Memory) × IsCompleted member.old (option_map handed_of workspace.entry)
         (roots_of Fs.Roots.ARE_READ (Fs.root_for files)) (Fs.names_at files) member.new)) }

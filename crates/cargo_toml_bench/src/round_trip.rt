@@ -1,9 +1,10 @@
 //! What was written is read again as it was: one caller for each family of types of
 //! which that is promised.
-ghost use Rattle.std.specs.Prelude.{◌≡◌, IfErr, IfOk};
+ghost use Rattle.std.specs.Prelude.{◌≡◌, ◌⊎◌, IfErr, IfOk};
 ghost use Rattle.semver.specs.Identifiers.{parts_of};
 ghost use Rattle.toml.specs.View.{view};
 ghost use Rattle.cargo_toml.specs.Badges.{badge_meaning};
+ghost use Rattle.cargo_toml.specs.Faults.{IsOther, floats_unsupported};
 ghost use Rattle.cargo_toml.specs.Inherits.{inheritable_map};
 ghost use Rattle.cargo_toml.specs.Lints.{lint_meaning};
 ghost use Rattle.cargo_toml.specs.Packages.{package_meaning};
@@ -83,23 +84,28 @@ pub fn product_again(alloc: Global, product: &Product) -> Result<Product, Error>
     Product::from_value(alloc, product.to_value(alloc)?)
 }
 
-/// A lint whose config has no key `level` or `priority`, written and read again.
+/// A lint whose config has no key `level` or `priority`, written and read again. A refusal is
+/// [`Error::Memory`] or, where it holds a float, the text `floats are not supported`.
 pub fn lint_again(alloc: Global, lint: &Lint) -> Result<Lint, Error>
     requires { IsApart (lint_meaning lint.now) }
     ensures same { IfOk result (λ again. lint_meaning again ≡ lint_meaning lint.now) }
     ensures refused { LintHoldsNoFloat (lint_meaning lint.now)
         → IfErr result (λ e. e ≡ Error.Memory) }
+    ensures fault { IfErr result (λ e. (e ≡ Error.Memory) ⊎ IsOther floats_unsupported e) }
 {
     Lint::from_value(alloc, lint.to_value(alloc)?)
 }
 
-/// A package whose version `semver` reads again from its own text, written and read again.
+/// A package whose version `semver` reads again from its own text, written and read again. A
+/// refusal is [`Error::Memory`] or, where its metadata hold a float, the text `floats are not
+/// supported`.
 pub fn package_again(alloc: Global, written: &Package) -> Result<Package, Error>
     requires { VersionAgain (inheritable_map parts_of written.now.version) }
     ensures same { IfOk result
         (λ again. package_meaning view again ≡ package_meaning view written.now) }
     ensures refused { PackageHoldsNoFloat (HasTree free_way) (package_meaning view written.now)
         → IfErr result (λ e. e ≡ Error.Memory) }
+    ensures fault { IfErr result (λ e. (e ≡ Error.Memory) ⊎ IsOther floats_unsupported e) }
 {
     value_metadata(&written.metadata);
     Package::from_value(alloc, written.to_value(alloc)?)

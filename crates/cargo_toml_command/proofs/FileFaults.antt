@@ -22,7 +22,7 @@ pub refused_file : (T : Type 0) (path : List ℕ) (read new : Manifest Value) (e
     IsCompletionFault path (held read) None e → IsFileFault path e
 refused_file T path read new e spelled outcome bad why =
     refused path (manifest_meaning view) (manifest_reads any_tree) (ManifestRefuses any_tree AnyRefuses)
-    (λ _. held new) read new (path_parent path) (Err e) spelled outcome bad why
+    (λ _. held new) read new (Err e) spelled outcome bad why
 
 -- what was appended still is, once what is known stays
 pub still_appended : (old mid new : Option (List ℕ)) (bytes : List ℕ) → Appends old mid bytes → Keeps mid new → Appends old new bytes

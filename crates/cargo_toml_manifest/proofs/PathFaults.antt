@@ -18,17 +18,27 @@ use Rattle.cargo_toml_discovery.proofs.Faults.{fault_of-memory}
 use Rattle.cargo_toml_manifest.proofs.Meeting.{refused_again}
 
 -- the refusal of a manifest that a text reads as
-pub refused_of : {T X M : Type 0} (path text : List ℕ) (meaning : Manifest X → ManifestMeaning M) (reads : Data → Option (ManifestMeaning M))
+refused_at : {T X M : Type 0} (path text : List ℕ) (meaning : Manifest X → ManifestMeaning M) (reads : Data → Option (ManifestMeaning M))
     (refuses : Data → Error → Type 0) (f : T → ManifestMeaning X) (read : Manifest X) (parent : Option (List ℕ)) (e : Error) →
-    ReadsAs text meaning reads read →
+    path_parent path ≡ parent → ReadsAs text meaning reads read →
     (IsSome parent → Meets f (complete (held read) None real_roots real_folders) (Err e)) →
     (parent ≡ None) ↔ (fault_of e ≡ bad_path) →
     IsCompletionFault path (held read) None e →
     IsTextFault path text meaning reads refuses e
-refused_of path text meaning reads refuses f read None e read_as outcome bad why = inr (inl (bad.0 refl))
-refused_of path text meaning reads refuses f read (Some folder) e read_as outcome bad (inl at) = inr (inl at)
-refused_of path text meaning reads refuses f read (Some folder) e read_as outcome bad (inr around) =
+refused_at path text meaning reads refuses f read None e at read_as outcome bad why = inr (inl (at, bad.0 refl))
+refused_at path text meaning reads refuses f read (Some folder) e at read_as outcome bad (inl unnamed) = inr (inl unnamed)
+refused_at path text meaning reads refuses f read (Some folder) e at read_as outcome bad (inr around) =
     inr (inr (read, read_as, (refused_again f held _ e (outcome refl), around)))
+
+pub refused_of : {T X M : Type 0} (path text : List ℕ) (meaning : Manifest X → ManifestMeaning M) (reads : Data → Option (ManifestMeaning M))
+    (refuses : Data → Error → Type 0) (f : T → ManifestMeaning X) (read : Manifest X) (e : Error) →
+    ReadsAs text meaning reads read →
+    (IsSome (path_parent path) → Meets f (complete (held read) None real_roots real_folders) (Err e)) →
+    (path_parent path ≡ None) ↔ (fault_of e ≡ bad_path) →
+    IsCompletionFault path (held read) None e →
+    IsTextFault path text meaning reads refuses e
+refused_of path text meaning reads refuses f read e =
+    refused_at path text meaning reads refuses f read (path_parent path) e refl
 
 -- and of one that was read in a file
 pub refused_in_file : {X M : Type 0} (path text : List ℕ) (meaning : Manifest X → ManifestMeaning M) (reads : Data → Option (ManifestMeaning M))
@@ -39,16 +49,15 @@ refused_in_file path text meaning reads refuses e utf8 (inr (inr (read, read_as,
 
 -- and where completion is the last step
 pub refused : {T X M : Type 0} (path : List ℕ) (meaning : Manifest X → ManifestMeaning M) (reads : Data → Option (ManifestMeaning M))
-    (refuses : Data → Error → Type 0) (f : T → ManifestMeaning X) (read new : Manifest X) (parent : Option (List ℕ))
-    (r : Result T Error) →
+    (refuses : Data → Error → Type 0) (f : T → ManifestMeaning X) (read new : Manifest X) (r : Result T Error) →
     IsReadFromText meaning reads read →
-    (IsSome parent → Meets f (complete (held read) None real_roots real_folders) r) →
-    (parent ≡ None) ↔ IsErrAnd r (λ e. fault_of e ≡ bad_path) →
+    (IsSome (path_parent path) → Meets f (complete (held read) None real_roots real_folders) r) →
+    (path_parent path ≡ None) ↔ IsErrAnd r (λ e. fault_of e ≡ bad_path) →
     IfErr r (IsCompletionFault path (held read) None) →
     IfErr (result_and r (Ok new)) (IsPathFault path meaning reads refuses)
-refused path meaning reads refuses f read new parent (Ok t) text_of outcome bad why = tt
-refused path meaning reads refuses f read new parent (Err e) (text, utf8, read_as) outcome bad why =
-    refused_in_file path text meaning reads refuses e utf8 (refused_of path text meaning reads refuses f read parent e read_as outcome bad why)
+refused path meaning reads refuses f read new (Ok t) text_of outcome bad why = tt
+refused path meaning reads refuses f read new (Err e) (text, utf8, read_as) outcome bad why =
+    refused_in_file path text meaning reads refuses e utf8 (refused_of path text meaning reads refuses f read e read_as outcome bad why)
 
 -- the refusal of completion in the folder of a path is one around that
 pub around_path : {T M : Type 0} (path folder there : List ℕ) (m : ManifestMeaning M) (handed : Option Handed) (r : Result T Error) →
@@ -93,3 +102,8 @@ pub no_bad_path : {M T : Type 0} (m : ManifestMeaning M) (handed : Option Handed
 no_bad_path m handed told roots names parent folder (Ok t) is h = ((λ none. let k : None ≡ Some folder = sym none ∙ is in cc), (λ bad. absurd bad))
 no_bad_path m handed told roots names parent folder (Err e) is h =
     ((λ none. let k : None ≡ Some folder = sym none ∙ is in cc), (λ bad. absurd (no_bad_fault m handed told roots names e h bad)))
+
+-- a path that isn't refused names a file
+pub some_from : {X : Type 0} (o : Option X) → ¬ (o ≡ None) → IsSome o
+some_from None h = absurd (h refl)
+some_from (Some x) h = refl

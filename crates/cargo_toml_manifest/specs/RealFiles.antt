@@ -144,10 +144,14 @@ IsRefusedAround path m handed e =
     × IsRefusedBy m handed real_roots
     (MayLose false (RealRootRefuses (or_here folder))) RealListingRefuses e)
 
+-- the path names no file, and the fault says so
+abbrev pub IsBadPath : List ℕ → Error → Type 0
+IsBadPath path e = (path_parent path ≡ None) × (fault_of e ≡ bad_path)
+
 -- why real files complete no manifest: the path of its file names none, or a fault of completion
 abbrev pub IsCompletionFault : {M : Type 0} → List ℕ → ManifestMeaning M → Option Handed
     → Error → Type 0
-IsCompletionFault path m handed e = (fault_of e ≡ bad_path) ⊎ IsRefusedAround path m handed e
+IsCompletionFault path m handed e = IsBadPath path e ⊎ IsRefusedAround path m handed e
 
 -- the text reads as this manifest
 abbrev pub ReadsAs : {X M : Type 0} → List ℕ → (Manifest X → ManifestMeaning M)
@@ -195,7 +199,7 @@ abbrev pub IsTextFault : {X M : Type 0} → List ℕ → List ℕ → (Manifest 
     → (Data → Option (ManifestMeaning M)) → (Data → Error → Type 0) → Error → Type 0
 IsTextFault path text meaning reads refuses e =
     IsFromText meaning reads refuses (parse_document text) (Err e)
-    ⊎ ((fault_of e ≡ bad_path)
+    ⊎ (IsBadPath path e
     ⊎ ((read : Manifest _) × ReadsAs text meaning reads read × IsRefusalOf path read e))
 
 -- why a file gives no completed manifest: no memory, a fault of reading, one of some text, a path
@@ -207,5 +211,4 @@ IsPathFault path meaning reads refuses e =
     ⊎ (IsInput e
     ⊎ (((text : List ℕ) × IsUtf8 text
     × IsFromText meaning reads refuses (parse_document text) (Err e))
-    ⊎ ((fault_of e ≡ bad_path)
-    ⊎ IsReadAndRefused path meaning reads e)))
+    ⊎ (IsBadPath path e ⊎ IsReadAndRefused path meaning reads e)))

@@ -111,6 +111,7 @@ impl Manifest {
         path: &'a str,
     ) -> Result<Manifest, Error>
         ensures given { IfOk result (IsReadAndCompleted view (manifest_reads any_tree)) }
+        ensures named { OnOk result (IsSome (path_parent path.now)) }
         ensures needs { IfOk result (λ new. needs (held new) ≡ false) }
         ensures filled { IfOk result (λ new. IfSome new.package IsFilled) }
         ensures refused { IfErr result (IsPathFault path.now (manifest_meaning view)
@@ -132,6 +133,7 @@ impl<Metadata: FromValue> Manifest<Metadata> {
     ) -> Result<Manifest<Metadata>, Error>
         ensures given { IfOk result
             (IsReadAndCompleted Metadata.meaning (manifest_reads Metadata.from_tree)) }
+        ensures named { OnOk result (IsSome (path_parent path.now)) }
         ensures needs { IfOk result (λ new. needs (held new) ≡ false) }
         ensures filled { IfOk result (λ new. IfSome new.package IsFilled) }
         ensures refused { IfErr result (IsPathFault path.now (manifest_meaning Metadata.meaning)
@@ -152,6 +154,7 @@ fn completed_of<'a, Metadata: FromValue, R: Files + AllocGlobal>(
 ) -> Result<Manifest<Metadata>, Error>
     ensures given { IfOk result
         (IsCompletedOf text.now Metadata.meaning (manifest_reads Metadata.from_tree)) }
+    ensures named { OnOk result (IsSome (path_parent path.now)) }
     ensures needs { IfOk result (λ new. needs (held new) ≡ false) }
     ensures filled { IfOk result (λ new. IfSome new.package IsFilled) }
     ensures refused { IfErr result

@@ -7,7 +7,7 @@ use Rattle.std.proofs.lemmas.Bool.{cases_lt, cond-false, cond-true, cond_both, e
 use Rattle.std.proofs.lemmas.Bool.{not_from_false, or_cases}
 use Rattle.std.proofs.lemmas.List.{append-nil, nil_from_length}
 use Rattle.std.proofs.lemmas.Str.{chars-nil, encode_ascii, encodes-chars, scalars-chars}
-use Rattle.std.specs.List.{flat_map, list_all}
+use Rattle.std.specs.List.{flat_map, list_all, starts_with}
 use Rattle.std.specs.Prelude.{codes, decimal, encode_utf8, encode_utf8_all, length, nat_eq, not}
 use Rattle.std.specs.Prelude.{if◌then◌else◌}
 use Rattle.std.specs.Fmt.{digits}
@@ -154,6 +154,9 @@ text_line words u =
 abbrev pub is_code_char : ℕ → Bool
 is_code_char c = is_plain_sign c || nat_eq c 95
 
+abbrev pub is_none_there : List ℕ → Bool
+is_none_there name = nat_eq (length name) 0 || starts_with nat_eq name (codes " ")
+
 char_cell : (c : ℕ) → is_code_char c ≡ true → is_cell (encode_utf8 c) ≡ true
 char_cell c h = elim (or_cases (is_plain_sign c) (nat_eq c 95) h) [
   | inl e ↦ cell_encode c (plain_unescaped c e)
@@ -171,7 +174,7 @@ chars_cell (c ∷ cs) h =
 name_cell : (name : List ℕ) → IsUtf8 name → is_code name ≡ true → is_cell name ≡ true
 name_cell name u h =
     let all = list_all is_code_char (chars name) in
-    let p = and_parts all (not (nat_eq (length name) 0)) h in
+    let p = and_parts all (not (is_none_there name)) h in
     sym (ap is_cell (encodes-chars name u)) ∙ chars_cell (chars name) p.0
 
 -- the two ways to write it

@@ -1,7 +1,7 @@
 -- Folders that an entry of `members` leads to, one name after another.
-use Rattle.std.proofs.Common.{◌≡◌, ◌↔◌, ◌<◌, ◌+◌, ◌&&◌, ◌∙◌, ◌⊎◌, ℕ, Bool, false, true, List, [], ◌∷◌, IsTrue, String, Global, Option, None, Some, ap, arith, drop, get_or, inl, inr, length, length-drop, map, nat_eq, option_map, refl, string_bytes, subst, suc, sym, take, zero}
+use Rattle.std.proofs.Common.{◌≡◌, ◌↔◌, ◌<◌, ◌+◌, ◌&&◌, ◌||◌, ◌∙◌, ◌⊎◌, ℕ, Bool, false, true, List, [], ◌∷◌, IsTrue, String, Global, Option, None, Some, ap, arith, drop, get_or, inl, inr, length, length-drop, map, nat_eq, option_map, refl, string_bytes, subst, suc, sym, take, zero}
 use Rattle.std.specs.Prelude.{◌==◌, IsFalse, MatchOption, bytes_eq, cond, filter, not, unwrap_or}
-use Rattle.std.proofs.lemmas.Bool.{and_from, and_parts, both_ways, cases_Bool, cases_eq, cases_lt, cond-false, cond-true, cond_both, eqb-false, false≢true, false_from_ne_true, iff_false, ne_eqb, or_left, or_parts, or_right, true_from_ne_false}
+use Rattle.std.proofs.lemmas.Bool.{and_from, and_parts, both_ways, cases_Bool, cases_eq, cases_lt, cond-false, cond-true, cond_both, eqb-false, false≢true, false_from_ne_true, iff_false, ne_eqb, or_cases, or_left, or_parts, or_right, true_from_ne_false}
 use Rattle.std.proofs.lemmas.List.{get_or-drop, length-map}
 use Rattle.std.proofs.lemmas.Map.Text.{btree_set_updates_text}
 use Rattle.std.proofs.lemmas.Slice.Eq.{bytes_eq-Decides}
@@ -112,6 +112,41 @@ put_further wanted folder name s old new updates is fits path there =
       | inr other ↦ inl (sym (cond-false (bytes_eq (string_bytes s) path) true (contains_text old path) other) ∙ at)
     ]
 
+pub put_keeps : (s : String Global) (old new : BTreeSet (String Global)) → Updates string_cmp old new s true
+    → (path : Text) → IsTrue (contains_text old path) → IsTrue (contains_text new path)
+put_keeps s old new updates path there =
+    btree_set_updates_text (string_bytes s) old new true updates path ∙ ap (cond (bytes_eq (string_bytes s) path) true) there
+    ∙ always (bytes_eq (string_bytes s) path)
+  where
+    always : (b : Bool) → cond b true true ≡ true
+    always true = refl
+    always false = refl
+
+pub put_led : (s : String Global) (old new : BTreeSet (String Global)) → Updates string_cmp old new s true
+    → (path : Text) → string_bytes s ≡ path → IsTrue (contains_text new path)
+put_led s old new updates path is =
+    btree_set_updates_text (string_bytes s) old new true updates path
+    ∙ cond-true (bytes_eq (string_bytes s) path) true (contains_text old path) ((bytes_eq-Decides (string_bytes s) path).1 is)
+
+-- the same, where it is added in one case alone
+pub adds_further : (wanted folder name : Text) (s : String Global) (found : Bool) (old new : BTreeSet (String Global))
+    → ((t : Text) → contains_text new t ≡ (contains_text old t || (found && bytes_eq (string_bytes s) t)))
+    → string_bytes s ≡ path_below folder name → IsTrue (fits_name wanted name) → Gains wanted folder old new
+adds_further wanted folder name s found old new is at fits path there =
+    elim (or_cases (contains_text old path) (found && bytes_eq (string_bytes s) path) (sym (is path) ∙ there)) [
+      | inl was ↦ inl was
+      | inr both ↦ inr (record {
+        name = name;
+        fits = fits;
+        below = sym ((bytes_eq-Decides (string_bytes s) path).0 (and_parts found (bytes_eq (string_bytes s) path) both).1) ∙ at;
+      })
+    ]
+
+pub adds_keeps : (s : String Global) (found : Bool) (old new : BTreeSet (String Global))
+    → ((t : Text) → contains_text new t ≡ (contains_text old t || (found && bytes_eq (string_bytes s) t)))
+    → (path : Text) → IsTrue (contains_text old path) → IsTrue (contains_text new path)
+adds_keeps s found old new is path there = is path ∙ or_left (contains_text old path) (found && bytes_eq (string_bytes s) path) there
+
 pub some_passes : {A : Type 0} (test : A → Bool) (xs : List A) → list_any test xs ≡ true → 0 < length xs
 some_passes test [] h = absurd (false≢true h)
 some_passes test (x ∷ xs) h = omega arith
@@ -133,7 +168,8 @@ first_key old new k none is = is ∙ ap (λ ks. insert_key string_cmp ks k) none
 pub record GoesFurther (wanted : Text) (folders : BTreeSet (String Global)) (left : List (String Global)) (all : BTreeSet (String Global)) : Type 0 where
   pub within : (k : Text) → Among (map string_bytes left) k → IsTrue (contains_text folders k)
   pub further : (path : Text) → IsTrue (contains_text all path) → IsFurther wanted (contains_text folders) path
-  pub some : IsFalse (is_pattern wanted) → 0 < btree_set_len folders → 0 < length left + btree_set_len all
+  pub led : IsFalse (is_pattern wanted) → (folder : Text) → IsTrue (contains_text folders folder)
+      → Among (map string_bytes left) folder ⊎ IsTrue (contains_text all (path_below folder wanted))
   pub ordered : IsOrdered string_cmp all
 
 pub none_yet : (wanted : Text) (folders all : BTreeSet (String Global)) (left : List (String Global)) → left ≡ folders.keys → all.keys ≡ [] → IsOrdered string_cmp all
@@ -141,22 +177,41 @@ pub none_yet : (wanted : Text) (folders all : BTreeSet (String Global)) (left : 
 none_yet wanted folders all left is none ordered = record {
   within = λ k i. among_in string_bytes k folders.keys (subst (λ ks. Among (map string_bytes ks) k) is i);
   further = λ path there. absurd (false≢true (sym (ap (list_any (is_at (λ k. slice_cmp nat_cmp path (string_bytes k)))) none) ∙ there));
-  some = λ plain some. omega (arith, ap length is);
+  led = λ plain f there. inl (subst (λ ks. Among (map string_bytes ks) f) (sym is) (among_out string_bytes f folders.keys there));
   ordered = ordered;
 }
 
 pub one_more_folder : (wanted : Text) (folders : BTreeSet (String Global)) (left rest : List (String Global)) (k : String Global) (folder : Text) (all more : BTreeSet (String Global)) → left ≡ k ∷ rest → folder ≡ string_bytes k
-    → Gains wanted folder all more → (IsFalse (is_pattern wanted) → 0 < btree_set_len more) → IsOrdered string_cmp more
+    → Gains wanted folder all more → ((path : Text) → IsTrue (contains_text all path) → IsTrue (contains_text more path))
+    → (IsFalse (is_pattern wanted) → IsTrue (contains_text more (path_below folder wanted))) → IsOrdered string_cmp more
     → GoesFurther wanted folders left all → GoesFurther wanted folders rest more
-one_more_folder wanted folders left rest k folder all more is at gains some ordered before = record {
+one_more_folder wanted folders left rest k folder all more is at gains kept here ordered before = record {
   within = λ q i. before.within q (subst (λ ks. Among (map string_bytes ks) q) (sym is) (inr i));
   further = λ path there. elim (gains path there) [
     | inl was ↦ before.further path was
     | inr one ↦ (folder, (before.within folder (subst (λ ks. Among (map string_bytes ks) folder) (sym is) (inl at)), one))
   ];
-  some = λ plain there. let h = some plain in omega arith;
+  led = λ plain f there. elim (before.led plain f there) [
+    | inl i ↦ elim (subst (λ ks. Among (map string_bytes ks) f) is i) [
+      | inl e ↦ inr (subst (λ t. IsTrue (contains_text more (path_below t wanted))) (at ∙ sym e) (here plain))
+      | inr j ↦ inl j
+    ]
+    | inr put ↦ inr (kept (path_below f wanted) put)
+  ];
   ordered = ordered;
 }
+
+-- what leads on from each of some folders is some
+pub some_led : (name : Text) (folders all : BTreeSet (String Global))
+    → ((folder : Text) → IsTrue (contains_text folders folder) → IsTrue (contains_text all (path_below folder name)))
+    → 0 < btree_set_len folders → 0 < btree_set_len all
+some_led name folders all led some = go folders.keys refl
+  where
+    go : (ks : List (String Global)) → folders.keys ≡ ks → 0 < btree_set_len all
+    go [] e = absurd (omega (arith, ap length e, some))
+    go (k ∷ ks) e =
+        some_passes _ all.keys
+        (led (string_bytes k) (among_in string_bytes (string_bytes k) folders.keys (subst (λ xs. Among (map string_bytes xs) (string_bytes k)) (sym e) (inl refl))))
 
 -- ---- an entry, as far as its names were taken
 abbrev pub kept : List Text → List Text

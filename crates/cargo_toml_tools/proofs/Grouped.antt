@@ -6,17 +6,17 @@ use Rattle.cargo_toml_tools.specs.Neighbours.{in_front_of_runs, runs_of}
 
 module _ {A : Type 0} (alike : A → A → Bool) where
   -- runs begin with the first element
-  record Begins (x : A) (runs : List (List A)) : Type 0 where
-    run : List A
-    others : List (List A)
-    is : runs ≡ (x ∷ run) ∷ others
+  pub record Begins (x : A) (runs : List (List A)) : Type 0 where
+    pub run : List A
+    pub others : List (List A)
+    pub is : runs ≡ (x ∷ run) ∷ others
 
   by_test : (x y : A) (run : List A) (runs : List (List A)) (b : Bool)
       → Begins x (if b then (x ∷ y ∷ run) ∷ runs else (x ∷ []) ∷ (y ∷ run) ∷ runs)
   by_test x y run runs true = record { run = y ∷ run; others = runs; is = refl }
   by_test x y run runs false = record { run = []; others = (y ∷ run) ∷ runs; is = refl }
 
-  begins : (x : A) (runs : List (List A)) → Begins x (in_front_of_runs alike x runs)
+  pub begins : (x : A) (runs : List (List A)) → Begins x (in_front_of_runs alike x runs)
   begins x [] = record { run = []; others = []; is = refl }
   begins x ([] ∷ runs) = record { run = []; others = runs; is = refl }
   begins x ((y ∷ run) ∷ runs) = by_test x y run runs (alike x y)
@@ -30,7 +30,7 @@ module _ {A : Type 0} (alike : A → A → Bool) where
       ∙ ap (λ rs. (x ∷ []) ∷ rs) (sym b.is)
 
   -- one more in front of a run
-  joins : (x y : A) (run : List A) (runs : List (List A)) → alike x y ≡ true → in_front_of_runs alike x ((y ∷ run) ∷ runs) ≡ (x ∷ y ∷ run) ∷ runs
+  pub joins : (x y : A) (run : List A) (runs : List (List A)) → alike x y ≡ true → in_front_of_runs alike x ((y ∷ run) ∷ runs) ≡ (x ∷ y ∷ run) ∷ runs
   joins x y run runs same = ap (λ t. if t then (x ∷ y ∷ run) ∷ runs else (x ∷ []) ∷ (y ∷ run) ∷ runs) same
 
   -- without the first element

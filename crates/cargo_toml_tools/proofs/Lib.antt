@@ -38,3 +38,4 @@ pub mod Inserted
 pub mod Using
 pub mod Unused
 pub mod ReportFloatless
+pub mod Several

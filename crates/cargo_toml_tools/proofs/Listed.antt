@@ -12,9 +12,10 @@ use Rattle.std.specs.List.{flat_map, list_any}
 use Rattle.cargo_toml.specs.Action.{Text}
 use Rattle.cargo_toml.specs.Reach.{Among}
 use Rattle.cargo_toml_tools.specs.MemberFolders.{AreListed, AreOfPaths, LeadsToFolders, has_pattern, lists_folder, named_folder, times_named}
-use Rattle.cargo_toml_tools.specs.Places.{is_excluded, is_within, lies_in, lies_under, normalized}
+use Rattle.cargo_toml_tools.specs.Places.{is_excluded, lies_in, lies_under, normalized}
 use Rattle.cargo_toml_tools.proofs.Followed.{leads_alone}
 use Rattle.cargo_toml_tools.proofs.NamedFolder.{normalized_named}
+use Rattle.cargo_toml_tools.proofs.Within.{lies_in_itself}
 
 pub cond_or : (b c : Bool) → cond b true c ≡ (c || b)
 cond_or true true = refl
@@ -162,9 +163,7 @@ module _ (members excluded : List Text) where
       lies [] none = absurd none
       lies (m ∷ ms) (inl is) =
           or_left (lies_under (normalized entry) (normalized m)) (lies_in (normalized entry) ms)
-          (ap (λ t. lies_under (normalized entry) (normalized t)) (sym is)
-          ∙ or_right (bytes_eq (normalized entry) (codes ".")) (is_within (normalized entry) (normalized entry))
-          (or_left (bytes_eq (normalized entry) (normalized entry)) _ ((bytes_eq-Decides (normalized entry) (normalized entry)).1 refl)))
+          (ap (λ t. lies_under (normalized entry) (normalized t)) (sym is) ∙ lies_in_itself (normalized entry))
       lies (m ∷ ms) (inr i) = or_right (lies_under (normalized entry) (normalized m)) (lies_in (normalized entry) ms) (lies ms i)
 
   named_lists : (entry : Text) → Among members entry → (t : Text) → lists_folder members excluded t (named_folder entry) ≡ bytes_eq (normalized entry) t

@@ -4,18 +4,22 @@ use Rattle.std.specs.Prelude.{decimal, encode_utf8, if◌then◌else◌, length,
 use Rattle.std.specs.Char.{is_ascii, is_ascii_alphanumeric}
 use Rattle.std.specs.Fmt.{digits}
 use Rattle.std.specs.Int.{is_in_range}
-use Rattle.std.specs.List.{concat, flat_map, list_all, list_any}
+use Rattle.std.specs.List.{concat, flat_map, list_all, list_any, starts_with}
 use Rattle.std.specs.Str.{trim_end}
 use Rattle.cargo_toml.specs.Action.{Text}
 use Rattle.cargo_toml_tools.specs.declared.escape.Format.{Format}
 use Rattle.cargo_toml_tools.specs.declared.escape.Format.TheVariants.{Dot, Line, Markdown}
 
--- a character that is no sign: it ends a line, takes no place, or turns the direction of what
--- follows
+-- characters that are no signs, each range by its first and its last: they end a line, take no
+-- place, or turn the direction of what follows
+abbrev pub controls : List (ℕ × ℕ)
+controls =
+    (0, 0x1F) ∷ (0x7F, 0x9F) ∷ (0xAD, 0xAD) ∷ (0x61C, 0x61C) ∷ (0x180E, 0x180E)
+    ∷ (0x200B, 0x200F) ∷ (0x2028, 0x202E) ∷ (0x2060, 0x206F) ∷ (0xFEFF, 0xFEFF)
+    ∷ (0xFFF9, 0xFFFB) ∷ (0xE0001, 0xE0001) ∷ (0xE0020, 0xE007F) ∷ []
+
 abbrev pub is_control : ℕ → Bool
-is_control c =
-    is_in_range 0 0x1F c || is_in_range 0x7F 0x9F c || is_in_range 0x200B 0x200F c
-    || is_in_range 0x2028 0x202E c || is_in_range 0x2060 0x206F c || (c == 0xFEFF)
+is_control c = list_any (λ range. is_in_range range.0 range.1 c) controls
 
 -- a character that has no meaning in the text of a line of Markdown
 abbrev pub is_plain_sign : ℕ → Bool
@@ -45,9 +49,12 @@ escaped Dot c =
 abbrev pub escaped_text : Format → Text → Text
 escaped_text format words = flat_map (escaped format) (chars words)
 
--- a name with characters, each of which is plain or `_`, which is 95
+-- a name with characters, each of which is plain or `_`, which is 95. None begins with a space:
+-- between backticks Markdown drops one at each end
 abbrev pub is_code : Text → Bool
-is_code name = list_all (λ c. is_plain_sign c || (c == 95)) (chars name) && not (length name == 0)
+is_code name =
+    list_all (λ c. is_plain_sign c || (c == 95)) (chars name)
+    && not ((length name == 0) || starts_with nat_eq name (codes " "))
 
 -- a name as code in Markdown: between backticks, where nothing in it could have a meaning there
 abbrev pub code : Text → Text

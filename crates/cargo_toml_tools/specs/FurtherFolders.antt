@@ -1,6 +1,9 @@
 -- One name further from folders, as an entry of `members` is followed, and the paths that it adds.
-use Rattle.std.specs.Prelude.{◌≡◌, ◌++◌, Bool, false, IsTrue, List}
+use Rattle.std.specs.Prelude.{◌≡◌, ◌++◌, Bool, false, IsTrue, List, Result, Ok, Err, nat_eq}
 use Rattle.std.specs.BTreeSet.{contains_text}
+use Rattle.std.specs.Fs.{file_type}
+use Rattle.std.specs.declared.fs.attrs.Metadata.{Metadata}
+use Rattle.std.specs.declared.io.Error.{Error as IoError}
 use Rattle.cargo_toml.specs.Action.{Text}
 use Rattle.cargo_toml_tools.specs.MemberFolders.{AreOfPaths, fits_name}
 use Rattle.cargo_toml_tools.specs.Places.{path_below}
@@ -16,6 +19,11 @@ pub record IsOneFurther (wanted folder path : Text) : Type 0 where
 abbrev pub IsFurther : Text → (Text → Bool) → Text → Type 0
 IsFurther wanted folders path =
     (folder : Text) × (IsTrue (folders folder) × IsOneFurther wanted folder path)
+
+-- the system answers that a folder is there
+abbrev pub is_folder : Result Metadata IoError → Bool
+is_folder (Ok found) = nat_eq (file_type found).bits 0o040000
+is_folder (Err fault) = false
 
 -- whatever paths led to the folders of a listing, now these lead to some besides
 abbrev pub AddsPaths : (Text → Text → Bool) → List Text → Members → Members → Type 0

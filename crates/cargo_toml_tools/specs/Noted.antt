@@ -75,9 +75,9 @@ GainsUses asked old new =
     GainsExactly asked (Among (askings_of old)) (Among (askings_of new))
 
 -- what a member asks for is noted, once the member was taken in. Where it is refused for what it
--- holds, nothing is
+-- holds, the report stays as it was
 pub record NotesUses {M : Type 0} (folder : Text) (m : ManifestMeaning M)
     (result : Result (Unit {0}) Error) (old new : Audit) : Type 0 where
   pub inherited : new.inherited ≡ old.inherited
   pub all : OnOk result (GainsUses (asked_in_all folder (all_by_kind m)) old.uses new.uses)
-  pub none : IfErr result (λ e. (e ≡ Memory) ⊎ (new.uses ≡ old.uses))
+  pub none : IfErr result (λ e. (e ≡ Memory) ⊎ (new ≡ old))

@@ -1,9 +1,8 @@
 -- What a report finds odd, and what each call adds to that.
-use Rattle.std.specs.Prelude.{◌⊎◌, ◌++◌, ◌||◌, Bool, List, [], ◌∷◌, Option, Some, None}
-use Rattle.std.specs.Prelude.{if◌then◌else◌, map, codes, bytes_eq, nat_eq, filter, option_map}
+use Rattle.std.specs.Prelude.{◌⊎◌, ◌++◌, Bool, false, List, [], ◌∷◌, Option, Some, None}
+use Rattle.std.specs.Prelude.{if◌then◌else◌, map, codes, bytes_eq, filter, option_map}
 use Rattle.std.specs.Prelude.{option_and_then, unwrap_or, string_bytes}
 use Rattle.std.specs.BTreeSet.{BTreeSet}
-use Rattle.std.specs.List.{starts_with}
 use Rattle.std.specs.Option.{option_map_or}
 use Rattle.cargo_toml.specs.Action.{Text}
 use Rattle.cargo_toml.specs.InheritableValues.{value_of}
@@ -18,6 +17,7 @@ use Rattle.cargo_toml_tools.specs.declared.audit.Code.TheVariants.{OtherEdition,
 use Rattle.cargo_toml_tools.specs.declared.audit.Code.TheVariants.{Outside}
 use Rattle.cargo_toml_tools.specs.declared.audit.Finding.{Finding}
 use Rattle.cargo_toml_tools.specs.declared.members.Members.{Members}
+use Rattle.cargo_toml_tools.specs.Places.{leads_out}
 
 -- what a finding tells: its code, the folder or the dependency that it is about, and its words
 pub record Oddity : Type 0 where
@@ -53,12 +53,6 @@ pub record GainsOnly (Such : Oddity → Type 0) (old new : BTreeSet Finding) : T
 abbrev pub refusal_of : Text → Text → Oddity
 refusal_of folder words = oddity_with Incomplete folder words
 
--- seen from the workspace's folder, this one lies outside
-abbrev pub is_outside : Text → Bool
-is_outside folder =
-    bytes_eq folder (codes "..")
-    || (starts_with nat_eq folder (codes "../") || starts_with nat_eq folder (codes "/"))
-
 abbrev pub repeat_of : Text → Oddity
 repeat_of folder = oddity_with ListedTwice folder (codes "two entries of members lead to it")
 
@@ -70,20 +64,27 @@ outsider_of folder =
 abbrev pub listing_oddities : Members → List Oddity
 listing_oddities m =
     map repeat_of (map string_bytes m.twice.keys)
-    ++ map outsider_of (filter is_outside (map string_bytes m.folders.keys))
+    ++ map outsider_of (filter leads_out (map string_bytes m.folders.keys))
 
--- a member has another text than its workspace gives
-abbrev pub other_of : Code → Text → Text → Option Text → List Oddity
+-- a member has what its workspace gives
+abbrev pub has_given : Option Text → Text → Bool
+has_given own given = option_map_or (bytes_eq given) own false
+
+abbrev pub other_words : Option Text → Text → Text
+other_words own given =
+    unwrap_or own (codes "none") ++ (codes ", where the workspace has " ++ given)
+
+-- a member has another text than its workspace gives, or none
+abbrev pub other_of : Code → Text → Option Text → Option Text → List Oddity
 other_of code folder own None = []
 other_of code folder own (Some given) =
-    if bytes_eq given own then []
-    else (oddity_with code folder (own ++ codes ", where the workspace has " ++ given) ∷ [])
+    if has_given own given then [] else (oddity_with code folder (other_words own given) ∷ [])
 
 -- what a member has otherwise: its edition, and its licence
 abbrev pub differences : Text → Text → Option Text → TemplateMeaning → List Oddity
 differences folder edition license t =
-    other_of OtherEdition folder edition (option_map edition_text t.edition)
-    ++ other_of OtherLicense folder (unwrap_or license (codes "none")) t.license
+    other_of OtherEdition folder (Some edition) (option_map edition_text t.edition)
+    ++ other_of OtherLicense folder license t.license
 
 abbrev pub differences_if_any : Text → Text → Option Text → Option TemplateMeaning → List Oddity
 differences_if_any folder edition license t =

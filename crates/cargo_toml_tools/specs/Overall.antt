@@ -1,16 +1,20 @@
 -- What only all members together show.
-use Rattle.std.specs.Prelude.{◌++◌, if◌then◌else◌, Bool, List, [], ◌∷◌, bytes_eq, codes, filter}
-use Rattle.std.specs.Prelude.{map, not}
-use Rattle.std.specs.BTreeSet.{contains_text}
+use Rattle.std.specs.Prelude.{◌≡◌, ◌↔◌, ◌⊎◌, ◌++◌, if◌then◌else◌, Bool, false, List, []}
+use Rattle.std.specs.Prelude.{◌∷◌, bytes_eq, codes, filter, map, not}
+use Rattle.std.specs.BTreeSet.{BTreeSet, contains_text}
+use Rattle.std.specs.Cmp.Lexicographic.{slice_cmp}
 use Rattle.std.specs.List.{flat_map, join_by, list_all}
+use Rattle.std.specs.Ordering.{is_gt, nat_cmp}
 use Rattle.cargo_toml.specs.Action.{Text}
 use Rattle.cargo_toml.specs.InheritedDependencies.{Entries}
+use Rattle.cargo_toml.specs.Reach.{Among}
 use Rattle.cargo_toml_tools.specs.Neighbours.{runs_of}
 use Rattle.cargo_toml_tools.specs.Noted.{Asking, askings_of}
-use Rattle.cargo_toml_tools.specs.Oddities.{Oddity, oddity_with}
+use Rattle.cargo_toml_tools.specs.Oddities.{IsReported, Oddity, oddity_with}
 use Rattle.cargo_toml_tools.specs.declared.audit.Audit.{Audit}
 use Rattle.cargo_toml_tools.specs.declared.audit.Code.TheVariants.{SeveralRequirements}
 use Rattle.cargo_toml_tools.specs.declared.audit.Code.TheVariants.{UnusedDependency}
+use Rattle.cargo_toml_tools.specs.declared.audit.Finding.{Finding}
 
 -- of the dependencies of the workspace, by their keys, those that no member inherits
 abbrev pub unused_of : Text → Oddity
@@ -53,3 +57,30 @@ several_among asked = flat_map several_of (runs_of asks_for_same asked)
 abbrev pub overall_oddities : Entries → Audit → List Oddity
 overall_oddities dependencies audit =
     unused_among audit (map (λ e. e.0) dependencies) ++ several_among (askings_of audit.uses)
+
+-- ---- that no crate is missed
+
+-- two of these ask for the crate, by different requirements
+pub record IsAskedBySeveral (asked : List Asking) (name : Text) : Type 0 where
+  pub one : Asking
+  pub other : Asking
+  pub asks : Among asked one × Among asked other
+  pub for_it : (one.name ≡ name) × (other.name ≡ name)
+  pub differ : ¬ (one.requirement ≡ other.requirement)
+
+-- a finding tells that the crate is asked for by several requirements
+pub record IsToldSeveral (findings : BTreeSet Finding) (name : Text) : Type 0 where
+  pub words : Text
+  pub told : IsReported findings (oddity_with SeveralRequirements name words)
+
+-- the crates of which that is told are those of before, and those that are asked for so
+abbrev pub GainsSeveral : List Asking → BTreeSet Finding → BTreeSet Finding → Type 0
+GainsSeveral asked old new =
+    (name : Text) → IsToldSeveral new name ↔ (IsToldSeveral old name ⊎ IsAskedBySeveral asked name)
+
+-- crates stand in byte order
+abbrev pub AreByName : List Asking → Type 0
+AreByName [] = Unit {0}
+AreByName (a ∷ others) =
+    ((b : Asking) → Among others b → is_gt (slice_cmp nat_cmp a.name b.name) ≡ false)
+    × AreByName others

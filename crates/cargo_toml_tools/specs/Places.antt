@@ -61,13 +61,21 @@ seen_from root folder =
 abbrev pub manifest_path : Text → Text → Text
 manifest_path root folder = path_below (seen_from root folder) (codes "Cargo.toml")
 
--- a folder is another, or lies in it; all lie in `.`
+-- a path is another, or goes on behind it
 abbrev pub is_within : Text → Text → Bool
-is_within folder outer =
-    bytes_eq folder outer || starts_with nat_eq folder (outer ++ codes "/")
+is_within path front =
+    bytes_eq path front || starts_with nat_eq path (front ++ codes "/")
 
+-- a normalized path that leads out of the folder in which it is seen
+abbrev pub leads_out : Text → Bool
+leads_out path = is_rooted path || is_within path (codes "..")
+
+-- a folder is another, or lies in it, by their normalized paths. In `.` lies what doesn't lead out,
+-- and in `..` nothing that goes on with one more `..`
 abbrev pub lies_under : Text → Text → Bool
-lies_under folder outer = bytes_eq outer (codes ".") || is_within folder outer
+lies_under folder outer =
+    if bytes_eq outer (codes ".") then not (leads_out folder)
+    else is_within folder outer && not (is_within folder (outer ++ codes "/.."))
 
 -- a folder is one of these, as they are written, or lies in one
 abbrev pub lies_in : Text → List Text → Bool

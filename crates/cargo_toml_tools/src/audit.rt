@@ -9,7 +9,7 @@ ghost use Rattle.cargo_toml_tools.specs.Audited.{AddsMember, IsNoPackage, IsUnto
 ghost use Rattle.cargo_toml_tools.specs.Indexed.{all_by_kind};
 ghost use Rattle.cargo_toml_tools.specs.LeftKeys.{left_keys};
 ghost use Rattle.cargo_toml_tools.specs.Noted.{GainsKeys, NotesUses, inherited_in_all};
-ghost use Rattle.cargo_toml_tools.specs.Oddities.{AreReported, GainsOnly, IsReported, is_outside};
+ghost use Rattle.cargo_toml_tools.specs.Oddities.{AreReported, GainsOnly, IsReported};
 ghost use Rattle.cargo_toml_tools.specs.Oddities.{listing_oddities, member_differences};
 ghost use Rattle.cargo_toml_tools.specs.Oddities.{oddity_with, refusal_of};
 
@@ -19,7 +19,7 @@ mod report;
 mod summary;
 mod uses;
 
-use crate::members::Members;
+use crate::members::{Members, leads_out};
 use cargo_toml::{Error, Manifest, Workspace};
 use inherited::{add_inherited_dependencies, inherited_keys};
 pub use report::{json, lines};
@@ -165,7 +165,7 @@ impl Audit {
             self.find(Code::ListedTwice, folder.as_str(), words)?;
         }
         for member in &members.folders {
-            if !is_outside(member.as_str()) {
+            if !leads_out(member.as_str()) {
                 continue;
             }
             let words = String::from_str(alloc, "it lies outside the workspace's folder")?;
@@ -229,11 +229,4 @@ impl Audit {
         let words = String::from_str(*self.members.allocator(), words)?;
         self.find(Code::Incomplete, folder, words)
     }
-}
-
-/// Whether a folder that is seen from the workspace's lies outside that one.
-fn is_outside(folder: &str) -> bool
-    ensures { result ≡ is_outside folder.now }
-{
-    folder == ".." || folder.starts_with("../") || folder.starts_with('/')
 }

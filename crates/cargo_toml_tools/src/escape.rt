@@ -1,7 +1,9 @@
 //! How names and texts of strangers are written into lines, Markdown and Graphviz's language.
 //!
 //! No name can end the line that it stands in, or close what stands around it.
-ghost use Rattle.std.specs.Prelude.{◌≡◌, ◌==◌, ◌++◌, ◌||◌, IfOk, OnOk, string_bytes, true};
+ghost use Rattle.std.specs.Prelude.{◌≡◌, ◌==◌, ◌++◌, ◌||◌, IfOk, OnOk, codes, length, nat_eq};
+ghost use Rattle.std.specs.Prelude.{string_bytes, true};
+ghost use Rattle.std.specs.List.{starts_with};
 ghost use Rattle.cargo_toml_tools.specs.declared.escape.Format.TheVariants.{Dot, Line, Markdown};
 ghost use Rattle.cargo_toml_tools.specs.Escaped.{braced, code, comma, escaped, escaped_text};
 ghost use Rattle.cargo_toml_tools.specs.Escaped.{fault_line, is_code, is_control, is_plain_sign};
@@ -140,12 +142,14 @@ fn push_numbered(text: &mut String, c: char) -> Result<(), AllocError>
 }
 
 /// Whether the character is no sign: it ends a line, or is one of those that take no place or turn
-/// the direction of what follows. Others of that kind count as signs, as U+00AD and U+061C.
+/// the direction of what follows.
 fn is_control(c: char) -> bool
     ensures { result ≡ is_control c }
 {
-    matches!(c, '\0'..='\u{1f}' | '\u{7f}'..='\u{9f}' | '\u{200b}'..='\u{200f}')
-        || matches!(c, '\u{2028}'..='\u{202e}' | '\u{2060}'..='\u{206f}' | '\u{feff}')
+    matches!(c, '\0'..='\u{1f}' | '\u{7f}'..='\u{9f}' | '\u{ad}' | '\u{61c}' | '\u{180e}')
+        || matches!(c, '\u{200b}'..='\u{200f}' | '\u{2028}'..='\u{202e}')
+        || matches!(c, '\u{2060}'..='\u{206f}' | '\u{feff}' | '\u{fff9}'..='\u{fffb}')
+        || matches!(c, '\u{e0001}' | '\u{e0020}'..='\u{e007f}')
 }
 
 /// Whether the character has no meaning in the text of a line of Markdown.
@@ -159,7 +163,8 @@ fn is_plain_in_markdown(c: char) -> bool
     }
 }
 
-/// Whether a name has characters, each of which stands for itself between backticks.
+/// Whether a name has characters, each of which stands for itself between backticks. A space in
+/// front doesn't, where another ends the name.
 fn is_code(name: &str) -> bool
     ensures { result ≡ is_code name.now }
 {
@@ -168,7 +173,14 @@ fn is_code(name: &str) -> bool
             return false;
         }
     }
-    !name.is_empty()
+    !is_none_in_code(name)
+}
+
+/// Whether a name has no character, or begins with a space.
+fn is_none_in_code(name: &str) -> bool
+    ensures { result ≡ ((length name.now == 0) || starts_with nat_eq name.now (codes " ")) }
+{
+    name.is_empty() || name.starts_with(' ')
 }
 
 fn is_plain_in_code(c: char) -> bool

@@ -19,7 +19,8 @@ use cargo_toml::{Error, Manifest, Workspace};
 use std::alloc::{AllocError, Global};
 use std::collections::BTreeSet;
 use std::rt::Files;
-use walk::{expanded, is_within, normalized, path_below, seen_from};
+pub use walk::leads_out;
+use walk::{climbs_from, expanded, is_within, normalized, path_below, seen_from};
 
 /// The members that a workspace lists, by their folders from its own on.
 #[derive(Debug, Drop)]
@@ -172,7 +173,10 @@ fn lies_in(alloc: Global, folder: &str, folders: &[String]) -> Result<bool, Allo
 fn lies_under(folder: &str, outer: &str) -> bool
     ensures { result ≡ lies_under folder.now outer.now }
 {
-    outer == "." || is_within(folder, outer)
+    if outer == "." {
+        return !leads_out(folder);
+    }
+    is_within(folder, outer) && !climbs_from(folder, outer)
 }
 
 /// The path of the manifest in a folder that is seen from `root`.

@@ -64,8 +64,8 @@ notes_uses {K} {A} folder m (Err e) old mid new before notes such = elim notes.n
   | inr same ↦ inr (record {
     keys_kept = λ key h. subst (λ (s : BTreeSet (String Global)). IsKeyNoted (record old { inherited = s }) key) (sym notes.inherited) (before.keys_kept key h);
     keys = λ key h. before.keys key (subst (λ (s : BTreeSet (String Global)). IsKeyNoted (record old { inherited = s }) key) notes.inherited h);
-    asked_kept = λ x h. subst (λ (s : BTreeSet Use). Among (askings_of s) x) (sym same) (before.asked_kept x h);
-    asked = λ x h. before.asked x (subst (λ (s : BTreeSet Use). Among (askings_of s) x) same h);
+    asked_kept = λ x h. subst (λ (a : Audit). Among (askings_of a.uses) x) (sym same) (before.asked_kept x h);
+    asked = λ x h. before.asked x (subst (λ (a : Audit). Among (askings_of a.uses) x) same h);
   })
 ]
 

@@ -1,14 +1,15 @@
 //! What members have otherwise than their workspace, or than one another.
-ghost use Rattle.std.specs.Prelude.{◌≡◌, ◌++◌, IfOk, OnOk, codes, option_map, string_bytes};
+ghost use Rattle.std.specs.Prelude.{◌≡◌, IfOk, OnOk, codes, option_map, string_bytes, unwrap_or};
 ghost use Rattle.std.specs.Option.{option_copied};
 ghost use Rattle.cargo_toml.specs.Dependencies.{dependency_meaning};
 ghost use Rattle.cargo_toml.specs.Reach.{Among};
 ghost use Rattle.cargo_toml.specs.Reads.{map_meaning};
 ghost use Rattle.cargo_toml.specs.Settings.{edition_text};
 ghost use Rattle.cargo_toml.specs.Templates.{template_meaning};
+ghost use Rattle.cargo_toml_tools.specs.Noted.{askings_of};
 ghost use Rattle.cargo_toml_tools.specs.Oddities.{AreReported, GainsOnly, differences_if_any};
-ghost use Rattle.cargo_toml_tools.specs.Oddities.{other_of};
-ghost use Rattle.cargo_toml_tools.specs.Overall.{overall_oddities};
+ghost use Rattle.cargo_toml_tools.specs.Oddities.{has_given, other_of, other_words};
+ghost use Rattle.cargo_toml_tools.specs.Overall.{GainsSeveral, overall_oddities};
 
 use super::uses::add_requirements;
 use super::{Audit, Code, Member};
@@ -38,31 +39,31 @@ impl Audit {
         };
         let folder = member.folder.as_str();
         let edition = edition_text(alloc, package.edition)?;
-        let own = member.edition.as_str();
+        let own = Some(member.edition.as_str());
         self.find_other(Code::OtherEdition, folder, own, edition.as_deref())?;
-        let own = member.license.as_deref().unwrap_or("none");
+        let own = member.license.as_deref();
         self.find_other(Code::OtherLicense, folder, own, package.license.as_deref())
     }
 
-    /// Adds where a member has another text than the workspace gives.
+    /// Adds where a member has another text than the workspace gives, or none.
     fn find_other(
         &mut self,
         code: Code,
         folder: &str,
-        own: &str,
+        own: Option<&str>,
         given: Option<&str>,
     ) -> Result<(), AllocError>
         ensures rest { self.new ≡ record self.old { findings = self.new.findings } }
         ensures findings { GainsOnly
-            (Among (other_of code folder.now own.now (option_copied given.entry)))
+            (Among (other_of code folder.now (option_copied own.entry) (option_copied given.entry)))
             self.old.findings self.new.findings }
         ensures found { OnOk result (AreReported self.new.findings
-            (other_of code folder.now own.now (option_copied given.entry))) }
+            (other_of code folder.now (option_copied own.entry) (option_copied given.entry))) }
     {
         let Some(given) = given else {
             return Ok(());
         };
-        if given == own {
+        if has_given(own, given) {
             return Ok(());
         }
         let alloc = *self.members.allocator();
@@ -79,6 +80,8 @@ impl Audit {
             self.old.findings self.new.findings }
         ensures found { OnOk result (AreReported self.new.findings (overall_oddities
             (map_meaning dependency_meaning workspace.now.dependencies) self.old)) }
+        ensures several { OnOk result (GainsSeveral (askings_of self.old.uses)
+            self.old.findings self.new.findings) }
     {
         let alloc = *self.members.allocator();
         for key in workspace.dependencies.keys() {
@@ -102,9 +105,29 @@ fn edition_text(alloc: Global, edition: Option<Edition>) -> Result<Option<String
     }
 }
 
-fn other(alloc: Global, own: &str, given: &str) -> Result<String, AllocError>
-    ensures { IfOk result (λ words. string_bytes words
-        ≡ own.now ++ codes ", where the workspace has " ++ given.now) }
+/// Whether a member has what the workspace gives.
+fn has_given(own: Option<&str>, given: &str) -> bool
+    ensures { result ≡ has_given (option_copied own.entry) given.now }
 {
+    match own {
+        Some(own) => given == own,
+        None => false,
+    }
+}
+
+fn other(alloc: Global, own: Option<&str>, given: &str) -> Result<String, AllocError>
+    ensures { IfOk result
+        (λ words. string_bytes words ≡ other_words (option_copied own.entry) given.now) }
+{
+    let own = or_none(own);
     format!(in alloc; "{own}, where the workspace has {given}")
+}
+
+fn or_none(own: Option<&str>) -> &str
+    ensures { result.now ≡ unwrap_or (option_copied own.entry) (codes "none") }
+{
+    match own {
+        Some(own) => own,
+        None => "none",
+    }
 }

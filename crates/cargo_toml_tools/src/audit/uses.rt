@@ -10,8 +10,9 @@ ghost use Rattle.cargo_toml_tools.specs.Indexed.{all_by_kind};
 ghost use Rattle.cargo_toml_tools.specs.Noted.{GainsUses, asked_by, asked_in, asked_in_all};
 ghost use Rattle.cargo_toml_tools.specs.Noted.{asking_of, askings_of};
 ghost use Rattle.cargo_toml_tools.specs.Oddities.{AreReported, GainsOnly};
-ghost use Rattle.cargo_toml_tools.specs.Overall.{has_same_requirement, requirement_words};
-ghost use Rattle.cargo_toml_tools.specs.Overall.{several_among, several_of, several_words};
+ghost use Rattle.cargo_toml_tools.specs.Overall.{AreByName, has_same_requirement};
+ghost use Rattle.cargo_toml_tools.specs.Overall.{requirement_words, several_among, several_of};
+ghost use Rattle.cargo_toml_tools.specs.Overall.{several_words};
 
 use super::{Code, Finding, Use};
 use crate::requirement::required_version;
@@ -119,6 +120,7 @@ pub fn add_requirements(
         findings.old findings.new }
     ensures found { OnOk result
         (AreReported findings.new (several_among (askings_of uses.now))) }
+    ensures ordered { OnOk result (AreByName (askings_of uses.now)) }
 {
     let uses = in_order(alloc, uses)?;
     for own in uses.chunk_by(|a, b| a.0.name == b.0.name) {
@@ -129,8 +131,9 @@ pub fn add_requirements(
 
 /// The uses side by side, in order.
 fn in_order(alloc: Global, uses: &BTreeSet<Use>) -> Result<Vec<Lent<'_>>, AllocError>
-    ensures { IfOk result
+    ensures all { IfOk result
         (λ all. map (λ u. asking_of u.0.now) all.items ≡ askings_of uses.now) }
+    ensures ordered { OnOk result (AreByName (askings_of uses.now)) }
 {
     let mut all = Vec::new(alloc);
     for one in uses {

@@ -1,19 +1,22 @@
 //! Paths of folders, and those that an entry of `members` stands for.
-ghost use Rattle.std.specs.Prelude.{◌≡◌, ◌⊎◌, ◌<◌, ◌++◌, ◌∷◌, [], ◌&&◌, List, ℕ, IfErr, IfOk};
-ghost use Rattle.std.specs.Prelude.{IsFalse, IsTrue, OnOk, map, string_bytes, true};
-ghost use Rattle.std.specs.BTreeSet.{IsOrdered, btree_set_len, contains_text, keys};
+ghost use Rattle.std.specs.Prelude.{◌≡◌, ◌⊎◌, ◌++◌, ◌∷◌, [], ◌&&◌, ◌||◌, List, ℕ, IfErr, IfOk};
+ghost use Rattle.std.specs.Prelude.{IsErr, IsFalse, IsTrue, OnOk, bytes_eq, codes, map};
+ghost use Rattle.std.specs.Prelude.{string_bytes, true};
+ghost use Rattle.std.specs.BTreeSet.{IsOrdered, contains_text, keys};
+ghost use Rattle.std.specs.IoError.{error_kind};
 ghost use Rattle.std.specs.List.{join_with_byte};
 ghost use Rattle.std.specs.Path.{has_no_slash};
 ghost use Rattle.std.specs.String.{string_cmp};
+ghost use Rattle.cargo_toml.specs.Disk.{or_here};
 ghost use Rattle.cargo_toml.specs.RealFiles.{is_absent};
 ghost use Rattle.cargo_toml_tools.specs.MemberFolders.{IsOfFolders, LeadsToFolders, has_pattern};
 ghost use Rattle.cargo_toml_tools.specs.MemberFolders.{named_folder};
-ghost use Rattle.cargo_toml_tools.specs.FurtherFolders.{IsFurther, IsOneFurther};
+ghost use Rattle.cargo_toml_tools.specs.FurtherFolders.{IsFurther, IsOneFurther, is_folder};
 ghost use Rattle.cargo_toml_tools.specs.Patterns.{is_pattern};
 ghost use Rattle.cargo_toml_tools.specs.Places.{GoesOn, ends_in_name, path_below};
 ghost use Rattle.cargo_toml_tools.specs.Places.{is_nothing, is_rooted, is_settled, is_up};
-ghost use Rattle.cargo_toml_tools.specs.Places.{is_within, normalized, pieces, root_of, seen_from};
-ghost use Rattle.cargo_toml_tools.specs.Places.{settled};
+ghost use Rattle.cargo_toml_tools.specs.Places.{is_within, leads_out, normalized, pieces, root_of};
+ghost use Rattle.cargo_toml_tools.specs.Places.{seen_from, settled};
 
 use super::matching::{is_pattern, matches};
 use cargo_toml::Error;
@@ -22,7 +25,7 @@ use std::collections::BTreeSet;
 use std::rt::Files;
 use std::{fs, io};
 
-/// Whether a folder is `outer`, or lies in it.
+/// Whether a path is `outer`, or goes on behind it.
 pub fn is_within(folder: &str, outer: &str) -> bool
     ensures { result ≡ is_within folder.now outer.now }
 {
@@ -30,6 +33,23 @@ pub fn is_within(folder: &str, outer: &str) -> bool
         Some(rest) => rest.is_empty() || is_rooted(rest),
         None => false,
     }
+}
+
+/// Whether a path goes on behind `outer` with `..`.
+pub fn climbs_from(folder: &str, outer: &str) -> bool
+    ensures { result ≡ is_within folder.now (outer.now ++ codes "/..") }
+{
+    match folder.strip_prefix(outer) {
+        Some(rest) => is_within(rest, "/.."),
+        None => false,
+    }
+}
+
+/// Whether a normalized path leads out of the folder in which it is seen.
+pub fn leads_out(path: &str) -> bool
+    ensures { result ≡ leads_out path.now }
+{
+    is_rooted(path) || is_within(path, "..")
 }
 
 fn is_rooted(path: &str) -> bool
@@ -173,8 +193,9 @@ fn one_further<R: Files + AllocGlobal>(
 ) -> Result<BTreeSet<String>, Error>
     ensures further { IfOk result (λ all. (path : List ℕ) → IsTrue (contains_text all path)
         → IsFurther name.now (contains_text folders.now) path) }
-    ensures some { IfOk result (λ all. IsFalse (is_pattern name.now)
-        → 0 < btree_set_len folders.now → 0 < btree_set_len all) }
+    ensures led { IfOk result (λ all. IsFalse (is_pattern name.now)
+        → (folder : List ℕ) → IsTrue (contains_text folders.now folder)
+        → IsTrue (contains_text all (path_below folder name.now))) }
     ensures ordered { IfOk result (IsOrdered string_cmp) }
     ensures refused { IfErr result (IsOfFolders (is_pattern name.now)) }
 {
@@ -195,7 +216,10 @@ fn add_further<R: Files + AllocGlobal>(
 ) -> Result<(), Error>
     ensures added { OnOk result ((path : List ℕ) → IsTrue (contains_text all.new path)
         → IsTrue (contains_text all.old path) ⊎ IsOneFurther name.now folder.now path) }
-    ensures some { OnOk result (IsFalse (is_pattern name.now) → 0 < btree_set_len all.new) }
+    ensures kept { OnOk result ((path : List ℕ)
+        → IsTrue (contains_text all.old path) → IsTrue (contains_text all.new path)) }
+    ensures led { OnOk result (IsFalse (is_pattern name.now)
+        → IsTrue (contains_text all.new (path_below folder.now name.now))) }
     ensures ordered { OnOk result (IsOrdered string_cmp all.old → IsOrdered string_cmp all.new) }
     ensures refused { IfErr result (IsOfFolders (is_pattern name.now)) }
 {
@@ -217,62 +241,135 @@ fn add_matched<R: Files + AllocGlobal>(
     requires { IsTrue (is_pattern pattern.now) }
     ensures added { OnOk result ((path : List ℕ) → IsTrue (contains_text all.new path)
         → IsTrue (contains_text all.old path) ⊎ IsOneFurther pattern.now folder.now path) }
+    ensures kept { OnOk result ((path : List ℕ)
+        → IsTrue (contains_text all.old path) → IsTrue (contains_text all.new path)) }
     ensures ordered { OnOk result (IsOrdered string_cmp all.old → IsOrdered string_cmp all.new) }
     ensures refused { IfErr result (IsOfFolders true) }
 {
-    let alloc = rt.alloc();
-    let place = seen_from(alloc, root, folder)?;
-    let entries = match fs::read_dir(&rt, place.as_str()) {
+    let place = seen_from(rt.alloc(), root, folder)?;
+    let answer = fs::read_dir(&rt, or_here(place.as_str()));
+    add_listed(rt, (folder, place.as_str()), pattern, answer, all)
+}
+
+/// The path by which the system knows a folder: the empty path is the one that the program runs in.
+fn or_here(path: &str) -> &str
+    ensures { result.now ≡ or_here path.now }
+{
+    if path.is_empty() { "." } else { path }
+}
+
+/// The same, where the system answered so when it was asked for what lies in the folder. Behind the
+/// folder stands its path from where the program runs.
+fn add_listed<R: Files + AllocGlobal>(
+    rt: &R,
+    folder: (&str, &str),
+    pattern: &str,
+    answer: io::Result<fs::ReadDir<&R>>,
+    all: &mut BTreeSet<String>,
+) -> Result<(), Error>
+    requires { IsTrue (is_pattern pattern.now) }
+    ensures added { OnOk result ((path : List ℕ) → IsTrue (contains_text all.new path)
+        → IsTrue (contains_text all.old path) ⊎ IsOneFurther pattern.now folder.entry.0.now path) }
+    ensures kept { OnOk result ((path : List ℕ)
+        → IsTrue (contains_text all.old path) → IsTrue (contains_text all.new path)) }
+    ensures ordered { OnOk result (IsOrdered string_cmp all.old → IsOrdered string_cmp all.new) }
+    ensures refused { IfErr result (IsOfFolders true) }
+    ensures fault { IfErr answer.entry (λ e. IsFalse (is_absent (error_kind e)) → IsErr result) }
+{
+    let entries = match answer {
         Ok(entries) => entries,
         Err(fault) if is_absent(fault.kind()) => return Ok(()),
         Err(fault) => return Err(Error::from(fault)),
     };
     for entry in entries {
-        let entry = entry?;
-        let name = String::from_str(alloc, entry.file_name())?;
-        add_if_matched(rt, (folder, place.as_str()), pattern, name.as_str(), all)?;
+        add_entry(rt, folder, pattern, entry, all)?;
     }
     Ok(())
 }
 
-/// Adds what has this name in a folder, where the name matches and it is a folder too. Behind the
-/// folder stands its path from where the program runs.
+/// Adds what the system answered next of a folder, where its name matches and it is a folder too.
+fn add_entry<R: Files + AllocGlobal>(
+    rt: &R,
+    folder: (&str, &str),
+    pattern: &str,
+    entry: io::Result<fs::DirEntry<&R>>,
+    all: &mut BTreeSet<String>,
+) -> Result<(), Error>
+    requires { IsTrue (is_pattern pattern.now) }
+    ensures added { OnOk result ((path : List ℕ) → IsTrue (contains_text all.new path)
+        → IsTrue (contains_text all.old path) ⊎ IsOneFurther pattern.now folder.entry.0.now path) }
+    ensures kept { OnOk result ((path : List ℕ)
+        → IsTrue (contains_text all.old path) → IsTrue (contains_text all.new path)) }
+    ensures ordered { OnOk result (IsOrdered string_cmp all.old → IsOrdered string_cmp all.new) }
+    ensures refused { IfErr result (IsOfFolders true) }
+    ensures fault { IfErr entry.entry (λ _. IsErr result) }
+{
+    let entry = entry?;
+    let name = String::from_str(rt.alloc(), entry.file_name())?;
+    add_if_matched(rt, folder, pattern, name.as_str(), all)
+}
+
+/// Adds what has this name in a folder, where the name matches and it is a folder too.
 fn add_if_matched<R: Files + AllocGlobal>(
     rt: &R,
     folder: (&str, &str),
     pattern: &str,
     name: &str,
     all: &mut BTreeSet<String>,
-) -> Result<(), AllocError>
+) -> Result<(), Error>
     requires pattern { IsTrue (is_pattern pattern.now) }
     requires name { IsTrue (has_no_slash name.now) }
     ensures added { OnOk result ((path : List ℕ) → IsTrue (contains_text all.new path)
         → IsTrue (contains_text all.old path) ⊎ IsOneFurther pattern.now folder.entry.0.now path) }
+    ensures kept { OnOk result ((path : List ℕ)
+        → IsTrue (contains_text all.old path) → IsTrue (contains_text all.new path)) }
     ensures ordered { OnOk result (IsOrdered string_cmp all.old → IsOrdered string_cmp all.new) }
+    ensures refused { IfErr result (IsOfFolders true) }
 {
     let alloc = rt.alloc();
     if !matches(alloc, pattern, name)? {
         return Ok(());
     }
-    let path = path_below(alloc, folder.1, name)?;
-    if !is_folder(rt, path.as_str()) {
+    let place = path_below(alloc, folder.1, name)?;
+    let path = path_below(alloc, folder.0, name)?;
+    add_if_folder(path, fs::metadata(rt, place.as_str()), all)
+}
+
+/// Adds a path, where the system answered that a folder is there.
+fn add_if_folder(
+    path: String,
+    answer: io::Result<fs::Metadata>,
+    all: &mut BTreeSet<String>,
+) -> Result<(), Error>
+    ensures added { OnOk result ((text : List ℕ) → contains_text all.new text
+        ≡ (contains_text all.old text || (is_folder answer && bytes_eq (string_bytes path) text))) }
+    ensures ordered { OnOk result (IsOrdered string_cmp all.old → IsOrdered string_cmp all.new) }
+    ensures refused { IfErr result (IsOfFolders true) }
+    ensures fault { IfErr answer (λ e. IsFalse (is_absent (error_kind e)) → IsErr result) }
+{
+    if !is_folder(answer)? {
         return Ok(());
     }
-    all.insert(path_below(alloc, folder.0, name)?)?;
+    all.insert(path)?;
     Ok(())
+}
+
+/// Whether the system answered that a folder is there.
+fn is_folder(answer: io::Result<fs::Metadata>) -> io::Result<bool>
+    ensures found { IfOk result (λ b. b ≡ is_folder answer) }
+    ensures fault { IfErr answer (λ e. IsFalse (is_absent (error_kind e)) → IsErr result) }
+{
+    match answer {
+        Ok(found) => Ok(found.is_dir()),
+        Err(fault) if is_absent(fault.kind()) => Ok(false),
+        Err(fault) => Err(fault),
+    }
 }
 
 fn is_absent(kind: io::ErrorKind) -> bool
     ensures { result ≡ is_absent kind }
 {
     matches!(kind, io::ErrorKind::NotFound | io::ErrorKind::NotADirectory)
-}
-
-fn is_folder<R: Files>(rt: &R, path: &str) -> bool {
-    match fs::metadata(rt, path) {
-        Ok(found) => found.is_dir(),
-        Err(_) => false,
-    }
 }
 
 /// The path of a folder that is seen from `root`.

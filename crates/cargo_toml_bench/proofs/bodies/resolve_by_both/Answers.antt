@@ -12,3 +12,7 @@ returns-clause-alike g c =
     (answer_of c.in_ok-called.called) (answer_of c.in_ok-plain.plain)
     c.in_ok-called.ensures.resolved
     (c.in_ok-plain.ensures.resolved (λ _. false) (λ n. refl))
+
+pub returns-clause-plain : goal.returns-clause-plain
+returns-clause-plain g c =
+    c.in_ok-plain.ensures.resolved (λ _. false) (λ n. refl)

@@ -13,3 +13,8 @@ returns-clause-alike g c =
     parsed_alike MAX_ITEMS m keep (answer_of c.in_ok-called.called) (answer_of c.in_ok-plain.plain)
     c.in_ok-called.ensures.resolved
     (c.in_ok-plain.ensures.resolved keep (λ n r answer. answer.says.met ∙ ap keep answer.shows))
+
+pub returns-clause-plain : goal.returns-clause-plain
+returns-clause-plain g c =
+    let keep : Text → Bool = λ n. bytes_eq n (codes "_a") in
+    c.in_ok-plain.ensures.resolved keep (λ n r answer. answer.says.met ∙ ap keep answer.shows)

@@ -1,12 +1,7 @@
-use Rattle.std.proofs.Common.{◌≡◌, Option, None, Some, refl}
-use Rattle.std.specs.Prelude.{IsSome}
 use Rattle.std.proofs.lemmas.Result.{err_from_is_err_and}
+use Rattle.cargo_toml_manifest.proofs.PathFaults.{some_from}
 use Rattle.cargo_toml_command.proofs.FileFaults.{refused_file}
 use Rattle.cargo_toml_command.proofs.files.completed_lines.Goals as goal
-
-some_from : {X : Type 0} (o : Option X) → ¬ (o ≡ None) → IsSome o
-some_from None h = absurd (h refl)
-some_from (Some x) h = refl
 
 pub returns-clause-lines : goal.returns-clause-lines
 returns-clause-lines g c = λ spelled. (c.args.manifest.now, spelled, c.complete_from_path.new.self, c.in_ok-complete_from_path.ensures.completed, c.in_ok-completion_lines.ensures)

@@ -1,4 +1,3 @@
-use Rattle.std.specs.Path.{path_parent}
 use Rattle.std.proofs.lemmas.Result.{err_from_is_err_and}
 use Rattle.std.proofs.Common.{subst, sym}
 use Rattle.toml.specs.View.{view}
@@ -28,5 +27,5 @@ returns-in_err-complete_from_path-clause-refused g c =
     let p = err_from_is_err_and c.from_residual-in_err-complete_from_path.result c.from_residual-in_err-complete_from_path.ensures.1 in
     rw (p.1, p.2)
     (refused_of c.args.file.now c.args.text.now (manifest_meaning view) (manifest_reads any_tree) (ManifestRefuses any_tree AnyRefuses)
-    (λ _. held c.complete_from_path.new.self) c.deref_mut.result.now (path_parent c.args.file.now) _ reads
+    (λ _. held c.complete_from_path.new.self) c.deref_mut.result.now _ reads
     c.in_err-complete_from_path.ensures.outcome c.in_err-complete_from_path.ensures.bad_path c.in_err-complete_from_path.ensures.refused)

@@ -1,5 +1,5 @@
 use Rattle.std.proofs.Common.{sym}
-use Rattle.cargo_toml_tools.proofs.Followed.{itself_fits, put_further, some_passes}
+use Rattle.cargo_toml_tools.proofs.Followed.{itself_fits, put_further, put_keeps, put_led}
 use Rattle.cargo_toml_tools.proofs.members.walk.add_further.Goals as goal
 
 pub returns-clause-added : goal.returns-clause-added
@@ -7,5 +7,9 @@ returns-clause-added g c =
     put_further c.args.name.now c.args.folder.now c.args.name.now c.in_ok-path_below.field-0 c.args.all.now c.insert.new.self c.in_ok-insert.ensures.updates
     c.in_ok-path_below.ensures (itself_fits c.args.name.now (sym c.if-is_pattern.ensures))
 
-pub returns-clause-some : goal.returns-clause-some
-returns-clause-some g c = λ plain. some_passes _ _ c.in_ok-insert.ensures.updates.1
+pub returns-clause-kept : goal.returns-clause-kept
+returns-clause-kept g c = put_keeps c.in_ok-path_below.field-0 c.args.all.now c.insert.new.self c.in_ok-insert.ensures.updates
+
+pub returns-clause-led : goal.returns-clause-led
+returns-clause-led g c = λ plain.
+    put_led c.in_ok-path_below.field-0 c.args.all.now c.insert.new.self c.in_ok-insert.ensures.updates _ c.in_ok-path_below.ensures

@@ -4,7 +4,7 @@ use Rattle.std.proofs.lemmas.Result.{err_from_is_err_and}
 use Rattle.std.specs.BTreeSet.{btree_set_len}
 use Rattle.std.specs.Str.Iter.{split_has_more, split_pattern, split_text}
 use Rattle.cargo_toml_tools.specs.Places.{pieces}
-use Rattle.cargo_toml_tools.proofs.Followed.{at_root, first_key, follows_name, is_of_entry, leads_alone, leads_itself, leads_to, next_name, no_name, of_entry, skips_name, some_keys}
+use Rattle.cargo_toml_tools.proofs.Followed.{at_root, first_key, follows_name, is_of_entry, leads_alone, leads_itself, leads_to, next_name, no_name, of_entry, skips_name, some_keys, some_led}
 use Rattle.cargo_toml_tools.proofs.members.walk.expanded.Goals as goal
 
 pub loop-name-init : goal.loop-name-init
@@ -29,8 +29,14 @@ loop-name-preserved g c =
 pub loop-name-preserved-then-not-is_empty : goal.loop-name-preserved-then-not-is_empty
 loop-name-preserved-then-not-is_empty g c =
     let more = next_name c.args.entry.now c.loop-name.name-iterator c.next.new.self c.next.result c.loop-name.folders c.next.ensures.steps c.loop-name.invariant c.in-Some.name c.in-Some.is in
-    let on = c.in_ok-folders.ensures in
-    (more.0, (more.1.0, follows_name c.args.entry.now c.in-Some.name.now more.0 c.loop-name.folders (sym c.if-not-is_empty.ensures) more.1.1 c.in_ok-folders.folders on.further on.some on.ordered))
+    let on = c.in_ok-folders.ensures in (
+      more.0,
+      (
+        more.1.0,
+        follows_name c.args.entry.now c.in-Some.name.now more.0 c.loop-name.folders (sym c.if-not-is_empty.ensures) more.1.1 c.in_ok-folders.folders on.further
+            (λ plain. some_led c.in-Some.name.now c.loop-name.folders c.in_ok-folders.folders (on.led plain)) on.ordered,
+      ),
+    )
 
 pub returns-in_err-folders-clause-refused : goal.returns-in_err-folders-clause-refused
 returns-in_err-folders-clause-refused g c =

@@ -70,9 +70,9 @@ notes_uses {K} {A} folder m (Err e) old mid new before notes such = elim notes.n
 ]
 
 -- what is asked for stays, unless memory was refused
-pub uses_on : (old mid new : Audit) → mid.uses ≡ old.uses → (e : Error) → (e ≡ Memory) ⊎ (new.uses ≡ mid.uses) → (e ≡ Memory) ⊎ (new.uses ≡ old.uses)
+pub uses_on : (old mid new : Audit) → mid.uses ≡ old.uses → (e : Error) → (e ≡ Memory) ⊎ (new ≡ mid) → (e ≡ Memory) ⊎ (new.uses ≡ old.uses)
 uses_on old mid new same e (inl memory) = inl memory
-uses_on old mid new same e (inr h) = inr (h ∙ same)
+uses_on old mid new same e (inr h) = inr (ap (λ (a : Audit). a.uses) h ∙ same)
 
 -- a fault that isn't want of memory
 but_memory : {P : Type 0} (e : Error) → (e ≡ Memory) ⊎ P → (e ≢ Memory) → P

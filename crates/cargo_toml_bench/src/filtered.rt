@@ -1,9 +1,9 @@
 //! A manifest's features by a filter of which nothing is known but that it gives each name one
 //! answer.
-ghost use Rattle.std.specs.Prelude.{◌≡◌, ◌↔◌, Some, true, IfErr, IfOk, IsSome, IsTrue};
+ghost use Rattle.std.specs.Prelude.{◌≡◌, ◌↔◌, Some, true, IfErr, IfOk, IsSome};
 ghost use Rattle.cargo_toml.specs.Action.{Text};
 ghost use Rattle.cargo_toml.specs.Error.{Memory};
-ghost use Rattle.cargo_toml.specs.Filter.{Answers, HasNameFilter, IsHiddenName, IsNameFilter};
+ghost use Rattle.cargo_toml.specs.Filter.{HasNameFilter, IsNameFilter};
 ghost use Rattle.cargo_toml.specs.Filtered.{filter_of, limit_of};
 ghost use Rattle.cargo_toml.specs.Kept.{NoneIsLeft};
 ghost use Rattle.cargo_toml.specs.Limits.{MAX_ITEMS};
@@ -11,7 +11,7 @@ ghost use Rattle.cargo_toml.specs.Manifests.{held};
 ghost use Rattle.cargo_toml.specs.Parsed.{IsParsed, IsParsedBy, parsed_table};
 ghost use Rattle.cargo_toml.specs.Removed.{IsRemovedBy};
 ghost use Rattle.cargo_toml.specs.Views.{answer_of};
-ghost use Rattle.cargo_toml_bench.specs.Filtered.{HidesAlone};
+ghost use Rattle.cargo_toml_bench.specs.Filtered.{HidesAlone, IsFiltered};
 
 use crate::whole::{Answer, resolve_whole};
 use cargo_toml::features::Resolver;
@@ -37,11 +37,8 @@ pub fn resolve_beside<'m, M, F: Fn(&str) -> bool>(
         (λ _. true) (answer_of whole.now) }
     ensures resolved { IfOk result (λ a. IsParsedBy (limit_of resolver.now)
         (held manifest.now) F.Fn (filter_of resolver.now) (answer_of a)) }
-    ensures removed { IfOk result (λ a. (r : Text) → IsSome ((answer_of a).redirects r)
-        ↔ IsRemovedBy F.Fn (filter_of resolver.now)
-        (parsed_table (limit_of resolver.now) (held manifest.now)) r) }
-    ensures kept { IfOk result (λ a. (f : Text) → IsTrue ((answer_of a).resolution.table.has f)
-        → IsHiddenName f → Answers F.Fn (filter_of resolver.now) f true) }
+    ensures filtered { IfOk result (λ a. IsFiltered F.Fn (filter_of resolver.now)
+        (parsed_table (limit_of resolver.now) (held manifest.now)) (answer_of a)) }
     ensures no_removed_name { IfOk result (λ a.
         NoneIsLeft (λ r. IsSome ((answer_of a).redirects r)) (answer_of a).resolution) }
     ensures hiding { IfOk result (λ a.

@@ -2,12 +2,10 @@ use Rattle.std.proofs.lemmas.Result.{IfOk-weaker}
 use Rattle.cargo_toml.specs.Views.{answer_of}
 use Rattle.cargo_toml_bench.proofs.filtered.resolve_beside.Goals as goal
 
-pub returns-clause-removed : goal.returns-clause-removed
-returns-clause-removed g c =
-    IfOk-weaker c.parse.result _ _ (λ a by. by.answer.redirected) c.parse.ensures.resolved
-
-pub returns-clause-kept : goal.returns-clause-kept
-returns-clause-kept g c = IfOk-weaker c.parse.result _ _ (λ a by. by.kept) c.parse.ensures.resolved
+pub returns-clause-filtered : goal.returns-clause-filtered
+returns-clause-filtered g c =
+    IfOk-weaker c.parse.result _ _ (λ a by. record { removed = by.answer.redirected; kept = by.kept })
+    c.parse.ensures.resolved
 
 pub returns-clause-hiding : goal.returns-clause-hiding
 returns-clause-hiding g c =

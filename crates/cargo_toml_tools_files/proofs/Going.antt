@@ -26,7 +26,7 @@ use Rattle.cargo_toml_tools.specs.declared.members.Members.{Members}
 use Rattle.cargo_toml_tools.proofs.KeysInOrder.{keys_ascend}
 use Rattle.cargo_toml_tools_files.specs.AuditSteps.{AddsAudited, AddsFolder, NotesOnly, RefusesFolder}
 use Rattle.cargo_toml_tools_files.specs.AuditedFolders.{AreMembersOf, IsAskedSome, IsInheritedSome, IsOfFolder, IsOfSome, IsReportOn, IsToldFolder, IsWithoutMember, member_folders, overall_of}
-use Rattle.cargo_toml_tools_files.specs.AuditedMembers.{IsAskedThere, IsAuditedMember, IsInheritedThere, IsKeyNoted, IsTakenIn, Reading, differences_there, member_folder, folders_of, inherited_by}
+use Rattle.cargo_toml_tools_files.specs.AuditedMembers.{IsAskedThere, IsAuditedMember, IsInheritedThere, IsKeyNoted, IsTakenIn, Reading, differences_there, folder_of, folders_of, inherited_by}
 
 -- ---- lists
 module _ {X : Type 0} where
@@ -123,7 +123,7 @@ module _ (root : Manifest Value) (path : Text) (workspace : Workspace Value) (se
   -- what was found of folders, and inherited, while these are left
   abbrev pub IsFoundSo : List Reading → List (String Global) → Audit → Oddity → Type 0
   IsFoundSo readings left audit o =
-      ((r : Reading) × (Among readings r × Among (differences_there root path workspace (member_folder r) r.new) o))
+      ((r : Reading) × (Among readings r × Among (differences_there root path workspace (folder_of r) r.new) o))
       ⊎ ((folder : Text) × (IsPassed listing left audit folder × IsOfFolder root path workspace seen folder o))
 
   abbrev pub IsInheritedSo : List Reading → List (String Global) → Audit → Text → Type 0

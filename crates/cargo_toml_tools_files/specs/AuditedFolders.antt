@@ -29,7 +29,7 @@ use Rattle.cargo_toml_tools.specs.declared.members.Members.{Members}
 use Rattle.cargo_toml_tools_files.specs.AuditedMembers.{IsAuditedMember, IsDifference}
 use Rattle.cargo_toml_tools_files.specs.AuditedMembers.{IsInheritedThere, IsKeyNoted}
 use Rattle.cargo_toml_tools_files.specs.AuditedMembers.{IsMemberFault, IsRefusedFor, Reading}
-use Rattle.cargo_toml_tools_files.specs.AuditedMembers.{asked_of, differences_there, member_folder}
+use Rattle.cargo_toml_tools_files.specs.AuditedMembers.{asked_of, differences_there, folder_of}
 use Rattle.cargo_toml_tools_files.specs.AuditedMembers.{folders_of, inherited_by}
 use Rattle.cargo_toml_tools_files.specs.FromFiles.{IsManifestIn, IsUnreadable}
 
@@ -97,7 +97,7 @@ module _ (root : Manifest Value) (path : Text) (workspace : Workspace Value) (se
     abbrev pub IsOfSome : Audit → Oddity → Type 0
     IsOfSome audit o =
         ((r : Reading) × (Among readings r
-        × Among (differences_there root path workspace (member_folder r) r.new) o))
+        × Among (differences_there root path workspace (folder_of r) r.new) o))
         ⊎ ((folder : Text) × (IsWithoutMember listing audit folder × IsOfFolder folder o))
 
     -- some member inherits the key, or a folder without a member may do so

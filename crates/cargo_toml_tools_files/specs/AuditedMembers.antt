@@ -62,15 +62,15 @@ pub record Reading : Type 0 where
   pub read : Manifest Value
   pub new : Manifest Value
 
-abbrev pub member_folder : Reading → Text
-member_folder r = string_bytes r.member.folder
+abbrev pub folder_of : Reading → Text
+folder_of r = string_bytes r.member.folder
 
 -- the keys that a member inherits, and what it asks for
 abbrev pub inherited_by : Reading → List Text
 inherited_by r = inherited_in_all (all_by_kind (held r.read))
 
 abbrev pub asked_of : Reading → List Asking
-asked_of r = asked_in_all (member_folder r) (all_by_kind (held r.new))
+asked_of r = asked_in_all (folder_of r) (all_by_kind (held r.new))
 
 -- of a workspace's manifest at a path
 module _ (root : Manifest Value) (path : Text) where
@@ -128,6 +128,6 @@ module _ (root : Manifest Value) (path : Text) where
 
     -- a member lies in a folder that is listed, and is what is told of such a manifest
     pub record IsAuditedMember (listing : Members) (audit : Audit) (r : Reading) : Type 0 where
-      pub place : Among (folders_of listing) (member_folder r)
+      pub place : Among (folders_of listing) (folder_of r)
       pub told : IsMemberThere r.read r.new r.member
-      pub taken : IsTakenIn (member_folder r) r.read r.new audit
+      pub taken : IsTakenIn (folder_of r) r.read r.new audit

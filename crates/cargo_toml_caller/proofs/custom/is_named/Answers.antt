@@ -32,7 +32,7 @@ returns-in_default-clause-answer g c = λ listed is.
     let t : Table = table_of (admitted MAX_ITEMS listed) entries in
     let answer = answered_unfiltered _ c.new.result.should_keep_hidden_feature c.new.ensures.unfiltered
     c.new.ensures.limit (answer_of c.in_ok-resolved.resolved) listed entries [] (λ _. [])
-    (c.in_ok-resolved.ensures.resolved listed is) in
+    (c.in_ok-resolved.ensures.resolved listed is).answered in
     no_feature t (λ r. IsTrue (is_removed t (λ _. false) r)) c.in_ok-resolved.resolved.features
     answer.kept.resolved c.args.name.now c.args.other.now
     (sym c.get.ensures.value ∙ ap option_copied c.in_default.is)
@@ -43,7 +43,7 @@ returns-clause-answer g c = λ listed is.
     let t : Table = table_of (admitted MAX_ITEMS listed) entries in
     let answer = answered_unfiltered _ c.new.result.should_keep_hidden_feature c.new.ensures.unfiltered
     c.new.ensures.limit (answer_of c.in_ok-resolved.resolved) listed entries [] (λ _. [])
-    (c.in_ok-resolved.ensures.resolved listed is) in
+    (c.in_ok-resolved.ensures.resolved listed is).answered in
     let told = names_it t (λ r. IsTrue (is_removed t (λ _. false) r))
     c.in_ok-resolved.resolved.features answer.kept.resolved c.args.name.now c.args.other.now
     c.in-Some.feature.now (sym c.get.ensures.value ∙ ap option_copied c.in-Some.is) in

@@ -1,15 +1,17 @@
 -- Offers stand in the order of their names.
 use Rattle.std.proofs.Common.{◌≡◌, Bool, true, false, cond, List, [], ◌∷◌, ◌++◌, Option, Some, None, refl, ap, ◌∙◌, sym, filter, map, subst}
 use Rattle.std.specs.List.{cons_option}
+use Rattle.std.specs.List.Sorted.{IsStrictlySortedBy}
 use Rattle.std.specs.Ordering.{nat_cmp}
 use Rattle.std.specs.declared.cmp.Ordering.TheVariants.{Less}
 use Rattle.std.specs.Cmp.Lexicographic.{slice_cmp}
 use Rattle.cargo_toml_settings.specs.declared.settings.Edition.{Edition}
 use Rattle.cargo_toml_discovery.proofs.SetForm.{files, walk-set}
+use Rattle.cargo_toml_discovery.proofs.Unique.{AllAbove, Sorted}
 use Rattle.cargo_toml_discovery.specs.Found.{Named, Offered, offer_of, still_open, open_offer, offers, is_path_of, last_waiting, found, has_path}
 use Rattle.cargo_toml_discovery.specs.Names.{Name, is_source}
 use Rattle.cargo_toml_discovery.specs.Sorting.{sorted_by, product_lt}
-use Rattle.cargo_toml_discovery.specs.Walk.{AllAbove, Ascend, NamesAscend, walk, with_extra}
+use Rattle.cargo_toml_discovery.specs.Walk.{NamesAscend, walk, with_extra}
 use Rattle.cargo_toml_tables.specs.Products.{ProductMeaning}
 
 abbrev FileIs : Name → Option Offered → Type 0
@@ -35,11 +37,13 @@ all-after : (folder : Name) (taken : Name → Bool) (f : Name) (es : List Named)
 all-after folder taken f [] h = tt
 all-after folder taken f (e ∷ es) h = after-cons f e.name (open_offer folder taken e) (offers folder taken es) (file-offer folder taken e) h.0 (all-after folder taken f es h.1)
 
-ascending-cons : (f : Name) (r : Option Offered) (os : List Offered) → FileIs f r → AllAbove f (files os) → Ascend (files os) → Ascend (files (cons_option r os))
+ascending-cons : (f : Name) (r : Option Offered) (os : List Offered) → FileIs f r → AllAbove f (files os) → Sorted (files os) → Sorted (files (cons_option r os))
+unfolding IsStrictlySortedBy
 ascending-cons f None os h k up = up
 ascending-cons f (Some o) os h k up = (subst (λ (t : Name). AllAbove t (files os)) (sym h) k, up)
 
-pub ascending-offers : (folder : Name) (taken : Name → Bool) (es : List Named) → NamesAscend es → Ascend (files (offers folder taken es))
+pub ascending-offers : (folder : Name) (taken : Name → Bool) (es : List Named) → NamesAscend es → Sorted (files (offers folder taken es))
+unfolding IsStrictlySortedBy
 ascending-offers folder taken [] h = tt
 ascending-offers folder taken (e ∷ es) h = ascending-cons e.name (open_offer folder taken e) (offers folder taken es) (file-offer folder taken e) (all-after folder taken e.name es h.0) (ascending-offers folder taken es h.1)
 

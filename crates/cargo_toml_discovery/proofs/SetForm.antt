@@ -2,6 +2,7 @@
 use Rattle.std.proofs.Common.{◌≡◌, Bool, true, false, cond, not, ◌&&◌, ◌||◌, List, [], ◌∷◌, ◌++◌, Option, Some, None, refl, ap, ◌∙◌, map, sym, append_assoc, append-nil, option_to_list}
 use Rattle.std.proofs.Math.Bool.{and-true, and-false}
 use Rattle.std.specs.List.{list_any}
+use Rattle.std.specs.List.Sorted.{IsStrictlySortedBy}
 use Rattle.std.specs.Str.{bytes_eq}
 use Rattle.std.specs.Ordering.{nat_cmp, is_lt}
 use Rattle.std.specs.declared.cmp.Ordering.{Ordering}
@@ -10,7 +11,8 @@ use Rattle.std.specs.Cmp.Lexicographic.{slice_cmp, nat_list_cmp_total}
 use Rattle.cargo_toml_settings.specs.declared.settings.Edition.{Edition}
 use Rattle.cargo_toml_discovery.specs.Found.{Offered, product_for, product_among, last_waiting, last_product, has_offer}
 use Rattle.cargo_toml_discovery.specs.Names.{Name}
-use Rattle.cargo_toml_discovery.specs.Walk.{walk, with_extra, without, AllAbove, Ascend}
+use Rattle.cargo_toml_discovery.specs.Walk.{walk, with_extra, without}
+use Rattle.cargo_toml_discovery.proofs.Unique.{AllAbove, Sorted}
 use Rattle.cargo_toml_tables.specs.Products.{ProductMeaning}
 
 abbrev less : Name → Name → Bool
@@ -92,8 +94,9 @@ module _ (edition : Edition) (ps : List ProductMeaning) where
   last-product done w None h = refl
   last-product done w (Some o) h = ap (λ (p : Option ProductMeaning). product_for edition o p ∷ []) (h o.name)
 
-  walk-each : (done os : List Offered) (w : Name → Option ProductMeaning) (x : Option Offered) → Apart done os → Ascend (files os) → ((n : Name) → w n ≡ cond (has_offer done n) None (last_waiting ps n)) →
+  walk-each : (done os : List Offered) (w : Name → Option ProductMeaning) (x : Option Offered) → Apart done os → Sorted (files os) → ((n : Name) → w n ≡ cond (has_offer done n) None (last_waiting ps n)) →
       walk edition w (with_extra os x) ≡ map (λ o. product_among edition ps (done ++ os) o) os ++ last_product edition ps (done ++ os) x
+  unfolding IsStrictlySortedBy
   walk-each done [] w x a up h = last-product done w x h ∙ ap (λ (os : List Offered). last_product edition ps os x) (simp append-nil)
   walk-each done (o ∷ os) w x a up h =
       let first : product_for edition o (w o.name) ≡ product_among edition ps (done ++ o ∷ os) o =
@@ -105,5 +108,5 @@ module _ (edition : Edition) (ps : List ProductMeaning) where
       ap (λ (p : ProductMeaning). p ∷ walk edition (without w o.name) (with_extra os x)) first
       ∙ ap (λ (qs : List ProductMeaning). product_among edition ps (done ++ o ∷ os) o ∷ qs) (rest ∙ ap (λ (all : List Offered). map (λ o. product_among edition ps all o) os ++ last_product edition ps all x) joined)
 
-  pub walk-set : (os : List Offered) (x : Option Offered) → Ascend (files os) → walk edition (last_waiting ps) (with_extra os x) ≡ map (λ o. product_among edition ps os o) os ++ last_product edition ps os x
+  pub walk-set : (os : List Offered) (x : Option Offered) → Sorted (files os) → walk edition (last_waiting ps) (with_extra os x) ≡ map (λ o. product_among edition ps os o) os ++ last_product edition ps os x
   walk-set os x up = walk-each [] os (last_waiting ps) x (apart-none os) up (λ n. refl)

@@ -14,10 +14,16 @@ use Rattle.std.proofs.lemmas.Slice.Eq.{bytes_eq-Decides}
 use Rattle.std.proofs.lemmas.Map.Text.{is_eq-slice_cmp}
 use Rattle.cargo_toml_discovery.specs.Answers.{texts_in}
 use Rattle.cargo_toml_discovery.specs.Names.{Name, has_text, put_in, ordered}
-use Rattle.cargo_toml_discovery.specs.Walk.{AllAbove, Ascend}
 
 abbrev pub compare : Name → Name → Ordering
 compare a b = slice_cmp nat_cmp a b
+
+-- each text stands after this one in byte order, and texts stand in that order
+abbrev pub AllAbove : Name → List Name → Type 0
+AllAbove t us = AllByRecursion (λ u. compare t u ≡ Less) us
+
+abbrev pub Sorted : List Name → Type 0
+Sorted ts = IsStrictlySortedBy compare ts
 
 above-less : (t u : Name) (us : List Name) → compare t u ≡ Less → AllAbove u us → AllAbove t us
 above-less t u [] h k = tt
@@ -31,12 +37,14 @@ above-put_in b t [] h k = (h, tt)
 above-put_in b t (u ∷ us) h k = elim (compare t u) as (λ o. AllAbove b (match_ordering o (t ∷ u ∷ us) (u ∷ us) (u ∷ put_in t us)))
     [ Less ↦ (h, k) | Equal ↦ k | Greater ↦ (k.0, above-put_in b t us h k.1) ]
 
-ascend-put_in : (t : Name) (us : List Name) → Ascend us → Ascend (put_in t us)
+ascend-put_in : (t : Name) (us : List Name) → Sorted us → Sorted (put_in t us)
+unfolding IsStrictlySortedBy
 ascend-put_in t [] h = (tt, tt)
-ascend-put_in t (u ∷ us) h = elim (compare t u) as (λ o. compare t u ≡ o → Ascend (match_ordering o (t ∷ u ∷ us) (u ∷ us) (u ∷ put_in t us)))
+ascend-put_in t (u ∷ us) h = elim (compare t u) as (λ o. compare t u ≡ o → Sorted (match_ordering o (t ∷ u ∷ us) (u ∷ us) (u ∷ put_in t us)))
     [ Less ↦ λ e. ((e, above-less t u us e h.0), h) | Equal ↦ λ e. h | Greater ↦ λ e. (above-put_in u t us (turned t u e) h.0, ascend-put_in t us h.1) ] refl
 
-pub ascend-ordered : (ts : List Name) → Ascend (ordered ts)
+pub ascend-ordered : (ts : List Name) → Sorted (ordered ts)
+unfolding IsStrictlySortedBy
 ascend-ordered [] = tt
 ascend-ordered (t ∷ ts) = ascend-put_in t (ordered ts) (ascend-ordered ts)
 
@@ -87,7 +95,8 @@ rest_same x q xs ys h k e = elim (bytes_eq q x) as (λ b. bytes_eq q x ≡ b →
   | false ↦ λ _ r. r
 ] refl e
 
-pub unique : (xs ys : List Name) → Ascend xs → Ascend ys → ((q : Name) → has_text xs q ≡ has_text ys q) → xs ≡ ys
+pub unique : (xs ys : List Name) → Sorted xs → Sorted ys → ((q : Name) → has_text xs q ≡ has_text ys q) → xs ≡ ys
+unfolding IsStrictlySortedBy
 unique [] [] a b h = refl
 unique [] (y ∷ ys) a b h = clash (has_text (y ∷ ys) y) (has-first y ys) (sym (h y))
 unique (x ∷ xs) [] a b h = clash (has_text (x ∷ xs) x) (has-first x xs) (h x)
@@ -106,12 +115,12 @@ above-keys : (k : String Global) (ks : List (String Global)) → AllByRecursion 
 above-keys k [] h = tt
 above-keys k (u ∷ us) h = (h.0, above-keys k us h.1)
 
-ascend-keys : (ks : List (String Global)) → IsStrictlySortedBy string_cmp ks → Ascend (map (λ k. string_bytes k) ks)
+ascend-keys : (ks : List (String Global)) → IsStrictlySortedBy string_cmp ks → Sorted (map (λ k. string_bytes k) ks)
 unfolding IsStrictlySortedBy
 ascend-keys [] h = tt
 ascend-keys (k ∷ ks) h = (above-keys k ks h.0, ascend-keys ks h.1)
 
-pub ascend-set : (s : BTreeSet (String Global)) → IsOrdered string_cmp s → Ascend (texts_in s)
+pub ascend-set : (s : BTreeSet (String Global)) → IsOrdered string_cmp s → Sorted (texts_in s)
 ascend-set s h = ascend-keys s.keys h
 
 has-keys : (t : Name) (ks : List (String Global)) → list_any (λ k. is_eq (slice_cmp nat_cmp t (string_bytes k))) ks ≡ has_text (map (λ k. string_bytes k) ks) t

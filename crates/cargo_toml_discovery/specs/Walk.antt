@@ -5,9 +5,9 @@ use Rattle.std.specs.Prelude.{option_map, if◌then◌else◌, string_bytes, map
 use Rattle.std.specs.BTreeMap.{BTreeMap, get_by}
 use Rattle.std.specs.BTreeSet.{BTreeSet, contains_by}
 use Rattle.std.specs.Cmp.Lexicographic.{slice_cmp}
+use Rattle.std.specs.List.Sorted.{IsStrictlySortedBy}
 use Rattle.std.specs.Ordering.{nat_cmp}
 use Rattle.std.specs.Str.{bytes_eq}
-use Rattle.std.specs.declared.cmp.Ordering.TheVariants.{Less}
 use denote.Ref.{Bor}
 use Rattle.cargo_toml_settings.specs.declared.settings.Edition.{Edition}
 use Rattle.cargo_toml_tables.specs.Products.{ProductMeaning, product_meaning}
@@ -62,14 +62,6 @@ walked p os = map product_meaning p.list.items ++ walk p.edition (waiting_in p.s
 abbrev pub with_extra : List Offered → Option Offered → List Offered
 with_extra os extra = os ++ option_to_list extra
 
--- each text stands after this one in byte order, and texts ascend
-abbrev pub AllAbove : Name → List Name → Type 0
-AllAbove t [] = Unit {0}
-AllAbove t (u ∷ us) = (slice_cmp nat_cmp t u ≡ Less) × AllAbove t us
-
-abbrev pub Ascend : List Name → Type 0
-Ascend [] = Unit {0}
-Ascend (t ∷ ts) = AllAbove t ts × Ascend ts
-
+-- the names stand in byte order, each once
 abbrev pub NamesAscend : List Named → Type 0
-NamesAscend es = Ascend (map (λ e. e.name) es)
+NamesAscend es = IsStrictlySortedBy (slice_cmp nat_cmp) (map (λ e. e.name) es)

@@ -6,23 +6,23 @@ use Rattle.std.proofs.lemmas.List.{get_or-map, length-map}
 use Rattle.std.proofs.lemmas.List.Filters.{dedup_is}
 use Rattle.std.proofs.lemmas.List.Kept.{Any-dedup, Contains-from_dedup, IsStrictlySortedBy-dedup}
 use Rattle.std.proofs.lemmas.List.Sorted.{IsPermutation-sym, Contains-permutation, searchable_from_sorted}
-use Rattle.std.proofs.lemmas.Map.Keys.{sorted_head, sorted_tail}
 use Rattle.std.proofs.lemmas.Map.Lookups.{exact_bytes}
 use Rattle.std.proofs.lemmas.Map.Text.{is_eq-slice_cmp}
 use Rattle.std.proofs.lemmas.Slice.Eq.{bytes_eq-Decides}
 use Rattle.std.specs.Cmp.Lexicographic.{slice_cmp}
-use Rattle.std.specs.List.{AllByRecursion, Contains, dedup}
+use Rattle.std.specs.List.{Contains, dedup}
 use Rattle.std.specs.List.Retain.{IsFiltered, DiffersFromLast}
-use Rattle.std.specs.List.Sorted.{IsPermutation, IsSorted, IsStrictlySortedBy, IsSearchInRange, IsBinarySearchResult}
-use Rattle.std.specs.Ordering.{nat_cmp, is_lt}
+use Rattle.std.specs.List.Sorted.{IsPermutation, IsSorted, IsSearchInRange, IsBinarySearchResult}
+use Rattle.std.specs.Ordering.{nat_cmp}
 use Rattle.std.specs.Result.{result_ok}
 use Rattle.std.specs.declared.cmp.Ordering.{Ordering}
-use Rattle.std.specs.declared.cmp.Ordering.TheVariants.{Less, Equal}
+use Rattle.std.specs.declared.cmp.Ordering.TheVariants.{Equal}
 use Rattle.cargo_toml_graph.specs.Ascending.{Ascend}
 use Rattle.cargo_toml_graph.specs.Action.{Text}
 use Rattle.cargo_toml_graph.specs.Admitted.{is_below}
 use Rattle.cargo_toml_graph.specs.Reach.{Among}
 use Rattle.cargo_toml_graph.proofs.RedirectsInOrder.{below_one_way}
+use Rattle.cargo_toml_graph.proofs.SortedTexts.{texts_ascend}
 use Rattle.cargo_toml_features.specs.Places.{nth_text}
 use Rattle.cargo_toml_features.proofs.Places.{at_among, rises}
 
@@ -68,16 +68,7 @@ module _ (old sorted new : List (Bor Text)) (moved : IsPermutation old sorted) (
   )
 
   pub new_ascends : IsSorted cmp sorted → Ascend (texts new)
-  new_ascends up = subst (λ ts. Ascend (texts ts)) (sym new_is) (ascending (dedup eq sorted) (IsStrictlySortedBy-dedup (on_total (λ (t : Bor Text). t.now) nat_list_cmp_total) (λ a b. sym (is_eq-slice_cmp a.now b.now)) sorted up))
-    where
-      below_each : (t : Bor Text) (ts : List (Bor Text)) → AllByRecursion (λ u. cmp t u ≡ Less) ts → (y : Text) → Among (texts ts) y → IsTrue (is_below t.now y)
-      below_each t [] all y there = absurd there
-      below_each t (u ∷ ts) all y (inl is) = subst (λ z. IsTrue (is_below t.now z)) (sym is) (ap is_lt all.0)
-      below_each t (u ∷ ts) all y (inr there) = below_each t ts all.1 y there
-
-      ascending : (ts : List (Bor Text)) → IsStrictlySortedBy cmp ts → Ascend (texts ts)
-      ascending [] h = tt
-      ascending (t ∷ ts) h = (below_each t ts (sorted_head cmp t ts h), ascending ts (sorted_tail cmp t ts h))
+  new_ascends up = subst (λ ts. Ascend (texts ts)) (sym new_is) (texts_ascend (λ (t : Bor Text). t.now) (dedup eq sorted) (IsStrictlySortedBy-dedup (on_total (λ (t : Bor Text). t.now) nat_list_cmp_total) (λ a b. sym (is_eq-slice_cmp a.now b.now)) sorted up))
 
 module _ (ts : List (Bor Text)) (x : Text) where
   text_now : (k : ℕ) (d : Bor Text) → k < length ts → nth_text (texts ts) k ≡ (get_or ts k d).now

@@ -1,10 +1,9 @@
 -- A hashed table, put in order one name after another.
-use Rattle.std.proofs.Common.{◌≡◌, ◌||◌, Bool, true, false, cond, List, [], ◌∷◌, ◌++◌, map, option_map, string_bytes, Option, String, Vec, Some, None, is_some, bytes_eq, IsTrue, refl, sym, ap, inl, inr, ◌∙◌}
+use Rattle.std.proofs.Common.{◌≡◌, ◌||◌, Bool, true, false, cond, List, [], ◌∷◌, ◌++◌, map, option_map, string_bytes, Option, String, Vec, Some, None, is_some, bytes_eq, refl, sym, ap, ◌∙◌}
 use Rattle.std.proofs.Math.Bool.{or-false}
 use Rattle.std.proofs.lemmas.Bool.{or_right}
 use Rattle.std.proofs.lemmas.List.{map-append}
 use Rattle.std.proofs.lemmas.List.Folds.{list_any-append}
-use Rattle.std.proofs.lemmas.Map.Keys.{sorted_head, sorted_tail}
 use Rattle.std.proofs.lemmas.Map.Made.{is_some-lookup}
 use Rattle.std.proofs.lemmas.Map.Text.{btree_map_updates_str, is_eq-slice_cmp}
 use Rattle.std.proofs.lemmas.Slice.Eq.{bytes_eq-Decides}
@@ -13,17 +12,15 @@ use Rattle.std.specs.BTreeMap as tree
 use Rattle.std.specs.BTreeMap.{BTreeMap, is_at}
 use Rattle.std.specs.Cmp.Lexicographic.{slice_cmp}
 use Rattle.std.specs.HashMap.{HashMap}
-use Rattle.std.specs.List.{AllByRecursion, list_any}
+use Rattle.std.specs.List.{list_any}
 use Rattle.std.specs.List.Sorted.{IsStrictlySortedBy}
 use Rattle.std.specs.Map.{lookup}
 use Rattle.std.specs.Map.Iter.{deref_pair}
-use Rattle.std.specs.Ordering.{nat_cmp, is_lt}
+use Rattle.std.specs.Ordering.{nat_cmp}
 use Rattle.std.specs.declared.alloc.Global.{Global}
-use Rattle.std.specs.declared.cmp.Ordering.TheVariants.{Less}
 use Rattle.cargo_toml_graph.specs.Action.{Text}
-use Rattle.cargo_toml_graph.specs.Admitted.{is_below}
-use Rattle.cargo_toml_graph.specs.Reach.{Among}
 use Rattle.cargo_toml_graph.proofs.Cut.{Ascends}
+use Rattle.cargo_toml_features.proofs.OneListing.{listed_ascend}
 use Rattle.cargo_toml_graph.proofs.Texts.{bytes_eq_sym}
 use Rattle.cargo_toml_features.specs.Hashed.{actions_at, sorted_actions_at}
 
@@ -98,12 +95,6 @@ looked_up f (e ∷ es) = ap (λ t. cond t (Some (map string_bytes e.1.now)) (loo
     go true later = refl
     go false later = later
 
-sorted_below : (k : Bor Text) (es : List (Bor Text × Bor (List (String Global)))) → AllByRecursion (λ y. slice_cmp nat_cmp k.now y.now ≡ Less) (map (λ e. e.0) es) → (y : Text) → Among (map (λ e. e.0) (map sorted_entry es)) y → IsTrue (is_below k.now y)
-sorted_below k [] all y i = absurd i
-sorted_below k (e ∷ es) all y (inl s) = ap (is_below k.now) s ∙ ap is_lt all.0
-sorted_below k (e ∷ es) all y (inr i) = sorted_below k es all.1 y i
-
 -- the order of the table is the byte order of the names
 pub sorted_ascends : (es : List (Bor Text × Bor (List (String Global)))) → IsStrictlySortedBy (λ x y. slice_cmp nat_cmp x.now y.now) (map (λ e. e.0) es) → Ascends (map sorted_entry es)
-sorted_ascends [] h = tt
-sorted_ascends (e ∷ es) h = (sorted_below e.0 es (sorted_head (λ x y. slice_cmp nat_cmp x.now y.now) e.0 (map (λ e. e.0) es) h), sorted_ascends es (sorted_tail (λ x y. slice_cmp nat_cmp x.now y.now) e.0 (map (λ e. e.0) es) h))
+sorted_ascends es up = listed_ascend (λ k. k.now) (λ v. map string_bytes v.now) es up

@@ -1,22 +1,17 @@
 -- The names of a table, in byte order and each once.
-use Rattle.std.proofs.Common.{◌≡◌, Bool, true, false, cond, List, [], ◌∷◌, map, Option, Some, None, Bor, bytes_eq, option_map, string_bytes, String, unwrap_or, Vec, IsTrue, refl, sym, ap, subst, inl, inr, ◌∙◌}
-use Rattle.std.specs.List.{AllByRecursion}
+use Rattle.std.proofs.Common.{◌≡◌, Bool, true, false, cond, List, [], ◌∷◌, map, Option, Some, None, Bor, bytes_eq, option_map, string_bytes, String, unwrap_or, Vec, refl, sym, ap, ◌∙◌}
 use Rattle.std.specs.Option.{option_copied}
 use Rattle.std.specs.BTreeMap.{BTreeMap, get_by, is_at}
 use Rattle.std.specs.Cmp.Lexicographic.{slice_cmp}
 use Rattle.std.specs.Map.{lookup}
 use Rattle.std.specs.Ordering.{nat_cmp}
 use Rattle.std.specs.List.Sorted.{IsStrictlySortedBy}
-use Rattle.std.specs.Ordering.{is_lt}
 use Rattle.std.specs.String.{string_cmp}
 use Rattle.std.specs.declared.alloc.Global.{Global}
-use Rattle.std.specs.declared.cmp.Ordering.TheVariants.{Less}
-use Rattle.std.proofs.lemmas.Map.Keys.{sorted_head, sorted_tail}
 use Rattle.std.proofs.lemmas.Map.Text.{is_eq-slice_cmp}
 use Rattle.cargo_toml_graph.specs.Action.{Text}
-use Rattle.cargo_toml_graph.specs.Admitted.{is_below}
-use Rattle.cargo_toml_graph.specs.Reach.{Among}
 use Rattle.cargo_toml_graph.proofs.Cut.{Ascends}
+use Rattle.cargo_toml_features.proofs.OneListing.{listed_ascend}
 use Rattle.cargo_toml_dependencies.specs.Details.{Detail, detail_of, plain_detail}
 use Rattle.cargo_toml_dependencies.specs.declared.target.FeatureDetail.{FeatureDetail}
 use Rattle.cargo_toml_parts.specs.Reads.{map_meaning}
@@ -31,15 +26,9 @@ Owned = String Global × Vec (String Global) Global
 abbrev pub listed_entry : Owned → Text × List Text
 listed_entry e = (string_bytes e.0, map string_bytes e.1.items)
 
-below_each : (k : String Global) (es : List Owned) → AllByRecursion (λ y. string_cmp k y ≡ Less) (map (λ e. e.0) es) → (y : Text) → Among (map (λ e. e.0) (map listed_entry es)) y → IsTrue (is_below (string_bytes k) y)
-below_each k [] all y i = absurd i
-below_each k (e ∷ es) all y (inl s) = subst (λ v. IsTrue (is_below (string_bytes k) v)) (sym s) (ap is_lt all.0)
-below_each k (e ∷ es) all y (inr i) = below_each k es all.1 y i
-
 -- the order of a table's keys is the byte order of the names that it lists
 pub ascending : (es : List Owned) → IsStrictlySortedBy string_cmp (map (λ e. e.0) es) → Ascends (map listed_entry es)
-ascending [] h = tt
-ascending (e ∷ es) h = (below_each e.0 es (sorted_head string_cmp e.0 (map (λ e. e.0) es) h), ascending es (sorted_tail string_cmp e.0 (map (λ e. e.0) es) h))
+ascending es up = listed_ascend string_bytes (λ v. map string_bytes v.items) es up
 
 -- what a listing lists
 abbrev pub listed_one : Listing → Text × List Text

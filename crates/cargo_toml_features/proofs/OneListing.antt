@@ -1,28 +1,27 @@
 -- Two tables in byte order that tell the same of each name are the same.
-use Rattle.std.proofs.Common.{◌≡◌, Bool, true, false, cond, List, [], ◌∷◌, map, Some, None, is_some, unwrap_or, IsTrue, bytes_eq, refl, sym, ap, ap₂, inl, inr, ◌∙◌}
+use Rattle.std.proofs.Common.{◌≡◌, Bool, true, false, cond, List, [], ◌∷◌, map, Some, None, is_some, unwrap_or, bytes_eq, refl, sym, subst, ap, ap₂, inl, inr, ◌∙◌}
 use Rattle.std.proofs.lemmas.Bool.{false≢true, false_from_ne_true}
-use Rattle.std.proofs.lemmas.Map.Keys.{sorted_head, sorted_tail}
 use Rattle.std.proofs.lemmas.Slice.Eq.{bytes_eq-Decides}
 use Rattle.std.specs.Cmp.Lexicographic.{slice_cmp}
-use Rattle.std.specs.List.{AllByRecursion}
 use Rattle.std.specs.List.Sorted.{IsStrictlySortedBy}
 use Rattle.std.specs.Map.{lookup}
-use Rattle.std.specs.Ordering.{nat_cmp, is_lt}
-use Rattle.std.specs.declared.cmp.Ordering.TheVariants.{Less}
+use Rattle.std.specs.Ordering.{nat_cmp}
 use Rattle.cargo_toml_graph.specs.Action.{Text}
-use Rattle.cargo_toml_graph.specs.Admitted.{Listed, is_below}
+use Rattle.cargo_toml_graph.specs.Admitted.{Listed}
+use Rattle.cargo_toml_graph.specs.Ascending.{Ascend}
 use Rattle.cargo_toml_graph.specs.Reach.{Among}
 use Rattle.cargo_toml_graph.proofs.Cut.{Ascends}
 use Rattle.cargo_toml_graph.proofs.RedirectsInOrder.{below_one_way}
+use Rattle.cargo_toml_graph.proofs.SortedTexts.{first_below, others_ascend, texts_ascend}
 
-below_each : (k : Text) (es : Listed) → AllByRecursion (λ y. slice_cmp nat_cmp k y ≡ Less) (map (λ e. e.0) es) → (y : Text) → Among (map (λ e. e.0) es) y → IsTrue (is_below k y)
-below_each k [] all y i = absurd i
-below_each k (e ∷ es) all y (inl s) = ap (λ t. is_below k t) s ∙ ap is_lt all.0
-below_each k (e ∷ es) all y (inr i) = below_each k es all.1 y i
-
-pub ascends_from : (es : Listed) → IsStrictlySortedBy (slice_cmp nat_cmp) (map (λ e. e.0) es) → Ascends es
-ascends_from [] h = tt
-ascends_from (e ∷ es) h = (below_each e.0 es (sorted_head (slice_cmp nat_cmp) e.0 (map (λ e. e.0) es) h), ascends_from es (sorted_tail (slice_cmp nat_cmp) e.0 (map (λ e. e.0) es) h))
+-- the order of keys is the byte order of the names that they list
+pub listed_ascend : {K V : Type 0} (text : K → Text) (list : V → List Text) (es : List (K × V)) → IsStrictlySortedBy (λ (x y : K). slice_cmp nat_cmp (text x) (text y)) (map (λ e. e.0) es)
+    → Ascends (map (λ e. (text e.0, list e.1)) es)
+listed_ascend {K} {V} text list es up = subst Ascend (same es) (texts_ascend text (map (λ e. e.0) es) up)
+  where
+    same : (ds : List (K × V)) → map text (map (λ d. d.0) ds) ≡ map (λ d. d.0) (map (λ d. (text d.0, list d.1)) ds)
+    same [] = refl
+    same (d ∷ ds) = ap (λ ts. text d.0 ∷ ts) (same ds)
 
 found : (f : Text) (e : Text × List Text) (es : Listed) → f ≡ e.0 → lookup (bytes_eq f) (e ∷ es) ≡ Some e.1
 found f e es same = ap (λ t. cond t (Some e.1) (lookup (bytes_eq f) es)) ((bytes_eq-Decides f e.0).1 same)
@@ -43,19 +42,19 @@ among f (e ∷ es) v h = go (bytes_eq f e.0) refl (λ later. among f es v later)
     go false off later = inr (later (sym (passed f e es off) ∙ h))
 
 not_after : (e : Text × List Text) (es : Listed) → Ascends (e ∷ es) → ¬ Among (map (λ e. e.0) es) e.0
-not_after e es a i = below_one_way e.0 e.0 (a.0 e.0 i) (a.0 e.0 i)
+not_after e es a i = below_one_way e.0 e.0 (first_below e.0 (map (λ e. e.0) es) a e.0 i) (first_below e.0 (map (λ e. e.0) es) a e.0 i)
 
 pub one_listing : (a b : Listed) → Ascends a → Ascends b → ((f : Text) → lookup (bytes_eq f) a ≡ lookup (bytes_eq f) b) → a ≡ b
 one_listing [] [] up vp h = refl
 one_listing [] (e ∷ es) up vp h = absurd (false≢true (ap is_some (h e.0 ∙ found e.0 e es refl)))
 one_listing (d ∷ ds) [] up vp h = absurd (false≢true (ap is_some (sym (h d.0) ∙ found d.0 d ds refl)))
 one_listing (d ∷ ds) (e ∷ es) up vp h =
-    ap₂ (λ (x : Text × List Text) (xs : Listed). x ∷ xs) (ap₂ (λ (x : Text) (y : List Text). (x, y)) same value) (one_listing ds es up.1 vp.1 rest)
+    ap₂ (λ (x : Text × List Text) (xs : Listed). x ∷ xs) (ap₂ (λ (x : Text) (y : List Text). (x, y)) same value) (one_listing ds es (others_ascend d.0 (map (λ e. e.0) ds) up) (others_ascend e.0 (map (λ e. e.0) es) vp) rest)
   where
     either : Among (map (λ e. e.0) (e ∷ es)) d.0 → Among (map (λ e. e.0) (d ∷ ds)) e.0 → d.0 ≡ e.0
     either (inl s) j = s
     either (inr i) (inl s) = sym s
-    either (inr i) (inr j) = absurd (below_one_way e.0 d.0 (vp.0 d.0 i) (up.0 e.0 j))
+    either (inr i) (inr j) = absurd (below_one_way e.0 d.0 (first_below e.0 (map (λ e. e.0) es) vp d.0 i) (first_below d.0 (map (λ e. e.0) ds) up e.0 j))
 
     same : d.0 ≡ e.0
     same = either (among d.0 (e ∷ es) d.1 (sym (h d.0) ∙ found d.0 d ds refl)) (among e.0 (d ∷ ds) e.1 (h e.0 ∙ found e.0 e es refl))

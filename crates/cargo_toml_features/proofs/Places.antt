@@ -6,6 +6,7 @@ use Rattle.cargo_toml_graph.specs.Action.{Text}
 use Rattle.cargo_toml_graph.specs.Admitted.{is_below}
 use Rattle.cargo_toml_graph.specs.Reach.{Among}
 use Rattle.cargo_toml_graph.proofs.RedirectsInOrder.{below_one_way}
+use Rattle.cargo_toml_graph.proofs.SortedTexts.{first_below, others_ascend}
 use Rattle.cargo_toml_features.specs.Places.{nth_text}
 
 pub among_at : {K : Type 0} (xs : List K) (k : ℕ) (d : K) → k < length xs → Among xs (get_or xs k d)
@@ -22,8 +23,8 @@ at_among (x ∷ xs) v d (inr there) = let k = at_among xs v d there in (suc k.0,
 pub rises : (texts : List Text) → Ascend texts → (i j : ℕ) → i < j → j < length texts → IsTrue (is_below (nth_text texts i) (nth_text texts j))
 rises [] up i j earlier below = absurd (omega arith)
 rises (x ∷ xs) up i zero earlier below = absurd (omega arith)
-rises (x ∷ xs) up zero (suc j) earlier below = up.0 (nth_text xs j) (among_at xs j [] (omega arith))
-rises (x ∷ xs) up (suc i) (suc j) earlier below = rises xs up.1 i j (omega arith) (omega arith)
+rises (x ∷ xs) up zero (suc j) earlier below = first_below x xs up (nth_text xs j) (among_at xs j [] (omega arith))
+rises (x ∷ xs) up (suc i) (suc j) earlier below = rises xs (others_ascend x xs up) i j (omega arith) (omega arith)
 
 not_itself : (a : Text) → IsTrue (is_below a a) → ⊥
 not_itself a below = below_one_way a a below below

@@ -11,6 +11,7 @@ use Rattle.cargo_toml_graph.specs.Action.{Text}
 use Rattle.cargo_toml_graph.specs.Admitted.{is_below}
 use Rattle.cargo_toml_graph.specs.Reach.{Among}
 use Rattle.cargo_toml_graph.specs.Ascending.{Ascend}
+use Rattle.cargo_toml_graph.proofs.SortedTexts.{first_below, none_ascend, one_ascends, put_first}
 use Rattle.cargo_toml_features.specs.Places.{nth_text}
 
 abbrev pub Below : Text → Text → Type 0
@@ -27,19 +28,16 @@ below_then a b c h k = ap is_lt (nat_list_cmp_total.trans a b c (less (slice_cmp
 -- what is below the first is below all
 pub lower : (a b : Text) (us : List Text) → Ascend (b ∷ us) → Below a b → (z : Text) → Among (b ∷ us) z → Below a z
 lower a b us up less z (inl is) = subst (Below a) (sym is) less
-lower a b us up less z (inr there) = below_then a b z less (up.0 z there)
-
-one_ascends : (x : Text) → Ascend (x ∷ [])
-one_ascends x = (λ y there. absurd there, tt)
+lower a b us up less z (inr there) = below_then a b z less (first_below b us up z there)
 
 -- each text is above the one before it
 pub ascend_by_one : (xs : List Text) → ((k : ℕ) → suc k < length xs → Below (nth_text xs k) (nth_text xs (suc k))) → Ascend xs
-ascend_by_one [] steps = tt
+ascend_by_one [] steps = none_ascend
 ascend_by_one (x ∷ []) steps = one_ascends x
 ascend_by_one (x ∷ y ∷ ys) steps = go (ascend_by_one (y ∷ ys) (λ k below. steps (suc k) (omega arith)))
   where
     go : Ascend (y ∷ ys) → Ascend (x ∷ y ∷ ys)
-    go up = (lower x y ys up (steps 0 (omega arith)), up)
+    go up = put_first x (y ∷ ys) (lower x y ys up (steps 0 (omega arith))) up
 
 abbrev pub texts : List (Bor Text) → List Text
 texts ts = map (λ t. t.now) ts

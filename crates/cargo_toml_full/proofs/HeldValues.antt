@@ -6,6 +6,7 @@ use Rattle.cargo_toml_graph.specs.Action.{Text}
 use Rattle.cargo_toml_graph.specs.Admitted.{is_below}
 use Rattle.cargo_toml_graph.specs.Reach.{Among}
 use Rattle.cargo_toml_graph.proofs.RedirectsInOrder.{below_one_way}
+use Rattle.cargo_toml_graph.proofs.SortedTexts.{first_below, others_ascend}
 use Rattle.cargo_toml_graph.specs.Ascending.{Ascend}
 use Rattle.cargo_toml_full.specs.Slots.{HaveSameNames, held_among, held_in, names_in}
 use Rattle.cargo_toml_full.specs.declared.slots.Slots.{Slots}
@@ -28,7 +29,7 @@ module _ {V : Type 0} where
   held_at [] vs i d up same below = absurd (omega arith)
   held_at (n ∷ ns) [] i d up same below = absurd (omega arith)
   held_at (n ∷ ns) (v ∷ vs) zero d up same below = ap (λ t. cond t v (held_among ns vs n)) ((bytes_eq-Decides n n).1 refl)
-  held_at (n ∷ ns) (v ∷ vs) (suc i) d up same below = go (bytes_eq (nth_text ns i) n) refl (held_at ns vs i d up.1 (omega arith) (omega arith))
+  held_at (n ∷ ns) (v ∷ vs) (suc i) d up same below = go (bytes_eq (nth_text ns i) n) refl (held_at ns vs i d (others_ascend n ns up) (omega arith) (omega arith))
     where
       inside : i < length ns
       inside = omega arith
@@ -37,7 +38,7 @@ module _ {V : Type 0} where
       go true on later = absurd (below_one_way n n (apart on) (apart on))
         where
           apart : bytes_eq (nth_text ns i) n ≡ true → IsTrue (is_below n n)
-          apart on = subst (λ x. IsTrue (is_below n x)) ((bytes_eq-Decides (nth_text ns i) n).0 on) (up.0 (nth_text ns i) (among_at ns i [] inside))
+          apart on = subst (λ x. IsTrue (is_below n x)) ((bytes_eq-Decides (nth_text ns i) n).0 on) (first_below n ns up (nth_text ns i) (among_at ns i [] inside))
       go false off later = later
 
   -- a value is put in a place
@@ -50,7 +51,7 @@ module _ {V : Type 0} where
       go : (t : Bool) → cond t o (held_among ns vs f) ≡ cond t o (cond t v (held_among ns vs f))
       go true = refl
       go false = refl
-  held_set (n ∷ ns) (v ∷ vs) (suc i) o up same below f = ap (cond (bytes_eq f n) v) (held_set ns vs i o up.1 (omega arith) (omega arith) f) ∙ go (bytes_eq f n) refl (bytes_eq f (nth_text ns i)) refl
+  held_set (n ∷ ns) (v ∷ vs) (suc i) o up same below f = ap (cond (bytes_eq f n) v) (held_set ns vs i o (others_ascend n ns up) (omega arith) (omega arith) f) ∙ go (bytes_eq f n) refl (bytes_eq f (nth_text ns i)) refl
     where
       inside : i < length ns
       inside = omega arith
@@ -59,7 +60,7 @@ module _ {V : Type 0} where
       go true on true there = absurd (below_one_way n n itself itself)
         where
           itself : IsTrue (is_below n n)
-          itself = subst (λ x. IsTrue (is_below n x)) (sym ((bytes_eq-Decides f (nth_text ns i)).0 there) ∙ (bytes_eq-Decides f n).0 on) (up.0 (nth_text ns i) (among_at ns i [] inside))
+          itself = subst (λ x. IsTrue (is_below n x)) (sym ((bytes_eq-Decides f (nth_text ns i)).0 there) ∙ (bytes_eq-Decides f n).0 on) (first_below n ns up (nth_text ns i) (among_at ns i [] inside))
       go true on false there = refl
       go false off true there = refl
       go false off false there = refl

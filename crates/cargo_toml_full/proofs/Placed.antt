@@ -20,6 +20,7 @@ use Rattle.cargo_toml_graph.specs.Reach.{Among}
 use Rattle.cargo_toml_graph.proofs.RedirectsInOrder.{below_one_way}
 use Rattle.cargo_toml_full.specs.Placing.{IsBoundOf, IsPlaceOf}
 use Rattle.cargo_toml_full.proofs.Ascending.{Below, below_then, lower}
+use Rattle.cargo_toml_graph.proofs.SortedTexts.{first_below, one_ascends, others_ascend, put_first}
 use Rattle.cargo_toml_features.specs.Places.{nth_text}
 use Rattle.cargo_toml_features.proofs.Places.{among_at, at_among, rises}
 
@@ -78,13 +79,12 @@ among_put (v ∷ vs) (suc i) w y within (inr there) = elim (among_put vs i w y (
 
 put_ascends : (vs : List Feature) (i : ℕ) (w : Feature) → AreInOrder vs → i ≤ length vs → ((k : ℕ) → k < i → Below (nth_text (names_of vs) k) w.key.now)
     → (i < length vs → Below w.key.now (nth_text (names_of vs) i)) → AreInOrder (insert vs i w)
-put_ascends [] zero w up within below above = (λ y there. absurd there, tt)
-put_ascends (v ∷ vs) zero w up within below above = (lower w.key.now v.key.now (names_of vs) up (above (omega arith)), up)
+put_ascends [] zero w up within below above = one_ascends w.key.now
+put_ascends (v ∷ vs) zero w up within below above = put_first w.key.now (names_of (v ∷ vs)) (lower w.key.now v.key.now (names_of vs) up (above (omega arith))) up
 put_ascends [] (suc i) w up within below above = absurd (omega (arith, within))
-put_ascends (v ∷ vs) (suc i) w up within below above = (
-  λ y there. elim (among_put vs i w y (omega (arith, within)) there) [ inl is ↦ subst (Below v.key.now) (sym is) (below 0 (omega arith)) | inr more ↦ up.0 y more ],
-  put_ascends vs i w up.1 (omega (arith, within)) (λ k less. below (suc k) (omega (arith, less))) (λ inside. above (omega (arith, inside))),
-)
+put_ascends (v ∷ vs) (suc i) w up within below above = put_first v.key.now (names_of (insert vs i w))
+    (λ y there. elim (among_put vs i w y (omega (arith, within)) there) [ inl is ↦ subst (Below v.key.now) (sym is) (below 0 (omega arith)) | inr more ↦ first_below v.key.now (names_of vs) up y more ])
+    (put_ascends vs i w (others_ascend v.key.now (names_of vs) up) (omega (arith, within)) (λ k less. below (suc k) (omega (arith, less))) (λ inside. above (omega (arith, inside))))
 
 put_held : (vs : List Feature) (i : ℕ) (w : Feature) → i ≤ length vs → (¬ Among (names_of vs) w.key.now) → (f : Text)
     → feature_at (insert vs i w) f ≡ cond (bytes_eq f w.key.now) (Some w) (feature_at vs f)
@@ -182,7 +182,7 @@ feature_set (v ∷ vs) zero w up below same f = ap (λ n. cond (bytes_eq f n) (S
     go : (t : Bool) → cond t (Some w) (feature_at vs f) ≡ cond t (Some w) (cond t (Some v) (feature_at vs f))
     go true = refl
     go false = refl
-feature_set (v ∷ vs) (suc i) w up below same f = ap (cond (bytes_eq f v.key.now) (Some v)) (feature_set vs i w up.1 (omega (arith, below)) same f) ∙ go (bytes_eq f v.key.now) refl (bytes_eq f (nth_text (names_of vs) i)) refl
+feature_set (v ∷ vs) (suc i) w up below same f = ap (cond (bytes_eq f v.key.now) (Some v)) (feature_set vs i w (others_ascend v.key.now (names_of vs) up) (omega (arith, below)) same f) ∙ go (bytes_eq f v.key.now) refl (bytes_eq f (nth_text (names_of vs) i)) refl
   where
     inside : i < length (names_of vs)
     inside = let long = length-map vs (λ (x : Feature). x.key.now) in omega (arith, below, long)
@@ -192,7 +192,7 @@ feature_set (v ∷ vs) (suc i) w up below same f = ap (cond (bytes_eq f v.key.no
     go true on true there = absurd (below_one_way v.key.now v.key.now itself itself)
       where
         itself : Below v.key.now v.key.now
-        itself = subst (Below v.key.now) (sym ((bytes_eq-Decides f (nth_text (names_of vs) i)).0 there) ∙ (bytes_eq-Decides f v.key.now).0 on) (up.0 (nth_text (names_of vs) i) (among_at (names_of vs) i [] inside))
+        itself = subst (Below v.key.now) (sym ((bytes_eq-Decides f (nth_text (names_of vs) i)).0 there) ∙ (bytes_eq-Decides f v.key.now).0 on) (first_below v.key.now (names_of vs) up (nth_text (names_of vs) i) (among_at (names_of vs) i [] inside))
     go true on false there = refl
     go false off true there = refl
     go false off false there = refl
@@ -201,7 +201,7 @@ feature_set (v ∷ vs) (suc i) w up below same f = ap (cond (bytes_eq f v.key.no
 pub feature_here : (vs : List Feature) (i : ℕ) (d : Feature) → AreInOrder vs → i < length vs → feature_at vs (nth_text (names_of vs) i) ≡ Some (get_or vs i d)
 feature_here [] i d up below = absurd (omega (arith, below))
 feature_here (v ∷ vs) zero d up below = ap (λ t. cond t (Some v) (feature_at vs v.key.now)) ((bytes_eq-Decides v.key.now v.key.now).1 refl)
-feature_here (v ∷ vs) (suc i) d up below = go (bytes_eq (nth_text (names_of vs) i) v.key.now) refl (feature_here vs i d up.1 (omega (arith, below)))
+feature_here (v ∷ vs) (suc i) d up below = go (bytes_eq (nth_text (names_of vs) i) v.key.now) refl (feature_here vs i d (others_ascend v.key.now (names_of vs) up) (omega (arith, below)))
   where
     inside : i < length (names_of vs)
     inside = let long = length-map vs (λ (x : Feature). x.key.now) in omega (arith, below, long)
@@ -210,7 +210,7 @@ feature_here (v ∷ vs) (suc i) d up below = go (bytes_eq (nth_text (names_of vs
     go true on later = absurd (below_one_way v.key.now v.key.now itself itself)
       where
         itself : Below v.key.now v.key.now
-        itself = subst (Below v.key.now) ((bytes_eq-Decides (nth_text (names_of vs) i) v.key.now).0 on) (up.0 (nth_text (names_of vs) i) (among_at (names_of vs) i [] inside))
+        itself = subst (Below v.key.now) ((bytes_eq-Decides (nth_text (names_of vs) i) v.key.now).0 on) (first_below v.key.now (names_of vs) up (nth_text (names_of vs) i) (among_at (names_of vs) i [] inside))
     go false off later = later
 
 -- a look at the place where a name would stand tells whether it has a feature

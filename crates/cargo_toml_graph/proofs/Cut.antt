@@ -8,6 +8,7 @@ use Rattle.cargo_toml_graph.specs.Admitted.{Listed, is_below, is_admitted, admit
 use Rattle.cargo_toml_graph.specs.Reach.{Among, IsOnce}
 use Rattle.cargo_toml_graph.specs.Ascending.{Ascend}
 use Rattle.cargo_toml_graph.proofs.RedirectsInOrder.{below_one_way}
+use Rattle.cargo_toml_graph.proofs.SortedTexts.{first_below, others_ascend}
 
 -- a name counts while there is room, and `default` always
 abbrev pub is_counted : ℕ → Listed → Text → Bool
@@ -65,12 +66,12 @@ among_here (y ∷ ys) e es = inr (among_here ys e es)
 place : (ys : Listed) (e : Text × List Text) (es : Listed) → Ascends (ys ++ e ∷ es) → count_by (λ d. is_below d.0 e.0) (ys ++ e ∷ es) ≡ length ys
 place [] e es a =
     let off : one (is_below e.0 e.0) ≡ 0 = ap one (not_itself e.0) in
-    let rest : count_by (λ d. is_below d.0 e.0) es ≡ 0 = none_below e.0 es a.0 in
+    let rest : count_by (λ d. is_below d.0 e.0) es ≡ 0 = none_below e.0 es (first_below e.0 (names_of es) a) in
     let first : count_by (λ d. is_below d.0 e.0) (e ∷ es) ≡ one (is_below e.0 e.0) + count_by (λ d. is_below d.0 e.0) es = counted e.0 e es in
     omega (arith, first, off, rest)
 place (y ∷ ys) e es a =
-    let on : one (is_below y.0 e.0) ≡ 1 = ap one (a.0 e.0 (among_here ys e es)) in
-    let rest : count_by (λ d. is_below d.0 e.0) (ys ++ e ∷ es) ≡ length ys = place ys e es a.1 in
+    let on : one (is_below y.0 e.0) ≡ 1 = ap one (first_below y.0 (names_of (ys ++ e ∷ es)) a e.0 (among_here ys e es)) in
+    let rest : count_by (λ d. is_below d.0 e.0) (ys ++ e ∷ es) ≡ length ys = place ys e es (others_ascend y.0 (names_of (ys ++ e ∷ es)) a) in
     let first : count_by (λ d. is_below d.0 e.0) (y ∷ ys ++ e ∷ es) ≡ one (is_below y.0 e.0) + count_by (λ d. is_below d.0 e.0) (ys ++ e ∷ es) = counted e.0 y (ys ++ e ∷ es) in
     omega (arith, first, on, rest)
 
@@ -144,10 +145,10 @@ kept_among limit p (e ∷ es) n i = go (λ h. kept_among limit p es n h) (p e) i
 
 kept_once : (limit : ℕ) (p : Text × List Text → Bool) (es : Listed) → Ascends es → IsOnce (names_of (map (first_of limit) (filter p es)))
 kept_once limit p [] a = tt
-kept_once limit p (e ∷ es) a = go (kept_once limit p es a.1) (p e)
+kept_once limit p (e ∷ es) a = go (kept_once limit p es (others_ascend e.0 (names_of es) a)) (p e)
   where
     go : IsOnce (names_of (map (first_of limit) (filter p es))) → (b : Bool) → IsOnce (names_of (map (first_of limit) (cond b (e ∷ filter p es) (filter p es))))
-    go later true = ((λ i. let b = a.0 e.0 (kept_among limit p es e.0 i) in below_one_way e.0 e.0 b b), later)
+    go later true = ((λ i. let b = first_below e.0 (names_of es) a e.0 (kept_among limit p es e.0 i) in below_one_way e.0 e.0 b b), later)
     go later false = later
 
 pub admitted_once : (limit : ℕ) (listed : Listed) → Ascends listed → IsOnce (names_of (admitted limit listed))

@@ -13,6 +13,7 @@ use Rattle.cargo_toml_graph.proofs.Edges.{unremoved_is}
 use Rattle.cargo_toml_graph.proofs.Members.{reaches_within}
 use Rattle.cargo_toml_graph.proofs.PassedBins.{bins_are, bins_complete, grown_weaker, passed_alike}
 use Rattle.cargo_toml_graph.proofs.RedirectsInOrder.{below_one_way}
+use Rattle.cargo_toml_graph.proofs.SortedTexts.{first_below, one_ascends, others_ascend, put_first}
 
 abbrev Below : Text → Text → Type 0
 Below a b = IsTrue (is_below a b)
@@ -20,15 +21,14 @@ Below a b = IsTrue (is_below a b)
 -- a list in ascending order has each text once
 pub ascending_once : (xs : List Text) → Ascend xs → IsOnce xs
 ascending_once [] a = tt
-ascending_once (x ∷ xs) a = ((λ i. let b = a.0 x i in below_one_way x x b b), ascending_once xs a.1)
+ascending_once (x ∷ xs) a = ((λ i. let b = first_below x xs a x i in below_one_way x x b b), ascending_once xs (others_ascend x xs a))
 
 -- a text above all others goes to the end
 pub ascending_last : (xs : List Text) (r : Text) → Ascend xs → ((v : Text) → Among xs v → IsTrue (is_below v r)) → Ascend (xs ++ r ∷ [])
-ascending_last [] r a above = ((λ y i. absurd i), tt)
-ascending_last (x ∷ xs) r a above = (
-  λ y i. elim (last xs y i) [ inl j ↦ a.0 y j | inr e ↦ subst (Below x) (sym e) (above x (inl refl)) ],
-  ascending_last xs r a.1 (λ v i. above v (inr i)),
-)
+ascending_last [] r a above = one_ascends r
+ascending_last (x ∷ xs) r a above = put_first x (xs ++ r ∷ [])
+    (λ y i. elim (last xs y i) [ inl j ↦ first_below x xs a y j | inr e ↦ subst (Below x) (sym e) (above x (inl refl)) ])
+    (ascending_last xs r (others_ascend x xs a) (λ v i. above v (inr i)))
   where
     last : (ys : List Text) (y : Text) → Among (ys ++ r ∷ []) y → Among ys y ⊎ (y ≡ r)
     last [] y (inl e) = inr e
@@ -41,18 +41,18 @@ pub one_order : (xs ys : List Text) → Ascend xs → Ascend ys → ((v : Text) 
 one_order [] [] a b same = refl
 one_order [] (y ∷ ys) a b same = absurd ((same y).1 (inl refl))
 one_order (x ∷ xs) [] a b same = absurd ((same x).0 (inl refl))
-one_order (x ∷ xs) (y ∷ ys) a b same = ap₂ (λ z zs. z ∷ zs) first (one_order xs ys a.1 b.1 rest)
+one_order (x ∷ xs) (y ∷ ys) a b same = ap₂ (λ z zs. z ∷ zs) first (one_order xs ys (others_ascend x xs a) (others_ascend y ys b) rest)
   where
     first : x ≡ y
     first = elim ((same x).0 (inl refl)) [
       | inl e ↦ e
-      | inr i ↦ elim ((same y).1 (inl refl)) [ inl e ↦ sym e | inr j ↦ absurd (below_one_way x y (a.0 y j) (b.0 x i)) ]
+      | inr i ↦ elim ((same y).1 (inl refl)) [ inl e ↦ sym e | inr j ↦ absurd (below_one_way x y (first_below x xs a y j) (first_below y ys b x i)) ]
     ]
 
     rest : (v : Text) → Among xs v ↔ Among ys v
     rest v = (
-      λ i. elim ((same v).0 (inr i)) [ inl e ↦ (let c : Below x x = a.0 x (subst (Among xs) (e ∙ sym first) i) in absurd (below_one_way x x c c)) | inr j ↦ j ],
-      λ j. elim ((same v).1 (inr j)) [ inl e ↦ (let c : Below y y = b.0 y (subst (Among ys) (e ∙ first) j) in absurd (below_one_way y y c c)) | inr i ↦ i ],
+      λ i. elim ((same v).0 (inr i)) [ inl e ↦ (let c : Below x x = first_below x xs a x (subst (Among xs) (e ∙ sym first) i) in absurd (below_one_way x x c c)) | inr j ↦ j ],
+      λ j. elim ((same v).1 (inr j)) [ inl e ↦ (let c : Below y y = first_below y ys b y (subst (Among ys) (e ∙ first) j) in absurd (below_one_way y y c c)) | inr i ↦ i ],
     )
 
 -- two resolutions that hold the same

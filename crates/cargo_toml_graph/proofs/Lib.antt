@@ -14,6 +14,7 @@ pub mod NothingLost
 pub mod AgainstAll
 pub mod BinLists
 pub mod PassedBins
+pub mod SortedTexts
 pub mod RedirectsInOrder
 pub mod InByteOrder
 pub mod Cut

@@ -11,50 +11,12 @@ use Rattle.cargo_toml_graph.specs.Action.{Text}
 use Rattle.cargo_toml_graph.specs.Admitted.{is_below}
 use Rattle.cargo_toml_graph.specs.Reach.{Among, IsOnce}
 use Rattle.cargo_toml_graph.specs.Graph.{Table, Resolution, IsKept, IsUnremoved}
-use Rattle.cargo_toml_graph.specs.Removal.{without_all, IsAscending}
+use Rattle.cargo_toml_graph.specs.Removal.{without_all}
 use Rattle.cargo_toml_graph.specs.Redirects.{RedirectsTo}
 use Rattle.cargo_toml_graph.proofs.Members.{label_within}
 use Rattle.cargo_toml_graph.proofs.Elimination.{all_taken_out}
 use Rattle.cargo_toml_graph.proofs.BinLists.{among-first, among-second, among-either}
-
-module _ (Below : Text → Text → Type 0) (asymmetric : (a b : Text) → Below a b → Below b a → ⊥) where
-  earlier_below : (before rest : List Text) → IsAscending Below (before ++ rest) → (v w : Text) → Among before v → Among rest w → Below v w
-  earlier_below [] rest a v w i j = absurd i
-  earlier_below (x ∷ xs) rest a v w (inl e) j = subst (λ u. Below u w) (sym e) (a.0 w (among-second xs rest w j))
-  earlier_below (x ∷ xs) rest a v w (inr i) j = earlier_below xs rest a.1 v w i j
-
-  rest_ascends : (before rest : List Text) → IsAscending Below (before ++ rest) → IsAscending Below rest
-  rest_ascends [] rest a = a
-  rest_ascends (x ∷ xs) rest a = rest_ascends xs rest a.1
-
-  front_once : (before rest : List Text) → IsAscending Below (before ++ rest) → IsOnce before
-  front_once [] rest a = tt
-  front_once (x ∷ xs) rest a = ((λ i. let b = a.0 x (among-first xs rest x i) in asymmetric x x b b), front_once xs rest a.1)
-
-  module _ (t : Table) (before : List Text) (r : Text) (after : List Text) (m : Resolution) (start : IsUnremoved t m)
-      (there : (v : Text) → Among (before ++ r ∷ after) v → IsTrue (t.has v)) (ascending : IsAscending Below (before ++ r ∷ after)) where
-    abbrev Earlier : Text → Type 0
-    Earlier v = Among (before ++ r ∷ after) v × Below v r
-
-    into : (v : Text) → Among before v → Earlier v
-    into v i = (among-first before (r ∷ after) v i, earlier_below before (r ∷ after) ascending v r i (inl refl))
-
-    back : (v : Text) → Earlier v → Among before v
-    back v e = elim (among-either before (r ∷ after) v e.0) [
-      | inl i ↦ i
-      | inr i ↦ elim i [
-        | inl same ↦ let b : Below r r = subst (λ u. Below u r) same e.1 in absurd (asymmetric r r b b)
-        | inr i ↦ absurd (asymmetric v r e.1 ((rest_ascends before (r ∷ after) ascending).0 v i))
-      ]
-    ]
-
-    pub redirect_is : (x : Text) → IsTrue ((without_all before m).table.names r x) ↔ RedirectsTo t (Among (before ++ r ∷ after)) Below r x
-    redirect_is x =
-        let h = all_taken_out t before m start (λ v i. there v (among-first before (r ∷ after) v i)) (front_once before (r ∷ after) ascending) in
-        let here : IsKept t (Among before) r = (there r (among-second before (r ∷ after) r (inl refl)), λ i. let b = (into r i).1 in asymmetric r r b b) in (
-          λ y. let n = (h.names r x here).0 y in (label_within (λ b z. IsTrue (t.names b z)) (Among before) Earlier into r x n.0, λ s. n.1 (back x s)),
-          λ n. (h.names r x here).1 (label_within (λ b z. IsTrue (t.names b z)) Earlier (Among before) back r x n.0, λ s. n.1 (into x s)),
-        )
+use Rattle.cargo_toml_graph.proofs.SortedTexts.{first_below, others_ascend}
 
 -- no text is below one that is below it
 pub below_one_way : (a b : Text) → IsTrue (is_below a b) → IsTrue (is_below b a) → ⊥
@@ -65,7 +27,43 @@ below_one_way a b = go (slice_cmp nat_cmp a b) (slice_cmp nat_cmp b a) (nat_list
     go o Equal e x y = false≢true y
     go o Greater e x y = false≢true y
 
-pub redirect_by_bytes : (t : Table) (before : List Text) (r : Text) (after : List Text) (m : Resolution) → IsUnremoved t m
-    → ((v : Text) → Among (before ++ r ∷ after) v → IsTrue (t.has v)) → Ascend (before ++ r ∷ after)
-    → (x : Text) → IsTrue ((without_all before m).table.names r x) ↔ RedirectsTo t (Among (before ++ r ∷ after)) (λ a b. IsTrue (is_below a b)) r x
-redirect_by_bytes t before r after m start there ascending x = redirect_is (λ a b. IsTrue (is_below a b)) below_one_way t before r after m start there ascending x
+abbrev Below : Text → Text → Type 0
+Below a b = IsTrue (is_below a b)
+
+earlier_below : (before rest : List Text) → Ascend (before ++ rest) → (v w : Text) → Among before v → Among rest w → Below v w
+earlier_below [] rest a v w i j = absurd i
+earlier_below (x ∷ xs) rest a v w (inl e) j = subst (λ u. Below u w) (sym e) (first_below x (xs ++ rest) a w (among-second xs rest w j))
+earlier_below (x ∷ xs) rest a v w (inr i) j = earlier_below xs rest (others_ascend x (xs ++ rest) a) v w i j
+
+rest_ascends : (before rest : List Text) → Ascend (before ++ rest) → Ascend rest
+rest_ascends [] rest a = a
+rest_ascends (x ∷ xs) rest a = rest_ascends xs rest (others_ascend x (xs ++ rest) a)
+
+front_once : (before rest : List Text) → Ascend (before ++ rest) → IsOnce before
+front_once [] rest a = tt
+front_once (x ∷ xs) rest a = ((λ i. let b = first_below x (xs ++ rest) a x (among-first xs rest x i) in below_one_way x x b b), front_once xs rest (others_ascend x (xs ++ rest) a))
+
+module _ (t : Table) (before : List Text) (r : Text) (after : List Text) (m : Resolution) (start : IsUnremoved t m)
+    (there : (v : Text) → Among (before ++ r ∷ after) v → IsTrue (t.has v)) (ascending : Ascend (before ++ r ∷ after)) where
+  abbrev Earlier : Text → Type 0
+  Earlier v = Among (before ++ r ∷ after) v × Below v r
+
+  into : (v : Text) → Among before v → Earlier v
+  into v i = (among-first before (r ∷ after) v i, earlier_below before (r ∷ after) ascending v r i (inl refl))
+
+  back : (v : Text) → Earlier v → Among before v
+  back v e = elim (among-either before (r ∷ after) v e.0) [
+    | inl i ↦ i
+    | inr i ↦ elim i [
+      | inl same ↦ let b : Below r r = subst (λ u. Below u r) same e.1 in absurd (below_one_way r r b b)
+      | inr i ↦ absurd (below_one_way v r e.1 (first_below r after (rest_ascends before (r ∷ after) ascending) v i))
+    ]
+  ]
+
+  pub redirect_by_bytes : (x : Text) → IsTrue ((without_all before m).table.names r x) ↔ RedirectsTo t (Among (before ++ r ∷ after)) Below r x
+  redirect_by_bytes x =
+      let h = all_taken_out t before m start (λ v i. there v (among-first before (r ∷ after) v i)) (front_once before (r ∷ after) ascending) in
+      let here : IsKept t (Among before) r = (there r (among-second before (r ∷ after) r (inl refl)), λ i. let b = (into r i).1 in below_one_way r r b b) in (
+        λ y. let n = (h.names r x here).0 y in (label_within (λ b z. IsTrue (t.names b z)) (Among before) Earlier into r x n.0, λ s. n.1 (back x s)),
+        λ n. (h.names r x here).1 (label_within (λ b z. IsTrue (t.names b z)) Earlier (Among before) back r x n.0, λ s. n.1 (into x s)),
+      )

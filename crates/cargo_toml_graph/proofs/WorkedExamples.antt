@@ -16,6 +16,7 @@ use Rattle.cargo_toml_graph.proofs.Texts.{same, apart_from}
 use Rattle.cargo_toml_graph.proofs.Edges.{unremoved_is}
 use Rattle.cargo_toml_graph.proofs.Elimination.{all_taken_out}
 use Rattle.cargo_toml_graph.proofs.RedirectsInOrder.{redirect_by_bytes}
+use Rattle.cargo_toml_graph.proofs.SortedTexts.{one_ascends}
 
 -- an explicit name is `default` or listed
 looked_up : (listed : Listed) (f : Text) → IsTrue (is_some (lookup (bytes_eq f) listed)) → Among (map (λ e. e.0) listed) f
@@ -85,7 +86,7 @@ cycle_enabled e = (
 
 pub cycle_redirect : (x : Text) → RedirectsTo hidden_cycle (Among (codes "_h" ∷ [])) (λ a b. IsTrue (is_below a b)) (codes "_h") x ↔ (x ≡ codes "a")
 cycle_redirect x =
-    let r = redirect_by_bytes hidden_cycle [] (codes "_h") [] (unremoved hidden_cycle) (unremoved_is hidden_cycle) (there_alone hidden_cycle (codes "_h") refl) ((λ y i. absurd i), tt) x in (
+    let r = redirect_by_bytes hidden_cycle [] (codes "_h") [] (unremoved hidden_cycle) (unremoved_is hidden_cycle) (there_alone hidden_cycle (codes "_h") refl) (one_ascends (codes "_h")) x in (
       λ h. one (r.1 h),
       λ e. r.0 (subst (λ v. IsTrue (hidden_cycle.names (codes "_h") v)) (sym e) refl),
     )
@@ -132,7 +133,7 @@ itself_enabled e = (
 
 pub itself_redirect : (x : Text) → RedirectsTo hidden_names_itself (Among (codes "_s" ∷ [])) (λ a b. IsTrue (is_below a b)) (codes "_s") x ↔ ((x ≡ codes "_s") ⊎ (x ≡ codes "b"))
 itself_redirect x =
-    let r = redirect_by_bytes hidden_names_itself [] (codes "_s") [] (unremoved hidden_names_itself) (unremoved_is hidden_names_itself) (there_alone hidden_names_itself (codes "_s") refl) ((λ y i. absurd i), tt) x in (
+    let r = redirect_by_bytes hidden_names_itself [] (codes "_s") [] (unremoved hidden_names_itself) (unremoved_is hidden_names_itself) (there_alone hidden_names_itself (codes "_s") refl) (one_ascends (codes "_s")) x in (
       λ h. elim (or_cases (bytes_eq x (codes "_s")) _ (r.1 h)) [ inl i ↦ inl (same i) | inr i ↦ inr (one i) ],
       elim [
         | inl e ↦ r.0 (subst (λ v. IsTrue (hidden_names_itself.names (codes "_s") v)) (sym e) refl)

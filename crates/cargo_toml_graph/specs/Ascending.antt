@@ -1,20 +1,14 @@
 -- Texts that stand in byte order.
-use Rattle.std.specs.Prelude.{IsTrue, List, [], ◌∷◌}
-use Rattle.std.specs.Coded.{×_prop, Unit-prop}
-use Rattle.std.proofs.Props.{props}
+use Rattle.std.specs.Prelude.{List}
+use Rattle.std.specs.Cmp.Lexicographic.{slice_cmp}
+use Rattle.std.specs.List.Sorted.{IsStrictlySortedBy, IsStrictlySortedBy-prop}
+use Rattle.std.specs.Ordering.{nat_cmp}
 use Rattle.cargo_toml_graph.specs.Action.{Text}
-use Rattle.cargo_toml_graph.specs.Admitted.{is_below}
-use Rattle.cargo_toml_graph.specs.Reach.{Among}
-use Rattle.cargo_toml_graph.specs.Removal.{IsAscending}
 
 -- each text is below those after it
 abbrev pub Ascend : List Text → Type 0
-Ascend texts = IsAscending (λ a b. IsTrue (is_below a b)) texts
-
-lower-prop : (x : Text) (xs : List Text) → IsProp ((y : Text) → Among xs y → IsTrue (is_below x y))
-lower-prop x xs = Prim.hlevel props
+Ascend texts = IsStrictlySortedBy (slice_cmp nat_cmp) texts
 
 -- that they stand so is one fact
 pub Ascend-prop : (texts : List Text) → IsProp (Ascend texts)
-Ascend-prop [] = Unit-prop
-Ascend-prop (x ∷ xs) = ×_prop (lower-prop x xs) (Ascend-prop xs)
+Ascend-prop texts = IsStrictlySortedBy-prop (slice_cmp nat_cmp) texts

@@ -5,7 +5,6 @@ use Rattle.std.specs.Prelude.{◌++◌, take, bytes_eq, nat_eq, codes, Bool, fal
 use Rattle.std.specs.List.{list_any, starts_with}
 use Rattle.std.specs.Option.{option_map_or}
 use Rattle.cargo_toml_graph.specs.Action.{Text, Action, join_option}
-use Rattle.cargo_toml_graph.specs.Reach.{Among}
 use Rattle.cargo_toml_graph.specs.Graph.{Table, Resolution}
 
 -- the removed features; `keep` is what the filter answers
@@ -61,11 +60,6 @@ pass_bins m r bins f = if m.table.names r f then put_each (bins f) (take 10 (bin
 abbrev pub pass_all : List Text → Resolution → (Text → List Text) → Text → List Text
 pass_all [] m bins = bins
 pass_all (r ∷ rs) m bins = pass_all rs (without_one r m) (pass_bins m r bins)
-
--- each element is below those after it
-abbrev pub IsAscending : (Text → Text → Type 0) → List Text → Type 0
-IsAscending Below [] = Unit {0}
-IsAscending Below (x ∷ xs) = ((y : Text) → Among xs y → Below x y) × IsAscending Below xs
 
 -- the same features, and each holds the same
 pub record SameKept (m n : Resolution) : Type 0 where

@@ -11,6 +11,7 @@ use Rattle.cargo_toml_graph.specs.Reach.{Among}
 use Rattle.cargo_toml_graph.proofs.RedirectsInOrder.{below_one_way}
 use Rattle.cargo_toml_features.specs.Views.{value_at}
 use Rattle.cargo_toml_graph.specs.Ascending.{Ascend}
+use Rattle.cargo_toml_graph.proofs.SortedTexts.{first_below, others_ascend}
 use Rattle.cargo_toml_full.specs.Slots.{held_among}
 use Rattle.cargo_toml_resolve.specs.Texts.{texts_now}
 
@@ -32,7 +33,7 @@ turn n ns v vs k o up = go (bytes_eq k n) refl
     go : (b : Bool) → bytes_eq k n ≡ b → option_or (if b then v else held_among ns vs k) o ≡ option_or (held_among ns vs k) (option_or (if b then v else None) o)
     go true same =
         let is : k ≡ n = (bytes_eq-Decides k n).0 same in
-        let gone : held_among ns vs k ≡ None = none_held ns vs k (λ i. let b = up.0 k i in let itself = subst (λ x. IsTrue (is_below x k)) (sym is) b in below_one_way k k itself itself) in
+        let gone : held_among ns vs k ≡ None = none_held ns vs k (λ i. let b = first_below n ns up k i in let itself = subst (λ x. IsTrue (is_below x k)) (sym is) b in below_one_way k k itself itself) in
         sym (ap (λ h. option_or h (option_or v o)) gone)
     go false off = refl
 
@@ -40,7 +41,7 @@ ascend_later : (ns : List (Bor Text)) (n : ℕ) → Ascend (texts_now ns) → As
 ascend_later [] zero up = up
 ascend_later [] (suc n) up = up
 ascend_later (x ∷ ns) zero up = up
-ascend_later (x ∷ ns) (suc n) up = ascend_later ns n up.1
+ascend_later (x ∷ ns) (suc n) up = ascend_later ns n (others_ascend x.now (texts_now ns) up)
 
 abbrev tail_or : {X : Type 0} → List X → List X → List X
 tail_or d [] = d

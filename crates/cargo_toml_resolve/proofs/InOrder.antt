@@ -1,20 +1,18 @@
 -- The texts of a set, as a list.
-use Rattle.std.proofs.Common.{◌≡◌, ◌↔◌, List, [], ◌∷◌, map, IsTrue, Result, Ok, Err, IfOk, Vec, Global, Bor, subst, sym, ap, inl, inr, ◌∙◌}
+use Rattle.std.proofs.Common.{◌≡◌, ◌↔◌, List, [], ◌∷◌, map, IsTrue, Result, Ok, Err, IfOk, Vec, Global, Bor, subst, sym, inl, inr, ◌∙◌}
 use Rattle.std.proofs.lemmas.Bool.{false≢true, or_left, or_right, or_cases}
-use Rattle.std.proofs.lemmas.Map.Keys.{sorted_head, sorted_tail}
 use Rattle.std.proofs.lemmas.Map.Text.{is_eq-slice_cmp}
 use Rattle.std.proofs.lemmas.Slice.Eq.{bytes_eq-Decides}
 use Rattle.std.specs.BTreeMap.{is_at}
 use Rattle.std.specs.BTreeSet.{BTreeSet}
 use Rattle.std.specs.Cmp.Lexicographic.{slice_cmp}
-use Rattle.std.specs.List.{AllByRecursion, list_any}
+use Rattle.std.specs.List.{list_any}
 use Rattle.std.specs.List.Sorted.{IsStrictlySortedBy}
-use Rattle.std.specs.Ordering.{nat_cmp, is_lt}
-use Rattle.std.specs.declared.cmp.Ordering.TheVariants.{Less}
+use Rattle.std.specs.Ordering.{nat_cmp}
 use Rattle.cargo_toml_graph.specs.Action.{Text}
-use Rattle.cargo_toml_graph.specs.Admitted.{is_below}
 use Rattle.cargo_toml_graph.specs.Reach.{Among}
 use Rattle.cargo_toml_graph.specs.Ascending.{Ascend}
+use Rattle.cargo_toml_graph.proofs.SortedTexts.{texts_ascend}
 use Rattle.cargo_toml_features.specs.Views.{set_has}
 
 abbrev texts : List (Bor Text) → List Text
@@ -36,19 +34,7 @@ pub all_taken : {E : Type 0} (r : Result (Vec (Bor Text) Global) E) (s : BTreeSe
 all_taken (Ok v) s e = λ f. subst (λ (ks : List (Bor Text)). Among (texts ks) f ↔ IsTrue (set_has s f)) (sym e) (among_keys f s.keys)
 all_taken (Err _) s e = tt
 
-below_each : (k : Bor Text) (ks : List (Bor Text)) → AllByRecursion (λ x. slice_cmp nat_cmp k.now x.now ≡ Less) ks → (y : Text) → Among (texts ks) y → IsTrue (is_below k.now y)
-below_each k [] all y i = absurd i
-below_each k (x ∷ xs) all y (inl e) = subst (λ z. IsTrue (is_below k.now z)) (sym e) (ap is_lt all.0)
-below_each k (x ∷ xs) all y (inr i) = below_each k xs all.1 y i
-
-ascending : (ks : List (Bor Text)) → IsStrictlySortedBy (λ (x : Bor Text) (y : Bor Text). slice_cmp nat_cmp x.now y.now) ks → Ascend (texts ks)
-ascending [] h = tt
-ascending (k ∷ ks) h = (
-  below_each k ks (sorted_head (λ (x : Bor Text) (y : Bor Text). slice_cmp nat_cmp x.now y.now) k ks h),
-  ascending ks (sorted_tail (λ (x : Bor Text) (y : Bor Text). slice_cmp nat_cmp x.now y.now) k ks h),
-)
-
 pub taken_in_order : {E : Type 0} (r : Result (Vec (Bor Text) Global) E) (ks : List (Bor Text)) → IsStrictlySortedBy (λ (x : Bor Text) (y : Bor Text). slice_cmp nat_cmp x.now y.now) ks → IfOk r (λ v. v.items ≡ ks)
     → IfOk r (λ v. Ascend (texts v.items))
-taken_in_order (Ok v) ks ordered e = subst (λ xs. Ascend (texts xs)) (sym e) (ascending ks ordered)
+taken_in_order (Ok v) ks ordered e = subst (λ xs. Ascend (texts xs)) (sym e) (texts_ascend (λ (t : Bor Text). t.now) ks ordered)
 taken_in_order (Err _) ks ordered e = tt

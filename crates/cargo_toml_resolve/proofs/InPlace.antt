@@ -9,6 +9,7 @@ use Rattle.cargo_toml_graph.specs.Admitted.{is_below}
 use Rattle.cargo_toml_graph.specs.Graph.{Table}
 use Rattle.cargo_toml_graph.specs.Reach.{Among}
 use Rattle.cargo_toml_graph.proofs.RedirectsInOrder.{below_one_way}
+use Rattle.cargo_toml_graph.proofs.SortedTexts.{first_below, others_ascend}
 use Rattle.cargo_toml_features.specs.Places.{nth_text}
 use Rattle.cargo_toml_features.specs.declared.features.Feature.{Feature}
 use Rattle.cargo_toml_features.specs.InOrder.{AreInOrder, AreTable, feature_at, names_of}
@@ -48,13 +49,13 @@ stands_found (w ∷ vs) up zero v e = go (bytes_eq v.key.now w.key.now) refl
     go : (b : Bool) → bytes_eq v.key.now w.key.now ≡ b → (if b then Some w else feature_at vs v.key.now) ≡ Some v
     go true is = e
     go false is = absurd (false≢true (sym is ∙ (bytes_eq-Decides v.key.now w.key.now).1 (ap (λ (u : Feature). u.key.now) (sym (some_same e)))))
-stands_found (w ∷ vs) up (suc i) v e = go (stands_found vs up.1 i v e) (bytes_eq v.key.now w.key.now) refl
+stands_found (w ∷ vs) up (suc i) v e = go (stands_found vs (others_ascend w.key.now (names_of vs) up) i v e) (bytes_eq v.key.now w.key.now) refl
   where
     go : feature_at vs v.key.now ≡ Some v → (b : Bool) → bytes_eq v.key.now w.key.now ≡ b → (if b then Some w else feature_at vs v.key.now) ≡ Some v
     go further false is = further
     go further true is =
         let same : v.key.now ≡ w.key.now = (bytes_eq-Decides v.key.now w.key.now).0 is in
-        let below : IsTrue (is_below w.key.now v.key.now) = up.0 v.key.now (among_names vs i v e) in
+        let below : IsTrue (is_below w.key.now v.key.now) = first_below w.key.now (names_of vs) up v.key.now (among_names vs i v e) in
         let itself : IsTrue (is_below w.key.now w.key.now) = subst (λ x. IsTrue (is_below w.key.now x)) same below in
         absurd (below_one_way w.key.now w.key.now itself itself)
 
@@ -63,12 +64,12 @@ pub one_place : (vs : List Feature) → AreInOrder vs → (i j : ℕ) (v w : Fea
 one_place [] up i j v w e e' same = absurd (no_some e)
 one_place (u ∷ vs) up zero zero v w e e' same = refl
 one_place (u ∷ vs) up zero (suc j) v w e e' same =
-    let itself : IsTrue (is_below w.key.now w.key.now) = subst (λ x. IsTrue (is_below x w.key.now)) (ap (λ (x : Feature). x.key.now) (some_same e) ∙ same) (up.0 w.key.now (among_names vs j w e')) in
+    let itself : IsTrue (is_below w.key.now w.key.now) = subst (λ x. IsTrue (is_below x w.key.now)) (ap (λ (x : Feature). x.key.now) (some_same e) ∙ same) (first_below u.key.now (names_of vs) up w.key.now (among_names vs j w e')) in
     absurd (below_one_way w.key.now w.key.now itself itself)
 one_place (u ∷ vs) up (suc i) zero v w e e' same =
-    let itself : IsTrue (is_below v.key.now v.key.now) = subst (λ x. IsTrue (is_below x v.key.now)) (ap (λ (x : Feature). x.key.now) (some_same e') ∙ sym same) (up.0 v.key.now (among_names vs i v e)) in
+    let itself : IsTrue (is_below v.key.now v.key.now) = subst (λ x. IsTrue (is_below x v.key.now)) (ap (λ (x : Feature). x.key.now) (some_same e') ∙ sym same) (first_below u.key.now (names_of vs) up v.key.now (among_names vs i v e)) in
     absurd (below_one_way v.key.now v.key.now itself itself)
-one_place (u ∷ vs) up (suc i) (suc j) v w e e' same = ap suc (one_place vs up.1 i j v w e e' same)
+one_place (u ∷ vs) up (suc i) (suc j) v w e e' same = ap suc (one_place vs (others_ascend u.key.now (names_of vs) up) i j v w e e' same)
 
 -- what stands in a place below the end
 pub stands_in : (vs : List Feature) (i : ℕ) → i < length vs → (v : Feature) × (slice_get vs i ≡ Some v)

@@ -8,6 +8,7 @@ use Rattle.cargo_toml_graph.specs.Action.{Text}
 use Rattle.cargo_toml_graph.specs.Admitted.{is_below}
 use Rattle.cargo_toml_graph.specs.Graph.{IsUnremoved, Table}
 use Rattle.cargo_toml_graph.specs.Redirects.{RedirectsTo}
+use Rattle.cargo_toml_graph.proofs.SortedTexts.{none_ascend}
 use Rattle.cargo_toml_graph.proofs.Unremoved.{resolved_unremoved}
 use Rattle.cargo_toml_features.specs.declared.features.Feature.{Feature}
 use Rattle.cargo_toml_features.specs.InOrder.{AreInOrder, feature_at, resolution_among}
@@ -51,7 +52,7 @@ module _ {S : Type 0} (vs : List Feature) (up : AreInOrder vs) (m : HashMap (Bor
     own = λ f. own_at f (value_at m f) (same_at f);
     bins = record {
       order = [];
-      in_order = record { ascending = tt; members = λ r. (λ i. absurd i, λ y. absurd (none r y)) };
+      in_order = record { ascending = none_ascend; members = λ r. (λ i. absurd i, λ y. absurd (none r y)) };
       lists = λ f k. ap (λ (o : Option Feature). option_map_or (λ v. map (λ b. b.now) v.required_by_bins.items) o []) (same_at f);
     };
     redirected = λ r. ap is_some (empty r) ∙ sym (false_from_ne_true (removed r) (none r));

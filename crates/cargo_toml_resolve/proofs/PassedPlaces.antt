@@ -17,6 +17,7 @@ use Rattle.cargo_toml_graph.proofs.Members.{label_within}
 use Rattle.cargo_toml_graph.proofs.RedirectsInOrder.{below_one_way}
 use Rattle.cargo_toml_features.specs.Places.{nth_text}
 use Rattle.cargo_toml_graph.specs.Ascending.{Ascend}
+use Rattle.cargo_toml_graph.proofs.SortedTexts.{none_ascend}
 use Rattle.cargo_toml_resolve.specs.NumberedTables.{HasNumber}
 use Rattle.cargo_toml_walk.specs.Numbers.{IsWanted, Leads, row_items}
 use Rattle.cargo_toml_resolve.proofs.NumberedTables as numbered
@@ -86,7 +87,7 @@ module _ (t : Table) (removed : Text → Bool) (old : List Feature) (texts : Lis
       (named_below texts flags n v).1 (k.0, u.1, k.2, u.0)
 
   ascends_below : (n : ℕ) → n ≤ length edges → Ascend (names_below texts flags n)
-  ascends_below zero le = tt
+  ascends_below zero le = none_ascend
   ascends_below (suc n) le = go (slice_index_or flags n false) (ascends_below n (omega (arith, le)))
     where
       go : (b : Bool) → Ascend (names_below texts flags n) → Ascend (cond b (names_below texts flags n ++ nth_text texts n ∷ []) (names_below texts flags n))

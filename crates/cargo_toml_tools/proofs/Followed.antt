@@ -20,13 +20,14 @@ use Rattle.std.specs.String.{string_cmp}
 use Rattle.std.specs.declared.str.Split.{Split}
 use Rattle.cargo_toml.specs.Action.{Text}
 use Rattle.cargo_toml.specs.Ascending.{Ascend}
+use Rattle.cargo_toml_graph.proofs.SortedTexts.{one_ascends}
 use Rattle.cargo_toml.specs.Error.{Error}
 use Rattle.cargo_toml.specs.Reach.{Among}
 use Rattle.cargo_toml_tools.specs.FurtherFolders.{IsFurther, IsOneFurther}
 use Rattle.cargo_toml_tools.specs.MemberFolders.{IsOfFolders, LeadsToFolders, StandsFor, fits_name, has_pattern, named_folder, names_along, path_along}
 use Rattle.cargo_toml_tools.specs.Patterns.{is_pattern, matches}
 use Rattle.cargo_toml_tools.specs.Places.{path_below, pieces, root_of}
-use Rattle.cargo_toml_tools.proofs.KeysInOrder.{among_in, among_out, keys_ascend, one_alone}
+use Rattle.cargo_toml_tools.proofs.KeysInOrder.{among_in, among_out, texts_ascend, one_alone}
 use Rattle.cargo_toml_tools.proofs.Yielded.{yield_more, yield_none}
 
 -- ---- names that fit
@@ -291,7 +292,7 @@ of_entry one all more e (inr io) = inr (more io.0, io.1)
 pub leads_to : (entry : Text) (folders : BTreeSet (String Global)) → 0 < btree_set_len folders → Followed entry [] folders → LeadsToFolders entry (map string_bytes folders.keys)
 leads_to entry folders some before = record {
   some = omega (arith, length-map folders.keys string_bytes, some);
-  in_order = keys_ascend string_bytes folders.keys before.ordered;
+  in_order = texts_ascend string_bytes folders.keys before.ordered;
   stands = inl (λ folder i. before.stands folder (among_in string_bytes folder folders.keys i) [] refl);
 }
 
@@ -301,7 +302,7 @@ leads_itself entry folders more k none before is itself =
     let alone : map string_bytes more.keys ≡ entry ∷ [] = ap (map string_bytes) (first_key folders more k (no_keys folders.keys none) is) ∙ ap (λ t. t ∷ []) itself in
     record {
       some = omega (arith, ap length alone);
-      in_order = subst Ascend (sym alone) ((λ y i. absurd i), tt);
+      in_order = subst Ascend (sym alone) (one_ascends entry);
       stands = inr (true_from_ne_false (has_pattern entry) (λ plain. let some = before.some plain in omega arith), alone);
     }
 

@@ -2,19 +2,19 @@
 use Rattle.std.proofs.Common.{◌≡◌, ◌<◌, ◌∙◌, false, List, [], ◌∷◌, IsTrue, ap, arith, length, map, refl, subst, sym, inl, inr}
 use Rattle.std.proofs.lemmas.Bool.{false≢true, or_cases, or_left, or_right, true≢false}
 use Rattle.std.proofs.lemmas.Cmp.{tied_itself}
-use Rattle.std.proofs.lemmas.Map.Keys.{sorted_head, sorted_tail}
 use Rattle.std.proofs.lemmas.Map.Text.{is_eq-slice_cmp}
 use Rattle.std.proofs.lemmas.Slice.Eq.{bytes_eq-Decides}
 use Rattle.std.specs.BTreeMap.{is_at}
 use Rattle.std.specs.Cmp.Lexicographic.{nat_list_cmp_total, slice_cmp}
-use Rattle.std.specs.List.{AllByRecursion, list_any}
-use Rattle.std.specs.List.Sorted.{IsStrictlySortedBy}
+use Rattle.std.specs.List.{list_any}
 use Rattle.std.specs.Ordering.{is_lt, nat_cmp}
-use Rattle.std.specs.declared.cmp.Ordering.TheVariants.{Less}
 use Rattle.cargo_toml.specs.Action.{Text}
 use Rattle.cargo_toml.specs.Admitted.{is_below}
 use Rattle.cargo_toml.specs.Ascending.{Ascend}
 use Rattle.cargo_toml.specs.Reach.{Among}
+use Rattle.cargo_toml_graph.proofs.SortedTexts.{first_below}
+pub use Rattle.cargo_toml_graph.proofs.InByteOrder.{ascending_last}
+pub use Rattle.cargo_toml_graph.proofs.SortedTexts.{first_below, none_ascend, others_ascend, texts_ascend}
 
 -- by the text of a key
 module _ {K : Type 0} (text : K → Text) where
@@ -27,24 +27,12 @@ module _ {K : Type 0} (text : K → Text) where
   among_out f [] e = absurd (false≢true e)
   among_out f (k ∷ ks) e = elim (or_cases _ _ e) [ inl h ↦ inl ((bytes_eq-Decides f (text k)).0 (sym (is_eq-slice_cmp f (text k)) ∙ h)) | inr i ↦ inr (among_out f ks i) ]
 
-  below_each : (k : K) (ks : List K) → AllByRecursion (λ x. slice_cmp nat_cmp (text k) (text x) ≡ Less) ks → (y : Text) → Among (map text ks) y → IsTrue (is_below (text k) y)
-  below_each k [] all y i = absurd i
-  below_each k (x ∷ xs) all y (inl e) = subst (λ z. IsTrue (is_below (text k) z)) (sym e) (ap is_lt all.0)
-  below_each k (x ∷ xs) all y (inr i) = below_each k xs all.1 y i
-
-  pub keys_ascend : (ks : List K) → IsStrictlySortedBy (λ (x y : K). slice_cmp nat_cmp (text x) (text y)) ks → Ascend (map text ks)
-  keys_ascend [] h = tt
-  keys_ascend (k ∷ ks) h = (
-    below_each k ks (sorted_head (λ (x y : K). slice_cmp nat_cmp (text x) (text y)) k ks h),
-    keys_ascend ks (sorted_tail (λ (x y : K). slice_cmp nat_cmp (text x) (text y)) k ks h),
-  )
-
 -- one text among those that ascend
 pub one_alone : (x : Text) (xs : List Text) → Ascend xs → ((y : Text) → Among xs y → y ≡ x) → 0 < length xs → xs ≡ x ∷ []
 one_alone x [] up all some = absurd (omega arith)
 one_alone x (y ∷ []) up all some = ap (λ z. z ∷ []) (all y (inl refl))
 one_alone x (y ∷ z ∷ zs) up all some =
     let same : y ≡ z = all y (inl refl) ∙ sym (all z (inr (inl refl))) in
-    let below : IsTrue (is_below y z) = up.0 z (inl refl) in
+    let below : IsTrue (is_below y z) = first_below y (z ∷ zs) up z (inl refl) in
     let none : is_below y y ≡ false = ap is_lt (tied_itself nat_list_cmp_total y) in
     absurd (true≢false (sym (subst (λ w. IsTrue (is_below y w)) (sym same) below) ∙ none))

@@ -11,13 +11,13 @@ use Rattle.cargo_toml.specs.Action.{Text}
 use Rattle.cargo_toml.specs.Ascending.{Ascend}
 use Rattle.cargo_toml_features.specs.declared.features.DepAction.{DepAction}
 use Rattle.cargo_toml_tools.specs.PageSteps.{actions_in, key_texts, told_action}
-use Rattle.cargo_toml_tools.proofs.KeysInOrder.{keys_ascend}
+use Rattle.cargo_toml_tools.proofs.KeysInOrder.{texts_ascend}
 
 abbrev pub key_cmp : Bor Text → Bor Text → Ordering
 key_cmp a b = slice_cmp nat_cmp a.now b.now
 
 pub set_ascends : (s : BTreeSet (Bor Text)) → sorted.IsOrdered key_cmp s → Ascend (key_texts s)
-set_ascends s h = keys_ascend (λ (q : Bor Text). q.now) s.keys h
+set_ascends s h = texts_ascend (λ (q : Bor Text). q.now) s.keys h
 
 keys_shown : (es : List (Bor Text × DepAction))
     → map (λ q. q.now) (map (λ e. e.0) es) ≡ map (λ a. a.key) (map (λ e. told_action e.0.now e.1) es)
@@ -26,4 +26,4 @@ keys_shown (e ∷ es) = ap (λ ts. e.0.now ∷ ts) (keys_shown es)
 
 pub map_ascends : (m : BTreeMap (Bor Text) DepAction) → tree.IsOrdered key_cmp m
     → Ascend (map (λ a. a.key) (actions_in m))
-map_ascends m h = subst Ascend (keys_shown m.entries) (keys_ascend (λ (q : Bor Text). q.now) (map (λ e. e.0) m.entries) h)
+map_ascends m h = subst Ascend (keys_shown m.entries) (texts_ascend (λ (q : Bor Text). q.now) (map (λ e. e.0) m.entries) h)

@@ -4,12 +4,15 @@ use Rattle.std.proofs.Common.{◌∷◌, None, Option, Some, String, Vec, ap, ap
 use Rattle.std.proofs.Common.{is_some, map, option_map, refl, subst, sym, true}
 use Rattle.std.proofs.lemmas.Bool.{false≢true}
 use Rattle.std.proofs.lemmas.List.{append-nil, map-append}
+use Rattle.std.proofs.lemmas.List.Kept.{IsStrictlySortedBy-filter}
 use Rattle.std.specs.BTreeMap.{BTreeMap, get_by_text}
 use Rattle.std.specs.BTreeSet.{BTreeSet}
+use Rattle.std.specs.Cmp.Lexicographic.{slice_cmp}
 use Rattle.std.specs.HashMap.{HashMap}
 use Rattle.std.specs.List.{AllByRecursion}
 use Rattle.std.specs.Map.{lookup}
 use Rattle.std.specs.Option.{option_map_or}
+use Rattle.std.specs.Ordering.{nat_cmp}
 use Rattle.std.specs.Prelude.{bytes_eq, codes, filter}
 use Rattle.cargo_toml.specs.Action.{Text}
 use Rattle.cargo_toml.specs.Admitted.{Listed}
@@ -59,15 +62,6 @@ filtered_among p (t ∷ ts) x = go (p t) refl (filtered_among p ts x)
         | inr j ↦ later.1 (j, h.1)
       ]),
     )
-
-filtered_ascend : (p : Text → Bool) (ts : List Text) → Ascend ts → Ascend (filter p ts)
-filtered_ascend p [] a = tt
-filtered_ascend p (t ∷ ts) a = go (p t) refl (filtered_ascend p ts a.1)
-  where
-    go : (b : Bool) → p t ≡ b → Ascend (filter p ts) → Ascend (filter p (t ∷ ts))
-    go true is later = subst Ascend (sym (picked p t ts true is))
-        ((λ y i. a.0 y ((filtered_among p ts y).0 i).0), later)
-    go false is later = subst Ascend (sym (picked p t ts false is)) later
 
 -- ---- the rows so far, with the names that are left
 module _ {S : Type 0} (listed : Listed) (m : HashMap (Bor Text) Feature S) where
@@ -135,7 +129,7 @@ module _ {S : Type 0} (listed : Listed) (m : HashMap (Bor Text) Feature S) where
             λ i. ((filtered_among told (key_texts names) x).0 (subst (λ ts. Among ts x) same i)).1,
             λ t. subst (λ ts. Among ts x) (sym same) ((filtered_among told (key_texts names) x).1 ((texts_among names x).1 (are x ∙ has_told x t), t)),
           );
-          in_order = subst Ascend (sym same) (filtered_ascend told (key_texts names) up);
+          in_order = subst Ascend (sym same) (IsStrictlySortedBy-filter (slice_cmp nat_cmp) told (key_texts names) up);
         };
         each = h.each;
       }

@@ -15,6 +15,7 @@ use Rattle.std.specs.Prelude.{bytes_eq, codes}
 use Rattle.cargo_toml.specs.Action.{Action, IsJoin, Text}
 use Rattle.cargo_toml.specs.Admitted.{Listed, is_below}
 use Rattle.cargo_toml.specs.Ascending.{Ascend}
+use Rattle.cargo_toml_graph.proofs.SortedTexts.{first_below, others_ascend}
 use Rattle.cargo_toml.specs.Feature.{Feature}
 use Rattle.cargo_toml.specs.Reach.{Among}
 use Rattle.cargo_toml.specs.Views.{action_at, action_of, value_at}
@@ -91,7 +92,7 @@ found_at (x ∷ es) e up (inl is) =
     at_key e.0.now x es true ((bytes_eq-Decides e.0.now x.0.now).1 (ap (λ (y : Entry). y.0.now) is))
     ∙ ap (λ (y : Entry). Some (action_of y.1)) (sym is)
 found_at (x ∷ es) e up (inr i) =
-    go (bytes_eq e.0.now x.0.now) refl (found_at es e up.1 i)
+    go (bytes_eq e.0.now x.0.now) refl (found_at es e (others_ascend x.0.now (keys_of_all es) up) i)
   where
     go : (b : Bool) → bytes_eq e.0.now x.0.now ≡ b
         → found_in e.0.now es ≡ Some (action_of e.1)
@@ -99,7 +100,7 @@ found_at (x ∷ es) e up (inr i) =
     go false is later = at_key e.0.now x es false is ∙ later
     go true is later =
         let same : e.0.now ≡ x.0.now = (bytes_eq-Decides e.0.now x.0.now).0 is in
-        let below = up.0 e.0.now (key_among es e i) in
+        let below = first_below x.0.now (keys_of_all es) up e.0.now (key_among es e i) in
         let own = subst (λ t. IsTrue (is_below x.0.now t)) same below in
         absurd (below_one_way x.0.now x.0.now own own)
 

@@ -23,7 +23,7 @@ use Rattle.cargo_toml_tools.specs.declared.audit.Audit.{Audit}
 use Rattle.cargo_toml_tools.specs.declared.audit.Member.{Member}
 use Rattle.cargo_toml_tools.specs.declared.audit.Use.{Use}
 use Rattle.cargo_toml_tools.specs.declared.members.Members.{Members}
-use Rattle.cargo_toml_tools.proofs.KeysInOrder.{keys_ascend}
+use Rattle.cargo_toml_tools.proofs.KeysInOrder.{ascending_last, first_below, none_ascend, others_ascend, texts_ascend}
 use Rattle.cargo_toml_tools_files.specs.AuditSteps.{AddsAudited, AddsFolder, NotesOnly, RefusesFolder}
 use Rattle.cargo_toml_tools_files.specs.AuditedFolders.{AreMembersOf, IsAskedSome, IsInheritedSome, IsOfFolder, IsOfSome, IsReportOn, IsToldFolder, IsWithoutMember, member_folders, overall_of}
 use Rattle.cargo_toml_tools_files.specs.AuditedMembers.{IsAskedThere, IsAuditedMember, IsInheritedThere, IsKeyNoted, IsTakenIn, Reading, differences_there, folder_of, folders_of, inherited_by}
@@ -74,14 +74,7 @@ module _ {X : Type 0} where
   -- one more text, above all others
   ascend_more : (f : X → Text) (xs : List X) (x : X) → Ascend (map f xs) → ((t : Text) → Among (map f xs) t → IsTrue (is_below t (f x)))
       → Ascend (map f (xs ++ (x ∷ [])))
-  ascend_more f [] x up below = ((λ t i. absurd i), tt)
-  ascend_more f (y ∷ ys) x up below = (
-    (λ t i. elim (among_split f ys x t i) [
-      | inl j ↦ up.0 t j
-      | inr e ↦ subst (λ (z : Text). IsTrue (is_below (f y) z)) (sym e) (below (f y) (inl refl))
-    ]),
-    ascend_more f ys x up.1 (λ t i. below t (inr i)),
-  )
+  ascend_more f xs x up below = subst Ascend (sym (map_last f xs x)) (ascending_last (map f xs) (f x) up below)
 
 -- no text is below itself
 never_below : (t : Text) → IsTrue (is_below t t) → ⊥
@@ -155,9 +148,9 @@ module _ (root : Manifest Value) (path : Text) (workspace : Workspace Value) (se
     readings = [];
     each = sym no_members;
     members = tt;
-    in_order = subst (λ (ms : List Member). Ascend (map member_folder ms)) (sym no_members) tt;
+    in_order = subst (λ (ms : List Member). Ascend (map member_folder ms)) (sym no_members) none_ascend;
     ahead = λ folder i. absurd (subst (λ (ms : List Member). Among (map member_folder ms) folder) no_members i);
-    ascends = subst (λ (ks : List (String Global)). Ascend (map string_bytes ks)) (sym all) (keys_ascend string_bytes listing.folders.keys ordered);
+    ascends = subst (λ (ks : List (String Global)). Ascend (map string_bytes ks)) (sym all) (texts_ascend string_bytes listing.folders.keys ordered);
     told = λ folder i. inl (subst (λ (ks : List (String Global)). Among (map string_bytes ks) folder) (sym all) i);
     odd = reported;
     found = λ o h. elim (gains.gained o h) [ inl old ↦ absurd (among_none oddity_of none.findings.keys o no_finding old) | inr such ↦ inl such ];
@@ -199,7 +192,7 @@ module _ (root : Manifest Value) (path : Text) (workspace : Workspace Value) (se
     below_it folder i = before.ahead folder i (string_bytes k) (whole_of (string_bytes k) (inl refl))
 
     not_left : ¬ Among (map string_bytes left) (string_bytes k)
-    not_left i = never_below (string_bytes k) (ordered.0 (string_bytes k) i)
+    not_left i = never_below (string_bytes k) (first_below (string_bytes k) (map string_bytes left) ordered (string_bytes k) i)
 
     -- where the folder has a member
     module _ (a : AddsAudited root path workspace (string_bytes k) old new) where
@@ -267,9 +260,9 @@ module _ (root : Manifest Value) (path : Text) (workspace : Workspace Value) (se
             (λ t i. subst (λ (f : Text). IsTrue (is_below t f)) (sym a.added.folder_is) (below_it t i)));
         ahead = λ folder i next j. elim (folders_on folder i) [
           | inl h ↦ before.ahead folder h next (whole_of next (inr j))
-          | inr e ↦ subst (λ (f : Text). IsTrue (is_below f next)) (sym e) (ordered.0 next j)
+          | inr e ↦ subst (λ (f : Text). IsTrue (is_below f next)) (sym e) (first_below (string_bytes k) (map string_bytes left) ordered next j)
         ];
-        ascends = ordered.1;
+        ascends = others_ascend (string_bytes k) (map string_bytes left) ordered;
         told = λ folder i. told_with folder (before.told folder i);
         odd = λ o i. gains.kept o (before.odd o i);
         found = λ o h. elim (a.finds.gained o h) [
@@ -344,7 +337,7 @@ module _ (root : Manifest Value) (path : Text) (workspace : Workspace Value) (se
         members = as_before;
         in_order = subst (λ (ms : List Member). Ascend (map member_folder ms)) (sym r.members) before.in_order;
         ahead = λ folder i next j. before.ahead folder (folders_stay folder i) next (whole_of next (inr j));
-        ascends = ordered.1;
+        ascends = others_ascend (string_bytes k) (map string_bytes left) ordered;
         told = λ folder i. told_without folder (before.told folder i);
         odd = λ o i. gains.kept o (before.odd o i);
         found = λ o h. elim (gains.gained o h) [

@@ -6,7 +6,7 @@ use Rattle.cargo_toml_features.specs.Views.{listed_of}
 use Rattle.cargo_toml_features.proofs.Hashed.{looked_up, sorted_ascends, sorted_entry}
 use Rattle.cargo_toml_features.proofs.HashedListing.{has_listing}
 use Rattle.cargo_toml_features.proofs.Listings.{names_listed}
-use Rattle.cargo_toml_features.proofs.OneListing.{ascends_from, one_listing}
+use Rattle.cargo_toml_features.proofs.OneListing.{one_listing}
 use Rattle.cargo_toml_features.proofs.admit.hashed_listings.Goals as goal
 
 pub returns-clause-all : goal.returns-clause-all
@@ -15,7 +15,7 @@ returns-clause-all g c = λ listed is.
     let ascends : Ascends es = sorted_ascends c.in_ok-sorted.sorted.entries c.len.ensures.ordered in
     let all : listed_of c.loop-name.listings.items ≡ cut c.args.limit [] es = search rules in
     all ∙ cut_is_admitted c.args.limit es ascends
-    ∙ ap (admitted c.args.limit) (sym (one_listing listed es (ascends_from listed is.in_order) ascends (λ f. is.holds f ∙ sym (c.in_ok-sorted.ensures f) ∙ sym (looked_up f c.in_ok-sorted.sorted.entries))))
+    ∙ ap (admitted c.args.limit) (sym (one_listing listed es is.in_order ascends (λ f. is.holds f ∙ sym (c.in_ok-sorted.ensures f) ∙ sym (looked_up f c.in_ok-sorted.sorted.entries))))
 
 pub returns-clause-once : goal.returns-clause-once
 returns-clause-once g c =

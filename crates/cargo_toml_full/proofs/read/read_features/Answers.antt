@@ -5,13 +5,14 @@ use Rattle.cargo_toml_features.specs.InOrder.{AreInOrder}
 use Rattle.cargo_toml_features.specs.Marks.{named_details}
 use Rattle.cargo_toml_features.specs.Views.{listed_of}
 use Rattle.cargo_toml_features.proofs.Listings.{names_listed}
+use Rattle.cargo_toml_graph.proofs.SortedTexts.{none_ascend}
 use Rattle.cargo_toml_full.specs.Searching.{has_key}
 use Rattle.cargo_toml_full.proofs.ReadAll.{HasRead, is_dep_only, none_read, read_more, told_in, told_next, all_fresh, all_read}
 use Rattle.cargo_toml_full.proofs.read.read_features.Goals as goal
 
 pub loop-listing-init : goal.loop-listing-init
 loop-listing-init c = record {
-  in_order = subst AreInOrder (sym c.in_ok-features.ensures.items) tt;
+  in_order = subst AreInOrder (sym c.in_ok-features.ensures.items) none_ascend;
   features = none_read (named_details c.args.listings.now) c.in_ok-features.features.items c.in_ok-features.ensures.items;
   keys = c.new-acting.ensures.keys;
   reserved = c.new-acting.ensures.reserved;

@@ -2,12 +2,12 @@ use Rattle.std.proofs.Common.{◌≡◌, ◌++◌, ◌∙◌, sym, ap, List, [],
 use Rattle.std.specs.Map.Iter.{deref}
 use Rattle.std.specs.declared.alloc.Global.{Global}
 use Rattle.std.proofs.lemmas.Map.Iter.{rest_all}
-use Rattle.cargo_toml_discovery.proofs.Unique.{ascend-set}
+use Rattle.cargo_toml_discovery.proofs.Unique.{Sorted, ascend-set}
 use Rattle.cargo_toml_discovery.proofs.Ascends.{ascend-named}
 use Rattle.cargo_toml_discovery.specs.Answers.{answers_of, names_in, named_in}
 use Rattle.cargo_toml_discovery.specs.Found.{Named}
 use Rattle.cargo_toml_discovery.specs.Names.{Name}
-use Rattle.cargo_toml_discovery.specs.Walk.{Ascend, NamesAscend, named_of}
+use Rattle.cargo_toml_discovery.specs.Walk.{NamesAscend, named_of}
 use Rattle.cargo_toml_discovery.proofs.listings.Listings.entries.Goals as goal
 
 pub returns-clause-ascend : goal.returns-clause-ascend
@@ -15,7 +15,7 @@ returns-clause-ascend c =
     let a = answers_of c.args.self.now in
     let folder = c.args.folder.now in
     let texts = ap (λ (r : Option (List Name)). unwrap_or r []) c.in-Some.ensures in
-    let up : Ascend (names_in a folder) = subst (λ (ts : List Name). Ascend ts) texts (ascend-set c.in-Some.names.now c.len-count.ensures.ordered) in
+    let up : Sorted (names_in a folder) = subst (λ (ts : List Name). Sorted ts) texts (ascend-set c.in-Some.names.now c.len-count.ensures.ordered) in
     let done = rest_all deref c.loop-name.name-iterator c.next.new.self c.next.result c.in-None.is c.next.ensures.steps in
     let all : map named_of c.loop-name.entries.items ≡ map (named_in a folder) (names_in a folder) =
     sym (append-nil (map named_of c.loop-name.entries.items))

@@ -1,0 +1,58 @@
+-- Texts in byte order, taken apart and put together.
+use Rattle.std.proofs.Common.{◌≡◌, IsTrue, List, [], ◌∷◌, map, refl, sym, ap, subst, inl, inr}
+use Rattle.std.proofs.lemmas.Bool.{false≢true}
+use Rattle.std.proofs.lemmas.Map.Keys.{sorted_head, sorted_tail}
+use Rattle.std.specs.Cmp.Lexicographic.{slice_cmp}
+use Rattle.std.specs.List.{AllByRecursion}
+use Rattle.std.specs.List.Sorted.{IsStrictlySortedBy}
+use Rattle.std.specs.Ordering.{nat_cmp, is_lt}
+use Rattle.std.specs.declared.cmp.Ordering.{Ordering}
+use Rattle.std.specs.declared.cmp.Ordering.TheVariants.{Less, Equal, Greater}
+use Rattle.cargo_toml_graph.specs.Ascending.{Ascend}
+use Rattle.cargo_toml_graph.specs.Action.{Text}
+use Rattle.cargo_toml_graph.specs.Admitted.{is_below}
+use Rattle.cargo_toml_graph.specs.Reach.{Among}
+
+less_from : (o : Ordering) → IsTrue (is_lt o) → o ≡ Less
+less_from Less below = refl
+less_from Equal below = absurd (false≢true below)
+less_from Greater below = absurd (false≢true below)
+
+-- the first is below each after it
+pub first_below : (x : Text) (xs : List Text) → Ascend (x ∷ xs) → (y : Text) → Among xs y → IsTrue (is_below x y)
+first_below x xs up y there = go xs (sorted_head (slice_cmp nat_cmp) x xs up) there
+  where
+    go : (ys : List Text) → AllByRecursion (λ y. slice_cmp nat_cmp x y ≡ Less) ys → Among ys y → IsTrue (is_below x y)
+    go [] all there = absurd there
+    go (z ∷ ys) all (inl is) = subst (λ v. IsTrue (is_below x v)) (sym is) (ap is_lt all.0)
+    go (z ∷ ys) all (inr there) = go ys all.1 there
+
+-- those after the first ascend
+pub others_ascend : (x : Text) (xs : List Text) → Ascend (x ∷ xs) → Ascend xs
+others_ascend x xs up = sorted_tail (slice_cmp nat_cmp) x xs up
+
+pub none_ascend : Ascend []
+unfolding IsStrictlySortedBy
+none_ascend = tt
+
+-- a text below all others goes to the front
+pub put_first : (x : Text) (xs : List Text) → ((y : Text) → Among xs y → IsTrue (is_below x y)) → Ascend xs → Ascend (x ∷ xs)
+unfolding IsStrictlySortedBy
+put_first x xs below up = (go xs below, up)
+  where
+    go : (ys : List Text) → ((y : Text) → Among ys y → IsTrue (is_below x y)) → AllByRecursion (λ y. slice_cmp nat_cmp x y ≡ Less) ys
+    go [] below = tt
+    go (y ∷ ys) below = (less_from (slice_cmp nat_cmp x y) (below y (inl refl)), go ys (λ z there. below z (inr there)))
+
+pub one_ascends : (x : Text) → Ascend (x ∷ [])
+one_ascends x = put_first x [] (λ y there. absurd there) none_ascend
+
+-- what ascends by its texts gives texts that ascend
+pub texts_ascend : {K : Type 0} (text : K → Text) (ks : List K) → IsStrictlySortedBy (λ (x y : K). slice_cmp nat_cmp (text x) (text y)) ks → Ascend (map text ks)
+unfolding IsStrictlySortedBy
+texts_ascend text [] up = tt
+texts_ascend text (k ∷ ks) up = (go ks up.0, texts_ascend text ks up.1)
+  where
+    go : (xs : List K) → AllByRecursion (λ x. slice_cmp nat_cmp (text k) (text x) ≡ Less) xs → AllByRecursion (λ t. slice_cmp nat_cmp (text k) t ≡ Less) (map text xs)
+    go [] all = tt
+    go (x ∷ xs) all = (all.0, go xs all.1)

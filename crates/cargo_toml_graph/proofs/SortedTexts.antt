@@ -51,7 +51,7 @@ one_ascends x = put_first x [] (λ y there. absurd there) none_ascend
 pub texts_ascend : {K : Type 0} (text : K → Text) (ks : List K) → IsStrictlySortedBy (λ (x y : K). slice_cmp nat_cmp (text x) (text y)) ks → Ascend (map text ks)
 unfolding IsStrictlySortedBy
 texts_ascend text [] up = tt
-texts_ascend text (k ∷ ks) up = (go ks up.0, texts_ascend text ks up.1)
+texts_ascend {K} text (k ∷ ks) up = (go ks up.0, texts_ascend text ks up.1)
   where
     go : (xs : List K) → AllByRecursion (λ x. slice_cmp nat_cmp (text k) (text x) ≡ Less) xs → AllByRecursion (λ t. slice_cmp nat_cmp (text k) t ≡ Less) (map text xs)
     go [] all = tt

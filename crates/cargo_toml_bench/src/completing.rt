@@ -1,5 +1,7 @@
 //! Manifests of members, completed from the manifest of their workspace, and a manifest in a file.
-ghost use Rattle.std.specs.Prelude.{◌≡◌, false, IfErr, IfOk, IfSome, OnErr, OnOk, option_and_then};
+ghost use Rattle.std.specs.Path.{path_parent};
+ghost use Rattle.std.specs.Prelude.{◌≡◌, false, IfErr, IfOk, IfSome, IsSome, OnErr, OnOk};
+ghost use Rattle.std.specs.Prelude.{option_and_then};
 ghost use Rattle.toml.specs.View.{view};
 ghost use Rattle.toml.specs.declared.value.Value.{Value};
 ghost use Rattle.cargo_toml.specs.Choosing.{roots_of};
@@ -140,6 +142,7 @@ pub fn edition_of_file<'a, R: Files + AllocGlobal>(
     ensures edition { IfOk result
         (λ e. (m : Manifest Value) × IsReadAndCompleted view (manifest_reads any_tree) m
         × (e ≡ option_and_then (λ p. value_of p.edition) m.«package»)) }
+    ensures named { OnOk result (IsSome (path_parent path.now)) }
     ensures refused { IfErr result (IsPathFault path.now (manifest_meaning view)
         (manifest_reads any_tree) (ManifestRefuses any_tree AnyRefuses)) }
 {

@@ -125,7 +125,7 @@ fn made_by(
 
 /// What the inherited dependencies become by those of the workspace, `templates`, in the order of
 /// their keys. `base` is the workspace's folder as seen from the member: paths are joined to it.
-/// Hand the answer to `replace`.
+/// Hand the answer to `replace`: no clause says that it holds no more than that takes.
 ///
 /// The first fault in the order of the keys counts: `WorkspaceIntegrity` where the workspace lacks
 /// the key, and `InheritedUnknownValue` where its own dependency of that key is inherited. Refused

@@ -1,8 +1,9 @@
--- Laws of the orders of kinds and of targets.
+-- Laws of the orders of kinds and of targets, and of the default kind.
 use Rattle.std.specs.Prelude.{◌≡◌, ◌↔◌, Bool, IsTrue}
 use Rattle.std.specs.Ordering.{nat_cmp, is_eq}
 use Rattle.std.specs.declared.cmp.Ordering.{Ordering}
 use Rattle.cargo_toml_features.specs.declared.features.Kind.{Kind}
+use Rattle.cargo_toml_features.specs.declared.features.Kind.TheVariants.{Normal}
 use Rattle.cargo_toml_features.specs.declared.features.TargetKey.{TargetKey}
 use Rattle.cargo_toml_features.specs.Recorded.{rank, target_cmp}
 use Rattle.cargo_toml_features.specs.Views.{target_in}
@@ -13,6 +14,10 @@ IsKindOrder cmp = (a b : Kind) → cmp a b ≡ nat_cmp (rank a) (rank b)
 
 abbrev pub IsKindEquality : (Kind → Kind → Bool) → Type 0
 IsKindEquality eq = (a b : Kind) → IsTrue (eq a b) ↔ (a ≡ b)
+
+-- the default is `Normal` and no other
+abbrev pub IsDefaultKind : (Kind → Type 0) → Type 0
+IsDefaultKind is_default = (k : Kind) → is_default k → k ≡ Normal
 
 -- keys compare by kind, then no target before a named one
 abbrev pub IsTargetOrder : (TargetKey → TargetKey → Ordering) → Type 0

@@ -55,7 +55,7 @@ impl<'a> Feature<'a> {
     }
 
     /// Whether users are meant to ask for this feature: it is public, its name doesn't begin with
-    /// `_`, and the manifest lists it or no other feature enables it.
+    /// `_`, and the manifest lists it or no feature enables it.
     pub fn is_user_facing(&self) -> bool
         ensures { IsTrue result
             ↔ ((IsTrue self.now.explicit ⊎ (btree_set_len self.now.enabled_by ≡ 0))

@@ -1,10 +1,13 @@
 //! A manifest on the heap.
-ghost use Rattle.std.specs.Prelude.{◌≡◌, IfErr, IfOk, IfSome};
+ghost use Rattle.std.specs.Path.{path_parent};
+ghost use Rattle.std.specs.Prelude.{◌≡◌, false, IfErr, IfOk, IfSome, IsSome, OnOk};
 ghost use Rattle.toml.specs.View.{view};
 ghost use Rattle.toml.specs.Parse.{parse_document};
 ghost use Rattle.cargo_toml.specs.Error.{Memory};
-ghost use Rattle.cargo_toml.specs.Manifests.{manifest_meaning, manifest_reads, ManifestRefuses};
+ghost use Rattle.cargo_toml.specs.InheritedManifests.{needs};
 ghost use Rattle.cargo_toml.specs.InheritedPackages.{IsFilled};
+ghost use Rattle.cargo_toml.specs.Manifests.{held, manifest_meaning, manifest_reads};
+ghost use Rattle.cargo_toml.specs.Manifests.{ManifestRefuses};
 ghost use Rattle.cargo_toml.specs.RealFiles.{IsPathFault, IsReadAndCompleted};
 ghost use Rattle.cargo_toml.specs.Texts.{AnyRefuses, IsFromBytes, IsFromText, any_tree};
 
@@ -69,6 +72,8 @@ impl HeldManifest {
     ) -> Result<HeldManifest, Error>
         ensures given { IfOk result
             (λ h. IsReadAndCompleted view (manifest_reads any_tree) h.manifest.value) }
+        ensures named { OnOk result (IsSome (path_parent path.now)) }
+        ensures needs { IfOk result (λ h. needs (held h.manifest.value) ≡ false) }
         ensures filled { IfOk result (λ h. IfSome h.manifest.value.«package» IsFilled) }
         ensures refused { IfErr result (IsPathFault path.now (manifest_meaning view)
             (manifest_reads any_tree) (ManifestRefuses any_tree AnyRefuses)) }

@@ -57,7 +57,7 @@ pub(crate) fn bits_of(alloc: Global, row: &[Node], width: usize) -> Result<Vec<u
     Ok(bits)
 }
 
-// The nodes whose bit stands and whose flag is `wanted`, in ascending order.
+// The nodes whose bit stands and whose flag is `wanted`.
 pub(crate) fn nodes_of(
     alloc: Global,
     bits: &[u64],

@@ -39,8 +39,8 @@ fn visit_rows(
     Ok(())
 }
 
-// The labels of the passer and of the passed vertices whose flag is false, each once. Its place is
-// the stamp of those that are met.
+// The labels of the passer and of the passed vertices whose flag is false. Its place is the stamp
+// of those that are met, so that none is taken twice.
 pub(crate) fn kept_labels(
     alloc: Global,
     passer: &Passer<'_>,

@@ -27,7 +27,7 @@ pub fn table_of(
     Ok(table)
 }
 
-/// Those whose row has the bit of a node, in ascending order.
+/// Those whose row has the bit of a node.
 pub fn parents_of(alloc: Global, table: &[Vec<u64>], of: Node) -> Result<Vec<Node>, AllocError>
     requires { (a : ℕ) → a < length table.now → of < 64 * length (row_items table.now a) }
     ensures { IfOk result

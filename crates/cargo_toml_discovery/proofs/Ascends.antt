@@ -1,4 +1,5 @@
 use Rattle.std.proofs.Common.{◌≡◌, List, [], ◌∷◌, map, refl, ap, sym, subst}
+use Rattle.std.specs.List.Sorted.{IsStrictlySortedBy}
 use Rattle.cargo_toml_discovery.specs.Answers.{Answers, named_in}
 use Rattle.cargo_toml_discovery.specs.Found.{Named}
 use Rattle.cargo_toml_discovery.specs.Names.{Name}
@@ -14,3 +15,7 @@ pub ascend-named : (ans : Answers) (folder : Name) (ns : List Name) → Sorted n
     NamesAscend (map (named_in ans folder) ns)
 ascend-named ans folder ns h =
     subst (λ (ts : List Name). Sorted ts) (sym (same-names ans folder ns)) h
+
+pub none-ascend : NamesAscend []
+unfolding IsStrictlySortedBy
+none-ascend = tt

@@ -17,9 +17,9 @@ use Rattle.cargo_toml_graph.proofs.SortedTexts.{first_below, others_ascend, text
 -- the order of keys is the byte order of the names that they list
 pub listed_ascend : {K V : Type 0} (text : K → Text) (list : V → List Text) (es : List (K × V)) → IsStrictlySortedBy (λ (x y : K). slice_cmp nat_cmp (text x) (text y)) (map (λ e. e.0) es)
     → Ascends (map (λ e. (text e.0, list e.1)) es)
-listed_ascend {K} {V} text list es up = subst Ascend (same es) (texts_ascend text (map (λ e. e.0) es) up)
+listed_ascend {K} {V} text list es up = subst Ascend (same es) (texts_ascend text (map (λ (e : K × V). e.0) es) up)
   where
-    same : (ds : List (K × V)) → map text (map (λ d. d.0) ds) ≡ map (λ d. d.0) (map (λ d. (text d.0, list d.1)) ds)
+    same : (ds : List (K × V)) → map text (map (λ (d : K × V). d.0) ds) ≡ map (λ (d : Text × List Text). d.0) (map (λ (d : K × V). (text d.0, list d.1)) ds)
     same [] = refl
     same (d ∷ ds) = ap (λ ts. text d.0 ∷ ts) (same ds)
 

@@ -3,11 +3,12 @@ use Rattle.std.specs.Map.Iter.{deref}
 use Rattle.std.specs.declared.alloc.Global.{Global}
 use Rattle.std.proofs.lemmas.Map.Iter.{rest_all}
 use Rattle.cargo_toml_discovery.proofs.Unique.{Sorted, ascend-set}
-use Rattle.cargo_toml_discovery.proofs.Ascends.{ascend-named}
+use Rattle.cargo_toml_discovery.proofs.Ascends.{ascend-named, none-ascend}
 use Rattle.cargo_toml_discovery.specs.Answers.{answers_of, names_in, named_in}
 use Rattle.cargo_toml_discovery.specs.Found.{Named}
 use Rattle.cargo_toml_discovery.specs.Names.{Name}
-use Rattle.cargo_toml_discovery.specs.Walk.{NamesAscend, named_of}
+use Rattle.cargo_toml_discovery.specs.Walk.{NamesAscend, all_named, named_of}
+use Rattle.cargo_toml_discovery.specs.declared.listings.Entry.{Entry}
 use Rattle.cargo_toml_discovery.proofs.listings.Listings.entries.Goals as goal
 
 pub returns-clause-ascend : goal.returns-clause-ascend
@@ -21,3 +22,6 @@ returns-clause-ascend c =
     sym (append-nil (map named_of c.loop-name.entries.items))
     ∙ ap (λ (ks : List (String Global)). map named_of c.loop-name.entries.items ++ map (named_in a folder) (map (λ k. string_bytes k) ks)) (sym done) ∙ c.loop-name.invariant in
     subst (λ (es : List Named). NamesAscend es) (sym all) (ascend-named a folder (names_in a folder) up)
+
+pub returns-in_default-clause-ascend : goal.returns-in_default-clause-ascend
+returns-in_default-clause-ascend c = subst (λ (es : List Entry). NamesAscend (all_named es)) (sym c.new.ensures.items) none-ascend

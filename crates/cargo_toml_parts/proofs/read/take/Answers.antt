@@ -9,3 +9,6 @@ returns-clause-value c = ap (option_map view) c.remove.ensures.value ∙ view-lo
 
 pub returns-clause-others : goal.returns-clause-others
 returns-clause-others c = λ k apart. others_stay c.args.key.now k c.args.table.now.entries c.remove.new.self.entries c.remove.ensures.entries apart
+
+pub returns-clause-taken : goal.returns-clause-taken
+returns-clause-taken c = sym (view-lookup c.args.key.now c.remove.new.self.entries) ∙ ap (option_map view) c.remove.ensures.updates.1

@@ -1,9 +1,16 @@
 use Rattle.std.proofs.Common.{◌≡◌, ◌++◌, ◌∷◌, [], map, take, take_all, sym, subst, ap, arith, rules, refl, ◌∙◌}
 use Rattle.std.proofs.lemmas.List.{append_assoc, append-nil, nil_from_length}
-use Rattle.cargo_toml_features.specs.InOrder.{feature_at}
+use Rattle.cargo_toml_graph.proofs.SortedTexts.{none_ascend}
+use Rattle.cargo_toml_features.specs.InOrder.{AreInOrder, feature_at}
 use Rattle.cargo_toml_full.specs.Implying.{ImpliesAll, is_one_of}
 use Rattle.cargo_toml_full.proofs.Implying.{implied_listed, listed_free}
 use Rattle.cargo_toml_full.proofs.imply.merged.Goals as goal
+
+pub loop-feature-init : goal.loop-feature-init
+loop-feature-init c = record {
+  in_order = subst AreInOrder (sym c.in_ok-all.ensures.items) none_ascend;
+  implied = search rules;
+}
 
 pub loop-feature-preserved : goal.loop-feature-preserved
 loop-feature-preserved c =

@@ -1,12 +1,17 @@
 -- What a member says of its features once it is completed, without the hidden ones.
-use Rattle.std.specs.Prelude.{◌≡◌, ◌↔◌, ℕ, List, length, Bool, false, IsTrue}
+use Rattle.std.specs.Prelude.{◌≡◌, ◌↔◌, ℕ, List, length, Bool, false, IsTrue, None}
 use Rattle.cargo_toml.specs.Action.{Text}
+use Rattle.cargo_toml.specs.Choosing.{RootsTold}
+use Rattle.cargo_toml.specs.Completed.{IsCompleted}
 use Rattle.cargo_toml.specs.Graph.{IsKept}
 use Rattle.cargo_toml.specs.Limits.{MAX_ITEMS}
-use Rattle.cargo_toml.specs.Manifests.{ManifestMeaning}
+use Rattle.cargo_toml.specs.Manifest.{Manifest}
+use Rattle.cargo_toml.specs.Manifests.{ManifestMeaning, held}
 use Rattle.cargo_toml.specs.Parsed.{IsParsed, parsed_table}
 use Rattle.cargo_toml.specs.Reach.{Among, IsOnce}
+use Rattle.cargo_toml.specs.Names.{Name}
 use Rattle.cargo_toml.specs.Resolved.{Answer}
+use Rattle.cargo_toml.specs.ToldFolders.{Told}
 use Rattle.cargo_toml_bench.specs.Documented.{IsHidden}
 use Rattle.cargo_toml_bench.specs.Enabled.{HasEnabling}
 
@@ -23,3 +28,10 @@ module _ {M : Type 0} (m : ManifestMeaning M) where
     pub once : IsOnce names
     pub exact : (f : Text) → Among names f ↔ IsKept (parsed_table MAX_ITEMS m) (IsHidden m) f
     pub counted : count ≡ length names
+
+-- the answer is told of what completion makes of a manifest by itself
+abbrev pub IsToldOnce : {M : Type 0} → Manifest M → RootsTold → (Name → Told) → Text → Text → Bool
+    → Type 0
+IsToldOnce {M} old roots told name other answer =
+    (new : Manifest M) × IsCompleted old None roots told new
+    × IsToldOfMember (held new) name other answer

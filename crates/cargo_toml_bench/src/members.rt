@@ -1,17 +1,18 @@
 //! Features of members of a workspace, once these are completed.
-ghost use Rattle.std.specs.Prelude.{◌≡◌, ◌⊎◌, IfErr, IfOk, OnOk, option_map};
+ghost use Rattle.std.specs.Prelude.{◌≡◌, ◌⊎◌, IfErr, IfOk, None, OnOk, option_map};
 ghost use Rattle.cargo_toml.specs.Choosing.{handed_of, roots_of};
 ghost use Rattle.cargo_toml.specs.Completed.{IsCompleted};
 ghost use Rattle.cargo_toml.specs.Completing.{Meets, complete};
 ghost use Rattle.cargo_toml.specs.Error.{Memory};
 ghost use Rattle.cargo_toml.specs.Manifests.{held};
 ghost use Rattle.cargo_toml.specs.Refusing.{IsRefusedBy, MayLose};
-ghost use Rattle.cargo_toml_bench.specs.Members.{IsFeatureCount, IsToldOfMember};
+ghost use Rattle.cargo_toml_bench.specs.Members.{IsFeatureCount, IsToldOfMember, IsToldOnce};
 
 use crate::enabled::enables_among;
 use cargo_toml::features::{Resolver, complete_and_parse_into};
 use cargo_toml::{AbstractFilesystem, Error, Manifest};
 use std::alloc::Global;
+use toml::Value;
 
 /// Completes a member, and answers whether it then has the first of two features and asking for
 /// that enables the second.
@@ -49,6 +50,29 @@ pub fn enables_in_member<Fs: AbstractFilesystem + Drop>(
         Some(Err(fault)) => Err(fault),
         None => unreachable!(),
     }
+}
+
+/// Completes a manifest by itself, and answers whether it then has the first of two features and
+/// asking for that enables the second.
+///
+/// Refuses as completion does, with [`Error::Memory`] where there was no room.
+pub fn enables_when_completed<'m, Fs: AbstractFilesystem + Drop>(
+    alloc: Global,
+    manifest: &'m mut Manifest,
+    files: Fs,
+    names: (&str, &str),
+) -> Result<bool, Error>
+    ensures answer { IfOk result (IsToldOnce manifest.old
+        (roots_of Fs.Roots.ARE_READ (Fs.root_for files)) (Fs.names_at files)
+        names.entry.0.now names.entry.1.now) }
+    ensures refused { IfErr result (IsRefusedBy (held manifest.old) None
+        (roots_of Fs.Roots.ARE_READ (Fs.root_for files))
+        (MayLose Fs.Roots.ARE_READ (Fs.may_refuse_root files)) (Fs.may_refuse files)) }
+{
+    let resolver = Resolver::new();
+    let (_completed, resolved) =
+        resolver.complete_and_parse::<_, Value, _>(alloc, manifest, files, None)?;
+    enables_among(alloc, &resolved, names.0, names.1)
 }
 
 /// Completes a member, and counts the features that it then has, without the hidden ones.

@@ -1,11 +1,12 @@
-use Rattle.std.proofs.Common.{inl, sym, subst}
+use Rattle.std.proofs.Common.{◌≡◌, false, inl, sym, subst}
 use Rattle.std.specs.Prelude.{IfSome}
 use Rattle.std.proofs.lemmas.Result.{IfErr-weaker, IfOk-weaker}
 use Rattle.toml.specs.View.{view}
 use Rattle.toml.specs.declared.value.Value.{Value}
+use Rattle.cargo_toml.specs.InheritedManifests.{needs}
 use Rattle.cargo_toml.specs.InheritedPackages.{IsFilled}
 use Rattle.cargo_toml.specs.Manifest.{Manifest}
-use Rattle.cargo_toml.specs.Manifests.{manifest_reads}
+use Rattle.cargo_toml.specs.Manifests.{held, manifest_reads}
 use Rattle.cargo_toml.specs.RealFiles.{IsReadAndCompleted}
 use Rattle.cargo_toml.specs.Texts.{any_tree}
 use Rattle.cargo_toml_held.proofs.held.HeldManifest.from_path.Goals as goal
@@ -24,3 +25,9 @@ returns-in-Ok-clause-filled g c =
 
 pub returns-in-Ok-clause-refused : goal.returns-in-Ok-clause-refused
 returns-in-Ok-clause-refused g c = IfErr-weaker c.new.result _ _ (λ e memory. inl memory) c.new.ensures.refused
+
+pub returns-in-Ok-clause-needs : goal.returns-in-Ok-clause-needs
+returns-in-Ok-clause-needs g c =
+    IfOk-weaker c.new.result _ _
+    (λ h same. subst (λ (m : Manifest Value). needs (held m) ≡ false) (sym same) c.in-Ok.ensures.needs)
+    c.new.ensures.same

@@ -1,18 +1,50 @@
 -- The lines that are printed of resolved features.
-use Rattle.std.specs.Prelude.{◌≡◌, ◌++◌, Bool, true, false, List, [], ◌∷◌}
+use Rattle.std.specs.Prelude.{◌≡◌, ◌++◌, Bool, true, false, IfSome, List, [], ◌∷◌}
 use Rattle.std.specs.Prelude.{codes, is_some}
 use Rattle.std.specs.Borrow.{Bor}
-use Rattle.std.specs.BTreeSet.{BTreeSet, IsOrdered}
+use Rattle.std.specs.BTreeMap.{BTreeMap}
+use Rattle.std.specs.BTreeMap as tree
+use Rattle.std.specs.BTreeSet.{BTreeSet}
+use Rattle.std.specs.BTreeSet as sorted
 use Rattle.std.specs.Cmp.Lexicographic.{slice_cmp}
 use Rattle.std.specs.HashMap.{HashMap}
-use Rattle.std.specs.List.{flat_map, join_by}
+use Rattle.std.specs.List.{AllByRecursion, flat_map, join_by}
 use Rattle.std.specs.Option.{option_map_or}
 use Rattle.std.specs.Ordering.{nat_cmp}
+use Rattle.std.specs.declared.cmp.Ordering.{Ordering}
 use Rattle.cargo_toml_features.specs.declared.features.DepAction.{DepAction}
 use Rattle.cargo_toml_features.specs.declared.features.Feature.{Feature}
 use Rattle.cargo_toml_features.specs.declared.features.Features.{Features}
 use Rattle.cargo_toml_features.specs.Views.{set_has, value_at}
 use Rattle.cargo_toml_graph.specs.Action.{Text}
+
+-- the order of texts by their bytes
+abbrev pub by_bytes : Bor Text → Bor Text → Ordering
+by_bytes a b = slice_cmp nat_cmp a.now b.now
+
+-- the texts of a set stand in byte order, each once
+abbrev pub TextsAscend : BTreeSet (Bor Text) → Type 0
+TextsAscend texts = sorted.IsOrdered by_bytes texts
+
+-- so do the keys of actions
+abbrev pub KeysAscend : BTreeMap (Bor Text) DepAction → Type 0
+KeysAscend actions = tree.IsOrdered by_bytes actions
+
+-- and the features that each action asks for
+abbrev pub AskedAscend : List (Bor Text × DepAction) → Type 0
+AskedAscend actions = AllByRecursion (λ e. TextsAscend e.1.dep_features) actions
+
+-- what a feature enables, and what enables it, stands in byte order, each once
+pub record FeatureAscends (v : Feature) : Type 0 where
+  pub names : TextsAscend v.enables_features
+  pub keys : KeysAscend v.enables_deps
+  pub asked : AskedAscend v.enables_deps.entries
+  pub enablers : TextsAscend v.enabled_by
+
+-- so it is with each feature that is left, and with what stands for each that is removed
+pub record FeaturesAscend {S H : Type 0} (features : Features S H) : Type 0 where
+  pub left : (f : Text) → IfSome (value_at features.features f) FeatureAscends
+  pub hidden : (f : Text) → IfSome (value_at features.hidden_features f) TextsAscend
 
 -- a comma and a space between the items, or "-" for none
 abbrev pub between_commas : {X : Type 0} → (X → Text) → List X → Text
@@ -82,7 +114,7 @@ module _ {X S : Type 0} (line : Text → X → Text) (found : HashMap (Bor Text)
   -- behind a text stands the line of each thing that the map holds, in byte order of the keys
   pub record AddsLines (old new : Text) : Type 0 where
     pub names : BTreeSet (Bor Text)
-    pub in_order : IsOrdered (λ a b. slice_cmp nat_cmp a.now b.now) names
+    pub in_order : TextsAscend names
     pub all : (f : Text) → set_has names f ≡ is_some (value_at found f)
     pub lines : new ≡ old ++ flat_map (λ k. line_at k.now) names.keys
 

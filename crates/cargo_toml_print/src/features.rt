@@ -1,10 +1,14 @@
 //! The lines of resolved features.
-ghost use Rattle.std.specs.Prelude.{◌≡◌, ◌++◌, IfErr, IfOk, OnOk, string_bytes};
+ghost use Rattle.std.specs.Prelude.{◌≡◌, ◌++◌, IfErr, IfOk, IfSome, OnOk, string_bytes};
+ghost use Rattle.cargo_toml_features.specs.Views.{value_at};
+ghost use Rattle.cargo_toml_graph.specs.Action.{Text};
 ghost use Rattle.cargo_toml_parts.specs.declared.error.Error.{Memory};
-ghost use Rattle.cargo_toml_print.specs.Lines.{AddsLines, AreAllLines, between_commas};
-ghost use Rattle.cargo_toml_print.specs.Lines.{action_text, detail_text, feature_line, head_text};
-ghost use Rattle.cargo_toml_print.specs.Lines.{line_at, links_text, marks_text, origin_text};
-ghost use Rattle.cargo_toml_print.specs.Lines.{privacy_text, redirect_line};
+ghost use Rattle.cargo_toml_print.specs.Lines.{AddsLines, AreAllLines, FeaturesAscend, AskedAscend};
+ghost use Rattle.cargo_toml_print.specs.Lines.{FeatureAscends, KeysAscend, TextsAscend};
+ghost use Rattle.cargo_toml_print.specs.Lines.{action_text, between_commas, detail_text};
+ghost use Rattle.cargo_toml_print.specs.Lines.{feature_line, head_text, line_at, links_text};
+ghost use Rattle.cargo_toml_print.specs.Lines.{marks_text, origin_text, privacy_text};
+ghost use Rattle.cargo_toml_print.specs.Lines.{redirect_line};
 
 use cargo_toml_features::features::{DepAction, Feature, Features};
 use cargo_toml_features::texts::keys_in_order;
@@ -14,13 +18,15 @@ use std::collections::{BTreeMap, BTreeSet, HashMap};
 use std::hash::BuildHasher;
 
 /// The lines that the program prints of resolved features: one for each feature, and then one for
-/// each that was removed with what stands for it, both in byte order of their names. It fails only
-/// where memory runs out.
+/// each that was removed with what stands for it, both in byte order of their names. The names,
+/// keys and features within a line stand in byte order too, each once. It fails only where memory
+/// runs out.
 pub fn feature_lines<S: BuildHasher>(
     alloc: Global,
     features: &Features<'_, '_, S>,
 ) -> Result<String, Error>
     ensures lines { IfOk result (λ text. AreAllLines features.now (string_bytes text)) }
+    ensures in_order { OnOk result (FeaturesAscend features.now) }
     ensures refused { IfErr result (λ e. e ≡ Memory) }
 {
     let mut text = String::new(alloc);
@@ -34,8 +40,9 @@ fn write_features<S: BuildHasher>(
     text: &mut String,
     features: &HashMap<&str, Feature<'_>, S>,
 ) -> Result<(), AllocError>
-    ensures { OnOk result (AddsLines (λ _. feature_line) features.now
+    ensures lines { OnOk result (AddsLines (λ _. feature_line) features.now
         (string_bytes text.old) (string_bytes text.new)) }
+    ensures in_order { OnOk result ((f : Text) → IfSome (value_at features.now f) FeatureAscends) }
 {
     let names = keys_in_order(alloc, features)?;
     for name in &names {
@@ -50,8 +57,9 @@ fn write_feature_of<S: BuildHasher>(
     features: &HashMap<&str, Feature<'_>, S>,
     name: &str,
 ) -> Result<(), AllocError>
-    ensures { OnOk result (string_bytes text.new ≡ string_bytes text.old
+    ensures lines { OnOk result (string_bytes text.new ≡ string_bytes text.old
         ++ line_at (λ _. feature_line) features.now name.now) }
+    ensures in_order { OnOk result (IfSome (value_at features.now name.now) FeatureAscends) }
 {
     match features.get(name) {
         Some(feature) => write_feature(text, feature),
@@ -64,8 +72,9 @@ fn write_hidden<S: BuildHasher>(
     text: &mut String,
     hidden: &HashMap<&str, BTreeSet<&str>, S>,
 ) -> Result<(), AllocError>
-    ensures { OnOk result (AddsLines redirect_line hidden.now
+    ensures lines { OnOk result (AddsLines redirect_line hidden.now
         (string_bytes text.old) (string_bytes text.new)) }
+    ensures in_order { OnOk result ((f : Text) → IfSome (value_at hidden.now f) TextsAscend) }
 {
     let names = keys_in_order(alloc, hidden)?;
     for name in &names {
@@ -80,8 +89,9 @@ fn write_redirect_of<S: BuildHasher>(
     hidden: &HashMap<&str, BTreeSet<&str>, S>,
     name: &str,
 ) -> Result<(), AllocError>
-    ensures { OnOk result (string_bytes text.new ≡ string_bytes text.old
+    ensures lines { OnOk result (string_bytes text.new ≡ string_bytes text.old
         ++ line_at redirect_line hidden.now name.now) }
+    ensures in_order { OnOk result (IfSome (value_at hidden.now name.now) TextsAscend) }
 {
     match hidden.get(name) {
         Some(stands_for) => write_redirect(text, name, stands_for),
@@ -94,8 +104,9 @@ fn write_redirect(
     name: &str,
     stands_for: &BTreeSet<&str>,
 ) -> Result<(), AllocError>
-    ensures { OnOk result (string_bytes text.new ≡ string_bytes text.old
+    ensures lines { OnOk result (string_bytes text.new ≡ string_bytes text.old
         ++ redirect_line name.now stands_for.now) }
+    ensures in_order { OnOk result (TextsAscend stands_for.now) }
 {
     text.push_str("hidden ")?;
     text.push_str(name)?;
@@ -104,8 +115,9 @@ fn write_redirect(
 }
 
 fn write_feature(text: &mut String, feature: &Feature<'_>) -> Result<(), AllocError>
-    ensures { OnOk result (string_bytes text.new ≡ string_bytes text.old
+    ensures lines { OnOk result (string_bytes text.new ≡ string_bytes text.old
         ++ feature_line feature.now) }
+    ensures in_order { OnOk result (FeatureAscends feature.now) }
 {
     write_head(text, feature)?;
     write_links(text, feature)?;
@@ -135,8 +147,9 @@ fn origin_of(feature: &Feature<'_>) -> &'static str
 
 // What the feature enables, and what enables or requires it.
 fn write_links(text: &mut String, feature: &Feature<'_>) -> Result<(), AllocError>
-    ensures { OnOk result (string_bytes text.new ≡ string_bytes text.old
+    ensures lines { OnOk result (string_bytes text.new ≡ string_bytes text.old
         ++ links_text feature.now) }
+    ensures in_order { OnOk result (FeatureAscends feature.now) }
 {
     write_names(text, " | names: ", &feature.enables_features)?;
     write_actions(text, " | deps: ", &feature.enables_deps)?;
@@ -184,8 +197,9 @@ fn write_list(text: &mut String, title: &str, items: &[&str]) -> Result<(), Allo
 }
 
 fn write_names(text: &mut String, title: &str, names: &BTreeSet<&str>) -> Result<(), AllocError>
-    ensures { OnOk result (string_bytes text.new ≡ string_bytes text.old
+    ensures lines { OnOk result (string_bytes text.new ≡ string_bytes text.old
         ++ (title.now ++ between_commas (λ t. t.now) names.now.keys)) }
+    ensures in_order { OnOk result (TextsAscend names.now) }
 {
     text.push_str(title)?;
     let mut left = names.iter();
@@ -205,8 +219,10 @@ fn write_actions(
     title: &str,
     actions: &BTreeMap<&str, DepAction<'_>>,
 ) -> Result<(), AllocError>
-    ensures { OnOk result (string_bytes text.new ≡ string_bytes text.old
+    ensures lines { OnOk result (string_bytes text.new ≡ string_bytes text.old
         ++ (title.now ++ between_commas action_text actions.now.entries)) }
+    ensures in_order { OnOk result (KeysAscend actions.now) }
+    ensures asked { OnOk result (AskedAscend actions.now.entries) }
 {
     text.push_str(title)?;
     let mut left = actions.iter();
@@ -224,8 +240,9 @@ fn write_actions(
 // The dependency's key, `?` if the action is conditional, `!` if it is dep-only, then each of its
 // features after a slash.
 fn write_action(text: &mut String, key: &str, action: &DepAction<'_>) -> Result<(), AllocError>
-    ensures { OnOk result (string_bytes text.new ≡ string_bytes text.old
+    ensures lines { OnOk result (string_bytes text.new ≡ string_bytes text.old
         ++ action_text (key.entry, action.now)) }
+    ensures in_order { OnOk result (TextsAscend action.now.dep_features) }
 {
     text.push_str(key)?;
     text.push_str(marks_of(action))?;

@@ -11,17 +11,17 @@ use Rattle.cargo_toml_manifest.specs.declared.manifest.Manifest.{Manifest}
 use Rattle.cargo_toml_manifest.specs.Manifests.{held}
 use Rattle.cargo_toml_manifest.specs.Roots.{IsFromSlice}
 use Rattle.cargo_toml_parts.specs.declared.error.Error.{Error, Memory}
-use Rattle.cargo_toml_print.specs.Lines.{AreAllLines}
+use Rattle.cargo_toml_print.specs.Lines.{AreAllLines, FeaturesAscend}
 use Rattle.cargo_toml_print.specs.Printing.{IsOfOutput}
 use Rattle.cargo_toml_resolver.specs.Parsed.{IsParsed}
 use Rattle.toml.specs.declared.value.Value.{Value}
 
 -- the lines of what the features of a manifest resolve to at this limit, where each is removed
--- whose name begins with `_`
+-- whose name begins with `_`; names, keys and features within a line stand in byte order, each once
 abbrev pub IsFeatureText : ℕ → Manifest Value → Text → Type 0
 IsFeatureText limit m text =
     (a : Features (BuildHasherDefault FoldHasher) FoldHasher)
-    × IsParsed limit (held m) (λ _. false) (answer_of a) × AreAllLines a text
+    × IsParsed limit (held m) (λ _. false) (answer_of a) × AreAllLines a text × FeaturesAscend a
 
 -- what an input still has is read to its end, and the lines of the manifest that it spells stand
 -- behind what an output had

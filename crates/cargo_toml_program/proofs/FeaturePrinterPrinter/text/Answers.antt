@@ -1,10 +1,15 @@
-use Rattle.std.proofs.Common.{◌∙◌, ℕ, false, subst}
+use Rattle.std.proofs.Common.{◌∙◌, Err, IfOk, Ok, OnOk, Result, ℕ, false, subst}
 use Rattle.std.proofs.lemmas.Result.{IfOk-weaker}
 use Rattle.cargo_toml_features.specs.Views.{answer_of}
 use Rattle.cargo_toml_manifest.specs.Manifests.{manifest_meaning}
 use Rattle.cargo_toml_resolver.specs.Parsed.{IsParsed}
 use Rattle.cargo_toml_program.proofs.Unfiltered.{keeps_none}
 use Rattle.cargo_toml_program.proofs.FeaturePrinterPrinter.text.Goals as goal
+
+-- a fact of a value, and one that holds where there is one
+both : {T E : Type 0} (r : Result T E) (P : T → Type 0) (Q : Type 0) → IfOk r P → OnOk r Q → IfOk r (λ x. P x × Q)
+both (Ok x) P Q p q = (p, q)
+both (Err e) P Q p q = tt
 
 pub returns-clause-printed : goal.returns-clause-printed
 returns-clause-printed c =
@@ -13,4 +18,5 @@ returns-clause-printed c =
     let a = c.in_ok-parse.field-0 in
     let parsed = subst (λ (n : ℕ). IsParsed n (manifest_meaning (λ m. m) c.args.manifest.now) (λ _. false) (answer_of a)) limited.limit
     (c.in_ok-parse.ensures.resolved.told (λ _. false) tells) in
-    IfOk-weaker c.feature_lines.result _ _ (λ text lines. (a, parsed, lines)) c.feature_lines.ensures.lines
+    IfOk-weaker c.feature_lines.result _ _ (λ text told. (a, parsed, told.0, told.1))
+    (both c.feature_lines.result _ _ c.feature_lines.ensures.lines c.feature_lines.ensures.in_order)

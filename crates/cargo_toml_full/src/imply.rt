@@ -222,8 +222,8 @@ fn merged<'m>(
     Ok(all)
 }
 
-/// How many entries are optional, and so may imply a feature. No clause says how many: by the number
-/// one of two ways is chosen, and each is proved.
+/// How many entries are optional, and so may imply a feature. No clause says how many: by the
+/// number one of two ways is chosen, and each is proved.
 pub fn optional_count(entries: &[ParseDependency<'_, '_>]) -> usize {
     entries.iter().filter(|entry| entry.dep.optional()).count()
 }

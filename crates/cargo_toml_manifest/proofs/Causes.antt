@@ -21,8 +21,8 @@ use Rattle.cargo_toml_manifest.proofs.Rooted.{Read, memory_wrapped}
 
 -- no root is read by a call that is left out
 pub never_read : (reads : _) (may : Option (List ℕ) → Fault → Type 0) (hint : Option (List ℕ)) (f : IoError) → reads ≡ false → error_kind f ≡ Unsupported →
-    (Io f ≡ Memory) ⊎ MayLose reads may hint (wrap hint (fault_of (Io f)))
-never_read reads may hint f none kind = inr (inr (none, ap (wrap hint) (fault_of-io f ∙ ap io kind)))
+    ReadsBy reads may hint (Err (Io f))
+never_read reads may hint f none kind = inr (inr (none, fault_of-io f ∙ ap io kind))
 
 -- what becomes of bytes that were read may stand in place of the root, where it is a fault
 pub lost_at : (reads : _) (may : Option (List ℕ) → Fault → Type 0) (hint : Option (List ℕ)) (r : Read) (found : Result Found Error) →
@@ -36,7 +36,8 @@ pub lost_unread : (reads : _) (may : Option (List ℕ) → Fault → Type 0) (hi
     ReadsBy reads may hint (Err own) → (e ≡ Memory) ⊎ (fault_of e ≡ wrap hint (fault_of own)) → (e ≡ Memory) ⊎ MayLose reads may hint (fault_of e)
 lost_unread reads may hint own e h (inl memory) = inl memory
 lost_unread reads may hint own e (inl memory) (inr same) = inl (memory_wrapped hint own e memory same)
-lost_unread reads may hint own e (inr fault) (inr same) = inr (subst (λ (f : Fault). MayLose reads may hint f) (sym same) fault)
+lost_unread reads may hint own e (inr (inl fault)) (inr same) = inr (inl (subst (λ (f : Fault). may hint f) (sym same) fault))
+lost_unread reads may hint own e (inr (inr unread)) (inr same) = inr (inr (unread.0, same ∙ ap (wrap hint) unread.1))
 
 -- a fault of inheritance, once it has its path
 pub told_parts : {M : Type 0} (path : Option (List ℕ)) (names : List ℕ → Fault → Type 0) (stated : Result (ManifestMeaning M) Fault) (own e : Error) →

@@ -9,7 +9,7 @@ use Rattle.std.specs.Path.{path_join, path_parent}
 use Rattle.std.specs.declared.alloc.Global.{Global}
 use Rattle.std.specs.declared.io.Error.{Error as IoError}
 use Rattle.std.specs.declared.io.ErrorKind.{ErrorKind}
-use Rattle.std.specs.declared.io.ErrorKind.TheVariants.{NotFound, NotADirectory}
+use Rattle.std.specs.declared.io.ErrorKind.TheVariants.{NotFound, NotADirectory, OutOfMemory}
 use Rattle.toml.specs.Data.{Data}
 use Rattle.toml.specs.Parse.{parse_document}
 use Rattle.toml.specs.declared.value.Value.{Value}
@@ -75,17 +75,41 @@ IsWorkspaceOf bytes path (Ok m) =
     (is_some m.value.workspace ≡ true) × IsFromSlice bytes (Ok m.value)
 IsWorkspaceOf bytes path (Err e) = (e ≡ Memory) ⊎ IsNoWorkspace bytes path e
 
--- why the search above a folder finds no root: no memory, a fault of reading, or a file that is no
--- workspace's manifest
-abbrev pub IsSearchFault : Error → Type 0
-IsSearchFault e = (e ≡ Memory) ⊎ (IsInput e ⊎ ((bytes path : List ℕ) × IsNoWorkspace bytes path e))
+-- the folder that is so many steps above a path, as far as it is written
+abbrev pub parent_after : ℕ → List ℕ → Option (List ℕ)
+parent_after zero path = Some path
+parent_after (suc n) path = option_and_then path_parent (parent_after n path)
 
--- what a file is to that search: a workspace's manifest, a file with a fault, or nothing
-abbrev pub IsCandidate : Result Candidate Error → Type 0
-IsCandidate (Ok (Root m)) = IsRootManifest m.value
-IsCandidate (Ok (Other e)) = IsSearchFault e
-IsCandidate (Ok Absent) = Unit {0}
-IsCandidate (Err e) = IsSearchFault e
+-- the folder is written in the path, above it
+abbrev pub IsAbove : List ℕ → List ℕ → Type 0
+IsAbove path above = (n : ℕ) × (parent_after (suc n) path ≡ Some above)
+
+-- the error is a fault of reading a file: no want of memory, nor that nothing is there
+abbrev pub IsUnread : Error → Type 0
+IsUnread e =
+    (kind : ErrorKind)
+    × ((¬ (kind ≡ OutOfMemory)) × ((is_absent kind ≡ false) × (fault_of e ≡ io kind)))
+
+-- why a file at this path is no root: it can't be read, or it is no workspace's manifest
+abbrev pub IsUnfit : List ℕ → Error → Type 0
+IsUnfit file e = IsUnread e ⊎ ((bytes : List ℕ) × IsNoWorkspace bytes file e)
+
+-- why the search above a folder finds no root: no memory, nothing that was found, or a file in a
+-- folder above
+abbrev pub IsSearchFault : List ℕ → Error → Type 0
+IsSearchFault folder e =
+    (e ≡ Memory)
+    ⊎ ((fault_of e ≡ io NotFound)
+    ⊎ ((above : List ℕ)
+    × (IsAbove folder above × IsUnfit (path_join above (codes "Cargo.toml")) e)))
+
+-- what the file at this path is to that search: a workspace's manifest, a file with a fault, or
+-- nothing
+abbrev pub IsCandidate : List ℕ → Result Candidate Error → Type 0
+IsCandidate file (Ok (Root m)) = IsRootManifest m.value
+IsCandidate file (Ok (Other e)) = (e ≡ Memory) ⊎ IsUnfit file e
+IsCandidate file (Ok Absent) = Unit {0}
+IsCandidate file (Err e) = (e ≡ Memory) ⊎ IsUnfit file e
 
 -- what a file at this path is to that search by what reading it gave: nothing where that says so,
 -- and another fault as it is; else the manifest of a workspace, or why the bytes are none
@@ -104,17 +128,9 @@ IsCandidateOf (Err fault) path (Err e) =
 abbrev pub IsHintFault : List ℕ → Error → Type 0
 IsHintFault file e =
     (e ≡ Memory)
-    ⊎ (((kind : ErrorKind) × (fault_of e ≡ workspace (io kind) (Some file)))
+    ⊎ (((kind : ErrorKind)
+    × ((¬ (kind ≡ OutOfMemory)) × (fault_of e ≡ workspace (io kind) (Some file))))
     ⊎ ((bytes : List ℕ) × IsNoWorkspace bytes file e))
-
--- the folder that is so many steps above a path, as far as it is written
-abbrev pub parent_after : ℕ → List ℕ → Option (List ℕ)
-parent_after zero path = Some path
-parent_after (suc n) path = option_and_then path_parent (parent_after n path)
-
--- the folder is written in the path, above it
-abbrev pub IsAbove : List ℕ → List ℕ → Type 0
-IsAbove path above = (n : ℕ) × (parent_after (suc n) path ≡ Some above)
 
 -- the path of a root: the folder that the hint leads to, or else the file in a folder above
 abbrev pub IsRootPath : List ℕ → Option (List ℕ) → List ℕ → Type 0
@@ -127,7 +143,7 @@ IsRootPath folder None path =
 abbrev pub IsRootFault : List ℕ → Option (List ℕ) → Error → Type 0
 IsRootFault folder (Some hint) e =
     IsHintFault (path_join (path_join folder hint) (codes "Cargo.toml")) e
-IsRootFault folder None e = IsSearchFault e
+IsRootFault folder None e = IsSearchFault folder e
 
 -- the faults that stand in place of a root among real files, as seen from a folder
 abbrev pub RealRootRefuses : List ℕ → Option (List ℕ) → Fault → Type 0

@@ -23,14 +23,15 @@ MayLose reads may hint fault =
     may hint fault ⊎ ((reads ≡ false) × (fault ≡ wrap hint (io Unsupported)))
 
 -- the bytes of a root, or a refusal: what becomes of it where there is no root may
--- stand in its place
+-- stand in its place, and where no root is ever read, it is `Unsupported` without a path
 abbrev pub ReadsBy : Bool → (Option (List ℕ) → Fault → Type 0) → Option (List ℕ)
     → Result (Vec ℕ Global × String Global) Error → Type 0
 ReadsBy reads may hint result =
     MatchResult result
     (λ r. (e : Error) → IsNoRoot r.0.items (string_bytes r.1) e
     → (e ≡ Memory) ⊎ may hint (fault_of e))
-    (λ e. (e ≡ Memory) ⊎ MayLose reads may hint (wrap hint (fault_of e)))
+    (λ e. (e ≡ Memory)
+    ⊎ (may hint (wrap hint (fault_of e)) ⊎ ((reads ≡ false) × (fault_of e ≡ io Unsupported))))
 
 -- the cause of a refusal: the fault of what is inherited, and where that has none,
 -- one in place of names

@@ -52,7 +52,8 @@ impl Roots for OwnRoot {
 /// For proofs alone, an implementor may state what it answers for each path and each hint; by
 /// default it states nothing. Its calls then answer what it states, or `Memory`. In the same way it
 /// may state which faults its calls may give; by default these are all. A refusal of completion
-/// then has no other cause.
+/// then has no other cause. With `NoRoot` the contract also allows `Unsupported`, with the hint,
+/// wherever a root is asked for.
 pub trait AbstractFilesystem {
     /// `OwnRoot` where `read_root_workspace` is written, and `NoRoot` where it is left out. With
     /// `NoRoot` nothing is stated of a root except that there is none.

@@ -188,9 +188,10 @@ impl<Metadata: Drop> Manifest<Metadata> {
     ///
     /// Where there is a package, `fs` is asked for the names in its folder, in `src`, in `src/bin`,
     /// `examples`, `tests` and `benches` unless the package turns that off, and in the folders in
-    /// these, each once. From them come the library, binaries, examples, tests and benchmarks as
-    /// Cargo finds them, the build script and the readme; the lists are put in order of name and
-    /// path. A folder that is absent counts as empty, but that of the package must be there.
+    /// these, each once. From them come, by the rules of discovery, the library, binaries,
+    /// examples, tests and benchmarks, the build script and the readme; the lists are put in order
+    /// of name and path. A folder that is absent counts as empty, but that of the package must be
+    /// there.
     ///
     /// Afterwards nothing is left to the workspace, every getter of the package may be called, and
     /// completing again with the same workspace and folders changes nothing.
@@ -206,7 +207,8 @@ impl<Metadata: Drop> Manifest<Metadata> {
     /// - after all these, what `fs` answers in place of names.
     ///
     /// Out of memory is `Error::Memory`. A refusal leaves the manifest as it was. A fault that `fs`
-    /// answers is one that its `may_refuse_root` or `may_refuse` allows.
+    /// answers is one that its `may_refuse_root` or `may_refuse` allows. With `NoRoot` the contract
+    /// also allows `Unsupported` in place of a root that is asked for.
     pub fn complete_from_abstract_filesystem<N, Fs: AbstractFilesystem + Drop>(
         &mut self,
         alloc: Global,

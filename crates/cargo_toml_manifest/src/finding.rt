@@ -1,6 +1,6 @@
 //! What is found in the folders around a manifest: first made, then put in, so that a
 //! refusal changes nothing.
-ghost use Rattle.std.specs.Prelude.{◌≡◌, ◌⊎◌, IfOk, IfErr, unwrap_or};
+ghost use Rattle.std.specs.Prelude.{◌≡◌, ◌⊎◌, IfOk, IfErr, IsNone, unwrap_or};
 ghost use Rattle.std.specs.Option.{option_copied};
 ghost use Rattle.cargo_toml_parts.specs.InheritableValues.{value_of};
 ghost use Rattle.cargo_toml_settings.specs.Settings.{file_meaning};
@@ -144,6 +144,7 @@ pub fn find<Metadata, Fs: AbstractFilesystem>(
         (found_around (installed (held manifest.now) parts.now)
         (Fs.names_at fs.now))) }
     ensures refused { RefusesBy (IsListed (Fs.may_refuse fs.now)) result }
+    ensures alone { IsNone manifest.now.«package» → result ≡ Ok None }
 {
     let Some(package) = &manifest.package else {
         return Ok(None);

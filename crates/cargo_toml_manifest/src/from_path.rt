@@ -100,7 +100,7 @@ impl Manifest {
     ///
     /// The text is read as `Manifest::from_str` reads it, and then completed as
     /// `complete_from_path` does. So nothing in it is left to its workspace, and its products are
-    /// those that Cargo builds.
+    /// those that it states and those found in its folder by the rules of discovery.
     ///
     /// A file that can't be read is refused as `Error::Io` of its kind, and one that is not UTF-8
     /// as that of the kind `InvalidData`. Other refusals are those of `from_str` and of

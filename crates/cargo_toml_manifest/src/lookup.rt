@@ -92,7 +92,7 @@ fn candidate_of(alloc: Global, read: io::Result<Vec<u8>>, file: &str) -> Result<
 
 // What the file at a path is to the search.
 fn look_at<R: Files + AllocGlobal>(rt: &R, alloc: Global, file: &str) -> Result<Candidate, Error>
-    ensures { IsCandidate result }
+    ensures { IsCandidate file.now result }
 {
     candidate_of(alloc, fs::read(rt, file), file)
 }
@@ -106,7 +106,7 @@ fn look_at<R: Files + AllocGlobal>(rt: &R, alloc: Global, file: &str) -> Result<
 /// `Error::Io`, and refused memory as `Error::Memory`.
 ///
 /// No contract says what stands on a disk. So none says that the nearest root is the one that is
-/// found, nor of which file the fault is.
+/// found, nor of which of these files the fault is.
 pub fn root_above<R: Files + AllocGlobal>(
     rt: &R,
     alloc: Global,
@@ -115,7 +115,7 @@ pub fn root_above<R: Files + AllocGlobal>(
     ensures found { IfOk result (λ root. IsRootManifest root.0) }
     ensures path { IfOk result (λ root. (above : List ℕ) × (IsAbove folder.now above
         × (string_bytes root.1 ≡ path_join above (codes "Cargo.toml")))) }
-    ensures refused { IfErr result IsSearchFault }
+    ensures refused { IfErr result (IsSearchFault folder.now) }
 {
     let mut last = Error::Io(io::Error::from(io::ErrorKind::NotFound));
     let Some(nearest) = parent(folder) else {

@@ -5,6 +5,6 @@ use Rattle.cargo_toml_manifest.proofs.lookup.root_above.Given as goal
 
 abbrev pub invariant-loop-above : goal.invariant-loop-above
 invariant-loop-above g l = record {
-  last : IsSearchFault l.last;
+  last : IsSearchFault l.folder l.last;
   next : IfSome (ancestors_next l.above-iterator) (IsAbove l.folder);
 }

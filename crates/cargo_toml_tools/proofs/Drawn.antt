@@ -1,10 +1,10 @@
 -- The names and keys of a graph.
-use Rattle.std.proofs.Common.{◌≡◌, ◌↔◌, ◌||◌, ◌∙◌, Bool, Bor, false, true, List, [], ◌∷◌, Option, None, Some, ap, is_some, map, option_map, refl, sym, inl, inr}
-use Rattle.std.specs.Prelude.{IsSome, cond}
+use Rattle.std.proofs.Common.{◌≡◌, ◌↔◌, ◌||◌, ◌∙◌, Bool, Bor, false, true, List, [], ◌∷◌, Option, None, Some, ap, is_some, map, option_map, refl, subst, sym, inl, inr}
+use Rattle.std.specs.Prelude.{IfSome, IsSome, cond}
 use Rattle.std.proofs.lemmas.Bool.{false≢true, or_cases, or_left, or_right}
 use Rattle.std.specs.BTreeSet.{BTreeSet}
 use Rattle.std.specs.HashMap.{HashMap}
-use Rattle.std.specs.List.{list_any}
+use Rattle.std.specs.List.{AllByRecursion, list_any}
 use Rattle.std.specs.Map.{lookup}
 use Rattle.std.specs.Option.{option_map_or}
 use Rattle.cargo_toml.specs.Action.{Text}
@@ -12,6 +12,7 @@ use Rattle.cargo_toml.specs.Feature.{Feature}
 use Rattle.cargo_toml.specs.Reach.{Among}
 use Rattle.cargo_toml.specs.Views.{action_at, action_of, set_has, table_in, value_at}
 use Rattle.cargo_toml_features.specs.declared.features.DepAction.{DepAction}
+use Rattle.cargo_toml_tools.specs.FeatureGraphs.{AreEdgesInOrder}
 use Rattle.cargo_toml_tools.specs.PageSteps.{key_texts}
 use Rattle.cargo_toml_tools.proofs.Rowed.{texts_among}
 
@@ -67,3 +68,19 @@ exactly_acted {S} m names keys all acted k = (
     there : (o : Option Feature) → is_some (option_map_or (λ (v : Feature). action_at v.enables_deps k) o None) ≡ true → is_some o ≡ true
     there (Some v) h = refl
     there None h = absurd (false≢true h)
+
+-- ---- what holds of each feature, by the names of all
+all_at : (P : Text → Type 0) (xs : List Text) (x : Text) → AllByRecursion P xs → Among xs x → P x
+all_at P [] x all i = absurd i
+all_at P (y ∷ ys) x all (inl is) = subst P (sym is) all.0
+all_at P (y ∷ ys) x all (inr i) = all_at P ys x all.1 i
+
+pub all_edges : {S : Type 0} (m : HashMap (Bor Text) Feature S) (names : BTreeSet (Bor Text)) → ((f : Text) → set_has names f ≡ is_some (value_at m f))
+    → AllByRecursion (λ f. IfSome (value_at m f) AreEdgesInOrder) (key_texts names) → (f : Text) → IfSome (value_at m f) AreEdgesInOrder
+all_edges {S} m names all each f = go (value_at m f) refl
+  where
+    go : (o : Option Feature) → value_at m f ≡ o → IfSome o AreEdgesInOrder
+    go None is = tt
+    go (Some v) is =
+        let there : Among (key_texts names) f = (exactly names (λ x. is_some (value_at m x)) all f).1 (ap is_some is) in
+        subst (λ o. IfSome o AreEdgesInOrder) is (all_at (λ x. IfSome (value_at m x) AreEdgesInOrder) (key_texts names) f each there)

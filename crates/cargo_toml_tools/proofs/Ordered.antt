@@ -19,6 +19,9 @@ key_cmp a b = slice_cmp nat_cmp a.now b.now
 pub set_ascends : (s : BTreeSet (Bor Text)) → sorted.IsOrdered key_cmp s → Ascend (key_texts s)
 set_ascends s h = texts_ascend (λ (q : Bor Text). q.now) s.keys h
 
+pub keys_ascend : (m : BTreeMap (Bor Text) DepAction) → tree.IsOrdered key_cmp m → Ascend (map (λ k. k.now) (tree.keys m))
+keys_ascend m h = texts_ascend (λ (q : Bor Text). q.now) (tree.keys m) h
+
 keys_shown : (es : List (Bor Text × DepAction))
     → map (λ q. q.now) (map (λ e. e.0) es) ≡ map (λ a. a.key) (map (λ e. told_action e.0.now e.1) es)
 keys_shown [] = refl
@@ -26,4 +29,4 @@ keys_shown (e ∷ es) = ap (λ ts. e.0.now ∷ ts) (keys_shown es)
 
 pub map_ascends : (m : BTreeMap (Bor Text) DepAction) → tree.IsOrdered key_cmp m
     → Ascend (map (λ a. a.key) (actions_in m))
-map_ascends m h = subst Ascend (keys_shown m.entries) (texts_ascend (λ (q : Bor Text). q.now) (map (λ e. e.0) m.entries) h)
+map_ascends m h = subst Ascend (keys_shown m.entries) (keys_ascend m h)

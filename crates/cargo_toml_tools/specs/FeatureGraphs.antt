@@ -1,11 +1,13 @@
 -- The graph of features in Graphviz's language.
-use Rattle.std.specs.Prelude.{◌≡◌, Bool, IsSome, List, [], ◌∷◌, ◌++◌, Option, codes, is_some, map}
-use Rattle.std.specs.Prelude.{if◌then◌else◌}
+use Rattle.std.specs.Prelude.{◌≡◌, Bool, IfSome, IsSome, List, [], ◌∷◌, ◌++◌, Option, codes}
+use Rattle.std.specs.Prelude.{if◌then◌else◌, is_some, map}
 use Rattle.std.specs.Borrow.{Bor}
+use Rattle.std.specs.BTreeMap.{BTreeMap, keys}
 use Rattle.std.specs.HashMap.{HashMap}
-use Rattle.std.specs.List.{concat, flat_map}
+use Rattle.std.specs.List.{AllByRecursion, concat, flat_map}
 use Rattle.std.specs.Option.{option_map_or}
 use Rattle.cargo_toml.specs.Action.{Text}
+use Rattle.cargo_toml.specs.Ascending.{Ascend}
 use Rattle.cargo_toml.specs.Feature.{Feature}
 use Rattle.cargo_toml.specs.Views.{table_in, value_at}
 use Rattle.cargo_toml_features.specs.declared.features.DepAction.{DepAction}
@@ -80,11 +82,22 @@ graph_text title found names keys =
     concat (codes "digraph {\n" ∷ option_map_or label_line title []
     ∷ flat_map (part_at found) names ∷ flat_map dependency_node keys ∷ codes "}\n" ∷ [])
 
--- the graph of all features, and of all dependencies on which some feature acts
+-- actions stand in byte order of their dependencies, and what each asks for stands so too
+pub record AreActionsInOrder (actions : BTreeMap (Bor Text) DepAction) : Type 0 where
+  pub dependencies : Ascend (map (λ k. k.now) (keys actions))
+  pub asked : AllByRecursion (λ e. Ascend (map (λ k. k.now) e.1.dep_features.keys)) actions.entries
+
+-- the edges of a feature stand in byte order, each once
+pub record AreEdgesInOrder (f : Feature) : Type 0 where
+  pub features : Ascend (map (λ k. k.now) f.enables_features.keys)
+  pub actions : AreActionsInOrder f.enables_deps
+
+-- the graph of all features, and of all dependencies on which some feature acts, all in byte order
 pub record IsGraphOf {S : Type 0} (title : Option Text) (m : HashMap (Bor Text) Feature S)
     (graph : Text) : Type 0 where
   pub names : List Text
   pub keys : List Text
   pub are_names : AreTexts (λ f. IsSome (value_at m f)) names
   pub are_keys : AreTexts (λ k. (f : Text) × IsSome ((table_in m).action f k)) keys
+  pub edges : (f : Text) → IfSome (value_at m f) AreEdgesInOrder
   pub exact : graph ≡ graph_text title (value_at m) names keys

@@ -1,11 +1,12 @@
 //! The graph of features, in Graphviz's language.
-ghost use Rattle.std.specs.Prelude.{◌≡◌, ◌++◌, ◌||◌, [], IfOk, OnOk, is_some};
+ghost use Rattle.std.specs.Prelude.{◌≡◌, ◌++◌, ◌||◌, [], IfOk, IfSome, OnOk, is_some};
 ghost use Rattle.std.specs.Prelude.{option_map, string_bytes};
-ghost use Rattle.std.specs.List.{flat_map, list_any};
+ghost use Rattle.std.specs.List.{AllByRecursion, flat_map, list_any};
 ghost use Rattle.std.specs.Option.{option_map_or};
 ghost use Rattle.cargo_toml.specs.Action.{Text};
 ghost use Rattle.cargo_toml.specs.Ascending.{Ascend};
 ghost use Rattle.cargo_toml.specs.Views.{action_at, set_has, table_in, value_at};
+ghost use Rattle.cargo_toml_tools.specs.FeatureGraphs.{AreActionsInOrder, AreEdgesInOrder};
 ghost use Rattle.cargo_toml_tools.specs.FeatureGraphs.{IsGraphOf, action_end, dependency_edge};
 ghost use Rattle.cargo_toml_tools.specs.FeatureGraphs.{dependency_node, edge_start, feature_edge};
 ghost use Rattle.cargo_toml_tools.specs.FeatureGraphs.{feature_node, label_end, label_line};
@@ -52,7 +53,10 @@ fn push_features<S: BuildHasher>(
 ) -> Result<(), AllocError>
     ensures text { OnOk result (string_bytes graph.new ≡ string_bytes graph.old
         ++ flat_map (part_at (value_at features.now)) (key_texts names.now)) }
+    // who goes through a set or a map learns that its keys are in order
     ensures in_order { OnOk result (Ascend (key_texts names.now)) }
+    ensures edges { OnOk result (AllByRecursion
+        (λ f. IfSome (value_at features.now f) AreEdgesInOrder) (key_texts names.now)) }
 {
     for name in names {
         push_part(graph, *name, features)?;
@@ -66,8 +70,9 @@ fn push_part<S: BuildHasher>(
     name: &str,
     features: &FeatureMap<'_, S>,
 ) -> Result<(), AllocError>
-    ensures { OnOk result (string_bytes graph.new
+    ensures text { OnOk result (string_bytes graph.new
         ≡ string_bytes graph.old ++ part_at (value_at features.now) name.now) }
+    ensures in_order { OnOk result (IfSome (value_at features.now name.now) AreEdgesInOrder) }
 {
     let Some(feature) = features.get(name) else {
         return Ok(());
@@ -188,9 +193,10 @@ fn push_feature_edges<S: BuildHasher>(
     feature: &Feature<'_>,
     features: &FeatureMap<'_, S>,
 ) -> Result<(), AllocError>
-    ensures { OnOk result (string_bytes graph.new ≡ string_bytes graph.old
+    ensures text { OnOk result (string_bytes graph.new ≡ string_bytes graph.old
         ++ flat_map (λ k. feature_edge (value_at features.now) feature.now.key.now k.now)
         feature.now.enables_features.keys) }
+    ensures in_order { OnOk result (Ascend (key_texts feature.now.enables_features)) }
 {
     for name in &feature.enables_features {
         push_feature_edge(graph, feature.key, *name, features)?;
@@ -217,8 +223,9 @@ fn push_feature_edge<S: BuildHasher>(
 
 /// The edges from a feature to what it acts on.
 fn push_dependency_edges(graph: &mut String, feature: &Feature<'_>) -> Result<(), AllocError>
-    ensures { OnOk result (string_bytes graph.new ≡ string_bytes graph.old
+    ensures text { OnOk result (string_bytes graph.new ≡ string_bytes graph.old
         ++ flat_map (dependency_edge feature.now.key.now) feature.now.enables_deps.entries) }
+    ensures in_order { OnOk result (AreActionsInOrder feature.now.enables_deps) }
 {
     for (key, action) in &feature.enables_deps {
         push_edge(graph, feature.key, "dependency", *key)?;
@@ -238,8 +245,9 @@ fn push_edge(graph: &mut String, from: &str, kind: &str, to: &str) -> Result<(),
 }
 
 fn push_action(graph: &mut String, action: &DepAction<'_>) -> Result<(), AllocError>
-    ensures { OnOk result
+    ensures text { OnOk result
         (string_bytes graph.new ≡ string_bytes graph.old ++ action_end action.now) }
+    ensures in_order { OnOk result (Ascend (key_texts action.now.dep_features)) }
 {
     graph.push_str(" [label=\"")?;
     let mut comma = "";

@@ -7,6 +7,7 @@ use Rattle.std.specs.Map.Iter.{deref}
 use Rattle.cargo_toml.specs.Action.{Text}
 use Rattle.cargo_toml.specs.Ascending.{Ascend}
 use Rattle.cargo_toml_tools.specs.Escaped.{code}
+use Rattle.cargo_toml_tools.proofs.KeysInOrder.{none_ascend}
 use Rattle.cargo_toml_tools.proofs.Ordered.{set_ascends}
 use Rattle.cargo_toml_tools.proofs.Separated.{all_written, comma_utf8, none_asked, none_written}
 use Rattle.cargo_toml_tools.proofs.Separated.{nothing_utf8, one_written, some_asked}
@@ -55,6 +56,6 @@ returns-then-is_empty c =
           (string_bytes c.args.page.now) (string_bytes c.push_code.new.text) none
           c.push_code.ensures.exact;
       in_order = on_ok_weaker c.push_code.result (λ _. subst
-          (λ ks. Ascend (map (λ (k : Bor Text). k.now) ks)) (sym none) tt)
+          (λ ks. Ascend (map (λ (k : Bor Text). k.now) ks)) (sym none) none_ascend)
           c.push_code.ensures.exact;
     }

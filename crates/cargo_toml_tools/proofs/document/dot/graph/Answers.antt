@@ -1,7 +1,7 @@
 use Rattle.std.proofs.Common.{◌++◌, ◌∙◌, [], ap, codes, is_some, string_bytes}
 use Rattle.cargo_toml.specs.Views.{value_at}
 use Rattle.cargo_toml_tools.specs.PageSteps.{key_texts}
-use Rattle.cargo_toml_tools.proofs.Drawn.{exactly, exactly_acted}
+use Rattle.cargo_toml_tools.proofs.Drawn.{all_edges, exactly, exactly_acted}
 use Rattle.cargo_toml_tools.proofs.Pieces.{goes_on}
 use Rattle.cargo_toml_tools.proofs.document.dot.graph.Goals as goal
 
@@ -26,6 +26,7 @@ returns g c =
         exact = exactly_acted features names keys c.in_ok-names.ensures c.in_ok-keys.ensures;
         in_order = c.in_ok-push_dependencies.ensures.in_order;
       };
+      edges = all_edges features names c.in_ok-names.ensures c.in_ok-push_features.ensures.edges;
       exact = goes_on [] one new (codes "digraph {\n") _ (c.in_ok-push_str.ensures.bytes ∙ ap (λ t. t ++ codes "digraph {\n") c.new-graph.ensures.bytes)
           (goes_on one two new _ _ c.in_ok-push_label.ensures
           (goes_on two three new _ _ c.in_ok-push_features.ensures.text

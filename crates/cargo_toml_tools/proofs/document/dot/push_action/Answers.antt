@@ -7,6 +7,7 @@ use Rattle.cargo_toml_tools.specs.Escaped.{escaped_text}
 use Rattle.cargo_toml_tools.specs.FeatureGraphs.{label_end}
 use Rattle.cargo_toml_tools.specs.Pages.{with_commas}
 use Rattle.cargo_toml_tools.specs.declared.escape.Format.TheVariants.{Dot}
+use Rattle.cargo_toml_tools.proofs.Ordered.{set_ascends}
 use Rattle.cargo_toml_tools.proofs.Pieces.{ended_if, goes_on}
 use Rattle.cargo_toml_tools.proofs.Separated.{all_written, comma_utf8, none_written, nothing_utf8, one_written}
 use Rattle.cargo_toml_tools.proofs.document.dot.push_action.Goals as goal
@@ -34,8 +35,14 @@ returns c =
     let new = string_bytes c.push_str-2.new.self in
     let whole = all_written (escaped_text Dot) (λ (k : Bor Text). k.now) _ _ _ _
     (rest_all deref _ _ _ c.in-None.is c.next.ensures.steps) c.loop-feature.invariant.text in
-    on_ok_weaker c.push_str-2.result
-    (λ last. goes_on old (old ++ codes " [label=\"") new (codes " [label=\"") _ refl
-    (goes_on (old ++ codes " [label=\"") text new asked _ whole
-    (last ∙ ap (λ t. text ++ t) (c.label_end.ensures ∙ sym (append-nil (label_end c.args.action.now.is_conditional))))))
-    (ended_if c.push_str-2.result text new c.label_end.result.now c.push_str-2.ensures.bytes)
+    let ended = ended_if c.push_str-2.result text new c.label_end.result.now c.push_str-2.ensures.bytes in
+    record {
+      text = on_ok_weaker c.push_str-2.result
+          (λ last. goes_on old (old ++ codes " [label=\"") new (codes " [label=\"") _ refl
+          (goes_on (old ++ codes " [label=\"") text new asked _ whole
+          (last ∙ ap (λ t. text ++ t) (c.label_end.ensures ∙ sym (append-nil (label_end c.args.action.now.is_conditional))))))
+          ended;
+      in_order = on_ok_weaker c.push_str-2.result
+          (λ _. set_ascends c.args.action.now.dep_features c.into_iter-feature-iterator.ensures.into_iter_gives.4)
+          ended;
+    }

@@ -1,22 +1,26 @@
 -- Folders on the disk: where they are, and what faults they give.
-use Rattle.std.specs.Prelude.{◌≡◌, ℕ, List, codes, length, ◌==◌, if◌then◌else◌}
+use Rattle.std.specs.Prelude.{◌≡◌, ◌⊎◌, ℕ, List, codes, length, ◌==◌, if◌then◌else◌}
+use Rattle.std.specs.IoError.{error_kind}
+use Rattle.std.specs.declared.io.Error.{Error as IoError}
 use Rattle.std.specs.declared.io.ErrorKind.{ErrorKind}
-use Rattle.std.specs.declared.io.ErrorKind.TheVariants.{NotFound, NotADirectory}
+use Rattle.std.specs.declared.io.ErrorKind.TheVariants.{NotFound, NotADirectory, OutOfMemory}
 use Rattle.cargo_toml_parts.specs.declared.error.Error.{Error}
+use Rattle.cargo_toml_parts.specs.Faults.{IsFromIo}
 use Rattle.cargo_toml_parts.specs.FaultValues.{Fault, fault_of, io}
 
 -- the empty path is the folder that the program runs in
 abbrev pub or_here : List ℕ → List ℕ
 or_here path = if length path == 0 then codes "." else path
 
--- the kind of a fault of listing: a name that is no folder counts as absent
-abbrev pub listed_as : ErrorKind → ErrorKind
-listed_as NotADirectory = NotFound
-listed_as kind = kind
+-- what a fault of listing a folder becomes: a name that is no folder counts as absent
+abbrev pub IsListingFault : IoError → Error → Type 0
+IsListingFault fault e =
+    ((error_kind fault ≡ NotADirectory) × (fault_of e ≡ io NotFound))
+    ⊎ ((¬ (error_kind fault ≡ NotADirectory)) × IsFromIo fault e)
 
--- the fault is one of reading a file or a folder
+-- the fault is one of reading a file or a folder, and no want of memory
 abbrev pub IsInputFault : Fault → Type 0
-IsInputFault fault = (kind : ErrorKind) × (fault ≡ io kind)
+IsInputFault fault = (kind : ErrorKind) × ((¬ (kind ≡ OutOfMemory)) × (fault ≡ io kind))
 
 -- the error is such a fault
 abbrev pub IsInput : Error → Type 0

@@ -1,9 +1,7 @@
 //! The names in folders on the disk.
 ghost use Rattle.std.specs.Prelude.{◌≡◌, ◌⊎◌, IfErr};
-ghost use Rattle.std.specs.IoError.{error_kind};
 ghost use Rattle.cargo_toml_parts.specs.declared.error.Error.{Memory};
-ghost use Rattle.cargo_toml_parts.specs.FaultValues.{fault_of, io};
-ghost use Rattle.cargo_toml_discovery.specs.Disk.{IsInput, listed_as, or_here};
+ghost use Rattle.cargo_toml_discovery.specs.Disk.{IsInput, IsListingFault, or_here};
 
 use cargo_toml_parts::Error;
 use std::alloc::Global;
@@ -20,7 +18,7 @@ pub fn or_here(path: &str) -> &str
 
 // A fault of listing a folder, where a name that is no folder counts as absent.
 fn listing_fault(fault: io::Error) -> Error
-    ensures { (result ≡ Memory) ⊎ (fault_of result ≡ io (listed_as (error_kind fault))) }
+    ensures { IsListingFault fault result }
 {
     match fault.kind() {
         io::ErrorKind::NotADirectory => Error::Io(io::Error::from(io::ErrorKind::NotFound)),

@@ -3,10 +3,12 @@ use Rattle.std.specs.Prelude.{◌≡◌, ◌⊎◌, ◌<◌, ◌&&◌, ◌||◌,
 use Rattle.std.specs.Prelude.{bytes_eq, codes, count_by, filter, if◌then◌else◌, length, map, nat_lt}
 use Rattle.std.specs.Prelude.{not, true}
 use Rattle.std.specs.Cmp.Lexicographic.{pointwise}
+use Rattle.std.specs.IoError.{error_kind}
 use Rattle.std.specs.List.{flat_map, list_any}
 use Rattle.std.specs.Path.{has_no_slash}
 use Rattle.std.specs.Str.{chars}
 use Rattle.std.specs.declared.io.Error.{Error as IoError}
+use Rattle.std.specs.declared.io.ErrorKind.TheVariants.{OutOfMemory}
 use Rattle.cargo_toml.specs.Action.{Text}
 use Rattle.cargo_toml.specs.Ascending.{Ascend}
 use Rattle.cargo_toml.specs.Error.{Error, Io, Memory}
@@ -78,4 +80,7 @@ times_named entries folder =
 
 -- there was no memory, or a fault of reading folders, which comes of patterns alone
 abbrev pub IsOfFolders : Bool → Error → Type 0
-IsOfFolders has_some e = (e ≡ Memory) ⊎ (IsTrue has_some × ((fault : IoError) × (e ≡ Io fault)))
+IsOfFolders has_some e =
+    (e ≡ Memory)
+    ⊎ (IsTrue has_some
+    × ((fault : IoError) × ((¬ (error_kind fault ≡ OutOfMemory)) × (e ≡ Io fault))))

@@ -31,7 +31,7 @@ of_input e (inr input) = inr (inl input)
 
 pub of_folders : (some : Bool) (e : Error) → IsOfFolders some e → IsOfInput e
 of_folders some e (inl memory) = inl memory
-of_folders some e (inr h) = inr (error_kind h.1.0, ap fault_of h.1.1 ∙ fault_of-io h.1.0)
+of_folders some e (inr h) = inr (error_kind h.1.0, (h.1.1.0, ap fault_of h.1.1.1 ∙ fault_of-io h.1.0))
 
 -- a manifest has no workspace, or there is none or one that gives a fault of input
 pub unreported : (root : Manifest Value) (shows : Bool) (e : Error) → IsUnreported root shows e → IsWithoutWorkspace root e ⊎ IsOfInput e

@@ -39,3 +39,4 @@ pub mod Using
 pub mod Unused
 pub mod ReportFloatless
 pub mod Several
+pub mod Sorting

@@ -1,6 +1,6 @@
 -- What asks for one crate stands together in order, so that each crate that is asked for by several
 -- requirements is told.
-use Rattle.std.proofs.Common.{◌≡◌, ◌++◌, ◌&&◌, ◌∙◌, Bool, true, false, Ordering, Less, Equal, Greater, List, [], ◌∷◌, map, string_bytes, refl, sym, ap, subst, inl, inr}
+use Rattle.std.proofs.Common.{◌≡◌, ◌++◌, ◌&&◌, ◌∙◌, Bool, true, false, Ordering, Less, Equal, Greater, List, [], ◌∷◌, map, refl, sym, ap, subst, inl, inr}
 use Rattle.std.proofs.lemmas.Bool.{and_parts, both_ways, false≢true}
 use Rattle.std.proofs.lemmas.Cmp.{nat_list_cmp_total}
 use Rattle.std.proofs.lemmas.List.{append-nil}
@@ -17,16 +17,19 @@ use Rattle.cargo_toml.specs.Action.{Text}
 use Rattle.cargo_toml.specs.Reach.{Among}
 use Rattle.cargo_toml_tools.specs.Audited.{word_of}
 use Rattle.cargo_toml_tools.specs.Neighbours.{in_front_of_runs, runs_of}
-use Rattle.cargo_toml_tools.specs.Noted.{Asking, asking_of}
+use Rattle.cargo_toml_tools.specs.Noted.{Asking}
 use Rattle.cargo_toml_tools.specs.Oddities.{AreReported, GainsOnly, Oddity, oddity_with}
-use Rattle.cargo_toml_tools.specs.Overall.{AreByName, GainsSeveral, IsAskedBySeveral, asks_for_same, has_same_requirement, several_among, several_of, several_words, unused_of}
-use Rattle.cargo_toml_tools.specs.contracts.audit.UseOrd.TheImpl as use_order
+use Rattle.cargo_toml_tools.specs.Overall.{GainsSeveral, IsAskedBySeveral, asking_cmp, asks_for_same, has_same_requirement, several_among, several_of, several_words, unused_of}
 use Rattle.cargo_toml_tools.specs.declared.audit.Code.TheVariants.{SeveralRequirements, UnusedDependency}
 use Rattle.cargo_toml_tools.specs.declared.audit.Finding.{Finding}
-use Rattle.cargo_toml_tools.specs.declared.audit.Use.{Use}
 use Rattle.cargo_toml_tools.proofs.Gained.{Adding, adding_more}
 use Rattle.cargo_toml_tools.proofs.Grouped.{begins, joins}
 use Rattle.cargo_toml_tools.proofs.Inserted.{in_either, in_first, in_second}
+
+-- crates stand in byte order
+abbrev AreByName : List Asking → Type 0
+AreByName [] = Unit {0}
+AreByName (a ∷ others) = ((b : Asking) → Among others b → is_gt (slice_cmp nat_cmp a.name b.name) ≡ false) × AreByName others
 
 -- ---- texts of which neither is above the other
 reversed : (s : Ordering) → is_lt (ordering_reverse s) ≡ is_gt s
@@ -264,7 +267,7 @@ told_in_all asked name up a =
     (record { words = one.words; told = in_flat (runs_of asks_for_same asked) t.run (oddity_with SeveralRequirements a.one.name one.words) t.there one.told })
 
 -- among findings of another code
-pub gains_several : (asked : List Asking) (os : List Oddity) (old new : BTreeSet Finding) → AreByName asked
+gains_several : (asked : List Asking) (os : List Oddity) (old new : BTreeSet Finding) → AreByName asked
     → ((o : Oddity) → Among os o → o.code ≡ UnusedDependency)
     → GainsOnly (Among (os ++ several_among asked)) old new → AreReported new (os ++ several_among asked) → GainsSeveral asked old new
 gains_several asked os old new up apart gains found name = (
@@ -283,24 +286,21 @@ gains_several asked os old new up apart gains found name = (
   ],
 )
 
--- ---- a set of uses stands in order by the names of crates
+-- ---- what is asked for in order is so by the names of crates
 front_first : (a b : Ordering) → ordering_then a b ≡ Less → is_gt a ≡ false
 front_first Less b e = refl
 front_first Equal b e = refl
 front_first Greater b e = cc
 
-name_first : (k x : Use) → (use_order.cmp-value).it k x ≡ Less → is_gt (slice_cmp nat_cmp (string_bytes k.name) (string_bytes x.name)) ≡ false
-name_first k x e = front_first _ _ e
-
-not_below : (k : Use) (ks : List Use) → AllByRecursion (λ x. (use_order.cmp-value).it k x ≡ Less) ks
-    → (b : Asking) → Among (map asking_of ks) b → is_gt (slice_cmp nat_cmp (string_bytes k.name) b.name) ≡ false
+not_below : (k : Asking) (ks : List Asking) → AllByRecursion (λ x. asking_cmp k x ≡ Less) ks
+    → (b : Asking) → Among ks b → is_gt (slice_cmp nat_cmp k.name b.name) ≡ false
 not_below k [] all b i = absurd i
-not_below k (x ∷ xs) all b (inl e) = ap (λ (a : Asking). is_gt (slice_cmp nat_cmp (string_bytes k.name) a.name)) e ∙ name_first k x all.0
+not_below k (x ∷ xs) all b (inl e) = ap (λ (a : Asking). is_gt (slice_cmp nat_cmp k.name a.name)) e ∙ front_first _ _ all.0
 not_below k (x ∷ xs) all b (inr i) = not_below k xs all.1 b i
 
-pub by_name : (ks : List Use) → IsStrictlySortedBy (use_order.cmp-value).it ks → AreByName (map asking_of ks)
+by_name : (ks : List Asking) → IsStrictlySortedBy asking_cmp ks → AreByName ks
 by_name [] h = tt
-by_name (k ∷ ks) h = (not_below k ks (sorted_head (use_order.cmp-value).it k ks h), by_name ks (sorted_tail (use_order.cmp-value).it k ks h))
+by_name (k ∷ ks) h = (not_below k ks (sorted_head asking_cmp k ks h), by_name ks (sorted_tail asking_cmp k ks h))
 
 -- ---- once all members were added
 all_unused : (ks : List Text) (o : Oddity) → Among (map unused_of ks) o → o.code ≡ UnusedDependency
@@ -310,7 +310,7 @@ all_unused (k ∷ ks) o (inr i) = all_unused ks o i
 
 pub several_done : {T E : Type 0} (r : Result T E) (keys : List Text) (asked now : List Asking) (left : List Oddity) (old mid new : BTreeSet Finding)
     → now ≡ asked → left ≡ [] → Adding (map unused_of keys ++ several_among asked) (left ++ several_among asked) old mid
-    → GainsOnly (Among (several_among now)) mid new → OnOk r (AreReported new (several_among now)) → OnOk r (AreByName now)
+    → GainsOnly (Among (several_among now)) mid new → OnOk r (AreReported new (several_among now)) → OnOk r (IsStrictlySortedBy asking_cmp now)
     → OnOk r (GainsSeveral asked old new)
 several_done (Err e) keys asked now left old mid new same none adding more found up = tt
 several_done (Ok x) keys asked now left old mid new same none adding more found up =
@@ -319,5 +319,5 @@ several_done (Ok x) keys asked now left old mid new same none adding more found 
     (ap (λ ls. ls ++ os) none ∙ sym (append-nil os)) adding
     (subst (λ (ys : List Asking). GainsOnly (Among (several_among ys)) mid new) same more)
     (subst (λ (ys : List Asking). AreReported new (several_among ys)) same found) in
-    gains_several asked (map unused_of keys) old new (subst (λ (ys : List Asking). AreByName ys) same up) (all_unused keys) end.go.gains
+    gains_several asked (map unused_of keys) old new (by_name asked (subst (λ (ys : List Asking). IsStrictlySortedBy asking_cmp ys) same up)) (all_unused keys) end.go.gains
     (λ o i. elim (end.rest o i) [ inl h ↦ h | inr j ↦ absurd j ])

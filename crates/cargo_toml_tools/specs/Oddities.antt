@@ -3,7 +3,10 @@ use Rattle.std.specs.Prelude.{◌⊎◌, ◌++◌, Bool, false, List, [], ◌∷
 use Rattle.std.specs.Prelude.{if◌then◌else◌, map, codes, bytes_eq, filter, option_map}
 use Rattle.std.specs.Prelude.{option_and_then, unwrap_or, string_bytes}
 use Rattle.std.specs.BTreeSet.{BTreeSet}
+use Rattle.std.specs.Cmp.Lexicographic.{slice_cmp}
 use Rattle.std.specs.Option.{option_map_or}
+use Rattle.std.specs.Ordering.{nat_cmp, ordering_then}
+use Rattle.std.specs.declared.cmp.Ordering.{Ordering}
 use Rattle.cargo_toml.specs.Action.{Text}
 use Rattle.cargo_toml.specs.InheritableValues.{value_of}
 use Rattle.cargo_toml.specs.Manifests.{ManifestMeaning}
@@ -11,6 +14,7 @@ use Rattle.cargo_toml.specs.Packages.{PackageMeaning}
 use Rattle.cargo_toml.specs.Reach.{Among}
 use Rattle.cargo_toml.specs.Settings.{edition_text}
 use Rattle.cargo_toml.specs.Templates.{TemplateMeaning}
+use Rattle.cargo_toml_tools.specs.Audited.{word_of}
 use Rattle.cargo_toml_tools.specs.declared.audit.Code.{Code}
 use Rattle.cargo_toml_tools.specs.declared.audit.Code.TheVariants.{Incomplete, ListedTwice}
 use Rattle.cargo_toml_tools.specs.declared.audit.Code.TheVariants.{OtherEdition, OtherLicense}
@@ -35,6 +39,12 @@ oddity_of f = record {
 -- what a finding of the code tells of the subject in these words
 abbrev pub oddity_with : Code → Text → Text → Oddity
 oddity_with code subject words = record { code = code; subject = subject; words = words }
+
+-- the byte order of oddities: by the word of the code, the subject and the words
+abbrev pub oddity_cmp : Oddity → Oddity → Ordering
+oddity_cmp a b =
+    ordering_then (slice_cmp nat_cmp (word_of a.code) (word_of b.code))
+    (ordering_then (slice_cmp nat_cmp a.subject b.subject) (slice_cmp nat_cmp a.words b.words))
 
 -- some finding tells this
 abbrev pub IsReported : BTreeSet Finding → Oddity → Type 0

@@ -1,10 +1,11 @@
 -- What only all members together show.
-use Rattle.std.specs.Prelude.{◌≡◌, ◌↔◌, ◌⊎◌, ◌++◌, if◌then◌else◌, Bool, false, List, []}
+use Rattle.std.specs.Prelude.{◌≡◌, ◌↔◌, ◌⊎◌, ◌++◌, if◌then◌else◌, Bool, List, []}
 use Rattle.std.specs.Prelude.{◌∷◌, bytes_eq, codes, filter, map, not}
 use Rattle.std.specs.BTreeSet.{BTreeSet, contains_text}
 use Rattle.std.specs.Cmp.Lexicographic.{slice_cmp}
 use Rattle.std.specs.List.{flat_map, join_by, list_all}
-use Rattle.std.specs.Ordering.{is_gt, nat_cmp}
+use Rattle.std.specs.Ordering.{nat_cmp, ordering_then}
+use Rattle.std.specs.declared.cmp.Ordering.{Ordering}
 use Rattle.cargo_toml.specs.Action.{Text}
 use Rattle.cargo_toml.specs.InheritedDependencies.{Entries}
 use Rattle.cargo_toml.specs.Reach.{Among}
@@ -48,8 +49,15 @@ several_of (a ∷ others) =
     if list_all (λ b. has_same_requirement b a) others then []
     else (oddity_with SeveralRequirements a.name (several_words (a ∷ others)) ∷ [])
 
--- Of each crate. A report has what is asked for in order, by crate, requirement and folder. So what
--- asks for one crate stands together, and in it what asks by one requirement
+-- the byte order of what is asked for: by crate, requirement and folder
+abbrev pub asking_cmp : Asking → Asking → Ordering
+asking_cmp a b =
+    ordering_then (slice_cmp nat_cmp a.name b.name)
+    (ordering_then (slice_cmp nat_cmp a.requirement b.requirement)
+    (slice_cmp nat_cmp a.folder b.folder))
+
+-- Of each crate. A report has what is asked for in that order. So what asks for one crate stands
+-- together, and in it what asks by one requirement
 abbrev pub several_among : List Asking → List Oddity
 several_among asked = flat_map several_of (runs_of asks_for_same asked)
 
@@ -77,10 +85,3 @@ pub record IsToldSeveral (findings : BTreeSet Finding) (name : Text) : Type 0 wh
 abbrev pub GainsSeveral : List Asking → BTreeSet Finding → BTreeSet Finding → Type 0
 GainsSeveral asked old new =
     (name : Text) → IsToldSeveral new name ↔ (IsToldSeveral old name ⊎ IsAskedBySeveral asked name)
-
--- crates stand in byte order
-abbrev pub AreByName : List Asking → Type 0
-AreByName [] = Unit {0}
-AreByName (a ∷ others) =
-    ((b : Asking) → Among others b → is_gt (slice_cmp nat_cmp a.name b.name) ≡ false)
-    × AreByName others

@@ -1,7 +1,7 @@
 -- Faults of files and folders, what was read of a file, and two facts of one answer.
 use Rattle.std.proofs.Common.{◌≡◌, ◌⊎◌, ◌<◌, ◌∙◌, ◌↔◌, ℕ, suc, zero, Bool, true, false, Result, Ok, Err, IfOk, Some, List, Bor, ap, arith, inl, inr, refl, subst, sym}
 use Rattle.std.proofs.lemmas.Bool.{true≢false}
-use Rattle.std.specs.Prelude.{IsTrue, IsUtf8, OnOk, not}
+use Rattle.std.specs.Prelude.{IsTrue, IsUtf8, not}
 use Rattle.std.specs.Bool.{then_some}
 use Rattle.std.specs.List.{list_any}
 use Rattle.std.specs.Option.{option_copied}
@@ -51,10 +51,6 @@ unshown root workspace shows count has e (inr shown) = inr (workspace, (has, inr
 pub both_hold : {T E : Type 0} {P Q R : T → Type 0} (r : Result T E) → ((x : T) → P x → Q x → R x) → IfOk r P → IfOk r Q → IfOk r R
 both_hold (Ok x) so p q = so x p q
 both_hold (Err e) so p q = tt
-
-pub always_on_ok : {T E P : Type 0} (r : Result T E) → P → OnOk r P
-always_on_ok (Ok x) p = p
-always_on_ok (Err e) p = tt
 
 -- the same text, and the same manifest
 pub completed_as : (s t : Text) (m n : Manifest Value) → s ≡ t → m ≡ n → IsCompletedIn s m → IsCompletedIn t n

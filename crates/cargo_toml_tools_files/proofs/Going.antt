@@ -2,30 +2,36 @@
 use Rattle.std.proofs.Common.{◌≡◌, ◌⊎◌, ◌++◌, ◌∙◌, false, List, [], ◌∷◌, String, Global, ap, arith, inl, inr, length, map, refl, string_bytes, subst, sym}
 use Rattle.std.proofs.lemmas.Bool.{true≢false}
 use Rattle.std.proofs.lemmas.Cmp.{tied_itself}
-use Rattle.std.specs.Prelude.{IsTrue, Vec}
+use Rattle.std.specs.Prelude.{IsTrue, Vec, option_map}
 use Rattle.std.specs.BTreeSet.{BTreeSet, IsOrdered, btree_set_len, contains_text}
 use Rattle.std.specs.Cmp.Lexicographic.{nat_list_cmp_total}
 use Rattle.std.specs.List.{AllByRecursion}
+use Rattle.std.specs.List.Sorted.{IsStrictlySortedBy}
 use Rattle.std.specs.Ordering.{is_lt}
 use Rattle.std.specs.String.{string_cmp}
 use Rattle.toml.specs.declared.value.Value.{Value}
 use Rattle.cargo_toml.specs.Action.{Text}
 use Rattle.cargo_toml.specs.Admitted.{is_below}
 use Rattle.cargo_toml.specs.Ascending.{Ascend}
+use Rattle.cargo_toml.specs.Dependencies.{dependency_meaning}
 use Rattle.cargo_toml.specs.Manifest.{Manifest}
 use Rattle.cargo_toml.specs.Manifests.{held}
 use Rattle.cargo_toml.specs.Reach.{Among}
+use Rattle.cargo_toml.specs.Reads.{map_meaning}
+use Rattle.cargo_toml.specs.Templates.{template_meaning}
 use Rattle.cargo_toml.specs.Workspace.{Workspace}
 use Rattle.cargo_toml_tools.specs.Indexed.{all_by_kind}
 use Rattle.cargo_toml_tools.specs.Noted.{Asking, asked_in_all, asking_of, askings_of}
-use Rattle.cargo_toml_tools.specs.Oddities.{AreReported, GainsOnly, IsReported, Oddity, listing_oddities, oddity_of}
+use Rattle.cargo_toml_tools.specs.Oddities.{AreReported, GainsOnly, IsReported, Oddity, listing_oddities, oddity_of, refusal_of}
+use Rattle.cargo_toml_tools.specs.Overall.{asking_cmp}
 use Rattle.cargo_toml_tools.specs.declared.audit.Audit.{Audit}
 use Rattle.cargo_toml_tools.specs.declared.audit.Member.{Member}
 use Rattle.cargo_toml_tools.specs.declared.audit.Use.{Use}
 use Rattle.cargo_toml_tools.specs.declared.members.Members.{Members}
 use Rattle.cargo_toml_tools.proofs.KeysInOrder.{ascending_last, first_below, none_ascend, others_ascend, texts_ascend}
+use Rattle.cargo_toml_tools_files.proofs.Apart.{difference_apart, listing_apart, overall_apart}
 use Rattle.cargo_toml_tools_files.specs.AuditSteps.{AddsAudited, AddsFolder, NotesOnly, RefusesFolder}
-use Rattle.cargo_toml_tools_files.specs.AuditedFolders.{AreMembersOf, IsAskedSome, IsInheritedSome, IsOfFolder, IsOfSome, IsReportOn, IsToldFolder, IsWithoutMember, member_folders, overall_of}
+use Rattle.cargo_toml_tools_files.specs.AuditedFolders.{AreMembersOf, IsAskedSome, IsFolderRefusal, IsInheritedSome, IsOfSome, IsReportOn, IsToldFolder, IsWithoutMember, member_folders, overall_of}
 use Rattle.cargo_toml_tools_files.specs.AuditedMembers.{IsAskedThere, IsAuditedMember, IsInheritedThere, IsKeyNoted, IsTakenIn, Reading, differences_there, folder_of, folders_of, inherited_by}
 
 -- ---- lists
@@ -117,7 +123,7 @@ module _ (root : Manifest Value) (path : Text) (workspace : Workspace Value) (se
   abbrev pub IsFoundSo : List Reading → List (String Global) → Audit → Oddity → Type 0
   IsFoundSo readings left audit o =
       ((r : Reading) × (Among readings r × Among (differences_there root path workspace (folder_of r) r.new) o))
-      ⊎ ((folder : Text) × (IsPassed listing left audit folder × IsOfFolder root path workspace seen folder o))
+      ⊎ ((folder : Text) × (IsPassed listing left audit folder × IsFolderRefusal root path workspace seen folder o))
 
   abbrev pub IsInheritedSo : List Reading → List (String Global) → Audit → Text → Type 0
   IsInheritedSo readings left audit key =
@@ -135,6 +141,7 @@ module _ (root : Manifest Value) (path : Text) (workspace : Workspace Value) (se
     pub told : (folder : Text) → Among (folders_of listing) folder → Among (map string_bytes left) folder ⊎ IsToldFolder audit folder
     pub odd : AreReported audit.findings (listing_oddities listing)
     pub found : (o : Oddity) → IsReported audit.findings o → Among (listing_oddities listing) o ⊎ IsFoundSo readings left audit o
+    pub one : (folder words more : Text) → IsReported audit.findings (refusal_of folder words) → IsReported audit.findings (refusal_of folder more) → words ≡ more
     pub inherited : (key : Text) → IsKeyNoted audit key → IsInheritedSo readings left audit key
     pub asked : (x : Asking) → Among (askings_of audit.uses) x → IsAskedSome root path workspace seen listing readings x
     pub within : (folder : Text) → Among (map string_bytes left) folder → Among (folders_of listing) folder
@@ -153,7 +160,8 @@ module _ (root : Manifest Value) (path : Text) (workspace : Workspace Value) (se
     ascends = subst (λ (ks : List (String Global)). Ascend (map string_bytes ks)) (sym all) (texts_ascend string_bytes listing.folders.keys ordered);
     told = λ folder i. inl (subst (λ (ks : List (String Global)). Among (map string_bytes ks) folder) (sym all) i);
     odd = reported;
-    found = λ o h. elim (gains.gained o h) [ inl old ↦ absurd (among_none oddity_of none.findings.keys o no_finding old) | inr such ↦ inl such ];
+    found = λ o h. inl (of_listing o h);
+    one = λ folder words more h i. absurd (listing_apart listing folder words (of_listing (refusal_of folder words) h));
     inherited = λ key h. absurd (no_text (new.inherited).keys key (ap (λ (a : Audit). (a.inherited).keys) rest ∙ no_key) h);
     asked = λ x h. absurd (among_none asking_of new.uses.keys x (ap (λ (ks : List Use). length ks) (ap (λ (a : Audit). a.uses.keys) rest ∙ no_use)) h);
     within = λ folder i. subst (λ (ks : List (String Global)). Among (map string_bytes ks) folder) all i;
@@ -162,6 +170,9 @@ module _ (root : Manifest Value) (path : Text) (workspace : Workspace Value) (se
       no_members : new.members.items ≡ []
       no_members = ap (λ (a : Audit). a.members.items) rest ∙ no_member
 
+      of_listing : (o : Oddity) → IsReported new.findings o → Among (listing_oddities listing) o
+      of_listing o h = elim (gains.gained o h) [ inl old ↦ absurd (among_none oddity_of none.findings.keys o no_finding old) | inr such ↦ such ]
+
       no_text : (ks : List (String Global)) (key : Text) → ks ≡ [] → IsTrue (contains_text (record { keys = ks }) key) → ⊥
       no_text [] key e h = cc
       no_text (k ∷ ks) key e h = cc
@@ -169,7 +180,7 @@ module _ (root : Manifest Value) (path : Text) (workspace : Workspace Value) (se
   -- one more folder
   module _ (k : String Global) (left whole : List (String Global)) (old new : Audit)
       (is : whole ≡ k ∷ left) (before : Auditing whole old)
-      (gains : GainsOnly (IsOfFolder root path workspace seen (string_bytes k)) old.findings new.findings)
+      (kept : (o : Oddity) → IsReported old.findings o → IsReported new.findings o)
       (notes : NotesOnly IsInheritedThere (IsAskedThere root path (string_bytes k)) old new) where
     whole_of : (folder : Text) → Among (map string_bytes (k ∷ left)) folder → Among (map string_bytes whole) folder
     whole_of folder i = subst (λ (ks : List (String Global)). Among (map string_bytes ks) folder) (sym is) i
@@ -181,7 +192,7 @@ module _ (root : Manifest Value) (path : Text) (workspace : Workspace Value) (se
     ordered = subst (λ (ks : List (String Global)). Ascend (map string_bytes ks)) is before.ascends
 
     grows : Grows old new
-    grows = record { found = gains.kept; keys = notes.keys_kept; asked = notes.asked_kept }
+    grows = record { found = kept; keys = notes.keys_kept; asked = notes.asked_kept }
 
     as_before : AllByRecursion (IsAuditedMember root path workspace listing new) before.readings
     as_before = all_weaker (IsAuditedMember root path workspace listing old) (IsAuditedMember root path workspace listing new) before.readings
@@ -193,6 +204,15 @@ module _ (root : Manifest Value) (path : Text) (workspace : Workspace Value) (se
 
     not_left : ¬ Among (map string_bytes left) (string_bytes k)
     not_left i = never_below (string_bytes k) (first_below (string_bytes k) (map string_bytes left) ordered (string_bytes k) i)
+
+    -- so far it wasn't refused
+    not_refused : (words : Text) → IsReported old.findings (refusal_of (string_bytes k) words) → ⊥
+    not_refused words h = go (before.found (refusal_of (string_bytes k) words) h)
+      where
+        go : Among (listing_oddities listing) (refusal_of (string_bytes k) words) ⊎ IsFoundSo before.readings whole old (refusal_of (string_bytes k) words) → ⊥
+        go (inl i) = listing_apart listing (string_bytes k) words i
+        go (inr (inl r)) = difference_apart (folder_of r.0) (option_map template_meaning workspace.«package») (held r.0.new) (string_bytes k) words r.1.1
+        go (inr (inr p)) = p.1.0.done (subst (Among (map string_bytes whole)) (ap (λ (o : Oddity). o.subject) p.1.1.words.tells) (whole_of (string_bytes k) (inl refl)))
 
     -- where the folder has a member
     module _ (a : AddsAudited root path workspace (string_bytes k) old new) where
@@ -238,7 +258,7 @@ module _ (root : Manifest Value) (path : Text) (workspace : Workspace Value) (se
       ]
       told_with folder (inr (inl i)) = inr (inl (subst (λ (ms : List Member). Among (map member_folder ms) folder) (sym a.added.last)
           (among_more member_folder old.members.items a.added.member folder i)))
-      told_with folder (inr (inr r)) = inr (inr (r.0, gains.kept _ r.1))
+      told_with folder (inr (inr r)) = inr (inr (r.0, kept _ r.1))
 
       found_with : (o : Oddity) → Among (listing_oddities listing) o ⊎ IsFoundSo before.readings whole old o
           → Among (listing_oddities listing) o ⊎ IsFoundSo (before.readings ++ (one ∷ [])) left new o
@@ -250,7 +270,13 @@ module _ (root : Manifest Value) (path : Text) (workspace : Workspace Value) (se
       keys_with key (inl h) = inl (h.0, (in_more before.readings one h.0 h.1.0, h.1.1))
       keys_with key (inr h) = inr (h.0, (passes h.0 h.1.0, h.1.1))
 
-      with_member : Auditing left new
+      refused_before : (folder words : Text) → IsReported new.findings (refusal_of folder words) → IsReported old.findings (refusal_of folder words)
+      refused_before folder words h = elim (a.finds.gained (refusal_of folder words) h) [
+        | inl i ↦ i
+        | inr such ↦ absurd (difference_apart (string_bytes k) (option_map template_meaning workspace.«package») (held a.made) folder words such)
+      ]
+
+      pub with_member : Auditing left new
       with_member = record {
         readings = before.readings ++ (one ∷ []);
         each = map_last member_of before.readings one ∙ ap (λ (ms : List Member). ms ++ (a.added.member ∷ [])) before.each ∙ sym a.added.last;
@@ -264,7 +290,7 @@ module _ (root : Manifest Value) (path : Text) (workspace : Workspace Value) (se
         ];
         ascends = others_ascend (string_bytes k) (map string_bytes left) ordered;
         told = λ folder i. told_with folder (before.told folder i);
-        odd = λ o i. gains.kept o (before.odd o i);
+        odd = λ o i. kept o (before.odd o i);
         found = λ o h. elim (a.finds.gained o h) [
           | inl i ↦ found_with o (before.found o i)
           | inr such ↦ inr (inl (
@@ -275,6 +301,7 @@ module _ (root : Manifest Value) (path : Text) (workspace : Workspace Value) (se
             ),
           ))
         ];
+        one = λ folder words more h i. before.one folder words more (refused_before folder words h) (refused_before folder more i);
         inherited = λ key h. elim (a.notes.keys key h) [
           | inl i ↦ keys_with key (before.inherited key i)
           | inr such ↦ inl (one, (in_last before.readings one, such))
@@ -293,7 +320,7 @@ module _ (root : Manifest Value) (path : Text) (workspace : Workspace Value) (se
       }
 
     -- where it is refused
-    module _ (r : RefusesFolder (string_bytes k) old new) where
+    module _ (r : RefusesFolder root path workspace (string_bytes k) seen old new) where
       folders_stay : (folder : Text) → Among (member_folders new) folder → Among (member_folders old) folder
       folders_stay folder i = subst (λ (ms : List Member). Among (map member_folder ms) folder) r.members i
 
@@ -314,11 +341,11 @@ module _ (root : Manifest Value) (path : Text) (workspace : Workspace Value) (se
 
       told_without : (folder : Text) → Among (map string_bytes whole) folder ⊎ IsToldFolder old folder → Among (map string_bytes left) folder ⊎ IsToldFolder new folder
       told_without folder (inl i) = elim (subst (λ (ks : List (String Global)). Among (map string_bytes ks) folder) is i) [
-        | inl e ↦ inr (subst (IsToldFolder new) (sym e) (inr r.told))
+        | inl e ↦ inr (subst (IsToldFolder new) (sym e) (inr (r.words, r.told)))
         | inr j ↦ inl j
       ]
       told_without folder (inr (inl i)) = inr (inl (subst (λ (ms : List Member). Among (map member_folder ms) folder) (sym r.members) i))
-      told_without folder (inr (inr h)) = inr (inr (h.0, gains.kept _ h.1))
+      told_without folder (inr (inr h)) = inr (inr (h.0, kept _ h.1))
 
       found_without : (o : Oddity) → Among (listing_oddities listing) o ⊎ IsFoundSo before.readings whole old o
           → Among (listing_oddities listing) o ⊎ IsFoundSo before.readings left new o
@@ -330,7 +357,18 @@ module _ (root : Manifest Value) (path : Text) (workspace : Workspace Value) (se
       keys_without key (inl h) = inl h
       keys_without key (inr h) = inr (h.0, (stays_passed h.0 h.1.0, h.1.1))
 
-      without_member : Auditing left new
+      abbrev IsRefusedAs : Text → Text → Type 0
+      IsRefusedAs folder words = IsReported old.findings (refusal_of folder words) ⊎ (refusal_of folder words ≡ refusal_of (string_bytes k) r.words)
+
+      one_refusal : (folder words more : Text) → IsRefusedAs folder words → IsRefusedAs folder more → words ≡ more
+      one_refusal folder words more (inl i) (inl j) = before.one folder words more i j
+      one_refusal folder words more (inl i) (inr e) =
+          absurd (not_refused words (subst (λ (f : Text). IsReported old.findings (refusal_of f words)) (ap (λ (o : Oddity). o.subject) e) i))
+      one_refusal folder words more (inr e) (inl i) =
+          absurd (not_refused more (subst (λ (f : Text). IsReported old.findings (refusal_of f more)) (ap (λ (o : Oddity). o.subject) e) i))
+      one_refusal folder words more (inr e) (inr f) = ap (λ (o : Oddity). o.words) (e ∙ sym f)
+
+      pub without_member : Auditing left new
       without_member = record {
         readings = before.readings;
         each = before.each ∙ sym r.members;
@@ -339,11 +377,12 @@ module _ (root : Manifest Value) (path : Text) (workspace : Workspace Value) (se
         ahead = λ folder i next j. before.ahead folder (folders_stay folder i) next (whole_of next (inr j));
         ascends = others_ascend (string_bytes k) (map string_bytes left) ordered;
         told = λ folder i. told_without folder (before.told folder i);
-        odd = λ o i. gains.kept o (before.odd o i);
-        found = λ o h. elim (gains.gained o h) [
+        odd = λ o i. kept o (before.odd o i);
+        found = λ o h. elim (r.finds.gained o h) [
           | inl i ↦ found_without o (before.found o i)
-          | inr such ↦ inr (inr (string_bytes k, (it_passed, such)))
+          | inr such ↦ inr (inr (string_bytes k, (it_passed, subst (IsFolderRefusal root path workspace seen (string_bytes k)) (sym such) r.refusal)))
         ];
+        one = λ folder words more h i. one_refusal folder words more (r.finds.gained (refusal_of folder words) h) (r.finds.gained (refusal_of folder more) i);
         inherited = λ key h. elim (notes.keys key h) [
           | inl i ↦ keys_without key (before.inherited key i)
           | inr such ↦ inr (string_bytes k, (it_passed, such))
@@ -352,15 +391,16 @@ module _ (root : Manifest Value) (path : Text) (workspace : Workspace Value) (se
         within = λ folder i. there folder (inr i);
       }
 
-    pub auditing_on : AddsFolder root path workspace (string_bytes k) old new → Auditing left new
-    auditing_on (inl a) = with_member a
-    auditing_on (inr r) = without_member r
+  pub auditing_on : (k : String Global) (left whole : List (String Global)) (old new : Audit) → whole ≡ k ∷ left → Auditing whole old
+      → NotesOnly IsInheritedThere (IsAskedThere root path (string_bytes k)) old new → AddsFolder root path workspace (string_bytes k) seen old new → Auditing left new
+  auditing_on k left whole old new is before notes (inl a) = with_member k left whole old new is before a.finds.kept notes a
+  auditing_on k left whole old new is before notes (inr r) = without_member k left whole old new is before r.finds.kept notes r
 
   -- once none is left, and what shows of all was added
   pub auditing_ends : (left : List (String Global)) (old new : Audit) → left ≡ [] → new ≡ record old { findings = new.findings } → AreMembersOf root workspace listing
-      → GainsOnly (Among (overall_of workspace old)) old.findings new.findings → AreReported new.findings (overall_of workspace old)
+      → IsStrictlySortedBy asking_cmp (askings_of old.uses) → GainsOnly (Among (overall_of workspace old)) old.findings new.findings → AreReported new.findings (overall_of workspace old)
       → Auditing left old → IsReportOn root path workspace seen new
-  auditing_ends left old new none rest listed gains overall done = record {
+  auditing_ends left old new none rest listed in_order gains overall done = record {
     listing = listing;
     listed = listed;
     readings = done.readings;
@@ -374,12 +414,14 @@ module _ (root : Manifest Value) (path : Text) (workspace : Workspace Value) (se
     in_order = subst (λ (ms : List Member). Ascend (map member_folder ms)) (sym same_members) done.in_order;
     told = λ folder i. end folder (done.told folder i);
     odd = λ o i. gains.kept o (done.odd o i);
+    asked_in_order = subst (λ (a : Audit). IsStrictlySortedBy asking_cmp (askings_of a.uses)) (sym rest) in_order;
     overall = subst (AreReported new.findings) (sym same_overall) overall;
     only = record {
       found = λ o h. elim (gains.gained o h) [
         | inl i ↦ inl (found_end o (done.found o i))
         | inr such ↦ inr (subst (λ (os : List Oddity). Among os o) (sym same_overall) such)
       ];
+      one = λ folder words more h i. done.one folder words more (refused_before_end folder words h) (refused_before_end folder more i);
       inherited = λ key h. key_end key (done.inherited key (subst (λ (a : Audit). IsKeyNoted a key) rest h));
       asked = λ x h. done.asked x (subst (λ (a : Audit). Among (askings_of a.uses) x) rest h);
     };
@@ -390,6 +432,12 @@ module _ (root : Manifest Value) (path : Text) (workspace : Workspace Value) (se
 
       same_overall : overall_of workspace new ≡ overall_of workspace old
       same_overall = ap (overall_of workspace) rest
+
+      refused_before_end : (folder words : Text) → IsReported new.findings (refusal_of folder words) → IsReported old.findings (refusal_of folder words)
+      refused_before_end folder words h = elim (gains.gained (refusal_of folder words) h) [
+        | inl i ↦ i
+        | inr such ↦ absurd (overall_apart (map_meaning dependency_meaning workspace.dependencies) old folder words such)
+      ]
 
       without : (folder : Text) → IsPassed listing left old folder → IsWithoutMember listing new folder
       without folder p = record {

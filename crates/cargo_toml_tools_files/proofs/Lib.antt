@@ -1,3 +1,4 @@
+mod Apart
 mod FileFacts
 mod Going
 mod Refusals

@@ -1,7 +1,6 @@
 -- A folder that gives a member, or is refused.
 use Rattle.std.proofs.Common.{◌≡◌, ◌⊎◌, ◌∙◌, List, Result, Ok, Err, Some, String, Global, ap, inl, inr, map, string_bytes, subst, sym}
 use Rattle.std.specs.Prelude.{◌≢◌, ⊤, IfErr, OnErr, OnOk, Vec}
-use Rattle.std.proofs.lemmas.Result.{IfErr-at_err}
 use Rattle.toml.specs.declared.value.Value.{Value}
 use Rattle.cargo_toml.specs.Action.{Text}
 use Rattle.cargo_toml.specs.Completed.{IsCompleted}
@@ -17,16 +16,14 @@ use Rattle.cargo_toml_tools.specs.Audited.{AddsMember}
 use Rattle.cargo_toml_tools.specs.Indexed.{all_by_kind}
 use Rattle.cargo_toml_tools.specs.LeftKeys.{left_keys}
 use Rattle.cargo_toml_tools.specs.Noted.{Asking, GainsExactly, NotesUses, asked_in_all, askings_of, inherited_in_all}
-use Rattle.cargo_toml_tools.specs.Oddities.{AreReported, GainsOnly, Oddity}
+use Rattle.cargo_toml_tools.specs.Oddities.{AreReported, GainsOnly, Oddity, refusal_of}
 use Rattle.cargo_toml_tools.specs.Places.{manifest_path}
 use Rattle.cargo_toml_tools.specs.declared.audit.Audit.{Audit}
 use Rattle.cargo_toml_tools.specs.declared.audit.Finding.{Finding}
 use Rattle.cargo_toml_tools.specs.declared.audit.Member.{Member}
 use Rattle.cargo_toml_tools.specs.declared.audit.Use.{Use}
-use Rattle.cargo_toml_tools.proofs.Gained.{gains_on, gains_wider}
-use Rattle.cargo_toml_tools_files.specs.AuditSteps.{AddsAudited, AddsFolder, IsRefusedWith, NotesOnly, UnlessMemory}
-use Rattle.cargo_toml_tools_files.specs.AuditedFolders.{IsOfFolder, IsRefusedFolder}
-use Rattle.cargo_toml_tools_files.specs.AuditedMembers.{IsAskedThere, IsCompletedThere, IsDifference, IsInheritedThere, IsKeyNoted, IsMemberFault, differences_there}
+use Rattle.cargo_toml_tools_files.specs.AuditSteps.{AddsAudited, AddsFolder, IsRefusedWith, NotesOnly, TellsRefusal, UnlessMemory}
+use Rattle.cargo_toml_tools_files.specs.AuditedMembers.{IsAskedThere, IsCompletedThere, IsInheritedThere, IsKeyNoted, IsMemberFault, differences_there}
 use Rattle.cargo_toml_tools_files.specs.FromFiles.{IsManifestIn}
 
 -- ---- what is noted
@@ -69,10 +66,11 @@ notes_uses {K} {A} folder m (Err e) old mid new before notes such = elim notes.n
   })
 ]
 
--- what is asked for stays, unless memory was refused
-pub uses_on : (old mid new : Audit) → mid.uses ≡ old.uses → (e : Error) → (e ≡ Memory) ⊎ (new ≡ mid) → (e ≡ Memory) ⊎ (new.uses ≡ old.uses)
-uses_on old mid new same e (inl memory) = inl memory
-uses_on old mid new same e (inr h) = inr (ap (λ (a : Audit). a.uses) h ∙ same)
+-- all but what is inherited stays, unless memory was refused
+pub left_on : (old mid new : Audit) → mid ≡ record old { inherited = mid.inherited } → (e : Error) → (e ≡ Memory) ⊎ (new ≡ mid)
+    → (e ≡ Memory) ⊎ (new ≡ record old { inherited = new.inherited })
+left_on old mid new rest e (inl memory) = inl memory
+left_on old mid new rest e (inr h) = inr (h ∙ rest ∙ ap (λ (a : Audit). record old { inherited = a.inherited }) (sym h))
 
 -- a fault that isn't want of memory
 but_memory : {P : Type 0} (e : Error) → (e ≡ Memory) ⊎ P → (e ≢ Memory) → P
@@ -173,43 +171,39 @@ module _ (root : Manifest Value) (path : Text) where
         no_fault : (o : Oddity) → IsRefusedWith (Ok x) folder o → ⊥
         no_fault o refused = let is = refused.1.0 in cc
 
-    pub folder_added : (done : Result ⊤ Error) → OnOk outcome (AddsAudited root path workspace folder old mid) → OnErr outcome (mid.members.items ≡ old.members.items)
-        → IfErr outcome (λ e. (e ≡ Memory) ⊎ (mid.uses ≡ old.uses)) → GainsOnly (IsRefusedWith outcome folder) mid.findings new.findings
-        → OnOk done (IfErr outcome (λ e. (e ≢ Memory) × IsRefusedFolder new.findings folder)) → OnOk done (AddsFolder root path workspace folder old new)
-    folder_added (Err e) added kept same gains told = tt
-    folder_added (Ok y) added kept same gains told = go outcome added kept same gains told
+    pub folder_added : (seen at : Text) → at ≡ manifest_path seen folder → (done : Result ⊤ Error) → OnOk outcome (AddsAudited root path workspace folder old mid)
+        → IfErr outcome (λ e. (e ≡ Memory) ⊎ (mid ≡ record old { inherited = mid.inherited })) → IfErr outcome (IsMemberFault root path at)
+        → GainsOnly (IsRefusedWith outcome folder) mid.findings new.findings
+        → OnOk done (IfErr outcome (λ e. TellsRefusal e folder mid.findings new.findings)) → OnOk done (AddsFolder root path workspace folder seen old new)
+    folder_added seen at is (Err e) added left why gains told = tt
+    folder_added seen at is (Ok y) added left why gains told = go outcome added left why gains told
       where
-        go : (r : Result ⊤ Error) → OnOk r (AddsAudited root path workspace folder old mid) → OnErr r (mid.members.items ≡ old.members.items)
-            → IfErr r (λ e. (e ≡ Memory) ⊎ (mid.uses ≡ old.uses)) → GainsOnly (IsRefusedWith r folder) mid.findings new.findings
-            → IfErr r (λ e. (e ≢ Memory) × IsRefusedFolder new.findings folder) → AddsFolder root path workspace folder old new
-        go (Ok x) added kept same gains told = inl (on_found x gains added)
-        go (Err e) added kept same gains told = inr (record {
-          members = ap (λ (a : Audit). a.members.items) rest ∙ kept;
-          uses = ap (λ (a : Audit). a.uses) rest ∙ but_memory e same told.0;
-          told = told.1;
-        })
+        go : (r : Result ⊤ Error) → OnOk r (AddsAudited root path workspace folder old mid)
+            → IfErr r (λ e. (e ≡ Memory) ⊎ (mid ≡ record old { inherited = mid.inherited })) → IfErr r (IsMemberFault root path at)
+            → GainsOnly (IsRefusedWith r folder) mid.findings new.findings → IfErr r (λ e. TellsRefusal e folder mid.findings new.findings)
+            → AddsFolder root path workspace folder seen old new
+        go (Ok x) added left why gains told = inl (on_found x gains added)
+        go (Err e) added left why gains told =
+            let same = but_memory e left told.refused.no_memory in
+            inr (record {
+              words = told.words;
+              refusal = record { fault = e; why = subst (λ (p : Text). IsMemberFault root path p e) is why; words = told.refused };
+              told = told.told;
+              finds = subst (λ (s : BTreeSet Finding). GainsOnly (λ o. o ≡ refusal_of folder told.words) s new.findings) (ap (λ (a : Audit). a.findings) same) told.finds;
+              members = ap (λ (a : Audit). a.members.items) rest ∙ ap (λ (a : Audit). a.members.items) same;
+              uses = ap (λ (a : Audit). a.uses) rest ∙ ap (λ (a : Audit). a.uses) same;
+            })
 
     pub folder_notes : (done : Result ⊤ Error) → UnlessMemory outcome (NotesOnly IsInheritedThere (IsAskedThere root path folder) old mid)
-        → OnOk done (IfErr outcome (λ e. (e ≢ Memory) × IsRefusedFolder new.findings folder))
+        → OnOk done (IfErr outcome (λ e. TellsRefusal e folder mid.findings new.findings))
         → OnOk done (NotesOnly IsInheritedThere (IsAskedThere root path folder) old new)
     folder_notes (Err e) notes told = tt
     folder_notes (Ok y) notes told = subst (λ (a : Audit). NotesOnly IsInheritedThere (IsAskedThere root path folder) old a) (sym rest)
         (go (unless_memory outcome notes (go_other outcome told)))
       where
-        go_other : (r : Result ⊤ Error) → IfErr r (λ e. (e ≢ Memory) × IsRefusedFolder new.findings folder) → IfErr r (λ e. e ≢ Memory)
+        go_other : (r : Result ⊤ Error) → IfErr r (λ e. TellsRefusal e folder mid.findings new.findings) → IfErr r (λ e. e ≢ Memory)
         go_other (Ok x) h = tt
-        go_other (Err e) h = h.0
+        go_other (Err e) h = h.refused.no_memory
 
         go : NotesOnly IsInheritedThere (IsAskedThere root path folder) old mid → NotesOnly IsInheritedThere (IsAskedThere root path folder) old (record mid { findings = new.findings })
         go h = record { keys_kept = h.keys_kept; keys = h.keys; asked_kept = h.asked_kept; asked = h.asked }
-
-  pub folder_finds : (workspace : Workspace Value) (folder seen at : Text) (outcome : Result ⊤ Error) (f g h : BTreeSet Finding) → at ≡ manifest_path seen folder
-      → IfErr outcome (IsMemberFault root path at) → GainsOnly (IsDifference root path workspace folder) f g
-      → GainsOnly (IsRefusedWith outcome folder) g h → GainsOnly (IsOfFolder root path workspace seen folder) f h
-  folder_finds workspace folder seen at outcome f g h is why one two =
-      gains_on f g h (gains_wider f g (λ o d. inr d) one)
-      (gains_wider g h (λ o r. inl (record {
-        fault = r.0;
-        why = subst (λ (p : Text). IsMemberFault root path p r.0) is (IfErr-at_err (IsMemberFault root path at) r.1.0 why);
-        words = r.1.1;
-      })) two)

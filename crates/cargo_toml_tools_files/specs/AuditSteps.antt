@@ -1,6 +1,7 @@
 -- What the steps of `audit` add to a report: no public contract rests on it.
 use Rattle.std.specs.Prelude.{◌≡◌, ◌⊎◌, ◌≤◌, ⊤, ℕ, Bool, Err, IsTrue, Ok, Result, Some, String}
 use Rattle.std.specs.Prelude.{Vec, map, string_bytes}
+use Rattle.std.specs.BTreeSet.{BTreeSet}
 use Rattle.std.specs.List.{list_any}
 use Rattle.std.specs.declared.alloc.Global.{Global}
 use Rattle.toml.specs.declared.value.Value.{Value}
@@ -16,9 +17,10 @@ use Rattle.cargo_toml_tools.specs.Indexed.{all_by_kind}
 use Rattle.cargo_toml_tools.specs.LeftKeys.{left_keys}
 use Rattle.cargo_toml_tools.specs.MemberFolders.{IsOfFolders, has_pattern}
 use Rattle.cargo_toml_tools.specs.Noted.{Asking, asked_in_all, askings_of, inherited_in_all}
-use Rattle.cargo_toml_tools.specs.Oddities.{GainsOnly, Oddity}
+use Rattle.cargo_toml_tools.specs.Oddities.{GainsOnly, IsReported, Oddity, refusal_of}
 use Rattle.cargo_toml_tools.specs.declared.audit.Audit.{Audit}
-use Rattle.cargo_toml_tools_files.specs.AuditedFolders.{IsRefusedFolder, IsWithoutWorkspace}
+use Rattle.cargo_toml_tools.specs.declared.audit.Finding.{Finding}
+use Rattle.cargo_toml_tools_files.specs.AuditedFolders.{IsFolderRefusal, IsWithoutWorkspace}
 use Rattle.cargo_toml_tools_files.specs.AuditedFolders.{member_entries}
 use Rattle.cargo_toml_tools_files.specs.AuditedMembers.{IsCompletedThere, IsKeyNoted}
 use Rattle.cargo_toml_tools_files.specs.AuditedMembers.{IsRefusedFor, IsTakenIn}
@@ -55,11 +57,12 @@ IsUnreported root shows e =
     × (IsOfFolders (list_any has_pattern (member_entries workspace)) e
     ⊎ (IsTrue shows × IsInput e))))
 
--- a folder is refused: it adds no member, and nothing that is asked for
-pub record RefusesFolder (folder : Text) (old new : Audit) : Type 0 where
-  pub members : new.members.items ≡ old.members.items
-  pub uses : new.uses ≡ old.uses
-  pub told : IsRefusedFolder new.findings folder
+-- that a folder is refused for a fault is found, and nothing else is that wasn't found before
+pub record TellsRefusal (e : Error) (folder : Text) (old new : BTreeSet Finding) : Type 0 where
+  pub words : Text
+  pub refused : IsRefusedFor e folder (refusal_of folder words)
+  pub told : IsReported new (refusal_of folder words)
+  pub finds : GainsOnly (λ o. o ≡ refusal_of folder words) old new
 
 module _ (root : Manifest Value) (path : Text) (workspace : Workspace Value) (folder : Text) where
   -- one more member, which is told of a manifest that completes, and nothing but what that holds
@@ -76,6 +79,18 @@ module _ (root : Manifest Value) (path : Text) (workspace : Workspace Value) (fo
     pub notes : NotesOnly (Among (inherited_in_all (all_by_kind (held read))))
         (Among (asked_in_all folder (all_by_kind (held made)))) old new
 
-  -- that, or the folder is refused
-  abbrev pub AddsFolder : Audit → Audit → Type 0
-  AddsFolder old new = AddsAudited old new ⊎ RefusesFolder folder old new
+  -- seen at another path
+  module _ (seen : Text) where
+    -- the folder is refused: that is found, and nothing else. It adds no member, and nothing that
+    -- is asked for
+    pub record RefusesFolder (old new : Audit) : Type 0 where
+      pub words : Text
+      pub refusal : IsFolderRefusal root path workspace seen folder (refusal_of folder words)
+      pub told : IsReported new.findings (refusal_of folder words)
+      pub finds : GainsOnly (λ o. o ≡ refusal_of folder words) old.findings new.findings
+      pub members : new.members.items ≡ old.members.items
+      pub uses : new.uses ≡ old.uses
+
+    -- one more member, or that
+    abbrev pub AddsFolder : Audit → Audit → Type 0
+    AddsFolder old new = AddsAudited old new ⊎ RefusesFolder old new

@@ -3,6 +3,7 @@ use Rattle.std.specs.Prelude.{◌≡◌, ◌⊎◌, ◌↔◌, ◌<◌, ◌++◌
 use Rattle.std.specs.Prelude.{IsFalse, IsTrue, codes, is_some, map, string_bytes}
 use Rattle.std.specs.BTreeSet.{BTreeSet, btree_set_len, contains_text, keys}
 use Rattle.std.specs.List.{AllByRecursion}
+use Rattle.std.specs.List.Sorted.{IsStrictlySortedBy}
 use Rattle.toml.specs.declared.value.Value.{Value}
 use Rattle.cargo_toml.specs.Action.{Text}
 use Rattle.cargo_toml.specs.Ascending.{Ascend}
@@ -17,8 +18,8 @@ use Rattle.cargo_toml_tools.specs.Escaped.{whole_lines}
 use Rattle.cargo_toml_tools.specs.MemberFolders.{AreListed, has_pattern, lists_folder, times_named}
 use Rattle.cargo_toml_tools.specs.Noted.{Asking, askings_of}
 use Rattle.cargo_toml_tools.specs.Oddities.{AreReported, IsReported, Oddity, listing_oddities}
-use Rattle.cargo_toml_tools.specs.Oddities.{refusal_of}
-use Rattle.cargo_toml_tools.specs.Overall.{overall_oddities}
+use Rattle.cargo_toml_tools.specs.Oddities.{oddity_cmp, oddity_of, refusal_of}
+use Rattle.cargo_toml_tools.specs.Overall.{asking_cmp, overall_oddities}
 use Rattle.cargo_toml_tools.specs.Places.{manifest_path, normalized}
 use Rattle.cargo_toml_tools.specs.Reported.{member_line, oddity_line}
 use Rattle.cargo_toml_tools.specs.ReportedJson.{IsReportOf}
@@ -26,9 +27,9 @@ use Rattle.cargo_toml_tools.specs.declared.audit.Audit.{Audit}
 use Rattle.cargo_toml_tools.specs.declared.audit.Finding.{Finding}
 use Rattle.cargo_toml_tools.specs.declared.audit.Member.{Member}
 use Rattle.cargo_toml_tools.specs.declared.members.Members.{Members}
-use Rattle.cargo_toml_tools_files.specs.AuditedMembers.{IsAuditedMember, IsDifference}
-use Rattle.cargo_toml_tools_files.specs.AuditedMembers.{IsInheritedThere, IsKeyNoted}
-use Rattle.cargo_toml_tools_files.specs.AuditedMembers.{IsMemberFault, IsRefusedFor, Reading}
+use Rattle.cargo_toml_tools_files.specs.AuditedMembers.{IsAuditedMember, IsInheritedThere}
+use Rattle.cargo_toml_tools_files.specs.AuditedMembers.{IsKeyNoted, IsMemberFault, IsRefusedFor}
+use Rattle.cargo_toml_tools_files.specs.AuditedMembers.{Reading}
 use Rattle.cargo_toml_tools_files.specs.AuditedMembers.{asked_of, differences_there, folder_of}
 use Rattle.cargo_toml_tools_files.specs.AuditedMembers.{folders_of, inherited_by}
 use Rattle.cargo_toml_tools_files.specs.FromFiles.{IsManifestIn, IsUnreadable}
@@ -86,10 +87,6 @@ module _ (root : Manifest Value) (path : Text) (workspace : Workspace Value) (se
     pub why : IsMemberFault root path (manifest_path seen folder) fault
     pub words : IsRefusedFor fault folder o
 
-  -- what may be found of a folder: that it is refused, or a difference
-  abbrev pub IsOfFolder : Text → Oddity → Type 0
-  IsOfFolder folder o = IsFolderRefusal folder o ⊎ IsDifference root path workspace folder o
-
   -- by a listing, and by what was read of the members
   module _ (listing : Members) (readings : List Reading) where
     -- what may be found of folders: a difference of a member, or of one without a member its
@@ -98,7 +95,7 @@ module _ (root : Manifest Value) (path : Text) (workspace : Workspace Value) (se
     IsOfSome audit o =
         ((r : Reading) × (Among readings r
         × Among (differences_there root path workspace (folder_of r) r.new) o))
-        ⊎ ((folder : Text) × (IsWithoutMember listing audit folder × IsOfFolder folder o))
+        ⊎ ((folder : Text) × (IsWithoutMember listing audit folder × IsFolderRefusal folder o))
 
     -- some member inherits the key, or a folder without a member may do so
     abbrev pub IsInheritedSome : Audit → Text → Type 0
@@ -110,11 +107,13 @@ module _ (root : Manifest Value) (path : Text) (workspace : Workspace Value) (se
     abbrev pub IsAskedSome : Asking → Type 0
     IsAskedSome x = (r : Reading) × (Among readings r × Among (asked_of r) x)
 
-    -- nothing else is found or noted
+    -- nothing else is found or noted, and a folder is refused in one way
     pub record FindsOnly (audit : Audit) : Type 0 where
       pub found : (o : Oddity) → IsReported audit.findings o
           → (Among (listing_oddities listing) o ⊎ IsOfSome audit o)
           ⊎ Among (overall_of workspace audit) o
+      pub one : (folder words more : Text) → IsReported audit.findings (refusal_of folder words)
+          → IsReported audit.findings (refusal_of folder more) → words ≡ more
       pub inherited : (key : Text) → IsKeyNoted audit key → IsInheritedSome audit key
       pub asked : (x : Asking) → Among (askings_of audit.uses) x → IsAskedSome x
 
@@ -129,6 +128,7 @@ module _ (root : Manifest Value) (path : Text) (workspace : Workspace Value) (se
     pub in_order : Ascend (member_folders audit)
     pub told : (folder : Text) → Among (folders_of listing) folder → IsToldFolder audit folder
     pub odd : AreReported audit.findings (listing_oddities listing)
+    pub asked_in_order : IsStrictlySortedBy asking_cmp (askings_of audit.uses)
     pub overall : AreReported audit.findings (overall_of workspace audit)
     pub only : FindsOnly listing readings audit
 
@@ -138,13 +138,15 @@ pub record IsWorkspaceIn (root : Manifest Value) (workspace : Workspace Value) :
   pub written : IsManifestIn text root
   pub has : root.workspace ≡ Some workspace
 
--- a report of the workspace in this folder, how it is written, and whether it finds something
+-- a report of the workspace in this folder, with its findings in order and each once, how it is
+-- written, and whether it finds something
 pub record IsAudited (folder : Text) (as_json : Bool) (written : Text) (odd : Bool) : Type 0 where
   pub root : Manifest Value
   pub workspace : Workspace Value
   pub audit : Audit
   pub read : IsWorkspaceIn root workspace
   pub report : IsReportOn root (manifest_path folder (codes ".")) workspace folder audit
+  pub in_order : IsStrictlySortedBy oddity_cmp (map oddity_of (keys audit.findings))
   pub text : IsReportText as_json audit.members.items (keys audit.findings) written
   pub status : IsTrue odd ↔ (0 < btree_set_len audit.findings)
 

@@ -1,17 +1,17 @@
 //! The report on a workspace.
-ghost use Rattle.std.specs.Prelude.{◌≡◌, ◌≢◌, ◌⊎◌, ◌≤◌, IfErr, IfOk, IfSome, IsTrue, OnErr, OnOk};
-ghost use Rattle.std.specs.Prelude.{Some, string_bytes};
+ghost use Rattle.std.specs.Prelude.{◌≡◌, ◌⊎◌, ◌≤◌, IfErr, IfOk, IfSome, IsTrue, OnErr, OnOk};
+ghost use Rattle.std.specs.Prelude.{Some, map, string_bytes};
 ghost use Rattle.std.specs.BTreeSet.{btree_set_len, keys};
+ghost use Rattle.std.specs.List.Sorted.{IsStrictlySortedBy};
 ghost use Rattle.toml.specs.declared.value.Value.{Value};
 ghost use Rattle.cargo_toml.specs.Error.{Memory};
 ghost use Rattle.cargo_toml.specs.Workspace.{Workspace as Table};
-ghost use Rattle.cargo_toml_tools.specs.Oddities.{GainsOnly};
+ghost use Rattle.cargo_toml_tools.specs.Oddities.{GainsOnly, oddity_cmp, oddity_of};
 ghost use Rattle.cargo_toml_tools_files.specs.AuditSteps.{AddsAudited, AddsFolder, IsRefusedWith};
 ghost use Rattle.cargo_toml_tools_files.specs.AuditSteps.{IsUnreported, IsUnshown, NotesOnly};
-ghost use Rattle.cargo_toml_tools_files.specs.AuditSteps.{UnlessMemory};
+ghost use Rattle.cargo_toml_tools_files.specs.AuditSteps.{TellsRefusal, UnlessMemory};
 ghost use Rattle.cargo_toml_tools_files.specs.AuditedFolders.{AreMembersOf, IsAuditFault};
-ghost use Rattle.cargo_toml_tools_files.specs.AuditedFolders.{IsAudited, IsOfFolder};
-ghost use Rattle.cargo_toml_tools_files.specs.AuditedFolders.{IsRefusedFolder, IsReportOn};
+ghost use Rattle.cargo_toml_tools_files.specs.AuditedFolders.{IsAudited, IsReportOn};
 ghost use Rattle.cargo_toml_tools_files.specs.AuditedFolders.{IsReportText};
 ghost use Rattle.cargo_toml_tools_files.specs.AuditedMembers.{IsAskedThere, IsDifference};
 ghost use Rattle.cargo_toml_tools_files.specs.AuditedMembers.{IsInheritedThere, IsMemberFault};
@@ -49,8 +49,10 @@ pub fn audit<R: Files + Eprint + AllocGlobal>(
 
 /// A report as JSON, or as lines.
 fn written(alloc: Global, audit: &Audit, as_json: bool) -> Result<String, AllocError>
-    ensures { IfOk result (λ text. IsReportText as_json audit.now.members.items
+    ensures text { IfOk result (λ text. IsReportText as_json audit.now.members.items
         (keys audit.now.findings) (string_bytes text)) }
+    ensures in_order { OnOk result
+        (IsStrictlySortedBy oddity_cmp (map oddity_of (keys audit.now.findings))) }
 {
     if as_json {
         json(alloc, audit)
@@ -126,10 +128,7 @@ fn add_folder<R: Files + AllocGlobal>(
     audit: &mut Audit,
 ) -> Result<(), Error>
     ensures added { OnOk result (AddsFolder root.entry.manifest.now root.entry.path.now
-        root.entry.workspace.now member.now audit.old audit.new) }
-    ensures findings { OnOk result (GainsOnly (IsOfFolder root.entry.manifest.now
-        root.entry.path.now root.entry.workspace.now root.entry.folder.now member.now)
-        audit.old.findings audit.new.findings) }
+        root.entry.workspace.now member.now root.entry.folder.now audit.old audit.new) }
     ensures noted { OnOk result (NotesOnly IsInheritedThere
         (IsAskedThere root.entry.manifest.now root.entry.path.now member.now)
         audit.old audit.new) }
@@ -163,7 +162,7 @@ fn add_refusal(
     ensures findings { GainsOnly (IsRefusedWith outcome folder.now)
         audit.old.findings audit.new.findings }
     ensures told { OnOk result (IfErr outcome
-        (λ e. (e ≢ Memory) × IsRefusedFolder audit.new.findings folder.now)) }
+        (λ e. TellsRefusal e folder.now audit.old.findings audit.new.findings)) }
     ensures refused { IfErr result (λ e. e ≡ Memory) }
 {
     match outcome {
@@ -203,7 +202,8 @@ fn add_member<R: Files + AllocGlobal>(
     ensures noted { UnlessMemory result (NotesOnly IsInheritedThere
         (IsAskedThere root.entry.manifest.now root.entry.path.now place.entry.folder.now)
         audit.old audit.new) }
-    ensures asked { IfErr result (λ e. (e ≡ Memory) ⊎ (audit.new.uses ≡ audit.old.uses)) }
+    ensures left { IfErr result (λ e. (e ≡ Memory)
+        ⊎ (audit.new ≡ record audit.old { inherited = audit.new.inherited })) }
     ensures refused { IfErr result
         (IsMemberFault root.entry.manifest.now root.entry.path.now place.entry.path.now) }
 {

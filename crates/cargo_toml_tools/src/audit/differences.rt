@@ -1,5 +1,6 @@
 //! What members have otherwise than their workspace, or than one another.
 ghost use Rattle.std.specs.Prelude.{◌≡◌, IfOk, OnOk, codes, option_map, string_bytes, unwrap_or};
+ghost use Rattle.std.specs.List.Sorted.{IsStrictlySortedBy};
 ghost use Rattle.std.specs.Option.{option_copied};
 ghost use Rattle.cargo_toml.specs.Dependencies.{dependency_meaning};
 ghost use Rattle.cargo_toml.specs.Reach.{Among};
@@ -9,7 +10,7 @@ ghost use Rattle.cargo_toml.specs.Templates.{template_meaning};
 ghost use Rattle.cargo_toml_tools.specs.Noted.{askings_of};
 ghost use Rattle.cargo_toml_tools.specs.Oddities.{AreReported, GainsOnly, differences_if_any};
 ghost use Rattle.cargo_toml_tools.specs.Oddities.{has_given, other_of, other_words};
-ghost use Rattle.cargo_toml_tools.specs.Overall.{GainsSeveral, overall_oddities};
+ghost use Rattle.cargo_toml_tools.specs.Overall.{GainsSeveral, asking_cmp, overall_oddities};
 
 use super::uses::add_requirements;
 use super::{Audit, Code, Member};
@@ -82,6 +83,8 @@ impl Audit {
             (map_meaning dependency_meaning workspace.now.dependencies) self.old)) }
         ensures several { OnOk result (GainsSeveral (askings_of self.old.uses)
             self.old.findings self.new.findings) }
+        ensures ordered { OnOk result
+            (IsStrictlySortedBy asking_cmp (askings_of self.old.uses)) }
     {
         let alloc = *self.members.allocator();
         for key in workspace.dependencies.keys() {

@@ -2,9 +2,11 @@
 ghost use Rattle.std.specs.Prelude.{◌≡◌, ◌+◌, ◌∷◌, ◌++◌, [], IfOk, OnOk, codes, map};
 ghost use Rattle.std.specs.Prelude.{string_bytes, vec_len};
 ghost use Rattle.std.specs.BTreeSet.{btree_set_len, keys};
+ghost use Rattle.std.specs.List.Sorted.{IsStrictlySortedBy};
 ghost use Rattle.serde_json.specs.View.{view};
 ghost use Rattle.cargo_toml_tools.specs.Escaped.{column, whole_lines};
 ghost use Rattle.cargo_toml_tools.specs.Escapes.{AreLines};
+ghost use Rattle.cargo_toml_tools.specs.Oddities.{oddity_cmp, oddity_of};
 ghost use Rattle.cargo_toml_tools.specs.Reported.{keys_text, member_line, oddity_line, or_dash};
 ghost use Rattle.cargo_toml_tools.specs.ReportedJson.{IsReportOf, finding_rows, member_rows};
 ghost use Rattle.cargo_toml_tools.specs.ReportedJson.{object_of_rows};
@@ -25,6 +27,8 @@ pub fn lines(alloc: Global, audit: &Audit) -> Result<String, AllocError>
         (map member_line audit.now.members.items ++ map oddity_line (keys audit.now.findings))) }
     ensures lines { IfOk result (λ text. AreLines
         (vec_len audit.now.members + btree_set_len audit.now.findings) (string_bytes text)) }
+    ensures in_order { OnOk result
+        (IsStrictlySortedBy oddity_cmp (map oddity_of (keys audit.now.findings))) }
 {
     let mut text = String::new(alloc);
     for member in &audit.members {
@@ -93,8 +97,10 @@ fn push_keys(text: &mut String, keys: &[String]) -> Result<(), AllocError>
 
 /// The same as a line of JSON, an object of two lists: `findings` and `members`.
 pub fn json(alloc: Global, audit: &Audit) -> Result<String, AllocError>
-    ensures { IfOk result (λ text. IsReportOf audit.now.members.items (keys audit.now.findings)
-        (string_bytes text)) }
+    ensures report { IfOk result (λ text. IsReportOf audit.now.members.items
+        (keys audit.now.findings) (string_bytes text)) }
+    ensures in_order { OnOk result
+        (IsStrictlySortedBy oddity_cmp (map oddity_of (keys audit.now.findings))) }
 {
     let members = member_values(alloc, audit.members.as_slice())?;
     let findings = finding_values(alloc, &audit.findings)?;
@@ -118,8 +124,10 @@ fn member_values(alloc: Global, members: &[Member]) -> Result<Vec<Value>, AllocE
 }
 
 fn finding_values(alloc: Global, findings: &BTreeSet<Finding>) -> Result<Vec<Value>, AllocError>
-    ensures { IfOk result (λ values.
+    ensures values { IfOk result (λ values.
         map view values.items ≡ map (λ f. object_of_rows (finding_rows f)) (keys findings.now)) }
+    ensures in_order { OnOk result
+        (IsStrictlySortedBy oddity_cmp (map oddity_of (keys findings.now))) }
 {
     let mut values = Vec::new(alloc);
     for finding in findings {

@@ -1,6 +1,7 @@
 //! What members ask for, and which crates they ask for by several requirements.
 ghost use Rattle.std.specs.Prelude.{◌≡◌, ◌++◌, IfOk, OnOk, map, string_bytes};
 ghost use Rattle.std.specs.List.{list_all};
+ghost use Rattle.std.specs.List.Sorted.{IsStrictlySortedBy};
 ghost use Rattle.cargo_toml.specs.Dependencies.{dependency_meaning};
 ghost use Rattle.cargo_toml.specs.Manifests.{held};
 ghost use Rattle.cargo_toml.specs.Reach.{Among};
@@ -10,7 +11,7 @@ ghost use Rattle.cargo_toml_tools.specs.Indexed.{all_by_kind};
 ghost use Rattle.cargo_toml_tools.specs.Noted.{GainsUses, asked_by, asked_in, asked_in_all};
 ghost use Rattle.cargo_toml_tools.specs.Noted.{asking_of, askings_of};
 ghost use Rattle.cargo_toml_tools.specs.Oddities.{AreReported, GainsOnly};
-ghost use Rattle.cargo_toml_tools.specs.Overall.{AreByName, has_same_requirement};
+ghost use Rattle.cargo_toml_tools.specs.Overall.{asking_cmp, has_same_requirement};
 ghost use Rattle.cargo_toml_tools.specs.Overall.{requirement_words, several_among, several_of};
 ghost use Rattle.cargo_toml_tools.specs.Overall.{several_words};
 
@@ -120,7 +121,7 @@ pub fn add_requirements(
         findings.old findings.new }
     ensures found { OnOk result
         (AreReported findings.new (several_among (askings_of uses.now))) }
-    ensures ordered { OnOk result (AreByName (askings_of uses.now)) }
+    ensures ordered { OnOk result (IsStrictlySortedBy asking_cmp (askings_of uses.now)) }
 {
     let uses = in_order(alloc, uses)?;
     for own in uses.chunk_by(|a, b| a.0.name == b.0.name) {
@@ -133,7 +134,7 @@ pub fn add_requirements(
 fn in_order(alloc: Global, uses: &BTreeSet<Use>) -> Result<Vec<Lent<'_>>, AllocError>
     ensures all { IfOk result
         (λ all. map (λ u. asking_of u.0.now) all.items ≡ askings_of uses.now) }
-    ensures ordered { OnOk result (AreByName (askings_of uses.now)) }
+    ensures ordered { OnOk result (IsStrictlySortedBy asking_cmp (askings_of uses.now)) }
 {
     let mut all = Vec::new(alloc);
     for one in uses {

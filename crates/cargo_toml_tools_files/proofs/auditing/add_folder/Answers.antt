@@ -1,13 +1,13 @@
 use Rattle.std.proofs.Common.{◌∙◌}
-use Rattle.cargo_toml_tools_files.proofs.FileFacts.{always_on_ok}
-use Rattle.cargo_toml_tools_files.proofs.Refusals.{folder_added, folder_finds, folder_notes}
+use Rattle.cargo_toml_tools_files.proofs.Refusals.{folder_added, folder_notes}
 use Rattle.cargo_toml_tools_files.proofs.auditing.add_folder.Goals as goal
 
 pub returns-clause-added : goal.returns-clause-added
 returns-clause-added g c =
     folder_added c.args.root.manifest.now c.args.root.path.now c.args.root.workspace.now c.args.member.now c.add_member-outcome.result
-    c.args.audit.now c.add_member-outcome.new.audit c.add_refusal.new.audit c.add_refusal.ensures.rest c.add_refusal.result
-    c.add_member-outcome.ensures.added c.add_member-outcome.ensures.kept c.add_member-outcome.ensures.asked
+    c.args.audit.now c.add_member-outcome.new.audit c.add_refusal.new.audit c.add_refusal.ensures.rest
+    c.args.root.folder.now c.as_str.result.now (c.as_str.ensures.value ∙ c.in_ok-path.ensures) c.add_refusal.result
+    c.add_member-outcome.ensures.added c.add_member-outcome.ensures.left c.add_member-outcome.ensures.refused
     c.add_refusal.ensures.findings c.add_refusal.ensures.told
 
 pub returns-clause-noted : goal.returns-clause-noted
@@ -15,10 +15,3 @@ returns-clause-noted g c =
     folder_notes c.args.root.manifest.now c.args.root.path.now c.args.root.workspace.now c.args.member.now c.add_member-outcome.result
     c.args.audit.now c.add_member-outcome.new.audit c.add_refusal.new.audit c.add_refusal.ensures.rest c.add_refusal.result
     c.add_member-outcome.ensures.noted c.add_refusal.ensures.told
-
-pub returns-clause-findings : goal.returns-clause-findings
-returns-clause-findings g c =
-    always_on_ok c.add_refusal.result
-    (folder_finds c.args.root.manifest.now c.args.root.path.now c.args.root.workspace.now c.args.member.now c.args.root.folder.now c.as_str.result.now c.add_member-outcome.result
-    c.args.audit.now.findings c.add_member-outcome.new.audit.findings c.add_refusal.new.audit.findings
-    (c.as_str.ensures.value ∙ c.in_ok-path.ensures) c.add_member-outcome.ensures.refused c.add_member-outcome.ensures.findings c.add_refusal.ensures.findings)

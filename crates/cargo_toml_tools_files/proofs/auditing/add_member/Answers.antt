@@ -14,7 +14,7 @@ use Rattle.cargo_toml_tools.specs.declared.audit.Finding.{Finding}
 use Rattle.cargo_toml_tools.proofs.Gained.{gains_none, gains_wider}
 use Rattle.cargo_toml_tools_files.specs.AuditedMembers.{IsKeyNoted, differences_there}
 use Rattle.cargo_toml_tools_files.specs.FromFiles.{IsManifestIn}
-use Rattle.cargo_toml_tools_files.proofs.Refusals.{completed_there, member_added, member_notes, notes_keys, notes_none, uses_on}
+use Rattle.cargo_toml_tools_files.proofs.Refusals.{completed_there, left_on, member_added, member_notes, notes_keys, notes_none}
 use Rattle.cargo_toml_tools_files.proofs.auditing.add_member.Goals as goal
 
 pub returns-in_err-held-clause-noted : goal.returns-in_err-held-clause-noted
@@ -67,20 +67,20 @@ returns-in_err-inherits-clause-kept g c =
 pub returns-in_err-inherits-clause-findings : goal.returns-in_err-inherits-clause-findings
 returns-in_err-inherits-clause-findings g c = gains_none _ _ (ap (λ (a : Audit). (a.findings).keys) c.in_err-inherits.ensures.rest)
 
-pub returns-in_err-complete_from_path_and_workspace-clause-asked : goal.returns-in_err-complete_from_path_and_workspace-clause-asked
-returns-in_err-complete_from_path_and_workspace-clause-asked g c =
+pub returns-in_err-complete_from_path_and_workspace-clause-left : goal.returns-in_err-complete_from_path_and_workspace-clause-left
+returns-in_err-complete_from_path_and_workspace-clause-left g c =
     let left = c.from_residual-in_err-complete_from_path_and_workspace in
     let p = err_from_is_err_and left.result left.ensures.1 in
-    rw p.1 (inr (ap (λ (a : Audit). a.uses) c.in_ok-inherits.ensures.rest))
+    rw p.1 (inr c.in_ok-inherits.ensures.rest)
 
-pub returns-in_err-inherits-clause-asked : goal.returns-in_err-inherits-clause-asked
-returns-in_err-inherits-clause-asked g c =
+pub returns-in_err-inherits-clause-left : goal.returns-in_err-inherits-clause-left
+returns-in_err-inherits-clause-left g c =
     let left = c.from_residual-in_err-inherits in
     let p = err_from_is_err_and left.result left.ensures.1 in
-    rw p.1 (inr (ap (λ (a : Audit). a.uses) c.in_err-inherits.ensures.rest))
+    rw p.1 (inr c.in_err-inherits.ensures.rest)
 
-pub returns-in_err-held-clause-asked : goal.returns-in_err-held-clause-asked
-returns-in_err-held-clause-asked g c =
+pub returns-in_err-held-clause-left : goal.returns-in_err-held-clause-left
+returns-in_err-held-clause-left g c =
     let p = err_from_is_err_and c.from_residual.result c.from_residual.ensures.1 in
     rw p.1 (inr refl)
 
@@ -106,12 +106,11 @@ returns g c =
     let result = c.add_completed.result in
     let done = c.add_completed.ensures in
     let gains = subst (λ (s : BTreeSet Finding). GainsOnly (Among (differences_there root path workspace folder made)) s new.findings)
-    (ap (λ (a : Audit). a.findings) written.rest) done.findings in
-    let same_uses : mid.uses ≡ old.uses = ap (λ (a : Audit). a.uses) written.rest in record {
+    (ap (λ (a : Audit). a.findings) written.rest) done.findings in record {
       added = member_added root path workspace folder read made inherits result old mid new from left written.rest keys done.noted done.added done.found gains;
       kept = on_err_weaker result (λ same. same ∙ ap (λ (a : Audit). a.members.items) written.rest) done.kept;
       findings = gains_wider _ _ (λ o i. (read, (made, (from, i)))) gains;
-      asked = IfErr-weaker result _ _ (uses_on old mid new same_uses) done.noted.none;
+      left = IfErr-weaker result _ _ (left_on old mid new written.rest) done.noted.none;
       noted = member_notes root path workspace folder read made inherits result old mid new from left written.rest keys done.noted;
       refused = IfErr-weaker result _ _ (λ e untold. inr (from.text, (read, (from.written, inr (made, (from, untold)))))) done.refused;
     }

@@ -28,6 +28,7 @@ returns-clause-audited g c =
         has = report.1;
       };
       report = subst (λ (path : Text). IsReportOn c.deref.result.now path report.0 c.args.folder.now c.in_ok-audit.audit) (c.as_str-2.ensures.value ∙ c.in_ok-path.ensures) report.2;
-      text = c.in_ok-text.ensures;
+      in_order = c.in_ok-text.ensures.in_order;
+      text = c.in_ok-text.ensures.text;
       status = not_empty c.is_empty.result _ c.is_empty.ensures;
     }

@@ -4,9 +4,7 @@ use Rattle.std.specs.Map.Iter.{deref}
 use Rattle.std.proofs.lemmas.Result.{err_from_is_err_and}
 use Rattle.cargo_toml.specs.Action.{Text}
 use Rattle.cargo_toml_discovery.proofs.Faults.{from_input}
-use Rattle.cargo_toml_tools.specs.Oddities.{GainsOnly}
 use Rattle.cargo_toml_tools_files.specs.AuditSteps.{AddsFolder, NotesOnly}
-use Rattle.cargo_toml_tools_files.specs.AuditedFolders.{IsOfFolder}
 use Rattle.cargo_toml_tools_files.specs.AuditedMembers.{IsAskedThere, IsInheritedThere}
 use Rattle.cargo_toml_tools_files.proofs.Going.{auditing_begins, auditing_ends, auditing_on}
 use Rattle.cargo_toml_tools_files.proofs.auditing.report_on.Goals as goal
@@ -38,10 +36,8 @@ loop-i-preserved g c =
       count = omega (arith, ap (λ (ks : List (String Global)). length ks) one, c.loop-i.invariant.count);
       going = auditing_on root path workspace c.args.root.folder.now c.args.found.now c.in-Some.member.now c.next.new.self c.loop-i.member-iterator
           old new one c.loop-i.invariant.going
-          (subst (λ (f : Text). GainsOnly (IsOfFolder root path workspace c.args.root.folder.now f) old.findings new.findings)
-          c.as_str.ensures.value c.in_ok-add_folder.ensures.findings)
           (subst (λ (f : Text). NotesOnly IsInheritedThere (IsAskedThere root path f) old new) c.as_str.ensures.value c.in_ok-add_folder.ensures.noted)
-          (subst (λ (f : Text). AddsFolder root path workspace f old new) c.as_str.ensures.value c.in_ok-add_folder.ensures.added);
+          (subst (λ (f : Text). AddsFolder root path workspace f c.args.root.folder.now old new) c.as_str.ensures.value c.in_ok-add_folder.ensures.added);
     }
 
 pub returns-in_err-show_progress-clause-refused : goal.returns-in_err-show_progress-clause-refused
@@ -58,4 +54,4 @@ returns-clause-report g c =
     auditing_ends c.args.root.manifest.now c.args.root.path.now c.args.root.workspace.now c.args.root.folder.now c.args.found.now c.loop-i.member-iterator
     c.loop-i.audit c.finish.new.self
     (rest_all deref _ _ _ c.in-None.is c.next.ensures.steps) c.in_ok-finish.ensures.rest
-    c.requires c.in_ok-finish.ensures.findings c.in_ok-finish.ensures.found c.loop-i.invariant.going
+    c.requires c.in_ok-finish.ensures.ordered c.in_ok-finish.ensures.findings c.in_ok-finish.ensures.found c.loop-i.invariant.going

@@ -1,12 +1,14 @@
-use Rattle.std.proofs.Common.{◌++◌, ◌∙◌, [], ◌∷◌, ap, inl, map, refl, string_bytes}
+use Rattle.std.proofs.Common.{◌++◌, ◌∙◌, List, [], ◌∷◌, ap, inl, map, refl, string_bytes, subst}
 use Rattle.std.proofs.lemmas.Map.Iter.{rest_all, rest_more}
+use Rattle.std.proofs.lemmas.Result.{on_ok_weaker}
+use Rattle.std.specs.List.Sorted.{IsStrictlySortedBy}
 use Rattle.std.specs.Map.Iter.{deref}
 use Rattle.std.specs.BTreeSet.{contains_text}
 use Rattle.std.specs.Prelude.{filter, not}
 use Rattle.cargo_toml.specs.Dependencies.{dependency_meaning}
 use Rattle.cargo_toml.specs.Reads.{map_meaning}
-use Rattle.cargo_toml_tools.specs.Noted.{askings_of}
-use Rattle.cargo_toml_tools.specs.Overall.{several_among, unused_among, unused_of}
+use Rattle.cargo_toml_tools.specs.Noted.{Asking, askings_of}
+use Rattle.cargo_toml_tools.specs.Overall.{asking_cmp, several_among, unused_among, unused_of}
 use Rattle.cargo_toml_tools.specs.declared.audit.Audit.{Audit}
 use Rattle.cargo_toml_tools.specs.declared.audit.Code.TheVariants.{UnusedDependency}
 use Rattle.cargo_toml_tools.proofs.Gained.{adding_from, adding_on, adding_same, adding_stopped, gains_wider, keys_meaning, same_with}
@@ -64,3 +66,9 @@ returns-clause-several g c =
     (ap (λ (a : Audit). askings_of a.uses) c.loop-key.invariant.rest)
     (ap (λ ks. unused_among c.args.self.now (map string_bytes ks)) (rest_all deref _ _ _ c.in-None.is c.next.ensures.steps))
     c.loop-key.invariant.adding c.add_requirements.ensures.findings c.add_requirements.ensures.found c.add_requirements.ensures.ordered
+
+pub returns-clause-ordered : goal.returns-clause-ordered
+returns-clause-ordered g c =
+    on_ok_weaker c.add_requirements.result
+    (λ up. subst (λ (asked : List Asking). IsStrictlySortedBy asking_cmp asked) (ap (λ (a : Audit). askings_of a.uses) c.loop-key.invariant.rest) up)
+    c.add_requirements.ensures.ordered

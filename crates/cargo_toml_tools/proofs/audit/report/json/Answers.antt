@@ -21,7 +21,7 @@ returns c =
     (c.from.ensures ∙ ap (λ ds. array (items_of ds))
     (c.in_ok-members.ensures ∙ ap (map (λ m. object_of_rows (member_rows m))) c.as_slice.ensures.value)) in
     let second = put_same (codes "findings") _ (objects_of finding_rows findings) one two c.in_ok-put-2.ensures.ok
-    (c.from-2.ensures ∙ ap (λ ds. array (items_of ds)) c.in_ok-findings.ensures) in
+    (c.from-2.ensures ∙ ap (λ ds. array (items_of ds)) c.in_ok-findings.ensures.values) in
     let whole : view c.from-3.result ≡ report =
     c.from-3.ensures ∙ ap object (second ∙ ap (put (codes "findings") (objects_of finding_rows findings)) first
     ∙ begun_empty ((codes "members", objects_of member_rows members) ∷ (codes "findings", objects_of finding_rows findings) ∷ [])
@@ -30,6 +30,9 @@ returns c =
     let is : line ≡ compact_text report =
     c.in_ok-text.ensures.text (ap has_float whole ∙ report_floatless members findings) ∙ ap compact_text whole in
     record {
-      text = c.in_ok-push_str.ensures.bytes ∙ ap (λ t. t ++ (10 ∷ [])) is;
-      order = (let P : Text → Type 0 = λ t. IsInOrder t report in subst P is (in_order_of line (view c.from-3.result) report whole c.in_ok-text.ensures.order));
+      report = record {
+        text = c.in_ok-push_str.ensures.bytes ∙ ap (λ t. t ++ (10 ∷ [])) is;
+        order = (let P : Text → Type 0 = λ t. IsInOrder t report in subst P is (in_order_of line (view c.from-3.result) report whole c.in_ok-text.ensures.order));
+      };
+      in_order = c.in_ok-findings.ensures.in_order;
     }

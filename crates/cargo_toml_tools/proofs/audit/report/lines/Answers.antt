@@ -12,6 +12,7 @@ use Rattle.cargo_toml_tools.specs.Escapes.{is_line}
 use Rattle.cargo_toml_tools.specs.Reported.{member_line, oddity_line}
 use Rattle.cargo_toml_tools.proofs.Pieces.{all_lines, as_lines, rest_less, rest_none, with_end}
 use Rattle.cargo_toml_tools.proofs.Reporting.{finding_is_line, member_is_line}
+use Rattle.cargo_toml_tools.proofs.Sorting.{found_in_order}
 use Rattle.cargo_toml_tools.proofs.audit.report.lines.Goals as goal
 
 pub loop-finding-preserved : goal.loop-finding-preserved
@@ -52,4 +53,5 @@ returns c =
           length-map findings oddity_line,
         );
       };
+      in_order = found_in_order findings c.into_iter-finding-iterator.ensures.into_iter_gives.4;
     }

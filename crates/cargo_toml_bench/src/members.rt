@@ -70,8 +70,9 @@ pub fn enables_when_completed<'m, Fs: AbstractFilesystem + Drop>(
         (MayLose Fs.Roots.ARE_READ (Fs.may_refuse_root files)) (Fs.may_refuse files)) }
 {
     let resolver = Resolver::new();
-    let (_completed, resolved) =
-        resolver.complete_and_parse::<_, Value, _>(alloc, manifest, files, None)?;
+    let (_completed, resolved) = resolver.complete_and_parse::<_, Value, _>(
+        alloc, manifest, files, None,
+    )?;
     enables_among(alloc, &resolved, names.0, names.1)
 }
 

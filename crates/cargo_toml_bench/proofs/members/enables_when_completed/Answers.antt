@@ -11,10 +11,14 @@ returns-clause-answer g c =
     let done = c.in_ok-_completed in
     let made = c.new-resolver.ensures in
     IfOk-weaker c.enables_among.result _ _
-    (λ answer told. (done._completed.now, done.ensures.completed, record {
-      resolved = answer_of done.resolved;
-      parsed = parsed_at (held done._completed.now) (λ _. false) (answer_of done.resolved) made.limit
-          (done.ensures.features.parsed.told (λ _. false) (keeps_none _ _ made.unfiltered));
-      exact = told;
-    }))
+    (λ answer told. (
+      done._completed.now,
+      done.ensures.completed,
+      record {
+        resolved = answer_of done.resolved;
+        parsed = parsed_at (held done._completed.now) (λ _. false) (answer_of done.resolved) made.limit
+            (done.ensures.features.parsed.told (λ _. false) (keeps_none _ _ made.unfiltered));
+        exact = told;
+      },
+    ))
     c.enables_among.ensures.answer

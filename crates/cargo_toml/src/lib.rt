@@ -11,7 +11,7 @@ pub use cargo_toml_dependencies::{
     InheritedDependencyDetail, PatchSet, Target, TargetDepsSet,
 };
 pub use cargo_toml_manifest::{
-    AbstractFilesystem, Filesystem, Manifest, NoRoot, OwnRoot, Roots, Workspace,
+    AbstractFilesystem, Filesystem, Manifest, NoRoot, OwnRoot, ParsedRoot, Roots, Workspace,
 };
 pub use cargo_toml_package::{Package, PackageTemplate};
 pub use cargo_toml_parts::{Error, FromValue, Inheritable, ParseFault, SemVer, Value, VersionReq};

@@ -2,7 +2,7 @@
 use Rattle.std.specs.Prelude.{◌⊎◌, ℕ, List, Option, Some, Err}
 use Rattle.toml.specs.View.{view}
 use Rattle.toml.specs.declared.value.Value.{Value}
-use Rattle.cargo_toml.specs.Choosing.{Handed, RootsTold}
+use Rattle.cargo_toml.specs.Choosing.{Handed, MayFind, RootsTold}
 use Rattle.cargo_toml.specs.Completed.{IsCompleted}
 use Rattle.cargo_toml.specs.Completing.{Meets, complete}
 use Rattle.cargo_toml.specs.Error.{Error}
@@ -22,12 +22,13 @@ SpellsManifest bytes m = Spells bytes (manifest_meaning view m)
 abbrev pub handed_at : Manifest Value → List ℕ → Option Handed
 handed_at workspace path = Some (shared_of workspace.workspace, path)
 
-module _ (bytes path : List ℕ) (old : Manifest Value) (roots : RootsTold) where
-  -- completed from the workspace that the bytes spell, by what is stated of roots and of folders
+module _ (bytes path : List ℕ) (old : Manifest Value) (roots : RootsTold) (found : MayFind) where
+  -- completed from the workspace that the bytes spell, by what is stated of roots and of folders, and
+  -- by the roots that may be found
   pub record IsCompletedFrom (told : List ℕ → Told) (new : Manifest Value) : Type 0 where
     pub workspace : Manifest Value
     pub spelled : SpellsManifest bytes workspace
-    pub completed : IsCompleted old (handed_at workspace path) roots told new
+    pub completed : IsCompleted old (handed_at workspace path) roots found told new
 
   -- why it isn't: the bytes are no manifest, or completion from the one that they spell is refused,
   -- as it has to be where all is stated that it asks for
@@ -37,14 +38,14 @@ module _ (bytes path : List ℕ) (old : Manifest Value) (roots : RootsTold) wher
       RefusesBytes bytes e
       ⊎ ((workspace : Manifest Value) × (SpellsManifest bytes workspace
       × (Meets held (complete (held old) (handed_at workspace path) roots told) (Err e)
-      × IsRefusedBy (held old) (handed_at workspace path) roots lost names e)))
+      × IsRefusedBy (held old) (handed_at workspace path) roots found lost names e)))
 
-module _ (member bytes path : List ℕ) (roots : RootsTold) where
+module _ (member bytes path : List ℕ) (roots : RootsTold) (found : MayFind) where
   -- so completed is the member that the first bytes spell
   pub record IsReadFrom (told : List ℕ → Told) (new : Manifest Value) : Type 0 where
     pub old : Manifest Value
     pub spelled : SpellsManifest member old
-    pub completed : IsCompletedFrom bytes path old roots told new
+    pub completed : IsCompletedFrom bytes path old roots found told new
 
   -- why there is none: those bytes are no manifest, or the one that they spell isn't completed
   abbrev pub IsUnreadFrom : (List ℕ → Told) → (Option (List ℕ) → Fault → Type 0)
@@ -52,4 +53,4 @@ module _ (member bytes path : List ℕ) (roots : RootsTold) where
   IsUnreadFrom told lost names e =
       RefusesBytes member e
       ⊎ ((old : Manifest Value) × (SpellsManifest member old
-      × IsRefusedFrom bytes path old roots told lost names e))
+      × IsRefusedFrom bytes path old roots found told lost names e))

@@ -1,7 +1,7 @@
 -- What a member says of its features once it is completed, without the hidden ones.
 use Rattle.std.specs.Prelude.{◌≡◌, ◌↔◌, ℕ, List, length, Bool, false, IsTrue, None}
 use Rattle.cargo_toml.specs.Action.{Text}
-use Rattle.cargo_toml.specs.Choosing.{RootsTold}
+use Rattle.cargo_toml.specs.Choosing.{MayFind, RootsTold}
 use Rattle.cargo_toml.specs.Completed.{IsCompleted}
 use Rattle.cargo_toml.specs.Graph.{IsKept}
 use Rattle.cargo_toml.specs.Limits.{MAX_ITEMS}
@@ -30,8 +30,8 @@ module _ {M : Type 0} (m : ManifestMeaning M) where
     pub counted : count ≡ length names
 
 -- the answer is told of what completion makes of a manifest by itself
-abbrev pub IsToldOnce : {M : Type 0} → Manifest M → RootsTold → (Name → Told) → Text → Text → Bool
-    → Type 0
-IsToldOnce {M} old roots told name other answer =
-    (new : Manifest M) × IsCompleted old None roots told new
+abbrev pub IsToldOnce : {M : Type 0} → Manifest M → RootsTold → MayFind → (Name → Told) → Text → Text
+    → Bool → Type 0
+IsToldOnce {M} old roots found told name other answer =
+    (new : Manifest M) × IsCompleted old None roots found told new
     × IsToldOfMember (held new) name other answer

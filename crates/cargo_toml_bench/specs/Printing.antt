@@ -26,7 +26,7 @@ abbrev pub IsFaultOf : List ℕ → Error → Type 0
 IsFaultOf bytes e =
     ((¬ IsUtf8 bytes) × IsOther (codes "utf8") e)
     ⊎ (IsUtf8 bytes × (document_reads (manifest_reads any_tree) (parse_document bytes) ≡ None)
-    × DocumentRefuses (ManifestRefuses any_tree AnyRefuses) (parse_document bytes) e)
+    × DocumentRefuses (ManifestRefuses any_tree AnyRefuses) bytes (parse_document bytes) e)
 
 -- why nothing is reported: there was no memory, or the bytes are no manifest
 abbrev pub RefusesBytes : List ℕ → Error → Type 0

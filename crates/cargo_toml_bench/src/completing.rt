@@ -41,11 +41,12 @@ pub fn complete_member<Fs: AbstractFilesystem + Drop>(
     ensures filled { OnOk result (IfSome member.new.«package» IsFilled) }
     ensures unchanged { OnErr result (member.new ≡ member.old) }
     ensures completed { OnOk result (IsCompletedFrom workspace.now path.now member.old
-        (roots_of Fs.Roots.ARE_READ (Fs.root_for files.now)) (Fs.names_at files.now)
-        member.new) }
+        (roots_of Fs.Roots.ARE_FOUND (Fs.root_for files.now)) (Fs.may_find files.now)
+        (Fs.names_at files.now) member.new) }
     ensures refused { IfErr result (IsRefusedFrom workspace.now path.now member.old
-        (roots_of Fs.Roots.ARE_READ (Fs.root_for files.now)) (Fs.names_at files.now)
-        (MayLose Fs.Roots.ARE_READ (Fs.may_refuse_root files.now)) (Fs.may_refuse files.now)) }
+        (roots_of Fs.Roots.ARE_FOUND (Fs.root_for files.now)) (Fs.may_find files.now)
+        (Fs.names_at files.now) (MayLose Fs.Roots.ARE_FOUND (Fs.may_refuse_root files.now))
+        (Fs.may_refuse files.now)) }
 {
     let workspace = read(alloc, workspace)?;
     complete_among(alloc, member, files, &*workspace.manifest, path)
@@ -66,14 +67,14 @@ pub fn complete_among<Fs: AbstractFilesystem + Drop>(
     ensures filled { OnOk result (IfSome member.new.«package» IsFilled) }
     ensures unchanged { OnErr result (member.new ≡ member.old) }
     ensures completed { OnOk result (IsCompleted member.old (handed_at workspace.now path.now)
-        (roots_of Fs.Roots.ARE_READ (Fs.root_for files.now)) (Fs.names_at files.now)
-        member.new) }
+        (roots_of Fs.Roots.ARE_FOUND (Fs.root_for files.now)) (Fs.may_find files.now)
+        (Fs.names_at files.now) member.new) }
     ensures outcome { Meets (λ _. held member.new)
         (complete (held member.old) (handed_at workspace.now path.now)
-        (roots_of Fs.Roots.ARE_READ (Fs.root_for files.now)) (Fs.names_at files.now)) result }
+        (roots_of Fs.Roots.ARE_FOUND (Fs.root_for files.now)) (Fs.names_at files.now)) result }
     ensures refused { IfErr result (IsRefusedBy (held member.old) (handed_at workspace.now path.now)
-        (roots_of Fs.Roots.ARE_READ (Fs.root_for files.now))
-        (MayLose Fs.Roots.ARE_READ (Fs.may_refuse_root files.now)) (Fs.may_refuse files.now)) }
+        (roots_of Fs.Roots.ARE_FOUND (Fs.root_for files.now)) (Fs.may_find files.now)
+        (MayLose Fs.Roots.ARE_FOUND (Fs.may_refuse_root files.now)) (Fs.may_refuse files.now)) }
 {
     member.complete_from_abstract_filesystem(alloc, files, Some((workspace, path)))
 }
@@ -92,11 +93,12 @@ pub fn read_member<Fs: AbstractFilesystem + Drop>(
 ) -> Result<HeldManifest, Error>
     ensures nothing_left { IfOk result (λ h. needs (held h.manifest.value) ≡ false) }
     ensures completed { IfOk result (λ h. IsReadFrom member.now workspace.now path.now
-        (roots_of Fs.Roots.ARE_READ (Fs.root_for files.now)) (Fs.names_at files.now)
-        h.manifest.value) }
+        (roots_of Fs.Roots.ARE_FOUND (Fs.root_for files.now)) (Fs.may_find files.now)
+        (Fs.names_at files.now) h.manifest.value) }
     ensures refused { IfErr result (IsUnreadFrom member.now workspace.now path.now
-        (roots_of Fs.Roots.ARE_READ (Fs.root_for files.now)) (Fs.names_at files.now)
-        (MayLose Fs.Roots.ARE_READ (Fs.may_refuse_root files.now)) (Fs.may_refuse files.now)) }
+        (roots_of Fs.Roots.ARE_FOUND (Fs.root_for files.now)) (Fs.may_find files.now)
+        (Fs.names_at files.now) (MayLose Fs.Roots.ARE_FOUND (Fs.may_refuse_root files.now))
+        (Fs.may_refuse files.now)) }
 {
     let mut member = read(alloc, member)?;
     complete_member(alloc, &mut *member.manifest, files, workspace, path)?;
@@ -118,11 +120,12 @@ pub fn edition_of_member<Fs: AbstractFilesystem + Drop>(
         (λ e. e ≡ option_and_then (λ p. value_of p.edition) member.new.«package») }
     ensures unchanged { OnErr result (member.new ≡ member.old) }
     ensures completed { OnOk result (IsCompletedFrom workspace.now path.now member.old
-        (roots_of Fs.Roots.ARE_READ (Fs.root_for files.now)) (Fs.names_at files.now)
-        member.new) }
+        (roots_of Fs.Roots.ARE_FOUND (Fs.root_for files.now)) (Fs.may_find files.now)
+        (Fs.names_at files.now) member.new) }
     ensures refused { IfErr result (IsRefusedFrom workspace.now path.now member.old
-        (roots_of Fs.Roots.ARE_READ (Fs.root_for files.now)) (Fs.names_at files.now)
-        (MayLose Fs.Roots.ARE_READ (Fs.may_refuse_root files.now)) (Fs.may_refuse files.now)) }
+        (roots_of Fs.Roots.ARE_FOUND (Fs.root_for files.now)) (Fs.may_find files.now)
+        (Fs.names_at files.now) (MayLose Fs.Roots.ARE_FOUND (Fs.may_refuse_root files.now))
+        (Fs.may_refuse files.now)) }
 {
     complete_member(alloc, member, files, workspace, path)?;
     match &member.package {
@@ -140,7 +143,7 @@ pub fn edition_of_file<'a, R: Files + AllocGlobal>(
     path: &'a str,
 ) -> Result<Option<Edition>, Error>
     ensures edition { IfOk result
-        (λ e. (m : Manifest Value) × IsReadAndCompleted view (manifest_reads any_tree) m
+        (λ e. (m : Manifest Value) × IsReadAndCompleted path.now view (manifest_reads any_tree) m
         × (e ≡ option_and_then (λ p. value_of p.edition) m.«package»)) }
     ensures named { OnOk result (IsSome (path_parent path.now)) }
     ensures refused { IfErr result (IsPathFault path.now (manifest_meaning view)

@@ -30,17 +30,19 @@ pub fn enables_in_member<Fs: AbstractFilesystem + Drop>(
         (IsToldOfMember (held member.new) names.entry.0.now names.entry.1.now) }
     ensures completed { OnOk result
         (IsCompleted member.old (option_map handed_of workspace.entry)
-        (roots_of Fs.Roots.ARE_READ (Fs.root_for files)) (Fs.names_at files) member.new) }
+        (roots_of Fs.Roots.ARE_FOUND (Fs.root_for files)) (Fs.may_find files) (Fs.names_at files)
+        member.new) }
     ensures outcome { Meets (λ _. held member.new)
         (complete (held member.old) (option_map handed_of workspace.entry)
-        (roots_of Fs.Roots.ARE_READ (Fs.root_for files)) (Fs.names_at files)) result }
+        (roots_of Fs.Roots.ARE_FOUND (Fs.root_for files)) (Fs.names_at files)) result }
     ensures left { IfErr result (λ e. (member.new ≡ member.old)
         ⊎ ((e ≡ Memory) × IsCompleted member.old (option_map handed_of workspace.entry)
-        (roots_of Fs.Roots.ARE_READ (Fs.root_for files)) (Fs.names_at files) member.new)) }
+        (roots_of Fs.Roots.ARE_FOUND (Fs.root_for files)) (Fs.may_find files) (Fs.names_at files)
+        member.new)) }
     ensures refused { IfErr result
         (IsRefusedBy (held member.old) (option_map handed_of workspace.entry)
-        (roots_of Fs.Roots.ARE_READ (Fs.root_for files))
-        (MayLose Fs.Roots.ARE_READ (Fs.may_refuse_root files)) (Fs.may_refuse files)) }
+        (roots_of Fs.Roots.ARE_FOUND (Fs.root_for files)) (Fs.may_find files)
+        (MayLose Fs.Roots.ARE_FOUND (Fs.may_refuse_root files)) (Fs.may_refuse files)) }
 {
     let mut slot = None;
     let resolver = Resolver::new();
@@ -63,11 +65,11 @@ pub fn enables_when_completed<'m, Fs: AbstractFilesystem + Drop>(
     names: (&str, &str),
 ) -> Result<bool, Error>
     ensures answer { IfOk result (IsToldOnce manifest.old
-        (roots_of Fs.Roots.ARE_READ (Fs.root_for files)) (Fs.names_at files)
+        (roots_of Fs.Roots.ARE_FOUND (Fs.root_for files)) (Fs.may_find files) (Fs.names_at files)
         names.entry.0.now names.entry.1.now) }
     ensures refused { IfErr result (IsRefusedBy (held manifest.old) None
-        (roots_of Fs.Roots.ARE_READ (Fs.root_for files))
-        (MayLose Fs.Roots.ARE_READ (Fs.may_refuse_root files)) (Fs.may_refuse files)) }
+        (roots_of Fs.Roots.ARE_FOUND (Fs.root_for files)) (Fs.may_find files)
+        (MayLose Fs.Roots.ARE_FOUND (Fs.may_refuse_root files)) (Fs.may_refuse files)) }
 {
     let resolver = Resolver::new();
     let (_completed, resolved) = resolver.complete_and_parse::<_, Value, _>(
@@ -89,17 +91,19 @@ pub fn count_features<Fs: AbstractFilesystem + Drop>(
     ensures counted { IfOk result (IsFeatureCount (held member.new)) }
     ensures completed { OnOk result
         (IsCompleted member.old (option_map handed_of workspace.entry)
-        (roots_of Fs.Roots.ARE_READ (Fs.root_for files)) (Fs.names_at files) member.new) }
+        (roots_of Fs.Roots.ARE_FOUND (Fs.root_for files)) (Fs.may_find files) (Fs.names_at files)
+        member.new) }
     ensures outcome { Meets (λ _. held member.new)
         (complete (held member.old) (option_map handed_of workspace.entry)
-        (roots_of Fs.Roots.ARE_READ (Fs.root_for files)) (Fs.names_at files)) result }
+        (roots_of Fs.Roots.ARE_FOUND (Fs.root_for files)) (Fs.names_at files)) result }
     ensures left { IfErr result (λ e. (member.new ≡ member.old)
         ⊎ ((e ≡ Memory) × IsCompleted member.old (option_map handed_of workspace.entry)
-        (roots_of Fs.Roots.ARE_READ (Fs.root_for files)) (Fs.names_at files) member.new)) }
+        (roots_of Fs.Roots.ARE_FOUND (Fs.root_for files)) (Fs.may_find files) (Fs.names_at files)
+        member.new)) }
     ensures refused { IfErr result
         (IsRefusedBy (held member.old) (option_map handed_of workspace.entry)
-        (roots_of Fs.Roots.ARE_READ (Fs.root_for files))
-        (MayLose Fs.Roots.ARE_READ (Fs.may_refuse_root files)) (Fs.may_refuse files)) }
+        (roots_of Fs.Roots.ARE_FOUND (Fs.root_for files)) (Fs.may_find files)
+        (MayLose Fs.Roots.ARE_FOUND (Fs.may_refuse_root files)) (Fs.may_refuse files)) }
 {
     let mut slot = None;
     let resolver = Resolver::new();

@@ -74,7 +74,8 @@ Refuses bytes e =
     ⊎ ((¬ IsUtf8 bytes) × IsOther (codes "utf8") e)
     ⊎ (IsUtf8 bytes
     × (document_reads (manifest_reads audience_reads) (parse_document bytes) ≡ None)
-    × DocumentRefuses (ManifestRefuses audience_reads AudienceRefuses) (parse_document bytes) e)
+    × DocumentRefuses (ManifestRefuses audience_reads AudienceRefuses) bytes
+    (parse_document bytes) e)
 
 -- why no tree is written: the bytes are refused, or what they spell can't be written
 abbrev pub RefusesRewriting : List ℕ → Error → Type 0

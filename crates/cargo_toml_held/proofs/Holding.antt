@@ -1,7 +1,7 @@
 -- What is held of a manifest that was read is read as that manifest.
 use Rattle.std.proofs.Common.{◌≡◌, inl, inr, ℕ, List, Option, Some, Result, Ok, Err, IfOk, sym, ap, ◌∙◌}
 use Rattle.std.specs.Prelude.{IfErr}
-use Rattle.toml.specs.Data.{Data, Members}
+use Rattle.toml.specs.Data.{Data}
 use Rattle.toml.specs.Parse.{parse_document}
 use Rattle.toml.specs.View.{view}
 use Rattle.toml.specs.declared.value.Value.{Value}
@@ -23,13 +23,13 @@ module _ (m : Manifest Value) (r : Result HeldManifest Error) (same : IfOk r (λ
       go (Ok h) is none = read ∙ ap (λ (x : Manifest Value). Some (manifest_meaning view x)) (sym is)
       go (Err e) none memory = inl memory
 
-  pub holds_text : (document : Option Members)
-      → IsFromText (manifest_meaning view) (manifest_reads any_tree) (ManifestRefuses any_tree AnyRefuses) document (Ok m)
-      → IsFromText meaning_held (manifest_reads any_tree) (ManifestRefuses any_tree AnyRefuses) document r
-  holds_text document read = holds (document_reads (manifest_reads any_tree) document) (DocumentRefuses (ManifestRefuses any_tree AnyRefuses) document) read
+  pub holds_text : (text : List ℕ)
+      → IsFromText (manifest_meaning view) (manifest_reads any_tree) (ManifestRefuses any_tree AnyRefuses) text (Ok m)
+      → IsFromText meaning_held (manifest_reads any_tree) (ManifestRefuses any_tree AnyRefuses) text r
+  holds_text text read = holds (document_reads (manifest_reads any_tree) (parse_document text)) (DocumentRefuses (ManifestRefuses any_tree AnyRefuses) text (parse_document text)) read
 
   pub holds_bytes : (bytes : List ℕ)
       → IsFromBytes (manifest_meaning view) (manifest_reads any_tree) (ManifestRefuses any_tree AnyRefuses) bytes (Ok m)
       → IsFromBytes meaning_held (manifest_reads any_tree) (ManifestRefuses any_tree AnyRefuses) bytes r
   holds_bytes bytes (inl b) = absurd b.1
-  holds_bytes bytes (inr b) = inr (b.0, holds_text (parse_document bytes) b.1)
+  holds_bytes bytes (inr b) = inr (b.0, holds_text bytes b.1)

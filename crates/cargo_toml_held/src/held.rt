@@ -2,7 +2,6 @@
 ghost use Rattle.std.specs.Path.{path_parent};
 ghost use Rattle.std.specs.Prelude.{◌≡◌, false, IfErr, IfOk, IfSome, IsSome, OnOk};
 ghost use Rattle.toml.specs.View.{view};
-ghost use Rattle.toml.specs.Parse.{parse_document};
 ghost use Rattle.cargo_toml.specs.Error.{Memory};
 ghost use Rattle.cargo_toml.specs.InheritedManifests.{needs};
 ghost use Rattle.cargo_toml.specs.InheritedPackages.{IsFilled};
@@ -54,8 +53,7 @@ impl HeldManifest {
     /// [`Error::Memory`] where there was no room.
     pub fn from_str(alloc: Global, text: &str) -> Result<HeldManifest, Error>
         ensures { IsFromText (λ h. manifest_meaning view h.manifest.value)
-            (manifest_reads any_tree) (ManifestRefuses any_tree AnyRefuses)
-            (parse_document text.now) result }
+            (manifest_reads any_tree) (ManifestRefuses any_tree AnyRefuses) text.now result }
     {
         match Manifest::from_str(alloc, text) {
             Ok(manifest) => HeldManifest::new(alloc, manifest),
@@ -71,7 +69,7 @@ impl HeldManifest {
         path: &'a str,
     ) -> Result<HeldManifest, Error>
         ensures given { IfOk result
-            (λ h. IsReadAndCompleted view (manifest_reads any_tree) h.manifest.value) }
+            (λ h. IsReadAndCompleted path.now view (manifest_reads any_tree) h.manifest.value) }
         ensures named { OnOk result (IsSome (path_parent path.now)) }
         ensures needs { IfOk result (λ h. needs (held h.manifest.value) ≡ false) }
         ensures filled { IfOk result (λ h. IfSome h.manifest.value.«package» IsFilled) }

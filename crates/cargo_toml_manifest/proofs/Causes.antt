@@ -1,14 +1,16 @@
 -- What has to do with a refusal of completion.
-use Rattle.std.proofs.Common.{◌≡◌, ◌⊎◌, inl, inr, sym, ap, ◌∙◌, refl, subst, ℕ, List, true, false, Option, None, Result, Ok, Err, string_bytes}
+use Rattle.std.proofs.Common.{◌≡◌, ◌⊎◌, inl, inr, sym, ap, ◌∙◌, refl, subst, ℕ, List, Bool, true, false, ◌&&◌, Option, None, Result, Ok, Err, string_bytes}
+use Rattle.std.specs.Prelude.{not}
 use Rattle.std.specs.declared.io.ErrorKind.TheVariants.{Unsupported}
 use Rattle.std.specs.declared.io.Error.{Error as IoError}
 use Rattle.std.specs.IoError.{error_kind}
+use Rattle.toml.specs.Data.{Data}
 use Rattle.toml.specs.View.{view}
 use Rattle.cargo_toml_parts.specs.declared.error.Error.{Error, Memory, Io}
 use Rattle.cargo_toml_parts.specs.FaultValues.{Fault, fault_of, io}
 use Rattle.cargo_toml_parts.specs.Wrapping.{wrap}
 use Rattle.cargo_toml_workspace.specs.Sharing.{shared_of}
-use Rattle.cargo_toml_manifest.specs.Choosing.{Choice, Handed, RootsTold, alone, choice, from, hint_of}
+use Rattle.cargo_toml_manifest.specs.Choosing.{Choice, Handed, MayFind, RootsTold, choice, from, hint_of}
 use Rattle.cargo_toml_manifest.specs.Inheriting.{needs}
 use Rattle.cargo_toml_manifest.specs.Manifests.{ManifestMeaning, manifest_meaning}
 use Rattle.cargo_toml_discovery.specs.Folders.{IsListed, RefusesBy}
@@ -16,7 +18,7 @@ use Rattle.cargo_toml_manifest.specs.Refusing.{IsCause, IsRefusedAt, IsRefusedBy
 use Rattle.cargo_toml_manifest.specs.Roots.{IsRootAt}
 use Rattle.cargo_toml_manifest.specs.Told.{ToldRoot, root, no_root, open_root, AnswersRoot}
 use Rattle.cargo_toml_discovery.proofs.Faults.{fault_of-io}
-use Rattle.cargo_toml_manifest.proofs.Meeting.{answer_there, answered, answered_by, as_told, found_choice, own_by_root, told_itself, Found}
+use Rattle.cargo_toml_manifest.proofs.Meeting.{found_answer, found_choice, hint_alone, own_by_root, Found}
 use Rattle.cargo_toml_manifest.proofs.Rooted.{Read, memory_wrapped}
 
 -- no root is read by a call that is left out
@@ -24,20 +26,34 @@ pub never_read : (reads : _) (may : Option (List ℕ) → Fault → Type 0) (hin
     ReadsBy reads may hint (Err (Io f))
 never_read reads may hint f none kind = inr (inr (none, fault_of-io f ∙ ap io kind))
 
+-- a fault that may stand in place of a root may, wherever roots are found
+lost_so : (finds : Bool) (may : Option (List ℕ) → Fault → Type 0) (hint : Option (List ℕ)) (fault : Fault) → may hint fault → MayLose finds may hint fault
+lost_so true may hint fault h = h
+lost_so false may hint fault h = inl h
+
+-- and where none is ever read, nor found, one that says so
+never_found : (reads finds : Bool) (may : Option (List ℕ) → Fault → Type 0) (hint : Option (List ℕ)) (fault : Fault) → finds && not reads ≡ false → reads ≡ false →
+    fault ≡ wrap hint (io Unsupported) → MayLose finds may hint fault
+never_found reads true may hint fault both none same = let k : true ≡ false = sym (ap not none) ∙ both in cc
+never_found reads false may hint fault both none same = inr same
+
 -- what becomes of bytes that were read may stand in place of the root, where it is a fault
-pub lost_at : (reads : _) (may : Option (List ℕ) → Fault → Type 0) (hint : Option (List ℕ)) (r : Read) (found : Result Found Error) →
-    ReadsBy reads may hint (Ok r) → IsRootAt r.0.items (string_bytes r.1) found → RefusesBy (MayLose reads may hint) found
-lost_at reads may hint r (Ok x) h k = tt
-lost_at reads may hint r (Err e) h (inl memory) = inl memory
-lost_at reads may hint r (Err e) h (inr none) = elim (h e none) [ inl memory ↦ inl memory | inr fault ↦ inr (inl fault) ]
+pub lost_at : (reads finds : Bool) (may : Option (List ℕ) → Fault → Type 0) (hint : Option (List ℕ)) (r : Read) (found : Result Found Error) →
+    ReadsBy reads may hint (Ok r) → IsRootAt r.0.items (string_bytes r.1) found → RefusesBy (MayLose finds may hint) found
+lost_at reads finds may hint r (Ok x) h k = tt
+lost_at reads finds may hint r (Err e) h (inl memory) = inl memory
+lost_at reads finds may hint r (Err e) h (inr none) =
+    elim (h e none) [ inl memory ↦ inl memory | inr fault ↦ inr (lost_so finds may hint (fault_of e) fault) ]
 
 -- and so may the fault in their place, once it has the hint
-pub lost_unread : (reads : _) (may : Option (List ℕ) → Fault → Type 0) (hint : Option (List ℕ)) (own e : Error) →
-    ReadsBy reads may hint (Err own) → (e ≡ Memory) ⊎ (fault_of e ≡ wrap hint (fault_of own)) → (e ≡ Memory) ⊎ MayLose reads may hint (fault_of e)
-lost_unread reads may hint own e h (inl memory) = inl memory
-lost_unread reads may hint own e (inl memory) (inr same) = inl (memory_wrapped hint own e memory same)
-lost_unread reads may hint own e (inr (inl fault)) (inr same) = inr (inl (subst (λ (f : Fault). may hint f) (sym same) fault))
-lost_unread reads may hint own e (inr (inr unread)) (inr same) = inr (inr (unread.0, same ∙ ap (wrap hint) unread.1))
+pub lost_unread : (reads finds : Bool) (may : Option (List ℕ) → Fault → Type 0) (hint : Option (List ℕ)) (own e : Error) → finds && not reads ≡ false →
+    ReadsBy reads may hint (Err own) → (e ≡ Memory) ⊎ (fault_of e ≡ wrap hint (fault_of own)) → (e ≡ Memory) ⊎ MayLose finds may hint (fault_of e)
+lost_unread reads finds may hint own e both h (inl memory) = inl memory
+lost_unread reads finds may hint own e both (inl memory) (inr same) = inl (memory_wrapped hint own e memory same)
+lost_unread reads finds may hint own e both (inr (inl fault)) (inr same) =
+    inr (lost_so finds may hint (fault_of e) (subst (λ (f : Fault). may hint f) (sym same) fault))
+lost_unread reads finds may hint own e both (inr (inr unread)) (inr same) =
+    inr (never_found reads finds may hint (fault_of e) both unread.0 (same ∙ ap (wrap hint) unread.1))
 
 -- a fault of inheritance, once it has its path
 pub told_parts : {M : Type 0} (path : Option (List ℕ)) (names : List ℕ → Fault → Type 0) (stated : Result (ManifestMeaning M) Fault) (own e : Error) →
@@ -68,34 +84,33 @@ chosen_so m roots names c d e same h = subst (λ (x : Choice). IsRefusedAt m roo
 
 module _ {M : Type 0} (m : ManifestMeaning M) (roots : Option (List ℕ) → Fault → Type 0) (names : List ℕ → Fault → Type 0) (e : Error) where
   -- by a root that was found
-  pub refused_by_root : (root_told : ToldRoot) (x : Found) → AnswersRoot root_told (Ok x) →
-      (e ≡ Memory) ⊎ IsRefusedAt m roots names (from (shared_of x.0.workspace) (string_bytes x.1)) e → IsRefusedByRoot m root_told roots names e
-  refused_by_root root_told x a (inl memory) = inl memory
-  refused_by_root (root r path) x a (inr h) =
-      inr (root (manifest_meaning view x.0) (string_bytes x.1), (inl (as_told r path x a), chosen_so m roots names _ _ e (found_choice x) h))
-  refused_by_root no_root x a (inr h) = cc
-  refused_by_root open_root x a (inr h) =
-      inr (root (manifest_meaning view x.0) (string_bytes x.1), (inr refl, chosen_so m roots names _ _ e (found_choice x) h))
+  pub refused_by_root : (root_told : ToldRoot) (found : ManifestMeaning Data → List ℕ → Type 0) (x : Found) → AnswersRoot root_told (Ok x) →
+      found (manifest_meaning view x.0) (string_bytes x.1) →
+      (e ≡ Memory) ⊎ IsRefusedAt m roots names (from (shared_of x.0.workspace) (string_bytes x.1)) e → IsRefusedByRoot m root_told found roots names e
+  refused_by_root root_told found x a there (inl memory) = inl memory
+  refused_by_root root_told found x a there (inr h) =
+      inr (root (manifest_meaning view x.0) (string_bytes x.1), (found_answer found root_told x a there, chosen_so m roots names _ _ e (found_choice x) h))
 
   -- because none was
-  pub refused_lost : (root_told : ToldRoot) (own : Error) → AnswersRoot root_told (Err own) → (own ≡ Memory) ⊎ roots (hint_of m) (fault_of own) →
-      (e ≡ Memory) ⊎ (fault_of e ≡ wrap (hint_of m) (fault_of own)) → IsRefusedByRoot m root_told roots names e
-  refused_lost root_told own a h (inl memory) = inl memory
-  refused_lost root_told own a (inl memory) (inr same) = inl (memory_wrapped (hint_of m) own e memory same)
-  refused_lost (root r path) own a (inr fault) (inr same) = inl (memory_wrapped (hint_of m) own e a same)
-  refused_lost no_root own a (inr fault) (inr same) = inr (no_root, (inl refl, (fault_of own, (fault, same))))
-  refused_lost open_root own a (inr fault) (inr same) = inr (no_root, (inr refl, (fault_of own, (fault, same))))
+  pub refused_lost : (root_told : ToldRoot) (found : ManifestMeaning Data → List ℕ → Type 0) (own : Error) → AnswersRoot root_told (Err own) →
+      (own ≡ Memory) ⊎ roots (hint_of m) (fault_of own) →
+      (e ≡ Memory) ⊎ (fault_of e ≡ wrap (hint_of m) (fault_of own)) → IsRefusedByRoot m root_told found roots names e
+  refused_lost root_told found own a h (inl memory) = inl memory
+  refused_lost root_told found own a (inl memory) (inr same) = inl (memory_wrapped (hint_of m) own e memory same)
+  refused_lost (root r path) found own a (inr fault) (inr same) = inl (memory_wrapped (hint_of m) own e a same)
+  refused_lost no_root found own a (inr fault) (inr same) = inr (no_root, (inl refl, (fault_of own, (fault, same))))
+  refused_lost open_root found own a (inr fault) (inr same) = inr (no_root, (inr (refl, tt), (fault_of own, (fault, same))))
 
   -- by what is told of roots alone
-  pub refused_as_told : (handed : Option Handed) (told : RootsTold) (c : Choice) → choice m handed told ≡ c →
-      (e ≡ Memory) ⊎ IsRefusedAt m roots names c e → IsRefusedBy m handed told roots names e
-  refused_as_told handed told c same (inl memory) = inl memory
-  refused_as_told handed told c same (inr h) = inr (told, (told_itself told, chosen_so m roots names _ _ e same h))
+  pub refused_as_told : (handed : Option Handed) (told : RootsTold) (found : MayFind) (c : Choice) → choice m handed told ≡ c →
+      (e ≡ Memory) ⊎ IsRefusedAt m roots names c e → IsRefusedBy m handed told found roots names e
+  refused_as_told handed told found c same (inl memory) = inl memory
+  refused_as_told handed told found c same (inr h) =
+      inr (told (hint_of m), (inl refl, chosen_so m roots names _ _ e (hint_alone m handed told ∙ same) h))
 
   -- by the root of its hint, where it has no table and needs one
-  pub refused_by_hint : (told : RootsTold) → m.workspace ≡ None → needs m ≡ true →
-      IsRefusedByRoot m (told (hint_of m)) roots names e → IsRefusedBy m None told roots names e
-  refused_by_hint told table needed (inl memory) = inl memory
-  refused_by_hint told table needed (inr (answer, (known, h))) =
-      let here = answer_there (told (hint_of m)) answer known in
-      inr ((λ hint. answered_by answer (told hint)), (answered told answer, chosen_so m roots names _ _ e (own_by_root m.workspace (needs m) _ _ table needed here) h))
+  pub refused_by_hint : (told : RootsTold) (found : MayFind) → m.workspace ≡ None → needs m ≡ true →
+      IsRefusedByRoot m (told (hint_of m)) (found (hint_of m)) roots names e → IsRefusedBy m None told found roots names e
+  refused_by_hint told found table needed (inl memory) = inl memory
+  refused_by_hint told found table needed (inr (answer, (known, h))) =
+      inr (answer, (known, chosen_so m roots names _ _ e (own_by_root m.workspace (needs m) _ _ table needed refl) h))

@@ -17,7 +17,6 @@ use Rattle.cargo_toml_manifest.specs.RealFiles.{IsAbove, IsCandidate, IsCandidat
 use Rattle.cargo_toml_manifest.specs.declared.lookup.Candidate.{Candidate}
 use Rattle.cargo_toml_manifest.specs.declared.lookup.Candidate.TheVariants.{Root, Other, Absent}
 use Rattle.cargo_toml_discovery.specs.Folders.{RefusesBy}
-use Rattle.cargo_toml_manifest.specs.Refusing.{MayLose}
 use Rattle.cargo_toml_manifest.specs.Roots.{IsFromSlice}
 use Rattle.cargo_toml_manifest.specs.declared.manifest.Manifest.{Manifest}
 use Rattle.cargo_toml_discovery.proofs.Faults.{fault_of-io}
@@ -78,6 +77,6 @@ candidate (Err fault) file (Err e) h = unread file fault e h.0 h.1
 
 -- why no root is found may stand in place of the root
 pub loses : {T : Type 0} (folder : List ℕ) (hint : Option (List ℕ)) (r : Result T Error) → IfErr r (IsRootFault folder hint) →
-    RefusesBy (MayLose false (RealRootRefuses folder) hint) r
+    RefusesBy (RealRootRefuses folder hint) r
 loses folder hint (Ok x) h = tt
-loses folder hint (Err e) h = inr (inl (e, (h, refl)))
+loses folder hint (Err e) h = inr (e, (h, refl))

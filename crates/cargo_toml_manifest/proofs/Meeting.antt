@@ -2,6 +2,7 @@
 use Rattle.std.proofs.Common.{◌≡◌, ◌⊎◌, inl, inr, sym, ap, ◌∙◌, refl, subst, ℕ, List, Bool, true, false, map, Option, Some, None, Result, Ok, Err, [], String, string_bytes}
 use Rattle.std.specs.Prelude.{option_map}
 use Rattle.std.specs.declared.alloc.Global.{Global}
+use Rattle.toml.specs.Data.{Data}
 use Rattle.toml.specs.View.{view}
 use Rattle.toml.specs.declared.value.Value.{Value}
 use Rattle.cargo_toml_parts.specs.declared.error.Error.{Error, Memory}
@@ -13,12 +14,13 @@ use Rattle.cargo_toml_discovery.specs.Seen.{IsOneOf, Seen, Tells, seen, faulty, 
 use Rattle.cargo_toml_discovery.specs.Told.{Told}
 use Rattle.cargo_toml_discovery.proofs.Extends.{tell-at}
 use Rattle.cargo_toml_workspace.specs.Sharing.{shared_of, Shared, shared}
-use Rattle.cargo_toml_manifest.specs.Choosing.{AnswersRoots, Choice, Handed, RootsTold, alone, choice, from, hint_of, own_choice, told_choice}
+use Rattle.cargo_toml_manifest.specs.Choosing.{AnswersHint, Choice, Handed, MayFind, RootsTold, alone, choice, from, hint_of, own_choice, told_choice}
+use Rattle.cargo_toml_manifest.specs.Completed.{IsCompleted}
 use Rattle.cargo_toml_manifest.specs.Completing.{GivenBy, GivenByRoot, Meets, Outcome, complete_by, gives, no_workspace, refuses, seen_at, then_found, untold}
 use Rattle.cargo_toml_manifest.specs.Finding.{with_found}
 use Rattle.cargo_toml_manifest.specs.Inheriting.{needs}
 use Rattle.cargo_toml_manifest.specs.Installing.{installed, with_completion}
-use Rattle.cargo_toml_manifest.specs.Manifests.{ManifestMeaning, manifest_meaning}
+use Rattle.cargo_toml_manifest.specs.Manifests.{ManifestMeaning, held, manifest_meaning}
 use Rattle.cargo_toml_manifest.specs.Told.{ToldRoot, root, no_root, open_root, AnswersRoot}
 use Rattle.cargo_toml_workspace.specs.Workspaces.{WorkspaceMeaning, workspace_meaning}
 use Rattle.cargo_toml_manifest.specs.declared.finding.Completion.{Completion}
@@ -100,43 +102,29 @@ GivenFrom m c told n = (answers : Answers) × (complete_by m c (filled told answ
 pub chosen : {M : Type 0} (m n : ManifestMeaning M) (told : Name → Told) (c d : Choice) → c ≡ d → GivenFrom m d told n → GivenFrom m c told n
 chosen m n told c d same h = subst (λ (x : Choice). GivenFrom m x told n) (sym same) h
 
+-- the answer that a root is
+pub found_answer : (found : ManifestMeaning Data → List ℕ → Type 0) (root_told : ToldRoot) (x : Found) → AnswersRoot root_told (Ok x) →
+    found (manifest_meaning view x.0) (string_bytes x.1) → AnswersHint root_told found (root (manifest_meaning view x.0) (string_bytes x.1))
+found_answer found (root r path) x a there = inl (as_told r path x a)
+found_answer found no_root x a there = cc
+found_answer found open_root x a there = inr (refl, there)
+
 -- the value that a root gives
-pub given_by_root : {M : Type 0} (m n : ManifestMeaning M) (root_told : ToldRoot) (told : Name → Told) (x : Found) →
-    AnswersRoot root_told (Ok x) → GivenFrom m (from (shared_of x.0.workspace) (string_bytes x.1)) told n → GivenByRoot m root_told told n
-given_by_root m n (root r path) told x a h =
-    (root (manifest_meaning view x.0) (string_bytes x.1), inl (as_told r path x a), chosen m n told _ _ (found_choice x) h)
-given_by_root m n no_root told x a h = cc
-given_by_root m n open_root told x a h = (root (manifest_meaning view x.0) (string_bytes x.1), inr refl, chosen m n told _ _ (found_choice x) h)
+pub given_by_root : {M : Type 0} (m n : ManifestMeaning M) (root_told : ToldRoot) (found : ManifestMeaning Data → List ℕ → Type 0) (told : Name → Told) (x : Found) →
+    AnswersRoot root_told (Ok x) → found (manifest_meaning view x.0) (string_bytes x.1) →
+    GivenFrom m (from (shared_of x.0.workspace) (string_bytes x.1)) told n → GivenByRoot m root_told found told n
+given_by_root m n root_told found told x a there h =
+    (root (manifest_meaning view x.0) (string_bytes x.1), found_answer found root_told x a there, chosen m n told _ _ (found_choice x) h)
 
--- this answer in place of what isn't told
-abbrev pub answered_by : ToldRoot → ToldRoot → ToldRoot
-answered_by answer (root m path) = root m path
-answered_by answer no_root = no_root
-answered_by answer open_root = answer
-
-pub answered : (roots : RootsTold) (answer : ToldRoot) → AnswersRoots roots (λ hint. answered_by answer (roots hint))
-answered roots answer hint = answers_at (roots hint)
-  where
-    answers_at : (t : ToldRoot) → (t ≡ answered_by answer t) ⊎ (t ≡ open_root)
-    answers_at (root m path) = inl refl
-    answers_at no_root = inl refl
-    answers_at open_root = inr refl
-
-pub answer_there : (told answer : ToldRoot) → (told ≡ answer) ⊎ (told ≡ open_root) → answered_by answer told ≡ answer
-answer_there (root m path) answer (inl h) = h
-answer_there no_root answer (inl h) = h
-answer_there open_root answer (inl h) = refl
-answer_there (root m path) answer (inr h) = cc
-answer_there no_root answer (inr h) = cc
-answer_there open_root answer (inr h) = refl
-
-pub told_itself : (roots : RootsTold) → AnswersRoots roots roots
-told_itself roots hint = inl refl
+-- only the root of its hint counts
+pub hint_alone : {M : Type 0} (m : ManifestMeaning M) (handed : Option Handed) (roots : RootsTold) → choice m handed (λ _. roots (hint_of m)) ≡ choice m handed roots
+hint_alone m (Some handed) roots = refl
+hint_alone m None roots = refl
 
 -- by what is told of roots alone
-pub given_as_told : {M : Type 0} (m n : ManifestMeaning M) (handed : Option Handed) (roots : RootsTold) (told : Name → Told) →
-    GivenFrom m (choice m handed roots) told n → GivenBy m handed roots told n
-given_as_told m n handed roots told h = (roots, told_itself roots, h)
+pub given_as_told : {M : Type 0} (m n : ManifestMeaning M) (handed : Option Handed) (roots : RootsTold) (found : MayFind) (told : Name → Told) →
+    GivenFrom m (choice m handed roots) told n → GivenBy m handed roots found told n
+given_as_told m n handed roots found told h = (roots (hint_of m), inl refl, chosen m n told _ _ (hint_alone m handed roots) h)
 
 -- from where it inherits without a workspace that is handed in
 pub own_by_root : {M : Type 0} (o : Option (WorkspaceMeaning M)) (b : Bool) (t u : ToldRoot) → o ≡ None → b ≡ true → t ≡ u → own_choice (option_map shared o) b t ≡ told_choice u
@@ -149,11 +137,43 @@ pub own_by_table : {M : Type 0} (o : Option (WorkspaceMeaning M)) (w : Workspace
 own_by_table o w b t table = rw table refl
 
 -- by the root of its hint, where it has no table and needs one
-pub given_by_hint : {M : Type 0} (m n : ManifestMeaning M) (roots : RootsTold) (told : Name → Told) →
-    m.workspace ≡ None → needs m ≡ true → GivenByRoot m (roots (hint_of m)) told n → GivenBy m None roots told n
-given_by_hint m n roots told table needed (answer, known, h) =
-    let here = answer_there (roots (hint_of m)) answer known in
-    ((λ hint. answered_by answer (roots hint)), answered roots answer, chosen m n told _ _ (own_by_root m.workspace (needs m) _ _ table needed here) h)
+pub given_by_hint : {M : Type 0} (m n : ManifestMeaning M) (roots : RootsTold) (found : MayFind) (told : Name → Told) →
+    m.workspace ≡ None → needs m ≡ true → GivenByRoot m (roots (hint_of m)) (found (hint_of m)) told n → GivenBy m None roots found told n
+given_by_hint m n roots found told table needed (answer, known, h) =
+    (answer, known, chosen m n told _ _ (own_by_root m.workspace (needs m) _ _ table needed refl) h)
+
+-- what may be found of all, where more may be
+pub found_weaker : {f g : ManifestMeaning Data → List ℕ → Type 0} (told answer : ToldRoot) → ((r : ManifestMeaning Data) (path : List ℕ) → f r path → g r path) →
+    AnswersHint told f answer → AnswersHint told g answer
+found_weaker told answer more (inl same) = inl same
+found_weaker told (root r path) more (inr (is_open, there)) = inr (is_open, more r path there)
+found_weaker told no_root more (inr (is_open, there)) = inr (is_open, tt)
+found_weaker told open_root more (inr (is_open, there)) = inr (is_open, tt)
+
+pub given_weaker : {M : Type 0} (m n : ManifestMeaning M) (handed : Option Handed) (roots : RootsTold) (f g : MayFind) (told : Name → Told) →
+    ((hint : Option (List ℕ)) (r : ManifestMeaning Data) (path : List ℕ) → f hint r path → g hint r path) → GivenBy m handed roots f told n → GivenBy m handed roots g told n
+given_weaker m n handed roots f g told more (answer, known, h) = (answer, found_weaker (roots (hint_of m)) answer (more (hint_of m)) known, h)
+
+pub completed_weaker : {M : Type 0} (old new : Manifest M) (handed : Option Handed) (roots : RootsTold) (f g : MayFind) (told : Name → Told) →
+    ((hint : Option (List ℕ)) (r : ManifestMeaning Data) (path : List ℕ) → f hint r path → g hint r path) → IsCompleted old handed roots f told new → IsCompleted old handed roots g told new
+completed_weaker old new handed roots f g told more h = record {
+  outcome = h.outcome;
+  given = given_weaker (held old) (held new) handed roots f g told more h.given;
+  needs_nothing = h.needs_nothing;
+  filled = h.filled;
+  again = h.again;
+}
+
+-- no root is looked up where a workspace is handed in
+pub completed_handed : {M : Type 0} (old new : Manifest M) (handed : Handed) (roots : RootsTold) (f g : MayFind) (told : Name → Told) →
+    IsCompleted old (Some handed) roots f told new → IsCompleted old (Some handed) roots g told new
+completed_handed old new handed roots f g told h = record {
+  outcome = h.outcome;
+  given = (roots (hint_of (held old)), inl refl, h.given.2);
+  needs_nothing = h.needs_nothing;
+  filled = h.filled;
+  again = h.again;
+}
 
 -- a refusal is one by the same outcome, whatever a success would have been
 pub refused_again : {T U A : Type 0} (f : T → A) (g : U → A) (o : Outcome A) (e : Error) → Meets f o (Err e) → Meets g o (Err e)

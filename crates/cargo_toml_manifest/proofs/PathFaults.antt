@@ -1,21 +1,22 @@
 -- A manifest that was read, or why it could not be completed.
-use Rattle.std.proofs.Common.{◌≡◌, inl, inr, refl, sym, ap, ◌∙◌, subst, false, ℕ, List, Option, Some, None, Result, Ok, Err}
-use Rattle.std.specs.Prelude.{◌↔◌, IfErr, IsErrAnd, IsSome, IsUtf8}
+use Rattle.std.proofs.Common.{◌≡◌, inl, inr, refl, sym, ap, ◌∙◌, subst, ℕ, List, Option, Some, None, Result, Ok, Err}
+use Rattle.std.specs.Prelude.{◌↔◌, IfErr, IsErrAnd, IsSome, IsUtf8, OnOk}
 use Rattle.std.specs.Path.{path_parent}
 use Rattle.std.specs.Result.{result_and}
 use Rattle.toml.specs.Data.{Data}
 use Rattle.cargo_toml_parts.specs.declared.error.Error.{Error}
 use Rattle.cargo_toml_parts.specs.FaultValues.{Fault, fault_of, toml, shape, io, workspace, inherited_unknown_value, workspace_integrity, other, memory}
 use Rattle.cargo_toml_parts.specs.Wrapping.{wrap}
-use Rattle.cargo_toml_manifest.specs.Choosing.{Choice, Handed, RootsTold, alone, choice, from, hint_of, lost, unclear_root}
+use Rattle.cargo_toml_manifest.specs.Choosing.{Choice, Handed, MayFind, RootsTold, alone, choice, from, hint_of, lost, unclear_root}
+use Rattle.cargo_toml_manifest.specs.Completed.{IsCompleted}
 use Rattle.cargo_toml_manifest.specs.Completing.{Meets, complete}
 use Rattle.cargo_toml_manifest.specs.Manifests.{ManifestMeaning, held}
-use Rattle.cargo_toml_manifest.specs.Refusing.{IsRefusedAt, IsRefusedBy, MayLose}
-use Rattle.cargo_toml_manifest.specs.RealFiles.{IsCompletionFault, IsPathFault, IsReadFromText, IsTextFault, ReadsAs, bad_path, real_folders, RealListingRefuses, RealRootRefuses, real_roots}
+use Rattle.cargo_toml_manifest.specs.Refusing.{IsRefusedAt, IsRefusedBy}
+use Rattle.cargo_toml_manifest.specs.RealFiles.{IsCompletionFault, IsPathFault, IsReadFromText, IsTextFault, ReadsAs, bad_path, real_folders, RealListingRefuses, RealRootFound, RealRootRefuses, RootFoundAround, real_roots}
 use Rattle.cargo_toml_manifest.specs.declared.manifest.Manifest.{Manifest}
 use Rattle.cargo_toml_discovery.specs.Disk.{or_here}
 use Rattle.cargo_toml_discovery.proofs.Faults.{fault_of-memory}
-use Rattle.cargo_toml_manifest.proofs.Meeting.{refused_again}
+use Rattle.cargo_toml_manifest.proofs.Meeting.{completed_weaker, refused_again}
 
 -- the refusal of a manifest that a text reads as
 refused_at : {T X M : Type 0} (path text : List ℕ) (meaning : Manifest X → ManifestMeaning M) (reads : Data → Option (ManifestMeaning M))
@@ -62,11 +63,20 @@ refused path meaning reads refuses f read new (Err e) (text, utf8, read_as) outc
 -- the refusal of completion in the folder of a path is one around that
 pub around_path : {T M : Type 0} (path folder there : List ℕ) (m : ManifestMeaning M) (handed : Option Handed) (r : Result T Error) →
     path_parent path ≡ Some folder → there ≡ or_here folder →
-    IfErr r (IsRefusedBy m handed real_roots (MayLose false (RealRootRefuses there)) RealListingRefuses) →
+    IfErr r (IsRefusedBy m handed real_roots (RealRootFound there) (RealRootRefuses there) RealListingRefuses) →
     IfErr r (IsCompletionFault path m handed)
 around_path path folder there m handed (Ok t) parent here h = tt
 around_path path folder there m handed (Err e) parent here h =
-    inr (folder, (parent, subst (λ (f : List ℕ). IsRefusedBy m handed real_roots (MayLose false (RealRootRefuses f)) RealListingRefuses e) here h))
+    inr (folder, (parent, subst (λ (f : List ℕ). IsRefusedBy m handed real_roots (RealRootFound f) (RealRootRefuses f) RealListingRefuses e) here h))
+
+-- and so is its success
+pub completed_around : {T M : Type 0} (path folder there : List ℕ) (old new : Manifest M) (handed : Option Handed) (r : Result T Error) →
+    path_parent path ≡ Some folder → there ≡ or_here folder → OnOk r (IsCompleted old handed real_roots (RealRootFound there) real_folders new) →
+    OnOk r (IsCompleted old handed real_roots (RootFoundAround path) real_folders new)
+completed_around path folder there old new handed (Err e) parent here h = tt
+completed_around path folder there old new handed (Ok t) parent here h =
+    completed_weaker old new handed real_roots (RealRootFound there) (RootFoundAround path) real_folders
+    (λ hint m at found. (folder, (parent, subst (λ (f : List ℕ). RealRootFound f hint m at) here found))) h
 
 -- a fault with the path of a workspace is no other
 no_other : (path : Option (List ℕ)) (fault : Fault) (text : List ℕ) → wrap path fault ≡ other text → ⊥
@@ -87,21 +97,21 @@ is_wrapped m roots names (from shares path) e (fault, (cause, same)) = (Some pat
 is_wrapped m roots names lost e (fault, (cause, same)) = (hint_of m, (fault, same))
 is_wrapped m roots names unclear_root e h = absurd h
 
-no_bad_fault : {M : Type 0} (m : ManifestMeaning M) (handed : Option Handed) (told : RootsTold) (roots : Option (List ℕ) → Fault → Type 0)
-    (names : List ℕ → Fault → Type 0) (e : Error) → IsRefusedBy m handed told roots names e → fault_of e ≡ bad_path → ⊥
-no_bad_fault m handed told roots names e (inl is) bad =
+no_bad_fault : {M : Type 0} (m : ManifestMeaning M) (handed : Option Handed) (told : RootsTold) (found : MayFind) (roots : Option (List ℕ) → Fault → Type 0)
+    (names : List ℕ → Fault → Type 0) (e : Error) → IsRefusedBy m handed told found roots names e → fault_of e ≡ bad_path → ⊥
+no_bad_fault m handed told found roots names e (inl is) bad =
     let h : memory ≡ bad_path = sym fault_of-memory ∙ ap fault_of (sym is) ∙ bad in no_other None memory _ h
-no_bad_fault m handed told roots names e (inr (answered, (known, at))) bad =
-    let w = is_wrapped m roots names (choice m handed answered) e at in
+no_bad_fault m handed told found roots names e (inr (answer, (known, at))) bad =
+    let w = is_wrapped m roots names (choice m handed (λ _. answer)) e at in
     no_other w.0 w.1.0 _ (sym w.1.1 ∙ bad)
 
 -- where the path names a file, completion never says that it does not
-pub no_bad_path : {M T : Type 0} (m : ManifestMeaning M) (handed : Option Handed) (told : RootsTold) (roots : Option (List ℕ) → Fault → Type 0)
+pub no_bad_path : {M T : Type 0} (m : ManifestMeaning M) (handed : Option Handed) (told : RootsTold) (found : MayFind) (roots : Option (List ℕ) → Fault → Type 0)
     (names : List ℕ → Fault → Type 0) (parent : Option (List ℕ)) (folder : List ℕ) (r : Result T Error) → parent ≡ Some folder →
-    IfErr r (IsRefusedBy m handed told roots names) → (parent ≡ None) ↔ IsErrAnd r (λ e. fault_of e ≡ bad_path)
-no_bad_path m handed told roots names parent folder (Ok t) is h = ((λ none. let k : None ≡ Some folder = sym none ∙ is in cc), (λ bad. absurd bad))
-no_bad_path m handed told roots names parent folder (Err e) is h =
-    ((λ none. let k : None ≡ Some folder = sym none ∙ is in cc), (λ bad. absurd (no_bad_fault m handed told roots names e h bad)))
+    IfErr r (IsRefusedBy m handed told found roots names) → (parent ≡ None) ↔ IsErrAnd r (λ e. fault_of e ≡ bad_path)
+no_bad_path m handed told found roots names parent folder (Ok t) is h = ((λ none. let k : None ≡ Some folder = sym none ∙ is in cc), (λ bad. absurd bad))
+no_bad_path m handed told found roots names parent folder (Err e) is h =
+    ((λ none. let k : None ≡ Some folder = sym none ∙ is in cc), (λ bad. absurd (no_bad_fault m handed told found roots names e h bad)))
 
 -- a path that isn't refused names a file
 pub some_from : {X : Type 0} (o : Option X) → ¬ (o ≡ None) → IsSome o

@@ -7,7 +7,7 @@ use Rattle.cargo_toml_parts.specs.FaultValues.{fault_of, workspace_integrity}
 use Rattle.cargo_toml_parts.specs.Wrapping.{wrap}
 use Rattle.cargo_toml_manifest.proofs.Rooted.{memory_wrapped}
 use Rattle.cargo_toml_manifest.specs.declared.manifest.Manifest.{Manifest}
-use Rattle.cargo_toml_manifest.specs.Roots.{IsRootAt, IsNoRoot, IsFromSlice, not_a_workspace}
+use Rattle.cargo_toml_manifest.specs.Roots.{IsRootAt, IsFromSlice, not_a_workspace}
 
 -- their own fault
 pub faulty_bytes : (bytes path : List ℕ) (own e : Error) → (own ≡ Memory) ⊎ IsFromSlice bytes (Err own) →

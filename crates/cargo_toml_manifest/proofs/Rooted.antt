@@ -1,6 +1,6 @@
 -- The root of what was read is the root that is stated.
-use Rattle.std.proofs.Common.{◌≡◌, ◌⊎◌, inl, inr, sym, ap, ◌∙◌, refl, ℕ, List, Option, Some, None, Result, Ok, Err, String, string_bytes, Vec}
-use Rattle.std.specs.Prelude.{is_some, option_map}
+use Rattle.std.proofs.Common.{◌≡◌, ◌⊎◌, inl, inr, sym, ap, ◌∙◌, refl, subst, ℕ, List, Bool, true, false, ◌&&◌, Option, Some, None, Result, Ok, Err, IfOk, String, string_bytes, Vec}
+use Rattle.std.specs.Prelude.{is_some, not, option_map}
 use Rattle.std.specs.declared.alloc.Global.{Global}
 use Rattle.toml.specs.Data.{Data}
 use Rattle.toml.specs.Parse.{parse_document}
@@ -11,9 +11,11 @@ use Rattle.cargo_toml_parts.specs.FaultValues.{fault_of}
 use Rattle.cargo_toml_parts.specs.Wrapping.{wrap}
 use Rattle.cargo_toml_manifest.specs.declared.manifest.Manifest.{Manifest}
 use Rattle.cargo_toml_manifest.specs.Manifests.{ManifestMeaning, manifest_meaning, manifest_reads}
+use Rattle.cargo_toml_manifest.specs.RealFiles.{IsRootManifest, IsRootPath, RealRootFound}
+use Rattle.cargo_toml_manifest.specs.Refusing.{MayHold}
 use Rattle.cargo_toml_manifest.specs.Roots.{IsRootAt, IsNoRoot, IsFromSlice}
 use Rattle.cargo_toml_manifest.specs.Texts.{any_tree, document_reads}
-use Rattle.cargo_toml_manifest.specs.Told.{ToldRoot, root, no_root, open_root, IsRootIn, ReadsRoot, AnswersRoot}
+use Rattle.cargo_toml_manifest.specs.Told.{ToldRoot, root, no_root, open_root, heard, IsRootIn, ReadsRoot, AnswersRoot}
 use Rattle.cargo_toml_discovery.proofs.Faults.{memory_alone, fault_of-memory}
 
 abbrev pub Read : Type 0
@@ -62,6 +64,37 @@ root_as_told no_root r (Ok (x, path)) h (inr text, table, same) =
 root_as_told (root m path) r (Ok (x, at)) h k = (read_as_told r.0.items m x h.0 k.0, k.2 ∙ h.1)
 root_as_told (root m path) r (Err e) h (inl memory) = memory
 root_as_told (root m path) r (Err e) h (inr fault) = no_fault r.0.items (string_bytes r.1) m e h.0 fault
+
+-- it may be found where it was read
+pub found_there : (found : ManifestMeaning Data → List ℕ → Type 0) (r : Read) (answer : Result Found Error) →
+    MayHold found r.0.items (string_bytes r.1) → IsRootAt r.0.items (string_bytes r.1) answer →
+    IfOk answer (λ x. found (manifest_meaning view x.0) (string_bytes x.1))
+found_there found r (Ok (x, path)) h (inl text, table, same) = absurd text.1
+found_there found r (Ok (x, path)) h (inr text, table, same) =
+    subst (λ (at : List ℕ). found (manifest_meaning view x) at) (sym same)
+    (h (manifest_meaning view x) (text.0, text.1, table_stays _ x.workspace ∙ table))
+found_there found r (Err e) h k = tt
+
+-- the manifest of a root is one that bytes spell
+spelled_root : (m : Manifest Value) → IsRootManifest m → (bytes : List ℕ) × IsRootIn bytes (manifest_meaning view m)
+spelled_root m (table, (bytes, inl text)) = absurd text.1
+spelled_root m (table, (bytes, inr text)) = (bytes, (text.0, text.1, table_stays _ m.workspace ∙ table))
+
+-- so a root among real files is one that may be found there
+pub found_on_disk : (folder : List ℕ) (hint : Option (List ℕ)) (answer : Result Found Error) → IfOk answer (λ x. IsRootManifest x.0) →
+    IfOk answer (λ x. IsRootPath folder hint (string_bytes x.1)) → IfOk answer (λ x. RealRootFound folder hint (manifest_meaning view x.0) (string_bytes x.1))
+found_on_disk folder hint (Ok x) read at = (spelled_root x.0 read, at)
+found_on_disk folder hint (Err e) read at = tt
+
+-- what is heard where roots are read is heard where they are found
+pub heard_found : (reads finds : Bool) (told : ToldRoot) (answer : Result Found Error) → finds && not reads ≡ false →
+    AnswersRoot (heard reads told) answer → AnswersRoot (heard finds told) answer
+heard_found true true told answer both h = h
+heard_found true false (root m path) answer both h = tt
+heard_found true false no_root answer both h = h
+heard_found true false open_root answer both h = tt
+heard_found false false told answer both h = h
+heard_found false true told answer both h = cc
 
 -- the answer where none were
 pub unread_as_told : (told : ToldRoot) (hint : Option (List ℕ)) (own e : Error) → ReadsRoot told (Err own) →

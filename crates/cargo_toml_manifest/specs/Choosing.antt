@@ -1,6 +1,7 @@
 -- From which workspace a manifest inherits.
 use Rattle.std.specs.Prelude.{◌≡◌, ◌⊎◌, List, ℕ, [], Bool, true, false}
 use Rattle.std.specs.Prelude.{Option, Some, None, option_map, option_and_then}
+use Rattle.toml.specs.Data.{Data}
 use Rattle.cargo_toml_workspace.specs.Sharing.{Shared, shared, shared_of}
 use Rattle.cargo_toml_manifest.specs.Inheriting.{needs}
 use Rattle.cargo_toml_manifest.specs.Manifests.{ManifestMeaning}
@@ -22,7 +23,11 @@ RootsTold = Option (List ℕ) → ToldRoot
 
 -- what is heard of the roots that an implementor tells
 abbrev pub roots_of : Bool → RootsTold → RootsTold
-roots_of reads told hint = heard reads (told hint)
+roots_of found told hint = heard found (told hint)
+
+-- which roots may be found for a hint: a manifest with its path
+abbrev pub MayFind : Type 1
+MayFind = Option (List ℕ) → ManifestMeaning Data → List ℕ → Type 0
 
 -- no inheritance; this workspace table, or none, with its path; that none was found; or that
 -- nothing is stated of it
@@ -52,7 +57,12 @@ abbrev pub choice : {M : Type 0} → ManifestMeaning M → Option Handed → Roo
 choice m (Some handed) told = from handed.0 handed.1
 choice m None told = own_choice (option_map shared m.workspace) (needs m) (told (hint_of m))
 
--- answers in place of what isn't stated, with the rest as it is stated
-abbrev pub AnswersRoots : RootsTold → RootsTold → Type 0
-AnswersRoots told answered =
-    (hint : Option (List ℕ)) → (told hint ≡ answered hint) ⊎ (told hint ≡ open_root)
+-- an answer that names a root has one that may be found
+abbrev pub MayBe : (ManifestMeaning Data → List ℕ → Type 0) → ToldRoot → Type 0
+MayBe found (root m path) = found m path
+MayBe found no_root = Unit {0}
+MayBe found open_root = Unit {0}
+
+-- the answer for a hint: what is stated of its root, or where nothing is, one that may be found
+abbrev pub AnswersHint : ToldRoot → (ManifestMeaning Data → List ℕ → Type 0) → ToldRoot → Type 0
+AnswersHint told found answer = (told ≡ answer) ⊎ ((told ≡ open_root) × MayBe found answer)

@@ -1,5 +1,6 @@
 -- What completion gives: the manifest with what it inherits, and with what is found in its folders.
 use Rattle.std.specs.Prelude.{◌≡◌, ◌⊎◌, ℕ, List, [], ◌∷◌, map, Option, Some, None, Result, Ok, Err}
+use Rattle.toml.specs.Data.{Data}
 use Rattle.cargo_toml_paths.specs.Paths.{workspace_folder}
 use Rattle.cargo_toml_parts.specs.declared.error.Error.{Error, Memory}
 use Rattle.cargo_toml_parts.specs.FaultValues.{Fault, fault_of}
@@ -8,12 +9,13 @@ use Rattle.cargo_toml_discovery.specs.Answers.{Answers, filled}
 use Rattle.cargo_toml_discovery.specs.Names.{Name}
 use Rattle.cargo_toml_discovery.specs.Seen.{IsOneOf, Seen, seen, faulty, unclear}
 use Rattle.cargo_toml_discovery.specs.Told.{Told}
-use Rattle.cargo_toml_manifest.specs.Choosing.{AnswersRoots, Choice, Handed, RootsTold, alone, from}
-use Rattle.cargo_toml_manifest.specs.Choosing.{lost, unclear_root, choice, hint_of, told_choice}
+use Rattle.cargo_toml_manifest.specs.Choosing.{AnswersHint, Choice, Handed, MayFind, RootsTold}
+use Rattle.cargo_toml_manifest.specs.Choosing.{alone, from, lost, unclear_root}
+use Rattle.cargo_toml_manifest.specs.Choosing.{choice, hint_of, told_choice}
 use Rattle.cargo_toml_manifest.specs.Finding.{found_around}
 use Rattle.cargo_toml_manifest.specs.Inheriting.{inherited_manifest}
 use Rattle.cargo_toml_manifest.specs.Manifests.{ManifestMeaning}
-use Rattle.cargo_toml_manifest.specs.Told.{ToldRoot, open_root}
+use Rattle.cargo_toml_manifest.specs.Told.{ToldRoot}
 
 -- what completion gives: a value, one of these faults, any fault of the search for a root with this
 -- path, or what isn't stated
@@ -61,19 +63,20 @@ Meets f (no_workspace path) (Ok t) = ⊥
 Meets f (no_workspace path) (Err e) =
     (e ≡ Memory) ⊎ ((fault : Fault) × (fault_of e ≡ wrap path fault))
 
--- the value is what completion gives by some answers, finitely many of them for folders
-abbrev pub GivenBy : {M : Type 0} → ManifestMeaning M → Option Handed → RootsTold → (Name → Told)
-    → ManifestMeaning M → Type 0
-GivenBy m handed roots told n =
-    (answered : RootsTold) × AnswersRoots roots answered
-    × ((answers : Answers) × (complete m handed answered (filled told answers) ≡ gives n))
+-- the value is what completion gives by some answer for the root, and some for folders, finitely
+-- many
+abbrev pub GivenBy : {M : Type 0} → ManifestMeaning M → Option Handed → RootsTold → MayFind
+    → (Name → Told) → ManifestMeaning M → Type 0
+GivenBy m handed roots found told n =
+    (answer : ToldRoot) × AnswersHint (roots (hint_of m)) (found (hint_of m)) answer
+    × ((answers : Answers) × (complete m handed (λ _. answer) (filled told answers) ≡ gives n))
 
--- the same of the root alone, where a root is looked up
-abbrev pub GivenByRoot : {M : Type 0} → ManifestMeaning M → ToldRoot → (Name → Told)
-    → ManifestMeaning M → Type 0
-GivenByRoot m lookup told n =
-    (answered : ToldRoot) × ((lookup ≡ answered) ⊎ (lookup ≡ open_root))
-    × ((answers : Answers) × (complete_by m (told_choice answered) (filled told answers) ≡ gives n))
+-- the same, where a root is looked up
+abbrev pub GivenByRoot : {M : Type 0} → ManifestMeaning M → ToldRoot
+    → (ManifestMeaning Data → List ℕ → Type 0) → (Name → Told) → ManifestMeaning M → Type 0
+GivenByRoot m lookup found told n =
+    (answer : ToldRoot) × AnswersHint lookup found answer
+    × ((answers : Answers) × (complete_by m (told_choice answer) (filled told answers) ≡ gives n))
 
 -- completing the result again, with the same workspace and by the same stated answers, gives it
 -- again

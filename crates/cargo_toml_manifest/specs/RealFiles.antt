@@ -22,10 +22,10 @@ use Rattle.cargo_toml_discovery.specs.Told.{Told, open_path}
 use Rattle.cargo_toml_manifest.specs.Choosing.{Handed, RootsTold}
 use Rattle.cargo_toml_manifest.specs.Completing.{GivenBy, Meets, complete}
 use Rattle.cargo_toml_manifest.specs.Manifests.{ManifestMeaning, held, manifest_meaning}
-use Rattle.cargo_toml_manifest.specs.Refusing.{IsRefusedBy, MayLose}
+use Rattle.cargo_toml_manifest.specs.Refusing.{IsRefusedBy}
 use Rattle.cargo_toml_manifest.specs.Roots.{IsFromSlice}
 use Rattle.cargo_toml_manifest.specs.Texts.{IsFromText, document_reads}
-use Rattle.cargo_toml_manifest.specs.Told.{open_root}
+use Rattle.cargo_toml_manifest.specs.Told.{IsRootIn, open_root}
 use Rattle.cargo_toml_manifest.specs.declared.files.Filesystem.{Filesystem}
 use Rattle.cargo_toml_manifest.specs.declared.lookup.Candidate.{Candidate}
 use Rattle.cargo_toml_manifest.specs.declared.lookup.Candidate.TheVariants.{Root, Other, Absent}
@@ -138,6 +138,18 @@ IsRootPath folder (Some hint) path = path ≡ path_join folder hint
 IsRootPath folder None path =
     (above : List ℕ) × (IsAbove folder above × (path ≡ path_join above (codes "Cargo.toml")))
 
+-- the root that may be found among real files, as seen from a folder: some bytes are those of its
+-- manifest, which has a workspace, and it stands at such a path
+abbrev pub RealRootFound : List ℕ → Option (List ℕ) → ManifestMeaning Data → List ℕ → Type 0
+RealRootFound folder hint m path =
+    ((bytes : List ℕ) × IsRootIn bytes m) × IsRootPath folder hint path
+
+-- the same as seen from the folder of the file at this path
+abbrev pub RootFoundAround : List ℕ → Option (List ℕ) → ManifestMeaning Data → List ℕ → Type 0
+RootFoundAround file hint m path =
+    (folder : List ℕ)
+    × ((path_parent file ≡ Some folder) × RealRootFound (or_here folder) hint m path)
+
 -- why there is no root: a fault of the file that the hint leads to, or else of the search above
 -- the folder
 abbrev pub IsRootFault : List ℕ → Option (List ℕ) → Error → Type 0
@@ -157,8 +169,8 @@ abbrev pub IsRefusedAround : {M : Type 0} → List ℕ → ManifestMeaning M →
     → Error → Type 0
 IsRefusedAround path m handed e =
     (folder : List ℕ) × ((path_parent path ≡ Some folder)
-    × IsRefusedBy m handed real_roots
-    (MayLose false (RealRootRefuses (or_here folder))) RealListingRefuses e)
+    × IsRefusedBy m handed real_roots (RealRootFound (or_here folder))
+    (RealRootRefuses (or_here folder)) RealListingRefuses e)
 
 -- the path names no file, and the fault says so
 abbrev pub IsBadPath : List ℕ → Error → Type 0
@@ -187,21 +199,25 @@ IsRefusalOf path m e =
     (complete (held m) None real_roots real_folders) (Err e)
     × IsRefusedAround path (held m) None e
 
--- the text reads as a manifest which completion among real files makes into this one
-abbrev pub IsCompletedOf : {X M : Type 0} → List ℕ → (X → M)
-    → (Data → Option (ManifestMeaning M)) → Manifest X → Type 0
-IsCompletedOf text meaning reads new =
-    (read : Manifest _) × ReadsAs text (manifest_meaning meaning) reads read
-    × GivenBy (held read) None real_roots real_folders
-    (held new)
+-- completion among the real files around this path, with no workspace handed in, makes the manifest
+-- into this one
+abbrev pub IsGivenAround : {X : Type 0} → List ℕ → Manifest X → Manifest X → Type 0
+IsGivenAround path read new =
+    GivenBy (held read) None real_roots (RootFoundAround path) real_folders (held new)
 
--- some text reads as a manifest which completion among real files makes into this one
-abbrev pub IsReadAndCompleted : {X M : Type 0} → (X → M) → (Data → Option (ManifestMeaning M))
-    → Manifest X → Type 0
-IsReadAndCompleted meaning reads new =
+-- the text reads as a manifest which completion around the path makes into this one
+abbrev pub IsCompletedOf : {X M : Type 0} → List ℕ → List ℕ → (X → M)
+    → (Data → Option (ManifestMeaning M)) → Manifest X → Type 0
+IsCompletedOf path text meaning reads new =
+    (read : Manifest _) × ReadsAs text (manifest_meaning meaning) reads read
+    × IsGivenAround path read new
+
+-- some text reads as a manifest which completion around the path makes into this one
+abbrev pub IsReadAndCompleted : {X M : Type 0} → List ℕ → (X → M)
+    → (Data → Option (ManifestMeaning M)) → Manifest X → Type 0
+IsReadAndCompleted path meaning reads new =
     (read : Manifest _) × IsReadFromText (manifest_meaning meaning) reads read
-    × GivenBy (held read) None real_roots real_folders
-    (held new)
+    × IsGivenAround path read new
 
 -- some text reads as a manifest whose completion among real files may be refused with this fault
 abbrev pub IsReadAndRefused : {X M : Type 0} → List ℕ → (Manifest X → ManifestMeaning M)
@@ -214,7 +230,7 @@ IsReadAndRefused path meaning reads e =
 abbrev pub IsTextFault : {X M : Type 0} → List ℕ → List ℕ → (Manifest X → ManifestMeaning M)
     → (Data → Option (ManifestMeaning M)) → (Data → Error → Type 0) → Error → Type 0
 IsTextFault path text meaning reads refuses e =
-    IsFromText meaning reads refuses (parse_document text) (Err e)
+    IsFromText meaning reads refuses text (Err e)
     ⊎ (IsBadPath path e
     ⊎ ((read : Manifest _) × ReadsAs text meaning reads read × IsRefusalOf path read e))
 
@@ -226,5 +242,5 @@ IsPathFault path meaning reads refuses e =
     (e ≡ Memory)
     ⊎ (IsInput e
     ⊎ (((text : List ℕ) × IsUtf8 text
-    × IsFromText meaning reads refuses (parse_document text) (Err e))
+    × IsFromText meaning reads refuses text (Err e))
     ⊎ (IsBadPath path e ⊎ IsReadAndRefused path meaning reads e)))

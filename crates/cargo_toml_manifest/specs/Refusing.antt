@@ -1,26 +1,28 @@
 -- Which faults an implementor of `AbstractFilesystem` may give, and what has to do with them where
 -- completion is refused.
-use Rattle.std.specs.Prelude.{◌≡◌, ◌⊎◌, ℕ, List, Bool, false, Option, Some, None, Result}
+use Rattle.std.specs.Prelude.{◌≡◌, ◌⊎◌, ℕ, List, Bool, true, false, Option, Some, None, Result}
 use Rattle.std.specs.Prelude.{Ok, Err, MatchResult, String, string_bytes, Vec}
 use Rattle.std.specs.declared.alloc.Global.{Global}
 use Rattle.std.specs.declared.io.ErrorKind.TheVariants.{Unsupported}
+use Rattle.toml.specs.Data.{Data}
 use Rattle.cargo_toml_paths.specs.Paths.{workspace_folder}
 use Rattle.cargo_toml_parts.specs.declared.error.Error.{Error, Memory}
 use Rattle.cargo_toml_parts.specs.FaultValues.{Fault, fault_of, io}
 use Rattle.cargo_toml_parts.specs.Wrapping.{wrap}
 use Rattle.cargo_toml_discovery.specs.Folders.{IsListed}
-use Rattle.cargo_toml_manifest.specs.Choosing.{AnswersRoots, Choice, Handed, RootsTold, alone, from}
-use Rattle.cargo_toml_manifest.specs.Choosing.{lost, unclear_root, choice, hint_of, told_choice}
+use Rattle.cargo_toml_manifest.specs.Choosing.{AnswersHint, Choice, Handed, MayFind, RootsTold}
+use Rattle.cargo_toml_manifest.specs.Choosing.{alone, from, lost, unclear_root}
+use Rattle.cargo_toml_manifest.specs.Choosing.{choice, hint_of, told_choice}
 use Rattle.cargo_toml_manifest.specs.Inheriting.{inherited_manifest}
 use Rattle.cargo_toml_manifest.specs.Manifests.{ManifestMeaning}
 use Rattle.cargo_toml_manifest.specs.Roots.{IsNoRoot}
-use Rattle.cargo_toml_manifest.specs.Told.{ToldRoot, open_root}
+use Rattle.cargo_toml_manifest.specs.Told.{IsRootIn, ToldRoot}
 
--- the fault may stand in place of the root of this hint: it is one of these, or says that no root
--- is ever read
+-- the fault may stand in place of the root of this hint: it is one of these or, where no root is
+-- ever found, says so
 abbrev pub MayLose : Bool → (Option (List ℕ) → Fault → Type 0) → Option (List ℕ) → Fault → Type 0
-MayLose reads may hint fault =
-    may hint fault ⊎ ((reads ≡ false) × (fault ≡ wrap hint (io Unsupported)))
+MayLose true may hint fault = may hint fault
+MayLose false may hint fault = may hint fault ⊎ (fault ≡ wrap hint (io Unsupported))
 
 -- the bytes of a root, or a refusal: what becomes of it where there is no root may
 -- stand in its place, and where no root is ever read, it is `Unsupported` without a path
@@ -32,6 +34,10 @@ ReadsBy reads may hint result =
     → (e ≡ Memory) ⊎ may hint (fault_of e))
     (λ e. (e ≡ Memory)
     ⊎ (may hint (wrap hint (fault_of e)) ⊎ ((reads ≡ false) × (fault_of e ≡ io Unsupported))))
+
+-- a root that the bytes spell may be found, with this path
+abbrev pub MayHold : (ManifestMeaning Data → List ℕ → Type 0) → List ℕ → List ℕ → Type 0
+MayHold found bytes path = (m : ManifestMeaning Data) → IsRootIn bytes m → found m path
 
 -- the cause of a refusal: the fault of what is inherited, and where that has none,
 -- one in place of names
@@ -55,19 +61,20 @@ IsRefusedAt m roots names (from workspace path) e =
 IsRefusedAt m roots names lost e = IsToldWith (hint_of m) (roots (hint_of m)) e
 IsRefusedAt m roots names unclear_root e = ⊥
 
--- the refusal of completion: `Memory`, or one by some answers in place of roots that aren't stated
-abbrev pub IsRefusedBy : {M : Type 0} → ManifestMeaning M → Option Handed → RootsTold
+-- the refusal of completion: `Memory`, or one by some answer for the root
+abbrev pub IsRefusedBy : {M : Type 0} → ManifestMeaning M → Option Handed → RootsTold → MayFind
     → (Option (List ℕ) → Fault → Type 0) → (List ℕ → Fault → Type 0) → Error → Type 0
-IsRefusedBy m handed told roots names e =
+IsRefusedBy m handed told found roots names e =
     (e ≡ Memory)
-    ⊎ ((answered : RootsTold)
-    × (AnswersRoots told answered × IsRefusedAt m roots names (choice m handed answered) e))
+    ⊎ ((answer : ToldRoot)
+    × (AnswersHint (told (hint_of m)) (found (hint_of m)) answer
+    × IsRefusedAt m roots names (choice m handed (λ _. answer)) e))
 
--- the same of the root alone, where a root is looked up
+-- the same, where a root is looked up
 abbrev pub IsRefusedByRoot : {M : Type 0} → ManifestMeaning M → ToldRoot
-    → (Option (List ℕ) → Fault → Type 0) → (List ℕ → Fault → Type 0) → Error → Type 0
-IsRefusedByRoot m lookup roots names e =
+    → (ManifestMeaning Data → List ℕ → Type 0) → (Option (List ℕ) → Fault → Type 0)
+    → (List ℕ → Fault → Type 0) → Error → Type 0
+IsRefusedByRoot m lookup found roots names e =
     (e ≡ Memory)
-    ⊎ ((answered : ToldRoot)
-    × (((lookup ≡ answered) ⊎ (lookup ≡ open_root))
-    × IsRefusedAt m roots names (told_choice answered) e))
+    ⊎ ((answer : ToldRoot)
+    × (AnswersHint lookup found answer × IsRefusedAt m roots names (told_choice answer) e))

@@ -4,10 +4,14 @@ use Rattle.std.specs.Prelude.{IsErrAnd, IsUtf8}
 use Rattle.std.specs.BTreeMap.{BTreeMap}
 use Rattle.std.specs.declared.alloc.Global.{Global}
 use Rattle.toml.specs.Data.{Data, Members, table}
+use Rattle.toml.specs.Errors.{IsWithin}
 use Rattle.toml.specs.Parse.{parse_document}
 use Rattle.toml.specs.View.{table_view}
 use Rattle.toml.specs.declared.value.Value.{Value}
-use Rattle.cargo_toml_parts.specs.declared.error.Error.{Error}
+use Rattle.cargo_toml_parts.specs.declared.error.Error.{Error, out-Error}
+use Rattle.cargo_toml_parts.specs.declared.error.Error.TheOpen.{Error-F}
+use Rattle.cargo_toml_parts.specs.declared.error.ParseFault.{ParseFault}
+use Rattle.cargo_toml_parts.specs.declared.error.ParseFault.TheVariants.{Toml, Shape}
 use Rattle.cargo_toml_parts.specs.Faults.{IsOther, IsToml}
 use Rattle.cargo_toml_parts.specs.Floats.{without_floats, FloatsOr}
 use Rattle.cargo_toml_parts.specs.Reads.{IsReading}
@@ -17,16 +21,29 @@ abbrev pub document_reads : {M : Type 0} → (Data → Option M) → Option Memb
 document_reads reads None = None
 document_reads reads (Some ms) = without_floats reads (table ms)
 
--- what may be wrong: the text, a float at any depth, or else the tree
-abbrev pub DocumentRefuses : (Data → Error → Type 0) → Option Members → Error → Type 0
-DocumentRefuses refuses None e = IsToml e
-DocumentRefuses refuses (Some ms) e = FloatsOr refuses (table ms) e
+-- the span of a fault that `toml` gave lies in the text
+abbrev pub LiesIn : List ℕ → ParseFault → Type 0
+LiesIn text (Toml e) = IsWithin text e
+LiesIn text (Shape t) = Unit {0}
 
--- the answer to a text in which `toml` finds this document
+-- the error is a fault of the text, at a place in it
+abbrev pub IsTomlIn : List ℕ → Error → Type 0
+IsTomlIn text e =
+    IsToml e
+    × (elim (out-Error e) as (λ _. Type 0) [ Error-F.Parse f ↦ LiesIn text f | _ ↦ Unit {0} ])
+
+-- what may be wrong of a text in which `toml` finds this document, if it finds one: the text, a float
+-- at any depth, or else the tree
+abbrev pub DocumentRefuses : (Data → Error → Type 0) → List ℕ → Option Members → Error → Type 0
+DocumentRefuses refuses text None e = IsTomlIn text e
+DocumentRefuses refuses text (Some ms) e = FloatsOr refuses (table ms) e
+
+-- the answer to a text
 abbrev pub IsFromText : {X M : Type 0} → (X → M) → (Data → Option M) → (Data → Error → Type 0)
-    → Option Members → Result X Error → Type 0
-IsFromText meaning reads refuses document result =
-    IsReading meaning (document_reads reads document) (DocumentRefuses refuses document) result
+    → List ℕ → Result X Error → Type 0
+IsFromText meaning reads refuses text result =
+    IsReading meaning (document_reads reads (parse_document text))
+    (DocumentRefuses refuses text (parse_document text)) result
 
 -- the answer to bytes: those that are no text are refused as such, others are answered as the
 -- text that they spell
@@ -34,14 +51,14 @@ abbrev pub IsFromBytes : {X M : Type 0} → (X → M) → (Data → Option M) �
     → List ℕ → Result X Error → Type 0
 IsFromBytes meaning reads refuses bytes result =
     ((¬ IsUtf8 bytes) × IsErrAnd result (IsOther (codes "utf8")))
-    ⊎ (IsUtf8 bytes × IsFromText meaning reads refuses (parse_document bytes) result)
+    ⊎ (IsUtf8 bytes × IsFromText meaning reads refuses bytes result)
 
 -- a table as a tree, and the answer to a text or to bytes of which the tree alone is wanted
 abbrev pub tree_of : BTreeMap (String Global) Value → Data
 tree_of t = table (table_view t)
 
-abbrev pub IsTree : Option Members → Result (BTreeMap (String Global) Value) Error → Type 0
-IsTree document result = IsFromText tree_of (λ d. Some d) (λ d e. ⊥) document result
+abbrev pub IsTree : List ℕ → Result (BTreeMap (String Global) Value) Error → Type 0
+IsTree text result = IsFromText tree_of (λ d. Some d) (λ d e. ⊥) text result
 
 abbrev pub IsTreeOfBytes : List ℕ → Result (BTreeMap (String Global) Value) Error → Type 0
 IsTreeOfBytes bytes result = IsFromBytes tree_of (λ d. Some d) (λ d e. ⊥) bytes result

@@ -1,7 +1,9 @@
 //! The files around a manifest, as an implementor of a trait answers for them.
-ghost use Rattle.std.specs.Prelude.{◌≡◌, ◌⊎◌, ℕ, List, Bool, true, false, Option, IfOk};
+ghost use Rattle.std.specs.Prelude.{◌≡◌, ◌⊎◌, ℕ, List, Bool, true, false, not, ◌&&◌, Option, IfOk};
 ghost use Rattle.std.specs.Prelude.{Ok, Err, IfErr, MatchResult, string_bytes};
 ghost use Rattle.std.specs.Option.{option_copied};
+ghost use Rattle.toml.specs.Data.{Data};
+ghost use Rattle.toml.specs.View.{view};
 ghost use Rattle.cargo_toml_parts.specs.declared.error.Error.{Memory};
 ghost use Rattle.cargo_toml_parts.specs.Answers.{Gives};
 ghost use Rattle.cargo_toml_parts.specs.FaultValues.{Fault, fault_of, workspace};
@@ -9,7 +11,8 @@ ghost use Rattle.cargo_toml_parts.specs.FaultValues.{workspace_integrity};
 ghost use Rattle.cargo_toml_parts.specs.Wrapping.{wrap};
 ghost use Rattle.cargo_toml_discovery.specs.Folders.{AnswersNames, RefusesBy};
 ghost use Rattle.cargo_toml_discovery.specs.Told.{Told, open_path};
-ghost use Rattle.cargo_toml_manifest.specs.Refusing.{MayLose, ReadsBy};
+ghost use Rattle.cargo_toml_manifest.specs.Manifests.{ManifestMeaning, manifest_meaning};
+ghost use Rattle.cargo_toml_manifest.specs.Refusing.{MayHold, MayLose, ReadsBy};
 ghost use Rattle.cargo_toml_manifest.specs.Roots.{IsFromSlice, IsRootAt, not_a_workspace};
 ghost use Rattle.cargo_toml_manifest.specs.Told.{ToldRoot, open_root, heard};
 ghost use Rattle.cargo_toml_manifest.specs.Told.{ReadsRoot, AnswersRoot};
@@ -20,22 +23,31 @@ use std::alloc::Global;
 use std::collections::HashSet;
 use std::io;
 
-/// Whether an implementor of `AbstractFilesystem` writes `read_root_workspace` itself.
+/// Which of its calls for a root an implementor of `AbstractFilesystem` writes itself.
 pub trait Roots {
-    /// Whether it does.
+    /// Whether it writes `read_root_workspace`.
     const ARE_READ: bool;
+
+    /// Whether it writes one of the two, so that roots can be found.
+    const ARE_FOUND: bool;
 
     // the same, for clauses
     ghost ARE_READ: { Bool };
+
+    ghost ARE_FOUND: { Bool };
 }
 
-/// For an implementor that leaves `read_root_workspace` out.
+/// For an implementor that leaves out both calls for a root.
 pub struct NoRoot;
 
 impl Roots for NoRoot {
     const ARE_READ: bool = false;
 
+    const ARE_FOUND: bool = false;
+
     ghost ARE_READ = { false };
+
+    ghost ARE_FOUND = { false };
 }
 
 /// For an implementor that writes `read_root_workspace`.
@@ -44,19 +56,38 @@ pub struct OwnRoot;
 impl Roots for OwnRoot {
     const ARE_READ: bool = true;
 
+    const ARE_FOUND: bool = true;
+
     ghost ARE_READ = { true };
+
+    ghost ARE_FOUND = { true };
+}
+
+/// For an implementor that writes `parse_root_workspace`, and leaves `read_root_workspace` out.
+pub struct ParsedRoot;
+
+impl Roots for ParsedRoot {
+    const ARE_READ: bool = false;
+
+    const ARE_FOUND: bool = true;
+
+    ghost ARE_READ = { false };
+
+    ghost ARE_FOUND = { true };
 }
 
 /// The files around a manifest: what a folder holds, and where the root of the workspace is.
 ///
 /// For proofs alone, an implementor may state what it answers for each path and each hint; by
 /// default it states nothing. Its calls then answer what it states, or `Memory`. In the same way it
-/// may state which faults its calls may give; by default these are all. A refusal of completion
-/// then has no other cause. With `NoRoot` the contract also allows `Unsupported`, with the hint,
-/// wherever a root is asked for.
+/// may state which faults its calls may give, and which roots may be found where none is stated; by
+/// default these are all. What completion takes from a root, and why it is refused, then has no
+/// other cause. With `NoRoot` each root that is asked for may be refused as `Unsupported`, with the
+/// hint.
 pub trait AbstractFilesystem {
-    /// `OwnRoot` where `read_root_workspace` is written, and `NoRoot` where it is left out. With
-    /// `NoRoot` nothing is stated of a root except that there is none.
+    /// `OwnRoot` where `read_root_workspace` is written, `ParsedRoot` where `parse_root_workspace`
+    /// alone is, and `NoRoot` where both are left out. With `NoRoot` nothing is stated of a root
+    /// except that there is none.
     type Roots: Roots;
 
     /// What is stated of a path, as seen from the folder of the manifest.
@@ -64,6 +95,9 @@ pub trait AbstractFilesystem {
 
     /// What is stated of the workspace that a hint leads to.
     ghost root_for: { Self → Option (List ℕ) → ToldRoot } = { λ _ _. open_root };
+
+    /// Which roots may be found for a hint: the manifest of one, and its path.
+    ghost may_find: { Self → Option (List ℕ) → ManifestMeaning Data → List ℕ → Type 0 } = { λ _ _ _ _. Unit {0} };
 
     /// Which faults may stand in place of the names at a path, as seen from the
     /// folder of the manifest.
@@ -100,6 +134,9 @@ pub trait AbstractFilesystem {
             (heard Self.Roots.ARE_READ (root_for self.now (option_copied _hint.entry))) result }
         ensures refused { ReadsBy Self.Roots.ARE_READ (may_refuse_root self.now)
             (option_copied _hint.entry) result }
+        ensures found { IfOk result (λ read.
+            MayHold (may_find self.now (option_copied _hint.entry))
+            read.0.items (string_bytes read.1)) }
     {
         if Self::Roots::ARE_READ {
             return Err(Error::Memory);
@@ -119,7 +156,8 @@ pub trait AbstractFilesystem {
     /// path in the answer should be absolute, as that of `read_root_workspace`.
     ///
     /// Where this call is left out, it is what `read_root_workspace` and `Manifest::from_slice`
-    /// answer. A fault of reading is then reported as `Error::Workspace` with the hint as its path,
+    /// answer. (An implementor that leaves it out and yet says `ParsedRoot` gets `Error::Memory`.)
+    /// A fault of reading is then reported as `Error::Workspace` with the hint as its path,
     /// and a fault of the bytes with their path; so is a manifest without a workspace table, as
     /// `Error::WorkspaceIntegrity`. Refused memory is `Error::Memory` as ever.
     fn parse_root_workspace(
@@ -128,15 +166,27 @@ pub trait AbstractFilesystem {
         hint: Option<&str>,
     ) -> Result<(Manifest, String), Error>
         ensures answers { AnswersRoot
-            (heard Self.Roots.ARE_READ (root_for self.now (option_copied hint.entry))) result }
-        ensures refused { RefusesBy (MayLose Self.Roots.ARE_READ (may_refuse_root self.now)
+            (heard Self.Roots.ARE_FOUND (root_for self.now (option_copied hint.entry))) result }
+        ensures refused { RefusesBy (MayLose Self.Roots.ARE_FOUND (may_refuse_root self.now)
             (option_copied hint.entry)) result }
+        ensures found { IfOk result (λ root. may_find self.now (option_copied hint.entry)
+            (manifest_meaning view root.0) (string_bytes root.1)) }
     {
+        if parses_alone::<Self::Roots>() {
+            return Err(Error::Memory);
+        }
         match self.read_root_workspace(alloc, hint) {
             Ok((bytes, path)) => root_at(alloc, bytes, path),
             Err(fault) => Err(wrapped(alloc, fault, hint)),
         }
     }
+}
+
+// Whether an implementor writes `parse_root_workspace` alone.
+fn parses_alone<R: Roots>() -> bool
+    ensures { result ≡ (R.ARE_FOUND && not R.ARE_READ) }
+{
+    R::ARE_FOUND && !R::ARE_READ
 }
 
 impl<T: AbstractFilesystem> AbstractFilesystem for &T {
@@ -145,6 +195,8 @@ impl<T: AbstractFilesystem> AbstractFilesystem for &T {
     ghost names_at = { λ fs path. T.names_at fs.now path };
 
     ghost root_for = { λ fs hint. T.root_for fs.now hint };
+
+    ghost may_find = { λ fs hint. T.may_find fs.now hint };
 
     ghost may_refuse = { λ fs path. T.may_refuse fs.now path };
 

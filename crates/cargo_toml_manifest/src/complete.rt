@@ -76,7 +76,7 @@ fn completion_at<Metadata, N, Fs: AbstractFilesystem>(
         (filled (Fs.names_at fs.now) answers) ≡ gives (with_completion m new))) }
     ensures wrapped { let m = held manifest.now in
         IfErr result (λ e. (e ≡ Memory)
-        ⊎ IsRefusedAt m (MayLose Fs.Roots.ARE_READ (Fs.may_refuse_root fs.now))
+        ⊎ IsRefusedAt m (MayLose Fs.Roots.ARE_FOUND (Fs.may_refuse_root fs.now))
         (Fs.may_refuse fs.now) (from (shared_of (option_copied workspace.entry)) path.now) e) }
 {
     match new_parts(alloc, manifest, workspace, workspace_folder(path)) {
@@ -110,14 +110,16 @@ fn completion_by_hint<Metadata, Fs: AbstractFilesystem>(
 ) -> Result<Completion, Error>
     ensures outcome { let m = held manifest.now in
         Meets (with_completion m)
-        (complete_by m (told_choice (heard Fs.Roots.ARE_READ (Fs.root_for fs.now (hint_of m))))
+        (complete_by m (told_choice (heard Fs.Roots.ARE_FOUND (Fs.root_for fs.now (hint_of m))))
         (Fs.names_at fs.now)) result }
     ensures given { let m = held manifest.now in
-        IfOk result (λ new. GivenByRoot m (heard Fs.Roots.ARE_READ (Fs.root_for fs.now (hint_of m)))
+        IfOk result (λ new. GivenByRoot m
+        (heard Fs.Roots.ARE_FOUND (Fs.root_for fs.now (hint_of m))) (Fs.may_find fs.now (hint_of m))
         (Fs.names_at fs.now) (with_completion m new)) }
     ensures wrapped { let m = held manifest.now in
-        IfErr result (IsRefusedByRoot m (heard Fs.Roots.ARE_READ (Fs.root_for fs.now (hint_of m)))
-        (MayLose Fs.Roots.ARE_READ (Fs.may_refuse_root fs.now)) (Fs.may_refuse fs.now)) }
+        IfErr result (IsRefusedByRoot m
+        (heard Fs.Roots.ARE_FOUND (Fs.root_for fs.now (hint_of m))) (Fs.may_find fs.now (hint_of m))
+        (MayLose Fs.Roots.ARE_FOUND (Fs.may_refuse_root fs.now)) (Fs.may_refuse fs.now)) }
 {
     let hint = hint_of(manifest);
     match fs.parse_root_workspace(alloc, hint) {
@@ -138,8 +140,9 @@ fn own_completion<Metadata, Fs: AbstractFilesystem>(
     fs: &Fs,
 ) -> Result<Completion, Error>
     ensures { IsAnsweredBy (held manifest.now) None
-        (roots_of Fs.Roots.ARE_READ (Fs.root_for fs.now)) (Fs.names_at fs.now)
-        (MayLose Fs.Roots.ARE_READ (Fs.may_refuse_root fs.now)) (Fs.may_refuse fs.now) result }
+        (roots_of Fs.Roots.ARE_FOUND (Fs.root_for fs.now)) (Fs.may_find fs.now)
+        (Fs.names_at fs.now) (MayLose Fs.Roots.ARE_FOUND (Fs.may_refuse_root fs.now))
+        (Fs.may_refuse fs.now) result }
 {
     match &manifest.workspace {
         Some(workspace) => completion_at(alloc, manifest, Some(workspace), "", fs),
@@ -161,8 +164,9 @@ fn completion_for<Metadata, N, Fs: AbstractFilesystem>(
     workspace: Option<(&Manifest<N>, &str)>,
 ) -> Result<Completion, Error>
     ensures { IsAnsweredBy (held manifest.now) (option_map handed_of workspace.entry)
-        (roots_of Fs.Roots.ARE_READ (Fs.root_for fs.now)) (Fs.names_at fs.now)
-        (MayLose Fs.Roots.ARE_READ (Fs.may_refuse_root fs.now)) (Fs.may_refuse fs.now) result }
+        (roots_of Fs.Roots.ARE_FOUND (Fs.root_for fs.now)) (Fs.may_find fs.now)
+        (Fs.names_at fs.now) (MayLose Fs.Roots.ARE_FOUND (Fs.may_refuse_root fs.now))
+        (Fs.may_refuse fs.now) result }
 {
     match workspace {
         Some((root, path)) => completion_at(alloc, manifest, root.workspace.as_ref(), path, fs),
@@ -207,8 +211,8 @@ impl<Metadata: Drop> Manifest<Metadata> {
     /// - after all these, what `fs` answers in place of names.
     ///
     /// Out of memory is `Error::Memory`. A refusal leaves the manifest as it was. A fault that `fs`
-    /// answers is one that its `may_refuse_root` or `may_refuse` allows. With `NoRoot` the contract
-    /// also allows `Unsupported` in place of a root that is asked for.
+    /// answers is one that its `may_refuse_root` or `may_refuse` allows. With `NoRoot` it may also
+    /// be `Unsupported` in place of a root.
     pub fn complete_from_abstract_filesystem<N, Fs: AbstractFilesystem + Drop>(
         &mut self,
         alloc: Global,
@@ -217,16 +221,17 @@ impl<Metadata: Drop> Manifest<Metadata> {
     ) -> Result<(), Error>
         ensures outcome { Meets (λ _. held self.new)
             (complete (held self.old) (option_map handed_of workspace.entry)
-            (roots_of Fs.Roots.ARE_READ (Fs.root_for fs)) (Fs.names_at fs))
+            (roots_of Fs.Roots.ARE_FOUND (Fs.root_for fs)) (Fs.names_at fs))
             result }
         ensures unchanged { OnErr result (self.new ≡ self.old) }
         ensures completed { OnOk result
             (IsCompleted self.old (option_map handed_of workspace.entry)
-            (roots_of Fs.Roots.ARE_READ (Fs.root_for fs)) (Fs.names_at fs) self.new) }
+            (roots_of Fs.Roots.ARE_FOUND (Fs.root_for fs)) (Fs.may_find fs) (Fs.names_at fs)
+            self.new) }
         ensures wrapped { IfErr result
             (IsRefusedBy (held self.old) (option_map handed_of workspace.entry)
-            (roots_of Fs.Roots.ARE_READ (Fs.root_for fs))
-            (MayLose Fs.Roots.ARE_READ (Fs.may_refuse_root fs)) (Fs.may_refuse fs)) }
+            (roots_of Fs.Roots.ARE_FOUND (Fs.root_for fs)) (Fs.may_find fs)
+            (MayLose Fs.Roots.ARE_FOUND (Fs.may_refuse_root fs)) (Fs.may_refuse fs)) }
     {
         let Completion { parts, found } = completion_for(alloc, self, &fs, workspace)?;
         install_parts(self, parts);

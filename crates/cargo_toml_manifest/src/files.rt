@@ -1,15 +1,15 @@
 //! Real files around a manifest.
-ghost use Rattle.std.specs.Prelude.{◌≡◌, ◌⊎◌, false, IfErr, IfOk, string_bytes};
+ghost use Rattle.std.specs.Prelude.{◌≡◌, ◌⊎◌, IfErr, IfOk, string_bytes};
 ghost use Rattle.std.specs.Option.{option_copied};
+ghost use Rattle.toml.specs.View.{view};
 ghost use Rattle.cargo_toml_parts.specs.declared.error.Error.{Memory};
 ghost use Rattle.cargo_toml_discovery.specs.Disk.{IsInput, or_here};
 ghost use Rattle.cargo_toml_discovery.specs.Folders.{RefusesBy};
-ghost use Rattle.cargo_toml_manifest.specs.RealFiles.{IsRootFault, IsRootManifest, IsRootPath};
-ghost use Rattle.cargo_toml_manifest.specs.RealFiles.{RealListingRefuses, RealRootRefuses};
-ghost use Rattle.cargo_toml_manifest.specs.RealFiles.{folder_of};
-ghost use Rattle.cargo_toml_manifest.specs.Refusing.{MayLose};
+ghost use Rattle.cargo_toml_manifest.specs.Manifests.{manifest_meaning};
+ghost use Rattle.cargo_toml_manifest.specs.RealFiles.{IsRootFault, RealListingRefuses};
+ghost use Rattle.cargo_toml_manifest.specs.RealFiles.{RealRootFound, RealRootRefuses, folder_of};
 
-use crate::afs::{AbstractFilesystem, NoRoot};
+use crate::afs::{AbstractFilesystem, ParsedRoot};
 use crate::lookup::{root_above, root_by_hint};
 use crate::manifest::Manifest;
 use cargo_toml_discovery::disk::{names_in, or_here};
@@ -42,9 +42,12 @@ impl<'a, R: Files + AllocGlobal> Filesystem<'a, R> {
     }
 }
 
-/// What stands on the disk. Nothing is stated of it except which faults it gives.
+/// What stands on the disk. Nothing is stated of it except which faults it gives, and which roots
+/// may be found.
 impl<R: Files + AllocGlobal> AbstractFilesystem for Filesystem<'_, R> {
-    type Roots = NoRoot;
+    type Roots = ParsedRoot;
+
+    ghost may_find = { λ files hint. RealRootFound (folder_of files) hint };
 
     ghost may_refuse = { λ _ path. RealListingRefuses path };
 
@@ -67,13 +70,12 @@ impl<R: Files + AllocGlobal> AbstractFilesystem for Filesystem<'_, R> {
         alloc: Global,
         hint: Option<&str>,
     ) -> Result<(Manifest, String), Error>
-        ensures found { IfOk result (λ root. IsRootManifest root.0) }
-        ensures path { IfOk result (λ root.
-            IsRootPath (folder_of self.now) (option_copied hint.entry) (string_bytes root.1)) }
+        ensures found { IfOk result (λ root. RealRootFound (folder_of self.now)
+            (option_copied hint.entry) (manifest_meaning view root.0) (string_bytes root.1)) }
         ensures refused { IfErr result
             (IsRootFault (folder_of self.now) (option_copied hint.entry)) }
-        ensures loses { RefusesBy (MayLose false
-            (RealRootRefuses (folder_of self.now)) (option_copied hint.entry)) result }
+        ensures loses { RefusesBy
+            (RealRootRefuses (folder_of self.now) (option_copied hint.entry)) result }
     {
         match hint {
             Some(hint) => root_by_hint(self.rt, alloc, self.path, hint),

@@ -13,7 +13,7 @@ ghost use Rattle.cargo_toml_manifest.specs.Manifests.{held, manifest_meaning, ma
 ghost use Rattle.cargo_toml_manifest.specs.Manifests.{ManifestRefuses};
 ghost use Rattle.cargo_toml_manifest.specs.RealFiles.{IsCompletedOf, IsCompletionFault};
 ghost use Rattle.cargo_toml_manifest.specs.RealFiles.{IsPathFault, IsReadAndCompleted};
-ghost use Rattle.cargo_toml_manifest.specs.RealFiles.{IsTextFault, bad_path};
+ghost use Rattle.cargo_toml_manifest.specs.RealFiles.{IsTextFault, RootFoundAround, bad_path};
 ghost use Rattle.cargo_toml_manifest.specs.RealFiles.{real_folders, real_roots};
 ghost use Rattle.cargo_toml_manifest.specs.Texts.{AnyRefuses, any_tree};
 
@@ -44,7 +44,7 @@ impl<Metadata: Drop> Manifest<Metadata> {
             ↔ IsErrAnd result (λ e. fault_of e ≡ bad_path) }
         ensures unchanged { OnErr result (self.new ≡ self.old) }
         ensures completed { OnOk result
-            (IsCompleted self.old None real_roots real_folders self.new) }
+            (IsCompleted self.old None real_roots (RootFoundAround path.now) real_folders self.new) }
         ensures refused { IfErr result
             (IsCompletionFault path.now (held self.old) None) }
     {
@@ -84,7 +84,7 @@ impl<Metadata: Drop> Manifest<Metadata> {
             ↔ IsErrAnd result (λ e. fault_of e ≡ bad_path) }
         ensures unchanged { OnErr result (self.new ≡ self.old) }
         ensures completed { OnOk result (IsCompleted self.old (option_map handed_of workspace.entry)
-            real_roots real_folders self.new) }
+            real_roots (RootFoundAround path.now) real_folders self.new) }
         ensures refused { IfErr result (IsCompletionFault path.now
             (held self.old) (option_map handed_of workspace.entry)) }
     {
@@ -110,7 +110,7 @@ impl Manifest {
         alloc: Global,
         path: &'a str,
     ) -> Result<Manifest, Error>
-        ensures given { IfOk result (IsReadAndCompleted view (manifest_reads any_tree)) }
+        ensures given { IfOk result (IsReadAndCompleted path.now view (manifest_reads any_tree)) }
         ensures named { OnOk result (IsSome (path_parent path.now)) }
         ensures needs { IfOk result (λ new. needs (held new) ≡ false) }
         ensures filled { IfOk result (λ new. IfSome new.package IsFilled) }
@@ -132,7 +132,7 @@ impl<Metadata: FromValue> Manifest<Metadata> {
         path: &'a str,
     ) -> Result<Manifest<Metadata>, Error>
         ensures given { IfOk result
-            (IsReadAndCompleted Metadata.meaning (manifest_reads Metadata.from_tree)) }
+            (IsReadAndCompleted path.now Metadata.meaning (manifest_reads Metadata.from_tree)) }
         ensures named { OnOk result (IsSome (path_parent path.now)) }
         ensures needs { IfOk result (λ new. needs (held new) ≡ false) }
         ensures filled { IfOk result (λ new. IfSome new.package IsFilled) }
@@ -153,7 +153,7 @@ fn completed_of<'a, Metadata: FromValue, R: Files + AllocGlobal>(
     text: &str,
 ) -> Result<Manifest<Metadata>, Error>
     ensures given { IfOk result
-        (IsCompletedOf text.now Metadata.meaning (manifest_reads Metadata.from_tree)) }
+        (IsCompletedOf path.now text.now Metadata.meaning (manifest_reads Metadata.from_tree)) }
     ensures named { OnOk result (IsSome (path_parent path.now)) }
     ensures needs { IfOk result (λ new. needs (held new) ≡ false) }
     ensures filled { IfOk result (λ new. IfSome new.package IsFilled) }

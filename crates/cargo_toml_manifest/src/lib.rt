@@ -11,7 +11,7 @@ pub mod inheriting;
 pub mod lookup;
 pub mod manifest;
 
-pub use afs::{AbstractFilesystem, NoRoot, OwnRoot, Roots};
+pub use afs::{AbstractFilesystem, NoRoot, OwnRoot, ParsedRoot, Roots};
 pub use cargo_toml_workspace::Workspace;
 pub use files::Filesystem;
 pub use manifest::Manifest;

@@ -2,7 +2,6 @@
 ghost use Rattle.std.specs.Prelude.{◌≡◌, [], Option, Some, option_map};
 ghost use Rattle.toml.specs.Data.{Data, no_members};
 ghost use Rattle.toml.specs.View.{view, table_view};
-ghost use Rattle.toml.specs.Parse.{parse_document};
 ghost use Rattle.cargo_toml_tables.specs.Badges.{badges_meaning};
 ghost use Rattle.cargo_toml_parts.specs.Faults.{IsShape, wrong_shape};
 ghost use Rattle.cargo_toml_parts.specs.declared.inheritable.Inheritable.TheVariants.{Set};
@@ -255,7 +254,7 @@ impl Manifest {
     /// and what Cargo finds in its folders, and `from_path` reads a file and adds both.
     pub fn from_str(alloc: Global, text: &str) -> Result<Manifest, Error>
         ensures { IsFromText (manifest_meaning view) (manifest_reads any_tree)
-            (ManifestRefuses any_tree AnyRefuses) (parse_document text.now) result }
+            (ManifestRefuses any_tree AnyRefuses) text.now result }
     {
         read_table(alloc, tree_of(alloc, text)?)
     }
@@ -280,8 +279,7 @@ impl<Metadata: FromValue> Manifest<Metadata> {
 
     pub(crate) fn from_text(alloc: Global, text: &str) -> Result<Manifest<Metadata>, Error>
         ensures { IsFromText (manifest_meaning Metadata.meaning) (manifest_reads Metadata.from_tree)
-            (ManifestRefuses Metadata.from_tree Metadata.from_refuses)
-            (parse_document text.now) result }
+            (ManifestRefuses Metadata.from_tree Metadata.from_refuses) text.now result }
     {
         let tree = tree_of(alloc, text)?;
         read_table(alloc, tree)
@@ -293,7 +291,7 @@ impl<Metadata: FromValue> Manifest<Metadata> {
 
 // The tree that a text spells, in which no float stands.
 fn tree_of(alloc: Global, text: &str) -> Result<Table, Error>
-    ensures { IsTree (parse_document text.now) result }
+    ensures { IsTree text.now result }
 {
     keep_heap(alloc, text.len());
     let tree = toml::table_from_str(alloc, text)?;

@@ -14,7 +14,7 @@ use Rattle.cargo_toml_parts.specs.declared.error.Error.{Error, Memory}
 use Rattle.cargo_toml_discovery.specs.Names.{Name}
 use Rattle.cargo_toml_discovery.specs.Told.{Told}
 use Rattle.cargo_toml_manifest.specs.declared.manifest.Manifest.{Manifest}
-use Rattle.cargo_toml_manifest.specs.Choosing.{Handed, RootsTold}
+use Rattle.cargo_toml_manifest.specs.Choosing.{Handed, MayFind, RootsTold}
 use Rattle.cargo_toml_manifest.specs.Completed.{IsCompleted}
 use Rattle.cargo_toml_manifest.specs.Completing.{Outcome, gives, refuses, no_workspace, untold, Meets, complete}
 use Rattle.cargo_toml_manifest.specs.Manifests.{ManifestMeaning, held}
@@ -68,10 +68,10 @@ unfolding such_by
 rests_so {𝓤 = 𝓤} 𝓛 R γ P Q weaker = ex_e 𝓤 _ (λ s. ex_i 𝓤 (λ (y : (p : (R.Denot → R.Denot) × R.Denot) × ((w : R.Denot) → ⊤) × Q p.1). sem 𝓛 (follows_by R.Denot R.Denot R.coded.code R.coded.code γ none y.0.0 y.0.1)) (s.0, s.1, weaker s.0.1 s.2))
 
 -- what completing says, with the answer `d`, of a manifest that it leaves as `new`, where a refusal is such a one
-pub record Completing {M : Type 0} (old new : Manifest M) (handed : Option Handed) (roots : RootsTold) (told : Name → Told) (why : Error → Type 0) (d : Result (Unit {0}) Error) : Type 0 where
+pub record Completing {M : Type 0} (old new : Manifest M) (handed : Option Handed) (roots : RootsTold) (found : MayFind) (told : Name → Told) (why : Error → Type 0) (d : Result (Unit {0}) Error) : Type 0 where
   pub outcome : Meets (λ _. held new) (complete (held old) handed roots told) d
   pub unchanged : OnErr d (new ≡ old)
-  pub completed : OnOk d (IsCompleted old handed roots told new)
+  pub completed : OnOk d (IsCompleted old handed roots found told new)
   pub wrapped : IfErr d why
 
 -- what is said after it of the manifest, lent as `p`, and of both together, answered by `y`
@@ -88,14 +88,14 @@ lent_after P new (Ok u) p (Ok q) holds a = subst P (sym (ap (λ r. r.now) a.lent
 lent_after P new (Err fault) p (Ok q) holds a = absurd (subst T (ap is_ok a.refused) tt)
 lent_after P new d p (Err e) holds a = tt
 
-module _ {M Y : Type 0} {why : Error → Type 0} (old new : Manifest M) (handed : Option Handed) (roots : RootsTold) (told : Name → Told) where
-  pub left_after : (d : Result (Unit {0}) Error) (p : Bor (Manifest M)) (y : Result (Bor (Manifest M) × Y) Error) → Completing old new handed roots told why d → Answering new d p y
-      → (left : Manifest M) → left ≡ p.now → IsLeftAfter old handed roots told y left
+module _ {M Y : Type 0} {why : Error → Type 0} (old new : Manifest M) (handed : Option Handed) (roots : RootsTold) (found : MayFind) (told : Name → Told) where
+  pub left_after : (d : Result (Unit {0}) Error) (p : Bor (Manifest M)) (y : Result (Bor (Manifest M) × Y) Error) → Completing old new handed roots found told why d → Answering new d p y
+      → (left : Manifest M) → left ≡ p.now → IsLeftAfter old handed roots found told y left
   left_after d p (Ok q) c a left is = is ∙ ap (λ r. r.now) (sym a.lent)
-  left_after (Ok u) p (Err e) c a left is = inr (a.memory, subst (IsCompleted old handed roots told) (sym (is ∙ a.same)) c.completed)
+  left_after (Ok u) p (Err e) c a left is = inr (a.memory, subst (IsCompleted old handed roots found told) (sym (is ∙ a.same)) c.completed)
   left_after (Err fault) p (Err e) c a left is = inl (is ∙ a.same ∙ c.unchanged)
 
-  pub outcome_after : (d : Result (Unit {0}) Error) (p : Bor (Manifest M)) (y : Result (Bor (Manifest M) × Y) Error) → Completing old new handed roots told why d → Answering new d p y
+  pub outcome_after : (d : Result (Unit {0}) Error) (p : Bor (Manifest M)) (y : Result (Bor (Manifest M) × Y) Error) → Completing old new handed roots found told why d → Answering new d p y
       → Meets (λ q. held q.0.now) (complete (held old) handed roots told) y
   outcome_after (Ok u) p (Ok q) c a = given_again (λ (_ : Unit {0}). held new) (λ (q : Bor (Manifest M) × Y). held q.0.now) (complete (held old) handed roots told) tt q (ap (λ r. held r.now) a.lent ∙ ap held a.same) c.outcome
   outcome_after (Ok u) p (Err e) c a = memory_after (λ (_ : Unit {0}). held new) (λ (q : Bor (Manifest M) × Y). held q.0.now) (complete (held old) handed roots told) tt e a.memory c.outcome
@@ -103,7 +103,7 @@ module _ {M Y : Type 0} {why : Error → Type 0} (old new : Manifest M) (handed 
       (refused_again (λ (_ : Unit {0}). held new) (λ (q : Bor (Manifest M) × Y). held q.0.now) (complete (held old) handed roots told) fault c.outcome)
 
   pub wrapped_after : (d : Result (Unit {0}) Error) (p : Bor (Manifest M)) (y : Result (Bor (Manifest M) × Y) Error) → ((e : Error) → e ≡ Memory → why e)
-      → Completing old new handed roots told why d → Answering new d p y → IfErr y why
+      → Completing old new handed roots found told why d → Answering new d p y → IfErr y why
   wrapped_after (Ok u) p (Ok q) memory c a = tt
   wrapped_after (Ok u) p (Err e) memory c a = memory e a.memory
   wrapped_after (Err fault) p y memory c a = subst (λ r. IfErr r why) (sym a.refused) c.wrapped

@@ -9,7 +9,7 @@ use Rattle.cargo_toml_discovery.specs.Names.{Name}
 use Rattle.cargo_toml_discovery.specs.Told.{Told}
 use Rattle.cargo_toml_manifest.specs.contracts.manifest.Manifest.{the_row}
 use Rattle.cargo_toml_manifest.specs.declared.manifest.Manifest.{Manifest}
-use Rattle.cargo_toml_manifest.specs.Choosing.{Handed, RootsTold}
+use Rattle.cargo_toml_manifest.specs.Choosing.{Handed, MayFind, RootsTold}
 use Rattle.cargo_toml_manifest.specs.Completed.{IsCompleted}
 use Rattle.cargo_toml_manifest.specs.Completing.{Meets, Outcome}
 use Rattle.cargo_toml_manifest.specs.Manifests.{ManifestMeaning, held}
@@ -42,21 +42,23 @@ abbrev pub IsLentAs : (M : RattleType) → MutBor (Manifest M.Denot) → Bor (Ma
 IsLentAs M manifest lent =
     follows_so (the_row M) (the_row M) manifest.ghost_name none (λ _ _. ⊤) (λ new. new ≡ lent.now)
 
--- completed by a workspace that is handed in, if any, by what is stated of roots and of folders
+-- completed by a workspace that is handed in, if any, by what is stated of roots and of folders, and
+-- by the roots that may be found
 module _ {M : Type 0} (old : Manifest M) (handed : Option Handed) (roots : RootsTold)
-    (told : Name → Told) where
+    (found : MayFind) (told : Name → Told) where
   -- after a success the manifest is as it is lent; after a refusal it is as it was or, for want of
   -- memory alone, completed
   abbrev pub IsLeftAfter : {Y : Type 0} → Result (Bor (Manifest M) × Y) Error → Manifest M → Type 0
   IsLeftAfter (Ok p) new = new ≡ p.0.now
-  IsLeftAfter (Err e) new = (new ≡ old) ⊎ ((e ≡ Memory) × IsCompleted old handed roots told new)
+  IsLeftAfter (Err e) new =
+      (new ≡ old) ⊎ ((e ≡ Memory) × IsCompleted old handed roots found told new)
 
 -- so the manifest is left, once what was lent is let go
 abbrev pub IsLentAfter : (M : RattleType) {Y : Type 0} → MutBor (Manifest M.Denot) → Option Handed
-    → RootsTold → (Name → Told) → Result (Bor (Manifest M.Denot) × Y) Error → Fml
-IsLentAfter M manifest handed roots told answer =
+    → RootsTold → MayFind → (Name → Told) → Result (Bor (Manifest M.Denot) × Y) Error → Fml
+IsLentAfter M manifest handed roots found told answer =
     follows_so (the_row M) (the_row M) manifest.ghost_name none (λ _ _. ⊤)
-    (IsLeftAfter manifest.now handed roots told answer)
+    (IsLeftAfter manifest.now handed roots found told answer)
 
 -- what comes of a manifest that is completed and then resolved: completing has this outcome, and
 -- the features are those of the manifest that is lent

@@ -46,16 +46,17 @@ pub fn complete_and_parse_into<
     ensures answered { IsSome (with_lent result slot.new) }
     ensures completed { IfSome result
         (λ lent. IsCompleted manifest.old (option_map handed_of workspace.entry)
-        (roots_of Fs.Roots.ARE_READ (Fs.root_for fs)) (Fs.names_at fs) lent.now) }
+        (roots_of Fs.Roots.ARE_FOUND (Fs.root_for fs)) (Fs.may_find fs) (Fs.names_at fs)
+        lent.now) }
     ensures memory { IfSome result (λ _. IfSome slot.new (λ r. IfErr r (λ e. e ≡ Memory))) }
     ensures resolved { IfSome (with_lent result slot.new) (IsResolvedAfter
         (complete (held manifest.old) (option_map handed_of workspace.entry)
-        (roots_of Fs.Roots.ARE_READ (Fs.root_for fs)) (Fs.names_at fs))
+        (roots_of Fs.Roots.ARE_FOUND (Fs.root_for fs)) (Fs.names_at fs))
         (limit_of resolver.now) F.Fn (filter_of resolver.now)) }
     ensures wrapped { IfSome (with_lent result slot.new) (λ r. IfErr r (IsRefusedBy
         (held manifest.old) (option_map handed_of workspace.entry)
-        (roots_of Fs.Roots.ARE_READ (Fs.root_for fs))
-        (MayLose Fs.Roots.ARE_READ (Fs.may_refuse_root fs)) (Fs.may_refuse fs))) }
+        (roots_of Fs.Roots.ARE_FOUND (Fs.root_for fs)) (Fs.may_find fs)
+        (MayLose Fs.Roots.ARE_FOUND (Fs.may_refuse_root fs)) (Fs.may_refuse fs))) }
 {
     match manifest.complete_from_abstract_filesystem(alloc, fs, workspace) {
         Ok(()) => {}
@@ -95,18 +96,20 @@ impl<'config, F: Fn(&str) -> bool, S: BuildHasher + Clone + Drop> Resolver<'conf
         requires { HasNameFilter F.Fn (filter_of self.now) }
         ensures* left { sem 𝓛
             (IsLentAfter M.row manifest.entry (option_map handed_of workspace.entry)
-            (roots_of Fs.Roots.ARE_READ (Fs.root_for fs)) (Fs.names_at fs) result) }
+            (roots_of Fs.Roots.ARE_FOUND (Fs.root_for fs)) (Fs.may_find fs) (Fs.names_at fs)
+            result) }
         ensures outcome { Meets (λ p. held p.0.now)
             (complete (held manifest.old)
             (option_map handed_of workspace.entry)
-            (roots_of Fs.Roots.ARE_READ (Fs.root_for fs)) (Fs.names_at fs)) result }
+            (roots_of Fs.Roots.ARE_FOUND (Fs.root_for fs)) (Fs.names_at fs)) result }
         ensures completed { IfOk result
             (λ p. IsCompleted manifest.old (option_map handed_of workspace.entry)
-            (roots_of Fs.Roots.ARE_READ (Fs.root_for fs)) (Fs.names_at fs) p.0.now) }
+            (roots_of Fs.Roots.ARE_FOUND (Fs.root_for fs)) (Fs.may_find fs) (Fs.names_at fs)
+            p.0.now) }
         ensures wrapped { IfErr result (IsRefusedBy (held manifest.old)
             (option_map handed_of workspace.entry)
-            (roots_of Fs.Roots.ARE_READ (Fs.root_for fs))
-            (MayLose Fs.Roots.ARE_READ (Fs.may_refuse_root fs)) (Fs.may_refuse fs)) }
+            (roots_of Fs.Roots.ARE_FOUND (Fs.root_for fs)) (Fs.may_find fs)
+            (MayLose Fs.Roots.ARE_FOUND (Fs.may_refuse_root fs)) (Fs.may_refuse fs)) }
         ensures features { IfOk result
             (λ p. IsResolvedFor (limit_of self.now) (held p.0.now)
             F.Fn (filter_of self.now) p.1) }

@@ -1,5 +1,5 @@
 //! A file system in memory that notes what it is asked.
-use cargo_toml::{AbstractFilesystem, Error, Manifest, NoRoot};
+use cargo_toml::{AbstractFilesystem, Error, Manifest, ParsedRoot};
 use cargo_toml_bench::in_memory::InMemory;
 use std::alloc::Global;
 use std::cell::RefCell;
@@ -70,7 +70,7 @@ fn note(alloc: Global, asked: &RefCell<Vec<String>>, text: &str) -> Result<(), E
 }
 
 impl AbstractFilesystem for Recorder<'_> {
-    type Roots = NoRoot;
+    type Roots = ParsedRoot;
 
     fn file_names_in(&self, alloc: Global, rel_path: &str) -> Result<HashSet<String>, Error> {
         note(alloc, &self.paths, rel_path)?;

@@ -53,8 +53,8 @@ both_hold (Ok x) so p q = so x p q
 both_hold (Err e) so p q = tt
 
 -- the same text, and the same manifest
-pub completed_as : (s t : Text) (m n : Manifest Value) → s ≡ t → m ≡ n → IsCompletedIn s m → IsCompletedIn t n
-completed_as s t m n text is h = subst (λ (x : Text). IsCompletedIn x n) text (subst (λ (x : Manifest Value). IsCompletedIn s x) is h)
+pub completed_as : (path s t : Text) (m n : Manifest Value) → s ≡ t → m ≡ n → IsCompletedIn path s m → IsCompletedIn path t n
+completed_as path s t m n text is h = subst (λ (x : Text). IsCompletedIn path x n) text (subst (λ (x : Manifest Value). IsCompletedIn path s x) is h)
 
 -- a name where one is wanted
 pub copied_then : (b : Bool) (x : Bor (List ℕ)) → option_copied (then_some b x) ≡ then_some b x.now

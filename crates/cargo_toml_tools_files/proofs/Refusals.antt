@@ -8,7 +8,7 @@ use Rattle.cargo_toml.specs.Error.{Error, Memory}
 use Rattle.cargo_toml.specs.Manifest.{Manifest}
 use Rattle.cargo_toml.specs.Manifests.{ManifestMeaning, held}
 use Rattle.cargo_toml.specs.Reach.{Among}
-use Rattle.cargo_toml.specs.RealFiles.{real_folders, real_roots}
+use Rattle.cargo_toml.specs.RealFiles.{RootFoundAround, real_folders, real_roots}
 use Rattle.cargo_toml.specs.Sharing.{shared_of}
 use Rattle.cargo_toml.specs.Workspace.{Workspace}
 use Rattle.std.specs.BTreeSet.{BTreeSet}
@@ -23,8 +23,9 @@ use Rattle.cargo_toml_tools.specs.declared.audit.Finding.{Finding}
 use Rattle.cargo_toml_tools.specs.declared.audit.Member.{Member}
 use Rattle.cargo_toml_tools.specs.declared.audit.Use.{Use}
 use Rattle.cargo_toml_tools_files.specs.AuditSteps.{AddsAudited, AddsFolder, IsRefusedWith, NotesOnly, TellsRefusal, UnlessMemory}
-use Rattle.cargo_toml_tools_files.specs.AuditedMembers.{IsAskedThere, IsCompletedThere, IsInheritedThere, IsKeyNoted, IsMemberFault, differences_there}
+use Rattle.cargo_toml_tools_files.specs.AuditedMembers.{IsAskedThere, IsCompletedThere, IsInheritedThere, IsKeyNoted, IsMemberFault, differences_there, none_found}
 use Rattle.cargo_toml_tools_files.specs.FromFiles.{IsManifestIn}
+use Rattle.cargo_toml_manifest.proofs.Meeting.{completed_handed}
 
 -- ---- what is noted
 -- nothing, by a report of the same
@@ -85,12 +86,13 @@ unless_memory (Err e) (inr h) other = h
 
 module _ (root : Manifest Value) (path : Text) where
   -- a manifest that was read and completed, as it is held now
-  pub completed_there : (text : Text) (m read new made : Manifest Value) → read ≡ m → made ≡ new → IsManifestIn text m
-      → IsCompleted read (Some (shared_of root.workspace, path)) real_roots real_folders new → IsCompletedThere root path read made
-  completed_there text m read new made is same written done = record {
+  pub completed_there : (at text : Text) (m read new made : Manifest Value) → read ≡ m → made ≡ new → IsManifestIn text m
+      → IsCompleted read (Some (shared_of root.workspace, path)) real_roots (RootFoundAround at) real_folders new → IsCompletedThere root path read made
+  completed_there at text m read new made is same written done = record {
     text = text;
     written = subst (IsManifestIn text) (sym is) written;
-    completed = subst (λ (x : Manifest Value). IsCompleted read (Some (shared_of root.workspace, path)) real_roots real_folders x) (sym same) done;
+    completed = subst (λ (x : Manifest Value). IsCompleted read (Some (shared_of root.workspace, path)) real_roots none_found real_folders x) (sym same)
+        (completed_handed read new (shared_of root.workspace, path) real_roots (RootFoundAround at) none_found real_folders done);
   }
 
   -- a member that was read and completed, and what is noted of it

@@ -5,6 +5,7 @@ use Rattle.std.specs.BTreeSet.{contains_text}
 use Rattle.std.specs.Str.{trim_end}
 use Rattle.toml.specs.declared.value.Value.{Value}
 use Rattle.cargo_toml.specs.Action.{Text}
+use Rattle.cargo_toml.specs.Choosing.{MayFind}
 use Rattle.cargo_toml.specs.Completed.{IsCompleted}
 use Rattle.cargo_toml.specs.Error.{Error, Memory, out-Error}
 use Rattle.cargo_toml.specs.Faults.{text_of}
@@ -72,6 +73,10 @@ inherited_by r = inherited_in_all (all_by_kind (held r.read))
 abbrev pub asked_of : Reading → List Asking
 asked_of r = asked_in_all (folder_of r) (all_by_kind (held r.new))
 
+-- no root is looked for where a workspace is handed in
+abbrev pub none_found : MayFind
+none_found hint m path = ⊥
+
 -- of a workspace's manifest at a path
 module _ (root : Manifest Value) (path : Text) where
   -- some text reads as a manifest that completion from the workspace makes into this one
@@ -79,7 +84,7 @@ module _ (root : Manifest Value) (path : Text) where
     pub text : Text
     pub written : IsManifestIn text read
     pub completed : IsCompleted read (Some (shared_of root.workspace, path)) real_roots
-        real_folders new
+        none_found real_folders new
 
   -- a member is what is told of such a manifest, and inherits what that leaves to the workspace
   pub record IsMemberThere (read new : Manifest Value) (member : Member) : Type 0 where

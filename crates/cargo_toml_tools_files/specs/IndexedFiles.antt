@@ -17,40 +17,41 @@ use Rattle.cargo_toml_tools_files.specs.FromFiles.{IsCompletedIn, IsUncompleted}
 use Rattle.cargo_toml_tools_files.specs.declared.indexing.Fault.{Fault}
 use Rattle.cargo_toml_tools_files.specs.declared.indexing.Fault.TheVariants as fault
 
--- the text reads and completes as a manifest that an index takes, and this is its line
-pub record IsIndexedBy (text : Text) (checksum : Option Text) (told : Text) : Type 0 where
+-- the text of the file at this path reads and completes as a manifest that an index takes, and this
+-- is its line
+pub record IsIndexedBy (path text : Text) (checksum : Option Text) (told : Text) : Type 0 where
   pub manifest : Manifest Value
-  pub completed : IsCompletedIn text manifest
+  pub completed : IsCompletedIn path text manifest
   pub taken : IsTaken text (held manifest)
   pub line : Text
   pub exact : IsLineOf (held manifest) checksum line
   pub ended : told ≡ line ++ 10 ∷ []
 
--- the text reads and completes as a manifest that an index doesn't take, for what is told
-pub record IsUntakenBy (text : Text) (e : IndexError) : Type 0 where
+-- it reads and completes as a manifest that an index doesn't take, for what is told
+pub record IsUntakenBy (path text : Text) (e : IndexError) : Type 0 where
   pub manifest : Manifest Value
-  pub completed : IsCompletedIn text manifest
+  pub completed : IsCompletedIn path text manifest
   pub told : Explains text (held manifest) e
   pub exact : (e ≡ Memory) ⊎ ¬ IsTaken text (held manifest)
 
 -- some text does so
-abbrev pub IsIndexed : Option Text → Text → Type 0
-IsIndexed checksum told = (text : Text) × IsIndexedBy text checksum told
+abbrev pub IsIndexed : Text → Option Text → Text → Type 0
+IsIndexed path checksum told = (text : Text) × IsIndexedBy path text checksum told
 
-abbrev pub IsUntaken : IndexError → Type 0
-IsUntaken e = (text : Text) × IsUntakenBy text e
+abbrev pub IsUntaken : Text → IndexError → Type 0
+IsUntaken path e = (text : Text) × IsUntakenBy path text e
 
 -- why this text of the file at the path gives no line
 abbrev pub IsLineFault : Text → Text → Fault → Type 0
 IsLineFault path text (fault.Manifest e) =
     IsTextFault path text (manifest_meaning view) (manifest_reads any_tree)
     (ManifestRefuses any_tree AnyRefuses) e
-IsLineFault path text (fault.Index e) = IsUntakenBy text e
+IsLineFault path text (fault.Index e) = IsUntakenBy path text e
 
 -- why the file at this path gives no line
 abbrev pub IsIndexFault : Text → Fault → Type 0
 IsIndexFault path (fault.Manifest e) = IsUncompleted path e
-IsIndexFault path (fault.Index e) = IsUntaken e
+IsIndexFault path (fault.Index e) = IsUntaken path e
 
 -- what a fault displays, where that is stated
 abbrev pub text_of_fault : Fault → Option Text

@@ -78,7 +78,7 @@ pub fn index<R: Files + AllocGlobal>(
     checksum: Option<&str>,
 ) -> Result<String, Fault>
     ensures indexed { IfOk result
-        (λ line. IsIndexed (option_copied checksum.entry) (string_bytes line)) }
+        (λ line. IsIndexed file.now (option_copied checksum.entry) (string_bytes line)) }
     ensures named { OnOk result (IsSome (path_parent file.now)) }
     ensures refused { IfErr result (IsIndexFault file.now) }
 {
@@ -94,7 +94,8 @@ fn line_of<R: Files + AllocGlobal>(
     checksum: Option<&str>,
 ) -> Result<String, Fault>
     ensures indexed { IfOk result
-        (λ line. IsIndexedBy text.now (option_copied checksum.entry) (string_bytes line)) }
+        (λ line. IsIndexedBy file.now text.now (option_copied checksum.entry)
+        (string_bytes line)) }
     ensures named { OnOk result (IsSome (path_parent file.now)) }
     ensures refused { IfErr result (IsLineFault file.now text.now) }
 {

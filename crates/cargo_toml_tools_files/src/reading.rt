@@ -27,7 +27,7 @@ pub(crate) fn completed_of<R: Files + AllocGlobal>(
     file: &str,
     text: &str,
 ) -> Result<HeldManifest, Error>
-    ensures completed { IfOk result (λ h. IsCompletedIn text.now h.manifest.value) }
+    ensures completed { IfOk result (λ h. IsCompletedIn file.now text.now h.manifest.value) }
     ensures named { OnOk result (IsSome (path_parent file.now)) }
     ensures refused { IfErr result (IsTextFault file.now text.now (manifest_meaning view)
         (manifest_reads any_tree) (ManifestRefuses any_tree AnyRefuses)) }

@@ -1,5 +1,5 @@
 //! Completion over implementors of a caller's own, which state nothing.
-use cargo_toml::{AbstractFilesystem, Error, NoRoot, Value};
+use cargo_toml::{AbstractFilesystem, Error, Filesystem, NoRoot, Value};
 use cargo_toml_held::HeldManifest;
 use std::alloc::Global;
 use std::collections::HashSet;
@@ -39,5 +39,15 @@ fn root_for_hint_of_a_silent_implementor(rt: HostRuntime) -> Result<(), Fail> {
         .complete_from_abstract_filesystem::<Value, _>(alloc, &Silent, None);
     assert!(rt; matches!(&outcome, Err(fault) if is_unsupported(fault, "../")));
     assert_eq!(rt; format!(in alloc; "{:?}", member.manifest)?, before);
+    Ok(())
+}
+
+#[test]
+fn root_bytes_are_never_read_among_real_files(rt: HostRuntime) -> Result<(), Fail> {
+    let read = Filesystem::new(&rt, "").read_root_workspace(rt.alloc(), None);
+    assert!(rt;
+        matches!(&read, Err(Error::Io(fault))
+        if fault.kind() == io::ErrorKind::Unsupported)
+    );
     Ok(())
 }

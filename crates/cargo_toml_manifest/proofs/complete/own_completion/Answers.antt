@@ -14,7 +14,7 @@ pub returns-in-Some : goal.returns-in-Some
 returns-in-Some g c =
     let made = c.completion_at.ensures in
     let table = ap (option_map (workspace_meaning (λ x. x))) c.in-Some.is in
-    answered_by_table (held c.args.manifest.now) _ _ _ _ _ (workspace_meaning (λ x. x) c.in-Some.workspace) table
+    answered_by_table (held c.args.manifest.now) _ _ _ _ _ _ (workspace_meaning (λ x. x) c.in-Some.workspace) table
     (made.outcome, (made.given, made.wrapped))
 
 pub returns-then-needs_workspace_inheritance : goal.returns-then-needs_workspace_inheritance
@@ -22,7 +22,7 @@ returns-then-needs_workspace_inheritance g c =
     let made = c.completion_by_hint.ensures in
     let table = ap (option_map (workspace_meaning (λ x. x))) c.in-None.is in
     let needed = sym c.needs_workspace_inheritance.ensures ∙ c.if-needs_workspace_inheritance.true in
-    answered_by_hint (held c.args.manifest.now) _ _ _ _ _ table needed made.outcome made.given made.wrapped
+    answered_by_hint (held c.args.manifest.now) _ _ _ _ _ _ table needed made.outcome made.given made.wrapped
 
 pub returns-else-needs_workspace_inheritance : goal.returns-else-needs_workspace_inheritance
 returns-else-needs_workspace_inheritance g c =
@@ -38,4 +38,4 @@ returns-else-needs_workspace_inheritance g c =
     (λ (n : ManifestMeaning _). Meets (with_completion m) (seen_at None (found_around n names)) r
     × IfOk r (λ new. (answers : Answers) × (seen_at None (found_around n (filled names answers)) ≡ gives (with_completion m new))))
     same (c.completion.ensures.outcome, c.completion.ensures.given) in
-    answered_alone m _ _ _ _ _ table needed (made.0, (made.1, c.completion.ensures.wrapped))
+    answered_alone m _ _ _ _ _ _ table needed (made.0, (made.1, c.completion.ensures.wrapped))

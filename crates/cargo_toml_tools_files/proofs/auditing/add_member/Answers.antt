@@ -97,7 +97,7 @@ returns g c =
     let read = c.deref_mut.result.now in
     let made = c.deref-2.result.now in
     let same : c.deref.result.now ≡ read = c.deref.ensures ∙ sym c.deref_mut.ensures.value in
-    let from = completed_there root path text.0 _ read c.complete_from_path_and_workspace.new.self made c.deref_mut.ensures.value c.deref-2.ensures text.1
+    let from = completed_there root path c.args.place.path.now text.0 _ read c.complete_from_path_and_workspace.new.self made c.deref_mut.ensures.value c.deref-2.ensures text.1
     c.in_ok-complete_from_path_and_workspace.ensures.completed in
     let written = c.in_ok-inherits.ensures in
     let left = written.keys ∙ ap (λ (m : Manifest Value). left_keys (held m)) same in

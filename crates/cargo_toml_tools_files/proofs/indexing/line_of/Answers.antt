@@ -13,7 +13,7 @@ returns-in_err-line-clause-refused g c =
     let p = err_from_is_err_and c.from_residual-in_err-line.result c.from_residual-in_err-line.ensures.1 in
     rw (p.1, p.2) (record {
       manifest = c.deref.result.now;
-      completed = completed_as c.args.text.now c.args.text.now _ _ refl (sym c.deref.ensures) c.in_ok-held.ensures.completed;
+      completed = completed_as c.args.file.now c.args.text.now c.args.text.now _ _ refl (sym c.deref.ensures) c.in_ok-held.ensures.completed;
       told = c.in_err-line.ensures.refused;
       exact = c.in_err-line.ensures.exact;
     })
@@ -21,7 +21,7 @@ returns-in_err-line-clause-refused g c =
 pub returns-clause-indexed : goal.returns-clause-indexed
 returns-clause-indexed g c = record {
   manifest = c.deref.result.now;
-  completed = completed_as c.args.text.now c.args.text.now _ _ refl (sym c.deref.ensures) c.in_ok-held.ensures.completed;
+  completed = completed_as c.args.file.now c.args.text.now c.args.text.now _ _ refl (sym c.deref.ensures) c.in_ok-held.ensures.completed;
   taken = c.in_ok-line.ensures.taken;
   line = string_bytes c.in_ok-line.line;
   exact = c.in_ok-line.ensures.line;

@@ -14,7 +14,7 @@ use Rattle.cargo_toml_held.proofs.held.HeldManifest.from_path.Goals as goal
 pub returns-in-Ok-clause-given : goal.returns-in-Ok-clause-given
 returns-in-Ok-clause-given g c =
     IfOk-weaker c.new.result _ _
-    (λ h same. subst (λ (m : Manifest Value). IsReadAndCompleted view (manifest_reads any_tree) m) (sym same) c.in-Ok.ensures.given)
+    (λ h same. subst (λ (m : Manifest Value). IsReadAndCompleted c.args.path.now view (manifest_reads any_tree) m) (sym same) c.in-Ok.ensures.given)
     c.new.ensures.same
 
 pub returns-in-Ok-clause-filled : goal.returns-in-Ok-clause-filled

@@ -29,11 +29,12 @@ returns-clause-completed g c =
     let m = held c.args.self.now in
     let n = held c.put_found.new.manifest in
     let handed = option_map handed_of c.args.workspace in
-    let roots : RootsTold = roots_of g.Fs.Roots.Roots.ARE_READ (g.Fs.AbstractFilesystem.root_for c.args.fs) in
+    let roots : RootsTold = roots_of g.Fs.Roots.Roots.ARE_FOUND (g.Fs.AbstractFilesystem.root_for c.args.fs) in
+    let found = g.Fs.AbstractFilesystem.may_find c.args.fs in
     let told = g.Fs.AbstractFilesystem.names_at c.args.fs in
     let put = put_in m _ _ c.in_ok-parts.field-0 c.install_parts.ensures c.put_found.ensures in
-    let by = subst (λ (x : ManifestMeaning _). GivenBy m handed roots told x) (sym put) c.in_ok-parts.ensures.given in
-    let none = complete_done m n handed by.0 (filled told by.2.0) by.2.1 in
+    let by = subst (λ (x : ManifestMeaning _). GivenBy m handed roots found told x) (sym put) c.in_ok-parts.ensures.given in
+    let none = complete_done m n handed (λ _. by.0) (filled told by.2.0) by.2.1 in
     record {
       outcome = given_again (with_completion m) held _ c.in_ok-parts.field-0 c.put_found.new.manifest put c.in_ok-parts.ensures.outcome;
       given = by;

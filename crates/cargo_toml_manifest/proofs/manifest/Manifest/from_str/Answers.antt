@@ -1,4 +1,3 @@
-use Rattle.toml.specs.Parse.{parse_document}
 use Rattle.toml.specs.View.{view}
 use Rattle.cargo_toml_manifest.specs.Manifests.{manifest_meaning, manifest_reads, ManifestRefuses}
 use Rattle.cargo_toml_manifest.specs.Texts.{AnyRefuses, any_tree}
@@ -8,4 +7,4 @@ use Rattle.cargo_toml_manifest.proofs.manifest.Manifest.from_str.Goals as goal
 pub returns : goal.returns
 returns c =
     of_text (manifest_meaning view) (manifest_reads any_tree) (ManifestRefuses any_tree AnyRefuses)
-    (parse_document c.args.text.now) c.in_ok-tree_of.field-0 c.read_table.result c.in_ok-tree_of.ensures c.read_table.ensures
+    c.args.text.now c.in_ok-tree_of.field-0 c.read_table.result c.in_ok-tree_of.ensures c.read_table.ensures

@@ -71,7 +71,7 @@ use Rattle.cargo_toml_resolver.proofs.features.Resolver.complete_and_parse.State
 use Rattle.cargo_toml_resolver.proofs.features.Resolver.complete_and_parse.Code as code
 use Rattle.cargo_toml_graph.specs.Action.{Text}
 use Rattle.cargo_toml_resolve.specs.Filter.{HasNameFilter}
-use Rattle.cargo_toml_manifest.specs.Choosing.{handed_of, roots_of, RootsTold}
+use Rattle.cargo_toml_manifest.specs.Choosing.{MayFind, handed_of, roots_of, RootsTold}
 use Rattle.cargo_toml_manifest.specs.Manifests.{ManifestMeaning, held}
 use Rattle.cargo_toml_manifest.specs.Completed.{IsCompleted}
 use Rattle.cargo_toml_manifest.specs.Completing.{Meets, complete}
@@ -104,8 +104,8 @@ complete_and_parse_spec 𝓤 𝓛 𝓜 𝓡 wired F S I X N P Q LF LS LI LX LN L
     let Post = (walk_of 𝓛 T hs cl).post z in let Run = λ (ws : List Val). WpFn 𝓤 H 𝓣.C 𝓣.Λ fn ws Post in
     let r = a.0 in let m = a.1.1.0 in let b = m.ref_ptr.0 in let o = m.ref_ptr.1 in let γ = m.ghost_name in let MR = Manifest.the_row (param 3 X) in
     let old = m.now in let meaning : MR.Denot → ManifestMeaning X.Denot = held in
-    let handed = option_map handed_of a.1.1.1.1.0 in let roots : RootsTold = roots_of q.ARE_READ (p.root_for a.1.1.1.0) in let told : Text → Told = p.names_at a.1.1.1.0 in
-    let Why : Error.the_row.Denot → Type 0 = IsRefusedBy (meaning old) handed roots (MayLose q.ARE_READ (p.may_refuse_root a.1.1.1.0)) (p.may_refuse a.1.1.1.0) in
+    let handed = option_map handed_of a.1.1.1.1.0 in let roots : RootsTold = roots_of q.ARE_FOUND (p.root_for a.1.1.1.0) in let found : MayFind = p.may_find a.1.1.1.0 in let told : Text → Told = p.names_at a.1.1.1.0 in
+    let Why : Error.the_row.Denot → Type 0 = IsRefusedBy (meaning old) handed roots found (MayLose q.ARE_FOUND (p.may_refuse_root a.1.1.1.0)) (p.may_refuse a.1.1.1.0) in
     let e0 = shr_Tells (named 0) κ0 (Resolver.the_row (named_lft 12 1 tt κs) (param 0 F) (param 1 S)) r us.0 are.0 in let e2 = mut_Tells (named 2) κ2 MR m us.1.1.0 are.1.1.0 in
     let s1 = single 𝓛 (row_at 1 Rs) Global-laws.the_row_laws a.1.0 us.1.0 are.1.0 in let s3 = single 𝓛 (row_at 3 Rs) (param_laws 5 P LP) a.1.1.1.0 us.1.1.1.0 are.1.1.1.0 in
     let HandedRows : List RattleType = (shr_ref_field (named_lft 12 3 tt κs) (Manifest.the_row (param 4 N)) tt).row ∷ (str-field (named_lft 12 4 tt κs)).row ∷ [] in
@@ -162,10 +162,10 @@ complete_and_parse_spec 𝓤 𝓛 𝓜 𝓡 wired F S I X N P Q LF LS LI LX LN L
     let Done = Result.the_row unit Error.the_row in let LD = result_laws unit Error.the_row (of_field unit-field unit-laws refl (copy_shared unit-field unit-copy)) Error-laws.the_row_laws in
     use1 𝓛 (later (some (λ (d : Done.Denot). ((‵ (flft α s) ⊛ t3 ⊛ t4 ⊛ ‵ (flft κ8 (Share.right q8)) ⊛ t9 ⊛ t10 ⊛ t11 ⊛ ‵ ftrue) ⊛ ‵ (Done.own_val d (v6 ∷ []))) ⊛ some (λ (ws : Lasts E1 z1.0.0 z1.0.3). ‵ (lasts E1 z1.0.0 z1.0.3 ws) ⊛
     raw (fact 𝓤 (Meets (λ (_ : Unit {0}). meaning ws.0) (complete (meaning old) handed roots told) d)) ⊛ raw (fact 𝓤 (OnErr d (ws.0 ≡ old))) ⊛
-    raw (fact 𝓤 (OnOk d (IsCompleted old handed roots told ws.0))) ⊛ raw (fact 𝓤 (IfErr d Why)))))) (id⊢ 𝓤 _) $
+    raw (fact 𝓤 (OnOk d (IsCompleted old handed roots found told ws.0))) ⊛ raw (fact 𝓤 (IfErr d Why)))))) (id⊢ 𝓤 _) $
     await ! tt $ pick ! (λ d. split ! $ split ! $ move ! (2 ∷ []) $ pick ! (λ ws. let new = ws.0 in split ! $ move ! (1 ∷ []) $
     split ! $ heard ! _ (λ outcome. split ! $ heard ! _ (λ unchanged. split ! $ heard ! _ (λ completed. heard ! _ (λ wrapped.
-    let done : Completing old new handed roots told Why d = record { outcome = outcome; unchanged = unchanged; completed = completed; wrapped = wrapped } in
+    let done : Completing old new handed roots found told Why d = record { outcome = outcome; unchanged = unchanged; completed = completed; wrapped = wrapped } in
     -- [the last values; the tokens; the answer; what the lender keeps; the way back; self; alloc; the tokens of 0, 1, 5, 6 and 7]
     fsplit ! $ fsplit ! $ move ! (1 ∷ 2 ∷ []) $ drop ! $ drop ! $ move ! (1 ∷ []) $
     split ! $ move ! (1 ∷ []) $ split ! $ move ! (1 ∷ []) $ split ! $ move ! (1 ∷ []) $ split ! $ move ! (1 ∷ []) $ split ! $ move ! (1 ∷ []) $ split ! $ move ! (1 ∷ []) $ split ! $ move ! (1 ∷ []) $ drop ! $
@@ -215,11 +215,11 @@ complete_and_parse_spec 𝓤 𝓛 𝓜 𝓡 wired F S I X N P Q LF LS LI LX LN L
     -- [the tokens of the call; the answer; what is left; the tokens of 11, 10, 9, 4 and 3]
     move ! (1 ∷ []) $ peeks ! End (Is End) (shows 𝓛 End) y (v ∷ []) (λ isY. lands_as ! refl refl ((LE.lawful 𝓛).typed y (v ∷ []) isY).0 $ returns ! (look_at ! 0 refl) $ free_all ! refl $
     let after : Answering new d l y = record { same = same; refused = refused; memory = memory; lent = lent } in
-    move ! (2 ∷ []) $ use1 𝓛 (‵ (IsLentAfter (param 3 X) m handed roots told y)) (rests_so 𝓛 MR γ (λ left. left ≡ l.now) (IsLeftAfter old handed roots told y) (left_after old new handed roots told d l y done after)) $
+    move ! (2 ∷ []) $ use1 𝓛 (‵ (IsLentAfter (param 3 X) m handed roots found told y)) (rests_so 𝓛 MR γ (λ left. left ≡ l.now) (IsLeftAfter old handed roots found told y) (left_after old new handed roots found told d l y done after)) $
     use0 𝓛 (raw (fact 𝓤 (Resolved y))) (fact_i 𝓤 _ (emp 𝓤) features) $
-    use0 𝓛 (raw (fact 𝓤 (IfErr y Why))) (fact_i 𝓤 _ (emp 𝓤) (wrapped_after old new handed roots told d l y (λ e memory. inl memory) done after)) $ join ! $
-    use0 𝓛 (raw (fact 𝓤 (IfOk y (λ w. IsCompleted old handed roots told w.0.now)))) (fact_i 𝓤 _ (emp 𝓤) (lent_after (λ x. IsCompleted old handed roots told x) new d l y done.completed after)) $ join ! $
-    use0 𝓛 (raw (fact 𝓤 (Meets (λ w. meaning w.0.now) (complete (meaning old) handed roots told) y))) (fact_i 𝓤 _ (emp 𝓤) (outcome_after old new handed roots told d l y done after)) $ join ! $ move ! (1 ∷ 0 ∷ []) $ join ! $
+    use0 𝓛 (raw (fact 𝓤 (IfErr y Why))) (fact_i 𝓤 _ (emp 𝓤) (wrapped_after old new handed roots found told d l y (λ e memory. inl memory) done after)) $ join ! $
+    use0 𝓛 (raw (fact 𝓤 (IfOk y (λ w. IsCompleted old handed roots found told w.0.now)))) (fact_i 𝓤 _ (emp 𝓤) (lent_after (λ x. IsCompleted old handed roots found told x) new d l y done.completed after)) $ join ! $
+    use0 𝓛 (raw (fact 𝓤 (Meets (λ w. meaning w.0.now) (complete (meaning old) handed roots told) y))) (fact_i 𝓤 _ (emp 𝓤) (outcome_after old new handed roots found told d l y done after)) $ join ! $ move ! (1 ∷ 0 ∷ []) $ join ! $
     nothing ! $ nothing ! $ join ! $ nothing ! $ join ! $ nothing ! $ join ! $ nothing ! $ join ! $ nothing ! $ join ! $ move ! (3 ∷ []) $
     split ! $ move ! (1 ∷ []) $ split ! $ move ! (1 ∷ []) $ split ! $ move ! (1 ∷ []) $ split ! $ move ! (1 ∷ []) $ split ! $ move ! (1 ∷ []) $ split ! $ move ! (1 ∷ []) $ split ! $
     -- [the token of 8; nothing; the tokens of 7, 6, 5, 2, 1 and 0; nothing for the parameters; what is ensured; the answer; the tokens of 11, 10, 9, 4 and 3]

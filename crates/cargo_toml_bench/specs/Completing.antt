@@ -23,8 +23,8 @@ abbrev pub handed_at : Manifest Value → List ℕ → Option Handed
 handed_at workspace path = Some (shared_of workspace.workspace, path)
 
 module _ (bytes path : List ℕ) (old : Manifest Value) (roots : RootsTold) (found : MayFind) where
-  -- completed from the workspace that the bytes spell, by what is stated of roots and of folders, and
-  -- by the roots that may be found
+  -- completed from the workspace that the bytes spell, by what is stated of roots and of folders,
+  -- and by the roots that may be found
   pub record IsCompletedFrom (told : List ℕ → Told) (new : Manifest Value) : Type 0 where
     pub workspace : Manifest Value
     pub spelled : SpellsManifest bytes workspace

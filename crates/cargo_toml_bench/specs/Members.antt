@@ -30,8 +30,8 @@ module _ {M : Type 0} (m : ManifestMeaning M) where
     pub counted : count ≡ length names
 
 -- the answer is told of what completion makes of a manifest by itself
-abbrev pub IsToldOnce : {M : Type 0} → Manifest M → RootsTold → MayFind → (Name → Told) → Text → Text
-    → Bool → Type 0
+abbrev pub IsToldOnce : {M : Type 0} → Manifest M → RootsTold → MayFind → (Name → Told) → Text
+    → Text → Bool → Type 0
 IsToldOnce {M} old roots found told name other answer =
     (new : Manifest M) × IsCompleted old None roots found told new
     × IsToldOfMember (held new) name other answer

@@ -22,7 +22,8 @@ IsOfBytes IsText bytes text = (m : Manifest Value) × IsFromSlice bytes (Ok m) �
 abbrev pub IsSpelled : Manifest Value → Type 0
 IsSpelled = IsReadFromText (manifest_meaning view) (manifest_reads any_tree)
 
--- the text is that of a manifest which some text spells, as completing it around this path leaves it
+-- the text is that of a manifest which some text spells, as completing it around this path leaves
+-- it
 abbrev pub IsOfCompleted : List ℕ → Text → Type 0
 IsOfCompleted path text =
     (old : Manifest Value) × IsSpelled old × (new : Manifest Value)

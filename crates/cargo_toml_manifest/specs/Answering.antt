@@ -12,8 +12,8 @@ use Rattle.cargo_toml_manifest.specs.Refusing.{IsRefusedBy}
 use Rattle.cargo_toml_manifest.specs.declared.finding.Completion.{Completion}
 
 -- the answer for a manifest, by the workspace that is handed in, if any, by what is stated of roots
--- and of folders, by the roots that may be found, and by the faults that may stand in place of a root
--- and of names
+-- and of folders, by the roots that may be found, and by the faults that may stand in place of a
+-- root and of names
 pub record IsAnsweredBy {M : Type 0} (m : ManifestMeaning M) (handed : Option Handed)
     (roots : RootsTold) (found : MayFind) (told : Name → Told)
     (lost : Option (List ℕ) → Fault → Type 0) (refused : List ℕ → Fault → Type 0)

@@ -23,7 +23,7 @@ RootsTold = Option (List ℕ) → ToldRoot
 
 -- what is heard of the roots that an implementor tells
 abbrev pub roots_of : Bool → RootsTold → RootsTold
-roots_of found told hint = heard found (told hint)
+roots_of finds told hint = heard finds (told hint)
 
 -- which roots may be found for a hint: a manifest with its path
 abbrev pub MayFind : Type 1

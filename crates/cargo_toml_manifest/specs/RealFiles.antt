@@ -139,7 +139,7 @@ IsRootPath folder None path =
     (above : List ℕ) × (IsAbove folder above × (path ≡ path_join above (codes "Cargo.toml")))
 
 -- the root that may be found among real files, as seen from a folder: some bytes are those of its
--- manifest, which has a workspace, and it stands at such a path
+-- manifest, which has a workspace, and its path is one at which the search looks
 abbrev pub RealRootFound : List ℕ → Option (List ℕ) → ManifestMeaning Data → List ℕ → Type 0
 RealRootFound folder hint m path =
     ((bytes : List ℕ) × IsRootIn bytes m) × IsRootPath folder hint path

@@ -32,8 +32,8 @@ IsTomlIn text e =
     IsToml e
     × (elim (out-Error e) as (λ _. Type 0) [ Error-F.Parse f ↦ LiesIn text f | _ ↦ Unit {0} ])
 
--- what may be wrong of a text in which `toml` finds this document, if it finds one: the text, a float
--- at any depth, or else the tree
+-- what may be wrong of a text in which `toml` finds this document, if it finds one: the text, a
+-- float at any depth, or else the tree
 abbrev pub DocumentRefuses : (Data → Error → Type 0) → List ℕ → Option Members → Error → Type 0
 DocumentRefuses refuses text None e = IsTomlIn text e
 DocumentRefuses refuses text (Some ms) e = FloatsOr refuses (table ms) e

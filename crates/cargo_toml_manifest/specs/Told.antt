@@ -40,7 +40,7 @@ AnswersRoot (root m path) result =
 AnswersRoot no_root result = IsErr result
 AnswersRoot open_root result = Unit {0}
 
--- what is heard of a root: where no root is ever read, none can be stated
+-- what is heard of a root: where no root is ever read, or ever found, none can be stated
 abbrev pub heard : Bool → ToldRoot → ToldRoot
 heard true told = told
 heard false (root m path) = open_root

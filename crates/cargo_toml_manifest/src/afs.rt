@@ -2,7 +2,6 @@
 ghost use Rattle.std.specs.Prelude.{◌≡◌, ◌⊎◌, ℕ, List, Bool, true, false, not, ◌&&◌, Option, IfOk};
 ghost use Rattle.std.specs.Prelude.{Ok, Err, IfErr, MatchResult, string_bytes};
 ghost use Rattle.std.specs.Option.{option_copied};
-ghost use Rattle.toml.specs.Data.{Data};
 ghost use Rattle.toml.specs.View.{view};
 ghost use Rattle.cargo_toml_parts.specs.declared.error.Error.{Memory};
 ghost use Rattle.cargo_toml_parts.specs.Answers.{Gives};
@@ -11,7 +10,8 @@ ghost use Rattle.cargo_toml_parts.specs.FaultValues.{workspace_integrity};
 ghost use Rattle.cargo_toml_parts.specs.Wrapping.{wrap};
 ghost use Rattle.cargo_toml_discovery.specs.Folders.{AnswersNames, RefusesBy};
 ghost use Rattle.cargo_toml_discovery.specs.Told.{Told, open_path};
-ghost use Rattle.cargo_toml_manifest.specs.Manifests.{ManifestMeaning, manifest_meaning};
+ghost use Rattle.cargo_toml_manifest.specs.Choosing.{MayFind};
+ghost use Rattle.cargo_toml_manifest.specs.Manifests.{manifest_meaning};
 ghost use Rattle.cargo_toml_manifest.specs.Refusing.{MayHold, MayLose, ReadsBy};
 ghost use Rattle.cargo_toml_manifest.specs.Roots.{IsFromSlice, IsRootAt, not_a_workspace};
 ghost use Rattle.cargo_toml_manifest.specs.Told.{ToldRoot, open_root, heard};
@@ -28,7 +28,8 @@ pub trait Roots {
     /// Whether it writes `read_root_workspace`.
     const ARE_READ: bool;
 
-    /// Whether it writes one of the two, so that roots can be found.
+    /// Whether it writes one of the two, so that roots can be found. It is true wherever the other
+    /// constant is.
     const ARE_FOUND: bool;
 
     // the same, for clauses
@@ -81,9 +82,9 @@ impl Roots for ParsedRoot {
 /// For proofs alone, an implementor may state what it answers for each path and each hint; by
 /// default it states nothing. Its calls then answer what it states, or `Memory`. In the same way it
 /// may state which faults its calls may give, and which roots may be found where none is stated; by
-/// default these are all. What completion takes from a root, and why it is refused, then has no
-/// other cause. With `NoRoot` each root that is asked for may be refused as `Unsupported`, with the
-/// hint.
+/// default these are all. Completion then inherits from no other root that is looked up, and is
+/// refused for no other fault of its calls. With `NoRoot` each root that is asked for may be
+/// refused as `Unsupported`, with the hint.
 pub trait AbstractFilesystem {
     /// `OwnRoot` where `read_root_workspace` is written, `ParsedRoot` where `parse_root_workspace`
     /// alone is, and `NoRoot` where both are left out. With `NoRoot` nothing is stated of a root
@@ -97,7 +98,7 @@ pub trait AbstractFilesystem {
     ghost root_for: { Self → Option (List ℕ) → ToldRoot } = { λ _ _. open_root };
 
     /// Which roots may be found for a hint: the manifest of one, and its path.
-    ghost may_find: { Self → Option (List ℕ) → ManifestMeaning Data → List ℕ → Type 0 } = { λ _ _ _ _. Unit {0} };
+    ghost may_find: { Self → MayFind } = { λ _ _ _ _. Unit {0} };
 
     /// Which faults may stand in place of the names at a path, as seen from the
     /// folder of the manifest.

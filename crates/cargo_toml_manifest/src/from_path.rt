@@ -44,7 +44,8 @@ impl<Metadata: Drop> Manifest<Metadata> {
             ↔ IsErrAnd result (λ e. fault_of e ≡ bad_path) }
         ensures unchanged { OnErr result (self.new ≡ self.old) }
         ensures completed { OnOk result
-            (IsCompleted self.old None real_roots (RootFoundAround path.now) real_folders self.new) }
+            (IsCompleted self.old None real_roots (RootFoundAround path.now) real_folders
+            self.new) }
         ensures refused { IfErr result
             (IsCompletionFault path.now (held self.old) None) }
     {

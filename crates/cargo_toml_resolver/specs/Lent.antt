@@ -42,8 +42,8 @@ abbrev pub IsLentAs : (M : RattleType) → MutBor (Manifest M.Denot) → Bor (Ma
 IsLentAs M manifest lent =
     follows_so (the_row M) (the_row M) manifest.ghost_name none (λ _ _. ⊤) (λ new. new ≡ lent.now)
 
--- completed by a workspace that is handed in, if any, by what is stated of roots and of folders, and
--- by the roots that may be found
+-- completed by a workspace that is handed in, if any, by what is stated of roots and of folders,
+-- and by the roots that may be found
 module _ {M : Type 0} (old : Manifest M) (handed : Option Handed) (roots : RootsTold)
     (found : MayFind) (told : Name → Told) where
   -- after a success the manifest is as it is lent; after a refusal it is as it was or, for want of

@@ -17,8 +17,8 @@ pub record IsManifestIn (text : Text) (m : Manifest Value) : Type 0 where
   pub utf8 : IsUtf8 text
   pub reads : ReadsAs text (manifest_meaning view) (manifest_reads any_tree) m
 
--- the text reads as a manifest that completion among the real files around this path makes into this
--- one
+-- the text reads as a manifest that completion among the real files around this path makes into
+-- this one
 pub record IsCompletedIn (path text : Text) (new : Manifest Value) : Type 0 where
   pub read : Manifest Value
   pub written : IsManifestIn text read

@@ -17,8 +17,8 @@ use Rattle.cargo_toml_tools_files.specs.FromFiles.{IsCompletedIn, IsUncompleted}
 use Rattle.cargo_toml_tools_files.specs.declared.indexing.Fault.{Fault}
 use Rattle.cargo_toml_tools_files.specs.declared.indexing.Fault.TheVariants as fault
 
--- the text of the file at this path reads and completes as a manifest that an index takes, and this
--- is its line
+-- the text of the file at this path reads and completes as a manifest that an index takes, and
+-- this is its line
 pub record IsIndexedBy (path text : Text) (checksum : Option Text) (told : Text) : Type 0 where
   pub manifest : Manifest Value
   pub completed : IsCompletedIn path text manifest

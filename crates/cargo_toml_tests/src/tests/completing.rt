@@ -1,4 +1,5 @@
-//! Completion over implementors of a caller's own, which state nothing.
+//! Completion over implementors of a caller's own, which state nothing, and the call that
+//! `Filesystem` leaves out.
 use cargo_toml::{AbstractFilesystem, Error, Filesystem, NoRoot, Value};
 use cargo_toml_held::HeldManifest;
 use std::alloc::Global;

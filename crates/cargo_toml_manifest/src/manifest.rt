@@ -3,7 +3,6 @@ ghost use Rattle.std.specs.Prelude.{◌≡◌, [], Option, Some, option_map};
 ghost use Rattle.toml.specs.Data.{Data, no_members};
 ghost use Rattle.toml.specs.View.{view, table_view};
 ghost use Rattle.cargo_toml_tables.specs.Badges.{badges_meaning};
-ghost use Rattle.cargo_toml_parts.specs.Faults.{IsShape, wrong_shape};
 ghost use Rattle.cargo_toml_parts.specs.declared.inheritable.Inheritable.TheVariants.{Set};
 ghost use Rattle.cargo_toml_parts.specs.Inherits.{inheritable_map, inheritable_of};
 ghost use Rattle.cargo_toml_parts.specs.Inherits.{InheritableRefuses};

@@ -1,6 +1,6 @@
 -- A folder that gives a member, or is refused.
 use Rattle.std.proofs.Common.{◌≡◌, ◌⊎◌, ◌∙◌, List, Result, Ok, Err, Some, String, Global, ap, inl, inr, map, string_bytes, subst, sym}
-use Rattle.std.specs.Prelude.{◌≢◌, ⊤, IfErr, OnErr, OnOk, Vec}
+use Rattle.std.specs.Prelude.{◌≢◌, ⊤, IfErr, OnOk, Vec}
 use Rattle.toml.specs.declared.value.Value.{Value}
 use Rattle.cargo_toml.specs.Action.{Text}
 use Rattle.cargo_toml.specs.Completed.{IsCompleted}

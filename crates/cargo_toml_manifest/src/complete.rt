@@ -211,8 +211,8 @@ impl<Metadata: Drop> Manifest<Metadata> {
     /// - after all these, what `fs` answers in place of names.
     ///
     /// Out of memory is `Error::Memory`. A refusal leaves the manifest as it was. A fault that `fs`
-    /// answers is one that its `may_refuse_root` or `may_refuse` allows. A root that it finds is one
-    /// that its `may_find` allows. With `NoRoot` the fault in place of a root may also be
+    /// answers is one that its `may_refuse_root` or `may_refuse` allows. A root that it finds is
+    /// one that its `may_find` allows. With `NoRoot` the fault in place of a root may also be
     /// `Unsupported`.
     pub fn complete_from_abstract_filesystem<N, Fs: AbstractFilesystem + Drop>(
         &mut self,

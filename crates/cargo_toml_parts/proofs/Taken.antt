@@ -1,5 +1,5 @@
 -- A table from which a key was taken.
-use Rattle.std.proofs.Common.{◌≡◌, true, false, Bool, cond, is_eq, Option, Some, option_map, List, ◌∷◌, [], ℕ, nat_cmp, string_bytes, refl, sym, ap, ◌∙◌, Ordering, Less, Equal, Greater}
+use Rattle.std.proofs.Common.{◌≡◌, true, false, Bool, cond, is_eq, Option, Some, List, ◌∷◌, [], ℕ, nat_cmp, string_bytes, refl, sym, ap, ◌∙◌, Ordering, Less, Equal, Greater}
 use Rattle.std.specs.BTreeMap.{is_at}
 use Rattle.std.specs.Cmp.Lexicographic.{slice_cmp}
 use Rattle.std.specs.Map.{remove_entry}

@@ -1,6 +1,5 @@
 use Rattle.std.proofs.Common.{◌≡◌, [], ◌∷◌, ◌∙◌, rules, subst, sym}
 use Rattle.std.proofs.lemmas.List.{nil_from_length}
-use Rattle.std.proofs.lemmas.Result.{err_from_is_err_and}
 use Rattle.cargo_toml_parts.proofs.Readers.{ItemsSoFar, items_start, items_step, items_end, items_err}
 use Rattle.cargo_toml_parts.proofs.read.owned_items.Goals as goal
 

@@ -278,8 +278,9 @@ fn told_or_memory(made: Result<Error, Error>) -> Error
 
 // The fault as one of a workspace, whatever it is.
 fn in_workspace(alloc: Global, fault: Error, path: Option<&str>) -> Result<Error, Error>
-    ensures { IfOk result
+    ensures made { IfOk result
         (λ e. fault_of e ≡ workspace (fault_of fault) (option_copied path.entry)) }
+    ensures refused { IfErr result (λ e. e ≡ Memory) }
 {
     let path = match path {
         Some(path) => Some(String::from_str(alloc, path)?),

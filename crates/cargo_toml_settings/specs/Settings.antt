@@ -14,7 +14,7 @@ use Rattle.cargo_toml_settings.specs.declared.settings.OptionalFile.TheVariants 
 use Rattle.cargo_toml_settings.specs.declared.settings.Publish.{Publish}
 use Rattle.cargo_toml_settings.specs.declared.settings.Publish.TheVariants as whether
 use Rattle.cargo_toml_parts.specs.Faults.{IsShape, wrong_shape}
-use Rattle.cargo_toml_parts.specs.Reads.{items_reads, ItemsRefuse, WrongShape}
+use Rattle.cargo_toml_parts.specs.Reads.{items_reads, ItemsRefuse, Fails, WrongShape}
 
 -- what stands beside the text in a table
 abbrev pub named : {X : Type 0} → List (List ℕ × X) → List ℕ → Option X
@@ -77,5 +77,5 @@ publish_of (array ds) = option_map among (items_reads as_str ds)
 publish_of _ = None
 
 abbrev pub PublishRefuses : Data → Error → Type 0
-PublishRefuses (array ds) e = ItemsRefuse WrongShape ds e
+PublishRefuses (array ds) e = ItemsRefuse (Fails as_str WrongShape) ds e
 PublishRefuses _ e = IsShape wrong_shape e

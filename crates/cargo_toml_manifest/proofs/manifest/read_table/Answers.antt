@@ -46,18 +46,18 @@ returns g c =
     ends _ _ _ _ _ _ _ c.new-reading.ensures c.ended.ensures
     (then _ _ _ _ _ _ _ _ _ «package»
     (then _ _ _ _ _ _ _ _ _ workspace
-    (then_plain _ _ _ _ _ _ _ _ _ _ _ (map_shape WrongShape itself) dependencies
-    (then_plain _ _ _ _ _ _ _ _ _ _ _ (map_shape WrongShape itself) dev_dependencies
-    (then_plain _ _ _ _ _ _ _ _ _ _ _ (map_shape WrongShape itself) build_dependencies
-    (then_plain _ _ _ _ _ _ _ _ _ _ _ (map_shape WrongShape itself) target
+    (then_plain _ _ _ _ _ _ _ _ _ _ _ (map_shape _ WrongShape itself) dependencies
+    (then_plain _ _ _ _ _ _ _ _ _ _ _ (map_shape _ WrongShape itself) dev_dependencies
+    (then_plain _ _ _ _ _ _ _ _ _ _ _ (map_shape _ WrongShape itself) build_dependencies
+    (then_plain _ _ _ _ _ _ _ _ _ _ _ (map_shape _ WrongShape itself) target
     (then _ _ _ _ _ _ _ _ _ features
-    (then_plain _ _ _ _ _ _ _ _ _ _ _ (map_shape WrongShape itself) replace
-    (then_plain _ _ _ _ _ _ _ _ _ _ _ (map_shape _ (map_shape WrongShape itself)) patch
+    (then_plain _ _ _ _ _ _ _ _ _ _ _ (map_shape _ WrongShape itself) replace
+    (then_plain _ _ _ _ _ _ _ _ _ _ _ (map_shape _ _ (map_shape _ WrongShape itself)) patch
     (then _ _ _ _ _ _ _ _ _ lib
     (then _ _ _ _ _ _ _ _ _ profile
     (then _ _ _ _ _ _ _ _ _ badges
-    (then_plain _ _ _ _ _ _ _ _ _ _ _ list_shape bin
-    (then_plain _ _ _ _ _ _ _ _ _ _ _ list_shape bench
-    (then_plain _ _ _ _ _ _ _ _ _ _ _ list_shape test
-    (then_plain _ _ _ _ _ _ _ _ _ _ _ list_shape example
+    (then_plain _ _ _ _ _ _ _ _ _ _ _ (list_shape _) bin
+    (then_plain _ _ _ _ _ _ _ _ _ _ _ (list_shape _) bench
+    (then_plain _ _ _ _ _ _ _ _ _ _ _ (list_shape _) test
+    (then_plain _ _ _ _ _ _ _ _ _ _ _ (list_shape _) example
     (last _ _ _ _ _ _ _ lints (rw c.option_by_zero_rule.ensures refl))))))))))))))))))

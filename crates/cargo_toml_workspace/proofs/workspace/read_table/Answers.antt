@@ -26,11 +26,11 @@ returns g c =
     let no_dependencies = less _ (codes "dependencies") _ _ _ no_resolver c.take-7.ensures.others in
     let lints = given_left _ (codes "lints") _ _ _ _ _ _ _ _ _ no_dependencies refl c.take-8.ensures.value c.map_of-lints.ensures in
     ends _ _ _ _ _ _ _ c.new-reading.ensures c.finish.ensures
-    (then_plain _ _ _ _ _ _ _ _ _ _ _ list_shape members
-    (then_plain _ _ _ _ _ _ _ _ _ _ _ list_shape default_members
+    (then_plain _ _ _ _ _ _ _ _ _ _ _ (list_shape _) members
+    (then_plain _ _ _ _ _ _ _ _ _ _ _ (list_shape _) default_members
     (then _ _ _ _ _ _ _ _ _ «package»
-    (then_plain _ _ _ _ _ _ _ _ _ _ _ list_shape exclude
+    (then_plain _ _ _ _ _ _ _ _ _ _ _ (list_shape _) exclude
     (then _ _ _ _ _ _ _ _ _ metadata
     (then _ _ _ _ _ _ _ _ _ resolver
-    (then_plain _ _ _ _ _ _ _ _ _ _ _ (map_shape WrongShape itself) dependencies
-    (last_plain _ _ _ _ _ _ _ _ _ (map_shape _ (map_shape WrongShape itself)) lints refl))))))))
+    (then_plain _ _ _ _ _ _ _ _ _ _ _ (map_shape _ WrongShape itself) dependencies
+    (last_plain _ _ _ _ _ _ _ _ _ (map_shape _ _ (map_shape _ WrongShape itself)) lints refl))))))))

@@ -1,6 +1,10 @@
 -- Folders on the disk: where they are, and what faults they give.
 use Rattle.std.specs.Prelude.{◌≡◌, ◌⊎◌, ℕ, List, codes, length, ◌==◌, if◌then◌else◌}
+use Rattle.std.specs.Prelude.{Option, Some, Result, Ok, Err, map}
+use Rattle.std.specs.Fs.{dir_entry_name}
 use Rattle.std.specs.IoError.{error_kind}
+use Rattle.std.specs.Iterator.{Drains, YieldsThen}
+use Rattle.std.specs.declared.fs.dir.DirEntry.{DirEntry}
 use Rattle.std.specs.declared.io.Error.{Error as IoError}
 use Rattle.std.specs.declared.io.ErrorKind.{ErrorKind}
 use Rattle.std.specs.declared.io.ErrorKind.TheVariants.{NotFound, NotADirectory, OutOfMemory}
@@ -25,3 +29,20 @@ IsInputFault fault = (kind : ErrorKind) × ((¬ (kind ≡ OutOfMemory)) × (faul
 -- the error is such a fault
 abbrev pub IsInput : Error → Type 0
 IsInput e = IsInputFault (fault_of e)
+
+-- the fault says that there was no memory
+abbrev pub IsWantOfMemory : IoError → Type 0
+IsWantOfMemory fault = error_kind fault ≡ OutOfMemory
+
+-- an iterator of the entries of a folder: what a call gives, and where the calls begin
+module _ {S R A F D : Type 0} (gives : S → Option (Result (DirEntry R A F D) IoError) → S → Type 0)
+    (s : S) where
+  -- the iterator gave entries and no fault, and then ended, and this holds of their names
+  abbrev pub GivesNames : (List (List ℕ) → Type 0) → Type 0
+  GivesNames P = (entries : List (DirEntry R A F D)) × Drains gives s (map Ok entries)
+      × P (map dir_entry_name entries)
+
+  -- the iterator gave entries and then this fault
+  abbrev pub GivesFault : IoError → Type 0
+  GivesFault fault = (entries : List (DirEntry R A F D)) × (t : S)
+      × YieldsThen gives s (map Ok entries) (Some (Err fault)) t

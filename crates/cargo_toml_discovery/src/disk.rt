@@ -1,11 +1,15 @@
 //! The names in folders on the disk.
-ghost use Rattle.std.specs.Prelude.{◌≡◌, ◌⊎◌, IfErr};
+ghost use Rattle.std.specs.Iterator.{IsFinite};
+ghost use Rattle.std.specs.Prelude.{◌≡◌, ◌⊎◌, IfErr, IfOk};
 ghost use Rattle.cargo_toml_parts.specs.declared.error.Error.{Memory};
+ghost use Rattle.cargo_toml_discovery.specs.Disk.{GivesFault, GivesNames, IsWantOfMemory};
 ghost use Rattle.cargo_toml_discovery.specs.Disk.{IsInput, IsListingFault, or_here};
+ghost use Rattle.cargo_toml_discovery.specs.Folders.{HasTexts};
 
 use cargo_toml_parts::Error;
-use std::alloc::Global;
+use std::alloc::{Allocator, Global};
 use std::collections::HashSet;
+use std::fs::DirEntry;
 use std::rt::Files;
 use std::{fs, io};
 
@@ -37,10 +41,27 @@ pub fn names_in<R: Files + AllocGlobal>(
 ) -> Result<HashSet<String>, Error>
     ensures { IfErr result (λ e. (e ≡ Memory) ⊎ IsInput e) }
 {
-    let entries = match fs::read_dir(&rt, folder) {
-        Ok(entries) => entries,
-        Err(fault) => return Err(listing_fault(fault)),
-    };
+    match fs::read_dir(&rt, folder) {
+        Ok(entries) => Ok(entry_names(alloc, entries)?),
+        Err(fault) => Err(listing_fault(fault)),
+    }
+}
+
+// The names of the entries that are given, or the first fault in place of one.
+//
+// It refuses by an `io::Error`: a call at an iterator that borrows is not covered where the result
+// holds a `'static` text, as `Error` does.
+fn entry_names<R, A, I>(alloc: Global, entries: I) -> io::Result<HashSet<String>>
+where
+    R: Files + Drop,
+    A: Allocator,
+    I: Iterator<Item = io::Result<DirEntry<R, A>>> + Drop,
+    requires can { I.can_next entries }
+    requires ends { IsFinite (I.remaining entries) }
+    ensures names { IfOk result (λ set. GivesNames I.next_gives entries (HasTexts set)) }
+    ensures refused { IfErr result
+        (λ fault. IsWantOfMemory fault ⊎ GivesFault I.next_gives entries fault) }
+{
     let mut names = HashSet::new(alloc);
     for entry in entries {
         let entry = entry?;

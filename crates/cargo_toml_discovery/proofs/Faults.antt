@@ -5,14 +5,14 @@ use Rattle.std.specs.IoError.{error_kind}
 use Rattle.std.specs.contracts.io.ErrorKind.{the_type}
 use Rattle.std.specs.declared.io.Error.{Error as IoError}
 use Rattle.std.specs.declared.io.ErrorKind.{ErrorKind}
-use Rattle.std.specs.declared.io.ErrorKind.TheVariants.{NotFound, OutOfMemory}
+use Rattle.std.specs.declared.io.ErrorKind.TheVariants.{NotADirectory, NotFound, OutOfMemory}
 use Rattle.cargo_toml_parts.specs.declared.error.Error.{Error, Io, Memory, out-Error, roll-Error, roll-out-Error, fold_out-Error, fold-roll-Error, map-Error}
 use Rattle.cargo_toml_parts.specs.declared.error.Error.TheOpen.{Error-F}
 use Rattle.cargo_toml_parts.specs.declared.error.Error.TheVariants.{rolls-Io, rolls-Memory}
 use Rattle.cargo_toml_parts.specs.declared.error.ParseFault.TheVariants.{Toml, Shape}
 use Rattle.cargo_toml_parts.specs.Faults.{IsFromIo}
 use Rattle.cargo_toml_parts.specs.FaultValues.{Fault, fault_of, fault_step, io, memory}
-use Rattle.cargo_toml_discovery.specs.Disk.{IsInput, IsListingFault}
+use Rattle.cargo_toml_discovery.specs.Disk.{IsInput, IsListingFault, IsListingInput}
 
 -- `Memory` is one error alone
 layer_alone : (l : Error-F Error) → fault_step (map-Error _ _ fault_of l) ≡ memory → l ≡ Error-F.Memory
@@ -65,13 +65,24 @@ pub from_input : (f : IoError) (e : Error) → IsFromIo f e → (e ≡ Memory) �
 from_input f e (inl h) = inl h.1
 from_input f e (inr h) = inr (error_kind f, (h.0, ap fault_of h.1 ∙ fault_of-io f))
 
--- want of memory is a kind of its own
+-- want of memory, and that a name is no folder, are kinds of their own
 abbrev is_memory : ErrorKind → Bool
 is_memory OutOfMemory = true
 is_memory kind = false
 
+abbrev is_no_folder : ErrorKind → Bool
+is_no_folder NotADirectory = true
+is_no_folder kind = false
+
 -- and one of listing a folder
-pub from_listing : (f : IoError) (e : Error) → IsListingFault f e → (e ≡ Memory) ⊎ IsInput e
+pub from_listing : (f : IoError) (e : Error) → IsListingFault f e → (e ≡ Memory) ⊎ IsListingInput (fault_of e)
 from_listing f e (inl absent) =
-    inr (NotFound, ((λ h. let clash : false ≡ true = ap is_memory h in cc), absent.1))
-from_listing f e (inr h) = from_input f e h.1
+    inr (
+      NotFound,
+      (
+        (λ h. let clash : false ≡ true = ap is_memory h in cc),
+        ((λ h. let clash : false ≡ true = ap is_no_folder h in cc), absent.1),
+      ),
+    )
+from_listing f e (inr (other, inl h)) = inl h.1
+from_listing f e (inr (other, inr h)) = inr (error_kind f, (h.0, (other, ap fault_of h.1 ∙ fault_of-io f)))

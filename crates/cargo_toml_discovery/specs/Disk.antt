@@ -1,16 +1,19 @@
 -- Folders on the disk: where they are, and what faults they give.
 use Rattle.std.specs.Prelude.{◌≡◌, ◌⊎◌, ℕ, List, codes, length, ◌==◌, if◌then◌else◌}
-use Rattle.std.specs.Prelude.{Option, Some, Result, Ok, Err, map}
+use Rattle.std.specs.Prelude.{Option, Some, Result, Ok, Err, String, map}
 use Rattle.std.specs.Fs.{dir_entry_name}
+use Rattle.std.specs.HashSet.{HashSet}
 use Rattle.std.specs.IoError.{error_kind}
 use Rattle.std.specs.Iterator.{Drains, YieldsThen}
+use Rattle.std.specs.declared.alloc.Global.{Global}
 use Rattle.std.specs.declared.fs.dir.DirEntry.{DirEntry}
 use Rattle.std.specs.declared.io.Error.{Error as IoError}
 use Rattle.std.specs.declared.io.ErrorKind.{ErrorKind}
 use Rattle.std.specs.declared.io.ErrorKind.TheVariants.{NotFound, NotADirectory, OutOfMemory}
-use Rattle.cargo_toml_parts.specs.declared.error.Error.{Error}
+use Rattle.cargo_toml_parts.specs.declared.error.Error.{Error, Memory}
 use Rattle.cargo_toml_parts.specs.Faults.{IsFromIo}
 use Rattle.cargo_toml_parts.specs.FaultValues.{Fault, fault_of, io}
+use Rattle.cargo_toml_discovery.specs.Folders.{HasTexts}
 
 -- the empty path is the folder that the program runs in
 abbrev pub or_here : List ℕ → List ℕ
@@ -30,6 +33,12 @@ IsInputFault fault = (kind : ErrorKind) × ((¬ (kind ≡ OutOfMemory)) × (faul
 abbrev pub IsInput : Error → Type 0
 IsInput e = IsInputFault (fault_of e)
 
+-- the fault is one of listing a folder: no want of memory, and never that a name is no folder
+abbrev pub IsListingInput : Fault → Type 0
+IsListingInput fault =
+    (kind : ErrorKind)
+    × ((¬ (kind ≡ OutOfMemory)) × ((¬ (kind ≡ NotADirectory)) × (fault ≡ io kind)))
+
 -- the fault says that there was no memory
 abbrev pub IsWantOfMemory : IoError → Type 0
 IsWantOfMemory fault = error_kind fault ≡ OutOfMemory
@@ -46,3 +55,19 @@ module _ {S R A F D : Type 0} (gives : S → Option (Result (DirEntry R A F D) I
   abbrev pub GivesFault : IoError → Type 0
   GivesFault fault = (entries : List (DirEntry R A F D)) × (t : S)
       × YieldsThen gives s (map Ok entries) (Some (Err fault)) t
+
+-- what is made of the system's answer for a folder: the names of its entries, or the fault of the
+-- answer or of an entry
+module _ {S R A F D H : Type 0}
+    (gives : S → Option (Result (DirEntry R A F D) IoError) → S → Type 0) where
+  abbrev pub AreNamesOf : Result S IoError → Result (HashSet (String Global) H) Error → Type 0
+  AreNamesOf (Ok s) (Ok set) = GivesNames gives s (HasTexts set)
+  AreNamesOf (Ok s) (Err e) =
+      (e ≡ Memory)
+      ⊎ ((fault : IoError) × (GivesFault gives s fault × IsListingFault fault e))
+  AreNamesOf (Err fault) (Ok set) = ⊥
+  AreNamesOf (Err fault) (Err e) = IsListingFault fault e
+
+  -- the same of some such answer
+  abbrev pub AreListed : Result (HashSet (String Global) H) Error → Type 0
+  AreListed result = (answer : Result S IoError) × AreNamesOf answer result

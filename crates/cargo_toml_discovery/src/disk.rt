@@ -2,8 +2,10 @@
 ghost use Rattle.std.specs.Iterator.{IsFinite};
 ghost use Rattle.std.specs.Prelude.{◌≡◌, ◌⊎◌, IfErr, IfOk};
 ghost use Rattle.cargo_toml_parts.specs.declared.error.Error.{Memory};
+ghost use Rattle.cargo_toml_parts.specs.FaultValues.{fault_of};
 ghost use Rattle.cargo_toml_discovery.specs.Disk.{GivesFault, GivesNames, IsWantOfMemory};
-ghost use Rattle.cargo_toml_discovery.specs.Disk.{IsInput, IsListingFault, or_here};
+ghost use Rattle.cargo_toml_discovery.specs.Disk.{AreListed, AreNamesOf, IsListingFault};
+ghost use Rattle.cargo_toml_discovery.specs.Disk.{IsListingInput, or_here};
 ghost use Rattle.cargo_toml_discovery.specs.Folders.{HasTexts};
 
 use cargo_toml_parts::Error;
@@ -33,16 +35,32 @@ fn listing_fault(fault: io::Error) -> Error
 /// The names in a folder on the disk. A name that is no folder counts as absent.
 ///
 /// Refused by `Error::Io` where the folder or an entry can't be read or a name isn't UTF-8, and by
-/// `Error::Memory`.
+/// `Error::Memory`. That the system was asked for this folder no contract says.
 pub fn names_in<R: Files + AllocGlobal>(
     rt: &R,
     alloc: Global,
     folder: &str,
 ) -> Result<HashSet<String>, Error>
-    ensures { IfErr result (λ e. (e ≡ Memory) ⊎ IsInput e) }
+    ensures listed { AreListed ⟦<fs::ReadDir<&'static R> as Iterator>⟧.next_gives result }
+    ensures refused { IfErr result (λ e. (e ≡ Memory) ⊎ IsListingInput (fault_of e)) }
 {
-    match fs::read_dir(&rt, folder) {
-        Ok(entries) => Ok(entry_names(alloc, entries)?),
+    listed_names(alloc, fs::read_dir(&rt, folder))
+}
+
+// The names in a folder, by what the system answered when it was asked for its entries.
+fn listed_names<R: Files + AllocGlobal>(
+    alloc: Global,
+    answer: io::Result<fs::ReadDir<&R>>,
+) -> Result<HashSet<String>, Error>
+    ensures made { AreNamesOf ⟦<fs::ReadDir<&'static R> as Iterator>⟧.next_gives
+        answer.entry result }
+    ensures refused { IfErr result (λ e. (e ≡ Memory) ⊎ IsListingInput (fault_of e)) }
+{
+    match answer {
+        Ok(entries) => match entry_names(alloc, entries) {
+            Ok(names) => Ok(names),
+            Err(fault) => Err(listing_fault(fault)),
+        },
         Err(fault) => Err(listing_fault(fault)),
     }
 }

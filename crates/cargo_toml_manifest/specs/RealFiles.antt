@@ -17,7 +17,7 @@ use Rattle.cargo_toml_parts.specs.declared.error.Error.{Error, Memory}
 use Rattle.cargo_toml_parts.specs.Faults.{IsFromIo}
 use Rattle.cargo_toml_parts.specs.FaultValues.{Fault, fault_of, io, other}
 use Rattle.cargo_toml_parts.specs.FaultValues.{workspace, workspace_integrity}
-use Rattle.cargo_toml_discovery.specs.Disk.{IsInput, IsInputFault, or_here}
+use Rattle.cargo_toml_discovery.specs.Disk.{IsInput, IsListingInput, or_here}
 use Rattle.cargo_toml_discovery.specs.Told.{Told, open_path}
 use Rattle.cargo_toml_manifest.specs.Choosing.{Handed, RootsTold}
 use Rattle.cargo_toml_manifest.specs.Completing.{GivenBy, Meets, complete}
@@ -50,7 +50,7 @@ is_absent kind = false
 
 -- the faults that stand in place of names among real files
 abbrev pub RealListingRefuses : List ℕ → Fault → Type 0
-RealListingRefuses path = IsInputFault
+RealListingRefuses path = IsListingInput
 
 abbrev pub expected_workspace : List ℕ → List ℕ
 expected_workspace path = codes "Manifest at " ++ path ++ codes " was expected to be a workspace."

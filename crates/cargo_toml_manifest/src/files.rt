@@ -3,7 +3,8 @@ ghost use Rattle.std.specs.Prelude.{◌≡◌, ◌⊎◌, IfErr, IfOk, string_by
 ghost use Rattle.std.specs.Option.{option_copied};
 ghost use Rattle.toml.specs.View.{view};
 ghost use Rattle.cargo_toml_parts.specs.declared.error.Error.{Memory};
-ghost use Rattle.cargo_toml_discovery.specs.Disk.{IsInput, or_here};
+ghost use Rattle.cargo_toml_parts.specs.FaultValues.{fault_of};
+ghost use Rattle.cargo_toml_discovery.specs.Disk.{AreListed, or_here};
 ghost use Rattle.cargo_toml_discovery.specs.Folders.{RefusesBy};
 ghost use Rattle.cargo_toml_manifest.specs.Manifests.{manifest_meaning};
 ghost use Rattle.cargo_toml_manifest.specs.RealFiles.{IsRootFault, RealListingRefuses};
@@ -17,6 +18,7 @@ use cargo_toml_parts::Error;
 use cargo_toml_paths::join;
 use std::alloc::Global;
 use std::collections::HashSet;
+use std::fs;
 use std::rt::Files;
 
 /// The files on the disk, as seen from the folder of a manifest.
@@ -55,9 +57,11 @@ impl<R: Files + AllocGlobal> AbstractFilesystem for Filesystem<'_, R> {
 
     /// The names in the folder on the disk. A name that is absent or no folder is `Error::Io` of
     /// the kind `NotFound`; a folder or an entry that can't be read, or whose name is not UTF-8, is
-    /// `Error::Io` of its kind.
+    /// `Error::Io` of its kind. That the system was asked for this folder no contract says.
     fn file_names_in(&self, alloc: Global, rel_path: &str) -> Result<HashSet<String>, Error>
-        ensures faults { IfErr result (λ e. (e ≡ Memory) ⊎ IsInput e) }
+        ensures listed { AreListed ⟦<fs::ReadDir<&'static R> as Iterator>⟧.next_gives result }
+        ensures faults { IfErr result
+            (λ e. (e ≡ Memory) ⊎ RealListingRefuses rel_path.now (fault_of e)) }
     {
         let folder = join(alloc, self.path, rel_path)?;
         names_in(self.rt, alloc, folder.as_str())

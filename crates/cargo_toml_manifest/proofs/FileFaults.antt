@@ -5,15 +5,14 @@ use Rattle.std.specs.IoError.{error_kind}
 use Rattle.std.specs.Path.{path_join}
 use Rattle.std.specs.declared.alloc.Global.{Global}
 use Rattle.std.specs.declared.io.Error.{Error as IoError}
-use Rattle.std.specs.declared.io.ErrorKind.TheVariants.{NotFound}
 use Rattle.toml.specs.declared.value.Value.{Value}
-use Rattle.cargo_toml_parts.specs.declared.error.Error.{Error, Io, Memory, WorkspaceIntegrity, fold-roll-Error}
+use Rattle.cargo_toml_parts.specs.declared.error.Error.{Error, Memory, WorkspaceIntegrity, fold-roll-Error}
 use Rattle.cargo_toml_parts.specs.declared.error.Error.TheOpen.{Error-F}
 use Rattle.cargo_toml_parts.specs.declared.error.Error.TheVariants.{rolls-WorkspaceIntegrity}
 use Rattle.cargo_toml_parts.specs.Faults.{IsFromIo}
 use Rattle.cargo_toml_parts.specs.FaultValues.{Fault, fault_of, fault_step, io, workspace_integrity}
 use Rattle.cargo_toml_parts.specs.Wrapping.{wrap}
-use Rattle.cargo_toml_manifest.specs.RealFiles.{IsAbove, IsCandidate, IsCandidateOf, IsHintFault, IsNoWorkspace, IsRootFault, IsSearchFault, IsUnfit, expected_workspace, is_absent, RealRootRefuses}
+use Rattle.cargo_toml_manifest.specs.RealFiles.{IsAbove, IsCandidate, IsCandidateOf, IsHintFault, IsNoWorkspace, IsRootFault, IsSearchFault, IsUnfit, IsUnread, expected_workspace, is_absent, RealRootRefuses}
 use Rattle.cargo_toml_manifest.specs.declared.lookup.Candidate.{Candidate}
 use Rattle.cargo_toml_manifest.specs.declared.lookup.Candidate.TheVariants.{Root, Other, Absent}
 use Rattle.cargo_toml_discovery.specs.Folders.{RefusesBy}
@@ -40,18 +39,14 @@ no_table bytes path m text read none same =
     inr (m, read, none, integrity_fault text ∙ ap workspace_integrity same)
 
 -- a fault of reading alone
-unread : (file : List ℕ) (f : IoError) (e : Error) → is_absent (error_kind f) ≡ false → IsFromIo f e → (e ≡ Memory) ⊎ IsUnfit file e
-unread file f e there (inl h) = inl h.1
-unread file f e there (inr h) = inr (inl (error_kind f, (h.0, (there, ap fault_of h.1 ∙ fault_of-io f))))
+unread : (f : IoError) (e : Error) → is_absent (error_kind f) ≡ false → IsFromIo f e → (e ≡ Memory) ⊎ IsUnread e
+unread f e there (inl h) = inl h.1
+unread f e there (inr h) = inr (error_kind f, (h.0, (there, ap fault_of h.1 ∙ fault_of-io f)))
 
 -- a file that is no workspace's manifest, to each of the two searches
 pub hint_fault : (bytes file : List ℕ) (e : Error) → (e ≡ Memory) ⊎ IsNoWorkspace bytes file e → IsHintFault file e
 hint_fault bytes file e (inl memory) = inl memory
 hint_fault bytes file e (inr fault) = inr (inr (bytes, fault))
-
-unfit : (bytes file : List ℕ) (e : Error) → (e ≡ Memory) ⊎ IsNoWorkspace bytes file e → (e ≡ Memory) ⊎ IsUnfit file e
-unfit bytes file e (inl memory) = inl memory
-unfit bytes file e (inr fault) = inr (inr (bytes, fault))
 
 -- such a file in a folder above is why the search finds none
 pub search_fault : (folder above file : List ℕ) (e : Error) → IsAbove folder above → file ≡ path_join above (codes "Cargo.toml") → (e ≡ Memory) ⊎ IsUnfit file e →
@@ -59,21 +54,17 @@ pub search_fault : (folder above file : List ℕ) (e : Error) → IsAbove folder
 search_fault folder above file e is at (inl memory) = inl memory
 search_fault folder above file e is at (inr why) = inr (inr (above, (is, subst (λ (path : List ℕ). IsUnfit path e) at why)))
 
--- and that it found nothing
-pub nothing_above : (folder : List ℕ) (f : IoError) → error_kind f ≡ NotFound → IsSearchFault folder (Io f)
-nothing_above folder f kind = inr (inl (fault_of-io f ∙ ap io kind))
-
 -- what reading a file gave, and what the file is by that
 pub candidate : (read : Result (Vec ℕ Global) IoError) (file : List ℕ) (result : Result Candidate Error) → IsCandidateOf read file result →
     IsCandidate file result
 candidate (Ok bytes) file (Ok (Root m)) h = (h.0, (bytes.items, h.1))
-candidate (Ok bytes) file (Ok (Other e)) h = unfit bytes.items file e h
+candidate (Ok bytes) file (Ok (Other e)) h = (bytes.items, h)
 candidate (Ok bytes) file (Ok Absent) h = tt
 candidate (Ok bytes) file (Err e) h = inl h
 candidate (Err fault) file (Ok (Root m)) h = absurd h
 candidate (Err fault) file (Ok (Other e)) h = absurd h
 candidate (Err fault) file (Ok Absent) h = tt
-candidate (Err fault) file (Err e) h = unread file fault e h.0 h.1
+candidate (Err fault) file (Err e) h = unread fault e h.0 h.1
 
 -- why no root is found may stand in place of the root
 pub loses : {T : Type 0} (folder : List ℕ) (hint : Option (List ℕ)) (r : Result T Error) → IfErr r (IsRootFault folder hint) →

@@ -80,7 +80,7 @@ abbrev pub parent_after : ℕ → List ℕ → Option (List ℕ)
 parent_after zero path = Some path
 parent_after (suc n) path = option_and_then path_parent (parent_after n path)
 
--- the folder is written in the path, above it
+-- the folder is written in the path, above it: by the text, as the empty path is above `.`
 abbrev pub IsAbove : List ℕ → List ℕ → Type 0
 IsAbove path above = (n : ℕ) × (parent_after (suc n) path ≡ Some above)
 
@@ -103,19 +103,19 @@ IsSearchFault folder e =
     ⊎ ((above : List ℕ)
     × (IsAbove folder above × IsUnfit (path_join above (codes "Cargo.toml")) e)))
 
--- what the file at this path is to that search: a workspace's manifest, a file with a fault, or
--- nothing
+-- what the file at this path is to that search: a workspace's manifest, a file whose bytes are
+-- none, or nothing; else it can't be read
 abbrev pub IsCandidate : List ℕ → Result Candidate Error → Type 0
 IsCandidate file (Ok (Root m)) = IsRootManifest m.value
-IsCandidate file (Ok (Other e)) = (e ≡ Memory) ⊎ IsUnfit file e
+IsCandidate file (Ok (Other e)) = (bytes : List ℕ) × IsNoWorkspace bytes file e
 IsCandidate file (Ok Absent) = Unit {0}
-IsCandidate file (Err e) = (e ≡ Memory) ⊎ IsUnfit file e
+IsCandidate file (Err e) = (e ≡ Memory) ⊎ IsUnread e
 
 -- what a file at this path is to that search by what reading it gave: nothing where that says so,
 -- and another fault as it is; else the manifest of a workspace, or why the bytes are none
 abbrev pub IsCandidateOf : Result (Vec ℕ Global) IoError → List ℕ → Result Candidate Error → Type 0
 IsCandidateOf (Ok bytes) path (Ok (Root m)) = IsWorkspaceOf bytes.items path (Ok m)
-IsCandidateOf (Ok bytes) path (Ok (Other e)) = IsWorkspaceOf bytes.items path (Err e)
+IsCandidateOf (Ok bytes) path (Ok (Other e)) = IsNoWorkspace bytes.items path e
 IsCandidateOf (Ok bytes) path (Ok Absent) = ⊥
 IsCandidateOf (Ok bytes) path (Err e) = e ≡ Memory
 IsCandidateOf (Err fault) path (Ok (Root m)) = ⊥
@@ -172,11 +172,11 @@ IsRefusedAround path m handed e =
     × IsRefusedBy m handed real_roots (RealRootFound (or_here folder))
     (RealRootRefuses (or_here folder)) RealListingRefuses e)
 
--- the path names no file, and the fault says so
+-- the path has no folder above it, and the fault says so
 abbrev pub IsBadPath : List ℕ → Error → Type 0
 IsBadPath path e = (path_parent path ≡ None) × (fault_of e ≡ bad_path)
 
--- why real files complete no manifest: the path of its file names none, or a fault of completion
+-- why real files complete no manifest: its path has no folder above it, or a fault of completion
 abbrev pub IsCompletionFault : {M : Type 0} → List ℕ → ManifestMeaning M → Option Handed
     → Error → Type 0
 IsCompletionFault path m handed e = IsBadPath path e ⊎ IsRefusedAround path m handed e
@@ -225,8 +225,8 @@ abbrev pub IsReadAndRefused : {X M : Type 0} → List ℕ → (Manifest X → Ma
 IsReadAndRefused path meaning reads e =
     (read : Manifest _) × IsReadFromText meaning reads read × IsRefusalOf path read e
 
--- why a text gives no completed manifest: no memory, its own fault, a path that names no file, or
--- the fault of completing a manifest that it reads as
+-- why a text gives no completed manifest: no memory, its own fault, a path without a folder above
+-- it, or the fault of completing a manifest that it reads as
 abbrev pub IsTextFault : {X M : Type 0} → List ℕ → List ℕ → (Manifest X → ManifestMeaning M)
     → (Data → Option (ManifestMeaning M)) → (Data → Error → Type 0) → Error → Type 0
 IsTextFault path text meaning reads refuses e =
@@ -235,7 +235,7 @@ IsTextFault path text meaning reads refuses e =
     ⊎ ((read : Manifest _) × ReadsAs text meaning reads read × IsRefusalOf path read e))
 
 -- why a file gives no completed manifest: no memory, a fault of reading, one of some text, a path
--- that names no file, or the fault of completing a manifest that some text reads as
+-- without a folder above it, or the fault of completing a manifest that some text reads as
 abbrev pub IsPathFault : {X M : Type 0} → List ℕ → (Manifest X → ManifestMeaning M)
     → (Data → Option (ManifestMeaning M)) → (Data → Error → Type 0) → Error → Type 0
 IsPathFault path meaning reads refuses e =

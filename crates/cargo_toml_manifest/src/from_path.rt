@@ -64,7 +64,7 @@ impl<Metadata: Drop> Manifest<Metadata> {
     /// - where something is left to it, the root that `package.workspace` leads to, or without that
     ///   key the nearest above the folder.
     ///
-    /// A path that names no file, as the empty one and `/`, is refused as
+    /// A path that has no folder above it, the empty one or `/`, is refused as
     /// `Error::Other("bad path")`. Other refusals are those of `complete_from_abstract_filesystem`:
     /// `Error::Workspace` and `Error::Memory`. In the former stands what the files answer:
     /// `Error::Io` in place of names; in place of a root what `Filesystem::parse_root_workspace`

@@ -4,6 +4,7 @@ ghost use Rattle.std.specs.Path.{path_join};
 ghost use Rattle.cargo_toml_manifest.specs.RealFiles.{IsAbove, IsCandidate, IsCandidateOf};
 ghost use Rattle.cargo_toml_manifest.specs.RealFiles.{IsHintFault, IsRootManifest, IsSearchFault};
 ghost use Rattle.cargo_toml_manifest.specs.RealFiles.{IsWorkspaceOf, is_absent};
+ghost use Rattle.cargo_toml_manifest.specs.Searching.{IsNearest, IsNoneFound, Seen};
 
 use crate::afs::{boxed, wrapped};
 use crate::manifest::Manifest;
@@ -85,16 +86,60 @@ fn candidate_of(alloc: Global, read: io::Result<Vec<u8>>, file: &str) -> Result<
     };
     match workspace_of(alloc, bytes.as_slice(), file) {
         Ok(manifest) => Ok(Candidate::Root(manifest)),
-        Err(Error::Memory) => Err(Error::Memory),
-        Err(fault) => Ok(Candidate::Other(fault)),
+        Err(fault) => match fault {
+            Error::Memory => Err(Error::Memory),
+            fault => Ok(Candidate::Other(fault)),
+        },
     }
 }
 
-// What the file at a path is to the search.
-fn look_at<R: Files + AllocGlobal>(rt: &R, alloc: Global, file: &str) -> Result<Candidate, Error>
-    ensures { IsCandidate file.now result }
+// What looks at the files of the search for a root.
+trait Looks {
+    // What may be seen of the file at a path.
+    ghost sees: { Self → Seen };
+
+    // What the file at a path is to the search.
+    fn look_at(&self, alloc: Global, file: &str) -> Result<Candidate, Error>
+        ensures { sees self.now file.now result };
+}
+
+// The files on the disk.
+#[derive(Drop)]
+struct OnDisk<'a, R> {
+    rt: &'a R,
+}
+
+impl<R: Files + AllocGlobal> Looks for OnDisk<'_, R> {
+    ghost sees = { λ _ file seen. IsCandidate file seen };
+
+    fn look_at(&self, alloc: Global, file: &str) -> Result<Candidate, Error> {
+        candidate_of(alloc, fs::read(self.rt, file), file)
+    }
+}
+
+// The nearest root above a folder, by what is seen of the files.
+fn nearest_root<L: Looks>(
+    looks: &L,
+    alloc: Global,
+    folder: &str,
+) -> Result<(Manifest, String), Error>
+    ensures found { IfOk result
+        (λ root. IsNearest (L.sees looks.now) folder.now root.0 (string_bytes root.1)) }
+    ensures refused { IfErr result (IsNoneFound (L.sees looks.now) folder.now) }
 {
-    candidate_of(alloc, fs::read(rt, file), file)
+    let mut last = Error::Io(io::Error::from(io::ErrorKind::NotFound));
+    let Some(first) = parent(folder) else {
+        return Err(last);
+    };
+    for above in ancestors(first) {
+        let file = join(alloc, above.as_str(), "Cargo.toml")?;
+        match looks.look_at(alloc, file.as_str())? {
+            Candidate::Root(manifest) => return Ok((Box::into_inner(manifest), file)),
+            Candidate::Other(fault) => last = fault,
+            Candidate::Absent => {}
+        }
+    }
+    Err(last)
 }
 
 /// The root of the workspace above a folder: the manifest, and the path of its `Cargo.toml`.
@@ -105,8 +150,8 @@ fn look_at<R: Files + AllocGlobal>(rt: &R, alloc: Global, file: &str) -> Result<
 /// `NotFound`. A `Cargo.toml` that can't be read for another cause is refused at once as
 /// `Error::Io`, and refused memory as `Error::Memory`.
 ///
-/// No contract says what stands on a disk. So none says that the nearest root is the one that is
-/// found, nor of which of these files the fault is.
+/// The nearest root and the last fault are those by what is seen of the files. That the disk is
+/// seen as it is no contract says.
 pub fn root_above<R: Files + AllocGlobal>(
     rt: &R,
     alloc: Global,
@@ -115,19 +160,10 @@ pub fn root_above<R: Files + AllocGlobal>(
     ensures found { IfOk result (λ root. IsRootManifest root.0) }
     ensures path { IfOk result (λ root. (above : List ℕ) × (IsAbove folder.now above
         × (string_bytes root.1 ≡ path_join above (codes "Cargo.toml")))) }
+    ensures nearest { IfOk result
+        (λ root. IsNearest IsCandidate folder.now root.0 (string_bytes root.1)) }
     ensures refused { IfErr result (IsSearchFault folder.now) }
+    ensures blames { IfErr result (IsNoneFound IsCandidate folder.now) }
 {
-    let mut last = Error::Io(io::Error::from(io::ErrorKind::NotFound));
-    let Some(nearest) = parent(folder) else {
-        return Err(last);
-    };
-    for above in ancestors(nearest) {
-        let file = join(alloc, above.as_str(), "Cargo.toml")?;
-        match look_at(rt, alloc, file.as_str())? {
-            Candidate::Root(manifest) => return Ok((Box::into_inner(manifest), file)),
-            Candidate::Other(fault) => last = fault,
-            Candidate::Absent => {}
-        }
-    }
-    Err(last)
+    nearest_root(&OnDisk { rt }, alloc, folder)
 }

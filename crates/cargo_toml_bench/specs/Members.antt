@@ -1,8 +1,9 @@
 -- What a member says of its features once it is completed, without the hidden ones.
-use Rattle.std.specs.Prelude.{◌≡◌, ◌↔◌, ℕ, List, length, Bool, false, IsTrue, None}
+use Rattle.std.specs.Prelude.{◌≡◌, ◌↔◌, ℕ, List, length, Bool, false, IsTrue, None, Ok}
 use Rattle.cargo_toml.specs.Action.{Text}
 use Rattle.cargo_toml.specs.Choosing.{MayFind, RootsTold}
 use Rattle.cargo_toml.specs.Completed.{IsCompleted}
+use Rattle.cargo_toml.specs.Completing.{Meets, complete}
 use Rattle.cargo_toml.specs.Graph.{IsKept}
 use Rattle.cargo_toml.specs.Limits.{MAX_ITEMS}
 use Rattle.cargo_toml.specs.Manifest.{Manifest}
@@ -33,5 +34,5 @@ module _ {M : Type 0} (m : ManifestMeaning M) where
 abbrev pub IsToldOnce : {M : Type 0} → Manifest M → RootsTold → MayFind → (Name → Told) → Text
     → Text → Bool → Type 0
 IsToldOnce {M} old roots found told name other answer =
-    (new : Manifest M) × IsCompleted old None roots found told new
-    × IsToldOfMember (held new) name other answer
+    (new : Manifest M) × Meets held (complete (held old) None roots told) (Ok new)
+    × IsCompleted old None roots found told new × IsToldOfMember (held new) name other answer

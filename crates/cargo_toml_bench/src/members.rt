@@ -1,5 +1,5 @@
 //! Features of members of a workspace, once these are completed.
-ghost use Rattle.std.specs.Prelude.{◌≡◌, ◌⊎◌, IfErr, IfOk, None, OnOk, option_map};
+ghost use Rattle.std.specs.Prelude.{◌≡◌, ◌⊎◌, Err, IfErr, IfOk, None, OnOk, option_map};
 ghost use Rattle.cargo_toml.specs.Choosing.{handed_of, roots_of};
 ghost use Rattle.cargo_toml.specs.Completed.{IsCompleted};
 ghost use Rattle.cargo_toml.specs.Completing.{Meets, complete};
@@ -67,6 +67,8 @@ pub fn enables_when_completed<'m, Fs: AbstractFilesystem + Drop>(
     ensures answer { IfOk result (IsToldOnce manifest.old
         (roots_of Fs.Roots.ARE_FOUND (Fs.root_for files)) (Fs.may_find files) (Fs.names_at files)
         names.entry.0.now names.entry.1.now) }
+    ensures outcome { IfErr result (λ e. Meets held (complete (held manifest.old) None
+        (roots_of Fs.Roots.ARE_FOUND (Fs.root_for files)) (Fs.names_at files)) (Err e)) }
     ensures refused { IfErr result (IsRefusedBy (held manifest.old) None
         (roots_of Fs.Roots.ARE_FOUND (Fs.root_for files)) (Fs.may_find files)
         (MayLose Fs.Roots.ARE_FOUND (Fs.may_refuse_root files)) (Fs.may_refuse files)) }

@@ -24,27 +24,27 @@ use Rattle.cargo_toml_graph.proofs.SortedTexts.{one_ascends}
 use Rattle.cargo_toml.specs.Error.{Error}
 use Rattle.cargo_toml.specs.Reach.{Among}
 use Rattle.cargo_toml_tools.specs.FurtherFolders.{IsFurther, IsOneFurther}
-use Rattle.cargo_toml_tools.specs.MemberFolders.{IsOfFolders, LeadsToFolders, StandsFor, fits_name, has_pattern, named_folder, names_along, path_along}
-use Rattle.cargo_toml_tools.specs.Patterns.{is_pattern, matches}
+use Rattle.cargo_toml_tools.specs.MemberFolders.{IsOfFolders, LeadsToFolders, StandsFor, fits_name, fits_pattern, has_pattern, named_folder, names_along, path_along}
+use Rattle.cargo_toml_tools.specs.Patterns.{is_pattern}
 use Rattle.cargo_toml_tools.specs.Places.{path_below, pieces, root_of}
 use Rattle.cargo_toml_tools.proofs.KeysInOrder.{among_in, among_out, texts_ascend, one_alone}
 use Rattle.cargo_toml_tools.proofs.Yielded.{yield_more, yield_none}
 
 -- ---- names that fit
-pub matched_fits : (wanted name : Text) → is_pattern wanted ≡ true → has_no_slash name ≡ true → matches (chars wanted) (chars name) ≡ true → IsTrue (fits_name wanted name)
+pub matched_fits : (wanted name : Text) → is_pattern wanted ≡ true → has_no_slash name ≡ true → fits_pattern wanted name ≡ true → IsTrue (fits_name wanted name)
 matched_fits wanted name p one m =
-    cond-true (is_pattern wanted) (has_no_slash name && matches (chars wanted) (chars name)) (bytes_eq wanted name) p
-    ∙ and_from (has_no_slash name) (matches (chars wanted) (chars name)) one m
+    cond-true (is_pattern wanted) (has_no_slash name && fits_pattern wanted name) (bytes_eq wanted name) p
+    ∙ and_from (has_no_slash name) (fits_pattern wanted name) one m
 
 pub itself_fits : (name : Text) → is_pattern name ≡ false → IsTrue (fits_name name name)
 itself_fits name p =
-    cond-false (is_pattern name) (has_no_slash name && matches (chars name) (chars name)) (bytes_eq name name) p
+    cond-false (is_pattern name) (has_no_slash name && fits_pattern name name) (bytes_eq name name) p
     ∙ (bytes_eq-Decides name name).1 refl
 
 same_name : (wanted name : Text) → is_pattern wanted ≡ false → fits_name wanted name ≡ true → name ≡ wanted
 same_name wanted name p h =
     sym ((bytes_eq-Decides wanted name).0
-    (sym (cond-false (is_pattern wanted) (has_no_slash name && matches (chars wanted) (chars name)) (bytes_eq wanted name) p) ∙ h))
+    (sym (cond-false (is_pattern wanted) (has_no_slash name && fits_pattern wanted name) (bytes_eq wanted name) p) ∙ h))
 
 same_names : (wanted names : List Text) → list_any is_pattern wanted ≡ false → pointwise fits_name wanted names ≡ true → names ≡ wanted
 same_names [] [] none fit = refl

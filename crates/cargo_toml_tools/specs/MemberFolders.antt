@@ -14,7 +14,8 @@ use Rattle.cargo_toml.specs.Ascending.{Ascend}
 use Rattle.cargo_toml.specs.Error.{Error, Io, Memory}
 use Rattle.cargo_toml.specs.Reach.{Among}
 use Rattle.cargo_toml_tools.specs.Patterns.{is_pattern, matches}
-use Rattle.cargo_toml_tools.specs.Places.{is_excluded, normalized, path_below, pieces, root_of}
+use Rattle.cargo_toml_tools.specs.Places.{is_excluded, is_nothing, is_up, normalized}
+use Rattle.cargo_toml_tools.specs.Places.{path_below, pieces, root_of}
 
 -- the names along a path: what stands between its slashes, but for empty texts
 abbrev pub names_along : Text → List Text
@@ -33,10 +34,15 @@ has_pattern entry = list_any is_pattern (names_along entry)
 abbrev pub named_folder : Text → Text
 named_folder entry = path_along (root_of entry) (names_along entry)
 
+-- a pattern stands for a name that it matches, but for none that leads nowhere or up
+abbrev pub fits_pattern : Text → Text → Bool
+fits_pattern pattern name =
+    not (is_nothing name || is_up name) && matches (chars pattern) (chars name)
+
 -- a name of an entry stands for one of a folder: for itself, or for what it matches as a pattern
 abbrev pub fits_name : Text → Text → Bool
 fits_name wanted name =
-    if is_pattern wanted then has_no_slash name && matches (chars wanted) (chars name)
+    if is_pattern wanted then has_no_slash name && fits_pattern wanted name
     else bytes_eq wanted name
 
 -- an entry stands for a folder: its names for those along the path of the folder

@@ -39,6 +39,20 @@ impl Write for Full {
     }
 }
 
+/// Takes everything, and can't hand it on.
+#[derive(Drop)]
+struct Kept;
+
+impl Write for Kept {
+    fn write(&mut self, buf: &[u8]) -> io::Result<usize> {
+        Ok(buf.len())
+    }
+
+    fn flush(&mut self) -> io::Result<()> {
+        Err(io::Error::from(io::ErrorKind::BrokenPipe))
+    }
+}
+
 fn is_broken(outcome: Result<(), Error>) -> bool {
     match outcome {
         Err(Error::Io(fault)) => fault.kind() == io::ErrorKind::BrokenPipe,
@@ -53,9 +67,11 @@ fn input_and_output_that_fail(rt: HostRuntime) -> Result<(), Fail> {
     assert!(rt; is_broken(print_features(alloc, &mut Broken { given: false }, &mut output, 2048)));
     assert!(rt; output.is_empty());
     assert!(rt; is_broken(print_features(alloc, &mut b"".as_slice(), &mut Full, 2048)));
+    assert!(rt; is_broken(print_features(alloc, &mut b"".as_slice(), &mut Kept, 2048)));
     let text = "package = { name = \"p\", version = \"1.0.0\", readme = { workspace = true } }";
     let held = HeldManifest::from_str(alloc, text)?;
     assert!(rt; is_broken(print_complete(alloc, &*held.manifest, &mut Full)));
+    assert!(rt; is_broken(print_complete(alloc, &*held.manifest, &mut Kept)));
     print_complete(alloc, &*held.manifest, &mut output)?;
     let lines = b"build | -\nreadme | -\n";
     assert_eq!(rt; output.as_slice(), lines.as_slice());

@@ -9,8 +9,8 @@ ghost use Rattle.std.specs.Path.{has_no_slash};
 ghost use Rattle.std.specs.String.{string_cmp};
 ghost use Rattle.cargo_toml.specs.Disk.{or_here};
 ghost use Rattle.cargo_toml.specs.RealFiles.{is_absent};
-ghost use Rattle.cargo_toml_tools.specs.MemberFolders.{IsOfFolders, LeadsToFolders, has_pattern};
-ghost use Rattle.cargo_toml_tools.specs.MemberFolders.{named_folder};
+ghost use Rattle.cargo_toml_tools.specs.MemberFolders.{IsOfFolders, LeadsToFolders, fits_pattern};
+ghost use Rattle.cargo_toml_tools.specs.MemberFolders.{has_pattern, named_folder};
 ghost use Rattle.cargo_toml_tools.specs.FurtherFolders.{IsFurther, IsOneFurther, is_folder};
 ghost use Rattle.cargo_toml_tools.specs.Patterns.{is_pattern};
 ghost use Rattle.cargo_toml_tools.specs.Places.{GoesOn, ends_in_name, path_below};
@@ -327,12 +327,29 @@ fn add_if_matched<R: Files + AllocGlobal>(
     ensures refused { IfErr result (IsOfFolders true) }
 {
     let alloc = rt.alloc();
-    if !matches(alloc, pattern, name)? {
+    if !fits(alloc, pattern, name)? {
         return Ok(());
     }
     let place = path_below(alloc, folder.1, name)?;
     let path = path_below(alloc, folder.0, name)?;
     add_if_folder(path, fs::metadata(rt, place.as_str()), all)
+}
+
+/// Whether a pattern stands for a name that may lie in a folder.
+fn fits(alloc: Global, pattern: &str, name: &str) -> Result<bool, AllocError>
+    ensures { IfOk result (λ b. b ≡ fits_pattern pattern.now name.now) }
+{
+    if is_no_entry(name) {
+        return Ok(false);
+    }
+    matches(alloc, pattern, name)
+}
+
+/// Whether nothing in a folder has the name: it leads nowhere, or up.
+fn is_no_entry(name: &str) -> bool
+    ensures { result ≡ (is_nothing name.now || is_up name.now) }
+{
+    is_nothing(name) || name == ".."
 }
 
 /// Adds a path, where the system answered that a folder is there.

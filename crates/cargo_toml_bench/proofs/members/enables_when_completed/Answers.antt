@@ -13,6 +13,7 @@ returns-clause-answer g c =
     IfOk-weaker c.enables_among.result _ _
     (λ answer told. (
       done._completed.now,
+      done.ensures.outcome,
       done.ensures.completed,
       record {
         resolved = answer_of done.resolved;

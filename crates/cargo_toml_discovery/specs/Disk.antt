@@ -68,6 +68,6 @@ module _ {S R A F D H : Type 0}
   AreNamesOf (Err fault) (Ok set) = ⊥
   AreNamesOf (Err fault) (Err e) = IsListingFault fault e
 
-  -- the same of some such answer
-  abbrev pub AreListed : Result (HashSet (String Global) H) Error → Type 0
-  AreListed result = (answer : Result S IoError) × AreNamesOf answer result
+  -- some listing of the system gave entries of just these names
+  abbrev pub IsListed : HashSet (String Global) H → Type 0
+  IsListed set = (s : S) × GivesNames gives s (HasTexts set)

@@ -69,5 +69,5 @@ module _ {S R A F D H : Type 0}
   AreNamesOf (Err fault) (Err e) = IsListingFault fault e
 
   -- some listing of the system gave entries of just these names
-  abbrev pub IsListed : HashSet (String Global) H → Type 0
-  IsListed set = (s : S) × GivesNames gives s (HasTexts set)
+  abbrev pub IsOfListing : HashSet (String Global) H → Type 0
+  IsOfListing set = (s : S) × GivesNames gives s (HasTexts set)

@@ -4,7 +4,7 @@ ghost use Rattle.std.specs.Prelude.{◌≡◌, ◌⊎◌, IfErr, IfOk};
 ghost use Rattle.cargo_toml_parts.specs.declared.error.Error.{Memory};
 ghost use Rattle.cargo_toml_parts.specs.FaultValues.{fault_of};
 ghost use Rattle.cargo_toml_discovery.specs.Disk.{GivesFault, GivesNames, IsWantOfMemory};
-ghost use Rattle.cargo_toml_discovery.specs.Disk.{AreNamesOf, IsListed, IsListingFault};
+ghost use Rattle.cargo_toml_discovery.specs.Disk.{AreNamesOf, IsListingFault, IsOfListing};
 ghost use Rattle.cargo_toml_discovery.specs.Disk.{IsListingInput, or_here};
 ghost use Rattle.cargo_toml_discovery.specs.Folders.{HasTexts};
 
@@ -42,7 +42,7 @@ pub fn names_in<R: Files + AllocGlobal>(
     folder: &str,
 ) -> Result<HashSet<String>, Error>
     ensures listed { IfOk result
-        (IsListed ⟦<fs::ReadDir<&'static R> as Iterator>⟧.next_gives) }
+        (IsOfListing ⟦<fs::ReadDir<&'static R> as Iterator>⟧.next_gives) }
     ensures refused { IfErr result (λ e. (e ≡ Memory) ⊎ IsListingInput (fault_of e)) }
 {
     listed_names(alloc, fs::read_dir(&rt, folder))
@@ -56,7 +56,7 @@ fn listed_names<R: Files + AllocGlobal>(
     ensures made { AreNamesOf ⟦<fs::ReadDir<&'static R> as Iterator>⟧.next_gives
         answer.entry result }
     ensures listed { IfOk result
-        (IsListed ⟦<fs::ReadDir<&'static R> as Iterator>⟧.next_gives) }
+        (IsOfListing ⟦<fs::ReadDir<&'static R> as Iterator>⟧.next_gives) }
     ensures refused { IfErr result (λ e. (e ≡ Memory) ⊎ IsListingInput (fault_of e)) }
 {
     match answer {

@@ -11,7 +11,7 @@ use Rattle.toml.specs.declared.value.Value.{Value}
 use Rattle.cargo_toml_parts.specs.declared.error.Error.{Error, Io, Memory}
 use Rattle.cargo_toml_parts.specs.FaultValues.{io}
 use Rattle.cargo_toml_manifest.specs.RealFiles.{IsAbove, IsCandidate, IsRootManifest, IsSearchFault, IsUnfit, parent_after}
-use Rattle.cargo_toml_manifest.specs.Searching.{Seen, manifest_in, manifest_above, IsSeenAt, ArePassed, IsNearest, AreAbsent, IsLastFault, IsNoneFound}
+use Rattle.cargo_toml_manifest.specs.Searching.{MaySee, manifest_in, manifest_above, IsSeenAt, ArePassedOver, IsNearest, AreAbsent, IsLastFault, IsNoneFound}
 use Rattle.cargo_toml_manifest.specs.declared.lookup.Candidate.{Candidate}
 use Rattle.cargo_toml_manifest.specs.declared.lookup.Candidate.TheVariants.{Root, Other, Absent}
 use Rattle.cargo_toml_manifest.specs.declared.manifest.Manifest.{Manifest}
@@ -19,12 +19,12 @@ use Rattle.cargo_toml_discovery.proofs.Faults.{fault_of-io}
 use Rattle.cargo_toml_manifest.proofs.FileFaults.{search_fault}
 
 -- before this next folder, the nearer ones were passed, and this fault is the last of theirs
-abbrev pub IsSoFar : Seen → List ℕ → Option (List ℕ) → Error → Type 0
+abbrev pub IsSoFar : MaySee → List ℕ → Option (List ℕ) → Error → Type 0
 IsSoFar sees folder next last =
-    (n : ℕ) × ((next ≡ parent_after (suc n) folder) × (ArePassed sees folder n × IsLastFault sees folder n last))
+    (n : ℕ) × ((next ≡ parent_after (suc n) folder) × (ArePassedOver sees folder n × IsLastFault sees folder n last))
 
 -- at the nearest folder
-pub starts : (sees : Seen) (folder : List ℕ) (next : Option (List ℕ)) (f : IoError) → next ≡ path_parent folder → error_kind f ≡ NotFound →
+pub starts : (sees : MaySee) (folder : List ℕ) (next : Option (List ℕ)) (f : IoError) → next ≡ path_parent folder → error_kind f ≡ NotFound →
     IsSoFar sees folder next (Io f)
 starts sees folder next f is kind =
     (0, (is, (λ k below. absurd (omega arith), inl (fault_of-io f ∙ ap io kind, λ k from below. absurd (omega arith)))))
@@ -33,22 +33,22 @@ starts sees folder next f is kind =
 below_next : (P : ℕ → Type 0) (n : ℕ) → ((k : ℕ) → k < n → P k) → P n → (k : ℕ) → k < suc n → P k
 below_next P n below here k h = below_more P n below here k (omega arith)
 
-absent_more : (sees : Seen) (folder : List ℕ) (from n : ℕ) → AreAbsent sees folder from n → IsSeenAt sees folder n (Ok Absent) → AreAbsent sees folder from (suc n)
+absent_more : (sees : MaySee) (folder : List ℕ) (from n : ℕ) → AreAbsent sees folder from n → IsSeenAt sees folder n (Ok Absent) → AreAbsent sees folder from (suc n)
 absent_more sees folder from n absent here k after below =
     below_next (λ i. from ≤ i → IsSeenAt sees folder i (Ok Absent)) n (λ i lt le. absent i le lt) (λ _. here) k below after
 
 -- nothing leaves the last fault as it was
-last_kept : (sees : Seen) (folder : List ℕ) (n : ℕ) (e : Error) → IsLastFault sees folder n e → IsSeenAt sees folder n (Ok Absent) → IsLastFault sees folder (suc n) e
+last_kept : (sees : MaySee) (folder : List ℕ) (n : ℕ) (e : Error) → IsLastFault sees folder n e → IsSeenAt sees folder n (Ok Absent) → IsLastFault sees folder (suc n) e
 last_kept sees folder n e (inl (none, absent)) here = inl (none, absent_more sees folder 0 n absent here)
 last_kept sees folder n e (inr (k, (below, (seen, absent)))) here =
     inr (k, (omega arith, (seen, absent_more sees folder (suc k) n absent here)))
 
 -- and a fault takes its place
-last_replaced : (sees : Seen) (folder : List ℕ) (n : ℕ) (e : Error) → IsSeenAt sees folder n (Ok (Other e)) → IsLastFault sees folder (suc n) e
+last_replaced : (sees : MaySee) (folder : List ℕ) (n : ℕ) (e : Error) → IsSeenAt sees folder n (Ok (Other e)) → IsLastFault sees folder (suc n) e
 last_replaced sees folder n e here = inr (n, (omega arith, (here, λ k from below. absurd (omega arith))))
 
 -- what is seen of the file in the folder that comes now
-seen_now : (sees : Seen) (folder above file : List ℕ) (n : ℕ) (seen : Result Candidate Error) → Some above ≡ parent_after (suc n) folder →
+seen_now : (sees : MaySee) (folder above file : List ℕ) (n : ℕ) (seen : Result Candidate Error) → Some above ≡ parent_after (suc n) folder →
     file ≡ manifest_in above → sees file seen → IsSeenAt sees folder n seen
 seen_now sees folder above file n seen is at h =
     (file, (ap (option_map manifest_in) (sym is) ∙ ap Some (sym at), h))
@@ -59,33 +59,33 @@ next_folder : (folder above : List ℕ) (next : Option (List ℕ)) (n : ℕ) →
 next_folder folder above next n is up = up ∙ ap (option_and_then path_parent) is
 
 -- nothing is passed
-pub passes_nothing : (sees : Seen) (folder above file : List ℕ) (now next : Option (List ℕ)) (last : Error) → Some above ≡ now → IsSoFar sees folder now last →
+pub passes_nothing : (sees : MaySee) (folder above file : List ℕ) (now next : Option (List ℕ)) (last : Error) → Some above ≡ now → IsSoFar sees folder now last →
     file ≡ manifest_in above → sees file (Ok Absent) → next ≡ path_parent above → IsSoFar sees folder next last
 passes_nothing sees folder above file now next last this (n, (is, (passed, left))) at seen up =
     let here = seen_now sees folder above file n (Ok Absent) (this ∙ is) at seen in
     (suc n, (next_folder folder above next n (this ∙ is) up, (below_next _ n passed (inl here), last_kept sees folder n last left here)))
 
 -- so is a file with a fault
-pub passes_fault : (sees : Seen) (folder above file : List ℕ) (now next : Option (List ℕ)) (last e : Error) → Some above ≡ now → IsSoFar sees folder now last →
+pub passes_fault : (sees : MaySee) (folder above file : List ℕ) (now next : Option (List ℕ)) (last e : Error) → Some above ≡ now → IsSoFar sees folder now last →
     file ≡ manifest_in above → sees file (Ok (Other e)) → next ≡ path_parent above → IsSoFar sees folder next e
 passes_fault sees folder above file now next last e this (n, (is, (passed, left))) at seen up =
     let here = seen_now sees folder above file n (Ok (Other e)) (this ∙ is) at seen in
     (suc n, (next_folder folder above next n (this ∙ is) up, (below_next _ n passed (inr (e, here)), last_replaced sees folder n e here)))
 
 -- a root is the nearest
-pub finds : (sees : Seen) (folder above file : List ℕ) (now : Option (List ℕ)) (last : Error) (root : Box (Manifest Value) Global) → Some above ≡ now →
+pub finds : (sees : MaySee) (folder above file : List ℕ) (now : Option (List ℕ)) (last : Error) (root : Box (Manifest Value) Global) → Some above ≡ now →
     IsSoFar sees folder now last → file ≡ manifest_in above → sees file (Ok (Root root)) → IsNearest sees folder root.value file
 finds sees folder above file now last root this (n, (is, (passed, left))) at seen =
     (n, (ap (option_map manifest_in) (sym (this ∙ is)) ∙ ap Some (sym at), ((root, (refl, seen)), passed)))
 
 -- a file that can't be seen is why there is none
-pub stops : (sees : Seen) (folder above file : List ℕ) (now : Option (List ℕ)) (last e : Error) → Some above ≡ now → IsSoFar sees folder now last →
+pub stops : (sees : MaySee) (folder above file : List ℕ) (now : Option (List ℕ)) (last e : Error) → Some above ≡ now → IsSoFar sees folder now last →
     file ≡ manifest_in above → sees file (Err e) → IsNoneFound sees folder e
 stops sees folder above file now last e this (n, (is, (passed, left))) at seen =
     inr (inl (n, (seen_now sees folder above file n (Err e) (this ∙ is) at seen, passed)))
 
 -- and so is the last fault where no folder is left
-pub ends : (sees : Seen) (folder : List ℕ) (now : Option (List ℕ)) (last : Error) → now ≡ None → IsSoFar sees folder now last → IsNoneFound sees folder last
+pub ends : (sees : MaySee) (folder : List ℕ) (now : Option (List ℕ)) (last : Error) → now ≡ None → IsSoFar sees folder now last → IsNoneFound sees folder last
 ends sees folder now last none (n, (is, (passed, left))) =
     inr (inr (n, (ap (option_map manifest_in) (sym is ∙ none), (passed, left))))
 

@@ -4,7 +4,7 @@ ghost use Rattle.std.specs.Option.{option_copied};
 ghost use Rattle.toml.specs.View.{view};
 ghost use Rattle.cargo_toml_parts.specs.declared.error.Error.{Memory};
 ghost use Rattle.cargo_toml_parts.specs.FaultValues.{fault_of};
-ghost use Rattle.cargo_toml_discovery.specs.Disk.{IsListed, or_here};
+ghost use Rattle.cargo_toml_discovery.specs.Disk.{IsOfListing, or_here};
 ghost use Rattle.cargo_toml_discovery.specs.Folders.{RefusesBy};
 ghost use Rattle.cargo_toml_manifest.specs.Manifests.{manifest_meaning};
 ghost use Rattle.cargo_toml_manifest.specs.RealFiles.{IsRootFault, RealListingRefuses};
@@ -60,7 +60,7 @@ impl<R: Files + AllocGlobal> AbstractFilesystem for Filesystem<'_, R> {
     /// `Error::Io` of its kind. That the system was asked for this folder no contract says.
     fn file_names_in(&self, alloc: Global, rel_path: &str) -> Result<HashSet<String>, Error>
         ensures listed { IfOk result
-            (IsListed ⟦<fs::ReadDir<&'static R> as Iterator>⟧.next_gives) }
+            (IsOfListing ⟦<fs::ReadDir<&'static R> as Iterator>⟧.next_gives) }
         ensures faults { IfErr result
             (λ e. (e ≡ Memory) ⊎ RealListingRefuses rel_path.now (fault_of e)) }
     {

@@ -4,7 +4,7 @@ ghost use Rattle.std.specs.Path.{path_join};
 ghost use Rattle.cargo_toml_manifest.specs.RealFiles.{IsAbove, IsCandidate, IsCandidateOf};
 ghost use Rattle.cargo_toml_manifest.specs.RealFiles.{IsHintFault, IsRootManifest, IsSearchFault};
 ghost use Rattle.cargo_toml_manifest.specs.RealFiles.{IsWorkspaceOf, is_absent};
-ghost use Rattle.cargo_toml_manifest.specs.Searching.{IsNearest, IsNoneFound, Seen};
+ghost use Rattle.cargo_toml_manifest.specs.Searching.{IsNearest, IsNoneFound, MaySee};
 
 use crate::afs::{boxed, wrapped};
 use crate::manifest::Manifest;
@@ -96,7 +96,7 @@ fn candidate_of(alloc: Global, read: io::Result<Vec<u8>>, file: &str) -> Result<
 // What looks at the files of the search for a root.
 trait Looks {
     // What may be seen of the file at a path.
-    ghost sees: { Self → Seen };
+    ghost sees: { Self → MaySee };
 
     // What the file at a path is to the search.
     fn look_at(&self, alloc: Global, file: &str) -> Result<Candidate, Error>

@@ -1,7 +1,9 @@
 -- What is answered after completing is an answer by its outcome.
-use Rattle.std.proofs.Common.{◌≡◌, Result, Ok, Err, IfErr}
+use Rattle.std.proofs.Common.{◌≡◌, Result, Ok, Err, IfErr, Bor, refl}
 use Rattle.cargo_toml.specs.Completing.{Outcome, Meets, gives, no_workspace, refuses, untold}
 use Rattle.cargo_toml.specs.Error.{Error, Memory}
+use Rattle.cargo_toml.specs.Manifest.{Manifest}
+use Rattle.cargo_toml.specs.Manifests.{ManifestMeaning, held}
 use Rattle.cargo_toml_manifest.proofs.Meeting.{given_again, refused_again}
 
 -- where there is a success, `Memory` may still be the answer
@@ -22,3 +24,17 @@ pub refused_both : {T U A : Type 0} (f : T → A) (g : U → A) (o : Outcome A) 
     → IfErr r (λ e. Meets g o (Err e) × why e)
 refused_both f g o why (Ok t) met h = tt
 refused_both f g o why (Err e) met h = (refused_again f g o e met, h)
+
+-- what is lent with something beside it is what completion gives; so is its refusal, and `Memory` after it
+module _ {M : Type 0} (R : Type 0) (o : Outcome (ManifestMeaning M)) where
+  abbrev lent_meaning : Bor (Manifest M) × R → ManifestMeaning M
+  lent_meaning p = held p.0.now
+
+  pub lent_meets : (m : Bor (Manifest M)) (r : R) → Meets lent_meaning o (Ok (m, r)) → Meets held o (Ok m.now)
+  lent_meets m r h = given_again lent_meaning held o (m, r) m.now refl h
+
+  pub lent_refused : (e : Error) → Meets lent_meaning o (Err e) → Meets (held {M = M}) o (Err e)
+  lent_refused e h = refused_again lent_meaning held o e h
+
+  pub lent_memory : (m : Bor (Manifest M)) (r : R) (e : Error) → Meets lent_meaning o (Ok (m, r)) → e ≡ Memory → Meets (held {M = M}) o (Err e)
+  lent_memory m r e h memory = memory_after lent_meaning held o (m, r) e memory h

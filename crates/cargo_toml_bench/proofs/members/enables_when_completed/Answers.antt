@@ -1,9 +1,10 @@
 use Rattle.std.proofs.Common.{false}
-use Rattle.std.proofs.lemmas.Result.{IfOk-weaker}
+use Rattle.std.proofs.lemmas.Result.{IfErr-weaker, IfOk-weaker, err_from_is_err_and}
 use Rattle.cargo_toml.specs.Manifests.{held}
 use Rattle.cargo_toml.specs.Views.{answer_of}
 use Rattle.cargo_toml_bench.proofs.AtLimit.{parsed_at}
 use Rattle.cargo_toml_bench.proofs.Filters.{keeps_none}
+use Rattle.cargo_toml_bench.proofs.Outcomes.{lent_meets, lent_memory, lent_refused}
 use Rattle.cargo_toml_bench.proofs.members.enables_when_completed.Goals as goal
 
 pub returns-clause-answer : goal.returns-clause-answer
@@ -13,7 +14,7 @@ returns-clause-answer g c =
     IfOk-weaker c.enables_among.result _ _
     (λ answer told. (
       done._completed.now,
-      done.ensures.outcome,
+      lent_meets _ _ done._completed done.resolved done.ensures.outcome,
       done.ensures.completed,
       record {
         resolved = answer_of done.resolved;
@@ -23,3 +24,13 @@ returns-clause-answer g c =
       },
     ))
     c.enables_among.ensures.answer
+
+pub returns-clause-outcome : goal.returns-clause-outcome
+returns-clause-outcome g c =
+    let done = c.in_ok-_completed in
+    IfErr-weaker c.enables_among.result _ _ (λ e memory. lent_memory _ _ done._completed done.resolved e done.ensures.outcome memory) c.enables_among.ensures.refused
+
+pub returns-in_err-_completed-clause-outcome : goal.returns-in_err-_completed-clause-outcome
+returns-in_err-_completed-clause-outcome g c =
+    let p = err_from_is_err_and c.from_residual.result c.from_residual.ensures.1 in
+    rw (p.1, p.2) (lent_refused _ _ _ c.in_err-_completed.ensures.outcome)

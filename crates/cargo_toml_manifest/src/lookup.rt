@@ -86,6 +86,7 @@ fn candidate_of(alloc: Global, read: io::Result<Vec<u8>>, file: &str) -> Result<
     };
     match workspace_of(alloc, bytes.as_slice(), file) {
         Ok(manifest) => Ok(Candidate::Root(manifest)),
+        // (a match of its own, so that the proof knows of the rest that it isn't `Memory`)
         Err(fault) => match fault {
             Error::Memory => Err(Error::Memory),
             fault => Ok(Candidate::Other(fault)),

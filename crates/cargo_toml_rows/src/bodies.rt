@@ -1,15 +1,20 @@
 //! Features resolved by the body that callers get and by the plain one beside it, as text.
+use crate::completed::completed;
+use crate::custom;
 use crate::manifests::lines_of;
 use cargo_toml::Error;
-use cargo_toml_bench::bodies::{resolve_by_both, resolve_by_both_keeping_a};
+use cargo_toml_bench::bodies::{
+    resolve_by_both, resolve_by_both_keeping_a, resolve_by_both_keeping_every,
+};
 use cargo_toml_bench::whole::Answer;
 use cargo_toml_held::HeldManifest;
+use cargo_toml_row_files::templates;
 use std::alloc::Global;
-use std::fs;
 use std::rt::Files;
 
 /// The lines again, each with what comes of it: ROW, and whether the same is printed of the
-/// features of its manifest by both bodies, with ` -> ` between them. The row `tables` is
+/// features of its manifest by both bodies, with ` -> ` between them. A row of `parsed` is
+/// completed first, and in one of `custom` the features stand in no manifest. The row `tables` is
 /// of all small tables.
 pub fn lines<R: Files + AllocGlobal>(rt: &R, expected: &str) -> Result<String, Error> {
     let alloc = rt.alloc();
@@ -34,10 +39,23 @@ fn answer<R: Files + AllocGlobal>(rt: &R, row: &str) -> Result<String, Error> {
         return tables(alloc);
     }
     let path = format!(in alloc; "{row}/Cargo.toml")?;
-    let bytes = fs::read(rt, path.as_str())?;
-    let held = HeldManifest::from_slice(alloc, bytes.as_slice())?;
+    let bytes = templates::read(rt, path.as_str())?;
+    let bytes = bytes.as_slice();
+    if row.starts_with("custom/") {
+        return alike(alloc, custom::by_both(rt, row, bytes)?);
+    }
+    if row.starts_with("parsed/") {
+        let held = completed(rt, row, bytes)?;
+        return compared(alloc, resolve_by_both(alloc, &*held.manifest)?);
+    }
+    let held = HeldManifest::from_slice(alloc, bytes)?;
     if row.starts_with("kept/") {
         compared(alloc, resolve_by_both_keeping_a(alloc, &*held.manifest)?)
+    } else if row.starts_with("whole/") {
+        compared(
+            alloc,
+            resolve_by_both_keeping_every(alloc, &*held.manifest)?,
+        )
     } else {
         compared(alloc, resolve_by_both(alloc, &*held.manifest)?)
     }
@@ -48,7 +66,11 @@ fn compared(alloc: Global, answers: (Answer<'_>, Answer<'_>)) -> Result<String, 
     let (called, plain) = answers;
     let called = lines_of(alloc, called);
     let plain = lines_of(alloc, plain);
-    let (called, plain) = (called?, plain?);
+    alike(alloc, (called?, plain?))
+}
+
+fn alike(alloc: Global, texts: (String, String)) -> Result<String, Error> {
+    let (called, plain) = texts;
     if called == plain {
         return Ok(String::from_str(alloc, "alike")?);
     }

@@ -1,28 +1,18 @@
 //! What completion makes of a manifest: with a workspace that is handed in, with its own, or with a
 //! root that is stated.
-use crate::manifests::with_lines;
+use crate::manifests::{shown, with_lines};
 use crate::recorder::Recorder;
-use cargo_toml::features::Resolver;
+use cargo_toml::features::{Features, Resolver};
 use cargo_toml::{AbstractFilesystem, Error, Manifest, ParseFault, Value};
 use cargo_toml_bench::in_memory::{Answer, InMemory, Root};
+use cargo_toml_bench::members::count_features;
 use cargo_toml_held::HeldManifest;
+use cargo_toml_row_files::templates::{read_to_string, text_in};
 use std::alloc::Global;
+use std::fmt::Debug;
+use std::hash::BuildHasher;
+use std::io;
 use std::rt::Files;
-use std::{fs, io};
-
-/// The text of a file in the folder of the row, if it is there.
-pub fn text_of<R: Files + AllocGlobal>(
-    rt: &R,
-    folder: &str,
-    name: &str,
-) -> Result<Option<String>, Error> {
-    let path = format!(in rt.alloc(); "{folder}/{name}")?;
-    match fs::read_to_string(rt, path.as_str()) {
-        Ok(text) => Ok(Some(text)),
-        Err(fault) if fault.kind() == io::ErrorKind::NotFound => Ok(None),
-        Err(fault) => Err(Error::from(fault)),
-    }
-}
 
 fn texts(alloc: Global, words: &str) -> Result<Vec<String>, Error> {
     let mut texts = Vec::new(alloc);
@@ -78,10 +68,10 @@ fn folders(alloc: Global, lines: &str) -> Result<Vec<(String, Answer)>, Error> {
 
 /// The text of the root's manifest, `Root.toml`, or else the fault in the file `refused`.
 fn root_text<R: Files + AllocGlobal>(rt: &R, folder: &str) -> Result<Result<String, Error>, Error> {
-    if let Some(text) = text_of(rt, folder, "Root.toml")? {
+    if let Some(text) = text_in(rt, folder, "Root.toml")? {
         return Ok(Ok(text));
     }
-    match text_of(rt, folder, "refused")? {
+    match text_in(rt, folder, "refused")? {
         Some(word) => Ok(Err(fault_of(rt.alloc(), word.as_str().trim_end_matches('\n'))?)),
         None => Err(Error::Other("a root without a text or a fault")),
     }
@@ -92,11 +82,11 @@ fn root_text<R: Files + AllocGlobal>(rt: &R, folder: &str) -> Result<Result<Stri
 pub fn files_around<R: Files + AllocGlobal>(rt: &R, folder: &str) -> Result<InMemory, Error> {
     let alloc = rt.alloc();
     let mut files = InMemory::new(alloc);
-    if let Some(lines) = text_of(rt, folder, "files")? {
+    if let Some(lines) = text_in(rt, folder, "files")? {
         files.folders = folders(alloc, lines.as_str())?;
     }
-    if let Some(path) = text_of(rt, folder, "root")? {
-        let hint = text_of(rt, folder, "hint")?;
+    if let Some(path) = text_in(rt, folder, "root")? {
+        let hint = text_in(rt, folder, "hint")?;
         let text = root_text(rt, folder)?;
         files.roots.push(Root { hint, path, text })?;
     }
@@ -121,10 +111,10 @@ fn complete<R: Files + AllocGlobal, Fs: AbstractFilesystem + Drop>(
     files: &Fs,
 ) -> Result<(), Error> {
     let alloc = rt.alloc();
-    let Some(path) = text_of(rt, folder, "path")? else {
+    let Some(path) = text_in(rt, folder, "path")? else {
         return complete_alone(alloc, manifest, files);
     };
-    let Some(text) = text_of(rt, folder, "Workspace.toml")? else {
+    let Some(text) = text_in(rt, folder, "Workspace.toml")? else {
         return Err(Error::Other("a path without a workspace"));
     };
     let workspace = HeldManifest::from_str(alloc, text.as_str())?;
@@ -142,38 +132,57 @@ pub fn left_of(alloc: Global, manifest: &Manifest, before: &str) -> Result<&'sta
     })
 }
 
+/// Whether a root has to be looked up: nothing is handed in, there is no table of its own, and
+/// something is inherited. `text` is that of all fields: in a row's that word stands nowhere else.
+fn needs_root(manifest: &Manifest, text: &str, is_handed: bool) -> bool {
+    !is_handed && manifest.workspace.is_none() && text.contains("Inherited")
+}
+
 /// What came of completing: the fields of the manifest, or why it is refused, in words and by its
-/// parts, and whether the manifest is then as it was. Where it asked as nobody may, what is wrong.
+/// parts, and whether the manifest is then as it was. Where it asked as nobody may, or where
+/// completing again changes something, what is wrong.
 fn outcome_text<R: Files + AllocGlobal>(
     rt: &R,
     folder: &str,
     bytes: &[u8],
 ) -> Result<String, Error> {
-    let files = files_around(rt, folder)?;
-    let is_handed = text_of(rt, folder, "path")?.is_some();
-    outcome_among(rt, folder, bytes, &files, is_handed)
-}
-
-fn outcome_among<R: Files + AllocGlobal>(
-    rt: &R,
-    folder: &str,
-    bytes: &[u8],
-    files: &InMemory,
-    is_handed: bool,
-) -> Result<String, Error> {
     let alloc = rt.alloc();
-    let recorder = Recorder::new(alloc, files);
+    let files = files_around(rt, folder)?;
     let mut held = HeldManifest::from_slice(alloc, bytes)?;
-    let before = format!(in alloc; "{:?}", held.manifest)?;
+    let before = shown(alloc, &held)?;
+    let is_handed = text_in(rt, folder, "path")?.is_some();
+    let needs_root = needs_root(&*held.manifest, before.as_str(), is_handed);
+    let recorder = Recorder::new(alloc, &files);
     let outcome = complete(rt, folder, &mut *held.manifest, &recorder);
-    if let Some(objection) = recorder.objection(held.manifest.package.is_some(), is_handed)? {
+    if let Some(objection) = recorder.objection(held.manifest.package.is_some(), needs_root)? {
         return Ok(String::from_str(alloc, objection)?);
     }
     let Err(fault) = outcome else {
-        return Ok(format!(in alloc; "{:?}", held.manifest)?);
+        return text_again(rt, folder, &mut held, &files);
     };
     let left = left_of(alloc, &*held.manifest, before.as_str())?;
     Ok(format!(in alloc; "refused, {left}: {fault}\n{fault:?}")?)
+}
+
+/// The fields of a completed manifest, which is completed once more. That has to change nothing,
+/// and no root has to be looked up then.
+fn text_again<R: Files + AllocGlobal>(
+    rt: &R,
+    folder: &str,
+    held: &mut HeldManifest,
+    files: &InMemory,
+) -> Result<String, Error> {
+    let alloc = rt.alloc();
+    let text = shown(alloc, held)?;
+    let recorder = Recorder::new(alloc, files);
+    complete(rt, folder, &mut *held.manifest, &recorder)?;
+    if let Some(objection) = recorder.objection(held.manifest.package.is_some(), false)? {
+        return Ok(format!(in alloc; "again {objection}")?);
+    }
+    match left_of(alloc, &*held.manifest, text.as_str())? {
+        "unchanged" => Ok(text),
+        _ => Ok(format!(in alloc; "changed again: {:?}", held.manifest)?),
+    }
 }
 
 /// What came of completing without a workspace: the fields of the manifest, or by its parts why it
@@ -199,26 +208,58 @@ pub fn fields<R: Files + AllocGlobal>(
     with_lines(rt.alloc(), text.as_str(), expected)
 }
 
-/// What is resolved of the manifest, once it is completed with the workspace of the files
-/// `Workspace.toml` and `path`.
+/// The manifest of a row, completed.
+pub fn completed<R: Files + AllocGlobal>(
+    rt: &R,
+    folder: &str,
+    bytes: &[u8],
+) -> Result<HeldManifest, Error> {
+    let files = files_around(rt, folder)?;
+    let mut held = HeldManifest::from_slice(rt.alloc(), bytes)?;
+    complete(rt, folder, &mut *held.manifest, &files)?;
+    Ok(held)
+}
+
+/// The text of features. These are dropped by a call, as in `lines_of`.
+fn text_of<S: BuildHasher + Debug + Drop>(
+    alloc: Global,
+    features: Features<'_, '_, S>,
+) -> Result<String, Error> {
+    let text = format!(in alloc; "{features:?}");
+    drop(features);
+    Ok(text?)
+}
+
+/// What is resolved of the manifest by the call that completes it with the workspace of the files
+/// `Workspace.toml` and `path`. A caller of the call that answers in place has to count as many
+/// features.
 fn resolved_text<R: Files + AllocGlobal>(
     rt: &R,
     folder: &str,
     bytes: &[u8],
 ) -> Result<String, Error> {
     let alloc = rt.alloc();
-    let files = files_around(rt, folder)?;
-    let mut held = HeldManifest::from_slice(alloc, bytes)?;
-    let path = fs::read_to_string(rt, format!(in alloc; "{folder}/path")?.as_str())?;
-    let text = fs::read(rt, format!(in alloc; "{folder}/Workspace.toml")?.as_str())?;
-    let workspace = HeldManifest::from_slice(alloc, text.as_slice())?;
+    let path = read_to_string(rt, format!(in alloc; "{folder}/path")?.as_str())?;
+    let text = read_to_string(rt, format!(in alloc; "{folder}/Workspace.toml")?.as_str())?;
+    let workspace = HeldManifest::from_str(alloc, text.as_str())?;
     let handed = Some((&*workspace.manifest, path.as_str()));
+    let mut counted = HeldManifest::from_slice(alloc, bytes)?;
+    let count = count_features(
+        alloc,
+        &mut *counted.manifest,
+        files_around(rt, folder)?,
+        handed,
+    )?;
     let resolver = Resolver::new();
+    let mut held = HeldManifest::from_slice(alloc, bytes)?;
+    let files = files_around(rt, folder)?;
     let (_, resolved) = resolver.complete_and_parse(alloc, &mut *held.manifest, files, handed)?;
-    let text = format!(in alloc; "{resolved:?}");
-    // by a call, as in `lines_of`
-    drop(resolved);
-    Ok(text?)
+    let is_counted = resolved.features.len() == count;
+    let text = text_of(alloc, resolved)?;
+    if is_counted {
+        return Ok(text);
+    }
+    Ok(format!(in alloc; "{count} features, and {text}")?)
 }
 
 /// The expected lines where each stands in what is resolved of the completed manifest, and

@@ -1,9 +1,10 @@
 //! What comes of completion where one of the folders that it asks for answers a fault.
-use crate::completed::{answer_of, complete_alone, completed_text, files_around, text_of};
+use crate::completed::{answer_of, complete_alone, completed_text, files_around};
 use crate::recorder::Recorder;
 use cargo_toml::Error;
 use cargo_toml_bench::in_memory::{Answer, InMemory};
 use cargo_toml_held::HeldManifest;
+use cargo_toml_row_files::templates::text_in;
 use std::alloc::Global;
 use std::rt::Files;
 
@@ -11,7 +12,7 @@ use std::rt::Files;
 /// path answers what the file `answered` says.
 pub fn lines<R: Files + AllocGlobal>(rt: &R, folder: &str, bytes: &[u8]) -> Result<String, Error> {
     let alloc = rt.alloc();
-    let Some(words) = text_of(rt, folder, "answered")? else {
+    let Some(words) = text_in(rt, folder, "answered")? else {
         return Err(Error::Other("no file answered"));
     };
     let mut lines = String::new(alloc);

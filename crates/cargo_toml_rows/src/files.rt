@@ -1,11 +1,12 @@
 //! What comes of calls that look at real files, in a fresh folder that is removed again.
 use crate::completed::{complete_alone, left_of};
 use crate::manifests::{text_of, with_lines};
-use crate::templates;
-use crate::tree::{fresh_folder, make_tree, reopen};
+use crate::words;
 use cargo_toml::{AbstractFilesystem, Error, Filesystem, Manifest, Value};
 use cargo_toml_held::HeldManifest;
 use cargo_toml_program::print_complete;
+use cargo_toml_row_files::templates;
+use cargo_toml_row_files::tree::{fresh_folder, make_tree, remove_tree};
 use std::alloc::Global;
 use std::fs;
 use std::rt::Files;
@@ -15,8 +16,7 @@ use std::rt::Files;
 pub fn answers<R: Files + AllocGlobal>(rt: &R, row: &str) -> Result<String, Error> {
     let folder = fresh_folder(rt)?;
     let answers = answers_in(rt, row, folder.as_str());
-    reopen(rt, folder.as_str(), text_in(rt, row, "tree")?.as_str())?;
-    fs::remove_dir_all(rt, folder.as_str())?;
+    remove_tree(rt, folder.as_str(), text_in(rt, row, "tree")?.as_str())?;
     Ok(answers?.replace(rt.alloc(), folder.as_str(), "T")?)
 }
 
@@ -31,8 +31,11 @@ fn answers_in<R: Files + AllocGlobal>(rt: &R, row: &str, folder: &str) -> Result
     let mut answers = String::new(rt.alloc());
     for line in asked.split_terminator('\n') {
         let (call, field) = line.split_once(" | ").unwrap_or((line, ""));
-        let words = words(rt.alloc(), folder, call)?;
-        let answer = answer(rt, words.as_slice(), field)?;
+        let words = words_of(rt.alloc(), folder, call)?;
+        let answer = match words.split_first() {
+            Some((first, rest)) if first.as_str() == "cargo-toml" => words::run(rt, rest)?,
+            _ => answer(rt, words.as_slice(), field)?,
+        };
         answers.push_str(answer.as_str().trim_end_matches('\n'))?;
         answers.push_str("\n")?;
     }
@@ -40,7 +43,7 @@ fn answers_in<R: Files + AllocGlobal>(rt: &R, row: &str, folder: &str) -> Result
 }
 
 /// The words of a call. A `T` in front of a word is the fresh folder, and `''` the empty path.
-fn words(alloc: Global, folder: &str, call: &str) -> Result<Vec<String>, Error> {
+fn words_of(alloc: Global, folder: &str, call: &str) -> Result<Vec<String>, Error> {
     let mut words = Vec::new(alloc);
     for word in call.split(' ') {
         words.push(match word.strip_prefix('T') {

@@ -6,6 +6,7 @@
 #![tactic(auto)]
 
 mod bodies;
+mod calls;
 mod completed;
 mod custom;
 mod damaged;
@@ -15,12 +16,11 @@ mod manifests;
 mod paths;
 mod recorder;
 mod resolved;
-mod templates;
-mod tree;
 mod values;
 mod words;
 
 use cargo_toml::Error;
+use cargo_toml_row_files::templates;
 use std::alloc::Global;
 use std::env;
 use std::rt::Files;
@@ -71,6 +71,8 @@ enum Kind {
     Files,
     /// What words of a command line ask for.
     Words,
+    /// What is answered to calls with values that no manifest spells.
+    Calls,
 }
 
 fn kind_of(word: &str) -> Option<Kind> {
@@ -96,6 +98,7 @@ fn kind_of(word: &str) -> Option<Kind> {
         "parsed" => Some(Kind::Parsed),
         "files" => Some(Kind::Files),
         "words" => Some(Kind::Words),
+        "calls" => Some(Kind::Calls),
         _ => None,
     }
 }
@@ -114,7 +117,7 @@ fn expected_file(kind: Kind) -> &'static str {
         Kind::Report => "/reported",
         Kind::Documented => "/documented",
         Kind::Recursion => "/enabled",
-        Kind::Values | Kind::Bodies | Kind::Words => "",
+        Kind::Values | Kind::Bodies | Kind::Words | Kind::Calls => "",
         Kind::Complete => "/completed",
         Kind::Failing => "/failing",
         Kind::Parsed => "/parsed",
@@ -135,6 +138,7 @@ fn answer<R: Files + AllocGlobal>(
         Kind::Bodies => return bodies::lines(rt, expected),
         Kind::Files => return files::answers(rt, folder),
         Kind::Words => return words::lines(alloc, expected),
+        Kind::Calls => return calls::lines(alloc, folder),
         _ => {}
     }
     let path = format!(in alloc; "{folder}/Cargo.toml")?;
@@ -147,7 +151,7 @@ fn answer<R: Files + AllocGlobal>(
         Kind::Replaced => damaged::replaced(alloc, manifest.as_slice()),
         Kind::Features => manifests::features(alloc, manifest.as_slice()),
         Kind::Limited => limited(rt, folder, manifest.as_slice()),
-        Kind::Custom => custom::lines(alloc, manifest.as_slice()),
+        Kind::Custom => custom::lines(rt, folder, manifest.as_slice()),
         Kind::Whole => manifests::whole(alloc, manifest.as_slice()),
         Kind::Kept => manifests::kept(alloc, manifest.as_slice()),
         Kind::Report => manifests::report(alloc, manifest.as_slice()),

@@ -31,7 +31,7 @@ fn print(alloc: Global, manifest: &Manifest) -> Result<String, Error> {
 }
 
 /// The text of a table. The text has to read as the same table.
-fn print_table(alloc: Global, table: &Table) -> Result<String, Error> {
+pub fn print_table(alloc: Global, table: &Table) -> Result<String, Error> {
     let Ok(text) = toml::table_to_string(alloc, table) else {
         return Err(Error::Other("a table that can't be printed"));
     };
@@ -54,12 +54,48 @@ pub fn written(alloc: Global, bytes: &[u8]) -> Result<String, Error> {
     Ok(format!(in alloc; "{text}, and read again {again}")?)
 }
 
-/// The expected lines where each stands in the text of the manifest's fields, and
-/// that text otherwise.
+/// The text of a manifest's fields.
+pub fn shown(alloc: Global, held: &HeldManifest) -> Result<String, Error> {
+    Ok(format!(in alloc; "{:?}", held.manifest)?)
+}
+
+/// The manifest by the call that reads metadata of a caller's own type.
+fn with_metadata(alloc: Global, bytes: &[u8]) -> Result<HeldManifest, Error> {
+    HeldManifest::new(alloc, Manifest::from_slice_with_metadata(alloc, bytes)?)
+}
+
+/// Whether two manifests have one text. They have to be equal just then, but for what is inherited,
+/// which equals nothing.
+fn are_alike(alloc: Global, one: &HeldManifest, other: &HeldManifest) -> Result<bool, Error> {
+    let text = shown(alloc, one)?;
+    let alike = text == shown(alloc, other)?;
+    if alike == (*one.manifest == *other.manifest) || text.contains("Inherited") {
+        return Ok(alike);
+    }
+    Err(Error::Other("equal manifests of two texts, or other ones of one"))
+}
+
+/// The expected lines where each stands in the text of the manifest's fields, and that text
+/// otherwise. A copy of the manifest has to be like it, and so have those that the other calls
+/// read.
 pub fn fields(alloc: Global, bytes: &[u8], expected: &str) -> Result<String, Error> {
     let held = HeldManifest::from_slice(alloc, bytes)?;
-    let text = format!(in alloc; "{:?}", held.manifest)?;
-    with_lines(alloc, text.as_str(), expected)
+    let copy = HeldManifest {
+        manifest: held.manifest.clone()?,
+    };
+    let spelled = text_of(alloc, bytes)?;
+    let by_text = HeldManifest::from_str(alloc, spelled.as_str())?;
+    let alike = are_alike(alloc, &held, &copy)?
+        && are_alike(alloc, &held, &with_metadata(alloc, bytes)?)?
+        && are_alike(alloc, &held, &by_text)?;
+    if !alike {
+        return Err(Error::Other("a copy, or another call, says something else"));
+    }
+    let empty = HeldManifest::from_str(alloc, "")?;
+    if are_alike(alloc, &held, &empty)? != spelled.is_empty() {
+        return Err(Error::Other("what says something is like the empty manifest"));
+    }
+    with_lines(alloc, shown(alloc, &held)?.as_str(), expected)
 }
 
 /// The expected lines where each stands in the text, and the text otherwise.

@@ -32,13 +32,13 @@ impl<'a> Recorder<'a> {
     }
 
     /// Why nobody may ask so: for a path twice, for a path without a package, for more than one
-    /// root, or for any where one is handed in.
+    /// root, or for any where none has to be looked up.
     pub fn objection(
         self,
         has_package: bool,
-        is_handed: bool,
+        needs_root: bool,
     ) -> Result<Option<&'static str>, Error> {
-        let roots = if is_handed { 0 } else { 1 };
+        let roots = if needs_root { 1 } else { 0 };
         let hints = self.hints.into_inner();
         if hints.len() > roots {
             return Ok(Some("asked for a root in vain"));

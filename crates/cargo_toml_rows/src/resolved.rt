@@ -9,8 +9,7 @@ use std::collections::HashMap;
 use std::fmt::Write;
 use std::hash::BuildHasher;
 
-/// What is recorded of dependencies, a line for each in the order of their keys, and whether hidden
-/// features were removed.
+/// What is recorded of the manifest's dependencies.
 pub fn recorded(alloc: Global, bytes: &[u8]) -> Result<String, Error> {
     let held = HeldManifest::from_slice(alloc, bytes)?;
     let features = Resolver::new().parse(alloc, &*held.manifest)?;
@@ -20,7 +19,9 @@ pub fn recorded(alloc: Global, bytes: &[u8]) -> Result<String, Error> {
     lines
 }
 
-fn dependency_lines<S: BuildHasher>(
+/// A line for each dependency, in the order of their keys, and whether hidden features were
+/// removed.
+pub fn dependency_lines<S: BuildHasher>(
     alloc: Global,
     features: &Features<'_, '_, S>,
 ) -> Result<String, Error> {

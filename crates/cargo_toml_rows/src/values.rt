@@ -89,7 +89,7 @@ fn dependency_answer(alloc: Global, row: &str, value: &Value) -> Result<String, 
 }
 
 /// What a value reads as, and how that is written; or the words of a fault of shape.
-fn answer_of<T: FromValue + ToValue + Debug + Drop>(
+fn answer_of<T: FromValue + ToValue + Clone + Debug + Drop>(
     alloc: Global,
     value: &Value,
 ) -> Result<String, Error> {
@@ -103,7 +103,7 @@ fn answer_of<T: FromValue + ToValue + Debug + Drop>(
 }
 
 /// The same of a setting, which a value is tried as too.
-fn setting_answer<T: FromValue + ToValue + TryFrom<Value, Error = Error> + Debug + Drop>(
+fn setting_answer<T: FromValue + ToValue + TryFrom<Value, Error = Error> + Clone + Debug + Drop>(
     alloc: Global,
     value: &Value,
 ) -> Result<String, Error> {
@@ -119,13 +119,18 @@ fn setting_answer<T: FromValue + ToValue + TryFrom<Value, Error = Error> + Debug
     Ok(format!(in alloc; "{read}, and tried {tried}")?)
 }
 
-/// The text of what was read, and how it is written. What is written has to read as the same.
-fn written<T: FromValue + ToValue + Debug + Drop>(
+/// The text of what was read, and how it is written. A copy has to have the same text. What is
+/// written has to read as the same.
+fn written<T: FromValue + ToValue + Clone + Debug + Drop>(
     alloc: Global,
     value: &T,
 ) -> Result<String, Error> {
     let tree = value.to_value(alloc)?;
     let text = format!(in alloc; "{value:?} -> {tree}")?;
+    let copy = Box::new(alloc, value.clone()?)?;
+    if format!(in alloc; "{copy:?} -> {tree}")? != text {
+        return Ok(format!(in alloc; "{text}, and copied {copy:?}")?);
+    }
     let again = Box::new(alloc, T::from_value(alloc, tree)?)?;
     let text_again = format!(in alloc; "{again:?} -> {}", again.to_value(alloc)?)?;
     if text_again == text {

@@ -1,7 +1,12 @@
-//! What words of a command line ask for, as text.
+//! What words of a command line ask for, and how the program ends, as text.
+ghost use Rattle.std.specs.Prelude.{◌≤◌};
+
+use crate::manifests::text_of;
 use cargo_toml::Error;
-use cargo_toml_program::{Outcome, command};
+use cargo_toml_program::{Command, Outcome, command, print_completed, print_features};
 use std::alloc::Global;
+use std::fs;
+use std::rt::Files;
 
 /// The lines again, each with what comes of it: WORDS, with a space between two of them, and the
 /// command that they are or how the program ends, with ` -> ` between them.
@@ -33,4 +38,36 @@ fn answer(alloc: Global, text: &str) -> Result<String, Error> {
             Ok(format!(in alloc; "status {}, {outcome}", outcome.status())?)
         }
     }
+}
+
+/// What the program prints of the features of the manifest in a file.
+fn print_of_file<R: Files + AllocGlobal>(
+    rt: &R,
+    file: &str,
+    output: &mut Vec<u8>,
+    max_items: usize,
+) -> Result<(), Error>
+    requires { 1 ≤ max_items }
+{
+    let mut input = fs::open(rt, file)?;
+    print_features(rt.alloc(), &mut input, output, max_items)
+}
+
+/// A run of the program: what it prints, what it then writes on standard error, and its status.
+pub fn run<R: Files + AllocGlobal>(rt: &R, words: &[String]) -> Result<String, Error> {
+    let alloc = rt.alloc();
+    let mut output = Vec::new(alloc);
+    let outcome = match command(words) {
+        Some(Command::Features(file, max_items)) => {
+            Outcome::of_command(print_of_file(rt, file, &mut output, max_items))
+        }
+        Some(Command::Complete(file)) => {
+            Outcome::of_command(print_completed(rt, file, &mut output))
+        }
+        None => Outcome::NotACommand,
+    };
+    let mut text = text_of(alloc, output.as_slice())?;
+    let end = format!(in alloc; "{outcome}status {}\n", outcome.status())?;
+    text.push_str(end.as_str())?;
+    Ok(text)
 }

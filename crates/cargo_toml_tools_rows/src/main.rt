@@ -2,12 +2,16 @@
 //! and beside it what has to come of it.
 //!
 //! The words of the command line are the rows' folders, which end with KIND/NAME. A line for each
-//! says that all is as expected, or what came instead.
+//! says that all is as expected, or what came instead. The file `like` of a row leads to the folder
+//! of another, whose manifest or workspace it has too. The lines of a file `tree` make those of
+//! its row.
 #![tactic(auto)]
 
 mod findings;
 
 use cargo_toml::Error;
+use cargo_toml_row_files::templates::text_in;
+use cargo_toml_row_files::tree::{fresh_folder, make_tree, remove_tree};
 use cargo_toml_tools::escape::fault_line;
 use cargo_toml_tools_files::{audit, document, index, lint};
 use std::alloc::Global;
@@ -45,42 +49,65 @@ fn reported(
     }
 }
 
-/// The text of a file beside a manifest, if there is one.
-fn text_beside<R: Files + AllocGlobal>(
-    rt: &R,
-    folder: &str,
-    name: &str,
-) -> Result<Option<String>, Error> {
-    let path = format!(in rt.alloc(); "{folder}/{name}")?;
-    Ok(fs::read_to_string(rt, path.as_str()).ok())
-}
-
-/// What came of a row of this kind.
+/// The same of a row whose manifest or workspace lies in `folder`.
 fn answer<R: Files + RandomSource + Eprint + AllocGlobal>(
     rt: &R,
     kind: &str,
     row: &str,
+    folder: &str,
 ) -> Result<String, Error> {
     let alloc = rt.alloc();
-    let file = format!(in alloc; "{row}/Cargo.toml")?;
+    let file = format!(in alloc; "{folder}/Cargo.toml")?;
     match kind {
         "index" => {
-            let checksum = text_beside(rt, row, "checksum")?;
+            let checksum = text_in(rt, row, "checksum")?;
             let checksum = checksum.as_ref().map(|text| text.as_str().trim_end());
             told(alloc, "FILE", index(rt, file.as_str(), checksum))
         }
         "findings" => {
-            let limit = text_beside(rt, row, "max")?;
+            let limit = text_in(rt, row, "max")?;
             let limit = limit.as_ref().map(|text| text.as_str().trim_end());
             findings::lines(rt, file.as_str(), limit)
         }
         "lint" => reported(alloc, "FILE", lint(rt, file.as_str(), false)),
         "document" => told(alloc, "FILE", document(rt, file.as_str(), false)),
         "graph" => told(alloc, "FILE", document(rt, file.as_str(), true)),
-        "audit" => reported(alloc, "FOLDER", audit(rt, row, false, false)),
-        "report" => reported(alloc, "FOLDER", audit(rt, row, true, false)),
+        "audit" => reported(alloc, "FOLDER", audit(rt, folder, false, false)),
+        "report" => reported(alloc, "FOLDER", audit(rt, folder, true, false)),
         _ => Err(Error::Other("no such kind of row")),
     }
+}
+
+/// What came of a row of this kind.
+fn answer_of<R: Files + RandomSource + Eprint + AllocGlobal>(
+    rt: &R,
+    kind: &str,
+    row: &str,
+) -> Result<String, Error> {
+    if let Some(lines) = text_in(rt, row, "tree")? {
+        return answer_in_tree(rt, kind, row, lines.as_str());
+    }
+    let Some(other) = text_in(rt, row, "like")? else {
+        return answer(rt, kind, row, row);
+    };
+    let folder = format!(in rt.alloc(); "{row}/{}", other.as_str().trim_end())?;
+    answer(rt, kind, row, folder.as_str())
+}
+
+/// The same in a fresh folder, named `T`, with what the lines say in it.
+fn answer_in_tree<R: Files + RandomSource + Eprint + AllocGlobal>(
+    rt: &R,
+    kind: &str,
+    row: &str,
+    lines: &str,
+) -> Result<String, Error> {
+    let folder = fresh_folder(rt)?;
+    let made = match make_tree(rt, folder.as_str(), lines) {
+        Ok(()) => answer(rt, kind, row, folder.as_str()),
+        Err(fault) => Err(fault),
+    };
+    remove_tree(rt, folder.as_str(), lines)?;
+    Ok(made?.replace(rt.alloc(), folder.as_str(), "T")?)
 }
 
 /// The line of a row.
@@ -93,7 +120,7 @@ fn line<R: Files + RandomSource + Eprint + AllocGlobal>(
     let kind = folder.rsplit('/').next().unwrap_or("");
     let path = format!(in alloc; "{row}/expected")?;
     let expected = fs::read_to_string(rt, path.as_str())?;
-    let made = answer(rt, kind, row)?;
+    let made = answer_of(rt, kind, row)?;
     if made == expected {
         Ok(format!(in alloc; "{kind} {name}: as expected\n")?)
     } else {

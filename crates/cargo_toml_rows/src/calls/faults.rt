@@ -1,0 +1,68 @@
+//! What faults and outcomes print.
+use cargo_toml::{Error, Value};
+use cargo_toml_program::Outcome;
+use std::alloc::Global;
+use std::io;
+
+/// The fault that a workspace at a path, or at none, can't be loaded.
+fn wrapped(alloc: Global, fault: Error, path: Option<&str>) -> Result<Error, Error> {
+    let path = match path {
+        Some(path) => Some(String::from_str(alloc, path)?),
+        None => None,
+    };
+    Ok(Error::Workspace(Box::new(alloc, (fault, path))?))
+}
+
+/// What is printed of a workspace whose path isn't known.
+pub fn without_path(alloc: Global) -> Result<String, Error> {
+    let fault = wrapped(alloc, Error::InheritedUnknownValue, None)?;
+    Ok(format!(in alloc; "{fault}\n")?)
+}
+
+/// What is printed of a workspace within another.
+pub fn nested(alloc: Global) -> Result<String, Error> {
+    let inner = wrapped(alloc, Error::Other("utf8"), Some("/w"))?;
+    let fault = wrapped(alloc, inner, None)?;
+    Ok(format!(in alloc; "{fault}\n")?)
+}
+
+/// What is printed of the fault at a path, of its copy, and of an outcome, with `WORDS` for what
+/// the fault itself prints.
+fn around(alloc: Global, fault: Error) -> Result<String, Error> {
+    let words = format!(in alloc; "{fault}")?;
+    let outer = wrapped(alloc, fault, Some("/w"))?;
+    let copy = outer.clone()?;
+    let refused = Outcome::Refused(copy);
+    let text = format!(in alloc; "{outer}\n{refused}")?;
+    Ok(text.replace(alloc, words.as_str(), "WORDS")?)
+}
+
+/// The crate's own words before those of the system, of `toml` and of a workspace.
+pub fn before_inner_words(alloc: Global) -> Result<String, Error> {
+    let absent = Error::from(io::Error::from(io::ErrorKind::NotFound));
+    let mut text = around(alloc, absent)?;
+    match Value::from_str(alloc, "[package") {
+        Ok(_) => text.push_str("read\n")?,
+        Err(fault) => text.push_str(around(alloc, Error::from(fault))?.as_str())?,
+    }
+    let integrity = Error::WorkspaceIntegrity(String::from_str(alloc, "Not a Workspace.")?);
+    text.push_str(around(alloc, integrity)?.as_str())?;
+    let denied = Error::from(io::Error::from(io::ErrorKind::PermissionDenied));
+    let words = format!(in alloc; "{denied}")?;
+    let refused = format!(in alloc; "{}", Outcome::Refused(denied))?;
+    text.push_str(refused.replace(alloc, words.as_str(), "WORDS")?.as_str())?;
+    Ok(text)
+}
+
+fn ended(alloc: Global, outcome: Outcome) -> Result<String, Error> {
+    Ok(format!(in alloc; "{outcome}status {}\n", outcome.status())?)
+}
+
+/// How runs end, and what they write then.
+pub fn outcomes(alloc: Global) -> Result<String, Error> {
+    let done = ended(alloc, Outcome::of_command(Ok(())))?;
+    let refused = ended(alloc, Outcome::of_command(Err(Error::Memory)))?;
+    let no_text = ended(alloc, Outcome::of_command(Err(Error::Other("utf8"))))?;
+    let usage = ended(alloc, Outcome::NotACommand)?;
+    Ok(format!(in alloc; "{done}{refused}{no_text}{usage}")?)
+}

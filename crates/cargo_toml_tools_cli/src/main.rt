@@ -3,37 +3,15 @@
 //! workspace, and `document [--dot] FILE..` prints what is documented of features.
 #![tactic(auto)]
 
-mod words;
-
 use cargo_toml_tools::escape::fault_line;
 use cargo_toml_tools_files::{audit, document, index, lint};
+use cargo_toml_tools_words::{Outcome, Request, USAGE, read_request};
 use std::fmt::Display;
 use std::io::{IsTerminal, Write};
 use std::process::ExitCode;
 use std::random::RandomSource;
 use std::rt::{Env, Files};
 use std::{env, io};
-use words::{Request, USAGE, read_request};
-
-/// What came of what was asked. Of several files the worst counts, which is the last of these.
-#[derive(Clone, Copy, PartialEq, Eq, PartialOrd, Ord)]
-enum Outcome {
-    Done,
-    Odd,
-    Refused,
-    NoCommand,
-}
-
-impl Outcome {
-    fn status(self) -> u8 {
-        match self {
-            Outcome::Done => 0,
-            Outcome::Odd => 3,
-            Outcome::Refused => 1,
-            Outcome::NoCommand => 2,
-        }
-    }
-}
 
 /// Writes what came of a file, and whether that is odd; or tells why the file is refused.
 fn put<R: Print + Eprint + AllocGlobal, F: Display + Drop>(

@@ -4,16 +4,18 @@
 //! The words of the command line are the rows' folders, which end with KIND/NAME. A line for each
 //! says that all is as expected, or what came instead. The file `like` of a row leads to the folder
 //! of another, whose manifest or workspace it has too. The lines of a file `tree` make those of
-//! its row.
+//! its row. A row of `words` has neither.
 #![tactic(auto)]
 
 mod findings;
+mod words;
 
 use cargo_toml::Error;
 use cargo_toml_row_files::templates::text_in;
 use cargo_toml_row_files::tree::{fresh_folder, make_tree, remove_tree};
 use cargo_toml_tools::escape::fault_line;
 use cargo_toml_tools_files::{audit, document, index, lint};
+use cargo_toml_tools_words::Outcome;
 use std::alloc::Global;
 use std::random::RandomSource;
 use std::rt::Files;
@@ -42,8 +44,8 @@ fn reported(
 ) -> Result<String, Error> {
     match made {
         Ok((report, odd)) => {
-            let status = if odd { 3 } else { 0 };
-            Ok(format!(in alloc; "{report}status {status}\n")?)
+            let outcome = if odd { Outcome::Odd } else { Outcome::Done };
+            Ok(format!(in alloc; "{report}status {}\n", outcome.status())?)
         }
         Err(fault) => told(alloc, file, Err(fault)),
     }
@@ -120,7 +122,10 @@ fn line<R: Files + RandomSource + Eprint + AllocGlobal>(
     let kind = folder.rsplit('/').next().unwrap_or("");
     let path = format!(in alloc; "{row}/expected")?;
     let expected = fs::read_to_string(rt, path.as_str())?;
-    let made = answer_of(rt, kind, row)?;
+    let made = match kind {
+        "words" => words::lines(alloc, expected.as_str())?,
+        _ => answer_of(rt, kind, row)?,
+    };
     if made == expected {
         Ok(format!(in alloc; "{kind} {name}: as expected\n")?)
     } else {

@@ -157,14 +157,15 @@ fn lints(alloc: Global, manifest: &Manifest) -> Result<String, Error> {
 /// Each question to a package, and to its manifest.
 pub fn getters(alloc: Global) -> Result<String, Error> {
     let held = HeldManifest::from_str(alloc, ASKED)?;
-    if held.manifest.package.is_none() {
+    let manifest = &*held.manifest;
+    if manifest.package.is_none() {
         return Err(Error::Other("no package"));
     }
-    let package = held.manifest.package();
+    let package = manifest.package();
     let own = own(alloc, package)?;
     let texts = texts(alloc, package)?;
     let places = places(alloc, package)?;
     let lists = lists(alloc, package)?;
-    let lints = lints(alloc, &*held.manifest)?;
+    let lints = lints(alloc, manifest)?;
     Ok(format!(in alloc; "{own}{texts}{places}{lists}{lints}")?)
 }

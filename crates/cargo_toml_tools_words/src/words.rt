@@ -1,4 +1,6 @@
 //! What the words of the command line ask for.
+ghost use Rattle.std.specs.Prelude.{IfOk, IfSome};
+ghost use Rattle.cargo_toml_tools_words.specs.Asked.{IsOfOneFile};
 
 use clap::error::ErrorKind;
 use clap::{Arg, ArgAction, ArgMatches, Command};
@@ -22,11 +24,13 @@ pub enum Request<'a> {
 }
 
 /// What these words ask for, of which the first is the program's own name, or none where they are
-/// no command.
+/// no command. A checksum is that of the only file.
 pub fn read_request<'a>(
     alloc: Global,
     words: &'a [String],
-) -> Result<Option<Request<'a>>, AllocError> {
+) -> Result<Option<Request<'a>>, AllocError>
+    ensures { IfOk result (λ r. IfSome r IsOfOneFile) }
+{
     match command(alloc)?.try_get_matches_from(words) {
         Ok(matches) => request_of(alloc, &matches),
         Err(fault) if fault.kind() == ErrorKind::OutOfMemory => Err(AllocError),
@@ -67,7 +71,9 @@ fn files<'a>(alloc: Global) -> Arg<'a> {
 fn request_of<'a>(
     alloc: Global,
     matches: &ArgMatches<'a>,
-) -> Result<Option<Request<'a>>, AllocError> {
+) -> Result<Option<Request<'a>>, AllocError>
+    ensures { IfOk result (λ r. IfSome r IsOfOneFile) }
+{
     let Some((name, matches)) = matches.subcommand() else {
         return Ok(None);
     };
@@ -81,7 +87,9 @@ fn request_of<'a>(
 }
 
 /// One checksum is asked of one file.
-fn index<'a>(alloc: Global, matches: &ArgMatches<'a>) -> Result<Option<Request<'a>>, AllocError> {
+fn index<'a>(alloc: Global, matches: &ArgMatches<'a>) -> Result<Option<Request<'a>>, AllocError>
+    ensures { IfOk result (λ r. IfSome r IsOfOneFile) }
+{
     let files = named(alloc, matches)?;
     match matches.get_str("checksum") {
         Some(checksum) if files.len() == 1 && is_checksum(checksum) => {
@@ -92,7 +100,9 @@ fn index<'a>(alloc: Global, matches: &ArgMatches<'a>) -> Result<Option<Request<'
     }
 }
 
-fn audit<'a>(matches: &ArgMatches<'a>) -> Option<Request<'a>> {
+fn audit<'a>(matches: &ArgMatches<'a>) -> Option<Request<'a>>
+    ensures { IfSome result IsOfOneFile }
+{
     let folder = matches.get_str("folder")?;
     Some(Request::Audit(folder, matches.get_flag("json")))
 }

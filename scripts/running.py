@@ -99,7 +99,7 @@ def room(program, places):
                     os.chmod(made, 0o711)
                     break
         if not made:
-            program.say(f"no temporary file can be written to {' or '.join(places)}")
+            program.say("no temporary file can be written: set TMPDIR to a folder with room for some")
             sys.exit(NO_ANSWER)
         yield made
     finally:
@@ -163,9 +163,16 @@ def run(task, launcher, crate, called, *more):
         if signal.getsignal(number) is not signal.SIG_IGN:
             signal.signal(number, stop)
     try:
+        # scripts/program.sh blocks it while Python starts
+        signal.pthread_sigmask(signal.SIG_UNBLOCK, [signal.SIGINT])
         return task(Program(launcher, crate, called), *more)
     except (OSError, KeyError) as fault:
-        print(f"{name}: {type(fault).__name__}: {fault}", file=sys.stderr)
+        why = fault
+        if isinstance(fault, shutil.Error):
+            # the first of the files that can't be copied
+            _, to, why = fault.args[0][0]
+            why = f"{why.split(': ')[0]}: {to}"
+        print(f"{name}: {why}", file=sys.stderr)
         return NO_ANSWER
     except Stopped as stopped:
         signal.signal(stopped.number, signal.SIG_DFL)

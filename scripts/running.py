@@ -197,12 +197,11 @@ def run(task, launcher, crate, called, *more):
         signal.pthread_sigmask(signal.SIG_UNBLOCK, [signal.SIGINT])
         return task(Program(launcher, crate, called), *more)
     except (OSError, KeyError) as fault:
-        why = fault
         if isinstance(fault, shutil.Error):
             # the first of the files that can't be copied
             _, to, why = fault.args[0][0]
-            why = f"{why.split(': ')[0]}: {to}"
-        print(f"{name}: {why}", file=sys.stderr)
+            fault = f"{why.split(': ')[0]}: {to}"
+        print(f"{name}: {fault}", file=sys.stderr)
         return NO_ANSWER
     except Stopped as stopped:
         signal.signal(stopped.number, signal.SIG_DFL)

@@ -189,10 +189,10 @@ def started(words, at, **how):
 def run(task, launcher, crate, called, *more):
     """Does the task for the program, and returns the status. A signal ends it by that signal."""
     name = os.path.basename(launcher)
-    for number in SIGNALS:
-        if signal.getsignal(number) is not signal.SIG_IGN:
-            signal.signal(number, stop)
     try:
+        for number in SIGNALS:
+            if signal.getsignal(number) is not signal.SIG_IGN:
+                signal.signal(number, stop)
         # scripts/program.sh blocks it while Python starts
         signal.pthread_sigmask(signal.SIG_UNBLOCK, [signal.SIGINT])
         return task(Program(launcher, crate, called), *more)

@@ -7,6 +7,7 @@ import hashlib
 import os
 import re
 import subprocess
+from itertools import zip_longest
 
 from running import started
 
@@ -129,7 +130,8 @@ class Tried(Job):
         below = [it for name in closure for it in files_below(f"{CRATES}/{name}/src")]
         beside = [f"{folder}/{it}" for it in ("args", "stdout", "status")]
         data = files_below(f"{folder}/data")
-        super().__init__(f"{what} of {crate}", folder, [], [*below, *beside, *data])
+        sources = [f"{ROOT}/crates.txt", *below, *beside, *data]
+        super().__init__(f"{what} of {crate}", folder, [], sources)
         self.words = ["rt", "try", "--seconds", SECONDS]
         for path in filter(is_utf8, data):
             self.words += ["--data", f"{os.path.relpath(path, f'{folder}/data')}={path}"]
@@ -173,7 +175,8 @@ class Rows(Tried):
 
     def __init__(self, crate, word, is_bound):
         folder = f"{CRATES}/{crate}"
-        stored = zip(lines_of(f"{folder}/args"), lines_of(f"{folder}/stdout"))
+        stored = (lines_of(f"{folder}/{it}") for it in ("args", "stdout"))
+        stored = zip_longest(*stored, fillvalue="")
         self.wanted = {row: f"{line}\n" for row, line in stored if word in row}
         why = {row: why_not(f"{folder}/data/{row}", is_bound) for row in self.wanted}
         self.asked = [row for row in self.wanted if not why[row]]
@@ -189,12 +192,12 @@ class Rows(Tried):
             if row:
                 came[row] += line
         for row, text in came.items():
-            if text != self.wanted[row]:
-                self.failed[row] = self.shown(row, text) if text else "nothing came"
-        self.passed = len(came) - len(self.failed)
-        ended = ENDED.search(said)
-        if not ended or ended[1] != "0":
-            self.failed["`rt try`"] = said
+            if text and text != self.wanted[row]:
+                self.failed[row] = self.shown(row, text)
+        lost, ended = [row for row, text in came.items() if not text], ENDED.search(said)
+        self.passed = len(came) - len(self.failed) - len(lost)
+        if lost or not ended or ended[1] != "0":
+            self.failed[f"nothing came of {len(lost)} rows: {', '.join(lost[:5])} .."] = said
 
     def shown(self, row, text):
         """What came, beside the file of the row that is most like it."""
@@ -216,15 +219,15 @@ def why_not(row, is_bound):
 
 def can_be_bound():
     """Whether rows can be run by one who is bound by modes: by nobody, where this is root."""
-    words = [*AS_NOBODY, "sh", "-c", "test -r crates.txt && rt version"]
-    how = {"cwd": ROOT, "stdout": subprocess.DEVNULL, "stderr": subprocess.DEVNULL}
+    asked = ["sh", "-c", 'test -r "$0" && rt version', f"{ROOT}/crates.txt"]
+    words, how = [*AS_NOBODY, *asked], {"stdout": subprocess.DEVNULL, "stderr": subprocess.DEVNULL}
     with contextlib.suppress(OSError):
         return os.geteuid() != 0 or subprocess.run(words, check=False, **how).returncode == 0
     return False
 
 
 def jobs(word=None):
-    """What is to be run, with what takes longest first."""
+    """What is to be run, what takes longest first."""
     crates, is_bound = sorted(os.listdir(CRATES)), can_be_bound()
     programs = [it for it in crates if os.path.isfile(f"{CRATES}/{it}/stdout")]
     rows = [Rows(it, word or "", is_bound) for it in programs if it.endswith("_rows")]
@@ -235,4 +238,5 @@ def jobs(word=None):
         if any("#[test]" in text_of(path) for path in files_below(f"{CRATES}/{it}/src")):
             found.append(Tests(it))
     size = {it: sum(map(os.path.getsize, filter(os.path.isfile, it.sources))) for it in found}
-    return [*sorted(found, key=size.get, reverse=True), Scripts()]
+    # the scripts wait more than they work
+    return [Scripts(), *sorted(found, key=size.get, reverse=True)]

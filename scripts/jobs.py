@@ -55,6 +55,9 @@ def difference(wanted, came):
 class Job:
     """A command in a folder, the files that it comes of, and what came."""
 
+    # whether it takes a processor and memory for most of the time
+    is_heavy = False
+
     def __init__(self, name, folder, words, sources):
         self.name, self.folder, self.words, self.sources = name, folder, words, sources
         self.is_for_nobody, self.kept = False, None
@@ -123,6 +126,8 @@ class Scripts(Job):
 
 class Tried(Job):
     """A crate under `rt try`, which builds it of the sources of all crates that it stands on."""
+
+    is_heavy = True
 
     def __init__(self, what, crate, words):
         folder, how = f"{CRATES}/{crate}", {"check": True, "stdout": subprocess.PIPE, "text": True}
@@ -238,5 +243,4 @@ def jobs(word=None):
         if any("#[test]" in text_of(path) for path in files_below(f"{CRATES}/{it}/src")):
             found.append(Tests(it))
     size = {it: sum(map(os.path.getsize, filter(os.path.isfile, it.sources))) for it in found}
-    # the scripts wait more than they work
     return [Scripts(), *sorted(found, key=size.get, reverse=True)]

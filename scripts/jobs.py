@@ -61,6 +61,7 @@ class Job:
     def __init__(self, name, folder, words, sources):
         self.name, self.folder, self.words, self.sources = name, folder, words, sources
         self.is_for_nobody, self.kept = False, None
+        # what failed, each with what is shown of it, or None where another shows it
         self.passed, self.failed, self.skipped = 0, {}, {}
 
     def is_kept(self, kit):
@@ -101,6 +102,8 @@ class Job:
         lines = [f"{self.name}: {self.passed} passed, {len(self.failed)} failed{skipped} ({how})"]
         lines += [f"  skipped: {name}: {why}" for name, why in self.skipped.items()]
         for name, text in self.failed.items():
+            if text is None:
+                continue
             shown = text.splitlines()
             if len(shown) > SHOWN:
                 shown[SHOWN:] = [f"({len(shown) - SHOWN} lines more)"]
@@ -200,9 +203,12 @@ class Rows(Tried):
             if text and text != self.wanted[row]:
                 self.failed[row] = self.shown(row, text)
         lost, ended = [row for row, text in came.items() if not text], ENDED.search(said)
-        self.passed = len(came) - len(self.failed) - len(lost)
-        if lost or not ended or ended[1] != "0":
-            self.failed[f"nothing came of {len(lost)} rows: {', '.join(lost[:5])} .."] = said
+        self.failed.update(dict.fromkeys(lost))
+        self.passed = len(came) - len(self.failed)
+        if lost:
+            self.failed[lost[0]] = f"nothing came of it, nor of {len(lost) - 1} others\n{said}"
+        elif not ended or ended[1] != "0":
+            self.failed["`rt try`"] = said
 
     def shown(self, row, text):
         """What came, beside the file of the row that is most like it."""

@@ -92,10 +92,12 @@ class Job:
         """Tells what came, and keeps that it passed."""
         self.judge(status, text_of(f"{at}/out"), text_of(f"{at}/said"))
         self.tell(f"{seconds:.0f} s")
-        if not self.failed:
-            os.makedirs(KEPT, exist_ok=True)
-            with open(self.kept, "w", encoding="utf-8") as file:
-                file.write(f"{self.passed}\n")
+        # where nothing can be written, nothing is kept
+        with contextlib.suppress(OSError):
+            if not self.failed:
+                os.makedirs(KEPT, exist_ok=True)
+                with open(self.kept, "w", encoding="utf-8") as file:
+                    file.write(f"{self.passed}\n")
 
     def tell(self, how):
         skipped = f", {len(self.skipped)} skipped" if self.skipped else ""

@@ -5,18 +5,21 @@
 #   self, root    its own path with no link in it, and the repository's folder
 #   crate         the program's crate
 #   usage         the line that says how the program is called
+#   tells         what a refusal tells: `words` alone, or `both`, the file and then words
 #   is_command    a function: whether its arguments are a command of the program
 # and is_command sets
 #   looks         `alone` where the command reads its files and nothing else; `named` where it
 #                 also writes their names, as they were given (unproved: their absolute paths);
-#                 `around` where it looks at other files too, by the paths of its files
+#                 `around` where it looks at other files too, by the paths of its files, and
+#                 `within` where it does so by the path of a folder, with a manifest in it
 #   files         how many of the last words are its files: 1 if it isn't set
 #
 # - Words that are no command print the usage line on standard error, with status 2.
 # - The program is run where it is built and newer than every source that it stands on, whoever
 #   built it (scripts/stale).
 # - Else the words are answered unproved, by `rt try` (scripts/answer), as one line on standard
-#   error says. Standard output, the faults and the status are those of the program.
+#   error says. Standard output, the faults and the status are those of the program. A file that
+#   can't be read is told at once.
 # - The one word `--build` proves and builds the program (scripts/build), and runs nothing.
 #
 # Status 4 is of this script alone, and no program of the repository ends with it:
@@ -29,6 +32,7 @@
 # in it: that of the caller's folder as it lies on the disk, then FILE's own path, whose links stay
 # and whose `..` are taken back. So Cargo takes such a path too. Where FILE's path goes back from
 # behind a link, its links are resolved, since its text leads to another folder than the disk.
+# A path that leads to nothing, is no text or too long stays as it is written.
 
 name=${self##*/}
 built=$root/crates/$crate/out/$crate
@@ -37,65 +41,50 @@ say() {
     printf '%s: %s\n' "$name" "$1" >&2
 }
 
-# Whether a word, or each of some, is UTF-8, which the program asks of them.
+# Whether a text is UTF-8, which the program asks of its words.
 is_text() {
     case $1 in
-        *[!-a-zA-Z0-9_./]*)
+        *[!-a-zA-Z0-9_./\ ]*)
             ! command -v iconv > /dev/null ||
                 printf '%s' "$1" | iconv -f UTF-8 -t UTF-8 > /dev/null 2>&1
             ;;
     esac
 }
 
-are_text() {
-    for word; do
-        is_text "$word" || return 1
-    done
-}
-
-# Prints the folder of a file, and a dot after it, which keeps a line feed at its end.
-folder_of() (
+# Prints the absolute path of a file in a folder that can be entered, and a dot after it, which
+# keeps a line feed at its end.
+absolute() (
     case $1 in
         */*) folder=${1%/*}/ ;;
         *) folder=./ ;;
     esac
     CDPATH=''
-    cd -P -- . &&
-        found=$(cd -P -- "$folder" && printf '%s.' "$PWD") &&
-        if written=$(cd -L -- "$folder" && cd -P -- . && printf '%s.' "$PWD") &&
-            [ "$written" = "$found" ]; then
-            cd -L -- "$folder" && printf '%s.' "$PWD"
-        else
-            printf '%s' "$found"
-        fi
+    cd -P -- . && path=$(cd -P -- "$folder" && printf '%s.' "$PWD") || exit
+    if [ "$(cd -L -- "$folder" && cd -P -- . && printf '%s.' "$PWD")" = "$path" ]; then
+        path=$(cd -L -- "$folder" && printf '%s.' "$PWD")
+    fi
+    path=${path%.}
+    printf '%s/%s.' "${path%/}" "${1##*/}"
 ) 2> /dev/null
 
-# Prints the absolute path of a file, and a dot after it.
-absolute() {
-    if folder=$(folder_of "$1"); then
-        folder=${folder%.}
-        printf '%s/%s.' "${folder%/}" "${1##*/}"
-    else
-        # The folder isn't there, or not to be entered: the program meets that fault itself.
-        case $1 in
-            /*) printf '%s.' "$1" ;;
-            *) printf '%s/%s.' "$PWD" "$1" ;;
-        esac
+# Ends the run where a tool isn't there, and says what to do.
+need() {
+    if ! command -v "$1" > /dev/null; then
+        say "the proved program $why, and \`$1\` is not on the PATH: $2"
+        exit 4
     fi
 }
 
 # What stands in for the program: scripts/answer or scripts/build, with the words it takes further.
 stand_in() {
-    for tool in rt python3; do
-        if ! command -v "$tool" > /dev/null; then
-            say "the proved program $why, and \`$tool\` is not on the PATH: $root/README.md says \
-under \"What you need\" where it comes from"
-            exit 4
-        fi
-    done
+    need python3 "install the system's package \`python3\`"
+    need rt 'it lies in the folder of the Rattle kit, so put that folder on the PATH'
     task=$1
     shift
-    exec "$root/scripts/$task" "$self" "$crate" "$0" "$@"
+    set -- python3 "$root/scripts/$task" "$self" "$crate" "$0" "$@"
+    # Ctrl-C waits until Python hears it
+    if env --block-signal=INT true 2> /dev/null; then set -- env --block-signal=INT "$@"; fi
+    exec "$@"
 }
 
 if [ "$#:${1-}" = 1:--build ]; then
@@ -107,26 +96,25 @@ if [ "$#:${1-}" = 1:--build ]; then
 fi
 
 files=1
-if ! is_command "$@" || ! are_text "$@"; then
+if ! is_command "$@" || ! is_text "$*"; then
     printf '%s\n' "$usage" >&2
     exit 2
 fi
-if [ "$looks" = around ]; then
+case $looks in around | within)
     left=$#
     for word; do
         shift
-        if [ "$left" -le "$files" ] && [ -n "$word" ]; then
-            path=$(absolute "$word")
+        if [ "$left" -le "$files" ] && path=$(absolute "$word"); then
             path=${path%.}
-            # a folder whose name is no text can't be handed to the program
-            if is_text "$path"; then word=$path; fi
+            if [ -n "$word" ] && [ -e "$path" ] && is_text "$path"; then word=$path; fi
         fi
         set -- "$@" "$word"
         left=$((left - 1))
     done
-fi
+    ;;
+esac
 
 if why=$("$root/scripts/stale" "$root" "$crate"); then
     exec "$built" "$@"
 fi
-stand_in answer "$looks" "$files" "$why" "$@"
+stand_in answer "$looks" "$tells" "$files" "$why" "$@"

@@ -99,12 +99,42 @@ def room(program, places):
                     os.chmod(made, 0o711)
                     break
         if not made:
-            program.say(f"no temporary file can be written to {' or '.join(places)}")
+            program.say("no temporary file can be written: set TMPDIR to a folder with room")
             sys.exit(NO_ANSWER)
         yield made
     finally:
         with undisturbed():
             shutil.rmtree(made or "", ignore_errors=True)
+
+
+def copy_crates(program, to):
+    """Copies the crates that the program stands on and their lines of crates.txt, and returns what
+    each stands on.
+
+    Wrong bodies are for the gate alone."""
+    crates = program.asked("closure")[1].split()
+    if not crates:
+        raise OSError("scripts/closure finds no crate")
+
+    def left_out(at, _):
+        return ["out", "must-fail"] if os.path.dirname(at) == f"{program.root}/crates" else []
+
+    os.mkdir(to)
+    for name in crates:
+        folder = f"{program.root}/crates/{name}"
+        shutil.copytree(folder, f"{to}/crates/{name}", symlinks=True, ignore=left_out)
+    shutil.copy(f"{program.root}/HANDLES", to)
+    # rt takes the folder that has it for the top of a repository
+    os.mkdir(f"{to}/.git")
+    with open(f"{program.root}/crates.txt", encoding="utf-8") as file:
+        named = re.findall(r"(?m)^(([\w-]+)\b[^:#\n]*:?([^#\n]*).*)\n", file.read())
+    with open(f"{to}/crates.txt", "w", encoding="utf-8") as file:
+        file.writelines(f"{line}\n" for line, name, _ in named if name in crates)
+    return {
+        name: [it for it in re.split(r"[\s,]+", below) if it in crates]
+        for _, name, below in named
+        if name in crates
+    }
 
 
 def workers(at):
@@ -159,13 +189,19 @@ def started(words, at, **how):
 def run(task, launcher, crate, called, *more):
     """Does the task for the program, and returns the status. A signal ends it by that signal."""
     name = os.path.basename(launcher)
-    for number in SIGNALS:
-        if signal.getsignal(number) is not signal.SIG_IGN:
-            signal.signal(number, stop)
     try:
+        for number in SIGNALS:
+            if signal.getsignal(number) is not signal.SIG_IGN:
+                signal.signal(number, stop)
+        # scripts/program.sh blocks it while Python starts
+        signal.pthread_sigmask(signal.SIG_UNBLOCK, [signal.SIGINT])
         return task(Program(launcher, crate, called), *more)
     except (OSError, KeyError) as fault:
-        print(f"{name}: {type(fault).__name__}: {fault}", file=sys.stderr)
+        if isinstance(fault, shutil.Error):
+            # the first of the files that can't be copied
+            _, to, why = fault.args[0][0]
+            fault = f"{why.split(': ')[0]}: {to}"
+        print(f"{name}: {fault}", file=sys.stderr)
         return NO_ANSWER
     except Stopped as stopped:
         signal.signal(stopped.number, signal.SIG_DFL)

@@ -6,9 +6,28 @@ ghost use Rattle.std.specs.Prelude.{◌≤◌};
 
 use cargo_toml_parts::Error;
 use cargo_toml_program::{Command, Outcome, command, print_completed, print_features};
+use std::env::FillError;
 use std::process::ExitCode;
 use std::rt::{Env, Files};
 use std::{env, fs, io};
+
+/// The environment, where the program's own name is empty. That is no word, and need not be text.
+#[derive(Drop)]
+struct Unnamed<'a, R>(&'a R);
+
+impl<R: Env> Env for Unnamed<'_, R> {
+    fn arg(&self, i: usize, buf: &mut [u8]) -> Result<usize, FillError> {
+        if i == 0 { Ok(0) } else { self.0.arg(i, buf) }
+    }
+
+    fn var(&self, name: &str, buf: &mut [u8]) -> Result<usize, FillError> {
+        self.0.var(name, buf)
+    }
+
+    fn var_at(&self, i: usize, buf: &mut [u8]) -> Result<usize, FillError> {
+        self.0.var_at(i, buf)
+    }
+}
 
 /// Prints the features of the manifest in a file, at this limit of items.
 fn features<R: Files + Print + AllocGlobal>(
@@ -25,7 +44,8 @@ fn features<R: Files + Print + AllocGlobal>(
 
 /// The words of the command line without the program's own name.
 fn words<R: Env + AllocGlobal>(rt: &R) -> io::Result<Vec<String>> {
-    Ok(env::args(rt)?.skip(1).collect(rt.alloc())?)
+    let named = (Unnamed(rt), rt.alloc());
+    Ok(env::args(&named)?.skip(1).collect(rt.alloc())?)
 }
 
 /// What the program is asked to do, done.

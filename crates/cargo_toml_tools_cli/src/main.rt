@@ -6,6 +6,7 @@
 use cargo_toml_tools::escape::fault_line;
 use cargo_toml_tools_files::{audit, document, index, lint};
 use cargo_toml_tools_words::{Outcome, Request, USAGE, read_request};
+use std::env::FillError;
 use std::fmt::Display;
 use std::io::{IsTerminal, Write};
 use std::process::ExitCode;
@@ -77,9 +78,27 @@ fn answer<R: Files + Print + Eprint + RandomSource + AllocGlobal>(
     Ok(outcome)
 }
 
-/// The words of the command line; none where one of them is no text.
+/// The environment, where the program's own name is empty. That is no word, and need not be text.
+#[derive(Drop)]
+struct Unnamed<'a, R>(&'a R);
+
+impl<R: Env> Env for Unnamed<'_, R> {
+    fn arg(&self, i: usize, buf: &mut [u8]) -> Result<usize, FillError> {
+        if i == 0 { Ok(0) } else { self.0.arg(i, buf) }
+    }
+
+    fn var(&self, name: &str, buf: &mut [u8]) -> Result<usize, FillError> {
+        self.0.var(name, buf)
+    }
+
+    fn var_at(&self, i: usize, buf: &mut [u8]) -> Result<usize, FillError> {
+        self.0.var_at(i, buf)
+    }
+}
+
+/// The words of the command line, of which the first is empty; none where one of them is no text.
 fn arguments<R: Env + AllocGlobal>(rt: &R) -> io::Result<Option<Vec<String>>> {
-    match env::args(rt) {
+    match env::args(&(Unnamed(rt), rt.alloc())) {
         Ok(words) => Ok(Some(words.collect(rt.alloc())?)),
         Err(fault) if fault.kind() == io::ErrorKind::OutOfMemory => Err(fault),
         Err(_) => Ok(None),

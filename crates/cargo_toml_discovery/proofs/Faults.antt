@@ -12,7 +12,7 @@ use Rattle.cargo_toml_parts.specs.declared.error.Error.TheVariants.{rolls-Io, ro
 use Rattle.cargo_toml_parts.specs.declared.error.ParseFault.TheVariants.{Toml, Shape}
 use Rattle.cargo_toml_parts.specs.Faults.{IsFromIo}
 use Rattle.cargo_toml_parts.specs.FaultValues.{Fault, fault_of, fault_step, io, memory}
-use Rattle.cargo_toml_discovery.specs.Disk.{IsInput, IsListingFault, IsListingInput}
+use Rattle.cargo_toml_discovery.specs.Disk.{IsEntryFault, IsInput, IsListingFault, IsListingInput, SaysAbsent}
 
 -- `Memory` is one error alone
 layer_alone : (l : Error-F Error) → fault_step (map-Error _ _ fault_of l) ≡ memory → l ≡ Error-F.Memory
@@ -74,6 +74,10 @@ abbrev is_no_folder : ErrorKind → Bool
 is_no_folder NotADirectory = true
 is_no_folder kind = false
 
+abbrev is_missing : ErrorKind → Bool
+is_missing NotFound = true
+is_missing kind = false
+
 -- and one of listing a folder
 pub from_listing : (f : IoError) (e : Error) → IsListingFault f e → (e ≡ Memory) ⊎ IsListingInput (fault_of e)
 from_listing f e (inl absent) =
@@ -86,3 +90,35 @@ from_listing f e (inl absent) =
     )
 from_listing f e (inr (other, inl h)) = inl h.1
 from_listing f e (inr (other, inr h)) = inr (error_kind f, (h.0, (other, ap fault_of h.1 ∙ fault_of-io f)))
+
+-- the fault of an entry doesn't say that the folder is absent
+no_missing : (found fault : IoError) → IsEntryFault found fault → ¬ (error_kind fault ≡ NotFound)
+no_missing found fault (inl (_, other)) h = let clash : false ≡ true = ap is_missing (sym other ∙ h) in cc
+no_missing found fault (inr (there, (folder, same))) h = there (ap error_kind (sym same) ∙ h)
+
+no_file : (found fault : IoError) → IsEntryFault found fault → ¬ (error_kind fault ≡ NotADirectory)
+no_file found fault (inl (_, other)) h = let clash : false ≡ true = ap is_no_folder (sym other ∙ h) in cc
+no_file found fault (inr (there, (folder, same))) h = folder (ap error_kind (sym same) ∙ h)
+
+pub entry_present : (found fault : IoError) → IsEntryFault found fault → ¬ SaysAbsent (error_kind fault)
+entry_present found fault is (inl missing) = no_missing found fault is missing
+entry_present found fault is (inr file) = no_file found fault is file
+
+-- and so in what it becomes
+pub from_entry : (f : IoError) (e : Error) → ¬ SaysAbsent (error_kind f) → IsFromIo f e → (e ≡ Memory) ⊎ IsListingInput (fault_of e)
+from_entry f e present (inl h) = inl h.1
+from_entry f e present (inr h) = inr (error_kind f, (h.0, ((λ file. present (inr file)), ap fault_of h.1 ∙ fault_of-io f)))
+
+-- that a folder is absent comes of a fault of that kind
+pub of_absence : (f : IoError) (e : Error) → IsFromIo f e → fault_of e ≡ io NotFound → error_kind f ≡ NotFound
+of_absence f e (inl h) is = let clash : memory ≡ io NotFound = sym (ap fault_of h.1 ∙ fault_of-memory) ∙ is in cc
+of_absence f e (inr h) is = let same : io (error_kind f) ≡ io NotFound = sym (ap fault_of h.1 ∙ fault_of-io f) ∙ is in cc
+
+pub absent_folder : (f : IoError) (e : Error) → IsListingFault f e → fault_of e ≡ io NotFound → SaysAbsent (error_kind f)
+absent_folder f e (inl absent) is = inr absent.0
+absent_folder f e (inr (_, from)) is = inl (of_absence f e from is)
+
+-- nor does want of memory
+pub memory_present : (f : IoError) → error_kind f ≡ OutOfMemory → ¬ SaysAbsent (error_kind f)
+memory_present f is (inl missing) = let clash : false ≡ true = ap is_missing (sym is ∙ missing) in cc
+memory_present f is (inr file) = let clash : false ≡ true = ap is_no_folder (sym is ∙ file) in cc

@@ -10,6 +10,7 @@ use Rattle.std.specs.declared.fs.dir.DirEntry.{DirEntry}
 use Rattle.std.specs.declared.io.Error.{Error as IoError}
 use Rattle.std.specs.declared.io.ErrorKind.{ErrorKind}
 use Rattle.std.specs.declared.io.ErrorKind.TheVariants.{NotFound, NotADirectory, OutOfMemory}
+use Rattle.std.specs.declared.io.ErrorKind.TheVariants.{Other}
 use Rattle.cargo_toml_parts.specs.declared.error.Error.{Error, Memory}
 use Rattle.cargo_toml_parts.specs.Faults.{IsFromIo}
 use Rattle.cargo_toml_parts.specs.FaultValues.{Fault, fault_of, io}
@@ -24,6 +25,22 @@ abbrev pub IsListingFault : IoError → Error → Type 0
 IsListingFault fault e =
     ((error_kind fault ≡ NotADirectory) × (fault_of e ≡ io NotFound))
     ⊎ ((¬ (error_kind fault ≡ NotADirectory)) × IsFromIo fault e)
+
+-- the kind says that nothing is there, or no folder
+abbrev pub SaysAbsent : ErrorKind → Type 0
+SaysAbsent kind = (kind ≡ NotFound) ⊎ (kind ≡ NotADirectory)
+
+-- what a fault of an entry becomes: one that never says so of the folder
+abbrev pub IsEntryFault : IoError → IoError → Type 0
+IsEntryFault found fault =
+    (SaysAbsent (error_kind found) × (error_kind fault ≡ Other))
+    ⊎ ((¬ (error_kind found ≡ NotFound))
+    × ((¬ (error_kind found ≡ NotADirectory)) × (fault ≡ found)))
+
+-- the system answered for a folder that it is absent
+abbrev pub SaysNoFolder : {S : Type 0} → Result S IoError → Type 0
+SaysNoFolder (Ok s) = ⊥
+SaysNoFolder (Err fault) = SaysAbsent (error_kind fault)
 
 -- the fault is one of reading a file or a folder, and no want of memory
 abbrev pub IsInputFault : Fault → Type 0
@@ -56,6 +73,10 @@ module _ {S R A F D : Type 0} (gives : S → Option (Result (DirEntry R A F D) I
   GivesFault fault = (entries : List (DirEntry R A F D)) × (t : S)
       × YieldsThen gives s (map Ok entries) (Some (Err fault)) t
 
+  -- the same, where this is what became of the fault
+  abbrev pub GivesEntryFault : IoError → Type 0
+  GivesEntryFault fault = (found : IoError) × (GivesFault found × IsEntryFault found fault)
+
 -- what is made of the system's answer for a folder: the names of its entries, or the fault of the
 -- answer or of an entry
 module _ {S R A F D H : Type 0}
@@ -64,7 +85,7 @@ module _ {S R A F D H : Type 0}
   AreNamesOf (Ok s) (Ok set) = GivesNames gives s (HasTexts set)
   AreNamesOf (Ok s) (Err e) =
       (e ≡ Memory)
-      ⊎ ((fault : IoError) × (GivesFault gives s fault × IsListingFault fault e))
+      ⊎ ((fault : IoError) × (GivesEntryFault gives s fault × IsFromIo fault e))
   AreNamesOf (Err fault) (Ok set) = ⊥
   AreNamesOf (Err fault) (Err e) = IsListingFault fault e
 

@@ -2,15 +2,19 @@
 ghost use Rattle.std.specs.Iterator.{IsFinite};
 ghost use Rattle.std.specs.Prelude.{◌≡◌, ◌⊎◌, IfErr, IfOk};
 ghost use Rattle.cargo_toml_parts.specs.declared.error.Error.{Memory};
-ghost use Rattle.cargo_toml_parts.specs.FaultValues.{fault_of};
-ghost use Rattle.cargo_toml_discovery.specs.Disk.{GivesFault, GivesNames, IsWantOfMemory};
-ghost use Rattle.cargo_toml_discovery.specs.Disk.{AreNamesOf, IsListingFault, IsOfListing};
-ghost use Rattle.cargo_toml_discovery.specs.Disk.{IsListingInput, or_here};
+ghost use Rattle.std.specs.IoError.{error_kind};
+ghost use Rattle.std.specs.declared.io.ErrorKind.TheVariants.{NotFound};
+ghost use Rattle.cargo_toml_parts.specs.FaultValues.{fault_of, io};
+ghost use Rattle.cargo_toml_discovery.specs.Disk.{AreNamesOf, GivesEntryFault, GivesNames};
+ghost use Rattle.cargo_toml_discovery.specs.Disk.{IsEntryFault, IsListingFault, IsListingInput};
+ghost use Rattle.cargo_toml_discovery.specs.Disk.{IsOfListing, IsWantOfMemory, SaysAbsent};
+ghost use Rattle.cargo_toml_discovery.specs.Disk.{SaysNoFolder, or_here};
 ghost use Rattle.cargo_toml_discovery.specs.Folders.{HasTexts};
 
 use cargo_toml_parts::Error;
 use std::alloc::{Allocator, Global};
 use std::collections::HashSet;
+use std::fmt::InlineText;
 use std::fs::DirEntry;
 use std::rt::Files;
 use std::{fs, io};
@@ -32,10 +36,25 @@ fn listing_fault(fault: io::Error) -> Error
     }
 }
 
+// A fault of an entry, as the system gives it, in its words. Of another kind where it would say
+// that the folder is absent.
+fn entry_fault(fault: io::Error) -> io::Error
+    ensures { IsEntryFault fault result }
+{
+    match fault.kind() {
+        io::ErrorKind::NotFound | io::ErrorKind::NotADirectory => {
+            let words = InlineText::<80>::of(fault);
+            io::Error::other(words.as_str())
+        }
+        _ => fault,
+    }
+}
+
 /// The names in a folder on the disk. A name that is no folder counts as absent.
 ///
 /// Refused by `Error::Io` where the folder or an entry can't be read or a name isn't UTF-8, and by
-/// `Error::Memory`. That the system was asked for this folder no contract says.
+/// `Error::Memory`. The fault of an entry never counts as an absent folder. That the system was
+/// asked for this folder no contract says.
 pub fn names_in<R: Files + AllocGlobal>(
     rt: &R,
     alloc: Global,
@@ -58,21 +77,22 @@ fn listed_names<R: Files + AllocGlobal>(
     ensures listed { IfOk result
         (IsOfListing ⟦<fs::ReadDir<&'static R> as Iterator>⟧.next_gives) }
     ensures refused { IfErr result (λ e. (e ≡ Memory) ⊎ IsListingInput (fault_of e)) }
+    ensures absent { IfErr result (λ e. fault_of e ≡ io NotFound → SaysNoFolder answer.entry) }
 {
     match answer {
         Ok(entries) => match entry_names(alloc, entries) {
             Ok(names) => Ok(names),
-            Err(fault) => Err(listing_fault(fault)),
+            Err(fault) => Err(Error::from(fault)),
         },
         Err(fault) => Err(listing_fault(fault)),
     }
 }
 
-// The names of the entries that are given, or the first fault in place of one.
-//
+/// The names of the entries that are given, or the first fault in place of one. That is never of a
+/// kind that says that the folder is absent, whatever kind the system gives it.
 // It refuses by an `io::Error`: a call at an iterator that borrows is not covered where the result
 // holds a `'static` text, as `Error` does.
-fn entry_names<R, A, I>(alloc: Global, entries: I) -> io::Result<HashSet<String>>
+pub fn entry_names<R, A, I>(alloc: Global, entries: I) -> io::Result<HashSet<String>>
 where
     R: Files + Drop,
     A: Allocator,
@@ -81,11 +101,15 @@ where
     requires ends { IsFinite (I.remaining entries) }
     ensures names { IfOk result (λ set. GivesNames I.next_gives entries (HasTexts set)) }
     ensures refused { IfErr result
-        (λ fault. IsWantOfMemory fault ⊎ GivesFault I.next_gives entries fault) }
+        (λ fault. IsWantOfMemory fault ⊎ GivesEntryFault I.next_gives entries fault) }
+    ensures present { IfErr result (λ fault. ¬ SaysAbsent (error_kind fault)) }
 {
     let mut names = HashSet::new(alloc);
     for entry in entries {
-        let entry = entry?;
+        let entry = match entry {
+            Ok(entry) => entry,
+            Err(fault) => return Err(entry_fault(fault)),
+        };
         names.insert(String::from_str(alloc, entry.file_name())?)?;
     }
     Ok(names)

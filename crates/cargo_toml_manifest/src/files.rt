@@ -56,8 +56,10 @@ impl<R: Files + AllocGlobal> AbstractFilesystem for Filesystem<'_, R> {
     ghost may_refuse_root = { λ files hint. RealRootRefuses (folder_of files) hint };
 
     /// The names in the folder on the disk. A name that is absent or no folder is `Error::Io` of
-    /// the kind `NotFound`; a folder or an entry that can't be read, or whose name is not UTF-8, is
-    /// `Error::Io` of its kind. That the system was asked for this folder no contract says.
+    /// the kind `NotFound`. A folder that can't be read is `Error::Io` of its kind. So is an entry
+    /// that can't be read or whose name isn't UTF-8; but where its kind is `NotFound` or
+    /// `NotADirectory`, it becomes `Other`. That the system was asked for this folder no contract
+    /// says.
     fn file_names_in(&self, alloc: Global, rel_path: &str) -> Result<HashSet<String>, Error>
         ensures listed { IfOk result
             (IsOfListing ⟦<fs::ReadDir<&'static R> as Iterator>⟧.next_gives) }

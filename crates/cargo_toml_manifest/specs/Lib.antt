@@ -14,4 +14,3 @@ pub mod Searching
 -- the code's own steps, in contracts of inner functions alone: nothing here has to be believed
 pub mod Installing
 pub mod Answering
-pub mod Given

@@ -1,22 +1,13 @@
 //! A manifest, and how it is read of a text.
-ghost use Rattle.std.specs.Prelude.{◌≡◌, [], Option, Some, option_map};
+ghost use Rattle.std.specs.Prelude.{◌≡◌, Option, Some, None, option_map};
 ghost use Rattle.toml.specs.Data.{Data, no_members};
 ghost use Rattle.toml.specs.View.{view, table_view};
-ghost use Rattle.cargo_toml_tables.specs.Badges.{badges_meaning};
-ghost use Rattle.cargo_toml_parts.specs.declared.inheritable.Inheritable.TheVariants.{Set};
-ghost use Rattle.cargo_toml_parts.specs.Inherits.{inheritable_map, inheritable_of};
-ghost use Rattle.cargo_toml_parts.specs.Inherits.{InheritableRefuses};
-ghost use Rattle.cargo_toml_tables.specs.Lints.{lint_meaning, lint_of};
-ghost use Rattle.cargo_toml_tables.specs.Profiles.{profiles_meaning};
 ghost use Rattle.cargo_toml_parts.specs.Reads.{IsReading};
-ghost use Rattle.cargo_toml_parts.specs.Reads.{map_of, map_meaning, WrongShape};
-ghost use Rattle.cargo_toml_parts.specs.Readings.{Ends};
-ghost use Rattle.cargo_toml_manifest.specs.Given.{GoesOr};
+ghost use Rattle.cargo_toml_parts.specs.Readings.{Goes};
 ghost use Rattle.cargo_toml_manifest.specs.Manifests.{ManifestMeaning, manifest_meaning, held};
 ghost use Rattle.cargo_toml_manifest.specs.Manifests.{manifest_of, ManifestFaults, manifest_reads};
 ghost use Rattle.cargo_toml_manifest.specs.Manifests.{ManifestRefuses, zero_rule_applies};
-ghost use Rattle.cargo_toml_manifest.specs.Manifests.{by_zero_rule, no_profiles, profiles_reads};
-ghost use Rattle.cargo_toml_manifest.specs.Manifests.{ProfilesRefuse, no_badges, badges_reads};
+ghost use Rattle.cargo_toml_manifest.specs.Manifests.{by_zero_rule};
 ghost use Rattle.cargo_toml_package.specs.Packages.{package_meaning, held_package};
 ghost use Rattle.cargo_toml_manifest.specs.Texts.{IsFromText, IsFromBytes, any_tree, AnyRefuses};
 ghost use Rattle.cargo_toml_manifest.specs.Texts.{IsTree, IsTreeOfBytes};
@@ -24,13 +15,13 @@ ghost use Rattle.cargo_toml_manifest.specs.Texts.{IsTree, IsTreeOfBytes};
 mod questions;
 
 use crate::heap::keep_heap;
-use cargo_toml_dependencies::feature::features;
+use cargo_toml_dependencies::feature::take_features;
 use cargo_toml_dependencies::{DepsSet, FeatureDetails, FeatureSet, PatchSet, TargetDepsSet};
 use cargo_toml_package::Package;
 use cargo_toml_parts::copying::Copying;
 use cargo_toml_parts::floats::table_has_no_float;
-use cargo_toml_parts::read::{Read, take, wrong_shape};
-use cargo_toml_parts::reading::Reading;
+use cargo_toml_parts::read::{Read, into_table};
+use cargo_toml_parts::reading::{Reading, put_fault};
 use cargo_toml_parts::value::floats_unsupported;
 use cargo_toml_parts::{Error, FromValue, Inheritable};
 use cargo_toml_settings::Publish;
@@ -324,105 +315,69 @@ impl<Metadata: FromValue> Read for Manifest<Metadata> {
     }
 
     fn read_owned(alloc: Global, value: Value) -> Result<Manifest<Metadata>, Error> {
-        match value {
-            Value::Table(table) => read_table(alloc, table),
-            _ => Err(wrong_shape()),
-        }
+        read_table(alloc, into_table(value)?)
     }
 }
 
-// Each key is taken out of the table, so that its tree is released once it has been read.
+// Each key is read into its place in the manifest of the empty text. Its tree is taken out of the
+// table, so that it is released once it has been read.
 fn read_table<Metadata: FromValue>(alloc: Global, table: Table) -> Result<Manifest<Metadata>, Error>
     ensures { IsReading (manifest_meaning Metadata.meaning)
         (manifest_of Metadata.from_tree (table_view table))
         (ManifestFaults Metadata.from_tree Metadata.from_refuses (table_view table)) result }
 {
+    let mut made = Ok(Manifest::default(alloc));
+    let fault = match &mut made {
+        Ok(whole) => fill(alloc, whole, table),
+        Err(_) => None,
+    };
+    put_fault(&mut made, fault);
+    made
+}
+
+// Reads the keys into the manifest of the empty text.
+#[inline(never)]
+fn fill<Metadata: FromValue>(
+    alloc: Global,
+    whole: &mut Manifest<Metadata>,
+    table: Table,
+) -> Option<Error>
+    requires { (reads : Data → Option Metadata)
+        → manifest_of reads no_members ≡ Some (held whole.old) }
+    ensures { Goes None result (manifest_of Metadata.from_tree (table_view table))
+        (manifest_meaning Metadata.meaning whole.new)
+        (ManifestFaults Metadata.from_tree Metadata.from_refuses (table_view table)) }
+{
     let mut rest = table;
     let mut reading = Reading::new(alloc);
-    let package = reading.optional_of(take(&mut rest, "package"));
-    let workspace = reading.optional_of(take(&mut rest, "workspace"));
-    let dependencies = reading.map_of(take(&mut rest, "dependencies"));
-    let dev_dependencies = reading.map_of(take(&mut rest, "dev-dependencies"));
-    let build_dependencies = reading.map_of(take(&mut rest, "build-dependencies"));
-    let target = reading.map_of(take(&mut rest, "target"));
-    let (features, feature_details) = features(&mut reading, take(&mut rest, "features"));
-    let replace = reading.map_of(take(&mut rest, "replace"));
-    let patch = reading.map_of(take(&mut rest, "patch"));
-    let lib = reading.optional_of(take(&mut rest, "lib"));
-    let profile = profiles(&mut reading, take(&mut rest, "profile"));
-    let badges = badges(&mut reading, take(&mut rest, "badges"));
-    let bin = reading.list_of(take(&mut rest, "bin"));
-    let bench = reading.list_of(take(&mut rest, "bench"));
-    let test = reading.list_of(take(&mut rest, "test"));
-    let example = reading.list_of(take(&mut rest, "example"));
-    let lints = lints(&mut reading, take(&mut rest, "lints"));
-    ended(
-        reading,
-        Manifest {
-            package: option_by_zero_rule(package),
-            workspace,
-            dependencies,
-            dev_dependencies,
-            build_dependencies,
-            target,
-            features,
-            replace,
-            patch,
-            lib,
-            profile,
-            badges,
-            bin,
-            bench,
-            test,
-            example,
-            lints,
-            feature_details,
-        },
-    )
-}
-
-// The whole, unless a fault was met, as `Reading::finish` has it. Its copies of a wide value are
-// kept out of what stands on the stack while the keys are read. It is generic, since what is
-// dropped at a function's end is looked at field by field.
-#[inline(never)]
-fn ended<Whole: Drop>(reading: Reading, whole: Whole) -> Result<Whole, Error>
-    ensures { Ends reading.fault whole result }
-{
-    match reading.fault {
-        None => Ok(whole),
-        Some(fault) => Err(fault),
-    }
-}
-
-// The profiles, none where there is no value. As `ended`, this and the next two are kept out of
-// what stands on the stack while the other keys are read.
-#[inline(never)]
-fn profiles(reading: &mut Reading, value: Option<Value>) -> Profiles
-    ensures { GoesOr profiles_reads no_profiles ProfilesRefuse reading.old.fault reading.new.fault
-        (option_map view value) (profiles_meaning result) }
-{
-    let none = Profiles::default(reading.alloc);
-    reading.given_of(value, none)
-}
-
-// The badges, none where there is no value.
-#[inline(never)]
-fn badges(reading: &mut Reading, value: Option<Value>) -> Badges
-    ensures { GoesOr badges_reads no_badges WrongShape reading.old.fault reading.new.fault
-        (option_map view value) (badges_meaning result) }
-{
-    reading.given_of(value, Badges::default())
-}
-
-// The lints, none where there is no value.
-#[inline(never)]
-fn lints(reading: &mut Reading, value: Option<Value>) -> Inheritable<LintGroups>
-    ensures { GoesOr (inheritable_of (map_of (map_of lint_of))) (Set []) InheritableRefuses
-        reading.old.fault reading.new.fault (option_map view value)
-        (inheritable_map (map_meaning (map_meaning lint_meaning)) result) }
-{
-    let none = Inheritable::Set(LintGroups::new(reading.alloc));
-    reading.given_of(value, none)
+    reading.take_optional(&mut rest, "package", &mut whole.package);
+    rule_option(&mut whole.package);
+    reading.take_optional(&mut rest, "workspace", &mut whole.workspace);
+    reading.take(&mut rest, "dependencies", &mut whole.dependencies);
+    reading.take(&mut rest, "dev-dependencies", &mut whole.dev_dependencies);
+    reading.take(
+        &mut rest,
+        "build-dependencies",
+        &mut whole.build_dependencies,
+    );
+    reading.take(&mut rest, "target", &mut whole.target);
+    take_features(
+        &mut reading,
+        &mut rest,
+        &mut whole.features,
+        &mut whole.feature_details,
+    );
+    reading.take(&mut rest, "replace", &mut whole.replace);
+    reading.take(&mut rest, "patch", &mut whole.patch);
+    reading.take_optional(&mut rest, "lib", &mut whole.lib);
+    reading.take(&mut rest, "profile", &mut whole.profile);
+    reading.take(&mut rest, "badges", &mut whole.badges);
+    reading.take(&mut rest, "bin", &mut whole.bin);
+    reading.take(&mut rest, "bench", &mut whole.bench);
+    reading.take(&mut rest, "test", &mut whole.test);
+    reading.take(&mut rest, "example", &mut whole.example);
+    reading.take(&mut rest, "lints", &mut whole.lints);
+    reading.fault
 }
 
 // Whether the version is 0.0.0, without pre-release and build metadata, and the package could be
@@ -445,27 +400,21 @@ fn zero_rule_applies<Metadata>(found: &Package<Metadata>) -> bool
 }
 
 // A package of version 0.0.0 is not published.
-fn by_zero_rule<Metadata: FromValue>(found: Package<Metadata>) -> Package<Metadata>
-    ensures { package_meaning Metadata.meaning result
-        ≡ by_zero_rule (package_meaning Metadata.meaning found) }
+fn rule<Metadata: FromValue>(found: &mut Package<Metadata>)
+    ensures { package_meaning Metadata.meaning found.new
+        ≡ by_zero_rule (package_meaning Metadata.meaning found.old) }
 {
-    let mut ruled = found;
-    if zero_rule_applies(&ruled) {
-        ruled.publish = Inheritable::Set(Publish::Flag(false));
+    if zero_rule_applies(found) {
+        found.publish = Inheritable::Set(Publish::Flag(false));
     }
-    ruled
 }
 
-// The same, where there is a package: a function of its own, so that `read_table` learns what it
-// gives as one equation of meanings.
-fn option_by_zero_rule<Metadata: FromValue>(
-    found: Option<Package<Metadata>>,
-) -> Option<Package<Metadata>>
-    ensures { option_map (package_meaning Metadata.meaning) result
-        ≡ option_map by_zero_rule (option_map (package_meaning Metadata.meaning) found) }
+// The same, where there is a package.
+fn rule_option<Metadata: FromValue>(found: &mut Option<Package<Metadata>>)
+    ensures { option_map (package_meaning Metadata.meaning) found.new
+        ≡ option_map by_zero_rule (option_map (package_meaning Metadata.meaning) found.old) }
 {
-    match found {
-        Some(package) => Some(by_zero_rule(package)),
-        None => None,
+    if let Some(package) = found {
+        rule(package);
     }
 }

@@ -10,8 +10,8 @@ ghost use Rattle.cargo_toml_workspace.specs.Workspaces.{workspace_reads, Workspa
 use cargo_toml_dependencies::DepsSet;
 use cargo_toml_package::PackageTemplate;
 use cargo_toml_parts::copying::Copying;
-use cargo_toml_parts::read::{Read, take, wrong_shape};
-use cargo_toml_parts::reading::Reading;
+use cargo_toml_parts::read::{Read, into_table};
+use cargo_toml_parts::reading::{Reading, ended};
 use cargo_toml_parts::{Error, FromValue};
 use cargo_toml_settings::Resolver;
 use cargo_toml_tables::LintGroups;
@@ -120,24 +120,16 @@ fn read_table<Metadata: FromValue>(
 {
     let mut rest = table;
     let mut reading = Reading::new(alloc);
-    let members = reading.list_of(take(&mut rest, "members"));
-    let default_members = reading.list_of(take(&mut rest, "default-members"));
-    let package = reading.optional_of(take(&mut rest, "package"));
-    let exclude = reading.list_of(take(&mut rest, "exclude"));
-    let metadata = reading.metadata_of(take(&mut rest, "metadata"));
-    let resolver = reading.optional_of(take(&mut rest, "resolver"));
-    let dependencies = reading.map_of(take(&mut rest, "dependencies"));
-    let lints = reading.map_of(take(&mut rest, "lints"));
-    reading.finish(Workspace {
-        members,
-        default_members,
-        package,
-        exclude,
-        metadata,
-        resolver,
-        dependencies,
-        lints,
-    })
+    let mut whole = Workspace::default(alloc);
+    reading.take(&mut rest, "members", &mut whole.members);
+    reading.take(&mut rest, "default-members", &mut whole.default_members);
+    reading.take_optional(&mut rest, "package", &mut whole.package);
+    reading.take(&mut rest, "exclude", &mut whole.exclude);
+    reading.take_metadata(&mut rest, "metadata", &mut whole.metadata);
+    reading.take_optional(&mut rest, "resolver", &mut whole.resolver);
+    reading.take(&mut rest, "dependencies", &mut whole.dependencies);
+    reading.take(&mut rest, "lints", &mut whole.lints);
+    ended(reading.fault, whole)
 }
 
 impl<Metadata: FromValue> Read for Workspace<Metadata> {
@@ -155,9 +147,6 @@ impl<Metadata: FromValue> Read for Workspace<Metadata> {
 
     #[tactic(auto, unfolding(crate::specs::Workspaces::workspace_reads, crate::specs::Workspaces::WorkspaceRefuses))]
     fn read_owned(alloc: Global, value: Value) -> Result<Workspace<Metadata>, Error> {
-        match value {
-            Value::Table(table) => read_table(alloc, table),
-            _ => Err(wrong_shape()),
-        }
+        read_table(alloc, into_table(value)?)
     }
 }

@@ -6,6 +6,7 @@ use Rattle.std.specs.declared.io.ErrorKind.TheVariants as io
 use Rattle.std.specs.IoError.{error_kind}
 use Rattle.cargo_toml_parts.specs.declared.error.Error.{Error, Memory}
 use Rattle.cargo_toml_parts.specs.Faults.{text_of}
+use Rattle.cargo_toml_parts.specs.OwnWords.{HasOwnWords}
 use Rattle.cargo_toml_command.specs.declared.outcome.Outcome.{Outcome}
 use Rattle.cargo_toml_command.specs.declared.outcome.Outcome.TheVariants.{Done, Refused}
 use Rattle.cargo_toml_command.specs.declared.outcome.Outcome.TheVariants.{NotACommand}
@@ -32,6 +33,13 @@ abbrev pub text_of_outcome : Outcome → Option (List ℕ)
 text_of_outcome Done = Some []
 text_of_outcome (Refused e) = option_map (λ t. line (codes "error: " ++ t)) (text_of e)
 text_of_outcome NotACommand = Some (line usage)
+
+-- what is written, whatever the words are that `toml` and input write in the fault
+abbrev pub HasOutcomeWords : Outcome → List ℕ → Type 0
+HasOutcomeWords Done text = text ≡ []
+HasOutcomeWords (Refused e) text =
+    (told : List ℕ) × (HasOwnWords e told × (text ≡ line (codes "error: " ++ told)))
+HasOutcomeWords NotACommand text = text ≡ line usage
 
 -- the end of a run whose words couldn't be had: `Memory`, or else words that are no command
 abbrev pub IsOfWords : IoError → Outcome → Type 0

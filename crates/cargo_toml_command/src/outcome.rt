@@ -1,6 +1,8 @@
 //! How a run of the program ends, and what it writes on standard error then.
+ghost use Rattle.std.specs.Fmt.{DisplaysOnOk};
 ghost use Rattle.std.specs.Prelude.{◌≡◌};
-ghost use Rattle.cargo_toml_command.specs.Outcomes.{IsOfWords, outcome_of};
+ghost use Rattle.cargo_toml_parts.specs.OwnWords.{WritesSome};
+ghost use Rattle.cargo_toml_command.specs.Outcomes.{HasOutcomeWords, IsOfWords, outcome_of};
 ghost use Rattle.cargo_toml_command.specs.Outcomes.{exit_status, text_of_outcome};
 
 use cargo_toml_parts::Error;
@@ -57,10 +59,19 @@ impl Outcome {
 impl fmt::Display for Outcome {
     ghost output = { text_of_outcome };
 
-    fn fmt<W: fmt::Write>(&self, f: &mut fmt::Formatter<W>) -> fmt::Result {
+    fn fmt<W: fmt::Write>(&self, f: &mut fmt::Formatter<W>) -> fmt::Result
+        ensures writes { DisplaysOnOk W.write_str_gives f.old result
+            (text_of_outcome self.now) f.new }
+        ensures words { WritesSome W.write_str_gives f.old result
+            (HasOutcomeWords self.now) f.new }
+    {
         match self {
             Outcome::Done => Ok(()),
-            Outcome::Refused(fault) => write!(f, "error: {fault}\n"),
+            Outcome::Refused(fault) => {
+                f.write_str("error: ")?;
+                fault.fmt(f)?;
+                f.write_str("\n")
+            }
             Outcome::NotACommand => {
                 f.write_str("usage: cargo-toml features [--max N] FILE | complete FILE\n")
             }

@@ -8,6 +8,7 @@ use Rattle.cargo_toml.specs.Manifest.{Manifest}
 use Rattle.cargo_toml.specs.Manifests.{ManifestRefuses, held, manifest_meaning, manifest_reads}
 use Rattle.cargo_toml.specs.RealFiles.{IsTextFault}
 use Rattle.cargo_toml.specs.Texts.{AnyRefuses, any_tree}
+use Rattle.cargo_toml_parts.specs.OwnWords.{HasOwnWords}
 use Rattle.cargo_toml_tools.specs.IndexFaults.{index_fault_text}
 use Rattle.cargo_toml_tools.specs.IndexLines.{IsLineOf}
 use Rattle.cargo_toml_tools.specs.Indexed.{Explains, IsTaken}
@@ -57,3 +58,8 @@ IsIndexFault path (fault.Index e) = IsUntaken path e
 abbrev pub text_of_fault : Fault → Option Text
 text_of_fault (fault.Manifest e) = text_of e
 text_of_fault (fault.Index e) = Some (index_fault_text e)
+
+-- what it displays, whatever the words are that `toml` and input write in it
+abbrev pub HasFaultWords : Fault → Text → Type 0
+HasFaultWords (fault.Manifest e) text = HasOwnWords e text
+HasFaultWords (fault.Index e) text = text ≡ index_fault_text e

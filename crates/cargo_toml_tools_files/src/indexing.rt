@@ -57,14 +57,20 @@ impl From<AllocError> for Fault {
 
 /// The words of the fault inside.
 impl fmt::Display for Fault {
-    ghost use Rattle.cargo_toml_tools_files.specs.IndexedFiles.{text_of_fault};
+    ghost use Rattle.std.specs.Fmt.{DisplaysOnOk};
+    ghost use Rattle.cargo_toml_parts.specs.OwnWords.{WritesSome};
+    ghost use Rattle.cargo_toml_tools_files.specs.IndexedFiles.{HasFaultWords, text_of_fault};
 
     ghost output = { text_of_fault };
 
-    fn fmt<W: fmt::Write>(&self, f: &mut fmt::Formatter<W>) -> fmt::Result {
+    fn fmt<W: fmt::Write>(&self, f: &mut fmt::Formatter<W>) -> fmt::Result
+        ensures writes { DisplaysOnOk W.write_str_gives f.old result
+            (text_of_fault self.now) f.new }
+        ensures words { WritesSome W.write_str_gives f.old result (HasFaultWords self.now) f.new }
+    {
         match self {
-            Fault::Manifest(fault) => write!(f, "{fault}"),
-            Fault::Index(fault) => write!(f, "{fault}"),
+            Fault::Manifest(fault) => fault.fmt(f),
+            Fault::Index(fault) => fault.fmt(f),
         }
     }
 }

@@ -82,6 +82,9 @@ module _ (d : DetailMeaning) (ms : Members) (again : DetailAgain d) (ordered : I
   detail_members : detail_of_table ms ≡ Some d
   detail_members =
       then _ _ _ _ (version_read d.version (get_member (codes "version") ms) again.version (holds requirement_way d.version _ (at_known (codes "version") refl)))
+      (then _ _ _ _ (given_again "features" texts_way list_of [] d.features ms (texts_again d.features) (no_texts d.features) (at_known (codes "features") refl))
+      (then _ _ _ _ (flag_again "optional" false d.optional ms (at_known (codes "optional") refl))
+      (then _ _ _ _ (flag_again "default-features" true d.default_features ms (at_known (codes "default-features") refl))
       (then _ _ _ _ (optional_again "package" text_way as_str d.«package» ms text_again (at_known (codes "package") refl))
       (then _ _ _ _ (optional_again "registry" text_way as_str d.registry ms text_again (at_known (codes "registry") refl))
       (then _ _ _ _ (optional_again "registry-index" text_way as_str d.registry_index ms text_again (at_known (codes "registry-index") refl))
@@ -90,9 +93,6 @@ module _ (d : DetailMeaning) (ms : Members) (again : DetailAgain d) (ordered : I
       (then _ _ _ _ (optional_again "branch" text_way as_str d.branch ms text_again (at_known (codes "branch") refl))
       (then _ _ _ _ (optional_again "tag" text_way as_str d.tag ms text_again (at_known (codes "tag") refl))
       (then _ _ _ _ (optional_again "rev" text_way as_str d.rev ms text_again (at_known (codes "rev") refl))
-      (then _ _ _ _ (given_again "features" texts_way list_of [] d.features ms (texts_again d.features) (no_texts d.features) (at_known (codes "features") refl))
-      (then _ _ _ _ (flag_again "optional" false d.optional ms (at_known (codes "optional") refl))
-      (then _ _ _ _ (flag_again "default-features" true d.default_features ms (at_known (codes "default-features") refl))
       (then _ _ _ _ collected_again (ap (λ (b : Bool). Some (record d { inherited = b })) (sym again.not_inherited))))))))))))))
 
 pub detail_again : (x : DetailMeaning) → DetailAgain x → IsStrictlySortedBy (slice_cmp nat_cmp) (keys_of x.unstable) → ReadsAs detail_way detail_reads x x

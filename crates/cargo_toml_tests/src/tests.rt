@@ -3,6 +3,7 @@
 //! and so do calls with values that no text spells.
 mod caller;
 mod completing;
+mod entries;
 mod printing;
 mod refusing;
 mod samples;

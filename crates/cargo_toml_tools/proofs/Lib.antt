@@ -11,7 +11,6 @@ pub mod Asked
 pub mod Floatless
 pub mod Grown
 pub mod Listed
-pub mod NamedFolder
 pub mod Parts
 pub mod Settled
 pub mod Signs
@@ -37,6 +36,4 @@ pub mod Grouped
 pub mod Inserted
 pub mod Using
 pub mod Unused
-pub mod ReportFloatless
-pub mod Several
 pub mod Sorting

@@ -66,11 +66,6 @@ impl<T: Drop> From<AllocFailed<T>> for IndexError {
 
 /// What each variant says above, in words.
 impl fmt::Display for IndexError {
-    ghost use Rattle.std.specs.Prelude.{Some};
-    ghost use Rattle.cargo_toml_tools.specs.IndexFaults.{index_fault_text};
-
-    ghost output = { λ fault. Some (index_fault_text fault) };
-
     fn fmt<W: fmt::Write>(&self, f: &mut fmt::Formatter<W>) -> fmt::Result {
         match self {
             IndexError::NoPackage => f.write_str("there is no package"),

@@ -1,14 +1,12 @@
 -- What `index` answers of a file.
-use Rattle.std.specs.Prelude.{◌≡◌, ◌⊎◌, ◌++◌, [], ◌∷◌, Option, Some}
+use Rattle.std.specs.Prelude.{◌≡◌, ◌⊎◌, ◌++◌, [], ◌∷◌, Option}
 use Rattle.toml.specs.View.{view}
 use Rattle.toml.specs.declared.value.Value.{Value}
 use Rattle.cargo_toml.specs.Action.{Text}
-use Rattle.cargo_toml.specs.Faults.{text_of}
 use Rattle.cargo_toml.specs.Manifest.{Manifest}
 use Rattle.cargo_toml.specs.Manifests.{ManifestRefuses, held, manifest_meaning, manifest_reads}
 use Rattle.cargo_toml.specs.RealFiles.{IsTextFault}
 use Rattle.cargo_toml.specs.Texts.{AnyRefuses, any_tree}
-use Rattle.cargo_toml_tools.specs.IndexFaults.{index_fault_text}
 use Rattle.cargo_toml_tools.specs.IndexLines.{IsLineOf}
 use Rattle.cargo_toml_tools.specs.Indexed.{Explains, IsTaken}
 use Rattle.cargo_toml_tools.specs.declared.index.IndexError.{IndexError}
@@ -52,8 +50,3 @@ IsLineFault path text (fault.Index e) = IsUntakenBy path text e
 abbrev pub IsIndexFault : Text → Fault → Type 0
 IsIndexFault path (fault.Manifest e) = IsUncompleted path e
 IsIndexFault path (fault.Index e) = IsUntaken path e
-
--- what a fault displays, where that is stated
-abbrev pub text_of_fault : Fault → Option Text
-text_of_fault (fault.Manifest e) = text_of e
-text_of_fault (fault.Index e) = Some (index_fault_text e)

@@ -57,10 +57,6 @@ impl From<AllocError> for Fault {
 
 /// The words of the fault inside.
 impl fmt::Display for Fault {
-    ghost use Rattle.cargo_toml_tools_files.specs.IndexedFiles.{text_of_fault};
-
-    ghost output = { text_of_fault };
-
     fn fmt<W: fmt::Write>(&self, f: &mut fmt::Formatter<W>) -> fmt::Result {
         match self {
             Fault::Manifest(fault) => write!(f, "{fault}"),

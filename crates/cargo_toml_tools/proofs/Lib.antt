@@ -1,6 +1,5 @@
 pub mod Escaping
 pub mod Compared
-pub mod Explained
 pub mod Gained
 pub mod Left
 pub mod Matched
@@ -8,7 +7,6 @@ pub mod Pieces
 pub mod Placed
 pub mod Reporting
 pub mod Asked
-pub mod Floatless
 pub mod Grown
 pub mod Listed
 pub mod Parts
@@ -16,6 +14,7 @@ pub mod Settled
 pub mod Signs
 pub mod Summed
 pub mod Told
+pub mod Refused
 pub mod Weighed
 pub mod Within
 pub mod Yielded

@@ -22,6 +22,7 @@ pub mod Pages
 pub mod FeatureGraphs
 -- the code's own steps, in contracts of inner functions alone: nothing here has to be believed
 pub mod Checked
+pub mod Sections
 pub mod FurtherFolders
 pub mod PageSteps
 pub mod Rows

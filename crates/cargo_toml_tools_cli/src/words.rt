@@ -1,24 +1,47 @@
 //! What the words of the command line ask for.
 
+use cargo_toml_tools::index::{CRATES_IO, Named, Options};
 use clap::error::ErrorKind;
 use clap::{Arg, ArgAction, ArgMatches, Command};
 use std::alloc::{AllocError, Global};
 
 /// How the program is called.
-pub const USAGE: &str = "usage: cargo-toml-tools index [--checksum HEX] FILE.. | \
-    lint FILE.. | audit [--json] FOLDER | document [--dot] FILE..\n";
+pub const USAGE: &str = "usage: cargo-toml-tools index [--registry URL] [--registry-name NAME=URL] \
+    [--checksum HEX] [--force] FILE.. | lint FILE.. | audit [--json] FOLDER | \
+    document [--dot] FILE..\n";
 
 /// What the program is asked to do.
 #[derive(Debug, Drop)]
 pub enum Request<'a> {
     /// The lines that an index has of these crates. A checksum is that of the only one.
-    Index(Vec<&'a str>, Option<&'a str>),
+    Index(Vec<&'a str>, Wanted<'a>),
     /// What is amiss with these crates' features.
     Lint(Vec<&'a str>),
     /// The report on the workspace in this folder, as JSON or as lines.
     Audit(&'a str, bool),
     /// What is documented of these crates' features, as a graph or as a page.
     Document(Vec<&'a str>, bool),
+}
+
+/// Which lines of an index are asked for.
+#[derive(Debug, Drop)]
+pub struct Wanted<'a> {
+    registry: &'a str,
+    names: Vec<Named<'a>>,
+    checksum: Option<&'a str>,
+    force: bool,
+}
+
+impl Wanted<'_> {
+    /// The same as options.
+    pub fn options(&self) -> Options<'_> {
+        Options {
+            registry: self.registry,
+            names: self.names.as_slice(),
+            checksum: self.checksum,
+            force: self.force,
+        }
+    }
 }
 
 /// What these words ask for, of which the first is the program's own name, or none where they are
@@ -36,7 +59,14 @@ pub fn read_request<'a>(
 
 fn command<'a>(alloc: Global) -> Result<Command<'a>, AllocError> {
     let index = Command::new(alloc, "index")
+        .arg(Arg::new(alloc, "registry").long("registry"))?
+        .arg(
+            Arg::new(alloc, "registry-name")
+                .long("registry-name")
+                .action(ArgAction::Append),
+        )?
         .arg(Arg::new(alloc, "checksum").long("checksum"))?
+        .arg(flag(alloc, "force"))?
         .arg(files(alloc))?;
     let lint = Command::new(alloc, "lint").arg(files(alloc))?;
     let audit = Command::new(alloc, "audit")
@@ -73,23 +103,48 @@ fn request_of<'a>(
     };
     match name {
         "index" => index(alloc, matches),
-        "lint" => Ok(Some(Request::Lint(named(alloc, matches)?))),
+        "lint" => Ok(Some(Request::Lint(strings(alloc, matches, "files")?))),
         "audit" => Ok(audit(matches)),
-        "document" => Ok(Some(Request::Document(named(alloc, matches)?, matches.get_flag("dot")))),
+        "document" => Ok(Some(Request::Document(
+            strings(alloc, matches, "files")?,
+            matches.get_flag("dot"),
+        ))),
         _ => Ok(None),
     }
 }
 
 /// One checksum is asked of one file.
 fn index<'a>(alloc: Global, matches: &ArgMatches<'a>) -> Result<Option<Request<'a>>, AllocError> {
-    let files = named(alloc, matches)?;
-    match matches.get_str("checksum") {
-        Some(checksum) if files.len() == 1 && is_checksum(checksum) => {
-            Ok(Some(Request::Index(files, Some(checksum))))
-        }
-        Some(_) => Ok(None),
-        None => Ok(Some(Request::Index(files, None))),
+    let files = strings(alloc, matches, "files")?;
+    let checksum = matches.get_str("checksum");
+    if checksum.is_some_and(|checksum| files.len() != 1 || !is_checksum(checksum)) {
+        return Ok(None);
     }
+    let Some(names) = names(alloc, matches)? else {
+        return Ok(None);
+    };
+    let wanted = Wanted {
+        registry: matches.get_str("registry").unwrap_or(CRATES_IO),
+        names,
+        checksum,
+        force: matches.get_flag("force"),
+    };
+    Ok(Some(Request::Index(files, wanted)))
+}
+
+/// What registries are called, or nothing where one has no address.
+fn names<'a>(
+    alloc: Global,
+    matches: &ArgMatches<'a>,
+) -> Result<Option<Vec<Named<'a>>>, AllocError> {
+    let mut names = Vec::new(alloc);
+    for name in strings(alloc, matches, "registry-name")? {
+        let Some(named) = name.split_once('=') else {
+            return Ok(None);
+        };
+        names.push(named)?;
+    }
+    Ok(Some(names))
 }
 
 fn audit<'a>(matches: &ArgMatches<'a>) -> Option<Request<'a>> {
@@ -97,8 +152,12 @@ fn audit<'a>(matches: &ArgMatches<'a>) -> Option<Request<'a>> {
     Some(Request::Audit(folder, matches.get_flag("json")))
 }
 
-fn named<'a>(alloc: Global, matches: &ArgMatches<'a>) -> Result<Vec<&'a str>, AllocError> {
-    match matches.get_strs("files") {
+fn strings<'a>(
+    alloc: Global,
+    matches: &ArgMatches<'a>,
+    name: &str,
+) -> Result<Vec<&'a str>, AllocError> {
+    match matches.get_strs(name) {
         Some(files) => Vec::from_slice(alloc, files),
         None => Ok(Vec::new(alloc)),
     }

@@ -9,6 +9,7 @@ mod findings;
 
 use cargo_toml::Error;
 use cargo_toml_tools::escape::fault_line;
+use cargo_toml_tools::index::{CRATES_IO, Options};
 use cargo_toml_tools_files::{audit, document, index, lint};
 use std::alloc::Global;
 use std::random::RandomSource;
@@ -55,6 +56,34 @@ fn text_beside<R: Files + AllocGlobal>(
     Ok(fs::read_to_string(rt, path.as_str()).ok())
 }
 
+/// What came of a row of `index`, with the options that stand beside its manifest.
+fn told_of_index<R: Files + RandomSource + AllocGlobal>(
+    rt: &R,
+    row: &str,
+    file: &str,
+) -> Result<String, Error> {
+    let alloc = rt.alloc();
+    let registry = text_beside(rt, row, "registry")?;
+    let checksum = text_beside(rt, row, "checksum")?;
+    let force = text_beside(rt, row, "force")?.is_some();
+    let listed = text_beside(rt, row, "names")?.unwrap_or(String::new(alloc));
+    let mut names = Vec::new(alloc);
+    for line in listed.lines() {
+        if let Some(name) = line.split_once('=') {
+            names.push(name)?;
+        }
+    }
+    let options = Options {
+        registry: registry
+            .as_ref()
+            .map_or(CRATES_IO, |text| text.as_str().trim_end()),
+        names: names.as_slice(),
+        checksum: checksum.as_ref().map(|text| text.as_str().trim_end()),
+        force,
+    };
+    told(alloc, "FILE", index(rt, file, options))
+}
+
 /// What came of a row of this kind.
 fn answer<R: Files + RandomSource + Eprint + AllocGlobal>(
     rt: &R,
@@ -64,11 +93,7 @@ fn answer<R: Files + RandomSource + Eprint + AllocGlobal>(
     let alloc = rt.alloc();
     let file = format!(in alloc; "{row}/Cargo.toml")?;
     match kind {
-        "index" => {
-            let checksum = text_beside(rt, row, "checksum")?;
-            let checksum = checksum.as_ref().map(|text| text.as_str().trim_end());
-            told(alloc, "FILE", index(rt, file.as_str(), checksum))
-        }
+        "index" => told_of_index(rt, row, file.as_str()),
         "findings" => {
             let limit = text_beside(rt, row, "max")?;
             let limit = limit.as_ref().map(|text| text.as_str().trim_end());

@@ -44,7 +44,8 @@ class Manifests:
         if self.happens(0.3):
             parts.append(f"features = {self.some(['std', 'derive', 'alloc'])}")
         if self.happens(0.3):
-            flag = "default_features" if self.edition != "2024" and self.happens(0.1) else "default-features"
+            is_old = self.edition != "2024" and self.happens(0.1)
+            flag = "default_features" if is_old else "default-features"
             value = "true" if parts[0].startswith("workspace") else self.one(["true", "false"])
             parts.append(f"{flag} = {value}")
         is_optional = "dev" not in table and self.happens(0.4)

@@ -9,6 +9,7 @@ use Rattle.serde_json.specs.View.{members_view, view}
 use Rattle.serde_json.specs.declared.value.Value.{Value}
 use Rattle.cargo_toml.specs.Action.{Text}
 use Rattle.cargo_toml_tools.specs.IndexRows.{with_rows}
+use Rattle.cargo_toml_tools.specs.IndexFeatures.{feature_rows, is_extended, lists_object}
 
 pub with_both : (xs ys : List (Text × Data)) (ms : Members) → with_rows (xs ++ ys) ms ≡ with_rows ys (with_rows xs ms)
 with_both [] ys ms = refl
@@ -64,3 +65,20 @@ in_five r s t u v a b c d e f first second third fourth fifth =
 
 pub put_same : (key : Text) (d e : Data) (a b : Members) → b ≡ put key d a → d ≡ e → b ≡ put key e a
 put_same key d e a b puts same = puts ∙ ap (λ x. put key x a) same
+
+-- the features, without those of the second version or with them
+pub first_version : (fs : List (Text × List Text)) (a b : Members) (x : Data) → b ≡ put (codes "features") x a → x ≡ lists_object false fs
+    → list_any (λ (f : Text × List Text). is_extended f.1) fs ≡ false → b ≡ with_rows (feature_rows fs) a
+first_version fs a b x puts is none =
+    put_same (codes "features") x (lists_object false fs) a b puts is
+    ∙ ap (λ c. with_rows (if c then (codes "features2", lists_object true fs) ∷ (codes "v", number (unsigned 2)) ∷ [] else []) (put (codes "features") (lists_object false fs) a)) (sym none)
+
+pub second_version : (fs : List (Text × List Text)) (a b c d : Members) (x y z : Data) → b ≡ put (codes "features") x a → x ≡ lists_object false fs
+    → list_any (λ (f : Text × List Text). is_extended f.1) fs ≡ true → c ≡ put (codes "features2") y b → y ≡ lists_object true fs
+    → d ≡ put (codes "v") z c → z ≡ number (unsigned 2) → d ≡ with_rows (feature_rows fs) a
+second_version fs a b c d x y z first is some second is_too third two =
+    put_same (codes "v") z (number (unsigned 2)) c d third two
+    ∙ ap (put (codes "v") (number (unsigned 2)))
+    (put_same (codes "features2") y (lists_object true fs) b c second is_too
+    ∙ ap (put (codes "features2") (lists_object true fs)) (put_same (codes "features") x (lists_object false fs) a b first is))
+    ∙ ap (λ o. with_rows (if o then (codes "features2", lists_object true fs) ∷ (codes "v", number (unsigned 2)) ∷ [] else []) (put (codes "features") (lists_object false fs) a)) (sym some)

@@ -1,5 +1,6 @@
 -- What the code's own types of `index` stand for.
-use Rattle.std.specs.Prelude.{Option, Some, None, Bor, List, map, option_map, string_bytes}
+use Rattle.std.specs.Prelude.{Option, Some, None, List, map, option_map, string_bytes}
+use Rattle.std.specs.Borrow.{Bor}
 use Rattle.std.specs.Option.{option_copied}
 use Rattle.toml.specs.View.{table_view}
 use Rattle.cargo_toml.specs.Action.{Text}

@@ -1,5 +1,5 @@
 //! What the line of an index has of a crate's features.
-ghost use Rattle.std.specs.Prelude.{◌≡◌, IfOk, OnOk, filter, map, string_bytes};
+ghost use Rattle.std.specs.Prelude.{◌≡◌, ◌++◌, ◌∷◌, [], IfOk, OnOk, filter, map, string_bytes};
 ghost use Rattle.std.specs.List.{list_any};
 ghost use Rattle.serde_json.specs.View.{members_view, view};
 ghost use Rattle.cargo_toml.specs.Action.{Text};
@@ -119,11 +119,23 @@ pub(super) fn put_features(
         ≡ with_rows (feature_rows (map kept_list lists.now)) (members_view line.old.entries)) }
 {
     put(line, alloc, "features", object(alloc, lists, false)?)?;
-    if !lists.iter().any(|list| is_extended(list.texts.as_slice())) {
+    if !has_extended(lists) {
         return Ok(());
     }
     put(line, alloc, "features2", object(alloc, lists, true)?)?;
     put(line, alloc, "v", Value::from(2u8))
+}
+
+/// Whether some list is extended.
+fn has_extended(lists: &[List<'_>]) -> bool
+    ensures { result ≡ list_any (λ f. is_extended f.1) (map kept_list lists.now) }
+{
+    for list in lists {
+        if is_extended(list.texts.as_slice()) {
+            return true;
+        }
+    }
+    false
 }
 
 /// The lists as an index has them in `features2`, or in `features`.

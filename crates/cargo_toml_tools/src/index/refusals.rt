@@ -1,8 +1,8 @@
 //! What an index refuses.
-ghost use Rattle.std.specs.Prelude.{◌≡◌, List, Option, None, map, option_map, string_bytes};
+ghost use Rattle.std.specs.Prelude.{◌≡◌, bytes_eq, map, option_map, string_bytes};
 ghost use Rattle.std.specs.List.{list_any};
 ghost use Rattle.semver.specs.Identifiers.{parts_of};
-ghost use Rattle.toml.specs.View.{table_view};
+ghost use Rattle.toml.specs.View.{table_view, view};
 ghost use Rattle.cargo_toml.specs.Dependencies.{dependency_meaning};
 ghost use Rattle.cargo_toml.specs.Inheritable.TheVariants.{Set};
 ghost use Rattle.cargo_toml.specs.InheritedDependencies.{is_left};
@@ -10,6 +10,7 @@ ghost use Rattle.cargo_toml.specs.InheritedPackages.{is_left_there};
 ghost use Rattle.cargo_toml.specs.Inherits.{inheritable_map};
 ghost use Rattle.cargo_toml.specs.Manifests.{is_zero};
 ghost use Rattle.cargo_toml.specs.Packages.{held_package};
+ghost use Rattle.cargo_toml.specs.Reads.{map_meaning};
 ghost use Rattle.cargo_toml.specs.Settings.{publish_meaning};
 ghost use Rattle.cargo_toml_lint.specs.Findings.{code_level};
 ghost use Rattle.cargo_toml_tools.specs.Indexed.{choice_refusal, entry_refusal};
@@ -28,7 +29,8 @@ use cargo_toml::features::Kind;
 use cargo_toml::{Dependency, Inheritable, Package, Publish, SemVer};
 use cargo_toml_lint::{Finding, Level};
 use cargo_toml_parts::read::member;
-use toml::Table;
+use std::collections::BTreeMap;
+use toml::{Table, Value};
 
 /// What an index doesn't take.
 #[derive(Debug, Clone, Copy, PartialEq, Eq)]
@@ -248,9 +250,15 @@ fn keeps_other_flag(dependency: &Dependency) -> bool
     ensures { result ≡ keeps_other_flag (dependency_meaning dependency.now) }
 {
     match dependency {
-        Dependency::Detailed(detail) => detail.unstable.contains_key("default_features"),
+        Dependency::Detailed(detail) => has_key(&detail.unstable, "default_features"),
         _ => false,
     }
+}
+
+fn has_key(values: &BTreeMap<String, Value>, key: &str) -> bool
+    ensures { result ≡ list_any (λ e. bytes_eq key.now e.0) (map_meaning view values.now) }
+{
+    values.contains_key(key)
 }
 
 /// Whether a dependency has a path or a repository, and no version.

@@ -4,7 +4,6 @@ pub mod IndexRows
 pub mod IndexEntries
 pub mod IndexFeatures
 pub mod IndexLines
-pub mod IndexFaults
 pub mod Linted
 pub mod Audited
 pub mod Oddities
@@ -14,8 +13,6 @@ pub mod Neighbours
 pub mod Overall
 pub mod Escapes
 pub mod Escaped
-pub mod Reported
-pub mod ReportedJson
 pub mod LintLines
 pub mod Patterns
 pub mod Places
@@ -25,6 +22,7 @@ pub mod Pages
 pub mod FeatureGraphs
 -- the code's own steps, in contracts of inner functions alone: nothing here has to be believed
 pub mod Checked
+pub mod Sections
 pub mod FurtherFolders
 pub mod PageSteps
 pub mod Rows

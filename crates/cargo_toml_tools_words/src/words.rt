@@ -131,12 +131,22 @@ fn index<'a>(alloc: Global, matches: &ArgMatches<'a>) -> Result<Option<Request<'
     let force = matches.get_flag("force");
     match matches.get_str("checksum") {
         Some(text) if files.len() == 1 && is_checksum(text) => {
-            let wanted = Wanted { registry, names, checksum: Some(text), force };
+            let wanted = Wanted {
+                registry,
+                names,
+                checksum: Some(text),
+                force,
+            };
             Ok(Some(Request::Index(files, wanted)))
         }
         Some(_) => Ok(None),
         None => {
-            let wanted = Wanted { registry, names, checksum: None, force };
+            let wanted = Wanted {
+                registry,
+                names,
+                checksum: None,
+                force,
+            };
             Ok(Some(Request::Index(files, wanted)))
         }
     }

@@ -13,6 +13,7 @@ pub use Rattle.cargo_toml_parts.specs.InheritableValues
 pub use Rattle.cargo_toml_parts.specs.Inherits
 pub use Rattle.cargo_toml_parts.specs.Lending
 pub use Rattle.cargo_toml_parts.specs.Numbers
+pub use Rattle.cargo_toml_parts.specs.OwnWords
 pub use Rattle.cargo_toml_settings.specs.ProfileSettings
 pub use Rattle.cargo_toml_parts.specs.Readings
 pub use Rattle.cargo_toml_parts.specs.Reads

@@ -1,6 +1,6 @@
 //! Times calls of the original crate.
 //!
-//! `original OPERATION FILE [ROOT] COUNT` makes ready what the call needs, makes it COUNT times,
+//! `original OPERATION FILE .. COUNT` makes ready what the call needs, makes it COUNT times,
 //! and prints the best time of one call in nanoseconds and how many things the answer holds. The
 //! answer's release is timed too, but for that of `complete`. Right before and right after each
 //! call the clock is asked, and at no other time: the counter of memory goes by that.
@@ -57,6 +57,30 @@ fn read(bytes: &[u8], count: u64) -> Measured {
     repeat(count, || {
         let manifest = Manifest::from_slice(black_box(bytes)).expect("a manifest");
         size_of(&manifest)
+    })
+}
+
+/// The same where the caller may return early.
+fn read_early(bytes: &[u8]) -> Result<usize, Error> {
+    let manifest = Manifest::from_slice(black_box(bytes))?;
+    if manifest.package.is_none() {
+        return Ok(0);
+    }
+    Ok(size_of(&manifest))
+}
+
+fn early(bytes: &[u8], count: u64) -> Measured {
+    repeat(count, || read_early(bytes).expect("a manifest"))
+}
+
+/// Several, one after the other.
+fn each(texts: &[Vec<u8>], count: u64) -> Measured {
+    repeat(count, || {
+        let sizes = texts.iter().map(|text| {
+            let manifest = Manifest::from_slice(black_box(text)).expect("a manifest");
+            size_of(&manifest)
+        });
+        sizes.sum()
     })
 }
 
@@ -135,6 +159,11 @@ fn run(words: &[&str]) -> Result<Measured, Error> {
     let count = words.last().and_then(|word| word.parse().ok());
     let count = count.ok_or(Error::Other("COUNT is a number"))?;
     match words {
+        ["each", files @ .., _] => {
+            let texts = files.iter().map(std::fs::read).collect::<Result<Vec<_>, _>>()?;
+            Ok(each(&texts, count))
+        }
+        ["early", file, _] => Ok(early(&std::fs::read(file)?, count)),
         ["read", file, _] => Ok(read(&std::fs::read(file)?, count)),
         ["answer", file, _] => Ok(answer(&std::fs::read(file)?, count)),
         ["write", file, _] => Ok(write(&manifest(file)?, count)),

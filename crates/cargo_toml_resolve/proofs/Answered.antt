@@ -1,15 +1,15 @@
 -- What the graph of numbers leaves to features is what removal leaves.
-use Rattle.std.proofs.Common.{◌≡◌, ◌≢◌, ◌↔◌, ◌<◌, ◌⊎◌, ℕ, Bool, true, false, List, [], ◌∷◌, length, Option, Some, None, Bor, Vec, IsTrue, is_some, refl, sym, ap, subst, inl, inr, ◌∙◌, arith}
+use Rattle.std.proofs.Common.{◌≡◌, ◌↔◌, ◌<◌, ◌⊎◌, ℕ, Bool, true, false, List, length, Option, Some, None, Bor, IsTrue, is_some, refl, sym, ap, subst, inl, inr, ◌∙◌, arith}
 use Rattle.std.proofs.lemmas.Bool.{cases_Bool, false≢true}
 use Rattle.std.specs.HashMap.{HashMap}
 use Rattle.std.specs.List.{slice_get}
 use Rattle.std.specs.Option.{IsSomeAnd, option_and_then, option_map_or}
 use Rattle.cargo_toml_graph.specs.Action.{Text, Action, IsJoin}
 use Rattle.cargo_toml_graph.specs.Graph.{Table, IsKept, IsResolved, IsEnabledBy, KeepsName, ReachesThrough, Says}
-use Rattle.cargo_toml_graph.specs.Reach.{Among, Reaches}
+use Rattle.cargo_toml_graph.specs.Reach.{Reaches}
 use Rattle.cargo_toml_graph.specs.Reach.Reaches.{edge, through}
 use Rattle.cargo_toml_graph.proofs.Joins.{join_alike}
-use Rattle.cargo_toml_walk.specs.Numbers.{HasLabel, IsPassed, IsWanted, Leads, PassesAny, row_items}
+use Rattle.cargo_toml_walk.specs.Numbers.{IsPassed, IsWanted, PassesAny}
 use Rattle.cargo_toml_resolve.specs.Enabling.{EnablesThrough}
 use Rattle.cargo_toml_features.specs.Places.{nth_text}
 use Rattle.cargo_toml_resolve.specs.NumberedTables.{HasNumber, IsNaming, IsNumbered}
@@ -24,25 +24,14 @@ use Rattle.cargo_toml_resolve.proofs.InPlace.{name_in, stands_found, stands_in}
 no_some : {X : Type 0} {x : X} → None ≡ Some x → ⊥
 no_some e = false≢true (ap is_some e)
 
-empty_or : (xs : List ℕ) → (xs ≡ []) ⊎ ((xs ≢ []) × ((c : ℕ) × Among xs c))
-empty_or [] = inl refl
-empty_or (x ∷ xs) = inr ((λ e. false≢true (sym (ap is_cons e))), (x, inl refl))
-  where
-    is_cons : List ℕ → Bool
-    is_cons [] = false
-    is_cons (y ∷ ys) = true
-
 -- a path to one of S begins by an edge to one
 first_step : {E : ℕ → ℕ → Type 0} {S : ℕ → Type 0} {a f : ℕ} → Reaches E S a f → S f → (b : ℕ) × E a b × S b
 first_step {f} (edge e) s = (f, e, s)
 first_step (through {b} e s p) last = (b, e, s)
 
-module _ {Z : Type 0} (t : Table) (removed : Text → Bool) (vs : List Feature) (same : AreTable t vs) (up : AreInOrder vs)
-    (texts : List Text) (edges names : List (Vec ℕ Z)) (flags : List Bool) (h : IsNumbered t (λ v. IsTrue (removed v)) texts edges names flags)
-    (count : length edges ≡ length vs) (vertices : (i : ℕ) → i < length vs → nth_text texts i ≡ nth_text (names_of vs) i)
-    (passed labels : List (Vec ℕ Z))
-    (passed_is : (a b : ℕ) → a < length edges → IsWanted flags false a → Leads passed a b ↔ IsPassed edges flags a b)
-    (labels_are : (a x : ℕ) → a < length edges → PassesAny passed a → Leads labels a x ↔ HasLabel (Leads passed a) names flags a x) where
+module _ (t : Table) (removed : Text → Bool) (vs : List Feature) (same : AreTable t vs) (up : AreInOrder vs)
+    (texts : List Text) (edges names : List (List ℕ)) (flags : List Bool) (h : IsNumbered t (λ v. IsTrue (removed v)) texts edges names flags)
+    (count : length edges ≡ length vs) (vertices : (i : ℕ) → i < length vs → nth_text texts i ≡ nth_text (names_of vs) i) where
   abbrev R : Text → Type 0
   R v = IsTrue (removed v)
 
@@ -70,15 +59,14 @@ module _ {Z : Type 0} (t : Table) (removed : Text → Bool) (vs : List Feature) 
 
   -- a kept vertex that passes none names nothing removed, and reaches nothing
   module _ (i : ℕ) (lt : i < length edges) (kept : IsWanted flags false i) where
-    no_step : row_items passed i ≡ [] → (b : Text) → R b → ReachesThrough t R (nth_text texts i) b → ⊥
+    no_step : (¬ PassesAny edges flags i) → (b : Text) → R b → ReachesThrough t R (nth_text texts i) b → ⊥
     no_step none b gone path =
         let k = (h.vertex b).0 (h.removed b gone) in
         let r : R (nth_text texts k.0) = subst R (sym k.2) gone in
         let p = (numbered.reaches_text t R texts edges names flags h i k.0 lt k.1).1 (subst (λ v. ReachesThrough t R (nth_text texts i) v) (sym k.2) path) in
-        let l : Leads passed i k.0 = (passed_is i k.0 lt kept).1 ((h.flagged k.0 (fits k.0 k.1)).1 r, p) in
-        subst (λ xs. Among xs k.0) none l
+        none (k.0, ((h.flagged k.0 (fits k.0 k.1)).1 r, p))
 
-    plain_names : row_items passed i ≡ [] → (x : Text) → IsTrue (t.names (nth_text texts i) x) ↔ KeepsName t R (nth_text texts i) x
+    plain_names : (¬ PassesAny edges flags i) → (x : Text) → IsTrue (t.names (nth_text texts i) x) ↔ KeepsName t R (nth_text texts i) x
     plain_names none x = (
       λ y. (
         (nth_text texts i, inl refl, y),
@@ -96,44 +84,29 @@ module _ {Z : Type 0} (t : Table) (removed : Text → Bool) (vs : List Feature) 
     )
 
     -- what passes any has an edge to a removed one
-    asked : (c : ℕ) → Leads passed i c → IsNaming edges flags i
-    asked c some = let p = (passed_is i c lt kept).0 some in inr (first_step p.1 p.0)
+    asked : PassesAny edges flags i → IsNaming edges flags i
+    asked some = inr (first_step some.1.1 some.1.0)
 
-    passing_names : (c : ℕ) → Leads passed i c → (x : Text) → HasNumber texts (length texts) (Leads labels i) x ↔ KeepsName t R (nth_text texts i) x
-    passing_names c some x = (
-      λ n.
-          let l = (labels_are i n.0 lt (c, some)).0 n.3 in
-          (numbered.keeps_name t R texts edges names flags h i x lt (asked c some)).1 (n.0, n.1, n.2, ((l.0.0, elim (l.0.1) [ inl e ↦ inl e | inr p ↦ inr ((passed_is i l.0.0 lt kept).0 p) ], l.0.2), l.1)),
-      λ k.
-          let n = (numbered.keeps_name t R texts edges names flags h i x lt (asked c some)).0 k in
-          let g = n.3.0 in
-          (n.0, n.1, n.2, (labels_are i n.0 lt (c, some)).1 ((g.0, elim (g.1) [ inl e ↦ inl e | inr p ↦ inr ((passed_is i g.0 lt kept).1 p) ], g.2), n.3.1)),
-    )
-
-    saying : (k : Text) (a : Action) → ((b : ℕ) × ((b ≡ i) ⊎ Leads passed i b) × (action_by vs b k ≡ Some a)) ↔ Says t R (nth_text texts i) k a
+    saying : (k : Text) (a : Action) → ((b : ℕ) × ((b ≡ i) ⊎ IsPassed edges flags i b) × (action_by vs b k ≡ Some a)) ↔ Says t R (nth_text texts i) k a
     saying k a = (
-      λ d. (numbered.says t R texts edges names flags h i k a lt).1
-          (d.0, elim (d.1) [ inl e ↦ inl e | inr p ↦ inr ((passed_is i d.0 lt kept).0 p) ], sym (acts_by d.0 k (of d.0 d.1)) ∙ d.2),
-      λ s.
-          let d = (numbered.says t R texts edges names flags h i k a lt).0 s in
-          let p : (d.0 ≡ i) ⊎ Leads passed i d.0 = elim (d.1) [ inl e ↦ inl e | inr q ↦ inr ((passed_is i d.0 lt kept).1 q) ] in
-          (d.0, p, acts_by d.0 k (of d.0 p) ∙ d.2),
+      λ d. (numbered.says t R texts edges names flags h i k a lt).1 (d.0, d.1, sym (acts_by d.0 k (of d.0 d.1)) ∙ d.2),
+      λ s. let d = (numbered.says t R texts edges names flags h i k a lt).0 s in (d.0, d.1, acts_by d.0 k (of d.0 d.1) ∙ d.2),
     )
       where
-        of : (b : ℕ) → (b ≡ i) ⊎ Leads passed i b → b < length edges
+        of : (b : ℕ) → (b ≡ i) ⊎ IsPassed edges flags i b → b < length edges
         of b (inl e) = subst (λ n. n < length edges) (sym e) lt
-        of b (inr p) = numbered.reaches_inside t R texts edges names flags h (IsWanted flags true) R (numbered.vertex_flag t R texts edges names flags h) i b lt ((passed_is i b lt kept).0 p).1
+        of b (inr p) = numbered.reaches_inside t R texts edges names flags h (IsWanted flags true) R (numbered.vertex_flag t R texts edges names flags h) i b lt p.1
 
-    module _ (v w : Feature) (is : slice_get vs i ≡ Some v) (holds : Holds vs texts i (row_items passed i) (row_items labels i) v w)
+    module _ (v w : Feature) (is : slice_get vs i ≡ Some v) (holds : Holds edges names flags texts vs i v w)
         (learnt : (e : Text) → IsTrue (set_has w.enabled_by e) ↔ HasNumber texts (length edges) (EnablesThrough edges flags i) e) where
       holds_names : (x : Text) → IsTrue (set_has w.enables_features x) ↔ KeepsName t R (nth_text texts i) x
-      holds_names x = elim (empty_or (row_items passed i)) [
-        | inl none ↦
-            let kept_set : set_has w.enables_features x ≡ t.names (nth_text texts i) x = ap (λ s. set_has s x) (holds.same_names none) ∙ named_by i v lt is x in
-            (λ y. (plain_names none x).0 (sym kept_set ∙ y), λ n. kept_set ∙ (plain_names none x).1 n)
-        | inr some ↦
-            let p = passing_names some.1.0 some.1.1 x in
-            (λ y. p.0 ((holds.names some.0 x).0 y), λ n. (holds.names some.0 x).1 (p.1 n))
+      holds_names x = elim (holds.names) [
+        | inl some ↦
+            let p = numbered.keeps_name t R texts edges names flags h i x lt (asked some.0) in
+            (λ y. p.1 ((some.1 x).0 y), λ n. (some.1 x).1 (p.0 n))
+        | inr none ↦
+            let kept_set : set_has w.enables_features x ≡ t.names (nth_text texts i) x = ap (λ s. set_has s x) none.1 ∙ named_by i v lt is x in
+            (λ y. (plain_names none.0 x).0 (sym kept_set ∙ y), λ n. kept_set ∙ (plain_names none.0 x).1 n)
       ]
 
       holds_enablers : (e : Text) → IsTrue (set_has w.enabled_by e) ↔ IsEnabledBy t R (nth_text texts i) e

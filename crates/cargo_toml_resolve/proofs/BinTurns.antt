@@ -1,5 +1,5 @@
 -- Removed places pass binaries on, turn after turn.
-use Rattle.std.proofs.Common.{◌≡◌, ◌⊎◌, ◌<◌, ◌≤◌, ◌+◌, ◌&&◌, ◌||◌, ℕ, zero, suc, true, false, Bool, List, [], ◌∷◌, cond, length, map, nat_eq, not, take, Vec, Bor, refl, sym, ap, ap₂, subst, inl, inr, ◌∙◌, arith, eq-eqb, eqb-true}
+use Rattle.std.proofs.Common.{◌≡◌, ◌⊎◌, ◌<◌, ◌≤◌, ◌+◌, ◌&&◌, ◌||◌, ℕ, zero, suc, true, false, Bool, List, [], ◌∷◌, cond, length, map, nat_eq, not, take, Bor, refl, sym, ap, ap₂, subst, inl, inr, ◌∙◌, arith, eq-eqb, eqb-true}
 use Rattle.std.proofs.lemmas.Bool.{cases_Bool, false≢true, or_cases, or_left, or_right}
 use Rattle.std.proofs.lemmas.Bool.Decides.{nat_tests}
 use Rattle.std.specs.List.{list_any, slice_index_or, zip}
@@ -42,7 +42,7 @@ none_had (v ∷ vs) (b ∷ flags) long none zero lt on = no_bins b v.required_by
 none_had (v ∷ vs) (b ∷ flags) long none (suc r) lt on = none_had vs flags (omega (arith, long)) (either_off _ _ none).1 r (omega (arith, lt)) on
 
 -- where no removed place below n has a binary, none is passed on
-pub none_passed : {Z : Type 0} (rows : List (Vec ℕ Z)) (flags : List Bool) (own : ℕ → List Text) (n : ℕ) → ((r : ℕ) → r < n → IsWanted flags true r → own r ≡ [])
+pub none_passed : (rows : List (List ℕ)) (flags : List Bool) (own : ℕ → List Text) (n : ℕ) → ((r : ℕ) → r < n → IsWanted flags true r → own r ≡ [])
     → (y : ℕ) → passed_below rows flags n own y ≡ own y
 none_passed rows flags own zero none y = refl
 none_passed rows flags own (suc n) none y = go (none_passed rows flags own n (λ r lt gone. none r (omega (arith, lt)) gone)) (slice_index_or flags n false) refl
@@ -58,7 +58,7 @@ none_passed rows flags own (suc n) none y = go (none_passed rows flags own n (λ
     go below true gone = put below (below n ∙ none n (omega arith) gone) (list_any (nat_eq y) (row_items rows n))
     go below false kept = below y
 
-module _ {Z : Type 0} (rows : List (Vec ℕ Z)) (flags : List Bool) (own : ℕ → List Text) (size : ℕ) where
+module _ (rows : List (List ℕ)) (flags : List Bool) (own : ℕ → List Text) (size : ℕ) where
   -- the lists once the places below i have had their turns
   abbrev pub Turned : ℕ → (ℕ → List Text) → Type 0
   Turned i lists = (y : ℕ) → y < size → lists y ≡ passed_below rows flags i own y

@@ -1,10 +1,9 @@
 -- From what stands in places to what is kept by name.
-use Rattle.std.proofs.Common.{◌≡◌, ◌↔◌, ◌<◌, ℕ, Bool, true, false, List, [], length, map, Option, Some, None, Bor, Vec, IsTrue, IsSome, IfSome, is_some, slice_get, refl, sym, ap, subst, ◌∙◌, arith}
+use Rattle.std.proofs.Common.{◌≡◌, ◌↔◌, ◌<◌, ℕ, Bool, true, false, List, [], length, map, Option, Some, None, Bor, IsTrue, IsSome, IfSome, is_some, slice_get, refl, sym, ap, subst, inl, ◌∙◌, arith}
 use Rattle.std.proofs.lemmas.Bool.{false≢true}
 use Rattle.std.specs.BTreeSet.{BTreeSet}
 use Rattle.std.specs.HashMap.{HashMap}
 use Rattle.std.specs.Option.{IsSomeAnd, option_map_or}
-use Rattle.std.specs.declared.alloc.Global.{Global}
 use Rattle.cargo_toml_graph.specs.Action.{Text}
 use Rattle.cargo_toml_graph.specs.Admitted.{is_below}
 use Rattle.cargo_toml_graph.specs.Graph.{Table, IsKept}
@@ -12,7 +11,7 @@ use Rattle.cargo_toml_graph.specs.Redirects.{RedirectsTo}
 use Rattle.cargo_toml_graph.specs.Removal.{pass_all, unremoved}
 use Rattle.cargo_toml_walk.specs.Numbers.{IsWanted, Leads, row_items}
 use Rattle.cargo_toml_features.specs.Places.{nth_text}
-use Rattle.cargo_toml_resolve.specs.NumberedTables.{HasNumber, IsNumbered}
+use Rattle.cargo_toml_resolve.specs.NumberedTables.{HasNumber, IsNaming, IsNumbered}
 use Rattle.cargo_toml_resolve.proofs.NumberedTables as numbered
 use Rattle.cargo_toml_features.specs.declared.features.Feature.{Feature}
 use Rattle.cargo_toml_features.specs.InOrder.{AreInOrder, AreTable, feature_at, names_of, table_among}
@@ -20,7 +19,8 @@ use Rattle.cargo_toml_features.specs.Views.{set_has, value_at}
 use Rattle.cargo_toml_resolve.specs.declared.graph.Graph.{Graph}
 use Rattle.cargo_toml_resolve.specs.declared.graph.Walked.{Walked}
 use Rattle.cargo_toml_resolve.specs.KeptFeatures.{ArePassedAt, IsKeptFeature, IsNamedAlike, StandFor, own_bins}
-use Rattle.cargo_toml_resolve.specs.Holding.{HasTextsOf}
+use Rattle.cargo_toml_resolve.specs.HandingOver.{HaveOwnSets}
+use Rattle.cargo_toml_resolve.specs.Holding.{HasTextsOf, IsTextOf}
 use Rattle.cargo_toml_resolve.specs.KeptByName.{AreKept}
 use Rattle.cargo_toml_resolve.specs.Numbering.{IsFlagged}
 use Rattle.cargo_toml_resolve.specs.Placed.{ArePlaced, AreHashed}
@@ -49,7 +49,7 @@ if_there : {X : Type 0} (o : Option X) (P : X → Type 0) → (IsSome o → IsSo
 if_there None P h = tt
 if_there (Some x) P h = h refl
 
-module _ (t : Table) (removed : Text → Bool) (old new : List Feature) (texts : List Text) (edges names rows : List (Vec ℕ Global)) (flags : List Bool)
+module _ (t : Table) (removed : Text → Bool) (old new : List Feature) (texts : List Text) (edges names rows : List (List ℕ)) (flags : List Bool)
     (stand : StandFor t removed old texts edges names flags) (len : length new ≡ length old)
     (own : (i : ℕ) (v w : Feature) → slice_get old i ≡ Some v → slice_get new i ≡ Some w → IsNamedAlike v w) where
   abbrev pub R : Text → Type 0
@@ -164,12 +164,12 @@ module _ (t : Table) (removed : Text → Bool) (old new : List Feature) (texts :
     }
 
 -- what numbering tells of the features
-pub record NumberedBy (vs : List Feature) (flagged : List Bool) (texts : List (Bor Text)) (edges names : List (Vec ℕ Global)) (flags : List Bool) : Type 0 where
+pub record NumberedBy (vs : List Feature) (flagged : List Bool) (texts : List (Bor Text)) (edges names : List (List ℕ)) (flags : List Bool) : Type 0 where
   pub numbered : IsNumbered (table_among vs) (IsFlagged vs flagged) (texts_now texts) edges names flags
   pub count : length edges ≡ length vs
   pub vertices : (i : ℕ) → i < length vs → nth_text (texts_now texts) i ≡ nth_text (names_of vs) i
 
-pub stands_for : (t : Table) (removed : Text → Bool) (vs : List Feature) (flagged : List Bool) (texts : List (Bor Text)) (edges names : List (Vec ℕ Global)) (flags : List Bool) →
+pub stands_for : (t : Table) (removed : Text → Bool) (vs : List Feature) (flagged : List Bool) (texts : List (Bor Text)) (edges names : List (List ℕ)) (flags : List Bool) →
     AreInOrder vs → NumberedBy vs flagged texts edges names flags → AreTable t vs → ((f : Text) → IsTrue (removed f) ↔ IsFlagged vs flagged f) → StandFor t removed vs (texts_now texts) edges names flags
 stands_for t removed vs flagged texts edges names flags up n same removed_is = record {
   table = same;
@@ -180,14 +180,14 @@ stands_for t removed vs flagged texts edges names flags up n same removed_is = r
 }
 
 pub all_hashed : {S : Type 0} (t : Table) (removed : Text → Bool) (old new : List Feature) (flagged : List Bool) (g : Graph) (w : Walked)
-    (m : HashMap (Bor Text) Feature S) (hidden : HashMap (Bor Text) (BTreeSet (Bor Text)) S) → AreInOrder old → NumberedBy old flagged g.texts.items g.edges.items g.names.items g.flags.items →
+    (m : HashMap (Bor Text) Feature S) (hidden : HashMap (Bor Text) (BTreeSet (Bor Text)) S) → AreInOrder old → NumberedBy old flagged g.texts.items g.edges g.names g.flags.items →
     ArePlaced g old new w → AreHashed new w m hidden → AreTable t old → ((f : Text) → IsTrue (removed f) ↔ IsFlagged old flagged f) → AreKept t removed old m hidden
 all_hashed t removed old new flagged g w m hidden up n p h same removed_is =
-    let stand = stands_for t removed old flagged g.texts.items g.edges.items g.names.items g.flags.items up n same removed_is in
-    are_kept t removed old new (texts_now g.texts.items) g.edges.items g.names.items w.redirects.items g.flags.items stand p.len p.own m hidden p.count (p.kept t removed stand) (p.bins t removed stand) (p.redirects t removed stand)
+    let stand = stands_for t removed old flagged g.texts.items g.edges g.names g.flags.items up n same removed_is in
+    are_kept t removed old new (texts_now g.texts.items) g.edges g.names w.redirects g.flags.items stand p.len p.own m hidden p.count (p.kept t removed stand) (p.bins t removed stand) (p.redirects t removed stand)
     (λ i v at off. h.held i v at (to_walked false i off))
     (λ f there. let o = h.only f there in (o.0, o.1, o.2, from_walked false o.0 o.3, o.4))
-    (λ i lt on. subst (λ ts. IsSomeAnd (value_at hidden (nth_text (texts_now ts.items) i)) (HasTextsOf (texts_now ts.items) (row_items w.redirects.items i))) p.texts (h.redirect_there i lt (to_walked true i on)))
+    (λ i lt on. subst (λ ts. IsSomeAnd (value_at hidden (nth_text (texts_now ts.items) i)) (HasTextsOf (texts_now ts.items) (row_items w.redirects i))) p.texts (h.redirect_there i lt (to_walked true i on)))
     (λ r there. let o = h.redirect_only r there in (o.0, o.1, subst (λ ts. nth_text (texts_now ts.items) o.0 ≡ r) p.texts o.2, from_walked true o.0 o.3))
   where
     to_walked : (wanted : Bool) (i : ℕ) → IsWanted g.flags.items wanted i → IsWanted w.flags.items wanted i
@@ -196,8 +196,36 @@ all_hashed t removed old new flagged g w m hidden up n p h same removed_is =
     from_walked : (wanted : Bool) (i : ℕ) → IsWanted w.flags.items wanted i → IsWanted g.flags.items wanted i
     from_walked wanted i = subst (λ fs. IsWanted fs.items wanted i) p.flags
 
+-- a removed feature whose redirect isn't marked as moved names it
+pub own_sets : (old new : List Feature) (flagged : List Bool) (g : Graph) (w : Walked) → AreInOrder old → NumberedBy old flagged g.texts.items g.edges g.names g.flags.items → ArePlaced g old new w → HaveOwnSets w new
+own_sets old new flagged g w up n p r v on off at x = (
+  λ y. subst (λ ts. IsTextOf (texts_now ts.items) (row_items w.redirects r) x) (sym p.texts) (subst (λ xs. IsTextOf (texts_now g.texts.items) xs x) (sym (p.stays r off)) ((n.numbered.labels r x lt asked).0 (named ∙ y))),
+  λ h. sym named ∙ (n.numbered.labels r x lt asked).1 (subst (λ xs. IsTextOf (texts_now g.texts.items) xs x) (p.stays r off) (subst (λ ts. IsTextOf (texts_now ts.items) (row_items w.redirects r) x) p.texts h)),
+)
+  where
+    gone : IsWanted g.flags.items true r
+    gone = subst (λ fs. IsWanted fs.items true r) p.flags on
+
+    u : (u : Feature) × (slice_get old r ≡ Some u)
+    u = stood old new p.len r v at
+
+    below : r < length old
+    below = place_inside old r u.0 u.1
+
+    lt : r < length g.edges
+    lt = subst (λ m. r < m) (sym n.count) below
+
+    asked : IsNaming g.edges g.flags.items r
+    asked = inl gone
+
+    there : feature_at old (nth_text (texts_now g.texts.items) r) ≡ Some u.0
+    there = subst (λ f. feature_at old f ≡ Some u.0) (sym (n.vertices r below ∙ name_in old r u.0 u.1)) (stands_found old up r u.0 u.1)
+
+    named : (table_among old).names (nth_text (texts_now g.texts.items) r) x ≡ set_has v.enables_features x
+    named = ap (λ o. option_map_or (λ (z : Feature). set_has z.enables_features x) o false) there ∙ sym (ap (λ s. set_has s x) (p.left r u.0 v gone u.1 at))
+
 -- no two features have one name, before and after they are left
-pub one_name : (old new : List Feature) (flagged : List Bool) (texts : List (Bor Text)) (edges names : List (Vec ℕ Global)) (flags : List Bool) → NumberedBy old flagged texts edges names flags →
+pub one_name : (old new : List Feature) (flagged : List Bool) (texts : List (Bor Text)) (edges names : List (List ℕ)) (flags : List Bool) → NumberedBy old flagged texts edges names flags →
     length new ≡ length old → ((i : ℕ) (v w : Feature) → slice_get old i ≡ Some v → slice_get new i ≡ Some w → IsNamedAlike v w) →
     (i j : ℕ) (v w : Feature) → slice_get new i ≡ Some v → slice_get new j ≡ Some w → v.key.now ≡ w.key.now → i ≡ j
 one_name old new flagged texts edges names flags n len own i j v w at at' same =

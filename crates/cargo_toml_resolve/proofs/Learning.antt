@@ -1,5 +1,5 @@
 -- Enablers that features learn, place by place.
-use Rattle.std.proofs.Common.{◌≡◌, ◌≢◌, ◌↔◌, ◌⊎◌, ◌<◌, ◌+◌, ◌||◌, ◌∷◌, ℕ, suc, Bool, true, false, cond, List, [], length, map, get_or, set, slice_get, Option, Some, None, Bor, Global, IsTrue, IfSome, Vec, is_some, option_map, bytes_eq, refl, sym, ap, subst, inl, inr, ◌∙◌, arith}
+use Rattle.std.proofs.Common.{◌≡◌, ◌≢◌, ◌↔◌, ◌⊎◌, ◌<◌, ◌+◌, ◌||◌, ◌∷◌, ℕ, suc, Bool, true, false, cond, List, [], length, map, get_or, set, slice_get, Option, Some, None, Bor, IsTrue, IfSome, is_some, option_map, bytes_eq, refl, sym, ap, subst, inl, inr, ◌∙◌, arith}
 use Rattle.std.proofs.lemmas.Bool.{cases_eq, false≢true, or_cases, or_left, or_right}
 use Rattle.std.proofs.lemmas.List.{length-map}
 use Rattle.std.proofs.lemmas.Option.{same_Some, slice_get_read, slice_get_within}
@@ -25,7 +25,7 @@ use Rattle.cargo_toml_features.specs.Marks.{FeatureMarks, marks_of}
 use Rattle.cargo_toml_features.specs.Views.{action_at, action_of, set_has, value_at}
 use Rattle.cargo_toml_features.proofs.TextKeys.{none_in}
 use Rattle.cargo_toml_resolve.specs.Enabling.{AreSameButEnablers, GainEnabler, IsSameButEnablers, Leader, LeaderBelow, LeadsTo, LearnBy, LearnEach, Learns}
-use Rattle.cargo_toml_resolve.specs.KeptFeatures.{IsNamedAlike, StandFor, own_bins}
+use Rattle.cargo_toml_resolve.specs.KeptFeatures.{IsNamedAlike, own_bins}
 use Rattle.cargo_toml_resolve.specs.KeptByName.{AreKept}
 use Rattle.cargo_toml_resolve.specs.TakingOver.{ChangesIn}
 use Rattle.cargo_toml_resolve.specs.Texts.{texts_now}
@@ -320,17 +320,6 @@ table_still t vs ws made same = record {
       (λ v w s. ap (λ n. set_has n x) s.does.names) ∙ made.names f x;
   action = λ f k. along vs ws same f (λ o o'. option_map_or (λ v. action_at v.enables_deps k) o' None ≡ option_map_or (λ v. action_at v.enables_deps k) o None) refl
       (λ v w s. ap (λ m. action_at m k) s.does.actions) ∙ made.action f k;
-}
-
--- and the graph still stands for them
-pub stand_still : (t : Table) (removed : Text → Bool) (vs ws : List Feature) (texts : List Text) (edges names : List (Vec ℕ Global)) (flags : List Bool) → AreSameButEnablers vs ws
-    → StandFor t removed vs texts edges names flags → StandFor t removed ws texts edges names flags
-stand_still t removed vs ws texts edges names flags same stand = record {
-  table = table_still t vs ws stand.table same;
-  in_order = in_order_still vs ws same stand.in_order;
-  numbered = stand.numbered;
-  count = stand.count ∙ sym same.len;
-  vertices = λ i lt. stand.vertices i (subst (λ n. i < n) same.len lt) ∙ ap (λ ks. nth_text ks i) (sym (keys_still vs ws same));
 }
 
 -- once all have, what they have learnt are the sources of edges

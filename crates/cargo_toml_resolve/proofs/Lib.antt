@@ -11,7 +11,6 @@ mod Renumbered
 mod InPlace
 pub mod NumberingGraph
 mod Answered
-mod TakingOverAll
 mod PassedPlaces
 mod Placing
 mod TextSets
@@ -29,6 +28,6 @@ mod BinTurns
 mod KnownBins
 mod AlikePlaces
 pub mod Learning
-mod KeptEnablers
+mod TakenOver
 pub mod NumberedTables
 mod Telling

@@ -1,5 +1,5 @@
 -- Rows of numbers, number after number.
-use Rattle.std.proofs.Common.{◌≡◌, ◌≢◌, ◌↔◌, ◌⊎◌, ◌<◌, ◌≤◌, ◌+◌, ℕ, zero, suc, Bool, true, false, List, [], ◌∷◌, ◌++◌, length, map, take, get_or, replicate, slice_get, IsTrue, Option, Some, None, is_some, option_map, Vec, Global, Bor, refl, sym, ap, subst, inl, inr, ◌∙◌, arith}
+use Rattle.std.proofs.Common.{◌≡◌, ◌≢◌, ◌↔◌, ◌⊎◌, ◌<◌, ◌≤◌, ◌+◌, ℕ, zero, suc, Bool, true, false, List, [], ◌∷◌, ◌++◌, length, map, take, get_or, replicate, slice_get, IsTrue, Option, Some, None, is_some, option_map, Bor, refl, sym, ap, subst, inl, inr, ◌∙◌, arith}
 use Rattle.std.proofs.lemmas.Bool.{cases_eq, false≢true}
 use Rattle.std.proofs.lemmas.List.{get_or_append_left, length-map, map_push, take_all}
 use Rattle.std.proofs.lemmas.Map.Made.{is_some-lookup}
@@ -238,7 +238,7 @@ flag_put P flags new b i len made old last j lt p = subst (λ fs. IsWanted fs tr
     end (f ∷ fs) = end fs
 
 -- what leads to no removed one isn't asked for its names, unless it is removed
-pub naming_is : (edges : List (Vec ℕ Global)) (flags : List Bool) (i : ℕ) (row : List ℕ) (found : Bool) → row_items edges i ≡ row → IsWanted flags false i
+pub naming_is : (edges : List (List ℕ)) (flags : List Bool) (i : ℕ) (row : List ℕ) (found : Bool) → row_items edges i ≡ row → IsWanted flags false i
     → (found ≡ false → (x : ℕ) → Among row x → IsWanted flags false x) → IsNaming edges flags i → found ≡ true
 naming_is edges flags i row true read off none asked = refl
 naming_is edges flags i row false read off none asked = elim asked [

@@ -1,38 +1,30 @@
 -- What holds of a graph of numbers holds of the table that it stands for.
-use Rattle.std.proofs.Common.{◌≡◌, ◌⊎◌, ◌↔◌, ◌<◌, ℕ, Bool, true, false, List, [], length, Vec, IsTrue, Option, Some, refl, sym, subst, inl, inr, ◌∙◌, arith}
-use Rattle.std.proofs.lemmas.Bool.{false≢true, cases_Bool, cases_lt}
-use Rattle.std.proofs.lemmas.Option.{slice_get_past}
+use Rattle.std.proofs.Common.{◌≡◌, ◌⊎◌, ◌↔◌, ◌<◌, ℕ, Bool, true, false, List, length, IsTrue, Some, refl, sym, subst, inl, inr, ◌∙◌, arith}
+use Rattle.std.proofs.lemmas.Bool.{false≢true, cases_Bool}
 use Rattle.std.specs.List.{slice_index_or}
-use Rattle.std.specs.Option.{option_map_or}
 use Rattle.cargo_toml_graph.specs.Action.{Text, Action}
 use Rattle.cargo_toml_graph.specs.Admitted.{is_below}
 use Rattle.cargo_toml_graph.specs.Graph.{Table, Edge, ReachesThrough, KeepsName, IsEnabledBy, Says}
-use Rattle.cargo_toml_graph.specs.Reach.{Among, Reaches, Gathers, GathersLabel}
+use Rattle.cargo_toml_graph.specs.Reach.{Reaches, Gathers, GathersLabel}
 use Rattle.cargo_toml_graph.specs.Reach.Reaches.{edge, through}
 use Rattle.cargo_toml_graph.specs.Redirects.{RedirectsTo}
 use Rattle.cargo_toml_walk.specs.Numbers.{Leads, IsWanted, IsPassed, IsUnder, IsRedirect, KeepsLabel}
 use Rattle.cargo_toml_features.specs.Places.{nth_text}
 use Rattle.cargo_toml_resolve.specs.NumberedTables.{HasNumber, IsNaming, IsNumbered}
+use Rattle.cargo_toml_walk.proofs.Steps.{has_row}
 use Rattle.cargo_toml_features.proofs.Places.{lower_place}
 
--- what leads on has a list
-pub leads_inside : {Z : Type 0} (edges : List (Vec ℕ Z)) (i j : ℕ) → Leads edges i j → i < length edges
-leads_inside {Z} edges i j e =
-    elim (cases_lt i (length edges)) [
-      | inl inside ↦ inside
-      | inr past ↦ absurd (subst (λ (o : Option (Vec ℕ Z)). Among (option_map_or (λ v. v.items) o []) j) (slice_get_past edges i past) e)
-    ]
-
-pub starts_inside : {Z : Type 0} (edges : List (Vec ℕ Z)) (S : ℕ → Type 0) (i j : ℕ) → Reaches (Leads edges) S i j → i < length edges
-starts_inside edges S i j (edge e) = leads_inside edges i j e
-starts_inside edges S i j (through {b} e s p) = leads_inside edges i b e
+-- a path begins at a vertex
+pub starts_inside : (edges : List (List ℕ)) (S : ℕ → Type 0) (i j : ℕ) → Reaches (Leads edges) S i j → i < length edges
+starts_inside edges S i j (edge e) = has_row edges i j e
+starts_inside edges S i j (through {b} e s p) = has_row edges i b e
 
 -- a path ends at a vertex
 reached_vertex : {t : Table} {T : Text → Type 0} {v w : Text} → Reaches (Edge t) T v w → IsTrue (t.has w)
 reached_vertex (edge e) = e.target
 reached_vertex (through e s p) = reached_vertex p
 
-module _ {Z : Type 0} (t : Table) (Removed : Text → Type 0) (texts : List Text) (edges names : List (Vec ℕ Z)) (flags : List Bool)
+module _ (t : Table) (Removed : Text → Type 0) (texts : List Text) (edges names : List (List ℕ)) (flags : List Bool)
     (h : IsNumbered t Removed texts edges names flags) where
   -- S is the set of the numbers whose texts are in T
   module _ (S : ℕ → Type 0) (T : Text → Type 0) (same : (i : ℕ) → i < length edges → S i ↔ T (nth_text texts i)) where

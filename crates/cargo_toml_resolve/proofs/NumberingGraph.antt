@@ -1,5 +1,5 @@
 -- The graph of numbers that stands for features in order.
-use Rattle.std.proofs.Common.{◌≡◌, ◌↔◌, ◌⊎◌, ◌<◌, ◌≤◌, ℕ, Bool, true, false, List, [], length, take, slice_get, IsTrue, Option, Some, None, Vec, Global, Bor, refl, sym, ap, subst, inl, inr, ◌∙◌, arith}
+use Rattle.std.proofs.Common.{◌≡◌, ◌↔◌, ◌⊎◌, ◌<◌, ◌≤◌, ℕ, Bool, true, false, List, [], length, take, slice_get, IsTrue, Option, Some, None, Bor, refl, sym, ap, subst, inl, inr, ◌∙◌, arith}
 use Rattle.std.proofs.lemmas.Bool.{false≢true, cases_lt}
 use Rattle.std.proofs.lemmas.List.{length-map, take-map, get_or-take, get_or_past}
 use Rattle.std.specs.Option.{IsSomeAnd, option_map_or}
@@ -9,7 +9,7 @@ use Rattle.cargo_toml_graph.specs.Graph.{Table, Edge, IsPlain}
 use Rattle.cargo_toml_walk.specs.Numbers.{IsWanted, Leads}
 use Rattle.cargo_toml_features.specs.Places.{nth_text}
 use Rattle.cargo_toml_resolve.specs.NumberedTables.{HasNumber, IsNaming, IsNumbered}
-use Rattle.cargo_toml_walk.proofs.Filling.{has_row}
+use Rattle.cargo_toml_walk.proofs.Steps.{has_row}
 use Rattle.cargo_toml_features.proofs.Places.{at_among, rises}
 use Rattle.cargo_toml_features.specs.declared.features.Feature.{Feature}
 use Rattle.cargo_toml_features.specs.InOrder.{AreInOrder, feature_at, names_of, table_among}
@@ -20,7 +20,7 @@ use Rattle.cargo_toml_resolve.specs.Texts.{texts_now}
 use Rattle.cargo_toml_resolve.proofs.InPlace.{has_place, name_in, stands_found, stands_in}
 
 -- the same vertices are removed
-pub same_removed : {Z : Type 0} (t : Table) (vs : List Feature) (kept : List Bool) (Removed : Text → Type 0) (texts : List Text) (edges names : List (Vec ℕ Z)) (flags : List Bool)
+pub same_removed : (t : Table) (vs : List Feature) (kept : List Bool) (Removed : Text → Type 0) (texts : List Text) (edges names : List (List ℕ)) (flags : List Bool)
     → IsNumbered t (IsFlagged vs kept) texts edges names flags → ((f : Text) → Removed f ↔ IsFlagged vs kept f) → IsNumbered t Removed texts edges names flags
 same_removed t vs kept Removed texts edges names flags n same = record {
   one = n.one;
@@ -48,7 +48,7 @@ leads_same (Some v) k = (λ p. p, λ p. p)
 pub keys_are : (naming : List Bool) (vs : List Feature) (us ts : List (Bor Text)) → us ≡ ts → AreTextsOf naming vs (texts_now ts) → texts_now (take (length vs) us) ≡ names_of vs
 keys_are naming vs us ts read h = sym (take-map (λ (t : Bor Text). t.now) (length vs) us) ∙ ap (λ (ws : List (Bor Text)). take (length vs) (texts_now ws)) read ∙ h.keys
 
-pub named_by : (naming shown : List Bool) (vs : List Feature) (names : List (Vec ℕ Global)) (us ts : List (Bor Text)) → us ≡ ts → shown ≡ naming
+pub named_by : (naming shown : List Bool) (vs : List Feature) (names : List (List ℕ)) (us ts : List (Bor Text)) → us ≡ ts → shown ≡ naming
     → ((i x : ℕ) → i < length vs → Leads names i x ↔ ((x < length us) × IsPicked shown vs i (nth_text (texts_now us) x)))
     → (i x : ℕ) → i < length vs → Leads names i x ↔ ((x < length (texts_now ts)) × IsPicked naming vs i (nth_text (texts_now ts) x))
 named_by naming shown vs names us ts read see h i x lt =
@@ -56,7 +56,7 @@ named_by naming shown vs names us ts read see h i x lt =
     (subst (λ fs. Leads names i x ↔ ((x < length ts) × IsPicked fs vs i (nth_text (texts_now ts) x))) see
     (subst (λ (ws : List (Bor Text)). Leads names i x ↔ ((x < length ws) × IsPicked shown vs i (nth_text (texts_now ws) x))) read (h i x lt)))
 
-pub targets_by : (vs : List Feature) (edges : List (Vec ℕ Global)) (keys : List (Bor Text)) → texts_now keys ≡ names_of vs
+pub targets_by : (vs : List Feature) (edges : List (List ℕ)) (keys : List (Bor Text)) → texts_now keys ≡ names_of vs
     → ((i x : ℕ) → i < length vs → Leads edges i x ↔ ((x < length keys) × IsTarget vs (texts_now keys) i x))
     → (i x : ℕ) → i < length vs → Leads edges i x ↔ ((x < length vs) × IsTarget vs (names_of vs) i x)
 targets_by vs edges keys same h i x lt =
@@ -64,7 +64,7 @@ targets_by vs edges keys same h i x lt =
     subst (λ n. Leads edges i x ↔ ((x < n) × IsTarget vs (names_of vs) i x)) long
     (subst (λ ks. Leads edges i x ↔ ((x < length keys) × IsTarget vs ks i x)) same (h i x lt))
 
-module _ (vs : List Feature) (marks naming : List Bool) (texts : List Text) (edges names : List (Vec ℕ Global)) (flags : List Bool)
+module _ (vs : List Feature) (marks naming : List Bool) (texts : List Text) (edges names : List (List ℕ)) (flags : List Bool)
     (up : AreInOrder vs) (marked : length marks ≡ length vs) (h : AreTextsOf naming vs texts)
     (picked : (i : ℕ) → i < length vs → IsNaming edges marks i → IsWanted naming true i)
     (name_len : length names ≡ length vs) (named : (i x : ℕ) → i < length vs → Leads names i x ↔ ((x < length texts) × IsPicked naming vs i (nth_text texts x)))
@@ -178,7 +178,7 @@ module _ (vs : List Feature) (marks naming : List Bool) (texts : List Text) (edg
   }
 
 -- the features as a graph, by what its parts are found to be
-pub graph_found : (vs : List Feature) (marks naming : List Bool) (keys texts : List (Bor Text)) (edges names : List (Vec ℕ Global)) (flags : List Bool) → AreInOrder vs → length marks ≡ length vs → texts_now keys ≡ names_of vs → AreTextsOf naming vs (texts_now texts)
+pub graph_found : (vs : List Feature) (marks naming : List Bool) (keys texts : List (Bor Text)) (edges names : List (List ℕ)) (flags : List Bool) → AreInOrder vs → length marks ≡ length vs → texts_now keys ≡ names_of vs → AreTextsOf naming vs (texts_now texts)
     → ((i : ℕ) → i < length edges → IsNaming edges marks i → IsWanted naming true i)
     → length names ≡ length vs → ((i x : ℕ) → i < length vs → Leads names i x ↔ ((x < length (texts_now texts)) × IsPicked naming vs i (nth_text (texts_now texts) x)))
     → length edges ≡ length vs → ((i x : ℕ) → i < length vs → Leads edges i x ↔ ((x < length keys) × IsTarget vs (texts_now keys) i x))

@@ -1,8 +1,7 @@
 -- Places that pass binaries on in turn do so as the features of their names, in byte order.
-use Rattle.std.proofs.Common.{◌≡◌, ◌↔◌, ◌<◌, ◌≤◌, ◌++◌, ℕ, zero, suc, Bool, true, false, cond, List, [], ◌∷◌, length, map, nat_eq, take, Some, Vec, IsTrue, slice_get, refl, sym, ap, ap₂, subst, inl, inr, ◌∙◌, arith}
+use Rattle.std.proofs.Common.{◌≡◌, ◌↔◌, ◌<◌, ◌≤◌, ◌++◌, ℕ, zero, suc, Bool, true, false, cond, List, [], ◌∷◌, length, map, nat_eq, take, Some, IsTrue, slice_get, refl, sym, ap, ap₂, subst, inl, inr, ◌∙◌, arith}
 use Rattle.std.proofs.lemmas.Bool.{cases_eq, false≢true}
 use Rattle.std.specs.List.{list_any, slice_index_or}
-use Rattle.std.specs.declared.alloc.Global.{Global}
 use Rattle.cargo_toml_graph.specs.Action.{Text}
 use Rattle.cargo_toml_graph.specs.Admitted.{is_below}
 use Rattle.cargo_toml_graph.specs.Graph.{KeepsName, Table}
@@ -62,7 +61,7 @@ named_below : (texts : List Text) (flags : List Bool) (n : ℕ) (v : Text) → A
 named_below texts flags zero v = (λ i. absurd i, λ s. let lt = s.1 in absurd (omega (arith, lt)))
 named_below texts flags (suc n) v = one_more texts flags n v (named_below texts flags n v)
 
-module _ (t : Table) (removed : Text → Bool) (old : List Feature) (texts : List Text) (edges names rows : List (Vec ℕ Global)) (flags : List Bool) (stand : StandFor t removed old texts edges names flags)
+module _ (t : Table) (removed : Text → Bool) (old : List Feature) (texts : List Text) (edges names rows : List (List ℕ)) (flags : List Bool) (stand : StandFor t removed old texts edges names flags)
     (redirects_are : (r : ℕ) (x : Text) → r < length edges → IsWanted flags true r → HasNumber texts (length texts) (Leads rows r) x ↔ RedirectsTo t (λ v. IsTrue (removed v)) (λ a b. IsTrue (is_below a b)) (nth_text texts r) x) where
   abbrev R : Text → Type 0
   R v = IsTrue (removed v)

@@ -1,29 +1,28 @@
 -- What features hold in their places once walks have been made and binaries are passed on.
-use Rattle.std.proofs.Common.{◌≡◌, ◌⊎◌, ◌↔◌, ◌<◌, ℕ, Bool, true, false, List, [], length, map, Option, Some, Vec, IsTrue, is_some, slice_get, sym, ap, subst, inl, inr, ◌∙◌, arith}
+use Rattle.std.proofs.Common.{◌≡◌, ◌⊎◌, ◌↔◌, ◌<◌, ℕ, Bool, true, false, List, [], length, map, Option, Some, IsTrue, is_some, slice_get, sym, ap, subst, inl, inr, ◌∙◌, arith}
 use Rattle.std.proofs.lemmas.Bool.{cases_lt, false≢true}
 use Rattle.std.proofs.lemmas.Option.{slice_get_past}
 use Rattle.std.specs.Option.{option_map_or}
-use Rattle.std.specs.declared.alloc.Global.{Global}
 use Rattle.cargo_toml_graph.specs.Action.{Text}
 use Rattle.cargo_toml_graph.specs.Admitted.{is_below}
 use Rattle.cargo_toml_graph.specs.Graph.{Table}
-use Rattle.cargo_toml_graph.specs.Reach.{Among}
 use Rattle.cargo_toml_graph.specs.Redirects.{RedirectsTo}
-use Rattle.cargo_toml_walk.specs.Numbers.{IsWanted, Leads}
+use Rattle.cargo_toml_walk.specs.Numbers.{IsPassed, IsWanted, KeepsLabel, Leads}
 use Rattle.cargo_toml_features.specs.Places.{nth_text}
 use Rattle.cargo_toml_resolve.specs.NumberedTables.{HasNumber}
 use Rattle.cargo_toml_resolve.proofs.NumberedTables as numbered
 use Rattle.cargo_toml_features.specs.declared.features.Feature.{Feature}
-use Rattle.cargo_toml_features.specs.InOrder.{feature_at}
+use Rattle.cargo_toml_features.specs.InOrder.{HaveNoEnablers, feature_at}
 use Rattle.cargo_toml_features.specs.Views.{set_has}
 use Rattle.cargo_toml_resolve.specs.Enabling.{EnablesThrough}
 use Rattle.cargo_toml_resolve.specs.KeptFeatures.{ArePassedAt, IsKeptFeature, IsNamedAlike, StandFor, own_bins}
-use Rattle.cargo_toml_resolve.specs.Holding.{HasActions, HasTextsOf, Holds, AllTakeOver}
-use Rattle.cargo_toml_resolve.specs.Passing.{AreSameButBins, IsSameButBins, bins_of, passed_below}
-use Rattle.cargo_toml_resolve.specs.Walking.{AreNamed, ArePassed, AreRedirects}
+use Rattle.cargo_toml_resolve.specs.Holding.{HasActions, HoldsNames, AllTakeOver}
+use Rattle.cargo_toml_resolve.specs.Passing.{AreSameButBins, bins_of, passed_below}
+use Rattle.cargo_toml_resolve.specs.Walking.{AreRedirects}
 use Rattle.cargo_toml_resolve.proofs.Answered.{is_kept_feature}
 use Rattle.cargo_toml_resolve.proofs.InPlace.{name_in, stands_found, stands_in}
 use Rattle.cargo_toml_resolve.proofs.PassedPlaces.{passed_at}
+use Rattle.cargo_toml_resolve.proofs.TakenOver.{learnt_through}
 
 -- a place where something stands is below the end
 pub place_inside : (vs : List Feature) (i : ℕ) (v : Feature) → slice_get vs i ≡ Some v → i < length vs
@@ -36,23 +35,23 @@ place_inside vs i v at = elim (cases_lt i (length vs)) [
 pub stood : (old new : List Feature) → length new ≡ length old → (i : ℕ) (w : Feature) → slice_get new i ≡ Some w → (v : Feature) × (slice_get old i ≡ Some v)
 stood old new len i w at = stands_in old i (subst (λ n. i < n) len (place_inside new i w at))
 
-still_holds : {vs : List Feature} {texts : List Text} {i : ℕ} {passed named : List ℕ} {v w u : Feature} → Holds vs texts i passed named v w → IsSameButBins w u → Holds vs texts i passed named v u
-still_holds {vs} {texts} {i} {passed} {named} {v} {w} {u} h same = record {
-  same_names = λ none. same.does.names ∙ h.same_names none;
-  names = λ some. subst (λ s. HasTextsOf texts named s) (sym same.does.names) (h.names some);
-  actions = subst (λ m. HasActions vs (λ b. (b ≡ i) ⊎ Among passed b) m) (sym same.does.actions) h.actions;
-}
-
 -- a feature that is left keeps its name and its marks
-pub named_alike_there : {Z : Type 0} (flags : List Bool) (passed named : List (Vec ℕ Z)) (texts : List Text) (old left new : List Feature) →
-    AllTakeOver flags passed named texts old left → AreSameButBins left new → (i : ℕ) (v w : Feature) → slice_get old i ≡ Some v → slice_get new i ≡ Some w → IsNamedAlike v w
-named_alike_there flags passed named texts old left new l s i v w at at' =
+pub named_alike_there : (edges names : List (List ℕ)) (flags : List Bool) (texts : List Text) (n : ℕ) (old left new : List Feature) →
+    AllTakeOver edges names flags texts n old left → AreSameButBins left new → (i : ℕ) (v w : Feature) → slice_get old i ≡ Some v → slice_get new i ≡ Some w → IsNamedAlike v w
+named_alike_there edges names flags texts n old left new l s i v w at at' =
     let u = stood left new s.len i w at' in
     let own = l.own i v u.0 at u.1 in
     let same = s.each i u.0 w u.1 at' in
     record { key = same.does.key ∙ own.key; marks = same.does.marks ∙ own.marks }
 
-module _ (t : Table) (removed : Text → Bool) (old left new : List Feature) (texts : List Text) (edges names : List (Vec ℕ Global)) (flags : List Bool)
+-- a removed one keeps its names
+pub left_there : (edges names : List (List ℕ)) (flags : List Bool) (texts : List Text) (n : ℕ) (old left new : List Feature) →
+    AllTakeOver edges names flags texts n old left → AreSameButBins left new → (i : ℕ) (v w : Feature) → IsWanted flags true i → slice_get old i ≡ Some v → slice_get new i ≡ Some w → w.enables_features ≡ v.enables_features
+left_there edges names flags texts n old left new l s i v w gone at at' =
+    let u = stood left new s.len i w at' in
+    (s.each i u.0 w u.1 at').does.names ∙ (l.rest i v u.0 (inr gone) at u.1).names
+
+module _ (t : Table) (removed : Text → Bool) (old left new : List Feature) (texts : List Text) (edges names : List (List ℕ)) (flags : List Bool)
     (stand : StandFor t removed old texts edges names flags) where
   abbrev pub R : Text → Type 0
   R v = IsTrue (removed v)
@@ -63,18 +62,25 @@ module _ (t : Table) (removed : Text → Bool) (old left new : List Feature) (te
   vertex_place : (i : ℕ) → i < length edges → i < length old
   vertex_place i lt = subst (λ n. i < n) stand.count lt
 
-  pub kept_there : (passed named : List (Vec ℕ Global)) → ArePassed edges names flags passed → AreNamed edges names flags passed named →
-      ((i : ℕ) (v : Feature) → IsWanted flags false i → slice_get old i ≡ Some v → (e : Text) → IsTrue (set_has v.enabled_by e) ↔ HasNumber texts (length edges) (EnablesThrough edges flags i) e) →
-      AllTakeOver flags passed named texts old left → AreSameButBins left new → (i : ℕ) (w : Feature) → IsWanted flags false i → slice_get new i ≡ Some w → IsKeptFeature t R (nth_text texts i) w
-  kept_there passed named are_passed are_named learnt l s i w kept at =
+  pub kept_there : HaveNoEnablers old → AllTakeOver edges names flags texts (length edges) old left → AreSameButBins left new → (i : ℕ) (w : Feature) → IsWanted flags false i → slice_get new i ≡ Some w → IsKeptFeature t R (nth_text texts i) w
+  kept_there none l s i w kept at =
       let u = stood left new s.len i w at in
       let v = stood old left l.len i u.0 u.1 in
       let lt : i < length edges = subst (λ n. i < n) (sym stand.count) (place_inside old i v.0 v.1) in
-      is_kept_feature t removed old stand.table stand.in_order texts edges names flags stand.numbered stand.count stand.vertices passed named
-      are_passed are_named i lt kept v.0 w v.1 (still_holds (l.holds i v.0 u.0 kept v.1 u.1) (s.each i u.0 w u.1 at))
-      (λ e. subst (λ b. IsTrue (set_has b e) ↔ HasNumber texts (length edges) (EnablesThrough edges flags i) e) (sym ((s.each i u.0 w u.1 at).enabled_by ∙ (l.own i v.0 u.0 v.1 u.1).enabled_by)) (learnt i v.0 kept v.1 e))
+      let h = l.holds i v.0 u.0 lt kept v.1 u.1 in
+      let e = s.each i u.0 w u.1 at in
+      let named : HoldsNames edges names flags texts i v.0 w = elim (h.names) [
+        | inl o ↦ inl (o.0, subst (λ z. (y : Text) → IsTrue (set_has z y) ↔ HasNumber texts (length texts) (KeepsLabel edges flags names i) y) (sym e.does.names) o.1)
+        | inr o ↦ inr (o.0, e.does.names ∙ o.1)
+      ] in
+      is_kept_feature t removed old stand.table stand.in_order texts edges names flags stand.numbered stand.count stand.vertices i lt kept v.0 w v.1
+      (record {
+        names = named;
+        actions = subst (HasActions old (λ b. (b ≡ i) ⊎ IsPassed edges flags i b)) (sym e.does.actions) h.actions;
+      })
+      (λ x. subst (λ b. IsTrue (set_has b x) ↔ HasNumber texts (length edges) (EnablesThrough edges flags i) x) (sym e.enabled_by) (learnt_through edges names flags texts (length edges) old left stand.in_order none l.learn i v.0 u.0 v.1 u.1 kept x))
 
-  pub redirects_there : (rows : List (Vec ℕ Global)) → AreRedirects edges names flags rows → (r : ℕ) (x : Text) → r < length edges → IsWanted flags true r →
+  pub redirects_there : (rows : List (List ℕ)) → AreRedirects edges names flags rows → (r : ℕ) (x : Text) → r < length edges → IsWanted flags true r →
       HasNumber texts (length texts) (Leads rows r) x ↔ RedirectsTo t R (λ a b. IsTrue (is_below a b)) (nth_text texts r) x
   redirects_there rows are_redirects r x lt gone =
       let to = numbered.redirects_to t R texts edges names flags stand.numbered r x lt gone in (
@@ -89,18 +95,18 @@ module _ (t : Table) (removed : Text → Bool) (old left new : List Feature) (te
       let there : feature_at old (nth_text texts i) ≡ Some v.0 = subst (λ f. feature_at old f ≡ Some v.0) (sym (stand.vertices i (vertex_place i lt) ∙ name_in old i v.0 v.1)) (stands_found old stand.in_order i v.0 v.1) in
       ap (λ (o : Option Feature). option_map_or (λ u. map (λ b. b.now) u.required_by_bins.items) o []) (there ∙ sym v.1)
 
-  same_bins : (passed named : List (Vec ℕ Global)) → AllTakeOver flags passed named texts old left → (i : ℕ) → i < length old → bins_of left i ≡ bins_of old i
-  same_bins passed named l i lt =
+  same_bins : AllTakeOver edges names flags texts (length edges) old left → (i : ℕ) → i < length old → bins_of left i ≡ bins_of old i
+  same_bins l i lt =
       let v = stands_in old i lt in
       let u = stands_in left i (subst (λ n. i < n) (sym l.len) lt) in
       ap (λ (o : Option Feature). option_map_or (λ w. map (λ b. b.now) w.required_by_bins.items) o []) u.1
       ∙ ap (λ bs. map (λ b. b.now) bs.items) (l.own i v.0 u.0 v.1 u.1).bins
       ∙ sym (ap (λ (o : Option Feature). option_map_or (λ w. map (λ b. b.now) w.required_by_bins.items) o []) v.1)
 
-  pub bins_there : (passed named rows : List (Vec ℕ Global)) → AreRedirects edges names flags rows → AllTakeOver flags passed named texts old left → AreSameButBins left new →
+  pub bins_there : (rows : List (List ℕ)) → AreRedirects edges names flags rows → AllTakeOver edges names flags texts (length edges) old left → AreSameButBins left new →
       ((y : ℕ) → y < length left → bins_of new y ≡ passed_below rows flags (length left) (bins_of left) y) → ArePassedAt t removed (own_bins old) texts flags new
-  bins_there passed named rows are_redirects l s has = passed_at t removed old texts edges names rows flags stand (redirects_there rows are_redirects) (own_bins old) (bins_of left)
-      (λ i lt. same_bins passed named l i (vertex_place i lt) ∙ sym (own_there i lt)) new
+  bins_there rows are_redirects l s has = passed_at t removed old texts edges names rows flags stand (redirects_there rows are_redirects) (own_bins old) (bins_of left)
+      (λ i lt. same_bins l i (vertex_place i lt) ∙ sym (own_there i lt)) new
       (λ i w at.
       let u = stood left new s.len i w at in
       let below : i < length left = place_inside left i u.0 u.1 in

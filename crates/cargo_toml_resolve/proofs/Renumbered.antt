@@ -1,5 +1,5 @@
 -- From features in order, with flags, to the graph of numbers that stands for their table.
-use Rattle.std.proofs.Common.{◌≡◌, ℕ, Bool, List, Vec, sym, subst, inl, inr, ◌∙◌}
+use Rattle.std.proofs.Common.{◌≡◌, ℕ, Bool, List, sym, subst, inl, inr, ◌∙◌}
 use Rattle.cargo_toml_graph.specs.Action.{Text}
 use Rattle.cargo_toml_graph.specs.Graph.{Table, Edge, IsPlain}
 use Rattle.cargo_toml_features.specs.Places.{nth_text}
@@ -17,7 +17,7 @@ same_edge s t has names action f g e = record {
   leads = elim (e.leads) [ inl n ↦ inl (sym (names f g) ∙ n) | inr a ↦ inr (subst IsPlain (action f g) a) ];
 }
 
-pub renumbered : {Z : Type 0} (t : Table) (vs : List Feature) (Removed : Text → Type 0) (texts : List Text) (edges names : List (Vec ℕ Z)) (flags : List Bool) →
+pub renumbered : (t : Table) (vs : List Feature) (Removed : Text → Type 0) (texts : List Text) (edges names : List (List ℕ)) (flags : List Bool) →
     AreTable t vs → IsNumbered (table_among vs) Removed texts edges names flags → IsNumbered t Removed texts edges names flags
 renumbered t vs Removed texts edges names flags h n = record {
   one = n.one;

@@ -11,10 +11,10 @@ use Rattle.cargo_toml_graph.proofs.Joins.{join_alike, join_one}
 use Rattle.cargo_toml_features.specs.declared.features.DepAction.{DepAction}
 use Rattle.cargo_toml_features.specs.declared.features.Feature.{Feature}
 use Rattle.cargo_toml_features.specs.Views.{action_at}
-use Rattle.cargo_toml_resolve.specs.Holding.{DoesAt, HasActions, HasTextsOf, KeepsOwn, action_by}
-use Rattle.cargo_toml_resolve.specs.TakingOver.{ChangesIn, TakesActions, TakesOver}
+use Rattle.cargo_toml_resolve.specs.Holding.{DoesAt, HasActions, KeepsOwn, action_by}
+use Rattle.cargo_toml_resolve.specs.TakingOver.{ChangesIn, ComesToHold, TakesActions}
 
-set_here : (vs : List Feature) (i : ℕ) (w : Feature) → i < length vs → slice_get (set vs i w) i ≡ Some w
+pub set_here : (vs : List Feature) (i : ℕ) (w : Feature) → i < length vs → slice_get (set vs i w) i ≡ Some w
 set_here [] i w lt = absurd (omega arith)
 set_here (v ∷ vs) zero w lt = refl
 set_here (v ∷ vs) (suc i) w lt = set_here vs i w (omega arith)
@@ -45,10 +45,6 @@ then_set First Both i old mid v w lt read h both =
       others = λ j ne. set_others mid i j w ne ∙ h.others j ne;
     }
 
-pub is_nothing : (xs : List ℕ) → length xs ≡ 0 → xs ≡ []
-is_nothing [] e = refl
-is_nothing (x ∷ xs) e = absurd (omega arith)
-
 -- its map of actions is another, and what it says of itself and names stays
 pub record ActsAnew (old new : Feature) : Type 0 where
   pub own : KeepsOwn old new
@@ -56,7 +52,7 @@ pub record ActsAnew (old new : Feature) : Type 0 where
 
 module _ (vs : List Feature) (i : ℕ) (passed : List ℕ) where
   -- what passes nothing does what it did
-  own_actions : (v : Feature) → slice_get vs i ≡ Some v → passed ≡ [] → HasActions vs (λ b. (b ≡ i) ⊎ Among passed b) v.enables_deps
+  pub own_actions : (v : Feature) → slice_get vs i ≡ Some v → passed ≡ [] → HasActions vs (λ b. (b ≡ i) ⊎ Among passed b) v.enables_deps
   own_actions v is none k = join_alike same (action_at v.enables_deps k) (join_one (action_at v.enables_deps k))
     where
       here : action_by vs i k ≡ action_at v.enables_deps k
@@ -67,14 +63,6 @@ module _ (vs : List Feature) (i : ℕ) (passed : List ℕ) where
         λ e. (i, inl refl, here ∙ e),
         λ d. elim (d.1) [ inl e ↦ sym here ∙ sym (ap (λ b. action_by vs b k) e) ∙ d.2 | inr p ↦ absurd (subst (λ bs. Among bs d.0) none p) ],
       )
-
-  pub takes_nothing : (texts : List Text) (named : List ℕ) → passed ≡ [] → ChangesIn (TakesOver vs texts i passed named) i vs vs
-  takes_nothing texts named none = unchanged (TakesOver vs texts i passed named) i vs (λ v is. record {
-    own = record { key = refl; marks = refl; bins = refl; enabled_by = refl };
-    same_names = λ e. refl;
-    names = λ some. absurd (some none);
-    actions = own_actions v is none;
-  })
 
   -- what the others do is joined to what it did, which is `first`
   module _ (apart : ¬ Among passed i) (mid seen : List Feature) (sees : seen ≡ mid) (others : (j : ℕ) → j ≢ i → slice_get mid j ≡ slice_get vs j)
@@ -99,21 +87,20 @@ module _ (vs : List Feature) (i : ℕ) (passed : List ℕ) where
     pub actions_taken : (empty : BTreeMap (Bor Text) DepAction) (w : Feature) → i < length vs → mid ≡ set vs i (record v { enables_deps = empty }) → w ≡ get_or mid i w →
         ChangesIn (TakesActions vs i passed) i vs (set mid i (record w { enables_deps = own }))
     actions_taken empty w lt set_is read = then_set ActsAnew (TakesActions vs i passed) i vs mid w (record w { enables_deps = own }) lt read emptied (λ u h. record {
-      own = record { key = h.own.key; marks = h.own.marks; bins = h.own.bins; enabled_by = h.own.enabled_by };
+      own = record { says = record { key = h.own.says.key; marks = h.own.says.marks; bins = h.own.says.bins }; enabled_by = h.own.enabled_by };
       names = h.names;
       actions = all_actions;
     })
       where
         emptied : ChangesIn ActsAnew i vs mid
         emptied = subst (ChangesIn ActsAnew i vs) (sym set_is) (then_set (λ u x. x ≡ u) ActsAnew i vs vs v (record v { enables_deps = empty }) lt (sym (get_or_from_slice_get vs i v v is)) (unchanged (λ u x. x ≡ u) i vs (λ x e. refl)) (λ u e.
-            subst (λ u. ActsAnew u (record v { enables_deps = empty })) e (record { own = record { key = refl; marks = refl; bins = refl; enabled_by = refl }; names = refl })))
+            subst (λ u. ActsAnew u (record v { enables_deps = empty })) e (record { own = record { says = record { key = refl; marks = refl; bins = refl }; enabled_by = refl }; names = refl })))
 
 -- then its names are another set
-pub names_taken : (vs : List Feature) (i : ℕ) (passed named : List ℕ) (texts : List Text) (mid : List Feature) (names : BTreeSet (Bor Text)) (w : Feature) → i < length vs → passed ≢ [] →
-    w ≡ get_or mid i w → ChangesIn (TakesActions vs i passed) i vs mid → HasTextsOf texts named names → ChangesIn (TakesOver vs texts i passed named) i vs (set mid i (record w { enables_features = names }))
-names_taken vs i passed named texts mid names w lt some read h has = then_set (TakesActions vs i passed) (TakesOver vs texts i passed named) i vs mid w (record w { enables_features = names }) lt read h (λ u t. record {
-  own = record { key = t.own.key; marks = t.own.marks; bins = t.own.bins; enabled_by = t.own.enabled_by };
-  same_names = λ none. absurd (some none);
-  names = λ _. has;
+pub names_taken : (vs : List Feature) (i : ℕ) (passed : List ℕ) (mid : List Feature) (names : BTreeSet (Bor Text)) (w : Feature) → i < length vs →
+    w ≡ get_or mid i w → ChangesIn (TakesActions vs i passed) i vs mid → ChangesIn (ComesToHold vs i passed names) i vs (set mid i (record w { enables_features = names }))
+names_taken vs i passed mid names w lt read h = then_set (TakesActions vs i passed) (ComesToHold vs i passed names) i vs mid w (record w { enables_features = names }) lt read h (λ u t. record {
+  own = record { says = record { key = t.own.says.key; marks = t.own.says.marks; bins = t.own.says.bins }; enabled_by = t.own.enabled_by };
+  names = refl;
   actions = t.actions;
 })

@@ -1,5 +1,5 @@
 -- Features learn of all that enable them, place by place.
-use Rattle.std.proofs.Common.{◌≡◌, ◌≢◌, ◌↔◌, ◌<◌, ◌≤◌, ◌+◌, ℕ, Bool, true, false, List, Bor, Vec, Option, None, Some, length, slice_get, refl, sym, ap, subst, inl, inr, ◌∙◌, arith}
+use Rattle.std.proofs.Common.{◌≡◌, ◌≢◌, ◌↔◌, ◌<◌, ◌≤◌, ◌+◌, ℕ, Bool, false, List, Bor, Vec, Option, None, Some, length, slice_get, refl, sym, ap, subst, inl, inr, ◌∙◌, arith}
 use Rattle.std.proofs.lemmas.Bool.{cases_eq}
 use Rattle.std.proofs.lemmas.List.{length-map}
 use Rattle.std.proofs.lemmas.Option.{slice_get_within}
@@ -10,11 +10,9 @@ use Rattle.cargo_toml_features.specs.declared.features.Feature.{Feature}
 use Rattle.cargo_toml_features.specs.InOrder.{names_of}
 use Rattle.cargo_toml_features.specs.Places.{nth_text}
 use Rattle.cargo_toml_walk.specs.Bits.{Holds}
-use Rattle.cargo_toml_walk.specs.Numbers.{IsFrom, IsPassed, IsWanted, Leads}
-use Rattle.cargo_toml_walk.proofs.Filling.{has_row}
-use Rattle.cargo_toml_walk.proofs.Labelled.{gathered}
-use Rattle.cargo_toml_walk.proofs.Linking.{last_edge, with_last}
-use Rattle.cargo_toml_resolve.specs.Enabling.{EnablesThrough, LeaderBelow, LeadsTo, LearnBy, LearnThrough}
+use Rattle.cargo_toml_walk.specs.Numbers.{IsWanted, Leads}
+use Rattle.cargo_toml_walk.proofs.Steps.{has_row}
+use Rattle.cargo_toml_resolve.specs.Enabling.{LeaderBelow, LeadsTo, LearnBy}
 use Rattle.cargo_toml_resolve.specs.Holding.{IsTextOf}
 use Rattle.cargo_toml_resolve.specs.NumberedTables.{HasNumber}
 use Rattle.cargo_toml_resolve.specs.Numbering.{IsTarget}
@@ -77,40 +75,8 @@ table_texts texts sources table y are e = (
   λ n. (n.0, n.1, n.2, (are n.0).1 n.3),
 )
 
--- the sources of a graph are those that enable through removed ones
-pub told_through : {Z Y : Type 0} (edges passed : List (Vec ℕ Z)) (table : List (Vec ℕ Y)) (flags : List Bool) (texts : List Text) (vs ws : List Feature) → length edges ≤ length texts
-    → ((a x : ℕ) → Holds table a x ↔ (IsWanted flags false a × IsFrom (Leads passed a) edges a x))
-    → ((a b : ℕ) → a < length edges → IsWanted flags false a → Leads passed a b ↔ IsPassed edges flags a b)
-    → length passed ≡ length edges
-    → LearnBy (λ y e. IsWanted flags false y × HasNumber texts (length texts) (λ a. Holds table a y) e) vs ws → LearnThrough edges flags texts (length edges) vs ws
-told_through edges passed table flags texts vs ws fits holds are same h =
-    let l = alike_told (λ y e. IsWanted flags false y × HasNumber texts (length texts) (λ a. Holds table a y) e) (λ y e. IsWanted flags false y × HasNumber texts (length edges) (EnablesThrough edges flags y) e) vs ws (λ y e below. (
-      λ p. (p.0, into y e p.0 p.1),
-      λ p. (p.0, from y e p.0 p.1),
-    )) h in
-    record { same = l.same; learn = l.learn }
-  where
-    vertex : (a x : ℕ) → IsFrom (Leads passed a) edges a x → a < length edges
-    vertex a x f = elim (f.1) [
-      | inl own ↦ subst (λ k. k < length edges) own (has_row edges f.0 x f.2)
-      | inr through ↦ subst (λ n. a < n) same (has_row passed a f.0 through)
-    ]
-
-    into : (y : ℕ) (e : Text) → IsWanted flags false y → HasNumber texts (length texts) (λ a. Holds table a y) e → HasNumber texts (length edges) (EnablesThrough edges flags y) e
-    into y e kept n =
-        let b = (holds n.0 y).0 n.3 in
-        let lt = vertex n.0 y b.1 in
-        let g = (gathered edges flags edges (Leads passed n.0) n.0 (λ c. are n.0 c lt b.0) y).0 (b.1, kept) in
-        (n.0, lt, n.2, (b.0, with_last (Leads edges) (IsWanted flags true) g.0.1 g.0.2))
-
-    from : (y : ℕ) (e : Text) → IsWanted flags false y → HasNumber texts (length edges) (EnablesThrough edges flags y) e → HasNumber texts (length texts) (λ a. Holds table a y) e
-    from y e kept n =
-        let lt = n.1 in
-        let l = (gathered edges flags edges (Leads passed n.0) n.0 (λ c. are n.0 c lt n.3.0) y).1 (last_edge (Leads edges) (IsWanted flags true) n.3.1, kept) in
-        (n.0, omega (arith, lt, fits), n.2, (holds n.0 y).1 (n.3.0, l.0))
-
 -- where none is removed, they are those that lead to it
-pub told_leaders : {Z Y : Type 0} (keys : List (Bor Text)) (edges : List (Vec ℕ Z)) (table : List (Vec ℕ Y)) (none : List Bool) (vs ws : List Feature) → texts_now keys ≡ names_of vs
+pub told_leaders : {Y : Type 0} (keys : List (Bor Text)) (edges : List (List ℕ)) (table : List (Vec ℕ Y)) (none : List Bool) (vs ws : List Feature) → texts_now keys ≡ names_of vs
     → ((i x : ℕ) → i < length vs → Leads edges i x ↔ ((x < length vs) × IsTarget vs (names_of vs) i x)) → length edges ≡ length vs
     → ((a x : ℕ) → Holds table a x ↔ Leads edges a x) → ((y : ℕ) → y < length vs → IsWanted none false y)
     → LearnBy (λ y e. IsWanted none false y × HasNumber (texts_now keys) (length (texts_now keys)) (λ a. Holds table a y) e) vs ws → LearnBy (LeaderBelow vs (length vs)) vs ws

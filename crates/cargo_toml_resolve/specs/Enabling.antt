@@ -1,5 +1,5 @@
 -- Features that learn what enables them, place by place.
-use Rattle.std.specs.Prelude.{◌≡◌, ◌≢◌, ◌<◌, ◌↔◌, ◌⊎◌, ℕ, Bool, IsTrue, List, Vec, false, true}
+use Rattle.std.specs.Prelude.{◌≡◌, ◌≢◌, ◌<◌, ◌↔◌, ◌⊎◌, ℕ, Bool, IsTrue, List, false, true}
 use Rattle.std.specs.Prelude.{slice_get, Some}
 use Rattle.cargo_toml_graph.specs.Action.{Text}
 use Rattle.cargo_toml_graph.specs.Graph.{IsPlain}
@@ -58,15 +58,14 @@ pub record GainEnabler (Named : ℕ → Type 0) (source : Text) (old new : List 
   pub learn : LearnEach (λ y e. (e ≡ source) × Named y) old new
 
 -- e isn't removed and reaches f through removed vertices
-abbrev pub EnablesThrough : {Z : Type 0} → List (Vec ℕ Z) → List Bool → ℕ → ℕ → Type 0
+abbrev pub EnablesThrough : List (List ℕ) → List Bool → ℕ → ℕ → Type 0
 EnablesThrough edges flags f e =
     IsWanted flags false e × Reaches (Leads edges) (IsWanted flags true) e f
 
 -- each kept feature learns which kept ones of the numbers below n enable it, themselves or through
--- removed ones; nothing else changes
-pub record LearnThrough {Z : Type 0} (edges : List (Vec ℕ Z)) (flags : List Bool)
-    (texts : List Text) (n : ℕ) (old new : List Feature) : Type 0 where
-  pub same : AreSameButEnablers old new
-  pub learn : LearnEach
-      (λ y e. IsWanted flags false y × HasNumber texts n (EnablesThrough edges flags y) e)
-      old new
+-- removed ones
+abbrev pub LearnThrough : List (List ℕ) → List Bool → List Text → ℕ → List Feature → List Feature
+    → Type 0
+LearnThrough edges flags texts n old new = LearnEach
+    (λ y e. IsWanted flags false y × HasNumber texts n (EnablesThrough edges flags y) e)
+    old new

@@ -1,6 +1,6 @@
 -- What a feature holds once the removed ones that it passes are taken out.
-use Rattle.std.specs.Prelude.{Bool, false, ◌≡◌, ◌≢◌, ◌↔◌, ◌⊎◌, ℕ, List, [], length}
-use Rattle.std.specs.Prelude.{Option, Some, Vec, IsTrue, slice_get, option_and_then}
+use Rattle.std.specs.Prelude.{Bool, true, false, ◌≡◌, ◌≢◌, ◌↔◌, ◌⊎◌, ◌<◌, ◌≤◌, ℕ, List, length}
+use Rattle.std.specs.Prelude.{Option, Some, IsTrue, slice_get, option_and_then}
 use Rattle.std.specs.Borrow.{Bor}
 use Rattle.std.specs.BTreeMap.{BTreeMap}
 use Rattle.std.specs.BTreeSet.{BTreeSet}
@@ -10,7 +10,9 @@ use Rattle.cargo_toml_features.specs.declared.features.DepAction.{DepAction}
 use Rattle.cargo_toml_features.specs.declared.features.Feature.{Feature}
 use Rattle.cargo_toml_features.specs.Marks.{marks_of}
 use Rattle.cargo_toml_features.specs.Views.{set_has, action_at}
-use Rattle.cargo_toml_walk.specs.Numbers.{IsWanted, row_items}
+use Rattle.cargo_toml_features.specs.Places.{nth_text}
+use Rattle.cargo_toml_walk.specs.Numbers.{IsPassed, IsWanted, KeepsLabel, PassesAny}
+use Rattle.cargo_toml_resolve.specs.Enabling.{EnablesThrough, LearnEach, LearnThrough}
 use Rattle.cargo_toml_resolve.specs.NumberedTables.{HasNumber}
 
 -- what the feature in place b does to k, None past the end
@@ -33,27 +35,58 @@ HasTextsOf texts numbers s = (x : Text) → IsTrue (set_has s x) ↔ IsTextOf te
 abbrev pub HasActions : List Feature → (ℕ → Type 0) → BTreeMap (Bor Text) DepAction → Type 0
 HasActions vs P m = (k : Text) → IsJoin (DoesAt vs P k) (action_at m k)
 
--- what the feature in place i names and does, where it passes the removed features in the places
--- `passed`
-pub record Holds (vs : List Feature) (texts : List Text) (i : ℕ) (passed named : List ℕ)
-    (old new : Feature) : Type 0 where
-  pub same_names : passed ≡ [] → new.enables_features ≡ old.enables_features
-  pub names : passed ≢ [] → HasTextsOf texts named new.enables_features
-  pub actions : HasActions vs (λ b. (b ≡ i) ⊎ Among passed b) new.enables_deps
-
--- what a feature says of itself stays, and what enables it
-pub record KeepsOwn (old new : Feature) : Type 0 where
+-- what a feature says of itself stays
+pub record SaysTheSame (old new : Feature) : Type 0 where
   pub key : new.key ≡ old.key
   pub marks : marks_of new ≡ marks_of old
   pub bins : new.required_by_bins ≡ old.required_by_bins
+
+-- and what enables it
+pub record KeepsOwn (old new : Feature) : Type 0 where
+  pub says : SaysTheSame old new
   pub enabled_by : new.enabled_by ≡ old.enabled_by
 
--- each feature that isn't removed changes so, by what it passes and then names
-pub record AllTakeOver {Z : Type 0} (flags : List Bool) (passed named : List (Vec ℕ Z))
-    (texts : List Text) (old new : List Feature) : Type 0 where
-  pub len : length new ≡ length old
-  pub own : (i : ℕ) (v w : Feature) → slice_get old i ≡ Some v → slice_get new i ≡ Some w
-      → KeepsOwn v w
-  pub holds : (i : ℕ) (v w : Feature) → IsWanted flags false i → slice_get old i ≡ Some v
-      → slice_get new i ≡ Some w
-      → Holds old texts i (row_items passed i) (row_items named i) v w
+-- what a feature names and does stays
+pub record HoldsTheSame (old new : Feature) : Type 0 where
+  pub names : new.enables_features ≡ old.enables_features
+  pub actions : new.enables_deps ≡ old.enables_deps
+
+module _ (edges labels : List (List ℕ)) (flags : List Bool) (texts : List Text) where
+  -- the names of the feature in place i: those that it keeps where it passes a removed one, and
+  -- otherwise those that it had
+  abbrev pub HoldsNames : ℕ → Feature → Feature → Type 0
+  HoldsNames i old new =
+      (PassesAny edges flags i × ((x : Text) → IsTrue (set_has new.enables_features x)
+      ↔ HasNumber texts (length texts) (KeepsLabel edges flags labels i) x))
+      ⊎ ((¬ PassesAny edges flags i) × (new.enables_features ≡ old.enables_features))
+
+  -- what the kept feature in place i of vs names, and what it and those that it passes do
+  pub record Holds (vs : List Feature) (i : ℕ) (old new : Feature) : Type 0 where
+    pub names : HoldsNames i old new
+    pub actions : HasActions vs (λ b. (b ≡ i) ⊎ IsPassed edges flags i b) new.enables_deps
+
+  -- the kept feature in place i takes over from the removed ones that it passes, and is put among
+  -- what enables those that it then enables; nothing else changes
+  pub record TakesOver (i : ℕ) (old new : List Feature) : Type 0 where
+    pub len : length new ≡ length old
+    pub own : (j : ℕ) (v w : Feature) → slice_get old j ≡ Some v → slice_get new j ≡ Some w
+        → SaysTheSame v w
+    pub here : (v w : Feature) → slice_get old i ≡ Some v → slice_get new i ≡ Some w
+        → Holds old i v w
+    pub others : (j : ℕ) (v w : Feature) → j ≢ i → slice_get old j ≡ Some v
+        → slice_get new j ≡ Some w → HoldsTheSame v w
+    pub learn : LearnEach
+        (λ y e. (e ≡ nth_text texts i)
+        × (IsWanted flags false y × EnablesThrough edges flags y i))
+        old new
+
+  -- so do the kept ones below n, one after another
+  pub record AllTakeOver (n : ℕ) (old new : List Feature) : Type 0 where
+    pub len : length new ≡ length old
+    pub own : (i : ℕ) (v w : Feature) → slice_get old i ≡ Some v → slice_get new i ≡ Some w
+        → SaysTheSame v w
+    pub holds : (i : ℕ) (v w : Feature) → i < n → IsWanted flags false i → slice_get old i ≡ Some v
+        → slice_get new i ≡ Some w → Holds old i v w
+    pub rest : (i : ℕ) (v w : Feature) → (n ≤ i) ⊎ IsWanted flags true i → slice_get old i ≡ Some v
+        → slice_get new i ≡ Some w → HoldsTheSame v w
+    pub learn : LearnThrough edges flags texts n old new

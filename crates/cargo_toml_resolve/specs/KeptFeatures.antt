@@ -1,8 +1,7 @@
 -- What is kept of features once some are removed, feature by feature.
 use Rattle.std.specs.Prelude.{◌≡◌, ◌↔◌, ◌<◌, ℕ, Bool, false, List, length}
-use Rattle.std.specs.Prelude.{IsTrue, Vec, [], map, slice_get, Some}
+use Rattle.std.specs.Prelude.{IsTrue, [], map, slice_get, Some}
 use Rattle.std.specs.Option.{option_map_or}
-use Rattle.std.specs.declared.alloc.Global.{Global}
 use Rattle.cargo_toml_graph.specs.Action.{Text, IsJoin}
 use Rattle.cargo_toml_graph.specs.Bins.{AreInByteOrder}
 use Rattle.cargo_toml_graph.specs.Graph.{Table, IsEnabledBy, KeepsName, Says}
@@ -24,7 +23,7 @@ pub record IsKeptFeature (t : Table) (Removed : Text → Type 0) (f : Text)
 
 -- the features vs make the table t, and the graph of numbers stands for it
 pub record StandFor (t : Table) (removed : Text → Bool) (vs : List Feature) (texts : List Text)
-    (edges names : List (Vec ℕ Global)) (flags : List Bool) : Type 0 where
+    (edges names : List (List ℕ)) (flags : List Bool) : Type 0 where
   pub table : AreTable t vs
   pub in_order : AreInOrder vs
   pub numbered : IsNumbered t (λ v. IsTrue (removed v)) texts edges names flags

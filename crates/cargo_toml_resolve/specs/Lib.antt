@@ -4,6 +4,7 @@ pub mod Removed
 -- the code's own steps, in contracts of functions that `cargo_toml` doesn't hand on: nothing here
 -- has to be believed
 pub mod Holding
+pub mod HandingOver
 pub mod TakingOver
 pub mod KeptFeatures
 pub mod Texts

@@ -1,5 +1,5 @@
 -- When a graph of numbers stands for a table of features.
-use Rattle.std.specs.Prelude.{◌≡◌, ◌↔◌, ◌⊎◌, ◌<◌, ◌≤◌, ℕ, Bool, true, List, length, Vec}
+use Rattle.std.specs.Prelude.{◌≡◌, ◌↔◌, ◌⊎◌, ◌<◌, ◌≤◌, ℕ, Bool, true, List, length}
 use Rattle.std.specs.Prelude.{IsTrue}
 use Rattle.cargo_toml_graph.specs.Action.{Text}
 use Rattle.cargo_toml_graph.specs.Admitted.{is_below}
@@ -12,14 +12,14 @@ abbrev pub HasNumber : List Text → ℕ → (ℕ → Type 0) → Text → Type 
 HasNumber texts n P x = (j : ℕ) × (j < n) × (nth_text texts j ≡ x) × P j
 
 -- i is removed, or has an edge to a removed one: what it names is asked for
-abbrev pub IsNaming : {Z : Type 0} → List (Vec ℕ Z) → List Bool → ℕ → Type 0
+abbrev pub IsNaming : List (List ℕ) → List Bool → ℕ → Type 0
 IsNaming edges flags i =
     IsWanted flags true i ⊎ ((b : ℕ) × Leads edges i b × IsWanted flags true b)
 
 -- the vertices of t have the numbers below the length of `edges`, and other texts
 -- those from there on
-pub record IsNumbered {Z : Type 0} (t : Table) (Removed : Text → Type 0) (texts : List Text)
-    (edges names : List (Vec ℕ Z)) (flags : List Bool) : Type 0 where
+pub record IsNumbered (t : Table) (Removed : Text → Type 0) (texts : List Text)
+    (edges names : List (List ℕ)) (flags : List Bool) : Type 0 where
   -- each text has one number
   pub one : (i j : ℕ) → i < length texts → j < length texts
       → nth_text texts i ≡ nth_text texts j → i ≡ j

@@ -1,6 +1,6 @@
 -- The binaries that are passed on, by places.
 use Rattle.std.specs.Prelude.{◌≡◌, ℕ, zero, suc, Bool, false, List, [], if◌then◌else◌}
-use Rattle.std.specs.Prelude.{map, nat_eq, take, slice_get, Vec}
+use Rattle.std.specs.Prelude.{map, nat_eq, take, slice_get}
 use Rattle.std.specs.List.{list_any, slice_index_or}
 use Rattle.std.specs.Option.{option_map_or}
 use Rattle.cargo_toml_graph.specs.Action.{Text}
@@ -14,13 +14,13 @@ abbrev pub bins_of : List Feature → ℕ → List Text
 bins_of vs i = option_map_or (λ v. map (λ b. b.now) v.required_by_bins.items) (slice_get vs i) []
 
 -- the place r passes the first ten of its list on to each place in its row
-abbrev pub passed_from : {Z : Type 0} → List (Vec ℕ Z) → ℕ → (ℕ → List Text) → ℕ → List Text
+abbrev pub passed_from : List (List ℕ) → ℕ → (ℕ → List Text) → ℕ → List Text
 passed_from redirects r lists y =
     if list_any (nat_eq y) (row_items redirects r) then put_each (lists y) (take 10 (lists r))
     else lists y
 
 -- the lists once the flagged places below n have passed theirs on, from the first to the last
-abbrev pub passed_below : {Z : Type 0} → List (Vec ℕ Z) → List Bool → ℕ → (ℕ → List Text)
+abbrev pub passed_below : List (List ℕ) → List Bool → ℕ → (ℕ → List Text)
     → ℕ → List Text
 passed_below redirects flags zero lists = lists
 passed_below redirects flags (suc n) lists =

@@ -24,14 +24,14 @@ use Rattle.cargo_toml_resolve.specs.Texts.{texts_now}
 -- the features vs make the table t, and the graph stands for it
 abbrev pub Shows : Graph → Table → (Text → Bool) → List Feature → Type 0
 Shows g t removed vs =
-    StandFor t removed vs (texts_now g.texts.items) g.edges.items g.names.items g.flags.items
+    StandFor t removed vs (texts_now g.texts.items) g.edges g.names g.flags.items
 
 -- the features of the graph g in their places, and what the walks over it found
 pub record ArePlaced (g : Graph) (old new : List Feature) (w : Walked) : Type 0 where
   -- the texts and the flags are the graph's, and each feature has a redirect
   pub texts : w.texts ≡ g.texts
   pub flags : w.flags ≡ g.flags
-  pub count : length w.redirects.items ≡ length old
+  pub count : length w.redirects ≡ length old
   -- each feature stays in its place, with its name and its marks
   pub len : length new ≡ length old
   pub own : (i : ℕ) (v u : Feature) → slice_get old i ≡ Some v → slice_get new i ≡ Some u
@@ -42,11 +42,16 @@ pub record ArePlaced (g : Graph) (old new : List Feature) (w : Walked) : Type 0 
       → IsKeptFeature t (λ f. IsTrue (removed f)) (nth_text (texts_now g.texts.items) i) u
   pub bins : (t : Table) (removed : Text → Bool) → Shows g t removed old
       → ArePassedAt t removed (own_bins old) (texts_now g.texts.items) g.flags.items new
+  -- a removed one keeps its names, and they are its redirect where that isn't marked as moved
+  pub left : (r : ℕ) (v u : Feature) → IsWanted g.flags.items true r → slice_get old r ≡ Some v
+      → slice_get new r ≡ Some u → u.enables_features ≡ v.enables_features
+  pub stays : (r : ℕ) → IsWanted w.moved.items false r
+      → row_items w.redirects r ≡ row_items g.names r
   -- the redirect of a removed one has what stands for it
   pub redirects : (t : Table) (removed : Text → Bool) → Shows g t removed old
-      → (r : ℕ) (x : Text) → r < length g.edges.items → IsWanted g.flags.items true r
+      → (r : ℕ) (x : Text) → r < length g.edges → IsWanted g.flags.items true r
       → HasNumber (texts_now g.texts.items) (length (texts_now g.texts.items))
-      (Leads w.redirects.items r) x
+      (Leads w.redirects r) x
       ↔ RedirectsTo t (λ f. IsTrue (removed f)) (λ a b. IsTrue (is_below a b))
       (nth_text (texts_now g.texts.items) r) x
 
@@ -61,9 +66,9 @@ pub record AreHashed {S : Type 0} (vs : List Feature) (w : Walked)
       → (i : ℕ) × (v : Feature) × (slice_get vs i ≡ Some v)
       × IsWanted w.flags.items false i × (v.key.now ≡ f)
   -- the texts of what stands for the removed ones, and no others
-  pub redirect_there : (i : ℕ) → i < length w.redirects.items → IsWanted w.flags.items true i
+  pub redirect_there : (i : ℕ) → i < length w.redirects → IsWanted w.flags.items true i
       → IsSomeAnd (value_at hidden (nth_text (texts_now w.texts.items) i))
-      (HasTextsOf (texts_now w.texts.items) (row_items w.redirects.items i))
+      (HasTextsOf (texts_now w.texts.items) (row_items w.redirects i))
   pub redirect_only : (r : Text) → IsSome (value_at hidden r)
-      → (i : ℕ) × (i < length w.redirects.items) × (nth_text (texts_now w.texts.items) i ≡ r)
+      → (i : ℕ) × (i < length w.redirects) × (nth_text (texts_now w.texts.items) i ≡ r)
       × IsWanted w.flags.items true i

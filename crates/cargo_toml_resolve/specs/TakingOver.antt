@@ -1,9 +1,11 @@
 -- What a feature takes over from the removed ones that it passes.
-use Rattle.std.specs.Prelude.{◌≡◌, ◌≢◌, ◌⊎◌, ℕ, List, [], length, Some, slice_get}
+use Rattle.std.specs.Prelude.{◌≡◌, ◌≢◌, ◌⊎◌, ℕ, List, length, Some, slice_get}
+use Rattle.std.specs.Borrow.{Bor}
+use Rattle.std.specs.BTreeSet.{BTreeSet}
 use Rattle.cargo_toml_graph.specs.Action.{Text}
 use Rattle.cargo_toml_graph.specs.Reach.{Among}
 use Rattle.cargo_toml_features.specs.declared.features.Feature.{Feature}
-use Rattle.cargo_toml_resolve.specs.Holding.{HasActions, HasTextsOf, KeepsOwn}
+use Rattle.cargo_toml_resolve.specs.Holding.{HasActions, KeepsOwn}
 
 -- the feature in place i changes so, and no other does
 pub record ChangesIn (Changes : Feature → Feature → Type 0) (i : ℕ)
@@ -19,10 +21,9 @@ pub record TakesActions (vs : List Feature) (i : ℕ) (passed : List ℕ)
   pub names : new.enables_features ≡ old.enables_features
   pub actions : HasActions vs (λ b. (b ≡ i) ⊎ Among passed b) new.enables_deps
 
--- and to name the texts of `named`, if it passes any
-pub record TakesOver (vs : List Feature) (texts : List Text) (i : ℕ) (passed named : List ℕ)
+-- and comes to have these names
+pub record ComesToHold (vs : List Feature) (i : ℕ) (passed : List ℕ) (set : BTreeSet (Bor Text))
     (old new : Feature) : Type 0 where
   pub own : KeepsOwn old new
-  pub same_names : passed ≡ [] → new.enables_features ≡ old.enables_features
-  pub names : passed ≢ [] → HasTextsOf texts named new.enables_features
+  pub names : new.enables_features ≡ set
   pub actions : HasActions vs (λ b. (b ≡ i) ⊎ Among passed b) new.enables_deps

@@ -1,37 +1,24 @@
--- What the walks over a graph of numbers find.
-use Rattle.std.specs.Prelude.{◌≡◌, ◌<◌, ◌↔◌, ℕ, Bool, true, false, List, length, Vec}
-use Rattle.cargo_toml_walk.specs.Numbers.{HasLabel, IsPassed}
-use Rattle.cargo_toml_walk.specs.Numbers.{IsRedirect, IsWanted, Leads, PassesAny}
-use Rattle.cargo_toml_resolve.specs.declared.graph.Graph.{Graph}
-use Rattle.cargo_toml_resolve.specs.declared.graph.Walked.{Walked}
+-- What stands for the removed vertices of a graph of numbers, and the tables of a dense one.
+use Rattle.std.specs.Prelude.{◌≡◌, ◌↔◌, ◌<◌, ◌≤◌, ◌*◌, ℕ, Bool, true, List, length, Vec}
+use Rattle.std.specs.declared.alloc.Global.{Global}
+use Rattle.cargo_toml_graph.specs.Reach.{Reaches}
+use Rattle.cargo_toml_walk.specs.Bits.{AreWide, Holds, words_of}
+use Rattle.cargo_toml_walk.specs.Numbers.{IsRedirect, IsWanted, Leads}
 
-module _ {Z : Type 0} (edges names : List (Vec ℕ Z)) (flags : List Bool) where
-  -- the removed vertices that each kept one passes
-  abbrev pub ArePassed : List (Vec ℕ Z) → Type 0
-  ArePassed passed =
-      (a b : ℕ) → a < length edges → IsWanted flags false a
-      → Leads passed a b ↔ IsPassed edges flags a b
-
-  -- what each vertex that passes any then names
-  abbrev pub AreNamed : List (Vec ℕ Z) → List (Vec ℕ Z) → Type 0
-  AreNamed passed named =
-      (a x : ℕ) → a < length edges → PassesAny passed a
-      → Leads named a x ↔ HasLabel (Leads passed a) names flags a x
-
+module _ (edges labels : List (List ℕ)) (flags : List Bool) where
   -- what stands for each removed vertex
-  abbrev pub AreRedirects : List (Vec ℕ Z) → Type 0
+  abbrev pub AreRedirects : List (List ℕ) → Type 0
   AreRedirects redirects =
       (r x : ℕ) → r < length edges → IsWanted flags true r
-      → Leads redirects r x ↔ IsRedirect edges flags names r x
+      → Leads redirects r x ↔ IsRedirect edges flags labels r x
 
--- what walks over the graph g find
-pub record IsWalked (g : Graph) (w : Walked) : Type 0 where
-  -- the texts and the flags are the graph's, and each feature has a redirect
-  pub texts : w.texts ≡ g.texts
-  pub flags : w.flags ≡ g.flags
-  pub count : length w.redirects.items ≡ length g.edges.items
-  -- the removed features that each kept one passes, and what each that passes any then names
-  pub passed : ArePassed g.edges.items g.names.items g.flags.items w.passed.items
-  pub named : AreNamed g.edges.items g.names.items g.flags.items w.passed.items w.named.items
-  -- what stands for each removed feature
-  pub redirects : AreRedirects g.edges.items g.names.items g.flags.items w.redirects.items
+  -- what each vertex reaches through removed ones, and what it names, as tables of bits
+  pub record AreTables (reached named : List (Vec ℕ Global)) : Type 0 where
+    pub paths_len : length reached ≡ length edges
+    pub paths_wide : (a : ℕ) → a < length edges → length flags ≤ 64 * length (words_of reached a)
+    pub paths : (a b : ℕ) → Holds reached a b ↔ Reaches (Leads edges) (IsWanted flags true) a b
+    pub width : ℕ
+    pub enough : length flags ≤ 64 * width
+    pub names_len : length named ≡ length labels
+    pub names_wide : AreWide width named
+    pub names : (a x : ℕ) → Holds named a x ↔ Leads labels a x

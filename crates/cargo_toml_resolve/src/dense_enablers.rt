@@ -1,8 +1,8 @@
 //! Where features name many others: each learns of all that enable it at once, by a table of bits.
 ghost use Rattle.std.specs.Prelude.{◌≡◌, ◌*◌, ◌<◌, ◌≤◌, ℕ, OnOk, false, length};
 ghost use Rattle.cargo_toml_graph.specs.Reach.{Among};
-ghost use Rattle.cargo_toml_walk.specs.Bits.{Holds};
-ghost use Rattle.cargo_toml_walk.specs.Numbers.{IsWanted, row_items};
+ghost use Rattle.cargo_toml_walk.specs.Bits.{Holds, words_of};
+ghost use Rattle.cargo_toml_walk.specs.Numbers.{IsWanted};
 ghost use Rattle.cargo_toml_resolve.specs.Enabling.{LearnBy};
 ghost use Rattle.cargo_toml_resolve.specs.Holding.{IsTextOf};
 ghost use Rattle.cargo_toml_resolve.specs.NumberedTables.{HasNumber};
@@ -43,7 +43,7 @@ pub(crate) fn learn_by_table<'m>(
     requires texts { length table.now ≤ length texts.now }
     requires flags { length features.old.items ≤ length is_removed.now }
     requires wide { (a : ℕ) → a < length table.now
-        → length features.old.items ≤ 64 * length (row_items table.now a) }
+        → length features.old.items ≤ 64 * length (words_of table.now a) }
     ensures { OnOk result (LearnBy (λ y e. IsWanted is_removed.now false y
         × HasNumber (texts_now texts.now) (length (texts_now texts.now))
         (λ a. Holds table.now a y) e)

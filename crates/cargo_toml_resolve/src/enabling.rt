@@ -21,6 +21,7 @@ use cargo_toml_features::features::Feature;
 use cargo_toml_walk::bits::words_for;
 use cargo_toml_walk::dense::are_many;
 use cargo_toml_walk::node::Node;
+use cargo_toml_walk::rows::Rows;
 use cargo_toml_walk::tables::table_of;
 use std::alloc::{AllocError, Global};
 use std::collections::BTreeSet;
@@ -85,7 +86,7 @@ pub(crate) fn push_targets(
 }
 
 // The source is put among what enables the feature in this place.
-pub(crate) fn enable_at<'m>(
+fn enable_at<'m>(
     features: &mut Vec<Feature<'m>>,
     at: Node,
     source: &'m str,
@@ -129,7 +130,7 @@ fn learn_by_rows<'m>(
     alloc: Global,
     features: &mut Vec<Feature<'m>>,
     keys: &[&'m str],
-    edges: &[Vec<Node>],
+    edges: &Rows,
 ) -> Result<(), AllocError>
     requires keys { texts_now keys.now ≡ names_of features.old.items }
     requires len { length edges.now ≡ length features.old.items }
@@ -159,7 +160,7 @@ fn learn_leaders<'m>(
     // A set of many texts is made in one go.
     if name_many(features.as_slice()) {
         let edges = edge_rows(alloc, features.as_slice(), keys)?;
-        return learn_by_rows(alloc, features, keys, edges.as_slice());
+        return learn_by_rows(alloc, features, keys, &edges);
     }
     let mut row = Vec::new(alloc);
     let mut near = 0;

@@ -17,7 +17,8 @@ use std::alloc::{AllocError, Global};
 use std::collections::HashMap;
 use std::hash::BuildHasher;
 
-fn put<'a, V: Drop, S: BuildHasher>(
+/// The value is put under the key. It fails only where memory runs out.
+pub(crate) fn put<'a, V: Drop, S: BuildHasher>(
     map: &mut HashMap<&'a str, V, S>,
     key: &'a str,
     value: V,

@@ -1,70 +1,81 @@
 //! What stands for removed features, in a map by their names.
-ghost use Rattle.std.specs.Prelude.{◌≡◌, ◌<◌, ℕ, true, IfOk, IsFalse};
-ghost use Rattle.std.specs.Prelude.{IsSome, OnOk, bytes_eq, length};
+ghost use Rattle.std.specs.Prelude.{◌≡◌, ◌<◌, ℕ, true, IfOk, IsSome, OnOk};
+ghost use Rattle.std.specs.Prelude.{Some, false, length, slice_get};
 ghost use Rattle.std.specs.Option.{IsSomeAnd};
 ghost use Rattle.cargo_toml_graph.specs.Action.{Text};
-ghost use Rattle.cargo_toml_graph.specs.Reach.{Among};
-ghost use Rattle.cargo_toml_features.specs.Views.{value_at};
+ghost use Rattle.cargo_toml_features.specs.declared.features.Feature.{Feature};
 ghost use Rattle.cargo_toml_features.specs.Places.{nth_text};
-ghost use Rattle.cargo_toml_walk.specs.Numbers.{IsWanted, row_items};
+ghost use Rattle.cargo_toml_features.specs.Views.{value_at};
+ghost use Rattle.cargo_toml_resolve.specs.HandingOver.{HandsOver, HaveOwnSets};
 ghost use Rattle.cargo_toml_resolve.specs.Holding.{HasTextsOf};
 ghost use Rattle.cargo_toml_resolve.specs.Texts.{texts_now};
+ghost use Rattle.cargo_toml_walk.specs.Numbers.{IsWanted, row_items};
 
 use crate::graph::Walked;
+use crate::hashing::put;
 use crate::node_sets::set_of_nodes;
+use cargo_toml_features::features::Feature;
 use cargo_toml_walk::node::Node;
 use std::alloc::{AllocError, Global};
 use std::collections::{BTreeSet, HashMap};
 use std::hash::BuildHasher;
+use std::mem;
 
-// The texts of the redirect come to stand under the name.
-fn put_redirect<'m, S: BuildHasher>(
+// The texts of a redirect, as a set: the names of the removed feature itself, where these are its
+// redirect.
+fn redirect_of<'m>(
     alloc: Global,
-    hidden: &mut HashMap<&'m str, BTreeSet<&'m str>, S>,
-    name: &'m str,
-    redirect: &[Node],
-    texts: &[&'m str],
-) -> Result<(), AllocError>
-    requires { (x : ℕ) → Among redirect.now x → x < length texts.now }
-    ensures here { OnOk result
-        (IsSomeAnd (value_at hidden.new name.now) (HasTextsOf (texts_now texts.now) redirect.now)) }
-    ensures others { OnOk result ((q : Text) → IsFalse (bytes_eq name.now q)
-        → value_at hidden.new q ≡ value_at hidden.old q) }
+    features: &mut Vec<Feature<'m>>,
+    walked: &Walked<'m>,
+    r: Node,
+) -> Result<BTreeSet<&'m str>, AllocError>
+    requires there { r < length walked.now.redirects }
+    requires count { length walked.now.redirects ≡ length features.old.items }
+    requires own { (v : Feature) → IsWanted walked.now.moved.items false r
+        → slice_get features.old.items r ≡ Some v → HasTextsOf (texts_now walked.now.texts.items)
+        (row_items walked.now.redirects r) v.enables_features }
+    ensures texts { IfOk result (HasTextsOf (texts_now walked.now.texts.items)
+        (row_items walked.now.redirects r)) }
+    ensures handed { OnOk result (HandsOver (λ i. i ≡ r) features.old.items features.new.items) }
 {
-    let redirect = set_of_nodes(alloc, redirect, texts)?;
-    hidden.insert(name, redirect)?;
-    Ok(())
+    if walked.moved[r.place()] {
+        let redirect = set_of_nodes(alloc, walked.redirects.row(r), walked.texts.as_slice())?;
+        return Ok(redirect);
+    }
+    let feature = &mut features[r.place()];
+    let names = mem::replace(&mut feature.enables_features, BTreeSet::new(alloc));
+    Ok(names)
 }
 
 /// What stands for each removed feature, by its name, in a hashed map: the texts of its redirect.
-/// It fails only where memory runs out.
+/// A removed feature whose redirect is what it names hands its own set over. It fails only where
+/// memory runs out.
 pub fn hashed_redirects<'m, S: BuildHasher + Drop>(
     alloc: Global,
     state: S,
+    features: &mut Vec<Feature<'m>>,
     walked: &Walked<'m>,
 ) -> Result<HashMap<&'m str, BTreeSet<&'m str>, S>, AllocError>
+    requires count { length walked.now.redirects ≡ length features.old.items }
+    requires own { HaveOwnSets walked.now features.old.items }
     ensures there { IfOk result
-        (λ m. (i : ℕ) → i < length walked.now.redirects.items
+        (λ m. (i : ℕ) → i < length walked.now.redirects
         → IsWanted walked.now.flags.items true i → IsSomeAnd
         (value_at m (nth_text (texts_now walked.now.texts.items) i))
-        (HasTextsOf (texts_now walked.now.texts.items) (row_items walked.now.redirects.items i))) }
+        (HasTextsOf (texts_now walked.now.texts.items) (row_items walked.now.redirects i))) }
     ensures only { IfOk result (λ m. (r : Text) → IsSome (value_at m r)
-        → (i : ℕ) × (i < length walked.now.redirects.items)
+        → (i : ℕ) × (i < length walked.now.redirects)
         × (nth_text (texts_now walked.now.texts.items) i ≡ r)
         × IsWanted walked.now.flags.items true i) }
+    ensures handed { OnOk result
+        (HandsOver (IsWanted walked.now.flags.items true) features.old.items features.new.items) }
 {
     let count = walked.flags.iter().filter(|flag| **flag).count();
     let mut hidden = HashMap::with_capacity_and_hasher(alloc, count, state)?;
     for r in 0..walked.redirects.len() {
         if walked.flags[r] {
-            let redirect = walked.redirects[r].as_slice();
-            put_redirect(
-                alloc,
-                &mut hidden,
-                walked.texts[r],
-                redirect,
-                walked.texts.as_slice(),
-            )?;
+            let redirect = redirect_of(alloc, features, walked, Node::at(r))?;
+            put(&mut hidden, walked.texts[r], redirect)?;
         }
     }
     Ok(hidden)

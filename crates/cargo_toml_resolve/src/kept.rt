@@ -9,6 +9,7 @@ ghost use Rattle.cargo_toml_features.specs.InOrder.{AreInOrder, AreTable, HaveNo
 ghost use Rattle.cargo_toml_features.specs.InOrder.{feature_at, resolution_among};
 ghost use Rattle.cargo_toml_features.specs.Reached.{IsKeyed};
 ghost use Rattle.cargo_toml_features.specs.Views.{value_at};
+ghost use Rattle.cargo_toml_resolve.specs.HandingOver.{HaveOwnSets};
 ghost use Rattle.cargo_toml_resolve.specs.KeptByName.{AreKept};
 ghost use Rattle.cargo_toml_resolve.specs.Numbering.{IsFlagged};
 ghost use Rattle.cargo_toml_resolve.specs.Placed.{AreHashed};
@@ -64,9 +65,11 @@ pub fn keep_all<'m, S: BuildHasher + Clone>(
 fn hash<'m, S: BuildHasher + Clone>(
     alloc: Global,
     state: &S,
-    features: Vec<Feature<'m>>,
+    mut features: Vec<Feature<'m>>,
     walked: &Walked<'m>,
 ) -> Result<Kept<'m, S>, AllocError>
+    requires count { length walked.now.redirects ≡ length features.items }
+    requires own { HaveOwnSets walked.now features.items }
     requires flags { length features.items ≤ length walked.now.flags.items }
     requires names { (i j : ℕ) (v w : Feature) → slice_get features.items i ≡ Some v
         → slice_get features.items j ≡ Some w → v.key.now ≡ w.key.now → i ≡ j }
@@ -74,9 +77,10 @@ fn hash<'m, S: BuildHasher + Clone>(
         (λ l. AreHashed features.entry.items walked.now l.features l.hidden) }
     ensures keyed { IfOk result (λ l. IsKeyed l.features) }
 {
+    let hidden = hashed_redirects(alloc, state.clone()?, &mut features, walked)?;
     Ok(Kept {
         features: hashed_kept(state.clone()?, alloc, features, walked.flags.as_slice())?,
-        hidden: hashed_redirects(alloc, state.clone()?, walked)?,
+        hidden,
     })
 }
 

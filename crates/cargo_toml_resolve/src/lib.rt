@@ -13,13 +13,12 @@ pub mod graph;
 pub mod hashing;
 pub mod hidden_map;
 pub mod joining;
+mod keeping;
 pub mod kept;
 pub mod node_sets;
 pub mod numbering;
 pub mod passing;
-pub mod reaching;
 pub mod resolution;
 pub mod taking_over;
-pub mod walking;
 
 pub use resolution::{Lists, resolve};

@@ -20,6 +20,7 @@ use cargo_toml_features::features::{DepAction, Feature};
 use cargo_toml_features::texts::in_order;
 use cargo_toml_full::places::place_near;
 use cargo_toml_walk::node::Node;
+use cargo_toml_walk::rows::Rows;
 use cargo_toml_walk::walk::has_flagged;
 use std::alloc::{AllocError, Global};
 use std::collections::{BTreeMap, BTreeSet};
@@ -118,27 +119,27 @@ fn node_of(texts: &[&str], count: usize, text: &str, near: usize) -> Option<Node
     Some(Node::at(count + place))
 }
 
-// The nodes of what a feature names. The first name is looked for at `near` first.
+// The row becomes the nodes of what a feature names. The first name is looked for at `near` first.
 fn name_row(
-    alloc: Global,
+    row: &mut Vec<Node>,
     named: &BTreeSet<&str>,
     texts: &[&str],
     count: usize,
     mut near: usize,
-) -> Result<Vec<Node>, AllocError>
+) -> Result<(), AllocError>
     requires { AreParted count (texts_now texts.now) }
-    ensures { IfOk result (λ row. (x : ℕ) → Among row.items x
+    ensures { OnOk result ((x : ℕ) → Among row.new.items x
         ↔ ((x < length texts.now)
         × IsTrue (set_has named.now (nth_text (texts_now texts.now) x)))) }
 {
-    let mut row = Vec::with_capacity(alloc, named.len())?;
+    row.clear();
     for name in named.iter() {
         if let Some(node) = node_of(texts, count, *name, near) {
             row.push(node)?;
             near = node.place().saturating_add(1);
         }
     }
-    Ok(row)
+    Ok(())
 }
 
 // Where a name is looked for after those of a row.
@@ -155,24 +156,25 @@ fn name_rows(
     features: &[Feature<'_>],
     naming: &[bool],
     texts: &[&str],
-) -> Result<Vec<Vec<Node>>, AllocError>
+) -> Result<Rows, AllocError>
     requires naming { length naming.now ≡ length features.now }
     requires texts { AreParted (length features.now) (texts_now texts.now) }
-    ensures len { IfOk result (λ rows. length rows.items ≡ length features.now) }
+    ensures len { IfOk result (λ rows. length rows ≡ length features.now) }
     ensures rows { IfOk result (λ rows. (i x : ℕ) → i < length features.now
-        → Leads rows.items i x ↔ ((x < length texts.now)
+        → Leads rows i x ↔ ((x < length texts.now)
         × IsPicked naming.now features.now i (nth_text (texts_now texts.now) x))) }
 {
-    let mut rows = Vec::with_capacity(alloc, features.len())?;
+    let mut rows = Rows::with_capacity(alloc, features.len())?;
+    let mut row = Vec::new(alloc);
     let mut near = 0;
     for i in 0..features.len() {
         if naming[i] {
             let named = &features[i].enables_features;
-            let row = name_row(alloc, named, texts, features.len(), near)?;
+            name_row(&mut row, named, texts, features.len(), near)?;
             near = after(row.as_slice(), near);
-            rows.push(row)?;
+            rows.push(row.as_slice())?;
         } else {
-            rows.push(Vec::new(alloc))?;
+            rows.push(&[])?;
         }
     }
     Ok(rows)
@@ -239,24 +241,25 @@ pub(crate) fn edge_rows(
     alloc: Global,
     features: &[Feature<'_>],
     keys: &[&str],
-) -> Result<Vec<Vec<Node>>, AllocError>
+) -> Result<Rows, AllocError>
     requires { Ascend (texts_now keys.now) }
-    ensures len { IfOk result (λ rows. length rows.items ≡ length features.now) }
-    ensures rows { IfOk result (λ rows. (i x : ℕ) → i < length features.now → Leads rows.items i x
+    ensures len { IfOk result (λ rows. length rows ≡ length features.now) }
+    ensures rows { IfOk result (λ rows. (i x : ℕ) → i < length features.now → Leads rows i x
         ↔ ((x < length keys.now) × IsTarget features.now (texts_now keys.now) i x)) }
 {
-    let mut rows = Vec::with_capacity(alloc, features.len())?;
+    let mut rows = Rows::with_capacity(alloc, features.len())?;
+    let mut row = Vec::new(alloc);
     let mut near = 0;
     for own in 0..features.len() {
-        let mut row = Vec::with_capacity(alloc, features[own].enables_features.len())?;
+        row.clear();
         near = push_targets(&mut row, &features[own], keys, Node::at(own), near)?;
-        rows.push(row)?;
+        rows.push(row.as_slice())?;
     }
     Ok(rows)
 }
 
 // For each feature whether its names are asked for: it is removed, or has an edge to a removed one.
-fn naming_flags(alloc: Global, edges: &[Vec<Node>], flags: &[bool]) -> Result<Vec<bool>, AllocError>
+fn naming_flags(alloc: Global, edges: &Rows, flags: &[bool]) -> Result<Vec<bool>, AllocError>
     requires len { length edges.now ≡ length flags.now }
     requires inside { (a b : ℕ) → Leads edges.now a b → b < length flags.now }
     ensures len { IfOk result (λ v. length v.items ≡ length edges.now) }
@@ -265,7 +268,7 @@ fn naming_flags(alloc: Global, edges: &[Vec<Node>], flags: &[bool]) -> Result<Ve
 {
     let mut naming = Vec::with_capacity(alloc, edges.len())?;
     for i in 0..edges.len() {
-        naming.push(flags[i] || has_flagged(edges[i].as_slice(), flags))?;
+        naming.push(flags[i] || has_flagged(edges.row(Node::at(i)), flags))?;
     }
     Ok(naming)
 }
@@ -294,15 +297,15 @@ pub fn number<'m>(
     requires len { length flags.now ≡ length features.now }
     ensures numbered { IfOk result
         (λ g. IsNumbered (table_among features.now) (IsFlagged features.now flags.now)
-        (texts_now g.texts.items) g.edges.items g.names.items g.flags.items) }
-    ensures count { IfOk result (λ g. length g.edges.items ≡ length features.now) }
+        (texts_now g.texts.items) g.edges g.names g.flags.items) }
+    ensures count { IfOk result (λ g. length g.edges ≡ length features.now) }
     ensures vertices { IfOk result (λ g. (i : ℕ) → i < length features.now →
         nth_text (texts_now g.texts.items) i ≡ nth_text (names_of features.now) i) }
 {
     let keys = keys_of(alloc, features)?;
     let edges = edge_rows(alloc, features, keys.as_slice())?;
     // A kept feature that has no edge to a removed one names what it named: no row is made for it.
-    let naming = naming_flags(alloc, edges.as_slice(), flags)?;
+    let naming = naming_flags(alloc, &edges, flags)?;
     let texts = all_texts(alloc, features, naming.as_slice(), keys)?;
     let names = name_rows(alloc, features, naming.as_slice(), texts.as_slice())?;
     let flags = all_flags(alloc, flags, texts.len())?;

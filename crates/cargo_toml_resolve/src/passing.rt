@@ -15,6 +15,7 @@ ghost use Rattle.cargo_toml_resolve.specs.Texts.{texts_now};
 use cargo_toml_features::features::Feature;
 use cargo_toml_full::sets::set_of;
 use cargo_toml_walk::node::Node;
+use cargo_toml_walk::rows::Rows;
 use std::alloc::{AllocError, Global};
 use std::collections::BTreeSet;
 
@@ -193,7 +194,7 @@ fn have_bins(features: &[Feature<'_>], flags: &[bool]) -> bool
 pub(crate) fn pass_bins<'m>(
     alloc: Global,
     features: &mut Vec<Feature<'m>>,
-    redirects: &[Vec<Node>],
+    redirects: &Rows,
     flags: &[bool],
 ) -> Result<(), AllocError>
     requires redirects { length redirects.now ≡ length features.old.items }
@@ -211,13 +212,8 @@ pub(crate) fn pass_bins<'m>(
     let size = features.len();
     for r in 0..size {
         if flags[r] {
-            pass_from(
-                alloc,
-                features,
-                &mut known,
-                Node::at(r),
-                redirects[r].as_slice(),
-            )?;
+            let at = Node::at(r);
+            pass_from(alloc, features, &mut known, at, redirects.row(at))?;
         }
     }
     Ok(())

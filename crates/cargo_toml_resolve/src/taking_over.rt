@@ -1,22 +1,16 @@
 //! What a kept feature holds once the removed ones that it passes are taken out.
-ghost use Rattle.std.specs.Prelude.{◌≡◌, ◌<◌, ◌⊎◌, ℕ, Some, IfOk, OnOk, false, length};
-ghost use Rattle.std.specs.Prelude.{map};
+ghost use Rattle.std.specs.Prelude.{◌≡◌, ◌<◌, ◌⊎◌, ℕ, Some, OnOk, length};
 ghost use Rattle.cargo_toml_graph.specs.Action.{Text, IsJoin};
 ghost use Rattle.cargo_toml_graph.specs.Reach.{Among};
 ghost use Rattle.cargo_toml_features.specs.Views.{action_at};
-ghost use Rattle.cargo_toml_features.specs.Places.{nth_text};
-ghost use Rattle.cargo_toml_walk.specs.Numbers.{IsWanted, row_items};
-ghost use Rattle.cargo_toml_resolve.specs.Holding.{DoesAt, HasTextsOf};
-ghost use Rattle.cargo_toml_resolve.specs.TakingOver.{ChangesIn, TakesActions, TakesOver};
-ghost use Rattle.cargo_toml_resolve.specs.Texts.{texts_now};
+ghost use Rattle.cargo_toml_resolve.specs.Holding.{DoesAt};
+ghost use Rattle.cargo_toml_resolve.specs.TakingOver.{ChangesIn, ComesToHold, TakesActions};
 
-use crate::graph::Walked;
 use crate::joining::add_actions;
-use crate::node_sets::set_of_nodes;
 use cargo_toml_features::features::{DepAction, Feature};
 use cargo_toml_walk::node::Node;
 use std::alloc::{AllocError, Global};
-use std::collections::BTreeMap;
+use std::collections::{BTreeMap, BTreeSet};
 use std::mem;
 
 // The actions of the features in the passed places are joined to `own`.
@@ -58,30 +52,22 @@ fn take_actions<'m>(
     Ok(())
 }
 
-/// Takes the removed features that a kept one passes out of what it holds.
-///
-/// It comes to name what was found for it, and to do what it and the passed ones do. Where it
-/// passes none, it stays as it is, and nothing is copied. It fails only where memory runs out.
-pub(crate) fn take_over<'m>(
+/// A feature comes to hold what was found for it: it has these names, and does what it and the
+/// passed ones do. It fails only where memory runs out.
+pub(crate) fn hold<'m>(
     alloc: Global,
     features: &mut Vec<Feature<'m>>,
     at: Node,
-    walked: &Walked<'m>,
+    passed: &[Node],
+    names: BTreeSet<&'m str>,
 ) -> Result<(), AllocError>
-    requires count { length walked.now.redirects.items ≡ length features.old.items }
     requires at { at < length features.old.items }
-    requires kept { IsWanted walked.now.flags.items false at }
+    requires passed { (b : ℕ) → Among passed.now b → b < length features.old.items }
+    requires apart { ¬ Among passed.now at }
     ensures { OnOk result (ChangesIn
-        (TakesOver features.old.items (texts_now walked.now.texts.items) at
-        (row_items walked.now.passed.items at) (row_items walked.now.named.items at)) at
+        (ComesToHold features.old.items at passed.now names.entry) at
         features.old.items features.new.items) }
 {
-    let passed = walked.passed[at.place()].as_slice();
-    let named = walked.named[at.place()].as_slice();
-    if passed.is_empty() {
-        return Ok(());
-    }
-    let names = set_of_nodes(alloc, named, walked.texts.as_slice())?;
     take_actions(alloc, features, at, passed)?;
     features[at.place()].enables_features = names;
     Ok(())

@@ -8,8 +8,8 @@ use Rattle.cargo_toml_graph.proofs.Members.{reaches_within, label_within}
 use Rattle.cargo_toml_graph.proofs.Split.{widen, joined, split, label_split}
 use Rattle.cargo_toml_walk.specs.Bits.{AreWide, Gains, Holds}
 use Rattle.cargo_toml_walk.specs.Numbers.{IsRedirect, IsWanted, Leads}
-use Rattle.cargo_toml_walk.proofs.Filling.{has_row}
-use Rattle.cargo_toml_walk.proofs.Rows.{IsBelow, IsFinished}
+use Rattle.cargo_toml_walk.proofs.Steps.{has_row}
+use Rattle.cargo_toml_walk.proofs.Cuts.{IsBelow, IsFinished}
 
 module _ (removed : List Bool) where
   below_none : (v : ℕ) → ¬ IsBelow removed 0 v
@@ -39,14 +39,14 @@ module _ (removed : List Bool) where
     λ u. absurd (below_none v u),
   )
 
-  module _ {Z Y : Type 0} (edges : List (Vec ℕ Z)) (bound width : ℕ) where
+  module _ {Y : Type 0} (edges : List (List ℕ)) (bound width : ℕ) where
     -- the paths through the removed vertices below r
     pub record HasPaths (r : ℕ) (table : List (Vec ℕ Y)) : Type 0 where
       pub len : length table ≡ bound
       pub wide : AreWide width table
       pub bits : (a b : ℕ) → Holds table a b ↔ Reaches (Leads edges) (IsBelow removed r) a b
 
-    pub record HasLabels {X : Type 0} (labels : List (Vec ℕ X)) (r : ℕ) (table : List (Vec ℕ Y)) : Type 0 where
+    pub record HasLabels (labels : List (List ℕ)) (r : ℕ) (table : List (Vec ℕ Y)) : Type 0 where
       pub len : length table ≡ bound
       pub wide : AreWide width table
       pub bits : (a x : ℕ) → Holds table a x ↔ GathersLabel (Leads edges) (IsBelow removed r) (Leads labels) a x
@@ -62,7 +62,7 @@ module _ (removed : List Bool) where
         only (edge e) = e
         only (through {b = c} e s p) = absurd (below_none c s)
 
-    pub first_labels : {X : Type 0} (labels : List (Vec ℕ X)) (table : List (Vec ℕ Y)) → length table ≡ bound → AreWide width table → ((a x : ℕ) → Holds table a x ↔ Leads labels a x) → HasLabels labels 0 table
+    pub first_labels : (labels : List (List ℕ)) (table : List (Vec ℕ Y)) → length table ≡ bound → AreWide width table → ((a x : ℕ) → Holds table a x ↔ Leads labels a x) → HasLabels labels 0 table
     first_labels labels table len wide bits = record {
       len = len;
       wide = wide;
@@ -83,7 +83,7 @@ module _ (removed : List Bool) where
         );
       }
 
-      pub same_labels : {X : Type 0} (labels : List (Vec ℕ X)) (table : List (Vec ℕ Y)) → HasLabels labels r table → HasLabels labels (r + 1) table
+      pub same_labels : (labels : List (List ℕ)) (table : List (Vec ℕ Y)) → HasLabels labels r table → HasLabels labels (r + 1) table
       same_labels labels table h = record {
         len = h.len;
         wide = h.wide;
@@ -113,7 +113,7 @@ module _ (removed : List Bool) where
         );
       }
 
-      pub more_labels : {X : Type 0} (labels : List (Vec ℕ X)) (old new : List (Vec ℕ Y)) → HasLabels labels r old → Gains (Among parents) (Holds old r) old new → HasLabels labels (r + 1) new
+      pub more_labels : (labels : List (List ℕ)) (old new : List (Vec ℕ Y)) → HasLabels labels r old → Gains (Among parents) (Holds old r) old new → HasLabels labels (r + 1) new
       more_labels labels old new l g = record {
         len = g.len ∙ l.len;
         wide = wide_still (Among parents) (Holds old r) old new l.wide g;
@@ -146,7 +146,7 @@ module _ (removed : List Bool) where
         under (through e s p) = through e (s, first p) (under p)
 
   -- what the nodes of the row r are that aren't finished
-  pub redirect_row : {Z : Type 0} (edges labels : List (Vec ℕ Z)) (finished : List Bool) (r : ℕ) → IsFinished removed r finished
+  pub redirect_row : (edges labels : List (List ℕ)) (finished : List Bool) (r : ℕ) → IsFinished removed r finished
       → (Has : ℕ → Type 0) → ((x : ℕ) → Has x ↔ GathersLabel (Leads edges) (IsBelow removed r) (Leads labels) r x) → ((a x : ℕ) → Leads labels a x → x < length finished)
       → (row : List ℕ) → ((x : ℕ) → Among row x ↔ ((x < length finished) × (Has x × IsWanted finished false x))) → (x : ℕ) → Among row x ↔ IsRedirect edges removed labels r x
   redirect_row edges labels finished r f Has has inside row is x = (

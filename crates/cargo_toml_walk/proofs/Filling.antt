@@ -1,16 +1,16 @@
--- Rows that are put one after another, and stamps that grow with them.
-use Rattle.std.proofs.Common.{◌≡◌, ◌⊎◌, ◌↔◌, ◌<◌, ◌+◌, ℕ, zero, suc, List, [], ◌∷◌, ◌++◌, length, get_or, Vec, refl, sym, ap, subst, inl, inr, ◌∙◌, arith, length-append}
+-- Rows that are put one after another.
+use Rattle.std.proofs.Common.{◌≡◌, ◌⊎◌, ◌↔◌, ◌<◌, ◌+◌, ℕ, zero, suc, List, [], ◌∷◌, ◌++◌, length, refl, sym, ap, subst, inl, inr, ◌∙◌, arith, length-append}
 use Rattle.std.proofs.lemmas.Bool.{cases_eq}
 use Rattle.cargo_toml_graph.specs.Reach.{Among}
-use Rattle.cargo_toml_walk.specs.Numbers.{IsUnused, Leads, OldStamps, Past}
+use Rattle.cargo_toml_walk.specs.Numbers.{Leads}
 
 -- what stands in a row once one more is put at the end
-pub list_push : {Z : Type 0} (rows : List (Vec ℕ Z)) (v : Vec ℕ Z) (a b : ℕ) → Leads (rows ++ v ∷ []) a b ↔ (((a < length rows) × Leads rows a b) ⊎ ((a ≡ length rows) × Among v.items b))
-list_push [] v zero b = (λ i. inr (refl, i), elim [ inl n ↦ absurd (omega (arith, n.0)) | inr n ↦ n.1 ])
-list_push [] v (suc a) b = (λ i. absurd i, elim [ inl n ↦ absurd (omega (arith, n.0)) | inr n ↦ absurd (omega (arith, n.0)) ])
-list_push (y ∷ rows) v zero b = (λ i. inl (omega arith, i), elim [ inl n ↦ n.1 | inr n ↦ absurd (omega (arith, n.0)) ])
-list_push (y ∷ rows) v (suc a) b =
-    let r = list_push rows v a b in (
+list_push : (rows : List (List ℕ)) (row : List ℕ) (a b : ℕ) → Leads (rows ++ row ∷ []) a b ↔ (((a < length rows) × Leads rows a b) ⊎ ((a ≡ length rows) × Among row b))
+list_push [] row zero b = (λ i. inr (refl, i), elim [ inl n ↦ absurd (omega (arith, n.0)) | inr n ↦ n.1 ])
+list_push [] row (suc a) b = (λ i. absurd i, elim [ inl n ↦ absurd (omega (arith, n.0)) | inr n ↦ absurd (omega (arith, n.0)) ])
+list_push (y ∷ rows) row zero b = (λ i. inl (omega arith, i), elim [ inl n ↦ n.1 | inr n ↦ absurd (omega (arith, n.0)) ])
+list_push (y ∷ rows) row (suc a) b =
+    let r = list_push rows row a b in (
       λ i. elim (r.0 i) [ inl n ↦ inl (more n.0, n.1) | inr n ↦ inr (ap suc n.0, n.1) ],
       elim [ inl n ↦ r.1 (inl (less n.0, n.1)) | inr n ↦ r.1 (inr (same_suc n.0, n.1)) ],
     )
@@ -25,57 +25,23 @@ list_push (y ∷ rows) v (suc a) b =
     same_suc e = omega arith
 
 -- the first n rows hold what P says
-abbrev pub IsFilled : {Z : Type 0} → (ℕ → ℕ → Type 0) → ℕ → List (Vec ℕ Z) → Type 0
+abbrev pub IsFilled : (ℕ → ℕ → Type 0) → ℕ → List (List ℕ) → Type 0
 IsFilled P n rows = (length rows ≡ n) × ((a b : ℕ) → a < n → Leads rows a b ↔ P a b)
 
-pub one_more_filled : {Z : Type 0} (P : ℕ → ℕ → Type 0) (n : ℕ) (rows : List (Vec ℕ Z)) (v : Vec ℕ Z) → IsFilled P n rows → ((b : ℕ) → Among v.items b ↔ P n b) → IsFilled P (n + 1) (rows ++ v ∷ [])
-one_more_filled P n rows v h is = (
-  let l = length-append rows (v ∷ []) in let e = h.0 in omega (arith, l, e),
+pub none_filled : (P : ℕ → ℕ → Type 0) (rows : List (List ℕ)) → rows ≡ [] → IsFilled P 0 rows
+none_filled P rows is = (ap length is, λ a b lt. absurd (omega (arith, lt)))
+
+pub one_more_filled : (P : ℕ → ℕ → Type 0) (n : ℕ) (rows : List (List ℕ)) (row : List ℕ) → IsFilled P n rows → ((b : ℕ) → Among row b ↔ P n b) → IsFilled P (n + 1) (rows ++ row ∷ [])
+one_more_filled P n rows row h is = (
+  let l = length-append rows (row ∷ []) in let e = h.0 in omega (arith, l, e),
   λ a b lt. (
-    λ i. elim ((list_push rows v a b).0 i) [
+    λ i. elim ((list_push rows row a b).0 i) [
       | inl m ↦ (h.1 a b (subst (λ k. a < k) h.0 m.0)).0 m.1
       | inr m ↦ subst (λ k. P k b) (sym (m.0 ∙ h.0)) ((is b).0 m.1)
     ],
-    λ p. (list_push rows v a b).1 (elim (cases_eq a n) [
+    λ p. (list_push rows row a b).1 (elim (cases_eq a n) [
       | inl same ↦ inr (same ∙ sym h.0, (is b).1 (subst (λ k. P k b) same p))
       | inr other ↦ let early : a < n = omega arith in inl (subst (λ k. a < k) (sym h.0) early, (h.1 a b early).1 p)
     ]),
   ),
 )
-
--- a row past the end is empty
-pub has_row : {Z : Type 0} (rows : List (Vec ℕ Z)) (a b : ℕ) → Leads rows a b → a < length rows
-has_row [] a b i = absurd i
-has_row (y ∷ rows) zero b i = omega arith
-has_row (y ∷ rows) (suc a) b i = let lt = has_row rows a b i in omega (arith, lt)
-
-pub read_filled : {Z : Type 0} (P : ℕ → ℕ → Type 0) (n : ℕ) (rows : List (Vec ℕ Z)) → IsFilled P n rows → (a b : ℕ) → Leads rows a b → P a b
-read_filled P n rows h a b i = (h.1 a b (subst (λ k. a < k) h.0 (has_row rows a b i))).0 i
-
-pub stamps_past : (e n : ℕ) (m m' : List ℕ) → length m' ≡ length m → Past e n m → OldStamps e m m' → Past (e + 1) n m'
-stamps_past e n m m' len past old x lt =
-    elim (old x) [
-      | inr is ↦ inl (at (get_or m' x 0) is)
-      | inl same ↦ elim (past x (subst (λ k. x < k) len lt)) [ inl b ↦ inl (below (get_or m' x 0) (get_or m x 0) same b) | inr is ↦ inr (same ∙ is) ]
-    ]
-  where
-    at : (y : ℕ) → y ≡ e → y < e + 1
-    at y i = omega arith
-
-    below : (y z : ℕ) → y ≡ z → z < e → y < e + 1
-    below y z i lt = omega arith
-
-pub past_later : (e n : ℕ) (m : List ℕ) → Past e n m → Past (e + 1) n m
-past_later e n m past x lt = elim (past x lt) [ inl b ↦ inl (below (get_or m x 0) b) | inr is ↦ inr is ]
-  where
-    below : (y : ℕ) → y < e → y < e + 1
-    below y lt = omega arith
-
-pub fresh_past : (e n : ℕ) (m : List ℕ) → Past e n m → e < n → IsUnused e m
-fresh_past e n m past lt x s = elim (past x s.0) [ inl b ↦ apart (get_or m x 0) s.1 b | inr is ↦ at (get_or m x 0) s.1 is ]
-  where
-    apart : (y : ℕ) → y ≡ e → y < e → ⊥
-    apart y i b = absurd (omega arith)
-
-    at : (y : ℕ) → y ≡ e → y ≡ n → ⊥
-    at y i j = absurd (omega arith)

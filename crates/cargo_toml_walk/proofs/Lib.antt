@@ -1,10 +1,12 @@
 pub mod Steps
+pub mod Spans
+pub mod Marked
 pub mod Walking
-pub mod Filling
 pub mod Labelled
 pub mod Linking
-pub mod Rows
+pub mod Cuts
+pub mod InOrder
 pub mod Words
 pub mod Tabled
 pub mod Closing
-pub mod Found
+pub mod Filling

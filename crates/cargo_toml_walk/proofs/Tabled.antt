@@ -2,8 +2,8 @@
 use Rattle.std.proofs.Common.{◌≡◌, ◌≢◌, ◌↔◌, ◌⊎◌, ◌<◌, ◌≤◌, ◌+◌, ℕ, zero, suc, Bool, false, List, [], ◌∷◌, ◌++◌, take, length, get_or, set, Vec, refl, sym, ap, subst, inl, inr, ◌∙◌, arith, length-append, length-set}
 use Rattle.std.proofs.lemmas.Bool.{cases_eq}
 use Rattle.cargo_toml_graph.specs.Reach.{Among}
-use Rattle.cargo_toml_walk.specs.Bits.{AreWide, Gains, HasBit, Holds}
-use Rattle.cargo_toml_walk.specs.Numbers.{HasLabel, IsFrom, IsWanted, Leads, row_items}
+use Rattle.cargo_toml_walk.specs.Bits.{AreWide, Gains, HasBit, Holds, words_of}
+use Rattle.cargo_toml_walk.specs.Numbers.{HasLabel, IsFrom, IsWanted, Leads}
 use Rattle.cargo_toml_walk.proofs.Steps.{among_all, among_more, among_taken}
 use Rattle.cargo_toml_walk.proofs.Words.{no_bit_past}
 
@@ -13,21 +13,21 @@ holds_inside [] a x h = absurd (no_bit_past [] x (omega arith) h)
 holds_inside (r ∷ rs) zero x h = omega arith
 holds_inside (r ∷ rs) (suc a) x h = let lt = holds_inside rs a x h in omega (arith, lt)
 
-pub push_old : {Z : Type 0} (rows : List (Vec ℕ Z)) (v : Vec ℕ Z) (a : ℕ) → a < length rows → row_items (rows ++ v ∷ []) a ≡ row_items rows a
+pub push_old : {Z : Type 0} (rows : List (Vec ℕ Z)) (v : Vec ℕ Z) (a : ℕ) → a < length rows → words_of (rows ++ v ∷ []) a ≡ words_of rows a
 push_old [] v a lt = absurd (omega arith)
 push_old (r ∷ rs) v zero lt = refl
 push_old (r ∷ rs) v (suc a) lt = push_old rs v a (omega arith)
 
-pub push_new : {Z : Type 0} (rows : List (Vec ℕ Z)) (v : Vec ℕ Z) → row_items (rows ++ v ∷ []) (length rows) ≡ v.items
+pub push_new : {Z : Type 0} (rows : List (Vec ℕ Z)) (v : Vec ℕ Z) → words_of (rows ++ v ∷ []) (length rows) ≡ v.items
 push_new [] v = refl
 push_new (r ∷ rs) v = push_new rs v
 
-pub set_here : {Z : Type 0} (rows : List (Vec ℕ Z)) (v : Vec ℕ Z) (i : ℕ) → i < length rows → row_items (set rows i v) i ≡ v.items
+pub set_here : {Z : Type 0} (rows : List (Vec ℕ Z)) (v : Vec ℕ Z) (i : ℕ) → i < length rows → words_of (set rows i v) i ≡ v.items
 set_here [] v i lt = absurd (omega arith)
 set_here (r ∷ rs) v zero lt = refl
 set_here (r ∷ rs) v (suc i) lt = set_here rs v i (omega arith)
 
-pub set_other : {Z : Type 0} (rows : List (Vec ℕ Z)) (v : Vec ℕ Z) (i a : ℕ) → a ≢ i → row_items (set rows i v) a ≡ row_items rows a
+pub set_other : {Z : Type 0} (rows : List (Vec ℕ Z)) (v : Vec ℕ Z) (i a : ℕ) → a ≢ i → words_of (set rows i v) a ≡ words_of rows a
 set_other [] v i a ne = refl
 set_other (r ∷ rs) v zero zero ne = absurd (ne refl)
 set_other (r ∷ rs) v zero (suc a) ne = refl
@@ -63,8 +63,8 @@ module _ {Z : Type 0} (P : ℕ → ℕ → Type 0) (width n : ℕ) (table : List
     ];
   }
     where
-      last : (a : ℕ) → a ≡ n → row_items (table ++ v ∷ []) a ≡ v.items
-      last a same = ap (row_items (table ++ v ∷ [])) (same ∙ sym h.len) ∙ push_new table v
+      last : (a : ℕ) → a ≡ n → words_of (table ++ v ∷ []) a ≡ v.items
+      last a same = ap (words_of (table ++ v ∷ [])) (same ∙ sym h.len) ∙ push_new table v
 
   -- all rows
   pub tabled_all : ((a x : ℕ) → P a x → a < n) → (a x : ℕ) → Holds table a x ↔ P a x
@@ -75,12 +75,12 @@ module _ {Z : Type 0} (P : ℕ → ℕ → Type 0) (width n : ℕ) (table : List
 
 -- one more row that is named
 module _ {Z : Type 0} (named : List ℕ) (i : ℕ) (Bits : ℕ → Type 0) (t0 t : List (Vec ℕ Z)) (g : Gains (Among (take i named)) Bits t0 t) (lt : i < length named) where
-  pub gains_more : (at : ℕ) → at ≡ get_or named i 0 → at < length t → (v : Vec ℕ Z) → length v.items ≡ length (row_items t at) → ((x : ℕ) → HasBit v.items x ↔ (Holds t at x ⊎ Bits x))
+  pub gains_more : (at : ℕ) → at ≡ get_or named i 0 → at < length t → (v : Vec ℕ Z) → length v.items ≡ length (words_of t at) → ((x : ℕ) → HasBit v.items x ↔ (Holds t at x ⊎ Bits x))
       → Gains (Among (take (i + 1) named)) Bits t0 (set t at v)
   gains_more at is inside v len bits = record {
     len = length-set t at v ∙ g.len;
     widths = λ a. elim (cases_eq a at) [
-      | inl same ↦ ap length (there a same) ∙ len ∙ ap (λ k. length (row_items t k)) (sym same) ∙ g.widths a
+      | inl same ↦ ap length (there a same) ∙ len ∙ ap (λ k. length (words_of t k)) (sym same) ∙ g.widths a
       | inr other ↦ ap length (set_other t v at a other) ∙ g.widths a
     ];
     bits = λ a x.
@@ -107,8 +107,8 @@ module _ {Z : Type 0} (named : List ℕ) (i : ℕ) (Bits : ℕ → Type 0) (t0 t
         ];
   }
     where
-      there : (a : ℕ) → a ≡ at → row_items (set t at v) a ≡ v.items
-      there a same = ap (row_items (set t at v)) same ∙ set_here t v at inside
+      there : (a : ℕ) → a ≡ at → words_of (set t at v) a ≡ v.items
+      there a same = ap (words_of (set t at v)) same ∙ set_here t v at inside
 
 pub no_gains : {Z : Type 0} (named : List ℕ) (Bits : ℕ → Type 0) (t : List (Vec ℕ Z)) → Gains (Among (take 0 named)) Bits t t
 no_gains named Bits t = record {
@@ -159,7 +159,7 @@ module _ {Z : Type 0} (table : List (Vec ℕ Z)) (own : ℕ) (named : List ℕ) 
   )
 
 -- what a row and those that are passed have together, from a table of labels
-pub from_bits : {Z Y : Type 0} (labels : List (Vec ℕ Z)) (table : List (Vec ℕ Y)) (own : ℕ) (passed bits : List ℕ) → ((a x : ℕ) → Holds table a x ↔ Leads labels a x)
+pub from_bits : {Y : Type 0} (labels : List (List ℕ)) (table : List (Vec ℕ Y)) (own : ℕ) (passed bits : List ℕ) → ((a x : ℕ) → Holds table a x ↔ Leads labels a x)
     → ((x : ℕ) → HasBit bits x ↔ (Holds table own x ⊎ ((b : ℕ) × Among passed b × Holds table b x))) → (x : ℕ) → HasBit bits x ↔ IsFrom (Among passed) labels own x
 from_bits labels table own passed bits t has x = (
   λ h. elim ((has x).0 h) [ inl o ↦ (own, inl refl, (t own x).0 o) | inr p ↦ (p.0, inr p.1, (t p.0 x).0 p.2) ],
@@ -170,7 +170,7 @@ from_bits labels table own passed bits t has x = (
 )
 
 -- the labels that are kept
-pub label_row : {Z Y : Type 0} (labels : List (Vec ℕ Z)) (table : List (Vec ℕ Y)) (flags : List Bool) (own : ℕ) (passed bits row : List ℕ) → ((a x : ℕ) → Holds table a x ↔ Leads labels a x)
+pub label_row : {Y : Type 0} (labels : List (List ℕ)) (table : List (Vec ℕ Y)) (flags : List Bool) (own : ℕ) (passed bits row : List ℕ) → ((a x : ℕ) → Holds table a x ↔ Leads labels a x)
     → ((x : ℕ) → HasBit bits x ↔ (Holds table own x ⊎ ((b : ℕ) × Among passed b × Holds table b x))) → ((x : ℕ) → Among row x ↔ ((x < length flags) × (HasBit bits x × IsWanted flags false x)))
     → ((a x : ℕ) → Leads labels a x → x < length flags) → (x : ℕ) → Among row x ↔ HasLabel (Among passed) labels flags own x
 label_row labels table flags own passed bits row t has is inside x =

@@ -57,8 +57,8 @@ pub(crate) fn bits_of(alloc: Global, row: &[Node], width: usize) -> Result<Vec<u
     Ok(bits)
 }
 
-// The nodes whose bit stands and whose flag is `wanted`.
-pub(crate) fn nodes_of(
+/// The nodes whose bit stands and whose flag is `wanted`.
+pub fn nodes_of(
     alloc: Global,
     bits: &[u64],
     flags: &[bool],

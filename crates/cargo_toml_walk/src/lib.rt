@@ -3,8 +3,10 @@
 
 pub mod bits;
 pub mod dense;
-pub mod labels;
+pub mod marks;
 pub mod node;
 pub mod redirects;
+pub mod rows;
+pub mod span;
 pub mod tables;
 pub mod walk;

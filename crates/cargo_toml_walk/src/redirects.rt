@@ -1,107 +1,108 @@
-//! What stands for a removed vertex: the labels that it has once the removed vertices
-//! below it are taken out.
-ghost use Rattle.std.specs.Prelude.{◌≡◌, ◌<◌, ℕ, length, true, false};
-ghost use Rattle.std.specs.Prelude.{IfOk, IsTrue, OnOk};
+//! What stands for removed vertices, one after another.
+ghost use Rattle.std.specs.Prelude.{◌≡◌, ◌≢◌, ◌<◌, ◌≤◌, ◌↔◌, ℕ, List, length, false};
+ghost use Rattle.std.specs.Prelude.{IfOk, OnOk};
 ghost use Rattle.cargo_toml_graph.specs.Reach.{Among};
-ghost use Rattle.cargo_toml_walk.specs.Numbers.{AreWithin, CanMeet, FindsRedirects, HasLabel};
-ghost use Rattle.cargo_toml_walk.specs.Numbers.{IsWanted, Leads, OldStamps, Replaces};
+ghost use Rattle.cargo_toml_walk.specs.Numbers.{AreWithin, FindsRedirects, HasLabel, IsPassed};
+ghost use Rattle.cargo_toml_walk.specs.Numbers.{Leads, Replaces, row_items};
 
 use crate::dense::{dense_redirects, is_dense};
-use crate::labels::{Passer, kept_labels};
 use crate::node::Node;
-use crate::walk::{has_flagged, passing};
+use crate::rows::Rows;
+use crate::walk::{Walk, has_flagged};
 use std::alloc::{AllocError, Global};
 
-// Whether at most one flag stands.
-fn is_sole(flags: &[bool]) -> bool
-    ensures { IsTrue result → (a b : ℕ) → IsWanted flags.now true a → IsWanted flags.now true b
-        → a ≡ b }
-{
-    let mut found = false;
-    for flag in flags {
-        if *flag {
-            if found {
-                return false;
-            }
-            found = true;
-        }
-    }
-    true
-}
-
-// Whether the passer passes nothing and its row has nothing finished: the row stays as it is.
-fn stays(passer: &Passer<'_>, rows: &[Vec<Node>], finished: &[bool]) -> bool
-    requires own { passer.now.own < length rows.now }
-    requires inside { (a x : ℕ) → Leads rows.now a x → x < length finished.now }
-    ensures { result ≡ true → Replaces passer.now.own
-        (HasLabel (Among passer.now.passed.now) rows.now finished.now passer.now.own)
-        rows.now rows.now }
-{
-    passer.passed.is_empty() && !has_flagged(rows[passer.own.place()].as_slice(), finished)
-}
-
-// The row of the passer becomes what it and the passed rows have, without the finished ones.
+// The row of a vertex becomes what it and the passed rows have, without the finished ones. Whether
+// it had to change.
 fn finish(
-    alloc: Global,
-    passer: &Passer<'_>,
-    rows: &mut Vec<Vec<Node>>,
+    rows: &mut Rows,
+    own: Node,
     finished: &[bool],
-    met: &mut Vec<usize>,
-) -> Result<(), AllocError>
-    requires own { passer.now.own < length rows.old.items }
-    requires passed { (b : ℕ) → Among passer.now.passed.now b → b < length rows.old.items }
-    requires ready { CanMeet passer.now.own rows.old.items finished.now met.old.items }
-    ensures row { OnOk result (Replaces passer.now.own
-        (HasLabel (Among passer.now.passed.now) rows.old.items finished.now passer.now.own)
-        rows.old.items rows.new.items) }
-    ensures len { OnOk result (length met.new.items ≡ length met.old.items) }
-    ensures stamps { OnOk result (OldStamps passer.now.own met.old.items met.new.items) }
+    walk: &mut Walk,
+) -> Result<bool, AllocError>
+    requires own { own < length rows.old }
+    requires passed { (b : ℕ) → Among walk.old.passed.items b → b < length rows.old }
+    requires fits { length walk.old.met ≤ length finished.now }
+    requires inside { (a x : ℕ) → Leads rows.old a x → x < length walk.old.met }
+    ensures row { OnOk result (Replaces own
+        (HasLabel (Among walk.old.passed.items) rows.old finished.now own) rows.old rows.new) }
+    ensures stays { IfOk result (λ is_moved. is_moved ≡ false → rows.new ≡ rows.old) }
+    ensures others { OnOk result ((a : ℕ) → a ≢ own → row_items rows.new a ≡ row_items rows.old a) }
+    ensures passed { OnOk result (walk.new.passed ≡ walk.old.passed) }
+    ensures len { OnOk result (length walk.new.met ≡ length walk.old.met) }
 {
-    if stays(passer, rows.as_slice(), finished) {
-        return Ok(());
+    if walk.passed.is_empty() && !has_flagged(rows.row(own), finished) {
+        return Ok(false);
     }
-    let row = kept_labels(alloc, passer, rows.as_slice(), finished, met)?;
-    rows[passer.own.place()] = row;
-    Ok(())
+    walk.label(own, rows, finished)?;
+    rows.replace(own, walk.labels.as_slice())?;
+    Ok(true)
+}
+
+/// What stands for each removed vertex, and whether that isn't what it has itself.
+#[derive(Debug, Drop)]
+pub struct Redirects {
+    /// The redirect of each removed vertex, and the labels of the others.
+    pub rows: Rows,
+    /// For each node whether its row was replaced.
+    pub moved: Vec<bool>,
+}
+
+// The redirect of one removed vertex. Whether it had to change.
+fn redirect(
+    edges: &mut Rows,
+    labels: &mut Rows,
+    own: Node,
+    finished: &[bool],
+    walk: &mut Walk,
+) -> Result<bool, AllocError>
+    requires own { own < length edges.old }
+    requires within { AreWithin edges.old labels.old finished.now }
+    requires room { length walk.old.met ≡ length finished.now }
+    ensures rows { OnOk result ((passed : List ℕ)
+        × ((b : ℕ) → Among passed b ↔ IsPassed edges.old finished.now own b)
+        × Replaces own (HasLabel (Among passed) edges.old finished.now own) edges.old edges.new
+        × Replaces own (HasLabel (Among passed) labels.old finished.now own)
+        labels.old labels.new) }
+    ensures stays { IfOk result (λ is_moved. is_moved ≡ false → labels.new ≡ labels.old) }
+    ensures others { OnOk result ((a : ℕ) → a ≢ own
+        → row_items labels.new a ≡ row_items labels.old a) }
+    ensures room { OnOk result (length walk.new.met ≡ length walk.old.met) }
+{
+    walk.pass(own, edges, finished)?;
+    let is_moved = finish(labels, own, finished, walk)?;
+    finish(edges, own, finished, walk)?;
+    Ok(is_moved)
 }
 
 /// For each removed vertex its redirect: the labels that it has once the removed vertices below it
 /// are taken out. The others keep their labels.
-pub fn redirects(
+pub fn find_redirects(
     alloc: Global,
-    mut edges: Vec<Vec<Node>>,
-    mut labels: Vec<Vec<Node>>,
+    mut edges: Rows,
+    mut labels: Rows,
     is_removed: &[bool],
-) -> Result<Vec<Vec<Node>>, AllocError>
-    requires { AreWithin edges.items labels.items is_removed.now }
-    ensures { IfOk result (λ r. FindsRedirects edges.items labels.items is_removed.now r.items) }
+    walk: &mut Walk,
+) -> Result<Redirects, AllocError>
+    requires within { AreWithin edges labels is_removed.now }
+    requires room { length walk.old.met ≡ length is_removed.now }
+    ensures { IfOk result (λ r. FindsRedirects edges labels is_removed.now r.moved.items r.rows) }
 {
-    // There is none below a sole removed vertex: its redirect is its labels.
-    if is_sole(is_removed) {
-        return Ok(labels);
+    if is_dense(&edges, is_removed.len()) {
+        return dense_redirects(alloc, &edges, labels, is_removed);
     }
-    if is_dense(edges.as_slice(), is_removed.len()) {
-        return dense_redirects(alloc, edges.as_slice(), labels, is_removed);
-    }
-    let size = edges.len();
     let total = is_removed.len();
     let mut finished = Vec::from_elem(alloc, false, total)?;
-    let mut met = Vec::from_elem(alloc, size, size)?;
-    let mut met_targets = Vec::from_elem(alloc, size, size)?;
-    let mut met_labels = Vec::from_elem(alloc, total, total)?;
-    for r in 0..size {
+    let mut moved = Vec::from_elem(alloc, false, total)?;
+    for r in 0..edges.len() {
         if is_removed[r] {
             let own = Node::at(r);
             let flags = finished.as_slice();
-            let passed = passing(alloc, own, edges.as_slice(), flags, &mut met)?;
-            let passer = Passer {
-                own,
-                passed: passed.as_slice(),
-            };
-            finish(alloc, &passer, &mut labels, flags, &mut met_labels)?;
-            finish(alloc, &passer, &mut edges, flags, &mut met_targets)?;
+            moved[r] = redirect(&mut edges, &mut labels, own, flags, walk)?;
             finished[r] = true;
         }
     }
-    Ok(labels)
+    Ok(Redirects {
+        rows: labels,
+        moved,
+    })
 }

@@ -1,19 +1,16 @@
 //! Tables of bits: for each vertex a set of nodes.
 ghost use Rattle.std.specs.Prelude.{◌≡◌, ◌*◌, ◌<◌, ◌↔◌, ◌⊎◌, ℕ, IfOk, OnOk, length};
 ghost use Rattle.cargo_toml_graph.specs.Reach.{Among};
-ghost use Rattle.cargo_toml_walk.specs.Bits.{AreWide, Gains, HasBit, Holds};
-ghost use Rattle.cargo_toml_walk.specs.Numbers.{Leads, row_items};
+ghost use Rattle.cargo_toml_walk.specs.Bits.{AreWide, Gains, HasBit, Holds, words_of};
+ghost use Rattle.cargo_toml_walk.specs.Numbers.{Leads};
 
 use crate::bits::{bits_of, has_bit, join};
 use crate::node::Node;
+use crate::rows::Rows;
 use std::alloc::{AllocError, Global};
 
 /// The rows as bits in `width` words each.
-pub fn table_of(
-    alloc: Global,
-    rows: &[Vec<Node>],
-    width: usize,
-) -> Result<Vec<Vec<u64>>, AllocError>
+pub fn table_of(alloc: Global, rows: &Rows, width: usize) -> Result<Vec<Vec<u64>>, AllocError>
     requires { (a x : ℕ) → Leads rows.now a x → x < 64 * width }
     ensures len { IfOk result (λ table. length table.items ≡ length rows.now) }
     ensures wide { IfOk result (λ table. AreWide width table.items) }
@@ -22,14 +19,14 @@ pub fn table_of(
 {
     let mut table = Vec::with_capacity(alloc, rows.len())?;
     for a in 0..rows.len() {
-        table.push(bits_of(alloc, rows[a].as_slice(), width)?)?;
+        table.push(bits_of(alloc, rows.row(Node::at(a)), width)?)?;
     }
     Ok(table)
 }
 
 /// Those whose row has the bit of a node.
 pub fn parents_of(alloc: Global, table: &[Vec<u64>], of: Node) -> Result<Vec<Node>, AllocError>
-    requires { (a : ℕ) → a < length table.now → of < 64 * length (row_items table.now a) }
+    requires { (a : ℕ) → a < length table.now → of < 64 * length (words_of table.now a) }
     ensures { IfOk result
         (λ parents. (a : ℕ) → Among parents.items a ↔ Holds table.now a of) }
 {
@@ -62,7 +59,7 @@ pub(crate) fn pass_on(
 ) -> Result<(), AllocError>
     requires at { at < length table.old.items }
     requires named { (a : ℕ) → Among named.now a → a < length table.old.items }
-    requires wide { AreWide (length (row_items table.old.items at)) table.old.items }
+    requires wide { AreWide (length (words_of table.old.items at)) table.old.items }
     ensures { OnOk result (Gains (Among named.now) (Holds table.old.items at)
         table.old.items table.new.items) }
 {
@@ -71,8 +68,8 @@ pub(crate) fn pass_on(
     Ok(())
 }
 
-// What the row `own` and the named ones have.
-pub(crate) fn gathered(
+/// What the row `own` and the named ones have.
+pub fn gathered(
     alloc: Global,
     table: &[Vec<u64>],
     own: Node,
@@ -80,8 +77,8 @@ pub(crate) fn gathered(
 ) -> Result<Vec<u64>, AllocError>
     requires own { own < length table.now }
     requires named { (b : ℕ) → Among named.now b → b < length table.now }
-    requires wide { AreWide (length (row_items table.now own)) table.now }
-    ensures len { IfOk result (λ bits. length bits.items ≡ length (row_items table.now own)) }
+    requires wide { AreWide (length (words_of table.now own)) table.now }
+    ensures len { IfOk result (λ bits. length bits.items ≡ length (words_of table.now own)) }
     ensures bits { IfOk result (λ bits. (x : ℕ) → HasBit bits.items x
         ↔ (Holds table.now own x ⊎ ((b : ℕ) × Among named.now b × Holds table.now b x))) }
 {

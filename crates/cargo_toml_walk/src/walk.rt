@@ -1,21 +1,13 @@
-//! What each vertex reaches through removed vertices.
-ghost use Rattle.std.specs.Prelude.{◌≡◌, ◌<◌, ◌≤◌, ◌↔◌, ℕ, length, true, false};
-ghost use Rattle.std.specs.Prelude.{IfOk, IsTrue, OnOk};
+//! What a vertex reaches through removed vertices.
+ghost use Rattle.std.specs.Prelude.{◌≡◌, ◌<◌, ◌≤◌, ◌↔◌, ℕ, length, true, false, IfOk, IsTrue, OnOk};
 ghost use Rattle.cargo_toml_graph.specs.Reach.{Among};
-ghost use Rattle.cargo_toml_walk.specs.Numbers.{AreEdges, CanMeet, FindsPassed, IsPassed};
-ghost use Rattle.cargo_toml_walk.specs.Numbers.{IsWanted, Leads, AreStamped, OldStamps, FindsNamed};
+ghost use Rattle.cargo_toml_walk.specs.Numbers.{AreMarked, FindsNamed, HasLabel, IsPassed};
+ghost use Rattle.cargo_toml_walk.specs.Numbers.{IsWanted, Leads};
 
-use crate::dense::{dense_passed, is_dense};
+use crate::marks::Marks;
 use crate::node::Node;
+use crate::rows::Rows;
 use std::alloc::{AllocError, Global};
-
-// What a walk looks for: the nodes whose flag is `wanted`. Those that it met get the stamp `epoch`.
-#[derive(Clone, Copy)]
-pub(crate) struct Sought<'f> {
-    pub(crate) flags: &'f [bool],
-    pub(crate) wanted: bool,
-    pub(crate) epoch: usize,
-}
 
 /// Whether the flag of one of the row stands.
 pub fn has_flagged(row: &[Node], flags: &[bool]) -> bool
@@ -31,123 +23,149 @@ pub fn has_flagged(row: &[Node], flags: &[bool]) -> bool
 }
 
 // x is met, and put at the end where it was not met before.
-fn meet(
-    found: &mut Vec<Node>,
-    met: &mut Vec<usize>,
-    epoch: usize,
-    x: Node,
-) -> Result<(), AllocError>
-    requires inside { x < length met.old.items }
-    requires marks { AreStamped epoch found.old.items met.old.items }
-    ensures { OnOk result (FindsNamed epoch (λ y. y ≡ x)
-        found.old.items found.new.items met.old.items met.new.items) }
+fn meet(found: &mut Vec<Node>, met: &mut Marks, x: Node) -> Result<(), AllocError>
+    requires inside { x < length met.old }
+    requires marks { AreMarked found.old.items met.old }
+    ensures { OnOk result
+        (FindsNamed (λ y. y ≡ x) found.old.items found.new.items met.old met.new) }
 {
-    let stamp = &mut met[x.place()];
-    if *stamp != epoch {
-        *stamp = epoch;
+    if met.mark(x) {
         found.push(x)?;
     }
     Ok(())
 }
 
-// The targets that are sought are met.
+// The targets whose flag is `wanted` are met.
 fn visit(
     found: &mut Vec<Node>,
-    met: &mut Vec<usize>,
+    met: &mut Marks,
     targets: &[Node],
-    sought: &Sought<'_>,
+    flags: &[bool],
+    wanted: bool,
 ) -> Result<(), AllocError>
-    requires fits { length met.old.items ≤ length sought.now.flags.now }
-    requires inside { (y : ℕ) → Among targets.now y → y < length met.old.items }
-    requires marks { AreStamped sought.now.epoch found.old.items met.old.items }
-    ensures { OnOk result (FindsNamed sought.now.epoch
-        (λ y. Among targets.now y × IsWanted sought.now.flags.now sought.now.wanted y)
-        found.old.items found.new.items met.old.items met.new.items) }
+    requires fits { length met.old ≤ length flags.now }
+    requires inside { (y : ℕ) → Among targets.now y → y < length met.old }
+    requires marks { AreMarked found.old.items met.old }
+    ensures { OnOk result (FindsNamed
+        (λ y. Among targets.now y × IsWanted flags.now wanted y)
+        found.old.items found.new.items met.old met.new) }
 {
     for x in targets {
-        if sought.flags[x.place()] == sought.wanted {
-            meet(found, met, sought.epoch, *x)?;
+        if flags[x.place()] == wanted {
+            meet(found, met, *x)?;
         }
     }
     Ok(())
 }
 
-// The targets in the row `at` that are sought are met.
-pub(crate) fn visit_row(
+// The labels of the passed vertices whose flag is false are met.
+fn visit_rows(
     found: &mut Vec<Node>,
-    met: &mut Vec<usize>,
-    rows: &[Vec<Node>],
-    at: Node,
-    sought: &Sought<'_>,
+    met: &mut Marks,
+    labels: &Rows,
+    passed: &[Node],
+    flags: &[bool],
 ) -> Result<(), AllocError>
-    requires at { at < length rows.now }
-    requires fits { length met.old.items ≤ length sought.now.flags.now }
-    requires inside { (y : ℕ) → Leads rows.now at y → y < length met.old.items }
-    requires marks { AreStamped sought.now.epoch found.old.items met.old.items }
-    ensures { OnOk result (FindsNamed sought.now.epoch
-        (λ y. Leads rows.now at y × IsWanted sought.now.flags.now sought.now.wanted y)
-        found.old.items found.new.items met.old.items met.new.items) }
+    requires passed { (b : ℕ) → Among passed.now b → b < length labels.now }
+    requires fits { length met.old ≤ length flags.now }
+    requires inside { (a x : ℕ) → Leads labels.now a x → x < length met.old }
+    requires marks { AreMarked found.old.items met.old }
+    ensures { OnOk result (FindsNamed
+        (λ x. ((b : ℕ) × Among passed.now b × Leads labels.now b x)
+        × IsWanted flags.now false x)
+        found.old.items found.new.items met.old met.new) }
 {
-    visit(found, met, rows[at.place()].as_slice(), sought)
+    for b in passed {
+        visit(found, met, labels.row(*b), flags, false)?;
+    }
+    Ok(())
 }
 
-// The removed vertices that `start` reaches through removed ones. `start` is the stamp of
-// those that are met.
-pub(crate) fn passing(
-    alloc: Global,
+// The removed vertices that `start` reaches through removed ones.
+fn passing(
+    found: &mut Vec<Node>,
+    met: &mut Marks,
     start: Node,
-    edges: &[Vec<Node>],
+    edges: &Rows,
     is_removed: &[bool],
-    met: &mut Vec<usize>,
-) -> Result<Vec<Node>, AllocError>
-    requires start { start < length met.old.items }
-    requires whole { length edges.now ≡ length met.old.items }
-    requires ready { CanMeet start edges.now is_removed.now met.old.items }
-    ensures passed { IfOk result
-        (λ found. (b : ℕ) → Among found.items b ↔ IsPassed edges.now is_removed.now start b) }
-    ensures len { OnOk result (length met.new.items ≡ length met.old.items) }
-    ensures stamps { OnOk result (OldStamps start met.old.items met.new.items) }
-    ensures inside { IfOk result
-        (λ found. (b : ℕ) → Among found.items b → b < length met.old.items) }
+) -> Result<(), AllocError>
+    requires start { start < length edges.now }
+    requires fits { length met.old ≤ length is_removed.now }
+    requires whole { (a b : ℕ) → Leads edges.now a b → b < length edges.now }
+    requires inside { length edges.now ≤ length met.old }
+    ensures passed { OnOk result ((b : ℕ) → Among found.new.items b
+        ↔ IsPassed edges.now is_removed.now start b) }
+    ensures len { OnOk result (length met.new ≡ length met.old) }
 {
-    let sought = Sought {
-        flags: is_removed,
-        wanted: true,
-        epoch: start.place(),
-    };
-    let mut found = Vec::new(alloc);
-    visit_row(&mut found, met, edges, start, &sought)?;
+    found.clear();
+    met.clear();
+    visit(found, met, edges.row(start), is_removed, true)?;
     let mut next = 0;
     while next < found.len() {
         let at = found[next];
-        visit_row(&mut found, met, edges, at, &sought)?;
+        visit(found, met, edges.row(at), is_removed, true)?;
         next += 1;
     }
-    Ok(found)
+    Ok(())
 }
 
-/// For each vertex that isn't removed, the removed ones that it reaches through removed ones;
-/// nothing for a removed one.
-pub fn all_passed(
-    alloc: Global,
-    edges: &[Vec<Node>],
-    is_removed: &[bool],
-) -> Result<Vec<Vec<Node>>, AllocError>
-    requires { AreEdges edges.now is_removed.now }
-    ensures { IfOk result (λ r. FindsPassed edges.now is_removed.now r.items) }
-{
-    if is_dense(edges, is_removed.len()) {
-        return dense_passed(alloc, edges, is_removed);
+/// What walks over a graph use again and again, and what the last one found.
+#[derive(Debug, Drop)]
+pub struct Walk {
+    /// Which nodes are met.
+    pub met: Marks,
+    /// The removed vertices that the last start passes.
+    pub passed: Vec<Node>,
+    /// The labels that were found last.
+    pub labels: Vec<Node>,
+}
+
+impl Walk {
+    /// For so many nodes.
+    pub fn new(alloc: Global, count: usize) -> Result<Walk, AllocError>
+        ensures { IfOk result (λ w. length w.met ≡ count) }
+    {
+        Ok(Walk {
+            met: Marks::new(alloc, count)?,
+            passed: Vec::new(alloc),
+            labels: Vec::new(alloc),
+        })
     }
-    let size = edges.len();
-    let mut met = Vec::from_elem(alloc, size, size)?;
-    let mut passed = Vec::with_capacity(alloc, size)?;
-    for start in 0..size {
-        if is_removed[start] {
-            passed.push(Vec::new(alloc))?;
-        } else {
-            passed.push(passing(alloc, Node::at(start), edges, is_removed, &mut met)?)?;
-        }
+
+    /// Finds the removed vertices that `start` reaches through removed ones.
+    pub fn pass(&mut self, start: Node, edges: &Rows, is_removed: &[bool]) -> Result<(), AllocError>
+        requires start { start < length edges.now }
+        requires fits { length self.old.met ≤ length is_removed.now }
+        requires whole { (a b : ℕ) → Leads edges.now a b → b < length edges.now }
+        requires inside { length edges.now ≤ length self.old.met }
+        ensures passed { OnOk result ((b : ℕ) → Among self.new.passed.items b
+            ↔ IsPassed edges.now is_removed.now start b) }
+        ensures len { OnOk result (length self.new.met ≡ length self.old.met) }
+    {
+        passing(&mut self.passed, &mut self.met, start, edges, is_removed)
     }
-    Ok(passed)
+
+    /// Finds the labels of a vertex and of the passed ones, without those whose flag stands.
+    pub fn label(&mut self, own: Node, labels: &Rows, flags: &[bool]) -> Result<(), AllocError>
+        requires own { own < length labels.now }
+        requires passed { (b : ℕ) → Among self.old.passed.items b → b < length labels.now }
+        requires fits { length self.old.met ≤ length flags.now }
+        requires inside { (a x : ℕ) → Leads labels.now a x → x < length self.old.met }
+        ensures labels { OnOk result ((x : ℕ) → Among self.new.labels.items x
+            ↔ HasLabel (Among self.old.passed.items) labels.now flags.now own x) }
+        ensures passed { OnOk result (self.new.passed ≡ self.old.passed) }
+        ensures len { OnOk result (length self.new.met ≡ length self.old.met) }
+    {
+        self.labels.clear();
+        self.met.clear();
+        visit(
+            &mut self.labels,
+            &mut self.met,
+            labels.row(own),
+            flags,
+            false,
+        )?;
+        let passed = self.passed.as_slice();
+        visit_rows(&mut self.labels, &mut self.met, labels, passed, flags)
+    }
 }

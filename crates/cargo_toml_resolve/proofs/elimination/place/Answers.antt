@@ -1,54 +1,67 @@
-use Rattle.std.proofs.Common.{◌≡◌, ◌<◌, ℕ, length, subst, sym, ◌∙◌}
-use Rattle.cargo_toml_resolve.specs.KeptFeatures.{ArePassedAt}
-use Rattle.cargo_toml_resolve.specs.Holding.{AllTakeOver}
+use Rattle.std.proofs.Common.{◌≡◌, ◌<◌, ℕ, length, ap, refl, sym, subst, ◌∙◌, arith}
+use Rattle.cargo_toml_walk.specs.Numbers.{FindsRedirects}
 use Rattle.cargo_toml_resolve.specs.Passing.{bins_of, passed_below}
 use Rattle.cargo_toml_resolve.specs.Texts.{texts_now}
-use Rattle.cargo_toml_resolve.proofs.KeptEnablers.{learnt_through}
-use Rattle.cargo_toml_resolve.proofs.AlikePlaces.{there_too}
-use Rattle.cargo_toml_resolve.proofs.Learning.{own_still, stand_still}
-use Rattle.cargo_toml_resolve.proofs.Placing.{bins_there, kept_there, named_alike_there, redirects_there}
+use Rattle.cargo_toml_resolve.specs.Walking.{AreRedirects}
+use Rattle.cargo_toml_resolve.proofs.Placing.{bins_there, kept_there, left_there, named_alike_there, redirects_there}
 use Rattle.cargo_toml_resolve.proofs.elimination.place.Goals as goal
+
+pub find_redirects-requires-clause-within : goal.find_redirects-requires-clause-within
+find_redirects-requires-clause-within c =
+    let g = c.args.graph in
+    let flags : length c.as_slice-is_removed.result.now ≡ length g.flags.items = ap length c.as_slice-is_removed.ensures.value in
+    let vertices = g.features_count in
+    let count = g.flags_count in
+    record {
+      same = g.names_count;
+      count = omega (arith, flags, vertices, count);
+      edges_inside = g.edges_inside;
+      labels_inside = λ a x i. subst (λ n. x < n) (sym (flags ∙ count)) (g.names_inside a x i);
+    }
 
 pub returns : goal.returns
 returns c =
     let g = c.args.graph in
-    let w = c.in_ok-walked.walked in
-    let found = c.in_ok-walked.ensures.walked in
-    let learnt = c.in_ok-walked.ensures.learnt in
     let old = c.args.features.now.items in
-    let mid = c.walk.new.features.items in
-    let left = c.take_over_all.new.features.items in
+    let left = c.keep_all.new.features.items in
     let new = c.pass_bins.new.features.items in
     let ts = texts_now g.texts.items in
-    let es = g.edges.items in
-    let ns = g.names.items in
+    let es = g.edges in
+    let ns = g.names in
     let fs = g.flags.items in
-    let ps = w.passed.items in
-    let ms = w.named.items in
+    let r = c.in_ok-rows.field-0 in
+    let found : FindsRedirects es ns fs r.moved.items r.rows = subst (λ f. FindsRedirects es ns f r.moved.items r.rows) c.as_slice-is_removed.ensures.value c.in_ok-rows.ensures in
+    let leaves = c.in_ok-keep_all.ensures.kept in
     let others = c.in_ok-pass_bins.ensures.others in
-    let leaves : AllTakeOver fs ps ms ts mid left =
-    subst (λ f. AllTakeOver f.items ps ms ts mid left) found.flags
-    (subst (λ t. AllTakeOver w.flags.items ps ms (texts_now t.items) mid left) found.texts c.in_ok-take_over_all.ensures) in
-    let passed : (y : ℕ) → y < length left → bins_of new y ≡ passed_below w.redirects.items fs (length left) (bins_of left) y =
-    subst (λ f. (y : ℕ) → y < length left → bins_of new y ≡ passed_below w.redirects.items f.items (length left) (bins_of left) y) found.flags
-    (subst (λ f. (y : ℕ) → y < length left → bins_of new y ≡ passed_below w.redirects.items f (length left) (bins_of left) y) c.as_slice-2.ensures.value
-    (subst (λ r. (y : ℕ) → y < length left → bins_of new y ≡ passed_below r c.as_slice-2.result.now (length left) (bins_of left) y) c.as_slice.ensures.value c.in_ok-pass_bins.ensures.bins)) in
+    let passed : (y : ℕ) → y < length left → bins_of new y ≡ passed_below r.rows fs (length left) (bins_of left) y =
+    subst (λ f. (y : ℕ) → y < length left → bins_of new y ≡ passed_below r.rows f (length left) (bins_of left) y) c.as_slice-is_removed.ensures.value c.in_ok-pass_bins.ensures.bins in
+    let are : AreRedirects es ns fs r.rows = λ x z lt gone. found.redirects x z (subst (λ n. x < n) (sym g.names_count) lt) gone in
     record {
-      texts = found.texts;
-      flags = found.flags;
-      count = found.count ∙ c.requires.count;
-      len = others.len ∙ leaves.len ∙ learnt.same.len;
-      own = λ i v u at at'.
-          let m = there_too old mid learnt.same.len i v at in
-          let first = learnt.same.each i v m.0 at m.1 in
-          let then = named_alike_there fs ps ms ts mid left new leaves others i m.0 u m.1 at' in
-          record { key = then.key ∙ first.does.key; marks = then.marks ∙ first.does.marks };
-      kept = λ t removed stand. kept_there t removed mid left new ts es ns fs (stand_still t removed old mid ts es ns fs learnt.same stand) ps ms found.passed found.named
-          (λ i m kept at e.
-          let v = there_too mid old (sym learnt.same.len) i m at in
-          learnt_through es fs ts (length es) old mid stand.in_order c.requires.no_enablers learnt i v.0 m v.1 at kept e)
-          leaves others;
-      bins = λ t removed stand. subst (λ own. ArePassedAt t removed own ts fs new) (λ i f. own_still old mid learnt.same f i)
-          (bins_there t removed mid left new ts es ns fs (stand_still t removed old mid ts es ns fs learnt.same stand) ps ms w.redirects.items found.redirects leaves others passed);
-      redirects = λ t removed stand. redirects_there t removed mid left new ts es ns fs (stand_still t removed old mid ts es ns fs learnt.same stand) w.redirects.items found.redirects;
+      texts = refl;
+      flags = refl;
+      count = found.len ∙ g.names_count ∙ c.requires.count;
+      len = others.len ∙ leaves.len;
+      own = named_alike_there es ns fs ts (length es) old left new leaves others;
+      kept = λ t removed stand. kept_there t removed old left new ts es ns fs stand c.requires.no_enablers leaves others;
+      bins = λ t removed stand. bins_there t removed old left new ts es ns fs stand r.rows are leaves others passed;
+      left = λ i v u gone at at'. left_there es ns fs ts (length es) old left new leaves others i v u gone at at';
+      stays = found.own;
+      redirects = λ t removed stand. redirects_there t removed old left new ts es ns fs stand r.rows are;
+    }
+
+pub invariant_of-result : goal.invariant_of-result
+invariant_of-result c =
+    let g = c.args.graph in
+    let fs = g.flags.items in
+    let r = c.in_ok-rows.field-0 in
+    let found : FindsRedirects g.edges g.names fs r.moved.items r.rows = subst (λ f. FindsRedirects g.edges g.names f r.moved.items r.rows) c.as_slice-is_removed.ensures.value c.in_ok-rows.ensures in
+    let len = found.len in
+    let names = g.names_count in
+    let vertices = g.features_count in
+    record {
+      once = g.once;
+      features_count = omega (arith, len, names, vertices);
+      flags_count = g.flags_count;
+      moved_count = found.count ∙ g.flags_count;
+      redirects_inside = λ x z i. subst (λ n. z < n) g.flags_count (found.inside x z i);
     }

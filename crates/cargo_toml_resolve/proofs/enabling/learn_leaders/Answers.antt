@@ -28,7 +28,7 @@ returns c =
     subst (λ n. HaveLearnt n vs c.loop-own.features.items) all c.loop-own.invariant
 
 pub learn_by_rows-requires-clause-len : goal.learn_by_rows-requires-clause-len
-learn_by_rows-requires-clause-len c = ap length c.as_slice-then-name_many-2.ensures.value ∙ c.in_ok-edges.ensures.len ∙ ap length c.as_slice-then-name_many.ensures.value
+learn_by_rows-requires-clause-len c = c.in_ok-edges.ensures.len ∙ ap length c.as_slice-then-name_many.ensures.value
 
 pub learn_by_rows-requires-clause-rows : goal.learn_by_rows-requires-clause-rows
-learn_by_rows-requires-clause-rows c = rw c.as_slice-then-name_many-2.ensures.value (rw c.as_slice-then-name_many.ensures.value at c.in_ok-edges.ensures.rows)
+learn_by_rows-requires-clause-rows c = rw c.as_slice-then-name_many.ensures.value at c.in_ok-edges.ensures.rows

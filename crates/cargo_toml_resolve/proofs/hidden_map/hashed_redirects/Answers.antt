@@ -1,35 +1,52 @@
-use Rattle.std.proofs.Common.{◌≡◌, ◌<◌, [], Bor, length, ap, rules, sym, subst, ◌∙◌}
+use Rattle.std.proofs.Common.{◌≡◌, ◌<◌, [], Bor, length, true, ap, rules, sym, ◌∙◌, arith}
 use Rattle.std.proofs.lemmas.List.{get_or-map}
 use Rattle.cargo_toml_graph.specs.Action.{Text}
-use Rattle.cargo_toml_graph.specs.Reach.{Among}
 use Rattle.cargo_toml_features.specs.Places.{nth_text}
-use Rattle.cargo_toml_walk.specs.Numbers.{row_items}
-use Rattle.cargo_toml_walk.proofs.Steps.{list_read}
+use Rattle.cargo_toml_walk.specs.Numbers.{IsWanted}
 use Rattle.cargo_toml_resolve.specs.Texts.{texts_now}
-use Rattle.cargo_toml_resolve.proofs.HashedRedirects.{redirect_skipped, redirect_put}
+use Rattle.cargo_toml_resolve.proofs.HashedRedirects.{HandsBelow, as_handed, none_handed, not_yet, one_handed, redirect_put, redirect_skipped, skips_handed}
 use Rattle.cargo_toml_resolve.proofs.hidden_map.hashed_redirects.Goals as goal
-use Rattle.cargo_toml_resolve.proofs.hidden_map.hashed_redirects.Goals.{then-index+in_ok-put_redirect, else-index}
+use Rattle.cargo_toml_resolve.proofs.hidden_map.hashed_redirects.Goals.{then-index+in_ok-redirect+in_ok-put, else-index}
 
-pub put_redirect-requires : goal.put_redirect-requires
-put_redirect-requires g c = λ x i.
+pub loop-r-init : goal.loop-r-init
+loop-r-init g c = record {
+  redirects = record { there = λ i lt. absurd (omega (arith, lt)); only = search rules };
+  handed = none_handed (HandsBelow c.args.walked.now.flags.items 0) c.args.features.now.items;
+}
+
+pub redirect_of-requires-clause-own : goal.redirect_of-requires-clause-own
+redirect_of-requires-clause-own g c =
     let w = c.args.walked.now in
-    let r = c.loop-r.r in
-    let lt : r < length w.redirects.items = search rules in
-    let read : row_items w.redirects.items r ≡ c.as_slice-redirect.result.now = list_read w.redirects.items r c.index-then-index.result.now lt c.index-then-index.ensures ∙ sym c.as_slice-redirect.ensures.value in
-    rw c.as_slice.ensures.value (w.redirects_inside r x (subst (λ xs. Among xs x) (sym read) i))
+    rw c.at.ensures (λ v off at. c.requires.own c.loop-r.r v (search rules) off (sym (not_yet w.flags.items c.loop-r.r c.args.features.now.items c.loop-r.features.items c.loop-r.invariant.handed) ∙ at))
+
+pub redirect_of-requires-clause-count : goal.redirect_of-requires-clause-count
+redirect_of-requires-clause-count g c = c.requires.count ∙ sym c.loop-r.invariant.handed.len
 
 pub loop-r-preserved : goal.loop-r-preserved
 loop-r-preserved g c =
     let w = c.args.walked.now in
     let texts = w.texts.items in
     let r = c.loop-r.r in
-    let lt : r < length w.redirects.items = search rules in
-    let inside : r < length texts = search rules in
+    let vs = c.args.features.now.items in
+    let old = c.loop-r.invariant in
+    let inside : r < length texts = let lt = c.loop-r-test.true in let e = c.len-r-end.ensures in let m = w.features_count in omega (arith, lt, e, m) in
     elim c.if-index.branch [
-      | then-index+in_ok-put_redirect b ↦
-          let redirect : b.as_slice-redirect.result.now ≡ row_items w.redirects.items r = b.as_slice-redirect.ensures.value ∙ sym (list_read w.redirects.items r b.index-then-index.result.now lt b.index-then-index.ensures) in
-          let name : b.index-then-index-2.result.now.now ≡ nth_text (texts_now texts) r = ap (λ (t : Bor Text). t.now) b.index-then-index-2.ensures ∙ sym (get_or-map (λ (t : Bor Text). t.now) texts r b.index-then-index-2.result.now [] inside) in
-          rw b.hidden-is (redirect_put w.redirects.items w.flags.items texts r c.loop-r.hidden b.put_redirect.new.hidden b.index-then-index-2.result.now b.as_slice-redirect.result.now inside name redirect (search rules) w.once
-          (rw b.as_slice.ensures.value at b.in_ok-put_redirect.ensures.here) b.in_ok-put_redirect.ensures.others c.loop-r.invariant)
-      | else-index b ↦ rw b.hidden-is (redirect_skipped w.redirects.items w.flags.items texts r c.loop-r.hidden (search rules) c.loop-r.invariant)
+      | then-index+in_ok-redirect+in_ok-put b ↦
+          let on : IsWanted w.flags.items true r = search rules in
+          let name : b.index-then-index.result.now.now ≡ nth_text (texts_now texts) r = ap (λ (t : Bor Text). t.now) b.index-then-index.ensures ∙ sym (get_or-map (λ (t : Bor Text). t.now) texts r b.index-then-index.result.now [] inside) in
+          rw (b.hidden-is, b.features-is) (record {
+            redirects = redirect_put w.redirects w.flags.items texts r c.loop-r.hidden b.put.new.map b.index-then-index.result.now b.in_ok-redirect.redirect inside name on w.once
+                (rw b.at.ensures at b.in_ok-redirect.ensures.texts) b.in_ok-put.ensures old.redirects;
+            handed = one_handed w.flags.items r vs c.loop-r.features.items old.handed on b.redirect_of.new.features.items (rw b.at.ensures at b.in_ok-redirect.ensures.handed);
+          })
+      | else-index b ↦
+          rw (b.hidden-is, b.features-is) (record {
+            redirects = redirect_skipped w.redirects w.flags.items texts r c.loop-r.hidden (search rules) old.redirects;
+            handed = skips_handed w.flags.items r vs c.loop-r.features.items old.handed;
+          })
     ]
+
+pub returns-clause-handed : goal.returns-clause-handed
+returns-clause-handed g c =
+    let w = c.args.walked.now in
+    as_handed (HandsBelow w.flags.items c.loop-r.r) (IsWanted w.flags.items true) c.args.features.now.items c.loop-r.features.items (λ i a. a.0) c.loop-r.invariant.handed

@@ -1,7 +1,7 @@
 use Rattle.std.proofs.Common.{false, true, sym, ap, subst, ◌<◌, length, arith, ◌∙◌}
 use Rattle.std.proofs.lemmas.Bool.{false≢true}
 use mathlib.Core.Bool.{beq}
-use Rattle.cargo_toml_resolve.proofs.FromPlaces.{NumberedBy, all_hashed, one_name}
+use Rattle.cargo_toml_resolve.proofs.FromPlaces.{NumberedBy, all_hashed, one_name, own_sets}
 use Rattle.cargo_toml_resolve.proofs.KeptAll.{if_ok_weaker}
 use Rattle.cargo_toml_resolve.proofs.Learning.{in_order_still, kept_still}
 use Rattle.cargo_toml_resolve.proofs.kept.kept_of.Goals as goal
@@ -9,18 +9,29 @@ use Rattle.cargo_toml_resolve.proofs.kept.kept_of.Goals as goal
 pub hash-requires-clause-names : goal.hash-requires-clause-names
 hash-requires-clause-names g c =
     let f = c.in_ok-graph.graph in
-    let n : NumberedBy c.args.features.items c.args.flags.now f.texts.items f.edges.items f.names.items f.flags.items =
-    subst (λ vs. NumberedBy vs c.args.flags.now f.texts.items f.edges.items f.names.items f.flags.items) c.as_slice.ensures.value
+    let n : NumberedBy c.args.features.items c.args.flags.now f.texts.items f.edges f.names f.flags.items =
+    subst (λ vs. NumberedBy vs c.args.flags.now f.texts.items f.edges f.names f.flags.items) c.as_slice.ensures.value
     (record { numbered = c.in_ok-graph.ensures.numbered; count = c.in_ok-graph.ensures.count; vertices = c.in_ok-graph.ensures.vertices }) in
-    one_name c.args.features.items c.place.new.features.items c.args.flags.now f.texts.items f.edges.items f.names.items f.flags.items n
+    one_name c.args.features.items c.place.new.features.items c.args.flags.now f.texts.items f.edges f.names f.flags.items n
     c.in_ok-walked.ensures.len c.in_ok-walked.ensures.own
+
+pub hash-requires-clause-own : goal.hash-requires-clause-own
+hash-requires-clause-own g c =
+    let f = c.in_ok-graph.graph in
+    let n : NumberedBy c.args.features.items c.args.flags.now f.texts.items f.edges f.names f.flags.items =
+    subst (λ vs. NumberedBy vs c.args.flags.now f.texts.items f.edges f.names f.flags.items) c.as_slice.ensures.value
+    (record { numbered = c.in_ok-graph.ensures.numbered; count = c.in_ok-graph.ensures.count; vertices = c.in_ok-graph.ensures.vertices }) in
+    own_sets c.args.features.items c.place.new.features.items c.args.flags.now f c.in_ok-walked.walked c.requires.in_order n c.in_ok-walked.ensures
+
+pub hash-requires-clause-count : goal.hash-requires-clause-count
+hash-requires-clause-count g c = c.in_ok-walked.ensures.count ∙ sym c.in_ok-walked.ensures.len
 
 pub returns-in_ok-walked-clause-outcome : goal.returns-in_ok-walked-clause-outcome
 returns-in_ok-walked-clause-outcome g c =
     let f = c.in_ok-graph.graph in
     let vs = c.args.features.items in
-    let n : NumberedBy vs c.args.flags.now f.texts.items f.edges.items f.names.items f.flags.items =
-    subst (λ xs. NumberedBy xs c.args.flags.now f.texts.items f.edges.items f.names.items f.flags.items) c.as_slice.ensures.value
+    let n : NumberedBy vs c.args.flags.now f.texts.items f.edges f.names f.flags.items =
+    subst (λ xs. NumberedBy xs c.args.flags.now f.texts.items f.edges f.names f.flags.items) c.as_slice.ensures.value
     (record { numbered = c.in_ok-graph.ensures.numbered; count = c.in_ok-graph.ensures.count; vertices = c.in_ok-graph.ensures.vertices }) in
     if_ok_weaker c.hash.result _ _ (λ l hashed t removed same removed_is.
     all_hashed t removed vs c.place.new.features.items c.args.flags.now f c.in_ok-walked.walked l.features l.hidden c.requires.in_order n c.in_ok-walked.ensures hashed same removed_is) c.hash.ensures.hashed

@@ -1,7 +1,7 @@
 use Rattle.std.proofs.Common.{rules, ◌≡◌, ◌<◌, [], ◌∷◌, true, false, length, length-append, ap, sym, subst, ◌∙◌, arith}
 use Rattle.cargo_toml_graph.specs.Reach.{Among}
-use Rattle.cargo_toml_walk.specs.Numbers.{IsWanted}
-use Rattle.cargo_toml_walk.proofs.Steps.{list_read, none_flagged}
+use Rattle.cargo_toml_walk.specs.Numbers.{IsWanted, row_items}
+use Rattle.cargo_toml_walk.proofs.Steps.{none_flagged}
 use Rattle.cargo_toml_resolve.specs.NumberedTables.{IsNaming}
 use Rattle.cargo_toml_resolve.proofs.NumberRows.{flag_put, naming_is}
 use Rattle.cargo_toml_resolve.proofs.numbering.naming_flags.Goals as goal
@@ -9,9 +9,7 @@ use Rattle.cargo_toml_resolve.proofs.numbering.naming_flags.Goals.{then-flags-i,
 
 pub has_flagged-requires : goal.has_flagged-requires
 has_flagged-requires c = λ x i.
-    let inside : c.loop-i.i < length c.args.edges.now = search rules in
-    let read = c.as_slice.ensures.value ∙ sym (list_read c.args.edges.now c.loop-i.i c.index-edges-i.result inside c.index-edges-i.is) in
-    c.requires.inside c.loop-i.i x (subst (λ xs. Among xs x) read i)
+    c.requires.inside c.loop-i.i x (subst (λ xs. Among xs x) (c.row.ensures ∙ ap (row_items c.args.edges.now) c.at.ensures) i)
 
 pub loop-i-preserved : goal.loop-i-preserved
 loop-i-preserved c =
@@ -24,8 +22,8 @@ loop-i-preserved c =
       | then-flags-i w ↦ (λ asked. w.push-is ∙ w.if-flags-i.true)
       | else-flags-i w ↦ (λ asked.
           let off : IsWanted fs false i = search rules in
-          let read = list_read es i w.index-edges-i.result inside w.index-edges-i.is ∙ sym w.as_slice.ensures.value in
-          w.push-is ∙ naming_is es fs i w.as_slice.result.now w.has_flagged.result read off (none_flagged _ fs _ w.has_flagged.ensures) asked)
+          let read = sym (w.row.ensures ∙ ap (row_items es) w.at.ensures) in
+          w.push-is ∙ naming_is es fs i w.row.result.now w.has_flagged.result read off (none_flagged _ fs _ w.has_flagged.ensures) asked)
     ] in
     let all = ap length c.in_ok-push.ensures.items in
     let more = length-append old (c.if-flags-i.push ∷ []) in

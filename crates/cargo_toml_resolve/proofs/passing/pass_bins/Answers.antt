@@ -1,7 +1,6 @@
-use Rattle.std.proofs.Common.{rules, ◌≡◌, ◌<◌, true, false, take, length, refl, sym, subst, ◌∙◌, arith}
+use Rattle.std.proofs.Common.{rules, ◌≡◌, ◌<◌, true, false, take, length, ap, refl, sym, subst, ◌∙◌, arith}
 use Rattle.cargo_toml_graph.specs.Reach.{Among}
-use Rattle.cargo_toml_walk.specs.Numbers.{IsWanted, Leads}
-use Rattle.cargo_toml_walk.proofs.Steps.{list_read}
+use Rattle.cargo_toml_walk.specs.Numbers.{IsWanted, Leads, row_items}
 use Rattle.cargo_toml_resolve.specs.KnownBins.{AreKnown}
 use Rattle.cargo_toml_resolve.specs.Passing.{bins_of, passed_below}
 use Rattle.cargo_toml_resolve.specs.Puts.{Puts}
@@ -37,11 +36,10 @@ loop-r-preserved c =
     let inside : r < length old = search rules in
     elim c.if-flags-r.branch [
       | then-flags-r+in_ok-pass_from w ↦
-          let there : r < length redirects = search rules in
           let gone : IsWanted flags true r = search rules in
           let new = w.pass_from.new.features.items in
-          let read = w.as_slice-then-flags-r.ensures.value ∙ sym (list_read redirects r w.index-redirects-r.result there w.index-redirects-r.is) in
-          let puts : Puts (Leads redirects r) (take 10 (bins_of mid r)) mid new = subst (λ row. Puts (Among row) (take 10 (bins_of mid r)) mid new) read (rw w.at.ensures at w.in_ok-pass_from.ensures.put) in
+          let read = w.row.ensures ∙ ap (row_items redirects) w.at-at.ensures in
+          let puts : Puts (Leads redirects r) (take 10 (bins_of mid r)) mid new = subst (λ row. Puts (Among row) (take 10 (bins_of mid r)) mid new) read (rw w.at-at.ensures at w.in_ok-pass_from.ensures.put) in
           let same = c.loop-r.invariant.same.len in
           rw (w.features-is) (rw (w.known-is) (record {
             known = w.in_ok-pass_from.ensures.known;

@@ -1,13 +1,14 @@
 use Rattle.std.proofs.Common.{◌≡◌, length}
 use Rattle.cargo_toml_walk.proofs.Closing.{HasLabels, HasPaths}
-use Rattle.cargo_toml_walk.proofs.Rows.{IsFinished, RowsState}
+use Rattle.cargo_toml_walk.proofs.Cuts.{IsFinished}
+use Rattle.cargo_toml_walk.proofs.InOrder.{RowsState}
 use Rattle.cargo_toml_walk.proofs.dense.dense_redirects.Given as goal
 
 abbrev pub invariant-loop-r : goal.invariant-loop-r
 invariant-loop-r l = record {
   paths : HasPaths l.is_removed l.edges (length l.edges) l.width l.r l.edge_table.items;
-  gathered : HasLabels l.is_removed l.edges (length l.edges) l.width l.initial.labels.items l.r l.label_table.items;
+  gathered : HasLabels l.is_removed l.edges (length l.edges) l.width l.initial.labels l.r l.label_table.items;
   flags : length l.finished.items ≡ l.total;
   is_finished : IsFinished l.is_removed l.r l.finished.items;
-  rows : RowsState l.edges l.is_removed l.initial.labels.items l.total l.r l.labels.items;
+  rows : RowsState l.edges l.is_removed l.initial.labels l.total l.r l.labels;
 }

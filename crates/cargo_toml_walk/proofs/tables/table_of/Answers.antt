@@ -1,22 +1,19 @@
-use Rattle.std.proofs.Common.{rules, ◌+◌, ◌<◌, ◌≤◌, ◌↔◌, ℕ, length, sym, subst, ◌∙◌, arith}
+use Rattle.std.proofs.Common.{rules, ◌≤◌, ◌+◌, ◌↔◌, ℕ, length, sym, subst, ◌∙◌, ap, arith}
 use Rattle.cargo_toml_graph.specs.Reach.{Among}
 use Rattle.cargo_toml_walk.specs.Bits.{HasBit}
-use Rattle.cargo_toml_walk.specs.Numbers.{Leads}
-use Rattle.cargo_toml_walk.proofs.Filling.{has_row}
-use Rattle.cargo_toml_walk.proofs.Steps.{list_read}
+use Rattle.cargo_toml_walk.specs.Numbers.{Leads, row_items}
+use Rattle.cargo_toml_walk.proofs.Steps.{has_row}
 use Rattle.cargo_toml_walk.proofs.Tabled.{IsTabled, tabled_all, tabled_more}
 use Rattle.cargo_toml_walk.proofs.tables.table_of.Goals as goal
 
 pub bits_of-requires : goal.bits_of-requires
 bits_of-requires c = λ x i.
-    let inside : c.loop-a.a < length c.args.rows.now = search rules in
-    let read = c.as_slice.ensures.value ∙ sym (list_read c.args.rows.now c.loop-a.a c.index-rows-a.result inside c.index-rows-a.is) in
+    let read = c.row.ensures ∙ ap (row_items c.args.rows.now) c.at.ensures in
     c.requires _ x (subst (λ t. Among t x) read i)
 
 pub loop-a-preserved : goal.loop-a-preserved
 loop-a-preserved c =
-    let inside : c.loop-a.a < length c.args.rows.now = search rules in
-    let read = c.as_slice.ensures.value ∙ sym (list_read c.args.rows.now c.loop-a.a c.index-rows-a.result inside c.index-rows-a.is) in
+    let read = c.row.ensures ∙ ap (row_items c.args.rows.now) c.at.ensures in
     subst (IsTabled (Leads c.args.rows.now) c.args.width (c.loop-a.a + 1)) (sym c.in_ok-push.ensures.items)
     (tabled_more (Leads c.args.rows.now) c.args.width c.loop-a.a c.loop-a.table.items c.loop-a.invariant c.in_ok-bits_of.field-0 c.in_ok-bits_of.ensures.len
     (subst (λ t. (x : ℕ) → HasBit c.in_ok-bits_of.field-0.items x ↔ Among t x) read c.in_ok-bits_of.ensures.bits))

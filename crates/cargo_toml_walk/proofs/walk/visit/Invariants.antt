@@ -4,4 +4,4 @@ use Rattle.cargo_toml_walk.specs.Numbers.{IsWanted, FindsNamed}
 use Rattle.cargo_toml_walk.proofs.walk.visit.Given as goal
 
 abbrev pub invariant-loop-x : goal.invariant-loop-x
-invariant-loop-x l = FindsNamed l.sought.epoch (λ y. Among (take l.x-index l.targets) y × IsWanted l.sought.flags.now l.sought.wanted y) l.initial.found.items l.found.items l.initial.met.items l.met.items
+invariant-loop-x l = FindsNamed (λ y. Among (take l.x-index l.targets) y × IsWanted l.flags l.wanted y) l.initial.found.items l.found.items l.initial.met l.met

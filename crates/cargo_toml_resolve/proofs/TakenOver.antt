@@ -1,0 +1,276 @@
+-- What kept features take over, and what enables them, one feature after another.
+use Rattle.std.proofs.Common.{◌≡◌, ◌≢◌, ◌⊎◌, ◌↔◌, ◌<◌, ◌≤◌, ◌+◌, ℕ, Bool, true, false, List, [], length, get_or, Some, Bor, IsTrue, IfSome, refl, sym, ap, subst, inl, inr, ◌∙◌, arith}
+use Rattle.std.proofs.lemmas.Bool.{cases_Bool, cases_eq, cases_lt, false≢true}
+use Rattle.std.proofs.lemmas.List.{get_or-map}
+use Rattle.std.proofs.lemmas.Option.{same_Some, slice_get_past}
+use Rattle.std.specs.BTreeSet.{BTreeSet}
+use Rattle.std.specs.List.{slice_get}
+use Rattle.std.specs.Option.{option_and_then}
+use Rattle.cargo_toml_graph.specs.Action.{Text}
+use Rattle.cargo_toml_graph.specs.Reach.{Among, Reaches}
+use Rattle.cargo_toml_graph.specs.Reach.Reaches.{edge, through}
+use Rattle.cargo_toml_graph.proofs.Joins.{join_alike}
+use Rattle.cargo_toml_features.specs.Places.{nth_text}
+use Rattle.cargo_toml_features.specs.declared.features.Feature.{Feature}
+use Rattle.cargo_toml_features.specs.InOrder.{AreInOrder, HaveNoEnablers}
+use Rattle.cargo_toml_features.specs.Views.{action_at, set_has}
+use Rattle.cargo_toml_features.proofs.TextKeys.{none_in}
+use Rattle.cargo_toml_walk.specs.Bits.{HasBit}
+use Rattle.cargo_toml_walk.specs.Numbers.{HasLabel, IsPassed, IsWanted, KeepsLabel, Leads}
+use Rattle.cargo_toml_walk.proofs.Cuts.{none_among}
+use Rattle.cargo_toml_walk.proofs.Labelled.{gathered, some_among}
+use Rattle.cargo_toml_walk.proofs.Linking.{last_edge, with_last}
+use Rattle.cargo_toml_resolve.specs.Enabling.{EnablesThrough, GainEnabler, LearnThrough}
+use Rattle.cargo_toml_resolve.specs.Holding.{AllTakeOver, HasActions, HasTextsOf, Holds, HoldsTheSame, KeepsOwn, SaysTheSame, TakesOver, action_by}
+use Rattle.cargo_toml_resolve.specs.NumberedTables.{HasNumber}
+use Rattle.cargo_toml_resolve.specs.TakingOver.{ChangesIn, ComesToHold}
+use Rattle.cargo_toml_resolve.specs.Texts.{texts_now}
+use Rattle.cargo_toml_resolve.proofs.AlikePlaces.{there_too}
+use Rattle.cargo_toml_resolve.proofs.InPlace.{stands_found, stands_in}
+use Rattle.cargo_toml_resolve.proofs.Learning.{nobody_learns, then_learn}
+use Rattle.cargo_toml_resolve.proofs.TakingOver.{own_actions}
+
+-- the text in a place, as it is read there
+pub source_is : (texts : List (Bor Text)) (i p : ℕ) (source : Bor Text) → i < length texts → p ≡ i → source ≡ get_or texts p source → source.now ≡ nth_text (texts_now texts) i
+source_is texts i p source lt at read =
+    ap (λ (t : Bor Text). t.now) (subst (λ n. source ≡ get_or texts n source) at read) ∙ sym (get_or-map (λ (t : Bor Text). t.now) texts i source [] lt)
+
+says_itself : (v : Feature) → SaysTheSame v v
+says_itself v = record { key = refl; marks = refl; bins = refl }
+
+then_says : {v w u : Feature} → SaysTheSame v w → SaysTheSame w u → SaysTheSame v u
+then_says s t = record { key = t.key ∙ s.key; marks = t.marks ∙ s.marks; bins = t.bins ∙ s.bins }
+
+then_holds : {v w u : Feature} → HoldsTheSame v w → HoldsTheSame w u → HoldsTheSame v u
+then_holds s t = record { names = t.names ∙ s.names; actions = t.actions ∙ s.actions }
+
+-- what stands in a place of a list does what it did in another
+acts_same : (vs ws : List Feature) → length ws ≡ length vs → (b : ℕ) (k : Text) → ((v w : Feature) → slice_get vs b ≡ Some v → slice_get ws b ≡ Some w → w.enables_deps ≡ v.enables_deps) → action_by ws b k ≡ action_by vs b k
+acts_same vs ws len b k same = elim (cases_lt b (length vs)) [
+  | inl lt ↦
+      let v = stands_in vs b lt in
+      let w = there_too vs ws len b v.0 v.1 in
+      ap (option_and_then (λ (u : Feature). action_at u.enables_deps k)) w.1 ∙ ap (λ m. action_at m k) (same v.0 w.0 v.1 w.1)
+      ∙ sym (ap (option_and_then (λ (u : Feature). action_at u.enables_deps k)) v.1)
+  | inr le ↦
+      ap (option_and_then (λ (u : Feature). action_at u.enables_deps k)) (slice_get_past ws b (subst (λ n. n ≤ b) (sym len) le))
+      ∙ sym (ap (option_and_then (λ (u : Feature). action_at u.enables_deps k)) (slice_get_past vs b le))
+]
+
+-- by the same places, of features that do the same there
+actions_alike : (vs ws : List Feature) (P Q : ℕ → Type 0) → ((b : ℕ) → P b ↔ Q b) → ((b : ℕ) (k : Text) → P b → action_by vs b k ≡ action_by ws b k) → (v : Feature) → HasActions vs P v.enables_deps → HasActions ws Q v.enables_deps
+actions_alike vs ws P Q places same v h k = join_alike (λ a. (
+  λ d. (d.0, (places d.0).0 d.1, sym (same d.0 k d.1) ∙ d.2),
+  λ d. let p = (places d.0).1 d.1 in (d.0, p, same d.0 k p ∙ d.2),
+)) (action_at v.enables_deps k) (h k)
+
+module _ (edges labels : List (List ℕ)) (flags : List Bool) (texts : List Text) where
+  -- one kept feature, which passes these
+  module _ (a : ℕ) (kept : IsWanted flags false a) (passed : List ℕ) (is : (b : ℕ) → Among passed b ↔ IsPassed edges flags a b) where
+    -- those to which it and the passed ones lead
+    pub at_last : (targets : List ℕ) → ((x : ℕ) → Among targets x ↔ HasLabel (Among passed) edges flags a x) → (f : ℕ) → Among targets f ↔ (IsWanted flags false f × EnablesThrough edges flags f a)
+    at_last targets t f =
+        let g = gathered edges flags edges (Among passed) a is f in (
+          λ i. let h = g.0 ((t f).0 i) in (h.1, (kept, with_last (Leads edges) (IsWanted flags true) h.0.1 h.0.2)),
+          λ p. (t f).1 (g.1 (last_edge (Leads edges) (IsWanted flags true) p.1.1, p.0)),
+        )
+
+    none : length passed ≡ 0 → (b : ℕ) → ¬ IsPassed edges flags a b
+    none empty b p = none_among passed empty b ((is b).1 p)
+
+    -- where it passes none
+    pub directly : length passed ≡ 0 → (f : ℕ) → Leads edges a f ↔ (IsWanted flags false f × EnablesThrough edges flags f a)
+    directly empty f = (
+      λ l. (elim (cases_Bool (get_or flags f false)) [ inl on ↦ absurd (none empty f (on, edge l)) | inr off ↦ off ], (kept, edge l)),
+      λ p. only f p.1.1,
+    )
+      where
+        only : (f : ℕ) → Reaches (Leads edges) (IsWanted flags true) a f → Leads edges a f
+        only f (edge e) = e
+        only f (through {b = c} e s p) = absurd (none empty c (s, edge e))
+
+    -- the kept ones that it enables have learnt of it
+    module _ (Targets : ℕ → Type 0) (t : (f : ℕ) → Targets f ↔ (IsWanted flags false f × EnablesThrough edges flags f a)) (vs ws : List Feature) (v : GainEnabler Targets (nth_text texts a) vs ws) where
+      still : (b : ℕ) (k : Text) → action_by ws b k ≡ action_by vs b k
+      still b k = acts_same vs ws v.same.len b k (λ u w at at'. (v.same.each b u w at at').does.actions)
+
+      -- it passes none
+      pub stays_as_it_is : length passed ≡ 0 → TakesOver edges labels flags texts a vs ws
+      stays_as_it_is empty = record {
+        len = v.same.len;
+        own = λ j u w at at'. let s = v.same.each j u w at at' in record { key = s.does.key; marks = s.does.marks; bins = s.bins };
+        here = λ u w at at'. record {
+          names = inr ((λ any. none empty any.0 any.1), (v.same.each a u w at at').does.names);
+          actions = actions_alike ws vs (λ b. (b ≡ a) ⊎ Among [] b) (λ b. (b ≡ a) ⊎ IsPassed edges flags a b) (λ b. (
+            λ p. elim p [ inl e ↦ inl e | inr n ↦ absurd n ],
+            λ p. elim p [ inl e ↦ inl e | inr n ↦ absurd (none empty b n) ],
+          )) (λ b k p. still b k) w (own_actions ws a [] w at' refl);
+        };
+        others = λ j u w ne at at'. let s = v.same.each j u w at at' in record { names = s.does.names; actions = s.does.actions };
+        learn = λ y u w at at' e. let l = v.learn y u w at at' e in (
+          λ i. elim (l.0 i) [ inl o ↦ inl o | inr o ↦ inr (o.0, (t y).0 o.1) ],
+          λ i. l.1 (elim i [ inl o ↦ inl o | inr o ↦ inr (o.0, (t y).1 o.1) ]),
+        );
+      }
+
+      -- it passes some, and comes to hold what was found for it
+      module _ (some : 0 < length passed) (named : List ℕ) (n : (x : ℕ) → Among named x ↔ HasLabel (Among passed) labels flags a x) (set : BTreeSet (Bor Text)) (has : HasTextsOf texts named set)
+          (us : List Feature) (c : ChangesIn (ComesToHold ws a passed set) a ws us) where
+        keeps : (j : ℕ) (w u : Feature) → slice_get ws j ≡ Some w → slice_get us j ≡ Some u → KeepsOwn w u
+        keeps j w u at at' = elim (cases_eq j a) [
+          | inl e ↦ (c.here w u (subst (λ i. slice_get ws i ≡ Some w) e at) (subst (λ i. slice_get us i ≡ Some u) e at')).own
+          | inr ne ↦ subst (KeepsOwn w) (same_Some w u (sym at ∙ sym (c.others j ne) ∙ at')) (record { says = says_itself w; enabled_by = refl })
+        ]
+
+        first : (j : ℕ) (u w : Feature) → slice_get vs j ≡ Some u → slice_get ws j ≡ Some w → SaysTheSame u w
+        first j u w at at' = let s = v.same.each j u w at at' in record { key = s.does.key; marks = s.does.marks; bins = s.bins }
+
+        pub takes_over : TakesOver edges labels flags texts a vs us
+        takes_over = record {
+          len = c.len ∙ v.same.len;
+          own = λ j x u at at'. let w = there_too vs ws v.same.len j x at in then_says (first j x w.0 at w.1) (keeps j w.0 u w.1 at').says;
+          here = λ x u at at'.
+              let w = there_too vs ws v.same.len a x at in
+              let h = c.here w.0 u w.1 at' in
+              record {
+                names = inl (
+                  (let any = some_among passed some in (any.0, (is any.0).0 any.1)),
+                  λ y. (
+                    λ i. let m = (has y).0 (subst (λ z. IsTrue (set_has z y)) h.names i) in (m.0, m.1, m.2, (gathered edges flags labels (Among passed) a is m.0).0 ((n m.0).0 m.3)),
+                    λ m. subst (λ z. IsTrue (set_has z y)) (sym h.names) ((has y).1 (m.0, m.1, m.2, (n m.0).1 ((gathered edges flags labels (Among passed) a is m.0).1 m.3))),
+                  ),
+                );
+                actions = actions_alike ws vs (λ b. (b ≡ a) ⊎ Among passed b) (λ b. (b ≡ a) ⊎ IsPassed edges flags a b) (λ b. (
+                  λ p. elim p [ inl e ↦ inl e | inr m ↦ inr ((is b).0 m) ],
+                  λ p. elim p [ inl e ↦ inl e | inr m ↦ inr ((is b).1 m) ],
+                )) (λ b k p. still b k) u h.actions;
+              };
+          others = λ j x u ne at at'.
+              let w = there_too vs ws v.same.len j x at in
+              let s = v.same.each j x w.0 at w.1 in
+              let e : w.0 ≡ u = same_Some w.0 u (sym w.1 ∙ sym (c.others j ne) ∙ at') in
+              subst (HoldsTheSame x) e (record { names = s.does.names; actions = s.does.actions });
+          learn = λ y x u at at' e.
+              let w = there_too vs ws v.same.len y x at in
+              let l = v.learn y x w.0 at w.1 e in
+              let k = (keeps y w.0 u w.1 at').enabled_by in (
+                λ i. elim (l.0 (subst (λ z. IsTrue (set_has z e)) k i)) [ inl o ↦ inl o | inr o ↦ inr (o.0, (t y).0 o.1) ],
+                λ i. subst (λ z. IsTrue (set_has z e)) (sym k) (l.1 (elim i [ inl o ↦ inl o | inr o ↦ inr (o.0, (t y).1 o.1) ])),
+              );
+        }
+
+  -- the same by a row of a table, whose bits are what a kept feature reaches through removed ones
+  module _ (a : ℕ) (kept : IsWanted flags false a) (bits : List ℕ) (are : (b : ℕ) → HasBit bits b ↔ Reaches (Leads edges) (IsWanted flags true) a b) (inside : (b : ℕ) → Reaches (Leads edges) (IsWanted flags true) a b → b < length flags) where
+    pub by_paths : (targets : List ℕ) → ((x : ℕ) → Among targets x ↔ ((x < length flags) × (HasBit bits x × IsWanted flags false x))) → (f : ℕ) → Among targets f ↔ (IsWanted flags false f × EnablesThrough edges flags f a)
+    by_paths targets t f = (
+      λ i. let n = (t f).0 i in (n.1.1, (kept, (are f).0 n.1.0)),
+      λ p. (t f).1 (inside f p.1.1, ((are f).1 p.1.1, p.0)),
+    )
+
+    pub passed_by_paths : (passed : List ℕ) → ((x : ℕ) → Among passed x ↔ ((x < length flags) × (HasBit bits x × IsWanted flags true x))) → (b : ℕ) → Among passed b ↔ IsPassed edges flags a b
+    passed_by_paths passed t b = (
+      λ i. let n = (t b).0 i in (n.1.1, (are b).0 n.1.0),
+      λ p. (t b).1 (inside b p.1, ((are b).1 p.1, p.0)),
+    )
+
+  -- of those below n, which enable the feature in place y
+  abbrev By : ℕ → ℕ → Text → Type 0
+  By n y e = IsWanted flags false y × HasNumber texts n (EnablesThrough edges flags y) e
+
+  sooner : (n y : ℕ) (e : Text) → By n y e → By (n + 1) y e
+  sooner n y e b = (b.0, (b.1.0, (let lt = b.1.1 in omega (arith, lt)), b.1.2, b.1.3))
+
+  earlier : (n y : ℕ) (e : Text) (b : By (n + 1) y e) → b.1.0 ≢ n → By n y e
+  earlier n y e b ne = (b.0, (b.1.0, (let lt = b.1.1 in omega (arith, lt, ne)), b.1.2, b.1.3))
+
+  same_says : (vs : List Feature) (i : ℕ) (v w : Feature) → slice_get vs i ≡ Some v → slice_get vs i ≡ Some w → SaysTheSame v w
+  same_says vs i v w at at' = subst (SaysTheSame v) (same_Some v w (sym at ∙ at')) (says_itself v)
+
+  pub none_take_over : (vs : List Feature) → AllTakeOver edges labels flags texts 0 vs vs
+  none_take_over vs = record {
+    len = refl;
+    own = same_says vs;
+    holds = λ i v w lt. absurd (omega (arith, lt));
+    rest = λ i v w r at at'. subst (HoldsTheSame v) (same_Some v w (sym at ∙ at')) (record { names = refl; actions = refl });
+    learn = nobody_learns (By 0) vs (λ y e b. let lt = b.1.1 in omega (arith, lt));
+  }
+
+  module _ (n : ℕ) (vs ws : List Feature) (v : AllTakeOver edges labels flags texts n vs ws) where
+    later : (i : ℕ) → (n + 1 ≤ i) ⊎ IsWanted flags true i → (n ≤ i) ⊎ IsWanted flags true i
+    later i r = elim r [ inl le ↦ inl (omega (arith, le)) | inr gone ↦ inr gone ]
+
+    -- the next one is removed
+    pub skipped : IsWanted flags true n → AllTakeOver edges labels flags texts (n + 1) vs ws
+    skipped gone = record {
+      len = v.len;
+      own = v.own;
+      holds = λ i x w lt kept. elim (cases_eq i n) [
+        | inl e ↦ absurd (false≢true (sym kept ∙ subst (IsWanted flags true) (sym e) gone))
+        | inr ne ↦ v.holds i x w (omega (arith, lt, ne)) kept
+      ];
+      rest = λ i x w r. v.rest i x w (later i r);
+      learn = λ y x w at at' e. let l = v.learn y x w at at' e in (
+        λ i. elim (l.0 i) [ inl o ↦ inl o | inr b ↦ inr (sooner n y e b) ],
+        λ i. l.1 (elim i [ inl o ↦ inl o | inr b ↦ inr (earlier n y e b (λ at. false≢true (sym b.1.3.0 ∙ ap (λ z. get_or flags z false) at ∙ gone))) ]),
+      );
+    }
+
+    -- the next one is kept
+    module _ (kept : IsWanted flags false n) (us : List Feature) (w : TakesOver edges labels flags texts n ws us) where
+      untouched : (b : ℕ) (k : Text) → (b ≡ n) ⊎ IsPassed edges flags n b → action_by ws b k ≡ action_by vs b k
+      untouched b k p = acts_same vs ws v.len b k (λ x y at at'. (v.rest b x y (elim p [ inl e ↦ inl (omega (arith, e)) | inr g ↦ inr g.0 ]) at at').actions)
+
+      pub one_more_takes_over : AllTakeOver edges labels flags texts (n + 1) vs us
+      one_more_takes_over = record {
+        len = w.len ∙ v.len;
+        own = λ i x u at at'. let m = there_too vs ws v.len i x at in then_says (v.own i x m.0 at m.1) (w.own i m.0 u m.1 at');
+        holds = λ i x u lt k at at'.
+            let m = there_too vs ws v.len i x at in
+            elim (cases_eq i n) [
+              | inl e ↦ subst (λ j. Holds edges labels flags texts vs j x u) (sym e) (
+                  let now : slice_get vs n ≡ Some x = subst (λ j. slice_get vs j ≡ Some x) e at in
+                  let mid : slice_get ws n ≡ Some m.0 = subst (λ j. slice_get ws j ≡ Some m.0) e m.1 in
+                  let h = w.here m.0 u mid (subst (λ j. slice_get us j ≡ Some u) e at') in
+                  record {
+                    names = elim (h.names) [ inl o ↦ inl o | inr o ↦ inr (o.0, o.1 ∙ (v.rest n x m.0 (inl (omega arith)) now mid).names) ];
+                    actions = actions_alike ws vs (λ b. (b ≡ n) ⊎ IsPassed edges flags n b) (λ b. (b ≡ n) ⊎ IsPassed edges flags n b) (λ b. (λ p. p, λ p. p)) untouched u h.actions;
+                  }
+                  )
+              | inr ne ↦
+                  let h = v.holds i x m.0 (omega (arith, lt, ne)) k at m.1 in
+                  let s = w.others i m.0 u ne m.1 at' in
+                  record {
+                    names = elim (h.names) [
+                      | inl o ↦ inl (o.0, subst (λ z. (y : Text) → IsTrue (set_has z y) ↔ HasNumber texts (length texts) (KeepsLabel edges flags labels i) y) (sym s.names) o.1)
+                      | inr o ↦ inr (o.0, s.names ∙ o.1)
+                    ];
+                    actions = subst (HasActions vs (λ b. (b ≡ i) ⊎ IsPassed edges flags i b)) (sym s.actions) h.actions;
+                  }
+            ];
+        rest = λ i x u r at at'.
+            let m = there_too vs ws v.len i x at in
+            let ne : i ≢ n = elim r [ inl le ↦ λ s. absurd (omega (arith, le, s)) | inr gone ↦ λ s. false≢true (sym kept ∙ subst (IsWanted flags true) s gone) ] in
+            then_holds (v.rest i x m.0 (later i r) at m.1) (w.others i m.0 u ne m.1 at');
+        learn = then_learn (By n) (λ y e. (e ≡ nth_text texts n) × (IsWanted flags false y × EnablesThrough edges flags y n)) (By (n + 1)) vs ws us v.len (λ y e below. (
+          λ b. elim (cases_eq b.1.0 n) [
+            | inl at ↦ inr (sym b.1.2 ∙ ap (nth_text texts) at, (b.0, subst (EnablesThrough edges flags y) at b.1.3))
+            | inr ne ↦ inl (earlier n y e b ne)
+          ],
+          λ s. elim s [
+            | inl b ↦ sooner n y e b
+            | inr r ↦ (r.1.0, (n, omega arith, sym r.0, r.1.1))
+          ],
+        )) v.learn w.learn;
+      }
+
+  -- where nobody knew an enabler, these are all that a kept one knows
+  pub learnt_through : (n : ℕ) (vs ws : List Feature) → AreInOrder vs → HaveNoEnablers vs → LearnThrough edges flags texts n vs ws → (i : ℕ) (v w : Feature) → slice_get vs i ≡ Some v → slice_get ws i ≡ Some w
+      → IsWanted flags false i → (e : Text) → IsTrue (set_has w.enabled_by e) ↔ HasNumber texts n (EnablesThrough edges flags i) e
+  learnt_through n vs ws up none h i v w old new kept e =
+      let l = h i v w old new e in (
+        λ t. elim (l.0 t) [
+          | inl o ↦ absurd (false≢true (sym (none_in v.enabled_by (subst (λ p. IfSome p (λ x. x.enabled_by.keys ≡ [])) (stands_found vs up i v old) (none v.key.now)) e) ∙ o))
+          | inr b ↦ b.1
+        ],
+        λ b. l.1 (inr (kept, b)),
+      )

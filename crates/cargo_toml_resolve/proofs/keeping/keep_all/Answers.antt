@@ -1,0 +1,45 @@
+use Rattle.std.proofs.Common.{rules, subst, arith, ◌≡◌, ◌<◌, true, false, ◌∙◌, length}
+use Rattle.cargo_toml_walk.specs.Numbers.{IsWanted}
+use Rattle.cargo_toml_walk.proofs.Steps.{read_at}
+use Rattle.cargo_toml_resolve.specs.Holding.{AllTakeOver}
+use Rattle.cargo_toml_resolve.specs.Texts.{texts_now}
+use Rattle.cargo_toml_resolve.proofs.TakenOver.{none_take_over, one_more_takes_over, skipped}
+use Rattle.cargo_toml_resolve.proofs.keeping.keep_all.Goals as goal
+use Rattle.cargo_toml_resolve.proofs.keeping.keep_all.Goals.{then-not-index+in_ok-keep, else-not-index}
+
+pub loop-own-init : goal.loop-own-init
+loop-own-init c =
+    let g = c.args.graph.now in
+    record { taken = none_take_over g.edges g.names g.flags.items (texts_now g.texts.items) c.args.features.now.items; room = search rules }
+
+pub loop-own-preserved : goal.loop-own-preserved
+loop-own-preserved c =
+    let g = c.args.graph.now in
+    let ts = texts_now g.texts.items in
+    let fs = g.flags.items in
+    let own = c.loop-own.own in
+    let vs = c.args.features.now.items in
+    let old = c.loop-own.invariant in
+    elim c.if-not-index.branch [
+      | then-not-index+in_ok-keep w ↦
+          let kept : IsWanted fs false own = search rules in
+          rw (w.features-is, w.walk-is) (record {
+            taken = one_more_takes_over g.edges g.names fs ts own vs c.loop-own.features.items old.taken kept w.keep.new.features.items (rw w.at.ensures at w.in_ok-keep.ensures.kept);
+            room = w.in_ok-keep.ensures.room ∙ old.room;
+          })
+      | else-not-index w ↦
+          let on : c.index.result.now ≡ true = grind arith in
+          let below : own < length fs =
+          let l = c.loop-own-test.true in let e = c.len-own-end.ensures in let m = g.features_count in let n = g.flags_count in omega (arith, l, e, m, n) in
+          let gone : IsWanted fs true own = read_at fs own false c.index.result.now below c.index.ensures ∙ on in
+          rw (w.features-is, w.walk-is) (record {
+            taken = skipped g.edges g.names fs ts own vs c.loop-own.features.items old.taken gone;
+            room = old.room;
+          })
+    ]
+
+pub returns-clause-kept : goal.returns-clause-kept
+returns-clause-kept c =
+    let g = c.args.graph.now in
+    let all : c.loop-own.own ≡ length g.edges = search rules in
+    subst (λ n. AllTakeOver g.edges g.names g.flags.items (texts_now g.texts.items) n c.args.features.now.items c.loop-own.features.items) all c.loop-own.invariant.taken

@@ -20,10 +20,10 @@ use Rattle.cargo_toml.specs.Ascending.{Ascend}
 use Rattle.cargo_toml.specs.Feature.{Feature}
 use Rattle.cargo_toml.specs.Reach.{Among}
 use Rattle.cargo_toml.specs.Views.{listed_in, set_has, table_in, value_at}
-use Rattle.cargo_toml_tools.specs.Documented.{is_shown, is_told_of}
-use Rattle.cargo_toml_tools.specs.PageSteps.{TellsOf, TellOfAll, key_texts}
-use Rattle.cargo_toml_tools.specs.declared.document.Row.{Row}
+use Rattle.cargo_toml_tools.specs.Documented.{AreRows, IsRowOf, is_shown, is_told_of}
+use Rattle.cargo_toml_tools.specs.declared.document.listing.Row.{Row}
 use Rattle.cargo_toml_tools.proofs.KeysInOrder.{among_in, among_out}
+use Rattle.cargo_toml_tools.proofs.Ordered.{key_texts}
 use Rattle.cargo_toml_tools.proofs.Walking.{listed_at}
 
 -- ---- the texts of a set
@@ -72,7 +72,7 @@ module _ {S : Type 0} (listed : Listed) (m : HashMap (Bor Text) Feature S) where
   names_of_rows rows = map (λ r. r.name.now) rows
 
   abbrev pub Tells : Row → Type 0
-  Tells r = IfSome (value_at m r.name.now) (TellsOf listed m r)
+  Tells r = IfSome (value_at m r.name.now) (IsRowOf listed m r)
 
   pub record Rowed (all left : List (Bor Text)) (rows : List Row) : Type 0 where
     pub names : names_of_rows rows ++ filter told (map (λ k. k.now) left) ≡ filter told (map (λ k. k.now) all)
@@ -119,7 +119,7 @@ module _ {S : Type 0} (listed : Listed) (m : HashMap (Bor Text) Feature S) where
       go (Some v) e = refl
 
   pub rowed_all : (names : BTreeSet (Bor Text)) (left : List (Bor Text)) (rows : List Row) → left ≡ [] → Ascend (key_texts names)
-      → ((x : Text) → set_has names x ≡ (table_in m).has x) → Rowed names.keys left rows → TellOfAll listed m rows
+      → ((x : Text) → set_has names x ≡ (table_in m).has x) → Rowed names.keys left rows → AreRows listed m rows
   rowed_all names left rows none up are h =
       let same : names_of_rows rows ≡ filter told (key_texts names) =
       sym (append-nil (names_of_rows rows)) ∙ ap (λ ks. names_of_rows rows ++ filter told (map (λ (q : Bor Text). q.now) ks)) (sym none) ∙ h.names in

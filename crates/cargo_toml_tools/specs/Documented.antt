@@ -1,21 +1,20 @@
 -- Which features are documented, and what each turns on.
-use Rattle.std.specs.Prelude.{◌≡◌, ◌≢◌, ◌↔◌, ◌&&◌, ◌||◌, Bool, false, IfSome, IsFalse, IsTrue, List}
-use Rattle.std.specs.Prelude.{Some, bytes_eq, codes, is_some, map, nat_eq, not, option_map}
+use Rattle.std.specs.Prelude.{◌≡◌, ◌≢◌, ◌↔◌, ◌&&◌, ◌||◌, Bool, false, IfSome, IsTrue, List, Some}
+use Rattle.std.specs.Prelude.{bytes_eq, codes, is_some, map, nat_eq, not}
 use Rattle.std.specs.Borrow.{Bor}
 use Rattle.std.specs.HashMap.{HashMap}
 use Rattle.std.specs.List.{AllByRecursion, list_any, starts_with}
 use Rattle.std.specs.Map.{lookup}
 use Rattle.std.specs.Option.{option_copied, option_map_or}
-use Rattle.cargo_toml.specs.Action.{Action, Item, Text}
+use Rattle.cargo_toml.specs.Action.{Action, IsJoin, Item, Text}
 use Rattle.cargo_toml.specs.Action.Item.{Name, On}
 use Rattle.cargo_toml.specs.Admitted.{Listed, items}
 use Rattle.cargo_toml.specs.Ascending.{Ascend}
 use Rattle.cargo_toml.specs.Feature.{Feature}
-use Rattle.cargo_toml.specs.Manifests.{ManifestMeaning}
 use Rattle.cargo_toml.specs.Reach.{Among}
-use Rattle.cargo_toml.specs.Reached.{IsKeyed}
-use Rattle.cargo_toml.specs.Views.{table_in, value_at}
-use Rattle.cargo_toml_tools.specs.Pages.{PageAction, PageRow, page_text}
+use Rattle.cargo_toml.specs.Views.{action_at, set_has, table_in, value_at}
+use Rattle.cargo_toml_tools.specs.declared.document.listing.Row.{Row}
+use Rattle.cargo_toml_tools.specs.declared.document.reached.Reached.{Reached}
 
 -- hidden by its name, or private by its table
 abbrev pub is_internal : Feature → Bool
@@ -60,20 +59,18 @@ module _ {S : Type 0} (listed : Listed) (m : HashMap (Bor Text) Feature S) where
   TurnsOnOther f x =
       (x ≢ f) × IsOn f x × IsTrue (option_map_or (λ v. not (is_internal v)) (value_at m x) false)
 
-  -- what all that f turns on does to a dependency: conditional where each of them is
-  pub record IsJoined (f : Text) (e : PageAction) : Type 0 where
-    pub plain : IsFalse e.is_conditional
-        ↔ ((a : Action) × Acts f e.key a × IsFalse a.is_conditional)
-    pub asked : AreTexts (λ x. (a : Action) × Acts f e.key a × IsTrue (a.features x)) e.asked
+  -- what is reached from f: the others, and what all of them do to each dependency, joined
+  pub record IsReachedFrom (f : Text) (r : Reached) : Type 0 where
+    pub features : (x : Text) → IsTrue (set_has r.features x) ↔ TurnsOnOther f x
+    pub actions : (k : Text) → IsJoin (Acts f k) (action_at r.actions k)
 
   -- the row tells of the feature v
-  pub record IsRowOf (r : PageRow) (v : Feature) : Type 0 where
+  pub record IsRowOf (r : Row) (v : Feature) : Type 0 where
+    pub name : r.name.now ≡ v.key.now
     pub is_listed : r.is_listed ≡ v.explicit
-    pub doc : r.doc ≡ option_copied v.doc
-    pub is_default : IsTrue r.is_default ↔ IsOn (codes "default") r.name
-    pub features : AreTexts (TurnsOnOther r.name) r.features
-    pub keys : AreTexts (λ k. (a : Action) × Acts r.name k a) (map (λ e. e.key) r.actions)
-    pub actions : AllByRecursion (IsJoined r.name) r.actions
+    pub doc : option_copied r.doc ≡ option_copied v.doc
+    pub is_default : IsTrue r.is_default ↔ IsOn (codes "default") v.key.now
+    pub reached : IsReachedFrom v.key.now r.turns_on
 
   -- whether f is told of
   abbrev pub is_told_of : Text → Bool
@@ -82,13 +79,6 @@ module _ {S : Type 0} (listed : Listed) (m : HashMap (Bor Text) Feature S) where
       (value_at m f) false
 
   -- the rows are those of all features that are told of, in byte order of their names
-  pub record AreRows (rows : List PageRow) : Type 0 where
-    pub names : AreTexts (λ f. IsTrue (is_told_of f)) (map (λ r. r.name) rows)
-    pub each : AllByRecursion (λ r. IfSome (value_at m r.name) (IsRowOf r)) rows
-
--- the page is that of the rows. Each feature has to stand under its own name, as `parse` leaves it
-pub record Documents {M S : Type 0} (m : ManifestMeaning M)
-    (features : HashMap (Bor Text) Feature S) (page : Text) : Type 0 where
-  pub rows : List PageRow
-  pub are : IsKeyed features → AreRows m.features features rows
-  pub whole : page ≡ page_text (option_map (λ p. p.name) m.«package») rows
+  pub record AreRows (rows : List Row) : Type 0 where
+    pub names : AreTexts (λ f. IsTrue (is_told_of f)) (map (λ r. r.name.now) rows)
+    pub each : AllByRecursion (λ r. IfSome (value_at m r.name.now) (IsRowOf r)) rows

@@ -16,13 +16,10 @@ pub mod Escapes
 pub mod Escaped
 pub mod Reported
 pub mod ReportedJson
-pub mod LintLines
 pub mod Patterns
 pub mod Places
 pub mod MemberFolders
 pub mod Documented
-pub mod Pages
-pub mod FeatureGraphs
 -- the code's own steps, in contracts of inner functions alone: nothing here has to be believed
 pub mod Checked
 pub mod FurtherFolders

@@ -1,10 +1,8 @@
 -- Faults of files and folders, what was read of a file, and two facts of one answer.
-use Rattle.std.proofs.Common.{◌≡◌, ◌⊎◌, ◌<◌, ◌∙◌, ◌↔◌, ℕ, suc, zero, Bool, true, false, Result, Ok, Err, IfOk, Some, List, Bor, ap, arith, inl, inr, refl, subst, sym}
+use Rattle.std.proofs.Common.{◌≡◌, ◌⊎◌, ◌<◌, ◌∙◌, ◌↔◌, ℕ, suc, zero, Bool, true, false, Result, Some, List, Bor, ap, arith, inl, inr, refl, subst, sym}
 use Rattle.std.proofs.lemmas.Bool.{true≢false}
 use Rattle.std.specs.Prelude.{IsTrue, IsUtf8, not}
-use Rattle.std.specs.Bool.{then_some}
 use Rattle.std.specs.List.{list_any}
-use Rattle.std.specs.Option.{option_copied}
 use Rattle.std.specs.IoError.{error_kind}
 use Rattle.toml.specs.View.{view}
 use Rattle.toml.specs.declared.value.Value.{Value}
@@ -47,19 +45,9 @@ pub unshown : (root : Manifest Value) (workspace : Workspace Value) (shows : Boo
 unshown root workspace shows count has e (inl memory) = inr (workspace, (has, inl (inl memory)))
 unshown root workspace shows count has e (inr shown) = inr (workspace, (has, inr (shown.0.0, shown.1)))
 
--- what is said of an answer twice is said at once
-pub both_hold : {T E : Type 0} {P Q R : T → Type 0} (r : Result T E) → ((x : T) → P x → Q x → R x) → IfOk r P → IfOk r Q → IfOk r R
-both_hold (Ok x) so p q = so x p q
-both_hold (Err e) so p q = tt
-
 -- the same text, and the same manifest
 pub completed_as : (path s t : Text) (m n : Manifest Value) → s ≡ t → m ≡ n → IsCompletedIn path s m → IsCompletedIn path t n
 completed_as path s t m n text is h = subst (λ (x : Text). IsCompletedIn path x n) text (subst (λ (x : Manifest Value). IsCompletedIn path s x) is h)
-
--- a name where one is wanted
-pub copied_then : (b : Bool) (x : Bor (List ℕ)) → option_copied (then_some b x) ≡ then_some b x.now
-copied_then true x = refl
-copied_then false x = refl
 
 -- what isn't empty has some
 pub not_empty : (b : Bool) (n : ℕ) → IsTrue b ↔ (n ≡ 0) → IsTrue (not b) ↔ (0 < n)

@@ -4,6 +4,5 @@ pub mod LintedFiles
 pub mod IndexedFiles
 pub mod AuditedMembers
 pub mod AuditedFolders
-pub mod DocumentedFiles
 -- what private functions say: no public contract rests on it
 pub mod AuditSteps

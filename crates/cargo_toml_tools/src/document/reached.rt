@@ -5,11 +5,11 @@ ghost use Rattle.std.specs.Option.{option_map_or};
 ghost use Rattle.cargo_toml.specs.Action.{Text, item_of, join, join_option};
 ghost use Rattle.cargo_toml.specs.Reached.{IsKeyed};
 ghost use Rattle.cargo_toml.specs.Views.{action_at, action_of, listed_in, set_has, table_in};
-ghost use Rattle.cargo_toml_tools.specs.Documented.{IsOn, turns_to};
-ghost use Rattle.cargo_toml_tools.specs.PageSteps.{AddsFound, TellsOfReached, is_told_beside};
+ghost use Rattle.cargo_toml_tools.specs.Documented.{IsOn, IsReachedFrom, turns_to};
+ghost use Rattle.cargo_toml_tools.specs.PageSteps.{AddsFound, is_told_beside};
 ghost use Rattle.cargo_toml_tools.specs.PageSteps.{left_over, says_some};
 
-use super::{FeatureMap, is_private};
+use super::listing::{FeatureMap, is_private};
 use cargo_toml::FeatureSet;
 use cargo_toml::features::{DepAction, Feature};
 use cargo_toml_features::action::{neutral_action, read_action};
@@ -34,7 +34,7 @@ pub fn reach<'m, S: BuildHasher>(
     features: &FeatureMap<'m, S>,
 ) -> Result<Reached<'m>, AllocError>
     ensures { IfOk result (λ r. IsKeyed features.now
-        → TellsOfReached (listed_in lists.now) features.now name.now r) }
+        → IsReachedFrom (listed_in lists.now) features.now name.now r) }
 {
     let mut others = BTreeSet::new(alloc);
     let mut actions = BTreeMap::new(alloc);

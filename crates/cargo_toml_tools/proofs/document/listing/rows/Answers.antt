@@ -4,11 +4,11 @@ use Rattle.std.specs.Map.Iter.{deref}
 use Rattle.std.specs.Option.{IfSome, option_copied}
 use Rattle.cargo_toml.specs.Views.{listed_in, value_at}
 use Rattle.cargo_toml_features.proofs.Pending.{key_of}
-use Rattle.cargo_toml_tools.specs.PageSteps.{TellsOf}
+use Rattle.cargo_toml_tools.specs.Documented.{IsRowOf}
 use Rattle.cargo_toml_tools.proofs.Ordered.{set_ascends}
 use Rattle.cargo_toml_tools.proofs.Rowed.{Rowed, lists_default, rowed_all, rowed_begun, rowed_none}
 use Rattle.cargo_toml_tools.proofs.Rowed.{rowed_one, told_at, untold_at}
-use Rattle.cargo_toml_tools.proofs.document.rows.Goals as goal
+use Rattle.cargo_toml_tools.proofs.document.listing.rows.Goals as goal
 
 pub loop-name-init : goal.loop-name-init
 loop-name-init g c = λ keyed.
@@ -27,7 +27,7 @@ loop-name-preserved-in_ok-push g c = λ keyed.
     c.in_ok-push.ensures.items (tells.name ∙ key)
     (told_at listed m _ _ _ at (lists_default c.args.lists.now _ c.contains_key-has_default.ensures)
     ∙ sym c.is_shown.ensures ∙ c.if-is_shown.true)
-    (subst (λ o. IfSome o (TellsOf listed m row)) (sym (ap (value_at m) (tells.name ∙ key) ∙ at)) tells)
+    (subst (λ o. IfSome o (IsRowOf listed m row)) (sym (ap (value_at m) (tells.name ∙ key) ∙ at)) tells)
     (c.loop-name.invariant keyed)
 
 pub loop-name-preserved-else-is_shown : goal.loop-name-preserved-else-is_shown

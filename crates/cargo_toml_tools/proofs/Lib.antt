@@ -24,8 +24,6 @@ pub mod Followed
 pub mod KeysInOrder
 pub mod Ordered
 pub mod Joined
-pub mod Turned
-pub mod Walking
 pub mod Reaching
 pub mod Rowed
 pub mod Exactly

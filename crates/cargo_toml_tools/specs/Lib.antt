@@ -23,5 +23,4 @@ pub mod Documented
 -- the code's own steps, in contracts of inner functions alone: nothing here has to be believed
 pub mod Checked
 pub mod FurtherFolders
-pub mod PageSteps
 pub mod Rows

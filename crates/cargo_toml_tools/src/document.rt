@@ -26,7 +26,7 @@ pub fn page<M, S: BuildHasher>(
     manifest: &Manifest<M>,
     resolved: &Features<'_, '_, S>,
 ) -> Result<String, AllocError> {
-    let rows = rows(alloc, &manifest.features, &resolved.features)?;
+    let rows = rows(alloc, manifest, &resolved.features)?;
     let mut page = String::new(alloc);
     push_title(&mut page, manifest)?;
     push_table(alloc, &mut page, rows.as_slice(), true)?;

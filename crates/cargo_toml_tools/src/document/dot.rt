@@ -1,9 +1,10 @@
 //! The graph of features, in Graphviz's language.
 
-use super::listing::{FeatureMap, is_private, names};
+use super::listing::is_private;
 use crate::escape::{Format, push_escaped};
 use cargo_toml::Manifest;
 use cargo_toml::features::{DepAction, Feature, Features};
+use cargo_toml_lint::Links;
 use std::alloc::{AllocError, Global};
 use std::collections::BTreeSet;
 use std::hash::BuildHasher;
@@ -18,15 +19,15 @@ pub fn graph<M, S: BuildHasher>(
     manifest: &Manifest<M>,
     resolved: &Features<'_, '_, S>,
 ) -> Result<String, AllocError> {
-    let names = names(alloc, &resolved.features)?;
+    let links = Links::new(alloc, manifest, &resolved.features)?;
     let mut graph = String::new(alloc);
     graph.push_str("digraph {\n    rankdir=LR;\n")?;
     push_label(&mut graph, manifest)?;
     let mut keys = BTreeSet::new(alloc);
-    for name in &names {
-        if let Some(feature) = resolved.features.get(*name) {
+    for place in 0..links.names.len() {
+        if let Some(feature) = resolved.features.get(links.names[place]) {
             push_node(&mut graph, "feature", feature.key, style_of(feature))?;
-            push_feature_edges(&mut graph, feature, &resolved.features)?;
+            push_feature_edges(&mut graph, feature, &links, place)?;
             push_dependency_edges(&mut graph, feature)?;
             keys.extend(feature.enables_deps.keys().copied())?;
         }
@@ -83,17 +84,22 @@ fn push_edge(graph: &mut String, from: &str, kind: &str, to: &str) -> Result<(),
     push_id(graph, kind, to)
 }
 
-/// The edges from a feature to the features that it names.
-fn push_feature_edges<S: BuildHasher>(
+/// The edges from a feature to those that it turns on in one step.
+fn push_feature_edges(
     graph: &mut String,
     feature: &Feature<'_>,
-    features: &FeatureMap<'_, S>,
+    links: &Links<'_>,
+    place: usize,
 ) -> Result<(), AllocError> {
-    for name in &feature.enables_features {
-        if features.contains_key(*name) {
-            push_edge(graph, feature.key, "feature", *name)?;
-            graph.push_str(";\n")?;
+    let mut targets = BTreeSet::new(*graph.allocator());
+    for other in links.next(place) {
+        if let Some(name) = links.names.get(*other) {
+            targets.insert(*name)?;
         }
+    }
+    for name in &targets {
+        push_edge(graph, feature.key, "feature", *name)?;
+        graph.push_str(";\n")?;
     }
     Ok(())
 }

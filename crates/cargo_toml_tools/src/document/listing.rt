@@ -1,14 +1,19 @@
 //! The features that a page tells of, and what is told of each.
 ghost use Rattle.std.specs.Prelude.{◌≡◌, ◌↔◌, IfOk, IsTrue, codes};
 ghost use Rattle.cargo_toml.specs.Action.{Text};
+ghost use Rattle.cargo_toml.specs.Graph.{Table};
+ghost use Rattle.cargo_toml.specs.Manifests.{held};
 ghost use Rattle.cargo_toml.specs.Reached.{IsKeyed};
-ghost use Rattle.cargo_toml.specs.Views.{listed_in, set_has, table_in};
-ghost use Rattle.cargo_toml_tools.specs.Documented.{AreRows, IsOn, IsRowOf, is_internal, is_shown};
+ghost use Rattle.cargo_toml.specs.Views.{set_has, table_in};
+ghost use Rattle.cargo_toml_lint.specs.Linked.{AreFound, AreLinks};
+ghost use Rattle.cargo_toml_tools.specs.Documented.{AreRowsOf, IsOn, IsRowOf};
+ghost use Rattle.cargo_toml_tools.specs.Documented.{is_internal, is_shown};
 
-use super::reached::{Reached, reach, turned_on};
-use cargo_toml::FeatureSet;
+use super::reached::{Reached, reach};
+use cargo_toml::Manifest;
 use cargo_toml::features::Feature;
 use cargo_toml_features::texts::keys_in_order;
+use cargo_toml_lint::Links;
 use std::alloc::{AllocError, Global};
 use std::collections::{BTreeSet, HashMap};
 use std::hash::BuildHasher;
@@ -32,22 +37,23 @@ pub struct Row<'m> {
 }
 
 /// The rows of all features that are told of, in byte order of their names.
-pub fn rows<'m, S: BuildHasher>(
+pub fn rows<'m, M, S: BuildHasher>(
     alloc: Global,
-    lists: &FeatureSet,
+    manifest: &Manifest<M>,
     features: &FeatureMap<'m, S>,
 ) -> Result<Vec<Row<'m>>, AllocError>
     ensures { IfOk result (λ rows. IsKeyed features.now
-        → AreRows (listed_in lists.now) features.now rows.items) }
+        → AreRowsOf (held manifest.now) features.now rows.items) }
 {
-    let has_default = lists.contains_key("default");
-    let defaults = turned_on(alloc, "default", lists, features)?;
+    let links = Links::new(alloc, manifest, features)?;
+    let has_default = manifest.features.contains_key("default");
+    let defaults = links.turned_on(alloc, "default")?;
     let mut rows = Vec::new(alloc);
     let names = names(alloc, features)?;
     for name in &names {
         if let Some(feature) = features.get(*name) {
             if is_shown(feature, has_default) {
-                rows.push(row_of(alloc, feature, lists, features, &defaults)?)?;
+                rows.push(row_of(alloc, &links, features, feature, &defaults)?)?;
             }
         }
     }
@@ -56,17 +62,18 @@ pub fn rows<'m, S: BuildHasher>(
 
 fn row_of<'m, S: BuildHasher>(
     alloc: Global,
-    feature: &Feature<'m>,
-    lists: &FeatureSet,
+    links: &Links<'m>,
     features: &FeatureMap<'m, S>,
+    feature: &Feature<'m>,
     defaults: &BTreeSet<&str>,
 ) -> Result<Row<'m>, AllocError>
-    ensures { IfOk result (λ row. IsKeyed features.now
+    requires { AreFound links.now }
+    ensures { IfOk result (λ row. IsKeyed features.now → (t : Table) → AreLinks t links.now
         → ((x : Text) → IsTrue (set_has defaults.now x)
-        ↔ IsOn (listed_in lists.now) features.now (codes "default") x)
-        → IsRowOf (listed_in lists.now) features.now row feature.now) }
+        ↔ IsOn t features.now (codes "default") x)
+        → IsRowOf t features.now row feature.now) }
 {
-    let turns_on = reach(alloc, feature.key, lists, features)?;
+    let turns_on = reach(alloc, links, features, feature.key)?;
     Ok(Row {
         name: feature.key,
         is_listed: feature.explicit,
@@ -77,7 +84,7 @@ fn row_of<'m, S: BuildHasher>(
 }
 
 /// The names of the features, in byte order.
-pub(crate) fn names<'m, S: BuildHasher>(
+fn names<'m, S: BuildHasher>(
     alloc: Global,
     features: &FeatureMap<'m, S>,
 ) -> Result<BTreeSet<&'m str>, AllocError>

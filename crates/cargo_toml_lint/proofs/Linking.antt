@@ -1,0 +1,158 @@
+-- Where places lead is where names turn.
+use Rattle.std.proofs.Common.{◌≡◌, ◌≢◌, ◌↔◌, ◌<◌, ℕ, suc, List, [], ◌∷◌, length, map, None, Bor, IsTrue, IsFalse, codes, refl, sym, ap, subst, inl, inr, ◌∙◌}
+use Rattle.cargo_toml.specs.Action.{Text}
+use Rattle.cargo_toml.specs.Graph.{Table, Edge, IsPlain}
+use Rattle.cargo_toml.specs.Recursive.{Enables}
+use Rattle.cargo_toml.specs.Recursive.Enables.{itself, further}
+use Rattle.cargo_toml_features.proofs.Places.{among_at, at_among, once}
+use Rattle.cargo_toml_features.proofs.Unremoved.{enables_has}
+use Rattle.cargo_toml_lint.specs.Findings.{IsCyclic, IsOnlyDefault, IsUnreachable, is_hidden}
+use Rattle.cargo_toml_lint.specs.Linked.{AreLinks, IsIn, IsLeftAlone, IsOfDefault, name_at, names_of}
+use Rattle.cargo_toml_lint.specs.Reached.{IsInRing, Leads, Path}
+use Rattle.cargo_toml_lint.specs.declared.linking.Links.{Links}
+use Rattle.cargo_toml_lint.proofs.Meeting.{along, path_edge}
+use Rattle.cargo_toml_lint.proofs.Rows.{has_row}
+
+-- ---- places of texts
+pub length_now : (names : List (Bor Text)) → length (map (λ t. t.now) names) ≡ length names
+length_now [] = refl
+length_now (t ∷ names) = ap suc (length_now names)
+
+module _ (t : Table) (l : Links) (are : AreLinks t l) where
+  abbrev n : ℕ
+  n = length l.names.items
+
+  in_names : {a : ℕ} → a < n → a < length (names_of l)
+  in_names {a} lt = subst (λ k. a < k) (sym (length_now l.names.items)) lt
+
+  in_edges : {a : ℕ} → a < n → a < length l.reach.next.items
+  in_edges {a} lt = subst (λ k. a < k) (sym are.found.count) lt
+
+  out_edges : {a : ℕ} → a < length l.reach.next.items → a < n
+  out_edges {a} lt = subst (λ k. a < k) are.found.count lt
+
+  -- a feature has a place
+  pub place : (f : Text) → IsTrue (t.has f) → (a : ℕ) × (a < n) × (name_at l a ≡ f)
+  place f h =
+      let p = at_among (names_of l) f [] ((are.known f).0 h) in
+      (p.0, subst (λ k. p.0 < k) (length_now l.names.items) p.1, p.2)
+
+  pub known_at : (a : ℕ) → a < n → IsTrue (t.has (name_at l a))
+  known_at a lt = (are.known (name_at l a)).1 (among_at (names_of l) a [] (in_names lt))
+
+  pub same_place : (a b : ℕ) → a < n → b < n → name_at l a ≡ name_at l b → a ≡ b
+  same_place a b lt lu e = once (names_of l) are.found.in_order a b (in_names lt) (in_names lu) e
+
+  next_inside : (a b : ℕ) → Leads l.reach.next.items a b → b < n
+  next_inside a b e = out_edges (are.found.finished.whole.inside a b e)
+
+  -- ---- paths
+  pub turns : (a b : ℕ) → a < n → Path l.reach.next.items a b → (b < n) × Enables t (name_at l a) (name_at l b)
+  turns a b lt p =
+      along (Leads l.reach.next.items) (λ v. (v < n) × Enables t (name_at l a) (name_at l v))
+      (λ x y s e.
+        let inside = next_inside x y e in
+        (inside, further s.1 ((are.leads x y s.0 inside).0 e) (known_at y inside)))
+      (lt, itself) p
+
+  -- what a feature turns on has a place, to which its own leads
+  pub leads_to : {f x : Text} (a : ℕ) → a < n → name_at l a ≡ f → Enables t f x → (b : ℕ) × (b < n) × (name_at l b ≡ x) × Path l.reach.next.items a b
+  leads_to a lt at itself = (a, lt, at, inl refl)
+  leads_to {f} {x} a lt at (further {g = g} e m h) =
+      let r = leads_to a lt at e in
+      let q = place x h in
+      let edge = (are.leads r.0 q.0 r.1 q.1).1 (subst (λ y. IsTrue (t.names y (name_at l q.0))) (sym r.2) (subst (λ y. IsTrue (t.names g y)) (sym q.2) m)) in
+      (q.0, q.1, q.2, path_edge (Leads l.reach.next.items) r.3 edge)
+
+  pub leads_at : (a b : ℕ) → a < n → b < n → Enables t (name_at l a) (name_at l b) → Path l.reach.next.items a b
+  leads_at a b lt lu e =
+      let r = leads_to a lt refl e in
+      subst (λ v. Path l.reach.next.items a v) (same_place r.0 b r.1 lu r.2) r.3
+
+  -- ---- what is found of them
+  pub cyclic_is : (f : Text) → IsIn l (IsInRing l.reach.next.items) f ↔ IsCyclic t f
+  cyclic_is f = (
+    λ i.
+        let a = i.0 in
+        let ring = i.3 in
+        let there = turns a ring.0 i.1 ring.2 in
+        let back = turns ring.0 a there.0 ring.3 in
+        record {
+          other = name_at l ring.0;
+          known = subst (λ y. IsTrue (t.has y)) i.2 (known_at a i.1);
+          apart = λ same. ring.1 (same_place ring.0 a there.0 i.1 (same ∙ sym i.2));
+          there = subst (λ y. Enables t y (name_at l ring.0)) i.2 there.1;
+          back = subst (λ y. Enables t (name_at l ring.0) y) i.2 back.1;
+        },
+    λ c.
+        let p = place f c.known in
+        let q = place c.other (enables_has c.known c.there) in
+        (p.0, p.1, p.2, (q.0,
+          (λ same. c.apart (sym q.2 ∙ ap (name_at l) same ∙ p.2)),
+          leads_at p.0 q.0 p.1 q.1 (subst (λ y. Enables t y (name_at l q.0)) (sym p.2) (subst (λ y. Enables t f y) (sym q.2) c.there)),
+          leads_at q.0 p.0 q.1 p.1 (subst (λ y. Enables t y (name_at l p.0)) (sym q.2) (subst (λ y. Enables t c.other y) (sym p.2) c.back)))),
+  )
+
+  pub unreachable_is : (f : Text) → IsIn l (IsLeftAlone l) f ↔ IsUnreachable t f
+  unreachable_is f = (
+    λ i. record {
+      known = subst (λ y. IsTrue (t.has y)) i.2 (known_at i.0 i.1);
+      hidden = subst (λ y. IsTrue (is_hidden y)) i.2 i.3.hidden;
+      left_alone = λ k h shown e.
+          let p = place k h in
+          i.3.alone p.0 p.1 (subst (λ y. IsFalse (is_hidden y)) (sym p.2) shown)
+          (leads_at p.0 i.0 p.1 i.1 (subst (λ y. Enables t y (name_at l i.0)) (sym p.2) (subst (λ y. Enables t k y) (sym i.2) e)));
+    },
+    λ u.
+        let p = place f u.known in
+        (p.0, p.1, p.2, record {
+          hidden = subst (λ y. IsTrue (is_hidden y)) (sym p.2) u.hidden;
+          alone = λ k lt shown path. u.left_alone (name_at l k) (known_at k lt) shown
+              (subst (λ y. Enables t (name_at l k) y) p.2 (turns k p.0 lt path).1);
+        }),
+  )
+
+  -- an edge of the table, where that tells of no dependency
+  module _ (none : (f k : Text) → t.action f k ≡ None) where
+    leads_inside : (a b : ℕ) → Leads l.reach.next.items a b → a < n
+    leads_inside a b e = out_edges (has_row l.reach.next.items a b e)
+
+    edge_at : (k a : ℕ) → k < n → a < n → a ≢ k → Leads l.reach.next.items k a → Edge t (name_at l k) (name_at l a)
+    edge_at k a lk la apart e = record {
+      source = known_at k lk;
+      target = known_at a la;
+      apart = λ same. apart (sym (same_place k a lk la same));
+      leads = inl ((are.leads k a lk la).0 e);
+    }
+
+    edge_leads : (k a : ℕ) → k < n → a < n → Edge t (name_at l k) (name_at l a) → Leads l.reach.next.items k a
+    edge_leads k a lk la e = elim (e.leads) [
+      | inl m ↦ (are.leads k a lk la).1 m
+      | inr p ↦ absurd (subst IsPlain (none (name_at l k) (name_at l a)) p)
+    ]
+
+    pub only_default_is : (Q : Text → Type 0) (f : Text) → IsIn l (λ a. Q (name_at l a) × IsOfDefault l a) f ↔ (Q f × IsOnlyDefault t f)
+    only_default_is Q f = (
+      λ i.
+          let a = i.0 in
+          let by = i.3.1.some in
+          let bylt = leads_inside by.0 a by.3 in (
+            subst Q i.2 i.3.0,
+            record {
+              default_does = subst (λ y. Edge t y f) by.1 (subst (λ y. Edge t (name_at l by.0) y) i.2 (edge_at by.0 a bylt i.1 by.2 by.3));
+              no_other = λ e d.
+                  let q = place e d.source in
+                  let d' : Edge t (name_at l q.0) (name_at l a) = subst (λ y. Edge t y (name_at l a)) (sym q.2) (subst (λ y. Edge t e y) (sym i.2) d) in
+                  sym q.2 ∙ i.3.1.no_other q.0 (λ same. d'.apart (ap (name_at l) (sym same))) (edge_leads q.0 a q.1 i.1 d');
+            },
+          ),
+      λ h.
+          let p = place f h.1.default_does.target in
+          let q = place (codes "default") h.1.default_does.source in
+          let d : Edge t (name_at l q.0) (name_at l p.0) = subst (λ y. Edge t y (name_at l p.0)) (sym q.2) (subst (λ y. Edge t (codes "default") y) (sym p.2) h.1.default_does) in
+          (p.0, p.1, p.2, (subst Q (sym p.2) h.0, record {
+            some = (q.0, q.2, (λ same. d.apart (ap (name_at l) (sym same))), edge_leads q.0 p.0 q.1 p.1 d);
+            no_other = λ k apart e. h.1.no_other (name_at l k)
+                (subst (λ y. Edge t (name_at l k) y) p.2 (edge_at k p.0 (leads_inside k p.0 e) p.1 apart e));
+          })),
+    )

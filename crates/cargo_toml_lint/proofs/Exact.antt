@@ -1,5 +1,5 @@
 -- What is found in an answer for a manifest is what holds of the manifest.
-use Rattle.std.proofs.Common.{◌≡◌, ◌⊎◌, ◌↔◌, ◌||◌, ℕ, Bool, true, List, IsTrue, sym, ap, subst, inl, inr, ◌∙◌}
+use Rattle.std.proofs.Common.{◌≡◌, ◌⊎◌, ◌↔◌, ◌||◌, ℕ, Bool, true, List, IsTrue, refl, sym, ap, subst, inl, inr, ◌∙◌}
 use Rattle.std.proofs.lemmas.Bool.{or_cases, or_left, or_right}
 use Rattle.cargo_toml.specs.Action.{Text}
 use Rattle.cargo_toml.specs.Admitted.{admitted}
@@ -21,7 +21,7 @@ use Rattle.cargo_toml_lint.specs.declared.finding.Code.TheVariants.{NotOptional,
 use Rattle.cargo_toml_lint.specs.declared.known.Known.{Known}
 use Rattle.cargo_toml_lint.specs.declared.linking.Links.{Links}
 use Rattle.cargo_toml_lint.proofs.Added.{same_as}
-use Rattle.cargo_toml_lint.proofs.Linking.{cyclic_is, only_default_is, unreachable_is}
+use Rattle.cargo_toml_lint.proofs.Leading.{cyclic_is, only_default_is, unreachable_is}
 use Rattle.cargo_toml_lint.proofs.Whole.{has_same, implied_is, nothing_removed, over_is, private_is, required_is}
 
 module _ {M S H : Type 0} (limit : ℕ) (m : ManifestMeaning M) (a : Features S H) (known : Known)

@@ -2,7 +2,7 @@
 use Rattle.std.proofs.Common.{◌≡◌, ◌⊎◌, ◌↔◌, ◌||◌, ◌&&◌, ◌<◌, ◌≤◌, ◌+◌, ◌==◌, not, ℕ, Bool, true, false, Option, Some, None, MatchOption, is_some, arith, List, [], ◌∷◌, ◌++◌, map, take, length, get_or, Bor, IsTrue, refl, sym, ap, subst, inl, inr, ◌∙◌}
 use Rattle.std.proofs.Math.Bool.{and-false, and-true, or-false, or_assoc}
 use Rattle.std.proofs.lemmas.List.{map_push, take_all, take_more}
-use Rattle.std.proofs.lemmas.Bool.{false≢true, ne_eqb, or_cases}
+use Rattle.std.proofs.lemmas.Bool.{false≢true, or_cases, or_left, or_right}
 use Rattle.std.proofs.lemmas.List.Folds.{list_any-append}
 use Rattle.std.proofs.lemmas.Map.Text.{is_eq-slice_cmp}
 use Rattle.std.proofs.lemmas.Slice.Eq.{bytes_eq-Decides}
@@ -12,7 +12,7 @@ use Rattle.std.specs.Cmp.Lexicographic.{slice_cmp}
 use Rattle.std.specs.List.{list_any}
 use Rattle.std.specs.Ordering.{nat_cmp}
 use Rattle.cargo_toml.specs.Action.{Text}
-use Rattle.cargo_toml.specs.Views.{set_has}
+use Rattle.cargo_toml.specs.Reach.{Among}
 
 -- some of the keys is f
 abbrev pub has_in : List (Bor Text) → Text → Bool
@@ -24,6 +24,17 @@ at_head k ks f e = elim (or_cases _ _ e) [
   | inl h ↦ inl ((bytes_eq-Decides f k.now).0 (sym (is_eq-slice_cmp f k.now) ∙ h))
   | inr i ↦ inr i
 ]
+
+-- the same as texts
+pub among_now : (ks : List (Bor Text)) (f : Text) → IsTrue (has_in ks f) ↔ Among (map (λ k. k.now) ks) f
+among_now [] f = (λ h. absurd (false≢true h), λ i. absurd i)
+among_now (k ∷ ks) f = let rest = among_now ks f in (
+  λ h. elim (at_head k ks f h) [ inl e ↦ inl e | inr i ↦ inr (rest.0 i) ],
+  elim [
+    | inl e ↦ or_left _ _ (is_eq-slice_cmp f k.now ∙ (bytes_eq-Decides f k.now).1 e)
+    | inr i ↦ or_right _ _ (rest.1 i)
+  ],
+)
 
 -- ---- one step of a loop
 -- a key is put into a set where the test holds

@@ -9,7 +9,7 @@ pub mod Words
 pub mod Meeting
 pub mod Placed
 pub mod Edges
-pub mod Linking
+pub mod Leading
 pub mod Whole
 pub mod Exact
 pub mod Resolving

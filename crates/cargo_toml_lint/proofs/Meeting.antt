@@ -1,11 +1,12 @@
 -- What is met, one vertex after another.
-use Rattle.std.proofs.Common.{◌≡◌, ◌≢◌, ◌⊎◌, ◌↔◌, ◌<◌, ◌≤◌, ◌+◌, ℕ, List, [], ◌∷◌, ◌++◌, length, take, drop, get_or, refl, sym, ap, subst, inl, inr, ◌∙◌, arith, append_assoc, append-nil, length-append}
+use Rattle.std.proofs.Common.{◌≡◌, ◌≢◌, ◌⊎◌, ◌↔◌, ◌<◌, ◌≤◌, ◌+◌, ℕ, zero, suc, Bool, Vec, Global, List, [], ◌∷◌, ◌++◌, length, take, drop, get_or, set, length-set, refl, sym, ap, subst, inl, inr, ◌∙◌, arith, append_assoc, append-nil, length-append}
+use Rattle.std.proofs.lemmas.Bool.{cases_eq, false≢true}
 use Rattle.cargo_toml.specs.Reach.{Among, Gathers, Reaches, IsOnce}
 use Rattle.cargo_toml.specs.Reach.Reaches.{edge, through}
 use Rattle.cargo_toml_lint.specs.Bits.{HasBit}
-use Rattle.cargo_toml_lint.specs.Reached.{IsWhole, Leads, Meets, Path, Stands, row_items}
+use Rattle.cargo_toml_lint.specs.Reached.{IsFinished, IsFlagged, IsInRing, IsSettled, IsWhole, Leads, Meets, Path, Stands, row_items}
 use Rattle.cargo_toml_lint.specs.declared.reach.Reach.{Reach}
-use Rattle.cargo_toml_lint.proofs.Rows.{among_either, among_first, among_last, few, left_first, left_more, left_none, once_both}
+use Rattle.cargo_toml_lint.proofs.Rows.{among_either, among_first, among_last, few, left_first, left_more, left_none, nothing, once_both, row_set, row_unset}
 
 abbrev All : ℕ → Type 0
 All v = Unit {0}
@@ -88,7 +89,7 @@ module _ (r : Reach) where
   pub meets_then : (A B C : ℕ → Type 0) (r0 r1 r2 m0 m1 m2 : List ℕ) → ((y : ℕ) → C y ↔ (A y ⊎ B y)) → Meets r A r0 r1 m0 m1 → Meets r B r1 r2 m1 m2 → Meets r C r0 r2 m0 m2
   meets_then A B C r0 r1 r2 m0 m1 m2 both v w = record {
     added = v.added ++ w.added;
-    pushed = w.pushed ∙ ap (λ m. m ++ w.added) v.pushed ∙ append_assoc;
+    pushed = w.pushed ∙ ap (λ m. m ++ w.added) v.pushed ∙ append_assoc m0 v.added w.added;
     once = once_both v.added w.added v.once w.once (λ y i j. (w.fresh y j).1 (v.fresh y i).0);
     fresh = λ y i. elim (among_either v.added w.added y i) [
       | inl j ↦ (w.grows y (v.fresh y j).0, (v.fresh y j).1)
@@ -193,3 +194,85 @@ module _ (r : Reach) where
 
     pub met_few : (row met : List ℕ) (at : ℕ) → Searches start row met at → length met ≤ length r.next.items
     met_few row met at s = few met (length r.next.items) s.once (met_inside row met at s)
+
+-- ---- what is found in the end
+module _ (r : Reach) (finished : IsFinished r) where
+  -- a vertex without a row leads to itself alone
+  pub path_alone : (a : ℕ) → a < length r.next.items → length (row_items r.rows.items a) ≡ 0 → (b : ℕ) → Path r.next.items a b ↔ (b ≡ a)
+  path_alone a lt none b = (
+    elim [ inl e ↦ e | inr p ↦ absurd (no_edge p.1) ],
+    λ e. inl e,
+  )
+    where
+      no_edges : (c : ℕ) → ¬ Leads r.next.items a c
+      no_edges c i = elim (finished.settled a lt) [
+        | inl stands ↦ absurd (omega (arith, none, stands))
+        | inr empty ↦ nothing (row_items r.next.items a) empty c i
+      ]
+
+      no_edge : {c : ℕ} → ¬ Reaches (Leads r.next.items) All a c
+      no_edge {c} (edge e) = no_edges c e
+      no_edge (through {b = c} e s p) = no_edges c e
+
+  pub path_row : (a : ℕ) → 0 < length (row_items r.rows.items a) → (b : ℕ) → HasBit (row_items r.rows.items a) b ↔ Path r.next.items a b
+  path_row a stands b = finished.whole.right a b stands
+
+-- the row of one more vertex stands
+module _ (r : Reach) (whole : IsWhole r) (x : ℕ) (inside : x < length r.next.items) (v : Vec ℕ Global) (rows : Vec (Vec ℕ Global) Global)
+    (put : rows.items ≡ set r.rows.items x v) where
+  abbrev pub now : Reach
+  now = record { next = r.next; rows = rows; width = r.width }
+
+  own : row_items rows.items x ≡ v.items
+  own = ap (λ rs. row_items rs x) put ∙ row_set r.rows.items x v (subst (λ n. x < n) (sym whole.len) inside)
+
+  other : (a : ℕ) → a ≢ x → row_items rows.items a ≡ row_items r.rows.items a
+  other a ne = ap (λ rs. row_items rs a) put ∙ row_unset r.rows.items x a v ne
+
+  pub settled_whole : length v.items ≡ r.width → ((y : ℕ) → HasBit v.items y ↔ Path r.next.items x y) → IsWhole now
+  settled_whole wide right = record {
+    len = ap length put ∙ length-set r.rows.items x v ∙ whole.len;
+    inside = whole.inside;
+    fits = whole.fits;
+    wide = λ a s. elim (cases_eq a x) [
+      | inl same ↦ ap (λ i. length (row_items rows.items i)) same ∙ ap length own ∙ wide
+      | inr ne ↦ ap length (other a ne) ∙ whole.wide a (subst (λ w. 0 < length w) (other a ne) s)
+    ];
+    right = λ a b s. elim (cases_eq a x) [
+      | inl same ↦ subst (λ i. HasBit (row_items rows.items i) b ↔ Path r.next.items i b) (sym same) (subst (λ w. HasBit w b ↔ Path r.next.items x b) (sym own) (right b))
+      | inr ne ↦ subst (λ w. HasBit w b ↔ Path r.next.items a b) (sym (other a ne)) (whole.right a b (subst (λ w. 0 < length w) (other a ne) s))
+    ];
+  }
+
+  pub settled_own : length v.items ≡ r.width → 0 < r.width → IsSettled now x
+  settled_own wide some = inl (subst (λ w. 0 < length w) (sym own) (subst (λ n. 0 < n) (sym wide) some))
+
+  pub settled_others : length v.items ≡ r.width → 0 < r.width → (y : ℕ) → IsSettled r y → IsSettled now y
+  settled_others wide some y (inr e) = inr e
+  settled_others wide some y (inl s) = elim (cases_eq y x) [
+    | inl same ↦ subst (IsSettled now) (sym same) (settled_own wide some)
+    | inr ne ↦ inl (subst (λ w. 0 < length w) (sym (other y ne)) s)
+  ]
+
+-- where a ring leaves its vertex
+pub first_step : {Z : Type 0} (next : List (Vec ℕ Z)) (own : ℕ) → IsInRing next own → (w : ℕ) × Leads next own w × (w ≢ own) × Path next w own
+first_step {Z} next own ring = elim (ring.2) [
+  | inl e ↦ absurd (ring.1 e)
+  | inr p ↦ go refl p.1
+]
+  where
+    back : Path next ring.0 own
+    back = ring.3
+
+    go : {a : ℕ} → a ≡ own → Reaches (Leads next) All a ring.0 → (w : ℕ) × Leads next own w × (w ≢ own) × Path next w own
+    go {a} same (edge e) = (ring.0, subst (λ v. Leads next v ring.0) same e, ring.1, back)
+    go {a} same (through {b = c} e s p) = elim (cases_eq c own) [
+      | inl here ↦ go here p
+      | inr other ↦ (c, subst (λ v. Leads next v c) same e, other, path_then (Leads next) (inr (tt, p)) back)
+    ]
+
+-- a flag that stands has a place
+pub flag_inside : (flags : List Bool) (a : ℕ) → IsFlagged flags a → a < length flags
+flag_inside [] a h = absurd (false≢true h)
+flag_inside (f ∷ flags) zero h = omega arith
+flag_inside (f ∷ flags) (suc a) h = let lt = flag_inside flags a h in omega (arith, lt)

@@ -1,5 +1,5 @@
 -- The names in the places that pass, as a loop over places puts them into a set.
-use Rattle.std.proofs.Common.{◌≡◌, ◌↔◌, ◌||◌, ◌<◌, ◌+◌, ℕ, zero, suc, List, [], ◌∷◌, length, map, get_or, Bor, IsTrue, bytes_eq, arith, sym, ap, subst, inl, inr, ◌∙◌}
+use Rattle.std.proofs.Common.{◌≡◌, ◌↔◌, ◌||◌, ◌<◌, ◌+◌, ℕ, zero, suc, List, [], ◌∷◌, length, map, get_or, Bor, IsTrue, bytes_eq, arith, refl, sym, ap, subst, inl, inr, ◌∙◌}
 use Rattle.std.proofs.lemmas.Bool.{cases_eq, false≢true, or_cases, or_left, or_right}
 use Rattle.std.proofs.lemmas.Slice.Eq.{bytes_eq-Decides}
 use Rattle.std.specs.BTreeSet.{BTreeSet}
@@ -13,6 +13,11 @@ pub text_at : (names : List (Bor Text)) (i : ℕ) (t : Bor Text) → i < length 
 text_at [] i t lt e = absurd (omega arith)
 text_at (x ∷ xs) zero t lt e = ap (λ (s : Bor Text). s.now) (sym e)
 text_at (x ∷ xs) (suc i) t lt e = text_at xs i t (omega arith) e
+
+pub text_get : (names : List (Bor Text)) (i : ℕ) (d : Bor Text) → i < length names → nth_text (map (λ t. t.now) names) i ≡ (get_or names i d).now
+text_get [] i d lt = absurd (omega arith)
+text_get (x ∷ xs) zero d lt = refl
+text_get (x ∷ xs) (suc i) d lt = text_get xs i d (omega arith)
 
 module _ (names : List Text) (P : ℕ → Type 0) where
   -- the set has the names in the places before i that pass

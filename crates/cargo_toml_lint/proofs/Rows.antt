@@ -1,5 +1,5 @@
 -- Lists of numbers, and what is read of them.
-use Rattle.std.proofs.Common.{◌≡◌, ◌⊎◌, ◌↔◌, ◌<◌, ◌≤◌, ◌+◌, ◌==◌, ℕ, zero, suc, Bool, true, false, List, [], ◌∷◌, ◌++◌, take, drop, length, get_or, eqb, Vec, refl, sym, ap, subst, inl, inr, ◌∙◌, arith, add-one}
+use Rattle.std.proofs.Common.{◌≡◌, ◌≢◌, ◌⊎◌, ◌↔◌, ◌<◌, ◌≤◌, ◌+◌, ◌==◌, ℕ, zero, suc, Bool, true, false, List, [], ◌∷◌, ◌++◌, take, drop, length, get_or, set, eqb, Vec, refl, sym, ap, subst, inl, inr, ◌∙◌, arith, add-one}
 use Rattle.std.proofs.lemmas.Bool.{false≢true, ne_eqb, or_cases}
 use Rattle.std.proofs.lemmas.Bool.Decides.{Decides-eqb}
 use Rattle.std.specs.List.{AllByRecursion, IsDistinct, list_any}
@@ -133,3 +133,21 @@ not_none (x ∷ xs) b is off = omega arith
 pub is_none : {X : Type 0} (xs : List X) (b : Bool) → b ≡ (length xs == 0) → b ≡ true → length xs ≡ 0
 is_none [] b is on = refl
 is_none (x ∷ xs) b is on = absurd (false≢true (sym (is ∙ ne_eqb (length (x ∷ xs)) 0 (λ e. absurd (omega (arith, e)))) ∙ on))
+
+-- a list without elements has none
+pub nothing : (xs : List ℕ) → length xs ≡ 0 → (y : ℕ) → ¬ Among xs y
+nothing [] none y i = i
+nothing (x ∷ xs) none y i = absurd (omega (arith, none))
+
+-- a row that is put in the place of another, and the others
+pub row_set : {Z : Type 0} (rows : List (Vec ℕ Z)) (x : ℕ) (v : Vec ℕ Z) → x < length rows → row_items (set rows x v) x ≡ v.items
+row_set [] x v lt = absurd (omega arith)
+row_set (y ∷ ys) zero v lt = refl
+row_set (y ∷ ys) (suc x) v lt = row_set ys x v (omega arith)
+
+pub row_unset : {Z : Type 0} (rows : List (Vec ℕ Z)) (x a : ℕ) (v : Vec ℕ Z) → a ≢ x → row_items (set rows x v) a ≡ row_items rows a
+row_unset [] x a v ne = refl
+row_unset (y ∷ ys) zero zero v ne = absurd (ne refl)
+row_unset (y ∷ ys) zero (suc a) v ne = refl
+row_unset (y ∷ ys) (suc x) zero v ne = refl
+row_unset (y ∷ ys) (suc x) (suc a) v ne = row_unset ys x a v (λ e. ne (ap suc e))

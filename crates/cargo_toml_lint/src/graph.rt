@@ -12,7 +12,7 @@ use std::collections::{BTreeSet, HashMap};
 use std::hash::BuildHasher;
 
 /// The features of a manifest, as they are resolved with none removed.
-pub(crate) type FeatureMap<'m, S> = HashMap<&'m str, Feature<'m>, S>;
+pub type FeatureMap<'m, S> = HashMap<&'m str, Feature<'m>, S>;
 
 /// Those of the names that pass the test.
 pub(crate) fn those<'m, F: Fn(&str) -> bool>(

@@ -21,7 +21,7 @@ use crate::known::{Known, known_names};
 use crate::reach::{Reach, reach_all};
 use cargo_toml::Manifest;
 use cargo_toml_features::action::{ActionText, read_action};
-use cargo_toml_features::texts::{in_order, place_of};
+use cargo_toml_features::texts::{in_order, keys_in_order, place_of};
 use std::alloc::{AllocError, Global};
 use std::collections::BTreeSet;
 use std::hash::BuildHasher;
@@ -126,8 +126,8 @@ fn edges(
         (nth_text (map (λ t. t.now) names.now) a) (nth_text (map (λ t. t.now) names.now) b)))) }
 {
     let mut next = Vec::with_capacity(alloc, names.len())?;
-    for name in names {
-        next.push(row_of(alloc, known, names, *name)?)?;
+    for place in 0..names.len() {
+        next.push(row_of(alloc, known, names, names[place])?)?;
     }
     Ok(next)
 }
@@ -141,8 +141,11 @@ fn names_in_order<'m, S: BuildHasher>(
         ↔ Among (map (λ t. t.now) names.items) f) }
     ensures in_order { IfOk result (λ names. Ascend (map (λ t. t.now) names.items)) }
 {
-    let mut names = Vec::with_capacity(alloc, features.len())?;
-    names.extend(features.keys().copied())?;
+    let keys = keys_in_order(alloc, features)?;
+    let mut names = Vec::with_capacity(alloc, keys.len())?;
+    for name in &keys {
+        names.push(*name)?;
+    }
     Ok(in_order(names))
 }
 

@@ -1,7 +1,8 @@
 //! What is found of features that turn on one another.
-ghost use Rattle.std.specs.Prelude.{◌≡◌, ◌↔◌, ◌||◌, IfOk, IsTrue, map, not};
+ghost use Rattle.std.specs.Prelude.{◌≡◌, ◌<◌, ◌*◌, ◌↔◌, ◌||◌, IfOk, IsTrue, length, map, not};
 ghost use Rattle.cargo_toml.specs.Action.{Text};
 ghost use Rattle.cargo_toml.specs.Views.{set_has};
+ghost use Rattle.cargo_toml_lint.specs.Bits.{HasBit};
 ghost use Rattle.cargo_toml_lint.specs.Findings.{is_hidden};
 ghost use Rattle.cargo_toml_lint.specs.Linked.{AreFound, IsIn, IsLeftAlone, IsOfDefault};
 ghost use Rattle.cargo_toml_lint.specs.Linked.{is_default, name_at};
@@ -68,13 +69,30 @@ pub(crate) fn unreachable<'m>(
     let names = links.names.as_slice();
     let shown = are_shown(alloc, names)?;
     let reached = links.reach.reached_from(alloc, shown.as_slice())?;
+    let bits = reached.as_slice();
     let mut found = BTreeSet::new(alloc);
     for place in 0..names.len() {
-        if is_hidden(names[place]) && !has_bit(reached.as_slice(), place) {
+        if is_hidden(names[place]) && !has_bit(bits, place) {
             found.insert(names[place])?;
         }
     }
     Ok(found)
+}
+
+// Whether the feature of this name is hidden or private.
+fn is_internal<S: BuildHasher>(features: &FeatureMap<'_, S>, name: &str) -> bool
+    ensures { result ≡ (is_hidden name.now || private_at features.now name.now) }
+{
+    is_hidden(name) || is_private(features, name)
+}
+
+// Whether the first of two sets has the place, and the second hasn't.
+fn is_alone(first: &[u64], second: &[u64], place: usize) -> bool
+    requires first { place < 64 * length first.now }
+    requires second { place < 64 * length second.now }
+    ensures { IsTrue result ↔ (HasBit first.now place × (¬ HasBit second.now place)) }
+{
+    has_bit(first, place) && !has_bit(second, place)
 }
 
 /// The hidden and private features that `default` turns on in one step, and no other.
@@ -93,13 +111,12 @@ pub(crate) fn private_default<'m, S: BuildHasher>(
     let others = are_default(alloc, names, false)?;
     let by_default = links.reach.named_by(alloc, default.as_slice())?;
     let by_others = links.reach.named_by(alloc, others.as_slice())?;
+    let first = by_default.as_slice();
+    let second = by_others.as_slice();
     let mut found = BTreeSet::new(alloc);
     for place in 0..names.len() {
-        let name = names[place];
-        let is_internal = is_hidden(name) || is_private(features, name);
-        let is_of_default = has_bit(by_default.as_slice(), place);
-        if is_internal && is_of_default && !has_bit(by_others.as_slice(), place) {
-            found.insert(name)?;
+        if is_internal(features, names[place]) && is_alone(first, second, place) {
+            found.insert(names[place])?;
         }
     }
     Ok(found)

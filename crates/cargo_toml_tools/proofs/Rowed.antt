@@ -24,7 +24,7 @@ use Rattle.cargo_toml_tools.specs.Documented.{AreRows, IsRowOf, is_shown, is_tol
 use Rattle.cargo_toml_tools.specs.declared.document.listing.Row.{Row}
 use Rattle.cargo_toml_tools.proofs.KeysInOrder.{among_in, among_out}
 use Rattle.cargo_toml_tools.proofs.Ordered.{key_texts}
-use Rattle.cargo_toml_lint.proofs.Names.{listed_at}
+use Rattle.cargo_toml_lint.proofs.Edges.{listed_at}
 
 -- ---- the texts of a set
 pub texts_among : (s : BTreeSet (Bor Text)) (x : Text) → Among (key_texts s) x ↔ IsTrue (set_has s x)

@@ -99,11 +99,13 @@ fn push_row(
 }
 
 fn push_names(page: &mut String, names: &BTreeSet<&str>) -> Result<(), AllocError> {
-    let mut comma = "";
+    let mut is_first = true;
     for name in names {
-        page.push_str(comma)?;
+        if !is_first {
+            page.push_str(", ")?;
+        }
+        is_first = false;
         push_code(page, *name)?;
-        comma = ", ";
     }
     Ok(())
 }
@@ -115,13 +117,15 @@ fn push_actions(
     page: &mut String,
     actions: &BTreeMap<&str, DepAction<'_>>,
 ) -> Result<(), AllocError> {
-    let mut comma = "";
+    let mut is_first = true;
     for (key, action) in actions {
-        page.push_str(comma)?;
+        if !is_first {
+            page.push_str(", ")?;
+        }
+        is_first = false;
         let mark = if action.is_conditional { "?" } else { "" };
         let front = format!(in alloc; "{key}{mark}")?;
         push_asked(alloc, page, front.as_str(), &action.dep_features)?;
-        comma = ", ";
     }
     Ok(())
 }
@@ -136,11 +140,13 @@ fn push_asked(
     if asked.is_empty() {
         return push_code(page, front);
     }
-    let mut comma = "";
+    let mut is_first = true;
     for feature in asked {
-        page.push_str(comma)?;
+        if !is_first {
+            page.push_str(", ")?;
+        }
+        is_first = false;
         push_code(page, format!(in alloc; "{front}/{feature}")?.as_str())?;
-        comma = ", ";
     }
     Ok(())
 }

@@ -116,11 +116,13 @@ fn push_dependency_edges(graph: &mut String, feature: &Feature<'_>) -> Result<()
 /// What an action asks for, and whether it is conditional.
 fn push_action(graph: &mut String, action: &DepAction<'_>) -> Result<(), AllocError> {
     graph.push_str(" [label=\"")?;
-    let mut comma = "";
+    let mut is_first = true;
     for feature in &action.dep_features {
-        graph.push_str(comma)?;
+        if !is_first {
+            graph.push_str(", ")?;
+        }
+        is_first = false;
         push_escaped(graph, *feature, Format::Dot)?;
-        comma = ", ";
     }
     graph.push_str("\"")?;
     if action.is_conditional {

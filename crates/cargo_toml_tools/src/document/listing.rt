@@ -19,7 +19,7 @@ use std::collections::{BTreeSet, HashMap};
 use std::hash::BuildHasher;
 
 /// The features of a manifest by name, as they are resolved.
-pub(crate) type FeatureMap<'m, S> = HashMap<&'m str, Feature<'m>, S>;
+pub type FeatureMap<'m, S> = HashMap<&'m str, Feature<'m>, S>;
 
 /// A feature that users may ask for, and what is told of it.
 #[derive(Drop)]

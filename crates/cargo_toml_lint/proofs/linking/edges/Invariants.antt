@@ -5,5 +5,5 @@ use Rattle.cargo_toml_lint.specs.Turning.{turned}
 use Rattle.cargo_toml_lint.proofs.Edges.{IsFilled}
 use Rattle.cargo_toml_lint.proofs.linking.edges.Given as goal
 
-abbrev pub invariant-loop-name : goal.invariant-loop-name
-invariant-loop-name l = IsFilled (λ a b. (b < length l.names) × IsTrue (turned (listed_by l.known) (held_names l.known).optional (nth_text (map (λ t. t.now) l.names) a) (nth_text (map (λ t. t.now) l.names) b))) l.name-index l.next.items
+abbrev pub invariant-loop-place : goal.invariant-loop-place
+invariant-loop-place l = IsFilled (λ a b. (b < length l.names) × IsTrue (turned (listed_by l.known) (held_names l.known).optional (nth_text (map (λ t. t.now) l.names) a) (nth_text (map (λ t. t.now) l.names) b))) l.place l.next.items

@@ -1,22 +1,22 @@
 -- Where places lead is where names turn.
-use Rattle.std.proofs.Common.{◌≡◌, ◌≢◌, ◌↔◌, ◌<◌, ℕ, suc, List, [], ◌∷◌, length, map, None, Bor, IsTrue, IsFalse, codes, refl, sym, ap, subst, inl, inr, ◌∙◌}
+use Rattle.std.proofs.Common.{◌≡◌, ◌≢◌, ◌↔◌, ◌<◌, ℕ, zero, suc, Bool, true, false, not, List, [], ◌∷◌, length, map, None, Bor, Vec, Global, IsTrue, IsFalse, bytes_eq, codes, arith, refl, sym, ap, subst, inl, inr, ◌∙◌}
+use Rattle.std.proofs.lemmas.Bool.{cases_Bool, false≢true, not-true, not_from_false}
+use Rattle.std.proofs.lemmas.Slice.Eq.{bytes_eq-Decides}
 use Rattle.cargo_toml.specs.Action.{Text}
 use Rattle.cargo_toml.specs.Graph.{Table, Edge, IsPlain}
 use Rattle.cargo_toml.specs.Recursive.{Enables}
 use Rattle.cargo_toml.specs.Recursive.Enables.{itself, further}
 use Rattle.cargo_toml_features.proofs.Places.{among_at, at_among, once}
 use Rattle.cargo_toml_features.proofs.Unremoved.{enables_has}
+use Rattle.cargo_toml_features.specs.Places.{nth_text}
+use Rattle.cargo_toml_lint.specs.Bits.{HasBit}
 use Rattle.cargo_toml_lint.specs.Findings.{IsCyclic, IsOnlyDefault, IsUnreachable, is_hidden}
-use Rattle.cargo_toml_lint.specs.Linked.{AreLinks, IsIn, IsLeftAlone, IsOfDefault, name_at, names_of}
-use Rattle.cargo_toml_lint.specs.Reached.{IsInRing, Leads, Path}
+use Rattle.cargo_toml_lint.specs.Linked.{AreFound, AreLinks, IsIn, IsLeftAlone, IsOfDefault, is_default, name_at, names_of}
+use Rattle.cargo_toml_lint.specs.Reached.{IsFlagged, IsInRing, Leads, Path}
 use Rattle.cargo_toml_lint.specs.declared.linking.Links.{Links}
+use Rattle.cargo_toml_lint.proofs.Edges.{length_now}
 use Rattle.cargo_toml_lint.proofs.Meeting.{along, path_edge}
 use Rattle.cargo_toml_lint.proofs.Rows.{has_row}
-
--- ---- places of texts
-pub length_now : (names : List (Bor Text)) → length (map (λ t. t.now) names) ≡ length names
-length_now [] = refl
-length_now (t ∷ names) = ap suc (length_now names)
 
 module _ (t : Table) (l : Links) (are : AreLinks t l) where
   abbrev n : ℕ
@@ -68,6 +68,15 @@ module _ (t : Table) (l : Links) (are : AreLinks t l) where
   leads_at a b lt lu e =
       let r = leads_to a lt refl e in
       subst (λ v. Path l.reach.next.items a v) (same_place r.0 b r.1 lu r.2) r.3
+
+  -- what the feature in a place turns on
+  pub in_place : (a : ℕ) (f : Text) → a < n → name_at l a ≡ f → (x : Text) → {b : Bool} → IsTrue b ↔ IsIn l (Path l.reach.next.items a) x → IsTrue b ↔ (IsTrue (t.has f) × Enables t f x)
+  in_place a f lt at x h = (
+    λ e.
+        let i = h.0 e in
+        (subst (λ y. IsTrue (t.has y)) at (known_at a lt), subst (λ y. Enables t y x) at (subst (λ y. Enables t (name_at l a) y) i.2 (turns a i.0 lt i.3).1)),
+    λ e. h.1 (leads_to a lt at e.1),
+  )
 
   -- ---- what is found of them
   pub cyclic_is : (f : Text) → IsIn l (IsInRing l.reach.next.items) f ↔ IsCyclic t f
@@ -155,4 +164,67 @@ module _ (t : Table) (l : Links) (are : AreLinks t l) where
             no_other = λ k apart e. h.1.no_other (name_at l k)
                 (subst (λ y. Edge t (name_at l k) y) p.2 (edge_at k p.0 (leads_inside k p.0 e) p.1 apart e));
           })),
+    )
+
+-- ---- flags of names
+pub flagged : (names : List (Bor Text)) (test : Text → Bool) (a : ℕ) → IsFlagged (map (λ t. test t.now) names) a ↔ ((a < length names) × IsTrue (test (nth_text (map (λ t. t.now) names) a)))
+flagged [] test a = (λ h. absurd (false≢true h), λ h. absurd (let lt = h.0 in omega (arith, lt)))
+flagged (t ∷ names) test zero = (λ h. (omega arith, h), λ h. h.1)
+flagged (t ∷ names) test (suc a) = let r = flagged names test a in (
+  λ h. let q = r.0 h in (let lt = q.0 in omega (arith, lt), q.1),
+  λ h. r.1 (let lt = h.0 in omega (arith, lt), h.1),
+)
+
+module _ (l : Links) (found : AreFound l) where
+  abbrev next : List (Vec ℕ Global)
+  next = l.reach.next.items
+
+  abbrev Flags : (Text → Bool) → List Bool → Type 0
+  Flags test flags = flags ≡ map (λ t. test t.now) l.names.items
+
+  flag_at : (test : Text → Bool) (flags : List Bool) → Flags test flags → (a : ℕ) → IsFlagged flags a ↔ ((a < length l.names.items) × IsTrue (test (name_at l a)))
+  flag_at test flags is a = subst (λ fs. IsFlagged fs a ↔ ((a < length l.names.items) × IsTrue (test (name_at l a)))) (sym is) (flagged l.names.items test a)
+
+  source_inside : (a b : ℕ) → Leads next a b → a < length l.names.items
+  source_inside a b e = subst (λ k. a < k) found.count (has_row next a b e)
+
+  -- none that isn't hidden leads there
+  module _ (flags : List Bool) (are : Flags (λ f. not (is_hidden f)) flags) (bits : List ℕ)
+      (reached : (b : ℕ) → HasBit bits b ↔ ((a : ℕ) × IsFlagged flags a × Path next a b)) where
+    pub left_alone : (place : ℕ) → IsTrue (is_hidden (name_at l place)) → (¬ HasBit bits place) → IsLeftAlone l place
+    left_alone place hidden out = record {
+      hidden = hidden;
+      alone = λ k lt shown p. out ((reached place).1 (k, (flag_at (λ f. not (is_hidden f)) flags are k).1 (lt, not_from_false (is_hidden (name_at l k)) shown), p));
+    }
+
+    pub not_alone : (place : ℕ) → IsLeftAlone l place → ¬ HasBit bits place
+    not_alone place alone h =
+        let r = (reached place).0 h in
+        let f = (flag_at (λ f. not (is_hidden f)) flags are r.0).0 r.1 in
+        alone.alone r.0 f.0 (not-true (is_hidden (name_at l r.0)) f.1) r.2
+
+  -- `default` leads there, and no other
+  module _ (default others : List Bool) (are_default : Flags (is_default true) default) (are_others : Flags (is_default false) others)
+      (by_default by_others : List ℕ)
+      (some : (b : ℕ) → HasBit by_default b ↔ ((a : ℕ) × IsFlagged default a × (b ≢ a) × Leads next a b))
+      (other : (b : ℕ) → HasBit by_others b ↔ ((a : ℕ) × IsFlagged others a × (b ≢ a) × Leads next a b)) where
+    pub of_default : (place : ℕ) → HasBit by_default place → (¬ HasBit by_others place) → IsOfDefault l place
+    of_default place h out = record {
+      some =
+          let r = (some place).0 h in
+          let f = (flag_at (is_default true) default are_default r.0).0 r.1 in
+          (r.0, (bytes_eq-Decides (name_at l r.0) (codes "default")).0 f.1, r.2, r.3);
+      no_other = λ k apart e. elim (cases_Bool (bytes_eq (name_at l k) (codes "default"))) [
+        | inl is ↦ (bytes_eq-Decides (name_at l k) (codes "default")).0 is
+        | inr isnt ↦ absurd (out ((other place).1 (k, (flag_at (is_default false) others are_others k).1 (source_inside k place e, not_from_false _ isnt), apart, e)))
+      ];
+    }
+
+    pub has_default : (place : ℕ) → IsOfDefault l place → HasBit by_default place × (¬ HasBit by_others place)
+    has_default place of = (
+      (some place).1 (of.some.0, (flag_at (is_default true) default are_default of.some.0).1 (source_inside of.some.0 place of.some.3, (bytes_eq-Decides (name_at l of.some.0) (codes "default")).1 of.some.1), of.some.2, of.some.3),
+      λ h.
+          let r = (other place).0 h in
+          let f = (flag_at (is_default false) others are_others r.0).0 r.1 in
+          false≢true (sym (not-true _ f.1) ∙ (bytes_eq-Decides (name_at l r.0) (codes "default")).1 (of.no_other r.0 r.2 r.3)),
     )

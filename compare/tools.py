@@ -261,37 +261,55 @@ def for_dot(text):
     return "".join(f"&#{ord(c)};" if is_control(c) else signs.get(c, c) for c in text)
 
 
+# features
+
+
+class Features:
+    """The features of a manifest, and what each turns on."""
+
+    def __init__(self, manifest, limit=LIMIT):
+        written = manifest.get("features", {})
+        self.lists = {k: enabled_by(v) for k, v in written.items()}
+        self.graph = Graph(manifest, limit)
+        entries = [one for _, _, _, table in tables(manifest) for one in table.items()]
+        self.dependencies = {key for key, _ in entries}
+        self.optional = {key for key, one in entries if detail(one).get("optional", False)}
+
+    def turned_on(self, name):
+        """What a feature turns on in one step."""
+        found = set()
+        for text in self.lists.get(name, []):
+            key, action = mention(text)
+            if not action or key in self.optional and not (action[0] or action[1]):
+                found.add(key)
+        return found & self.graph.names.keys()
+
+    def reached(self, name):
+        """The feature and all that it turns on, where there is one of the name."""
+        found = {name} & self.graph.names.keys()
+        left = [*found]
+        while left:
+            for other in self.turned_on(left.pop()) - found:
+                found.add(other)
+                left.append(other)
+        return found
+
+
 # document
 
 
-class Document:
-    """The features of a manifest, each with what it turns on."""
+class Document(Features):
+    """What is documented of the features of a manifest."""
 
     def __init__(self, path):
         self.manifest = load(path)
         features = self.manifest.get("features", {})
         self.tables = {k: v for k, v in features.items() if isinstance(v, dict)}
-        self.lists = {k: enabled_by(v) for k, v in features.items()}
-        self.graph = Graph(self.manifest | {"features": self.lists}, LIMIT)
+        lists = {k: enabled_by(v) for k, v in features.items()}
+        super().__init__(self.manifest | {"features": lists})
 
     def is_private(self, name):
         return name.startswith("_") or self.tables.get(name, {}).get("public") is False
-
-    def led_to(self, name):
-        """What a feature turns on in one step."""
-        for text in self.lists.get(name, []):
-            key, action = mention(text)
-            if not action or not (action[0] or action[1]):
-                yield key
-
-    def reached(self, name):
-        """The feature and all that it turns on."""
-        found, left = {name}, [name]
-        while left:
-            for other in self.graph.names.keys() & set(self.led_to(left.pop())) - found:
-                found.add(other)
-                left.append(other)
-        return found
 
     def actions(self, names):
         joined = {}
@@ -300,7 +318,10 @@ class Document:
                 joined[key] = join(joined.get(key), action)
         return joined
 
-    def row(self, name):
+    def text_of(self, name):
+        return self.tables.get(name, {}).get("doc")
+
+    def row(self, name, has_texts):
         reached = self.reached(name)
         names = in_order(other for other in reached - {name} if not self.is_private(other))
         words = []
@@ -311,7 +332,7 @@ class Document:
             words += [f"{front}/{feature}" for feature in in_order(features)] or [front]
         cells = [
             code(name),
-            for_markdown(self.tables.get(name, {}).get("doc", "")),
+            *([for_markdown(self.text_of(name) or "")] if has_texts else []),
             "yes" if name in self.reached("default") else "no",
             ", ".join(map(code, names)),
             ", ".join(map(code, words)),
@@ -324,22 +345,26 @@ class Document:
         shown = [name for name in in_order(self.graph.names) if not self.is_private(name)]
         if "default" not in self.lists:
             shown.remove("default")
-        head = "| Feature | Text | Default | Features | Dependencies |\n|---|---|---|---|---|\n"
-        for front, is_listed in ("\n", True), ("\n## Optional dependencies\n\n", False):
+        for front, is_listed in ("", True), ("\n## Optional dependencies\n", False):
             rows = [name for name in shown if (name in self.graph.explicit) == is_listed]
-            text += (front + head if rows else "") + "".join(map(self.row, rows))
+            has_texts = any(self.text_of(name) is not None for name in rows)
+            columns = ["Feature", *["Text"] * has_texts, "Default", "Features", "Dependencies"]
+            if rows:
+                text += front + f"\n| {' | '.join(columns)} |\n|{'---|' * len(columns)}\n"
+            text += "".join(self.row(name, has_texts) for name in rows)
         return text
 
     def dot(self):
-        text = "digraph {\n"
+        text = "digraph {\n    rankdir=LR;\n"
         if "package" in self.manifest:
             text += f'    label="{for_dot(self.manifest["package"]["name"])}";\n'
         keys = set()
         for name in in_order(self.graph.names):
-            style = "dashed" if self.is_private(name) else "solid"
+            style = "bold" if name == "default" else "solid"
+            style = "dashed" if self.is_private(name) else style
             front = f'    "feature:{for_dot(name)}"'
             text += f'{front} [label="{for_dot(name)}", style={style}];\n'
-            for other in in_order(self.graph.names[name] & self.graph.names.keys()):
+            for other in in_order(self.turned_on(name)):
                 text += f'{front} -> "feature:{for_dot(other)}";\n'
             for key in in_order(self.graph.actions[name]):
                 is_conditional, _, features = self.graph.actions[name][key]
@@ -373,29 +398,16 @@ WORDS_OF = {
 }
 
 
-class Lint:
+class Lint(Features):
     """What is odd of a manifest's features, each as the name of a finding's code and a feature."""
 
     def __init__(self, manifest, limit=LIMIT):
-        self.lists = {k: enabled_by(v) for k, v in manifest.get("features", {}).items()}
-        self.graph = Graph(manifest, limit)
-        entries = [one for _, _, _, table in tables(manifest) for one in table.items()]
-        self.dependencies = {key for key, _ in entries}
-        self.optional = {key for key, one in entries if detail(one).get("optional", False)}
+        super().__init__(manifest, limit)
         mentions = [mention(text) for texts in self.lists.values() for text in texts]
         self.reserved = {key for key, action in mentions if action and action[1]}
         bins = manifest.get("bin", [])
         self.required = [text for bin in bins for text in bin.get("required-features", [])]
         self.limit = limit
-
-    def led_to(self, name):
-        """The features to which this one leads by one name or more."""
-        found, left = set(), [name]
-        while left:
-            for other in self.graph.names[left.pop()] & self.graph.names.keys() - found:
-                found.add(other)
-                left.append(other)
-        return found
 
     def is_unknown(self, text, names):
         key, action = mention(text)
@@ -412,12 +424,13 @@ class Lint:
         private = {name for name, (is_public, _) in graph.said.items() if not is_public}
         names = lists.keys() | {"default"} | self.optional
         there = lists.keys() | graph.names.keys()
-        led_to = {name: self.led_to(name) for name in graph.names}
+        turned_on = {name: self.turned_on(name) for name in graph.names}
+        reached = {name: self.reached(name) for name in graph.names}
         enablers = {
-            name: {one for one in graph.names if name in graph.edges[one]}
+            name: {one for one in turned_on if name in turned_on[one] - {one}}
             for name in hidden | private
         }
-        of_users = set().union(*(led_to[name] for name in graph.names.keys() - hidden))
+        of_users = set().union(*(reached[name] for name in graph.names.keys() - hidden))
         admitted = {name for name in graph.explicit if len(lists.get(name, [])) <= self.limit}
         return {
             "not-optional": {name for name in lists if any(map(self.is_not_optional, lists[name]))},
@@ -433,7 +446,7 @@ class Lint:
             "cycle": {
                 name
                 for name in graph.names
-                if any(name in led_to[one] for one in led_to[name] - {name})
+                if any(name in reached[one] for one in reached[name] - {name})
             },
             "over-limit": lists.keys() - admitted,
             "unreachable": hidden - of_users,

@@ -21,6 +21,7 @@ use Rattle.cargo_toml_lint.specs.declared.finding.Code.{Code}
 use Rattle.cargo_toml_lint.specs.declared.finding.Code.TheVariants.{NotOptional, SameName, Unknown, Implied, PrivateDefault, Cycle, OverLimit, Unreachable}
 use Rattle.cargo_toml_lint.specs.declared.finding.Finding.{Finding}
 use Rattle.cargo_toml_lint.specs.declared.known.Known.{Known}
+use Rattle.cargo_toml_lint.specs.declared.linking.Links.{Links}
 use Rattle.cargo_toml_lint.proofs.Gathered.{has_in}
 
 -- ---- who is among two lists
@@ -201,22 +202,22 @@ unfolding IsStrictlySortedBy
 none_below xs none = subst (AreBelow 0) (sym none) (record { in_order = tt; below = tt })
 
 -- what errors, hints and warnings say, is what the codes say
-module _ {S : Type 0} (m : HashMap (Bor Text) Feature S) (known : Known)
+module _ {S : Type 0} (m : HashMap (Bor Text) Feature S) (known : Known) (l : Links)
     (bins : List ProductMeaning) (limit : ℕ) where
   abbrev AreAll : Code → Text → Type 0
-  AreAll c f = (AreErrors m known bins c f ⊎ AreHints m c f) ⊎ AreWarnings m known limit c f
+  AreAll c f = (AreErrors m known bins c f ⊎ AreHints m l c f) ⊎ AreWarnings m known l limit c f
 
-  said : (c : Code) (f : Text) → AreAll c f → HoldsIn m known bins limit c f
-  said c f (inl (inl (inl (inl h)))) = subst (λ d. HoldsIn m known bins limit d f) (sym h.0) h.1
-  said c f (inl (inl (inl (inr h)))) = subst (λ d. HoldsIn m known bins limit d f) (sym h.0) h.1
-  said c f (inl (inl (inr h))) = subst (λ d. HoldsIn m known bins limit d f) (sym h.0) h.1
-  said c f (inl (inr (inl h))) = subst (λ d. HoldsIn m known bins limit d f) (sym h.0) h.1
-  said c f (inl (inr (inr h))) = subst (λ d. HoldsIn m known bins limit d f) (sym h.0) h.1
-  said c f (inr (inl (inl h))) = subst (λ d. HoldsIn m known bins limit d f) (sym h.0) h.1
-  said c f (inr (inl (inr h))) = subst (λ d. HoldsIn m known bins limit d f) (sym h.0) h.1
-  said c f (inr (inr h)) = subst (λ d. HoldsIn m known bins limit d f) (sym h.0) h.1
+  said : (c : Code) (f : Text) → AreAll c f → HoldsIn m known l bins limit c f
+  said c f (inl (inl (inl (inl h)))) = subst (λ d. HoldsIn m known l bins limit d f) (sym h.0) h.1
+  said c f (inl (inl (inl (inr h)))) = subst (λ d. HoldsIn m known l bins limit d f) (sym h.0) h.1
+  said c f (inl (inl (inr h))) = subst (λ d. HoldsIn m known l bins limit d f) (sym h.0) h.1
+  said c f (inl (inr (inl h))) = subst (λ d. HoldsIn m known l bins limit d f) (sym h.0) h.1
+  said c f (inl (inr (inr h))) = subst (λ d. HoldsIn m known l bins limit d f) (sym h.0) h.1
+  said c f (inr (inl (inl h))) = subst (λ d. HoldsIn m known l bins limit d f) (sym h.0) h.1
+  said c f (inr (inl (inr h))) = subst (λ d. HoldsIn m known l bins limit d f) (sym h.0) h.1
+  said c f (inr (inr h)) = subst (λ d. HoldsIn m known l bins limit d f) (sym h.0) h.1
 
-  say : (c : Code) (f : Text) → HoldsIn m known bins limit c f → AreAll c f
+  say : (c : Code) (f : Text) → HoldsIn m known l bins limit c f → AreAll c f
   say NotOptional f h = inl (inl (inl (inl (refl, h))))
   say SameName f h = inl (inl (inl (inr (refl, h))))
   say Unknown f h = inl (inl (inr (refl, h)))
@@ -228,7 +229,7 @@ module _ {S : Type 0} (m : HashMap (Bor Text) Feature S) (known : Known)
 
   -- findings that began with none
   pub all_codes : {r s : ℕ} (old new : Abouts) → old ≡ [] → AddsFindings r s AreAll old new
-      → (c : Code) (f : Text) → Among new (c, f) ↔ HoldsIn m known bins limit c f
+      → (c : Code) (f : Text) → Among new (c, f) ↔ HoldsIn m known l bins limit c f
   all_codes old new none added c f = (
     λ i. elim ((added.found c f).0 i) [
       | inl j ↦ absurd (subst (λ xs. Among xs (c, f)) none j)

@@ -2,7 +2,7 @@
 use Rattle.std.proofs.Common.{◌≡◌, ◌⊎◌, ◌↔◌, ◌||◌, ◌&&◌, ◌<◌, ◌≤◌, ◌+◌, ◌==◌, not, ℕ, Bool, true, false, Option, Some, None, MatchOption, is_some, arith, List, [], ◌∷◌, ◌++◌, map, take, length, get_or, Bor, IsTrue, refl, sym, ap, subst, inl, inr, ◌∙◌}
 use Rattle.std.proofs.Math.Bool.{and-false, and-true, or-false, or_assoc}
 use Rattle.std.proofs.lemmas.List.{map_push, take_all, take_more}
-use Rattle.std.proofs.lemmas.Bool.{false≢true, ne_eqb, or_cases}
+use Rattle.std.proofs.lemmas.Bool.{false≢true, or_cases, or_left, or_right}
 use Rattle.std.proofs.lemmas.List.Folds.{list_any-append}
 use Rattle.std.proofs.lemmas.Map.Text.{is_eq-slice_cmp}
 use Rattle.std.proofs.lemmas.Slice.Eq.{bytes_eq-Decides}
@@ -12,7 +12,7 @@ use Rattle.std.specs.Cmp.Lexicographic.{slice_cmp}
 use Rattle.std.specs.List.{list_any}
 use Rattle.std.specs.Ordering.{nat_cmp}
 use Rattle.cargo_toml.specs.Action.{Text}
-use Rattle.cargo_toml.specs.Views.{set_has}
+use Rattle.cargo_toml.specs.Reach.{Among}
 
 -- some of the keys is f
 abbrev pub has_in : List (Bor Text) → Text → Bool
@@ -25,71 +25,15 @@ at_head k ks f e = elim (or_cases _ _ e) [
   | inr i ↦ inr i
 ]
 
--- the set has what the keys that were passed give, where R tells what a key gives
-pub record Gathers (R : Text → Text → Type 0) (left : List (Bor Text))
-    (s : BTreeSet (Bor Text)) : Type 0 where
-  pub sound : (x : Text) → IsTrue (set_has s x) → (k : Text) × R k x
-  pub complete : (x k : Text) → R k x → IsTrue (set_has s x) ⊎ IsTrue (has_in left k)
-
-module _ (R : Text → Text → Type 0) where
-  pub begun : (ks all : List (Bor Text)) (s : BTreeSet (Bor Text)) → ks ≡ all → s.keys ≡ []
-      → ((x k : Text) → R k x → IsTrue (has_in all k)) → Gathers R ks s
-  begun ks all s is none each = record {
-    sound = λ x h. absurd (false≢true (ap (λ xs. has_in xs x) (sym none) ∙ h));
-    complete = λ x k r. inr (ap (λ xs. has_in xs k) is ∙ each x k r);
-  }
-
-  -- one key is passed: what it gives is there, and what came is of some key
-  pub passed : (k : Bor Text) (left rest : List (Bor Text)) (s n : BTreeSet (Bor Text)) → left
-      ≡ k ∷ rest → ((x : Text) → IsTrue (set_has n x) → IsTrue (set_has s x) ⊎ ((f : Text) × R f x))
-      → ((x : Text) → IsTrue (set_has s x) ⊎ R k.now x → IsTrue (set_has n x)) → Gathers R left s
-      → Gathers R rest n
-  passed k left rest s n is came there g = record {
-    sound = λ x h. elim (came x h) [ inl o ↦ g.sound x o | inr r ↦ r ];
-    complete = λ x f r. elim (g.complete x f r) [
-      | inl h ↦ inl (there x (inl h))
-      | inr i ↦ elim (at_head k rest f (ap (λ xs. has_in xs f) (sym is) ∙ i)) [
-        | inl e ↦ inl (there x (inr (subst (λ q. R q x) e r)))
-        | inr j ↦ inr j
-      ]
-    ];
-  }
-
-  -- what it gives is there already
-  pub skipped : (k : Bor Text) (left rest : List (Bor Text)) (s : BTreeSet (Bor Text)) → left
-      ≡ k ∷ rest → ((x : Text) → R k.now x → IsTrue (set_has s x)) → Gathers R left s
-      → Gathers R rest s
-  skipped k left rest s is there g =
-      passed k left rest s s is (λ x h. inl h) (λ x. elim [ inl h ↦ h | inr r ↦ there x r ]) g
-
-  -- what it gives is put there
-  pub taken : (k : Bor Text) (left rest : List (Bor Text)) (s n : BTreeSet (Bor Text)) → left
-      ≡ k ∷ rest →
-      ((x : Text) → IsTrue (set_has n x) ↔ (IsTrue (set_has s x) ⊎ R k.now x)) → Gathers R left s
-      → Gathers R rest n
-  taken k left rest s n is put g =
-      passed k left rest s n is
-      (λ x h. elim ((put x).0 h) [ inl o ↦ inl o | inr r ↦ inr (k.now, r) ]) (λ x. (put x).1) g
-
-  pub gathered : (left : List (Bor Text)) (s : BTreeSet (Bor Text)) → left ≡ [] → Gathers R left s
-      → (x : Text) → IsTrue (set_has s x) ↔ ((k : Text) × R k x)
-  gathered left s none g x = (
-    g.sound x,
-    λ r. elim (g.complete x r.0 r.1) [
-      | inl h ↦ h
-      | inr i ↦ absurd (false≢true (sym (ap (λ xs. has_in xs r.0) none) ∙ i))
-    ],
-  )
-
--- a key gives itself, where P holds of it
-abbrev pub Itself : (Text → Type 0) → Text → Text → Type 0
-Itself P k x = P k × (x ≡ k)
-
-pub itself_given : (P : Text → Type 0) (x : Text) {b : Bool} → IsTrue b ↔ ((k : Text) × Itself P k x)
-    → IsTrue b ↔ P x
-itself_given P x h = (
-  λ y. let r = h.0 y in subst P (sym r.1.1) r.1.0,
-  λ p. h.1 (x, (p, refl)),
+-- the same as texts
+pub among_now : (ks : List (Bor Text)) (f : Text) → IsTrue (has_in ks f) ↔ Among (map (λ k. k.now) ks) f
+among_now [] f = (λ h. absurd (false≢true h), λ i. absurd i)
+among_now (k ∷ ks) f = let rest = among_now ks f in (
+  λ h. elim (at_head k ks f h) [ inl e ↦ inl e | inr i ↦ inr (rest.0 i) ],
+  elim [
+    | inl e ↦ or_left _ _ (is_eq-slice_cmp f k.now ∙ (bytes_eq-Decides f k.now).1 e)
+    | inr i ↦ or_right _ _ (rest.1 i)
+  ],
 )
 
 -- ---- one step of a loop
@@ -133,12 +77,3 @@ pub no_hit : (start before old hit now : Bool) → old ≡ (start || before) →
     ≡ (before || hit) → old ≡ (start || now)
 no_hit start before old hit now had miss is = had
     ∙ ap (λ b. start || b) (sym (is ∙ ap (λ b. before || b) miss ∙ or-false before))
-
--- whether an iterator over what is left has nothing to give
-pub none_left : {K : Type 0} (ks rest : List K) (r : Option K) (none : Bool) → is_some r ≡ not none
-    → MatchOption r ((ks ≡ []) × (rest ≡ [])) (λ x. ks ≡ x ∷ rest) → none ≡ (length ks == 0)
-none_left ks rest None true said left = sym (ap (λ xs. length xs == 0) left.0)
-none_left ks rest None false said left = absurd (false≢true said)
-none_left ks rest (Some x) true said left = absurd (false≢true (sym said))
-none_left ks rest (Some x) false said left =
-    sym (ne_eqb (length ks) 0 (λ e. omega (arith, ap length left)))

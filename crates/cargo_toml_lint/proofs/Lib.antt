@@ -4,7 +4,12 @@ pub mod Items
 pub mod Added
 pub mod Names
 pub mod Tables
-pub mod Walked
+pub mod Rows
+pub mod Words
+pub mod Meeting
+pub mod Placed
+pub mod Edges
+pub mod Leading
 pub mod Whole
 pub mod Exact
 pub mod Resolving

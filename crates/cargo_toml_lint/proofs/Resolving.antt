@@ -1,16 +1,11 @@
 -- A resolver with a filter and a limit of a caller's own.
-use Rattle.std.proofs.Common.{◌≡◌, ℕ, Bool, true, IsTrue, Option, Some, Bor, subst, sym}
+use Rattle.std.proofs.Common.{◌≡◌, ℕ, Bool, Option, Some, Bor, subst, sym}
 use Rattle.std.specs.Fn.{FnReturnsAt}
 use Rattle.cargo_toml.specs.Action.{Text}
 use Rattle.cargo_toml.specs.Filter.{Asked, FilterTells}
 use Rattle.cargo_toml.specs.Manifests.{ManifestMeaning}
-use Rattle.cargo_toml.specs.Parsed.{IsParsed, parsed_table}
-use Rattle.cargo_toml.specs.Removal.{is_removed}
+use Rattle.cargo_toml.specs.Parsed.{IsParsed}
 use Rattle.cargo_toml.specs.Resolved.{Answer}
-use Rattle.cargo_toml.specs.Views.{answer_of, resolution_of}
-use Rattle.cargo_toml_features.specs.declared.features.Features.{Features}
-use Rattle.cargo_toml_lint.specs.Steps.{TellsEnablers}
-use Rattle.cargo_toml_lint.proofs.Whole.{nothing_removed, tells}
 
 -- what a filter that was handed in keeps
 pub tells_of : {F : Type 0} (g : Asked F) (o : Option (Bor F)) (f : Bor F) (keep : Text → Bool) →
@@ -22,11 +17,3 @@ pub parsed_at : {M : Type 0} (keep : Text → Bool) (a : Answer) {n k : ℕ} →
     → (m : ManifestMeaning M) →
     IsParsed n m keep a → IsParsed k m keep a
 parsed_at keep a same m is = subst (λ n. IsParsed n m keep a) same is
-
--- where none is removed, the enablers are those that the table tells
-pub tells_enablers : {M S H : Type 0} (limit : ℕ) (m : ManifestMeaning M) (a : Features S H)
-    → IsParsed limit m (λ _. true) (answer_of a) → TellsEnablers (resolution_of a.features)
-tells_enablers limit m a parsed =
-    tells a.features (parsed_table limit m)
-    (λ f. IsTrue (is_removed (parsed_table limit m) (λ _. true) f))
-    (nothing_removed (parsed_table limit m)) parsed.kept.resolved

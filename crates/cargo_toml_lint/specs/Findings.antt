@@ -18,6 +18,7 @@ use Rattle.cargo_toml.specs.Reach.{Among}
 use Rattle.cargo_toml.specs.Recorded.{is_implied}
 use Rattle.cargo_toml.specs.Recursive.{Enables}
 use Rattle.cargo_toml_lint.specs.Known.{Names, lists, all_names}
+use Rattle.cargo_toml_lint.specs.Turning.{turning}
 use Rattle.cargo_toml_lint.specs.declared.finding.Code.{Code}
 use Rattle.cargo_toml_lint.specs.declared.finding.Code.TheVariants.{NotOptional, SameName, Unknown}
 use Rattle.cargo_toml_lint.specs.declared.finding.Code.TheVariants.{Implied, PrivateDefault, Cycle}
@@ -69,13 +70,14 @@ is_over limit listed f =
     list_any (λ e. bytes_eq f e.0
     && (nat_lt limit (length e.1) || not (is_explicit (admitted limit listed) e.0))) listed
 
--- a hidden feature to which none leads by names that isn't hidden
+-- ---- by a table of what features turn on
+-- a hidden feature that none turns on which isn't hidden
 pub record IsUnreachable (t : Table) (f : Text) : Type 0 where
   pub known : IsTrue (t.has f)
   pub hidden : IsTrue (is_hidden f)
   pub left_alone : (k : Text) → IsTrue (t.has k) → IsFalse (is_hidden k) → ¬ Enables t k f
 
--- a feature that by names enables another one, which enables it
+-- a feature that turns on another one, which turns it on
 pub record IsCyclic (t : Table) (f : Text) : Type 0 where
   pub other : Text
   pub known : IsTrue (t.has f)
@@ -83,7 +85,7 @@ pub record IsCyclic (t : Table) (f : Text) : Type 0 where
   pub there : Enables t f other
   pub back : Enables t other f
 
--- `default` enables f, and nothing else does
+-- `default` turns f on in one step, and no other feature does
 pub record IsOnlyDefault (t : Table) (f : Text) : Type 0 where
   pub default_does : Edge t (codes "default") f
   pub no_other : (e : Text) → Edge t e f → e ≡ codes "default"
@@ -101,10 +103,10 @@ module _ {M : Type 0} (limit : ℕ) (m : ManifestMeaning M) where
   HoldsOf Implied f = IsTrue (is_implied (admitted limit m.features) (parsed_entries limit m) f)
   HoldsOf PrivateDefault f =
       IsTrue (is_hidden f || is_private (admitted limit m.features) m.feature_details f)
-      × IsOnlyDefault (parsed_table limit m) f
-  HoldsOf Cycle f = IsCyclic (parsed_table limit m) f
+      × IsOnlyDefault (turning m (parsed_table limit m).has) f
+  HoldsOf Cycle f = IsCyclic (turning m (parsed_table limit m).has) f
   HoldsOf OverLimit f = IsTrue (is_over limit m.features f)
-  HoldsOf Unreachable f = IsUnreachable (parsed_table limit m) f
+  HoldsOf Unreachable f = IsUnreachable (turning m (parsed_table limit m).has) f
 
 -- the level of a code, and its place among them in byte order of level and code
 abbrev pub code_level : Code → Level

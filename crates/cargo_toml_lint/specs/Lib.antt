@@ -1,6 +1,10 @@
 -- what is found of a manifest: a user has to believe these
 pub mod Findings
 pub mod Known
+pub mod Turning
 -- the code's own steps, in contracts of inner functions alone: nothing here has to be believed
+pub mod Bits
+pub mod Linked
 pub mod Names
+pub mod Reached
 pub mod Steps

@@ -1,6 +1,6 @@
 -- What the steps of linting find in what was gathered and resolved: no public contract rests on it.
-use Rattle.std.specs.Prelude.{◌≡◌, ◌≢◌, ◌⊎◌, ◌↔◌, ◌<◌, ◌+◌, ◌==◌, ℕ, Bool, false, ◌&&◌, ◌||◌}
-use Rattle.std.specs.Prelude.{not, nat_lt, length, List, IsTrue, IsFalse, bytes_eq, codes}
+use Rattle.std.specs.Prelude.{◌≡◌, ◌⊎◌, ◌↔◌, ◌<◌, ◌+◌, ℕ, Bool, false, ◌&&◌, ◌||◌}
+use Rattle.std.specs.Prelude.{not, nat_lt, length, List, IsTrue, bytes_eq}
 use Rattle.std.specs.Borrow.{Bor}
 use Rattle.std.specs.HashMap.{HashMap}
 use Rattle.std.specs.List.{AllByRecursion, list_any}
@@ -9,41 +9,23 @@ use Rattle.std.specs.Option.{option_map_or}
 use Rattle.cargo_toml.specs.Action.{Text}
 use Rattle.cargo_toml.specs.Admitted.{Listed}
 use Rattle.cargo_toml.specs.Feature.{Feature}
-use Rattle.cargo_toml.specs.Graph.{Table, Resolution}
-use Rattle.cargo_toml.specs.NonDefault.{without_default}
 use Rattle.cargo_toml.specs.Products.{ProductMeaning}
 use Rattle.cargo_toml.specs.Reach.{Among}
-use Rattle.cargo_toml.specs.Recursive.{Enables}
-use Rattle.cargo_toml.specs.Views.{set_has, table_in, value_at}
-use Rattle.cargo_toml_lint.specs.Findings.{IsCyclic, IsTold, IsUnreachable, about_cmp}
+use Rattle.cargo_toml.specs.Views.{table_in, value_at}
+use Rattle.cargo_toml_lint.specs.Findings.{IsTold, about_cmp}
 use Rattle.cargo_toml_lint.specs.Findings.{has_same_name, is_hidden, is_not_optional}
 use Rattle.cargo_toml_lint.specs.Findings.{is_required, is_unknown, code_rank}
 use Rattle.cargo_toml_lint.specs.Known.{lists}
+use Rattle.cargo_toml_lint.specs.Linked.{IsIn, IsLeftAlone, IsOfDefault, name_at}
 use Rattle.cargo_toml_lint.specs.Names.{listed_by, held_names}
 use Rattle.cargo_toml_lint.specs.declared.finding.Code.{Code}
 use Rattle.cargo_toml_lint.specs.declared.finding.Code.TheVariants.{NotOptional, SameName, Unknown}
 use Rattle.cargo_toml_lint.specs.declared.finding.Code.TheVariants.{Implied, PrivateDefault, Cycle}
 use Rattle.cargo_toml_lint.specs.declared.finding.Code.TheVariants.{OverLimit, Unreachable}
 use Rattle.cargo_toml_lint.specs.declared.finding.Finding.{Finding}
+use Rattle.cargo_toml_lint.specs.Reached.{IsInRing}
 use Rattle.cargo_toml_lint.specs.declared.known.Known.{Known}
-
--- `default` enables the feature, and no other does
-abbrev pub only_default : Feature → Bool
-only_default v =
-    set_has v.enabled_by (codes "default") && (length (without_default v.enabled_by.keys) == 0)
-
--- a feature's enablers are others, and each other one that names it is among them
-pub record TellsEnablers (m : Resolution) : Type 0 where
-  pub others : (f e : Text) → IsTrue (m.enabled_by f e) → e ≢ f
-  pub namers : (f e : Text) → IsTrue (m.table.has f) → IsTrue (m.table.names e f) → e ≢ f
-      → IsTrue (m.enabled_by f e)
-
--- k is a feature of the table that isn't hidden, and enables x
-abbrev pub LeadsShown : Table → Text → Text → Type 0
-LeadsShown t k x = IsTrue (t.has k) × IsFalse (is_hidden k) × Enables t k x
-
-abbrev pub IsReached : Table → Text → Type 0
-IsReached t x = (k : Text) × LeadsShown t k x
+use Rattle.cargo_toml_lint.specs.declared.linking.Links.{Links}
 
 module _ {S : Type 0} (m : HashMap (Bor Text) Feature S) where
   abbrev pub explicit_at : Text → Bool
@@ -52,27 +34,32 @@ module _ {S : Type 0} (m : HashMap (Bor Text) Feature S) where
   abbrev pub implied_at : Text → Bool
   implied_at f = option_map_or (λ v. not v.explicit) (value_at m f) false
 
-  abbrev pub private_default_at : Text → Bool
-  private_default_at f =
-      option_map_or (λ v. (is_hidden f || not v.public) && only_default v) (value_at m f) false
+  abbrev pub private_at : Text → Bool
+  private_at f = option_map_or (λ v. not v.public) (value_at m f) false
 
   abbrev pub over_at : ℕ → Listed → Text → Bool
   over_at limit listed f =
       list_any (λ e. bytes_eq f e.0 && (nat_lt limit (length e.1) || not (explicit_at e.0))) listed
 
+  -- a hidden or private feature that only `default` turns on
+  abbrev pub IsPrivateDefault : Links → Text → Type 0
+  IsPrivateDefault l f =
+      IsIn l (λ a. IsTrue (is_hidden (name_at l a) || private_at (name_at l a))
+      × IsOfDefault l a) f
+
   -- what a finding of the code says, of these maps
-  abbrev pub HoldsIn : Known → List ProductMeaning → ℕ → Code → Text → Type 0
-  HoldsIn known bins limit NotOptional f =
+  abbrev pub HoldsIn : Known → Links → List ProductMeaning → ℕ → Code → Text → Type 0
+  HoldsIn known l bins limit NotOptional f =
       IsTrue (lists (listed_by known) (is_not_optional (held_names known)) f)
-  HoldsIn known bins limit SameName f = IsTrue (has_same_name (held_names known) f)
-  HoldsIn known bins limit Unknown f =
+  HoldsIn known l bins limit SameName f = IsTrue (has_same_name (held_names known) f)
+  HoldsIn known l bins limit Unknown f =
       IsTrue (lists (listed_by known) (is_unknown (held_names known)) f
       || is_required (held_names known) (table_in m).has bins f)
-  HoldsIn known bins limit Implied f = IsTrue (implied_at f)
-  HoldsIn known bins limit PrivateDefault f = IsTrue (private_default_at f)
-  HoldsIn known bins limit Cycle f = IsCyclic (table_in m) f
-  HoldsIn known bins limit OverLimit f = IsTrue (over_at limit (listed_by known) f)
-  HoldsIn known bins limit Unreachable f = IsUnreachable (table_in m) f
+  HoldsIn known l bins limit Implied f = IsTrue (implied_at f)
+  HoldsIn known l bins limit PrivateDefault f = IsPrivateDefault l f
+  HoldsIn known l bins limit Cycle f = IsIn l (IsInRing l.reach.next.items) f
+  HoldsIn known l bins limit OverLimit f = IsTrue (over_at limit (listed_by known) f)
+  HoldsIn known l bins limit Unreachable f = IsIn l (IsLeftAlone l) f
 
 -- codes with features, as findings have them
 abbrev pub Abouts : Type 0
@@ -111,14 +98,14 @@ module _ {S : Type 0} (m : HashMap (Bor Text) Feature S) where
       || is_required (held_names known) (table_in m).has bins f)) c f
 
   -- what is found of single features
-  abbrev pub AreHints : Code → Text → Type 0
-  AreHints c f =
+  abbrev pub AreHints : Links → Code → Text → Type 0
+  AreHints l c f =
       At Implied (λ f. IsTrue (implied_at m f)) c f
-      ⊎ At PrivateDefault (λ f. IsTrue (private_default_at m f)) c f
+      ⊎ At PrivateDefault (IsPrivateDefault m l) c f
 
   -- what is found by walks and at the limit
-  abbrev pub AreWarnings : Known → ℕ → Code → Text → Type 0
-  AreWarnings known limit c f =
-      (At Cycle (λ f. IsCyclic (table_in m) f) c f
+  abbrev pub AreWarnings : Known → Links → ℕ → Code → Text → Type 0
+  AreWarnings known l limit c f =
+      (At Cycle (IsIn l (IsInRing l.reach.next.items)) c f
       ⊎ At OverLimit (λ f. IsTrue (over_at m limit (listed_by known) f)) c f)
-      ⊎ At Unreachable (λ f. IsUnreachable (table_in m) f) c f
+      ⊎ At Unreachable (IsIn l (IsLeftAlone l)) c f

@@ -1,11 +1,10 @@
 //! What is found of single features.
-ghost use Rattle.std.specs.Prelude.{◌≡◌, ◌&&◌, ◌||◌, Bool, false, IfOk, nat_eq};
+ghost use Rattle.std.specs.Prelude.{◌≡◌, ◌&&◌, Bool, IfOk};
 ghost use Rattle.std.specs.Fn.{FnReturnsAt};
-ghost use Rattle.std.specs.Option.{option_map_or};
 ghost use Rattle.cargo_toml.specs.Action.{Text};
-ghost use Rattle.cargo_toml.specs.Views.{set_has, value_at};
+ghost use Rattle.cargo_toml.specs.Views.{set_has};
 ghost use Rattle.cargo_toml_lint.specs.Findings.{is_hidden};
-ghost use Rattle.cargo_toml_lint.specs.Steps.{implied_at, only_default, private_default_at};
+ghost use Rattle.cargo_toml_lint.specs.Steps.{implied_at, private_at};
 
 use cargo_toml::features::Feature;
 use std::alloc::{AllocError, Global};
@@ -13,7 +12,7 @@ use std::collections::{BTreeSet, HashMap};
 use std::hash::BuildHasher;
 
 /// The features of a manifest, as they are resolved with none removed.
-pub(crate) type FeatureMap<'m, S> = HashMap<&'m str, Feature<'m>, S>;
+pub type FeatureMap<'m, S> = HashMap<&'m str, Feature<'m>, S>;
 
 /// Those of the names that pass the test.
 pub(crate) fn those<'m, F: Fn(&str) -> bool>(
@@ -53,24 +52,15 @@ pub(crate) fn is_implied<S: BuildHasher>(
     }
 }
 
-// Whether `default` enables the feature, and no other does.
-fn is_only_default(feature: &Feature<'_>) -> bool
-    ensures { result ≡ only_default feature.now }
-{
-    let mut others = feature.non_default_enabled_by();
-    let is_only = others.next().is_none();
-    feature.enabled_by.contains("default") && is_only
-}
-
-/// Whether the feature of this name is hidden or private, and `default` enables it and no other.
-pub(crate) fn is_private_default<S: BuildHasher>(
+/// Whether the feature of this name is private.
+pub(crate) fn is_private<S: BuildHasher>(
     features: &HashMap<&str, Feature<'_>, S>,
     name: &str,
 ) -> bool
-    ensures { result ≡ private_default_at features.now name.now }
+    ensures { result ≡ private_at features.now name.now }
 {
     match features.get(name) {
-        Some(feature) => (is_hidden(name) || !feature.public) && is_only_default(feature),
+        Some(feature) => !feature.public,
         None => false,
     }
 }

@@ -1,14 +1,19 @@
-//! What is wrong with the features of a manifest: exactly the findings of each code.
+//! What is wrong with the features of a manifest: exactly the findings of each code. And which of
+//! its features turn on which.
 #![tactic(auto)]
 
 mod adding;
+mod bits;
 mod finding;
 mod graph;
 mod known;
+mod linking;
 mod linting;
 mod lists;
+mod reach;
 mod walks;
 
 pub use cargo_toml_features::admit::MAX_ITEMS;
 pub use finding::{Code, Finding, Level};
+pub use linking::Links;
 pub use linting::{lint, lint_limited};

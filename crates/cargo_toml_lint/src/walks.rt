@@ -1,169 +1,123 @@
-//! What is found of the graph of features by walking it: by names, and to any depth.
-ghost use Rattle.std.specs.Prelude.{◌≡◌, ◌⊎◌, ◌↔◌, ◌&&◌, ◌||◌, false, IfOk};
-ghost use Rattle.std.specs.Prelude.{IfErr, IsTrue, OnOk, is_some, not};
-ghost use Rattle.std.specs.Option.{option_map_or};
+//! What is found of features that turn on one another.
+ghost use Rattle.std.specs.Prelude.{◌≡◌, ◌<◌, ◌*◌, ◌↔◌, ◌||◌, IfOk, IsTrue, length, map, not};
 ghost use Rattle.cargo_toml.specs.Action.{Text};
-ghost use Rattle.cargo_toml.specs.Error.{Memory};
-ghost use Rattle.cargo_toml.specs.Reached.{IsKeyed};
-ghost use Rattle.cargo_toml.specs.Recursive.{Enables};
-ghost use Rattle.cargo_toml.specs.Views.{set_has, resolution_of, table_in, value_at};
-ghost use Rattle.cargo_toml_lint.specs.Findings.{IsCyclic, IsUnreachable, is_hidden};
-ghost use Rattle.cargo_toml_lint.specs.Steps.{IsReached, TellsEnablers};
+ghost use Rattle.cargo_toml.specs.Views.{set_has};
+ghost use Rattle.cargo_toml_lint.specs.Bits.{HasBit};
+ghost use Rattle.cargo_toml_lint.specs.Findings.{is_hidden};
+ghost use Rattle.cargo_toml_lint.specs.Linked.{AreFound, IsIn, IsLeftAlone, IsOfDefault};
+ghost use Rattle.cargo_toml_lint.specs.Linked.{is_default, name_at};
+ghost use Rattle.cargo_toml_lint.specs.Reached.{IsInRing};
+ghost use Rattle.cargo_toml_lint.specs.Steps.{private_at};
 
-use crate::graph::{FeatureMap, is_hidden, those};
-use cargo_toml::Error;
-use cargo_toml::features::Feature;
+use crate::bits::has_bit;
+use crate::graph::{FeatureMap, is_hidden, is_private};
+use crate::linking::Links;
 use std::alloc::{AllocError, Global};
-use std::collections::{BTreeSet, HashMap};
+use std::collections::BTreeSet;
 use std::hash::BuildHasher;
 
-// Whether the feature that is found under `other` names the one of this name.
-fn names_back<S: BuildHasher>(
-    enabled: &HashMap<&str, &Feature<'_>, S>,
-    other: &str,
-    name: &str,
-) -> bool
-    ensures { result ≡ option_map_or (λ v. set_has v.now.enables_features name.now)
-        (value_at enabled.now other.now) false }
-{
-    match enabled.get(other) {
-        Some(feature) => feature.enables_features.contains(name),
-        None => false,
-    }
-}
-
-// Features in rings: the one of this name, and those of its enablers that it enables and that name
-// it. None, where no enabler does.
-fn ring_of<'m, S: BuildHasher + Clone>(
+/// The features that turn on another which turns them on.
+pub(crate) fn cyclic<'m>(
     alloc: Global,
-    features: &FeatureMap<'m, S>,
-    name: &str,
-) -> Result<BTreeSet<&'m str>, Error>
-    requires keyed { IsKeyed features.now }
-    requires enablers { TellsEnablers (resolution_of features.now) }
-    ensures rings { IfOk result (λ s. (f : Text) → IsTrue (set_has s f)
-        → IsCyclic (table_in features.now) f) }
-    ensures itself { IfOk result (λ s. IsCyclic (table_in features.now) name.now
-        → IsTrue (set_has s name.now)) }
-    ensures refused { IfErr result (λ e. e ≡ Memory) }
-{
-    let Some(feature) = features.get(name) else {
-        return Ok(BTreeSet::new(alloc));
-    };
-    let (enabled, _dependencies) = feature.enables_recursive(alloc, features)?;
-    let mut ring = those(alloc, &feature.enabled_by, |other| {
-        names_back(&enabled, other, feature.key)
-    })?;
-    if !ring.is_empty() {
-        ring.insert(feature.key)?;
-    }
-    Ok(ring)
-}
-
-/// The features that enable themselves through others, by names.
-pub(crate) fn cyclic<'m, S: BuildHasher + Clone>(
-    alloc: Global,
-    names: &BTreeSet<&'m str>,
-    features: &FeatureMap<'m, S>,
-) -> Result<BTreeSet<&'m str>, Error>
-    requires keyed { IsKeyed features.now }
-    requires enablers { TellsEnablers (resolution_of features.now) }
-    requires names { (f : Text) → set_has names.now f ≡ (table_in features.now).has f }
-    ensures cyclic { IfOk result (λ s. (f : Text) → IsTrue (set_has s f)
-        ↔ IsCyclic (table_in features.now) f) }
-    ensures refused { IfErr result (λ e. e ≡ Memory) }
+    links: &Links<'m>,
+) -> Result<BTreeSet<&'m str>, AllocError>
+    requires { AreFound links.now }
+    ensures { IfOk result (λ s. (f : Text) → IsTrue (set_has s f)
+        ↔ IsIn links.now (IsInRing links.now.reach.next.items) f) }
 {
     let mut found = BTreeSet::new(alloc);
-    for name in names {
-        // Who is found needs no walk: where all features name all, one walk is enough.
-        if !found.contains(*name) {
-            let mut ring = ring_of(alloc, features, *name)?;
-            found.append(&mut ring)?;
+    for place in 0..links.names.len() {
+        if links.reach.is_in_ring(place) {
+            found.insert(links.names[place])?;
         }
     }
     Ok(found)
 }
 
-// Adds the names of a map.
-fn add_names<'m, S: BuildHasher>(
-    reached: &mut BTreeSet<&'m str>,
-    enabled: &HashMap<&'m str, &Feature<'m>, S>,
-) -> Result<(), AllocError>
-    ensures { OnOk result ((x : Text) → set_has reached.new x
-        ≡ (set_has reached.old x || is_some (value_at enabled.now x))) }
+// Whether each of the names isn't hidden.
+fn are_shown(alloc: Global, names: &[&str]) -> Result<Vec<bool>, AllocError>
+    ensures { IfOk result (λ flags.
+        flags.items ≡ map (λ t. not (is_hidden t.now)) names.now) }
 {
-    reached.extend(enabled.keys().copied())
-}
-
-// Adds the features that the one of this name enables, by names.
-fn add_enabled<'m, S: BuildHasher + Clone>(
-    alloc: Global,
-    reached: &mut BTreeSet<&'m str>,
-    features: &FeatureMap<'m, S>,
-    name: &str,
-) -> Result<(), Error>
-    requires { IsKeyed features.now }
-    ensures added { OnOk result ((x : Text) → IsTrue (set_has reached.new x)
-        ↔ (IsTrue (set_has reached.old x) ⊎ (IsTrue ((table_in features.now).has name.now)
-        × Enables (table_in features.now) name.now x))) }
-    ensures refused { IfErr result (λ e. e ≡ Memory) }
-{
-    let Some(feature) = features.get(name) else {
-        return Ok(());
-    };
-    let (enabled, _dependencies) = feature.enables_recursive(alloc, features)?;
-    add_names(reached, &enabled)?;
-    Ok(())
-}
-
-// The features that those for users enable, by names.
-fn reached_by_users<'m, S: BuildHasher + Clone>(
-    alloc: Global,
-    names: &BTreeSet<&'m str>,
-    features: &FeatureMap<'m, S>,
-) -> Result<BTreeSet<&'m str>, Error>
-    requires keyed { IsKeyed features.now }
-    requires names { (f : Text) → set_has names.now f ≡ (table_in features.now).has f }
-    ensures reached { IfOk result (λ s. (x : Text) → IsTrue (set_has s x)
-        ↔ IsReached (table_in features.now) x) }
-    ensures refused { IfErr result (λ e. e ≡ Memory) }
-{
-    let mut reached = BTreeSet::new(alloc);
+    let mut flags = Vec::with_capacity(alloc, names.len())?;
     for name in names {
-        // Where a feature is reached, so is all that it enables.
-        if !is_hidden(*name) && !reached.contains(*name) {
-            add_enabled(alloc, &mut reached, features, *name)?;
+        flags.push(!is_hidden(*name))?;
+    }
+    Ok(flags)
+}
+
+// Whether each of the names is `default`, or where `wanted` isn't set, another.
+fn are_default(alloc: Global, names: &[&str], wanted: bool) -> Result<Vec<bool>, AllocError>
+    ensures { IfOk result (λ flags. flags.items ≡ map (λ t. is_default wanted t.now) names.now) }
+{
+    let mut flags = Vec::with_capacity(alloc, names.len())?;
+    for name in names {
+        flags.push((*name == "default") == wanted)?;
+    }
+    Ok(flags)
+}
+
+/// The hidden features that no feature turns on which isn't hidden.
+pub(crate) fn unreachable<'m>(
+    alloc: Global,
+    links: &Links<'m>,
+) -> Result<BTreeSet<&'m str>, AllocError>
+    requires { AreFound links.now }
+    ensures { IfOk result (λ s. (f : Text) → IsTrue (set_has s f)
+        ↔ IsIn links.now (IsLeftAlone links.now) f) }
+{
+    let names = links.names.as_slice();
+    let shown = are_shown(alloc, names)?;
+    let reached = links.reach.reached_from(alloc, shown.as_slice())?;
+    let bits = reached.as_slice();
+    let mut found = BTreeSet::new(alloc);
+    for place in 0..names.len() {
+        if is_hidden(names[place]) && !has_bit(bits, place) {
+            found.insert(names[place])?;
         }
     }
-    Ok(reached)
+    Ok(found)
 }
 
-// Whether the feature of this name is hidden, and not among those that are reached.
-fn is_left_alone<S: BuildHasher>(
-    features: &HashMap<&str, Feature<'_>, S>,
-    reached: &BTreeSet<&str>,
-    name: &str,
-) -> bool
-    ensures { result ≡ ((table_in features.now).has name.now
-        && (is_hidden name.now && not (set_has reached.now name.now))) }
+// Whether the feature of this name is hidden or private.
+fn is_internal<S: BuildHasher>(features: &FeatureMap<'_, S>, name: &str) -> bool
+    ensures { result ≡ (is_hidden name.now || private_at features.now name.now) }
 {
-    features.contains_key(name) && is_hidden(name) && !reached.contains(name)
+    is_hidden(name) || is_private(features, name)
 }
 
-/// The hidden features to which no other leads that isn't hidden, by names.
-pub(crate) fn unreachable<'m, S: BuildHasher + Clone>(
+// Whether the first of two sets has the place, and the second hasn't.
+fn is_alone(first: &[u64], second: &[u64], place: usize) -> bool
+    requires first { place < 64 * length first.now }
+    requires second { place < 64 * length second.now }
+    ensures { IsTrue result ↔ (HasBit first.now place × (¬ HasBit second.now place)) }
+{
+    has_bit(first, place) && !has_bit(second, place)
+}
+
+/// The hidden and private features that `default` turns on in one step, and no other.
+pub(crate) fn private_default<'m, S: BuildHasher>(
     alloc: Global,
-    names: &BTreeSet<&'m str>,
+    links: &Links<'m>,
     features: &FeatureMap<'m, S>,
-) -> Result<BTreeSet<&'m str>, Error>
-    requires keyed { IsKeyed features.now }
-    requires names { (f : Text) → set_has names.now f ≡ (table_in features.now).has f }
-    ensures unreachable { IfOk result (λ s. (f : Text) → IsTrue (set_has s f)
-        ↔ IsUnreachable (table_in features.now) f) }
-    ensures refused { IfErr result (λ e. e ≡ Memory) }
+) -> Result<BTreeSet<&'m str>, AllocError>
+    requires { AreFound links.now }
+    ensures { IfOk result (λ s. (f : Text) → IsTrue (set_has s f)
+        ↔ IsIn links.now (λ a. IsTrue (is_hidden (name_at links.now a)
+        || private_at features.now (name_at links.now a)) × IsOfDefault links.now a) f) }
 {
-    let reached = reached_by_users(alloc, names, features)?;
-    Ok(those(alloc, names, |name| {
-        is_left_alone(features, &reached, name)
-    })?)
+    let names = links.names.as_slice();
+    let default = are_default(alloc, names, true)?;
+    let others = are_default(alloc, names, false)?;
+    let by_default = links.reach.named_by(alloc, default.as_slice())?;
+    let by_others = links.reach.named_by(alloc, others.as_slice())?;
+    let first = by_default.as_slice();
+    let second = by_others.as_slice();
+    let mut found = BTreeSet::new(alloc);
+    for place in 0..names.len() {
+        if is_internal(features, names[place]) && is_alone(first, second, place) {
+            found.insert(names[place])?;
+        }
+    }
+    Ok(found)
 }

@@ -20,16 +20,10 @@ pub mod Within
 pub mod Yielded
 pub mod Followed
 pub mod KeysInOrder
-pub mod Drawn
-pub mod Separated
 pub mod Ordered
-pub mod Paged
 pub mod Joined
-pub mod Turned
-pub mod Walking
 pub mod Reaching
 pub mod Rowed
-pub mod Shown
 pub mod Exactly
 pub mod Grouped
 pub mod Inserted

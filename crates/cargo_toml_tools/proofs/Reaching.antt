@@ -15,8 +15,8 @@ use Rattle.std.specs.Option.{option_map_or}
 use Rattle.std.specs.Ordering.{nat_cmp}
 use Rattle.std.specs.Prelude.{bytes_eq}
 use Rattle.cargo_toml.specs.Action.{Action, IsJoin, Text, join_option}
-use Rattle.cargo_toml.specs.Admitted.{Listed}
 use Rattle.cargo_toml.specs.Feature.{Feature}
+use Rattle.cargo_toml.specs.Graph.{Table}
 use Rattle.cargo_toml.specs.Reached.{IsKeyed}
 use Rattle.cargo_toml.specs.Views.{action_at, set_has, table_in, value_at}
 use Rattle.cargo_toml_features.proofs.Naming.{none_left, none_yet, one_more}
@@ -25,8 +25,7 @@ use Rattle.cargo_toml_features.proofs.TextKeys.{none_in}
 use Rattle.cargo_toml_graph.proofs.JoinLaws.{join_option_assoc, join_option_none}
 use Rattle.cargo_toml_graph.proofs.Joins.{join_alike, join_halves, join_one}
 use Rattle.cargo_toml_lint.proofs.Gathered.{at_head, has_in}
-use Rattle.cargo_toml_tools.specs.Documented.{Acts, IsOn, TurnsOnOther, is_internal}
-use Rattle.cargo_toml_tools.specs.PageSteps.{is_told_beside}
+use Rattle.cargo_toml_tools.specs.Documented.{Acts, IsOn, TurnsOnOther, is_internal, is_told_beside}
 
 module _ {S : Type 0} (m : HashMap (Bor Text) Feature S) (name : Text) where
   -- ---- the features beside the one of this name
@@ -114,8 +113,8 @@ module _ {S : Type 0} (m : HashMap (Bor Text) Feature S) (name : Text) where
       none_left (hits x) (set_has others x) left _ none (h x)
       ∙ both (is_at (λ q. slice_cmp nat_cmp x q.now)) (is_beside x) names.keys
 
-  module _ (listed : Listed) (keyed : IsKeyed m) (names others : BTreeSet (Bor Text))
-      (on : (x : Text) → IsTrue (set_has names x) ↔ IsOn listed m name x)
+  module _ (t : Table) (keyed : IsKeyed m) (names others : BTreeSet (Bor Text))
+      (on : (x : Text) → IsTrue (set_has names x) ↔ IsOn t m name x)
       (are : (x : Text) → set_has others x ≡ (set_has names x && is_beside x)) where
     other : (x : Text) (o : Option Feature) → value_at m x ≡ o
         → IsTrue (option_map_or (is_told_beside name) o false)
@@ -138,17 +137,17 @@ module _ {S : Type 0} (m : HashMap (Bor Text) Feature S) (name : Text) where
         (false_from_ne_true (bytes_eq v.key.now name)
         (λ same. apart (sym (key_of m keyed x v at) ∙ (bytes_eq-Decides v.key.now name).0 same)))) e
 
-    pub others_are : (x : Text) → IsTrue (set_has others x) ↔ TurnsOnOther listed m name x
+    pub others_are : (x : Text) → IsTrue (set_has others x) ↔ TurnsOnOther t m name x
     others_are x = (
       λ h.
           let p = and_parts (set_has names x) (is_beside x) (sym (are x) ∙ h) in
           let q = other x (value_at m x) refl p.1 in (q.0, (on x).0 p.0, q.1),
-      λ t. are x ∙ and_from (set_has names x) (is_beside x) ((on x).1 t.1)
-          (beside x (value_at m x) refl t.0 t.2),
+      λ h. are x ∙ and_from (set_has names x) (is_beside x) ((on x).1 h.1)
+          (beside x (value_at m x) refl h.0 h.2),
     )
 
 -- ---- the actions of all of them
-module _ {S : Type 0} (listed : Listed) (m : HashMap (Bor Text) Feature S) (name : Text) where
+module _ {S : Type 0} (t : Table) (m : HashMap (Bor Text) Feature S) (name : Text) where
   -- some name of the list acts so on k
   abbrev SaysOf : List (Bor Text) → Text → Action → Type 0
   SaysOf left k a = (g : Text) × IsTrue (has_in left g) × ((table_in m).action g k ≡ Some a)
@@ -156,16 +155,16 @@ module _ {S : Type 0} (listed : Listed) (m : HashMap (Bor Text) Feature S) (name
   -- with what those that are left say, all is joined
   abbrev pub Joining : (Text → Option Action) → List (Bor Text) → Type 0
   Joining acts left = (k : Text) (o : Option Action) → IsJoin (SaysOf left k) o
-      → IsJoin (Acts listed m name k) (join_option (acts k) o)
+      → IsJoin (Acts t m name k) (join_option (acts k) o)
 
   pub joining_begun : (acts : Text → Option Action) (left : List (Bor Text))
       (names : BTreeSet (Bor Text)) → ((k : Text) → acts k ≡ None) → left ≡ names.keys
-      → ((x : Text) → IsTrue (set_has names x) ↔ IsOn listed m name x) → Joining acts left
+      → ((x : Text) → IsTrue (set_has names x) ↔ IsOn t m name x) → Joining acts left
   joining_begun acts left names none is on k o h =
-      subst (λ p. IsJoin (Acts listed m name k) (join_option p o)) (sym (none k))
+      subst (λ p. IsJoin (Acts t m name k) (join_option p o)) (sym (none k))
       (join_alike (λ a. (
         λ s. (s.0, (on s.0).0 (sym (ap (λ ks. has_in ks s.0) is) ∙ s.1), s.2),
-        λ t. (t.0, ap (λ ks. has_in ks t.0) is ∙ (on t.0).1 t.1, t.2),
+        λ u. (u.0, ap (λ ks. has_in ks u.0) is ∙ (on u.0).1 u.1, u.2),
       )) o h)
 
   pub joining_one : (q : Bor Text) (left rest : List (Bor Text)) (old new : Text → Option Action)
@@ -173,7 +172,7 @@ module _ {S : Type 0} (listed : Listed) (m : HashMap (Bor Text) Feature S) (name
       → ((k : Text) → new k ≡ join_option (old k) ((table_in m).action q.now k))
       → Joining old left → Joining new rest
   joining_one q left rest old new is more before k o h =
-      subst (IsJoin (Acts listed m name k))
+      subst (IsJoin (Acts t m name k))
       (sym (ap (λ p. join_option p o) (more k)
       ∙ join_option_assoc (old k) ((table_in m).action q.now k) o))
       (before k (join_option ((table_in m).action q.now k) o)
@@ -206,9 +205,9 @@ module _ {S : Type 0} (listed : Listed) (m : HashMap (Bor Text) Feature S) (name
       ∙ join_option_none (acts k))) before
 
   pub joining_end : (acts : Text → Option Action) (left : List (Bor Text)) → left ≡ []
-      → Joining acts left → (k : Text) → IsJoin (Acts listed m name k) (acts k)
+      → Joining acts left → (k : Text) → IsJoin (Acts t m name k) (acts k)
   joining_end acts left none h k =
-      subst (IsJoin (Acts listed m name k)) (join_option_none (acts k))
+      subst (IsJoin (Acts t m name k)) (join_option_none (acts k))
       (h k None (record {
         there = (λ e. absurd (false≢true e), λ e. absurd (nobody e.0 e.1));
         plain = tt;

@@ -15,16 +15,16 @@ use Rattle.std.specs.Option.{option_map_or}
 use Rattle.std.specs.Ordering.{nat_cmp}
 use Rattle.std.specs.Prelude.{bytes_eq, codes, filter}
 use Rattle.cargo_toml.specs.Action.{Text}
-use Rattle.cargo_toml.specs.Admitted.{Listed}
 use Rattle.cargo_toml.specs.Ascending.{Ascend}
 use Rattle.cargo_toml.specs.Feature.{Feature}
+use Rattle.cargo_toml.specs.Graph.{Table}
 use Rattle.cargo_toml.specs.Reach.{Among}
 use Rattle.cargo_toml.specs.Views.{listed_in, set_has, table_in, value_at}
-use Rattle.cargo_toml_tools.specs.Documented.{is_shown, is_told_of}
-use Rattle.cargo_toml_tools.specs.PageSteps.{TellsOf, TellOfAll, key_texts}
-use Rattle.cargo_toml_tools.specs.declared.document.Row.{Row}
+use Rattle.cargo_toml_tools.specs.Documented.{AreRows, IsRowOf, is_shown, is_told_of}
+use Rattle.cargo_toml_tools.specs.declared.document.listing.Row.{Row}
 use Rattle.cargo_toml_tools.proofs.KeysInOrder.{among_in, among_out}
-use Rattle.cargo_toml_tools.proofs.Walking.{listed_at}
+use Rattle.cargo_toml_tools.proofs.Ordered.{key_texts}
+use Rattle.cargo_toml_lint.proofs.Edges.{listed_at}
 
 -- ---- the texts of a set
 pub texts_among : (s : BTreeSet (Bor Text)) (x : Text) → Among (key_texts s) x ↔ IsTrue (set_has s x)
@@ -64,15 +64,15 @@ filtered_among p (t ∷ ts) x = go (p t) refl (filtered_among p ts x)
     )
 
 -- ---- the rows so far, with the names that are left
-module _ {S : Type 0} (listed : Listed) (m : HashMap (Bor Text) Feature S) where
+module _ {S : Type 0} (t : Table) (has_default : Bool) (m : HashMap (Bor Text) Feature S) where
   abbrev told : Text → Bool
-  told = is_told_of listed m
+  told = is_told_of t m has_default
 
   abbrev pub names_of_rows : List Row → List Text
   names_of_rows rows = map (λ r. r.name.now) rows
 
   abbrev pub Tells : Row → Type 0
-  Tells r = IfSome (value_at m r.name.now) (TellsOf listed m r)
+  Tells r = IfSome (value_at m r.name.now) (IsRowOf t m r)
 
   pub record Rowed (all left : List (Bor Text)) (rows : List Row) : Type 0 where
     pub names : names_of_rows rows ++ filter told (map (λ k. k.now) left) ≡ filter told (map (λ k. k.now) all)
@@ -114,12 +114,12 @@ module _ {S : Type 0} (listed : Listed) (m : HashMap (Bor Text) Feature S) where
   has_told : (x : Text) → IsTrue (told x) → IsTrue ((table_in m).has x)
   has_told x h = go (value_at m x) h
     where
-      go : (o : Option Feature) → IsTrue (option_map_or (is_shown (is_some (lookup (bytes_eq (codes "default")) listed))) o false) → IsTrue (is_some o)
+      go : (o : Option Feature) → IsTrue (option_map_or (is_shown has_default) o false) → IsTrue (is_some o)
       go None e = e
       go (Some v) e = refl
 
   pub rowed_all : (names : BTreeSet (Bor Text)) (left : List (Bor Text)) (rows : List Row) → left ≡ [] → Ascend (key_texts names)
-      → ((x : Text) → set_has names x ≡ (table_in m).has x) → Rowed names.keys left rows → TellOfAll listed m rows
+      → ((x : Text) → set_has names x ≡ (table_in m).has x) → Rowed names.keys left rows → AreRows t m has_default rows
   rowed_all names left rows none up are h =
       let same : names_of_rows rows ≡ filter told (key_texts names) =
       sym (append-nil (names_of_rows rows)) ∙ ap (λ ks. names_of_rows rows ++ filter told (map (λ (q : Bor Text). q.now) ks)) (sym none) ∙ h.names in
@@ -127,7 +127,7 @@ module _ {S : Type 0} (listed : Listed) (m : HashMap (Bor Text) Feature S) where
         names = record {
           exact = λ x. (
             λ i. ((filtered_among told (key_texts names) x).0 (subst (λ ts. Among ts x) same i)).1,
-            λ t. subst (λ ts. Among ts x) (sym same) ((filtered_among told (key_texts names) x).1 ((texts_among names x).1 (are x ∙ has_told x t), t)),
+            λ u. subst (λ ts. Among ts x) (sym same) ((filtered_among told (key_texts names) x).1 ((texts_among names x).1 (are x ∙ has_told x u), u)),
           );
           in_order = subst Ascend (sym same) (IsStrictlySortedBy-filter (slice_cmp nat_cmp) told (key_texts names) up);
         };
@@ -135,13 +135,13 @@ module _ {S : Type 0} (listed : Listed) (m : HashMap (Bor Text) Feature S) where
       }
 
   -- ---- whether a feature is told of
-  pub told_at : (x : Text) (v : Feature) (has_default : Bool) → value_at m x ≡ Some v → has_default ≡ is_some (lookup (bytes_eq (codes "default")) listed)
-      → told x ≡ is_shown has_default v
-  told_at x v has_default at is =
-      ap (λ o. option_map_or (is_shown (is_some (lookup (bytes_eq (codes "default")) listed))) o false) at ∙ ap (λ b. is_shown b v) (sym is)
+  pub told_at : (x : Text) (v : Feature) (shown : Bool) → value_at m x ≡ Some v → shown ≡ has_default
+      → told x ≡ is_shown shown v
+  told_at x v shown at is =
+      ap (λ o. option_map_or (is_shown has_default) o false) at ∙ ap (λ b. is_shown b v) (sym is)
 
   pub untold_at : (x : Text) → value_at m x ≡ None → told x ≡ false
-  untold_at x at = ap (λ o. option_map_or (is_shown (is_some (lookup (bytes_eq (codes "default")) listed))) o false) at
+  untold_at x at = ap (λ o. option_map_or (is_shown has_default) o false) at
 
 mapped : {X Y : Type 0} (f : X → Y) (o : Option X) → is_some (option_map f o) ≡ is_some o
 mapped f None = refl

@@ -1,21 +1,22 @@
 -- Which features are documented, and what each turns on.
-use Rattle.std.specs.Prelude.{◌≡◌, ◌≢◌, ◌↔◌, ◌&&◌, ◌||◌, Bool, false, IfSome, IsFalse, IsTrue, List}
-use Rattle.std.specs.Prelude.{Some, bytes_eq, codes, is_some, map, nat_eq, not, option_map}
+use Rattle.std.specs.Prelude.{◌≡◌, ◌≢◌, ◌↔◌, ◌&&◌, ◌||◌, Bool, false, IfSome, IsTrue, List, Some}
+use Rattle.std.specs.Prelude.{bytes_eq, codes, is_some, map, nat_eq, not}
 use Rattle.std.specs.Borrow.{Bor}
 use Rattle.std.specs.HashMap.{HashMap}
-use Rattle.std.specs.List.{AllByRecursion, list_any, starts_with}
+use Rattle.std.specs.List.{AllByRecursion, starts_with}
 use Rattle.std.specs.Map.{lookup}
 use Rattle.std.specs.Option.{option_copied, option_map_or}
-use Rattle.cargo_toml.specs.Action.{Action, Item, Text}
-use Rattle.cargo_toml.specs.Action.Item.{Name, On}
-use Rattle.cargo_toml.specs.Admitted.{Listed, items}
+use Rattle.cargo_toml.specs.Action.{Action, IsJoin, Text}
 use Rattle.cargo_toml.specs.Ascending.{Ascend}
 use Rattle.cargo_toml.specs.Feature.{Feature}
+use Rattle.cargo_toml.specs.Graph.{Table}
 use Rattle.cargo_toml.specs.Manifests.{ManifestMeaning}
 use Rattle.cargo_toml.specs.Reach.{Among}
-use Rattle.cargo_toml.specs.Reached.{IsKeyed}
-use Rattle.cargo_toml.specs.Views.{table_in, value_at}
-use Rattle.cargo_toml_tools.specs.Pages.{PageAction, PageRow, page_text}
+use Rattle.cargo_toml.specs.Recursive.{Enables}
+use Rattle.cargo_toml.specs.Views.{action_at, set_has, table_in, value_at}
+use Rattle.cargo_toml_lint.specs.Turning.{turning}
+use Rattle.cargo_toml_tools.specs.declared.document.listing.Row.{Row}
+use Rattle.cargo_toml_tools.specs.declared.document.reached.Reached.{Reached}
 
 -- hidden by its name, or private by its table
 abbrev pub is_internal : Feature → Bool
@@ -26,30 +27,20 @@ abbrev pub is_shown : Bool → Feature → Bool
 is_shown has_default f =
     not (is_internal f) && (has_default || not (bytes_eq f.key.now (codes "default")))
 
--- an item names x, or acts on the dependency x, neither conditionally nor by `dep:`
-abbrev pub turns_to : Text → Item → Bool
-turns_to x (Name y) = bytes_eq x y
-turns_to x (On k a) = bytes_eq x k && (not a.is_conditional && not a.is_dep_only)
-
--- some item of the list of f does so
-abbrev pub leads_to : Listed → Text → Text → Bool
-leads_to listed f x = list_any (turns_to x) (items listed f)
-
--- the features that f turns on: itself, and any to which the list of one leads
-pub data TurnsOn (listed : Listed) (has : Text → Bool) (f : Text) : Text → Type 0 where
-  start : IsTrue (has f) → TurnsOn listed has f f
-  onward : {g x : Text} → TurnsOn listed has f g → IsTrue (leads_to listed g x) → IsTrue (has x)
-      → TurnsOn listed has f x
+-- told of beside the feature of this name
+abbrev pub is_told_beside : Text → Feature → Bool
+is_told_beside name f = not (bytes_eq f.key.now name) && not (is_internal f)
 
 -- these texts and no others, each once, in byte order
 pub record AreTexts (P : Text → Type 0) (texts : List Text) : Type 0 where
   pub exact : (x : Text) → Among texts x ↔ P x
   pub in_order : Ascend texts
 
--- the features of a manifest, as they are listed and as they are resolved
-module _ {S : Type 0} (listed : Listed) (m : HashMap (Bor Text) Feature S) where
+-- by a table of what features turn on, and the features as they are resolved
+module _ {S : Type 0} (t : Table) (m : HashMap (Bor Text) Feature S) where
+  -- f turns x on, by any number of steps
   abbrev pub IsOn : Text → Text → Type 0
-  IsOn f x = TurnsOn listed (table_in m).has f x
+  IsOn f x = IsTrue (t.has f) × Enables t f x
 
   -- some feature that f turns on acts so on the dependency k
   abbrev pub Acts : Text → Text → Action → Type 0
@@ -60,35 +51,31 @@ module _ {S : Type 0} (listed : Listed) (m : HashMap (Bor Text) Feature S) where
   TurnsOnOther f x =
       (x ≢ f) × IsOn f x × IsTrue (option_map_or (λ v. not (is_internal v)) (value_at m x) false)
 
-  -- what all that f turns on does to a dependency: conditional where each of them is
-  pub record IsJoined (f : Text) (e : PageAction) : Type 0 where
-    pub plain : IsFalse e.is_conditional
-        ↔ ((a : Action) × Acts f e.key a × IsFalse a.is_conditional)
-    pub asked : AreTexts (λ x. (a : Action) × Acts f e.key a × IsTrue (a.features x)) e.asked
+  -- what is reached from f: the others, and what all of them do to each dependency, joined
+  pub record IsReachedFrom (f : Text) (r : Reached) : Type 0 where
+    pub features : (x : Text) → IsTrue (set_has r.features x) ↔ TurnsOnOther f x
+    pub actions : (k : Text) → IsJoin (Acts f k) (action_at r.actions k)
 
   -- the row tells of the feature v
-  pub record IsRowOf (r : PageRow) (v : Feature) : Type 0 where
+  pub record IsRowOf (r : Row) (v : Feature) : Type 0 where
+    pub name : r.name.now ≡ v.key.now
     pub is_listed : r.is_listed ≡ v.explicit
-    pub doc : r.doc ≡ option_copied v.doc
-    pub is_default : IsTrue r.is_default ↔ IsOn (codes "default") r.name
-    pub features : AreTexts (TurnsOnOther r.name) r.features
-    pub keys : AreTexts (λ k. (a : Action) × Acts r.name k a) (map (λ e. e.key) r.actions)
-    pub actions : AllByRecursion (IsJoined r.name) r.actions
+    pub doc : option_copied r.doc ≡ option_copied v.doc
+    pub is_default : IsTrue r.is_default ↔ IsOn (codes "default") v.key.now
+    pub reached : IsReachedFrom v.key.now r.turns_on
 
   -- whether f is told of
-  abbrev pub is_told_of : Text → Bool
-  is_told_of f =
-      option_map_or (is_shown (is_some (lookup (bytes_eq (codes "default")) listed)))
-      (value_at m f) false
+  abbrev pub is_told_of : Bool → Text → Bool
+  is_told_of has_default f = option_map_or (is_shown has_default) (value_at m f) false
 
   -- the rows are those of all features that are told of, in byte order of their names
-  pub record AreRows (rows : List PageRow) : Type 0 where
-    pub names : AreTexts (λ f. IsTrue (is_told_of f)) (map (λ r. r.name) rows)
-    pub each : AllByRecursion (λ r. IfSome (value_at m r.name) (IsRowOf r)) rows
+  pub record AreRows (has_default : Bool) (rows : List Row) : Type 0 where
+    pub names : AreTexts (λ f. IsTrue (is_told_of has_default f)) (map (λ r. r.name.now) rows)
+    pub each : AllByRecursion (λ r. IfSome (value_at m r.name.now) (IsRowOf r)) rows
 
--- the page is that of the rows. Each feature has to stand under its own name, as `parse` leaves it
-pub record Documents {M S : Type 0} (m : ManifestMeaning M)
-    (features : HashMap (Bor Text) Feature S) (page : Text) : Type 0 where
-  pub rows : List PageRow
-  pub are : IsKeyed features → AreRows m.features features rows
-  pub whole : page ≡ page_text (option_map (λ p. p.name) m.«package») rows
+-- the same of a manifest, by what its features turn on
+abbrev pub AreRowsOf : {M S : Type 0} → ManifestMeaning M → HashMap (Bor Text) Feature S
+    → List Row → Type 0
+AreRowsOf d m rows =
+    AreRows (turning d (table_in m).has) m
+    (is_some (lookup (bytes_eq (codes "default")) d.features)) rows

@@ -13,16 +13,12 @@ pub mod Neighbours
 pub mod Overall
 pub mod Escapes
 pub mod Escaped
-pub mod LintLines
 pub mod Patterns
 pub mod Places
 pub mod MemberFolders
 pub mod Documented
-pub mod Pages
-pub mod FeatureGraphs
 -- the code's own steps, in contracts of inner functions alone: nothing here has to be believed
 pub mod Checked
 pub mod Sections
 pub mod FurtherFolders
-pub mod PageSteps
 pub mod Rows

@@ -1,11 +1,8 @@
 //! What is amiss with the features of a manifest, as lines.
-ghost use Rattle.std.specs.Prelude.{◌≡◌, ◌↔◌, ◌∷◌, ◌++◌, [], IfErr, IfOk, IsTrue, OnOk, map};
-ghost use Rattle.std.specs.Prelude.{option_copied, string_bytes};
+ghost use Rattle.std.specs.Prelude.{◌≡◌, ◌↔◌, IfErr, IfOk, IsTrue};
 ghost use Rattle.std.specs.List.{list_any};
 ghost use Rattle.cargo_toml.specs.Error.{Memory};
 ghost use Rattle.cargo_toml.specs.Manifests.{held};
-ghost use Rattle.cargo_toml_tools.specs.Escaped.{whole_lines};
-ghost use Rattle.cargo_toml_tools.specs.LintLines.{TellsFindings, lint_line, place};
 ghost use Rattle.cargo_toml_tools.specs.Linted.{IsAmiss, weighs};
 
 use crate::escape::{Format, push_escaped};
@@ -26,8 +23,6 @@ pub fn lint_lines<M, S: BuildHasher + Clone + Drop>(
 ) -> Result<(String, bool), Error>
     ensures status { IfOk result
         (λ r. IsTrue r.1 ↔ IsAmiss (held manifest.now)) }
-    ensures lines { IfOk result
-        (λ r. TellsFindings (held manifest.now) (option_copied file.entry) (string_bytes r.0)) }
     ensures refused { IfErr result (λ e. e ≡ Memory) }
 {
     let findings = lint(alloc, state, manifest)?;
@@ -52,10 +47,11 @@ fn weighs(level: Level) -> bool
     }
 }
 
-fn lines(alloc: Global, file: Option<&str>, findings: &[Finding<'_>]) -> Result<String, AllocError>
-    ensures { IfOk result (λ text. string_bytes text ≡
-        whole_lines (map (lint_line (option_copied file.entry)) findings.now)) }
-{
+fn lines(
+    alloc: Global,
+    file: Option<&str>,
+    findings: &[Finding<'_>],
+) -> Result<String, AllocError> {
     let mut text = String::new(alloc);
     for finding in findings {
         push_finding(&mut text, file, finding)?;
@@ -67,11 +63,11 @@ fn push_finding(
     text: &mut String,
     file: Option<&str>,
     finding: &Finding<'_>,
-) -> Result<(), AllocError>
-    ensures { OnOk result (string_bytes text.new ≡ string_bytes text.old
-        ++ (lint_line (option_copied file.entry) finding.now ++ 10 ∷ [])) }
-{
-    push_place(text, file)?;
+) -> Result<(), AllocError> {
+    if let Some(file) = file {
+        push_escaped(text, file, Format::Line)?;
+        text.push_str(": ")?;
+    }
     text.push_str(finding.level.name())?;
     text.push_str(" | ")?;
     text.push_str(finding.code.name())?;
@@ -80,16 +76,4 @@ fn push_finding(
     text.push_str(" | ")?;
     text.push_str(finding.words)?;
     text.push_str("\n")
-}
-
-/// Writes what a line begins with: the name of the file, where one is given.
-fn push_place(text: &mut String, file: Option<&str>) -> Result<(), AllocError>
-    ensures { OnOk result
-        (string_bytes text.new ≡ string_bytes text.old ++ place (option_copied file.entry)) }
-{
-    let Some(file) = file else {
-        return Ok(());
-    };
-    push_escaped(text, file, Format::Line)?;
-    text.push_str(": ")
 }

@@ -2,4 +2,3 @@
 pub mod FromFiles
 pub mod LintedFiles
 pub mod IndexedFiles
-pub mod DocumentedFiles

@@ -1,7 +1,5 @@
 //! What is documented of features.
-ghost use Rattle.std.specs.Prelude.{◌≡◌, true, IfErr, IfOk, string_bytes};
-ghost use Rattle.cargo_toml_tools_files.specs.DocumentedFiles.{IsDocument, IsDocumentOf};
-ghost use Rattle.cargo_toml_tools_files.specs.DocumentedFiles.{IsDocumented};
+ghost use Rattle.std.specs.Prelude.{◌≡◌, true, IfErr};
 ghost use Rattle.cargo_toml_tools_files.specs.FromFiles.{IsOfInput, IsUnreadable};
 
 use crate::reading::manifest_in;
@@ -20,8 +18,7 @@ pub fn document<R: Files + RandomSource + AllocGlobal>(
     file: &str,
     dot: bool,
 ) -> Result<String, Error>
-    ensures documented { IfOk result (λ text. IsDocumented dot (string_bytes text)) }
-    ensures refused { IfErr result IsUnreadable }
+    ensures { IfErr result IsUnreadable }
 {
     let held = manifest_in(rt, file)?;
     document_of(rt, &*held.manifest, dot)
@@ -39,8 +36,7 @@ fn document_of<R: RandomSource + AllocGlobal>(
     manifest: &Manifest,
     dot: bool,
 ) -> Result<String, Error>
-    ensures documented { IfOk result (λ text. IsDocumentOf manifest.now dot (string_bytes text)) }
-    ensures refused { IfErr result IsOfInput }
+    ensures { IfErr result IsOfInput }
 {
     let state = RandomState::new(rt)?;
     let keep = keep_every;
@@ -58,10 +54,7 @@ fn told_of(
     manifest: &Manifest,
     resolved: &Features<'_, '_, RandomState>,
     dot: bool,
-) -> Result<String, AllocError>
-    ensures { IfOk result
-        (λ text. IsDocument manifest.now resolved.now dot (string_bytes text)) }
-{
+) -> Result<String, AllocError> {
     if dot {
         graph(alloc, manifest, resolved)
     } else {

@@ -1,6 +1,5 @@
 //! What is amiss with features.
-ghost use Rattle.std.specs.Prelude.{IfErr, IfOk, string_bytes};
-ghost use Rattle.std.specs.Bool.{then_some};
+ghost use Rattle.std.specs.Prelude.{IfErr, IfOk};
 ghost use Rattle.cargo_toml_tools_files.specs.FromFiles.{IsUnreadable};
 ghost use Rattle.cargo_toml_tools_files.specs.LintedFiles.{IsLinted};
 
@@ -19,8 +18,7 @@ pub fn lint<R: Files + RandomSource + AllocGlobal>(
     file: &str,
     named: bool,
 ) -> Result<(String, bool), Error>
-    ensures linted { IfOk result
-        (λ r. IsLinted (then_some named file.now) (string_bytes r.0) r.1) }
+    ensures status { IfOk result (λ r. IsLinted r.1) }
     ensures refused { IfErr result IsUnreadable }
 {
     let held = manifest_in(rt, file)?;

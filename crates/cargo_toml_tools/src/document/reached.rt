@@ -1,18 +1,17 @@
 //! What a feature turns on, by any number of steps.
-ghost use Rattle.std.specs.Prelude.{◌≡◌, ◌≤◌, ◌+◌, ◌↔◌, ◌&&◌, ◌||◌, false, IfOk, IsTrue, None};
-ghost use Rattle.std.specs.Prelude.{OnOk, Some, bytes_eq, if◌then◌else◌, length, map, string_bytes};
-ghost use Rattle.std.specs.Option.{option_map_or};
-ghost use Rattle.cargo_toml.specs.Action.{Text, item_of, join, join_option};
+ghost use Rattle.std.specs.Prelude.{◌≡◌, ◌&&◌, ◌||◌, IfOk, None, OnOk, Some, bytes_eq};
+ghost use Rattle.std.specs.Prelude.{if◌then◌else◌};
+ghost use Rattle.cargo_toml.specs.Action.{Text, join, join_option};
+ghost use Rattle.cargo_toml.specs.Graph.{Table};
 ghost use Rattle.cargo_toml.specs.Reached.{IsKeyed};
-ghost use Rattle.cargo_toml.specs.Views.{action_at, action_of, listed_in, set_has, table_in};
-ghost use Rattle.cargo_toml_tools.specs.Documented.{IsOn, turns_to};
-ghost use Rattle.cargo_toml_tools.specs.PageSteps.{AddsFound, TellsOfReached, is_told_beside};
-ghost use Rattle.cargo_toml_tools.specs.PageSteps.{left_over, says_some};
+ghost use Rattle.cargo_toml.specs.Views.{action_at, action_of, set_has};
+ghost use Rattle.cargo_toml_lint.specs.Linked.{AreFound, AreLinks};
+ghost use Rattle.cargo_toml_tools.specs.Documented.{IsReachedFrom, is_told_beside};
 
-use super::{FeatureMap, is_private};
-use cargo_toml::FeatureSet;
+use super::listing::{FeatureMap, is_private};
 use cargo_toml::features::{DepAction, Feature};
-use cargo_toml_features::action::{neutral_action, read_action};
+use cargo_toml_features::action::neutral_action;
+use cargo_toml_lint::Links;
 use std::alloc::{AllocError, Global};
 use std::collections::{BTreeMap, BTreeSet};
 use std::hash::BuildHasher;
@@ -27,18 +26,19 @@ pub struct Reached<'m> {
 }
 
 /// What the feature of this name turns on.
-pub fn reach<'m, S: BuildHasher>(
+pub(crate) fn reach<'m, S: BuildHasher>(
     alloc: Global,
-    name: &str,
-    lists: &FeatureSet,
+    links: &Links<'m>,
     features: &FeatureMap<'m, S>,
+    name: &str,
 ) -> Result<Reached<'m>, AllocError>
-    ensures { IfOk result (λ r. IsKeyed features.now
-        → TellsOfReached (listed_in lists.now) features.now name.now r) }
+    requires { AreFound links.now }
+    ensures { IfOk result (λ r. IsKeyed features.now → (t : Table) → AreLinks t links.now
+        → IsReachedFrom t features.now name.now r) }
 {
     let mut others = BTreeSet::new(alloc);
     let mut actions = BTreeMap::new(alloc);
-    let names = turned_on(alloc, name, lists, features)?;
+    let names = links.turned_on(alloc, name)?;
     for other in &names {
         if let Some(feature) = features.get(*other) {
             add_other(&mut others, feature, name)?;
@@ -49,83 +49,6 @@ pub fn reach<'m, S: BuildHasher>(
         features: others,
         actions,
     })
-}
-
-/// The names of the feature of this name and of all that it turns on, by these lists: what a list
-/// names, and what has the name of a dependency on which a text acts, neither conditionally nor by
-/// `dep:`.
-pub fn turned_on<'m, S: BuildHasher>(
-    alloc: Global,
-    name: &str,
-    lists: &FeatureSet,
-    features: &FeatureMap<'m, S>,
-) -> Result<BTreeSet<&'m str>, AllocError>
-    ensures { IfOk result (λ s. IsKeyed features.now → (x : Text) → IsTrue (set_has s x)
-        ↔ IsOn (listed_in lists.now) features.now name.now x) }
-{
-    let mut found = BTreeSet::new(alloc);
-    let mut left = Vec::new(alloc);
-    add(&mut found, &mut left, features, name)?;
-    while let Some(next) = left.pop() {
-        if let Some(texts) = lists.get(next) {
-            add_next(&mut found, &mut left, features, texts.as_slice())?;
-        }
-    }
-    Ok(found)
-}
-
-/// Adds the feature of this name, where there is one and it wasn't found before.
-fn add<'m, S: BuildHasher>(
-    found: &mut BTreeSet<&'m str>,
-    left: &mut Vec<&'m str>,
-    features: &FeatureMap<'m, S>,
-    name: &str,
-) -> Result<(), AllocError>
-    ensures added { OnOk result (IsKeyed features.now → AddsFound (λ x. bytes_eq x name.now
-        && (table_in features.now).has x) found.old found.new left.old.items left.new.items) }
-    ensures less { OnOk result (left_over features.now found.new + length left.new.items
-        ≤ left_over features.now found.old + length left.old.items) }
-{
-    if let Some(feature) = features.get(name) {
-        if found.insert(feature.key)? {
-            left.push(feature.key)?;
-        }
-    }
-    Ok(())
-}
-
-/// Adds what the texts of a feature's list turn on in one step.
-fn add_next<'m, S: BuildHasher>(
-    found: &mut BTreeSet<&'m str>,
-    left: &mut Vec<&'m str>,
-    features: &FeatureMap<'m, S>,
-    texts: &[String],
-) -> Result<(), AllocError>
-    ensures added { OnOk result (IsKeyed features.now → AddsFound
-        (λ x. says_some x (map string_bytes texts.now) && (table_in features.now).has x)
-        found.old found.new left.old.items left.new.items) }
-    ensures less { OnOk result (left_over features.now found.new + length left.new.items
-        ≤ left_over features.now found.old + length left.old.items) }
-{
-    for text in texts {
-        if let Some(name) = turned_by(text.as_str()) {
-            add(found, left, features, name)?;
-        }
-    }
-    Ok(())
-}
-
-/// What a text of a list turns on, if that is a feature: what it names, or what has the name of the
-/// dependency on which it acts, neither conditionally nor by `dep:`.
-fn turned_by(text: &str) -> Option<&str>
-    ensures { (x : Text) → turns_to x (item_of text.now)
-        ≡ option_map_or (λ name. bytes_eq x name.now) result false }
-{
-    let action = read_action(text);
-    if action.is_dep_only || (action.acts() && action.is_conditional) {
-        return None;
-    }
-    Some(action.target)
 }
 
 /// Adds a feature that is another, unless it is private.

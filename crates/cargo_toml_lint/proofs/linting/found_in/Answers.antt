@@ -6,12 +6,15 @@ use Rattle.cargo_toml_lint.proofs.Added.{adds_both, all_codes, none_below}
 use Rattle.cargo_toml_lint.proofs.linting.found_in.Goals as goal
 
 pub returns-clause-exact : goal.returns-clause-exact
-returns-clause-exact g c =
-    all_codes c.args.features.now c.args.known.now
-    (map product_meaning c.args.bins.now) c.args.limit _ _
-    (ap (map about) c.new-findings.ensures.items)
-    (adds_both (adds_both c.in_ok-add_errors.ensures.added c.in_ok-add_hints.ensures.added)
-    c.in_ok-add_warnings.ensures.added)
+returns-clause-exact g c = (
+  c.in_ok-links.links,
+  c.in_ok-links.ensures,
+  all_codes c.args.features.now c.args.known.now c.in_ok-links.links
+      (map product_meaning c.args.bins.now) c.args.limit _ _
+      (ap (map about) c.new-findings.ensures.items)
+      (adds_both (adds_both c.in_ok-add_errors.ensures.added c.in_ok-add_hints.ensures.added)
+      c.in_ok-add_warnings.ensures.added),
+)
 
 pub returns-clause-in_order : goal.returns-clause-in_order
 returns-clause-in_order g c =

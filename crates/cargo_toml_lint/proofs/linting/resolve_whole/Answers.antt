@@ -3,9 +3,8 @@ use Rattle.std.proofs.lemmas.Result.{IfOk-weaker}
 use Rattle.cargo_toml.specs.Action.{Text}
 use Rattle.cargo_toml.specs.Manifests.{manifest_meaning}
 use Rattle.cargo_toml.specs.Parsed.{IsParsed}
-use Rattle.cargo_toml.specs.Views.{answer_of, resolution_of}
-use Rattle.cargo_toml_lint.specs.Steps.{TellsEnablers}
-use Rattle.cargo_toml_lint.proofs.Resolving.{parsed_at, tells_enablers, tells_of}
+use Rattle.cargo_toml.specs.Views.{answer_of}
+use Rattle.cargo_toml_lint.proofs.Resolving.{parsed_at, tells_of}
 use Rattle.cargo_toml_lint.proofs.linting.resolve_whole.Goals as goal
 
 pub returns-clause-resolved : goal.returns-clause-resolved
@@ -18,9 +17,3 @@ returns-clause-resolved g c =
     IfOk-weaker c.parse.result _ (λ a. IsParsed c.args.limit m keep (answer_of a))
     (λ a by. parsed_at keep (answer_of a) limited.limit m (by.told keep tells))
     c.parse.ensures.resolved
-
-pub returns-clause-enablers : goal.returns-clause-enablers
-returns-clause-enablers g c =
-    let m = manifest_meaning (λ m. m) c.args.manifest.now in
-    IfOk-weaker c.parse.result _ (λ a. TellsEnablers (resolution_of a.features))
-    (λ a. tells_enablers c.args.limit m a) (returns-clause-resolved g c)

@@ -1,9 +1,6 @@
-use Rattle.std.proofs.Common.{◌≡◌, ◌∙◌, ap, map, sym}
-use Rattle.std.specs.Prelude.{option_copied}
+use Rattle.std.proofs.Common.{◌≡◌, ◌∙◌, ap, sym}
 use Rattle.std.specs.List.{list_any}
 use Rattle.cargo_toml_lint.specs.declared.finding.Finding.{Finding}
-use Rattle.cargo_toml_tools.specs.Escaped.{whole_lines}
-use Rattle.cargo_toml_tools.specs.LintLines.{lint_line}
 use Rattle.cargo_toml_tools.specs.Linted.{weighs}
 use Rattle.cargo_toml_tools.proofs.Weighed.{some_weighed, weighed_some}
 use Rattle.cargo_toml_tools.proofs.lint.lint_lines.Goals as goal
@@ -16,14 +13,3 @@ returns-clause-status g c =
       λ h. (let w = some_weighed xs found.told (sym is ∙ h) in record { code = w.code; feature = w.feature; weighed = w.weighed; holds = (found.exact w.code w.feature).0 w.found }),
       λ a. is ∙ weighed_some xs found.told a.code a.feature a.weighed ((found.exact a.code a.feature).1 a.holds),
     )
-
-pub returns-clause-lines : goal.returns-clause-lines
-returns-clause-lines g c = record {
-  findings = c.in_ok-findings.findings.items;
-  exact = c.in_ok-findings.ensures.exact;
-  in_order = c.in_ok-findings.ensures.in_order;
-  told = c.in_ok-findings.ensures.told;
-  whole = c.in_ok-text.ensures
-      ∙ ap (λ xs. whole_lines (map (lint_line (option_copied c.args.file)) xs))
-      c.as_slice-2.ensures.value;
-}

@@ -3,7 +3,7 @@ use Rattle.std.proofs.lemmas.Bool.{and_from, not_from_false}
 use Rattle.cargo_toml.specs.Views.{set_has}
 use Rattle.cargo_toml_features.proofs.TextKeys.{inserted}
 use Rattle.cargo_toml_lint.proofs.Gathered.{put_if}
-use Rattle.cargo_toml_tools.specs.PageSteps.{is_told_beside}
+use Rattle.cargo_toml_tools.specs.Documented.{is_told_beside}
 use Rattle.cargo_toml_tools.proofs.document.reached.add_other.Goals as goal
 
 pub returns-in_ok-insert : goal.returns-in_ok-insert

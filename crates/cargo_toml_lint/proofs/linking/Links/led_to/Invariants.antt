@@ -1,0 +1,7 @@
+use Rattle.cargo_toml_lint.specs.Linked.{names_of}
+use Rattle.cargo_toml_lint.specs.Reached.{Path}
+use Rattle.cargo_toml_lint.proofs.Placed.{SoFar}
+use Rattle.cargo_toml_lint.proofs.linking.Links.led_to.Given as goal
+
+abbrev pub invariant-loop-other : goal.invariant-loop-other
+invariant-loop-other l = SoFar (names_of l.self) (Path l.self.reach.next.items l.place) l.other l.found

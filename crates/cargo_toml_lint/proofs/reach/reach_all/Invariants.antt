@@ -1,0 +1,18 @@
+use Rattle.std.proofs.Common.{◌≡◌, ◌<◌, ℕ, length}
+use Rattle.cargo_toml_lint.specs.Reached.{IsSettled, IsWhole}
+use Rattle.cargo_toml_lint.proofs.reach.reach_all.Given as goal
+
+abbrev pub invariant-loop-x : goal.invariant-loop-x
+invariant-loop-x l = record {
+  whole : IsWhole l.reach;
+  next : l.reach.next ≡ l.initial.reach.next;
+  some : 0 < l.reach.width;
+}
+
+abbrev pub invariant-loop-own : goal.invariant-loop-own
+invariant-loop-own l = record {
+  whole : IsWhole l.reach;
+  next : l.reach.next ≡ l.initial.reach.next;
+  some : 0 < l.reach.width;
+  settled : (a : ℕ) → a < l.own → IsSettled l.reach a;
+}

@@ -1,0 +1,217 @@
+//! Which features of a manifest turn on which.
+ghost use Rattle.std.specs.Prelude.{◌≡◌, ◌↔◌, ◌<◌, ◌&&◌, ℕ, IfOk, IsTrue, Some};
+ghost use Rattle.std.specs.Prelude.{bytes_eq, false, length, map, not, string_bytes};
+ghost use Rattle.std.specs.Option.{option_map_or};
+ghost use Rattle.cargo_toml.specs.Action.{Text, item_of};
+ghost use Rattle.cargo_toml.specs.Ascending.{Ascend};
+ghost use Rattle.cargo_toml.specs.Graph.{Table};
+ghost use Rattle.cargo_toml.specs.Manifests.{held};
+ghost use Rattle.cargo_toml.specs.Reach.{Among};
+ghost use Rattle.cargo_toml.specs.Recursive.{Enables};
+ghost use Rattle.cargo_toml.specs.Views.{set_has, table_in};
+ghost use Rattle.cargo_toml_features.specs.Places.{nth_text};
+ghost use Rattle.cargo_toml_lint.specs.Known.{says};
+ghost use Rattle.cargo_toml_lint.specs.Linked.{AreFound, AreLinks, IsIn};
+ghost use Rattle.cargo_toml_lint.specs.Names.{held_names, listed_by};
+ghost use Rattle.cargo_toml_lint.specs.Reached.{Leads, Path};
+ghost use Rattle.cargo_toml_lint.specs.Turning.{turned, turning, turning_by, turns_to};
+
+use crate::graph::FeatureMap;
+use crate::known::{Known, known_names};
+use crate::reach::{Reach, reach_all};
+use cargo_toml::Manifest;
+use cargo_toml_features::action::{ActionText, read_action};
+use cargo_toml_features::texts::{in_order, keys_in_order, place_of};
+use std::alloc::{AllocError, Global};
+use std::collections::BTreeSet;
+use std::hash::BuildHasher;
+
+/// The features of a manifest by the places of their names, and which turn on which.
+#[derive(Drop)]
+pub struct Links<'m> {
+    /// Their names, in byte order.
+    pub names: Vec<&'m str>,
+    /// Where each leads, by places.
+    pub(crate) reach: Reach,
+}
+
+// Whether an action turns on the feature with the name of its dependency: that is optional, and the
+// action is neither conditional nor by `dep:`.
+fn is_turning(known: &Known<'_>, action: &ActionText<'_>) -> bool
+    ensures { result ≡ ((held_names known.now).optional action.now.target.now
+        && (not action.now.is_conditional && not action.now.is_dep_only)) }
+{
+    known.optional.contains(action.target) && !action.is_conditional && !action.is_dep_only
+}
+
+// What a text of a list turns on, if that is a feature.
+fn turned_by<'t>(known: &Known<'_>, text: &'t str) -> Option<&'t str>
+    ensures { (x : Text) → turns_to (held_names known.now).optional x (item_of text.now)
+        ≡ option_map_or (λ name. bytes_eq x name.now) result false }
+{
+    let action = read_action(text);
+    if !action.acts() {
+        return Some(action.target);
+    }
+    if is_turning(known, &action) {
+        Some(action.target)
+    } else {
+        None
+    }
+}
+
+// The place of what a text of a list turns on.
+fn edge_of(known: &Known<'_>, names: &[&str], text: &str) -> Option<usize>
+    requires { Ascend (map (λ t. t.now) names.now) }
+    ensures { (b : ℕ) → (result ≡ Some b) ↔ ((b < length names.now)
+        × IsTrue (turns_to (held_names known.now).optional
+        (nth_text (map (λ t. t.now) names.now) b) (item_of text.now))) }
+{
+    match turned_by(known, text) {
+        Some(name) => place_of(names, name),
+        None => None,
+    }
+}
+
+// The places of what the texts of a list turn on.
+fn edges_of(
+    alloc: Global,
+    known: &Known<'_>,
+    names: &[&str],
+    texts: &[String],
+) -> Result<Vec<usize>, AllocError>
+    requires { Ascend (map (λ t. t.now) names.now) }
+    ensures { IfOk result (λ row. (b : ℕ) → Among row.items b ↔ ((b < length names.now)
+        × IsTrue (says (turns_to (held_names known.now).optional
+        (nth_text (map (λ t. t.now) names.now) b)) (map string_bytes texts.now)))) }
+{
+    let mut row = Vec::new(alloc);
+    for text in texts {
+        if let Some(place) = edge_of(known, names, text.as_str()) {
+            row.push(place)?;
+        }
+    }
+    Ok(row)
+}
+
+// What the feature of this name turns on: nothing, where the manifest doesn't list it.
+fn row_of(
+    alloc: Global,
+    known: &Known<'_>,
+    names: &[&str],
+    name: &str,
+) -> Result<Vec<usize>, AllocError>
+    requires { Ascend (map (λ t. t.now) names.now) }
+    ensures { IfOk result (λ row. (b : ℕ) → Among row.items b ↔ ((b < length names.now)
+        × IsTrue (turned (listed_by known.now) (held_names known.now).optional name.now
+        (nth_text (map (λ t. t.now) names.now) b)))) }
+{
+    match known.features.get(name) {
+        Some(texts) => edges_of(alloc, known, names, texts.as_slice()),
+        None => Ok(Vec::new(alloc)),
+    }
+}
+
+// The same of each name.
+fn edges(
+    alloc: Global,
+    known: &Known<'_>,
+    names: &[&str],
+) -> Result<Vec<Vec<usize>>, AllocError>
+    requires { Ascend (map (λ t. t.now) names.now) }
+    ensures len { IfOk result (λ next. length next.items ≡ length names.now) }
+    ensures exact { IfOk result (λ next. (a b : ℕ) → a < length names.now
+        → Leads next.items a b ↔ ((b < length names.now)
+        × IsTrue (turned (listed_by known.now) (held_names known.now).optional
+        (nth_text (map (λ t. t.now) names.now) a) (nth_text (map (λ t. t.now) names.now) b)))) }
+{
+    let mut next = Vec::with_capacity(alloc, names.len())?;
+    for place in 0..names.len() {
+        next.push(row_of(alloc, known, names, names[place])?)?;
+    }
+    Ok(next)
+}
+
+// The names of the features, in byte order.
+fn names_in_order<'m, S: BuildHasher>(
+    alloc: Global,
+    features: &FeatureMap<'m, S>,
+) -> Result<Vec<&'m str>, AllocError>
+    ensures all { IfOk result (λ names. (f : Text) → IsTrue ((table_in features.now).has f)
+        ↔ Among (map (λ t. t.now) names.items) f) }
+    ensures in_order { IfOk result (λ names. Ascend (map (λ t. t.now) names.items)) }
+{
+    let keys = keys_in_order(alloc, features)?;
+    let mut names = Vec::with_capacity(alloc, keys.len())?;
+    for name in &keys {
+        names.push(*name)?;
+    }
+    Ok(in_order(names))
+}
+
+/// Which of the features turn on which.
+pub(crate) fn links_of<'m, S: BuildHasher>(
+    alloc: Global,
+    known: &Known<'_>,
+    features: &FeatureMap<'m, S>,
+) -> Result<Links<'m>, AllocError>
+    ensures { IfOk result (AreLinks (turning_by (listed_by known.now)
+        (held_names known.now).optional (table_in features.now).has)) }
+{
+    let names = names_in_order(alloc, features)?;
+    let next = edges(alloc, known, names.as_slice())?;
+    let reach = reach_all(alloc, next)?;
+    Ok(Links { names, reach })
+}
+
+impl<'m> Links<'m> {
+    /// Which of the features of a manifest turn on which.
+    pub fn new<M, S: BuildHasher>(
+        alloc: Global,
+        manifest: &Manifest<M>,
+        features: &FeatureMap<'m, S>,
+    ) -> Result<Links<'m>, AllocError>
+        ensures { IfOk result
+            (AreLinks (turning (held manifest.now) (table_in features.now).has)) }
+    {
+        let known = known_names(alloc, manifest)?;
+        links_of(alloc, &known, features)
+    }
+
+    /// The features that the one of this name turns on, itself too: none, where there is none of
+    /// the name.
+    pub fn turned_on(&self, alloc: Global, name: &str) -> Result<BTreeSet<&'m str>, AllocError>
+        requires { AreFound self.now }
+        ensures { IfOk result (λ s. (t : Table) → AreLinks t self.now → (x : Text)
+            → IsTrue (set_has s x) ↔ (IsTrue (t.has name.now) × Enables t name.now x)) }
+    {
+        match place_of(self.names.as_slice(), name) {
+            Some(place) => self.led_to(alloc, place),
+            None => Ok(BTreeSet::new(alloc)),
+        }
+    }
+
+    // Those to which the one in this place leads.
+    fn led_to(&self, alloc: Global, place: usize) -> Result<BTreeSet<&'m str>, AllocError>
+        requires found { AreFound self.now }
+        requires inside { place < length self.now.names.items }
+        ensures { IfOk result (λ s. (x : Text) → IsTrue (set_has s x)
+            ↔ IsIn self.now (Path self.now.reach.next.items place) x) }
+    {
+        let mut found = BTreeSet::new(alloc);
+        for other in 0..self.names.len() {
+            if self.reach.leads(place, other) {
+                found.insert(self.names[other])?;
+            }
+        }
+        Ok(found)
+    }
+
+    /// The features that the one in this place turns on in one step.
+    pub fn next(&self, place: usize) -> &[usize] {
+        match self.reach.next.get(place) {
+            Some(row) => row.as_slice(),
+            None => &[],
+        }
+    }
+}

@@ -1,0 +1,109 @@
+//! The features that a page tells of, and what is told of each.
+ghost use Rattle.std.specs.Prelude.{◌≡◌, ◌↔◌, IfOk, IsTrue, codes};
+ghost use Rattle.cargo_toml.specs.Action.{Text};
+ghost use Rattle.cargo_toml.specs.Graph.{Table};
+ghost use Rattle.cargo_toml.specs.Manifests.{held};
+ghost use Rattle.cargo_toml.specs.Reached.{IsKeyed};
+ghost use Rattle.cargo_toml.specs.Views.{set_has, table_in};
+ghost use Rattle.cargo_toml_lint.specs.Linked.{AreFound, AreLinks};
+ghost use Rattle.cargo_toml_tools.specs.Documented.{AreRowsOf, IsOn, IsRowOf};
+ghost use Rattle.cargo_toml_tools.specs.Documented.{is_internal, is_shown};
+
+use super::reached::{Reached, reach};
+use cargo_toml::Manifest;
+use cargo_toml::features::Feature;
+use cargo_toml_features::texts::keys_in_order;
+use cargo_toml_lint::Links;
+use std::alloc::{AllocError, Global};
+use std::collections::{BTreeSet, HashMap};
+use std::hash::BuildHasher;
+
+/// The features of a manifest by name, as they are resolved.
+pub type FeatureMap<'m, S> = HashMap<&'m str, Feature<'m>, S>;
+
+/// A feature that users may ask for, and what is told of it.
+#[derive(Drop)]
+pub struct Row<'m> {
+    /// Its name.
+    pub name: &'m str,
+    /// Whether the manifest lists it; else it is an optional dependency, or `default`.
+    pub is_listed: bool,
+    /// Its text.
+    pub doc: Option<&'m str>,
+    /// Whether `default` turns it on.
+    pub is_default: bool,
+    /// What it turns on.
+    pub turns_on: Reached<'m>,
+}
+
+/// The rows of all features that are told of, in byte order of their names.
+pub fn rows<'m, M, S: BuildHasher>(
+    alloc: Global,
+    manifest: &Manifest<M>,
+    features: &FeatureMap<'m, S>,
+) -> Result<Vec<Row<'m>>, AllocError>
+    ensures { IfOk result (λ rows. IsKeyed features.now
+        → AreRowsOf (held manifest.now) features.now rows.items) }
+{
+    let links = Links::new(alloc, manifest, features)?;
+    let has_default = manifest.features.contains_key("default");
+    let defaults = links.turned_on(alloc, "default")?;
+    let mut rows = Vec::new(alloc);
+    let names = names(alloc, features)?;
+    for name in &names {
+        if let Some(feature) = features.get(*name) {
+            if is_shown(feature, has_default) {
+                rows.push(row_of(alloc, &links, features, feature, &defaults)?)?;
+            }
+        }
+    }
+    Ok(rows)
+}
+
+fn row_of<'m, S: BuildHasher>(
+    alloc: Global,
+    links: &Links<'m>,
+    features: &FeatureMap<'m, S>,
+    feature: &Feature<'m>,
+    defaults: &BTreeSet<&str>,
+) -> Result<Row<'m>, AllocError>
+    requires { AreFound links.now }
+    ensures { IfOk result (λ row. IsKeyed features.now → (t : Table) → AreLinks t links.now
+        → ((x : Text) → IsTrue (set_has defaults.now x)
+        ↔ IsOn t features.now (codes "default") x)
+        → IsRowOf t features.now row feature.now) }
+{
+    let turns_on = reach(alloc, links, features, feature.key)?;
+    Ok(Row {
+        name: feature.key,
+        is_listed: feature.explicit,
+        doc: feature.doc,
+        is_default: defaults.contains(feature.key),
+        turns_on,
+    })
+}
+
+/// The names of the features, in byte order.
+fn names<'m, S: BuildHasher>(
+    alloc: Global,
+    features: &FeatureMap<'m, S>,
+) -> Result<BTreeSet<&'m str>, AllocError>
+    ensures { IfOk result (λ s. (f : Text) → set_has s f ≡ (table_in features.now).has f) }
+{
+    keys_in_order(alloc, features)
+}
+
+/// Whether a feature is told of: one that isn't private, and `default` where the manifest has it.
+fn is_shown(feature: &Feature<'_>, has_default: bool) -> bool
+    ensures { result ≡ is_shown has_default feature.now }
+{
+    !is_private(feature) && (has_default || feature.key != "default")
+}
+
+/// Whether a feature is hidden, by its name, or private, by its table.
+pub(crate) fn is_private(feature: &Feature<'_>) -> bool
+    ensures { result ≡ is_internal feature.now }
+{
+    !feature.public || feature.key.starts_with('_')
+}
+

@@ -3,18 +3,11 @@ use Rattle.std.proofs.Common.{◌≡◌, ℕ, Bool, true, false, Result, Ok, Err
 use Rattle.std.specs.Prelude.{IsUtf8}
 use Rattle.std.specs.Bool.{then_some}
 use Rattle.std.specs.Option.{option_copied}
-use Rattle.toml.specs.View.{view}
 use Rattle.toml.specs.declared.value.Value.{Value}
 use Rattle.cargo_toml.specs.Action.{Text}
 use Rattle.cargo_toml.specs.Error.{Error}
 use Rattle.cargo_toml.specs.Manifest.{Manifest}
-use Rattle.cargo_toml.specs.Manifests.{ManifestRefuses, manifest_meaning, manifest_reads}
-use Rattle.cargo_toml.specs.Texts.{AnyRefuses, any_tree}
-use Rattle.cargo_toml_manifest.proofs.PathFaults.{refused_in_file}
 use Rattle.cargo_toml_tools_files.specs.FromFiles.{IsCompletedIn, IsOfInput, IsUnreadable}
-use Rattle.cargo_toml_tools_files.specs.IndexedFiles.{IsIndexFault, IsLineFault}
-use Rattle.cargo_toml_tools_files.specs.declared.indexing.Fault.{Fault}
-use Rattle.cargo_toml_tools_files.specs.declared.indexing.Fault.TheVariants as fault
 
 pub of_input : (e : Error) → IsOfInput e → IsUnreadable e
 of_input e (inl memory) = inl memory
@@ -33,9 +26,3 @@ completed_as path s t m n text is h = subst (λ (x : Text). IsCompletedIn path x
 pub copied_then : (b : Bool) (x : Bor (List ℕ)) → option_copied (then_some b x) ≡ then_some b x.now
 copied_then true x = refl
 copied_then false x = refl
-
--- why a text of a file gives no line
-pub refused_index : (path text : Text) → IsUtf8 text → (e : Fault) → IsLineFault path text e → IsIndexFault path e
-refused_index path text utf8 (fault.Manifest e) h =
-    refused_in_file path text (manifest_meaning view) (manifest_reads any_tree) (ManifestRefuses any_tree AnyRefuses) e utf8 h
-refused_index path text utf8 (fault.Index e) h = (text, h)

@@ -83,16 +83,12 @@ pub fn index<R: Files + RandomSource + AllocGlobal>(
     ensures named { OnOk result (IsSome (path_parent file.now)) }
     ensures refused { IfErr result (IsIndexFault file.now (wanted_of options.entry)) }
 {
-    let text = text_in(rt, file)?;
-    let held = completed_of(rt, file, text.as_str())?;
-    let findings = findings_of(rt, &*held.manifest)?;
-    let entry = index_entry(
-        rt.alloc(),
-        &*held.manifest,
-        text.as_str(),
-        findings.as_slice(),
-        options,
-    )?;
+    let read = text_in(rt, file)?;
+    let text = read.as_str();
+    let held = completed_of(rt, file, text)?;
+    let manifest = &*held.manifest;
+    let findings = findings_of(rt, manifest)?;
+    let entry = index_entry(rt.alloc(), manifest, text, findings.as_slice(), options)?;
     let mut line = entry.to_string(rt.alloc())?;
     line.push_str("\n")?;
     Ok(line)
@@ -103,7 +99,7 @@ fn findings_of<'m, R: RandomSource + AllocGlobal>(
     rt: &R,
     manifest: &'m Manifest,
 ) -> Result<Vec<Finding<'m>>, Error>
-    ensures refused { IfErr result IsOfInput }
+    ensures { IfErr result IsOfInput }
 {
     let state = RandomState::new(rt)?;
     lint(rt.alloc(), state, manifest)

@@ -57,8 +57,8 @@ module _ {M S H : Type 0} (limit : ℕ) (m : ManifestMeaning M) (a : Features S 
         let told = only_default_is whole l are (λ f k. refl) (λ x. IsTrue (is_hidden x || private_at a.features x)) f in
         let same : IsTrue (whole.has f) → (is_hidden f || private_at a.features f) ≡ (is_hidden f || is_private (admitted limit m.features) m.feature_details f) =
         λ h. ap (λ b. is_hidden f || b) (private_is a.features (admitted limit m.features)
-            (parsed_entries limit m) m.feature_details Removed none parsed.kept.resolved parsed.kept.marks
-            f (none_has f ∙ h)) in (
+        (parsed_entries limit m) m.feature_details Removed none parsed.kept.resolved parsed.kept.marks
+        f (none_has f ∙ h)) in (
           λ i. let r = told.0 i in (sym (same r.1.default_does.target) ∙ r.0, r.1),
           λ r. told.1 (same r.1.default_does.target ∙ r.0, r.1),
         )

@@ -51,8 +51,8 @@ module _ (t : Table) (l : Links) (are : AreLinks t l) where
   turns a b lt p =
       along (Leads l.reach.next.items) (λ v. (v < n) × Enables t (name_at l a) (name_at l v))
       (λ x y s e.
-        let inside = next_inside x y e in
-        (inside, further s.1 ((are.leads x y s.0 inside).0 e) (known_at y inside)))
+      let inside = next_inside x y e in
+      (inside, further s.1 ((are.leads x y s.0 inside).0 e) (known_at y inside)))
       (lt, itself) p
 
   -- what a feature turns on has a place, to which its own leads
@@ -95,11 +95,17 @@ module _ (t : Table) (l : Links) (are : AreLinks t l) where
         },
     λ c.
         let p = place f c.known in
-        let q = place c.other (enables_has c.known c.there) in
-        (p.0, p.1, p.2, (q.0,
-          (λ same. c.apart (sym q.2 ∙ ap (name_at l) same ∙ p.2)),
-          leads_at p.0 q.0 p.1 q.1 (subst (λ y. Enables t y (name_at l q.0)) (sym p.2) (subst (λ y. Enables t f y) (sym q.2) c.there)),
-          leads_at q.0 p.0 q.1 p.1 (subst (λ y. Enables t y (name_at l p.0)) (sym q.2) (subst (λ y. Enables t c.other y) (sym p.2) c.back)))),
+        let q = place c.other (enables_has c.known c.there) in (
+          p.0,
+          p.1,
+          p.2,
+          (
+            q.0,
+            (λ same. c.apart (sym q.2 ∙ ap (name_at l) same ∙ p.2)),
+            leads_at p.0 q.0 p.1 q.1 (subst (λ y. Enables t y (name_at l q.0)) (sym p.2) (subst (λ y. Enables t f y) (sym q.2) c.there)),
+            leads_at q.0 p.0 q.1 p.1 (subst (λ y. Enables t y (name_at l p.0)) (sym q.2) (subst (λ y. Enables t c.other y) (sym p.2) c.back)),
+          ),
+        ),
   )
 
   pub unreachable_is : (f : Text) → IsIn l (IsLeftAlone l) f ↔ IsUnreachable t f
@@ -113,12 +119,16 @@ module _ (t : Table) (l : Links) (are : AreLinks t l) where
           (leads_at p.0 i.0 p.1 i.1 (subst (λ y. Enables t y (name_at l i.0)) (sym p.2) (subst (λ y. Enables t k y) (sym i.2) e)));
     },
     λ u.
-        let p = place f u.known in
-        (p.0, p.1, p.2, record {
-          hidden = subst (λ y. IsTrue (is_hidden y)) (sym p.2) u.hidden;
-          alone = λ k lt shown path. u.left_alone (name_at l k) (known_at k lt) shown
-              (subst (λ y. Enables t (name_at l k) y) p.2 (turns k p.0 lt path).1);
-        }),
+        let p = place f u.known in (
+          p.0,
+          p.1,
+          p.2,
+          record {
+            hidden = subst (λ y. IsTrue (is_hidden y)) (sym p.2) u.hidden;
+            alone = λ k lt shown path. u.left_alone (name_at l k) (known_at k lt) shown
+                (subst (λ y. Enables t (name_at l k) y) p.2 (turns k p.0 lt path).1);
+          },
+        ),
   )
 
   -- an edge of the table, where that tells of no dependency
@@ -158,12 +168,19 @@ module _ (t : Table) (l : Links) (are : AreLinks t l) where
       λ h.
           let p = place f h.1.default_does.target in
           let q = place (codes "default") h.1.default_does.source in
-          let d : Edge t (name_at l q.0) (name_at l p.0) = subst (λ y. Edge t y (name_at l p.0)) (sym q.2) (subst (λ y. Edge t (codes "default") y) (sym p.2) h.1.default_does) in
-          (p.0, p.1, p.2, (subst Q (sym p.2) h.0, record {
-            some = (q.0, q.2, (λ same. d.apart (ap (name_at l) (sym same))), edge_leads q.0 p.0 q.1 p.1 d);
-            no_other = λ k apart e. h.1.no_other (name_at l k)
-                (subst (λ y. Edge t (name_at l k) y) p.2 (edge_at k p.0 (leads_inside k p.0 e) p.1 apart e));
-          })),
+          let d : Edge t (name_at l q.0) (name_at l p.0) = subst (λ y. Edge t y (name_at l p.0)) (sym q.2) (subst (λ y. Edge t (codes "default") y) (sym p.2) h.1.default_does) in (
+            p.0,
+            p.1,
+            p.2,
+            (
+              subst Q (sym p.2) h.0,
+              record {
+                some = (q.0, q.2, (λ same. d.apart (ap (name_at l) (sym same))), edge_leads q.0 p.0 q.1 p.1 d);
+                no_other = λ k apart e. h.1.no_other (name_at l k)
+                    (subst (λ y. Edge t (name_at l k) y) p.2 (edge_at k p.0 (leads_inside k p.0 e) p.1 apart e));
+              },
+            ),
+          ),
     )
 
 -- ---- flags of names

@@ -113,11 +113,7 @@ fn row_of(
 }
 
 // The same of each name.
-fn edges(
-    alloc: Global,
-    known: &Known<'_>,
-    names: &[&str],
-) -> Result<Vec<Vec<usize>>, AllocError>
+fn edges(alloc: Global, known: &Known<'_>, names: &[&str]) -> Result<Vec<Vec<usize>>, AllocError>
     requires { Ascend (map (λ t. t.now) names.now) }
     ensures len { IfOk result (λ next. length next.items ≡ length names.now) }
     ensures exact { IfOk result (λ next. (a b : ℕ) → a < length names.now

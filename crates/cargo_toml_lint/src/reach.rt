@@ -1,8 +1,10 @@
 //! What each vertex of a graph leads to, by any number of edges.
-ghost use Rattle.std.specs.Prelude.{◌≡◌, ◌≢◌, ◌<◌, ◌≤◌, ◌*◌, ◌↔◌, ◌⊎◌, ℕ, IfOk, IsTrue, OnOk, length};
+ghost use Rattle.std.specs.Prelude.{◌≡◌, ◌≢◌, ◌<◌, ◌≤◌, ◌*◌, ◌↔◌, ◌⊎◌, ℕ, IfOk, IsTrue, OnOk};
+ghost use Rattle.std.specs.Prelude.{length};
 ghost use Rattle.cargo_toml.specs.Reach.{Among};
 ghost use Rattle.cargo_toml_lint.specs.Bits.{HasBit};
-ghost use Rattle.cargo_toml_lint.specs.Reached.{IsFinished, IsFlagged, IsInRing, IsSettled, IsWhole, Leads, Meets, Path};
+ghost use Rattle.cargo_toml_lint.specs.Reached.{IsFinished, IsFlagged, IsInRing, IsSettled};
+ghost use Rattle.cargo_toml_lint.specs.Reached.{IsWhole, Leads, Meets, Path};
 
 use crate::bits::{has_bit, join, set_bit, words_for};
 use std::alloc::{AllocError, Global};
@@ -20,12 +22,7 @@ pub struct Reach {
 }
 
 // A vertex is met: all that it leads to is in the row, or it waits for its edges to be taken.
-fn meet(
-    row: &mut Vec<u64>,
-    met: &mut Vec<usize>,
-    reach: &Reach,
-    x: usize,
-) -> Result<(), AllocError>
+fn meet(row: &mut Vec<u64>, met: &mut Vec<usize>, reach: &Reach, x: usize) -> Result<(), AllocError>
     requires whole { IsWhole reach.now }
     requires inside { x < length reach.now.next.items }
     requires wide { length row.old.items ≡ reach.now.width }

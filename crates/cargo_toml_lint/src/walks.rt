@@ -17,10 +17,7 @@ use std::collections::BTreeSet;
 use std::hash::BuildHasher;
 
 /// The features that turn on another which turns them on.
-pub(crate) fn cyclic<'m>(
-    alloc: Global,
-    links: &Links<'m>,
-) -> Result<BTreeSet<&'m str>, AllocError>
+pub(crate) fn cyclic<'m>(alloc: Global, links: &Links<'m>) -> Result<BTreeSet<&'m str>, AllocError>
     requires { AreFound links.now }
     ensures { IfOk result (λ s. (f : Text) → IsTrue (set_has s f)
         ↔ IsIn links.now (IsInRing links.now.reach.next.items) f) }

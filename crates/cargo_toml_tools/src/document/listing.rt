@@ -106,4 +106,3 @@ pub(crate) fn is_private(feature: &Feature<'_>) -> bool
 {
     !feature.public || feature.key.starts_with('_')
 }
-

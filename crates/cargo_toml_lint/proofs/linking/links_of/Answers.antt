@@ -12,7 +12,7 @@ returns g c =
     let next = c.in_ok-next.next.items in
     let known = c.args.known.now in
     let exact = subst (λ ns. (a b : ℕ) → a < length ns → Leads next a b ↔ ((b < length ns)
-        × IsTrue (turned (listed_by known) (held_names known).optional (nth_text (map (λ t. t.now) ns) a) (nth_text (map (λ t. t.now) ns) b)))) same c.in_ok-next.ensures.exact in
+    × IsTrue (turned (listed_by known) (held_names known).optional (nth_text (map (λ t. t.now) ns) a) (nth_text (map (λ t. t.now) ns) b)))) same c.in_ok-next.ensures.exact in
     record {
       found = record {
         finished = c.in_ok-reach.ensures.finished;

@@ -34,19 +34,21 @@ loop-place-preserved g c =
     elim c.if-is_internal.branch [
       | then-is_internal+then-is_alone+in_ok-insert w ↦
           let told = w.is_alone.ensures.0 w.if-is_alone.true in
-          rw w.found-is (so_far_put (names_of l) (λ a. IsTrue (Internal (name_at l a)) × IsOfDefault l a) place c.loop-place.found w.insert.new.self key at
-          (ap Internal at ∙ sym c.is_internal.ensures ∙ w.if-is_internal.true,
-          of_default l c.requires default others are_default are_others first second some other place
-          (subst (λ ws. HasBit ws place) c.as_slice-first.ensures.value told.0)
-          (λ h. told.1 (subst (λ ws. HasBit ws place) (sym c.as_slice-second.ensures.value) h)))
+          rw w.found-is (so_far_put (names_of l) (λ a. IsTrue (Internal (name_at l a)) × IsOfDefault l a) place c.loop-place.found w.insert.new.self key at (
+            ap Internal at ∙ sym c.is_internal.ensures ∙ w.if-is_internal.true,
+            of_default l c.requires default others are_default are_others first second some other place
+                (subst (λ ws. HasBit ws place) c.as_slice-first.ensures.value told.0)
+                (λ h. told.1 (subst (λ ws. HasBit ws place) (sym c.as_slice-second.ensures.value) h)),
+          )
           (inserted key c.loop-place.found w.insert.new.self w.in_ok-insert.ensures.updates) c.loop-place.invariant)
       | else-is_internal w ↦ rw w.found-is (so_far_skip (names_of l) (λ a. IsTrue (Internal (name_at l a)) × IsOfDefault l a) place c.loop-place.found
           (elim w.else-is_internal.branch [
             | else-is_internal-via-then-is_internal+else-is_alone w' ↦ (λ p.
                 let h = has_default l c.requires default others are_default are_others first second some other place p.1 in
-                false≢true (sym w'.if-is_alone.false ∙ w'.is_alone.ensures.1
-                (subst (λ ws. HasBit ws place) (sym c.as_slice-first.ensures.value) h.0,
-                λ e. h.1 (subst (λ ws. HasBit ws place) c.as_slice-second.ensures.value e))))
+                false≢true (sym w'.if-is_alone.false ∙ w'.is_alone.ensures.1 (
+                  subst (λ ws. HasBit ws place) (sym c.as_slice-first.ensures.value) h.0,
+                  λ e. h.1 (subst (λ ws. HasBit ws place) c.as_slice-second.ensures.value e),
+                )))
             | else-is_internal-via-else-is_internal w' ↦ (λ p. false≢true (sym w'.if-is_internal.false ∙ c.is_internal.ensures ∙ sym (ap Internal at) ∙ p.0))
           ]) c.loop-place.invariant)
     ]

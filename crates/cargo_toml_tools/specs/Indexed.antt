@@ -209,7 +209,8 @@ version_refusal document (Set v) =
 
 -- a name is that of the registry with this address
 abbrev pub is_named : Text → List (Text × Text) → Text → Bool
-is_named own names name = option_map_or (λ address. bytes_eq address own) (address_named names name) false
+is_named own names name =
+    option_map_or (λ address. bytes_eq address own) (address_named names name) false
 
 abbrev pub is_published : Text → List (Text × Text) → Registries → Bool
 is_published own names (everywhere b) = b

@@ -1,1 +1,4 @@
+mod Apart
 mod FileFacts
+mod Going
+mod Refusals

@@ -1,5 +1,5 @@
 -- Keys that are read into places, one after the other, each taken out of the table.
-use Rattle.std.proofs.Common.{◌≡◌, ◌⊎◌, ◌∷◌, ◌++◌, [], ℕ, false, List, Option, Some, None, option_and_then, option_map, inl, inr, refl, subst, sym, ap, ◌∙◌}
+use Rattle.std.proofs.Common.{◌≡◌, ◌⊎◌, ◌∷◌, ◌++◌, [], ℕ, false, List, Option, Some, None, option_and_then, option_map, inl, inr, refl, subst, ap, ◌∙◌}
 use Rattle.toml.specs.Data.{Data, Members, no_members, member, get_member}
 use Rattle.cargo_toml_parts.specs.declared.error.Error.{Error}
 use Rattle.cargo_toml_parts.specs.Reads.{Faulty, given_of, is_among, optional_of, required_of}

@@ -9,6 +9,7 @@ mod acted;
 mod acting;
 mod imply;
 pub mod key;
+mod many;
 mod names;
 mod ordered;
 pub mod places;

@@ -6,7 +6,7 @@ use Rattle.cargo_toml_full.proofs.Thinning.{has_filtered}
 use Rattle.cargo_toml_full.proofs.redundant.thin_action.Goals as goal
 
 pub returns : goal.returns
-returns c = λ i. record {
+returns c = λ many i. record {
   is_conditional = c.args.action.now.is_conditional;
   is_dep_only = c.args.action.now.is_dep_only;
   features = λ x. has_filtered (λ y. not (is_redundant (Some (dependency_meaning c.args.dependency.now)) y)) c.args.action.now.dep_features c.retain.new.self

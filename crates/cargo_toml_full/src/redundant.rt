@@ -1,121 +1,221 @@
 //! Features of dependencies that are on anyway.
-ghost use Rattle.std.specs.Prelude.{◌≡◌, List, Some, bytes_eq, map, option_map, string_bytes};
+ghost use Rattle.std.specs.Prelude.{◌≡◌, IfOk, List, OnOk, Option, Some, map, nat_lt};
+ghost use Rattle.std.specs.Prelude.{option_map, string_bytes};
+ghost use Rattle.std.specs.BTreeMap.{btree_map_len};
 ghost use Rattle.std.specs.List.{list_any};
+ghost use Rattle.cargo_toml_dependencies.specs.Dependencies.{DependencyMeaning};
 ghost use Rattle.cargo_toml_dependencies.specs.Dependencies.{dependency_meaning};
 ghost use Rattle.cargo_toml_graph.specs.Action.{Text};
 ghost use Rattle.cargo_toml_features.specs.Recorded.{Entry, first_target, is_redundant};
 ghost use Rattle.cargo_toml_features.specs.Recorded.{recorded_of, without_redundant};
-ghost use Rattle.cargo_toml_full.specs.Recording.{recorded_at};
-ghost use Rattle.cargo_toml_full.specs.Redundant.{IsRecordOf, Thinned, ThinnedAll};
+ghost use Rattle.cargo_toml_full.specs.Redundant.{AreRedundantOf, IsRecordOf, Thinned, ThinnedAll};
+ghost use Rattle.cargo_toml_full.specs.Redundant.{has_redundant, without_features};
+ghost use Rattle.cargo_toml_full.specs.Searching.{has_key};
+ghost use Rattle.cargo_toml_full.specs.Slots.{held_in};
 ghost use Rattle.cargo_toml_features.specs.InOrder.{AreInOrder, names_of};
-ghost use Rattle.cargo_toml_features.specs.Views.{action_of};
+ghost use Rattle.cargo_toml_features.specs.Views.{action_of, recorded_in};
 
+use crate::names::ascending;
+use crate::redundant_features::RedundantFeatures;
 use crate::slots::Slots;
 use cargo_toml_dependencies::Dependency;
 use cargo_toml_features::features::{DepAction, Feature, FeatureDependency};
+use cargo_toml_features::texts::place_of;
+use std::alloc::{AllocError, Global};
 
-// The dependency of the key's first target, where the key is recorded.
-fn first_dependency<'d>(
-    dependencies: &Slots<'_, FeatureDependency<'d>>,
-    key: &str,
-) -> Option<&'d Dependency>
-    ensures { (es : List Entry) → recorded_at dependencies.now key.now ≡ recorded_of es
+impl RedundantFeatures<'_> {
+    fn lists(&self, feature: &str) -> bool
+        ensures { result ≡ has_key self.now.listed feature.now }
+    {
+        place_of(self.listed.as_slice(), feature).is_some()
+    }
+
+    // Whether the feature is one of them.
+    fn has(&self, feature: &str) -> bool
+        ensures { result ≡ has_redundant (Some self.now) feature.now }
+    {
+        (self.has_default && feature == "default") || self.lists(feature)
+    }
+}
+
+// The texts, as they stand.
+fn texts_of<'d>(alloc: Global, features: &'d [String]) -> Result<Vec<&'d str>, AllocError>
+    ensures { IfOk result (λ v. map (λ t. t.now) v.items ≡ map string_bytes features.now) }
+{
+    let mut texts = Vec::with_capacity(alloc, features.len())?;
+    for feature in features {
+        texts.push(feature.as_str())?;
+    }
+    Ok(texts)
+}
+
+// What the dependency has anyway, as its detail says.
+fn redundant_of<'d>(
+    alloc: Global,
+    dependency: &'d Dependency,
+) -> Result<Option<RedundantFeatures<'d>>, AllocError>
+    ensures { IfOk result (λ r. (x : Text) → has_redundant r x
+        ≡ is_redundant (Some (dependency_meaning dependency.now)) x) }
+{
+    let Dependency::Detailed(detail) = dependency else {
+        return Ok(None);
+    };
+    let texts = texts_of(alloc, detail.features.as_slice())?;
+    Ok(Some(RedundantFeatures {
+        has_default: detail.default_features,
+        listed: ascending(texts),
+    }))
+}
+
+// The dependency of the first target.
+fn first_dependency<'d>(dependency: &FeatureDependency<'d>) -> Option<&'d Dependency>
+    ensures { (es : List Entry) → Some (recorded_in dependency.now) ≡ recorded_of es
         → option_map (λ d. dependency_meaning d.now) result ≡ first_target es }
 {
-    let (_, first) = dependencies.get(key)?.targets.first_key_value()?;
+    let (_, first) = dependency.targets.first_key_value()?;
     Some(*first)
 }
 
-fn lists(features: &[String], feature: &str) -> bool
-    ensures { result ≡ list_any (bytes_eq feature.now) (map string_bytes features.now) }
+// What the dependency of the first target has anyway, if there is one.
+fn redundant_at<'d>(
+    alloc: Global,
+    dependency: &Option<FeatureDependency<'d>>,
+) -> Result<Option<RedundantFeatures<'d>>, AllocError>
+    ensures { IfOk result (λ r. (es : List Entry) → option_map recorded_in dependency.now
+        ≡ recorded_of es → (x : Text) → has_redundant r x ≡ is_redundant (first_target es) x) }
 {
-    features.iter().any(|listed| feature == listed.as_str())
+    let Some(dependency) = dependency else {
+        return Ok(None);
+    };
+    let Some(first) = first_dependency(dependency) else {
+        return Ok(None);
+    };
+    let redundant = redundant_of(alloc, first)?;
+    Ok(redundant)
 }
 
-// Whether the dependency has the feature anyway, as its detail says.
-fn is_redundant(dependency: &Dependency, feature: &str) -> bool
-    ensures { result ≡ is_redundant (Some (dependency_meaning dependency.now)) feature.now }
+// Of each key what its dependency has anyway. A list is put in byte order once, so that no feature
+// is looked for by going through it.
+fn redundant_features<'d>(
+    alloc: Global,
+    dependencies: &Slots<'d, FeatureDependency<'d>>,
+) -> Result<Slots<'d, RedundantFeatures<'d>>, AllocError>
+    ensures { IfOk result (λ r. (entries : Text → List Entry)
+        → IsRecordOf dependencies.now entries → AreRedundantOf r entries) }
 {
-    let Dependency::Detailed(detail) = dependency else {
-        return false;
-    };
-    (detail.default_features && feature == "default") || lists(&detail.features, feature)
+    let mut values = Vec::with_capacity(alloc, dependencies.values.len())?;
+    for dependency in &dependencies.values {
+        let redundant = redundant_at(alloc, dependency)?;
+        values.push(redundant)?;
+    }
+    let names = dependencies.names.as_slice().to_vec(alloc)?;
+    Ok(Slots { names, values })
 }
 
 // Takes out of the action what the dependency has anyway.
-fn thin_action(action: &mut DepAction<'_>, dependency: &Dependency)
+fn thin_action(action: &mut DepAction<'_>, redundant: &RedundantFeatures<'_>)
     ensures { action_of action.new
-        ≡ without_redundant (Some (dependency_meaning dependency.now)) (action_of action.old) }
+        ≡ without_features (has_redundant (Some redundant.now)) (action_of action.old) }
 {
     action
         .dep_features
-        .retain(|feature| !is_redundant(dependency, *feature));
+        .retain(|feature| !redundant.has(*feature));
 }
 
-// The same of the action on the key, by the dependency of its first target. Most actions ask for no
-// feature of it: then it isn't looked up.
+// The same of the action on the key. Most actions ask for no feature of it: then it isn't looked
+// up.
 fn thin_action_on(
     key: &str,
     action: &mut DepAction<'_>,
-    dependencies: &Slots<'_, FeatureDependency<'_>>,
+    redundant: &Slots<'_, RedundantFeatures<'_>>,
 )
-    ensures { (es : List Entry) → recorded_at dependencies.now key.now ≡ recorded_of es
-        → action_of action.new ≡ without_redundant (first_target es) (action_of action.old) }
+    ensures { (d : Option DependencyMeaning) → ((x : Text)
+        → has_redundant (held_in redundant.now key.now) x ≡ is_redundant d x)
+        → action_of action.new ≡ without_redundant d (action_of action.old) }
 {
     if action.dep_features.is_empty() {
         return;
     }
-    if let Some(dependency) = first_dependency(dependencies, key) {
-        thin_action(action, dependency);
+    if let Some(redundant) = redundant.get(key) {
+        thin_action(action, redundant);
     }
 }
 
 // The same of each action of the feature. `retain` lends each value to be written, and keeps all.
-fn thin_actions(feature: &mut Feature<'_>, dependencies: &Slots<'_, FeatureDependency<'_>>)
-    ensures thinned { (entries : Text → List Entry) → IsRecordOf dependencies.now entries
+fn thin_actions(feature: &mut Feature<'_>, redundant: &Slots<'_, RedundantFeatures<'_>>)
+    ensures thinned { (entries : Text → List Entry) → AreRedundantOf redundant.now entries
         → Thinned entries feature.old feature.new }
     ensures same_key { feature.new.key ≡ feature.old.key }
 {
     feature.enables_deps.retain(|key, action| {
-        thin_action_on(*key, action, dependencies);
+        thin_action_on(*key, action, redundant);
         true
     });
 }
 
 // The same; a feature without actions stays as it is.
-fn thin_feature(feature: &mut Feature<'_>, dependencies: &Slots<'_, FeatureDependency<'_>>)
-    ensures thinned { (entries : Text → List Entry) → IsRecordOf dependencies.now entries
+fn thin_feature(feature: &mut Feature<'_>, redundant: &Slots<'_, RedundantFeatures<'_>>)
+    ensures thinned { (entries : Text → List Entry) → AreRedundantOf redundant.now entries
         → Thinned entries feature.old feature.new }
     ensures same_key { feature.new.key ≡ feature.old.key }
 {
     if !feature.enables_deps.is_empty() {
-        thin_actions(feature, dependencies);
+        thin_actions(feature, redundant);
     }
 }
 
 // The same of each feature.
-fn drop_redundant(features: &mut [Feature<'_>], dependencies: &Slots<'_, FeatureDependency<'_>>)
-    ensures thinned { (entries : Text → List Entry) → IsRecordOf dependencies.now entries
+fn drop_redundant(features: &mut [Feature<'_>], redundant: &Slots<'_, RedundantFeatures<'_>>)
+    ensures thinned { (entries : Text → List Entry) → AreRedundantOf redundant.now entries
         → ThinnedAll entries features.old features.new }
     ensures same_names { names_of features.new ≡ names_of features.old }
 {
     for feature in features.iter_mut() {
-        thin_feature(feature, dependencies);
+        thin_feature(feature, redundant);
     }
+}
+
+// Whether some feature acts on a dependency.
+fn act(features: &[Feature<'_>]) -> bool
+    ensures { result ≡ list_any (λ v. nat_lt 0 (btree_map_len v.enables_deps)) features.now }
+{
+    features
+        .iter()
+        .any(|feature| !feature.enables_deps.is_empty())
+}
+
+// The same, by what is recorded. In many manifests no feature acts on any: then nothing is made
+// ready.
+fn thin_all<'d>(
+    alloc: Global,
+    features: &mut [Feature<'_>],
+    dependencies: &Slots<'d, FeatureDependency<'d>>,
+) -> Result<(), AllocError>
+    ensures thinned { OnOk result ((entries : Text → List Entry)
+        → IsRecordOf dependencies.now entries → ThinnedAll entries features.old features.new) }
+    ensures same_names { OnOk result (names_of features.new ≡ names_of features.old) }
+{
+    if !act(features) {
+        return Ok(());
+    }
+    let redundant = redundant_features(alloc, dependencies)?;
+    drop_redundant(features, &redundant);
+    Ok(())
 }
 
 /// The features, without the dependency features that are on anyway in their actions. A feature
 /// `default` is where the dependency's first target has its default features, and any other where
-/// that target lists it.
-pub fn without_redundant<'m>(
+/// that target lists it. It fails only where memory runs out.
+pub fn without_redundant<'m, 'd>(
+    alloc: Global,
     mut features: Vec<Feature<'m>>,
-    dependencies: &Slots<'_, FeatureDependency<'_>>,
-) -> Vec<Feature<'m>>
+    dependencies: &Slots<'d, FeatureDependency<'d>>,
+) -> Result<Vec<Feature<'m>>, AllocError>
     requires { AreInOrder features.items }
-    ensures in_order { AreInOrder result.items }
-    ensures thinned { (entries : Text → List Entry) → IsRecordOf dependencies.now entries
-        → ThinnedAll entries features.entry.items result.items }
+    ensures in_order { IfOk result (λ vs. AreInOrder vs.items) }
+    ensures thinned { IfOk result (λ vs. (entries : Text → List Entry)
+        → IsRecordOf dependencies.now entries → ThinnedAll entries features.entry.items vs.items) }
 {
-    drop_redundant(features.as_mut_slice(), dependencies);
-    features
+    thin_all(alloc, features.as_mut_slice(), dependencies)?;
+    Ok(features)
 }

@@ -1,28 +1,18 @@
 -- What dependencies have anyway, by the places of their keys.
-use Rattle.std.proofs.Common.{◌≡◌, ◌&&◌, ◌||◌, not, Bool, true, false, cond, List, [], ◌∷◌, ◌++◌}
-use Rattle.std.proofs.Common.{◌<◌, ◌+◌, ℕ, suc, Option, None, Some, nat_lt, bytes_eq, length, get_or, take}
+use Rattle.std.proofs.Common.{◌≡◌, ◌&&◌, not, Bool, true, false, cond, List, [], ◌∷◌, ◌++◌}
+use Rattle.std.proofs.Common.{◌<◌, ◌+◌, ℕ, Option, None, bytes_eq, length, get_or, take}
 use Rattle.std.proofs.Common.{option_map, refl, sym}
 use Rattle.std.proofs.Common.{ap, subst, arith, ◌∙◌}
-use Rattle.std.proofs.lemmas.Bool.{false≢true}
-use Rattle.std.proofs.lemmas.Bool.Decides.{Decides-ltb}
 use Rattle.std.proofs.lemmas.List.{take_more}
-use Rattle.std.specs.BTreeMap as tree
-use Rattle.std.specs.BTreeMap.{btree_map_len}
-use Rattle.std.specs.List.{list_any}
-use Rattle.std.specs.Map.{lookup}
-use Rattle.std.specs.Cmp.Lexicographic.{slice_cmp}
-use Rattle.std.specs.Ordering.{nat_cmp}
 use Rattle.cargo_toml_dependencies.specs.Dependencies.{DependencyMeaning}
-use Rattle.cargo_toml_features.specs.declared.features.Feature.{Feature}
 use Rattle.cargo_toml_features.specs.declared.features.FeatureDependency.{FeatureDependency}
-use Rattle.cargo_toml_features.specs.InOrder.{feature_at}
 use Rattle.cargo_toml_features.specs.Recorded.{Entry, first_target, is_redundant, recorded_of}
 use Rattle.cargo_toml_features.specs.Recorded.{without_redundant}
-use Rattle.cargo_toml_features.specs.Views.{action_at, action_of, recorded_in}
+use Rattle.cargo_toml_features.specs.Views.{recorded_in}
 use Rattle.cargo_toml_graph.specs.Action.{Text, Action}
 use Rattle.cargo_toml_full.specs.declared.redundant_features.RedundantFeatures.{RedundantFeatures}
-use Rattle.cargo_toml_full.specs.Redundant.{Thinned, ThinnedAll, has_redundant, without_features}
-use Rattle.cargo_toml_full.specs.Slots.{Relates, held_among}
+use Rattle.cargo_toml_full.specs.Redundant.{has_redundant, without_features}
+use Rattle.cargo_toml_full.specs.Slots.{held_among}
 
 -- of no record there is no target
 pub no_target : (es : List Entry) → None ≡ recorded_of es → None ≡ first_target es
@@ -97,48 +87,3 @@ without_none d a none = (λ i. record a { features = λ x. all (a.features x) i 
     all : (b : Bool) → b ≡ (b && true)
     all true = refl
     all false = refl
-
--- features that act on nothing
-module _ (entries : Text → List Entry) where
-  idle : (v : Feature) → nat_lt 0 (btree_map_len v.enables_deps) ≡ false → Thinned entries v v
-  idle v off = record {
-    key = refl;
-    names = refl;
-    actions = λ k. nothing v.enables_deps.entries refl k ∙ ap (option_map (without_redundant
-        (first_target (entries k)))) (sym (nothing v.enables_deps.entries refl k));
-    enabled_by = refl;
-    bins = refl;
-    marks = refl;
-  }
-    where
-      nothing : (es : List _) → v.enables_deps.entries ≡ es → (k : Text)
-          → action_at v.enables_deps k ≡ None
-      nothing [] is k =
-          ap (λ l. option_map action_of (lookup (tree.is_at (λ q. slice_cmp nat_cmp k q.now)) l)) is
-      nothing (e ∷ es) is k = absurd (false≢true (sym off
-          ∙ ap (λ l. nat_lt 0 (length l)) is ∙ (Decides-ltb 0 (suc (length es))).1 (omega arith)))
-
-  idle_at : (vs : List Feature) (f : Text)
-      → list_any (λ v. nat_lt 0 (btree_map_len v.enables_deps)) vs ≡ false
-      → Relates (Thinned entries) (feature_at vs f) (feature_at vs f)
-  idle_at [] f off = tt
-  idle_at (v ∷ vs) f off = go (nat_lt 0 (btree_map_len v.enables_deps)) refl off (idle_at vs f)
-    where
-      go : (a : Bool) → nat_lt 0 (btree_map_len v.enables_deps) ≡ a
-          → (a || list_any (λ v. nat_lt 0 (btree_map_len v.enables_deps)) vs) ≡ false
-          → (list_any (λ v. nat_lt 0 (btree_map_len v.enables_deps)) vs ≡ false
-          → Relates (Thinned entries) (feature_at vs f) (feature_at vs f))
-          → Relates (Thinned entries) (cond (bytes_eq f v.key.now) (Some v) (feature_at vs f))
-          (cond (bytes_eq f v.key.now) (Some v) (feature_at vs f))
-      go true is h later = absurd (false≢true (sym h))
-      go false is h later = here (bytes_eq f v.key.now)
-        where
-          here : (b : Bool) → Relates (Thinned entries) (cond b (Some v) (feature_at vs f))
-              (cond b (Some v) (feature_at vs f))
-          here true = idle v is
-          here false = later h
-
-  pub all_idle : (vs : List Feature)
-      → list_any (λ v. nat_lt 0 (btree_map_len v.enables_deps)) vs ≡ false
-      → ThinnedAll entries vs vs
-  all_idle vs off = record { at = λ f. idle_at vs f off }

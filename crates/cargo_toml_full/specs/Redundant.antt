@@ -2,6 +2,7 @@
 -- which no public contract rests.
 use Rattle.std.specs.Prelude.{◌≡◌, ◌&&◌, ◌||◌, Bool, false, List, Option, None, Some}
 use Rattle.std.specs.Prelude.{bytes_eq, codes, not, option_map}
+use Rattle.std.specs.Option.{ForSome}
 use Rattle.cargo_toml_features.specs.declared.features.Feature.{Feature}
 use Rattle.cargo_toml_features.specs.declared.features.FeatureDependency.{FeatureDependency}
 use Rattle.cargo_toml_graph.specs.Action.{Text, Action}
@@ -29,6 +30,13 @@ has_redundant (Some r) x = (r.has_default && bytes_eq x (codes "default")) || ha
 abbrev pub AreRedundantOf : Slots RedundantFeatures → (Text → List Entry) → Type 0
 AreRedundantOf m entries =
     (k x : Text) → has_redundant (held_in m k) x ≡ is_redundant (first_target (entries k)) x
+
+-- what is recorded of k, and what stands under it if there is a list, is what these entries say
+pub record IsSaidOf (m : Slots FeatureDependency) (o : Option (Slots RedundantFeatures)) (k : Text)
+    (es : List Entry) : Type 0 where
+  pub recorded : recorded_at m k ≡ recorded_of es
+  pub listed : ForSome o (λ r. (x : Text) → has_redundant (held_in r k) x
+      ≡ is_redundant (first_target es) x)
 
 -- the action without these features
 abbrev pub without_features : (Text → Bool) → Action → Action

@@ -1,15 +1,17 @@
 //! Features of dependencies that are on anyway.
-ghost use Rattle.std.specs.Prelude.{◌≡◌, IfOk, List, OnOk, Option, Some, map, nat_lt};
+ghost use Rattle.std.specs.Prelude.{◌≡◌, IfOk, List, Option, Some, bytes_eq, map};
 ghost use Rattle.std.specs.Prelude.{option_map, string_bytes};
-ghost use Rattle.std.specs.BTreeMap.{btree_map_len};
 ghost use Rattle.std.specs.List.{list_any};
+ghost use Rattle.std.specs.Option.{ForSome};
 ghost use Rattle.cargo_toml_dependencies.specs.Dependencies.{DependencyMeaning};
 ghost use Rattle.cargo_toml_dependencies.specs.Dependencies.{dependency_meaning};
 ghost use Rattle.cargo_toml_graph.specs.Action.{Text};
 ghost use Rattle.cargo_toml_features.specs.Recorded.{Entry, first_target, is_redundant};
 ghost use Rattle.cargo_toml_features.specs.Recorded.{recorded_of, without_redundant};
-ghost use Rattle.cargo_toml_full.specs.Redundant.{AreRedundantOf, IsRecordOf, Thinned, ThinnedAll};
-ghost use Rattle.cargo_toml_full.specs.Redundant.{has_redundant, without_features};
+ghost use Rattle.cargo_toml_full.specs.Recording.{recorded_at};
+ghost use Rattle.cargo_toml_full.specs.Redundant.{AreRedundantOf, IsRecordOf, IsSaidOf};
+ghost use Rattle.cargo_toml_full.specs.Redundant.{Thinned, ThinnedAll, has_redundant};
+ghost use Rattle.cargo_toml_full.specs.Redundant.{without_features};
 ghost use Rattle.cargo_toml_full.specs.Searching.{has_key};
 ghost use Rattle.cargo_toml_full.specs.Slots.{held_in};
 ghost use Rattle.cargo_toml_features.specs.InOrder.{AreInOrder, names_of};
@@ -20,7 +22,7 @@ use crate::redundant_features::RedundantFeatures;
 use crate::slots::Slots;
 use cargo_toml_dependencies::Dependency;
 use cargo_toml_features::features::{DepAction, Feature, FeatureDependency};
-use cargo_toml_features::texts::place_of;
+use cargo_toml_features::texts::{FEW, place_of};
 use std::alloc::{AllocError, Global};
 
 impl RedundantFeatures<'_> {
@@ -94,8 +96,7 @@ fn redundant_at<'d>(
     Ok(redundant)
 }
 
-// Of each key what its dependency has anyway. A list is put in byte order once, so that no feature
-// is looked for by going through it.
+// Of each key what its dependency has anyway.
 fn redundant_features<'d>(
     alloc: Global,
     dependencies: &Slots<'d, FeatureDependency<'d>>,
@@ -112,8 +113,74 @@ fn redundant_features<'d>(
     Ok(Slots { names, values })
 }
 
+// Whether the dependency of the first target lists many features. No clause says it: by that one of
+// two ways is chosen, and each is proved.
+fn lists_many(dependency: &Option<FeatureDependency<'_>>) -> bool {
+    let Some(dependency) = dependency else {
+        return false;
+    };
+    match first_dependency(dependency) {
+        Some(Dependency::Detailed(detail)) => detail.features.len() > FEW,
+        _ => false,
+    }
+}
+
+// The same where some dependency lists many: then each list is put in byte order once. Few are gone
+// through, which takes no memory.
+fn long_lists<'d>(
+    alloc: Global,
+    dependencies: &Slots<'d, FeatureDependency<'d>>,
+) -> Result<Option<Slots<'d, RedundantFeatures<'d>>>, AllocError>
+    ensures { IfOk result (λ r. (entries : Text → List Entry)
+        → IsRecordOf dependencies.now entries → ForSome r (λ m. AreRedundantOf m entries)) }
+{
+    if !dependencies.values.iter().any(lists_many) {
+        return Ok(None);
+    }
+    let redundant = redundant_features(alloc, dependencies)?;
+    Ok(Some(redundant))
+}
+
+// The dependency of the key's first target, where the key is recorded.
+fn dependency_of<'d>(
+    dependencies: &Slots<'_, FeatureDependency<'d>>,
+    key: &str,
+) -> Option<&'d Dependency>
+    ensures { (es : List Entry) → recorded_at dependencies.now key.now ≡ recorded_of es
+        → option_map (λ d. dependency_meaning d.now) result ≡ first_target es }
+{
+    let dependency = dependencies.get(key)?;
+    first_dependency(dependency)
+}
+
+fn lists(features: &[String], feature: &str) -> bool
+    ensures { result ≡ list_any (bytes_eq feature.now) (map string_bytes features.now) }
+{
+    features.iter().any(|listed| feature == listed.as_str())
+}
+
+// Whether the dependency has the feature anyway, as its detail says.
+fn is_redundant(dependency: &Dependency, feature: &str) -> bool
+    ensures { result ≡ is_redundant (Some (dependency_meaning dependency.now)) feature.now }
+{
+    let Dependency::Detailed(detail) = dependency else {
+        return false;
+    };
+    (detail.default_features && feature == "default") || lists(&detail.features, feature)
+}
+
 // Takes out of the action what the dependency has anyway.
-fn thin_action(action: &mut DepAction<'_>, redundant: &RedundantFeatures<'_>)
+fn thin_action(action: &mut DepAction<'_>, dependency: &Dependency)
+    ensures { action_of action.new
+        ≡ without_redundant (Some (dependency_meaning dependency.now)) (action_of action.old) }
+{
+    action
+        .dep_features
+        .retain(|feature| !is_redundant(dependency, *feature));
+}
+
+// The same by a list.
+fn thin_by(action: &mut DepAction<'_>, redundant: &RedundantFeatures<'_>)
     ensures { action_of action.new
         ≡ without_features (has_redundant (Some redundant.now)) (action_of action.old) }
 {
@@ -122,85 +189,99 @@ fn thin_action(action: &mut DepAction<'_>, redundant: &RedundantFeatures<'_>)
         .retain(|feature| !redundant.has(*feature));
 }
 
+// The same by the list of the key, if there is one.
+fn thin_by_key(key: &str, action: &mut DepAction<'_>, redundant: &Slots<'_, RedundantFeatures<'_>>)
+    ensures { (d : Option DependencyMeaning) → ((x : Text)
+        → has_redundant (held_in redundant.now key.now) x ≡ is_redundant d x)
+        → action_of action.new ≡ without_redundant d (action_of action.old) }
+{
+    if let Some(redundant) = redundant.get(key) {
+        thin_by(action, redundant);
+    }
+}
+
+// The same by what is recorded of the key, if it is.
+fn thin_by_record(
+    key: &str,
+    action: &mut DepAction<'_>,
+    dependencies: &Slots<'_, FeatureDependency<'_>>,
+)
+    ensures { (es : List Entry) → recorded_at dependencies.now key.now ≡ recorded_of es
+        → action_of action.new ≡ without_redundant (first_target es) (action_of action.old) }
+{
+    if let Some(dependency) = dependency_of(dependencies, key) {
+        thin_action(action, dependency);
+    }
+}
+
 // The same of the action on the key. Most actions ask for no feature of it: then it isn't looked
 // up.
 fn thin_action_on(
     key: &str,
     action: &mut DepAction<'_>,
-    redundant: &Slots<'_, RedundantFeatures<'_>>,
+    dependencies: &Slots<'_, FeatureDependency<'_>>,
+    redundant: &Option<Slots<'_, RedundantFeatures<'_>>>,
 )
-    ensures { (d : Option DependencyMeaning) → ((x : Text)
-        → has_redundant (held_in redundant.now key.now) x ≡ is_redundant d x)
-        → action_of action.new ≡ without_redundant d (action_of action.old) }
+    ensures { (es : List Entry) → IsSaidOf dependencies.now redundant.now key.now es
+        → action_of action.new ≡ without_redundant (first_target es) (action_of action.old) }
 {
     if action.dep_features.is_empty() {
         return;
     }
-    if let Some(redundant) = redundant.get(key) {
-        thin_action(action, redundant);
+    if let Some(redundant) = redundant {
+        thin_by_key(key, action, redundant);
+        return;
     }
+    thin_by_record(key, action, dependencies);
 }
 
 // The same of each action of the feature. `retain` lends each value to be written, and keeps all.
-fn thin_actions(feature: &mut Feature<'_>, redundant: &Slots<'_, RedundantFeatures<'_>>)
-    ensures thinned { (entries : Text → List Entry) → AreRedundantOf redundant.now entries
+fn thin_actions(
+    feature: &mut Feature<'_>,
+    dependencies: &Slots<'_, FeatureDependency<'_>>,
+    redundant: &Option<Slots<'_, RedundantFeatures<'_>>>,
+)
+    ensures thinned { (entries : Text → List Entry)
+        → ((k : Text) → IsSaidOf dependencies.now redundant.now k (entries k))
         → Thinned entries feature.old feature.new }
     ensures same_key { feature.new.key ≡ feature.old.key }
 {
     feature.enables_deps.retain(|key, action| {
-        thin_action_on(*key, action, redundant);
+        thin_action_on(*key, action, dependencies, redundant);
         true
     });
 }
 
 // The same; a feature without actions stays as it is.
-fn thin_feature(feature: &mut Feature<'_>, redundant: &Slots<'_, RedundantFeatures<'_>>)
-    ensures thinned { (entries : Text → List Entry) → AreRedundantOf redundant.now entries
+fn thin_feature(
+    feature: &mut Feature<'_>,
+    dependencies: &Slots<'_, FeatureDependency<'_>>,
+    redundant: &Option<Slots<'_, RedundantFeatures<'_>>>,
+)
+    ensures thinned { (entries : Text → List Entry)
+        → ((k : Text) → IsSaidOf dependencies.now redundant.now k (entries k))
         → Thinned entries feature.old feature.new }
     ensures same_key { feature.new.key ≡ feature.old.key }
 {
     if !feature.enables_deps.is_empty() {
-        thin_actions(feature, redundant);
+        thin_actions(feature, dependencies, redundant);
     }
 }
 
 // The same of each feature.
-fn drop_redundant(features: &mut [Feature<'_>], redundant: &Slots<'_, RedundantFeatures<'_>>)
-    ensures thinned { (entries : Text → List Entry) → AreRedundantOf redundant.now entries
+fn drop_redundant(
+    features: &mut [Feature<'_>],
+    dependencies: &Slots<'_, FeatureDependency<'_>>,
+    redundant: &Option<Slots<'_, RedundantFeatures<'_>>>,
+)
+    ensures thinned { (entries : Text → List Entry)
+        → ((k : Text) → IsSaidOf dependencies.now redundant.now k (entries k))
         → ThinnedAll entries features.old features.new }
     ensures same_names { names_of features.new ≡ names_of features.old }
 {
     for feature in features.iter_mut() {
-        thin_feature(feature, redundant);
+        thin_feature(feature, dependencies, redundant);
     }
-}
-
-// Whether some feature acts on a dependency.
-fn act(features: &[Feature<'_>]) -> bool
-    ensures { result ≡ list_any (λ v. nat_lt 0 (btree_map_len v.enables_deps)) features.now }
-{
-    features
-        .iter()
-        .any(|feature| !feature.enables_deps.is_empty())
-}
-
-// The same, by what is recorded. In many manifests no feature acts on any: then nothing is made
-// ready.
-fn thin_all<'d>(
-    alloc: Global,
-    features: &mut [Feature<'_>],
-    dependencies: &Slots<'d, FeatureDependency<'d>>,
-) -> Result<(), AllocError>
-    ensures thinned { OnOk result ((entries : Text → List Entry)
-        → IsRecordOf dependencies.now entries → ThinnedAll entries features.old features.new) }
-    ensures same_names { OnOk result (names_of features.new ≡ names_of features.old) }
-{
-    if !act(features) {
-        return Ok(());
-    }
-    let redundant = redundant_features(alloc, dependencies)?;
-    drop_redundant(features, &redundant);
-    Ok(())
 }
 
 /// The features, without the dependency features that are on anyway in their actions. A feature
@@ -216,6 +297,7 @@ pub fn without_redundant<'m, 'd>(
     ensures thinned { IfOk result (λ vs. (entries : Text → List Entry)
         → IsRecordOf dependencies.now entries → ThinnedAll entries features.entry.items vs.items) }
 {
-    thin_all(alloc, features.as_mut_slice(), dependencies)?;
+    let redundant = long_lists(alloc, dependencies)?;
+    drop_redundant(features.as_mut_slice(), dependencies, &redundant);
     Ok(features)
 }

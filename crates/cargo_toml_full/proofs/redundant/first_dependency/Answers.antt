@@ -1,4 +1,4 @@
-use Rattle.std.proofs.Common.{◌≡◌, ◌<◌, Bor, List, [], ◌∷◌, length, Some, None, is_some, option_map}
+use Rattle.std.proofs.Common.{◌≡◌, ◌<◌, Bor, List, [], ◌∷◌, length, None, is_some, option_map}
 use Rattle.std.proofs.Common.{refl, ap, arith, rules, ◌∙◌}
 use Rattle.std.proofs.lemmas.Bool.{false≢true}
 use Rattle.cargo_toml_dependencies.specs.declared.dependency.Dependency.{Dependency}

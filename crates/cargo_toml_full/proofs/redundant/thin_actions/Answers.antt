@@ -7,11 +7,9 @@ use Rattle.std.specs.Map.{lookup}
 use Rattle.std.specs.Ordering.{nat_cmp}
 use Rattle.cargo_toml_features.specs.declared.features.DepAction.{DepAction}
 use Rattle.cargo_toml_graph.specs.Action.{Text}
-use Rattle.cargo_toml_dependencies.specs.Dependencies.{DependencyMeaning}
-use Rattle.cargo_toml_features.specs.Recorded.{Entry, first_target, is_redundant}
+use Rattle.cargo_toml_features.specs.Recorded.{Entry, first_target}
 use Rattle.cargo_toml_features.specs.Recorded.{without_redundant}
-use Rattle.cargo_toml_full.specs.Redundant.{AreRedundantOf, has_redundant}
-use Rattle.cargo_toml_full.specs.Slots.{held_in}
+use Rattle.cargo_toml_full.specs.Redundant.{IsSaidOf}
 use Rattle.cargo_toml_features.specs.Views.{action_of}
 use Rattle.cargo_toml_full.proofs.Thinning.{Finds, looked_up}
 use Rattle.cargo_toml_full.proofs.redundant.thin_actions.Goals as goal
@@ -32,11 +30,11 @@ returns-clause-thinned c = λ entries said. record {
   where
     Changes : Bor Text → DepAction → DepAction → Type 0
     Changes q v w =
-        (d : Option DependencyMeaning)
-        → ((x : Text) → has_redundant (held_in c.args.redundant.now q.now) x ≡ is_redundant d x)
-        → action_of w ≡ without_redundant d (action_of v)
+        (es : List Entry) → IsSaidOf c.args.dependencies.now c.args.redundant.now q.now es
+        → action_of w ≡ without_redundant (first_target es) (action_of v)
 
-    here : (entries : Text → List Entry) → AreRedundantOf c.args.redundant.now entries → (k : Text)
+    here : (entries : Text → List Entry)
+        → ((k : Text) → IsSaidOf c.args.dependencies.now c.args.redundant.now k (entries k)) → (k : Text)
         (o o' : Option DepAction) → Finds Changes (is_at (λ q. slice_cmp nat_cmp k q.now)) o o'
         → option_map action_of o'
         ≡ option_map (without_redundant (first_target (entries k))) (option_map action_of o)
@@ -48,4 +46,4 @@ returns-clause-thinned c = λ entries said. record {
         (sym (is_eq-slice_cmp k f.0.now) ∙ f.1) in
         ap Some (subst (λ q. action_of w
         ≡ without_redundant (first_target (entries q)) (action_of v)) (sym same)
-        (f.2 (first_target (entries f.0.now)) (said f.0.now)))
+        (f.2 (entries f.0.now) (said f.0.now)))

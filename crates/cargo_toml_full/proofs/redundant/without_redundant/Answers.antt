@@ -6,6 +6,7 @@ use Rattle.cargo_toml_full.proofs.redundant.without_redundant.Goals as goal
 pub returns-clause-thinned : goal.returns-clause-thinned
 returns-clause-thinned c = λ entries recorded.
     let old = c.args.features in
-    let new = c.thin_all.new.features in
-    subst (ThinnedAll entries old.items) (sym (with_items_is old new (c.thin_all.auto.features ∙ c.as_mut_slice.ensures.len)))
-    (subst (λ vs. ThinnedAll entries vs new) c.as_mut_slice.ensures.value (c.in_ok-thin_all.ensures.thinned entries recorded))
+    let new = c.drop_redundant.new.features in
+    subst (ThinnedAll entries old.items) (sym (with_items_is old new (c.drop_redundant.auto.features ∙ c.as_mut_slice.ensures.len)))
+    (subst (λ vs. ThinnedAll entries vs new) c.as_mut_slice.ensures.value (c.drop_redundant.ensures.thinned entries
+    (λ k. record { recorded = recorded k; listed = λ r is. c.in_ok-redundant.ensures entries recorded r is k })))

@@ -9,8 +9,8 @@ ghost use Rattle.cargo_toml_full.specs.Placing.{IsBoundOf, IsPlaceOf};
 ghost use Rattle.cargo_toml_features.specs.Places.{nth_text};
 
 use cargo_toml_features::features::Feature;
+use cargo_toml_features::node::Node;
 use cargo_toml_features::texts::{FEW, is_same};
-use cargo_toml_walk::node::Node;
 use std::alloc::AllocError;
 
 // Whether the name of the feature at this place is below another.

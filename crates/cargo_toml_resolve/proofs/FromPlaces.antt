@@ -9,7 +9,7 @@ use Rattle.cargo_toml_graph.specs.Admitted.{is_below}
 use Rattle.cargo_toml_graph.specs.Graph.{Table, IsKept}
 use Rattle.cargo_toml_graph.specs.Redirects.{RedirectsTo}
 use Rattle.cargo_toml_graph.specs.Removal.{pass_all, unremoved}
-use Rattle.cargo_toml_walk.specs.Numbers.{IsWanted, Leads, row_items}
+use Rattle.cargo_toml_resolve.specs.Numbers.{IsWanted, Leads, row_items}
 use Rattle.cargo_toml_features.specs.Places.{nth_text}
 use Rattle.cargo_toml_resolve.specs.NumberedTables.{HasNumber, IsNaming, IsNumbered}
 use Rattle.cargo_toml_resolve.proofs.NumberedTables as numbered

@@ -8,7 +8,7 @@ use Rattle.std.specs.HashMap.{HashMap}
 use Rattle.std.specs.Option.{IsSomeAnd}
 use Rattle.cargo_toml_graph.specs.Action.{Text}
 use Rattle.cargo_toml_features.specs.Views.{value_at}
-use Rattle.cargo_toml_walk.specs.Numbers.{IsWanted, row_items}
+use Rattle.cargo_toml_resolve.specs.Numbers.{IsWanted, row_items}
 use Rattle.cargo_toml_features.specs.Places.{nth_text}
 use Rattle.cargo_toml_resolve.specs.Holding.{HasTextsOf}
 use Rattle.cargo_toml_resolve.specs.Texts.{texts_now}

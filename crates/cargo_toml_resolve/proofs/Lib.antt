@@ -1,3 +1,15 @@
+mod Steps
+mod Spans
+mod Marked
+mod Walking
+mod Labelled
+mod Linking
+mod Cuts
+mod RowsInOrder
+mod Words
+mod Tabled
+mod Closing
+mod Filling
 pub mod Put
 pub mod Sets
 mod Actions

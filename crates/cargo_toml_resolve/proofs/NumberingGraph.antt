@@ -6,10 +6,10 @@ use Rattle.std.specs.Option.{IsSomeAnd, option_map_or}
 use Rattle.cargo_toml_graph.specs.Action.{Text}
 use Rattle.cargo_toml_graph.specs.Admitted.{is_below}
 use Rattle.cargo_toml_graph.specs.Graph.{Table, Edge, IsPlain}
-use Rattle.cargo_toml_walk.specs.Numbers.{IsWanted, Leads}
+use Rattle.cargo_toml_resolve.specs.Numbers.{IsWanted, Leads}
 use Rattle.cargo_toml_features.specs.Places.{nth_text}
 use Rattle.cargo_toml_resolve.specs.NumberedTables.{HasNumber, IsNaming, IsNumbered}
-use Rattle.cargo_toml_walk.proofs.Steps.{has_row}
+use Rattle.cargo_toml_resolve.proofs.Steps.{has_row}
 use Rattle.cargo_toml_features.proofs.Places.{at_among, rises}
 use Rattle.cargo_toml_features.specs.declared.features.Feature.{Feature}
 use Rattle.cargo_toml_features.specs.InOrder.{AreInOrder, feature_at, names_of, table_among}

@@ -15,11 +15,11 @@ use Rattle.cargo_toml_features.specs.declared.features.Feature.{Feature}
 use Rattle.cargo_toml_features.specs.InOrder.{AreInOrder, HaveNoEnablers}
 use Rattle.cargo_toml_features.specs.Views.{action_at, set_has}
 use Rattle.cargo_toml_features.proofs.TextKeys.{none_in}
-use Rattle.cargo_toml_walk.specs.Bits.{HasBit}
-use Rattle.cargo_toml_walk.specs.Numbers.{HasLabel, IsPassed, IsWanted, KeepsLabel, Leads}
-use Rattle.cargo_toml_walk.proofs.Cuts.{none_among}
-use Rattle.cargo_toml_walk.proofs.Labelled.{gathered, some_among}
-use Rattle.cargo_toml_walk.proofs.Linking.{last_edge, with_last}
+use Rattle.cargo_toml_resolve.specs.Bits.{HasBit}
+use Rattle.cargo_toml_resolve.specs.Numbers.{HasLabel, IsPassed, IsWanted, KeepsLabel, Leads}
+use Rattle.cargo_toml_resolve.proofs.Cuts.{none_among}
+use Rattle.cargo_toml_resolve.proofs.Labelled.{gathered, some_among}
+use Rattle.cargo_toml_resolve.proofs.Linking.{last_edge, with_last}
 use Rattle.cargo_toml_resolve.specs.Enabling.{EnablesThrough, GainEnabler, LearnThrough}
 use Rattle.cargo_toml_resolve.specs.Holding.{AllTakeOver, HasActions, HasTextsOf, Holds, HoldsTheSame, KeepsOwn, SaysTheSame, TakesOver, action_by}
 use Rattle.cargo_toml_resolve.specs.NumberedTables.{HasNumber}

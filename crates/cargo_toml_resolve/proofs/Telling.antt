@@ -9,9 +9,9 @@ use Rattle.cargo_toml_graph.specs.Reach.{Among}
 use Rattle.cargo_toml_features.specs.declared.features.Feature.{Feature}
 use Rattle.cargo_toml_features.specs.InOrder.{names_of}
 use Rattle.cargo_toml_features.specs.Places.{nth_text}
-use Rattle.cargo_toml_walk.specs.Bits.{Holds}
-use Rattle.cargo_toml_walk.specs.Numbers.{IsWanted, Leads}
-use Rattle.cargo_toml_walk.proofs.Steps.{has_row}
+use Rattle.cargo_toml_resolve.specs.Bits.{Holds}
+use Rattle.cargo_toml_resolve.specs.Numbers.{IsWanted, Leads}
+use Rattle.cargo_toml_resolve.proofs.Steps.{has_row}
 use Rattle.cargo_toml_resolve.specs.Enabling.{LeaderBelow, LeadsTo, LearnBy}
 use Rattle.cargo_toml_resolve.specs.Holding.{IsTextOf}
 use Rattle.cargo_toml_resolve.specs.NumberedTables.{HasNumber}

@@ -11,7 +11,7 @@ use Rattle.cargo_toml_graph.proofs.BinLists.{is_among-true, among-true}
 use Rattle.cargo_toml_features.specs.Views.{set_has}
 use Rattle.cargo_toml_features.specs.Places.{nth_text}
 use Rattle.cargo_toml_features.proofs.TextKeys.{none_in}
-use Rattle.cargo_toml_walk.proofs.Steps.{among_at, item_at}
+use Rattle.cargo_toml_resolve.proofs.Steps.{among_at, item_at}
 use Rattle.cargo_toml_resolve.specs.Holding.{HasTextsOf, IsTextOf}
 use Rattle.cargo_toml_resolve.specs.Texts.{texts_now}
 use Rattle.cargo_toml_resolve.proofs.Gathered.{among_push}

@@ -5,7 +5,7 @@ use Rattle.cargo_toml_graph.specs.Action.{Text}
 use Rattle.cargo_toml_graph.specs.Admitted.{is_below}
 use Rattle.cargo_toml_graph.specs.Graph.{Table, Edge}
 use Rattle.cargo_toml_features.specs.Places.{nth_text}
-use Rattle.cargo_toml_walk.specs.Numbers.{Leads, IsWanted}
+use Rattle.cargo_toml_resolve.specs.Numbers.{Leads, IsWanted}
 
 -- x is the text of a number below n of which P holds
 abbrev pub HasNumber : List Text → ℕ → (ℕ → Type 0) → Text → Type 0

@@ -2,8 +2,8 @@
 use Rattle.std.specs.Prelude.{◌≡◌, ◌↔◌, ◌<◌, ◌≤◌, ◌*◌, ℕ, Bool, true, List, length, Vec}
 use Rattle.std.specs.declared.alloc.Global.{Global}
 use Rattle.cargo_toml_graph.specs.Reach.{Reaches}
-use Rattle.cargo_toml_walk.specs.Bits.{AreWide, Holds, words_of}
-use Rattle.cargo_toml_walk.specs.Numbers.{IsRedirect, IsWanted, Leads}
+use Rattle.cargo_toml_resolve.specs.Bits.{AreWide, Holds, words_of}
+use Rattle.cargo_toml_resolve.specs.Numbers.{IsRedirect, IsWanted, Leads}
 
 module _ (edges labels : List (List ℕ)) (flags : List Bool) where
   -- what stands for each removed vertex

@@ -1,17 +1,17 @@
 //! Where features name many others: each learns of all that enable it at once, by a table of bits.
 ghost use Rattle.std.specs.Prelude.{◌≡◌, ◌*◌, ◌<◌, ◌≤◌, ℕ, OnOk, false, length};
 ghost use Rattle.cargo_toml_graph.specs.Reach.{Among};
-ghost use Rattle.cargo_toml_walk.specs.Bits.{Holds, words_of};
-ghost use Rattle.cargo_toml_walk.specs.Numbers.{IsWanted};
+ghost use Rattle.cargo_toml_resolve.specs.Bits.{Holds, words_of};
+ghost use Rattle.cargo_toml_resolve.specs.Numbers.{IsWanted};
 ghost use Rattle.cargo_toml_resolve.specs.Enabling.{LearnBy};
 ghost use Rattle.cargo_toml_resolve.specs.Holding.{IsTextOf};
 ghost use Rattle.cargo_toml_resolve.specs.NumberedTables.{HasNumber};
 ghost use Rattle.cargo_toml_resolve.specs.Texts.{texts_now};
 
 use crate::node_sets::add_nodes;
+use crate::tables::parents_of;
 use cargo_toml_features::features::Feature;
-use cargo_toml_walk::node::Node;
-use cargo_toml_walk::tables::parents_of;
+use cargo_toml_features::node::Node;
 use std::alloc::{AllocError, Global};
 
 // The texts of nodes are put among what enables the feature in this place.

@@ -6,9 +6,9 @@ ghost use Rattle.cargo_toml_resolve.specs.Placed.{ArePlaced};
 use crate::graph::{Graph, Walked};
 use crate::keeping::keep_all;
 use crate::passing::pass_bins;
+use crate::redirects::{Redirects, find_redirects};
+use crate::walk::Walk;
 use cargo_toml_features::features::Feature;
-use cargo_toml_walk::redirects::{Redirects, find_redirects};
-use cargo_toml_walk::walk::Walk;
 use std::alloc::{AllocError, Global};
 
 /// In each place what is kept of the feature there, and what stands for the removed ones. None of

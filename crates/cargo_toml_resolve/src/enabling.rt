@@ -8,21 +8,21 @@ ghost use Rattle.cargo_toml_features.specs.InOrder.{AreInOrder, AreTable, HaveNo
 ghost use Rattle.cargo_toml_features.specs.InOrder.{names_of, resolution_among};
 ghost use Rattle.cargo_toml_features.specs.Views.{set_has};
 ghost use Rattle.cargo_toml_features.specs.Places.{nth_text};
-ghost use Rattle.cargo_toml_walk.specs.Numbers.{Leads};
+ghost use Rattle.cargo_toml_resolve.specs.Numbers.{Leads};
 ghost use Rattle.cargo_toml_resolve.specs.Enabling.{AreSameButEnablers, GainEnabler, LeaderBelow};
 ghost use Rattle.cargo_toml_resolve.specs.Enabling.{LeadsTo, LearnBy};
 ghost use Rattle.cargo_toml_resolve.specs.Numbering.{Gains, IsTarget};
 ghost use Rattle.cargo_toml_resolve.specs.Texts.{texts_now};
 
+use crate::bits::words_for;
+use crate::dense::are_many;
 use crate::dense_enablers::learn_by_table;
 use crate::numbering::{edge_rows, keys_of, push_actions, push_target};
+use crate::rows::Rows;
+use crate::tables::table_of;
 use cargo_toml_features::action::add_text;
 use cargo_toml_features::features::Feature;
-use cargo_toml_walk::bits::words_for;
-use cargo_toml_walk::dense::are_many;
-use cargo_toml_walk::node::Node;
-use cargo_toml_walk::rows::Rows;
-use cargo_toml_walk::tables::table_of;
+use cargo_toml_features::node::Node;
 use std::alloc::{AllocError, Global};
 use std::collections::BTreeSet;
 

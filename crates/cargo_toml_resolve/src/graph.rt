@@ -2,10 +2,10 @@
 ghost use Rattle.std.specs.Prelude.{◌≡◌, ◌<◌, ◌≤◌, ℕ, IsTrue, length};
 ghost use Rattle.cargo_toml_graph.specs.Admitted.{is_below};
 ghost use Rattle.cargo_toml_features.specs.Places.{nth_text};
-ghost use Rattle.cargo_toml_walk.specs.Numbers.{Leads};
+ghost use Rattle.cargo_toml_resolve.specs.Numbers.{Leads};
 ghost use Rattle.cargo_toml_resolve.specs.Texts.{texts_now};
 
-use cargo_toml_walk::rows::Rows;
+use crate::rows::Rows;
 
 /// Features as a graph of nodes.
 ///

@@ -3,18 +3,18 @@ ghost use Rattle.std.specs.Prelude.{◌≡◌, ◌<◌, IfOk, OnOk, false, lengt
 ghost use Rattle.cargo_toml_resolve.specs.Holding.{AllTakeOver, TakesOver};
 ghost use Rattle.cargo_toml_resolve.specs.Texts.{texts_now};
 ghost use Rattle.cargo_toml_resolve.specs.Walking.{AreTables};
-ghost use Rattle.cargo_toml_walk.specs.Numbers.{IsWanted};
+ghost use Rattle.cargo_toml_resolve.specs.Numbers.{IsWanted};
 
+use crate::bits::{nodes_of, words_for};
+use crate::dense::{is_dense, reached};
 use crate::enabling::enable_along;
 use crate::graph::Graph;
 use crate::node_sets::set_of_nodes;
+use crate::tables::{gathered, table_of};
 use crate::taking_over::hold;
+use crate::walk::Walk;
 use cargo_toml_features::features::Feature;
-use cargo_toml_walk::bits::{nodes_of, words_for};
-use cargo_toml_walk::dense::{is_dense, reached};
-use cargo_toml_walk::node::Node;
-use cargo_toml_walk::tables::{gathered, table_of};
-use cargo_toml_walk::walk::Walk;
+use cargo_toml_features::node::Node;
 use std::alloc::{AllocError, Global};
 
 // A kept feature takes over from the removed ones that it passes, and is put among what enables

@@ -4,6 +4,8 @@
 //! [`resolve`] is the whole of it. Callers use it by `cargo_toml::features::Resolver`.
 #![tactic(auto)]
 
+pub mod bits;
+pub mod dense;
 pub mod dense_enablers;
 pub mod elimination;
 pub mod enabling;
@@ -15,10 +17,16 @@ pub mod hidden_map;
 pub mod joining;
 mod keeping;
 pub mod kept;
+pub mod marks;
 pub mod node_sets;
 pub mod numbering;
 pub mod passing;
+pub mod redirects;
 pub mod resolution;
+pub mod rows;
+pub mod span;
+pub mod tables;
 pub mod taking_over;
+pub mod walk;
 
 pub use resolution::{Lists, resolve};

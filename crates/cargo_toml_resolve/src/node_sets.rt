@@ -8,8 +8,8 @@ ghost use Rattle.cargo_toml_resolve.specs.Holding.{HasTextsOf, IsTextOf};
 ghost use Rattle.cargo_toml_resolve.specs.Texts.{texts_now};
 
 use cargo_toml_features::action::add_text;
+use cargo_toml_features::node::Node;
 use cargo_toml_full::sets::{FEW, set_of};
-use cargo_toml_walk::node::Node;
 use std::alloc::{AllocError, Global};
 use std::collections::BTreeSet;
 

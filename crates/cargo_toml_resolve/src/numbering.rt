@@ -7,7 +7,7 @@ ghost use Rattle.cargo_toml_graph.specs.Reach.{Among};
 ghost use Rattle.cargo_toml_graph.specs.Ascending.{Ascend};
 ghost use Rattle.cargo_toml_features.specs.InOrder.{AreInOrder, names_of, table_among};
 ghost use Rattle.cargo_toml_features.specs.Views.{action_at, action_of, set_has};
-ghost use Rattle.cargo_toml_walk.specs.Numbers.{IsWanted, Leads};
+ghost use Rattle.cargo_toml_resolve.specs.Numbers.{IsWanted, Leads};
 ghost use Rattle.cargo_toml_features.specs.Places.{nth_text};
 ghost use Rattle.cargo_toml_resolve.specs.NumberedTables.{IsNaming, IsNumbered};
 ghost use Rattle.cargo_toml_resolve.specs.Numbering.{AreParted, AreTextsOf, Gains, IsFlagged};
@@ -16,12 +16,12 @@ ghost use Rattle.cargo_toml_resolve.specs.Texts.{texts_now};
 
 use crate::enabling::push_targets;
 use crate::graph::Graph;
+use crate::rows::Rows;
+use crate::walk::has_flagged;
 use cargo_toml_features::features::{DepAction, Feature};
+use cargo_toml_features::node::Node;
 use cargo_toml_features::texts::in_order;
 use cargo_toml_full::places::place_near;
-use cargo_toml_walk::node::Node;
-use cargo_toml_walk::rows::Rows;
-use cargo_toml_walk::walk::has_flagged;
 use std::alloc::{AllocError, Global};
 use std::collections::{BTreeMap, BTreeSet};
 

@@ -2,9 +2,9 @@ use Rattle.std.proofs.Common.{rules, ◌≤◌, ◌<◌, ℕ, true, false, lengt
 use Rattle.std.proofs.lemmas.Bool.{false≢true}
 use Rattle.cargo_toml_graph.specs.Action.{Text}
 use Rattle.cargo_toml_graph.specs.Reach.{Among}
-use Rattle.cargo_toml_walk.specs.Bits.{Holds}
-use Rattle.cargo_toml_walk.specs.Numbers.{IsWanted}
-use Rattle.cargo_toml_walk.proofs.Tabled.{holds_inside}
+use Rattle.cargo_toml_resolve.specs.Bits.{Holds}
+use Rattle.cargo_toml_resolve.specs.Numbers.{IsWanted}
+use Rattle.cargo_toml_resolve.proofs.Tabled.{holds_inside}
 use Rattle.cargo_toml_resolve.specs.Holding.{IsTextOf}
 use Rattle.cargo_toml_resolve.specs.NumberedTables.{HasNumber}
 use Rattle.cargo_toml_resolve.specs.Texts.{texts_now}

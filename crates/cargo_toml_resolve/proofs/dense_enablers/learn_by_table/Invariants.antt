@@ -1,6 +1,6 @@
 use Rattle.std.proofs.Common.{false, length}
-use Rattle.cargo_toml_walk.specs.Bits.{Holds}
-use Rattle.cargo_toml_walk.specs.Numbers.{IsWanted}
+use Rattle.cargo_toml_resolve.specs.Bits.{Holds}
+use Rattle.cargo_toml_resolve.specs.Numbers.{IsWanted}
 use Rattle.cargo_toml_resolve.specs.Enabling.{LearnBy}
 use Rattle.cargo_toml_resolve.specs.NumberedTables.{HasNumber}
 use Rattle.cargo_toml_resolve.specs.Texts.{texts_now}

@@ -1,5 +1,5 @@
 use Rattle.std.proofs.Common.{◌≡◌, ◌<◌, ℕ, length, ap, refl, sym, subst, ◌∙◌, arith}
-use Rattle.cargo_toml_walk.specs.Numbers.{FindsRedirects}
+use Rattle.cargo_toml_resolve.specs.Numbers.{FindsRedirects}
 use Rattle.cargo_toml_resolve.specs.Passing.{bins_of, passed_below}
 use Rattle.cargo_toml_resolve.specs.Texts.{texts_now}
 use Rattle.cargo_toml_resolve.specs.Walking.{AreRedirects}

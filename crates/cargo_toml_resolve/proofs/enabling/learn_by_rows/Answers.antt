@@ -1,7 +1,7 @@
 use Rattle.std.proofs.Common.{rules, ◌≡◌, ◌<◌, ℕ, false, length, ap, subst, ◌∙◌, arith, get_or}
 use Rattle.std.proofs.lemmas.List.{get_or-replicate}
-use Rattle.cargo_toml_walk.specs.Numbers.{IsWanted}
-use Rattle.cargo_toml_walk.proofs.Steps.{has_row}
+use Rattle.cargo_toml_resolve.specs.Numbers.{IsWanted}
+use Rattle.cargo_toml_resolve.proofs.Steps.{has_row}
 use Rattle.cargo_toml_resolve.proofs.Learning.{as_many}
 use Rattle.cargo_toml_resolve.proofs.NumberingGraph.{targets_by}
 use Rattle.cargo_toml_resolve.proofs.Telling.{told_leaders}

@@ -4,8 +4,8 @@ use Rattle.std.proofs.lemmas.Bool.Decides.{nat_tests}
 use Rattle.cargo_toml_graph.specs.Action.{Text}
 use Rattle.cargo_toml_graph.specs.Reach.{Among}
 use Rattle.cargo_toml_features.specs.Places.{nth_text}
-use Rattle.cargo_toml_walk.specs.Numbers.{HasLabel, IsPassed, IsWanted, row_items}
-use Rattle.cargo_toml_walk.proofs.Walking.{path_inside}
+use Rattle.cargo_toml_resolve.specs.Numbers.{HasLabel, IsPassed, IsWanted, row_items}
+use Rattle.cargo_toml_resolve.proofs.Walking.{path_inside}
 use Rattle.cargo_toml_resolve.specs.Enabling.{GainEnabler}
 use Rattle.cargo_toml_resolve.specs.Holding.{HasTextsOf}
 use Rattle.cargo_toml_resolve.specs.TakingOver.{ChangesIn, ComesToHold}

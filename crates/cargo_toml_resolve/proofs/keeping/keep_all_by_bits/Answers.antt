@@ -1,6 +1,6 @@
 use Rattle.std.proofs.Common.{rules, subst, arith, ◌≡◌, ◌<◌, true, false, ◌∙◌, length}
-use Rattle.cargo_toml_walk.specs.Numbers.{IsWanted}
-use Rattle.cargo_toml_walk.proofs.Steps.{read_at}
+use Rattle.cargo_toml_resolve.specs.Numbers.{IsWanted}
+use Rattle.cargo_toml_resolve.proofs.Steps.{read_at}
 use Rattle.cargo_toml_resolve.specs.Holding.{AllTakeOver}
 use Rattle.cargo_toml_resolve.specs.Texts.{texts_now}
 use Rattle.cargo_toml_resolve.proofs.TakenOver.{none_take_over, one_more_takes_over, skipped}

@@ -4,11 +4,11 @@ use Rattle.std.proofs.lemmas.Bool.Decides.{nat_tests}
 use Rattle.cargo_toml_graph.specs.Action.{Text}
 use Rattle.cargo_toml_graph.specs.Reach.{Among, Reaches}
 use Rattle.cargo_toml_features.specs.Places.{nth_text}
-use Rattle.cargo_toml_walk.specs.Bits.{HasBit, words_of}
-use Rattle.cargo_toml_walk.specs.Numbers.{HasLabel, IsPassed, IsWanted, Leads}
-use Rattle.cargo_toml_walk.proofs.Steps.{row_read}
-use Rattle.cargo_toml_walk.proofs.Tabled.{label_row}
-use Rattle.cargo_toml_walk.proofs.Walking.{path_inside}
+use Rattle.cargo_toml_resolve.specs.Bits.{HasBit, words_of}
+use Rattle.cargo_toml_resolve.specs.Numbers.{HasLabel, IsPassed, IsWanted, Leads}
+use Rattle.cargo_toml_resolve.proofs.Steps.{row_read}
+use Rattle.cargo_toml_resolve.proofs.Tabled.{label_row}
+use Rattle.cargo_toml_resolve.proofs.Walking.{path_inside}
 use Rattle.cargo_toml_resolve.specs.Enabling.{EnablesThrough, GainEnabler}
 use Rattle.cargo_toml_resolve.specs.Holding.{HasTextsOf}
 use Rattle.cargo_toml_resolve.specs.TakingOver.{ChangesIn, ComesToHold}

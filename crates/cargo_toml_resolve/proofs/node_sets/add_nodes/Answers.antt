@@ -5,7 +5,7 @@ use Rattle.cargo_toml_graph.specs.Action.{Text}
 use Rattle.cargo_toml_features.specs.Views.{set_has}
 use Rattle.cargo_toml_resolve.specs.Texts.{texts_now}
 use Rattle.cargo_toml_resolve.proofs.TextSets.{all_texts_put, no_text_put, place_below, put_in_none, set_made, set_of_numbers, text_put}
-use Rattle.cargo_toml_walk.proofs.Steps.{item_at}
+use Rattle.cargo_toml_resolve.proofs.Steps.{item_at}
 use Rattle.cargo_toml_resolve.proofs.Learning.{no_keys}
 use Rattle.cargo_toml_resolve.proofs.node_sets.add_nodes.Goals as goal
 

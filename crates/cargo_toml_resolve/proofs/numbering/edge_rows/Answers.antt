@@ -2,7 +2,7 @@ use Rattle.std.proofs.Common.{rules, ◌≢◌, ◌↔◌, ◌⊎◌, ◌<◌, �
 use Rattle.std.proofs.lemmas.Option.{slice_get_read}
 use Rattle.cargo_toml_graph.specs.Reach.{Among}
 use Rattle.cargo_toml_features.specs.Places.{nth_text}
-use Rattle.cargo_toml_walk.proofs.Filling.{IsFilled, none_filled, one_more_filled}
+use Rattle.cargo_toml_resolve.proofs.Filling.{IsFilled, none_filled, one_more_filled}
 use Rattle.cargo_toml_resolve.specs.Enabling.{LeadsTo}
 use Rattle.cargo_toml_resolve.specs.Numbering.{IsTarget}
 use Rattle.cargo_toml_resolve.specs.Texts.{texts_now}

@@ -1,5 +1,5 @@
 use Rattle.std.proofs.Common.{◌<◌, length}
-use Rattle.cargo_toml_walk.proofs.Filling.{IsFilled}
+use Rattle.cargo_toml_resolve.proofs.Filling.{IsFilled}
 use Rattle.cargo_toml_resolve.specs.Numbering.{IsTarget}
 use Rattle.cargo_toml_resolve.specs.Texts.{texts_now}
 use Rattle.cargo_toml_resolve.proofs.numbering.edge_rows.Given as goal

@@ -1,6 +1,6 @@
 use Rattle.std.proofs.Common.{◌<◌, length}
 use Rattle.cargo_toml_features.specs.Places.{nth_text}
-use Rattle.cargo_toml_walk.proofs.Filling.{IsFilled}
+use Rattle.cargo_toml_resolve.proofs.Filling.{IsFilled}
 use Rattle.cargo_toml_resolve.specs.Numbering.{IsPicked}
 use Rattle.cargo_toml_resolve.specs.Texts.{texts_now}
 use Rattle.cargo_toml_resolve.proofs.numbering.name_rows.Given as goal

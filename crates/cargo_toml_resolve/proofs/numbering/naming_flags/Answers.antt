@@ -1,7 +1,7 @@
 use Rattle.std.proofs.Common.{rules, ◌≡◌, ◌<◌, [], ◌∷◌, true, false, length, length-append, ap, sym, subst, ◌∙◌, arith}
 use Rattle.cargo_toml_graph.specs.Reach.{Among}
-use Rattle.cargo_toml_walk.specs.Numbers.{IsWanted, row_items}
-use Rattle.cargo_toml_walk.proofs.Steps.{none_flagged}
+use Rattle.cargo_toml_resolve.specs.Numbers.{IsWanted, row_items}
+use Rattle.cargo_toml_resolve.proofs.Steps.{none_flagged}
 use Rattle.cargo_toml_resolve.specs.NumberedTables.{IsNaming}
 use Rattle.cargo_toml_resolve.proofs.NumberRows.{flag_put, naming_is}
 use Rattle.cargo_toml_resolve.proofs.numbering.naming_flags.Goals as goal

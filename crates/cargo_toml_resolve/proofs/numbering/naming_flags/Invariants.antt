@@ -1,5 +1,5 @@
 use Rattle.std.proofs.Common.{◌≡◌, ◌<◌, ℕ, true, length}
-use Rattle.cargo_toml_walk.specs.Numbers.{IsWanted}
+use Rattle.cargo_toml_resolve.specs.Numbers.{IsWanted}
 use Rattle.cargo_toml_resolve.specs.NumberedTables.{IsNaming}
 use Rattle.cargo_toml_resolve.proofs.numbering.naming_flags.Given as goal
 

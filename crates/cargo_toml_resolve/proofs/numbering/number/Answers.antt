@@ -2,7 +2,7 @@ use Rattle.std.proofs.Common.{rules, ◌≡◌, ◌<◌, ◌≤◌, Bor, length,
 use Rattle.std.proofs.lemmas.List.{length-map}
 use Rattle.cargo_toml_graph.specs.Ascending.{Ascend}
 use Rattle.cargo_toml_graph.specs.Action.{Text}
-use Rattle.cargo_toml_walk.proofs.Steps.{has_row}
+use Rattle.cargo_toml_resolve.proofs.Steps.{has_row}
 use Rattle.cargo_toml_features.specs.InOrder.{names_of}
 use Rattle.cargo_toml_resolve.specs.Texts.{texts_now}
 use Rattle.cargo_toml_resolve.proofs.NumberingGraph.{graph_found, named_by, targets_by}

@@ -2,7 +2,7 @@ use Rattle.std.proofs.Common.{rules, ◌<◌, true, false, length, IsTrue, refl,
 use Rattle.std.proofs.lemmas.Option.{slice_get_read}
 use Rattle.cargo_toml_features.specs.declared.features.Feature.{Feature}
 use Rattle.cargo_toml_features.specs.Views.{set_has}
-use Rattle.cargo_toml_walk.specs.Numbers.{IsWanted}
+use Rattle.cargo_toml_resolve.specs.Numbers.{IsWanted}
 use Rattle.cargo_toml_resolve.specs.Texts.{texts_now}
 use Rattle.cargo_toml_resolve.proofs.Gathered.{Puts, feature_left, feature_put, none_named}
 use Rattle.cargo_toml_resolve.proofs.numbering.others_of.Goals as goal

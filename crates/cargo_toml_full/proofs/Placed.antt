@@ -281,10 +281,6 @@ module _ (vs : List Feature) (i : ℕ) (w : Feature) (new : List Feature) (f : T
   pub last_missing : feature_at vs f ≡ None
   last_missing = subst (λ k. feature_at vs k ≡ None) key missing
 
-get_last : (vs : List Feature) (v d : Feature) → get_or (vs ++ v ∷ []) (length vs) d ≡ v
-get_last [] v d = refl
-get_last (u ∷ vs) v d = get_last vs v d
-
 -- behind all others one is pushed, which then becomes another
 module _ (vs : List Feature) (i : ℕ) (v : Feature) (pushed : List Feature) (f : Text) (up : AreInOrder vs) (behind : IsBehind vs i f) (put : pushed ≡ vs ++ v ∷ []) where
   last : i ≡ length vs
@@ -292,9 +288,6 @@ module _ (vs : List Feature) (i : ℕ) (v : Feature) (pushed : List Feature) (f 
       let within = behind.bound.within in
       let past = behind.past in
       omega (arith, past, within)
-
-  pub pushed_there : (d : Feature) → get_or pushed i d ≡ v
-  pushed_there d = ap₂ (λ us k. get_or us k d) put last ∙ get_last vs v d
 
   module _ (w : Feature) (key : w.key.now ≡ f) where
     filled : set pushed i w ≡ vs ++ w ∷ []

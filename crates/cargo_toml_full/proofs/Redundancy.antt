@@ -1,17 +1,15 @@
 -- What dependencies have anyway, by the places of their keys.
-use Rattle.std.proofs.Common.{◌≡◌, ◌&&◌, not, Bool, true, false, cond, List, [], ◌∷◌, ◌++◌}
+use Rattle.std.proofs.Common.{◌≡◌, Bool, true, false, cond, List, [], ◌∷◌, ◌++◌}
 use Rattle.std.proofs.Common.{◌<◌, ◌+◌, ℕ, Option, None, bytes_eq, length, get_or, take}
 use Rattle.std.proofs.Common.{option_map, refl, sym}
 use Rattle.std.proofs.Common.{ap, subst, arith, ◌∙◌}
 use Rattle.std.proofs.lemmas.List.{take_more}
-use Rattle.cargo_toml_dependencies.specs.Dependencies.{DependencyMeaning}
 use Rattle.cargo_toml_features.specs.declared.features.FeatureDependency.{FeatureDependency}
 use Rattle.cargo_toml_features.specs.Recorded.{Entry, first_target, is_redundant, recorded_of}
-use Rattle.cargo_toml_features.specs.Recorded.{without_redundant}
 use Rattle.cargo_toml_features.specs.Views.{recorded_in}
-use Rattle.cargo_toml_graph.specs.Action.{Text, Action}
+use Rattle.cargo_toml_graph.specs.Action.{Text}
 use Rattle.cargo_toml_full.specs.declared.redundant_features.RedundantFeatures.{RedundantFeatures}
-use Rattle.cargo_toml_full.specs.Redundant.{has_redundant, without_features}
+use Rattle.cargo_toml_full.specs.Redundant.{has_redundant}
 use Rattle.cargo_toml_full.specs.Slots.{held_among}
 
 -- of no record there is no target
@@ -73,17 +71,3 @@ under_names (n ∷ ns) (d ∷ ds) (r ∷ rs) h k = go (bytes_eq k n) (under_name
         → HasAnyway (cond b d (held_among ns ds k)) (cond b r (held_among ns rs k))
     go true later = h.0
     go false later = later
-
--- an action without what its dependency has
-pub same_without : (t : Text → Bool) (d : Option DependencyMeaning) (a : Action)
-    → ((x : Text) → t x ≡ is_redundant d x) → without_features t a ≡ without_redundant d a
-same_without t d a same = λ i. record a { features = λ x. a.features x && not (same x i) }
-
-pub without_none : (d : Option DependencyMeaning) (a : Action)
-    → ((x : Text) → false ≡ is_redundant d x) → a ≡ without_redundant d a
-without_none d a none = (λ i. record a { features = λ x. all (a.features x) i })
-    ∙ same_without (λ x. false) d a none
-  where
-    all : (b : Bool) → b ≡ (b && true)
-    all true = refl
-    all false = refl

@@ -8,7 +8,6 @@ use Rattle.cargo_toml_features.specs.declared.features.FeatureDependency.{Featur
 use Rattle.cargo_toml_graph.specs.Action.{Text, Action}
 use Rattle.cargo_toml_full.specs.Slots.{Relates, held_in}
 use Rattle.cargo_toml_features.specs.InOrder.{feature_at}
-use Rattle.cargo_toml_features.specs.Marks.{marks_of}
 use Rattle.cargo_toml_features.specs.Recorded.{Entry, first_target, is_redundant, recorded_of}
 use Rattle.cargo_toml_features.specs.Recorded.{without_redundant}
 use Rattle.cargo_toml_full.specs.Recording.{recorded_at}
@@ -45,13 +44,9 @@ without_features these a = record a { features = λ x. a.features x && not (thes
 -- each action of the feature lost what is redundant by the entries of its key, and
 -- nothing else changed
 pub record Thinned (entries : Text → List Entry) (old new : Feature) : Type 0 where
-  pub key : new.key ≡ old.key
-  pub names : new.enables_features ≡ old.enables_features
+  pub same : new ≡ record old { enables_deps = new.enables_deps }
   pub actions : (k : Text) → action_at new.enables_deps k
       ≡ option_map (without_redundant (first_target (entries k))) (action_at old.enables_deps k)
-  pub enabled_by : new.enabled_by ≡ old.enabled_by
-  pub bins : new.required_by_bins ≡ old.required_by_bins
-  pub marks : marks_of new ≡ marks_of old
 
 -- so did each feature
 pub record ThinnedAll (entries : Text → List Entry) (old new : List Feature) : Type 0 where

@@ -16,16 +16,12 @@ use Rattle.cargo_toml_full.proofs.redundant.thin_actions.Goals as goal
 
 pub returns-clause-thinned : goal.returns-clause-thinned
 returns-clause-thinned c = λ entries said. record {
-  key = refl;
-  names = refl;
+  same = refl;
   actions = λ k.
       let before = c.args.feature.now.enables_deps in
       let after = c.retain.new.self in
       here entries said k (lookup (is_at (λ q. slice_cmp nat_cmp k q.now)) before.entries) (lookup (is_at (λ q. slice_cmp nat_cmp k q.now)) after.entries)
       (looked_up Changes (is_at (λ q. slice_cmp nat_cmp k q.now)) _ _ (λ q v b w f' t. search rules) before.entries after.entries c.retain.ensures.filtered);
-  enabled_by = refl;
-  bins = refl;
-  marks = refl;
 }
   where
     Changes : Bor Text → DepAction → DepAction → Type 0

@@ -6,10 +6,10 @@ use Rattle.cargo_toml_resolve.specs.Walking.{AreRedirects}
 use Rattle.cargo_toml_resolve.proofs.Placing.{bins_there, kept_there, left_there, named_alike_there, redirects_there}
 use Rattle.cargo_toml_resolve.proofs.elimination.place.Goals as goal
 
-pub find_redirects-requires-clause-within : goal.find_redirects-requires-clause-within
-find_redirects-requires-clause-within c =
+pub redirects-requires-clause-within : goal.redirects-requires-clause-within
+redirects-requires-clause-within c =
     let g = c.args.graph in
-    let flags : length c.as_slice-is_removed.result.now ≡ length g.flags.items = ap length c.as_slice-is_removed.ensures.value in
+    let flags : length c.as_slice.result.now ≡ length g.flags.items = ap length c.as_slice.ensures.value in
     let vertices = g.features_count in
     let count = g.flags_count in
     record {
@@ -30,11 +30,11 @@ returns c =
     let ns = g.names in
     let fs = g.flags.items in
     let r = c.in_ok-rows.field-0 in
-    let found : FindsRedirects es ns fs r.moved.items r.rows = subst (λ f. FindsRedirects es ns f r.moved.items r.rows) c.as_slice-is_removed.ensures.value c.in_ok-rows.ensures in
+    let found : FindsRedirects es ns fs r.moved.items r.rows = subst (λ f. FindsRedirects es ns f r.moved.items r.rows) c.as_slice.ensures.value c.in_ok-rows.ensures in
     let leaves = c.in_ok-keep_all.ensures.kept in
     let others = c.in_ok-pass_bins.ensures.others in
     let passed : (y : ℕ) → y < length left → bins_of new y ≡ passed_below r.rows fs (length left) (bins_of left) y =
-    subst (λ f. (y : ℕ) → y < length left → bins_of new y ≡ passed_below r.rows f (length left) (bins_of left) y) c.as_slice-is_removed.ensures.value c.in_ok-pass_bins.ensures.bins in
+    subst (λ f. (y : ℕ) → y < length left → bins_of new y ≡ passed_below r.rows f (length left) (bins_of left) y) c.as_slice.ensures.value c.in_ok-pass_bins.ensures.bins in
     let are : AreRedirects es ns fs r.rows = λ x z lt gone. found.redirects x z (subst (λ n. x < n) (sym g.names_count) lt) gone in
     record {
       texts = refl;
@@ -54,12 +54,12 @@ invariant_of-result c =
     let g = c.args.graph in
     let fs = g.flags.items in
     let r = c.in_ok-rows.field-0 in
-    let found : FindsRedirects g.edges g.names fs r.moved.items r.rows = subst (λ f. FindsRedirects g.edges g.names f r.moved.items r.rows) c.as_slice-is_removed.ensures.value c.in_ok-rows.ensures in
+    let found : FindsRedirects g.edges g.names fs r.moved.items r.rows = subst (λ f. FindsRedirects g.edges g.names f r.moved.items r.rows) c.as_slice.ensures.value c.in_ok-rows.ensures in
     let len = found.len in
     let names = g.names_count in
     let vertices = g.features_count in
     record {
-      once = g.once;
+      once = λ i j lt. g.once i j (let lt' = lt in omega (arith, lt', len, names));
       features_count = omega (arith, len, names, vertices);
       flags_count = g.flags_count;
       moved_count = found.count ∙ g.flags_count;

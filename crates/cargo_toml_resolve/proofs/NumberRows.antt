@@ -59,19 +59,33 @@ named_gained n own texts P nodes old new names h x = (
 )
 
 -- one more node of a list
-pub node_gained : (n own : ℕ) (nodes : List ℕ) (i : ℕ) (old row new : List ℕ) → i < length nodes → Gains n own (Among (take i nodes)) old row
-    → ((x : ℕ) → Among new x ↔ (Among row x ⊎ ((x ≡ get_or nodes i 0) × (x < n) × (x ≢ own)))) → Gains n own (Among (take (i + 1) nodes)) old new
-node_gained n own nodes i old row new lt h more x =
-    let split = among_more nodes i x lt in (
-      λ j. elim ((more x).0 j) [
-        | inl r ↦ elim ((h x).0 r) [ inl o ↦ inl o | inr t ↦ inr (t.0, t.1, split.1 (inl t.2)) ]
-        | inr t ↦ inr (t.1, t.2, split.1 (inr t.0))
-      ],
-      λ w. (more x).1 (elim w [
-        | inl o ↦ inl ((h x).1 (inl o))
-        | inr t ↦ elim (split.0 t.2) [ inl s ↦ inl ((h x).1 (inr (t.0, t.1, s))) | inr is ↦ inr (is, t.0, t.1) ]
-      ]),
-    )
+module _ (n own : ℕ) (nodes : List ℕ) (i node : ℕ) (old row : List ℕ) (lt : i < length nodes) (is : node ≡ get_or nodes i 0) (h : Gains n own (Among (take i nodes)) old row) where
+  pub node_put : (node < n) × (node ≢ own) → Gains n own (Among (take (i + 1) nodes)) old (row ++ node ∷ [])
+  node_put good x =
+      let split = among_more nodes i x lt in
+      let push = among_push row node x in (
+        λ j. elim (push.0 j) [
+          | inl r ↦ elim ((h x).0 r) [ inl o ↦ inl o | inr t ↦ inr (t.0, t.1, split.1 (inl t.2)) ]
+          | inr e ↦ inr (subst (λ z. z < n) (sym e) good.0, λ o. good.1 (sym e ∙ o), split.1 (inr (e ∙ is)))
+        ],
+        λ w. push.1 (elim w [
+          | inl o ↦ inl ((h x).1 (inl o))
+          | inr t ↦ elim (split.0 t.2) [ inl s ↦ inl ((h x).1 (inr (t.0, t.1, s))) | inr e ↦ inr (e ∙ sym is) ]
+        ]),
+      )
+
+  pub node_left : ¬ ((node < n) × (node ≢ own)) → Gains n own (Among (take (i + 1) nodes)) old row
+  node_left bad x =
+      let split = among_more nodes i x lt in (
+        λ j. elim ((h x).0 j) [ inl o ↦ inl o | inr t ↦ inr (t.0, t.1, split.1 (inl t.2)) ],
+        λ w. elim w [
+          | inl o ↦ (h x).1 (inl o)
+          | inr t ↦ elim (split.0 t.2) [
+            | inl s ↦ (h x).1 (inr (t.0, t.1, s))
+            | inr e ↦ absurd (bad (subst (λ z. z < n) (e ∙ sym is) t.0, λ o. t.1 (e ∙ sym is ∙ o)))
+          ]
+        ],
+      )
 
 pub nodes_gained : (n own : ℕ) (nodes : List ℕ) (i : ℕ) (old new : List ℕ) → length nodes ≤ i → Gains n own (Among (take i nodes)) old new → Gains n own (Among nodes) old new
 nodes_gained n own nodes i old new le h x = (

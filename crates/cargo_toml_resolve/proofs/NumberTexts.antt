@@ -14,6 +14,7 @@ use Rattle.cargo_toml_features.proofs.Places.{among_at, once}
 use Rattle.cargo_toml_features.proofs.TextKeys.{none_in}
 use Rattle.cargo_toml_resolve.specs.Numbering.{AreTextsOf, Extends, HasNames, IsNodeOf}
 use Rattle.cargo_toml_resolve.specs.Texts.{texts_now}
+use Rattle.cargo_toml_resolve.proofs.Learning.{no_keys}
 use Rattle.cargo_toml_resolve.proofs.Gathered.{all_seen, among_push, seen, seen_push}
 
 pub extends_none : (n : ℕ) (ts : List Text) → Extends n ts ts
@@ -131,10 +132,6 @@ names_alike n ts P Q row same h = record {
   all = λ k q. h.all k ((same k).1 q);
   keys = λ x lt q. h.keys x lt ((same (nth_text ts x)).1 q);
 }
-
-no_keys : (ks : List (Bor Text)) → length ks ≡ 0 → ks ≡ []
-no_keys [] none = refl
-no_keys (k ∷ ks) none = absurd (omega arith)
 
 pub names_empty : (n : ℕ) (ts : List Text) (s : BTreeSet (Bor Text)) (row : List ℕ) → row ≡ [] → btree_set_len s ≡ 0 → HasNames n ts (λ k. IsTrue (set_has s k)) row
 names_empty n ts s row none empty = names_alike n ts (Among (seen [])) (λ k. IsTrue (set_has s k)) row (λ k. (λ i. absurd i, λ y. absurd (false≢true (sym (none_in s (no_keys s.keys empty) k) ∙ y)))) (names_none n ts row none)

@@ -3,8 +3,9 @@ use Rattle.std.proofs.Common.{◌≡◌, ◌≢◌, ◌↔◌, ◌⊎◌, ◌<�
 use Rattle.std.proofs.lemmas.Bool.{cases_eq}
 use Rattle.cargo_toml_graph.specs.Reach.{Among}
 use Rattle.cargo_toml_resolve.specs.Bits.{AreWide, Gains, HasBit, Holds, words_of}
+use Rattle.cargo_toml_resolve.specs.Dense.{IsTable}
 use Rattle.cargo_toml_resolve.specs.Numbers.{IsWanted, Leads}
-use Rattle.cargo_toml_resolve.proofs.Steps.{among_all, among_more, among_taken}
+use Rattle.cargo_toml_resolve.proofs.Steps.{among_all, among_more, among_taken, row_read}
 use Rattle.cargo_toml_resolve.proofs.Words.{no_bit_past}
 
 -- a row past the end has no bit
@@ -127,10 +128,22 @@ all_gains named i Bits t0 t le g = record {
   );
 }
 
--- the nodes of a row of bits that have a flag
-pub flagged_row : (P : ℕ → Type 0) (flags : List Bool) (wanted : Bool) (bits row : List ℕ) → ((x : ℕ) → HasBit bits x ↔ P x) → ((x : ℕ) → P x → x < length flags)
-    → ((x : ℕ) → Among row x ↔ ((x < length flags) × (HasBit bits x × IsWanted flags wanted x))) → (x : ℕ) → Among row x ↔ (IsWanted flags wanted x × P x)
-flagged_row P flags wanted bits row has inside is x = (
-  λ i. let n = (is x).0 i in (n.1.1, (has x).0 n.1.0),
-  λ p. (is x).1 (inside x p.1, ((has x).1 p.1, p.0)),
-)
+-- the row of a vertex, as it is read
+module _ {Z : Type 0} (P : ℕ → ℕ → Type 0) (width n : ℕ) (table : List (Vec ℕ Z)) (t : IsTable P width n table) (own p : ℕ) (lt : own < n) (at : p ≡ own) where
+  pub row_below : p < length table
+  row_below = let len = t.len in omega (arith, lt, at, len)
+
+  module _ (v : Vec ℕ Z) (bits : List ℕ) (read : v ≡ get_or table p v) (shown : bits ≡ v.items) where
+    row_is : words_of table own ≡ bits
+    row_is = row_read table own p v (subst (λ m. m < length table) at row_below) at read ∙ sym shown
+
+    pub row_wide : length bits ≡ width
+    row_wide = sym (ap length row_is) ∙ t.wide own (subst (λ m. m < length table) at row_below)
+
+    -- its nodes that have a flag
+    pub flagged_row : (flags : List Bool) (wanted : Bool) (row : List ℕ) → ((x : ℕ) → P own x → x < length flags)
+        → ((x : ℕ) → Among row x ↔ ((x < length flags) × (HasBit bits x × IsWanted flags wanted x))) → (x : ℕ) → Among row x ↔ (IsWanted flags wanted x × P own x)
+    flagged_row flags wanted row inside is x = (
+      λ i. let m = (is x).0 i in (m.1.1, (t.bits own x).0 (subst (λ ws. HasBit ws x) (sym row_is) m.1.0)),
+      λ q. (is x).1 (inside x q.1, (subst (λ ws. HasBit ws x) row_is ((t.bits own x).1 q.1), q.0)),
+    )

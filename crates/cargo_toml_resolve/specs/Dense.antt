@@ -14,11 +14,11 @@ pub record IsTable {Z : Type 0} (P : ℕ → ℕ → Type 0) (width n : ℕ)
 
 -- the tables have what each vertex reaches through removed ones, and the labels of it and of those,
 -- and what stands for the removed ones
-pub record AreTables (edges labels : List (List ℕ)) (flags : List Bool) (t : Tables) : Type 0 where
+pub record AreTables (edges names : List (List ℕ)) (flags : List Bool) (t : Tables) : Type 0 where
   pub width : ℕ
   pub enough : length flags ≤ 64 * width
   pub paths : IsTable (Reaches (Leads edges) (IsWanted flags true)) width (length edges)
       t.paths.items
-  pub labels : IsTable (GathersLabel (Leads edges) (IsWanted flags true) (Leads labels)) width
+  pub labels : IsTable (GathersLabel (Leads edges) (IsWanted flags true) (Leads names)) width
       (length edges) t.labels.items
-  pub redirects : FindsRedirects edges labels flags t.redirects.moved.items t.redirects.rows
+  pub redirects : FindsRedirects edges names flags t.redirects.moved.items t.redirects.rows

@@ -54,11 +54,11 @@ pub record AreTextsOf (vs : List Feature) (texts : List Text) : Type 0 where
 
 -- where the features lead, and what each names that is removed or has an edge to a removed one
 pub record AreRead (vs : List Feature) (flags : List Bool) (texts : List Text)
-    (edges names : List (List ℕ)) : Type 0 where
-  pub edges_len : length edges ≡ length vs
-  pub names_len : length names ≡ length vs
+    (edge_rows name_rows : List (List ℕ)) : Type 0 where
+  pub edges_len : length edge_rows ≡ length vs
+  pub names_len : length name_rows ≡ length vs
   pub edges : (i x : ℕ) → i < length vs
-      → Leads edges i x ↔ ((x < length vs) × IsTarget vs (names_of vs) i x)
-  pub names : (i : ℕ) → i < length vs → IsNaming edges flags i
-      → HasNames (length vs) texts (λ k. IsTrue (place_names vs i k)) (row_items names i)
-  pub inside : (i x : ℕ) → Leads names i x → x < length texts
+      → Leads edge_rows i x ↔ ((x < length vs) × IsTarget vs (names_of vs) i x)
+  pub names : (i : ℕ) → i < length vs → IsNaming edge_rows flags i
+      → HasNames (length vs) texts (λ k. IsTrue (place_names vs i k)) (row_items name_rows i)
+  pub inside : (i x : ℕ) → Leads name_rows i x → x < length texts

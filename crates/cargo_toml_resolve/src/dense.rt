@@ -23,7 +23,7 @@ pub fn is_dense(rows: &Rows, count: usize) -> bool {
 
 /// What leads where once the removed vertices are taken out, as tables of bits, and what stands for
 /// these.
-#[derive(Debug, Drop)]
+#[derive(Drop)]
 pub struct Tables {
     /// What each vertex reaches through removed ones.
     pub paths: Vec<Vec<u64>>,

@@ -72,8 +72,9 @@ pub(crate) fn place<'m>(
         names,
         flags,
     } = graph;
-    let Redirects { rows, moved } = redirects(alloc, edges, names, flags.as_slice(), finder)?;
-    pass_bins(alloc, features, &rows, flags.as_slice())?;
+    let is_removed = flags.as_slice();
+    let Redirects { rows, moved } = redirects(alloc, edges, names, is_removed, finder)?;
+    pass_bins(alloc, features, &rows, is_removed)?;
     Ok(Walked {
         texts,
         flags,

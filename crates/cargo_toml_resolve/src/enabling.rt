@@ -61,7 +61,8 @@ fn push_targets(
         return Ok(());
     }
     push_names(row, &feature.enables_features, keys, own, cursor)?;
-    push_actions(row, &feature.enables_deps, keys, own)
+    push_actions(row, &feature.enables_deps, keys, own)?;
+    Ok(())
 }
 
 // The source is put among what enables the feature in this place.

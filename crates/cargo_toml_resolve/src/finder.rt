@@ -13,7 +13,7 @@ use std::alloc::{AllocError, Global};
 
 /// How paths are found in a graph: by its tables, where it is dense, else by walks. What was found
 /// last stands in the walk.
-#[derive(Debug, Drop)]
+#[derive(Drop)]
 pub(crate) struct Finder {
     pub tables: Option<Tables>,
     pub walk: Walk,
@@ -40,7 +40,10 @@ impl Finder {
                 self.walk.passed = nodes_of(alloc, paths, flags, true)?;
                 Ok(())
             }
-            None => self.walk.pass(own, &graph.edges, flags),
+            None => {
+                self.walk.pass(own, &graph.edges, flags)?;
+                Ok(())
+            }
         }
     }
 
@@ -68,7 +71,10 @@ impl Finder {
                 self.walk.labels = nodes_of(alloc, paths, flags, false)?;
                 Ok(())
             }
-            None => self.walk.label(own, &graph.edges, flags),
+            None => {
+                self.walk.label(own, &graph.edges, flags)?;
+                Ok(())
+            }
         }
     }
 
@@ -95,7 +101,10 @@ impl Finder {
                 self.walk.labels = nodes_of(alloc, labels, flags, false)?;
                 Ok(())
             }
-            None => self.walk.label(own, &graph.names, flags),
+            None => {
+                self.walk.label(own, &graph.names, flags)?;
+                Ok(())
+            }
         }
     }
 }

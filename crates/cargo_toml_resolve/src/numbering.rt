@@ -41,7 +41,7 @@ pub(crate) fn keys_of<'m>(
 
 /// Where the next key is looked for first: behind the last one that was found, since names come in
 /// the order of keys.
-#[derive(Debug, Drop)]
+#[derive(Drop)]
 pub(crate) struct Cursor {
     near: usize,
 }
@@ -113,12 +113,19 @@ fn name_row<'m>(
     Ok(())
 }
 
+// Whether the node is a key other than the one in place `own`.
+fn is_other_key(node: Node, count: usize, own: Node) -> bool
+    ensures { IsTrue result ↔ ((node < count) × (node ≢ own)) }
+{
+    node.place() < count && node != own
+}
+
 // The row gains those of the nodes that are keys, other than the one in place `own`.
 fn push_keys(row: &mut Vec<Node>, nodes: &[Node], count: usize, own: Node) -> Result<(), AllocError>
     ensures { OnOk result (Gains count own (Among nodes.now) row.old.items row.new.items) }
 {
     for node in nodes {
-        if node.place() < count && *node != own {
+        if is_other_key(*node, count, own) {
             row.push(*node)?;
         }
     }
@@ -190,7 +197,7 @@ pub(crate) fn leads_nowhere(feature: &Feature<'_>) -> bool
 }
 
 /// What is used again for each feature.
-#[derive(Debug, Drop)]
+#[derive(Drop)]
 struct Look {
     edges: Vec<Node>,
     names: Vec<Node>,
@@ -250,7 +257,7 @@ fn all_flags(alloc: Global, flags: &[bool], size: usize) -> Result<Vec<bool>, Al
 }
 
 /// Where each feature leads, and what it names where that is asked for.
-#[derive(Debug, Drop)]
+#[derive(Drop)]
 struct FeatureRows {
     edges: Rows,
     names: Rows,

@@ -1,4 +1,6 @@
-use Rattle.std.proofs.Common.{◌≡◌, ◌<◌, ℕ, length, ap, refl, sym, subst, ◌∙◌, arith}
+use Rattle.std.proofs.Common.{rules, ◌≡◌, ◌<◌, ℕ, length, ap, refl, sym, subst, ◌∙◌, arith}
+use Rattle.std.specs.Option.{ForSome}
+use Rattle.cargo_toml_resolve.specs.Dense.{AreTables}
 use Rattle.cargo_toml_resolve.specs.Numbers.{FindsRedirects}
 use Rattle.cargo_toml_resolve.specs.Passing.{bins_of, passed_below}
 use Rattle.cargo_toml_resolve.specs.Texts.{texts_now}
@@ -9,7 +11,7 @@ use Rattle.cargo_toml_resolve.proofs.elimination.place.Goals as goal
 pub redirects-requires-clause-within : goal.redirects-requires-clause-within
 redirects-requires-clause-within c =
     let g = c.args.graph in
-    let flags : length c.as_slice.result.now ≡ length g.flags.items = ap length c.as_slice.ensures.value in
+    let flags : length c.as_slice-is_removed.result.now ≡ length g.flags.items = ap length c.as_slice-is_removed.ensures.value in
     let vertices = g.features_count in
     let count = g.flags_count in
     record {
@@ -18,6 +20,17 @@ redirects-requires-clause-within c =
       edges_inside = g.edges_inside;
       labels_inside = λ a x i. subst (λ n. x < n) (sym (flags ∙ count)) (g.names_inside a x i);
     }
+
+pub keep_all-requires-clause-finder : goal.keep_all-requires-clause-finder
+keep_all-requires-clause-finder c = record { tables = c.in_ok-tables.ensures; room = search rules }
+
+pub redirects-requires-clause-room : goal.redirects-requires-clause-room
+redirects-requires-clause-room c = c.in_ok-keep_all.ensures.finder.room ∙ sym (ap length c.as_slice-is_removed.ensures.value)
+
+pub redirects-requires-clause-tables : goal.redirects-requires-clause-tables
+redirects-requires-clause-tables c =
+    let g = c.args.graph in
+    subst (λ f. ForSome c.keep_all.new.finder.tables (AreTables g.edges g.names f)) (sym c.as_slice-is_removed.ensures.value) c.in_ok-keep_all.ensures.finder.tables
 
 pub returns : goal.returns
 returns c =
@@ -30,11 +43,11 @@ returns c =
     let ns = g.names in
     let fs = g.flags.items in
     let r = c.in_ok-rows.field-0 in
-    let found : FindsRedirects es ns fs r.moved.items r.rows = subst (λ f. FindsRedirects es ns f r.moved.items r.rows) c.as_slice.ensures.value c.in_ok-rows.ensures in
+    let found : FindsRedirects es ns fs r.moved.items r.rows = subst (λ f. FindsRedirects es ns f r.moved.items r.rows) c.as_slice-is_removed.ensures.value c.in_ok-rows.ensures in
     let leaves = c.in_ok-keep_all.ensures.kept in
     let others = c.in_ok-pass_bins.ensures.others in
     let passed : (y : ℕ) → y < length left → bins_of new y ≡ passed_below r.rows fs (length left) (bins_of left) y =
-    subst (λ f. (y : ℕ) → y < length left → bins_of new y ≡ passed_below r.rows f (length left) (bins_of left) y) c.as_slice.ensures.value c.in_ok-pass_bins.ensures.bins in
+    subst (λ f. (y : ℕ) → y < length left → bins_of new y ≡ passed_below r.rows f (length left) (bins_of left) y) c.as_slice-is_removed.ensures.value c.in_ok-pass_bins.ensures.bins in
     let are : AreRedirects es ns fs r.rows = λ x z lt gone. found.redirects x z (subst (λ n. x < n) (sym g.names_count) lt) gone in
     record {
       texts = refl;
@@ -54,7 +67,7 @@ invariant_of-result c =
     let g = c.args.graph in
     let fs = g.flags.items in
     let r = c.in_ok-rows.field-0 in
-    let found : FindsRedirects g.edges g.names fs r.moved.items r.rows = subst (λ f. FindsRedirects g.edges g.names f r.moved.items r.rows) c.as_slice.ensures.value c.in_ok-rows.ensures in
+    let found : FindsRedirects g.edges g.names fs r.moved.items r.rows = subst (λ f. FindsRedirects g.edges g.names f r.moved.items r.rows) c.as_slice-is_removed.ensures.value c.in_ok-rows.ensures in
     let len = found.len in
     let names = g.names_count in
     let vertices = g.features_count in

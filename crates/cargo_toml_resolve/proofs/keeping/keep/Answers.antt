@@ -34,7 +34,7 @@ returns-then-not-has_flagged-clause-kept c =
     let vs = c.args.features.now.items in
     let ws = c.enable_along.new.features.items in
     let clean : ¬ ((x : ℕ) × Leads g.edges own x × IsWanted fs true x) = λ w.
-    false≢true (sym c.if-not-has_flagged.false ∙ c.has_flagged.ensures.1 (w.0, subst (λ l. Among l w.0) (sym c.row-row.ensures) w.1, subst (λ f. IsWanted f true w.0) (sym c.as_slice.ensures.value) w.2)) in
+    false≢true (sym c.if-not-has_flagged.true ∙ c.has_flagged.ensures.1 (w.0, subst (λ l. Among l w.0) (sym c.row-row.ensures) w.1, subst (λ f. IsWanted f true w.0) (sym c.as_slice.ensures.value) w.2)) in
     let is : (b : ℕ) → Among [] b ↔ IsPassed g.edges fs own b = passes_none g.edges fs own clean in
     let here : own < length g.texts.items = let lt = c.requires.own in let n = g.features_count in omega (arith, lt, n) in
     let source : c.index-source.result.now.now ≡ nth_text ts own = source_is g.texts.items own c.place.result c.index-source.result.now here c.place.ensures c.index-source.ensures in
@@ -83,7 +83,7 @@ returns-clause-kept c =
     let passed = c.pass.new.self.walk.passed.items in
     let set = c.in_ok-names.names in
     let is : (b : ℕ) → Among passed b ↔ IsPassed g.edges fs own b = c.in_ok-pass.ensures.passed in
-    let flagged = c.has_flagged.ensures.0 c.if-not-has_flagged.true in
+    let flagged = c.has_flagged.ensures.0 c.if-not-has_flagged.false in
     let gone : IsWanted fs true flagged.0 = subst (λ f. IsWanted f true flagged.0) c.as_slice.ensures.value flagged.2 in
     let any : PassesAny g.edges fs own = (flagged.0, (gone, edge (subst (λ l. Among l flagged.0) c.row-row.ensures flagged.1))) in
     let same : c.as_slice-5.result.now ≡ passed = c.as_slice-5.ensures.value ∙ ap (λ v. v.items) (c.in_ok-name.ensures.passed ∙ c.in_ok-target.ensures.passed) in

@@ -17,8 +17,8 @@ push_actions-requires c =
     let n = c.args.count in
     let old = c.args.texts.now.items in
     let new = c.name_row.new.texts.items in
-    subst Ascend (take-map (λ (t : Bor Text). t.now) n new)
-    (subst Ascend (sym (front_still n (texts_now old) (texts_now new) c.in_ok-name_row.ensures.extends (fits_now n old c.requires.fits))) c.requires.keys)
+    rw c.deref.ensures.value (subst Ascend (take-map (λ (t : Bor Text). t.now) n new)
+    (subst Ascend (sym (front_still n (texts_now old) (texts_now new) c.in_ok-name_row.ensures.extends (fits_now n old c.requires.fits))) c.requires.keys))
 
 pub returns-clause-edges : goal.returns-clause-edges
 returns-clause-edges c =
@@ -40,5 +40,5 @@ returns-clause-edges c =
     gained_alike (length (take n new)) n own (λ x. IsPlain (action_at v.enables_deps (nth_text (texts_now (take n new)) x))) (λ x. IsPlain (action_at v.enables_deps (nth_text (texts_now old) x))) mid edges
     (length-take-le n new (texts_longer n old new c.requires.fits more))
     (λ x lt. subst (λ k. IsPlain (action_at v.enables_deps (nth_text (texts_now (take n new)) x)) ↔ IsPlain (action_at v.enables_deps k)) (front_text n old new c.requires.fits more x lt) (λ i. i, λ i. i))
-    c.in_ok-push_actions.ensures in
+    (rw c.deref.ensures.value at c.in_ok-push_actions.ensures) in
     both_gained n own (λ x. IsTrue (set_has v.enables_features (nth_text (texts_now old) x))) (λ x. IsPlain (action_at v.enables_deps (nth_text (texts_now old) x))) [] mid edges named acted

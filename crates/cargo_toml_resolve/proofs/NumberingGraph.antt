@@ -1,5 +1,5 @@
 -- The graph of numbers that stands for features in order.
-use Rattle.std.proofs.Common.{◌≡◌, ◌↔◌, ◌⊎◌, ◌<◌, ◌≤◌, ℕ, Bool, true, false, List, [], length, take, slice_get, IsTrue, Option, Some, None, Bor, refl, sym, ap, subst, inl, inr, ◌∙◌, arith}
+use Rattle.std.proofs.Common.{◌≡◌, ◌↔◌, ◌⊎◌, ◌<◌, ◌≤◌, ℕ, Bool, true, false, List, [], length, slice_get, IsTrue, Option, Some, None, refl, sym, ap, subst, inl, inr, ◌∙◌, arith}
 use Rattle.std.proofs.lemmas.Bool.{false≢true, cases_lt}
 use Rattle.std.proofs.lemmas.List.{length-map, get_or_past}
 use Rattle.std.specs.Option.{IsSomeAnd, option_map_or}
@@ -15,7 +15,7 @@ use Rattle.cargo_toml_features.specs.declared.features.Feature.{Feature}
 use Rattle.cargo_toml_features.specs.InOrder.{AreInOrder, feature_at, names_of, table_among}
 use Rattle.cargo_toml_features.specs.Views.{action_at, set_has}
 use Rattle.cargo_toml_resolve.specs.Enabling.{LeadsTo}
-use Rattle.cargo_toml_resolve.specs.Numbering.{AreRead, AreTextsOf, IsFlagged, IsTarget, place_names}
+use Rattle.cargo_toml_resolve.specs.Numbering.{AreRead, AreTextsOf, IsFlagged, place_names}
 use Rattle.cargo_toml_resolve.proofs.NumberTexts.{key_text, keys_fit}
 use Rattle.cargo_toml_resolve.proofs.InPlace.{has_place, name_in, stands_found, stands_in}
 

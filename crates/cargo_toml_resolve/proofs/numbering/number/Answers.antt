@@ -1,14 +1,10 @@
-use Rattle.std.proofs.Common.{rules, ◌≡◌, ◌<◌, ◌≤◌, Bor, length, refl, ap, sym, subst, ◌∙◌, arith}
+use Rattle.std.proofs.Common.{rules, ◌≡◌, ◌<◌, ◌≤◌, Bor, length, sym, subst, ◌∙◌}
 use Rattle.std.proofs.lemmas.List.{length-map}
 use Rattle.cargo_toml_graph.specs.Action.{Text}
-use Rattle.cargo_toml_graph.specs.Graph.{Table}
-use Rattle.cargo_toml_features.specs.InOrder.{names_of, table_among}
-use Rattle.cargo_toml_resolve.specs.Numbering.{IsFlagged}
-use Rattle.cargo_toml_resolve.specs.NumberedTables.{IsNumbered}
 use Rattle.cargo_toml_resolve.specs.Texts.{texts_now}
 use Rattle.cargo_toml_resolve.proofs.Steps.{has_row}
 use Rattle.cargo_toml_resolve.proofs.NumberingGraph.{graph_stands}
-use Rattle.cargo_toml_resolve.proofs.NumberTexts.{key_text, keys_fit}
+use Rattle.cargo_toml_resolve.proofs.NumberTexts.{key_text}
 use Rattle.cargo_toml_resolve.proofs.numbering.number.Goals as goal
 
 pub returns-clause-numbered : goal.returns-clause-numbered

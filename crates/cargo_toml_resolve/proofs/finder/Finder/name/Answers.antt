@@ -1,5 +1,5 @@
-use Rattle.std.proofs.Common.{rules, ◌≡◌, ◌↔◌, ◌<◌, ◌≤◌, ◌*◌, ◌∙◌, ℕ, true, false, length, ap, sym, subst, arith}
-use Rattle.cargo_toml_graph.specs.Reach.{Among, GathersLabel, Reaches}
+use Rattle.std.proofs.Common.{rules, ◌↔◌, ◌<◌, ℕ, true, false, length, ap, sym, subst, arith}
+use Rattle.cargo_toml_graph.specs.Reach.{Among, GathersLabel}
 use Rattle.cargo_toml_resolve.specs.Bits.{HasBit}
 use Rattle.cargo_toml_resolve.specs.Numbers.{IsWanted, Leads}
 use Rattle.cargo_toml_resolve.proofs.Tabled.{flagged_row, row_below, row_wide}

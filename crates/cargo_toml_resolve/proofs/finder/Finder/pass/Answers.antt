@@ -1,4 +1,4 @@
-use Rattle.std.proofs.Common.{rules, ◌≡◌, ◌↔◌, ◌<◌, ◌≤◌, ◌*◌, ◌∙◌, ℕ, true, false, length, ap, sym, subst, arith}
+use Rattle.std.proofs.Common.{rules, ◌↔◌, ◌<◌, ◌≤◌, ℕ, true, length, ap, subst, arith}
 use Rattle.cargo_toml_graph.specs.Reach.{Among, Reaches}
 use Rattle.cargo_toml_resolve.specs.Bits.{HasBit}
 use Rattle.cargo_toml_resolve.specs.Numbers.{IsWanted, Leads}

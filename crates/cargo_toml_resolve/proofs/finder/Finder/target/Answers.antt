@@ -1,7 +1,7 @@
-use Rattle.std.proofs.Common.{rules, ◌≡◌, ◌↔◌, ◌<◌, ◌≤◌, ◌*◌, ◌∙◌, ℕ, true, false, length, ap, sym, subst, arith}
-use Rattle.cargo_toml_graph.specs.Reach.{Among, GathersLabel, Reaches}
+use Rattle.std.proofs.Common.{rules, ◌↔◌, ◌<◌, ◌≤◌, ℕ, true, false, length, ap, subst, arith}
+use Rattle.cargo_toml_graph.specs.Reach.{Among, Reaches}
 use Rattle.cargo_toml_resolve.specs.Bits.{HasBit}
-use Rattle.cargo_toml_resolve.specs.Numbers.{HasLabel, IsPassed, IsWanted, KeepsLabel, Leads}
+use Rattle.cargo_toml_resolve.specs.Numbers.{HasLabel, IsWanted, Leads}
 use Rattle.cargo_toml_resolve.proofs.Labelled.{reached}
 use Rattle.cargo_toml_resolve.proofs.Tabled.{flagged_row, row_below, row_wide}
 use Rattle.cargo_toml_resolve.proofs.Walking.{path_inside}

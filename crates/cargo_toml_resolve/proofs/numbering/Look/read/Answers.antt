@@ -1,4 +1,4 @@
-use Rattle.std.proofs.Common.{◌≡◌, ◌<◌, ◌↔◌, IsTrue, ℕ, Bor, List, length, take, refl, ap, sym, subst, ◌∙◌, [], arith}
+use Rattle.std.proofs.Common.{◌≡◌, ◌<◌, ◌↔◌, IsTrue, ℕ, Bor, length, take, refl, sym, subst, [], arith}
 use Rattle.std.proofs.lemmas.List.{length-take-le, take-map}
 use Rattle.cargo_toml_graph.specs.Action.{Text}
 use Rattle.cargo_toml_graph.specs.Ascending.{Ascend}

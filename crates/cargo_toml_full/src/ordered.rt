@@ -30,17 +30,7 @@ pub fn lower_bound(features: &[Feature<'_>], name: &str) -> usize
     if count > 0 && is_below(features, count - 1, name) {
         return count;
     }
-    let mut low = 0;
-    let mut high = count;
-    while low < high {
-        let middle = low + (high - low) / 2;
-        if is_below(features, middle, name) {
-            low = middle + 1;
-        } else {
-            high = middle;
-        }
-    }
-    low
+    features.partition_point(|feature| feature.key < name)
 }
 
 /// Whether the feature at this place has the name.

@@ -1,7 +1,8 @@
 -- The labels of a list of vertices, one vertex after another.
 use Rattle.std.proofs.Common.{◌↔◌, ◌<◌, ◌≤◌, ◌+◌, ℕ, Bool, true, false, List, [], ◌∷◌, take, length, get_or, refl, subst, inl, inr, arith}
-use Rattle.cargo_toml_graph.specs.Reach.{Among, GathersLabel}
+use Rattle.cargo_toml_graph.specs.Reach.{Among, GathersLabel, Reaches}
 use Rattle.cargo_toml_resolve.specs.Numbers.{HasLabel, IsPassed, Leads, AreMarked, FindsNamed, IsWanted}
+use Rattle.cargo_toml_resolve.proofs.Linking.{last_edge, with_last}
 use Rattle.cargo_toml_resolve.proofs.Steps.{among_more, among_all, among_taken, then_visit, alike, no_visit}
 
 module _ (labels : List (List ℕ)) (flags : List Bool) (wanted : Bool) where
@@ -35,3 +36,11 @@ module _ (edges : List (List ℕ)) (flags : List Bool) (labels : List (List ℕ)
     λ n. ((n.0.0, elim (n.0.1) [ inl own ↦ inl own | inr p ↦ inr ((is n.0.0).0 p) ], n.0.2), n.1),
     λ n. ((n.0.0, elim (n.0.1) [ inl own ↦ inl own | inr g ↦ inr ((is n.0.0).1 g) ], n.0.2), n.1),
   )
+
+-- those that a vertex and the ones that it passes lead to, it reaches
+pub reached : (edges : List (List ℕ)) (flags : List Bool) (Passed : ℕ → Type 0) (a : ℕ) → ((b : ℕ) → Passed b ↔ IsPassed edges flags a b) → (x : ℕ) → HasLabel Passed edges flags a x ↔ (IsWanted flags false x × Reaches (Leads edges) (IsWanted flags true) a x)
+reached edges flags Passed a is x =
+    let g = gathered edges flags edges Passed a is x in (
+      λ h. let k = g.0 h in (k.1, with_last (Leads edges) (IsWanted flags true) k.0.1 k.0.2),
+      λ p. g.1 (last_edge (Leads edges) (IsWanted flags true) p.1, p.0),
+    )

@@ -17,6 +17,7 @@ pub mod InOrder
 mod Gathered
 mod NumberTexts
 mod NumberRows
+mod ReadRows
 pub mod SameKept
 pub mod AgainstAll
 mod Renumbered
@@ -42,4 +43,3 @@ mod AlikePlaces
 pub mod Learning
 mod TakenOver
 pub mod NumberedTables
-mod Telling

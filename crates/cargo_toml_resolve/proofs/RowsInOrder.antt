@@ -151,6 +151,5 @@ finds_redirects edges labels flags moved n rows all state count own = record {
   count = count;
   redirects = λ r x lt gone. state.done r x (gone, omega (arith, all, lt));
   own = λ r e. own r (inl e);
-  others = λ a x kept. state.left a x (λ u. false≢true (sym kept ∙ u.0));
   inside = state.inside;
 }

@@ -1,10 +1,11 @@
 -- Tables of bits, row after row.
-use Rattle.std.proofs.Common.{◌≡◌, ◌≢◌, ◌↔◌, ◌⊎◌, ◌<◌, ◌≤◌, ◌+◌, ℕ, zero, suc, Bool, false, List, [], ◌∷◌, ◌++◌, take, length, get_or, set, Vec, refl, sym, ap, subst, inl, inr, ◌∙◌, arith, length-append, length-set}
+use Rattle.std.proofs.Common.{◌≡◌, ◌≢◌, ◌↔◌, ◌⊎◌, ◌<◌, ◌≤◌, ◌+◌, ℕ, zero, suc, Bool, List, [], ◌∷◌, ◌++◌, take, length, get_or, set, Vec, refl, sym, ap, subst, inl, inr, ◌∙◌, arith, length-append, length-set}
 use Rattle.std.proofs.lemmas.Bool.{cases_eq}
 use Rattle.cargo_toml_graph.specs.Reach.{Among}
 use Rattle.cargo_toml_resolve.specs.Bits.{AreWide, Gains, HasBit, Holds, words_of}
-use Rattle.cargo_toml_resolve.specs.Numbers.{HasLabel, IsFrom, IsWanted, Leads}
-use Rattle.cargo_toml_resolve.proofs.Steps.{among_all, among_more, among_taken}
+use Rattle.cargo_toml_resolve.specs.Dense.{IsTable}
+use Rattle.cargo_toml_resolve.specs.Numbers.{IsWanted}
+use Rattle.cargo_toml_resolve.proofs.Steps.{among_all, among_more, among_taken, row_read}
 use Rattle.cargo_toml_resolve.proofs.Words.{no_bit_past}
 
 -- a row past the end has no bit
@@ -127,54 +128,22 @@ all_gains named i Bits t0 t le g = record {
   );
 }
 
--- what some rows have together
-module _ {Z : Type 0} (table : List (Vec ℕ Z)) (own : ℕ) (named : List ℕ) where
-  -- the row `own` or one of the first i that are named has the bit
-  abbrev pub Together : ℕ → ℕ → Type 0
-  Together i x = Holds table own x ⊎ ((b : ℕ) × Among (take i named) b × Holds table b x)
+-- the row of a vertex, as it is read
+module _ {Z : Type 0} (P : ℕ → ℕ → Type 0) (width n : ℕ) (table : List (Vec ℕ Z)) (t : IsTable P width n table) (own p : ℕ) (lt : own < n) (at : p ≡ own) where
+  pub row_below : p < length table
+  row_below = let len = t.len in omega (arith, lt, at, len)
 
-  pub together_more : (i : ℕ) → i < length named → (at : ℕ) → at ≡ get_or named i 0 → (old new : List ℕ) → ((x : ℕ) → HasBit old x ↔ Together i x)
-      → ((x : ℕ) → HasBit new x ↔ (HasBit old x ⊎ Holds table at x)) → (x : ℕ) → HasBit new x ↔ Together (i + 1) x
-  together_more i lt at is old new before now x = (
-    λ h. elim ((now x).0 h) [
-      | inl o ↦ elim ((before x).0 o) [ inl p ↦ inl p | inr p ↦ inr (p.0, (among_more named i p.0 lt).1 (inl p.1), p.2) ]
-      | inr b ↦ inr (at, (among_more named i at lt).1 (inr is), b)
-    ],
-    λ h. (now x).1 (elim h [
-      | inl p ↦ inl ((before x).1 (inl p))
-      | inr p ↦ elim ((among_more named i p.0 lt).0 p.1) [
-        | inl m ↦ inl ((before x).1 (inr (p.0, m, p.2)))
-        | inr e ↦ inr (subst (λ k. Holds table k x) (e ∙ sym is) p.2)
-      ]
-    ]),
-  )
+  module _ (v : Vec ℕ Z) (bits : List ℕ) (read : v ≡ get_or table p v) (shown : bits ≡ v.items) where
+    row_is : words_of table own ≡ bits
+    row_is = row_read table own p v (subst (λ m. m < length table) at row_below) at read ∙ sym shown
 
-  pub together_none : (x : ℕ) → Holds table own x ↔ Together 0 x
-  together_none x = (λ h. inl h, elim [ inl h ↦ h | inr p ↦ absurd p.1 ])
+    pub row_wide : length bits ≡ width
+    row_wide = sym (ap length row_is) ∙ t.wide own (subst (λ m. m < length table) at row_below)
 
-  pub together_all : (i : ℕ) → length named ≤ i → (x : ℕ) → Together i x ↔ (Holds table own x ⊎ ((b : ℕ) × Among named b × Holds table b x))
-  together_all i le x = (
-    elim [ inl h ↦ inl h | inr p ↦ inr (p.0, among_taken named i p.0 p.1, p.2) ],
-    elim [ inl h ↦ inl h | inr p ↦ inr (p.0, among_all named i p.0 le p.1, p.2) ],
-  )
-
--- what a row and those that are passed have together, from a table of labels
-pub from_bits : {Y : Type 0} (labels : List (List ℕ)) (table : List (Vec ℕ Y)) (own : ℕ) (passed bits : List ℕ) → ((a x : ℕ) → Holds table a x ↔ Leads labels a x)
-    → ((x : ℕ) → HasBit bits x ↔ (Holds table own x ⊎ ((b : ℕ) × Among passed b × Holds table b x))) → (x : ℕ) → HasBit bits x ↔ IsFrom (Among passed) labels own x
-from_bits labels table own passed bits t has x = (
-  λ h. elim ((has x).0 h) [ inl o ↦ (own, inl refl, (t own x).0 o) | inr p ↦ (p.0, inr p.1, (t p.0 x).0 p.2) ],
-  λ l.
-      let b = l.0 in
-      let held : Holds table b x = (t b x).1 l.2 in
-      (has x).1 (elim (l.1) [ inl same ↦ inl (subst (λ k. Holds table k x) same held) | inr p ↦ inr (b, p, held) ]),
-)
-
--- the labels that are kept
-pub label_row : {Y : Type 0} (labels : List (List ℕ)) (table : List (Vec ℕ Y)) (flags : List Bool) (own : ℕ) (passed bits row : List ℕ) → ((a x : ℕ) → Holds table a x ↔ Leads labels a x)
-    → ((x : ℕ) → HasBit bits x ↔ (Holds table own x ⊎ ((b : ℕ) × Among passed b × Holds table b x))) → ((x : ℕ) → Among row x ↔ ((x < length flags) × (HasBit bits x × IsWanted flags false x)))
-    → ((a x : ℕ) → Leads labels a x → x < length flags) → (x : ℕ) → Among row x ↔ HasLabel (Among passed) labels flags own x
-label_row labels table flags own passed bits row t has is inside x =
-    let from = from_bits labels table own passed bits t has x in (
-      λ i. let n = (is x).0 i in (from.0 n.1.0, n.1.1),
-      λ l. (is x).1 (inside l.0.0 x l.0.2, (from.1 l.0, l.1)),
+    -- its nodes that have a flag
+    pub flagged_row : (flags : List Bool) (wanted : Bool) (row : List ℕ) → ((x : ℕ) → P own x → x < length flags)
+        → ((x : ℕ) → Among row x ↔ ((x < length flags) × (HasBit bits x × IsWanted flags wanted x))) → (x : ℕ) → Among row x ↔ (IsWanted flags wanted x × P own x)
+    flagged_row flags wanted row inside is x = (
+      λ i. let m = (is x).0 i in (m.1.1, (t.bits own x).0 (subst (λ ws. HasBit ws x) (sym row_is) m.1.0)),
+      λ q. (is x).1 (inside x q.1, (subst (λ ws. HasBit ws x) row_is ((t.bits own x).1 q.1), q.0)),
     )

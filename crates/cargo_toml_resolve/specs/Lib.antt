@@ -5,6 +5,7 @@ pub mod Removed
 -- has to be believed
 pub mod Numbers
 pub mod Bits
+pub mod Dense
 pub mod Spans
 pub mod Holding
 pub mod HandingOver

@@ -20,8 +20,8 @@ IsNaming edges flags i =
 -- those from there on
 pub record IsNumbered (t : Table) (Removed : Text → Type 0) (texts : List Text)
     (edges names : List (List ℕ)) (flags : List Bool) : Type 0 where
-  -- each text has one number
-  pub one : (i j : ℕ) → i < length texts → j < length texts
+  -- the text of a vertex has one number
+  pub one : (i j : ℕ) → i < length edges → j < length texts
       → nth_text texts i ≡ nth_text texts j → i ≡ j
   -- those of vertices stand first, in byte order
   pub count : length edges ≤ length texts

@@ -80,11 +80,6 @@ pub record AreWithin (edges labels : List (List ℕ)) (flags : List Bool) : Type
   pub edges_inside : (a b : ℕ) → Leads edges a b → b < length edges
   pub labels_inside : (a x : ℕ) → Leads labels a x → x < length flags
 
--- each vertex has a flag, and edges lead to vertices
-pub record AreEdges (edges : List (List ℕ)) (flags : List Bool) : Type 0 where
-  pub count : length edges ≤ length flags
-  pub inside : (a b : ℕ) → Leads edges a b → b < length edges
-
 -- what stands for each removed vertex
 pub record FindsRedirects (edges labels : List (List ℕ)) (flags moved : List Bool)
     (rows : List (List ℕ)) : Type 0 where
@@ -96,7 +91,5 @@ pub record FindsRedirects (edges labels : List (List ℕ)) (flags moved : List B
       → Leads rows r x ↔ IsRedirect edges flags labels r x
   -- where it isn't marked as moved, these are its labels
   pub own : (r : ℕ) → IsWanted moved false r → row_items rows r ≡ row_items labels r
-  -- of another it has its labels
-  pub others : (a x : ℕ) → IsWanted flags false a → Leads rows a x ↔ Leads labels a x
   -- what it has are labels
   pub inside : (r x : ℕ) → Leads rows r x → x < length flags

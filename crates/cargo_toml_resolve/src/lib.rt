@@ -6,10 +6,10 @@
 
 pub mod bits;
 pub mod dense;
-pub mod dense_enablers;
 pub mod elimination;
 pub mod enabling;
 pub mod filter;
+mod finder;
 pub mod flags;
 pub mod graph;
 pub mod hashing;

@@ -5,7 +5,6 @@ ghost use Rattle.cargo_toml_graph.specs.Reach.{Among};
 ghost use Rattle.cargo_toml_resolve.specs.Numbers.{AreWithin, FindsRedirects, HasLabel, IsPassed};
 ghost use Rattle.cargo_toml_resolve.specs.Numbers.{Leads, Replaces, row_items};
 
-use crate::dense::{dense_redirects, is_dense};
 use crate::rows::Rows;
 use crate::walk::{Walk, has_flagged};
 use cargo_toml_features::node::Node;
@@ -87,9 +86,6 @@ pub fn find_redirects(
     requires room { length walk.old.met ≡ length is_removed.now }
     ensures { IfOk result (λ r. FindsRedirects edges labels is_removed.now r.moved.items r.rows) }
 {
-    if is_dense(&edges, is_removed.len()) {
-        return dense_redirects(alloc, &edges, labels, is_removed);
-    }
     let total = is_removed.len();
     let mut finished = Vec::from_elem(alloc, false, total)?;
     let mut moved = Vec::from_elem(alloc, false, total)?;

@@ -68,6 +68,15 @@ impl Rows {
         part(&self.nodes, self.spans[at.place()])
     }
 
+    /// One more row is put at the end, which is empty.
+    pub fn push_none(&mut self) -> Result<(), AllocError>
+        ensures { OnOk result (self.new ≡ self.old ++ [] ∷ []) }
+    {
+        let end = self.nodes.len();
+        self.spans.push(Span { start: end, end })?;
+        Ok(())
+    }
+
     /// One more row is put at the end.
     pub fn push(&mut self, row: &[Node]) -> Result<(), AllocError>
         ensures { OnOk result (self.new ≡ self.old ++ row.now ∷ []) }

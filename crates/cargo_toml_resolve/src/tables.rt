@@ -2,6 +2,7 @@
 ghost use Rattle.std.specs.Prelude.{◌≡◌, ◌*◌, ◌<◌, ◌↔◌, ◌⊎◌, ℕ, IfOk, OnOk, length};
 ghost use Rattle.cargo_toml_graph.specs.Reach.{Among};
 ghost use Rattle.cargo_toml_resolve.specs.Bits.{AreWide, Gains, HasBit, Holds, words_of};
+ghost use Rattle.cargo_toml_resolve.specs.Dense.{IsTable};
 ghost use Rattle.cargo_toml_resolve.specs.Numbers.{Leads};
 
 use crate::bits::{bits_of, has_bit, join};
@@ -12,10 +13,8 @@ use std::alloc::{AllocError, Global};
 /// The rows as bits in `width` words each.
 pub fn table_of(alloc: Global, rows: &Rows, width: usize) -> Result<Vec<Vec<u64>>, AllocError>
     requires { (a x : ℕ) → Leads rows.now a x → x < 64 * width }
-    ensures len { IfOk result (λ table. length table.items ≡ length rows.now) }
-    ensures wide { IfOk result (λ table. AreWide width table.items) }
-    ensures bits { IfOk result
-        (λ table. (a x : ℕ) → Holds table.items a x ↔ Leads rows.now a x) }
+    ensures { IfOk result
+        (λ table. IsTable (Leads rows.now) width (length rows.now) table.items) }
 {
     let mut table = Vec::with_capacity(alloc, rows.len())?;
     for a in 0..rows.len() {
@@ -66,25 +65,4 @@ pub(crate) fn pass_on(
     let bits = Vec::from_slice(alloc, table[at.place()].as_slice())?;
     join_rows(table, named, bits.as_slice());
     Ok(())
-}
-
-/// What the row `own` and the named ones have.
-pub fn gathered(
-    alloc: Global,
-    table: &[Vec<u64>],
-    own: Node,
-    named: &[Node],
-) -> Result<Vec<u64>, AllocError>
-    requires own { own < length table.now }
-    requires named { (b : ℕ) → Among named.now b → b < length table.now }
-    requires wide { AreWide (length (words_of table.now own)) table.now }
-    ensures len { IfOk result (λ bits. length bits.items ≡ length (words_of table.now own)) }
-    ensures bits { IfOk result (λ bits. (x : ℕ) → HasBit bits.items x
-        ↔ (Holds table.now own x ⊎ ((b : ℕ) × Among named.now b × Holds table.now b x))) }
-{
-    let mut bits = Vec::from_slice(alloc, table[own.place()].as_slice())?;
-    for b in named {
-        join(bits.as_mut_slice(), table[b.place()].as_slice());
-    }
-    Ok(bits)
 }

@@ -1,4 +1,4 @@
-use Rattle.std.proofs.Common.{rules, ◌≤◌, ◌+◌, ◌↔◌, ℕ, length, sym, subst, ◌∙◌, ap, arith}
+use Rattle.std.proofs.Common.{rules, ◌≡◌, ◌+◌, ◌↔◌, ℕ, length, sym, subst, ◌∙◌, ap, arith}
 use Rattle.cargo_toml_graph.specs.Reach.{Among}
 use Rattle.cargo_toml_resolve.specs.Bits.{HasBit}
 use Rattle.cargo_toml_resolve.specs.Numbers.{Leads, row_items}
@@ -18,6 +18,12 @@ loop-a-preserved c =
     (tabled_more (Leads c.args.rows.now) c.args.width c.loop-a.a c.loop-a.table.items c.loop-a.invariant c.in_ok-bits_of.field-0 c.in_ok-bits_of.ensures.len
     (subst (λ t. (x : ℕ) → HasBit c.in_ok-bits_of.field-0.items x ↔ Among t x) read c.in_ok-bits_of.ensures.bits))
 
-pub returns-clause-bits : goal.returns-clause-bits
-returns-clause-bits c = tabled_all (Leads c.args.rows.now) c.args.width c.loop-a.a c.loop-a.table.items c.loop-a.invariant
-    (λ a x l. let lt = has_row c.args.rows.now a x l in let all : length c.args.rows.now ≤ c.loop-a.a = search rules in omega (arith, lt, all))
+pub returns : goal.returns
+returns c =
+    let rows = c.args.rows.now in
+    let all : c.loop-a.a ≡ length rows = search rules in
+    record {
+      len = c.loop-a.invariant.len ∙ all;
+      wide = c.loop-a.invariant.wide;
+      bits = tabled_all (Leads rows) c.args.width c.loop-a.a c.loop-a.table.items c.loop-a.invariant (λ a x l. let lt = has_row rows a x l in omega (arith, lt, all));
+    }

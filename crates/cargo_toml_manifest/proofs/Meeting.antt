@@ -142,28 +142,6 @@ pub given_by_hint : {M : Type 0} (m n : ManifestMeaning M) (roots : RootsTold) (
 given_by_hint m n roots found told table needed (answer, known, h) =
     (answer, known, chosen m n told _ _ (own_by_root m.workspace (needs m) _ _ table needed refl) h)
 
--- what may be found of all, where more may be
-pub found_weaker : {f g : ManifestMeaning Data → List ℕ → Type 0} (told answer : ToldRoot) → ((r : ManifestMeaning Data) (path : List ℕ) → f r path → g r path) →
-    AnswersHint told f answer → AnswersHint told g answer
-found_weaker told answer more (inl same) = inl same
-found_weaker told (root r path) more (inr (is_open, there)) = inr (is_open, more r path there)
-found_weaker told no_root more (inr (is_open, there)) = inr (is_open, tt)
-found_weaker told open_root more (inr (is_open, there)) = inr (is_open, tt)
-
-pub given_weaker : {M : Type 0} (m n : ManifestMeaning M) (handed : Option Handed) (roots : RootsTold) (f g : MayFind) (told : Name → Told) →
-    ((hint : Option (List ℕ)) (r : ManifestMeaning Data) (path : List ℕ) → f hint r path → g hint r path) → GivenBy m handed roots f told n → GivenBy m handed roots g told n
-given_weaker m n handed roots f g told more (answer, known, h) = (answer, found_weaker (roots (hint_of m)) answer (more (hint_of m)) known, h)
-
-pub completed_weaker : {M : Type 0} (old new : Manifest M) (handed : Option Handed) (roots : RootsTold) (f g : MayFind) (told : Name → Told) →
-    ((hint : Option (List ℕ)) (r : ManifestMeaning Data) (path : List ℕ) → f hint r path → g hint r path) → IsCompleted old handed roots f told new → IsCompleted old handed roots g told new
-completed_weaker old new handed roots f g told more h = record {
-  outcome = h.outcome;
-  given = given_weaker (held old) (held new) handed roots f g told more h.given;
-  needs_nothing = h.needs_nothing;
-  filled = h.filled;
-  again = h.again;
-}
-
 -- no root is looked up where a workspace is handed in
 pub completed_handed : {M : Type 0} (old new : Manifest M) (handed : Handed) (roots : RootsTold) (f g : MayFind) (told : Name → Told) →
     IsCompleted old (Some handed) roots f told new → IsCompleted old (Some handed) roots g told new

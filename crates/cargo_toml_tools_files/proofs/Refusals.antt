@@ -8,7 +8,7 @@ use Rattle.cargo_toml.specs.Error.{Error, Memory}
 use Rattle.cargo_toml.specs.Manifest.{Manifest}
 use Rattle.cargo_toml.specs.Manifests.{ManifestMeaning, held}
 use Rattle.cargo_toml.specs.Reach.{Among}
-use Rattle.cargo_toml.specs.RealFiles.{RootFoundAround, real_folders, real_roots}
+use Rattle.cargo_toml.specs.RealFiles.{any_root, real_folders, real_roots}
 use Rattle.cargo_toml.specs.Sharing.{shared_of}
 use Rattle.cargo_toml.specs.Workspace.{Workspace}
 use Rattle.std.specs.BTreeSet.{BTreeSet}
@@ -87,12 +87,12 @@ unless_memory (Err e) (inr h) other = h
 module _ (root : Manifest Value) (path : Text) where
   -- a manifest that was read and completed, as it is held now
   pub completed_there : (at text : Text) (m read new made : Manifest Value) → read ≡ m → made ≡ new → IsManifestIn text m
-      → IsCompleted read (Some (shared_of root.workspace, path)) real_roots (RootFoundAround at) real_folders new → IsCompletedThere root path read made
+      → IsCompleted read (Some (shared_of root.workspace, path)) real_roots any_root real_folders new → IsCompletedThere root path read made
   completed_there at text m read new made is same written done = record {
     text = text;
     written = subst (IsManifestIn text) (sym is) written;
     completed = subst (λ (x : Manifest Value). IsCompleted read (Some (shared_of root.workspace, path)) real_roots none_found real_folders x) (sym same)
-        (completed_handed read new (shared_of root.workspace, path) real_roots (RootFoundAround at) none_found real_folders done);
+        (completed_handed read new (shared_of root.workspace, path) real_roots any_root none_found real_folders done);
   }
 
   -- a member that was read and completed, and what is noted of it

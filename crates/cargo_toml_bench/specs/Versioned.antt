@@ -3,7 +3,6 @@ use Rattle.std.specs.Prelude.{◌≡◌, ◌≤◌, ℕ, List, false, Some, Ok, 
 use Rattle.semver.specs.Parse.{version_parts}
 use Rattle.toml.specs.Data.{Data, Members, members_depth, table}
 use Rattle.toml.specs.Parse.{parse_document}
-use Rattle.toml_parser.specs.Strings.{recursion_limit}
 use Rattle.cargo_toml.specs.Asked.{ManifestMeets}
 use Rattle.cargo_toml.specs.Inheritable.TheVariants.{Set}
 use Rattle.cargo_toml.specs.Manifests.{ManifestMeaning, is_zero, manifest_reads}
@@ -25,7 +24,7 @@ with_version v m = record m {
 pub record IsPrinted (m : ManifestMeaning Data) (text : List ℕ) : Type 0 where
   pub tree : Members
   pub written : (manifest_way free_way).trees m (table tree)
-  pub again : members_depth tree ≤ recursion_limit
+  pub again : members_depth tree ≤ 80
       → document_reads (manifest_reads any_tree) (parse_document text) ≡ Some (reread m)
 
 -- the text is printed of the manifest that the bytes spell, with this version of its package

@@ -1,4 +1,4 @@
-use Rattle.std.proofs.Common.{Result, Ok, Some, None, ap, refl, sym, ◌∙◌}
+use Rattle.std.proofs.Common.{[], Result, Ok, Some, None, ap, refl, sym, ◌∙◌}
 use Rattle.cargo_toml_parts.specs.FaultValues.{Fault}
 use Rattle.cargo_toml_workspace.specs.Sharing.{shared_of}
 use Rattle.cargo_toml_manifest.specs.Choosing.{handed_of}
@@ -23,21 +23,21 @@ returns-then-is_some g c =
     (answered_as _ _ _ _ _ _ None _ _ (own_by_table own (needs (held c.args.manifest.now)) _ there)
     (c.completion-then-is_some.ensures (Some (shared_of own, [])) refl c.parts_from-parts-then-is_some.ensures))
 
-pub returns-then-not : goal.returns-then-not
-returns-then-not g c =
+pub returns-then-not-needs_workspace_inheritance : goal.returns-then-not-needs_workspace_inheritance
+returns-then-not-needs_workspace_inheritance g c =
     let m = held c.args.manifest.now in
     let none = no_table c.args.manifest.now.workspace (sym c.is_some.ensures ∙ c.if-is_some.false) in
-    let needed = sym c.needs_workspace_inheritance.ensures ∙ c.if-needs_workspace_inheritance.false in
+    let needed = sym c.needs_workspace_inheritance.ensures ∙ c.if-not-needs_workspace_inheritance.true in
     let all = c.no_parts.ensures in
     let gave : ManifestMeaning _ → Result (ManifestMeaning _) Fault = λ n. Ok n in
     let same = ap gave (sym (installed-none m c.no_parts.result all.tables all.targets all.lints all.fields)) in
     rw c.in_default.is
-    (answered_as _ _ _ _ _ _ None _ _ (own_alone _ (needs m) _ none needed) (c.completion-then-not.ensures None refl same))
+    (answered_as _ _ _ _ _ _ None _ _ (own_alone _ (needs m) _ none needed) (c.completion-then-not-needs_workspace_inheritance.ensures None refl same))
 
 pub returns-in-Ok : goal.returns-in-Ok
 returns-in-Ok g c =
     let none = no_table c.args.manifest.now.workspace (sym c.is_some.ensures ∙ c.if-is_some.false) in
-    let needed = sym c.needs_workspace_inheritance.ensures ∙ c.if-needs_workspace_inheritance.true in
+    let needed = sym c.needs_workspace_inheritance.ensures ∙ c.if-not-needs_workspace_inheritance.false in
     let x : Found = (c.in-Ok.root, c.in-Ok.path) in
     let a = rw c.hint_of-hint.ensures at c.in-Ok.ensures.answers in
     let there = rw c.hint_of-hint.ensures at c.in-Ok.ensures.found in
@@ -48,7 +48,7 @@ returns-in-Ok g c =
 pub returns-in-Err : goal.returns-in-Err
 returns-in-Err g c =
     let none = no_table c.args.manifest.now.workspace (sym c.is_some.ensures ∙ c.if-is_some.false) in
-    let needed = sym c.needs_workspace_inheritance.ensures ∙ c.if-needs_workspace_inheritance.true in
+    let needed = sym c.needs_workspace_inheritance.ensures ∙ c.if-not-needs_workspace_inheritance.false in
     let a = rw c.hint_of-hint.ensures at c.in-Err.ensures.answers in
     let r = rw c.hint_of-hint.ensures at c.in-Err.ensures.refused in
     let w = rw c.hint_of-hint.ensures at c.wrapped.ensures in

@@ -9,7 +9,7 @@ pub returns-in_default : goal.returns-in_default
 returns-in_default g c = inr (nothing_found c.from.result c.from.ensures)
 
 pub returns-in-Err-2 : goal.returns-in-Err-2
-returns-in-Err-2 g c = unread c.in-Err-2.fault c.from-in-Err-2.result c.from-in-Err-2.ensures
+returns-in-Err-2 g c = unread c.in-Err.fault c.from-in-Err-2.result c.from-in-Err-2.ensures
 
 pub loop-above-preserved : goal.loop-above-preserved
 loop-above-preserved g c = no_root c.in-Err-workspace_of.fault c.in-Err-workspace_of.ensures

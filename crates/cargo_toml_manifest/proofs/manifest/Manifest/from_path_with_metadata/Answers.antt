@@ -1,6 +1,12 @@
-use Rattle.std.proofs.Common.{inr}
-use Rattle.std.proofs.lemmas.Result.{IfErr-weaker, IfOk-weaker}
+use Rattle.std.proofs.Common.{inl, inr}
+use Rattle.std.proofs.lemmas.Result.{err_from_is_err_and, IfErr-weaker, IfOk-weaker}
+use Rattle.cargo_toml_discovery.proofs.Faults.{from_input}
 use Rattle.cargo_toml_manifest.proofs.manifest.Manifest.from_path_with_metadata.Goals as goal
+
+pub returns-in_err-text-clause-refused : goal.returns-in_err-text-clause-refused
+returns-in_err-text-clause-refused g c =
+    let p = err_from_is_err_and c.from_residual.result c.from_residual.ensures.1 in
+    rw p.1 (elim (from_input _ p.0 p.2) [ inl memory ↦ inl memory | inr input ↦ inr (inl input) ])
 
 pub returns-clause-given : goal.returns-clause-given
 returns-clause-given g c =

@@ -15,6 +15,7 @@ pub mod places;
 mod read;
 pub mod record;
 mod redundant;
+mod redundant_features;
 pub mod required;
 pub mod sets;
 pub mod slots;

@@ -34,7 +34,6 @@ ties f x e =
     let q = and_parts _ _ p.1 in
     λ i. oddity_with (same_true the_type tt f.code x.code p.0 i)
     ((bytes_eq-Decides (string_bytes f.subject) (string_bytes x.subject)).0 q.0 i)
-    ((bytes_eq-Decides (string_bytes f.words) (string_bytes x.words)).0 q.1 i)
 
 pub found_one : (f : Finding) (s n : BTreeSet Finding) (o : Oddity) → n.keys ≡ insert_key (finding_order.cmp-value).it s.keys f
     → oddity_of f ≡ o → IsReported n o
@@ -135,8 +134,8 @@ pub just_one : (b : BTreeSet Finding) (o p : Oddity) → p ≡ o → IsReported 
 just_one b o p same h = λ x i. elim i [ inl e ↦ subst (λ (y : Oddity). IsReported b y) (same ∙ sym e) h | inr j ↦ absurd j ]
 
 -- by the parts of an oddity
-pub same_with : (code : Code) (s t w v : Text) → s ≡ t → w ≡ v → oddity_with code s w ≡ oddity_with code t v
-same_with code s t w v e f = λ i. oddity_with code (e i) (f i)
+pub same_with : (code : Code) (s t : Text) → s ≡ t → oddity_with code s ≡ oddity_with code t
+same_with code s t e = ap (oddity_with code) e
 
 pub keys_meaning : {X Y : Type 0} (f : X → Y) (es : List (String Global × X))
     → map string_bytes (map (λ e. e.0) es) ≡ map (λ (e : Text × Y). e.0) (map (λ e. (string_bytes e.0, f e.1)) es)

@@ -1,6 +1,5 @@
 pub mod Escaping
 pub mod Compared
-pub mod Explained
 pub mod Gained
 pub mod Left
 pub mod Matched
@@ -8,15 +7,14 @@ pub mod Pieces
 pub mod Placed
 pub mod Reporting
 pub mod Asked
-pub mod Floatless
 pub mod Grown
 pub mod Listed
-pub mod NamedFolder
 pub mod Parts
 pub mod Settled
 pub mod Signs
 pub mod Summed
 pub mod Told
+pub mod Refused
 pub mod Weighed
 pub mod Within
 pub mod Yielded
@@ -31,6 +29,4 @@ pub mod Grouped
 pub mod Inserted
 pub mod Using
 pub mod Unused
-pub mod ReportFloatless
-pub mod Several
 pub mod Sorting

@@ -1,21 +1,18 @@
 -- Folders that are added to those that a workspace lists.
-use Rattle.std.proofs.Common.{◌≡◌, ◌<◌, ◌≤◌, ◌+◌, ◌++◌, ◌&&◌, ◌||◌, ◌∙◌, ℕ, Bool, true, false, List, [], ◌∷◌, IsTrue, String, Global, ap, arith, codes, get_or, inl, inr, length, map, refl, string_bytes, subst, suc, sym, take, zero}
-use Rattle.std.specs.Prelude.{IsFalse, bytes_eq, cond, count_by, nat_lt, not}
+use Rattle.std.proofs.Common.{◌≡◌, ◌<◌, ◌≤◌, ◌+◌, ◌++◌, ◌&&◌, ◌||◌, ◌∙◌, ℕ, Bool, true, false, List, [], ◌∷◌, String, Global, ap, arith, codes, get_or, inl, inr, length, map, refl, string_bytes, subst, suc, sym, take, zero}
+use Rattle.std.specs.Prelude.{bytes_eq, cond, count_by, nat_lt, not}
 use Rattle.std.proofs.Math.Bool.{or_comm}
-use Rattle.std.proofs.lemmas.Bool.{and_parts, cases_Bool, cases_lt, cond-true, cond-false, le-ltb, lt-ltb, not-true, or_from, or_left, or_right}
+use Rattle.std.proofs.lemmas.Bool.{cases_Bool, cases_lt, cond-true, cond-false, le-ltb, lt-ltb, or_from, or_left, or_right}
 use Rattle.std.proofs.lemmas.List.{append-nil, map-append, take_all, take_more}
 use Rattle.std.proofs.lemmas.List.Concat.{flat_map-append}
 use Rattle.std.proofs.lemmas.List.Folds.{list_any-append}
-use Rattle.std.proofs.lemmas.List.Sums.{sum_by-append, sum_by-cons, sum_by_push}
+use Rattle.std.proofs.lemmas.List.Sums.{sum_by-cons, sum_by_push}
 use Rattle.std.proofs.lemmas.Slice.Eq.{bytes_eq-Decides}
 use Rattle.std.specs.List.{flat_map, list_any}
 use Rattle.cargo_toml.specs.Action.{Text}
 use Rattle.cargo_toml.specs.Reach.{Among}
-use Rattle.cargo_toml_tools.specs.MemberFolders.{AreListed, AreOfPaths, LeadsToFolders, has_pattern, lists_folder, named_folder, times_named}
-use Rattle.cargo_toml_tools.specs.Places.{is_excluded, lies_in, lies_under, normalized}
-use Rattle.cargo_toml_tools.proofs.Followed.{leads_alone}
-use Rattle.cargo_toml_tools.proofs.NamedFolder.{normalized_named}
-use Rattle.cargo_toml_tools.proofs.Within.{lies_in_itself}
+use Rattle.cargo_toml_tools.specs.MemberFolders.{AreListed, AreOfPaths, LeadsToFolders, has_pattern, lists_folder}
+use Rattle.cargo_toml_tools.specs.Places.{is_excluded, normalized}
 
 pub cond_or : (b c : Bool) → cond b true c ≡ (c || b)
 cond_or true true = refl
@@ -150,70 +147,3 @@ listed_all lists own es i folders twice new newly all adds before = record {
   led = before.led;
   are = adds (flat_map (λ f. f.1) before.found) before.are;
 }
-
--- ---- entries without patterns
-module _ (members excluded : List Text) where
-  -- none of them is excluded
-  named_kept : (entry : Text) → Among members entry → is_excluded members excluded (normalized entry) ≡ false
-  named_kept entry i =
-      ap (λ b. lies_in (normalized entry) excluded && not b) (lies members i)
-      ∙ and_none (lies_in (normalized entry) excluded)
-    where
-      lies : (ms : List Text) → Among ms entry → lies_in (normalized entry) ms ≡ true
-      lies [] none = absurd none
-      lies (m ∷ ms) (inl is) =
-          or_left (lies_under (normalized entry) (normalized m)) (lies_in (normalized entry) ms)
-          (ap (λ t. lies_under (normalized entry) (normalized t)) (sym is) ∙ lies_in_itself (normalized entry))
-      lies (m ∷ ms) (inr i) = or_right (lies_under (normalized entry) (normalized m)) (lies_in (normalized entry) ms) (lies ms i)
-
-  named_lists : (entry : Text) → Among members entry → (t : Text) → lists_folder members excluded t (named_folder entry) ≡ bytes_eq (normalized entry) t
-  named_lists entry i t =
-      lists_it members excluded (named_folder entry) (normalized entry) false (sym (normalized_named entry)) (named_kept entry i) t
-      ∙ and_all (bytes_eq (normalized entry) t)
-
-  module _ (own : Bool) (folders twice : Text → Bool) (listed : AreListed (lists_folder members excluded) own members folders twice) where
-    pub named_listed : (entry : Text) → Among members entry → IsFalse (has_pattern entry) → IsTrue (folders (normalized entry))
-    named_listed entry i plain =
-        listed.are.listed (normalized entry)
-        ∙ or_right (own && bytes_eq (codes ".") (normalized entry)) _
-        (hit listed.found listed.led (subst (λ ms. Among ms entry) (sym listed.of) i))
-      where
-        hit : (fs : List (Text × List Text)) → ((f : Text × List Text) → Among fs f → LeadsToFolders f.0 f.1) → Among (map (λ f. f.0) fs) entry
-            → list_any (lists_folder members excluded (normalized entry)) (flat_map (λ f. f.1) fs) ≡ true
-        hit [] led none = absurd none
-        hit (f ∷ fs) led (inl is) =
-            let alone : f.1 ≡ named_folder entry ∷ [] = leads_alone entry f.1 (subst (λ t. LeadsToFolders t f.1) (sym is) (led f (inl refl))) plain in
-            list_any-append (lists_folder members excluded (normalized entry)) f.1 (flat_map (λ f. f.1) fs)
-            ∙ or_left _ _ (ap (list_any (lists_folder members excluded (normalized entry))) alone
-            ∙ or_left _ false (named_lists entry i (normalized entry) ∙ (bytes_eq-Decides (normalized entry) (normalized entry)).1 refl))
-        hit (f ∷ fs) led (inr j) =
-            list_any-append (lists_folder members excluded (normalized entry)) f.1 (flat_map (λ f. f.1) fs)
-            ∙ or_right _ _ (hit fs (λ g k. led g (inr k)) j)
-
-    pub named_twice : (folder : Text) → 1 < times_named members folder → IsTrue (twice folder)
-    named_twice folder more =
-        let ps = flat_map (λ (f : Text × List Text). f.1) listed.found in
-        let all = counted listed.found listed.led (λ entry i. subst (λ ms. Among ms entry) listed.of i) in
-        listed.are.more folder
-        ∙ lt-ltb 1 (count_by (lists_folder members excluded folder) ps)
-        (omega (arith, ap (λ ms. times_named ms folder) listed.of, all, more))
-      where
-        names : Text → Bool
-        names entry = not (has_pattern entry) && bytes_eq (normalized entry) folder
-
-        counted : (fs : List (Text × List Text)) → ((f : Text × List Text) → Among fs f → LeadsToFolders f.0 f.1) → ((entry : Text) → Among (map (λ f. f.0) fs) entry → Among members entry)
-            → times_named (map (λ f. f.0) fs) folder ≤ count_by (lists_folder members excluded folder) (flat_map (λ f. f.1) fs)
-        counted [] led of = omega arith
-        counted (f ∷ fs) led of =
-            let test = λ (p : Text). lists_folder members excluded folder p in
-            let rest = counted fs (λ g i. led g (inr i)) (λ entry i. of entry (inr i)) in
-            let all = sum_by-append (λ (p : Text). cond (test p) 1 0) f.1 (flat_map (λ (g : Text × List Text). g.1) fs) in
-            let names_all = sum_by-cons (λ (entry : Text). cond (names entry) 1 0) f.0 (map (λ (g : Text × List Text). g.0) fs) in
-            elim (cases_Bool (names f.0)) [
-              | inl named ↦ (
-                  let parts = and_parts (not (has_pattern f.0)) (bytes_eq (normalized f.0) folder) named in
-                  let alone = leads_alone f.0 f.1 (led f (inl refl)) (not-true (has_pattern f.0) parts.0) in
-                  let one : count_by test f.1 ≡ 1 = ap (count_by test) alone ∙ ap (λ b. 0 + cond b 1 0) (named_lists f.0 (of f.0 (inl refl)) folder ∙ parts.1) in
-                  omega (arith, rest, all, names_all, one, cond-true {A = ℕ} (names f.0) 1 0 named))
-              | inr other ↦ omega (arith, rest, all, names_all, cond-false {A = ℕ} (names f.0) 1 0 other)
-            ]

@@ -7,10 +7,9 @@ use Rattle.std.specs.declared.alloc.Global.{Global}
 use Rattle.serde_json.specs.Data.{Data, Members, no_members, number, put, unsigned}
 use Rattle.serde_json.specs.View.{members_view, view}
 use Rattle.serde_json.specs.declared.value.Value.{Value}
-use Rattle.serde_json.specs.Written.{IsInOrder}
 use Rattle.cargo_toml.specs.Action.{Text}
-use Rattle.cargo_toml_tools.specs.IndexRows.{text_array, with_rows}
-use Rattle.cargo_toml_tools.specs.IndexFeatures.{feature_rows, is_chosen, is_extended, list_rows, lists_object}
+use Rattle.cargo_toml_tools.specs.IndexRows.{with_rows}
+use Rattle.cargo_toml_tools.specs.IndexFeatures.{feature_rows, is_extended, lists_object}
 
 pub with_both : (xs ys : List (Text × Data)) (ms : Members) → with_rows (xs ++ ys) ms ≡ with_rows ys (with_rows xs ms)
 with_both [] ys ms = refl
@@ -23,9 +22,6 @@ chained xs row ys zs a b c d e first then_row then_ys then_zs =
     then_zs ∙ ap (with_rows zs) (then_ys ∙ ap (with_rows ys) (then_row ∙ ap (put row.0 row.1) first))
     ∙ sym (with_both ys zs (put row.0 row.1 (with_rows xs a)))
     ∙ sym (with_both xs (row ∷ (ys ++ zs)) a)
-
-pub in_order_of : (line : Text) (a b : Data) → a ≡ b → IsInOrder line a → IsInOrder line b
-in_order_of line a b e h = let P : Data → Type 0 = λ d. IsInOrder line d in subst P e h
 
 pub if_ok_weaker : {T E : Type 0} (r : Result T E) (P Q : T → Type 0) → ((x : T) → P x → Q x) → IfOk r P → IfOk r Q
 if_ok_weaker (Ok x) P Q f h = f x h
@@ -86,10 +82,3 @@ second_version fs a b c d x y z first is some second is_too third two =
     (put_same (codes "features2") y (lists_object true fs) b c second is_too
     ∙ ap (put (codes "features2") (lists_object true fs)) (put_same (codes "features") x (lists_object false fs) a b first is))
     ∙ ap (λ o. with_rows (if o then (codes "features2", lists_object true fs) ∷ (codes "v", number (unsigned 2)) ∷ [] else []) (put (codes "features") (lists_object false fs) a)) (sym some)
-
--- a list that is put, or isn't
-pub list_put : (extended : Bool) (f : Text × List Text) (a b : Members) → is_chosen extended f.1 ≡ true → b ≡ put f.0 (text_array f.1) a → b ≡ with_rows (list_rows extended f) a
-list_put extended f a b h puts = puts ∙ ap (λ c. with_rows (if c then (f.0, text_array f.1) ∷ [] else []) a) (sym h)
-
-pub list_left : (extended : Bool) (f : Text × List Text) (a : Members) → is_chosen extended f.1 ≡ false → a ≡ with_rows (list_rows extended f) a
-list_left extended f a h = ap (λ c. with_rows (if c then (f.0, text_array f.1) ∷ [] else []) a) (sym h)

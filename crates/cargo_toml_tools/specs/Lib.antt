@@ -4,7 +4,6 @@ pub mod IndexRows
 pub mod IndexEntries
 pub mod IndexFeatures
 pub mod IndexLines
-pub mod IndexFaults
 pub mod Linted
 pub mod Audited
 pub mod Oddities
@@ -14,13 +13,12 @@ pub mod Neighbours
 pub mod Overall
 pub mod Escapes
 pub mod Escaped
-pub mod Reported
-pub mod ReportedJson
 pub mod Patterns
 pub mod Places
 pub mod MemberFolders
 pub mod Documented
 -- the code's own steps, in contracts of inner functions alone: nothing here has to be believed
 pub mod Checked
+pub mod Sections
 pub mod FurtherFolders
 pub mod Rows

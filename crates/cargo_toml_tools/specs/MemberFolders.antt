@@ -1,5 +1,5 @@
 -- The folders that entries of `members` lead to, and those that a workspace lists.
-use Rattle.std.specs.Prelude.{◌≡◌, ◌⊎◌, ◌<◌, ◌&&◌, ◌||◌, ◌==◌, ℕ, Bool, IsTrue, List, [], ◌∷◌}
+use Rattle.std.specs.Prelude.{◌≡◌, ◌⊎◌, ◌<◌, ◌&&◌, ◌||◌, ◌==◌, Bool, IsTrue, List, [], ◌∷◌}
 use Rattle.std.specs.Prelude.{bytes_eq, codes, count_by, filter, if◌then◌else◌, length, map, nat_lt}
 use Rattle.std.specs.Prelude.{not, true}
 use Rattle.std.specs.Cmp.Lexicographic.{pointwise}
@@ -78,11 +78,6 @@ pub record AreListed (lists : Text → Text → Bool) (own : Bool) (entries : Li
   pub of : map (λ f. f.0) found ≡ entries
   pub led : (f : Text × List Text) → Among found f → LeadsToFolders f.0 f.1
   pub are : AreOfPaths lists own (flat_map (λ f. f.1) found) folders twice
-
--- how many of these entries name a folder without a pattern
-abbrev pub times_named : List Text → Text → ℕ
-times_named entries folder =
-    count_by (λ entry. not (has_pattern entry) && bytes_eq (normalized entry) folder) entries
 
 -- there was no memory, or a fault of reading folders, which comes of patterns alone
 abbrev pub IsOfFolders : Bool → Error → Type 0

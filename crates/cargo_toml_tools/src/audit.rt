@@ -5,7 +5,7 @@ ghost use Rattle.std.specs.BTreeSet.{IsEmpty, btree_set_len};
 ghost use Rattle.cargo_toml.specs.Manifests.{held};
 ghost use Rattle.cargo_toml.specs.Reach.{Among};
 ghost use Rattle.cargo_toml.specs.Templates.{template_meaning};
-ghost use Rattle.cargo_toml_tools.specs.Audited.{AddsMember, IsNoPackage, IsUntold, word_of};
+ghost use Rattle.cargo_toml_tools.specs.Audited.{AddsMember, IsNoPackage, IsUntold};
 ghost use Rattle.cargo_toml_tools.specs.Indexed.{all_by_kind};
 ghost use Rattle.cargo_toml_tools.specs.LeftKeys.{left_keys};
 ghost use Rattle.cargo_toml_tools.specs.Noted.{GainsKeys, NotesUses, inherited_in_all};
@@ -70,9 +70,7 @@ pub enum Code {
 
 impl Code {
     /// The word that stands for it in a report.
-    pub fn word(self) -> &'static str
-        ensures { result.now ≡ word_of self }
-    {
+    pub fn word(self) -> &'static str {
         match self {
             Code::Incomplete => "incomplete",
             Code::ListedTwice => "listed-twice",
@@ -138,10 +136,10 @@ impl Audit {
 
     fn find(&mut self, code: Code, subject: &str, words: String) -> Result<(), AllocError>
         ensures rest { self.new ≡ record self.old { findings = self.new.findings } }
-        ensures findings { GainsOnly (λ o. o ≡ oddity_with code subject.now (string_bytes words))
+        ensures findings { GainsOnly (λ o. o ≡ oddity_with code subject.now)
             self.old.findings self.new.findings }
         ensures found { OnOk result
-            (IsReported self.new.findings (oddity_with code subject.now (string_bytes words))) }
+            (IsReported self.new.findings (oddity_with code subject.now)) }
     {
         let subject = String::from_str(*self.members.allocator(), subject)?;
         self.findings.insert(Finding {
@@ -221,10 +219,10 @@ impl Audit {
     /// Adds a member that doesn't complete, by the words of its fault.
     pub fn add_refused(&mut self, folder: &str, words: &str) -> Result<(), AllocError>
         ensures rest { self.new ≡ record self.old { findings = self.new.findings } }
-        ensures findings { GainsOnly (λ o. o ≡ refusal_of folder.now words.now)
+        ensures findings { GainsOnly (λ o. o ≡ refusal_of folder.now)
             self.old.findings self.new.findings }
         ensures found { OnOk result
-            (IsReported self.new.findings (refusal_of folder.now words.now)) }
+            (IsReported self.new.findings (refusal_of folder.now)) }
     {
         let words = String::from_str(*self.members.allocator(), words)?;
         self.find(Code::Incomplete, folder, words)

@@ -1,14 +1,13 @@
 //! The members of a workspace, by its `members` and `exclude`. Unlike Cargo, `**` is no more than
 //! `*`, `[` stands for itself, and path dependencies add none.
 ghost use Rattle.std.specs.Prelude.{◌≡◌, ◌<◌, ◌∷◌, ◌&&◌, ◌||◌, [], ℕ, Bool, List, IfErr};
-ghost use Rattle.std.specs.Prelude.{IfOk, IsFalse, IsSome, IsTrue, OnOk, bytes_eq, codes, false};
-ghost use Rattle.std.specs.Prelude.{is_some, map, not, string_bytes};
+ghost use Rattle.std.specs.Prelude.{IfOk, OnOk, bytes_eq, false};
+ghost use Rattle.std.specs.Prelude.{is_some, map, string_bytes};
 ghost use Rattle.std.specs.BTreeSet.{contains_text, keys};
 ghost use Rattle.std.specs.List.{list_any};
-ghost use Rattle.cargo_toml.specs.Reach.{Among};
 ghost use Rattle.cargo_toml_tools.specs.FurtherFolders.{AddsPaths};
 ghost use Rattle.cargo_toml_tools.specs.MemberFolders.{AreListed, AreOfPaths, IsOfFolders};
-ghost use Rattle.cargo_toml_tools.specs.MemberFolders.{has_pattern, lists_folder, times_named};
+ghost use Rattle.cargo_toml_tools.specs.MemberFolders.{has_pattern, lists_folder};
 ghost use Rattle.cargo_toml_tools.specs.Places.{is_excluded, lies_in, lies_under, manifest_path};
 ghost use Rattle.cargo_toml_tools.specs.Places.{normalized};
 
@@ -48,14 +47,6 @@ pub fn list_members<M, R: Files + AllocGlobal>(
         (map string_bytes workspace.now.exclude.items))
         (is_some manifest.now.«package») (map string_bytes workspace.now.members.items)
         (contains_text m.folders) (contains_text m.twice)) }
-    ensures named { IfOk result (λ m. (entry : List ℕ)
-        → Among (map string_bytes workspace.now.members.items) entry → IsFalse (has_pattern entry)
-        → IsTrue (contains_text m.folders (normalized entry))) }
-    ensures own { IfOk result (λ m. IsSome manifest.now.«package»
-        → IsTrue (contains_text m.folders (codes "."))) }
-    ensures twice { IfOk result (λ m. (folder : List ℕ)
-        → 1 < times_named (map string_bytes workspace.now.members.items) folder
-        → IsTrue (contains_text m.twice folder)) }
     ensures refused { IfErr result (IsOfFolders
         (list_any has_pattern (map string_bytes workspace.now.members.items))) }
 {

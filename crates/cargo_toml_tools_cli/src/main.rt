@@ -1,4 +1,4 @@
-//! `cargo-toml-tools index [--checksum HEX] FILE..` prints the line that a registry's index has of
+//! `cargo-toml-tools index [OPTION..] FILE..` prints the line that a registry's index has of
 //! each crate, `lint FILE..` what is amiss with features, `audit [--json] FOLDER` reports on a
 //! workspace, and `document [--dot] FILE..` prints what is documented of features.
 #![tactic(auto)]
@@ -52,9 +52,9 @@ fn answer<R: Files + Print + Eprint + RandomSource + AllocGlobal>(
 ) -> io::Result<Outcome> {
     let mut outcome = Outcome::Done;
     match request {
-        Request::Index(files, checksum) => {
+        Request::Index(files, wanted) => {
             for file in files {
-                let made = as_due(index(rt, *file, *checksum));
+                let made = as_due(index(rt, *file, wanted.options()));
                 outcome = put(rt, *file, made)?.max(outcome);
             }
         }

@@ -1,4 +1,1 @@
-mod Apart
 mod FileFacts
-mod Going
-mod Refusals

@@ -1,21 +1,4 @@
 //! The report on a workspace.
-ghost use Rattle.std.specs.Prelude.{◌≡◌, ◌⊎◌, ◌≤◌, IfErr, IfOk, IfSome, IsTrue, OnErr, OnOk};
-ghost use Rattle.std.specs.Prelude.{Some, map, string_bytes};
-ghost use Rattle.std.specs.BTreeSet.{btree_set_len, keys};
-ghost use Rattle.std.specs.List.Sorted.{IsStrictlySortedBy};
-ghost use Rattle.toml.specs.declared.value.Value.{Value};
-ghost use Rattle.cargo_toml.specs.Error.{Memory};
-ghost use Rattle.cargo_toml.specs.Workspace.{Workspace as Table};
-ghost use Rattle.cargo_toml_tools.specs.Oddities.{GainsOnly, oddity_cmp, oddity_of};
-ghost use Rattle.cargo_toml_tools_files.specs.AuditSteps.{AddsAudited, AddsFolder, IsRefusedWith};
-ghost use Rattle.cargo_toml_tools_files.specs.AuditSteps.{IsUnreported, IsUnshown, NotesOnly};
-ghost use Rattle.cargo_toml_tools_files.specs.AuditSteps.{TellsRefusal, UnlessMemory};
-ghost use Rattle.cargo_toml_tools_files.specs.AuditedFolders.{AreMembersOf, IsAuditFault};
-ghost use Rattle.cargo_toml_tools_files.specs.AuditedFolders.{IsAudited, IsReportOn};
-ghost use Rattle.cargo_toml_tools_files.specs.AuditedFolders.{IsReportText};
-ghost use Rattle.cargo_toml_tools_files.specs.AuditedMembers.{IsAskedThere, IsDifference};
-ghost use Rattle.cargo_toml_tools_files.specs.AuditedMembers.{IsInheritedThere, IsMemberFault};
-ghost use Rattle.cargo_toml_tools_files.specs.AuditedMembers.{words_told};
 
 use crate::reading::manifest_in;
 use cargo_toml::{Error, Manifest, Workspace};
@@ -35,10 +18,7 @@ pub fn audit<R: Files + Eprint + AllocGlobal>(
     folder: &str,
     as_json: bool,
     shows: bool,
-) -> Result<(String, bool), Error>
-    ensures audited { IfOk result (λ r. IsAudited folder.now as_json (string_bytes r.0) r.1) }
-    ensures refused { IfErr result IsAuditFault }
-{
+) -> Result<(String, bool), Error> {
     let alloc = rt.alloc();
     let path = manifest_path(alloc, folder, ".")?;
     let root = manifest_in(rt, path.as_str())?;
@@ -48,12 +28,7 @@ pub fn audit<R: Files + Eprint + AllocGlobal>(
 }
 
 /// A report as JSON, or as lines.
-fn written(alloc: Global, audit: &Audit, as_json: bool) -> Result<String, AllocError>
-    ensures text { IfOk result (λ text. IsReportText as_json audit.now.members.items
-        (keys audit.now.findings) (string_bytes text)) }
-    ensures in_order { OnOk result
-        (IsStrictlySortedBy oddity_cmp (map oddity_of (keys audit.now.findings))) }
-{
+fn written(alloc: Global, audit: &Audit, as_json: bool) -> Result<String, AllocError> {
     if as_json {
         json(alloc, audit)
     } else {
@@ -67,12 +42,7 @@ fn audited<R: Files + Eprint + AllocGlobal>(
     folder: &str,
     root: (&Manifest, &str),
     shows: bool,
-) -> Result<Audit, Error>
-    ensures report { IfOk result (λ a. (workspace : Table Value)
-        × (root.entry.0.now.workspace ≡ Some workspace)
-        × IsReportOn root.entry.0.now root.entry.1.now workspace folder.now a) }
-    ensures refused { IfErr result (IsUnreported root.entry.0.now shows) }
-{
+) -> Result<Audit, Error> {
     let Some(workspace) = &root.0.workspace else {
         return Err(Error::Other("there is no workspace"));
     };
@@ -103,12 +73,7 @@ fn report_on<R: Files + Eprint + AllocGlobal>(
     root: Root<'_>,
     found: &Members,
     shows: bool,
-) -> Result<Audit, Error>
-    requires { AreMembersOf root.manifest.now root.workspace.now found.now }
-    ensures report { IfOk result (IsReportOn root.entry.manifest.now root.entry.path.now
-        root.entry.workspace.now root.entry.folder.now) }
-    ensures refused { IfErr result (IsUnshown shows (btree_set_len found.now.folders)) }
-{
+) -> Result<Audit, Error> {
     let mut audit = Audit::new(rt.alloc());
     audit.add_listing(found)?;
     for (i, member) in found.folders.iter().enumerate() {
@@ -126,14 +91,7 @@ fn add_folder<R: Files + AllocGlobal>(
     root: Root<'_>,
     member: &str,
     audit: &mut Audit,
-) -> Result<(), Error>
-    ensures added { OnOk result (AddsFolder root.entry.manifest.now root.entry.path.now
-        root.entry.workspace.now member.now root.entry.folder.now audit.old audit.new) }
-    ensures noted { OnOk result (NotesOnly IsInheritedThere
-        (IsAskedThere root.entry.manifest.now root.entry.path.now member.now)
-        audit.old audit.new) }
-    ensures refused { IfErr result (λ e. e ≡ Memory) }
-{
+) -> Result<(), Error> {
     let alloc = rt.alloc();
     let path = manifest_path(alloc, root.folder, member)?;
     let place = Place {
@@ -157,14 +115,7 @@ fn add_refusal(
     folder: &str,
     outcome: Result<(), Error>,
     audit: &mut Audit,
-) -> Result<(), Error>
-    ensures rest { audit.new ≡ record audit.old { findings = audit.new.findings } }
-    ensures findings { GainsOnly (IsRefusedWith outcome folder.now)
-        audit.old.findings audit.new.findings }
-    ensures told { OnOk result (IfErr outcome
-        (λ e. TellsRefusal e folder.now audit.old.findings audit.new.findings)) }
-    ensures refused { IfErr result (λ e. e ≡ Memory) }
-{
+) -> Result<(), Error> {
     match outcome {
         Ok(()) => Ok(()),
         Err(Error::Memory) => Err(Error::Memory),
@@ -177,10 +128,7 @@ fn add_refusal(
 
 /// The words of a member's fault. Of what its workspace gives the fault inside is told: which
 /// workspace it is, is known.
-fn words_of(alloc: Global, fault: &Error) -> Result<String, AllocError>
-    ensures { IfOk result
-        (λ words. IfSome (words_told fault.now) (λ t. string_bytes words ≡ t)) }
-{
+fn words_of(alloc: Global, fault: &Error) -> Result<String, AllocError> {
     match fault {
         Error::Workspace(inner) => format!(in alloc; "{}", inner.0),
         _ => format!(in alloc; "{fault}"),
@@ -193,20 +141,7 @@ fn add_member<R: Files + AllocGlobal>(
     place: Place<'_>,
     root: Root<'_>,
     audit: &mut Audit,
-) -> Result<(), Error>
-    ensures added { OnOk result (AddsAudited root.entry.manifest.now root.entry.path.now
-        root.entry.workspace.now place.entry.folder.now audit.old audit.new) }
-    ensures kept { OnErr result (audit.new.members.items ≡ audit.old.members.items) }
-    ensures findings { GainsOnly (IsDifference root.entry.manifest.now root.entry.path.now
-        root.entry.workspace.now place.entry.folder.now) audit.old.findings audit.new.findings }
-    ensures noted { UnlessMemory result (NotesOnly IsInheritedThere
-        (IsAskedThere root.entry.manifest.now root.entry.path.now place.entry.folder.now)
-        audit.old audit.new) }
-    ensures left { IfErr result (λ e. (e ≡ Memory)
-        ⊎ (audit.new ≡ record audit.old { inherited = audit.new.inherited })) }
-    ensures refused { IfErr result
-        (IsMemberFault root.entry.manifest.now root.entry.path.now place.entry.path.now) }
-{
+) -> Result<(), Error> {
     let alloc = rt.alloc();
     let mut held = manifest_in(rt, place.path)?;
     let inherits = audit.add_written(&*held.manifest)?;
@@ -216,9 +151,7 @@ fn add_member<R: Files + AllocGlobal>(
 }
 
 /// Tells a terminal how far a long report is.
-fn show_progress<R: Eprint>(rt: &R, shows: bool, done: usize, all: usize) -> io::Result<()>
-    ensures { IfErr result (λ _. IsTrue shows × (20 ≤ all)) }
-{
+fn show_progress<R: Eprint>(rt: &R, shows: bool, done: usize, all: usize) -> io::Result<()> {
     if !shows || all < 20 {
         return Ok(());
     }

@@ -1,15 +1,18 @@
 //! The line of a registry's index.
-ghost use Rattle.std.specs.Prelude.{IfErr, IfOk, IsSome, OnOk, string_bytes};
-ghost use Rattle.std.specs.Option.{option_copied};
+ghost use Rattle.std.specs.Prelude.{IfErr, IsSome, OnOk};
 ghost use Rattle.std.specs.Path.{path_parent};
-ghost use Rattle.cargo_toml_tools_files.specs.IndexedFiles.{IsIndexFault, IsIndexed, IsIndexedBy};
-ghost use Rattle.cargo_toml_tools_files.specs.IndexedFiles.{IsLineFault};
+ghost use Rattle.cargo_toml_tools.specs.Sections.{wanted_of};
+ghost use Rattle.cargo_toml_tools_files.specs.FromFiles.{IsOfInput};
+ghost use Rattle.cargo_toml_tools_files.specs.IndexedFiles.{IsIndexFault, IsIndexed};
 
 use crate::reading::{completed_of, text_in};
-use cargo_toml::Error;
-use cargo_toml_tools::index::{IndexError, index_line};
+use cargo_toml::{Error, Manifest};
+use cargo_toml_lint::{Finding, lint};
+use cargo_toml_tools::index::{IndexError, Options, index_entry};
 use std::alloc::AllocError;
 use std::fmt;
+use std::hash::RandomState;
+use std::random::RandomSource;
 use std::rt::Files;
 
 /// Why a crate has no line in an index.
@@ -57,16 +60,10 @@ impl From<AllocError> for Fault {
 
 /// The words of the fault inside.
 impl fmt::Display for Fault {
-    ghost use Rattle.std.specs.Fmt.{DisplaysOnOk};
-    ghost use Rattle.cargo_toml_parts.specs.OwnWords.{WritesSome};
-    ghost use Rattle.cargo_toml_tools_files.specs.IndexedFiles.{HasFaultWords, text_of_fault};
-
-    ghost output = { text_of_fault };
+    ghost use Rattle.cargo_toml_tools_files.specs.IndexedFiles.{WritesOwnWords};
 
     fn fmt<W: fmt::Write>(&self, f: &mut fmt::Formatter<W>) -> fmt::Result
-        ensures writes { DisplaysOnOk W.write_str_gives f.old result
-            (text_of_fault self.now) f.new }
-        ensures words { WritesSome W.write_str_gives f.old result (HasFaultWords self.now) f.new }
+        ensures words { WritesOwnWords W.write_str_gives f.old result self.now f.new }
     {
         match self {
             Fault::Manifest(fault) => fault.fmt(f),
@@ -75,38 +72,35 @@ impl fmt::Display for Fault {
     }
 }
 
-/// The line that an index has of the crate of this file, which is completed first. The checksum is
-/// that of the crate's archive. Refused where the file can't be read or completed as a manifest, or
-/// has what no index takes.
-pub fn index<R: Files + AllocGlobal>(
+/// The line that an index has of the crate of this file, which is completed first. Refused where
+/// the file can't be read or completed as a manifest, or has what no index takes.
+pub fn index<R: Files + RandomSource + AllocGlobal>(
     rt: &R,
     file: &str,
-    checksum: Option<&str>,
+    options: Options<'_>,
 ) -> Result<String, Fault>
-    ensures indexed { IfOk result
-        (λ line. IsIndexed file.now (option_copied checksum.entry) (string_bytes line)) }
+    ensures indexed { OnOk result (IsIndexed file.now (wanted_of options.entry)) }
     ensures named { OnOk result (IsSome (path_parent file.now)) }
-    ensures refused { IfErr result (IsIndexFault file.now) }
+    ensures refused { IfErr result (IsIndexFault file.now (wanted_of options.entry)) }
 {
-    let text = text_in(rt, file)?;
-    line_of(rt, file, text.as_str(), checksum)
-}
-
-/// The line of the crate whose manifest is this text of a file.
-fn line_of<R: Files + AllocGlobal>(
-    rt: &R,
-    file: &str,
-    text: &str,
-    checksum: Option<&str>,
-) -> Result<String, Fault>
-    ensures indexed { IfOk result
-        (λ line. IsIndexedBy file.now text.now (option_copied checksum.entry)
-        (string_bytes line)) }
-    ensures named { OnOk result (IsSome (path_parent file.now)) }
-    ensures refused { IfErr result (IsLineFault file.now text.now) }
-{
+    let read = text_in(rt, file)?;
+    let text = read.as_str();
     let held = completed_of(rt, file, text)?;
-    let mut line = index_line(rt.alloc(), &*held.manifest, text, checksum)?;
+    let manifest = &*held.manifest;
+    let findings = findings_of(rt, manifest)?;
+    let entry = index_entry(rt.alloc(), manifest, text, findings.as_slice(), options)?;
+    let mut line = entry.to_string(rt.alloc())?;
     line.push_str("\n")?;
     Ok(line)
+}
+
+/// What lint finds of the features of a manifest.
+fn findings_of<'m, R: RandomSource + AllocGlobal>(
+    rt: &R,
+    manifest: &'m Manifest,
+) -> Result<Vec<Finding<'m>>, Error>
+    ensures { IfErr result IsOfInput }
+{
+    let state = RandomState::new(rt)?;
+    lint(rt.alloc(), state, manifest)
 }

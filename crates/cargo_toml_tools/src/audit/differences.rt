@@ -1,5 +1,5 @@
 //! What members have otherwise than their workspace, or than one another.
-ghost use Rattle.std.specs.Prelude.{◌≡◌, IfOk, OnOk, codes, option_map, string_bytes, unwrap_or};
+ghost use Rattle.std.specs.Prelude.{◌≡◌, IfOk, OnOk, option_map, string_bytes};
 ghost use Rattle.std.specs.List.Sorted.{IsStrictlySortedBy};
 ghost use Rattle.std.specs.Option.{option_copied};
 ghost use Rattle.cargo_toml.specs.Dependencies.{dependency_meaning};
@@ -9,8 +9,8 @@ ghost use Rattle.cargo_toml.specs.Settings.{edition_text};
 ghost use Rattle.cargo_toml.specs.Templates.{template_meaning};
 ghost use Rattle.cargo_toml_tools.specs.Noted.{askings_of};
 ghost use Rattle.cargo_toml_tools.specs.Oddities.{AreReported, GainsOnly, differences_if_any};
-ghost use Rattle.cargo_toml_tools.specs.Oddities.{has_given, other_of, other_words};
-ghost use Rattle.cargo_toml_tools.specs.Overall.{GainsSeveral, asking_cmp, overall_oddities};
+ghost use Rattle.cargo_toml_tools.specs.Oddities.{has_given, other_of};
+ghost use Rattle.cargo_toml_tools.specs.Overall.{asking_cmp, overall_oddities};
 
 use super::uses::add_requirements;
 use super::{Audit, Code, Member};
@@ -81,8 +81,6 @@ impl Audit {
             self.old.findings self.new.findings }
         ensures found { OnOk result (AreReported self.new.findings (overall_oddities
             (map_meaning dependency_meaning workspace.now.dependencies) self.old)) }
-        ensures several { OnOk result (GainsSeveral (askings_of self.old.uses)
-            self.old.findings self.new.findings) }
         ensures ordered { OnOk result
             (IsStrictlySortedBy asking_cmp (askings_of self.old.uses)) }
     {
@@ -118,19 +116,7 @@ fn has_given(own: Option<&str>, given: &str) -> bool
     }
 }
 
-fn other(alloc: Global, own: Option<&str>, given: &str) -> Result<String, AllocError>
-    ensures { IfOk result
-        (λ words. string_bytes words ≡ other_words (option_copied own.entry) given.now) }
-{
-    let own = or_none(own);
+fn other(alloc: Global, own: Option<&str>, given: &str) -> Result<String, AllocError> {
+    let own = own.unwrap_or("none");
     format!(in alloc; "{own}, where the workspace has {given}")
-}
-
-fn or_none(own: Option<&str>) -> &str
-    ensures { result.now ≡ unwrap_or (option_copied own.entry) (codes "none") }
-{
-    match own {
-        Some(own) => own,
-        None => "none",
-    }
 }

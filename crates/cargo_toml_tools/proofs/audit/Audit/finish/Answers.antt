@@ -1,18 +1,14 @@
 use Rattle.std.proofs.Common.{◌++◌, ◌∙◌, List, [], ◌∷◌, ap, inl, map, refl, string_bytes, subst}
-use Rattle.std.proofs.lemmas.Map.Iter.{rest_all, rest_more}
+use Rattle.std.proofs.lemmas.Map.Iter.{rest_more}
 use Rattle.std.proofs.lemmas.Result.{on_ok_weaker}
 use Rattle.std.specs.List.Sorted.{IsStrictlySortedBy}
 use Rattle.std.specs.Map.Iter.{deref}
-use Rattle.std.specs.BTreeSet.{contains_text}
-use Rattle.std.specs.Prelude.{filter, not}
 use Rattle.cargo_toml.specs.Dependencies.{dependency_meaning}
-use Rattle.cargo_toml.specs.Reads.{map_meaning}
 use Rattle.cargo_toml_tools.specs.Noted.{Asking, askings_of}
 use Rattle.cargo_toml_tools.specs.Overall.{asking_cmp, several_among, unused_among, unused_of}
 use Rattle.cargo_toml_tools.specs.declared.audit.Audit.{Audit}
 use Rattle.cargo_toml_tools.specs.declared.audit.Code.TheVariants.{UnusedDependency}
 use Rattle.cargo_toml_tools.proofs.Gained.{adding_from, adding_on, adding_same, adding_stopped, gains_wider, keys_meaning, same_with}
-use Rattle.cargo_toml_tools.proofs.Several.{several_done}
 use Rattle.cargo_toml_tools.proofs.Unused.{next_known, next_unused, still}
 use Rattle.cargo_toml_tools.proofs.audit.Audit.finish.Goals as goal
 
@@ -42,7 +38,7 @@ loop-key-preserved g c = record {
       (next_unused c.args.self.now c.loop-key.self (several_among (askings_of c.args.self.now.uses)) c.loop-key.key-iterator c.next.new.self
       c.in-Some.key.now c.as_str.result.now c.contains.result c.loop-key.invariant.rest c.contains.ensures c.as_str.ensures.value
       (rest_more deref _ _ _ c.in-Some.key c.in-Some.is c.next.ensures.steps) c.if-contains.false)
-      (same_with UnusedDependency _ _ _ _ c.as_str-in-loop-key.ensures.value c.in_ok-words.ensures.ok)
+      (same_with UnusedDependency _ _ c.as_str-in-loop-key.ensures.value)
       c.loop-key.invariant.adding c.in_ok-find.ensures.findings c.in_ok-find.ensures.found;
 }
 
@@ -52,20 +48,9 @@ returns-in_err-find-clause-findings g c =
     let is = next_unused c.args.self.now c.loop-key.self others c.loop-key.key-iterator c.next.new.self c.in-Some.key.now c.as_str.result.now
     c.contains.result c.loop-key.invariant.rest c.contains.ensures c.as_str.ensures.value
     (rest_more deref _ _ _ c.in-Some.key c.in-Some.is c.next.ensures.steps) c.if-contains.false in
-    let same = same_with UnusedDependency _ _ _ _ c.as_str-in-loop-key.ensures.value c.in_ok-words.ensures.ok in
+    let same = same_with UnusedDependency _ _ c.as_str-in-loop-key.ensures.value in
     adding_stopped _ (unused_of (string_bytes c.in-Some.key.now) ∷ []) _ _ _ _ _ is c.loop-key.invariant.adding
     (gains_wider _ _ (λ o e. inl (e ∙ same)) c.in_err-find.ensures.findings)
-
-pub returns-clause-several : goal.returns-clause-several
-returns-clause-several g c =
-    let uses = c.args.self.now.uses in
-    let keys = filter (λ key. not (contains_text c.args.self.now.inherited key))
-    (map (λ e. e.0) (map_meaning dependency_meaning c.args.workspace.now.dependencies)) in
-    several_done c.add_requirements.result keys (askings_of uses) (askings_of c.loop-key.self.uses)
-    (unused_among c.args.self.now (map string_bytes c.loop-key.key-iterator)) c.args.self.now.findings c.loop-key.self.findings c.add_requirements.new.findings
-    (ap (λ (a : Audit). askings_of a.uses) c.loop-key.invariant.rest)
-    (ap (λ ks. unused_among c.args.self.now (map string_bytes ks)) (rest_all deref _ _ _ c.in-None.is c.next.ensures.steps))
-    c.loop-key.invariant.adding c.add_requirements.ensures.findings c.add_requirements.ensures.found c.add_requirements.ensures.ordered
 
 pub returns-clause-ordered : goal.returns-clause-ordered
 returns-clause-ordered g c =
